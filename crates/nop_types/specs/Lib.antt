@@ -1,0 +1,11 @@
+pub mod Configuration
+pub mod Execution
+pub mod Given
+pub mod Histories
+pub mod Kept
+pub mod Legality
+pub mod Lines
+pub mod Lists
+pub mod Meaning
+pub mod Ranges
+pub mod Views

@@ -1,0 +1,44 @@
+use crate::{Bytes, Request, View};
+
+/// A request with the session and the message number that a sequencer wrote on it.
+#[derive(Debug, Drop)]
+pub struct Stamped {
+    pub session: u32,
+    pub number: u64,
+    pub request: Request,
+}
+
+/// A replica's reply for a slot: with tag 1 it brings the result, with tag 0 none.
+#[derive(Debug, Drop)]
+pub struct Reply {
+    pub replica: u8,
+    pub view: View,
+    pub slot: u32,
+    pub client: u32,
+    pub id: u64,
+    pub tag: u8,
+    pub result: Bytes,
+}
+
+/// A part of a peer message: all fragments of it carry the sender's message number and their count.
+#[derive(Debug, Drop)]
+pub struct Fragment {
+    pub replica: u8,
+    pub message: u64,
+    pub index: u16,
+    pub count: u16,
+    pub payload: Bytes,
+}
+
+/// What the network carries.
+#[derive(Debug, Drop)]
+pub enum Datagram {
+    Request(Request),
+    Stamped(Stamped),
+    Reply(Reply),
+    Install { sequencer: u8, session: u32 },
+    Installed { sequencer: u8, session: u32 },
+    Ping { sequencer: u8, round: u32 },
+    Pong { sequencer: u8, round: u32 },
+    Fragment(Fragment),
+}

@@ -1,0 +1,49 @@
+//! The limits of the protocol and of its formats.
+
+/// The most bytes of an op.
+pub const MAX_OP_BYTES: usize = 640;
+
+/// The most bytes of a key.
+pub const MAX_KEY_BYTES: usize = 64;
+
+/// The most bytes of a value.
+pub const MAX_VALUE_BYTES: usize = 256;
+
+/// The most bytes of a result: `=` and a value.
+pub const MAX_RESULT_BYTES: usize = 257;
+
+/// The most slots of a log.
+pub const MAX_SLOTS: usize = 4096;
+
+/// Message numbers of a session are below this one.
+pub const NUMBER_END: u64 = 0x1_0000_0000_0000;
+
+/// The most stamped requests that wait at a replica.
+pub const MAX_QUEUED: usize = 1024;
+
+/// The most fragments of a peer message.
+pub const MAX_FRAGMENTS: usize = 2048;
+
+/// The payload of each fragment but the last.
+pub const FRAGMENT_BYTES: usize = 1400;
+
+/// The most unfinished peer messages that are kept for a sender.
+pub const MAX_UNFINISHED: usize = 4;
+
+/// The most bytes of a datagram.
+pub const MAX_DATAGRAM_BYTES: usize = 1500;
+
+/// The most replicas; there is always an odd number of them.
+pub const MAX_REPLICAS: u8 = 7;
+
+/// The most sequencers.
+pub const MAX_SEQUENCERS: u8 = 4;
+
+/// The most clients of a schedule.
+pub const MAX_CLIENTS: u8 = 16;
+
+/// The most bytes of a line of a schedule, without its end.
+pub const MAX_LINE_BYTES: usize = 4096;
+
+/// The most lines of a schedule.
+pub const MAX_LINES: u32 = 1_000_000;

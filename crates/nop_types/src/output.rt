@@ -1,0 +1,87 @@
+ghost use Rattle.std.specs.Prelude.{◌≡◌, ◌++◌, ◌∷◌, [], length, OnOk, OnErr};
+
+use crate::{Bytes, NoMemory, Request};
+use std::alloc::Global;
+use std::marker::Model;
+
+/// One of the machines, by kind and number.
+#[derive(Clone, Copy, Debug, PartialEq, Eq)]
+pub enum Actor {
+    Replica(u8),
+    Sequencer(u8),
+    Client(u32),
+    Controller,
+}
+
+/// Where a datagram is sent: to all replicas, to all sequencers, or to one actor.
+#[derive(Clone, Copy, Debug, PartialEq, Eq)]
+pub enum Dest {
+    Replicas,
+    Sequencers,
+    One(Actor),
+}
+
+/// A request that a client had accepted: its id and the result.
+#[derive(Debug, Drop)]
+pub struct Accept {
+    pub id: u64,
+    pub result: Bytes,
+}
+
+/// What a core gives in one step.
+#[derive(Debug, Drop)]
+pub enum Out {
+    Send(Dest, Bytes),
+    Submitted(Request),
+    Accepted { client: u32, id: u64, result: Bytes },
+    Busy(u32),
+}
+
+/// What a step gave, in order.
+#[derive(Debug, Drop)]
+pub struct Outbox {
+    outs: Vec<Out>,
+}
+
+impl Model for Outbox {
+    ghost use Rattle.std.specs.Prelude.{List};
+    ghost use Rattle.nop_types.specs.declared.output.Out.{Out};
+
+    ghost Value = { List Out };
+
+    ghost view = { λ o. o.outs.items };
+}
+
+impl Outbox {
+    pub fn new(alloc: Global) -> Outbox
+        ensures { result ≡ [] }
+    {
+        Outbox {
+            outs: Vec::new(alloc),
+        }
+    }
+
+    pub fn as_slice(&self) -> &[Out]
+        ensures { result.now ≡ self.now }
+    {
+        &self.outs
+    }
+
+    pub fn push(&mut self, out: Out) -> Result<(), NoMemory>
+        ensures ok { OnOk result (self.new ≡ self.old ++ out ∷ []) }
+        ensures err { OnErr result (self.new ≡ self.old) }
+    {
+        self.outs.push(out)?;
+        Ok(())
+    }
+
+    /// Puts the outputs of the other behind these.
+    pub fn append(&mut self, other: Outbox) -> Result<(), NoMemory>
+        ensures ok { OnOk result (self.new ≡ self.old ++ other) }
+        ensures err { OnErr result (self.new ≡ self.old) }
+    {
+        let Outbox { mut outs } = other;
+        self.outs.append(&mut outs)?;
+        Ok(())
+    }
+}
