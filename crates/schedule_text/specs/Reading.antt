@@ -1,0 +1,88 @@
+-- What a reader gives for the lines that lie before it.
+use Rattle.std.specs.Prelude.{◌≡◌, ℕ, ◌+◌, List, [], ◌∷◌, ◌++◌, Bool, true, false, Option, Some, None, Result, Ok, Err, ⊤}
+use Rattle.nop_types.specs.Configuration.{Configuration}
+use Rattle.schedule_text.specs.declared.event.Event.{Event}
+use Rattle.schedule_text.specs.declared.next_error.NextError.{NextError}
+use Rattle.schedule_text.specs.declared.next_error.NextError.TheVariants.{BadLine, ReadFault, NoMemory}
+use Rattle.schedule_text.specs.Rules.{header_of, event_of}
+use Rattle.schedule_text.specs.Cutting.{lines_of}
+
+-- the next line is an event, breaks a rule, or there is none
+pub data Next : Type 0 where
+  Gives : Event → Next
+  Refuses : (rule : ℕ) → Next
+  Ends : Next
+
+-- what comes next, the configuration once line 1 was taken, how many lines were taken, and the lines that are left; a line that is refused is left
+pub record Turn : Type 0 where
+  pub next : Next
+  pub config : Option Configuration
+  pub line : ℕ
+  pub rest : List (List ℕ)
+
+abbrev pub event_turn : Configuration → ℕ → List ℕ → List (List ℕ) → Result Event ℕ → Turn
+event_turn c k line rest (Ok e) = record { next = Gives e; config = Some c; line = k + 1; rest = rest }
+event_turn c k line rest (Err rule) = record { next = Refuses rule; config = Some c; line = k; rest = line ∷ rest }
+
+-- line 1 was taken
+abbrev pub turn_after : Configuration → ℕ → List (List ℕ) → Turn
+turn_after c k [] = record { next = Ends; config = Some c; line = k; rest = [] }
+turn_after c k (line ∷ rest) = event_turn c k line rest (event_of c k line)
+
+abbrev pub header_turn : ℕ → List ℕ → List (List ℕ) → Result Configuration ℕ → Turn
+header_turn k line rest (Ok c) = turn_after c (k + 1) rest
+header_turn k line rest (Err rule) = record { next = Refuses rule; config = None; line = k; rest = line ∷ rest }
+
+-- without any line the first one breaks rule 3
+abbrev pub turn : Option Configuration → ℕ → List (List ℕ) → Turn
+turn (Some c) k lines = turn_after c k lines
+turn None k [] = record { next = Refuses 3; config = None; line = k; rest = [] }
+turn None k (line ∷ rest) = header_turn k line rest (header_of line)
+
+-- ---- a reader
+
+-- the bytes that were taken and not yet used, and whether the source ended with them
+pub record Reading : Type 0 where
+  pub config : Option Configuration
+  pub line : ℕ
+  pub pending : List ℕ
+  pub ended : Bool
+
+abbrev pub opening : Reading
+opening = record { config = None; line = 0; pending = []; ended = false }
+
+-- more bytes may follow, and the end; after the end nothing
+pub record MayFollow (r : Reading) (ended : Bool) (more : List ℕ) : Type 0 where
+  pub nothing : r.ended ≡ true → more ≡ []
+  pub end : r.ended ≡ true → ended ≡ true
+
+-- the lines that lie before the reader, if these bytes follow
+abbrev pub lines_before : Reading → Bool → List ℕ → List (List ℕ)
+lines_before r ended more = lines_of ended r.line (r.pending ++ more)
+
+abbrev pub turn_of : Reading → Bool → List ℕ → Turn
+turn_of r ended more = turn r.config r.line (lines_before r ended more)
+
+-- what a call answered is what comes next; a fault decides nothing
+abbrev pub IsTurn : Reading → Bool → List ℕ → Result (Option Event) NextError → Turn → Type 0
+IsTurn r ended more (Ok (Some e)) t = t ≡ record { next = Gives e; config = r.config; line = r.line; rest = lines_before r ended more }
+IsTurn r ended more (Ok None) t = (t ≡ record { next = Ends; config = r.config; line = r.line; rest = [] }) × (r.ended ≡ true) × (r.pending ≡ [])
+IsTurn r ended more (Err (BadLine line rule)) t = (t ≡ record { next = Refuses rule; config = r.config; line = r.line; rest = lines_before r ended more }) × (line ≡ r.line + 1)
+IsTurn r ended more (Err ReadFault) t = t ≡ turn_of r ended more
+IsTurn r ended more (Err NoMemory) t = t ≡ turn_of r ended more
+
+-- A call took these bytes from the source and answered, whatever follows them.
+pub record Takes (old new : Reading) (taken left : List ℕ) (answer : Result (Option Event) NextError) : Type 0 where
+  pub end : new.ended ≡ true → left ≡ []
+  pub turn : (ended : Bool) (more : List ℕ) → MayFollow new ended more → IsTurn new ended more answer (turn_of old ended (taken ++ more))
+
+-- the same of a source that tells its bytes, or not
+abbrev pub TakesOf : Reading → Reading → Option (List ℕ) → Option (List ℕ) → Result (Option Event) NextError → Type 0
+TakesOf old new None after answer = ⊤
+TakesOf old new (Some before) None answer = ⊥
+TakesOf old new (Some before) (Some left) answer = (taken : List ℕ) × (before ≡ taken ++ left) × Takes old new taken left answer
+
+-- at a fault no line was left that is decided
+abbrev pub LeavesNone : Reading → Result (Option Event) NextError → Type 0
+LeavesNone r (Err ReadFault) = lines_before r false [] ≡ []
+LeavesNone r _ = ⊤

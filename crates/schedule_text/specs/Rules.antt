@@ -1,0 +1,122 @@
+-- What a line of a schedule means, or the first rule that it breaks.
+use Rattle.std.specs.Prelude.{ℕ, List, [], ◌∷◌, length, Bool, true, false, Option, Some, None, Result, Ok, Err, codes, nat_lt, nat_le, ◌==◌, ◌&&◌, not, if◌then◌else◌}
+use Rattle.std.specs.List.{list_all}
+use Rattle.nop_types.specs.declared.limits.TheConstants.{MAX_LINE_BYTES, MAX_LINES}
+use Rattle.nop_types.specs.Configuration.{Configuration, is_configuration}
+use Rattle.nop_types.specs.declared.output.Actor.{Actor}
+use Rattle.schedule_text.specs.declared.event.Event.{Event}
+use Rattle.schedule_text.specs.declared.event.Event.TheVariants.{Submit, Deliver, Crash}
+use Rattle.schedule_text.specs.Fields.{fields, is_text, number_of, number_below, actor_of, client_number, bytes_of}
+
+-- the value, or the number of the rule
+abbrev pub Read : Type 0 → Type 0
+Read A = Result A ℕ
+
+infixl 10 ◌>>=◌
+abbrev pub ◌>>=◌ : {A B : Type 0} → Result A ℕ → (A → Result B ℕ) → Result B ℕ
+Ok x >>= f = f x
+Err rule >>= f = Err rule
+
+-- where there is no value, the rule is broken
+abbrev pub or_rule : {A : Type 0} → ℕ → Option A → Result A ℕ
+or_rule rule None = Err rule
+or_rule rule (Some x) = Ok x
+
+abbrev pub keeps_rule : ℕ → Bool → Result Bool ℕ
+keeps_rule rule true = Ok true
+keeps_rule rule false = Err rule
+
+-- a byte that a line may have
+abbrev pub is_plain : ℕ → Bool
+is_plain b = nat_le 32 b && nat_le b 126
+
+-- the characters of an op in hexadecimal
+abbrev pub max_op_text : ℕ
+max_op_text = 1280
+
+-- ---- events
+
+abbrev pub submit_event : Configuration → List ℕ → List ℕ → Result Event ℕ
+submit_event c client op = do
+  short ← keeps_rule 5 (nat_le (length op) max_op_text)
+  bytes ← or_rule 6 (bytes_of op)
+  number ← or_rule 7 (client_number (actor_of c client))
+  Ok (Submit number bytes)
+
+abbrev pub deliver_event : Configuration → List ℕ → List ℕ → Result Event ℕ
+deliver_event c index actor = do
+  number ← or_rule 5 (number_of index)
+  to ← or_rule 7 (actor_of c actor)
+  Ok (Deliver number to)
+
+abbrev pub crash_event : Configuration → List ℕ → Result Event ℕ
+crash_event c actor = do
+  one ← or_rule 7 (actor_of c actor)
+  Ok (Crash one)
+
+-- the fields after the word
+abbrev pub submit_of : Configuration → List (List ℕ) → Result Event ℕ
+submit_of c (client ∷ op ∷ []) = submit_event c client op
+submit_of c _ = Err 4
+
+abbrev pub deliver_of : Configuration → List (List ℕ) → Result Event ℕ
+deliver_of c (index ∷ actor ∷ []) = deliver_event c index actor
+deliver_of c _ = Err 4
+
+abbrev pub crash_of : Configuration → List (List ℕ) → Result Event ℕ
+crash_of c (actor ∷ []) = crash_event c actor
+crash_of c _ = Err 4
+
+abbrev pub event_of_fields : Configuration → List (List ℕ) → Result Event ℕ
+event_of_fields c [] = Err 3
+event_of_fields c (word ∷ rest) =
+    if is_text (codes "submit") word then submit_of c rest
+    else if is_text (codes "deliver") word then deliver_of c rest
+    else if is_text (codes "crash") word then crash_of c rest
+    else Err 3
+
+-- ---- the header
+
+-- a count that is written out, and fits eight bits
+abbrev pub count_of : List ℕ → Option ℕ
+count_of field = number_below 256 field
+
+abbrev pub configuration_of : Option ℕ → Option ℕ → Option ℕ → Result Configuration ℕ
+configuration_of (Some n) (Some s) (Some c) =
+    let made : Configuration = record { replicas = n; sequencers = s; clients = c } in
+    if is_configuration made then Ok made else Err 5
+configuration_of _ _ _ = Err 5
+
+abbrev pub header_counts : List ℕ → List ℕ → List ℕ → List ℕ → List ℕ → List ℕ → List ℕ → Result Configuration ℕ
+header_counts version replicas n sequencers s clients c =
+    if is_text (codes "1") version && (is_text (codes "replicas") replicas && (is_text (codes "sequencers") sequencers && is_text (codes "clients") clients))
+    then configuration_of (count_of n) (count_of s) (count_of c)
+    else Err 5
+
+-- the fields after the word
+abbrev pub header_rest : List (List ℕ) → Result Configuration ℕ
+header_rest (version ∷ replicas ∷ n ∷ sequencers ∷ s ∷ clients ∷ c ∷ []) = header_counts version replicas n sequencers s clients c
+header_rest _ = Err 4
+
+abbrev pub header_of_fields : List (List ℕ) → Result Configuration ℕ
+header_of_fields [] = Err 3
+header_of_fields (word ∷ rest) = if is_text (codes "nopaxos") word then header_rest rest else Err 3
+
+-- ---- whole lines
+
+-- rules 1 and 2
+abbrev pub plain_line : List ℕ → Result (List ℕ) ℕ
+plain_line line =
+    if nat_lt MAX_LINE_BYTES (length line) then Err 1
+    else if list_all is_plain line then Ok line
+    else Err 2
+
+-- the first line
+unfoldable pub header_of : List ℕ → Result Configuration ℕ
+header_of line = plain_line line >>= λ text. header_of_fields (fields text)
+
+-- any other line, where so many lines stand before it
+unfoldable pub event_of : Configuration → ℕ → List ℕ → Result Event ℕ
+event_of c before line =
+    if nat_le MAX_LINES before then Err 10
+    else plain_line line >>= λ text. event_of_fields c (fields text)

@@ -1,0 +1,129 @@
+-- The lines of a transcript as bytes.
+use Rattle.std.specs.Prelude.{ℕ, List, [], ◌∷◌, ◌++◌, length, Bool, true, false, Option, Some, None, codes, slice_index, decimal, ◌==◌, if◌then◌else◌}
+use Rattle.std.specs.List.{flat_map}
+use Rattle.hex.specs.Hex.{encode_lower}
+use Rattle.nop_types.specs.Configuration.{Configuration}
+use Rattle.nop_types.specs.Lines.{Line, Dead, Submit, Accept, Busy, Send}
+use Rattle.nop_types.specs.declared.output.Actor.{Actor}
+use Rattle.nop_types.specs.declared.output.Actor.TheVariants as actors
+use Rattle.nop_types.specs.declared.output.Dest.{Dest}
+use Rattle.nop_types.specs.declared.output.Dest.TheVariants.{Replicas, Sequencers, One}
+use Rattle.nop_types.specs.declared.request.Request.{Request}
+use Rattle.nop_types.specs.declared.request.Entry.{Entry}
+use Rattle.nop_types.specs.declared.request.Entry.TheVariants.{NoOp, Req}
+use Rattle.nop_types.specs.declared.replica_state.Phase.{Phase}
+use Rattle.nop_types.specs.declared.replica_state.Phase.TheVariants.{Normal, Change}
+use Rattle.nop_types.specs.declared.view.View.{View}
+
+-- ---- words
+
+abbrev pub actor_text : Actor → List ℕ
+actor_text (actors.Replica i) = 114 ∷ decimal i
+actor_text (actors.Sequencer i) = 115 ∷ decimal i
+actor_text (actors.Client i) = 99 ∷ decimal i
+actor_text actors.Controller = codes "ctl"
+
+abbrev pub dest_text : Dest → List ℕ
+dest_text Replicas = codes "r*"
+dest_text Sequencers = codes "s*"
+dest_text (One actor) = actor_text actor
+
+-- lower case, and `-` for none
+abbrev pub hex_text : List ℕ → List ℕ
+hex_text [] = codes "-"
+hex_text (b ∷ bs) = encode_lower (b ∷ bs)
+
+-- the name of a kind of datagrams
+unfoldable pub kind_text : ℕ → List ℕ
+kind_text kind =
+    if kind == 1 then codes "request"
+    else if kind == 2 then codes "stamped"
+    else if kind == 3 then codes "reply"
+    else if kind == 4 then codes "install"
+    else if kind == 5 then codes "installed"
+    else if kind == 6 then codes "ping"
+    else if kind == 7 then codes "pong"
+    else codes "fragment"
+
+abbrev pub phase_text : Phase → List ℕ
+phase_text Normal = codes "normal"
+phase_text Change = codes "change"
+
+abbrev pub up_text : Bool → List ℕ
+up_text true = codes "crashed"
+up_text false = codes "up"
+
+abbrev pub space : List ℕ
+space = 32 ∷ []
+
+abbrev pub line_end : List ℕ
+line_end = 10 ∷ []
+
+abbrev pub client_text : ℕ → List ℕ
+client_text client = actor_text (actors.Client client)
+
+-- a client, an id and bytes
+abbrev pub pair_text : ℕ → ℕ → List ℕ → List ℕ
+pair_text client id bytes = client_text client ++ space ++ decimal id ++ space ++ hex_text bytes
+
+abbrev pub request_text : Request → List ℕ
+request_text r = pair_text r.client r.id r.op
+
+-- ---- lines of events
+
+unfoldable pub dead_line : Actor → List ℕ
+dead_line actor = codes "dead " ++ actor_text actor ++ line_end
+
+unfoldable pub submit_line : Request → List ℕ
+submit_line r = codes "submit " ++ request_text r ++ line_end
+
+unfoldable pub accept_line : ℕ → ℕ → List ℕ → List ℕ
+accept_line client id result = codes "accept " ++ pair_text client id result ++ line_end
+
+unfoldable pub busy_line : ℕ → List ℕ
+busy_line client = codes "busy " ++ client_text client ++ line_end
+
+-- the kind is the fourth byte
+unfoldable pub send_line : ℕ → Actor → Dest → List ℕ → List ℕ
+send_line index from dest datagram =
+    codes "send " ++ decimal index ++ space ++ actor_text from ++ space ++ dest_text dest ++ space ++ kind_text (slice_index datagram 3) ++ space ++ decimal (length datagram) ++ line_end
+
+abbrev pub line_text : Line → List ℕ
+line_text (Dead actor) = dead_line actor
+line_text (Submit r) = submit_line r
+line_text (Accept client id result) = accept_line client id result
+line_text (Busy client) = busy_line client
+line_text (Send index from dest datagram) = send_line index from dest datagram
+
+abbrev pub lines_text : List Line → List ℕ
+lines_text lines = flat_map line_text lines
+
+-- ---- the other lines
+
+unfoldable pub transcript_line : Configuration → List ℕ
+transcript_line c = codes "transcript 1 replicas " ++ decimal c.replicas ++ codes " sequencers " ++ decimal c.sequencers ++ codes " clients " ++ decimal c.clients ++ line_end
+
+unfoldable pub replica_line : ℕ → Bool → Phase → View → ℕ → ℕ → List ℕ
+replica_line number crashed status view len sync_point =
+    codes "replica r" ++ decimal number ++ space ++ up_text crashed ++ space ++ phase_text status ++ space ++ decimal view.leader ++ space ++ decimal view.session ++ space ++ decimal len ++ space ++ decimal sync_point ++ line_end
+
+abbrev pub entry_text : Entry → List ℕ
+entry_text NoOp = codes "noop"
+entry_text (Req r) = request_text r
+
+unfoldable pub entry_line : ℕ → ℕ → Entry → List ℕ
+entry_line replica slot entry = codes "entry r" ++ decimal replica ++ space ++ decimal slot ++ space ++ entry_text entry ++ line_end
+
+unfoldable pub history_line : ℕ → Request → List ℕ
+history_line index r = codes "history " ++ decimal index ++ space ++ request_text r ++ line_end
+
+abbrev pub sent_text : Option (ℕ × ℕ) → List ℕ
+sent_text None = []
+sent_text (Some p) = codes " index " ++ decimal p.0 ++ codes " sent " ++ decimal p.1
+
+-- the line and the rule; at a datagram that was not sent, also its index and the number sent
+unfoldable pub error_line : ℕ → ℕ → Option (ℕ × ℕ) → List ℕ
+error_line line rule index_sent = codes "error line " ++ decimal line ++ codes " rule " ++ decimal rule ++ sent_text index_sent ++ line_end
+
+unfoldable pub end_line : List ℕ
+end_line = codes "end" ++ line_end
