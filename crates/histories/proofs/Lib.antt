@@ -1,0 +1,8 @@
+pub mod Lists
+pub mod Ids
+pub mod Members
+pub mod Steps
+pub mod Results
+pub mod Lines
+pub mod Legal
+pub mod Worked

@@ -1,0 +1,4 @@
+pub mod Execution
+pub mod Histories
+pub mod Legality
+pub mod Worked

@@ -1,0 +1,95 @@
+ghost use Rattle.std.specs.Prelude.{◌≡◌, IfOk, OnOk, OnErr};
+ghost use Rattle.kv_host.specs.Places.{values_of};
+
+use crate::op::{KvOp, read};
+use crate::ops;
+use crate::table::{Table, find, replace};
+use crate::undo::KvUndo;
+use indexmap::IndexMap;
+use nop_types::{Bytes, Host, NoMemory};
+use std::alloc::Global;
+use std::marker::Model;
+
+/// A map from keys to values, which begins empty. It is seen with a place for each key that was ever written; its state are
+/// the keys that have a value.
+#[derive(Drop)]
+pub struct KvHost {
+    table: Table,
+}
+
+impl Model for KvHost {
+    ghost use Rattle.std.specs.Prelude.{ℕ, List};
+    ghost use Rattle.std.specs.Coded.{coded_ℕ, coded_list, coded_option};
+    ghost use Rattle.std.specs.FinMap as finite;
+    ghost use Rattle.kv_host.specs.Places.{Places, places};
+
+    ghost Value = { Places };
+
+    ghost coded = { finite.code (coded_list coded_ℕ) (coded_option (coded_list coded_ℕ)) };
+
+    ghost view = { λ h. places h.table };
+}
+
+impl Host for KvHost {
+    ghost use Rattle.kv_host.specs.Op.{read_op};
+    ghost use Rattle.kv_host.specs.Kv.{Kv, kv_meaning, IsSound};
+    ghost use Rattle.kv_host.specs.Undo.{undo_of, undone};
+    ghost use Rattle.kv_host.specs.Places.{values_of, Fits};
+    ghost use Rattle.kv_host.specs.Laws.{undoes, opens_sound, stays_sound, answers_short};
+
+    type Undo = Option<KvUndo>;
+
+    ghost State = { Kv };
+
+    ghost state = { values_of };
+
+    ghost meaning = { kv_meaning };
+
+    ghost undo_of = { λ kv op. undo_of kv (read_op op) };
+
+    ghost undone = { undone };
+
+    ghost fits = { Fits };
+
+    ghost is_sound = { IsSound };
+
+    ghost undoes = { undoes };
+
+    ghost opens_sound = { opens_sound };
+
+    ghost stays_sound = { stays_sound };
+
+    ghost answers_short = { answers_short };
+
+    fn fresh(alloc: Global) -> Result<KvHost, NoMemory> {
+        Ok(KvHost {
+            table: IndexMap::new(alloc),
+        })
+    }
+
+    fn apply(&mut self, op: &[u8]) -> Result<(Bytes, Option<KvUndo>), NoMemory> {
+        let alloc = *self.table.allocator();
+        let table = &mut self.table;
+        match read(op) {
+            KvOp::Get(key) => Ok((ops::get(alloc, table, key)?, None)),
+            KvOp::Put(key, value) => ops::put(alloc, table, key, value),
+            KvOp::Delete(key) => ops::delete(alloc, table, key),
+            KvOp::Swap(key, old, new) => ops::swap(alloc, table, key, old, new),
+            KvOp::Bad => Ok((Bytes::new(alloc, b"bad")?, None)),
+        }
+    }
+
+    #[tactic(auto, using(crate::proofs::PlacesLemmas::place_writes))]
+    fn undo(&mut self, undo: Option<KvUndo>) {
+        if let Some(KvUndo { key, value }) = undo {
+            let (index, _value) = find(&self.table, key.as_slice()).unwrap();
+            drop(replace(&mut self.table, index, value));
+        }
+    }
+
+    fn copy(&self) -> Result<KvHost, NoMemory> {
+        Ok(KvHost {
+            table: self.table.clone()?,
+        })
+    }
+}

@@ -1,0 +1,115 @@
+ghost use Rattle.std.specs.Prelude.{◌≡◌, ◌⊎◌, option_map};
+ghost use Rattle.kv_host.specs.Op.{Bad, field_at, key_at, value_at, read_get, read_put, read_delete, read_swap, read_op, at_end};
+ghost use Rattle.kv_host.specs.Spelling.{IsBytes, Spells};
+ghost use Rattle.kv_host.specs.View.{op_of};
+
+use nop_types::{MAX_KEY_BYTES, MAX_VALUE_BYTES};
+
+/// The first byte of each kind of op.
+pub const GET: u8 = b'G';
+
+pub const PUT: u8 = b'P';
+
+pub const DELETE: u8 = b'D';
+
+pub const SWAP: u8 = b'C';
+
+/// An op as it was read.
+#[derive(Clone, Copy)]
+pub enum KvOp<'a> {
+    Get(&'a [u8]),
+    Put(&'a [u8], &'a [u8]),
+    Delete(&'a [u8]),
+    /// Key, old value and new value.
+    Swap(&'a [u8], &'a [u8], &'a [u8]),
+    Bad,
+}
+
+/// A length of two bytes and that many bytes, and what follows.
+#[tactic(auto, unfolding(crate::specs::Op::field_at))]
+fn field(bytes: &[u8], least: usize, most: usize) -> Option<(&[u8], &[u8])>
+    ensures { option_map (λ p. (p.0.now, p.1.now)) result ≡ field_at least most bytes.now }
+{
+    let [high, low, rest @ ..] = bytes else {
+        return None;
+    };
+    let len = u16::from_be_bytes([*high, *low]) as usize;
+    if len < least || len > most || len > rest.len() {
+        return None;
+    }
+    Some(rest.split_at(len))
+}
+
+fn key(bytes: &[u8]) -> Option<(&[u8], &[u8])>
+    ensures { option_map (λ p. (p.0.now, p.1.now)) result ≡ key_at bytes.now }
+{
+    field(bytes, 1, MAX_KEY_BYTES)
+}
+
+fn value(bytes: &[u8]) -> Option<(&[u8], &[u8])>
+    ensures { option_map (λ p. (p.0.now, p.1.now)) result ≡ value_at bytes.now }
+{
+    field(bytes, 0, MAX_VALUE_BYTES)
+}
+
+/// The op, where nothing follows.
+fn at_end<'a>(rest: &[u8], op: KvOp<'a>) -> Option<KvOp<'a>>
+    ensures { option_map op_of result ≡ at_end rest.now (op_of op.entry) }
+{
+    if rest.is_empty() { Some(op) } else { None }
+}
+
+#[tactic(auto, unfolding(crate::specs::Op::read_get))]
+fn get(fields: &[u8]) -> Option<KvOp<'_>>
+    ensures { option_map op_of result ≡ read_get fields.now }
+{
+    let (key, rest) = key(fields)?;
+    at_end(rest, KvOp::Get(key))
+}
+
+#[tactic(auto, unfolding(crate::specs::Op::read_put))]
+fn put(fields: &[u8]) -> Option<KvOp<'_>>
+    ensures { option_map op_of result ≡ read_put fields.now }
+{
+    let (key, rest) = key(fields)?;
+    let (value, rest) = value(rest)?;
+    at_end(rest, KvOp::Put(key, value))
+}
+
+#[tactic(auto, unfolding(crate::specs::Op::read_delete))]
+fn delete(fields: &[u8]) -> Option<KvOp<'_>>
+    ensures { option_map op_of result ≡ read_delete fields.now }
+{
+    let (key, rest) = key(fields)?;
+    at_end(rest, KvOp::Delete(key))
+}
+
+#[tactic(auto, unfolding(crate::specs::Op::read_swap))]
+fn swap(fields: &[u8]) -> Option<KvOp<'_>>
+    ensures { option_map op_of result ≡ read_swap fields.now }
+{
+    let (key, rest) = key(fields)?;
+    let (old, rest) = value(rest)?;
+    let (new, rest) = value(rest)?;
+    at_end(rest, KvOp::Swap(key, old, new))
+}
+
+#[tactic(auto, unfolding(crate::specs::Op::read_op))]
+pub fn read(op: &[u8]) -> KvOp<'_>
+    ensures { op_of result ≡ read_op op.now }
+{
+    let read = match op {
+        [GET, fields @ ..] => get(fields),
+        [PUT, fields @ ..] => put(fields),
+        [DELETE, fields @ ..] => delete(fields),
+        [SWAP, fields @ ..] => swap(fields),
+        _ => None,
+    };
+    read.unwrap_or(KvOp::Bad)
+}
+
+/// An op is read from the bytes that spell it, and from no others.
+pub fn ops_are_read_as_spelled()
+    ensures read { (op : _) (bytes : _) → Spells op bytes → read_op bytes ≡ op }
+    ensures spelled { (bytes : _) → IsBytes bytes → (read_op bytes ≡ Bad) ⊎ Spells (read_op bytes) bytes }
+{}

@@ -1,0 +1,72 @@
+-- The fields of each kind that have a fixed size, up to an op, a result or a payload, and their ranges.
+use Rattle.std.specs.Prelude.{ℕ, ◌+◌, Bool, List, Option, Some, nat_lt, nat_le, ◌&&◌, ◌||◌, if◌then◌else◌}
+use Rattle.std.specs.Int.{w16, w32, w64}
+use Rattle.nop_types.specs.declared.limits.TheConstants.{FRAGMENT_BYTES, MAX_FRAGMENTS, MAX_OP_BYTES, MAX_REPLICAS, MAX_RESULT_BYTES, MAX_SEQUENCERS, MAX_SLOTS, NUMBER_END}
+use Rattle.oum_codec.specs.declared.fixed.RequestFields.{RequestFields}
+use Rattle.oum_codec.specs.declared.fixed.StampedFields.{StampedFields}
+use Rattle.oum_codec.specs.declared.fixed.ReplyFields.{ReplyFields}
+use Rattle.oum_codec.specs.declared.fixed.SignalFields.{SignalFields}
+use Rattle.oum_codec.specs.declared.fixed.FragmentFields.{FragmentFields}
+use Rattle.oum_codec.specs.Numbers.{◌>>=◌, number_at, byte_at, view_at}
+
+unfoldable pub request_fields_at : List ℕ → Option (RequestFields × List ℕ)
+request_fields_at bytes = do
+  client ← number_at w32 bytes
+  id ← number_at w64 client.1
+  op_len ← number_at w16 id.1
+  Some (record { client = client.0; id = id.0; op_len = op_len.0 }, op_len.1)
+
+abbrev pub request_in_range : RequestFields → Bool
+request_in_range f = nat_lt 0 f.id && nat_le f.op_len MAX_OP_BYTES
+
+unfoldable pub stamped_fields_at : List ℕ → Option (StampedFields × List ℕ)
+stamped_fields_at bytes = do
+  session ← number_at w32 bytes
+  number ← number_at w64 session.1
+  request ← request_fields_at number.1
+  Some (record { session = session.0; number = number.0; request = request.0 }, request.1)
+
+abbrev pub stamped_in_range : StampedFields → Bool
+stamped_in_range f = nat_lt 0 f.session && (nat_lt 0 f.number && (nat_lt f.number NUMBER_END && request_in_range f.request))
+
+unfoldable pub reply_fields_at : List ℕ → Option (ReplyFields × List ℕ)
+reply_fields_at bytes = do
+  replica ← byte_at bytes
+  view ← view_at replica.1
+  slot ← number_at w32 view.1
+  client ← number_at w32 slot.1
+  id ← number_at w64 client.1
+  tag ← byte_at id.1
+  result_len ← number_at w16 tag.1
+  Some (record { replica = replica.0; view = view.0; slot = slot.0; client = client.0; id = id.0; tag = tag.0; result_len = result_len.0 }, result_len.1)
+
+-- with tag 0 there is no result
+abbrev pub tag_fits : ℕ → ℕ → Bool
+tag_fits tag result_len = nat_le tag 1 && (nat_le result_len MAX_RESULT_BYTES && (nat_lt 0 tag || nat_le result_len 0))
+
+abbrev pub reply_in_range : ReplyFields → Bool
+reply_in_range f = nat_lt f.replica MAX_REPLICAS && (nat_lt 0 f.view.session && (nat_lt 0 f.slot && (nat_le f.slot MAX_SLOTS && (nat_lt 0 f.id && tag_fits f.tag f.result_len))))
+
+unfoldable pub signal_fields_at : List ℕ → Option (SignalFields × List ℕ)
+signal_fields_at bytes = do
+  sequencer ← byte_at bytes
+  number ← number_at w32 sequencer.1
+  Some (record { sequencer = sequencer.0; number = number.0 }, number.1)
+
+abbrev pub signal_in_range : SignalFields → Bool
+signal_in_range f = nat_lt f.sequencer MAX_SEQUENCERS && nat_lt 0 f.number
+
+unfoldable pub fragment_fields_at : List ℕ → Option (FragmentFields × List ℕ)
+fragment_fields_at bytes = do
+  replica ← byte_at bytes
+  message ← number_at w64 replica.1
+  index ← number_at w16 message.1
+  count ← number_at w16 index.1
+  Some (record { replica = replica.0; message = message.0; index = index.0; count = count.0 }, count.1)
+
+abbrev pub fragment_in_range : FragmentFields → Bool
+fragment_in_range f = nat_lt f.replica MAX_REPLICAS && (nat_lt 0 f.message && (nat_lt f.index f.count && nat_le f.count MAX_FRAGMENTS))
+
+-- each payload but the last is full, and no payload is empty
+abbrev pub least_payload : FragmentFields → ℕ
+least_payload f = if nat_lt (f.index + 1) f.count then FRAGMENT_BYTES else 1

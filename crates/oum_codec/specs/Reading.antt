@@ -1,0 +1,87 @@
+-- Reading a datagram from left to right, with the first test that fails.
+use Rattle.std.specs.Prelude.{◌≡◌, ℕ, Bool, List, ◌∷◌, length, Option, ok_or, Result, Ok, Err, nat_lt, ◌==◌, ◌&&◌, not, ⊤, if◌then◌else◌}
+use Rattle.nop_types.specs.declared.datagram.Datagram.{Datagram}
+use Rattle.nop_types.specs.declared.datagram.Datagram.TheVariants as datagrams
+use Rattle.oum_codec.specs.declared.bad.Bad.{Bad}
+use Rattle.oum_codec.specs.declared.bad.Bad.TheVariants.{Short, Magic, Version, Kind, Field, Trailing, NoMemory}
+use Rattle.oum_codec.specs.declared.fixed.SignalFields.{SignalFields}
+use Rattle.nop_types.specs.declared.limits.TheConstants.{FRAGMENT_BYTES}
+use Rattle.oum_codec.specs.Fixed.{request_fields_at, request_in_range, stamped_fields_at, stamped_in_range, reply_fields_at, reply_in_range, signal_fields_at, signal_in_range, fragment_fields_at, fragment_in_range, least_payload}
+
+-- reading fails with this error, which want of memory does not say
+abbrev pub Fails : {A : Type 0} → Bad → Result A Bad → Type 0
+Fails NoMemory read = ⊤
+Fails e read = read ≡ Err e
+
+-- what was returned, seen by view, is what reading gives, unless memory ran out
+abbrev pub GivesBy : {A B : Type 0} → (A → B) → Result A Bad → Result B Bad → Type 0
+GivesBy view (Ok x) read = read ≡ Ok (view x)
+GivesBy view (Err e) read = Fails e read
+
+abbrev pub Gives : {A : Type 0} → Result A Bad → Result A Bad → Type 0
+Gives result read = GivesBy (λ x. x) result read
+
+-- the next step, where the first did not fail
+infixl 10 ◌>>=◌
+abbrev pub ◌>>=◌ : {A B E : Type 0} → Result A E → (A → Result B E) → Result B E
+(Ok x) >>= next = next x
+(Err e) >>= next = Err e
+
+-- all fields of a fixed size are there, then all of them are in range
+abbrev pub fields_of : {F : Type 0} → Option (F × List ℕ) → (F → Bool) → Result (F × List ℕ) Bad
+fields_of {F} found test = let there : Result (F × List ℕ) Bad = ok_or found Short in there >>= λ f. if test f.0 then Ok f else Err Field
+
+-- at least so many bytes are there, and at most so many
+abbrev pub sized : ℕ → ℕ → List ℕ → Result (List ℕ) Bad
+sized least most bytes = if nat_lt (length bytes) least then Err Short else if nat_lt most (length bytes) then Err Trailing else Ok bytes
+
+unfoldable pub request_of : List ℕ → Result Datagram Bad
+request_of bytes = do
+  f ← fields_of (request_fields_at bytes) request_in_range
+  op ← sized f.0.op_len f.0.op_len f.1
+  Ok (datagrams.Request (record { client = f.0.client; id = f.0.id; op = op }))
+
+unfoldable pub stamped_of : List ℕ → Result Datagram Bad
+stamped_of bytes = do
+  f ← fields_of (stamped_fields_at bytes) stamped_in_range
+  op ← sized f.0.request.op_len f.0.request.op_len f.1
+  Ok (datagrams.Stamped (record { session = f.0.session; number = f.0.number; request = record { client = f.0.request.client; id = f.0.request.id; op = op } }))
+
+unfoldable pub reply_of : List ℕ → Result Datagram Bad
+reply_of bytes = do
+  f ← fields_of (reply_fields_at bytes) reply_in_range
+  bytes ← sized f.0.result_len f.0.result_len f.1
+  Ok (datagrams.Reply (record { replica = f.0.replica; view = f.0.view; slot = f.0.slot; client = f.0.client; id = f.0.id; tag = f.0.tag; result = bytes }))
+
+-- a sequencer's number, and a session or a round; nothing follows
+unfoldable pub signal_of : List ℕ → Result SignalFields Bad
+signal_of bytes = do
+  f ← fields_of (signal_fields_at bytes) signal_in_range
+  nothing ← sized 0 0 f.1
+  Ok f.0
+
+unfoldable pub fragment_of : List ℕ → Result Datagram Bad
+fragment_of bytes = do
+  f ← fields_of (fragment_fields_at bytes) fragment_in_range
+  payload ← sized (least_payload f.0) FRAGMENT_BYTES f.1
+  Ok (datagrams.Fragment (record { replica = f.0.replica; message = f.0.message; index = f.0.index; count = f.0.count; payload = payload }))
+
+-- what follows the four bytes, by the kind
+abbrev pub body_of : ℕ → List ℕ → Result Datagram Bad
+body_of kind rest =
+    if kind == 1 then request_of rest
+    else if kind == 2 then stamped_of rest
+    else if kind == 3 then reply_of rest
+    else if kind == 4 then (signal_of rest >>= λ f. Ok (datagrams.Install f.sequencer f.number))
+    else if kind == 5 then (signal_of rest >>= λ f. Ok (datagrams.Installed f.sequencer f.number))
+    else if kind == 6 then (signal_of rest >>= λ f. Ok (datagrams.Ping f.sequencer f.number))
+    else if kind == 7 then (signal_of rest >>= λ f. Ok (datagrams.Pong f.sequencer f.number))
+    else if kind == 8 then fragment_of rest
+    else Err Kind
+
+unfoldable pub reading : List ℕ → Result Datagram Bad
+reading (first ∷ second ∷ version ∷ kind ∷ rest) =
+    if not (first == 0x4e && second == 0x4f) then Err Magic
+    else if not (version == 1) then Err Version
+    else body_of kind rest
+reading _ = Err Short

@@ -1,0 +1,54 @@
+-- The one spelling of each datagram.
+use Rattle.std.specs.Prelude.{◌≡◌, ℕ, List, [], ◌∷◌, ◌++◌, length}
+use Rattle.std.specs.Int.{w16, w32, w64}
+use Rattle.nop_types.specs.Ranges.{DatagramFits}
+use Rattle.nop_types.specs.declared.view.View.{View}
+use Rattle.nop_types.specs.declared.request.Request.{Request}
+use Rattle.nop_types.specs.declared.datagram.Stamped.{Stamped}
+use Rattle.nop_types.specs.declared.datagram.Reply.{Reply}
+use Rattle.nop_types.specs.declared.datagram.Fragment.{Fragment}
+use Rattle.nop_types.specs.declared.datagram.Datagram.{Datagram}
+use Rattle.nop_types.specs.declared.datagram.Datagram.TheVariants as datagrams
+use Rattle.oum_codec.specs.Numbers.{be_bytes}
+
+-- the letters N and O, the version and the kind
+abbrev pub header : ℕ → List ℕ
+header kind = 0x4e ∷ 0x4f ∷ 1 ∷ kind ∷ []
+
+abbrev pub view_bytes : View → List ℕ
+view_bytes v = be_bytes w32 v.leader ++ be_bytes w32 v.session
+
+-- two bytes of length, and that many bytes
+abbrev pub counted_bytes : List ℕ → List ℕ
+counted_bytes bytes = be_bytes w16 (length bytes) ++ bytes
+
+abbrev pub request_bytes : Request → List ℕ
+request_bytes r = be_bytes w32 r.client ++ be_bytes w64 r.id ++ counted_bytes r.op
+
+abbrev pub stamped_bytes : Stamped → List ℕ
+stamped_bytes s = be_bytes w32 s.session ++ be_bytes w64 s.number ++ request_bytes s.request
+
+abbrev pub reply_bytes : Reply → List ℕ
+reply_bytes r = r.replica ∷ [] ++ view_bytes r.view ++ be_bytes w32 r.slot ++ be_bytes w32 r.client ++ be_bytes w64 r.id ++ r.tag ∷ [] ++ counted_bytes r.result
+
+-- a sequencer's number, and a session or a round
+abbrev pub signal_bytes : ℕ → ℕ → List ℕ
+signal_bytes sequencer n = sequencer ∷ [] ++ be_bytes w32 n
+
+abbrev pub fragment_bytes : Fragment → List ℕ
+fragment_bytes f = f.replica ∷ [] ++ be_bytes w64 f.message ++ be_bytes w16 f.index ++ be_bytes w16 f.count ++ f.payload
+
+abbrev pub spelling : Datagram → List ℕ
+spelling (datagrams.Request r) = header 1 ++ request_bytes r
+spelling (datagrams.Stamped s) = header 2 ++ stamped_bytes s
+spelling (datagrams.Reply r) = header 3 ++ reply_bytes r
+spelling (datagrams.Install sequencer session) = header 4 ++ signal_bytes sequencer session
+spelling (datagrams.Installed sequencer session) = header 5 ++ signal_bytes sequencer session
+spelling (datagrams.Ping sequencer round) = header 6 ++ signal_bytes sequencer round
+spelling (datagrams.Pong sequencer round) = header 7 ++ signal_bytes sequencer round
+spelling (datagrams.Fragment f) = header 8 ++ fragment_bytes f
+
+-- the bytes are the value's spelling, with each field in its range
+pub record Spells (d : Datagram) (bytes : List ℕ) : Type 0 where
+  pub fits : DatagramFits d
+  pub spelled : bytes ≡ spelling d

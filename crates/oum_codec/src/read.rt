@@ -1,0 +1,182 @@
+ghost use Rattle.std.specs.Prelude.{◌≡◌, ◌≤◌, Ok, IfOk, length};
+ghost use Rattle.nop_types.specs.declared.datagram.Datagram.{Datagram};
+ghost use Rattle.oum_codec.specs.Spelling.{Spells};
+ghost use Rattle.oum_codec.specs.Reading.{Gives, GivesBy, sized, request_of, stamped_of, reply_of, signal_of, fragment_of, body_of, reading};
+
+use crate::Bad;
+use crate::fixed::{FragmentFields, ReplyFields, RequestFields, SignalFields, StampedFields};
+use nop_types::{Bytes, Datagram, FRAGMENT_BYTES, Fragment, Op, Reply, Request, Stamped};
+use std::alloc::Global;
+
+/// The bytes, where there are at least and at most so many.
+fn within(bytes: &[u8], least: usize, most: usize) -> Result<&[u8], Bad>
+    ensures { GivesBy (λ b. b.now) result (sized least most bytes.now) }
+{
+    if bytes.len() < least {
+        return Err(Bad::Short);
+    }
+    if most < bytes.len() {
+        return Err(Bad::Trailing);
+    }
+    Ok(bytes)
+}
+
+#[tactic(auto, unfolding(crate::specs::Reading::request_of))]
+fn request(alloc: Global, bytes: &[u8]) -> Result<Datagram, Bad>
+    ensures { Gives result (request_of bytes.now) }
+{
+    let (fields, rest) = RequestFields::split(bytes).ok_or(Bad::Short)?;
+    if !fields.is_in_range() {
+        return Err(Bad::Field);
+    }
+    let len = fields.op_len as usize;
+    let op = Op::new(alloc, within(rest, len, len)?)?;
+    Ok(Datagram::Request(Request {
+        client: fields.client,
+        id: fields.id,
+        op,
+    }))
+}
+
+#[tactic(auto, unfolding(crate::specs::Reading::stamped_of))]
+fn stamped(alloc: Global, bytes: &[u8]) -> Result<Datagram, Bad>
+    ensures { Gives result (stamped_of bytes.now) }
+{
+    let (fields, rest) = StampedFields::split(bytes).ok_or(Bad::Short)?;
+    if !fields.is_in_range() {
+        return Err(Bad::Field);
+    }
+    let len = fields.request.op_len as usize;
+    let op = Op::new(alloc, within(rest, len, len)?)?;
+    Ok(Datagram::Stamped(Stamped {
+        session: fields.session,
+        number: fields.number,
+        request: Request {
+            client: fields.request.client,
+            id: fields.request.id,
+            op,
+        },
+    }))
+}
+
+#[tactic(auto, unfolding(crate::specs::Reading::reply_of))]
+fn reply(alloc: Global, bytes: &[u8]) -> Result<Datagram, Bad>
+    ensures { Gives result (reply_of bytes.now) }
+{
+    let (fields, rest) = ReplyFields::split(bytes).ok_or(Bad::Short)?;
+    if !fields.is_in_range() {
+        return Err(Bad::Field);
+    }
+    let len = fields.result_len as usize;
+    let bytes = Bytes::new(alloc, within(rest, len, len)?)?;
+    Ok(Datagram::Reply(Reply {
+        replica: fields.replica,
+        view: fields.view,
+        slot: fields.slot,
+        client: fields.client,
+        id: fields.id,
+        tag: fields.tag,
+        result: bytes,
+    }))
+}
+
+#[tactic(auto, unfolding(crate::specs::Reading::signal_of))]
+fn signal(bytes: &[u8]) -> Result<SignalFields, Bad>
+    ensures { Gives result (signal_of bytes.now) }
+{
+    let (fields, rest) = SignalFields::split(bytes).ok_or(Bad::Short)?;
+    if !fields.is_in_range() {
+        return Err(Bad::Field);
+    }
+    within(rest, 0, 0)?;
+    Ok(fields)
+}
+
+#[tactic(auto, unfolding(crate::specs::Reading::fragment_of))]
+fn fragment(alloc: Global, bytes: &[u8]) -> Result<Datagram, Bad>
+    ensures { Gives result (fragment_of bytes.now) }
+{
+    let (fields, rest) = FragmentFields::split(bytes).ok_or(Bad::Short)?;
+    if !fields.is_in_range() {
+        return Err(Bad::Field);
+    }
+    let payload = Bytes::new(alloc, within(rest, fields.least_payload(), FRAGMENT_BYTES)?)?;
+    Ok(Datagram::Fragment(Fragment {
+        replica: fields.replica,
+        message: fields.message,
+        index: fields.index,
+        count: fields.count,
+        payload,
+    }))
+}
+
+fn body(alloc: Global, kind: u8, rest: &[u8]) -> Result<Datagram, Bad>
+    ensures { Gives result (body_of kind rest.now) }
+{
+    match kind {
+        1 => request(alloc, rest),
+        2 => stamped(alloc, rest),
+        3 => reply(alloc, rest),
+        4 => {
+            let fields = signal(rest)?;
+            Ok(Datagram::Install {
+                sequencer: fields.sequencer,
+                session: fields.number,
+            })
+        }
+        5 => {
+            let fields = signal(rest)?;
+            Ok(Datagram::Installed {
+                sequencer: fields.sequencer,
+                session: fields.number,
+            })
+        }
+        6 => {
+            let fields = signal(rest)?;
+            Ok(Datagram::Ping {
+                sequencer: fields.sequencer,
+                round: fields.number,
+            })
+        }
+        7 => {
+            let fields = signal(rest)?;
+            Ok(Datagram::Pong {
+                sequencer: fields.sequencer,
+                round: fields.number,
+            })
+        }
+        8 => fragment(alloc, rest),
+        _ => Err(Bad::Kind),
+    }
+}
+
+#[tactic(auto, unfolding(crate::specs::Reading::reading))]
+fn datagram(alloc: Global, bytes: &[u8]) -> Result<Datagram, Bad>
+    ensures { Gives result (reading bytes.now) }
+{
+    match bytes {
+        [first, second, version, kind, rest @ ..] => {
+            if *first != 0x4e || *second != 0x4f {
+                return Err(Bad::Magic);
+            }
+            if *version != 1 {
+                return Err(Bad::Version);
+            }
+            body(alloc, *kind, rest)
+        }
+        _ => Err(Bad::Short),
+    }
+}
+
+/// The datagram that the bytes spell, or the first test that they fail. It takes no more memory than the
+/// value's op, result or payload.
+pub fn decode(alloc: Global, bytes: &[u8]) -> Result<Datagram, Bad>
+    // What is read is spelled so.
+    ensures found { IfOk result (λ d. Spells d bytes.now) }
+    // What is spelled so is read, unless memory runs out.
+    ensures only { (d : Datagram) → Spells d bytes.now → Gives result (Ok d) }
+    // Which test fails first.
+    ensures exact { Gives result (reading bytes.now) }
+{
+    datagram(alloc, bytes)
+}

@@ -1,0 +1,173 @@
+ghost use Rattle.std.specs.Prelude.{◌≡◌, ◌++◌, ◌<◌, ◌≤◌, ◌^◌, ◌∷◌, [], length, OnOk, OnErr};
+ghost use Rattle.std.specs.Int.{w16, w32, w64};
+ghost use Rattle.nop_types.specs.Ranges.{DatagramFits};
+ghost use Rattle.oum_codec.specs.Numbers.{be_bytes};
+ghost use Rattle.oum_codec.specs.Spelling.{view_bytes, counted_bytes, request_bytes, stamped_bytes, reply_bytes, signal_bytes, fragment_bytes, header, spelling};
+
+use nop_types::{Datagram, Fragment, MAX_RESULT_BYTES, NoMemory, Reply, Request, Stamped, View};
+use std::alloc::Global;
+
+/// Appends two bytes.
+#[tactic(auto, unfolding(crate::specs::Numbers::be_bytes))]
+pub fn put_u16(to: &mut Vec<u8>, n: u16) -> Result<(), NoMemory>
+    ensures ok { OnOk result (to.new.items ≡ to.old.items ++ be_bytes w16 n) }
+    ensures err { OnErr result (to.new.items ≡ to.old.items) }
+{
+    to.extend_from_slice(&n.to_be_bytes())?;
+    Ok(())
+}
+
+/// Appends four bytes.
+#[tactic(auto, unfolding(crate::specs::Numbers::be_bytes))]
+pub fn put_u32(to: &mut Vec<u8>, n: u32) -> Result<(), NoMemory>
+    ensures ok { OnOk result (to.new.items ≡ to.old.items ++ be_bytes w32 n) }
+    ensures err { OnErr result (to.new.items ≡ to.old.items) }
+{
+    to.extend_from_slice(&n.to_be_bytes())?;
+    Ok(())
+}
+
+/// Appends eight bytes.
+#[tactic(auto, unfolding(crate::specs::Numbers::be_bytes))]
+pub fn put_u64(to: &mut Vec<u8>, n: u64) -> Result<(), NoMemory>
+    ensures ok { OnOk result (to.new.items ≡ to.old.items ++ be_bytes w64 n) }
+    ensures err { OnErr result (to.new.items ≡ to.old.items) }
+{
+    to.extend_from_slice(&n.to_be_bytes())?;
+    Ok(())
+}
+
+/// Appends the leader number, then the session. After an error a part may stand there.
+pub fn put_view(to: &mut Vec<u8>, view: View) -> Result<(), NoMemory>
+    ensures { OnOk result (to.new.items ≡ to.old.items ++ view_bytes view) }
+{
+    put_u32(to, view.leader)?;
+    put_u32(to, view.session)
+}
+
+fn put_counted(to: &mut Vec<u8>, bytes: &[u8]) -> Result<(), NoMemory>
+    requires { length bytes.now < 2 ^ 16 }
+    ensures { OnOk result (to.new.items ≡ to.old.items ++ counted_bytes bytes.now) }
+{
+    put_u16(to, bytes.len() as u16)?;
+    to.extend_from_slice(bytes)?;
+    Ok(())
+}
+
+/// Appends client, id, the length of the op and the op. After an error a part may stand there.
+pub fn put_request(to: &mut Vec<u8>, request: &Request) -> Result<(), NoMemory>
+    ensures { OnOk result (to.new.items ≡ to.old.items ++ request_bytes request.now) }
+{
+    put_u32(to, request.client)?;
+    put_u64(to, request.id)?;
+    put_counted(to, request.op.as_slice())
+}
+
+fn put_stamped(to: &mut Vec<u8>, stamped: &Stamped) -> Result<(), NoMemory>
+    ensures { OnOk result (to.new.items ≡ to.old.items ++ stamped_bytes stamped.now) }
+{
+    put_u32(to, stamped.session)?;
+    put_u64(to, stamped.number)?;
+    put_request(to, &stamped.request)
+}
+
+/// Who replies, and for which slot.
+fn put_place(to: &mut Vec<u8>, replica: u8, view: View, slot: u32) -> Result<(), NoMemory>
+    ensures { OnOk result (to.new.items ≡ to.old.items ++ (replica ∷ [] ++ view_bytes view ++ be_bytes w32 slot)) }
+{
+    to.push(replica)?;
+    put_view(to, view)?;
+    put_u32(to, slot)
+}
+
+fn put_reply(to: &mut Vec<u8>, reply: &Reply) -> Result<(), NoMemory>
+    requires { length reply.now.result ≤ MAX_RESULT_BYTES }
+    ensures { OnOk result (to.new.items ≡ to.old.items ++ reply_bytes reply.now) }
+{
+    put_place(to, reply.replica, reply.view, reply.slot)?;
+    put_u32(to, reply.client)?;
+    put_u64(to, reply.id)?;
+    to.push(reply.tag)?;
+    put_counted(to, reply.result.as_slice())
+}
+
+fn put_signal(to: &mut Vec<u8>, sequencer: u8, n: u32) -> Result<(), NoMemory>
+    ensures { OnOk result (to.new.items ≡ to.old.items ++ signal_bytes sequencer n) }
+{
+    to.push(sequencer)?;
+    put_u32(to, n)
+}
+
+fn put_fragment(to: &mut Vec<u8>, fragment: &Fragment) -> Result<(), NoMemory>
+    ensures { OnOk result (to.new.items ≡ to.old.items ++ fragment_bytes fragment.now) }
+{
+    to.push(fragment.replica)?;
+    put_u64(to, fragment.message)?;
+    put_u16(to, fragment.index)?;
+    put_u16(to, fragment.count)?;
+    to.extend_from_slice(fragment.payload.as_slice())?;
+    Ok(())
+}
+
+fn put_header(to: &mut Vec<u8>, kind: u8) -> Result<(), NoMemory>
+    ensures { OnOk result (to.new.items ≡ to.old.items ++ header kind) }
+{
+    to.extend_from_slice(&[0x4e, 0x4f, 1, kind])?;
+    Ok(())
+}
+
+fn put(to: &mut Vec<u8>, datagram: &Datagram) -> Result<(), NoMemory>
+    requires { DatagramFits datagram.now }
+    ensures { OnOk result (to.new.items ≡ to.old.items ++ spelling datagram.now) }
+{
+    match datagram {
+        Datagram::Request(request) => {
+            put_header(to, 1)?;
+            put_request(to, request)
+        }
+        Datagram::Stamped(stamped) => {
+            put_header(to, 2)?;
+            put_stamped(to, stamped)
+        }
+        Datagram::Reply(reply) => {
+            put_header(to, 3)?;
+            put_reply(to, reply)
+        }
+        Datagram::Install { sequencer, session } => {
+            put_header(to, 4)?;
+            put_signal(to, *sequencer, *session)
+        }
+        Datagram::Installed { sequencer, session } => {
+            put_header(to, 5)?;
+            put_signal(to, *sequencer, *session)
+        }
+        Datagram::Ping { sequencer, round } => {
+            put_header(to, 6)?;
+            put_signal(to, *sequencer, *round)
+        }
+        Datagram::Pong { sequencer, round } => {
+            put_header(to, 7)?;
+            put_signal(to, *sequencer, *round)
+        }
+        Datagram::Fragment(fragment) => {
+            put_header(to, 8)?;
+            put_fragment(to, fragment)
+        }
+    }
+}
+
+/// Appends the datagram's one spelling.
+pub fn encode(alloc: Global, datagram: &Datagram, to: &mut Vec<u8>) -> Result<(), NoMemory>
+    requires { DatagramFits datagram.now }
+    ensures ok { OnOk result (to.new.items ≡ to.old.items ++ spelling datagram.now) }
+    ensures err { OnErr result (to.new.items ≡ to.old.items) }
+{
+    let mut bytes = Vec::new(alloc);
+    put(&mut bytes, datagram)?;
+    if to.is_empty() {
+        *to = bytes;
+        return Ok(());
+    }
+    to.extend_from_slice(&bytes)?;
+    Ok(())
+}

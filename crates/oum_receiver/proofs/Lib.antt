@@ -1,0 +1,5 @@
+pub mod Counts
+pub mod Entries
+pub mod HandingUp
+pub mod Sound
+pub mod Stamps

@@ -1,0 +1,4 @@
+pub mod Front
+pub mod Receiving
+pub mod Requests
+pub mod Runs

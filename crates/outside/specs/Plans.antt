@@ -1,0 +1,42 @@
+-- Which calls on a form in memory fail, and how many bytes the others move.
+use Rattle.std.specs.Prelude.{◌≡◌, ℕ, ◌+◌, ◌-◌, ◌^◌, ◌==◌, ◌&&◌, ◌||◌, min, nat_lt, Bool, if◌then◌else◌, List, Result, Ok, Err, ⊤}
+use Rattle.std.specs.List.{list_any}
+use Rattle.outside.specs.declared.errors.Failed.{Failed}
+use Rattle.outside.specs.declared.errors.WriteError.{WriteError}
+use Rattle.outside.specs.declared.errors.WriteError.TheVariants as errors
+
+-- the most bytes of a call, the numbers of the calls that fail, how many calls were made, and how many of them failed
+pub record FailingPlan : Type 0 where
+  pub most : ℕ
+  pub failing : List ℕ
+  pub made : ℕ
+  pub faults : ℕ
+
+-- no call was made
+abbrev pub new_plan : ℕ → List ℕ → FailingPlan
+new_plan most failing = record { most = most; failing = failing; made = 0; faults = 0 }
+
+-- counts go up to the greatest number of 64 bits
+abbrev pub next_count : ℕ → ℕ
+next_count n = min (n + 1) (2 ^ 64 - 1)
+
+-- the next call, which could move so many bytes, fails: by its number, or where it may move none
+abbrev pub fails : FailingPlan → ℕ → Bool
+fails p count = list_any (λ k. k == next_count p.made) p.failing || ((p.most == 0) && nat_lt 0 count)
+
+abbrev pub answer_of : FailingPlan → ℕ → Result ℕ Failed
+answer_of p count = if fails p count then Err (record { }) else Ok (min count p.most)
+
+abbrev pub plan_after : FailingPlan → ℕ → FailingPlan
+plan_after p count = record p { made = next_count p.made; faults = if fails p count then next_count p.faults else p.faults }
+
+-- a write answers what was planned, or that memory ran out
+abbrev pub IsPlanned : Result ℕ Failed → Result ℕ WriteError → Type 0
+IsPlanned planned (Ok n) = planned ≡ Ok n
+IsPlanned planned (Err errors.Failed) = planned ≡ Err (record { })
+IsPlanned planned (Err errors.NoMemory) = ⊤
+
+-- where memory ran out the write does not count
+abbrev pub plan_after_write : {P : Type 0} → Result ℕ WriteError → P → P → P
+plan_after_write (Err errors.NoMemory) old next = old
+plan_after_write result old next = next

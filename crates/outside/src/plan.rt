@@ -1,0 +1,157 @@
+ghost use Rattle.std.specs.Prelude.{◌≡◌, ◌≤◌, ◌<◌, ℕ, Result, IfOk};
+ghost use Rattle.outside.specs.Causes.{HasCause};
+ghost use Rattle.outside.specs.declared.errors.Failed.{Failed};
+
+use crate::{Failed, ReadMem, Sink, Source, WriteMem};
+use nop_types::NoMemory;
+use std::alloc::Global;
+use std::marker::Model;
+
+/// What the calls on a form in memory do: how many of the bytes each one moves, and which fail.
+pub trait CallPlan: Drop {
+    /// How many calls failed so far.
+    ghost fault_count: { Self → ℕ };
+
+    /// What the next call answers, where it could move so many bytes.
+    ghost next_answer: { Self → ℕ → Result ℕ Failed };
+
+    /// The plan after that call.
+    ghost after_call: { Self → ℕ → Self };
+
+    /// What the next call answers, where it could move so many bytes.
+    fn answer(&self, count: usize) -> Result<usize, Failed>
+        ensures answer { result ≡ next_answer self.now count }
+        ensures most { IfOk result (λ n. n ≤ count) }
+        ensures some { IfOk result (λ n. 0 < count → 0 < n) };
+
+    /// Counts that call as made.
+    fn advance(&mut self, count: usize)
+        ensures after { self.new ≡ after_call self.old count }
+        ensures cause { HasCause (fault_count self.old) (fault_count self.new) (next_answer self.old count) };
+
+    /// How many calls failed so far.
+    fn faults(&self) -> u64
+        ensures { result ≡ fault_count self.now };
+}
+
+/// Calls that never fail, and move at most so many bytes each: at least 1.
+#[derive(Clone, Copy, Debug, PartialEq, Eq)]
+pub struct Unfailing {
+    most: usize,
+}
+
+impl Model for Unfailing {
+    ghost use Rattle.std.specs.Prelude.{ℕ, ◌≤◌};
+
+    ghost Value = { ℕ };
+
+    ghost view = { λ p. p.most };
+
+    ghost invariant = { λ p. 1 ≤ p.most };
+
+    ghost inverse = { λ n. record { most = n } };
+}
+
+impl Unfailing {
+    pub(crate) fn new(most: usize) -> Unfailing
+        requires { 1 ≤ most }
+        ensures { result ≡ most }
+    {
+        Unfailing { most }
+    }
+}
+
+impl CallPlan for Unfailing {
+    ghost use Rattle.std.specs.Prelude.{Ok, min};
+
+    ghost fault_count = { λ _. 0 };
+
+    ghost next_answer = { λ p count. Ok (min count p) };
+
+    ghost after_call = { λ p _. p };
+
+    fn answer(&self, count: usize) -> Result<usize, Failed> {
+        Ok(count.min(self.most))
+    }
+
+    fn advance(&mut self, _count: usize) {}
+
+    fn faults(&self) -> u64 {
+        0
+    }
+}
+
+/// Calls that move at most so many bytes each, and of which those with some numbers fail. A call that could move bytes
+/// and may move none fails too. Calls count from 1; a call after the last number has that number.
+#[derive(Debug, Drop)]
+pub struct Failing {
+    most: usize,
+    failing: Vec<u64>,
+    made: u64,
+    faults: u64,
+}
+
+impl Model for Failing {
+    ghost use Rattle.outside.specs.Plans.{FailingPlan};
+
+    ghost Value = { FailingPlan };
+
+    ghost view = { λ p. record { most = p.most; failing = p.failing.items; made = p.made; faults = p.faults } };
+}
+
+impl Failing {
+    ghost use Rattle.outside.specs.Plans.{new_plan, fails};
+
+    /// The numbers of the calls that fail come in any order.
+    pub(crate) fn new(alloc: Global, most: usize, failing: &[u64]) -> Result<Failing, NoMemory>
+        ensures { IfOk result (λ p. p ≡ new_plan most failing.now) }
+    {
+        Ok(Failing {
+            most,
+            failing: Vec::from_slice(alloc, failing)?,
+            made: 0,
+            faults: 0,
+        })
+    }
+
+    fn fails(&self, count: usize) -> bool
+        ensures { result ≡ fails self.now count }
+    {
+        let number = self.made.saturating_add(1);
+        self.failing.contains(&number) || (self.most == 0 && count > 0)
+    }
+}
+
+impl CallPlan for Failing {
+    ghost use Rattle.outside.specs.Plans.{answer_of, plan_after};
+
+    ghost fault_count = { λ p. p.faults };
+
+    ghost next_answer = { answer_of };
+
+    ghost after_call = { plan_after };
+
+    fn answer(&self, count: usize) -> Result<usize, Failed> {
+        if self.fails(count) {
+            return Err(Failed);
+        }
+        Ok(count.min(self.most))
+    }
+
+    fn advance(&mut self, count: usize) {
+        if self.fails(count) {
+            self.faults = self.faults.saturating_add(1);
+        }
+        self.made = self.made.saturating_add(1);
+    }
+
+    fn faults(&self) -> u64 {
+        self.faults
+    }
+}
+
+/// A form in memory that never fails has no faults, whatever was called on it.
+pub fn unfailing_has_no_faults()
+    ensures source { (s : _) → ⟦<ReadMem as Source>⟧.fault_count s ≡ 0 }
+    ensures sink { (s : _) → ⟦<WriteMem as Sink>⟧.fault_count s ≡ 0 }
+{}

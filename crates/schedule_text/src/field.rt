@@ -1,0 +1,171 @@
+ghost use Rattle.std.specs.Prelude.{◌≡◌, ◌++◌, ◌∷◌, decimal, slice_index, OnOk, OnErr};
+ghost use Rattle.hex.specs.Hex.{encode_lower};
+ghost use Rattle.nop_types.specs.Lists.{IsPrefixOf};
+ghost use Rattle.schedule_text.specs.LineText.{field_text, field_texts, line_of};
+ghost use Rattle.schedule_text.specs.Transcript.{actor_text, dest_text, hex_text, kind_text, phase_text, up_text};
+
+use nop_types::{Actor, Dest, NoMemory, Phase};
+
+/// One field of a line of a transcript.
+#[derive(Clone, Copy)]
+pub enum Field<'a> {
+    Word(&'a str),
+    Number(u64),
+    Name(Actor),
+    To(Dest),
+    /// The kind of a datagram, which is its fourth byte.
+    KindOf(&'a [u8]),
+    Crashed(bool),
+    Status(Phase),
+    Hex(&'a [u8]),
+}
+
+#[tactic(auto, unfolding(crate::specs::Transcript::kind_text))]
+fn kind_word(datagram: &[u8]) -> &'static str
+    ensures { result.now ≡ kind_text (slice_index datagram.now 3) }
+{
+    match datagram.get(3) {
+        Some(1) => "request",
+        Some(2) => "stamped",
+        Some(3) => "reply",
+        Some(4) => "install",
+        Some(5) => "installed",
+        Some(6) => "ping",
+        Some(7) => "pong",
+        _ => "fragment",
+    }
+}
+
+fn phase_word(status: Phase) -> &'static str
+    ensures { result.now ≡ phase_text status }
+{
+    match status {
+        Phase::Normal => "normal",
+        Phase::Change => "change",
+    }
+}
+
+fn up_word(crashed: bool) -> &'static str
+    ensures { result.now ≡ up_text crashed }
+{
+    if crashed { "crashed" } else { "up" }
+}
+
+fn put_word(word: &str, to: &mut Vec<u8>) -> Result<(), NoMemory>
+    ensures ok { OnOk result (to.new.items ≡ to.old.items ++ word.now) }
+    ensures err { OnErr result (to.new.items ≡ to.old.items) }
+{
+    to.extend_from_slice(word.as_bytes())?;
+    Ok(())
+}
+
+fn put_number(n: u64, to: &mut Vec<u8>) -> Result<(), NoMemory>
+    ensures ok { OnOk result (to.new.items ≡ to.old.items ++ decimal n) }
+    ensures err { OnErr result (to.new.items ≡ to.old.items) }
+{
+    let mut buffer = itoa::Buffer::new();
+    to.extend_from_slice(buffer.format(n).as_bytes())?;
+    Ok(())
+}
+
+fn put_numbered(letter: u8, n: u64, to: &mut Vec<u8>) -> Result<(), NoMemory>
+    ensures ok { OnOk result (to.new.items ≡ to.old.items ++ (letter ∷ decimal n)) }
+    ensures err { OnErr result (IsPrefixOf to.old.items to.new.items) }
+{
+    to.push(letter)?;
+    put_number(n, to)
+}
+
+fn put_actor(actor: Actor, to: &mut Vec<u8>) -> Result<(), NoMemory>
+    ensures ok { OnOk result (to.new.items ≡ to.old.items ++ actor_text actor) }
+    ensures err { OnErr result (IsPrefixOf to.old.items to.new.items) }
+{
+    match actor {
+        Actor::Replica(i) => put_numbered(b'r', u64::from(i), to),
+        Actor::Sequencer(i) => put_numbered(b's', u64::from(i), to),
+        Actor::Client(i) => put_numbered(b'c', u64::from(i), to),
+        Actor::Controller => put_word("ctl", to),
+    }
+}
+
+fn put_dest(dest: Dest, to: &mut Vec<u8>) -> Result<(), NoMemory>
+    ensures ok { OnOk result (to.new.items ≡ to.old.items ++ dest_text dest) }
+    ensures err { OnErr result (IsPrefixOf to.old.items to.new.items) }
+{
+    match dest {
+        Dest::Replicas => put_word("r*", to),
+        Dest::Sequencers => put_word("s*", to),
+        Dest::One(actor) => put_actor(actor, to),
+    }
+}
+
+fn put_digits(bytes: &[u8], to: &mut Vec<u8>) -> Result<(), NoMemory>
+    ensures ok { OnOk result (to.new.items ≡ to.old.items ++ encode_lower bytes.now) }
+    ensures err { OnErr result (to.new.items ≡ to.old.items) }
+{
+    let start = to.len();
+    let Some(digits) = bytes.len().checked_mul(2) else {
+        return Err(NoMemory);
+    };
+    let Some(end) = start.checked_add(digits) else {
+        return Err(NoMemory);
+    };
+    to.resize(end, 0)?;
+    match hex::encode_to_slice(bytes, &mut to[start..]) {
+        Ok(()) => Ok(()),
+        Err(_) => unreachable!(),
+    }
+}
+
+fn put_hex(bytes: &[u8], to: &mut Vec<u8>) -> Result<(), NoMemory>
+    ensures ok { OnOk result (to.new.items ≡ to.old.items ++ hex_text bytes.now) }
+    ensures err { OnErr result (to.new.items ≡ to.old.items) }
+{
+    if bytes.is_empty() {
+        to.push(b'-')?;
+        return Ok(());
+    }
+    put_digits(bytes, to)
+}
+
+fn put_field(field: Field<'_>, to: &mut Vec<u8>) -> Result<(), NoMemory>
+    ensures ok { OnOk result (to.new.items ≡ to.old.items ++ field_text field.entry) }
+    ensures err { OnErr result (IsPrefixOf to.old.items to.new.items) }
+{
+    match field {
+        Field::Word(word) => put_word(word, to),
+        Field::Number(n) => put_number(n, to),
+        Field::Name(actor) => put_actor(actor, to),
+        Field::To(dest) => put_dest(dest, to),
+        Field::KindOf(datagram) => put_word(kind_word(datagram), to),
+        Field::Crashed(crashed) => put_word(up_word(crashed), to),
+        Field::Status(status) => put_word(phase_word(status), to),
+        Field::Hex(bytes) => put_hex(bytes, to),
+    }
+}
+
+fn put_line(word: &str, fields: &[Field<'_>], to: &mut Vec<u8>) -> Result<(), NoMemory>
+    ensures ok { OnOk result (to.new.items ≡ to.old.items ++ line_of word.now (field_texts fields.now)) }
+    ensures err { OnErr result (IsPrefixOf to.old.items to.new.items) }
+{
+    put_word(word, to)?;
+    for field in fields {
+        to.push(b' ')?;
+        put_field(*field, to)?;
+    }
+    to.push(b'\n')?;
+    Ok(())
+}
+
+/// Appends a line of a word and further fields.
+pub fn write_line(word: &str, fields: &[Field<'_>], to: &mut Vec<u8>) -> Result<(), NoMemory>
+    ensures ok { OnOk result (to.new.items ≡ to.old.items ++ line_of word.now (field_texts fields.now)) }
+    ensures err { OnErr result (to.new.items ≡ to.old.items) }
+{
+    let len = to.len();
+    let written = put_line(word, fields, to);
+    if written.is_err() {
+        to.truncate(len);
+    }
+    written
+}

@@ -1,0 +1,208 @@
+//! The lines of a transcript. Each function appends one line.
+
+ghost use Rattle.std.specs.Prelude.{◌≡◌, ◌++◌, OnOk, OnErr};
+ghost use Rattle.schedule_text.specs.Transcript as texts;
+
+use crate::field::{Field, write_line};
+use nop_types::{Actor, Bytes, Config, Dest, Entry, NoMemory, Phase, Request, View};
+
+#[cfg(test)]
+mod tests;
+
+/// The first line of a transcript.
+#[tactic(auto, using(crate::proofs::LineLemmas::transcript_fields))]
+pub fn transcript_line(config: Config, to: &mut Vec<u8>) -> Result<(), NoMemory>
+    ensures ok { OnOk result (to.new.items ≡ to.old.items ++ texts.transcript_line config) }
+    ensures err { OnErr result (to.new.items ≡ to.old.items) }
+{
+    let fields = [
+        Field::Word("1"),
+        Field::Word("replicas"),
+        Field::Number(u64::from(config.replicas())),
+        Field::Word("sequencers"),
+        Field::Number(u64::from(config.sequencers())),
+        Field::Word("clients"),
+        Field::Number(u64::from(config.clients())),
+    ];
+    write_line("transcript", &fields, to)
+}
+
+/// An event came to a crashed actor.
+#[tactic(auto, unfolding(crate::specs::Transcript::dead_line))]
+pub fn dead_line(actor: Actor, to: &mut Vec<u8>) -> Result<(), NoMemory>
+    ensures ok { OnOk result (to.new.items ≡ to.old.items ++ texts.dead_line actor) }
+    ensures err { OnErr result (to.new.items ≡ to.old.items) }
+{
+    write_line("dead", &[Field::Name(actor)], to)
+}
+
+/// A client began with a request.
+#[tactic(auto, unfolding(crate::specs::Transcript::submit_line))]
+pub fn submit_line(request: &Request, to: &mut Vec<u8>) -> Result<(), NoMemory>
+    ensures ok { OnOk result (to.new.items ≡ to.old.items ++ texts.submit_line request.now) }
+    ensures err { OnErr result (to.new.items ≡ to.old.items) }
+{
+    let fields = [
+        Field::Name(Actor::Client(request.client)),
+        Field::Number(request.id),
+        Field::Hex(request.op.as_slice()),
+    ];
+    write_line("submit", &fields, to)
+}
+
+/// A client took a result.
+#[tactic(auto, unfolding(crate::specs::Transcript::accept_line))]
+pub fn accept_line(client: u32, id: u64, answer: &Bytes, to: &mut Vec<u8>) -> Result<(), NoMemory>
+    ensures ok { OnOk result (to.new.items ≡ to.old.items ++ texts.accept_line client id answer.now) }
+    ensures err { OnErr result (to.new.items ≡ to.old.items) }
+{
+    let fields = [
+        Field::Name(Actor::Client(client)),
+        Field::Number(id),
+        Field::Hex(answer.as_slice()),
+    ];
+    write_line("accept", &fields, to)
+}
+
+/// A client could not take an op.
+#[tactic(auto, unfolding(crate::specs::Transcript::busy_line))]
+pub fn busy_line(client: u32, to: &mut Vec<u8>) -> Result<(), NoMemory>
+    ensures ok { OnOk result (to.new.items ≡ to.old.items ++ texts.busy_line client) }
+    ensures err { OnErr result (to.new.items ≡ to.old.items) }
+{
+    write_line("busy", &[Field::Name(Actor::Client(client))], to)
+}
+
+/// A datagram was sent, the one with this index of all that were sent, counted from 0.
+#[tactic(auto, using(crate::proofs::LineLemmas::send_fields))]
+pub fn send_line(
+    index: u64,
+    from: Actor,
+    dest: Dest,
+    datagram: &[u8],
+    to: &mut Vec<u8>,
+) -> Result<(), NoMemory>
+    ensures ok { OnOk result (to.new.items ≡ to.old.items ++ texts.send_line index from dest datagram.now) }
+    ensures err { OnErr result (to.new.items ≡ to.old.items) }
+{
+    let fields = [
+        Field::Number(index),
+        Field::Name(from),
+        Field::To(dest),
+        Field::KindOf(datagram),
+        Field::Number(datagram.len() as u64),
+    ];
+    write_line("send", &fields, to)
+}
+
+/// How a replica stands at the end, with the lengths of its log and of its synchronised prefix.
+#[tactic(auto, using(crate::proofs::LineLemmas::replica_fields))]
+pub fn replica_line(
+    number: u8,
+    crashed: bool,
+    status: Phase,
+    view: View,
+    len: u32,
+    sync_point: u32,
+    to: &mut Vec<u8>,
+) -> Result<(), NoMemory>
+    ensures ok { OnOk result (to.new.items ≡ to.old.items ++ texts.replica_line number crashed status view len sync_point) }
+    ensures err { OnErr result (to.new.items ≡ to.old.items) }
+{
+    let fields = [
+        Field::Name(Actor::Replica(number)),
+        Field::Crashed(crashed),
+        Field::Status(status),
+        Field::Number(u64::from(view.leader)),
+        Field::Number(u64::from(view.session)),
+        Field::Number(u64::from(len)),
+        Field::Number(u64::from(sync_point)),
+    ];
+    write_line("replica", &fields, to)
+}
+
+/// What stands in a slot of a replica's log.
+#[tactic(auto, unfolding(crate::specs::Transcript::entry_line))]
+pub fn entry_line(replica: u8, slot: u32, entry: &Entry, to: &mut Vec<u8>) -> Result<(), NoMemory>
+    ensures ok { OnOk result (to.new.items ≡ to.old.items ++ texts.entry_line replica slot entry.now) }
+    ensures err { OnErr result (to.new.items ≡ to.old.items) }
+{
+    match entry {
+        Entry::NoOp => {
+            let fields = [
+                Field::Name(Actor::Replica(replica)),
+                Field::Number(u64::from(slot)),
+                Field::Word("noop"),
+            ];
+            write_line("entry", &fields, to)
+        }
+        Entry::Req(request) => {
+            let fields = [
+                Field::Name(Actor::Replica(replica)),
+                Field::Number(u64::from(slot)),
+                Field::Name(Actor::Client(request.client)),
+                Field::Number(request.id),
+                Field::Hex(request.op.as_slice()),
+            ];
+            write_line("entry", &fields, to)
+        }
+    }
+}
+
+/// A request of the history, with its place there, counted from 1.
+#[tactic(auto, unfolding(crate::specs::Transcript::history_line))]
+pub fn history_line(index: u32, request: &Request, to: &mut Vec<u8>) -> Result<(), NoMemory>
+    ensures ok { OnOk result (to.new.items ≡ to.old.items ++ texts.history_line index request.now) }
+    ensures err { OnErr result (to.new.items ≡ to.old.items) }
+{
+    let fields = [
+        Field::Number(u64::from(index)),
+        Field::Name(Actor::Client(request.client)),
+        Field::Number(request.id),
+        Field::Hex(request.op.as_slice()),
+    ];
+    write_line("history", &fields, to)
+}
+
+/// A bad line, counted from 1, and the rule that it breaks. Where it delivers a datagram that was not sent, also the
+/// datagram's index and how many were sent.
+#[tactic(auto, unfolding(crate::specs::Transcript::error_line))]
+pub fn error_line(
+    line: u32,
+    rule: u8,
+    index_sent: Option<(u64, u64)>,
+    to: &mut Vec<u8>,
+) -> Result<(), NoMemory>
+    ensures ok { OnOk result (to.new.items ≡ to.old.items ++ texts.error_line line rule index_sent) }
+    ensures err { OnErr result (to.new.items ≡ to.old.items) }
+{
+    let line_field = Field::Word("line");
+    let line = Field::Number(u64::from(line));
+    let rule_field = Field::Word("rule");
+    let rule = Field::Number(u64::from(rule));
+    match index_sent {
+        None => write_line("error", &[line_field, line, rule_field, rule], to),
+        Some((index, sent)) => {
+            let fields = [
+                line_field,
+                line,
+                rule_field,
+                rule,
+                Field::Word("index"),
+                Field::Number(index),
+                Field::Word("sent"),
+                Field::Number(sent),
+            ];
+            write_line("error", &fields, to)
+        }
+    }
+}
+
+/// The last line of a whole transcript.
+#[tactic(auto, unfolding(crate::specs::Transcript::end_line))]
+pub fn end_line(to: &mut Vec<u8>) -> Result<(), NoMemory>
+    ensures ok { OnOk result (to.new.items ≡ to.old.items ++ texts.end_line) }
+    ensures err { OnErr result (to.new.items ≡ to.old.items) }
+{
+    write_line("end", &[], to)
+}

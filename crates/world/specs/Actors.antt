@@ -1,0 +1,25 @@
+-- What the actors of the code stand for.
+use Rattle.std.specs.Prelude.{◌≡◌, List, map, Result, Ok}
+use Rattle.nop_types.specs.Lines.{Line}
+use Rattle.world.specs.declared.actors.Actors.{Actors}
+use Rattle.world.specs.declared.lines.Lines.{Lines}
+use Rattle.world.specs.LineCounts.{Shows}
+use Rattle.world.specs.SeatOutcomes.{seated_of}
+use Rattle.world.specs.WorldSteps.{WorldState, Refusal, Happened}
+
+abbrev pub world_of : {H : Type 0} → Actors H → WorldState
+world_of a =
+    record {
+      config = a.config;
+      replicas = map (seated_of (λ r. r.state)) a.replicas.items;
+      sequencers = map (seated_of (λ s. s.state)) a.sequencers.items;
+      clients = map (seated_of (λ c. c.state)) a.clients.items;
+      controller = seated_of (λ c. c.state) a.controller;
+      sent = a.network;
+    }
+
+-- the event happened: this is the world after it, and the lines are these
+pub record Happens (r : Result Happened Refusal) (new : WorldState) (lines : Lines) : Type 0 where
+  pub are : List Line
+  pub is : r ≡ Ok (record { world = new; lines = are })
+  pub shown : Shows lines are

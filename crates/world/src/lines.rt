@@ -1,0 +1,104 @@
+ghost use Rattle.std.specs.Prelude.{◌≡◌, ◌+◌, ◌++◌, ◌∷◌, [], OnOk, IfOk, length, count_by};
+ghost use Rattle.schedule_text.specs.Transcript.{lines_text};
+ghost use Rattle.world.specs.LineCounts.{Shows, Grows};
+ghost use Rattle.world.specs.Network.{sends_of, lines_from, sends_by, lines_by};
+ghost use Rattle.world.specs.SeatOutcomes.{did_of};
+
+use crate::network::Network;
+use nop_types::{Actor, Bytes, NoMemory, Out, Outbox};
+use schedule_text::{accept_line, busy_line, dead_line, send_line, submit_line};
+use std::alloc::Global;
+
+/// The lines of an event: their text, and how many of them are sends and accepts.
+#[derive(Debug, Drop)]
+pub struct Lines {
+    pub text: Bytes,
+    pub sends: u32,
+    pub accepts: u32,
+}
+
+/// The lines of an event so far.
+#[derive(Drop)]
+pub struct Tally {
+    pub text: Vec<u8>,
+    pub sends: u32,
+    pub accepts: u32,
+}
+
+/// One more; a count past its type answers want of memory, since no memory holds so many outputs.
+fn raised(count: u32) -> Result<u32, NoMemory>
+    ensures { IfOk result (λ n. n ≡ count + 1) }
+{
+    match count.checked_add(1) {
+        Some(n) => Ok(n),
+        None => Err(NoMemory),
+    }
+}
+
+/// Carries out one output: its line, and for a send the datagram.
+fn carry_out_one(
+    network: &mut Network,
+    from: Actor,
+    out: &Out,
+    tally: &mut Tally,
+) -> Result<(), NoMemory>
+    ensures network { OnOk result (network.new ≡ network.old ++ sends_of from (out.now ∷ [])) }
+    ensures lines { OnOk result (Grows tally.old tally.new (lines_from from (length network.old) (out.now ∷ []))) }
+{
+    match out {
+        Out::Send(dest, bytes) => {
+            send_line(network.len(), from, *dest, bytes.as_slice(), &mut tally.text)?;
+            network.push(from, *dest, bytes.as_slice())?;
+            tally.sends = raised(tally.sends)?;
+            Ok(())
+        }
+        Out::Submitted(request) => submit_line(request, &mut tally.text),
+        Out::Accepted { client, id, result } => {
+            accept_line(*client, *id, result, &mut tally.text)?;
+            tally.accepts = raised(tally.accepts)?;
+            Ok(())
+        }
+        Out::Busy(client) => busy_line(*client, &mut tally.text),
+    }
+}
+
+fn carry_out_all(
+    network: &mut Network,
+    from: Actor,
+    outs: &[Out],
+    tally: &mut Tally,
+) -> Result<(), NoMemory>
+    ensures network { OnOk result (network.new ≡ network.old ++ sends_of from outs.now) }
+    ensures lines { OnOk result (Grows tally.old tally.new (lines_from from (length network.old) outs.now)) }
+{
+    for out in outs {
+        carry_out_one(network, from, out, tally)?;
+    }
+    Ok(())
+}
+
+/// Carries out what an actor did, in order: its datagrams go into the network, and its lines are written.
+pub fn carry_out(
+    alloc: Global,
+    network: &mut Network,
+    from: Actor,
+    did: Option<Outbox>,
+) -> Result<Lines, NoMemory>
+    ensures network { OnOk result (network.new ≡ network.old ++ sends_by from (did_of did)) }
+    ensures lines { IfOk result (λ l. Shows l (lines_by from (length network.old) (did_of did))) }
+{
+    let mut tally = Tally {
+        text: Vec::new(alloc),
+        sends: 0,
+        accepts: 0,
+    };
+    match did {
+        Some(outs) => carry_out_all(network, from, outs.as_slice(), &mut tally)?,
+        None => dead_line(from, &mut tally.text)?,
+    }
+    Ok(Lines {
+        text: Bytes::from_vec(tally.text),
+        sends: tally.sends,
+        accepts: tally.accepts,
+    })
+}
