@@ -7,7 +7,7 @@ use Rattle.std.specs.FinMap as finite
 use Rattle.std.proofs.lemmas.Map.Lookups.{exact_bytes}
 use Rattle.kv_host.specs.declared.undo.KvUndo.{KvUndo}
 use Rattle.kv_host.specs.Kv.{with_value}
-use Rattle.kv_host.specs.Places.{Places, values_in, values_of, Fits}
+use Rattle.kv_host.specs.Places.{Places, values_in, values_of, HasPlace}
 use Rattle.kv_host.specs.Laws.{get-with_value, write_same}
 
 flatten-cond : (b : Bool) (w : Option (List ℕ)) (o : Option (Option (List ℕ))) → cond b w (option_flatten o) ≡ option_flatten (cond b (Some w) o)
@@ -45,14 +45,14 @@ kept true w o h = refl
 kept false w o h = h
 
 -- no place goes
-pub Fits-insert : (places : Places) (key : List ℕ) (w : Option (List ℕ)) (u : Option KvUndo) → Fits places u → Fits (finite.insert places key w) u
-Fits-insert places key w None h = h
-Fits-insert places key w (Some u) h =
+pub HasPlace-insert : (places : Places) (key : List ℕ) (w : Option (List ℕ)) (u : Option KvUndo) → HasPlace places u → HasPlace (finite.insert places key w) u
+HasPlace-insert places key w None h = h
+HasPlace-insert places key w (Some u) h =
     subst (λ (o : Option (Option (List ℕ))). IsTrue (is_some o)) (sym (finite.get-insert nat_list_cmp_total places key w u.key)) (kept (eq_by_cmp (slice_cmp nat_cmp) u.key key) w (finite.get places u.key) h)
 
 -- and the key that is written has one
-pub Fits-written : (places : Places) (key : List ℕ) (w v : Option (List ℕ)) → Fits (finite.insert places key w) (Some (record { key = key; value = v }))
-Fits-written places key w v = ap is_some (get-written places key w)
+pub HasPlace-written : (places : Places) (key : List ℕ) (w v : Option (List ℕ)) → HasPlace (finite.insert places key w) (Some (record { key = key; value = v }))
+HasPlace-written places key w v = ap is_some (get-written places key w)
 
 -- a key whose place has this has it as its value
 pub value_from_place : (places : Places) (key : List ℕ) (w : Option (List ℕ)) → finite.get places key ≡ Some w → finite.get (values_of places) key ≡ w
@@ -70,4 +70,4 @@ remove_absent places key e = sym (ap (with_value (values_of places) key) (sym e)
 pub values_of-empty : values_of finite.empty ≡ finite.empty
 values_of-empty = finite.same_map nat_list_cmp_total exact_bytes _ _ (λ q. get-values_of finite.empty q ∙ ap option_flatten (finite.get-empty (slice_cmp nat_cmp) q) ∙ sym (finite.get-empty (slice_cmp nat_cmp) q))
 
-pub ruleset place_writes = (values_of-insert, value_from_place, value_without_place, remove_absent, Fits-insert, Fits-written)
+pub ruleset place_writes = (values_of-insert, value_from_place, value_without_place, remove_absent, HasPlace-insert, HasPlace-written)

@@ -1,7 +1,6 @@
 -- An op that is spelled is read.
-use Rattle.std.proofs.Common.{◌≡◌, ℕ, ◌+◌, ◌<◌, ◌≤◌, ◌^◌, Bool, true, cond, List, [], ◌∷◌, ◌++◌, length, take, drop, Option, Some, None, refl, sym, ap, subst, ◌∙◌, arith}
+use Rattle.std.proofs.Common.{◌≡◌, ℕ, ◌<◌, ◌^◌, true, cond, List, [], ◌∷◌, ◌++◌, length, take, drop, Option, Some, None, refl, sym, ap, subst, ◌∙◌, arith}
 use Rattle.std.specs.Prelude.{nat_le, ◌&&◌}
-use Rattle.std.specs.Option.{unwrap_or, option_and_then}
 use Rattle.std.specs.Int.{w16, from_be_bytes, to_be_bytes}
 use Rattle.std.proofs.lemmas.Bool.Decides.{nat_tests}
 use Rattle.std.proofs.lemmas.List.{length-append, append-nil}
@@ -9,7 +8,7 @@ use Rattle.std.proofs.lemmas.Nat.{from_be_bytes-to_be_bytes_2}
 use Rattle.std.proofs.Math.Seq.{take-append_seam, drop-append_seam}
 use Rattle.nop_types.specs.declared.limits.TheConstants.{MAX_KEY_BYTES, MAX_VALUE_BYTES}
 use Rattle.kv_host.specs.declared.op.TheConstants.{GET, PUT, DELETE, SWAP}
-use Rattle.kv_host.specs.Op.{Op, Get, Put, Delete, Swap, Bad, Field, field_at, key_at, value_at, at_end, read_get, read_put, read_delete, read_swap, read_op}
+use Rattle.kv_host.specs.Op.{Op, Get, Put, Delete, Swap, Bad, Field, field_at, key_at, value_at, read_get, read_put, read_delete, read_swap, read_op}
 use Rattle.kv_host.specs.Spelling.{FieldFits, KeyFits, ValueFits, OpFits, field, Spells}
 use Rattle.kv_host.specs.Reading as reading
 

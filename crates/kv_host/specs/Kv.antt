@@ -3,14 +3,14 @@ use Rattle.std.specs.Prelude.{ℕ, ◌≤◌, length, IfSome, List, ◌++◌, Op
 use Rattle.std.specs.Ordering.{nat_cmp}
 use Rattle.std.specs.Option.{option_eq}
 use Rattle.std.specs.Cmp.Lexicographic.{slice_cmp, pointwise}
-use Rattle.std.specs.FinMap as map
+use Rattle.std.specs.FinMap as finite
 use Rattle.nop_types.specs.declared.limits.TheConstants.{MAX_VALUE_BYTES}
 use Rattle.nop_types.specs.Meaning.{Meaning}
 use Rattle.kv_host.specs.Op.{Op, Get, Put, Delete, Swap, Bad, read_op}
 
 -- the keys that have a value, with their values
 abbrev pub Kv : Type 0
-Kv = map.FinMap (slice_cmp nat_cmp) (List ℕ)
+Kv = finite.FinMap (slice_cmp nat_cmp) (List ℕ)
 
 -- a value as an answer
 abbrev pub shown : Option (List ℕ) → List ℕ
@@ -19,36 +19,36 @@ shown (Some value) = codes "=" ++ value
 
 -- whether the key has a value, and it is this one
 abbrev pub has_value : Kv → List ℕ → List ℕ → Bool
-has_value kv key value = option_eq (pointwise nat_eq) (map.get kv key) (Some value)
+has_value kv key value = option_eq (pointwise nat_eq) (finite.get kv key) (Some value)
 
 -- the key has the value, or has none
 abbrev pub with_value : Kv → List ℕ → Option (List ℕ) → Kv
-with_value kv key None = map.remove kv key
-with_value kv key (Some value) = map.insert kv key value
+with_value kv key None = finite.remove kv key
+with_value kv key (Some value) = finite.insert kv key value
 
 -- a get shows the value, a put and a delete the former value
-abbrev pub answer_of : Kv → Op → List ℕ
-answer_of kv (Get key) = shown (map.get kv key)
-answer_of kv (Put key value) = shown (map.get kv key)
-answer_of kv (Delete key) = shown (map.get kv key)
-answer_of kv (Swap key old new) = if has_value kv key old then codes "yes" else codes "no"
-answer_of kv Bad = codes "bad"
+abbrev pub answer_to : Kv → Op → List ℕ
+answer_to kv (Get key) = shown (finite.get kv key)
+answer_to kv (Put key value) = shown (finite.get kv key)
+answer_to kv (Delete key) = shown (finite.get kv key)
+answer_to kv (Swap key old new) = if has_value kv key old then codes "yes" else codes "no"
+answer_to kv Bad = codes "bad"
 
-abbrev pub after : Kv → Op → Kv
-after kv (Get key) = kv
-after kv (Put key value) = map.insert kv key value
-after kv (Delete key) = map.remove kv key
-after kv (Swap key old new) = if has_value kv key old then map.insert kv key new else kv
-after kv Bad = kv
+abbrev pub state_after : Kv → Op → Kv
+state_after kv (Get key) = kv
+state_after kv (Put key value) = finite.insert kv key value
+state_after kv (Delete key) = finite.remove kv key
+state_after kv (Swap key old new) = if has_value kv key old then finite.insert kv key new else kv
+state_after kv Bad = kv
 
 -- it begins with no key, and reads each op from its bytes
 abbrev pub kv_meaning : Meaning Kv
 kv_meaning = record {
-  opening = map.empty;
-  after = λ kv op. after kv (read_op op);
-  answer = λ kv op. answer_of kv (read_op op);
+  opening = finite.empty;
+  after = λ kv op. state_after kv (read_op op);
+  answer = λ kv op. answer_to kv (read_op op);
 }
 
 -- each value has at most `MAX_VALUE_BYTES` bytes
 abbrev pub IsSound : Kv → Type 0
-IsSound kv = (key : List ℕ) → IfSome (map.get kv key) (λ value. length value ≤ MAX_VALUE_BYTES)
+IsSound kv = (key : List ℕ) → IfSome (finite.get kv key) (λ value. length value ≤ MAX_VALUE_BYTES)

@@ -1,3 +1,4 @@
+pub mod Done
 pub mod Kv
 pub mod Laws
 pub mod Op

@@ -22,9 +22,9 @@ abbrev pub values_of : Places → Kv
 values_of places = values_in (finite.entries places)
 
 -- the record's key has a place
-abbrev pub Fits : Places → Option KvUndo → Type 0
-Fits places None = ⊤
-Fits places (Some undo) = IsTrue (finite.contains_key places undo.key)
+abbrev pub HasPlace : Places → Option KvUndo → Type 0
+HasPlace places None = ⊤
+HasPlace places (Some undo) = IsTrue (finite.contains_key places undo.key)
 
 -- ---- the table itself, in the order in which the places were made
 

@@ -1,8 +1,8 @@
 -- An op that is read has its fields within their limits, and is spelled by the bytes.
-use Rattle.std.proofs.Common.{◌≡◌, ℕ, ◌+◌, ◌<◌, ◌≤◌, ◌⊎◌, inl, inr, Bool, true, false, cond, List, [], ◌∷◌, ◌++◌, length, take, drop, get_or, zero, suc, Option, Some, None, refl, sym, ap, subst, ◌∙◌, arith, ltb, eqb}
+use Rattle.std.proofs.Common.{◌≡◌, ℕ, ◌<◌, ◌⊎◌, inl, inr, Bool, true, false, cond, List, [], ◌∷◌, ◌++◌, length, take, drop, get_or, zero, suc, Option, Some, None, refl, sym, ap, subst, ◌∙◌, arith, eqb}
 use Rattle.std.specs.Prelude.{IfSome, nat_le, ◌&&◌}
 use Rattle.std.specs.Option.{unwrap_or, option_and_then}
-use Rattle.std.specs.Int.{w16, from_be_bytes, to_be_bytes}
+use Rattle.std.specs.Int.{w16, from_be_bytes}
 use Rattle.std.proofs.lemmas.Bool.Decides.{nat_tests}
 use Rattle.std.proofs.lemmas.List.{length-take, take-append-drop, append-nil}
 use Rattle.std.proofs.lemmas.Nat.{be_bytes_2}
@@ -10,7 +10,7 @@ use borrow.Author.Tests.{eqb-true}
 use Rattle.nop_types.specs.declared.limits.TheConstants.{MAX_KEY_BYTES, MAX_VALUE_BYTES}
 use Rattle.kv_host.specs.declared.op.TheConstants.{GET, PUT, DELETE, SWAP}
 use Rattle.kv_host.specs.Op.{Op, Get, Put, Delete, Swap, Bad, Field, field_at, key_at, value_at, at_end, read_get, read_put, read_delete, read_swap, read_fields, read_op}
-use Rattle.kv_host.specs.Spelling.{FieldFits, KeyFits, ValueFits, OpFits, IsBytes, field, Spells}
+use Rattle.kv_host.specs.Spelling.{FieldFits, OpFits, IsBytes, field, Spells}
 
 -- the bytes begin with the field, which has a length from low to high
 record Begins (low high : ℕ) (bytes : List ℕ) (f : Field) : Type 0 where
@@ -38,9 +38,9 @@ first_field true least most high low rest e =
     record {
       fits = record { least = grind (arith, nat_tests); most = grind (arith, nat_tests) };
       spelled = λ h.
-        sym
-        (ap (λ (front : List ℕ). front ++ (take len rest ++ drop len rest)) (be_bytes_2 (high ∷ low ∷ []) (length (take len rest)) refl (each_byte high low h.0 h.1.0) whole)
-        ∙ ap (λ (tail : List ℕ). high ∷ low ∷ tail) (take-append-drop len rest));
+          sym
+          (ap (λ (front : List ℕ). front ++ (take len rest ++ drop len rest)) (be_bytes_2 (high ∷ low ∷ []) (length (take len rest)) refl (each_byte high low h.0 h.1.0) whole)
+          ∙ ap (λ (tail : List ℕ). high ∷ low ∷ tail) (take-append-drop len rest));
       rest = λ h. IsBytes-drop len rest h.1.1;
     }
 first_field false least most high low rest e = tt
@@ -106,9 +106,12 @@ read_swap-is bytes =
     after_key SWAP bytes bytes _ (λ key k. after_value SWAP bytes key.1 _ (λ old o. after_value SWAP bytes old.1 _ (λ new n. ends SWAP bytes new.1 (Swap key.0 old.0 new.0) (λ none.
     record {
       fits = (k.fits, o.fits, n.fits);
-      spelled = λ h.
-        (k.fits, o.fits, n.fits,
-        ap (λ (b : List ℕ). SWAP ∷ b) (more bytes key.0 key.1 _ (k.spelled h) (more key.1 old.0 old.1 _ (o.spelled (k.rest h)) (last old.1 new.0 new.1 (n.spelled (o.rest (k.rest h))) none))));
+      spelled = λ h. (
+        k.fits,
+        o.fits,
+        n.fits,
+        ap (λ (b : List ℕ). SWAP ∷ b) (more bytes key.0 key.1 _ (k.spelled h) (more key.1 old.0 old.1 _ (o.spelled (k.rest h)) (last old.1 new.0 new.1 (n.spelled (o.rest (k.rest h))) none))),
+      );
     }))))
 
 one_of : (kind this : ℕ) (bytes : List ℕ) (b : Bool) (x y : Option Op) → eqb kind this ≡ b → IfSome x (IsRead this bytes) → IfSome y (IsRead kind bytes) → IfSome (cond b x y) (IsRead kind bytes)

@@ -1,8 +1,5 @@
-ghost use Rattle.std.specs.Prelude.{◌≡◌, IfOk, OnOk, OnErr};
-ghost use Rattle.kv_host.specs.Places.{values_of};
-
+use crate::apply;
 use crate::op::{KvOp, read};
-use crate::ops;
 use crate::table::{Table, find, replace};
 use crate::undo::KvUndo;
 use indexmap::IndexMap;
@@ -10,9 +7,10 @@ use nop_types::{Bytes, Host, NoMemory};
 use std::alloc::Global;
 use std::marker::Model;
 
-/// A map from keys to values, which begins empty. It is seen with a place for each key that was ever written; its state are
-/// the keys that have a value.
-#[derive(Drop)]
+/// A map from keys to values, which begins empty. In a clause it is the finite map of its places, one for each key that was
+/// ever written, with its value or without one; its state is the keys that have a value. A place is never taken away, so the
+/// memory grows with the number of different keys.
+#[derive(Debug, Drop)]
 pub struct KvHost {
     table: Table,
 }
@@ -34,7 +32,7 @@ impl Host for KvHost {
     ghost use Rattle.kv_host.specs.Op.{read_op};
     ghost use Rattle.kv_host.specs.Kv.{Kv, kv_meaning, IsSound};
     ghost use Rattle.kv_host.specs.Undo.{undo_of, undone};
-    ghost use Rattle.kv_host.specs.Places.{values_of, Fits};
+    ghost use Rattle.kv_host.specs.Places.{values_of, HasPlace};
     ghost use Rattle.kv_host.specs.Laws.{undoes, opens_sound, stays_sound, answers_short};
 
     type Undo = Option<KvUndo>;
@@ -49,7 +47,7 @@ impl Host for KvHost {
 
     ghost undone = { undone };
 
-    ghost fits = { Fits };
+    ghost fits = { HasPlace };
 
     ghost is_sound = { IsSound };
 
@@ -71,10 +69,10 @@ impl Host for KvHost {
         let alloc = *self.table.allocator();
         let table = &mut self.table;
         match read(op) {
-            KvOp::Get(key) => Ok((ops::get(alloc, table, key)?, None)),
-            KvOp::Put(key, value) => ops::put(alloc, table, key, value),
-            KvOp::Delete(key) => ops::delete(alloc, table, key),
-            KvOp::Swap(key, old, new) => ops::swap(alloc, table, key, old, new),
+            KvOp::Get(key) => Ok((apply::get(alloc, table, key)?, None)),
+            KvOp::Put(key, value) => apply::put(alloc, table, key, value),
+            KvOp::Delete(key) => apply::delete(alloc, table, key),
+            KvOp::Swap(key, old, new) => apply::swap(alloc, table, key, old, new),
             KvOp::Bad => Ok((Bytes::new(alloc, b"bad")?, None)),
         }
     }
@@ -88,8 +86,7 @@ impl Host for KvHost {
     }
 
     fn copy(&self) -> Result<KvHost, NoMemory> {
-        Ok(KvHost {
-            table: self.table.clone()?,
-        })
+        let table = self.table.clone()?;
+        Ok(KvHost { table })
     }
 }

@@ -1,11 +1,13 @@
 //! A key-value service that is replicated: gets, puts, deletes and swaps, each of which can be undone.
 #![tactic(auto)]
 
+mod apply;
 mod host;
 mod key;
 mod op;
-mod ops;
 mod table;
+#[cfg(test)]
+mod tests;
 mod undo;
 mod value;
 

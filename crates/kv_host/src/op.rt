@@ -5,23 +5,30 @@ ghost use Rattle.kv_host.specs.View.{op_of};
 
 use nop_types::{MAX_KEY_BYTES, MAX_VALUE_BYTES};
 
-/// The first byte of each kind of op.
+/// The first byte of a get.
 pub const GET: u8 = b'G';
 
+/// The first byte of a put.
 pub const PUT: u8 = b'P';
 
+/// The first byte of a delete.
 pub const DELETE: u8 = b'D';
 
+/// The first byte of a swap.
 pub const SWAP: u8 = b'C';
 
 /// An op as it was read.
 #[derive(Clone, Copy)]
 pub enum KvOp<'a> {
+    /// Of a key.
     Get(&'a [u8]),
+    /// Of a key and its new value.
     Put(&'a [u8], &'a [u8]),
+    /// Of a key.
     Delete(&'a [u8]),
-    /// Key, old value and new value.
+    /// Of a key, the old value and the new one.
     Swap(&'a [u8], &'a [u8], &'a [u8]),
+    /// Bytes that spell no op.
     Bad,
 }
 
@@ -94,6 +101,7 @@ fn swap(fields: &[u8]) -> Option<KvOp<'_>>
     at_end(rest, KvOp::Swap(key, old, new))
 }
 
+/// The op that the bytes spell.
 #[tactic(auto, unfolding(crate::specs::Op::read_op))]
 pub fn read(op: &[u8]) -> KvOp<'_>
     ensures { op_of result ≡ read_op op.now }

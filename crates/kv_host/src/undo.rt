@@ -1,8 +1,8 @@
 use crate::key::KvKey;
 use crate::value::KvValue;
 
-/// What undoes an op that changed a key: the value that the key had before, None where it had none.
-#[derive(Drop)]
+/// What undoes an op that changed a key: the key, and the value that it had before, None where it had none.
+#[derive(Debug, Drop)]
 pub struct KvUndo {
     pub(crate) key: KvKey,
     pub(crate) value: Option<KvValue>,

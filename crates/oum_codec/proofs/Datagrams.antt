@@ -1,294 +1,19 @@
 -- Whole datagrams: what was spelled is read, and what is read is spelled.
-use Rattle.std.proofs.Common.{◌≡◌, ℕ, ◌<◌, ◌≤◌, Bool, true, false, cond, ltb, eqb, List, [], ◌∷◌, ◌++◌, length, Option, Some, None, Result, Ok, Err, refl, sym, ap, subst, ◌∙◌, append_assoc, arith, inl, inr, ◌⊎◌}
-use Rattle.std.specs.Prelude.{IfOk, not, ◌&&◌, zero, suc, ◌+◌}
-use Rattle.std.specs.Int.{w16, w32, w64}
-use Rattle.std.proofs.lemmas.Bool.{eqb-true, ltb-false, ltb-true, le-ltb}
+use Rattle.std.proofs.Common.{◌≡◌, ℕ, Bool, true, false, cond, eqb, List, [], ◌∷◌, ◌++◌, Result, Ok, Err, refl, sym, ap, ◌∙◌, arith, inl, inr, ◌⊎◌}
+use Rattle.std.specs.Prelude.{IfOk, not, ◌&&◌}
+use Rattle.std.proofs.lemmas.Bool.{eqb-true}
 use Rattle.std.proofs.lemmas.Bool.Decides.{nat_tests}
-use Rattle.std.proofs.lemmas.List.{append-nil, nil_from_length}
-use Rattle.nop_types.specs.Ranges.{DatagramFits, RequestFits, StampedFits, ReplyFits, SignalFits, FragmentFits}
-use Rattle.nop_types.specs.declared.request.Request.{Request}
-use Rattle.nop_types.specs.declared.datagram.Stamped.{Stamped}
-use Rattle.nop_types.specs.declared.datagram.Reply.{Reply}
-use Rattle.nop_types.specs.declared.datagram.Fragment.{Fragment}
+use Rattle.nop_types.specs.Ranges.{DatagramFits}
 use Rattle.nop_types.specs.declared.datagram.Datagram.{Datagram}
 use Rattle.nop_types.specs.declared.datagram.Datagram.TheVariants as datagrams
 use Rattle.oum_codec.specs.declared.bad.Bad.{Bad}
-use Rattle.oum_codec.specs.declared.bad.Bad.TheVariants.{Short, Magic, Version, Field, Trailing}
-use Rattle.oum_codec.specs.declared.fixed.RequestFields.{RequestFields}
-use Rattle.oum_codec.specs.declared.fixed.StampedFields.{StampedFields}
-use Rattle.oum_codec.specs.declared.fixed.ReplyFields.{ReplyFields}
-use Rattle.oum_codec.specs.declared.fixed.SignalFields.{SignalFields}
-use Rattle.oum_codec.specs.declared.fixed.FragmentFields.{FragmentFields}
-use Rattle.oum_codec.specs.Numbers.{IsBytes, be_bytes}
-use Rattle.oum_codec.specs.Spelling.{view_bytes, header, request_bytes, stamped_bytes, reply_bytes, signal_bytes, fragment_bytes, spelling, Spells}
-use Rattle.nop_types.specs.declared.limits.TheConstants.{FRAGMENT_BYTES, MAX_FRAGMENTS, MAX_OP_BYTES, MAX_RESULT_BYTES, MAX_SLOTS, NUMBER_END}
-use Rattle.oum_codec.specs.Fixed.{tag_fits, request_fields_at, request_in_range, stamped_fields_at, stamped_in_range, reply_fields_at, reply_in_range, signal_fields_at, signal_in_range, fragment_fields_at, fragment_in_range, least_payload}
-use Rattle.oum_codec.specs.Reading.{Gives, ◌>>=◌, fields_of, sized, request_of, stamped_of, reply_of, signal_of, fragment_of, body_of, reading}
-use Rattle.oum_codec.proofs.Steps.{bind_ok, ok_is, passed_ok, guard_ok}
+use Rattle.oum_codec.specs.declared.bad.Bad.TheVariants.{Short, Magic, Version, Kind, Field, Trailing, NoMemory}
+use Rattle.oum_codec.specs.Numbers.{IsBytes}
+use Rattle.oum_codec.specs.Spelling.{header, spelling, Spells}
+use Rattle.oum_codec.specs.Reading.{Gives, ◌>>=◌, request_of, stamped_of, reply_of, signal_of, fragment_of, body_of, reading}
+use Rattle.oum_codec.proofs.Steps.{ok_is, guard_ok}
 use Rattle.oum_codec.proofs.Numbers.{IsBytes-rest}
-use Rattle.oum_codec.proofs.FixedFields.{StampedWidths, ReplyWidths, request_fields_bytes, request_fields_take, request_fields_again, stamped_fields_bytes, stamped_fields_take, stamped_fields_again, reply_fields_bytes, reply_fields_take, reply_fields_again, signal_fields_take, signal_fields_again, FragmentWidths, fragment_fields_take, fragment_fields_again}
-
-abbrev done : {A : Type 0} → A → Result A Bad
-done x = Ok x
-
--- fields that passed both tests
-fields_ok : {F : Type 0} (found : Option (F × List ℕ)) (test : F → Bool) (x : F × List ℕ) → fields_of found test ≡ Ok x → (found ≡ Some x) × (test x.0 ≡ true)
-fields_ok None test x e = absurd cc
-fields_ok {F} (Some y) test x e =
-    let g = passed_ok (test y.0) Field (done y) x e in
-    let same : y ≡ x = ok_is y x g.1 in
-    (ap (λ (z : F × List ℕ). Some z) same, subst (λ (z : F × List ℕ). test z.0 ≡ true) same g.0)
-
-pub record IsSized (least most : ℕ) (bytes out : List ℕ) : Type 0 where
-  pub same : bytes ≡ out
-  pub enough : least ≤ length bytes
-  pub no_more : length bytes ≤ most
-
-sized_ok : (least most : ℕ) (bytes out : List ℕ) → sized least most bytes ≡ Ok out → IsSized least most bytes out
-sized_ok least most bytes out e =
-    let low = guard_ok (ltb (length bytes) least) Short _ out e in
-    let high = guard_ok (ltb most (length bytes)) Trailing (done bytes) out low.1 in
-    record { same = ok_is bytes out high.1; enough = ltb-false _ _ low.0; no_more = ltb-false _ _ high.0 }
-
-sized_again : (least most : ℕ) (bytes : List ℕ) → least ≤ length bytes → length bytes ≤ most → sized least most bytes ≡ Ok bytes
-sized_again least most bytes low high =
-    let a : ltb (length bytes) least ≡ false = le-ltb _ _ low in
-    let b : ltb most (length bytes) ≡ false = le-ltb _ _ high in
-    rw (a, b) refl
-
--- what a kind's reading says of its value
-pub record IsBody {F D : Type 0} (found : Option (F × List ℕ)) (test : F → Bool) (least most : F → ℕ) (make : F → List ℕ → D) (d : D) : Type 0 where
-  pub f : F
-  pub out : List ℕ
-  pub there : found ≡ Some (f, out)
-  pub ranges : test f ≡ true
-  pub enough : least f ≤ length out
-  pub no_more : length out ≤ most f
-  pub is : make f out ≡ d
-
-body_ok : {F D : Type 0} (found : Option (F × List ℕ)) (test : F → Bool) (least most : F → ℕ) (make : F → List ℕ → D) (d : D)
-    → (fields_of found test >>= λ f. sized (least f.0) (most f.0) f.1 >>= λ out. Ok (make f.0 out)) ≡ Ok d → IsBody found test least most make d
-body_ok found test least most make d e =
-    let a = bind_ok (fields_of found test) (λ f. sized (least f.0) (most f.0) f.1 >>= λ out. Ok (make f.0 out)) d e in
-    let b = bind_ok (sized (least a.0.0) (most a.0.0) a.0.1) (λ out. Ok (make a.0.0 out)) d a.2 in
-    let g = fields_ok found test a.0 a.1 in
-    let s = sized_ok (least a.0.0) (most a.0.0) a.0.1 b.0 b.1 in
-    record { f = a.0.0; out = a.0.1; there = g.0; ranges = g.1; enough = s.enough; no_more = s.no_more; is = ap (make a.0.0) s.same ∙ ok_is (make a.0.0 b.0) d b.2 }
-
-body_again : {F D : Type 0} (found : Option (F × List ℕ)) (test : F → Bool) (least most : F → ℕ) (make : F → List ℕ → D) (f : F) (out : List ℕ)
-    → found ≡ Some (f, out) → test f ≡ true → least f ≤ length out → length out ≤ most f → (fields_of found test >>= λ f. sized (least f.0) (most f.0) f.1 >>= λ out. Ok (make f.0 out)) ≡ Ok (make f out)
-body_again found test least most make f out there ranges enough no_more = rw (there, ranges, sized_again (least f) (most f) out enough no_more) refl
-
--- ---- a request
-
-pub request_whole : (f : RequestFields) (op : List ℕ) → f.op_len ≡ length op → request_fields_bytes f ++ op ≡ request_bytes (record { client = f.client; id = f.id; op = op })
-request_whole f op len = append_assoc (be_bytes w32 f.client ++ be_bytes w64 f.id) (be_bytes w16 f.op_len) op ∙ ap (λ (n : ℕ). be_bytes w32 f.client ++ be_bytes w64 f.id ++ (be_bytes w16 n ++ op)) len
-
-request_takes : (rest : List ℕ) (d : Datagram) → IsBytes rest → request_of rest ≡ Ok d → DatagramFits d × (header 1 ++ rest ≡ spelling d)
-unfolding request_of
-request_takes rest d fits e =
-    let b = body_ok (request_fields_at rest) request_in_range (λ f. f.op_len) (λ f. f.op_len) (λ f op. datagrams.Request (record { client = f.client; id = f.id; op = op })) d e in
-    let t = request_fields_take rest (b.f, b.out) fits b.there in
-    let len : b.f.op_len ≡ length b.out = omega (arith, b.enough, b.no_more) in
-    let id_low : 1 ≤ b.f.id = grind (arith, nat_tests, b.ranges) in
-    let op_high : b.f.op_len ≤ 640 = grind (arith, nat_tests, b.ranges) in
-    let whole : rest ≡ request_bytes (record { client = b.f.client; id = b.f.id; op = b.out }) = t.0.parts ∙ request_whole b.f b.out len in
-    subst (λ (x : Datagram). DatagramFits x × (header 1 ++ rest ≡ spelling x)) b.is
-    (record { client = t.1.client; id_low = id_low; id = t.1.id; op = omega (arith, op_high, len) }, ap (λ (x : List ℕ). header 1 ++ x) whole)
-
-request_again : (r : Request) → RequestFits r → request_of (request_bytes r) ≡ Ok (datagrams.Request r)
-unfolding request_of
-request_again r fits =
-    let f : RequestFields = record { client = r.client; id = r.id; op_len = length r.op } in
-    let there : request_fields_at (request_bytes r) ≡ Some (f, r.op) = ap request_fields_at (sym (request_whole f r.op refl)) ∙ request_fields_again f r.op (record { client = fits.client; id = fits.id; op_len = omega (arith, fits.op) }) in
-    let ranges : request_in_range f ≡ true = grind (arith, nat_tests, fits.id_low, fits.op) in
-    body_again (request_fields_at (request_bytes r)) request_in_range (λ f. f.op_len) (λ f. f.op_len) (λ f op. datagrams.Request (record { client = f.client; id = f.id; op = op })) f r.op there ranges (omega arith) (omega arith)
-
--- ---- a stamped request
-
-abbrev stamped_made : StampedFields → List ℕ → Stamped
-stamped_made f op = record { session = f.session; number = f.number; request = record { client = f.request.client; id = f.request.id; op = op } }
-
-stamped_whole : (f : StampedFields) (op : List ℕ) → f.request.op_len ≡ length op → stamped_fields_bytes f ++ op ≡ stamped_bytes (stamped_made f op)
-stamped_whole f op len = append_assoc (be_bytes w32 f.session ++ be_bytes w64 f.number) (request_fields_bytes f.request) op ∙ ap (λ (x : List ℕ). be_bytes w32 f.session ++ be_bytes w64 f.number ++ x) (request_whole f.request op len)
-
-stamped_takes : (rest : List ℕ) (d : Datagram) → IsBytes rest → stamped_of rest ≡ Ok d → DatagramFits d × (header 2 ++ rest ≡ spelling d)
-unfolding stamped_of
-stamped_takes rest d fits e =
-    let b = body_ok (stamped_fields_at rest) stamped_in_range (λ f. f.request.op_len) (λ f. f.request.op_len) (λ f op. datagrams.Stamped (stamped_made f op)) d e in
-    let t = stamped_fields_take rest (b.f, b.out) fits b.there in
-    let len : b.f.request.op_len ≡ length b.out = omega (arith, b.enough, b.no_more) in
-    let whole : rest ≡ stamped_bytes (stamped_made b.f b.out) = t.0.parts ∙ stamped_whole b.f b.out len in
-    let ranges : StampedFits (stamped_made b.f b.out) = stamped_ranges b.f b.out b.ranges t.1 len in
-    subst (λ (x : Datagram). DatagramFits x × (header 2 ++ rest ≡ spelling x)) b.is (ranges, ap (λ (x : List ℕ). header 2 ++ x) whole)
-  where
-    stamped_ranges : (f : StampedFields) (op : List ℕ) → stamped_in_range f ≡ true → StampedWidths f → f.request.op_len ≡ length op → StampedFits (stamped_made f op)
-    stamped_ranges f op is widths len =
-        let session_low : 1 ≤ f.session = grind (arith, nat_tests, is) in
-        let number_low : 1 ≤ f.number = grind (arith, nat_tests, is) in
-        let number_high : f.number < NUMBER_END = grind (arith, nat_tests, is) in
-        let id_low : 1 ≤ f.request.id = grind (arith, nat_tests, is) in
-        let op_high : f.request.op_len ≤ MAX_OP_BYTES = grind (arith, nat_tests, is) in
-        record {
-          session = record { low = session_low; high = widths.session };
-          number_low = number_low;
-          number = number_high;
-          request = record { client = widths.request.client; id_low = id_low; id = widths.request.id; op = omega (arith, op_high, len) };
-        }
-
-stamped_again : (s : Stamped) → StampedFits s → stamped_of (stamped_bytes s) ≡ Ok (datagrams.Stamped s)
-unfolding stamped_of
-stamped_again s fits =
-    let r = s.request in
-    let f : StampedFields = record { session = s.session; number = s.number; request = record { client = r.client; id = r.id; op_len = length r.op } } in
-    let widths : StampedWidths f = record { session = fits.session.high; number = omega (arith, fits.number); request = record { client = fits.request.client; id = fits.request.id; op_len = omega (arith, fits.request.op) } } in
-    let there : stamped_fields_at (stamped_bytes s) ≡ Some (f, r.op) = ap stamped_fields_at (sym (stamped_whole f r.op refl)) ∙ stamped_fields_again f r.op widths in
-    let ranges : stamped_in_range f ≡ true = grind (arith, nat_tests, fits.session.low, fits.number_low, fits.number, fits.request.id_low, fits.request.op) in
-    body_again (stamped_fields_at (stamped_bytes s)) stamped_in_range (λ f. f.request.op_len) (λ f. f.request.op_len) (λ f op. datagrams.Stamped (stamped_made f op)) f r.op there ranges (omega arith) (omega arith)
-
--- ---- a reply
-
-abbrev reply_made : ReplyFields → List ℕ → Reply
-reply_made f result = record { replica = f.replica; view = f.view; slot = f.slot; client = f.client; id = f.id; tag = f.tag; result = result }
-
-reply_whole : (f : ReplyFields) (result : List ℕ) → f.result_len ≡ length result → reply_fields_bytes f ++ result ≡ reply_bytes (reply_made f result)
-reply_whole f result len =
-    let front : List ℕ = f.replica ∷ [] ++ view_bytes f.view ++ be_bytes w32 f.slot ++ be_bytes w32 f.client ++ be_bytes w64 f.id ++ f.tag ∷ [] in
-    append_assoc front (be_bytes w16 f.result_len) result ∙ ap (λ (n : ℕ). front ++ (be_bytes w16 n ++ result)) len
-
-reply_ranges : (f : ReplyFields) (result : List ℕ) → reply_in_range f ≡ true → ReplyWidths f → f.result_len ≡ length result → ReplyFits (reply_made f result)
-reply_ranges f result is widths len =
-    let replica : f.replica ≤ 6 = grind (arith, nat_tests, is) in
-    let session_low : 1 ≤ f.view.session = grind (arith, nat_tests, is) in
-    let slot_low : 1 ≤ f.slot = grind (arith, nat_tests, is) in
-    let slot_high : f.slot ≤ MAX_SLOTS = grind (arith, nat_tests, is) in
-    let id_low : 1 ≤ f.id = grind (arith, nat_tests, is) in
-    let tag : f.tag ≤ 1 = grind (arith, nat_tests, is) in
-    let result_high : f.result_len ≤ MAX_RESULT_BYTES = grind (arith, nat_tests, is) in
-    let without : f.tag ≡ 0 → f.result_len ≡ 0 = λ none. grind (arith, nat_tests, is, none) in
-    record {
-      replica = replica;
-      view = record { leader = widths.view.leader; session = record { low = session_low; high = widths.view.session } };
-      slot = record { low = slot_low; high = slot_high };
-      client = widths.client;
-      id_low = id_low;
-      id = widths.id;
-      tag = tag;
-      result_length = omega (arith, result_high, len);
-      without = λ none. omega (arith, without none, len);
-    }
-
-reply_takes : (rest : List ℕ) (d : Datagram) → IsBytes rest → reply_of rest ≡ Ok d → DatagramFits d × (header 3 ++ rest ≡ spelling d)
-unfolding reply_of
-reply_takes rest d fits e =
-    let b = body_ok (reply_fields_at rest) reply_in_range (λ f. f.result_len) (λ f. f.result_len) (λ f result. datagrams.Reply (reply_made f result)) d e in
-    let t = reply_fields_take rest (b.f, b.out) fits b.there in
-    let len : b.f.result_len ≡ length b.out = omega (arith, b.enough, b.no_more) in
-    let whole : rest ≡ reply_bytes (reply_made b.f b.out) = t.0.parts ∙ reply_whole b.f b.out len in
-    subst (λ (x : Datagram). DatagramFits x × (header 3 ++ rest ≡ spelling x)) b.is (reply_ranges b.f b.out b.ranges t.1 len, ap (λ (x : List ℕ). header 3 ++ x) whole)
-
-reply_again : (r : Reply) → ReplyFits r → reply_of (reply_bytes r) ≡ Ok (datagrams.Reply r)
-unfolding reply_of
-reply_again r fits =
-    let f : ReplyFields = record { replica = r.replica; view = r.view; slot = r.slot; client = r.client; id = r.id; tag = r.tag; result_len = length r.result } in
-    let widths : ReplyWidths f = record { view = record { leader = fits.view.leader; session = fits.view.session.high }; slot = omega (arith, fits.slot.high); client = fits.client; id = fits.id; result_len = omega (arith, fits.result_length) } in
-    let there : reply_fields_at (reply_bytes r) ≡ Some (f, r.result) = ap reply_fields_at (sym (reply_whole f r.result refl)) ∙ reply_fields_again f r.result widths in
-    let with_tag : tag_fits r.tag (length r.result) ≡ true = tag_again r.tag (length r.result) fits.tag fits.result_length fits.without in
-    let ranges : reply_in_range f ≡ true = grind (arith, nat_tests, with_tag, fits.replica, fits.view.session.low, fits.slot.low, fits.slot.high, fits.id_low) in
-    body_again (reply_fields_at (reply_bytes r)) reply_in_range (λ f. f.result_len) (λ f. f.result_len) (λ f result. datagrams.Reply (reply_made f result)) f r.result there ranges (omega arith) (omega arith)
-  where
-    tag_again : (tag len : ℕ) → tag ≤ 1 → len ≤ MAX_RESULT_BYTES → (tag ≡ 0 → len ≡ 0) → tag_fits tag len ≡ true
-    tag_again zero len low high none = let nothing : len ≡ 0 = none refl in rw nothing refl
-    tag_again (suc zero) len low high none = grind (arith, nat_tests)
-    tag_again (suc (suc tag)) len low high none = absurd (omega arith)
-
--- ---- signals
-
-signal_takes : (rest : List ℕ) (f : SignalFields) → IsBytes rest → signal_of rest ≡ Ok f → SignalFits f.sequencer f.number × (rest ≡ signal_bytes f.sequencer f.number)
-unfolding signal_of
-signal_takes rest f fits e =
-    let b = body_ok (signal_fields_at rest) signal_in_range (λ f. 0) (λ f. 0) (λ f nothing. f) f e in
-    let t = signal_fields_take rest (b.f, b.out) fits b.there in
-    let none : b.out ≡ [] = nil_from_length b.out (omega (arith, b.no_more)) in
-    let low : 1 ≤ b.f.number = grind (arith, nat_tests, b.ranges) in
-    let sequencer : b.f.sequencer ≤ 3 = grind (arith, nat_tests, b.ranges) in
-    subst (λ (x : SignalFields). SignalFits x.sequencer x.number × (rest ≡ signal_bytes x.sequencer x.number)) b.is
-    (record { number = sequencer; count = record { low = low; high = t.1 } }, t.0.parts ∙ ap (λ (x : List ℕ). signal_bytes b.f.sequencer b.f.number ++ x) none ∙ append-nil (signal_bytes b.f.sequencer b.f.number))
-
-signal_again : (sequencer n : ℕ) → SignalFits sequencer n → signal_of (signal_bytes sequencer n) ≡ Ok (record { sequencer = sequencer; number = n })
-unfolding signal_of
-signal_again sequencer n fits =
-    let f : SignalFields = record { sequencer = sequencer; number = n } in
-    let there : signal_fields_at (signal_bytes sequencer n) ≡ Some (f, []) = ap signal_fields_at (sym (append-nil (signal_bytes sequencer n))) ∙ signal_fields_again f [] fits.count.high in
-    let ranges : signal_in_range f ≡ true = grind (arith, nat_tests, fits.number, fits.count.low) in
-    body_again (signal_fields_at (signal_bytes sequencer n)) signal_in_range (λ f. 0) (λ f. 0) (λ f nothing. f) f [] there ranges (omega arith) (omega arith)
-
--- a kind that is a signal
-kind_takes : (kind : ℕ) (make : ℕ → ℕ → Datagram) (rest : List ℕ) (d : Datagram) → ((sequencer n : ℕ) → SignalFits sequencer n → DatagramFits (make sequencer n)) → ((sequencer n : ℕ) → spelling (make sequencer n) ≡ header kind ++ signal_bytes sequencer n)
-    → IsBytes rest → (signal_of rest >>= λ f. Ok (make f.sequencer f.number)) ≡ Ok d → DatagramFits d × (header kind ++ rest ≡ spelling d)
-kind_takes kind make rest d ranges spelled fits e =
-    let a = bind_ok (signal_of rest) (λ f. Ok (make f.sequencer f.number)) d e in
-    let t = signal_takes rest a.0 fits a.1 in
-    subst (λ (x : Datagram). DatagramFits x × (header kind ++ rest ≡ spelling x)) (ok_is (make a.0.sequencer a.0.number) d a.2)
-    (ranges a.0.sequencer a.0.number t.0, ap (λ (x : List ℕ). header kind ++ x) t.1 ∙ sym (spelled a.0.sequencer a.0.number))
-
--- ---- a fragment
-
-abbrev fragment_made : FragmentFields → List ℕ → Fragment
-fragment_made f payload = record { replica = f.replica; message = f.message; index = f.index; count = f.count; payload = payload }
-
--- the sizes of a payload
-pub record IsPayload (f : FragmentFields) (len : ℕ) : Type 0 where
-  pub some : 1 ≤ len
-  pub full : f.index + 1 < f.count → FRAGMENT_BYTES ≤ len
-
-payload_sizes : (f : FragmentFields) (len : ℕ) → least_payload f ≤ len → IsPayload f len
-payload_sizes f len enough = sizes (ltb (f.index + 1) f.count) refl enough
-  where
-    sizes : (b : Bool) → ltb (f.index + 1) f.count ≡ b → cond b FRAGMENT_BYTES 1 ≤ len → IsPayload f len
-    sizes true is low = record { some = omega (arith, low); full = λ _. low }
-    sizes false is low = record { some = low; full = λ inner. absurd (omega (arith, ltb-false _ _ is)) }
-
-payload_enough : (f : FragmentFields) (len : ℕ) → IsPayload f len → least_payload f ≤ len
-payload_enough f len sizes = enough (ltb (f.index + 1) f.count) refl
-  where
-    enough : (b : Bool) → ltb (f.index + 1) f.count ≡ b → cond b FRAGMENT_BYTES 1 ≤ len
-    enough true is = sizes.full (ltb-true _ _ is)
-    enough false is = sizes.some
-
-fragment_takes : (rest : List ℕ) (d : Datagram) → IsBytes rest → fragment_of rest ≡ Ok d → DatagramFits d × (header 8 ++ rest ≡ spelling d)
-unfolding fragment_of
-fragment_takes rest d fits e =
-    let b = body_ok (fragment_fields_at rest) fragment_in_range least_payload (λ f. FRAGMENT_BYTES) (λ f payload. datagrams.Fragment (fragment_made f payload)) d e in
-    let t = fragment_fields_take rest (b.f, b.out) fits b.there in
-    let sizes = payload_sizes b.f (length b.out) b.enough in
-    let replica : b.f.replica ≤ 6 = grind (arith, nat_tests, b.ranges) in
-    let message_low : 1 ≤ b.f.message = grind (arith, nat_tests, b.ranges) in
-    let index : b.f.index < b.f.count = grind (arith, nat_tests, b.ranges) in
-    let count : b.f.count ≤ MAX_FRAGMENTS = grind (arith, nat_tests, b.ranges) in
-    let ranges : FragmentFits (fragment_made b.f b.out) = record {
-      replica = replica;
-      message_low = message_low;
-      message = t.1.message;
-      index = index;
-      count = count;
-      some = sizes.some;
-      most = b.no_more;
-      full = λ inner. omega (arith, sizes.full inner, b.no_more);
-    } in
-    subst (λ (x : Datagram). DatagramFits x × (header 8 ++ rest ≡ spelling x)) b.is (ranges, ap (λ (x : List ℕ). header 8 ++ x) t.0.parts)
-
-fragment_again : (f : Fragment) → FragmentFits f → fragment_of (fragment_bytes f) ≡ Ok (datagrams.Fragment f)
-unfolding fragment_of
-fragment_again f fits =
-    let g : FragmentFields = record { replica = f.replica; message = f.message; index = f.index; count = f.count } in
-    let widths : FragmentWidths g = record { message = fits.message; index = omega (arith, fits.index, fits.count); count = omega (arith, fits.count) } in
-    let there : fragment_fields_at (fragment_bytes f) ≡ Some (g, f.payload) = fragment_fields_again g f.payload widths in
-    let ranges : fragment_in_range g ≡ true = grind (arith, nat_tests, fits.replica, fits.message_low, fits.index, fits.count) in
-    let enough : least_payload g ≤ length f.payload = payload_enough g (length f.payload) (record { some = fits.some; full = λ inner. omega (arith, fits.full inner) }) in
-    body_again (fragment_fields_at (fragment_bytes f)) fragment_in_range least_payload (λ f. FRAGMENT_BYTES) (λ f payload. datagrams.Fragment (fragment_made f payload)) g f.payload there ranges enough fits.most
-
--- ---- all kinds
+use Rattle.oum_codec.proofs.EachKind.{request_takes, request_again, stamped_takes, stamped_again, reply_takes, reply_again, signal_again, kind_takes, fragment_takes, fragment_again}
 
 -- the first of two readings, where its test holds, else the second
 chosen : (b : Bool) (x y z : Result Datagram Bad) → cond b x y ≡ z → ((b ≡ true) × (x ≡ z)) ⊎ ((b ≡ false) × (y ≡ z))
@@ -353,8 +78,18 @@ pub is_found : (bytes : List ℕ) (r : Result Datagram Bad) → IsBytes bytes �
 is_found bytes (Ok d) fits given = is_spelled bytes d fits given
 is_found bytes (Err e) fits given = tt
 
-pub is_only : (bytes : List ℕ) (r : Result Datagram Bad) (d : Datagram) → Gives r (reading bytes) → Spells d bytes → Gives r (Ok d)
-is_only bytes r d given s = subst (Gives r) (ap reading s.spelled ∙ reads_again d s.fits) given
+pub is_only : (bytes : List ℕ) (r : Result Datagram Bad) (d : Datagram) → Gives r (reading bytes) → Spells d bytes → (r ≡ Ok d) ⊎ (r ≡ Err NoMemory)
+is_only bytes r d given s = same r (reading bytes) given (ap reading s.spelled ∙ reads_again d s.fits)
+  where
+    same : (r read : Result Datagram Bad) → Gives r read → read ≡ Ok d → (r ≡ Ok d) ⊎ (r ≡ Err NoMemory)
+    same (Ok x) read given e = inl (sym given ∙ e)
+    same (Err NoMemory) read given e = inr refl
+    same (Err Short) read given e = absurd cc
+    same (Err Magic) read given e = absurd cc
+    same (Err Version) read given e = absurd cc
+    same (Err Kind) read given e = absurd cc
+    same (Err Field) read given e = absurd cc
+    same (Err Trailing) read given e = absurd cc
 
 pub spelling_is_injective : (c d : Datagram) → DatagramFits c → DatagramFits d → spelling c ≡ spelling d → c ≡ d
 spelling_is_injective c d first second same = ok_is c d (sym (reads_again c first) ∙ ap reading same ∙ reads_again d second)

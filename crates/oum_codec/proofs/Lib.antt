@@ -1,4 +1,6 @@
+pub mod Bodies
 pub mod Datagrams
+pub mod EachKind
 pub mod FixedFields
 pub mod Numbers
 pub mod Places

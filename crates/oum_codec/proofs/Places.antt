@@ -17,7 +17,7 @@ use Rattle.oum_codec.specs.Places.{StandsAt, ViewWidths, number_in, view_in, req
 use Rattle.oum_codec.proofs.Steps.{bind_some, some_is, passed_some, guard_some}
 use Rattle.oum_codec.proofs.Numbers.{IsBytes-drop, Takes, Takes-then, IsWide, wide16, wide32, wide64, number_takes, bytes_take, bytes_again}
 use Rattle.oum_codec.proofs.FixedFields.{request_fields_bytes, request_fields_take, request_fields_again}
-use Rattle.oum_codec.proofs.Datagrams.{request_whole}
+use Rattle.oum_codec.proofs.EachKind.{request_whole}
 
 -- ---- what stands there is read
 

@@ -1,4 +1,5 @@
--- The fields of each kind that have a fixed size, up to an op, a result or a payload, and their ranges.
+-- The fields of each kind that have a fixed size, up to an op, a result or a payload: where all of them are there, and
+-- whether all of them are in range.
 use Rattle.std.specs.Prelude.{ℕ, ◌+◌, Bool, List, Option, Some, nat_lt, nat_le, ◌&&◌, ◌||◌, if◌then◌else◌}
 use Rattle.std.specs.Int.{w16, w32, w64}
 use Rattle.nop_types.specs.declared.limits.TheConstants.{FRAGMENT_BYTES, MAX_FRAGMENTS, MAX_OP_BYTES, MAX_REPLICAS, MAX_RESULT_BYTES, MAX_SEQUENCERS, MAX_SLOTS, NUMBER_END}
@@ -9,6 +10,7 @@ use Rattle.oum_codec.specs.declared.fixed.SignalFields.{SignalFields}
 use Rattle.oum_codec.specs.declared.fixed.FragmentFields.{FragmentFields}
 use Rattle.oum_codec.specs.Numbers.{◌>>=◌, number_at, byte_at, view_at}
 
+-- of a request: client, id and length of the op
 unfoldable pub request_fields_at : List ℕ → Option (RequestFields × List ℕ)
 request_fields_at bytes = do
   client ← number_at w32 bytes
@@ -16,9 +18,11 @@ request_fields_at bytes = do
   op_len ← number_at w16 id.1
   Some (record { client = client.0; id = id.0; op_len = op_len.0 }, op_len.1)
 
+-- ids count from 1
 abbrev pub request_in_range : RequestFields → Bool
 request_in_range f = nat_lt 0 f.id && nat_le f.op_len MAX_OP_BYTES
 
+-- of a stamped request: session and number, then those of a request
 unfoldable pub stamped_fields_at : List ℕ → Option (StampedFields × List ℕ)
 stamped_fields_at bytes = do
   session ← number_at w32 bytes
@@ -26,9 +30,11 @@ stamped_fields_at bytes = do
   request ← request_fields_at number.1
   Some (record { session = session.0; number = number.0; request = request.0 }, request.1)
 
+-- sessions and numbers count from 1
 abbrev pub stamped_in_range : StampedFields → Bool
 stamped_in_range f = nat_lt 0 f.session && (nat_lt 0 f.number && (nat_lt f.number NUMBER_END && request_in_range f.request))
 
+-- of a reply
 unfoldable pub reply_fields_at : List ℕ → Option (ReplyFields × List ℕ)
 reply_fields_at bytes = do
   replica ← byte_at bytes
@@ -44,18 +50,22 @@ reply_fields_at bytes = do
 abbrev pub tag_fits : ℕ → ℕ → Bool
 tag_fits tag result_len = nat_le tag 1 && (nat_le result_len MAX_RESULT_BYTES && (nat_lt 0 tag || nat_le result_len 0))
 
+-- sessions, slots and ids count from 1
 abbrev pub reply_in_range : ReplyFields → Bool
 reply_in_range f = nat_lt f.replica MAX_REPLICAS && (nat_lt 0 f.view.session && (nat_lt 0 f.slot && (nat_le f.slot MAX_SLOTS && (nat_lt 0 f.id && tag_fits f.tag f.result_len))))
 
+-- of an install, an installed, a ping or a pong: a sequencer's number, and a session or a round
 unfoldable pub signal_fields_at : List ℕ → Option (SignalFields × List ℕ)
 signal_fields_at bytes = do
   sequencer ← byte_at bytes
   number ← number_at w32 sequencer.1
   Some (record { sequencer = sequencer.0; number = number.0 }, number.1)
 
+-- sessions and rounds count from 1
 abbrev pub signal_in_range : SignalFields → Bool
 signal_in_range f = nat_lt f.sequencer MAX_SEQUENCERS && nat_lt 0 f.number
 
+-- of a fragment
 unfoldable pub fragment_fields_at : List ℕ → Option (FragmentFields × List ℕ)
 fragment_fields_at bytes = do
   replica ← byte_at bytes
@@ -64,6 +74,7 @@ fragment_fields_at bytes = do
   count ← number_at w16 index.1
   Some (record { replica = replica.0; message = message.0; index = index.0; count = count.0 }, count.1)
 
+-- messages count from 1, indexes from 0
 abbrev pub fragment_in_range : FragmentFields → Bool
 fragment_in_range f = nat_lt f.replica MAX_REPLICAS && (nat_lt 0 f.message && (nat_lt f.index f.count && nat_le f.count MAX_FRAGMENTS))
 

@@ -8,16 +8,17 @@ use Rattle.oum_codec.specs.declared.fixed.SignalFields.{SignalFields}
 use Rattle.nop_types.specs.declared.limits.TheConstants.{FRAGMENT_BYTES}
 use Rattle.oum_codec.specs.Fixed.{request_fields_at, request_in_range, stamped_fields_at, stamped_in_range, reply_fields_at, reply_in_range, signal_fields_at, signal_in_range, fragment_fields_at, fragment_in_range, least_payload}
 
--- reading fails with this error, which want of memory does not say
+-- reading fails with this error; want of memory says nothing of it
 abbrev pub Fails : {A : Type 0} → Bad → Result A Bad → Type 0
 Fails NoMemory read = ⊤
 Fails e read = read ≡ Err e
 
--- what was returned, seen by view, is what reading gives, unless memory ran out
+-- the same where what was returned is seen by view
 abbrev pub GivesBy : {A B : Type 0} → (A → B) → Result A Bad → Result B Bad → Type 0
 GivesBy view (Ok x) read = read ≡ Ok (view x)
 GivesBy view (Err e) read = Fails e read
 
+-- what was returned is what reading gives, unless memory ran out
 abbrev pub Gives : {A : Type 0} → Result A Bad → Result A Bad → Type 0
 Gives result read = GivesBy (λ x. x) result read
 
@@ -29,37 +30,41 @@ abbrev pub ◌>>=◌ : {A B E : Type 0} → Result A E → (A → Result B E) �
 
 -- all fields of a fixed size are there, then all of them are in range
 abbrev pub fields_of : {F : Type 0} → Option (F × List ℕ) → (F → Bool) → Result (F × List ℕ) Bad
-fields_of {F} found test = let there : Result (F × List ℕ) Bad = ok_or found Short in there >>= λ f. if test f.0 then Ok f else Err Field
+fields_of found test = ok_or found Short >>= λ f. if test f.0 then Ok f else Err Field
 
 -- at least so many bytes are there, and at most so many
 abbrev pub sized : ℕ → ℕ → List ℕ → Result (List ℕ) Bad
 sized least most bytes = if nat_lt (length bytes) least then Err Short else if nat_lt most (length bytes) then Err Trailing else Ok bytes
 
+-- what follows the four bytes of a request
 unfoldable pub request_of : List ℕ → Result Datagram Bad
 request_of bytes = do
   f ← fields_of (request_fields_at bytes) request_in_range
   op ← sized f.0.op_len f.0.op_len f.1
   Ok (datagrams.Request (record { client = f.0.client; id = f.0.id; op = op }))
 
+-- of a stamped request
 unfoldable pub stamped_of : List ℕ → Result Datagram Bad
 stamped_of bytes = do
   f ← fields_of (stamped_fields_at bytes) stamped_in_range
   op ← sized f.0.request.op_len f.0.request.op_len f.1
   Ok (datagrams.Stamped (record { session = f.0.session; number = f.0.number; request = record { client = f.0.request.client; id = f.0.request.id; op = op } }))
 
+-- of a reply
 unfoldable pub reply_of : List ℕ → Result Datagram Bad
 reply_of bytes = do
   f ← fields_of (reply_fields_at bytes) reply_in_range
   bytes ← sized f.0.result_len f.0.result_len f.1
   Ok (datagrams.Reply (record { replica = f.0.replica; view = f.0.view; slot = f.0.slot; client = f.0.client; id = f.0.id; tag = f.0.tag; result = bytes }))
 
--- a sequencer's number, and a session or a round; nothing follows
+-- of an install, an installed, a ping or a pong: nothing follows their fields
 unfoldable pub signal_of : List ℕ → Result SignalFields Bad
 signal_of bytes = do
   f ← fields_of (signal_fields_at bytes) signal_in_range
   nothing ← sized 0 0 f.1
   Ok f.0
 
+-- of a fragment
 unfoldable pub fragment_of : List ℕ → Result Datagram Bad
 fragment_of bytes = do
   f ← fields_of (fragment_fields_at bytes) fragment_in_range
@@ -79,6 +84,7 @@ body_of kind rest =
     else if kind == 8 then fragment_of rest
     else Err Kind
 
+-- the value that the bytes spell, or the first test that they fail
 unfoldable pub reading : List ℕ → Result Datagram Bad
 reading (first ∷ second ∷ version ∷ kind ∷ rest) =
     if not (first == 0x4e && second == 0x4f) then Err Magic

@@ -1,15 +1,18 @@
 use nop_types::NoMemory as OutOfMemory;
 
-/// Why bytes are no datagram: the first test that they fail, in the order of the variants but for `Short`. The tests are:
-/// four bytes are there (`Short`), the two letters, the version, the kind, all fields of a fixed size are there (`Short`),
-/// all of them are in range, the counted bytes or the least payload are there (`Short`), and nothing follows.
+/// Why bytes are no datagram: the first of these tests that they fail. Four bytes are there, the first two are N and O, the
+/// version is 1, the kind is 1 to 8, all fields of a fixed size are there, all of them are in range, the counted bytes or
+/// the least payload are there, nothing follows.
 #[derive(Clone, Copy, Debug, PartialEq, Eq)]
 pub enum Bad {
+    /// Bytes are missing.
     Short,
     Magic,
     Version,
     Kind,
+    /// A field is out of its range.
     Field,
+    /// Bytes follow the last field, or the payload is too long.
     Trailing,
     NoMemory,
 }

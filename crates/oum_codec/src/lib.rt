@@ -18,3 +18,6 @@ pub use laws::{
 };
 pub use read::decode;
 pub use write::{encode, put_request, put_u16, put_u32, put_u64, put_view};
+
+#[cfg(test)]
+mod tests;

@@ -1,4 +1,4 @@
-ghost use Rattle.std.specs.Prelude.{◌≡◌, ◌≤◌, Ok, IfOk, length};
+ghost use Rattle.std.specs.Prelude.{◌≡◌, ◌⊎◌, IfOk};
 ghost use Rattle.nop_types.specs.declared.datagram.Datagram.{Datagram};
 ghost use Rattle.oum_codec.specs.Spelling.{Spells};
 ghost use Rattle.oum_codec.specs.Reading.{Gives, GivesBy, sized, request_of, stamped_of, reply_of, signal_of, fragment_of, body_of, reading};
@@ -168,14 +168,14 @@ fn datagram(alloc: Global, bytes: &[u8]) -> Result<Datagram, Bad>
     }
 }
 
-/// The datagram that the bytes spell, or the first test that they fail. It takes no more memory than the
-/// value's op, result or payload.
+/// The datagram that the bytes spell, or the first test that they fail. No more memory is taken than for the value's op,
+/// result or payload.
 pub fn decode(alloc: Global, bytes: &[u8]) -> Result<Datagram, Bad>
     // What is read is spelled so.
     ensures found { IfOk result (λ d. Spells d bytes.now) }
     // What is spelled so is read, unless memory runs out.
-    ensures only { (d : Datagram) → Spells d bytes.now → Gives result (Ok d) }
-    // Which test fails first.
+    ensures only { (d : Datagram) → Spells d bytes.now → (result ≡ Ok d) ⊎ (result ≡ Err Bad.NoMemory) }
+    // Else the first test that fails is answered.
     ensures exact { Gives result (reading bytes.now) }
 {
     datagram(alloc, bytes)

@@ -37,7 +37,7 @@ pub fn put_u64(to: &mut Vec<u8>, n: u64) -> Result<(), NoMemory>
     Ok(())
 }
 
-/// Appends the leader number, then the session. After an error a part may stand there.
+/// Appends the leader number, then the session. After an error `to` may end with a part of them.
 pub fn put_view(to: &mut Vec<u8>, view: View) -> Result<(), NoMemory>
     ensures { OnOk result (to.new.items ≡ to.old.items ++ view_bytes view) }
 {
@@ -54,7 +54,7 @@ fn put_counted(to: &mut Vec<u8>, bytes: &[u8]) -> Result<(), NoMemory>
     Ok(())
 }
 
-/// Appends client, id, the length of the op and the op. After an error a part may stand there.
+/// Appends client, id, the length of the op and the op. After an error `to` may end with a part of them.
 pub fn put_request(to: &mut Vec<u8>, request: &Request) -> Result<(), NoMemory>
     ensures { OnOk result (to.new.items ≡ to.old.items ++ request_bytes request.now) }
 {
@@ -156,13 +156,29 @@ fn put(to: &mut Vec<u8>, datagram: &Datagram) -> Result<(), NoMemory>
     }
 }
 
-/// Appends the datagram's one spelling.
+/// How many bytes the spelling has.
+fn spelled_len(datagram: &Datagram) -> usize
+    requires { DatagramFits datagram.now }
+{
+    match datagram {
+        Datagram::Request(request) => 18 + request.op.as_slice().len(),
+        Datagram::Stamped(stamped) => 30 + stamped.request.op.as_slice().len(),
+        Datagram::Reply(reply) => 32 + reply.result.as_slice().len(),
+        Datagram::Fragment(fragment) => 17 + fragment.payload.as_slice().len(),
+        Datagram::Install { .. }
+        | Datagram::Installed { .. }
+        | Datagram::Ping { .. }
+        | Datagram::Pong { .. } => 9,
+    }
+}
+
+/// Appends the datagram's one spelling. An empty `to` becomes a vector with room for just that.
 pub fn encode(alloc: Global, datagram: &Datagram, to: &mut Vec<u8>) -> Result<(), NoMemory>
     requires { DatagramFits datagram.now }
     ensures ok { OnOk result (to.new.items ≡ to.old.items ++ spelling datagram.now) }
     ensures err { OnErr result (to.new.items ≡ to.old.items) }
 {
-    let mut bytes = Vec::new(alloc);
+    let mut bytes = Vec::with_capacity(alloc, spelled_len(datagram))?;
     put(&mut bytes, datagram)?;
     if to.is_empty() {
         *to = bytes;

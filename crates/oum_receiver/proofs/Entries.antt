@@ -1,19 +1,18 @@
 -- The entries of a table as a finite map.
-use Rattle.std.proofs.Common.{◌≡◌, ℕ, ◌<◌, Bool, true, false, cond, List, [], ◌∷◌, length, Option, Some, None, IsSome, IfSome, true≢false, refl, sym, ap, ◌∙◌, arith}
+use Rattle.std.proofs.Common.{◌≡◌, ℕ, ◌<◌, ◌≤◌, Bool, true, false, cond, List, [], ◌∷◌, length, Option, Some, None, IsSome, is_some, IfSome, true≢false, refl, sym, ap, ◌∙◌, arith}
 use Rattle.std.specs.List.{AllByRecursion}
 use Rattle.std.specs.List.Sorted.{IsStrictlySortedBy}
-use Rattle.std.specs.Ordering.{nat_cmp, eq_by_cmp}
+use Rattle.std.specs.Ordering.{nat_cmp, eq_by_cmp, is_gt}
 use Rattle.std.specs.declared.cmp.Ordering.TheVariants.{Less}
 use Rattle.std.specs.Cmp.{nat_cmp_total, eq_by_cmp_equiv, unsigned_tied}
 use Rattle.std.specs.FinMap as finite
 use Rattle.std.specs.Map.{lookup, keys_of}
-use Rattle.std.specs.BTreeMap.{BTreeMap, is_at, Updates}
+use Rattle.std.specs.BTreeMap.{IsLowerBound, BTreeMap, is_at, Updates}
 use Rattle.std.proofs.lemmas.Bool.Decides.{nat_tests}
-use Rattle.std.proofs.lemmas.Map.{lookup-none}
-use Rattle.std.proofs.lemmas.Map.Entries.{none_below_head}
 use Rattle.std.proofs.lemmas.Map.Keys.{sorted_head, sorted_tail}
 use Rattle.nop_types.specs.declared.request.Request.{Request}
-use Rattle.oum_receiver.specs.Requests.{Requests, map_of, is_from, starts_below}
+use Rattle.oum_receiver.specs.Requests.{Requests, is_from}
+use Rattle.oum_receiver.specs.Table.{map_of, starts_below}
 
 find_lookup : (es : List (ℕ × Request)) (q : ℕ) → finite.find nat_cmp q es ≡ lookup (is_at (nat_cmp q)) es
 find_lookup [] q = refl
@@ -58,7 +57,7 @@ len_is (e ∷ es) sorted =
 pub get_kept : (m : Requests) (next q : ℕ) → finite.get (finite.retain_keys m (is_from next)) q ≡ cond (is_from next q) (finite.get m q) None
 get_kept m next q = finite.get-retain_keys m (is_from next) q (λ x t. ap (is_from next) (sym (finite.nat_cmp-IsAntisymmetric q x t)))
 
-not_tied : (q k : ℕ) → (q ≡ k → ⊥) → eq_by_cmp nat_cmp q k ≡ false
+pub not_tied : (q k : ℕ) → (q ≡ k → ⊥) → eq_by_cmp nat_cmp q k ≡ false
 not_tied q k apart = unsigned_tied q k ∙ grind (arith, nat_tests)
 
 -- an entry below the number is dropped
@@ -81,17 +80,25 @@ drop_popped next (e ∷ es) new (Some p) low some removal =
     let rest : new ≡ es = cc in
     ap (λ xs. finite.retain_keys (map_of xs) (is_from next)) rest ∙ sym (drop_first next e es (grind (arith, nat_tests, low)))
 
-below_first : (q : ℕ) (es : List (ℕ × Request)) (next : ℕ) → IsStrictlySortedBy nat_cmp (keys_of es) → starts_below next es ≡ false → q < next → finite.get (map_of es) q ≡ None
-below_first q [] next sorted high low = finite.get-empty nat_cmp q
-below_first q (e ∷ es) next sorted high low =
-    let less : nat_cmp q e.0 ≡ Less = grind (arith, nat_tests, high, low) in
-    get_is (e ∷ es) q ∙ lookup-none (is_at (nat_cmp q)) (e ∷ es) (none_below_head nat_cmp_total q e es sorted less)
-
--- where the first entry is not below the number, none is
-pub drop_none : (next : ℕ) (es : List (ℕ × Request)) → IsStrictlySortedBy nat_cmp (keys_of es) → starts_below next es ≡ false → finite.retain_keys (map_of es) (is_from next) ≡ map_of es
-drop_none next es sorted high =
-    finite.same_map nat_cmp_total finite.nat_cmp-IsAntisymmetric _ _ (λ q. get_kept (map_of es) next q ∙ same q (is_from next q) refl)
+-- where no number is below this one, none is dropped
+drop_none : (next : ℕ) (m : Requests) → ((q : ℕ) → q < next → finite.get m q ≡ None) → finite.retain_keys m (is_from next) ≡ m
+drop_none next m none = finite.same_map nat_cmp_total finite.nat_cmp-IsAntisymmetric _ _ (λ q. get_kept m next q ∙ same q (is_from next q) refl)
   where
-    same : (q : ℕ) (b : Bool) → is_from next q ≡ b → cond b (finite.get (map_of es) q) None ≡ finite.get (map_of es) q
+    same : (q : ℕ) (b : Bool) → is_from next q ≡ b → cond b (finite.get m q) None ≡ finite.get m q
     same q true from = refl
-    same q false from = sym (below_first q es next sorted high (grind (arith, nat_tests, from)))
+    same q false from = sym (none q (grind (arith, nat_tests, from)))
+
+pub drop_none_empty : (next : ℕ) (es : List (ℕ × Request)) → (0 < length es → ⊥) → finite.retain_keys (map_of es) (is_from next) ≡ map_of es
+drop_none_empty next [] empty = drop_none next (map_of []) (λ q low. finite.get-empty nat_cmp q)
+drop_none_empty next (e ∷ es) empty = absurd (empty (omega arith))
+
+-- where the least number is not below this one, none is dropped
+pub drop_none_least : (next least : ℕ) (m : BTreeMap ℕ Request) → IsLowerBound nat_cmp m least → next ≤ least → finite.retain_keys (map_of m.entries) (is_from next) ≡ map_of m.entries
+drop_none_least next least m bound high = drop_none next (map_of m.entries) (λ q low. get_is m.entries q ∙ at q low (lookup (is_at (nat_cmp q)) m.entries) refl)
+  where
+    above : (q : ℕ) → q < next → is_gt (nat_cmp least q) ≡ true
+    above q low = grind (arith, nat_tests, low, high)
+
+    at : (q : ℕ) → q < next → (o : Option Request) → lookup (is_at (nat_cmp q)) m.entries ≡ o → o ≡ None
+    at q low None is = refl
+    at q low (Some x) is = absurd (true≢false (sym (above q low) ∙ bound q (ap is_some is)))

@@ -1,3 +1,4 @@
+pub mod Apart
 pub mod Counts
 pub mod Entries
 pub mod HandingUp

@@ -1,6 +1,6 @@
 -- Each call keeps a receiver sound.
 use Rattle.std.proofs.Common.{◌≡◌, ◌≢◌, ℕ, ◌+◌, ◌<◌, ◌≤◌, Bool, true, false, cond, Option, Some, None, is_some, IfSome, true≢false, refl, sym, ap, subst, ◌∙◌, arith, eq-eqb}
-use Rattle.std.specs.Prelude.{◌==◌, ◌||◌, nat_lt, if◌then◌else◌}
+use Rattle.std.specs.Prelude.{◌==◌, ◌||◌, nat_lt, nat_le, if◌then◌else◌}
 use Rattle.std.specs.Ordering.{nat_cmp, eq_by_cmp}
 use Rattle.std.specs.Cmp.{nat_cmp_total, unsigned_tied}
 use Rattle.std.specs.FinMap as finite
@@ -17,9 +17,11 @@ use Rattle.oum_receiver.proofs.Counts.{some_key, len_some, len_kept, len_removed
 use Rattle.oum_receiver.proofs.Entries.{get_kept}
 use Rattle.oum_receiver.specs.Receiving.{Receiving, QueuedFits, IsSound, opened, is_old, verdict_of, judged, offered, front_of, front_taken, advanced}
 
+-- what holds of both choices holds of the one taken
 chosen : {A : Type 0} (P : A → Type 0) (b : Bool) (o p : Option A) → (b ≡ true → IfSome o P) → (b ≡ false → IfSome p P) → IfSome (cond b o p) P
 chosen P b o p first second = elim b as (λ v. b ≡ v → IfSome (cond v o p) P) [ true ↦ first | false ↦ second ] refl
 
+-- what follows of a value follows of the one that is there
 turned : {A : Type 0} (P Q : A → Type 0) (o : Option A) → ((x : A) → P x → Q x) → IfSome o P → IfSome o Q
 turned P Q None turn has = tt
 turned P Q (Some x) turn has = turn x has
@@ -36,11 +38,11 @@ both_false true b e = absurd (true≢false e)
 both_false false b e = (refl, e)
 
 -- what the verdict says of its tests
-pub queued_tests : (later old few : Bool) (session : ℕ) → (if later then Terminated session else (if old then Old else (if few then Queued else Full))) ≡ Queued → (later ≡ false) × (old ≡ false) × (few ≡ true)
-queued_tests true old few session e = cc
-queued_tests false true few session e = cc
-queued_tests false false true session e = (refl, refl, refl)
-queued_tests false false false session e = cc
+pub queued_tests : (later old full : Bool) (session : ℕ) → (if later then Terminated session else (if old then Old else (if full then Full else Queued))) ≡ Queued → (later ≡ false) × (old ≡ false) × (full ≡ false)
+queued_tests true old full session e = cc
+queued_tests false true full session e = cc
+queued_tests false false true session e = cc
+queued_tests false false false session e = (refl, refl, refl)
 
 pub same_number : (a b : ℕ) → eq_by_cmp nat_cmp a b ≡ true → a ≡ b
 same_number a b tied = let test : (a == b) ≡ true = sym (unsigned_tied a b) ∙ tied in grind (arith, nat_tests, test)
@@ -51,7 +53,7 @@ other_number a b tied same = let test : (a == b) ≡ false = sym (unsigned_tied 
 pub queued_sound : (r : Receiving) (packet : Stamped) → IsSound r → StampedFits packet → verdict_of r packet ≡ Queued → IsSound (judged Queued r packet)
 unfolding verdict_of
 queued_sound r packet sound fits verdict =
-    let tests = queued_tests (nat_lt r.session packet.session) (is_old r packet) (nat_lt (finite.len r.queued) MAX_QUEUED) packet.session verdict in
+    let tests = queued_tests (nat_lt r.session packet.session) (is_old r packet) (nat_le MAX_QUEUED (finite.len r.queued)) packet.session verdict in
     let old = both_false (nat_lt packet.session r.session) _ tests.1 in
     let passed = both_false (nat_lt packet.number r.next) (finite.contains_key r.queued packet.number) old.1 in
     record {
@@ -67,7 +69,19 @@ queued_sound r packet sound fits verdict =
           (λ _. sound.each number));
     }
 
--- where something is in front, the next number is no last one
+-- a packet that is queued is not there yet
+pub queued_absent : (r : Receiving) (packet : Stamped) → verdict_of r packet ≡ Queued → finite.get r.queued packet.number ≡ None
+unfolding verdict_of
+queued_absent r packet verdict =
+    let tests = queued_tests (nat_lt r.session packet.session) (is_old r packet) (nat_le MAX_QUEUED (finite.len r.queued)) packet.session verdict in
+    let old = both_false (nat_lt packet.session r.session) _ tests.1 in
+    at (finite.get r.queued packet.number) (both_false (nat_lt packet.number r.next) (finite.contains_key r.queued packet.number) old.1).1
+  where
+    at : (o : Option Request) → is_some o ≡ false → o ≡ None
+    at None none = refl
+    at (Some x) none = absurd (true≢false none)
+
+-- where something is in front, the next number is not the end
 in_front : (r : Receiving) → IsSound r → front_of r ≢ Nothing → r.next < NUMBER_END
 in_front r sound some =
     let key = some_key r.queued (λ none. some (ap (λ (b : Bool). front_at b (finite.get r.queued r.next)) (eq-eqb (finite.len r.queued) 0 none))) in

@@ -1,6 +1,6 @@
 -- Queued requests were stamped.
-use Rattle.std.proofs.Common.{◌≡◌, ℕ, ◌+◌, Bool, true, false, cond, Option, Some, None, true≢false, refl, sym, ap, subst, ◌∙◌, arith, List}
-use Rattle.std.specs.Prelude.{◌==◌, ◌||◌, nat_lt}
+use Rattle.std.proofs.Common.{◌≡◌, ℕ, Bool, true, false, cond, Option, Some, None, refl, sym, subst, ◌∙◌, arith, List}
+use Rattle.std.specs.Prelude.{◌==◌, nat_lt, nat_le}
 use Rattle.std.specs.Ordering.{nat_cmp, eq_by_cmp}
 use Rattle.std.specs.Cmp.{nat_cmp_total}
 use Rattle.std.specs.FinMap as finite
@@ -11,7 +11,7 @@ use Rattle.nop_types.specs.declared.datagram.Stamped.{Stamped}
 use Rattle.nop_types.specs.Lists.{Has}
 use Rattle.oum_receiver.specs.declared.verdict.Verdict.{Verdict}
 use Rattle.oum_receiver.specs.declared.verdict.Verdict.TheVariants.{Queued, Old, Terminated, Full}
-use Rattle.oum_receiver.specs.Front.{Front, Nothing, Message, Dropped, front_at}
+use Rattle.oum_receiver.specs.Front.{Message, front_at}
 use Rattle.oum_receiver.specs.Requests.{is_from}
 use Rattle.oum_receiver.specs.Receiving.{Receiving, opened, is_old, verdict_of, judged, offered, front_of, front_taken, advanced}
 use Rattle.oum_receiver.specs.Runs.{IsStampedBy, WasStamped}
@@ -41,7 +41,8 @@ pub taken_stamped : (packets : List Stamped) (r : Receiving) → IsStampedBy pac
 taken_stamped packets r stamped number request is =
     stamped number request (rest_found (eq_by_cmp nat_cmp number r.next) (finite.get r.queued number) request (sym (finite.get-remove nat_cmp_total r.queued r.next number) ∙ is))
 
-front_found : (b : Bool) (o : Option Request) (request : Request) → front_at b o ≡ Message request → o ≡ Some request
+-- the request in front is queued at the next number
+pub front_found : (b : Bool) (o : Option Request) (request : Request) → front_at b o ≡ Message request → o ≡ Some request
 front_found true o request is = cc
 front_found false None request is = cc
 front_found false (Some x) request is = cc
@@ -53,7 +54,7 @@ front_stamped packets r request stamped is = stamped r.next request (front_found
 same_session : (r : Receiving) (packet : Stamped) → verdict_of r packet ≡ Queued → packet.session ≡ r.session
 unfolding verdict_of
 same_session r packet verdict =
-    let tests = queued_tests (nat_lt r.session packet.session) (is_old r packet) (nat_lt (finite.len r.queued) MAX_QUEUED) packet.session verdict in
+    let tests = queued_tests (nat_lt r.session packet.session) (is_old r packet) (nat_le MAX_QUEUED (finite.len r.queued)) packet.session verdict in
     let older : nat_lt packet.session r.session ≡ false = (both_false (nat_lt packet.session r.session) _ tests.1).0 in
     grind (arith, nat_tests, tests.0, older)
 

@@ -22,6 +22,7 @@ front_at true found = Nothing
 front_at false (Some request) = Message request
 front_at false None = Dropped
 
+-- the request in front, if one stands there
 abbrev pub request_in : Front → Option Request
 request_in Nothing = None
 request_in (Message request) = Some request

@@ -1,5 +1,5 @@
 -- The receiver as plain data, and what each call does to it.
-use Rattle.std.specs.Prelude.{ℕ, refl, ◌+◌, ◌≤◌, ◌<◌, ◌==◌, ◌||◌, Bool, nat_lt, IfSome, if◌then◌else◌}
+use Rattle.std.specs.Prelude.{ℕ, refl, ◌+◌, ◌≤◌, ◌<◌, ◌==◌, ◌||◌, Bool, nat_lt, nat_le, IfSome, if◌then◌else◌}
 use Rattle.std.specs.Coded.{Coded, code_by, coded×, coded_ℕ}
 use Rattle.std.specs.FinMap as finite
 use Rattle.nop_types.specs.declared.limits.TheConstants.{MAX_QUEUED, NUMBER_END}
@@ -17,11 +17,13 @@ pub record Receiving : Type 0 where
   pub next : ℕ
   pub queued : Requests
 
+-- by which a proof tells two receivers apart
 abbrev pub receiving_code : Coded Receiving
 receiving_code =
     code_by (ℕ × (ℕ × Requests)) (coded× coded_ℕ (coded× coded_ℕ requests_code)) (λ r. (r.session, (r.next, r.queued)))
     (λ p. record { session = p.0; next = p.1.0; queued = p.1.1 }) (λ _. refl)
 
+-- what holds of a request that is queued at a number
 pub record QueuedFits (next number : ℕ) (request : Request) : Type 0 where
   pub low : next ≤ number
   pub high : number < NUMBER_END
@@ -33,7 +35,7 @@ pub record IsSound (r : Receiving) : Type 0 where
   pub few : finite.len r.queued ≤ MAX_QUEUED
   pub each : (number : ℕ) → IfSome (finite.get r.queued number) (QueuedFits r.next number)
 
--- with an empty queue
+-- at a session and a next number, with an empty queue
 abbrev pub opened : ℕ → ℕ → Receiving
 opened session next = record { session = session; next = next; queued = finite.empty }
 
@@ -41,14 +43,14 @@ opened session next = record { session = session; next = next; queued = finite.e
 abbrev pub is_old : Receiving → Stamped → Bool
 is_old r packet = nat_lt packet.session r.session || (nat_lt packet.number r.next || finite.contains_key r.queued packet.number)
 
--- the first that holds
+-- a later session, an old packet, a full queue, or none of these: the first that holds
 unfoldable pub verdict_of : Receiving → Stamped → Verdict
 verdict_of r packet =
     if nat_lt r.session packet.session then Terminated packet.session
     else (if is_old r packet then Old
-    else (if nat_lt (finite.len r.queued) MAX_QUEUED then Queued else Full))
+    else (if nat_le MAX_QUEUED (finite.len r.queued) then Full else Queued))
 
--- a packet is queued by that verdict alone
+-- after a verdict on a packet, which is queued by that verdict alone
 abbrev pub judged : Verdict → Receiving → Stamped → Receiving
 judged Queued r packet = record r { queued = finite.insert r.queued packet.number packet.request }
 judged Old r packet = r
@@ -59,6 +61,7 @@ judged Full r packet = r
 abbrev pub offered : Receiving → Stamped → Receiving
 offered r packet = judged (verdict_of r packet) r packet
 
+-- what stands in front: nothing where the queue is empty, else the request at the next number, or a drop where none is there
 abbrev pub front_of : Receiving → Front
 front_of r = front_at (finite.len r.queued == 0) (finite.get r.queued r.next)
 
@@ -66,6 +69,6 @@ front_of r = front_at (finite.len r.queued == 0) (finite.get r.queued r.next)
 abbrev pub front_taken : Receiving → Receiving
 front_taken r = record r { next = r.next + 1; queued = finite.remove r.queued r.next }
 
--- with another next number, up or down
+-- with another next number, up or down, and what is queued from it on
 abbrev pub advanced : Receiving → ℕ → Receiving
 advanced r next = record r { next = next; queued = finite.retain_keys r.queued (is_from next) }

@@ -27,16 +27,19 @@ past_front Nothing r = r
 past_front (Message request) r = front_taken r
 past_front Dropped r = front_taken r
 
+-- past a request in front, and not past a drop
 abbrev pub past_message : Front → Receiving → Receiving
 past_message Nothing r = r
 past_message (Message request) r = front_taken r
 past_message Dropped r = r
 
+-- what `take_front` hands up
 abbrev pub handed_front : Front → Receiving → List HandedUp
 handed_front Nothing r = []
 handed_front (Message request) r = record { session = r.session; number = r.next; request = Some request } ∷ []
 handed_front Dropped r = record { session = r.session; number = r.next; request = None } ∷ []
 
+-- what `take_message` hands up
 abbrev pub handed_message : Front → Receiving → List HandedUp
 handed_message Nothing r = []
 handed_message (Message request) r = record { session = r.session; number = r.next; request = Some request } ∷ []

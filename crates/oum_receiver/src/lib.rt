@@ -10,8 +10,8 @@ mod upcall;
 mod verdict;
 
 pub use laws::{
-    hands_up_consecutive_numbers, hands_up_what_was_offered, queues_what_was_stamped,
-    receivers_agree, stays_sound,
+    hands_up_consecutive_numbers, hands_up_what_was_offered, message_leaves_the_queue,
+    queues_what_was_stamped, receivers_agree, stays_sound,
 };
 pub use receiver::Receiver;
 pub use upcall::Upcall;

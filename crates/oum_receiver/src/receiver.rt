@@ -1,4 +1,4 @@
-ghost use Rattle.std.specs.Prelude.{◌≡◌, ◌≢◌, ◌≤◌, ◌<◌, IfSome, IfNone, IfOk, OnSome, OnOk, OnErr};
+ghost use Rattle.std.specs.Prelude.{◌≡◌, ◌≢◌, ◌≤◌, ◌+◌, IfSome, IfNone, IfOk, OnSome, OnOk, OnErr};
 ghost use Rattle.std.specs.FinMap as finite;
 ghost use Rattle.nop_types.specs.Ranges.{StampedFits, RequestFits};
 
@@ -9,7 +9,7 @@ use std::alloc::Global;
 use std::marker::Model;
 
 /// The requests of one session that came and were not handed up yet, and the message number that is handed up next.
-#[derive(Drop)]
+#[derive(Debug, Drop)]
 pub struct Receiver {
     session: u32,
     next: u64,
@@ -32,7 +32,7 @@ impl Receiver {
     ghost use Rattle.oum_receiver.specs.Front.{Nothing, front_given, request_in};
     ghost use Rattle.oum_receiver.specs.Receiving.{IsSound, opened, verdict_of, offered, front_of, front_taken, advanced};
 
-    /// An empty queue.
+    /// A receiver with an empty queue.
     pub fn new(alloc: Global, session: u32, next: u64) -> Result<Receiver, NoMemory>
         requires { next ≤ NUMBER_END }
         ensures { IfOk result (λ r. r ≡ opened session next) }
@@ -106,7 +106,7 @@ impl Receiver {
         }
     }
 
-    /// Goes past the front.
+    /// Goes past the front, a request or a drop.
     pub fn take_front(&mut self)
         requires { front_of self.old ≢ Nothing }
         ensures { self.new ≡ front_taken self.old }
@@ -115,11 +115,11 @@ impl Receiver {
         self.next += 1;
     }
 
-    /// Goes past the front and hands its request out, where a request stands there. A drop stays in front.
+    /// Goes past the front and hands its request out without a copy, where a request stands there. A drop stays in front.
     pub fn take_message(&mut self) -> Option<Request>
         ensures request { result ≡ request_in (front_of self.old) }
         ensures taken { OnSome result (self.new ≡ front_taken self.old) }
-        ensures fewer { OnSome result (finite.len self.new.queued < finite.len self.old.queued) }
+        ensures fewer { OnSome result (finite.len self.new.queued + 1 ≡ finite.len self.old.queued) }
         ensures fits { IfSome result RequestFits }
         ensures stays { IfNone result (self.new ≡ self.old) }
     {

@@ -1,10 +1,11 @@
 -- Bytes that are read or written piece by piece.
-use Rattle.std.proofs.Common.{◌≡◌, ℕ, ◌+◌, ◌-◌, ◌<◌, ◌≤◌, List, [], ◌++◌, length, take, drop, Option, refl, arith, sym, ◌∙◌}
+use Rattle.std.proofs.Common.{◌≡◌, ℕ, ◌+◌, ◌-◌, ◌≤◌, List, ◌++◌, length, take, drop, Option, refl, arith, sym, ◌∙◌}
 use Rattle.std.proofs.KnownBytes.{Appends-trans}
 use Rattle.std.proofs.lemmas.Grind.{common_steps}
 use Rattle.std.proofs.lemmas.List.{take-append-drop, drop-take, drop-drop, take_rest, take_at}
 use Rattle.std.specs.Io.KnownBytes.{Appends}
 
+-- a front of n + m bytes is two fronts, one after the other
 pub take-add : (n m : ℕ) (xs : List ℕ) → take (n + m) xs ≡ take n xs ++ take m (drop n xs)
 take-add n m xs =
     let front : take n (take (n + m) xs) ≡ take n xs = grind (arith, common_steps) in
@@ -17,8 +18,8 @@ Appends_more old mid new xs at count before now =
     rw take-add (Appends-trans old mid new (take at xs) (take count (drop at xs)) before rest)
 
 -- a piece was taken from the front of what is left, and put before other bytes
-pub left-split : (xs piece others : List ℕ) (at count : ℕ) → at + count ≤ length xs → piece ≡ take (at + count - at) (drop at xs) → drop at xs ≡ take count (piece ++ others) ++ drop (at + count) xs
-left-split xs piece others at count within is =
+pub left_split : (xs piece others : List ℕ) (at count : ℕ) → at + count ≤ length xs → piece ≡ take (at + count - at) (drop at xs) → drop at xs ≡ take count (piece ++ others) ++ drop (at + count) xs
+left_split xs piece others at count within is =
     let front : drop at xs ≡ take count (drop at xs) ++ drop (at + count) xs = rw (← drop-drop count at xs) (sym (take-append-drop count (drop at xs))) in
     let same : piece ≡ take count (drop at xs) = grind (arith, is) in
     let len : length piece ≡ count = rw same (grind (arith, common_steps)) in

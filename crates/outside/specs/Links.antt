@@ -11,7 +11,7 @@ poll_result (Received datagram) = Ok (Some datagram)
 poll_result Nothing = Ok None
 poll_result Failure = Err Failed
 
--- what the next poll answers: past the last answer there is no datagram
+-- what the next poll answers: after the last answer there is no datagram
 abbrev pub next_poll : List PollAnswer → PollAnswer
 next_poll [] = Nothing
 next_poll (a ∷ answers) = a

@@ -20,20 +20,22 @@ new_plan most failing = record { most = most; failing = failing; made = 0; fault
 abbrev pub next_count : ℕ → ℕ
 next_count n = min (n + 1) (2 ^ 64 - 1)
 
--- the next call, which could move so many bytes, fails: by its number, or where it may move none
+-- the next call fails: by its number, or since it may move none of so many bytes
 abbrev pub fails : FailingPlan → ℕ → Bool
 fails p count = list_any (λ k. k == next_count p.made) p.failing || ((p.most == 0) && nat_lt 0 count)
 
+-- what the next call answers, where so many bytes could be moved
 abbrev pub answer_of : FailingPlan → ℕ → Result ℕ Failed
-answer_of p count = if fails p count then Err (record { }) else Ok (min count p.most)
+answer_of p count = if fails p count then Err (record {}) else Ok (min count p.most)
 
+-- what is kept after that call
 abbrev pub plan_after : FailingPlan → ℕ → FailingPlan
 plan_after p count = record p { made = next_count p.made; faults = if fails p count then next_count p.faults else p.faults }
 
 -- a write answers what was planned, or that memory ran out
 abbrev pub IsPlanned : Result ℕ Failed → Result ℕ WriteError → Type 0
 IsPlanned planned (Ok n) = planned ≡ Ok n
-IsPlanned planned (Err errors.Failed) = planned ≡ Err (record { })
+IsPlanned planned (Err errors.Failed) = planned ≡ Err (record {})
 IsPlanned planned (Err errors.NoMemory) = ⊤
 
 -- where memory ran out the write does not count

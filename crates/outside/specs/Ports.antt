@@ -3,7 +3,7 @@ use Rattle.std.specs.Prelude.{◌≡◌, List, [], ◌∷◌, drop, Option, Some
 use Rattle.outside.specs.declared.link.PollAnswer.{PollAnswer}
 use Rattle.outside.specs.declared.link.Sent.{Sent}
 
--- what the polls of the next link answer: past the last link there is nothing
+-- what the polls of the next link answer: nothing after the last link
 abbrev pub next_link : List (List PollAnswer) → List PollAnswer
 next_link [] = []
 next_link (answers ∷ links) = answers

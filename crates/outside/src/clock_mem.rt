@@ -1,3 +1,5 @@
+ghost use Rattle.std.specs.Prelude.{◌≡◌, Some, []};
+
 use crate::Clock;
 use std::alloc::Global;
 
@@ -8,7 +10,9 @@ pub struct ClockMem {
 }
 
 impl ClockMem {
-    pub fn new(alloc: Global) -> ClockMem {
+    pub fn new(alloc: Global) -> ClockMem
+        ensures { ⟦<ClockMem as Clock>⟧.values result ≡ Some [] }
+    {
         ClockMem { alloc }
     }
 }

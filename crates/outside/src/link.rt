@@ -25,9 +25,9 @@ pub struct Sent {
     pub bytes: Bytes,
 }
 
-/// A node's way to the other nodes: datagrams to ports come and go.
+/// A node's connection to the network: it sends datagrams to ports, and receives those that were sent to its own port.
 pub trait Link {
-    /// What the polls to come answer, where the link tells it. Past the last there is no datagram.
+    /// What the polls to come answer, where the link tells it. After the last answer there is no datagram.
     ghost answers: { Self → Option (List PollAnswer) };
 
     /// What was sent, in order, where the link tells it.
@@ -42,7 +42,7 @@ pub trait Link {
     /// How many sends failed.
     ghost loss_count: { Self → ℕ };
 
-    /// The next datagram, of at most `MAX_DATAGRAM_BYTES` bytes. None where there is none now.
+    /// The next datagram, of at most `MAX_DATAGRAM_BYTES` bytes. None where this poll has none.
     fn poll(&mut self) -> Result<Option<Bytes>, LinkError>
         ensures short { IfOk result (λ r. IfSome r (λ datagram. length datagram ≤ MAX_DATAGRAM_BYTES)) }
         ensures answer { Polls (answers self.old) (answers self.new) result }
@@ -54,7 +54,8 @@ pub trait Link {
 
     /// Sends the bytes to a port.
     fn send(&mut self, port: u16, bytes: &[u8]) -> Result<(), LinkError>
-        ensures ok { OnOk result (Adds (sent self.old) (sent self.new) (record { port = port; bytes = bytes.now })) }
+        ensures ok { OnOk result
+            (Adds (sent self.old) (sent self.new) (record { port = port; bytes = bytes.now })) }
         ensures err { OnErr result (Stays (sent self.old) (sent self.new)) }
         ensures cause { HasCauseFor (loss_count self.old) (loss_count self.new) errors.Failed result }
         ensures no_memory { IsErrOf result errors.NoMemory → loss_count self.new ≡ loss_count self.old }

@@ -7,18 +7,19 @@ use nop_types::NoMemory;
 use std::alloc::Global;
 use std::marker::Model;
 
-/// What the calls on a form in memory do: how many of the bytes each one moves, and which fail.
+/// What the calls on a form in memory do: how many bytes each one moves, and which fail. Forms that never fail are of a type
+/// of their own, so that their count of faults is 0 whatever is called on them.
 pub trait CallPlan: Drop {
     /// How many calls failed so far.
     ghost fault_count: { Self → ℕ };
 
-    /// What the next call answers, where it could move so many bytes.
+    /// What the next call answers, where so many bytes could be moved.
     ghost next_answer: { Self → ℕ → Result ℕ Failed };
 
     /// The plan after that call.
     ghost after_call: { Self → ℕ → Self };
 
-    /// What the next call answers, where it could move so many bytes.
+    /// What the next call answers, where so many bytes could be moved.
     fn answer(&self, count: usize) -> Result<usize, Failed>
         ensures answer { result ≡ next_answer self.now count }
         ensures most { IfOk result (λ n. n ≤ count) }
@@ -81,8 +82,9 @@ impl CallPlan for Unfailing {
     }
 }
 
-/// Calls that move at most so many bytes each, and of which those with some numbers fail. A call that could move bytes
-/// and may move none fails too. Calls count from 1; a call after the last number has that number.
+/// Calls that move at most so many bytes each, and of which those with the given numbers fail. Calls count from 1, up to
+/// the greatest number of 64 bits, which all later ones have. Where a call may move no bytes, one that could move some
+/// fails.
 #[derive(Debug, Drop)]
 pub struct Failing {
     most: usize,

@@ -11,8 +11,8 @@ use crate::{AttachError, Link};
 pub trait Ports {
     type L: Link;
 
-    /// What the polls of the links to come answer, link for link, where the ports tell it. Past the last one a link has no
-    /// datagrams.
+    /// What the polls of the links to come answer, for each link in order, where the ports tell it. A link after the last
+    /// one has no datagrams.
     ghost to_come: { Self → Option (List (List PollAnswer)) };
 
     /// How many links were attached.
@@ -24,12 +24,13 @@ pub trait Ports {
     /// How many attaches failed.
     ghost fault_count: { Self → ℕ };
 
-    /// A link at this port. It makes the room to give the link back.
+    /// A link at this port, which has sent nothing. It makes the room for the link to be given back.
     fn attach(&mut self, port: u16) -> Result<Self::L, AttachError>
         ensures port { IfOk result (λ link. Self.L.own_port link ≡ port) }
         ensures faults { IfOk result (λ link. Self.L.fault_count link ≡ 0) }
         ensures losses { IfOk result (λ link. Self.L.loss_count link ≡ 0) }
-        ensures content { IfOk result (λ link. GivesNext (to_come self.old) (to_come self.new) (Self.L.answers link) (Self.L.sent link)) }
+        ensures content { IfOk result (λ link.
+            GivesNext (to_come self.old) (to_come self.new) (Self.L.answers link) (Self.L.sent link)) }
         ensures attached { OnOk result (attached self.new ≡ attached self.old + 1) }
         ensures room { OnOk result (length (detached self.new) < attached self.new) }
         ensures err { OnErr result (attached self.new ≡ attached self.old) }
@@ -38,7 +39,7 @@ pub trait Ports {
         ensures cause { HasCauseFor (fault_count self.old) (fault_count self.new) errors.Failed result }
         ensures no_memory { IsErrOf result errors.NoMemory → fault_count self.new ≡ fault_count self.old };
 
-    /// GivesNext a link back. It takes no memory.
+    /// Gives a link back, which the ports then hold. It takes no memory.
     fn detach(&mut self, link: Self::L)
         requires { length (detached self.old) < attached self.old }
         ensures detached { detached self.new ≡ detached self.old ++ link ∷ [] }

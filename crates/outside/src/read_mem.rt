@@ -1,7 +1,8 @@
-ghost use Rattle.std.specs.Prelude.{◌≡◌, ◌≤◌, ◌++◌, drop, length, min, take, IfOk};
+ghost use Rattle.std.specs.Prelude.{◌≡◌, ◌≤◌, ◌++◌, drop, length, take, IfOk};
 ghost use Rattle.std.specs.Io.KnownBytes.{ReadConsumes};
 ghost use Rattle.std.specs.Result.{result_unwrap_or};
 ghost use Rattle.outside.specs.Causes.{HasCause};
+ghost use Rattle.outside.specs.Memory.{fitting};
 ghost use Rattle.outside.specs.Plans.{new_plan};
 
 use crate::{CallPlan, Failed, Failing, Source, Unfailing};
@@ -84,16 +85,18 @@ impl<P: CallPlan> Source for ReadMem<P> {
 
     ghost fault_count = { λ s. P.fault_count s.plan };
 
+    #[tactic(auto, using(crate::proofs::Pieces::left_split, std::proofs::lemmas::Grind::common_steps))]
     fn read(&mut self, buf: &mut [u8]) -> Result<usize, Failed>
         ensures most { IfOk result (λ n. n ≤ length buf.old) }
         ensures bytes { ReadConsumes (Some self.old.left) (Some self.new.left) result buf.new }
         ensures cause { HasCause (P.fault_count self.old.plan) (P.fault_count self.new.plan) result }
 
         // Exactly what the plan says.
-        ensures answer { result ≡ P.next_answer self.old.plan (min (length buf.old) (length self.old.left)) }
+        ensures answer { result ≡ P.next_answer self.old.plan (fitting self.old.left buf.old) }
         ensures after { self.new ≡ record {
-            left = drop (result_unwrap_or result 0) self.old.left;
-            plan = P.after_call self.old.plan (min (length buf.old) (length self.old.left)) } }
+          left = drop (result_unwrap_or result 0) self.old.left;
+          plan = P.after_call self.old.plan (fitting self.old.left buf.old);
+        } }
         ensures buffer { buf.new
             ≡ take (result_unwrap_or result 0) self.old.left ++ drop (result_unwrap_or result 0) buf.old }
     {

@@ -33,7 +33,8 @@ pub fn write_all<K: Sink>(sink: &mut K, bytes: &[u8]) -> Result<(), WriteError>
     ensures ok { OnOk result (Appends (K.held sink.old) (K.held sink.new) bytes.now) }
     ensures err { OnErr result (AppendsFront (K.held sink.old) (K.held sink.new) bytes.now) }
     ensures cause { HasCauseFor (K.fault_count sink.old) (K.fault_count sink.new) WriteError.Failed result }
-    ensures succeeds { ¬ Rose (K.fault_count sink.old) (K.fault_count sink.new) → IsOkUnless result WriteError.NoMemory }
+    ensures succeeds { ¬ Rose (K.fault_count sink.old) (K.fault_count sink.new)
+        → IsOkUnless result WriteError.NoMemory }
 {
     let mut at = 0;
     while at < bytes.len() {

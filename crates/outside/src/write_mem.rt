@@ -47,7 +47,11 @@ impl WriteMem<Unfailing> {
 impl WriteMem<Failing> {
     /// Each write takes at most so many bytes, and the writes with these numbers fail. Writes count from 1. Where a write
     /// may take none, one of a piece that is not empty fails.
-    pub fn with_faults(alloc: Global, most: usize, failing: &[u64]) -> Result<WriteMem<Failing>, NoMemory>
+    pub fn with_faults(
+        alloc: Global,
+        most: usize,
+        failing: &[u64],
+    ) -> Result<WriteMem<Failing>, NoMemory>
         ensures { IfOk result (λ s. s ≡ record { held = []; plan = new_plan most failing.now }) }
     {
         Ok(WriteMem {
@@ -84,7 +88,8 @@ impl<P: CallPlan> Sink for WriteMem<P> {
         ensures most { IfOk result (λ n. n ≤ length piece.now) }
         ensures some { IfOk result (λ n. 0 < length piece.now → 0 < n) }
         ensures bytes { WriteAppends (Some self.old.held) (Some self.new.held) result piece.now }
-        ensures cause { HasCauseFor (P.fault_count self.old.plan) (P.fault_count self.new.plan) errors.Failed result }
+        ensures cause { HasCauseFor (P.fault_count self.old.plan) (P.fault_count self.new.plan)
+            errors.Failed result }
         ensures no_memory { IsErrOf result errors.NoMemory
             → P.fault_count self.new.plan ≡ P.fault_count self.old.plan }
 

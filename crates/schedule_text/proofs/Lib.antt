@@ -1,2 +1,10 @@
-pub mod Prefix
+pub mod Cuts
+pub mod Digits
+pub mod Filled
+pub mod Firsts
 pub mod LineLemmas
+pub mod Prefix
+pub mod Searched
+pub mod SplitLemmas
+pub mod Takings
+pub mod Turns

@@ -1,6 +1,11 @@
 pub mod Cutting
+pub mod Deciding
 pub mod Fields
+pub mod Filling
+pub mod LineAnswer
 pub mod LineText
 pub mod Reading
 pub mod Rules
+pub mod Split
+pub mod Stepping
 pub mod Transcript

@@ -71,9 +71,11 @@ IsTurn r ended more (Err (BadLine line rule)) t = (t ≡ record { next = Refuses
 IsTurn r ended more (Err ReadFault) t = t ≡ turn_of r ended more
 IsTurn r ended more (Err NoMemory) t = t ≡ turn_of r ended more
 
--- A call took these bytes from the source and answered, whatever follows them.
+-- A call took these bytes from the source and answered, whatever follows them. Where the source ended in this call, nothing is
+-- left of it, and after its end nothing is taken.
 pub record Takes (old new : Reading) (taken left : List ℕ) (answer : Result (Option Event) NextError) : Type 0 where
-  pub end : new.ended ≡ true → left ≡ []
+  pub end : old.ended ≡ false → new.ended ≡ true → left ≡ []
+  pub after_end : old.ended ≡ true → (taken ≡ []) × (new.ended ≡ true)
   pub turn : (ended : Bool) (more : List ℕ) → MayFollow new ended more → IsTurn new ended more answer (turn_of old ended (taken ++ more))
 
 -- the same of a source that tells its bytes, or not
@@ -82,7 +84,7 @@ TakesOf old new None after answer = ⊤
 TakesOf old new (Some before) None answer = ⊥
 TakesOf old new (Some before) (Some left) answer = (taken : List ℕ) × (before ≡ taken ++ left) × Takes old new taken left answer
 
--- at a fault no line was left that is decided
+-- at a fault no line was left that is decided, and the source had not ended
 abbrev pub LeavesNone : Reading → Result (Option Event) NextError → Type 0
-LeavesNone r (Err ReadFault) = lines_before r false [] ≡ []
+LeavesNone r (Err ReadFault) = (r.ended ≡ false) × (lines_before r false [] ≡ [])
 LeavesNone r _ = ⊤

@@ -1,13 +1,21 @@
 //! Schedules as text, and the lines of a transcript.
 #![tactic(auto)]
 
+mod buffer;
 mod event;
 mod field;
+mod first_line;
+mod line_error;
 mod next_error;
+mod reader;
+mod rules;
+mod spelling;
+mod split;
 mod transcript;
 
 pub use event::Event;
 pub use next_error::NextError;
+pub use reader::Reader;
 pub use transcript::{
     accept_line, busy_line, dead_line, end_line, entry_line, error_line, history_line,
     replica_line, send_line, submit_line, transcript_line,

@@ -14,5 +14,6 @@ pub mod ReplicaSteps
 pub mod SeatOutcomes
 pub mod Seats
 pub mod SequencerSteps
+pub mod StateLines
 pub mod Takes
 pub mod WorldSteps

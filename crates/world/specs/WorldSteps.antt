@@ -165,3 +165,14 @@ main_log w = log_of (slice_get w.replicas (leader_of (main_view w) w.config.repl
 -- its requests whose id exceeds each earlier id of the same client there
 abbrev pub history : WorldState → List Request
 history w = history_of (main_log w)
+
+abbrev pub crashed_in : {S : Type 0} → Option (Seated S) → Bool
+crashed_in None = false
+crashed_in (Some p) = p.crashed
+
+-- whether an actor crashed, false for an actor that is not of the configuration
+abbrev pub has_crashed : WorldState → Actor → Bool
+has_crashed w (actors.Replica i) = crashed_in (slice_get w.replicas i)
+has_crashed w (actors.Sequencer i) = crashed_in (slice_get w.sequencers i)
+has_crashed w (actors.Client i) = crashed_in (slice_get w.clients i)
+has_crashed w actors.Controller = w.controller.crashed

@@ -1,4 +1,4 @@
-ghost use Rattle.std.specs.Prelude.{◌≡◌, IfOk, IfErr};
+ghost use Rattle.std.specs.Prelude.{◌≡◌, IfOk, IfErr, length};
 ghost use Rattle.world.specs.Actors.{world_of, Happens};
 ghost use Rattle.world.specs.SeatOutcomes.{Refuses};
 ghost use Rattle.world.specs.WorldSteps.{submit, deliver, crash, step};
@@ -28,6 +28,8 @@ pub struct Actors<H> {
 
 impl<H: Host> Actors<H> {
     fn submit(&mut self, alloc: Global, client: u32, op: &Op) -> Result<Lines, StepError>
+        ensures config { self.new.config ≡ self.old.config }
+        ensures count { length self.new.replicas.items ≡ length self.old.replicas.items }
         ensures ok { IfOk result (Happens (submit (world_of self.old) client op.now) (world_of self.new)) }
         ensures err { IfErr result (λ e. Refuses e (submit (world_of self.old) client op.now) (world_of self.new ≡ world_of self.old)) }
     {
@@ -41,6 +43,8 @@ impl<H: Host> Actors<H> {
     }
 
     fn deliver(&mut self, alloc: Global, index: u64, actor: Actor) -> Result<Lines, StepError>
+        ensures config { self.new.config ≡ self.old.config }
+        ensures count { length self.new.replicas.items ≡ length self.old.replicas.items }
         ensures ok { IfOk result (Happens (deliver H.meaning (world_of self.old) index actor) (world_of self.new)) }
         ensures err { IfErr result (λ e. Refuses e (deliver H.meaning (world_of self.old) index actor) (world_of self.new ≡ world_of self.old)) }
     {
@@ -67,6 +71,8 @@ impl<H: Host> Actors<H> {
     }
 
     fn crash(&mut self, alloc: Global, actor: Actor) -> Result<Lines, StepError>
+        ensures config { self.new.config ≡ self.old.config }
+        ensures count { length self.new.replicas.items ≡ length self.old.replicas.items }
         ensures ok { IfOk result (Happens (crash (world_of self.old) actor) (world_of self.new)) }
         ensures err { IfErr result (λ e. Refuses e (crash (world_of self.old) actor) (world_of self.new ≡ world_of self.old)) }
     {
@@ -93,6 +99,8 @@ impl<H: Host> Actors<H> {
     /// One event is one step of one actor.
     #[tactic(auto, unfolding(crate::specs::WorldSteps::step))]
     pub fn step(&mut self, alloc: Global, event: &Event) -> Result<Lines, StepError>
+        ensures config { self.new.config ≡ self.old.config }
+        ensures count { length self.new.replicas.items ≡ length self.old.replicas.items }
         ensures ok { IfOk result (Happens (step H.meaning (world_of self.old) event.now) (world_of self.new)) }
         ensures err { IfErr result (λ e. Refuses e (step H.meaning (world_of self.old) event.now) (world_of self.new ≡ world_of self.old)) }
     {

@@ -16,6 +16,7 @@ mod replica_state;
 mod replies;
 mod seat;
 mod sequencer;
+mod state_lines;
 mod step_error;
 mod world_state;
 

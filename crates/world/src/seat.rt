@@ -2,7 +2,7 @@ ghost use Rattle.std.specs.Prelude.{◌≡◌, OnOk, IfOk, IfErr, Some, length, 
 ghost use Rattle.nop_types.specs.Given.{given};
 ghost use Rattle.world.specs.Seats.{seat_step, crash_step};
 ghost use Rattle.world.specs.SeatOutcomes.{seated_of, did_of, Moves, MovesAt, Refuses};
-ghost use Rattle.world.specs.WorldSteps.{input_at, delivery_at, crash_at};
+ghost use Rattle.world.specs.WorldSteps.{input_at, delivery_at, crash_at, crashed_in};
 
 use crate::network::Network;
 use crate::step_error::StepError;
@@ -52,6 +52,7 @@ pub fn input_to<C: Core>(
     i: usize,
     input: Input<'_>,
 ) -> Result<Option<Outbox>, StepError>
+    ensures count { length seats.new.items ≡ length seats.old.items }
     ensures ok { IfOk result (λ outs. MovesAt C.state (input_at C.next (given input.entry) (slice_get (map (seated_of C.state) seats.old.items) i)) seats.old.items i seats.new.items outs) }
     ensures err { IfErr result (λ e. Refuses e (input_at C.next (given input.entry) (slice_get (map (seated_of C.state) seats.old.items) i)) (seats.new.items ≡ seats.old.items)) }
 {
@@ -88,6 +89,7 @@ pub fn deliver_to<C: Core>(
     index: u64,
     network: &Network,
 ) -> Result<Option<Outbox>, StepError>
+    ensures count { length seats.new.items ≡ length seats.old.items }
     ensures ok { IfOk result (λ outs. MovesAt C.state (delivery_at C.next network.now index (slice_get (map (seated_of C.state) seats.old.items) i)) seats.old.items i seats.new.items outs) }
     ensures err { IfErr result (λ e. Refuses e (delivery_at C.next network.now index (slice_get (map (seated_of C.state) seats.old.items) i)) (seats.new.items ≡ seats.old.items)) }
 {
@@ -110,6 +112,7 @@ pub fn crash_one<C: Core>(
     seats: &mut Vec<Seat<C>>,
     i: usize,
 ) -> Result<Option<Outbox>, StepError>
+    ensures count { length seats.new.items ≡ length seats.old.items }
     ensures ok { IfOk result (λ outs. MovesAt C.state (crash_at (slice_get (map (seated_of C.state) seats.old.items) i)) seats.old.items i seats.new.items outs) }
     ensures err { IfErr result (λ e. Refuses e (crash_at (slice_get (map (seated_of C.state) seats.old.items) i)) (seats.new.items ≡ seats.old.items)) }
 {
@@ -118,4 +121,14 @@ pub fn crash_one<C: Core>(
     }
     let seat = &mut seats[i];
     Ok(crash_seat(alloc, seat))
+}
+
+/// Whether the actor with this number crashed, false where there is none.
+pub fn is_crashed<C: Core>(seats: &[Seat<C>], i: usize) -> bool
+    ensures { result ≡ crashed_in (slice_get (map (seated_of C.state) seats.now) i) }
+{
+    match seats.get(i) {
+        Some(seat) => seat.crashed,
+        None => false,
+    }
 }

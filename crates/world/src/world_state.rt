@@ -1,10 +1,11 @@
-ghost use Rattle.std.specs.Prelude.{◌≡◌, ◌∷◌, [], IfOk, IfErr, IsErrOf, OnOk, false, true, length, map, option_map, slice_get};
+ghost use Rattle.std.specs.Prelude.{◌≡◌, ◌↔◌, ◌<◌, ◌++◌, ◌∷◌, [], IsSome, IfOk, IfErr, IsErrOf, OnOk, false, true, length, map, option_map, slice_get};
 ghost use Rattle.world.specs.Actors.{world_of, Happens};
 ghost use Rattle.world.specs.SeatOutcomes.{seated_of, Refuses};
 ghost use Rattle.world.specs.ClientSteps as client;
 ghost use Rattle.world.specs.ReplicaSteps as replica;
 ghost use Rattle.world.specs.SequencerSteps as sequencer;
-ghost use Rattle.world.specs.WorldSteps.{step, opening, counted, history, greatest_view, greatest_of, main_view, main_log, log_of};
+ghost use Rattle.world.specs.WorldSteps.{step, opening, counted, history, greatest_view, greatest_of, main_log, log_of, has_crashed};
+ghost use Rattle.world.specs.StateLines.{replicas_text};
 
 use crate::actors::Actors;
 use crate::client::Client;
@@ -13,7 +14,8 @@ use crate::histories::history_of;
 use crate::lines::Lines;
 use crate::network::Network;
 use crate::replica::Replica;
-use crate::seat::Seat;
+use crate::seat::{Seat, is_crashed};
+use crate::state_lines::put_replicas;
 use crate::sequencer::Sequencer;
 use crate::step_error::StepError;
 use nop_types::{Actor, Config, Entry, Host, NoMemory, Request, View, leader_of};
@@ -41,10 +43,15 @@ impl<H> Model for World<H> {
     ghost coded = { Prim.hlevel (codes, state.the_row.coded) };
 
     ghost view = { λ w. record { failed = w.failed; state = world_of w.actors } };
+
+    ghost use Rattle.std.specs.Prelude.{◌≡◌, length};
+
+    ghost invariant = { λ w. length w.actors.replicas.items ≡ w.actors.config.replicas };
 }
 
 fn replicas<H: Host>(alloc: Global, config: Config) -> Result<Vec<Seat<Replica<H>>>, NoMemory>
-    ensures { IfOk result (λ v. map (seated_of (λ r. r.state)) v.items ≡ counted (replica.opening config) config.replicas) }
+    ensures seats { IfOk result (λ v. map (seated_of (λ r. r.state)) v.items ≡ counted (replica.opening config) config.replicas) }
+    ensures count { IfOk result (λ v. length v.items ≡ config.replicas) }
 {
     let mut seats = Vec::new(alloc);
     for number in 0..config.replicas() {
@@ -195,14 +202,35 @@ impl<H: Host> World<H> {
         self.actors.network.len()
     }
 
-    /// The replica with this number, None where there is none.
+    /// The replica with this number.
     pub fn replica(&self, i: u8) -> Option<&Replica<H>>
-        ensures { option_map (λ r. r.now.state) result ≡ option_map (λ p. p.state) (slice_get self.now.state.replicas i) }
+        ensures some { IsSome result ↔ (i < self.now.state.config.replicas) }
+        ensures state { option_map (λ r. r.now.state) result ≡ option_map (λ p. p.state) (slice_get self.now.state.replicas i) }
     {
         match self.actors.replicas.get(i as usize) {
             Some(seat) => Some(&seat.core),
             None => None,
         }
+    }
+
+    /// Whether an actor crashed, false for an actor that is not of the configuration.
+    pub fn crashed(&self, actor: Actor) -> bool
+        ensures { result ≡ has_crashed self.now.state actor }
+    {
+        match actor {
+            Actor::Replica(i) => is_crashed(&self.actors.replicas, i as usize),
+            Actor::Sequencer(i) => is_crashed(&self.actors.sequencers, i as usize),
+            Actor::Client(i) => is_crashed(&self.actors.clients, i as usize),
+            Actor::Controller => self.actors.controller.crashed,
+        }
+    }
+
+    /// Appends a line for each replica, and one for each slot of it up to its sync point.
+    pub fn replica_lines(&self, to: &mut Vec<u8>) -> Result<(), NoMemory>
+        ensures ok { OnOk result (to.new.items ≡ to.old.items ++ replicas_text 0 self.now.state.replicas) }
+    {
+        let _count = self.actors.config.replicas();
+        put_replicas(&self.actors.replicas, to)
     }
 
     /// The requests of the log of the greatest last normal view's leader whose id exceeds each earlier id of the same client

@@ -1,9 +1,9 @@
 use Rattle.std.proofs.Common.{sym, ◌∙◌}
-use Rattle.oum_receiver.proofs.Entries.{drop_popped, drop_none}
+use Rattle.oum_receiver.proofs.Entries.{drop_popped}
 use Rattle.oum_receiver.proofs.queue.drop_below.Goals as goal
 
 pub returns : goal.returns
-returns c = sym (drop_none c.args.next c.loop-requests.requests.entries c.starts_below.ensures.ordered (sym c.starts_below.ensures.value ∙ c.loop-requests-test.false)) ∙ c.loop-requests.invariant
+returns c = sym (c.starts_below.ensures.none_below c.loop-requests-test.false) ∙ c.loop-requests.invariant
 
 pub loop-requests-preserved-in-loop-requests : goal.loop-requests-preserved-in-loop-requests
 loop-requests-preserved-in-loop-requests c =

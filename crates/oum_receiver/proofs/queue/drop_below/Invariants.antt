@@ -1,7 +1,8 @@
 use Rattle.std.proofs.Common.{◌≡◌}
 use Rattle.std.specs.FinMap as finite
 use Rattle.std.specs.BTreeMap.{btree_map_len}
-use Rattle.oum_receiver.specs.Requests.{map_of, is_from}
+use Rattle.oum_receiver.specs.Requests.{is_from}
+use Rattle.oum_receiver.specs.Table.{map_of}
 use Rattle.oum_receiver.proofs.queue.drop_below.Given as goal
 
 -- what is to be kept is still there

@@ -1,4 +1,4 @@
-use Rattle.std.proofs.Common.{◌≡◌}
+use Rattle.std.proofs.Common.{◌≡◌, length}
 use Rattle.std.specs.Prelude.{map}
 use Rattle.world.specs.ReplicaSteps as replica
 use Rattle.world.specs.SeatOutcomes.{seated_of}
@@ -6,4 +6,8 @@ use Rattle.world.specs.WorldSteps.{counted}
 use Rattle.world.proofs.world_state.replicas.Given as goal
 
 abbrev pub invariant-loop-number : goal.invariant-loop-number
-invariant-loop-number g l = map (seated_of (λ r. r.state)) l.seats.items ≡ counted (replica.opening l.config) l.number
+invariant-loop-number g l =
+    record {
+      seats : map (seated_of (λ r. r.state)) l.seats.items ≡ counted (replica.opening l.config) l.number;
+      count : length l.seats.items ≡ l.number;
+    }

@@ -1,7 +1,7 @@
 use Rattle.std.proofs.Common.{◌≡◌, sym, ap, ◌∙◌}
 use Rattle.oum_receiver.specs.declared.verdict.Verdict.TheVariants.{Queued}
 use Rattle.oum_receiver.specs.Receiving.{Receiving, verdict_of}
-use Rattle.oum_receiver.proofs.Sound.{queued_sound}
+use Rattle.oum_receiver.proofs.Sound.{queued_sound, queued_absent}
 use Rattle.oum_receiver.proofs.receiver.Receiver.offer.Goals as goal
 
 pub invariant_of-self : goal.invariant_of-self
@@ -9,3 +9,8 @@ invariant_of-self c =
     let r : Receiving = record { session = c.self.inside.session; next = c.self.inside.next; queued = c.self.inside.queue } in
     let verdict : verdict_of r c.args.packet.now ≡ Queued = ap (λ (s : Receiving). verdict_of s c.args.packet.now) c.self.view_is ∙ sym c.in-Queued.ensures in
     rw (c.in_ok-insert.ensures.ok, c.in_ok-request.ensures) (queued_sound r c.args.packet.now c.self.invariant c.requires verdict)
+
+pub insert-requires : goal.insert-requires
+insert-requires c =
+    let r : Receiving = record { session = c.self.inside.session; next = c.self.inside.next; queued = c.self.inside.queue } in
+    queued_absent r c.args.packet.now (ap (λ (s : Receiving). verdict_of s c.args.packet.now) c.self.view_is ∙ sym c.in-Queued.ensures)

@@ -1,4 +1,4 @@
-use Rattle.std.proofs.Common.{◌∙◌, sym, ap, arith, is_some}
+use Rattle.std.proofs.Common.{◌∙◌, sym, ap, is_some}
 use Rattle.oum_receiver.specs.Front.{request_in}
 use Rattle.oum_receiver.specs.Receiving.{Receiving, front_of}
 use Rattle.oum_receiver.proofs.Counts.{len_without}
@@ -17,4 +17,4 @@ returns-clause-request c =
 
 pub returns-clause-fewer : goal.returns-clause-fewer
 returns-clause-fewer c =
-    rw (c.remove.ensures.after, ← c.self.view_is) (omega (arith, len_without c.self.inside.queue c.self.inside.next (ap is_some (sym c.in_ok-request.ensures.found))))
+    rw (c.remove.ensures.after, ← c.self.view_is) (len_without c.self.inside.queue c.self.inside.next (ap is_some (sym c.in_ok-request.ensures.found)))

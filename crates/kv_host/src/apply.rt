@@ -4,9 +4,9 @@ ghost use Rattle.std.specs.FinMap as finite;
 ghost use Rattle.indexmap.specs.IndexMap.{index_map_len};
 ghost use Rattle.kv_host.specs.declared.undo.KvUndo.{KvUndo};
 ghost use Rattle.kv_host.specs.Op.{Get, Put, Delete, Swap};
-ghost use Rattle.kv_host.specs.Kv.{shown, with_value, answer_of, after};
-ghost use Rattle.kv_host.specs.Undo.{undo_of};
-ghost use Rattle.kv_host.specs.Places.{places, values_of, key_of, Fits};
+ghost use Rattle.kv_host.specs.Kv.{shown, with_value, answer_to};
+ghost use Rattle.kv_host.specs.Done.{IsDone};
+ghost use Rattle.kv_host.specs.Places.{places, values_of, key_of, HasPlace};
 
 use crate::key::KvKey;
 use crate::table::{Table, find, insert, replace};
@@ -40,8 +40,8 @@ fn write(table: &mut Table, index: usize, key: &[u8], value: Option<KvValue>) ->
     requires short { length key.now ≤ MAX_KEY_BYTES }
     ensures after { values_of (places table.new) ≡ with_value (values_of (places table.old)) key.now value }
     ensures undo { result ≡ Some (record { key = key.now; value = finite.get (values_of (places table.old)) key.now }) }
-    ensures fits { Fits (places table.new) result }
-    ensures still_fits { (u : _) → Fits (places table.old) u → Fits (places table.new) u }
+    ensures fits { HasPlace (places table.new) result }
+    ensures still_fits { (u : _) → HasPlace (places table.old) u → HasPlace (places table.new) u }
 {
     Some(KvUndo {
         key: KvKey::new(key),
@@ -61,8 +61,8 @@ fn add(
     requires short { length key.now ≤ MAX_KEY_BYTES }
     ensures after { OnOk result (values_of (places table.new) ≡ finite.insert (values_of (places table.old)) key.now value) }
     ensures undo { IfOk result (λ u. u ≡ Some (record { key = key.now; value = finite.get (values_of (places table.old)) key.now })) }
-    ensures fits { IfOk result (Fits (places table.new)) }
-    ensures still_fits { (u : _) → Fits (places table.old) u → Fits (places table.new) u }
+    ensures fits { IfOk result (HasPlace (places table.new)) }
+    ensures still_fits { (u : _) → HasPlace (places table.old) u → HasPlace (places table.new) u }
     ensures err { OnErr result (places table.new ≡ places table.old) }
 {
     insert(alloc, table, key, value)?;
@@ -75,7 +75,7 @@ fn add(
 /// Answers with the value of a key.
 #[tactic(auto, using(crate::proofs::PlacesLemmas::place_writes))]
 pub fn get(alloc: Global, table: &Table, key: &[u8]) -> Result<Bytes, NoMemory>
-    ensures answer { IfOk result (λ b. b ≡ answer_of (values_of (places table.now)) (Get key.now)) }
+    ensures answer { IfOk result (λ b. b ≡ answer_to (values_of (places table.now)) (Get key.now)) }
     ensures short { IfOk result (λ b. length b ≤ 257) }
 {
     match find(table, key) {
@@ -94,12 +94,8 @@ pub fn put(
 ) -> Result<(Bytes, Option<KvUndo>), NoMemory>
     requires key { length key.now ≤ MAX_KEY_BYTES }
     requires value { length value.now ≤ MAX_VALUE_BYTES }
-    ensures answer { IfOk result (λ r. r.0 ≡ answer_of (values_of (places table.old)) (Put key.now value.now)) }
-    ensures short { IfOk result (λ r. length r.0 ≤ 257) }
-    ensures after { OnOk result (values_of (places table.new) ≡ after (values_of (places table.old)) (Put key.now value.now)) }
-    ensures undo { IfOk result (λ r. r.1 ≡ undo_of (values_of (places table.old)) (Put key.now value.now)) }
-    ensures fits { IfOk result (λ r. Fits (places table.new) r.1) }
-    ensures still_fits { (u : _) → Fits (places table.old) u → Fits (places table.new) u }
+    ensures done { IfOk result (λ r. IsDone (Put key.now value.now) (places table.old) (places table.new) r.0 r.1) }
+    ensures still_fits { (u : _) → HasPlace (places table.old) u → HasPlace (places table.new) u }
     ensures err { OnErr result (places table.new ≡ places table.old) }
 {
     let value = KvValue::new(alloc, value)?;
@@ -123,12 +119,8 @@ pub fn delete(
     key: &[u8],
 ) -> Result<(Bytes, Option<KvUndo>), NoMemory>
     requires { length key.now ≤ MAX_KEY_BYTES }
-    ensures answer { IfOk result (λ r. r.0 ≡ answer_of (values_of (places table.old)) (Delete key.now)) }
-    ensures short { IfOk result (λ r. length r.0 ≤ 257) }
-    ensures after { OnOk result (values_of (places table.new) ≡ after (values_of (places table.old)) (Delete key.now)) }
-    ensures undo { IfOk result (λ r. r.1 ≡ undo_of (values_of (places table.old)) (Delete key.now)) }
-    ensures fits { IfOk result (λ r. Fits (places table.new) r.1) }
-    ensures still_fits { (u : _) → Fits (places table.old) u → Fits (places table.new) u }
+    ensures done { IfOk result (λ r. IsDone (Delete key.now) (places table.old) (places table.new) r.0 r.1) }
+    ensures still_fits { (u : _) → HasPlace (places table.old) u → HasPlace (places table.new) u }
     ensures err { OnErr result (places table.new ≡ places table.old) }
 {
     match find(table, key) {
@@ -151,12 +143,8 @@ pub fn swap(
 ) -> Result<(Bytes, Option<KvUndo>), NoMemory>
     requires key { length key.now ≤ MAX_KEY_BYTES }
     requires value { length new.now ≤ MAX_VALUE_BYTES }
-    ensures answer { IfOk result (λ r. r.0 ≡ answer_of (values_of (places table.old)) (Swap key.now old.now new.now)) }
-    ensures short { IfOk result (λ r. length r.0 ≤ 257) }
-    ensures after { OnOk result (values_of (places table.new) ≡ after (values_of (places table.old)) (Swap key.now old.now new.now)) }
-    ensures undo { IfOk result (λ r. r.1 ≡ undo_of (values_of (places table.old)) (Swap key.now old.now new.now)) }
-    ensures fits { IfOk result (λ r. Fits (places table.new) r.1) }
-    ensures still_fits { (u : _) → Fits (places table.old) u → Fits (places table.new) u }
+    ensures done { IfOk result (λ r. IsDone (Swap key.now old.now new.now) (places table.old) (places table.new) r.0 r.1) }
+    ensures still_fits { (u : _) → HasPlace (places table.old) u → HasPlace (places table.new) u }
     ensures err { OnErr result (places table.new ≡ places table.old) }
 {
     match find(table, key) {

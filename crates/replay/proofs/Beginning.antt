@@ -1,0 +1,118 @@
+-- The first line of a replay.
+use Rattle.std.proofs.Common.{◌≡◌, ℕ, ◌+◌, List, [], ◌∷◌, ◌++◌, Bool, true, false, Option, Some, None, Result, Ok, Err, refl, sym, ap, ◌∙◌}
+use Rattle.std.proofs.KnownBytes.{Appends-nil}
+use Rattle.std.proofs.lemmas.List.{append-nil}
+use Rattle.nop_types.specs.Configuration.{Configuration}
+use Rattle.nop_types.specs.Meaning.{Meaning}
+use Rattle.schedule_text.specs.declared.event.Event.{Event}
+use Rattle.schedule_text.specs.declared.next_error.NextError.{NextError}
+use Rattle.schedule_text.specs.declared.next_error.NextError.TheVariants as nexts
+use Rattle.schedule_text.specs.Cutting.{lines_of}
+use Rattle.schedule_text.specs.Rules.{header_of}
+use Rattle.schedule_text.specs.Reading.{Reading, Next, Gives, Refuses, Ends, Turn, Takes, TakesOf, LeavesNone, MayFollow, turn, turn_of, turn_after, header_turn, lines_before, opening}
+use Rattle.schedule_text.specs.Transcript.{transcript_line}
+use Rattle.world.specs.WorldSteps as world
+use Rattle.replay.specs.declared.error.ReplayError.{ReplayError}
+use Rattle.replay.specs.Output.{Output, then_text, begun, output_of_lines, output}
+use Rattle.replay.specs.Outcome.{EndsWith}
+use Rattle.replay.specs.Progress.{Progress, Going, GoingOf, refused, after_turn}
+use Rattle.replay.specs.Steps.{Stops, bad_line}
+use Rattle.replay.proofs.Runs.{begun_is, rest_is, turn_config}
+use Rattle.replay.proofs.Progressing.{refuses_with, interrupts_with, fails_with, unknown_ends, none_follow, turn_keeps}
+
+module _ {S : Type 0} (m : Meaning S) where
+  pub output_lines : (ended : Bool) (bytes : List ℕ) → output m ended bytes ≡ output_of_lines m ended (lines_of ended 0 bytes)
+  unfolding output
+  output_lines ended bytes = refl
+
+  -- line 1 was taken
+  pub opened : (bytes left before : Option (List ℕ)) (r : Reading) (c : Configuration) → TakesOf opening r bytes left (Err nexts.NoMemory) → r.config ≡ Some c
+      → GoingOf m bytes left before before (transcript_line c) r c (world.opening c)
+  opened None left before r c took is = tt
+  opened (Some bytes) None before r c took is = absurd took
+  opened (Some bytes) (Some left) before r c took is =
+      let taken = took.0 in
+      let k = took.2 in
+      record {
+        config = is;
+        progress = record {
+          taken = taken;
+          split = took.1;
+          end = k.end refl;
+          written = [];
+          wrote = Appends-nil before;
+          goes = λ ended more may.
+              let lines = lines_of ended 0 (taken ++ more) in
+              let same : turn None 0 lines ≡ turn_of r ended more = k.turn ended more may in
+              let config : (turn None 0 lines).config ≡ Some c = ap (λ (t : Turn). t.config) same ∙ turn_keeps m r c ended more is in
+              output_lines ended (taken ++ more)
+              ∙ begun_is m ended c lines config
+              ∙ ap (λ (t : Turn). then_text (transcript_line c) (after_turn m ended c (world.opening c) t)) same
+              ∙ ap (λ (o : Option Configuration). then_text (transcript_line c) (after_turn m ended c (world.opening c) (turn o r.line (lines_before r ended more)))) is
+              ∙ ap (then_text (transcript_line c)) (sym (rest_is m ended c (world.opening c) r.line (lines_before r ended more)));
+        };
+      }
+
+  -- ---- line 1 was not taken
+
+  abbrev pub refused_turn : ℕ → Next → Output
+  refused_turn line (Gives e) = record { text = []; bad = None }
+  refused_turn line (Refuses rule) = refused (bad_line (line + 1) rule)
+  refused_turn line Ends = record { text = []; bad = None }
+
+  not_begun_line : (line : List ℕ) (lines : List (List ℕ)) (q : Result Configuration ℕ) → (header_turn 0 line lines q).config ≡ None
+      → begun m true lines q ≡ refused_turn (header_turn 0 line lines q).line (header_turn 0 line lines q).next
+  not_begun_line line lines (Err rule) is = refl
+  not_begun_line line lines (Ok c) is = absurd (cc (is, turn_config c 1 lines))
+
+  pub not_begun : (lines : List (List ℕ)) → (turn None 0 lines).config ≡ None → output_of_lines m true lines ≡ refused_turn (turn None 0 lines).line (turn None 0 lines).next
+  not_begun [] is = refl
+  not_begun (line ∷ lines) is = not_begun_line line lines (header_of line) is
+
+  undecided_line : (line : List ℕ) (lines : List (List ℕ)) (q : Result Configuration ℕ) → (header_turn 0 line lines q).config ≡ None → (header_turn 0 line lines q).rest ≡ []
+      → begun m false lines q ≡ record { text = []; bad = None }
+  undecided_line line lines (Err rule) config none = absurd cc
+  undecided_line line lines (Ok c) config none = absurd (cc (config, turn_config c 1 lines))
+
+  pub undecided : (lines : List (List ℕ)) → (turn None 0 lines).config ≡ None → (turn None 0 lines).rest ≡ [] → output_of_lines m false lines ≡ record { text = []; bad = None }
+  undecided [] config none = refl
+  undecided (line ∷ lines) config none = undecided_line line lines (header_of line) config none
+
+  -- what was taken says only what the output is
+  pub unopened_progress : (bytes left taken : List ℕ) (before : Option (List ℕ)) (r : Reading) (answer : Result (Option Event) NextError) → bytes ≡ taken ++ left → Takes opening r taken left answer
+      → Progress m bytes left before before [] r (λ ended more. output m ended (taken ++ more))
+  unopened_progress bytes left taken before r answer split k =
+      record { taken = taken; split = split; end = k.end refl; written = []; wrote = Appends-nil before; goes = λ ended more may. refl }
+
+  pub unopened : (bytes left before after : Option (List ℕ)) (r : Reading) (e : NextError) (x : ReplayError) → TakesOf opening r bytes left (Err e) → r.config ≡ None → LeavesNone r (Err e)
+      → Stops before after [] e x → EndsWith m bytes left before after (Err x)
+  unopened None left before after r e x took is none f = unknown_ends m left before after (Err x)
+  unopened (Some bytes) None before after r e x took is none f = absurd took
+  unopened (Some bytes) (Some left) before after r (nexts.BadLine line rule) x took is none f =
+      let taken = took.0 in
+      let k = took.2 in
+      let p = unopened_progress bytes left taken before r (Err (nexts.BadLine line rule)) took.1 k in
+      refuses_with m bytes left before before after [] r (λ ended more. output m ended (taken ++ more)) (bad_line line rule) x p
+          (λ more nothing.
+              let lines = lines_of true 0 (taken ++ more) in
+              let told = k.turn true more (record { nothing = nothing; end = λ e. refl }) in
+              let config : (turn None 0 lines).config ≡ None = ap (λ (t : Turn). t.config) told.0 ∙ is in
+              output_lines true (taken ++ more)
+              ∙ not_begun lines config
+              ∙ ap (λ (t : Turn). refused_turn t.line t.next) told.0
+              ∙ ap (λ (l : ℕ). refused (bad_line l rule)) (sym told.1))
+          p.end f
+  unopened (Some bytes) (Some left) before after r nexts.ReadFault x took is none f =
+      let taken = took.0 in
+      let k = took.2 in
+      let p = unopened_progress bytes left taken before r (Err nexts.ReadFault) took.1 k in
+      let lines = lines_of false 0 (taken ++ []) in
+      let told : turn None 0 lines ≡ turn None r.line [] =
+          k.turn false [] (none_follow m r none.0) ∙ ap (λ (o : Option Configuration). turn o r.line (lines_before r false [])) is ∙ ap (turn None r.line) none.1 in
+      interrupts_with m bytes left before before after [] r (λ ended more. output m ended (taken ++ more)) x p none.0
+          (output_lines false (taken ++ []) ∙ undecided lines (ap (λ (t : Turn). t.config) told) (ap (λ (t : Turn). t.rest) told))
+          f
+  unopened (Some bytes) (Some left) before after r nexts.NoMemory x took is none f =
+      let taken = took.0 in
+      let p = unopened_progress bytes left taken before r (Err nexts.NoMemory) took.1 took.2 in
+      fails_with m bytes left before before after [] r (λ ended more. output m ended (taken ++ more)) [] (output m true (taken ++ left)).text x p refl f

@@ -1,0 +1,4 @@
+pub mod Beginning
+pub mod Fronts
+pub mod Progressing
+pub mod Runs

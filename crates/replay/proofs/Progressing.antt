@@ -1,0 +1,279 @@
+-- A replay goes on line by line, and ends.
+use Rattle.std.proofs.Common.{◌≡◌, ℕ, ◌+◌, List, [], ◌∷◌, ◌++◌, Bool, true, false, Option, Some, None, Result, Ok, Err, refl, sym, ap, ◌∙◌, append_assoc}
+use Rattle.std.proofs.KnownBytes.{Appends-nil, Appends-trans}
+use Rattle.std.proofs.lemmas.List.{append-nil}
+use Rattle.std.specs.Io.KnownBytes.{Appends}
+use Rattle.nop_types.specs.Configuration.{Configuration}
+use Rattle.nop_types.specs.Meaning.{Meaning}
+use Rattle.schedule_text.specs.declared.event.Event.{Event}
+use Rattle.schedule_text.specs.declared.next_error.NextError.{NextError}
+use Rattle.schedule_text.specs.declared.next_error.NextError.TheVariants as nexts
+use Rattle.schedule_text.specs.Reading.{Reading, Turn, Takes, TakesOf, IsTurn, LeavesNone, MayFollow, turn, turn_of, turn_after, lines_before}
+use Rattle.schedule_text.specs.Transcript.{lines_text}
+use Rattle.world.specs.WorldSteps.{WorldState, Refusal, Happened, step}
+use Rattle.replay.specs.declared.error.ReplayError.{ReplayError}
+use Rattle.replay.specs.declared.error.ReplayError.TheVariants as errors
+use Rattle.replay.specs.Output.{BadLine, Output, bad_text, refused_line, ending, then_text, final_text, rest, output}
+use Rattle.replay.specs.Outcome.{AppendsFront, Done, Malformed, Interrupted, EndsWith}
+use Rattle.replay.specs.Progress.{Progress, Going, GoingOf, refused, after_step, after_turn, after_answer}
+use Rattle.replay.specs.Steps.{Fails, Writes, Refuses, Interrupts, Stops, Advances, RefusesStep, TakesEvent, bad_line}
+use Rattle.replay.proofs.Fronts.{front_nil, front_behind, front_longer}
+use Rattle.replay.proofs.Runs.{rest_is, turn_config}
+
+module _ {S : Type 0} (m : Meaning S) where
+  -- what is written for the whole input
+  pub whole : (bytes left : List ℕ) (before now : Option (List ℕ)) (pending : List ℕ) (r : Reading) (follows : Bool → List ℕ → Output)
+      (p : Progress m bytes left before now pending r follows) → output m true bytes ≡ then_text (p.written ++ pending) (follows true left)
+  whole bytes left before now pending r follows p = rw p.split (p.goes true left (record { nothing = p.end; end = λ e. refl }))
+
+  -- a front of what follows is a front of the whole output
+  pub fronts : (bytes left : List ℕ) (before now after : Option (List ℕ)) (pending : List ℕ) (r : Reading) (follows : Bool → List ℕ → Output) (t u : List ℕ)
+      → Progress m bytes left before now pending r follows → (follows true left).text ≡ t ++ u → AppendsFront now after (pending ++ t) → AppendsFront before after (output m true bytes).text
+  fronts bytes left before now after pending r follows t u p is f =
+      let longer = front_longer now after (pending ++ t) u f in
+      let all = front_behind before now after p.written ((pending ++ t) ++ u) p.wrote longer in
+      let text : (output m true bytes).text ≡ p.written ++ ((pending ++ t) ++ u) =
+          ap (λ (o : Output). o.text) (whole bytes left before now pending r follows p)
+          ∙ ap (λ (s : List ℕ). (p.written ++ pending) ++ s) is
+          ∙ append_assoc p.written pending (t ++ u)
+          ∙ ap (λ (s : List ℕ). p.written ++ s) (sym (append_assoc pending t u)) in
+      rw text all
+
+  -- nothing more was written
+  pub fronts_now : (bytes left : List ℕ) (before now : Option (List ℕ)) (pending : List ℕ) (r : Reading) (follows : Bool → List ℕ → Output)
+      → Progress m bytes left before now pending r follows → AppendsFront before now (output m true bytes).text
+  fronts_now bytes left before now pending r follows p =
+      fronts bytes left before now now pending r follows [] (follows true left).text p refl (front_nil now (pending ++ []))
+
+  pub fails_with : (bytes left : List ℕ) (before now after : Option (List ℕ)) (pending : List ℕ) (r : Reading) (follows : Bool → List ℕ → Output) (t u : List ℕ) (e : ReplayError)
+      → Progress m bytes left before now pending r follows → (follows true left).text ≡ t ++ u → Fails now after (pending ++ t) e → EndsWith m (Some bytes) (Some left) before after (Err e)
+  fails_with bytes left before now after pending r follows t u (errors.Malformed line rule) p is f = absurd f
+  fails_with bytes left before now after pending r follows t u errors.ReadFault p is f = absurd f
+  fails_with bytes left before now after pending r follows t u errors.WriteFault p is f = fronts bytes left before now after pending r follows t u p is f
+  fails_with bytes left before now after pending r follows t u errors.NoMemory p is f = fronts bytes left before now after pending r follows t u p is f
+
+  -- the rest of the output is an error line
+  pub refuses_with : (bytes left : List ℕ) (before now after : Option (List ℕ)) (pending : List ℕ) (r : Reading) (follows : Bool → List ℕ → Output) (b : BadLine) (e : ReplayError)
+      → Progress m bytes left before now pending r follows → ((more : List ℕ) → (r.ended ≡ true → more ≡ []) → follows true more ≡ refused b) → (r.ended ≡ true → left ≡ [])
+      → Refuses now after pending b e → EndsWith m (Some bytes) (Some left) before after (Err e)
+  refuses_with bytes left before now after pending r follows b (errors.Malformed line rule) p is end (line_is, rule_is, wrote) =
+      record {
+        taken = p.taken;
+        split = p.split;
+        ended = r.ended;
+        end = end;
+        bad = b;
+        line_is = line_is;
+        rule_is = rule_is;
+        text = p.written ++ (pending ++ bad_text b);
+        decides = λ more none.
+            p.goes true more (record { nothing = none; end = λ e. refl })
+            ∙ ap (then_text (p.written ++ pending)) (is more none)
+            ∙ ap (λ (t : List ℕ). record { text = t; bad = Some b }) (append_assoc p.written pending (bad_text b));
+        wrote = Appends-trans before now after p.written (pending ++ bad_text b) p.wrote wrote;
+      }
+  refuses_with bytes left before now after pending r follows b errors.ReadFault p is end f = absurd f
+  refuses_with bytes left before now after pending r follows b errors.WriteFault p is end f =
+      fronts bytes left before now after pending r follows (bad_text b) [] p (ap (λ (o : Output). o.text) (is left end) ∙ sym (append-nil (bad_text b))) f
+  refuses_with bytes left before now after pending r follows b errors.NoMemory p is end f =
+      fronts bytes left before now after pending r follows (bad_text b) [] p (ap (λ (o : Output). o.text) (is left end) ∙ sym (append-nil (bad_text b))) f
+
+  -- nothing is decided behind what was taken
+  pub interrupts_with : (bytes left : List ℕ) (before now after : Option (List ℕ)) (pending : List ℕ) (r : Reading) (follows : Bool → List ℕ → Output) (e : ReplayError)
+      → Progress m bytes left before now pending r follows → r.ended ≡ false → follows false [] ≡ record { text = []; bad = None }
+      → Interrupts now after pending e → EndsWith m (Some bytes) (Some left) before after (Err e)
+  interrupts_with bytes left before now after pending r follows (errors.Malformed line rule) p going is f = absurd f
+  interrupts_with bytes left before now after pending r follows errors.ReadFault p going is f =
+      let all : output m false p.taken ≡ record { text = (p.written ++ pending) ++ []; bad = None } =
+          ap (output m false) (sym (append-nil p.taken))
+          ∙ p.goes false [] (record { nothing = λ e. refl; end = λ e. absurd cc })
+          ∙ ap (then_text (p.written ++ pending)) is in
+      record {
+        taken = p.taken;
+        split = p.split;
+        wrote = rw (all, append-nil (p.written ++ pending)) (Appends-trans before now after p.written pending p.wrote f);
+      }
+  interrupts_with bytes left before now after pending r follows errors.WriteFault p going is f =
+      fronts bytes left before now after pending r follows [] (follows true left).text p refl (rw (append-nil pending) f)
+  interrupts_with bytes left before now after pending r follows errors.NoMemory p going is f =
+      fronts bytes left before now after pending r follows [] (follows true left).text p refl (rw (append-nil pending) f)
+
+  -- the input has ended
+  pub finishes : (bytes left : List ℕ) (before now after : Option (List ℕ)) (pending : List ℕ) (r : Reading) (follows : Bool → List ℕ → Output) (w : WorldState) (x : Result (Unit {0}) ReplayError)
+      → Progress m bytes left before now pending r follows → r.ended ≡ true → ((more : List ℕ) → follows true more ≡ record { text = ending true w None; bad = None })
+      → Writes now after (pending ++ final_text w) x → EndsWith m (Some bytes) (Some left) before after x
+  finishes bytes left before now after pending r follows w (Ok x) p ended is f =
+      let all = whole bytes left before now pending r follows p ∙ ap (then_text (p.written ++ pending)) (is left) in
+      let text : (output m true bytes).text ≡ p.written ++ (pending ++ final_text w) = ap (λ (o : Output). o.text) all ∙ append_assoc p.written pending (final_text w) in
+      record {
+        all = p.end ended;
+        good = ap (λ (o : Output). o.bad) all;
+        wrote = rw text (Appends-trans before now after p.written (pending ++ final_text w) p.wrote f);
+      }
+  finishes bytes left before now after pending r follows w (Err e) p ended is f =
+      fails_with bytes left before now after pending r follows (final_text w) [] e p (ap (λ (o : Output). o.text) (is left) ∙ sym (append-nil (final_text w))) f
+
+  -- ---- a turn of the reader
+
+  pub turned : (c : Configuration) (w : WorldState) (ended : Bool) (more : List ℕ) (r : Reading) (answer : Result (Option Event) NextError) (t : Turn) → IsTurn r ended more answer t
+      → after_turn m ended c w t ≡ after_answer m ended more c w r answer
+  turned c w ended more r (Ok (Some e)) t is = ap (after_turn m ended c w) is
+  turned c w ended more r (Ok None) t is = ap (after_turn m ended c w) is.0
+  turned c w ended more r (Err (nexts.BadLine line rule)) t is = ap (after_turn m ended c w) is.0 ∙ ap (λ (l : ℕ). refused (bad_line l rule)) (sym is.1)
+  turned c w ended more r (Err nexts.ReadFault) t is = ap (after_turn m ended c w) is
+  turned c w ended more r (Err nexts.NoMemory) t is = ap (after_turn m ended c w) is
+
+  -- the end of the source, told by one of two readings
+  pub end_of : (r s : Reading) (left rest taken : List ℕ) (answer : Result (Option Event) NextError) (b : Bool) → r.ended ≡ b → (r.ended ≡ true → left ≡ []) → left ≡ taken ++ rest
+      → Takes r s taken rest answer → s.ended ≡ true → rest ≡ []
+  end_of r s left rest taken answer false is end split k ended = k.end is ended
+  end_of r s left rest taken answer true is end split k ended = sym (sym (end is) ∙ split ∙ ap (λ (t : List ℕ). t ++ rest) ((k.after_end is).0))
+
+  pub may_follow : (r s : Reading) (rest taken more : List ℕ) (ended : Bool) (answer : Result (Option Event) NextError) → Takes r s taken rest answer → MayFollow s ended more → MayFollow r ended (taken ++ more)
+  may_follow r s rest taken more ended answer k may =
+      record {
+        nothing = λ e. ap (λ (t : List ℕ). t ++ more) ((k.after_end e).0) ∙ may.nothing ((k.after_end e).1);
+        end = λ e. may.end ((k.after_end e).1);
+      }
+
+  pub answered : (bytes left rest_left : List ℕ) (before now : Option (List ℕ)) (pending : List ℕ) (r s : Reading) (c : Configuration) (w : WorldState) (answer : Result (Option Event) NextError)
+      → Going m bytes left before now pending r c w → (taken : List ℕ) → left ≡ taken ++ rest_left → Takes r s taken rest_left answer
+      → Progress m bytes rest_left before now pending s (λ ended more. after_answer m ended more c w s answer)
+  answered bytes left rest_left before now pending r s c w answer going taken split k =
+      let p = going.progress in
+      record {
+        taken = p.taken ++ taken;
+        split = p.split ∙ ap (λ (l : List ℕ). p.taken ++ l) split ∙ sym (append_assoc p.taken taken rest_left);
+        end = end_of r s left rest_left taken answer r.ended refl p.end split k;
+        written = p.written;
+        wrote = p.wrote;
+        goes = λ ended more may.
+            let lines = lines_before r ended (taken ++ more) in
+            ap (output m ended) (append_assoc p.taken taken more)
+            ∙ p.goes ended (taken ++ more) (may_follow r s rest_left taken more ended answer k may)
+            ∙ ap (then_text (p.written ++ pending))
+                (rest_is m ended c w r.line lines
+                ∙ ap (λ (o : Option Configuration). after_turn m ended c w (turn o r.line lines)) (sym going.config)
+                ∙ turned c w ended more s answer (turn r.config r.line lines) (k.turn ended more may));
+      }
+
+  pub all_ended : (r : Reading) → MayFollow r true []
+  all_ended r = record { nothing = λ e. refl; end = λ e. refl }
+
+  pub none_follow : (r : Reading) → r.ended ≡ false → MayFollow r false []
+  none_follow r going = record { nothing = λ e. refl; end = λ e. absurd cc }
+
+  pub turn_keeps : (r : Reading) (c : Configuration) (ended : Bool) (more : List ℕ) → r.config ≡ Some c → (turn_of r ended more).config ≡ Some c
+  turn_keeps r c ended more is = ap (λ (o : Option Configuration). (turn o r.line (lines_before r ended more)).config) is ∙ turn_config c r.line (lines_before r ended more)
+
+  pub event_keeps : (r s : Reading) (c : Configuration) (taken left : List ℕ) (e : Event) → r.config ≡ Some c → Takes r s taken left (Ok (Some e)) → s.config ≡ Some c
+  event_keeps r s c taken left e is k = sym (ap (λ (t : Turn). t.config) (k.turn true [] (all_ended s))) ∙ turn_keeps r c true (taken ++ []) is
+
+  -- nothing is decided
+  pub nothing_left : (c : Configuration) (w : WorldState) (o : Option Configuration) (line : ℕ) → (turn o line []).config ≡ Some c → after_turn m false c w (turn o line []) ≡ record { text = []; bad = None }
+  nothing_left c w None line is = absurd cc
+  nothing_left c w (Some d) line is = refl
+
+  pub fault_follows : (r s : Reading) (c : Configuration) (w : WorldState) (taken left : List ℕ) → r.config ≡ Some c → Takes r s taken left (Err nexts.ReadFault) → LeavesNone s (Err nexts.ReadFault)
+      → after_turn m false c w (turn_of s false []) ≡ record { text = []; bad = None }
+  fault_follows r s c w taken left is k none =
+      let kept : (turn_of s false []).config ≡ Some c = sym (ap (λ (t : Turn). t.config) (k.turn false [] (none_follow s none.0))) ∙ turn_keeps r c false (taken ++ []) is in
+      ap (λ (ls : List (List ℕ)). after_turn m false c w (turn s.config s.line ls)) none.1
+      ∙ nothing_left c w s.config s.line (sym (ap (λ (ls : List (List ℕ)). (turn s.config s.line ls).config) none.1) ∙ kept)
+
+  -- ---- the steps of a replay
+
+  -- of a source that does not tell its bytes nothing is said
+  pub unknown_ends : (left before now : Option (List ℕ)) (x : Result (Unit {0}) ReplayError) → EndsWith m None left before now x
+  unknown_ends left before now (Ok x) = tt
+  unknown_ends left before now (Err (errors.Malformed line rule)) = tt
+  unknown_ends left before now (Err errors.ReadFault) = tt
+  unknown_ends left before now (Err errors.WriteFault) = tt
+  unknown_ends left before now (Err errors.NoMemory) = tt
+
+  pub starved : (bytes left : Option (List ℕ)) (before now : Option (List ℕ)) (pending : List ℕ) (r : Reading) (c : Configuration) (w : WorldState)
+      → GoingOf m bytes left before now pending r c w → EndsWith m bytes left before now (Err errors.NoMemory)
+  starved None left before now pending r c w going = tt
+  starved (Some bytes) None before now pending r c w going = absurd going
+  starved (Some bytes) (Some left) before now pending r c w going =
+      fronts_now bytes left before now pending r (λ ended more. rest m ended c w r.line (lines_before r ended more)) going.progress
+
+  pub starved_first : (bytes left before : Option (List ℕ)) → EndsWith m bytes left before before (Err errors.NoMemory)
+  starved_first None left before = tt
+  starved_first (Some bytes) left before = front_nil before (output m true bytes).text
+
+  pub stopped : (bytes left rest_left : Option (List ℕ)) (before now after : Option (List ℕ)) (pending : List ℕ) (r s : Reading) (c : Configuration) (w : WorldState) (e : NextError) (x : ReplayError)
+      → GoingOf m bytes left before now pending r c w → TakesOf r s left rest_left (Err e) → LeavesNone s (Err e) → Stops now after pending e x → EndsWith m bytes rest_left before after (Err x)
+  stopped None left rest_left before now after pending r s c w e x going took none f = unknown_ends rest_left before after (Err x)
+  stopped (Some bytes) None rest_left before now after pending r s c w e x going took none f = absurd going
+  stopped (Some bytes) (Some left) None before now after pending r s c w e x going took none f = absurd took
+  stopped (Some bytes) (Some left) (Some rest_left) before now after pending r s c w (nexts.BadLine line rule) x going took none f =
+      let p = answered bytes left rest_left before now pending r s c w (Err (nexts.BadLine line rule)) going took.0 took.1 took.2 in
+      refuses_with bytes rest_left before now after pending s _ (bad_line line rule) x p (λ more nothing. refl) p.end f
+  stopped (Some bytes) (Some left) (Some rest_left) before now after pending r s c w nexts.ReadFault x going took none f =
+      let p = answered bytes left rest_left before now pending r s c w (Err nexts.ReadFault) going took.0 took.1 took.2 in
+      interrupts_with bytes rest_left before now after pending s _ x p none.0 (fault_follows r s c w took.0 rest_left going.config took.2 none) f
+  stopped (Some bytes) (Some left) (Some rest_left) before now after pending r s c w nexts.NoMemory x going took none f =
+      let p = answered bytes left rest_left before now pending r s c w (Err nexts.NoMemory) going took.0 took.1 took.2 in
+      fails_with bytes rest_left before now after pending s _ [] _ x p refl (rw (append-nil pending) f)
+
+  pub finished : (bytes left rest_left : Option (List ℕ)) (before now after : Option (List ℕ)) (pending : List ℕ) (r s : Reading) (c : Configuration) (w : WorldState) (x : Result (Unit {0}) ReplayError)
+      → GoingOf m bytes left before now pending r c w → TakesOf r s left rest_left (Ok None) → Writes now after (pending ++ final_text w) x → EndsWith m bytes rest_left before after x
+  finished None left rest_left before now after pending r s c w x going took f = unknown_ends rest_left before after x
+  finished (Some bytes) None rest_left before now after pending r s c w x going took f = absurd going
+  finished (Some bytes) (Some left) None before now after pending r s c w x going took f = absurd took
+  finished (Some bytes) (Some left) (Some rest_left) before now after pending r s c w x going took f =
+      let p = answered bytes left rest_left before now pending r s c w (Ok None) going took.0 took.1 took.2 in
+      finishes bytes rest_left before now after pending s _ w x p ((took.2.turn true [] (all_ended s)).1) (λ more. refl) f
+
+  pub advances : (bytes left : List ℕ) (before now after : Option (List ℕ)) (pending new_pending : List ℕ) (r : Reading) (c : Configuration) (w v : WorldState) (e : Event)
+      → r.config ≡ Some c → Progress m bytes left before now pending r (λ ended more. after_answer m ended more c w r (Ok (Some e))) → Advances (step m w e) v now after pending new_pending
+      → Going m bytes left before after new_pending r c v
+  advances bytes left before now after pending new_pending r c w v e config p a =
+      let gathered : (p.written ++ pending) ++ lines_text a.lines ≡ (p.written ++ a.written) ++ new_pending =
+          append_assoc p.written pending (lines_text a.lines) ∙ ap (λ (t : List ℕ). p.written ++ t) (sym a.text) ∙ sym (append_assoc p.written a.written new_pending) in
+      record {
+        config = config;
+        progress = record {
+          taken = p.taken;
+          split = p.split;
+          end = p.end;
+          written = p.written ++ a.written;
+          wrote = Appends-trans before now after p.written a.written p.wrote a.wrote;
+          goes = λ ended more may.
+              let lines = lines_before r ended more in
+              let after_it = rest m ended c v r.line lines in
+              let text : (p.written ++ pending) ++ (lines_text a.lines ++ after_it.text) ≡ ((p.written ++ a.written) ++ new_pending) ++ after_it.text =
+                  sym (append_assoc (p.written ++ pending) (lines_text a.lines) after_it.text) ∙ ap (λ (t : List ℕ). t ++ after_it.text) gathered in
+              p.goes ended more may
+              ∙ ap (λ (q : Result Happened Refusal). then_text (p.written ++ pending) (after_step m ended c r.line lines q)) a.is
+              ∙ ap (λ (t : List ℕ). record { text = t; bad = after_it.bad }) text;
+        };
+      }
+
+  pub advanced : (bytes left rest_left : Option (List ℕ)) (before now after : Option (List ℕ)) (pending new_pending : List ℕ) (r s : Reading) (c : Configuration) (w v : WorldState) (e : Event)
+      → GoingOf m bytes left before now pending r c w → TakesOf r s left rest_left (Ok (Some e)) → Advances (step m w e) v now after pending new_pending
+      → GoingOf m bytes rest_left before after new_pending s c v
+  advanced None left rest_left before now after pending new_pending r s c w v e going took a = tt
+  advanced (Some bytes) None rest_left before now after pending new_pending r s c w v e going took a = absurd going
+  advanced (Some bytes) (Some left) None before now after pending new_pending r s c w v e going took a = absurd took
+  advanced (Some bytes) (Some left) (Some rest_left) before now after pending new_pending r s c w v e going took a =
+      let p = answered bytes left rest_left before now pending r s c w (Ok (Some e)) going took.0 took.1 took.2 in
+      advances bytes rest_left before now after pending new_pending s c w v e (event_keeps r s c took.0 rest_left e going.config took.2) p a
+
+  pub step_refused : (bytes left : List ℕ) (before now after : Option (List ℕ)) (pending : List ℕ) (r : Reading) (c : Configuration) (w : WorldState) (e : Event) (q : Result Happened Refusal) (x : ReplayError)
+      → step m w e ≡ q → Progress m bytes left before now pending r (λ ended more. after_answer m ended more c w r (Ok (Some e))) → RefusesStep now after pending r.line q x
+      → EndsWith m (Some bytes) (Some left) before after (Err x)
+  step_refused bytes left before now after pending r c w e (Ok h) x is p f =
+      let lines = lines_before r true left in
+      fails_with bytes left before now after pending r _ (lines_text h.lines) (rest m true c h.world r.line lines).text x p (ap (λ (q : Result Happened Refusal). (after_step m true c r.line lines q).text) is) f
+  step_refused bytes left before now after pending r c w e (Err refusal) x is p f =
+      refuses_with bytes left before now after pending r _ (refused_line r.line refusal) x p (λ more nothing. ap (after_step m true c r.line (lines_before r true more)) is) p.end f
+
+  pub refused_event : (bytes left rest_left : Option (List ℕ)) (before now after : Option (List ℕ)) (pending : List ℕ) (r s : Reading) (c : Configuration) (w : WorldState) (e : Event) (x : ReplayError)
+      → GoingOf m bytes left before now pending r c w → TakesOf r s left rest_left (Ok (Some e)) → RefusesStep now after pending s.line (step m w e) x → EndsWith m bytes rest_left before after (Err x)
+  refused_event None left rest_left before now after pending r s c w e x going took f = unknown_ends rest_left before after (Err x)
+  refused_event (Some bytes) None rest_left before now after pending r s c w e x going took f = absurd going
+  refused_event (Some bytes) (Some left) None before now after pending r s c w e x going took f = absurd took
+  refused_event (Some bytes) (Some left) (Some rest_left) before now after pending r s c w e x going took f =
+      step_refused bytes rest_left before now after pending s c w e (step m w e) x refl (answered bytes left rest_left before now pending r s c w (Ok (Some e)) going took.0 took.1 took.2) f

@@ -1,0 +1,7 @@
+use Rattle.std.proofs.Common.{◌≡◌, ◌+◌, ◌++◌, drop}
+use Rattle.replay.specs.Output.{history_text}
+use Rattle.replay.proofs.final_lines.history_lines.Given as goal
+
+-- what was put and what is left are all
+abbrev pub invariant-loop-i : goal.invariant-loop-i
+invariant-loop-i l = l.to.items ++ history_text (l.i + 1) (drop l.i l.requests) ≡ l.initial.to.items ++ history_text 1 l.requests

@@ -1,0 +1,4 @@
+pub mod Outcome
+pub mod Output
+pub mod Progress
+pub mod Steps

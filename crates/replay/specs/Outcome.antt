@@ -1,0 +1,71 @@
+-- How a replay ends.
+use Rattle.std.specs.Prelude.{◌≡◌, ℕ, List, [], ◌++◌, Bool, true, false, Option, Some, None, Result, Ok, Err, ⊤}
+use Rattle.std.specs.Io.KnownBytes.{Appends}
+use Rattle.nop_types.specs.Meaning.{Meaning}
+use Rattle.replay.specs.declared.error.ReplayError.{ReplayError}
+use Rattle.replay.specs.declared.error.ReplayError.TheVariants as errors
+use Rattle.replay.specs.Output.{BadLine, Output, output}
+
+-- a front of the text was written, perhaps all of it
+pub record AppendsFront (before now : Option (List ℕ)) (text : List ℕ) : Type 0 where
+  pub front : List ℕ
+  pub behind : List ℕ
+  pub split : text ≡ front ++ behind
+  pub wrote : Appends before now front
+
+module _ {S : Type 0} (m : Meaning S) where
+  -- all bytes were taken, none of their lines is bad, and their output was written
+  pub record Done (bytes left : List ℕ) (before now : Option (List ℕ)) : Type 0 where
+    pub all : left ≡ []
+    pub good : (output m true bytes).bad ≡ None
+    pub wrote : Appends before now (output m true bytes).text
+
+  -- The bytes taken decide a bad line, whatever would follow them, and the output up to it was written. Where the source had
+  -- ended, nothing follows.
+  pub record Malformed (line rule : ℕ) (bytes left : List ℕ) (before now : Option (List ℕ)) : Type 0 where
+    pub taken : List ℕ
+    pub split : bytes ≡ taken ++ left
+    pub ended : Bool
+    pub end : ended ≡ true → left ≡ []
+    pub bad : BadLine
+    pub line_is : bad.line ≡ line
+    pub rule_is : bad.rule ≡ rule
+    pub text : List ℕ
+    pub decides : (more : List ℕ) → (ended ≡ true → more ≡ []) → output m true (taken ++ more) ≡ record { text = text; bad = Some bad }
+    pub wrote : Appends before now text
+
+  -- What was written are the lines that the bytes taken decide.
+  pub record Interrupted (bytes left : List ℕ) (before now : Option (List ℕ)) : Type 0 where
+    pub taken : List ℕ
+    pub split : bytes ≡ taken ++ left
+    pub wrote : Appends before now (output m false taken).text
+
+  -- ---- the same of a source that tells its bytes, or not
+
+  abbrev pub IsDone : Option (List ℕ) → Option (List ℕ) → Option (List ℕ) → Option (List ℕ) → Type 0
+  IsDone None left before now = ⊤
+  IsDone (Some bytes) None before now = ⊥
+  IsDone (Some bytes) (Some left) before now = Done bytes left before now
+
+  abbrev pub IsMalformed : ℕ → ℕ → Option (List ℕ) → Option (List ℕ) → Option (List ℕ) → Option (List ℕ) → Type 0
+  IsMalformed line rule None left before now = ⊤
+  IsMalformed line rule (Some bytes) None before now = ⊥
+  IsMalformed line rule (Some bytes) (Some left) before now = Malformed line rule bytes left before now
+
+  abbrev pub IsInterrupted : Option (List ℕ) → Option (List ℕ) → Option (List ℕ) → Option (List ℕ) → Type 0
+  IsInterrupted None left before now = ⊤
+  IsInterrupted (Some bytes) None before now = ⊥
+  IsInterrupted (Some bytes) (Some left) before now = Interrupted bytes left before now
+
+  -- a front of the output of the whole input was written
+  abbrev pub WroteFront : Option (List ℕ) → Option (List ℕ) → Option (List ℕ) → Type 0
+  WroteFront None before now = ⊤
+  WroteFront (Some bytes) before now = AppendsFront before now (output m true bytes).text
+
+  -- how a replay ended, by the bytes before it, those left, and what the sink held before and holds now
+  abbrev pub EndsWith : Option (List ℕ) → Option (List ℕ) → Option (List ℕ) → Option (List ℕ) → Result (Unit {0}) ReplayError → Type 0
+  EndsWith bytes left before now (Ok x) = IsDone bytes left before now
+  EndsWith bytes left before now (Err (errors.Malformed line rule)) = IsMalformed line rule bytes left before now
+  EndsWith bytes left before now (Err errors.ReadFault) = IsInterrupted bytes left before now
+  EndsWith bytes left before now (Err errors.WriteFault) = WroteFront bytes before now
+  EndsWith bytes left before now (Err errors.NoMemory) = WroteFront bytes before now

@@ -1,0 +1,64 @@
+-- The steps of a replay, by what they write.
+use Rattle.std.specs.Prelude.{◌≡◌, ℕ, List, [], ◌++◌, Option, Some, None, Result, Ok, Err}
+use Rattle.std.specs.Io.KnownBytes.{Appends}
+use Rattle.nop_types.specs.Lines.{Line}
+use Rattle.schedule_text.specs.declared.next_error.NextError.{NextError}
+use Rattle.schedule_text.specs.declared.next_error.NextError.TheVariants as nexts
+use Rattle.schedule_text.specs.Transcript.{lines_text}
+use Rattle.world.specs.WorldSteps.{WorldState, Refusal, Happened}
+use Rattle.replay.specs.declared.error.ReplayError.{ReplayError}
+use Rattle.replay.specs.declared.error.ReplayError.TheVariants as errors
+use Rattle.replay.specs.Output.{BadLine, bad_text, refused_line}
+use Rattle.replay.specs.Outcome.{AppendsFront}
+
+abbrev pub bad_line : ℕ → ℕ → BadLine
+bad_line line rule = record { line = line; rule = rule; index_sent = None }
+
+-- only a front was written
+abbrev pub Fails : Option (List ℕ) → Option (List ℕ) → List ℕ → ReplayError → Type 0
+Fails before now text (errors.Malformed line rule) = ⊥
+Fails before now text errors.ReadFault = ⊥
+Fails before now text errors.WriteFault = AppendsFront before now text
+Fails before now text errors.NoMemory = AppendsFront before now text
+
+-- all was written, or a front
+abbrev pub Writes : Option (List ℕ) → Option (List ℕ) → List ℕ → Result (Unit {0}) ReplayError → Type 0
+Writes before now text (Ok x) = Appends before now text
+Writes before now text (Err e) = Fails before now text e
+
+-- the error line was written and this line is told, or a front was written
+abbrev pub Refuses : Option (List ℕ) → Option (List ℕ) → List ℕ → BadLine → ReplayError → Type 0
+Refuses before now pending b (errors.Malformed line rule) = (b.line ≡ line) × (b.rule ≡ rule) × Appends before now (pending ++ bad_text b)
+Refuses before now pending b errors.ReadFault = ⊥
+Refuses before now pending b errors.WriteFault = AppendsFront before now (pending ++ bad_text b)
+Refuses before now pending b errors.NoMemory = AppendsFront before now (pending ++ bad_text b)
+
+-- what is gathered was written and the fault is told, or a front was written
+abbrev pub Interrupts : Option (List ℕ) → Option (List ℕ) → List ℕ → ReplayError → Type 0
+Interrupts before now pending (errors.Malformed line rule) = ⊥
+Interrupts before now pending errors.ReadFault = Appends before now pending
+Interrupts before now pending errors.WriteFault = AppendsFront before now pending
+Interrupts before now pending errors.NoMemory = AppendsFront before now pending
+
+-- an error of the reader ends the replay
+abbrev pub Stops : Option (List ℕ) → Option (List ℕ) → List ℕ → NextError → ReplayError → Type 0
+Stops before now pending (nexts.BadLine line rule) e = Refuses before now pending (bad_line line rule) e
+Stops before now pending nexts.ReadFault e = Interrupts before now pending e
+Stops before now pending nexts.NoMemory e = Fails before now pending e
+
+-- the event happened; its lines were gathered, and what was gathered is written or stays
+pub record Advances (r : Result Happened Refusal) (new : WorldState) (before now : Option (List ℕ)) (old_pending new_pending : List ℕ) : Type 0 where
+  pub lines : List Line
+  pub is : r ≡ Ok (record { world = new; lines = lines })
+  pub written : List ℕ
+  pub wrote : Appends before now written
+  pub text : written ++ new_pending ≡ old_pending ++ lines_text lines
+
+abbrev pub RefusesStep : Option (List ℕ) → Option (List ℕ) → List ℕ → ℕ → Result Happened Refusal → ReplayError → Type 0
+RefusesStep before now pending line (Ok h) e = Fails before now (pending ++ lines_text h.lines) e
+RefusesStep before now pending line (Err refusal) e = Refuses before now pending (refused_line line refusal) e
+
+-- the event of this line is taken, or ends the replay
+abbrev pub TakesEvent : Option (List ℕ) → Option (List ℕ) → List ℕ → List ℕ → ℕ → Result Happened Refusal → WorldState → Result (Unit {0}) ReplayError → Type 0
+TakesEvent before now old_pending new_pending line r new (Ok x) = Advances r new before now old_pending new_pending
+TakesEvent before now old_pending new_pending line r new (Err e) = RefusesStep before now old_pending line r e

@@ -1,0 +1,94 @@
+ghost use Rattle.std.specs.Prelude.{◌≡◌, ◌≤◌, ◌++◌};
+ghost use Rattle.outside.specs.Causes.{Rose, HasCauseFor};
+ghost use Rattle.world.specs.WorldSteps.{step};
+ghost use Rattle.replay.specs.Output.{final_text};
+ghost use Rattle.replay.specs.Steps.{Writes, Refuses, Stops, TakesEvent};
+
+use crate::error::ReplayError;
+use crate::final_lines::final_lines;
+use crate::writing::{GATHERED_BYTES, flush};
+use nop_types::Host;
+use outside::Sink;
+use schedule_text::{Event, NextError, error_line};
+use world::{StepError, World};
+
+const NO_SUCH_ACTOR: u8 = 7;
+
+const NO_SUCH_DATAGRAM: u8 = 8;
+
+/// Writes what was gathered and the error line.
+fn refuse<K: Sink>(
+    line: u32,
+    rule: u8,
+    index_sent: Option<(u64, u64)>,
+    pending: &mut Vec<u8>,
+    sink: &mut K,
+) -> ReplayError
+    ensures refuses { Refuses (K.held sink.old) (K.held sink.new) pending.old.items (record { line = line; rule = rule; index_sent = index_sent }) result }
+    ensures later { K.fault_count sink.old ≤ K.fault_count sink.new }
+    ensures cause { result ≡ ReplayError.WriteFault → Rose (K.fault_count sink.old) (K.fault_count sink.new) }
+{
+    if error_line(line, rule, index_sent, pending).is_err() {
+        return ReplayError::NoMemory;
+    }
+    match flush(sink, pending) {
+        Ok(()) => ReplayError::Malformed { line, rule },
+        Err(e) => e,
+    }
+}
+
+/// The reader gave no event: what was gathered is written, and the line that is bad is told.
+pub fn stop<K: Sink>(error: NextError, pending: &mut Vec<u8>, sink: &mut K) -> ReplayError
+    ensures stops { Stops (K.held sink.old) (K.held sink.new) pending.old.items error result }
+    ensures later { K.fault_count sink.old ≤ K.fault_count sink.new }
+    ensures cause { result ≡ ReplayError.WriteFault → Rose (K.fault_count sink.old) (K.fault_count sink.new) }
+{
+    match error {
+        NextError::BadLine { line, rule } => refuse(line, rule, None, pending, sink),
+        NextError::ReadFault => match flush(sink, pending) {
+            Ok(()) => ReplayError::ReadFault,
+            Err(e) => e,
+        },
+        NextError::NoMemory => ReplayError::NoMemory,
+    }
+}
+
+/// One event; `line` is the number of its line.
+pub fn take_event<H: Host, K: Sink>(
+    line: u32,
+    event: &Event,
+    world: &mut World<H>,
+    pending: &mut Vec<u8>,
+    sink: &mut K,
+) -> Result<(), ReplayError>
+    ensures takes { TakesEvent (K.held sink.old) (K.held sink.new) pending.old.items pending.new.items line (step H.meaning world.old.state event.now) world.new.state result }
+    ensures cause { HasCauseFor (K.fault_count sink.old) (K.fault_count sink.new) ReplayError.WriteFault result }
+{
+    match world.step(event) {
+        Ok(lines) => {
+            pending.extend_from_slice(lines.text.as_slice())?;
+            if pending.len() >= GATHERED_BYTES {
+                flush(sink, pending)?;
+            }
+            Ok(())
+        }
+        Err(StepError::NoSuchActor) => Err(refuse(line, NO_SUCH_ACTOR, None, pending, sink)),
+        Err(StepError::NoSuchDatagram { index, sent }) => {
+            Err(refuse(line, NO_SUCH_DATAGRAM, Some((index, sent)), pending, sink))
+        }
+        Err(StepError::NoMemory) => Err(ReplayError::NoMemory),
+    }
+}
+
+/// The end of the input.
+pub fn finish<H: Host, K: Sink>(
+    world: &World<H>,
+    pending: &mut Vec<u8>,
+    sink: &mut K,
+) -> Result<(), ReplayError>
+    ensures writes { Writes (K.held sink.old) (K.held sink.new) (pending.old.items ++ final_text world.now.state) result }
+    ensures cause { HasCauseFor (K.fault_count sink.old) (K.fault_count sink.new) ReplayError.WriteFault result }
+{
+    final_lines(world, pending)?;
+    flush(sink, pending)
+}

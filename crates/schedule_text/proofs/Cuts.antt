@@ -1,0 +1,66 @@
+-- Where lines are cut.
+use Rattle.std.proofs.Common.{◌≡◌, ◌≢◌, ℕ, zero, suc, ◌+◌, ◌<◌, ◌≤◌, Bool, true, false, eqb, ltb, leb, List, [], ◌∷◌, ◌++◌, length, get_or, take, drop, refl, sym, ap, ◌∙◌, arith, append_assoc}
+use Rattle.std.proofs.lemmas.List.{append-nil, length-append, length_push}
+use Rattle.std.proofs.lemmas.Bool.Decides.{nat_tests}
+use Rattle.schedule_text.specs.Cutting.{lines_on, lines_of, last_line}
+use Rattle.schedule_text.specs.Deciding.{HasNoEnd}
+
+none_here : (b : ℕ) (line : List ℕ) → HasNoEnd (length (b ∷ line)) (b ∷ line) → b ≢ 10
+none_here b line none = none 0 (omega arith)
+
+none_later : (b : ℕ) (line : List ℕ) → HasNoEnd (length (b ∷ line)) (b ∷ line) → HasNoEnd (length line) line
+none_later b line none = λ k below. none (suc k) (omega arith)
+
+-- ---- where the schedule may have more lines
+
+module _ (ended : Bool) (before : ℕ) (fits : before < 1000000) where
+  below : leb 1000000 before ≡ false
+  below = grind (arith, nat_tests)
+
+  at_end : (line rest : List ℕ) → lines_on ended before line (10 ∷ rest) ≡ line ∷ lines_on ended (before + 1) [] rest
+  at_end line rest = rw below refl
+
+  goes_on : (line rest : List ℕ) (b : ℕ) → b ≢ 10 → length line < 4096 → lines_on ended before line (b ∷ rest) ≡ lines_on ended before (line ++ b ∷ []) rest
+  goes_on line rest b other short =
+      let not_end : eqb b 10 ≡ false = grind (arith, nat_tests) in
+      let not_full : eqb (length line) 4096 ≡ false = grind (arith, nat_tests) in
+      rw (below, not_end, not_full) refl
+
+  too_long : (line rest : List ℕ) (b : ℕ) → b ≢ 10 → length line ≡ 4096 → lines_on ended before line (b ∷ rest) ≡ (line ++ b ∷ []) ∷ []
+  too_long line rest b other full =
+      let not_end : eqb b 10 ≡ false = grind (arith, nat_tests) in
+      let is_full : eqb (length line) 4096 ≡ true = grind (arith, nat_tests) in
+      rw (below, not_end, is_full) refl
+
+  -- a line end cuts the line that stands before it
+  pub cut_end : (so_far line rest : List ℕ) → HasNoEnd (length line) line → length so_far + length line ≤ 4096
+      → lines_on ended before so_far (line ++ 10 ∷ rest) ≡ (so_far ++ line) ∷ lines_on ended (before + 1) [] rest
+  cut_end so_far [] rest none short = rw (append-nil so_far) (at_end so_far rest)
+  cut_end so_far (b ∷ line) rest none short =
+      goes_on so_far (line ++ 10 ∷ rest) b (none_here b line none) (omega arith)
+          ∙ cut_end (so_far ++ b ∷ []) line rest (none_later b line none) (omega (arith, length_push so_far b))
+          ∙ ap (λ (xs : List ℕ). xs ∷ lines_on ended (before + 1) [] rest) (append_assoc so_far (b ∷ []) line)
+
+  -- a line is cut at the first byte that it may not have
+  pub cut_long : (so_far line rest : List ℕ) → HasNoEnd (length line) line → length so_far ≤ 4096 → length so_far + length line ≡ 4097
+      → lines_on ended before so_far (line ++ rest) ≡ (so_far ++ line) ∷ []
+  cut_long so_far [] rest none short full = absurd (omega arith)
+  cut_long so_far (b ∷ []) rest none short full = too_long so_far rest b (none_here b [] none) (omega arith)
+  cut_long so_far (b ∷ c ∷ line) rest none short full =
+      goes_on so_far (c ∷ line ++ rest) b (none_here b (c ∷ line) none) (omega arith)
+          ∙ cut_long (so_far ++ b ∷ []) (c ∷ line) rest (none_later b (c ∷ line) none) (omega (arith, length_push so_far b)) (omega (arith, length_push so_far b))
+          ∙ ap (λ (xs : List ℕ). xs ∷ []) (append_assoc so_far (b ∷ []) (c ∷ line))
+
+  -- with neither there is what the end makes of it
+  pub cut_last : (so_far line : List ℕ) → HasNoEnd (length line) line → length so_far + length line ≤ 4096 → lines_on ended before so_far line ≡ last_line ended (so_far ++ line)
+  cut_last so_far [] none short = rw (append-nil so_far) refl
+  cut_last so_far (b ∷ line) none short =
+      goes_on so_far line b (none_here b line none) (omega arith)
+          ∙ cut_last (so_far ++ b ∷ []) line (none_later b line none) (omega (arith, length_push so_far b))
+          ∙ ap (last_line ended) (append_assoc so_far (b ∷ []) line)
+
+-- the first byte past the last line that a schedule may have
+pub cut_past : (ended : Bool) (before : ℕ) (b : ℕ) (rest : List ℕ) → 1000000 ≤ before → lines_on ended before [] (b ∷ rest) ≡ (b ∷ []) ∷ []
+cut_past ended before b rest past =
+    let above : leb 1000000 before ≡ true = grind (arith, nat_tests) in
+    rw above refl

@@ -1,0 +1,42 @@
+-- The steps of a reader on the way to an answer.
+use Rattle.std.specs.Prelude.{◌≡◌, ◌≢◌, ℕ, ◌≤◌, ◌↔◌, ◌⊎◌, List, [], Bool, true, false, Option, Some, None, Result, Ok, Err, IsNone}
+use Rattle.nop_types.specs.declared.limits.TheConstants.{MAX_LINES}
+use Rattle.nop_types.specs.Configuration.{Configuration}
+use Rattle.schedule_text.specs.declared.event.Event.{Event}
+use Rattle.schedule_text.specs.declared.first_line.FirstLine.{FirstLine}
+use Rattle.schedule_text.specs.declared.next_error.NextError.{NextError}
+use Rattle.schedule_text.specs.declared.next_error.NextError.TheVariants.{NoMemory}
+use Rattle.schedule_text.specs.Deciding.{IsSearched, IsFirstLine}
+use Rattle.schedule_text.specs.Reading.{Reading, MayFollow, IsTurn, lines_before, turn_of}
+
+-- what a reader keeps: which bytes were searched, and a configuration from line 1 on
+pub record IsReader (searched line : ℕ) (pending : List ℕ) (config : Option Configuration) : Type 0 where
+  pub bytes : IsSearched searched pending
+  pub most : line ≤ MAX_LINES
+  pub opened : IsNone config ↔ (line ≡ 0)
+
+-- a step that went well leaves what comes next as it was, as want of memory does
+abbrev pub after_step : {A : Type 0} → Result A NextError → Result (Option Event) NextError
+after_step (Ok x) = Err NoMemory
+after_step (Err e) = Err e
+
+abbrev pub answer_with : Result Event NextError → Result (Option Event) NextError
+answer_with (Ok e) = Ok (Some e)
+answer_with (Err e) = Err e
+
+-- a step without the source
+pub record Answers (old new : Reading) (answer : Result (Option Event) NextError) : Type 0 where
+  pub ended : new.ended ≡ old.ended
+  pub turn : (ended : Bool) (more : List ℕ) → MayFollow new ended more → IsTurn new ended more answer (turn_of old ended more)
+
+abbrev pub IsFirst : Reading → FirstLine → Type 0
+IsFirst r first = IsFirstLine r.line r.ended r.pending first
+
+-- the first line or the end is there, so that nothing has to be read
+abbrev pub NeedsNoRead : Reading → Type 0
+NeedsNoRead r = (r.ended ≡ true) ⊎ (lines_before r false [] ≢ [])
+
+-- the first line, or the end
+abbrev pub Reaches : Reading → Option FirstLine → Type 0
+Reaches r None = (r.ended ≡ true) × (r.pending ≡ [])
+Reaches r (Some first) = IsFirst r first

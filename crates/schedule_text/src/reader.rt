@@ -1,0 +1,203 @@
+ghost use Rattle.std.specs.Prelude.{◌≡◌, ◌≢◌, ◌+◌, ◌≤◌, ◌<◌, ◌↔◌, ◌⊎◌, false, true, [], length, Some, None, Err, IsNone, IsSome, IfOk, OnOk, OnErr, MatchOption};
+ghost use Rattle.nop_types.specs.declared.limits.TheConstants.{MAX_LINES};
+ghost use Rattle.outside.specs.Causes.{HasCauseFor};
+ghost use Rattle.schedule_text.specs.Deciding.{IsUndecided};
+ghost use Rattle.schedule_text.specs.Reading.{opening, lines_before, TakesOf, LeavesNone};
+ghost use Rattle.schedule_text.specs.Stepping.{after_step, answer_with, Answers, IsFirst, NeedsNoRead, Reaches};
+
+use crate::buffer::Buffer;
+use crate::first_line::{FirstLine, first_line};
+use crate::line_error::LineError;
+use crate::rules::{event, header};
+use crate::{Event, NextError};
+use nop_types::Config;
+use outside::Source;
+use std::alloc::Global;
+use std::marker::Model;
+
+#[cfg(test)]
+mod tests;
+
+/// The rule that line 1 breaks where there are no bytes.
+const NO_FIRST_LINE: u8 = 3;
+
+/// Reads the events of a schedule, line by line. It asks a source for pieces of at most 4,096 bytes, and only while no further
+/// line is decided: a line is decided by its end, by a byte more than a line or a line more than a schedule may have, or by
+/// the end of the source.
+#[derive(Debug, Drop)]
+pub struct Reader {
+    alloc: Global,
+    buffer: Buffer,
+    searched: usize,
+    config: Option<Config>,
+    line: u32,
+    ended: bool,
+}
+
+impl Model for Reader {
+    ghost use Rattle.schedule_text.specs.Reading.{Reading};
+    ghost use Rattle.schedule_text.specs.Stepping.{IsReader};
+
+    ghost Value = { Reading };
+
+    ghost view = { λ r. record { config = r.config; line = r.line; pending = r.buffer; ended = r.ended } };
+
+    ghost invariant = { λ r. IsReader r.searched r.line r.buffer r.config };
+}
+
+impl Reader {
+    /// A reader that took nothing. It takes no memory.
+    pub fn new(alloc: Global) -> Reader
+        ensures { result ≡ opening }
+    {
+        Reader {
+            alloc,
+            buffer: Buffer::new(alloc),
+            searched: 0,
+            config: None,
+            line: 0,
+            ended: false,
+        }
+    }
+
+    /// What line 1 says, None until it was taken.
+    pub fn config(&self) -> Option<Config>
+        ensures value { result ≡ self.now.config }
+        ensures none { IsNone result ↔ (self.now.line ≡ 0) }
+    {
+        self.config
+    }
+
+    /// The number of lines taken.
+    pub fn line(&self) -> u32
+        ensures value { result ≡ self.now.line }
+        ensures most { result ≤ MAX_LINES }
+    {
+        self.line
+    }
+
+    /// The event of the next line, None at the end of the source. A line that breaks a rule is not taken. After a fault or want of
+    /// memory nothing that was taken is lost, and the next call goes on.
+    pub fn next<S: Source>(&mut self, source: &mut S) -> Result<Option<Event>, NextError>
+        ensures takes { TakesOf self.old self.new (S.left source.old) (S.left source.new) result }
+        ensures none_left { LeavesNone self.new result }
+        ensures cause { HasCauseFor (S.fault_count source.old) (S.fault_count source.new) NextError.ReadFault result }
+
+        // The source is not asked after its end, nor where a line behind line 1 is decided.
+        ensures after_end { self.old.ended ≡ true → source.new ≡ source.old }
+        ensures unread { IsSome self.old.config → lines_before self.old false [] ≢ [] → source.new ≡ source.old }
+    {
+        let config = self.open(source)?;
+        match self.reach_line(source)? {
+            None => Ok(None),
+            Some(first) => Ok(Some(self.take_event(config, first)?)),
+        }
+    }
+
+    /// What line 1 says; takes it if it was not taken.
+    pub fn open<S: Source>(&mut self, source: &mut S) -> Result<Config, NextError>
+        ensures config { IfOk result (λ c. self.new.config ≡ Some c) }
+        ensures closed { OnErr result (self.new.config ≡ self.old.config) }
+        ensures takes { TakesOf self.old self.new (S.left source.old) (S.left source.new) (after_step result) }
+        ensures none_left { LeavesNone self.new (after_step result) }
+        ensures cause { HasCauseFor (S.fault_count source.old) (S.fault_count source.new) NextError.ReadFault result }
+        ensures after_end { self.old.ended ≡ true → (source.new ≡ source.old) × (self.new.ended ≡ true) }
+        ensures unread { IsSome self.old.config → (source.new ≡ source.old) × (self.new ≡ self.old) }
+    {
+        if let Some(config) = self.config {
+            return Ok(config);
+        }
+        match self.reach_line(source)? {
+            None => Err(self.bad_line(NO_FIRST_LINE)),
+            Some(first) => self.take_header(first),
+        }
+    }
+
+    /// Reads until the first line is decided; None at the end of the source.
+    fn reach_line<S: Source>(&mut self, source: &mut S) -> Result<Option<FirstLine>, NextError>
+        ensures line { IfOk result (Reaches self.new) }
+        ensures config { self.new.config ≡ self.old.config }
+        ensures takes { TakesOf self.old self.new (S.left source.old) (S.left source.new) (after_step result) }
+        ensures none_left { LeavesNone self.new (after_step result) }
+        ensures cause { HasCauseFor (S.fault_count source.old) (S.fault_count source.new) NextError.ReadFault result }
+        ensures unread { NeedsNoRead self.old → (source.new ≡ source.old) × (self.new ≡ self.old) }
+    {
+        loop {
+            if let Some(first) = self.first_line() {
+                return Ok(Some(first));
+            }
+            if self.ended {
+                return Ok(None);
+            }
+            self.read_piece(source)?;
+        }
+    }
+
+    fn first_line(&self) -> Option<FirstLine>
+        ensures { MatchOption result (IsUndecided self.now.line self.now.ended self.now.pending) (IsFirst self.now) }
+    {
+        first_line(self.line, self.ended, self.searched, self.buffer.as_slice())
+    }
+
+    fn read_piece<S: Source>(&mut self, source: &mut S) -> Result<(), NextError>
+        requires undecided { IsUndecided self.old.line self.old.ended self.old.pending }
+        requires going { self.old.ended ≡ false }
+        ensures more { OnOk result ((self.new.ended ≡ true) ⊎ (length self.old.pending < length self.new.pending)) }
+        ensures config { self.new.config ≡ self.old.config }
+        ensures takes { TakesOf self.old self.new (S.left source.old) (S.left source.new) (after_step result) }
+        ensures kept { OnErr result (self.new ≡ self.old) }
+        ensures cause { HasCauseFor (S.fault_count source.old) (S.fault_count source.new) NextError.ReadFault result }
+    {
+        self.searched = self.buffer.as_slice().len();
+        let count = self.buffer.fill(source)?;
+        self.ended = count == 0;
+        Ok(())
+    }
+
+    fn take_header(&mut self, first: FirstLine) -> Result<Config, NextError>
+        requires first { IsFirst self.old first }
+        requires config { self.old.config ≡ None }
+        ensures config { IfOk result (λ c. self.new.config ≡ Some c) }
+        ensures kept { OnErr result (self.new ≡ self.old) }
+        ensures answers { Answers self.old self.new (after_step result) }
+        ensures no_fault { result ≢ Err NextError.ReadFault }
+    {
+        match header(&self.buffer.as_slice()[..first.len]) {
+            Ok(config) => {
+                self.buffer.advance(first.end);
+                self.searched = 0;
+                self.line += 1;
+                self.config = Some(config);
+                Ok(config)
+            }
+            Err(rule) => Err(self.bad_line(rule)),
+        }
+    }
+
+    fn take_event(&mut self, config: Config, first: FirstLine) -> Result<Event, NextError>
+        requires first { IsFirst self.old first }
+        requires config { self.old.config ≡ Some config }
+        ensures answers { Answers self.old self.new (answer_with result) }
+        ensures no_fault { result ≢ Err NextError.ReadFault }
+    {
+        let line = &self.buffer.as_slice()[..first.len];
+        match event(self.alloc, config, self.line, line) {
+            Ok(event) => {
+                self.buffer.advance(first.end);
+                self.searched = 0;
+                self.line += 1;
+                Ok(event)
+            }
+            Err(LineError::Rule(rule)) => Err(self.bad_line(rule)),
+            Err(LineError::NoMemory) => Err(NextError::NoMemory),
+        }
+    }
+
+    /// The next line breaks the rule.
+    fn bad_line(&self, rule: u8) -> NextError
+        ensures { result ≡ NextError.BadLine (self.now.line + 1) rule }
+    {
+        let line = self.line + 1;
+        NextError::BadLine { line, rule }
+    }
+}

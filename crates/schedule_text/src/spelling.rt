@@ -1,0 +1,95 @@
+//! What single fields spell.
+
+ghost use Rattle.std.specs.Prelude.{◌≡◌, ◌*◌, ◌≤◌, length, IfOk};
+ghost use Rattle.schedule_text.specs.Fields.{actor_of, bytes_of, digit_on, number_of, number_on, number_below};
+
+use crate::split::is_word;
+use nop_types::{Actor, Config, MAX_OP_BYTES, NoMemory, Op};
+use std::alloc::Global;
+
+fn digit(n: u64, d: u8) -> Option<u64>
+    ensures { result ≡ digit_on n d }
+{
+    if !(b'0'..=b'9').contains(&d) {
+        return None;
+    }
+    n.checked_mul(10)?.checked_add(u64::from(d - b'0'))
+}
+
+fn digits(text: &[u8]) -> Option<u64>
+    ensures { result ≡ number_on (Some 0) text.now }
+{
+    let mut n = 0u64;
+    for d in text {
+        match digit(n, *d) {
+            Some(more) => n = more,
+            None => return None,
+        }
+    }
+    Some(n)
+}
+
+/// A number of 64 bits in decimal, without leading zeros.
+#[tactic(auto, unfolding(crate::specs::Fields::number_of))]
+pub fn number(field: &[u8]) -> Option<u64>
+    ensures { result ≡ number_of field.now }
+{
+    match field {
+        [] | [b'0', _, ..] => None,
+        _ => digits(field),
+    }
+}
+
+/// A number below a limit.
+pub fn small_number(limit: u16, field: &[u8]) -> Option<u8>
+    requires { limit ≤ 256 }
+    ensures { result ≡ number_below limit field.now }
+{
+    let n = number(field)?;
+    if n < u64::from(limit) {
+        Some(n as u8)
+    } else {
+        None
+    }
+}
+
+fn numbered(count: u8, digits: &[u8]) -> Option<u8>
+    ensures { result ≡ number_below count digits.now }
+{
+    small_number(u16::from(count), digits)
+}
+
+/// An actor of the configuration.
+#[tactic(auto, unfolding(crate::specs::Fields::actor_of))]
+pub fn actor(config: Config, field: &[u8]) -> Option<Actor>
+    ensures { result ≡ actor_of config field.now }
+{
+    if is_word(field, "ctl") {
+        return Some(Actor::Controller);
+    }
+    match field {
+        [b'r', digits @ ..] => Some(Actor::Replica(numbered(config.replicas(), digits)?)),
+        [b's', digits @ ..] => Some(Actor::Sequencer(numbered(config.sequencers(), digits)?)),
+        [b'c', digits @ ..] => Some(Actor::Client(u32::from(numbered(config.clients(), digits)?))),
+        _ => None,
+    }
+}
+
+/// An op in hexadecimal, `-` for no bytes.
+#[tactic(auto, unfolding(crate::specs::Fields::bytes_of))]
+pub fn op(alloc: Global, field: &[u8]) -> Result<Option<Op>, NoMemory>
+    requires { length field.now ≤ 2 * MAX_OP_BYTES }
+    ensures { IfOk result (λ op. op ≡ bytes_of field.now) }
+{
+    if field.is_empty() {
+        return Ok(None);
+    }
+    if is_word(field, "-") {
+        return Ok(Some(Op::from_vec(Vec::new(alloc))));
+    }
+    match hex::decode(alloc, field) {
+        Ok(bytes) => Ok(Some(Op::from_vec(bytes))),
+        Err(hex::FromHexError::OutOfMemory) => Err(NoMemory),
+        Err(_) => Ok(None),
+    }
+}

@@ -1,0 +1,19 @@
+-- The lines that show the replicas at the end of a run.
+use Rattle.std.specs.Prelude.{ℕ, ◌+◌, List, [], ◌∷◌, ◌++◌, length, take}
+use Rattle.nop_types.specs.declared.request.Entry.{Entry}
+use Rattle.schedule_text.specs.Transcript.{replica_line, entry_line}
+use Rattle.world.specs.declared.replica_state.ReplicaState.{ReplicaState}
+use Rattle.world.specs.Seats.{Seated}
+
+abbrev pub entries_text : ℕ → ℕ → List Entry → List ℕ
+entries_text replica slot [] = []
+entries_text replica slot (e ∷ es) = entry_line replica slot e ++ entries_text replica (slot + 1) es
+
+-- a replica, and then each slot up to its sync point
+abbrev pub replica_text : ℕ → Seated ReplicaState → List ℕ
+replica_text i p =
+    replica_line i p.crashed p.state.status p.state.view (length p.state.log) p.state.sync_point ++ entries_text i 1 (take p.state.sync_point p.state.log)
+
+abbrev pub replicas_text : ℕ → List (Seated ReplicaState) → List ℕ
+replicas_text i [] = []
+replicas_text i (p ∷ ps) = replica_text i p ++ replicas_text (i + 1) ps

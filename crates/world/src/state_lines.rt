@@ -1,0 +1,60 @@
+ghost use Rattle.std.specs.Prelude.{◌≡◌, ◌≤◌, ◌++◌, OnOk, length, map, take};
+ghost use Rattle.world.specs.SeatOutcomes.{seated_of};
+ghost use Rattle.world.specs.StateLines.{entries_text, replica_text, replicas_text};
+
+use crate::replica::Replica;
+use crate::seat::Seat;
+use nop_types::{Entry, Host, MAX_SLOTS, NoMemory};
+use schedule_text::{entry_line, replica_line};
+
+fn put_entries(replica: u8, entries: &[Entry], to: &mut Vec<u8>) -> Result<(), NoMemory>
+    requires { length entries.now ≤ MAX_SLOTS }
+    ensures { OnOk result (to.new.items ≡ to.old.items ++ entries_text replica 1 entries.now) }
+{
+    for (i, entry) in entries.iter().enumerate() {
+        entry_line(replica, i as u32 + 1, entry, to)?;
+    }
+    Ok(())
+}
+
+/// The first entries of a log, all where it has fewer.
+fn front(entries: &[Entry], count: u32) -> &[Entry]
+    ensures front { result.now ≡ take count entries.now }
+    ensures count { length result.now ≤ length entries.now }
+{
+    let count = (count as usize).min(entries.len());
+    &entries[..count]
+}
+
+fn put_replica<H: Host>(
+    number: u8,
+    seat: &Seat<Replica<H>>,
+    to: &mut Vec<u8>,
+) -> Result<(), NoMemory>
+    ensures { OnOk result (to.new.items ≡ to.old.items ++ replica_text number (seated_of (λ r. r.state) seat.now)) }
+{
+    let core = &seat.core;
+    let log = core.log().as_slice();
+    let len = log.len() as u32;
+    replica_line(
+        number,
+        seat.crashed,
+        core.status(),
+        core.view(),
+        len,
+        core.sync_point(),
+        to,
+    )?;
+    put_entries(number, front(log, core.sync_point()), to)
+}
+
+/// Appends the lines of all replicas.
+pub fn put_replicas<H: Host>(seats: &[Seat<Replica<H>>], to: &mut Vec<u8>) -> Result<(), NoMemory>
+    requires { length seats.now ≤ 7 }
+    ensures { OnOk result (to.new.items ≡ to.old.items ++ replicas_text 0 (map (seated_of (λ r. r.state)) seats.now)) }
+{
+    for (i, seat) in seats.iter().enumerate() {
+        put_replica(i as u8, seat, to)?;
+    }
+    Ok(())
+}
