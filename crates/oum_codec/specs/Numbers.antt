@@ -3,7 +3,7 @@ use Rattle.std.specs.Prelude.{ℕ, ◌<◌, List, [], ◌∷◌, length, slice_i
 use Rattle.std.specs.Int.{Width, w32, byte_len, from_be_bytes, to_be_bytes}
 use Rattle.nop_types.specs.declared.view.View.{View}
 
--- each is a byte
+-- each of the list is a byte
 abbrev pub IsBytes : List ℕ → Type 0
 IsBytes bytes = (i : ℕ) → slice_index bytes i < 256
 

@@ -13,12 +13,12 @@ abbrev pub Fails : {A : Type 0} → Bad → Result A Bad → Type 0
 Fails NoMemory read = ⊤
 Fails e read = read ≡ Err e
 
--- the same where what was returned is seen by view
+-- what was returned, seen by view, is what reading gives, unless memory ran out
 abbrev pub GivesBy : {A B : Type 0} → (A → B) → Result A Bad → Result B Bad → Type 0
 GivesBy view (Ok x) read = read ≡ Ok (view x)
 GivesBy view (Err e) read = Fails e read
 
--- what was returned is what reading gives, unless memory ran out
+-- the same of what was returned as it is
 abbrev pub Gives : {A : Type 0} → Result A Bad → Result A Bad → Type 0
 Gives result read = GivesBy (λ x. x) result read
 

@@ -1,7 +1,6 @@
 -- The first line of a replay.
 use Rattle.std.proofs.Common.{◌≡◌, ℕ, ◌+◌, List, [], ◌∷◌, ◌++◌, Bool, true, false, Option, Some, None, Result, Ok, Err, refl, sym, ap, ◌∙◌}
 use Rattle.std.proofs.KnownBytes.{Appends-nil}
-use Rattle.std.proofs.lemmas.List.{append-nil}
 use Rattle.nop_types.specs.Configuration.{Configuration}
 use Rattle.nop_types.specs.Meaning.{Meaning}
 use Rattle.schedule_text.specs.declared.event.Event.{Event}
@@ -9,13 +8,13 @@ use Rattle.schedule_text.specs.declared.next_error.NextError.{NextError}
 use Rattle.schedule_text.specs.declared.next_error.NextError.TheVariants as nexts
 use Rattle.schedule_text.specs.Cutting.{lines_of}
 use Rattle.schedule_text.specs.Rules.{header_of}
-use Rattle.schedule_text.specs.Reading.{Reading, Next, Gives, Refuses, Ends, Turn, Takes, TakesOf, LeavesNone, MayFollow, turn, turn_of, turn_after, header_turn, lines_before, opening}
+use Rattle.schedule_text.specs.Reading.{Reading, Next, Gives, Refuses, Ends, Turn, Takes, TakesOf, LeavesNone, turn, turn_of, header_turn, lines_before, opening}
 use Rattle.schedule_text.specs.Transcript.{transcript_line}
 use Rattle.world.specs.WorldSteps as world
 use Rattle.replay.specs.declared.error.ReplayError.{ReplayError}
 use Rattle.replay.specs.Output.{Output, then_text, begun, output_of_lines, output}
 use Rattle.replay.specs.Outcome.{EndsWith}
-use Rattle.replay.specs.Progress.{Progress, Going, GoingOf, refused, after_turn}
+use Rattle.replay.specs.Progress.{Progress, GoingOf, refused, after_turn}
 use Rattle.replay.specs.Steps.{Stops, bad_line}
 use Rattle.replay.proofs.Runs.{begun_is, rest_is, turn_config}
 use Rattle.replay.proofs.Progressing.{refuses_with, interrupts_with, fails_with, unknown_ends, none_follow, turn_keeps}
@@ -93,25 +92,25 @@ module _ {S : Type 0} (m : Meaning S) where
       let k = took.2 in
       let p = unopened_progress bytes left taken before r (Err (nexts.BadLine line rule)) took.1 k in
       refuses_with m bytes left before before after [] r (λ ended more. output m ended (taken ++ more)) (bad_line line rule) x p
-          (λ more nothing.
-              let lines = lines_of true 0 (taken ++ more) in
-              let told = k.turn true more (record { nothing = nothing; end = λ e. refl }) in
-              let config : (turn None 0 lines).config ≡ None = ap (λ (t : Turn). t.config) told.0 ∙ is in
-              output_lines true (taken ++ more)
-              ∙ not_begun lines config
-              ∙ ap (λ (t : Turn). refused_turn t.line t.next) told.0
-              ∙ ap (λ (l : ℕ). refused (bad_line l rule)) (sym told.1))
-          p.end f
+      (λ more nothing.
+      let lines = lines_of true 0 (taken ++ more) in
+      let told = k.turn true more (record { nothing = nothing; end = λ e. refl }) in
+      let config : (turn None 0 lines).config ≡ None = ap (λ (t : Turn). t.config) told.0 ∙ is in
+      output_lines true (taken ++ more)
+      ∙ not_begun lines config
+      ∙ ap (λ (t : Turn). refused_turn t.line t.next) told.0
+      ∙ ap (λ (l : ℕ). refused (bad_line l rule)) (sym told.1))
+      p.end f
   unopened (Some bytes) (Some left) before after r nexts.ReadFault x took is none f =
       let taken = took.0 in
       let k = took.2 in
       let p = unopened_progress bytes left taken before r (Err nexts.ReadFault) took.1 k in
       let lines = lines_of false 0 (taken ++ []) in
       let told : turn None 0 lines ≡ turn None r.line [] =
-          k.turn false [] (none_follow m r none.0) ∙ ap (λ (o : Option Configuration). turn o r.line (lines_before r false [])) is ∙ ap (turn None r.line) none.1 in
+      k.turn false [] (none_follow m r none.0) ∙ ap (λ (o : Option Configuration). turn o r.line (lines_before r false [])) is ∙ ap (turn None r.line) none.1 in
       interrupts_with m bytes left before before after [] r (λ ended more. output m ended (taken ++ more)) x p none.0
-          (output_lines false (taken ++ []) ∙ undecided lines (ap (λ (t : Turn). t.config) told) (ap (λ (t : Turn). t.rest) told))
-          f
+      (output_lines false (taken ++ []) ∙ undecided lines (ap (λ (t : Turn). t.config) told) (ap (λ (t : Turn). t.rest) told))
+      f
   unopened (Some bytes) (Some left) before after r nexts.NoMemory x took is none f =
       let taken = took.0 in
       let p = unopened_progress bytes left taken before r (Err nexts.NoMemory) took.1 took.2 in

@@ -1,22 +1,21 @@
 -- A replay goes on line by line, and ends.
-use Rattle.std.proofs.Common.{◌≡◌, ℕ, ◌+◌, List, [], ◌∷◌, ◌++◌, Bool, true, false, Option, Some, None, Result, Ok, Err, refl, sym, ap, ◌∙◌, append_assoc}
-use Rattle.std.proofs.KnownBytes.{Appends-nil, Appends-trans}
+use Rattle.std.proofs.Common.{◌≡◌, ℕ, List, [], ◌++◌, Bool, true, false, Option, Some, None, Result, Ok, Err, refl, sym, ap, ◌∙◌, append_assoc}
+use Rattle.std.proofs.KnownBytes.{Appends-trans}
 use Rattle.std.proofs.lemmas.List.{append-nil}
-use Rattle.std.specs.Io.KnownBytes.{Appends}
 use Rattle.nop_types.specs.Configuration.{Configuration}
 use Rattle.nop_types.specs.Meaning.{Meaning}
 use Rattle.schedule_text.specs.declared.event.Event.{Event}
 use Rattle.schedule_text.specs.declared.next_error.NextError.{NextError}
 use Rattle.schedule_text.specs.declared.next_error.NextError.TheVariants as nexts
-use Rattle.schedule_text.specs.Reading.{Reading, Turn, Takes, TakesOf, IsTurn, LeavesNone, MayFollow, turn, turn_of, turn_after, lines_before}
+use Rattle.schedule_text.specs.Reading.{Reading, Turn, Takes, TakesOf, IsTurn, LeavesNone, MayFollow, turn, turn_of, lines_before}
 use Rattle.schedule_text.specs.Transcript.{lines_text}
 use Rattle.world.specs.WorldSteps.{WorldState, Refusal, Happened, step}
 use Rattle.replay.specs.declared.error.ReplayError.{ReplayError}
 use Rattle.replay.specs.declared.error.ReplayError.TheVariants as errors
 use Rattle.replay.specs.Output.{BadLine, Output, bad_text, refused_line, ending, then_text, final_text, rest, output}
-use Rattle.replay.specs.Outcome.{AppendsFront, Done, Malformed, Interrupted, EndsWith}
+use Rattle.replay.specs.Outcome.{AppendsFront, EndsWith}
 use Rattle.replay.specs.Progress.{Progress, Going, GoingOf, refused, after_step, after_turn, after_answer}
-use Rattle.replay.specs.Steps.{Fails, Writes, Refuses, Interrupts, Stops, Advances, RefusesStep, TakesEvent, bad_line}
+use Rattle.replay.specs.Steps.{Fails, Writes, Refuses, Interrupts, Stops, Advances, RefusesStep, bad_line}
 use Rattle.replay.proofs.Fronts.{front_nil, front_behind, front_longer}
 use Rattle.replay.proofs.Runs.{rest_is, turn_config}
 
@@ -33,10 +32,10 @@ module _ {S : Type 0} (m : Meaning S) where
       let longer = front_longer now after (pending ++ t) u f in
       let all = front_behind before now after p.written ((pending ++ t) ++ u) p.wrote longer in
       let text : (output m true bytes).text ≡ p.written ++ ((pending ++ t) ++ u) =
-          ap (λ (o : Output). o.text) (whole bytes left before now pending r follows p)
-          ∙ ap (λ (s : List ℕ). (p.written ++ pending) ++ s) is
-          ∙ append_assoc p.written pending (t ++ u)
-          ∙ ap (λ (s : List ℕ). p.written ++ s) (sym (append_assoc pending t u)) in
+      ap (λ (o : Output). o.text) (whole bytes left before now pending r follows p)
+      ∙ ap (λ (s : List ℕ). (p.written ++ pending) ++ s) is
+      ∙ append_assoc p.written pending (t ++ u)
+      ∙ ap (λ (s : List ℕ). p.written ++ s) (sym (append_assoc pending t u)) in
       rw text all
 
   -- nothing more was written
@@ -85,9 +84,9 @@ module _ {S : Type 0} (m : Meaning S) where
   interrupts_with bytes left before now after pending r follows (errors.Malformed line rule) p going is f = absurd f
   interrupts_with bytes left before now after pending r follows errors.ReadFault p going is f =
       let all : output m false p.taken ≡ record { text = (p.written ++ pending) ++ []; bad = None } =
-          ap (output m false) (sym (append-nil p.taken))
-          ∙ p.goes false [] (record { nothing = λ e. refl; end = λ e. absurd cc })
-          ∙ ap (then_text (p.written ++ pending)) is in
+      ap (output m false) (sym (append-nil p.taken))
+      ∙ p.goes false [] (record { nothing = λ e. refl; end = λ e. absurd cc })
+      ∙ ap (then_text (p.written ++ pending)) is in
       record {
         taken = p.taken;
         split = p.split;
@@ -152,9 +151,9 @@ module _ {S : Type 0} (m : Meaning S) where
             ap (output m ended) (append_assoc p.taken taken more)
             ∙ p.goes ended (taken ++ more) (may_follow r s rest_left taken more ended answer k may)
             ∙ ap (then_text (p.written ++ pending))
-                (rest_is m ended c w r.line lines
-                ∙ ap (λ (o : Option Configuration). after_turn m ended c w (turn o r.line lines)) (sym going.config)
-                ∙ turned c w ended more s answer (turn r.config r.line lines) (k.turn ended more may));
+            (rest_is m ended c w r.line lines
+            ∙ ap (λ (o : Option Configuration). after_turn m ended c w (turn o r.line lines)) (sym going.config)
+            ∙ turned c w ended more s answer (turn r.config r.line lines) (k.turn ended more may));
       }
 
   pub all_ended : (r : Reading) → MayFollow r true []
@@ -231,7 +230,7 @@ module _ {S : Type 0} (m : Meaning S) where
       → Going m bytes left before after new_pending r c v
   advances bytes left before now after pending new_pending r c w v e config p a =
       let gathered : (p.written ++ pending) ++ lines_text a.lines ≡ (p.written ++ a.written) ++ new_pending =
-          append_assoc p.written pending (lines_text a.lines) ∙ ap (λ (t : List ℕ). p.written ++ t) (sym a.text) ∙ sym (append_assoc p.written a.written new_pending) in
+      append_assoc p.written pending (lines_text a.lines) ∙ ap (λ (t : List ℕ). p.written ++ t) (sym a.text) ∙ sym (append_assoc p.written a.written new_pending) in
       record {
         config = config;
         progress = record {
@@ -244,7 +243,7 @@ module _ {S : Type 0} (m : Meaning S) where
               let lines = lines_before r ended more in
               let after_it = rest m ended c v r.line lines in
               let text : (p.written ++ pending) ++ (lines_text a.lines ++ after_it.text) ≡ ((p.written ++ a.written) ++ new_pending) ++ after_it.text =
-                  sym (append_assoc (p.written ++ pending) (lines_text a.lines) after_it.text) ∙ ap (λ (t : List ℕ). t ++ after_it.text) gathered in
+              sym (append_assoc (p.written ++ pending) (lines_text a.lines) after_it.text) ∙ ap (λ (t : List ℕ). t ++ after_it.text) gathered in
               p.goes ended more may
               ∙ ap (λ (q : Result Happened Refusal). then_text (p.written ++ pending) (after_step m ended c r.line lines q)) a.is
               ∙ ap (λ (t : List ℕ). record { text = t; bad = after_it.bad }) text;

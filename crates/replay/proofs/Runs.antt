@@ -1,5 +1,5 @@
 -- What is written for the lines that are left, by the turns of the reader.
-use Rattle.std.proofs.Common.{◌≡◌, ℕ, ◌+◌, List, [], ◌∷◌, ◌++◌, Bool, true, false, Option, Some, None, Result, Ok, Err, refl, sym, ap, ◌∙◌, append_assoc}
+use Rattle.std.proofs.Common.{◌≡◌, ℕ, ◌+◌, List, [], ◌∷◌, ◌++◌, Bool, Option, Some, None, Result, Ok, Err, refl, sym, ap, ◌∙◌, append_assoc}
 use Rattle.std.proofs.lemmas.List.{append-nil}
 use Rattle.std.proofs.lemmas.List.Concat.{flat_map-append}
 use Rattle.nop_types.specs.Configuration.{Configuration}
@@ -10,8 +10,8 @@ use Rattle.schedule_text.specs.Rules.{header_of, event_of}
 use Rattle.schedule_text.specs.Reading.{turn, turn_after, event_turn, header_turn}
 use Rattle.schedule_text.specs.Transcript.{transcript_line, line_text, lines_text}
 use Rattle.world.specs.WorldSteps.{WorldState, Refusal, Happened, step, go_on, run_from, opening}
-use Rattle.replay.specs.Output.{Schedule, BadLine, Output, ending, then_text, text_after, stepped, scheduled, schedule_from, written, rest, begun, output_of_lines}
-use Rattle.replay.specs.Progress.{after_step, after_next, after_turn}
+use Rattle.replay.specs.Output.{Schedule, BadLine, ending, then_text, text_after, stepped, scheduled, schedule_from, written, rest, begun, output_of_lines}
+use Rattle.replay.specs.Progress.{after_step, after_turn}
 
 -- a reader that took line 1 keeps its configuration
 turn_config_line : (c : Configuration) (k : ℕ) (line : List ℕ) (lines : List (List ℕ)) (r : Result Event ℕ) → (event_turn c k line lines r).config ≡ Some c
@@ -60,8 +60,7 @@ module _ {S : Type 0} (m : Meaning S) where
   schedule_runs_event c lines all w k e (Err refusal) is = (record { world = w; lines = [] }, refl)
   schedule_runs_event c lines all w k e (Ok h) is =
       let es = (schedule_from m c h.world (k + 1) lines).events in
-      let p = all h.world (k + 1) in
-      (
+      let p = all h.world (k + 1) in (
         record { world = p.0.world; lines = h.lines ++ p.0.lines },
         ap (more_runs es []) is ∙ run_behind es h.lines h.world ∙ ap (after_lines h.lines) p.1,
       )
@@ -85,8 +84,8 @@ module _ {S : Type 0} (m : Meaning S) where
       written m ended w (record { events = e ∷ s.events; bad = s.bad }) ≡ then_text (lines_text h.lines) (written m ended h.world s)
   written_event ended w e h s is runs =
       let text =
-          ap (text_after ended s.bad) (ap (more_runs s.events []) is ∙ run_behind s.events h.lines h.world)
-          ∙ text_behind ended s.bad h.lines (run_from m [] h.world s.events) runs.0 runs.1 in
+      ap (text_after ended s.bad) (ap (more_runs s.events []) is ∙ run_behind s.events h.lines h.world)
+      ∙ text_behind ended s.bad h.lines (run_from m [] h.world s.events) runs.0 runs.1 in
       ap (λ (t : List ℕ). record { text = t; bad = s.bad }) text
 
   -- what is written is what the turn of the reader gives

@@ -4,7 +4,7 @@ use Rattle.std.specs.Io.KnownBytes.{Appends}
 use Rattle.nop_types.specs.Meaning.{Meaning}
 use Rattle.replay.specs.declared.error.ReplayError.{ReplayError}
 use Rattle.replay.specs.declared.error.ReplayError.TheVariants as errors
-use Rattle.replay.specs.Output.{BadLine, Output, output}
+use Rattle.replay.specs.Output.{BadLine, output}
 
 -- a front of the text was written, perhaps all of it
 pub record AppendsFront (before now : Option (List ℕ)) (text : List ℕ) : Type 0 where

@@ -1,5 +1,5 @@
 -- The steps of a replay, by what they write.
-use Rattle.std.specs.Prelude.{◌≡◌, ℕ, List, [], ◌++◌, Option, Some, None, Result, Ok, Err}
+use Rattle.std.specs.Prelude.{◌≡◌, ℕ, List, ◌++◌, Option, None, Result, Ok, Err}
 use Rattle.std.specs.Io.KnownBytes.{Appends}
 use Rattle.nop_types.specs.Lines.{Line}
 use Rattle.schedule_text.specs.declared.next_error.NextError.{NextError}

@@ -4,6 +4,8 @@
 mod error;
 mod final_lines;
 mod replayed;
+#[cfg(test)]
+mod tests;
 mod turn;
 mod writing;
 

@@ -38,8 +38,8 @@ module _ (ended : Bool) (before : ℕ) (fits : before < 1000000) where
   cut_end so_far [] rest none short = rw (append-nil so_far) (at_end so_far rest)
   cut_end so_far (b ∷ line) rest none short =
       goes_on so_far (line ++ 10 ∷ rest) b (none_here b line none) (omega arith)
-          ∙ cut_end (so_far ++ b ∷ []) line rest (none_later b line none) (omega (arith, length_push so_far b))
-          ∙ ap (λ (xs : List ℕ). xs ∷ lines_on ended (before + 1) [] rest) (append_assoc so_far (b ∷ []) line)
+      ∙ cut_end (so_far ++ b ∷ []) line rest (none_later b line none) (omega (arith, length_push so_far b))
+      ∙ ap (λ (xs : List ℕ). xs ∷ lines_on ended (before + 1) [] rest) (append_assoc so_far (b ∷ []) line)
 
   -- a line is cut at the first byte that it may not have
   pub cut_long : (so_far line rest : List ℕ) → HasNoEnd (length line) line → length so_far ≤ 4096 → length so_far + length line ≡ 4097
@@ -48,16 +48,16 @@ module _ (ended : Bool) (before : ℕ) (fits : before < 1000000) where
   cut_long so_far (b ∷ []) rest none short full = too_long so_far rest b (none_here b [] none) (omega arith)
   cut_long so_far (b ∷ c ∷ line) rest none short full =
       goes_on so_far (c ∷ line ++ rest) b (none_here b (c ∷ line) none) (omega arith)
-          ∙ cut_long (so_far ++ b ∷ []) (c ∷ line) rest (none_later b (c ∷ line) none) (omega (arith, length_push so_far b)) (omega (arith, length_push so_far b))
-          ∙ ap (λ (xs : List ℕ). xs ∷ []) (append_assoc so_far (b ∷ []) (c ∷ line))
+      ∙ cut_long (so_far ++ b ∷ []) (c ∷ line) rest (none_later b (c ∷ line) none) (omega (arith, length_push so_far b)) (omega (arith, length_push so_far b))
+      ∙ ap (λ (xs : List ℕ). xs ∷ []) (append_assoc so_far (b ∷ []) (c ∷ line))
 
   -- with neither there is what the end makes of it
   pub cut_last : (so_far line : List ℕ) → HasNoEnd (length line) line → length so_far + length line ≤ 4096 → lines_on ended before so_far line ≡ last_line ended (so_far ++ line)
   cut_last so_far [] none short = rw (append-nil so_far) refl
   cut_last so_far (b ∷ line) none short =
       goes_on so_far line b (none_here b line none) (omega arith)
-          ∙ cut_last (so_far ++ b ∷ []) line (none_later b line none) (omega (arith, length_push so_far b))
-          ∙ ap (last_line ended) (append_assoc so_far (b ∷ []) line)
+      ∙ cut_last (so_far ++ b ∷ []) line (none_later b line none) (omega (arith, length_push so_far b))
+      ∙ ap (last_line ended) (append_assoc so_far (b ∷ []) line)
 
 -- the first byte past the last line that a schedule may have
 pub cut_past : (ended : Bool) (before : ℕ) (b : ℕ) (rest : List ℕ) → 1000000 ≤ before → lines_on ended before [] (b ∷ rest) ≡ (b ∷ []) ∷ []

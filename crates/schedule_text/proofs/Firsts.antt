@@ -16,7 +16,7 @@ none_in_front count bytes within none = λ k below.
 split_at : (bytes more : List ℕ) (place : ℕ) → place < length bytes → get_or bytes place 0 ≡ 10 → bytes ++ more ≡ take place bytes ++ 10 ∷ (drop (place + 1) bytes ++ more)
 split_at bytes more place within is =
     ap (λ (xs : List ℕ). xs ++ more) (sym (take-append-drop place bytes) ∙ ap (λ (xs : List ℕ). take place bytes ++ xs) (drop_more bytes place 0 within ∙ ap (λ (b : ℕ). b ∷ drop (place + 1) bytes) is))
-        ∙ append_assoc (take place bytes) (10 ∷ drop (place + 1) bytes) more
+    ∙ append_assoc (take place bytes) (10 ∷ drop (place + 1) bytes) more
 
 front_and_rest : (bytes more : List ℕ) (count : ℕ) → bytes ++ more ≡ take count bytes ++ (drop count bytes ++ more)
 front_and_rest bytes more count = ap (λ (xs : List ℕ). xs ++ more) (sym (take-append-drop count bytes)) ∙ append_assoc (take count bytes) (drop count bytes) more
@@ -60,7 +60,7 @@ module _ (before : ℕ) (was_ended : Bool) (bytes : List ℕ) (fits : before < 1
   unfolding lines_of
   lines_by_end place at ended more =
       ap (lines_on ended before []) (split_at bytes more place at.within at.end)
-          ∙ cut_end ended before fits [] (take place bytes) (drop (place + 1) bytes ++ more) (none_in_front place bytes (omega (arith, at.within)) at.no_end) (omega (arith, at.short, length-take-le place bytes (omega (arith, at.within))))
+      ∙ cut_end ended before fits [] (take place bytes) (drop (place + 1) bytes ++ more) (none_in_front place bytes (omega (arith, at.within)) at.no_end) (omega (arith, at.short, length-take-le place bytes (omega (arith, at.within))))
 
   -- a line with its end
   pub by_end : (place : ℕ) → IsFirstEnd bytes place → IsFirstLine before was_ended bytes (record { len = place; end = place + 1 })
@@ -77,8 +77,11 @@ module _ (before : ℕ) (was_ended : Bool) (bytes : List ℕ) (fits : before < 1
   by_length count is none long = record {
     len = le_refl count;
     end = long;
-    line = λ ended more follows. ([], ap (lines_on ended before []) (front_and_rest bytes more count)
-        ∙ cut_long ended before fits [] (take count bytes) (drop count bytes ++ more) (none_in_front count bytes long none) (omega arith) (omega (arith, length-take-le count bytes long)));
+    line = λ ended more follows. (
+      [],
+      ap (lines_on ended before []) (front_and_rest bytes more count)
+          ∙ cut_long ended before fits [] (take count bytes) (drop count bytes ++ more) (none_in_front count bytes long none) (omega arith) (omega (arith, length-take-le count bytes long)),
+    );
     rest = λ fits' short ended more follows. absurd (omega arith);
   }
 
@@ -98,8 +101,8 @@ module _ (before : ℕ) (was_ended : Bool) (bytes : List ℕ) (fits : before < 1
           line = λ ended more follows. ([], lines_by_last (omega arith) ended more (follows.nothing was) (follows.end was) ∙ ap (λ (line : List ℕ). line ∷ []) whole);
           rest = λ fits' short' ended more follows.
               lines_by_last (omega arith) ended more (follows.nothing was) (follows.end was)
-                  ∙ ap (λ (line : List ℕ). line ∷ []) whole
-                  ∙ ap (λ (lines : List (List ℕ)). take count bytes ∷ lines) (sym (no_lines ended (before + 1) (drop count bytes) more (drop_all count bytes (omega arith)) (follows.nothing was)));
+              ∙ ap (λ (line : List ℕ). line ∷ []) whole
+              ∙ ap (λ (lines : List (List ℕ)). take count bytes ∷ lines) (sym (no_lines ended (before + 1) (drop count bytes) more (drop_all count bytes (omega arith)) (follows.nothing was)));
         }
 
     -- none

@@ -85,7 +85,7 @@ module _ (before : ℕ) (pending : List ℕ) (was_ended : Bool) (first : FirstLi
         let rest = lines_of ended (before + 1) (drop first.end pending ++ more) in
         let short = header_fits (take first.len pending) c is in
         ap (turn None before) (is_first.rest (omega arith) (omega (arith, length-first, short)) ended more after)
-            ∙ ap (header_turn before (take first.len pending) rest) is;
+        ∙ ap (header_turn before (take first.len pending) rest) is;
   }
 
   pub event_taken : (c : Configuration) (e : Event) → event_of c before (take first.len pending) ≡ Ok e
@@ -97,5 +97,5 @@ module _ (before : ℕ) (pending : List ℕ) (was_ended : Bool) (first : FirstLi
         let rest = lines_of ended (before + 1) (drop first.end pending ++ more) in
         let fits = event_fits c before (take first.len pending) e is in
         ap (turn_after c before) (is_first.rest fits.0 (omega (arith, length-first, fits.1)) ended more after)
-            ∙ ap (event_turn c before (take first.len pending) rest) is;
+        ∙ ap (event_turn c before (take first.len pending) rest) is;
   }

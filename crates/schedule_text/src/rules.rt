@@ -105,7 +105,7 @@ fn configuration(n: &[u8], s: &[u8], c: &[u8]) -> Result<Config, u8>
 fn has_words(version: &[u8], replicas: &[u8], sequencers: &[u8], clients: &[u8]) -> bool
     ensures { result
         ≡ (is_text (codes "1") version.now && (is_text (codes "replicas") replicas.now
-            && (is_text (codes "sequencers") sequencers.now && is_text (codes "clients") clients.now))) }
+        && (is_text (codes "sequencers") sequencers.now && is_text (codes "clients") clients.now))) }
 {
     is_word(version, "1")
         && is_word(replicas, "replicas")

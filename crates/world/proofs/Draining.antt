@@ -1,5 +1,5 @@
 -- Requests are taken one after the other.
-use Rattle.std.proofs.Common.{◌≡◌, ℕ, zero, suc, ◌+◌, ◌-◌, ◌<◌, ◌≤◌, Bool, true, false, ltb, List, [], ◌∷◌, ◌++◌, length, Option, Some, None, refl, sym, ap, subst, ◌∙◌, arith, append_assoc, length-append, inl, inr}
+use Rattle.std.proofs.Common.{◌≡◌, ℕ, zero, suc, ◌+◌, ◌-◌, ◌<◌, ◌≤◌, Bool, true, false, List, [], ◌∷◌, ◌++◌, length, None, refl, sym, ap, ◌∙◌, arith, append_assoc, length-append, inl, inr}
 use Rattle.std.specs.Prelude.{◌⊎◌, ◌&&◌}
 use Rattle.std.proofs.lemmas.Bool.{ltb-true, le-ltb}
 use Rattle.std.proofs.lemmas.List.{append-nil}
@@ -11,7 +11,7 @@ use Rattle.nop_types.specs.declared.request.Request.{Request}
 use Rattle.oum_receiver.specs.Front.{Front, Nothing, Message, Dropped, request_in}
 use Rattle.oum_receiver.specs.Receiving.{front_of}
 use Rattle.world.specs.declared.replica_state.ReplicaState.{ReplicaState}
-use Rattle.world.specs.ReplicaSteps.{then_do, is_normal, has_room, logged, take, drain_at, drain_by, drain}
+use Rattle.world.specs.ReplicaSteps.{then_do, has_room, take, drain_at, drain_by, drain}
 use Rattle.world.specs.Takes.{Took, TookNone, TakesOne}
 
 both : (a b : Bool) → (a && b) ≡ true → (a ≡ true) × (b ≡ true)
@@ -63,7 +63,7 @@ module _ {S : Type 0} (m : Meaning S) where
       let p = take m s took.request in
       let one : then_do (t, out_new) (drain m) ≡ then_do (p.0, out ++ p.1) (drain m) = ap (λ x. then_do (x, out_new) (drain m)) took.state ∙ ap (λ (xs : List Out). then_do (p.0, xs) (drain m)) took.sent in
       let two : then_do (p.0, out ++ p.1) (drain m) ≡ then_do (s, out) (drain m) =
-          ap (λ (xs : List Out). ((drain m p.0).0, xs)) (append_assoc out p.1 (drain m p.0).1) ∙ ap (λ (d : ReplicaState × List Out). (d.0, out ++ d.1)) (sym (takes s took.request took.room took.front)) in
+      ap (λ (xs : List Out). ((drain m p.0).0, xs)) (append_assoc out p.1 (drain m p.0).1) ∙ ap (λ (d : ReplicaState × List Out). (d.0, out ++ d.1)) (sym (takes s took.request took.room took.front)) in
       one ∙ two ∙ so_far
 
   -- where it stops, all is done

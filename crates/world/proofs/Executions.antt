@@ -1,5 +1,5 @@
 -- Execution with a table of kept answers.
-use Rattle.std.proofs.Common.{◌≡◌, ℕ, List, [], Option, None, refl, sym, ap, ◌∙◌}
+use Rattle.std.proofs.Common.{◌≡◌, ℕ, List, sym, ap, ◌∙◌}
 use Rattle.std.specs.Prelude.{option_map}
 use Rattle.std.specs.Ordering.{nat_cmp}
 use Rattle.std.specs.Map.{lookup}
@@ -10,7 +10,7 @@ use Rattle.nop_types.specs.Execution.{opening, exec, exec_kept}
 use Rattle.histories.proofs.Steps.{executed_is_parts}
 use Rattle.histories.proofs.Results.{exec_is_by_kept}
 use Rattle.world.specs.declared.kept_answer.KeptAnswer.{KeptAnswer}
-use Rattle.world.specs.Kept.{answered, kept_for, executed}
+use Rattle.world.specs.Kept.{answered, executed}
 
 -- a fresh host and an empty table begin the execution of a log
 pub begins : {S : Type 0} (m : Meaning S) (log : List Entry) (host : S) (table : BTreeMap ℕ KeptAnswer) → host ≡ m.opening → IsEmpty table → exec_kept m (executed host table) log ≡ exec m log

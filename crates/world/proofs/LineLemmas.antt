@@ -1,7 +1,7 @@
 -- The lines and datagrams of outputs, one after the other.
 use Rattle.std.proofs.Common.{◌≡◌, ℕ, ◌+◌, ◌<◌, Bool, cond, List, [], ◌∷◌, ◌++◌, length, take, get_or, refl, sym, ap, subst, ◌∙◌, arith, append_assoc, length-append}
-use Rattle.std.specs.List.{flat_map, count_by}
-use Rattle.std.proofs.lemmas.List.{take_more, append-nil}
+use Rattle.std.specs.List.{count_by}
+use Rattle.std.proofs.lemmas.List.{take_more}
 use Rattle.std.proofs.lemmas.List.Sums.{sum_by-append}
 use Rattle.std.proofs.lemmas.List.Concat.{flat_map-append}
 use Rattle.nop_types.specs.Lines as lines
@@ -53,8 +53,8 @@ carried_more from net mid last a b c all i out lt is so_far sent more =
     let done : List Out = take i all in
     let one : take (i + 1) all ≡ done ++ out ∷ [] = take_more all i out lt ∙ ap (λ (x : Out). done ++ x ∷ []) (sym is) in
     let net_is : last ≡ net ++ sends_of from (done ++ out ∷ []) =
-        sent ∙ ap (λ (s : List Sent). s ++ sends_of from (out ∷ [])) so_far.network ∙ append_assoc net (sends_of from done) (sends_of from (out ∷ [])) ∙ ap (λ (s : List Sent). net ++ s) (sym (sends_of-append from done (out ∷ []))) in
+    sent ∙ ap (λ (s : List Sent). s ++ sends_of from (out ∷ [])) so_far.network ∙ append_assoc net (sends_of from done) (sends_of from (out ∷ [])) ∙ ap (λ (s : List Sent). net ++ s) (sym (sends_of-append from done (out ∷ []))) in
     let count : length mid ≡ length net + length (sends_of from done) = ap length so_far.network ∙ length-append net (sends_of from done) in
     let grown : Grows a c (lines_from from (length net) (done ++ out ∷ [])) =
-        subst (Grows a c) (sym (lines_from-append from (length net) done (out ∷ []))) (Grows-then a b c (lines_from from (length net) done) _ so_far.lines (subst (λ (n : ℕ). Grows b c (lines_from from n (out ∷ []))) count more)) in
+    subst (Grows a c) (sym (lines_from-append from (length net) done (out ∷ []))) (Grows-then a b c (lines_from from (length net) done) _ so_far.lines (subst (λ (n : ℕ). Grows b c (lines_from from n (out ∷ []))) count more)) in
     subst (CarriedOut from net last a c) (sym one) (record { network = net_is; lines = grown })

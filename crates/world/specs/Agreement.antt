@@ -1,5 +1,5 @@
 -- Replicas agree as far as they are synchronised.
-use Rattle.std.specs.Prelude.{◌≡◌, ℕ, ◌≤◌, List, Some, slice_get, take}
+use Rattle.std.specs.Prelude.{◌≡◌, ℕ, ◌≤◌, Some, slice_get, take}
 use Rattle.nop_types.specs.Lists.{IsPrefixOf, slot_of}
 use Rattle.world.specs.declared.replica_state.ReplicaState.{ReplicaState}
 use Rattle.world.specs.Seats.{Seated}

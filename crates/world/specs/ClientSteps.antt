@@ -6,7 +6,6 @@ use Rattle.nop_types.specs.Views.{leader_of, is_view}
 use Rattle.nop_types.specs.declared.output.Out.{Out}
 use Rattle.nop_types.specs.declared.output.Out.TheVariants.{Send, Submitted, Accepted, Busy}
 use Rattle.nop_types.specs.declared.output.Dest.TheVariants.{Sequencers}
-use Rattle.nop_types.specs.declared.output.Accept.{Accept}
 use Rattle.nop_types.specs.declared.request.Request.{Request}
 use Rattle.nop_types.specs.declared.view.View.{View}
 use Rattle.nop_types.specs.declared.datagram.Reply.{Reply}

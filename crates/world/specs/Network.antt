@@ -1,5 +1,5 @@
 -- The network: all datagrams that were ever sent, in order.
-use Rattle.std.specs.Prelude.{ℕ, ◌+◌, List, [], ◌∷◌, length}
+use Rattle.std.specs.Prelude.{ℕ, ◌+◌, List, [], ◌∷◌}
 use Rattle.nop_types.specs.Lines.{Line, Dead, Submit, Accept, Busy, Send}
 use Rattle.nop_types.specs.declared.output.Actor.{Actor}
 use Rattle.nop_types.specs.declared.output.Dest.{Dest}

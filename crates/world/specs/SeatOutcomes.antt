@@ -1,5 +1,5 @@
 -- What a call on a seat of the code did.
-use Rattle.std.specs.Prelude.{◌≡◌, ℕ, List, map, Bool, Option, Some, None, Result, Ok, Err, slice_set}
+use Rattle.std.specs.Prelude.{◌≡◌, ℕ, List, map, Option, Some, None, Result, Ok, Err, slice_set}
 use Rattle.nop_types.specs.declared.output.Out.{Out}
 use Rattle.world.specs.declared.seat.Seat.{Seat}
 use Rattle.world.specs.declared.step_error.StepError.{StepError}

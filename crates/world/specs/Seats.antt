@@ -1,7 +1,6 @@
 -- An actor: the state of its core, and whether it crashed.
 use Rattle.std.specs.Prelude.{Bool, true, false, List, []}
 use Rattle.nop_types.specs.Given.{Given}
-use Rattle.nop_types.specs.Kept.{Kept}
 use Rattle.nop_types.specs.declared.output.Out.{Out}
 
 pub record Seated (S : Type 0) : Type 0 where

@@ -34,12 +34,7 @@ impl<H: Host> Actors<H> {
         ensures err { IfErr result (λ e. Refuses e (submit (world_of self.old) client op.now) (world_of self.new ≡ world_of self.old)) }
     {
         let did = input_to(alloc, &mut self.clients, client as usize, Input::Submit(op))?;
-        Ok(carry_out(
-            alloc,
-            &mut self.network,
-            Actor::Client(client),
-            did,
-        )?)
+        Ok(carry_out(alloc, &mut self.network, Actor::Client(client), did)?)
     }
 
     fn deliver(&mut self, alloc: Global, index: u64, actor: Actor) -> Result<Lines, StepError>
@@ -50,13 +45,17 @@ impl<H: Host> Actors<H> {
     {
         match actor {
             Actor::Replica(i) => {
-                let did =
-                    deliver_to(alloc, &mut self.replicas, i as usize, index, &self.network)?;
+                let did = deliver_to(alloc, &mut self.replicas, i as usize, index, &self.network)?;
                 Ok(carry_out(alloc, &mut self.network, actor, did)?)
             }
             Actor::Sequencer(i) => {
-                let did =
-                    deliver_to(alloc, &mut self.sequencers, i as usize, index, &self.network)?;
+                let did = deliver_to(
+                    alloc,
+                    &mut self.sequencers,
+                    i as usize,
+                    index,
+                    &self.network,
+                )?;
                 Ok(carry_out(alloc, &mut self.network, actor, did)?)
             }
             Actor::Client(i) => {

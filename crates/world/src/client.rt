@@ -41,12 +41,7 @@ impl Model for Client {
     ghost view = { λ c. record { failed = c.failed; state = c.state } };
 }
 
-fn submit(
-    alloc: Global,
-    state: &mut ClientState,
-    op: &Op,
-    out: &mut Outbox,
-) -> Result<(), NoMemory>
+fn submit(alloc: Global, state: &mut ClientState, op: &Op, out: &mut Outbox) -> Result<(), NoMemory>
     ensures state { OnOk result (state.new ≡ (submit state.old op.now).0) }
     ensures out { OnOk result (out.new ≡ out.old ++ (submit state.old op.now).1) }
 {

@@ -35,13 +35,7 @@ fn keep(
     requires { length answer ≤ MAX_RESULT_BYTES }
     ensures { OnOk result ((c : ℕ) → kept_for kept.new c ≡ (if client == c then Some (record { id = id; result = answer }) else kept_for kept.old c)) }
 {
-    kept.insert(
-        client,
-        KeptAnswer {
-            id,
-            result: answer,
-        },
-    )?;
+    kept.insert(client, KeptAnswer { id, result: answer })?;
     Ok(())
 }
 

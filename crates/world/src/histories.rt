@@ -18,11 +18,7 @@ fn is_new(greatest: &BTreeMap<u32, u64>, client: u32, id: u64) -> bool
     }
 }
 
-fn set_greatest(
-    greatest: &mut BTreeMap<u32, u64>,
-    client: u32,
-    id: u64,
-) -> Result<(), NoMemory>
+fn set_greatest(greatest: &mut BTreeMap<u32, u64>, client: u32, id: u64) -> Result<(), NoMemory>
     ensures { OnOk result ((c : ℕ) → get nat_cmp greatest.new c ≡ (if client == c then Some id else get nat_cmp greatest.old c)) }
 {
     greatest.insert(client, id)?;

@@ -26,6 +26,6 @@ pub use lines::Lines;
 pub use replica::Replica;
 pub use replica_state::ReplicaState;
 pub use replies::Replies;
+pub use sequencer::{Sequencer, SequencerState};
 pub use step_error::StepError;
 pub use world_state::World;
-pub use sequencer::{Sequencer, SequencerState};

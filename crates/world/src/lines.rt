@@ -47,7 +47,13 @@ fn carry_out_one(
 {
     match out {
         Out::Send(dest, bytes) => {
-            send_line(network.len(), from, *dest, bytes.as_slice(), &mut tally.text)?;
+            send_line(
+                network.len(),
+                from,
+                *dest,
+                bytes.as_slice(),
+                &mut tally.text,
+            )?;
             network.push(from, *dest, bytes.as_slice())?;
             tally.sends = raised(tally.sends)?;
             Ok(())

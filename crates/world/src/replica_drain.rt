@@ -44,11 +44,7 @@ fn take_one<H: Host>(
 }
 
 /// Takes what stands in front, request by request.
-fn drain<H: Host>(
-    alloc: Global,
-    state: &mut ReplicaState,
-    out: &mut Outbox,
-) -> Result<(), NoMemory>
+fn drain<H: Host>(alloc: Global, state: &mut ReplicaState, out: &mut Outbox) -> Result<(), NoMemory>
     requires { IsSound state.old }
     ensures sound { OnOk result (IsSound state.new) }
     ensures state { OnOk result (state.new ≡ (drain H.meaning state.old).0) }

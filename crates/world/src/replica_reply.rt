@@ -55,10 +55,7 @@ fn send_reply(
     let reply = reply_of(state, slot, client, id, tag, answer);
     let mut text = Vec::new(alloc);
     encode(alloc, &Datagram::Reply(reply), &mut text)?;
-    out.push(Out::Send(
-        Dest::One(Actor::Client(client)),
-        Bytes::from_vec(text),
-    ))
+    out.push(Out::Send(Dest::One(Actor::Client(client)), Bytes::from_vec(text)))
 }
 
 /// Replies for the last slot: a leader with its result there, a follower without.

@@ -2,46 +2,47 @@ use super::*;
 use nop_types::MAX_LINES;
 use outside::ReadMem;
 use std::alloc::AllocError;
-use std::fmt::Write;
 use std::test::Fail;
 
-const SCHEDULE: &str = "nopaxos 1 replicas 3 sequencers 1 clients 1\nsubmit c0 5000016b000176\ndeliver 0 s0\ncrash r1";
+const SCHEDULE: &[u8] =
+    b"nopaxos 1 replicas 3 sequencers 1 clients 1\nsubmit c0 5000016b000176\ndeliver 0 s0\ncrash r1";
 
-const ANSWERS: &str = "submit c0 7|deliver 0|crash|end|end|";
+fn letter(answer: &Result<Option<Event>, NextError>) -> u8 {
+    match answer {
+        Ok(Some(Event::Submit(..))) => b's',
+        Ok(Some(Event::Deliver(..))) => b'd',
+        Ok(Some(Event::Crash(_))) => b'c',
+        Ok(None) => b'.',
+        Err(NextError::BadLine { rule, .. }) => b'0'.wrapping_add(*rule),
+        Err(NextError::ReadFault) => b'f',
+        Err(NextError::NoMemory) => b'm',
+    }
+}
 
-// What so many calls answer, each with a bar behind it.
+// A letter for each of so many answers, for a rule its digit; rule 10 is a colon.
 fn answers<S: Source>(
     alloc: Global,
     reader: &mut Reader,
     source: &mut S,
     calls: usize,
-) -> Result<String, AllocError> {
-    let mut text = String::new(alloc);
+) -> Result<Vec<u8>, AllocError> {
+    let mut letters = Vec::new(alloc);
     for _ in 0..calls {
-        match reader.next(source) {
-            Ok(Some(Event::Submit(client, op))) => {
-                let len = op.as_slice().len();
-                write!(&mut text, "submit c{client} {len}|")?;
-            }
-            Ok(Some(Event::Deliver(index, _))) => write!(&mut text, "deliver {index}|")?,
-            Ok(Some(Event::Crash(_))) => write!(&mut text, "crash|")?,
-            Ok(None) => write!(&mut text, "end|")?,
-            Err(NextError::BadLine { line, rule }) => write!(&mut text, "bad {line} {rule}|")?,
-            Err(NextError::ReadFault) => write!(&mut text, "fault|")?,
-            Err(NextError::NoMemory) => write!(&mut text, "no memory|")?,
-        }
+        letters.push(letter(&reader.next(source)))?;
     }
-    Ok(text)
+    Ok(letters)
 }
 
 #[test]
 fn events_however_the_bytes_come(rt: HostRuntime) -> Result<(), Fail> {
     let alloc = rt.alloc();
-    for most in [1, 7, 44, 4096] {
-        let mut source = ReadMem::with_limit(SCHEDULE.as_bytes().to_vec(alloc)?, most);
+    for most in [1, 7, 4096] {
+        let mut source = ReadMem::with_limit(SCHEDULE.to_vec(alloc)?, most);
         let mut reader = Reader::new(alloc);
-        assert_eq!(rt; reader.config(), None);
-        assert_eq!(rt; answers(alloc, &mut reader, &mut source, 5)?.as_str(), ANSWERS, "{most}");
+        assert_eq!(rt;
+            answers(alloc, &mut reader, &mut source, 5)?.as_slice(),
+            b"sdc..".as_slice()
+        );
         assert_eq!(rt; reader.config(), Config::new(3, 1, 1));
         assert_eq!(rt; reader.line(), 4);
     }
@@ -51,41 +52,52 @@ fn events_however_the_bytes_come(rt: HostRuntime) -> Result<(), Fail> {
 #[test]
 fn nothing_is_lost_at_a_fault(rt: HostRuntime) -> Result<(), Fail> {
     let alloc = rt.alloc();
-    for most in [7, 50, 4096] {
-        let bytes = SCHEDULE.as_bytes().to_vec(alloc)?;
-        let mut source = ReadMem::with_faults(alloc, bytes, most, &[2])?;
+    for (most, want) in [(7, b"fsdc.."), (50, b"fsdc.."), (4096, b"sdfc..")] {
+        let mut source = ReadMem::with_faults(alloc, SCHEDULE.to_vec(alloc)?, most, &[2])?;
         let mut reader = Reader::new(alloc);
-        let text = answers(alloc, &mut reader, &mut source, 6)?;
-        assert_eq!(rt; text.as_str().replacen(alloc, "fault|", "", 1)?.as_str(), ANSWERS, "{most}");
+        assert_eq!(rt;
+            answers(alloc, &mut reader, &mut source, 6)?.as_slice(),
+            want.as_slice()
+        );
     }
     Ok(())
 }
 
 #[test]
-fn bad_lines(rt: HostRuntime) -> Result<(), Fail> {
+fn a_bad_line_is_refused_again(rt: HostRuntime) -> Result<(), Fail> {
     let alloc = rt.alloc();
-    let header = "nopaxos 1 replicas 1 sequencers 1 clients 1\n";
-    for (head, fill, tail, want, line) in [
-        ("", 0, "", "bad 1 3|bad 1 3|", 0),
-        ("", 0, "\n", "bad 1 3|bad 1 3|", 0),
-        ("", 4096, "\n", "bad 1 3|bad 1 3|", 0),
-        ("", 4096, "", "bad 1 3|bad 1 3|", 0),
-        ("", 4097, "", "bad 1 1|bad 1 1|", 0),
-        ("", 9000, "\n", "bad 1 1|bad 1 1|", 0),
-        (header, 0, "", "end|end|", 1),
-        (header, 0, "\n", "bad 2 3|bad 2 3|", 1),
-        (header, 1, "", "bad 2 3|bad 2 3|", 1),
-        (header, 4096, "\n", "bad 2 3|bad 2 3|", 1),
-        (header, 4097, "\n", "bad 2 1|bad 2 1|", 1),
-        (header, 0, "crash r0\ncrash r1\ncrash r0\n", "crash|bad 3 7|", 2),
+    for (bytes, want) in [
+        (b"".as_slice(), b"33"),
+        (b"\n", b"33"),
+        (b"nopaxos 1 replicas 1 sequencers 1 clients 1", b".."),
+        (b"nopaxos 1 replicas 1 sequencers 1 clients 1\n\n", b"33"),
+        (
+            b"nopaxos 1 replicas 1 sequencers 1 clients 1\ncrash r1\ncrash r0\n",
+            b"77",
+        ),
     ] {
-        let mut bytes = head.as_bytes().to_vec(alloc)?;
-        bytes.resize(bytes.len() + fill, b'x')?;
-        bytes.extend_from_slice(tail.as_bytes())?;
+        let mut source = ReadMem::new(bytes.to_vec(alloc)?);
+        let mut reader = Reader::new(alloc);
+        assert_eq!(rt;
+            answers(alloc, &mut reader, &mut source, 2)?.as_slice(),
+            want.as_slice()
+        );
+    }
+    Ok(())
+}
+
+#[test]
+fn long_lines(rt: HostRuntime) -> Result<(), Fail> {
+    let alloc = rt.alloc();
+    for (count, end, rule) in [(4096, b'\n', 3), (4097, b'x', 1), (9000, b'\n', 1)] {
+        let mut bytes = vec![in alloc; b'x'; count]?;
+        bytes.push(end)?;
         let mut source = ReadMem::new(bytes);
         let mut reader = Reader::new(alloc);
-        assert_eq!(rt; answers(alloc, &mut reader, &mut source, 2)?.as_str(), want, "{fill}{tail}");
-        assert_eq!(rt; reader.line(), line, "{fill}{tail}");
+        assert_eq!(rt;
+            reader.next(&mut source).err(),
+            Some(NextError::BadLine { line: 1, rule })
+        );
     }
     Ok(())
 }
@@ -93,12 +105,12 @@ fn bad_lines(rt: HostRuntime) -> Result<(), Fail> {
 #[test]
 fn the_last_line_of_a_schedule(rt: HostRuntime) -> Result<(), Fail> {
     let alloc = rt.alloc();
-    for (text, want) in [
-        ("crash r0\n", "crash|end|"),
-        ("crash r0\nx", "crash|bad 1000001 10|"),
-        ("crash r0\n\n", "crash|bad 1000001 10|"),
+    for (bytes, want) in [
+        (b"crash r0\n".as_slice(), b"c."),
+        (b"crash r0\nx", b"c:"),
+        (b"crash r0\n\n", b"c:"),
     ] {
-        let mut source = ReadMem::new(text.as_bytes().to_vec(alloc)?);
+        let mut source = ReadMem::new(bytes.to_vec(alloc)?);
         let mut reader = Reader {
             alloc,
             buffer: Buffer::new(alloc),
@@ -107,7 +119,10 @@ fn the_last_line_of_a_schedule(rt: HostRuntime) -> Result<(), Fail> {
             line: MAX_LINES - 1,
             ended: false,
         };
-        assert_eq!(rt; answers(alloc, &mut reader, &mut source, 2)?.as_str(), want, "{text}");
+        assert_eq!(rt;
+            answers(alloc, &mut reader, &mut source, 2)?.as_slice(),
+            want.as_slice()
+        );
     }
     Ok(())
 }

@@ -1,12 +1,9 @@
-use Rattle.std.proofs.Common.{◌≡◌, ◌∙◌, ◌++◌, [], Some, None, Ok, Err, List, ℕ, ap, sym, arith}
+use Rattle.std.proofs.Common.{◌≡◌, ◌∙◌, ◌++◌, List, ℕ, ap, arith}
 use Rattle.std.proofs.lemmas.Result.{err_from_is_err_and}
-use Rattle.schedule_text.specs.Reading.{Reading, opening}
+use Rattle.schedule_text.specs.Reading.{Reading}
 use Rattle.schedule_text.specs.Transcript.{transcript_line}
-use Rattle.world.specs.WorldSteps as world
-use Rattle.replay.specs.declared.error.ReplayError.TheVariants as errors
-use Rattle.replay.specs.Outcome.{EndsWith}
 use Rattle.replay.proofs.Beginning.{opened, unopened}
-use Rattle.replay.proofs.Progressing.{stopped, finished, advanced, refused_event, starved, starved_first}
+use Rattle.replay.proofs.Progressing.{stopped, finished, advanced, refused_event, starved}
 use Rattle.replay.proofs.replayed.replay_with.Goals as goal
 
 pub returns-in-Err-clause-ends : goal.returns-in-Err-clause-ends
@@ -61,8 +58,8 @@ returns-in_err-take_event-in-Ok-Some-clause-ends g c =
     let refused = rw c.line.ensures.value at c.in_err-take_event-in-Ok-Some.ensures.takes in
     let p = err_from_is_err_and c.from_residual-in_err-take_event-in-Ok-Some.result c.from_residual-in_err-take_event-in-Ok-Some.ensures.1 in
     rw (p.1, p.2)
-        (refused_event m (left c.args.source.now) (left c.loop-turn.source) (left c.next.new.source) (held c.args.sink.now) (held c.loop-turn.sink) (held c.take_event.new.sink)
-            c.loop-turn.pending.items c.loop-turn.reader c.next.new.self kept.going.0 c.loop-turn.world.state c.in-Ok-Some.event e.0 kept.going.1 (rw c.in-Ok-Some.field-0-is at c.in-Ok-Some.ensures.takes) refused)
+    (refused_event m (left c.args.source.now) (left c.loop-turn.source) (left c.next.new.source) (held c.args.sink.now) (held c.loop-turn.sink) (held c.take_event.new.sink)
+    c.loop-turn.pending.items c.loop-turn.reader c.next.new.self kept.going.0 c.loop-turn.world.state c.in-Ok-Some.event e.0 kept.going.1 (rw c.in-Ok-Some.field-0-is at c.in-Ok-Some.ensures.takes) refused)
 
 pub returns-in-Ok-None-clause-ends : goal.returns-in-Ok-None-clause-ends
 returns-in-Ok-None-clause-ends g c =
@@ -71,7 +68,7 @@ returns-in-Ok-None-clause-ends g c =
     let held = g.K.Sink.held in
     let kept = c.loop-turn.invariant in
     finished m (left c.args.source.now) (left c.loop-turn.source) (left c.next.new.source) (held c.args.sink.now) (held c.loop-turn.sink) (held c.finish.new.sink)
-        c.loop-turn.pending.items c.loop-turn.reader c.next.new.self kept.going.0 c.loop-turn.world.state c.finish.result kept.going.1 (rw c.in-Ok-None.field-0-is at c.in-Ok-None.ensures.takes) c.finish.ensures.writes
+    c.loop-turn.pending.items c.loop-turn.reader c.next.new.self kept.going.0 c.loop-turn.world.state c.finish.result kept.going.1 (rw c.in-Ok-None.field-0-is at c.in-Ok-None.ensures.takes) c.finish.ensures.writes
 
 pub returns-in-Err-next-clause-ends : goal.returns-in-Err-next-clause-ends
 returns-in-Err-next-clause-ends g c =
@@ -80,11 +77,11 @@ returns-in-Err-next-clause-ends g c =
     let held = g.K.Sink.held in
     let kept = c.loop-turn.invariant in
     stopped m (left c.args.source.now) (left c.loop-turn.source) (left c.next.new.source) (held c.args.sink.now) (held c.loop-turn.sink) (held c.stop-in-Err-next.new.sink)
-        c.loop-turn.pending.items c.loop-turn.reader c.next.new.self kept.going.0 c.loop-turn.world.state c.in-Err-next.e c.stop-in-Err-next.result
-        kept.going.1 c.in-Err-next.ensures.takes c.in-Err-next.ensures.none_left c.stop-in-Err-next.ensures.stops
+    c.loop-turn.pending.items c.loop-turn.reader c.next.new.self kept.going.0 c.loop-turn.world.state c.in-Err-next.e c.stop-in-Err-next.result
+    kept.going.1 c.in-Err-next.ensures.takes c.in-Err-next.ensures.none_left c.stop-in-Err-next.ensures.stops
 
 pub returns-clause-ends : goal.returns-clause-ends
 returns-clause-ends g c =
     let kept = c.loop-turn.invariant in
     starved g.H.Host.meaning (g.S.Source.left c.args.source.now) (g.S.Source.left c.loop-turn.source) (g.K.Sink.held c.args.sink.now) (g.K.Sink.held c.loop-turn.sink)
-        c.loop-turn.pending.items c.loop-turn.reader kept.going.0 c.loop-turn.world.state kept.going.1
+    c.loop-turn.pending.items c.loop-turn.reader kept.going.0 c.loop-turn.world.state kept.going.1

@@ -1,4 +1,4 @@
-use Rattle.std.proofs.Common.{◌≤◌, Some, sym, ap, ◌∙◌, arith}
+use Rattle.std.proofs.Common.{Some, sym, ap, ◌∙◌, arith}
 use Rattle.std.specs.Prelude.{slice_range}
 use Rattle.world.proofs.MarkLemmas.{start_within, slice_get-cut_from, slice_get-cut_past}
 use Rattle.world.proofs.network.datagram.Goals as goal

@@ -1,4 +1,4 @@
-use Rattle.std.proofs.Common.{◌+◌, ap, arith, inl}
+use Rattle.std.proofs.Common.{ap, arith, inl}
 use Rattle.world.proofs.Draining.{goes_on, ended, is_done, is_full, took, took_none, one_more}
 use Rattle.world.proofs.replica_drain.drain.Goals as goal
 

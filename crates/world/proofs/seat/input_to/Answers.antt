@@ -1,7 +1,6 @@
 use Rattle.std.proofs.Common.{refl, arith, length, ◌<◌}
 use Rattle.std.proofs.lemmas.Option.{slice_get_read}
 use Rattle.nop_types.specs.Given.{given}
-use Rattle.world.specs.SeatOutcomes.{seated_of, did_of}
 use Rattle.world.specs.WorldSteps.{input_at}
 use Rattle.world.proofs.SeatLemmas.{pair_ok, moves_at}
 use Rattle.world.proofs.seat.input_to.Goals as goal
