@@ -5,7 +5,7 @@ mod actors;
 mod client;
 mod controller;
 mod executor;
-mod histories;
+mod history;
 mod kept_answer;
 mod lines;
 mod network;

@@ -10,7 +10,7 @@ ghost use Rattle.world.specs.StateLines.{replicas_text};
 use crate::actors::Actors;
 use crate::client::Client;
 use crate::controller::Controller;
-use crate::histories::history_of;
+use crate::history::history_of;
 use crate::lines::Lines;
 use crate::network::Network;
 use crate::replica::Replica;

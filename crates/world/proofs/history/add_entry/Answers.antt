@@ -1,7 +1,7 @@
 use Rattle.std.proofs.Common.{◌++◌, ◌∷◌, [], sym, ap, ◌∙◌}
 use Rattle.nop_types.specs.declared.request.Request.{Request}
 use Rattle.world.proofs.IdLemmas.{adds_old, adds_new_if}
-use Rattle.world.proofs.histories.add_entry.Goals as goal
+use Rattle.world.proofs.history.add_entry.Goals as goal
 
 pub returns-then-not-is_new : goal.returns-then-not-is_new
 returns-then-not-is_new c = rw c.in-Req.is (adds_old c.args.greatest.now c.args.requests.now.items c.in-Req.request (sym c.is_new.ensures ∙ c.if-not-is_new.true))

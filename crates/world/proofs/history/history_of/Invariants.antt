@@ -1,7 +1,7 @@
 use Rattle.std.proofs.Common.{◌≡◌, take}
 use Rattle.nop_types.specs.Histories.{history_of}
 use Rattle.world.specs.Ids.{TellsNew}
-use Rattle.world.proofs.histories.history_of.Given as goal
+use Rattle.world.proofs.history.history_of.Given as goal
 
 abbrev pub invariant-loop-entry : goal.invariant-loop-entry
 invariant-loop-entry l =

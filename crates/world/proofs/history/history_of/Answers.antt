@@ -4,7 +4,7 @@ use Rattle.nop_types.specs.Histories.{history_of, new_in}
 use Rattle.histories.proofs.Members.{history_of_next_entry}
 use Rattle.world.specs.Ids.{TellsNew}
 use Rattle.world.proofs.IdLemmas.{take_next}
-use Rattle.world.proofs.histories.history_of.Goals as goal
+use Rattle.world.proofs.history.history_of.Goals as goal
 
 pub loop-entry-preserved : goal.loop-entry-preserved
 loop-entry-preserved c =

@@ -1,0 +1,4 @@
+pub mod Merged
+pub mod Rows
+pub mod Slots
+pub mod Winners

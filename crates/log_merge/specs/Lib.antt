@@ -1,0 +1,4 @@
+pub mod Given
+pub mod Merge
+pub mod Merged
+pub mod Starting

@@ -1,0 +1,21 @@
+ghost use Rattle.std.specs.Prelude.{◌≡◌, ◌↔◌, ◌∷◌, ℕ, List, Some, length, map};
+ghost use Rattle.nop_types.specs.declared.request.Request.{Request};
+ghost use Rattle.nop_types.specs.declared.request.Entry.TheVariants.{NoOp, Req};
+ghost use Rattle.nop_types.specs.declared.peer.Change.{Change};
+ghost use Rattle.nop_types.specs.Lists.{IsGreatest, slot_of};
+ghost use Rattle.log_merge.specs.Merge.{merge};
+ghost use Rattle.log_merge.specs.Merged.{HasNoOp, HasLowest, HasDistinctSenders, TellSame};
+
+/// A merge is as long as the longest log. It has a NO-OP exactly where a log has one, and a request exactly where no log has a
+/// NO-OP and that is the request of the lowest sender whose log has the slot.
+pub fn merge_by_slot()
+    ensures longest { (cs : List Change) → IsGreatest (0 ∷ map (λ c. length c.log) cs) (length (merge cs)) }
+    ensures noop { (cs : List Change) (k : ℕ) → ((slot_of (merge cs) k ≡ Some NoOp) ↔ HasNoOp cs k) }
+    ensures request { (cs : List Change) (k : ℕ) (r : Request) → HasDistinctSenders cs → ((slot_of (merge cs) k ≡ Some (Req r)) ↔ HasLowest cs k r) }
+{}
+
+/// A merge depends on who told which log, and not on the order of the changes, nor on anything else in them.
+#[tactic(auto, using(crate::proofs::Merged::merge_of_same))]
+pub fn merge_is_of_pairs()
+    ensures { (cs ds : List Change) → HasDistinctSenders cs → TellSame cs ds → merge cs ≡ merge ds }
+{}

@@ -1,0 +1,11 @@
+//! The merge of the logs that replicas tell the leader of a new view.
+#![tactic(auto)]
+
+mod laws;
+mod merging;
+
+pub use laws::{merge_by_slot, merge_is_of_pairs};
+pub use merging::merge;
+
+#[cfg(test)]
+mod tests;

@@ -1,0 +1,18 @@
+ghost use Rattle.std.specs.Prelude.{◌≡◌, ◌≢◌, ◌<◌, ◌≤◌, ◌+◌, ℕ, List, Some, length, max};
+ghost use Rattle.nop_types.specs.declared.request.Entry.{Entry};
+ghost use Rattle.nop_types.specs.Lists.{slot_of};
+ghost use Rattle.replica_log.specs.Slots.{set_slot, laid};
+
+/// One slot becomes the entry, and all others stay.
+pub fn set_slot_by_slot()
+    ensures len { (l : List Entry) (k : ℕ) (x : Entry) → length (set_slot l k x) ≡ length l }
+    ensures here { (l : List Entry) (k : ℕ) (x : Entry) → 1 ≤ k → k ≤ length l → slot_of (set_slot l k x) k ≡ Some x }
+    ensures others { (l : List Entry) (k : ℕ) (x : Entry) (i : ℕ) → i ≢ k → slot_of (set_slot l k x) i ≡ slot_of l i }
+{}
+
+/// The slots of the one log, and above them those of the other.
+pub fn laid_by_slot()
+    ensures len { (l k : List Entry) → length (laid l k) ≡ max (length l) (length k) }
+    ensures front { (l k : List Entry) (i : ℕ) → i ≤ length l → slot_of (laid l k) i ≡ slot_of l i }
+    ensures above { (l k : List Entry) (i : ℕ) → length l < i → slot_of (laid l k) i ≡ slot_of k i }
+{}

@@ -1,0 +1,11 @@
+//! The log that a replica keeps: a list of entries, by slots that count from 1.
+#![tactic(auto)]
+
+mod laws;
+mod log;
+
+pub use laws::{laid_by_slot, set_slot_by_slot};
+pub use log::ReplicaLog;
+
+#[cfg(test)]
+mod tests;
