@@ -1,0 +1,17 @@
+/// How the program ends; the number is its exit status.
+#[derive(Clone, Copy, Debug, PartialEq, Eq)]
+pub enum Status {
+    /// The command ended as it is defined.
+    Done = 0,
+    /// A line of the schedule is bad.
+    Malformed = 1,
+    /// The words are not taken.
+    Usage = 2,
+    ReadFault = 3,
+    WriteFault = 4,
+    /// A port or a link failed.
+    LinkFault = 5,
+    NoMemory = 6,
+    /// A client took all its turns, and one of its ops was not accepted.
+    Unanswered = 7,
+}
