@@ -2,17 +2,21 @@ use crate::run::run;
 use crate::status::Status;
 use outside::{ClockMem, PortsMem, ReadMem, Sink, Source, WriteMem};
 use std::alloc::{AllocError, Global};
+use std::process::Abort;
 use std::test::Fail;
 
 const HEADER: &str = "nopaxos 1 replicas 3 sequencers 1 clients 1\n";
 
 const OPENING: &str = "transcript 1 replicas 3 sequencers 1 clients 1\n";
 
-const ONE_PUT: &str = "nopaxos 1 replicas 3 sequencers 1 clients 1\nsubmit c0 5000016b000176\ndeliver 0 s0\ndeliver 1 r0\ndeliver 1 r1\ndeliver 2 c0\ndeliver 3 c0\n";
+const ONE_PUT: &str =
+    "nopaxos 1 replicas 3 sequencers 1 clients 1\nsubmit c0 5000016b000176\ndeliver 0 s0\ndeliver 1 r0\ndeliver 1 r1\ndeliver 2 c0\ndeliver 3 c0\n";
 
-const ONE_PUT_SENT: &str = "transcript 1 replicas 3 sequencers 1 clients 1\nsubmit c0 1 5000016b000176\nsend 0 c0 s* request 25\nsend 1 s0 r* stamped 37\nsend 2 r0 c0 reply 36\nsend 3 r1 c0 reply 32\naccept c0 1 6e6f6e65\n";
+const ONE_PUT_SENT: &str =
+    "transcript 1 replicas 3 sequencers 1 clients 1\nsubmit c0 1 5000016b000176\nsend 0 c0 s* request 25\nsend 1 s0 r* stamped 37\nsend 2 r0 c0 reply 36\nsend 3 r1 c0 reply 32\naccept c0 1 6e6f6e65\n";
 
-const ONE_PUT_END: &str = "replica r0 up normal 0 1 1 0\nreplica r1 up normal 0 1 1 0\nreplica r2 up normal 0 1 0 0\nhistory 1 c0 1 5000016b000176\nend\n";
+const ONE_PUT_END: &str =
+    "replica r0 up normal 0 1 1 0\nreplica r1 up normal 0 1 1 0\nreplica r2 up normal 0 1 0 0\nhistory 1 c0 1 5000016b000176\nend\n";
 
 const USAGE: &str = "usage: nopaxos replay | gen | node | sequencer | controller | client\n";
 
@@ -47,12 +51,12 @@ fn joined(alloc: Global, texts: &[&str]) -> Result<Vec<u8>, AllocError> {
 
 // Replays the schedule, in pieces of several sizes.
 fn replays(
-    rt: HostRuntime,
+    rt: &impl Abort,
+    alloc: Global,
     schedule: &[&str],
     status: Status,
     transcript: &[&str],
 ) -> Result<(), Fail> {
-    let alloc = rt.alloc();
     let want = joined(alloc, transcript)?;
     for most in [1, 7, 4096] {
         let mut source = ReadMem::with_limit(joined(alloc, schedule)?, most);
@@ -66,24 +70,47 @@ fn replays(
 
 #[test]
 fn one_put(rt: HostRuntime) -> Result<(), Fail> {
-    replays(rt, &[ONE_PUT], Status::Done, &[ONE_PUT_SENT, ONE_PUT_END])
+    replays(
+        &rt,
+        rt.alloc(),
+        &[ONE_PUT],
+        Status::Done,
+        &[ONE_PUT_SENT, ONE_PUT_END],
+    )
 }
 
 #[test]
 fn schedules_without_events(rt: HostRuntime) -> Result<(), Fail> {
-    let end = "replica r0 up normal 0 1 0 0\nreplica r1 up normal 0 1 0 0\nreplica r2 up normal 0 1 0 0\nend\n";
-    replays(rt, &[HEADER], Status::Done, &[OPENING, end])?;
-    replays(rt, &[], Status::Malformed, &["error line 1 rule 3\n"])
+    let end =
+        "replica r0 up normal 0 1 0 0\nreplica r1 up normal 0 1 0 0\nreplica r2 up normal 0 1 0 0\nend\n";
+    replays(&rt, rt.alloc(), &[HEADER], Status::Done, &[OPENING, end])?;
+    replays(
+        &rt,
+        rt.alloc(),
+        &[],
+        Status::Malformed,
+        &["error line 1 rule 3\n"],
+    )
 }
 
 #[test]
 fn no_accept_without_the_leader(rt: HostRuntime) -> Result<(), Fail> {
-    let events = "submit c0 5000016b000176\ndeliver 0 s0\ndeliver 1 r0\ndeliver 1 r1\ndeliver 1 r2\ndeliver 3 c0\ndeliver 4 c0\n";
-    let lines = "submit c0 1 5000016b000176\nsend 0 c0 s* request 25\nsend 1 s0 r* stamped 37\nsend 2 r0 c0 reply 36\nsend 3 r1 c0 reply 32\nsend 4 r2 c0 reply 32\n";
-    let end = "replica r0 up normal 0 1 1 0\nreplica r1 up normal 0 1 1 0\nreplica r2 up normal 0 1 1 0\nhistory 1 c0 1 5000016b000176\nend\n";
-    replays(rt, &[HEADER, events], Status::Done, &[OPENING, lines, end])?;
+    let events =
+        "submit c0 5000016b000176\ndeliver 0 s0\ndeliver 1 r0\ndeliver 1 r1\ndeliver 1 r2\ndeliver 3 c0\ndeliver 4 c0\n";
+    let lines =
+        "submit c0 1 5000016b000176\nsend 0 c0 s* request 25\nsend 1 s0 r* stamped 37\nsend 2 r0 c0 reply 36\nsend 3 r1 c0 reply 32\nsend 4 r2 c0 reply 32\n";
+    let end =
+        "replica r0 up normal 0 1 1 0\nreplica r1 up normal 0 1 1 0\nreplica r2 up normal 0 1 1 0\nhistory 1 c0 1 5000016b000176\nend\n";
     replays(
-        rt,
+        &rt,
+        rt.alloc(),
+        &[HEADER, events],
+        Status::Done,
+        &[OPENING, lines, end],
+    )?;
+    replays(
+        &rt,
+        rt.alloc(),
         &[HEADER, events, "deliver 2 c0\n"],
         Status::Done,
         &[OPENING, lines, "accept c0 1 6e6f6e65\n", end],
@@ -92,24 +119,41 @@ fn no_accept_without_the_leader(rt: HostRuntime) -> Result<(), Fail> {
 
 #[test]
 fn an_old_request_after_the_next(rt: HostRuntime) -> Result<(), Fail> {
-    let events = "submit c0 4700016b\ndeliver 4 s0\ndeliver 5 r0\ndeliver 5 r1\ndeliver 0 s0\ndeliver 8 r0\ndeliver 8 r1\n";
-    let lines = "submit c0 2 4700016b\nsend 4 c0 s* request 22\nsend 5 s0 r* stamped 34\nsend 6 r0 c0 reply 34\nsend 7 r1 c0 reply 32\nsend 8 s0 r* stamped 37\nsend 9 r1 c0 reply 32\n";
-    let end = "replica r0 up normal 0 1 3 0\nreplica r1 up normal 0 1 3 0\nreplica r2 up normal 0 1 0 0\nhistory 1 c0 1 5000016b000176\nhistory 2 c0 2 4700016b\nend\n";
-    replays(rt, &[ONE_PUT, events], Status::Done, &[ONE_PUT_SENT, lines, end])
+    let events =
+        "submit c0 4700016b\ndeliver 4 s0\ndeliver 5 r0\ndeliver 5 r1\ndeliver 0 s0\ndeliver 8 r0\ndeliver 8 r1\n";
+    let lines =
+        "submit c0 2 4700016b\nsend 4 c0 s* request 22\nsend 5 s0 r* stamped 34\nsend 6 r0 c0 reply 34\nsend 7 r1 c0 reply 32\nsend 8 s0 r* stamped 37\nsend 9 r1 c0 reply 32\n";
+    let end =
+        "replica r0 up normal 0 1 3 0\nreplica r1 up normal 0 1 3 0\nreplica r2 up normal 0 1 0 0\nhistory 1 c0 1 5000016b000176\nhistory 2 c0 2 4700016b\nend\n";
+    replays(
+        &rt,
+        rt.alloc(),
+        &[ONE_PUT, events],
+        Status::Done,
+        &[ONE_PUT_SENT, lines, end],
+    )
 }
 
 #[test]
 fn a_busy_client_and_a_crashed_replica(rt: HostRuntime) -> Result<(), Fail> {
     let events = "submit c0 5000016b000176\nsubmit c0 5000016b000176\ncrash r0\ndeliver 0 r0\n";
     let lines = "submit c0 1 5000016b000176\nsend 0 c0 s* request 25\nbusy c0\ndead r0\n";
-    let end = "replica r0 crashed normal 0 1 0 0\nreplica r1 up normal 0 1 0 0\nreplica r2 up normal 0 1 0 0\nend\n";
-    replays(rt, &[HEADER, events], Status::Done, &[OPENING, lines, end])
+    let end =
+        "replica r0 crashed normal 0 1 0 0\nreplica r1 up normal 0 1 0 0\nreplica r2 up normal 0 1 0 0\nend\n";
+    replays(
+        &rt,
+        rt.alloc(),
+        &[HEADER, events],
+        Status::Done,
+        &[OPENING, lines, end],
+    )
 }
 
 #[test]
 fn bad_lines(rt: HostRuntime) -> Result<(), Fail> {
     replays(
-        rt,
+        &rt,
+        rt.alloc(),
         &[HEADER, "submit c0 5000016b000176\ndeliver 1 r0\n"],
         Status::Malformed,
         &[
@@ -124,8 +168,20 @@ fn bad_lines(rt: HostRuntime) -> Result<(), Fail> {
     }
     let rule_1 = &[OPENING, "error line 2 rule 1\n"];
     let rule_3 = &[OPENING, "error line 2 rule 3\n"];
-    replays(rt, &[HEADER, x.as_str(), "x"], Status::Malformed, rule_1)?;
-    replays(rt, &[HEADER, x.as_str(), "\n"], Status::Malformed, rule_3)
+    replays(
+        &rt,
+        rt.alloc(),
+        &[HEADER, x.as_str(), "x"],
+        Status::Malformed,
+        rule_1,
+    )?;
+    replays(
+        &rt,
+        rt.alloc(),
+        &[HEADER, x.as_str(), "\n"],
+        Status::Malformed,
+        rule_3,
+    )
 }
 
 #[test]
@@ -134,7 +190,14 @@ fn a_source_that_fails(rt: HostRuntime) -> Result<(), Fail> {
     // The most bytes of a read, the read that fails, and what was written then.
     for (most, failing, texts) in [
         (4096, 1, ["", ""]),
-        (82, 2, [OPENING, "submit c0 1 5000016b000176\nsend 0 c0 s* request 25\nsend 1 s0 r* stamped 37\n"]),
+        (
+            82,
+            2,
+            [
+                OPENING,
+                "submit c0 1 5000016b000176\nsend 0 c0 s* request 25\nsend 1 s0 r* stamped 37\n",
+            ],
+        ),
         (43, 2, ["", ""]),
         (44, 2, [OPENING, ""]),
     ] {
@@ -159,7 +222,10 @@ fn a_sink_that_fails(rt: HostRuntime) -> Result<(), Fail> {
     ] {
         let mut source = ReadMem::new(joined(alloc, &[ONE_PUT])?);
         let mut sink = WriteMem::with_faults(alloc, 16, &[2])?;
-        assert_eq!(rt; run_words(alloc, words, &mut source, &mut sink)?, Status::WriteFault);
+        assert_eq!(rt;
+            run_words(alloc, words, &mut source, &mut sink)?,
+            Status::WriteFault
+        );
         assert_eq!(rt; sink.as_slice(), &joined(alloc, &texts)?[..16]);
         assert_eq!(rt; sink.faults(), 1);
     }
@@ -181,7 +247,11 @@ fn words_that_are_not_taken(rt: HostRuntime) -> Result<(), Fail> {
     ] {
         let mut source = ReadMem::new(joined(alloc, &[ONE_PUT])?);
         let mut sink = WriteMem::new(alloc);
-        assert_eq!(rt; run_words(alloc, words, &mut source, &mut sink)?, Status::Usage, "{words}");
+        assert_eq!(rt;
+            run_words(alloc, words, &mut source, &mut sink)?,
+            Status::Usage,
+            "{words}"
+        );
         assert_eq!(rt; sink.as_slice(), USAGE.as_bytes());
         assert_eq!(rt; source.as_slice(), ONE_PUT.as_bytes());
     }
