@@ -2,15 +2,21 @@
 # Counts the instructions of `nopaxos replay` on schedules of rising length, with valgrind's callgrind, and measures its time and
 # its greatest memory without it.
 #
-#   bench/replay.sh PROGRAM [LINES..]
+#   bench/replay.sh [LINES..]
 #
-# PROGRAM is the built program. LINES are the lengths of the schedules; without any, 10,000, 100,000 and 1,000,000 lines.
-# A schedule has few puts, and many deliveries of packets that were delivered before, so the logs stay short.
+# LINES are the lengths of the schedules; without any, 10,000, 100,000 and 1,000,000 lines. The program is built first, unless
+# NOPAXOS names one that is built. A schedule has few puts, and many deliveries of packets that were delivered before, so the
+# logs stay short. The greatest memory is told from about 14 MiB on.
 set -eu
 
-program=$1
-shift
 [ $# -gt 0 ] || set -- 10000 100000 1000000
+
+crate=$(cd "$(dirname "$0")/../crates/nopaxos" && pwd)
+program=${NOPAXOS:-$crate/out/nopaxos}
+if [ -z "${NOPAXOS:-}" ]; then
+    # an empty schedule, which is malformed
+    (cd "$crate" && rt run -- replay </dev/null >/dev/null) || [ $? -eq 1 ]
+fi
 
 folder=$(mktemp -d)
 trap 'rm -rf "$folder"' EXIT

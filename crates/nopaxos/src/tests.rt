@@ -1,7 +1,9 @@
+use crate::adapters::{StandardIn, StandardOut};
 use crate::run::run;
 use crate::status::Status;
-use outside::{ClockMem, PortsMem, ReadMem, Sink, Source, WriteMem};
+use outside::{ClockMem, PortsMem, ReadMem, Sink, Source, WriteError, WriteMem};
 use std::alloc::{AllocError, Global};
+use std::io::Cursor;
 use std::process::Abort;
 use std::test::Fail;
 
@@ -215,10 +217,10 @@ fn a_source_that_fails(rt: HostRuntime) -> Result<(), Fail> {
 #[test]
 fn a_sink_that_fails(rt: HostRuntime) -> Result<(), Fail> {
     let alloc = rt.alloc();
-    // The words, and what the whole output would be.
-    for (words, texts) in [
-        ("nopaxos replay", [ONE_PUT_SENT, ONE_PUT_END]),
-        ("nopaxos stop", [USAGE, ""]),
+    // The words, and what one write took.
+    for (words, text) in [
+        ("nopaxos replay", "transcript 1 rep"),
+        ("nopaxos stop", "usage: nopaxos r"),
     ] {
         let mut source = ReadMem::new(joined(alloc, &[ONE_PUT])?);
         let mut sink = WriteMem::with_faults(alloc, 16, &[2])?;
@@ -226,7 +228,7 @@ fn a_sink_that_fails(rt: HostRuntime) -> Result<(), Fail> {
             run_words(alloc, words, &mut source, &mut sink)?,
             Status::WriteFault
         );
-        assert_eq!(rt; sink.as_slice(), &joined(alloc, &texts)?[..16]);
+        assert_eq!(rt; sink.as_slice(), text.as_bytes());
         assert_eq!(rt; sink.faults(), 1);
     }
     Ok(())
@@ -273,4 +275,27 @@ fn numbers_of_the_statuses(rt: HostRuntime) {
     for (i, status) in statuses.iter().enumerate() {
         assert_eq!(rt; *status as usize, i);
     }
+}
+
+#[test]
+fn a_reader_of_std_as_a_source(rt: HostRuntime) {
+    let mut source = StandardIn::new(b"0123456789".as_slice());
+    let mut buf = [0u8; 8];
+    assert_eq!(rt; source.read(&mut buf), Ok(8));
+    assert_eq!(rt; buf.as_slice(), b"01234567".as_slice());
+    assert_eq!(rt; source.read(&mut buf), Ok(2));
+    assert_eq!(rt; &buf[..2], b"89".as_slice());
+    assert_eq!(rt; source.read(&mut buf), Ok(0));
+    assert_eq!(rt; source.faults(), 0);
+}
+
+#[test]
+fn a_writer_of_std_as_a_sink(rt: HostRuntime) {
+    let mut sink = StandardOut::new(Cursor::new([0u8; 4]));
+    assert_eq!(rt; sink.write(b"012"), Ok(3));
+    assert_eq!(rt; sink.write(b"345"), Ok(1));
+    assert_eq!(rt; sink.write(b""), Ok(0));
+    assert_eq!(rt; sink.faults(), 0);
+    assert_eq!(rt; sink.write(b"4"), Err(WriteError::Failed));
+    assert_eq!(rt; sink.faults(), 1);
 }
