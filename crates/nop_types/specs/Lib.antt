@@ -8,4 +8,6 @@ pub mod Lines
 pub mod Lists
 pub mod Meaning
 pub mod Ranges
+pub mod Slots
+pub mod Stamps
 pub mod Views

@@ -14,7 +14,8 @@ use Rattle.oum_receiver.specs.declared.verdict.Verdict.TheVariants.{Queued, Old,
 use Rattle.oum_receiver.specs.Front.{Message, front_at}
 use Rattle.oum_receiver.specs.Requests.{is_from}
 use Rattle.oum_receiver.specs.Receiving.{Receiving, opened, is_old, verdict_of, judged, offered, front_of, front_taken, advanced}
-use Rattle.oum_receiver.specs.Runs.{IsStampedBy, WasStamped}
+use Rattle.nop_types.specs.Stamps.{WasStamped}
+use Rattle.oum_receiver.specs.Runs.{IsStampedBy}
 use Rattle.oum_receiver.proofs.Entries.{get_kept}
 use Rattle.oum_receiver.proofs.Sound.{queued_tests, both_false, same_number}
 

@@ -3,7 +3,7 @@ use Rattle.std.specs.Prelude.{◌≡◌, ℕ, ◌+◌, ⊤, List, [], ◌∷◌,
 use Rattle.std.specs.FinMap as finite
 use Rattle.nop_types.specs.declared.request.Request.{Request}
 use Rattle.nop_types.specs.declared.datagram.Stamped.{Stamped}
-use Rattle.nop_types.specs.Lists.{Has}
+use Rattle.nop_types.specs.Stamps.{WasStamped}
 use Rattle.oum_receiver.specs.Front.{Front, Nothing, Message, Dropped}
 use Rattle.oum_receiver.specs.Receiving.{Receiving, opened, offered, front_of, front_taken, advanced}
 
@@ -88,10 +88,6 @@ IsUninterrupted (Reset session next ∷ calls) = ⊥
 abbrev pub IsConsecutive : ℕ → ℕ → List HandedUp → Type 0
 IsConsecutive session number [] = ⊤
 IsConsecutive session number (h ∷ hs) = (h.session ≡ session) × (h.number ≡ number) × IsConsecutive session (number + 1) hs
-
--- among the packets one has this session, number and request
-abbrev pub WasStamped : List Stamped → ℕ → ℕ → Request → Type 0
-WasStamped packets session number request = Has packets (record { session = session; number = number; request = request })
 
 -- each queued request was stamped with the receiver's session and its number
 abbrev pub IsStampedBy : List Stamped → Receiving → Type 0

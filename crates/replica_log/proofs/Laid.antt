@@ -5,7 +5,7 @@ use Rattle.std.proofs.lemmas.Option.{slice_get_past}
 use Rattle.std.specs.Prelude.{slice_get}
 use Rattle.nop_types.specs.declared.request.Entry.{Entry}
 use Rattle.nop_types.specs.Lists.{slot_of}
-use Rattle.replica_log.specs.Slots.{laid}
+use Rattle.nop_types.specs.Slots.{laid}
 
 pub laid_is_append : (l k : List Entry) → laid l k ≡ l ++ drop (length l) k
 laid_is_append [] k = refl

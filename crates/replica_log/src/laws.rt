@@ -1,7 +1,7 @@
 ghost use Rattle.std.specs.Prelude.{◌≡◌, ◌≢◌, ◌<◌, ◌≤◌, ◌+◌, ℕ, List, Some, length, max};
 ghost use Rattle.nop_types.specs.declared.request.Entry.{Entry};
 ghost use Rattle.nop_types.specs.Lists.{slot_of};
-ghost use Rattle.replica_log.specs.Slots.{set_slot, laid};
+ghost use Rattle.nop_types.specs.Slots.{set_slot, laid};
 
 /// One slot becomes the entry, and all others stay.
 pub fn set_slot_by_slot()

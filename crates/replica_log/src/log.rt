@@ -19,7 +19,7 @@ ghost use Rattle.std.specs.Prelude.{
 };
 ghost use Rattle.nop_types.specs.declared.request.Entry.TheVariants.{NoOp};
 ghost use Rattle.nop_types.specs.Lists.{slot_of};
-ghost use Rattle.replica_log.specs.Slots.{set_slot, laid};
+ghost use Rattle.nop_types.specs.Slots.{set_slot, laid};
 
 use nop_types::{Entry, Log, MAX_SLOTS, NoMemory};
 use std::alloc::Global;

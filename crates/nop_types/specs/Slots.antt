@@ -1,4 +1,4 @@
--- What the calls of a log do to its list of entries.
+-- Slots that are written.
 use Rattle.std.specs.Prelude.{ℕ, zero, suc, List, [], ◌∷◌, slice_set}
 use Rattle.nop_types.specs.declared.request.Entry.{Entry}
 
