@@ -24,7 +24,9 @@ fn is_request(entry: &Entry, id: u64, op: &[u8]) -> bool {
 fn copies_hold_what_was_copied(rt: HostRuntime) -> Result<(), Fail> {
     let alloc = rt.alloc();
     let mut log = Log::new(alloc);
-    log.push(Entry::Req(request(alloc, 3, b"op")?)).ok().ok_or("memory")?;
+    log.push(Entry::Req(request(alloc, 3, b"op")?))
+        .ok()
+        .ok_or("memory")?;
     log.push(Entry::NoOp).ok().ok_or("memory")?;
     let copy = log.try_clone().ok().ok_or("memory")?;
     assert_eq!(rt; copy.as_slice().len(), 2);
@@ -71,7 +73,10 @@ fn configurations(rt: HostRuntime) -> Result<(), Fail> {
         ((3, 1, 17), false),
     ];
     for ((replicas, sequencers, clients), is_one) in cases {
-        assert_eq!(rt; Config::new(replicas, sequencers, clients).is_some(), is_one);
+        assert_eq!(rt;
+            Config::new(replicas, sequencers, clients).is_some(),
+            is_one
+        );
     }
     Ok(())
 }
