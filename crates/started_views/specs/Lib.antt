@@ -1,5 +1,9 @@
+pub mod Agreement
+pub mod Fixes
 pub mod Logs
+pub mod Parts
 pub mod Past
 pub mod Quorums
 pub mod Settled
 pub mod Started
+pub mod Worked

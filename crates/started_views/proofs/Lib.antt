@@ -1,0 +1,16 @@
+pub mod Certificates
+pub mod Changes
+pub mod Fixing
+pub mod Keeping
+pub mod Lists
+pub mod Logs
+pub mod Merges
+pub mod Opening
+pub mod Parts
+pub mod Passing
+pub mod Past
+pub mod Pasts
+pub mod Quorums
+pub mod Slots
+pub mod Views
+pub mod Worked
