@@ -1,11 +1,13 @@
 pub mod Accept
 pub mod Clients
+pub mod Concluding
 pub mod Counting
 pub mod Keep
 pub mod Local
 pub mod Outside
 pub mod Puts
 pub mod Queue
+pub mod Runs
 pub mod Stamp
 pub mod Stays
 pub mod Submit

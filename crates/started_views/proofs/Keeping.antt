@@ -1,21 +1,24 @@
 -- Fixed prefixes are kept: by later starts, by the logs of later leaders, and by the log from which the history is read.
-use Rattle.std.proofs.Common.{◌≡◌, ℕ, ◌+◌, ◌*◌, ◌<◌, ◌≤◌, List, length, take, Some, refl, sym, ap, subst, ◌∙◌, arith, inl, inr}
+use Rattle.std.proofs.Common.{◌≡◌, ℕ, ◌+◌, ◌*◌, ◌<◌, ◌≤◌, List, length, take, refl, sym, ap, subst, ◌∙◌, arith, zero, suc, false, inl, inr, length-take-le}
+use Rattle.std.specs.Prelude.{◌⊎◌}
+use Rattle.std.proofs.lemmas.Bool.{cases_lt}
 use Rattle.std.proofs.lemmas.Option.{same_Some}
 use Rattle.nop_types.specs.declared.view.View.{View}
 use Rattle.nop_types.specs.declared.request.Entry.{Entry}
 use Rattle.nop_types.specs.declared.peer.Change.{Change}
 use Rattle.nop_types.specs.declared.datagram.Stamped.{Stamped}
-use Rattle.nop_types.specs.Lists.{IsPrefixOf, slot_of}
-use Rattle.nop_types.specs.Views.{AtMost, Below, first_view, leader_of}
+use Rattle.nop_types.specs.Lists.{IsPrefixOf}
+use Rattle.nop_types.specs.Views.{AtMost, Below, first_view, leader_of, outranks}
 use Rattle.log_merge.specs.Merge.{merge}
 use Rattle.log_merge.specs.Starting.{Start, greatest, kept, opened}
 use Rattle.started_views.specs.Logs.{SameTo}
 use Rattle.started_views.specs.Past.{Past, HadLog, LeaderHad, IsStart, IsStarted}
 use Rattle.started_views.specs.Settled.{Certificate, Fixed, Anchored, MainLog}
 use Rattle.started_views.specs.Started.{Grounds, FixedPrefixesAreKept, MainLogHasFixed, SynchronisedAgree}
-use Rattle.started_views.proofs.Slots.{prefix_of_take, prefix_trans, prefix_from_slots, prefix_slot, slot_from_take, slot_in_take, slot_within, slot_some}
+use Rattle.started_views.proofs.Slots.{prefix_of_take, prefix_trans}
+use Rattle.started_views.proofs.Logs.{same_from_prefix}
 use Rattle.started_views.proofs.Quorums.{leader_within}
-use Rattle.started_views.proofs.Views.{cases_view, same_view, at_most_both, at_most_trans, not_outranked, below_induction}
+use Rattle.started_views.proofs.Views.{cases_view, same_view, at_most_both, at_most_trans, at_most_below, not_outranked, below_induction, rank_decides, RanksAtMost, ranks_refl, ranks_trans, ranks_cases, ranks_to_false}
 use Rattle.started_views.proofs.Certificates.{comparable, greatest_started, greatest_below, greatest_not_below}
 use Rattle.started_views.proofs.Passing.{passes_later, passes_same}
 
@@ -97,18 +100,65 @@ module _ (f : ℕ) (stamps : List Stamped) (last_normal : ℕ → View) (past : 
       let low = at_most_main v a main (main_started v a main) q (leader_within f w) in
       leader_begins w v m a s fixed (at_most_trans w (last_normal q) v (h.log_in_started q w m fixed.leads).1 low) (main_leads v a main)
 
+  -- what a replica has up to its sync point is nothing, or a prefix that is fixed in a view at most its own
+  anchored_is : (u : View) (b l : List Entry) (s : ℕ) → LeaderHad f past u b → SameTo s l b → (w : View) → AtMost w u → (m : List Entry) → Fixed f past w m s → take s m ≡ take s l
+  anchored_is u b l s lead same w low m fixed =
+      let long : s ≤ length (take s m) = omega (arith, length-take-le s m fixed.within) in
+      (same_from_prefix s (take s m) m b long (prefix_of_take s m) (leader_begins w u m b s fixed low lead)).same ∙ sym same.same
+
+  synchronised_begins : (u : View) (b l k : List Entry) (s : ℕ) → LeaderHad f past u b → SameTo s l b → Anchored f past u s
+      → ((w : View) → AtMost w u → (m : List Entry) → Fixed f past w m s → IsPrefixOf (take s m) k) → IsPrefixOf (take s l) k
+  synchronised_begins u b l k s lead same (inl e) fixed = rw e (k, refl)
+  synchronised_begins u b l k s lead same (inr (w, low, m, at)) fixed = subst (λ t. IsPrefixOf t k) (anchored_is u b l s lead same w low m at) (fixed w low m at)
+
+  -- whatever a later view is started with, and its leader's log, begin with it
+  pub certificate_synchronised : (u v : View) (cs : List Change) (b l : List Entry) (s : ℕ) → LeaderHad f past u b → SameTo s l b → Anchored f past u s → Certificate f past v cs → Below u v → IsPrefixOf (take s l) (opened v cs).log
+  certificate_synchronised u v cs b l s lead same at c below =
+      synchronised_begins u b l (opened v cs).log s lead same at (λ w low m fixed. certificate_keeps w v cs m s c fixed (at_most_below w u v low below))
+
+  pub start_synchronised : (u v : View) (x : Start) (b l : List Entry) (s : ℕ) → LeaderHad f past u b → SameTo s l b → Anchored f past u s → IsStart past v x → Below u v → IsPrefixOf (take s l) x.log
+  start_synchronised u v x b l s lead same at is below =
+      synchronised_begins u b l x.log s lead same at (λ w low m fixed. keeps w m s fixed v (at_most_below w u v low below) x is)
+
+  pub leader_synchronised : (u v : View) (a b l : List Entry) (s : ℕ) → LeaderHad f past u b → SameTo s l b → Anchored f past u s → LeaderHad f past v a → AtMost u v → IsPrefixOf (take s l) a
+  leader_synchronised u v a b l s lead same at leads le =
+      synchronised_begins u b l a s lead same at (λ w low m fixed. leader_begins w v m a s fixed (at_most_trans w u v low le) leads)
+
   main_agrees : (v u : View) (a b l : List Entry) (s : ℕ) → MainLog f last_normal past v a → LeaderHad f past u b → SameTo s l b → Anchored f past u s → IsPrefixOf (take s l) a
-  main_agrees v u a b l s main lead same (inl e) = rw e (a, refl)
-  main_agrees v u a b l s main lead same (inr (w, low, m, fixed)) =
-      prefix_from_slots (take s l) a (λ k x e.
-      let r = slot_from_take s l k x e in
-      let pos = (slot_within (take s l) k x e).0 in
-      let y = slot_some m k pos (omega (arith, r.0, fixed.within)) in
-      let begun = slot_in_take s m k y.0 r.0 y.1 in
-      let here = prefix_slot (take s m) b k y.0 (leader_begins w u m b s fixed low lead) begun in
-      let there = (slot_from_take s b k x (subst (λ t. slot_of t k ≡ Some x) same.same e)).1 in
-      let one : y.0 ≡ x = same_Some y.0 x (sym here ∙ there) in
-      prefix_slot (take s m) a k y.0 (main_has v w a m s main fixed) begun ∙ ap (λ (t : Entry). Some t) one)
+  main_agrees v u a b l s main lead same at = synchronised_begins u b l a s lead same at (λ w low m fixed. main_has v w a m s main fixed)
+
+-- an anchor of a view is one of each view above it
+pub anchored_later : (f : ℕ) (past : Past) (u v : View) (s : ℕ) → AtMost u v → Anchored f past u s → Anchored f past v s
+anchored_later f past u v s le (inl e) = inl e
+anchored_later f past u v s le (inr (w, low, m, fixed)) = inr (w, at_most_trans w u v low le, m, fixed)
+
+-- ---- the log from which the history is read
+
+pub main_log_is_one : (f : ℕ) (last_normal : ℕ → View) (past : Past) (v w : View) (a b : List Entry) → MainLog f last_normal past v a → MainLog f last_normal past w b → (v ≡ w) × (a ≡ b)
+main_log_is_one f last_normal past v w a b h g =
+    let low = subst (λ t. outranks t w ≡ false) h.held.2 (g.greatest h.held.0 h.held.1) in
+    let high = subst (λ t. outranks t v ≡ false) g.held.2 (h.greatest g.held.0 g.held.1) in
+    let same : v ≡ w = rank_decides v w low high in
+    let q = leader_of w (2 * f + 1) in
+    let had : HadLog past q (last_normal q) a = subst (λ t. HadLog past (leader_of t (2 * f + 1)) (last_normal (leader_of t (2 * f + 1))) a) same h.current in
+    (same, same_Some a b (sym had ∙ g.current))
+
+-- of the first n + 1 views one is outranked by none
+greatest_of : (views : ℕ → View) (n : ℕ) → (q : ℕ) × (q < suc n) × ((r : ℕ) → r < suc n → RanksAtMost (views r) (views q))
+greatest_of views zero = (0, omega arith, λ r l. let e : r ≡ 0 = omega (arith, l) in rw e (ranks_refl (views 0)))
+greatest_of views (suc n) = pick (greatest_of views n) (ranks_cases (views (suc n)) (views (greatest_of views n).0))
+  where
+    pick : (g : (q : ℕ) × (q < suc n) × ((r : ℕ) → r < suc n → RanksAtMost (views r) (views q))) → RanksAtMost (views (suc n)) (views g.0) ⊎ RanksAtMost (views g.0) (views (suc n))
+        → (q : ℕ) × (q < suc (suc n)) × ((r : ℕ) → r < suc (suc n) → RanksAtMost (views r) (views q))
+    pick g (inl low) = (g.0, omega (arith, g.1), λ r l. elim (cases_lt r (suc n)) [ inl k ↦ g.2 r k | inr k ↦ let e : r ≡ suc n = omega (arith, l, k) in rw e low ])
+    pick g (inr high) = (suc n, omega arith, λ r l. elim (cases_lt r (suc n)) [ inl k ↦ ranks_trans (views r) (views g.0) (views (suc n)) (g.2 r k) high | inr k ↦ let e : r ≡ suc n = omega (arith, l, k) in rw e (ranks_refl (views (suc n))) ])
+
+pub main_log_exists : (f : ℕ) (stamps : List Stamped) (last_normal : ℕ → View) (past : Past) → Grounds f stamps last_normal past → (v : View) × (a : List Entry) × MainLog f last_normal past v a
+main_log_exists f stamps last_normal past h =
+    let g = greatest_of last_normal (2 * f) in
+    let v = last_normal g.0 in
+    let l = h.current_log (leader_of v (2 * f + 1)) (leader_within f v) in
+    (v, l.0, record { held = (g.0, omega (arith, g.1), refl); greatest = λ r k. ranks_to_false (last_normal r) v (g.2 r (omega (arith, k))); current = l.1 })
 
 pub fixed_prefixes_are_kept : FixedPrefixesAreKept
 fixed_prefixes_are_kept f stamps last_normal past h w v m s x fixed below is = keeps f stamps last_normal past h w m s fixed v below x is

@@ -1,5 +1,5 @@
 -- How far two logs of a view are the same, and how a log goes toward another.
-use Rattle.std.proofs.Common.{◌≡◌, ℕ, ◌≤◌, List, [], ◌∷◌, ◌++◌, length, take, Some, refl, sym, ap, subst, ◌∙◌, arith, inl, inr, length-take-le}
+use Rattle.std.proofs.Common.{zero, suc, ◌≡◌, ℕ, ◌≤◌, List, [], ◌∷◌, ◌++◌, length, take, Some, refl, sym, ap, subst, ◌∙◌, arith, inl, inr, length-take-le}
 use Rattle.std.proofs.lemmas.Option.{same_Some}
 use Rattle.nop_types.specs.declared.request.Entry.{Entry}
 use Rattle.nop_types.specs.Lists.{IsPrefixOf, slot_of}
@@ -54,6 +54,16 @@ same_less s t l m le h = same_from_slots t l m (omega (arith, le, h.left)) (omeg
 pub same_grown : (s : ℕ) (l m n : List Entry) → SameTo s l m → IsPrefixOf m n → SameTo s l n
 same_grown s l m n h g =
     same_from_slots s l n h.left (omega (arith, h.right, prefix_length m n g)) (λ k x below e. prefix_slot m n k x g (same_slot s m l k x (same_sym s l m h) below e))
+
+-- where both begin one log, their slots are the same
+pub prefixes_agree : (s t i : ℕ) (l k a : List Entry) → s ≤ length l → t ≤ length k → IsPrefixOf (take s l) a → IsPrefixOf (take t k) a → i ≤ s → i ≤ t → slot_of l i ≡ slot_of k i
+prefixes_agree s t zero l k a g h p q d e = refl
+prefixes_agree s t (suc i) l k a g h p q d e =
+    let x = slot_some l (suc i) (omega arith) (omega (arith, d, g)) in
+    let y = slot_some k (suc i) (omega arith) (omega (arith, e, h)) in
+    let mine = prefix_slot (take s l) a (suc i) x.0 p (slot_in_take s l (suc i) x.0 d x.1) in
+    let its = prefix_slot (take t k) a (suc i) y.0 q (slot_in_take t k (suc i) y.0 e y.1) in
+    x.1 ∙ sym mine ∙ its ∙ sym y.1
 
 -- ---- toward
 

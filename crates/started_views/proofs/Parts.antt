@@ -141,3 +141,7 @@ in_parts_entering f p r a b c v n l had e = record {
 -- any part, and one that stays in the view and keeps what a leader started it with
 pub in_parts_staying : (f : ℕ) (p : Past) (r : ℕ) (a b c : Standing) → c.view ≡ b.view → c.last_normal ≡ b.last_normal → (r ≡ leader_of c.last_normal (2 * f + 1) → started_with c ≡ started_with b) → InParts f p r a b c
 in_parts_staying f p r a b c e v s = record { log = inl v; entry = inl e; start = inr (v, s) }
+
+-- two pasts that say the same are one
+pub same_past : (a b : Past) → SamePast a b → a ≡ b
+same_past a b h = λ i. record { log = λ r w. h.logs r w i; start = λ w. h.starts w i; entry = λ r w. h.entries r w i }

@@ -2,7 +2,7 @@
 use Rattle.std.proofs.Common.{◌≡◌, ℕ, zero, suc, ◌+◌, ◌<◌, ◌≤◌, List, [], ◌∷◌, ◌++◌, length, take, Some, refl, ap, subst, ◌∙◌, arith, inl, inr, map}
 use Rattle.std.specs.Prelude.{slice_get, slice_set, ◌⊎◌, max}
 use Rattle.std.specs.List.{range_with_len}
-use Rattle.std.proofs.lemmas.Option.{slice_get_within}
+use Rattle.std.proofs.lemmas.Option.{slice_get_within, slice_get_past}
 use Rattle.nop_types.specs.declared.request.Entry.{Entry}
 use Rattle.nop_types.specs.Lists.{IsPrefixOf, slot_of}
 use Rattle.nop_types.specs.Slots.{set_slot, laid}
@@ -89,6 +89,18 @@ pub slot_of_set : (l : List Entry) (k : ℕ) (x : Entry) → 0 < k → k ≤ len
 slot_of_set l zero x a b = absurd (omega arith)
 slot_of_set l (suc i) x a b = place_here l i x b
 
+place_other : (l : List Entry) (i j : ℕ) (x : Entry) → (j ≡ i → ⊥) → slice_get (slice_set l i x) j ≡ slice_get l j
+place_other [] i j x d = refl
+place_other (y ∷ ys) zero zero x d = absurd (d refl)
+place_other (y ∷ ys) zero (suc j) x d = refl
+place_other (y ∷ ys) (suc i) zero x d = refl
+place_other (y ∷ ys) (suc i) (suc j) x d = place_other ys i j x (λ e. d (ap suc e))
+
+pub slot_of_set_other : (l : List Entry) (k j : ℕ) (x : Entry) → (j ≡ k → ⊥) → slot_of (set_slot l k x) j ≡ slot_of l j
+slot_of_set_other l zero j x d = refl
+slot_of_set_other l (suc i) zero x d = refl
+slot_of_set_other l (suc i) (suc j) x d = place_other l i j x (λ e. d (ap suc e))
+
 place_cases : (l : List Entry) (i : ℕ) (x : Entry) (j : ℕ) (y : Entry) → slice_get (slice_set l i x) j ≡ Some y → ((j ≡ i) × (y ≡ x)) ⊎ (slice_get l j ≡ Some y)
 place_cases [] i x j y e = inr e
 place_cases (z ∷ zs) zero x zero y e = inl (refl, cc)
@@ -148,3 +160,13 @@ get_under (y ∷ ys) (z ∷ zs) (suc i) x e = get_under ys zs i x e
 pub slot_after_laid : (l k : List Entry) (i : ℕ) (x : Entry) → slot_of k i ≡ Some x → ((y : Entry) × (slot_of l i ≡ Some y) × (slot_of (laid l k) i ≡ Some y)) ⊎ (slot_of (laid l k) i ≡ Some x)
 slot_after_laid l k zero x e = absurd cc
 slot_after_laid l k (suc i) x e = get_under l k i x e
+
+get_above : (l k : List Entry) (i : ℕ) → length l ≤ i → slice_get (laid l k) i ≡ slice_get k i
+get_above [] k i h = refl
+get_above (y ∷ ys) [] i h = slice_get_past (y ∷ ys) i h
+get_above (y ∷ ys) (z ∷ zs) zero h = absurd (omega (arith, h))
+get_above (y ∷ ys) (z ∷ zs) (suc i) h = get_above ys zs i (omega (arith, h))
+
+pub slot_of_laid_above : (l k : List Entry) (i : ℕ) → length l < i → slot_of (laid l k) i ≡ slot_of k i
+slot_of_laid_above l k zero h = refl
+slot_of_laid_above l k (suc i) h = get_above l k i (omega (arith, h))

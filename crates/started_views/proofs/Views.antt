@@ -116,6 +116,19 @@ ranks_trans a b c h g = record { session = omega (arith, h.session, g.session); 
 pub ranks_refl : (a : View) → RanksAtMost a a
 ranks_refl a = record { session = omega arith; leader = λ s. omega arith }
 
+pub ranks_to_false : (a b : View) → RanksAtMost a b → outranks a b ≡ false
+ranks_to_false a b h =
+    let s = h.session in
+    let l = h.leader in
+    grind (arith, nat_tests, s, l)
+
+pub ranks_cases : (a b : View) → RanksAtMost a b ⊎ RanksAtMost b a
+ranks_cases a b = at (outranks a b) refl
+  where
+    at : (t : Bool) → outranks a b ≡ t → RanksAtMost a b ⊎ RanksAtMost b a
+    at true e = inr (ranks_from_true a b e)
+    at false e = inl (ranks_from_false a b e)
+
 -- of two comparable views the one of lower rank is below
 pub ranks_comparable : (a b : View) → Comparable a b → RanksAtMost a b → AtMost a b
 ranks_comparable a b (inl h) g = h

@@ -1,5 +1,5 @@
 -- Pasts of three replicas and two views, worked by hand.
-use Rattle.std.specs.Prelude.{◌+◌, ◌++◌, length, ℕ, zero, suc, Bool, true, false, List, [], ◌∷◌, Option, Some, None}
+use Rattle.std.specs.Prelude.{◌++◌, ℕ, zero, suc, Bool, true, false, List, [], ◌∷◌, Option, Some, None}
 use Rattle.nop_types.specs.declared.view.View.{View}
 use Rattle.nop_types.specs.declared.request.Request.{Request}
 use Rattle.nop_types.specs.declared.request.Entry.{Entry}
@@ -79,17 +79,24 @@ overrun_past = with_log 1 first_view leader_log settled_past
 
 -- ---- steps of a replica
 
-abbrev pub standing_first : List Entry → Standing
-standing_first log = record { view = first_view; last_normal = first_view; next = 1 + length log; base = 0; log = log }
+abbrev pub standing_opening : Standing
+standing_opening = record { view = first_view; last_normal = first_view; next = 1; base = 0; log = [] }
 
--- it entered the second view with one entry, adopted it, and added an entry
-abbrev pub standing_second : Standing
-standing_second = record { view = second_view; last_normal = second_view; next = 3; base = 1; log = Req (request_of 1) ∷ NoOp ∷ [] }
+-- it took a request
+abbrev pub standing_taken : Standing
+standing_taken = record { view = first_view; last_normal = first_view; next = 2; base = 0; log = Req (request_of 1) ∷ [] }
 
--- it entered the second view, and nothing more
-abbrev pub standing_between : Standing
-standing_between = record { view = second_view; last_normal = first_view; next = 2; base = 0; log = Req (request_of 1) ∷ [] }
+-- and entered the second view
+abbrev pub standing_entered : Standing
+standing_entered = record { view = second_view; last_normal = first_view; next = 2; base = 0; log = Req (request_of 1) ∷ [] }
 
--- the replica r takes a request, and then enters and adopts the second view in one step
+-- and adopted it, and added a NO-OP
+abbrev pub standing_adopted : Standing
+standing_adopted = record { view = second_view; last_normal = second_view; next = 3; base = 1; log = Req (request_of 1) ∷ NoOp ∷ [] }
+
+abbrev pub taken_past : ℕ → Past
+taken_past r = note 1 first_past r standing_opening standing_taken
+
+-- the replica r takes a request, and does the rest in one step
 abbrev pub noted_past : ℕ → Past
-noted_past r = note 1 (note 1 first_past r (standing_first []) (standing_first (Req (request_of 1) ∷ []))) r (standing_first (Req (request_of 1) ∷ [])) standing_second
+noted_past r = note 1 (taken_past r) r standing_taken standing_adopted

@@ -12,8 +12,8 @@ pub fn views_are_ordered()
     ensures falls { (a b : View) → Below a b → a.leader + a.session < b.leader + b.session }
 {}
 
-/// Rank tells views apart, no view outranks one that it is at most, and of two comparable views the one that does not outrank
-/// the other is at most it.
+/// Rank tells views apart, no view outranks one that it is at most, and of two comparable views the
+/// one that does not outrank the other is at most it.
 #[tactic(auto, using(crate::proofs::Views::rank_decides, crate::proofs::Views::at_most_ranks, crate::proofs::Views::not_outranked))]
 pub fn ranks_follow_order()
     ensures decides { (a b : View) → outranks a b ≡ false → outranks b a ≡ false → a ≡ b }

@@ -1,4 +1,4 @@
-use Rattle.started_views.proofs.Parts.{past_of_parts, in_parts_entering, in_parts_staying}
+use Rattle.started_views.proofs.Parts.{past_of_parts, in_parts_entering, in_parts_staying, same_past}
 use Rattle.started_views.proofs.past_laws.past_of_parts.Goals as goal
 
 pub returns-clause-whole : goal.returns-clause-whole
@@ -9,3 +9,6 @@ returns-clause-entering c f r past old middle new a b l d e = in_parts_entering 
 
 pub returns-clause-staying : goal.returns-clause-staying
 returns-clause-staying c f r past old middle new a b d = in_parts_staying f past r old middle new a b d
+
+pub returns-clause-one : goal.returns-clause-one
+returns-clause-one c = same_past
