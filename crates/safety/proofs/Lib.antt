@@ -12,9 +12,11 @@ pub mod Queue
 pub mod Reaching
 pub mod ReplicaRows
 pub mod Runs
+pub mod Seats
 pub mod SequencerRows
 pub mod Stamp
 pub mod Stays
 pub mod Submit
 pub mod Take
 pub mod Tell
+pub mod Worlds
