@@ -4,6 +4,7 @@ use Rattle.std.specs.Prelude.{◌^◌, Result, Ok, Err, not, filter, ◌==◌}
 use Rattle.std.proofs.lemmas.List.{append-nil}
 use Rattle.nop_types.specs.declared.limits.TheConstants.{MAX_OP_BYTES}
 use Rattle.nop_types.specs.declared.request.Request.{Request}
+use Rattle.nop_types.specs.declared.datagram.Stamped.{Stamped}
 use Rattle.nop_types.specs.declared.datagram.Reply.{Reply}
 use Rattle.nop_types.specs.declared.datagram.Datagram.{Datagram}
 use Rattle.nop_types.specs.declared.datagram.Datagram.TheVariants as datagrams
@@ -21,18 +22,20 @@ use Rattle.histories.proofs.Lists.{Has-one, Has-append_right}
 use Rattle.oum_codec.specs.declared.bad.Bad.{Bad}
 use Rattle.oum_codec.specs.Reading.{reading}
 use Rattle.oum_codec.specs.Spelling.{spelling}
-use Rattle.started_views.proofs.Lists.{has_none, has_first}
+use Rattle.started_views.proofs.Lists.{has_none, has_first, has_rest, has_cases}
 use Rattle.world.specs.declared.client.ClientState.{ClientState}
 use Rattle.world.specs.ClientSteps.{can_submit, request_of, submitted, submit_if, submit, is_expected, kept, keep_reply, quorum_of, accepts, accept_if, accept, reply_if, reply, on_datagram, next}
 use Rattle.world.specs.Network.{Sent, sends_of, lines_from}
 use Rattle.safety.specs.Answers.{ResultsShort}
 use Rattle.safety.specs.Conf.{Conf, WasSent}
 use Rattle.safety.specs.Invariant.{Inv}
+use Rattle.safety.specs.Moves as moved
 use Rattle.safety.specs.Moves.{MaySubmit, MayAccept, MayTell}
 use Rattle.safety.specs.Runs as moves
 use Rattle.safety.specs.Runs.{Move, happens, run, MayAll}
 use Rattle.safety.specs.Worlds.{Carries}
 use Rattle.safety.proofs.Puts.{put_same, put_apart}
+use Rattle.safety.proofs.Reaching.{OnlySends}
 use Rattle.safety.proofs.Runs.{run_keeps}
 
 -- the outputs' lines are what was said, and others that neither submit nor accept
@@ -54,6 +57,7 @@ pub record Reaches {S : Type 0} (m : Meaning S) (f : ℕ) (c : Conf) (k : ℕ) (
   pub lines : (run m f c moves).lines ≡ c.lines ++ said
   pub tells : (from : Actor) (count : ℕ) → Tells p.1 said from count
   pub sends : (from : Actor) (s : Sent) → Has (sends_of from p.1) s → Carries (run m f c moves) s.bytes
+  pub only : OnlySends c (run m f c moves) p.1
 
 no_line : MayTell []
 no_line line i = absurd (has_none line i)
@@ -61,6 +65,30 @@ no_line line i = absurd (has_none line i)
 module _ {S : Type 0} (m : Meaning S) (f : ℕ) (few : f ≤ 3) (short : ResultsShort m) (k : ℕ) (c : Conf) (inv : Inv m f c) where
   abbrev s : ClientState
   s = c.clients k
+
+  -- where neither requests nor stamps nor replies were added
+  same_sent : (d : Conf) → d.requests ≡ c.requests → d.stamps ≡ c.stamps → d.replies ≡ c.replies → (x : Datagram) → WasSent d x → WasSent c x
+  same_sent d a b e (datagrams.Request r) h = subst (λ (t : List Request). Has t r) a h
+  same_sent d a b e (datagrams.Stamped p) h = subst (λ (t : List Stamped). Has t p) b h
+  same_sent d a b e (datagrams.Reply p) h = subst (λ (t : List Reply). Has t p) e h
+  same_sent d a b e (datagrams.Install sequencer session) h = absurd h
+  same_sent d a b e (datagrams.Installed sequencer session) h = absurd h
+  same_sent d a b e (datagrams.Ping sequencer round) h = absurd h
+  same_sent d a b e (datagrams.Pong sequencer round) h = absurd h
+  same_sent d a b e (datagrams.Fragment p) h = absurd h
+
+  only_submit : (op : List ℕ) → OnlySends c (moved.submit c k op) (outs.Submitted (request_of s op) ∷ outs.Send Sequencers (spelling (datagrams.Request (request_of s op))) ∷ [])
+  only_submit op (datagrams.Request q) h = elim (has_cases q (request_of s op) c.requests h) [
+    | inl e ↦ inr (record { dest = Sequencers; has = has_rest _ _ (outs.Send Sequencers (spelling (datagrams.Request (request_of s op))) ∷ []) (has_first _ _ [] (ap (λ (x : Request). outs.Send Sequencers (spelling (datagrams.Request x))) e)) })
+    | inr old ↦ inl old
+  ]
+  only_submit op (datagrams.Stamped p) h = inl h
+  only_submit op (datagrams.Reply p) h = inl h
+  only_submit op (datagrams.Install sequencer session) h = absurd h
+  only_submit op (datagrams.Installed sequencer session) h = absurd h
+  only_submit op (datagrams.Ping sequencer round) h = absurd h
+  only_submit op (datagrams.Pong sequencer round) h = absurd h
+  only_submit op (datagrams.Fragment p) h = absurd h
 
   still : Reaches m f c k (s, [])
   still = record {
@@ -74,6 +102,7 @@ module _ {S : Type 0} (m : Meaning S) (f : ℕ) (few : f ≤ 3) (short : Results
     lines = sym (append-nil c.lines);
     tells = λ from count. record { others = []; are = refl; may = no_line };
     sends = λ from x i. absurd (has_none x i);
+    only = λ x h. inl h;
   }
 
   -- ---- an op is submitted
@@ -90,6 +119,7 @@ module _ {S : Type 0} (m : Meaning S) (f : ℕ) (few : f ≤ 3) (short : Results
     lines = sym (append-nil c.lines);
     tells = λ from count. record { others = line.Busy s.number ∷ []; are = refl; may = λ x i. subst IsOtherLine (sym (Has-one x _ i)) tt };
     sends = λ from x i. absurd (has_none x i);
+    only = λ x h. inl h;
   }
   submit_cases op number fits true e =
       let r = request_of s op in
@@ -111,6 +141,7 @@ module _ {S : Type 0} (m : Meaning S) (f : ℕ) (few : f ≤ 3) (short : Results
           sent = has_first _ _ c.requests refl;
           spelled = refl;
         });
+        only = only_submit op;
       }
 
   -- ---- a reply comes
@@ -130,6 +161,7 @@ module _ {S : Type 0} (m : Meaning S) (f : ℕ) (few : f ≤ 3) (short : Results
     lines = sym (append-nil c.lines);
     tells = λ from count. record { others = []; are = refl; may = no_line };
     sends = λ from x i. absurd (has_none x i);
+    only = λ x h. inl (same_sent (run m f c (moves.Keep k p ∷ [])) refl refl refl x h);
   }
   accept_cases p sent expected (Some leaders) e =
       let d = happens m f c (moves.Keep k p) in
@@ -149,6 +181,7 @@ module _ {S : Type 0} (m : Meaning S) (f : ℕ) (few : f ≤ 3) (short : Results
         lines = ap (λ (t : ClientState). c.lines ++ line.Accept t.number p.id leaders.result ∷ []) here;
         tells = λ from count. record { others = []; are = refl; may = no_line };
         sends = λ from x i. absurd (has_none x i);
+    only = λ x h. inl (same_sent (run m f c (moves.Keep k p ∷ moves.Accept k p leaders ∷ [])) refl refl refl x h);
       }
 
   reply_cases : (p : Reply) → Has c.replies p → (b : Bool) → is_expected s p ≡ b → Reaches m f c k (reply_if b s p)

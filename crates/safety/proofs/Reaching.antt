@@ -1,5 +1,6 @@
 -- Moves that lead to what a step of an actor makes.
 use Rattle.std.proofs.Common.{◌≡◌, ℕ, ◌+◌, ◌*◌, ◌<◌, ◌≤◌, refl, sym, ap, subst, ◌∙◌, inl, inr, List, [], ◌∷◌, ◌++◌}
+use Rattle.std.specs.Prelude.{◌⊎◌}
 use Rattle.nop_types.specs.declared.datagram.Datagram.{Datagram}
 use Rattle.nop_types.specs.declared.datagram.Datagram.TheVariants as datagrams
 use Rattle.nop_types.specs.declared.output.Actor.{Actor}
@@ -11,13 +12,14 @@ use Rattle.nop_types.specs.Lists.{Has}
 use Rattle.nop_types.specs.Meaning.{Meaning}
 use Rattle.nop_types.specs.Ranges.{DatagramFits}
 use Rattle.histories.specs.Legality.{IsOtherLine}
+use Rattle.histories.proofs.Lists.{Has-append_left, Has-append_right}
 use Rattle.oum_codec.specs.Spelling.{spelling}
 use Rattle.started_views.proofs.Lists.{has_none, has_first, has_rest, has_cases}
 use Rattle.world.specs.Network.{Sent, sends_of, lines_from}
 use Rattle.safety.specs.Conf.{Conf, WasSent}
 use Rattle.safety.specs.Evolves.{Evolves}
 use Rattle.safety.specs.Runs.{Move, happens, May, run, MayAll}
-use Rattle.safety.specs.Worlds.{Carries}
+use Rattle.safety.specs.Worlds.{Carries, IsThere}
 
 -- ---- one list of moves after the other
 
@@ -79,3 +81,39 @@ sends_tell c from count (outs.Send dest bytes ∷ xs) all line i = elim (has_cas
 sends_tell c from count (outs.Submitted r ∷ xs) all line i = absurd (let h = (all (outs.Submitted r) (has_first _ _ xs refl)).is in cc)
 sends_tell c from count (outs.Accepted client id result ∷ xs) all line i = absurd (let h = (all (outs.Accepted client id result) (has_first _ _ xs refl)).is in cc)
 sends_tell c from count (outs.Busy client ∷ xs) all line i = absurd (let h = (all (outs.Busy client) (has_first _ _ xs refl)).is in cc)
+
+-- ---- what is new was sent by the outputs
+
+pub record SentBy (xs : List Out) (d : Datagram) : Type 0 where
+  pub dest : Dest
+  pub has : Has xs (outs.Send dest (spelling d))
+
+abbrev pub OnlySends : Conf → Conf → List Out → Type 0
+OnlySends c d xs = (x : Datagram) → WasSent d x → WasSent c x ⊎ SentBy xs x
+
+pub only_more : (a b c : Conf) (xs ys : List Out) → OnlySends a b xs → OnlySends b c ys → OnlySends a c (xs ++ ys)
+only_more a b c xs ys one two x h = elim (two x h) [
+  | inl g ↦ elim (one x g) [
+    | inl old ↦ inl old
+    | inr t ↦ inr (record { dest = t.dest; has = Has-append_left xs ys (outs.Send t.dest (spelling x)) t.has })
+  ]
+  | inr t ↦ inr (record { dest = t.dest; has = Has-append_right xs ys (outs.Send t.dest (spelling x)) t.has })
+]
+
+-- a datagram among the outputs goes into the network
+pub sends_there : (from : Actor) (xs : List Out) (dest : Dest) (bytes : List ℕ) → Has xs (outs.Send dest bytes) → Has (sends_of from xs) (record { from = from; dest = dest; bytes = bytes })
+sends_there from [] dest bytes h = absurd (has_none _ h)
+sends_there from (outs.Send e text ∷ xs) dest bytes h = elim (has_cases (outs.Send dest bytes) (outs.Send e text) xs h) [
+  | inl g ↦ (let same_dest : e ≡ dest = cc in let same_bytes : text ≡ bytes = cc in has_first _ _ (sends_of from xs) (λ i. record { from = from; dest = sym same_dest i; bytes = sym same_bytes i }))
+  | inr t ↦ has_rest _ _ (sends_of from xs) (sends_there from xs dest bytes t)
+]
+sends_there from (outs.Submitted r ∷ xs) dest bytes h = elim (has_cases (outs.Send dest bytes) (outs.Submitted r) xs h) [ inl g ↦ absurd cc | inr t ↦ sends_there from xs dest bytes t ]
+sends_there from (outs.Accepted client id result ∷ xs) dest bytes h = elim (has_cases (outs.Send dest bytes) (outs.Accepted client id result) xs h) [ inl g ↦ absurd cc | inr t ↦ sends_there from xs dest bytes t ]
+sends_there from (outs.Busy client ∷ xs) dest bytes h = elim (has_cases (outs.Send dest bytes) (outs.Busy client) xs h) [ inl g ↦ absurd cc | inr t ↦ sends_there from xs dest bytes t ]
+
+-- the network has all of it
+pub all_there : (from : Actor) (c d : Conf) (sent : List Sent) (xs : List Out) → OnlySends c d xs → ((x : Datagram) → WasSent c x → IsThere sent x) → (x : Datagram) → WasSent d x → IsThere (sent ++ sends_of from xs) x
+all_there from c d sent xs only old x h = elim (only x h) [
+  | inl g ↦ (let t = old x g in record { datagram = t.datagram; has = Has-append_left sent (sends_of from xs) t.datagram t.has; spelled = t.spelled })
+  | inr t ↦ record { datagram = record { from = from; dest = t.dest; bytes = spelling x }; has = Has-append_right sent (sends_of from xs) _ (sends_there from xs t.dest (spelling x) t.has); spelled = refl }
+]

@@ -40,7 +40,7 @@ use Rattle.safety.specs.Runs.{Move, Queue, Take, happens, May, run, MayAll}
 use Rattle.safety.specs.Worlds.{Carries}
 use Rattle.safety.proofs.Pasts.{note_idle}
 use Rattle.safety.proofs.Puts.{put_same, put_apart}
-use Rattle.safety.proofs.Reaching.{run_more, may_more, Sends, AllSend, sends_last}
+use Rattle.safety.proofs.Reaching.{run_more, may_more, Sends, AllSend, sends_last, OnlySends, only_more}
 use Rattle.safety.proofs.Runs.{run_keeps}
 
 -- some moves make of the replica what the step makes of it, change no other actor, and send what it sends
@@ -56,6 +56,7 @@ pub record Reaches {S : Type 0} (m : Meaning S) (f : ℕ) (c : Conf) (r : ℕ) (
   pub normal : p.0.last_normal ≡ (c.replicas r).last_normal
   pub past : (run m f c moves).past ≡ note f c.past r (standing (c.replicas r)) (standing p.0)
   pub sends : AllSend (run m f c moves) p.1
+  pub only : OnlySends c (run m f c moves) p.1
 
 -- what a reply sends
 reply_out : Reply → Out
@@ -75,6 +76,7 @@ module _ {S : Type 0} (m : Meaning S) (f : ℕ) (few : f ≤ 3) (short : Results
     normal = refl;
     past = sym (note_idle f c.past r (standing (c.replicas r)) (inv.current r l));
     sends = λ x i. absurd (has_none x i);
+    only = λ x h. inl h;
   }
 
   -- one part after the other
@@ -103,6 +105,7 @@ module _ {S : Type 0} (m : Meaning S) (f : ℕ) (few : f ≤ 3) (short : Results
               start = inl one.normal;
             }));
         sends = λ x h. subst (λ (y : Conf). Sends y x) (sym same) (elim (Has-append_cases outs (g s).1 x h) [ inl i ↦ sends_last f d (run m f d two.moves) end.1 x (one.sends x i) | inr i ↦ two.sends x i ]);
+        only = λ x h. only_more c d (run m f d two.moves) outs (g s).1 one.only two.only x (subst (λ (y : Conf). WasSent y x) same h);
       }
 
   -- ---- one move
@@ -122,10 +125,40 @@ module _ {S : Type 0} (m : Meaning S) (f : ℕ) (few : f ≤ 3) (short : Results
   unfolding reply
   typed p slot q x i = typed_if (leads p) p slot q x i
 
-  reaches_one : (c : Conf) (e : Effect) (x : Move) (outs : List Out) → Inv m f c → May f c x → happens m f c x ≡ after f c r e
-      → e.state.view ≡ (c.replicas r).view → e.state.last_normal ≡ (c.replicas r).last_normal → ((y : Out) → Has outs y → (p : Reply) × Has e.replies p × (y ≡ reply_out p)) → Reaches m f c r (e.state, outs)
+  -- and each typed reply is an output
+  leader_untyped : (p : ReplicaState) (slot : ℕ) (q : Request) (o : Option (List ℕ)) (y : Reply) → Has (leader_replies p slot q o) y → Has (leader_reply p slot q.client q.id o) (reply_out y)
   unfolding reply_out
-  reaches_one c e x outs inv may is v n out =
+  leader_untyped p slot q None y i = absurd (has_none y i)
+  leader_untyped p slot q (Some result) y i = has_first _ _ [] (ap reply_out (Has-one y _ i))
+
+  untyped_if : (b : Bool) (p : ReplicaState) (slot : ℕ) (q : Request) (y : Reply) → Has (replies_if m b p slot q) y → Has (reply_if m b p slot q.client q.id) (reply_out y)
+  unfolding reply_out
+  untyped_if true p slot q y i = leader_untyped p slot q (result_at m p.log slot) y i
+  untyped_if false p slot q y i = has_first _ _ [] (ap reply_out (Has-one y _ i))
+
+  untyped : (p : ReplicaState) (slot : ℕ) (q : Request) (y : Reply) → Has (replies_for m p slot q) y → Has (reply m p slot q.client q.id) (reply_out y)
+  unfolding reply
+  untyped p slot q y i = untyped_if (leads p) p slot q y i
+
+  -- a move of a replica sends replies alone
+  only_replies : (c : Conf) (e : Effect) (outs : List Out) → ((p : Reply) → Has e.replies p → Has outs (reply_out p)) → OnlySends c (after f c r e) outs
+  unfolding reply_out
+  only_replies c e outs out (datagrams.Request q) h = inl h
+  only_replies c e outs out (datagrams.Stamped p) h = inl h
+  only_replies c e outs out (datagrams.Reply p) h = elim (Has-append_cases e.replies c.replies p h) [
+    | inl new ↦ inr (record { dest = One (Client p.client); has = out p new })
+    | inr old ↦ inl old
+  ]
+  only_replies c e outs out (datagrams.Install sequencer session) h = absurd h
+  only_replies c e outs out (datagrams.Installed sequencer session) h = absurd h
+  only_replies c e outs out (datagrams.Ping sequencer round) h = absurd h
+  only_replies c e outs out (datagrams.Pong sequencer round) h = absurd h
+  only_replies c e outs out (datagrams.Fragment p) h = absurd h
+
+  reaches_one : (c : Conf) (e : Effect) (x : Move) (outs : List Out) → Inv m f c → May f c x → happens m f c x ≡ after f c r e
+      → e.state.view ≡ (c.replicas r).view → e.state.last_normal ≡ (c.replicas r).last_normal → ((y : Out) → Has outs y → (p : Reply) × Has e.replies p × (y ≡ reply_out p)) → ((p : Reply) → Has e.replies p → Has outs (reply_out p)) → Reaches m f c r (e.state, outs)
+  unfolding reply_out
+  reaches_one c e x outs inv may is v n out back =
       let k = run_keeps m f few short c (x ∷ []) inv (may, tt) in
       let replied = λ (p : Reply) (h : Has e.replies p). subst (λ (d : Conf). Has d.replies p) (sym is) (Has-append_left e.replies c.replies p h) in
       record {
@@ -147,6 +180,7 @@ module _ {S : Type 0} (m : Meaning S) (f : ℕ) (few : f ≤ 3) (short : Results
               is = p.2;
               carried = record { datagram = datagrams.Reply p.0; fits = (k.0.replies p.0 (replied p.0 p.1)).fits; sent = replied p.0 p.1; spelled = refl };
             };
+        only = λ y h. only_replies c e outs back y (subst (λ (d : Conf). WasSent d y) is h);
       }
 
   -- ---- drain
@@ -154,7 +188,7 @@ module _ {S : Type 0} (m : Meaning S) (f : ℕ) (few : f ≤ 3) (short : Results
   drain_cases : (c : Conf) → Inv m f c → r < 2 * f + 1 → (again : ReplicaState → ReplicaState × List Out) → ((p : ReplicaState × List Out) → Reaches m f c r p → Reaches m f c r (then_do p again))
       → (b : Bool) (front : Front) → has_room (c.replicas r) ≡ b → front_of (c.replicas r).receiver ≡ front → Reaches m f c r (drain_at m again (c.replicas r) b front)
   drain_cases c inv l again go true (Message q) s t =
-      go (rows.take m (c.replicas r) q) (reaches_one c (take m (c.replicas r) q) (Take r q) (rows.take m (c.replicas r) q).1 inv (l, record { room = s; front = t }) refl refl refl (typed (logged (c.replicas r) q) (length (c.replicas r).log + 1) q))
+      go (rows.take m (c.replicas r) q) (reaches_one c (take m (c.replicas r) q) (Take r q) (rows.take m (c.replicas r) q).1 inv (l, record { room = s; front = t }) refl refl refl (typed (logged (c.replicas r) q) (length (c.replicas r).log + 1) q) (untyped (logged (c.replicas r) q) (length (c.replicas r).log + 1) q))
   drain_cases c inv l again go true Nothing s t = still c inv l
   drain_cases c inv l again go true Dropped s t = still c inv l
   drain_cases c inv l again go false front s t = still c inv l
@@ -181,7 +215,7 @@ module _ {S : Type 0} (m : Meaning S) (f : ℕ) (few : f ≤ 3) (short : Results
   stamped_cases c p inv l sent Full e = subst (λ (s : ReplicaState). Reaches m f c r (drain m s)) (unchanged (c.replicas r) p Full e refl) (whole_drain c inv l)
   stamped_cases c p inv l sent Queued e =
       reaches_then c (offer (c.replicas r) p, []) (drain m) inv
-      (reaches_one c (queue (c.replicas r) p) (Queue r p) [] inv (l, record { sent = sent; verdict = e }) refl refl refl (λ y i. absurd (has_none y i)))
+      (reaches_one c (queue (c.replicas r) p) (Queue r p) [] inv (l, record { sent = sent; verdict = e }) refl refl refl (λ y i. absurd (has_none y i)) (λ y i. absurd (has_none y i)))
       (λ d i. whole_drain d i l)
 
   datagram_reaches : (c : Conf) (x : Result Datagram Bad) → Inv m f c → r < 2 * f + 1 → ((d : Datagram) → x ≡ Ok d → WasSent c d) → Reaches m f c r (on_datagram m (c.replicas r) x)

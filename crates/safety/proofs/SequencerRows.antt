@@ -1,7 +1,8 @@
 -- Each row of a sequencer's step table is a list of moves.
-use Rattle.std.proofs.Common.{◌≡◌, ℕ, ◌+◌, ◌*◌, ◌<◌, ◌≤◌, Bool, true, false, refl, sym, ap, subst, ◌∙◌, List, [], ◌∷◌}
+use Rattle.std.proofs.Common.{◌≡◌, ℕ, ◌+◌, ◌*◌, ◌<◌, ◌≤◌, Bool, true, false, refl, sym, ap, subst, ◌∙◌, inl, inr, List, [], ◌∷◌}
 use Rattle.std.specs.Prelude.{Result, Ok, Err}
 use Rattle.nop_types.specs.declared.request.Request.{Request}
+use Rattle.nop_types.specs.declared.datagram.Stamped.{Stamped}
 use Rattle.nop_types.specs.declared.datagram.Datagram.{Datagram}
 use Rattle.nop_types.specs.declared.datagram.Datagram.TheVariants as datagrams
 use Rattle.nop_types.specs.declared.output.Dest.TheVariants.{Replicas}
@@ -14,15 +15,16 @@ use Rattle.histories.proofs.Lists.{Has-one}
 use Rattle.oum_codec.specs.declared.bad.Bad.{Bad}
 use Rattle.oum_codec.specs.Reading.{reading}
 use Rattle.oum_codec.specs.Spelling.{spelling}
-use Rattle.started_views.proofs.Lists.{has_none, has_first}
+use Rattle.started_views.proofs.Lists.{has_none, has_first, has_cases}
 use Rattle.world.specs.declared.sequencer.SequencerState.{SequencerState}
 use Rattle.world.specs.SequencerSteps.{can_stamp, stamped, after_stamp, stamp_if, stamp, on_datagram, next}
 use Rattle.safety.specs.Answers.{ResultsShort}
 use Rattle.safety.specs.Conf.{Conf, WasSent}
 use Rattle.safety.specs.Invariant.{Inv}
+use Rattle.safety.specs.Moves as moves
 use Rattle.safety.specs.Runs.{Move, Stamp, run, MayAll}
 use Rattle.safety.proofs.Puts.{put_same, put_apart}
-use Rattle.safety.proofs.Reaching.{Sends, AllSend}
+use Rattle.safety.proofs.Reaching.{Sends, AllSend, OnlySends}
 use Rattle.safety.proofs.Runs.{run_keeps}
 
 -- some moves make of the sequencer what the step makes of it, change no other actor, and send what it sends
@@ -36,13 +38,27 @@ pub record Reaches {S : Type 0} (m : Meaning S) (f : ℕ) (c : Conf) (j : ℕ) (
   pub clients : (run m f c moves).clients ≡ c.clients
   pub lines : (run m f c moves).lines ≡ c.lines
   pub sends : AllSend (run m f c moves) p.1
+  pub only : OnlySends c (run m f c moves) p.1
 
 module _ {S : Type 0} (m : Meaning S) (f : ℕ) (few : f ≤ 3) (short : ResultsShort m) (j : ℕ) (c : Conf) (inv : Inv m f c) where
   abbrev s : SequencerState
   s = c.sequencers j
 
   still : Reaches m f c j (s, [])
-  still = record { moves = []; may = tt; state = refl; others = λ q a. refl; replicas = refl; past = refl; clients = refl; lines = refl; sends = λ x i. absurd (has_none x i) }
+  still = record { moves = []; may = tt; state = refl; others = λ q a. refl; replicas = refl; past = refl; clients = refl; lines = refl; sends = λ x i. absurd (has_none x i); only = λ x h. inl h }
+
+  only_stamp : (r : Request) → OnlySends c (moves.stamp c j r) (Send Replicas (spelling (datagrams.Stamped (stamped s r))) ∷ [])
+  only_stamp r (datagrams.Request q) h = inl h
+  only_stamp r (datagrams.Stamped p) h = elim (has_cases p (stamped s r) c.stamps h) [
+    | inl e ↦ inr (record { dest = Replicas; has = has_first _ _ [] (ap (λ (x : Stamped). Send Replicas (spelling (datagrams.Stamped x))) e) })
+    | inr old ↦ inl old
+  ]
+  only_stamp r (datagrams.Reply p) h = inl h
+  only_stamp r (datagrams.Install sequencer session) h = absurd h
+  only_stamp r (datagrams.Installed sequencer session) h = absurd h
+  only_stamp r (datagrams.Ping sequencer round) h = absurd h
+  only_stamp r (datagrams.Pong sequencer round) h = absurd h
+  only_stamp r (datagrams.Fragment p) h = absurd h
 
   stamp_cases : (r : Request) → Has c.requests r → (b : Bool) → can_stamp s ≡ b → Reaches m f c j (stamp_if b s r)
   stamp_cases r sent false e = still
@@ -62,6 +78,7 @@ module _ {S : Type 0} (m : Meaning S) (f : ℕ) (few : f ≤ 3) (short : Results
           is = Has-one y _ h;
           carried = record { datagram = datagrams.Stamped (stamped s r); fits = (k.0.stamps (stamped s r) (has_first _ _ c.stamps refl)).fits; sent = has_first _ _ c.stamps refl; spelled = refl };
         };
+        only = only_stamp r;
       }
 
   datagram_reaches : (x : Result Datagram Bad) → ((d : Datagram) → x ≡ Ok d → WasSent c d) → Reaches m f c j (on_datagram s x)

@@ -5,6 +5,7 @@ use Rattle.std.proofs.lemmas.List.{append-nil}
 use Rattle.std.proofs.lemmas.Option.{slice_get_within}
 use Rattle.nop_types.specs.declared.limits.TheConstants.{MAX_OP_BYTES}
 use Rattle.nop_types.specs.declared.datagram.Datagram.{Datagram}
+use Rattle.nop_types.specs.declared.datagram.Datagram.TheVariants as datagrams
 use Rattle.nop_types.specs.declared.output.Actor.{Actor}
 use Rattle.nop_types.specs.declared.output.Actor.TheVariants as actors
 use Rattle.nop_types.specs.declared.output.Out.{Out}
@@ -40,11 +41,11 @@ use Rattle.safety.specs.Invariant.{Inv}
 use Rattle.safety.specs.Moves.{tell, MayTell}
 use Rattle.safety.specs.Passed.{Passed, faults, noted, passes}
 use Rattle.safety.specs.Runs.{run}
-use Rattle.safety.specs.Worlds.{Carries, ShowsWorld, Shows}
+use Rattle.safety.specs.Worlds.{Carries, IsThere, ShowsWorld, Shows}
 use Rattle.safety.proofs.ClientRows as clients
 use Rattle.safety.proofs.Local.{Keeps}
 use Rattle.safety.proofs.Pasts.{note_idle, HasLogs, noted_idle, noted_one}
-use Rattle.safety.proofs.Reaching.{carries_lasts, sends_carry, sends_tell}
+use Rattle.safety.proofs.Reaching.{carries_lasts, sends_carry, sends_tell, all_there}
 use Rattle.safety.proofs.ReplicaRows as replicas
 use Rattle.safety.proofs.Runs.{run_keeps}
 use Rattle.safety.proofs.Seats.{set_length, seats_shown, Took, input_took, TookDatagram, delivery_took, Crashed, crash_took}
@@ -59,6 +60,17 @@ read_sent c bytes d h e =
     let same : Ok h.datagram ≡ Ok d = sym again ∙ e in
     let one : h.datagram ≡ d = cc in
     subst (WasSent c) one h.sent
+
+-- lines send nothing
+untold : (c : Conf) (more : List Line) (x : Datagram) → WasSent (tell c more) x → WasSent c x
+untold c more (datagrams.Request r) h = h
+untold c more (datagrams.Stamped p) h = h
+untold c more (datagrams.Reply p) h = h
+untold c more (datagrams.Install sequencer session) h = absurd h
+untold c more (datagrams.Installed sequencer session) h = absurd h
+untold c more (datagrams.Ping sequencer round) h = absurd h
+untold c more (datagrams.Pong sequencer round) h = absurd h
+untold c more (datagrams.Fragment p) h = absurd h
 
 dead_line : (from : Actor) → MayTell (Dead from ∷ [])
 dead_line from line i = subst IsOtherLine (sym (Has-one line (Dead from) i)) tt
@@ -107,6 +119,7 @@ module _ {S : Type 0} (m : Meaning S) (f : ℕ) (few : f ≤ 3) (short : Results
             sequencers = go.world.sequencers;
             clients = go.world.clients;
             sent = λ s i. carries_lasts f d (tell d go.others) told.1 s.bytes (go.world.sent s i);
+            all = λ x h. go.world.all x (untold d go.others x h);
           };
           lines = ap (λ (t : List Line). p.lines ++ t) go.are ∙ ap (λ (t : List Line). t ++ (go.said ++ go.others)) shows.lines ∙ sym (append_assoc c.lines go.said go.others) ∙ ap (λ (t : List Line). t ++ go.others) (sym go.lines);
           past = ap (λ (n : ℕ). noted n p.past 0 w.replicas h.world.replicas) half ∙ go.past;
@@ -144,6 +157,9 @@ module _ {S : Type 0} (m : Meaning S) (f : ℕ) (few : f ≤ 3) (short : Results
   none_sent : (s : Sent) → Has (w.sent ++ []) s → Carries c s.bytes
   none_sent s i = old_sent [] c idle (λ x j. absurd (has_none x j)) s i
 
+  none_more : (x : Datagram) → WasSent c x → IsThere (w.sent ++ []) x
+  none_more x h = subst (λ (t : List Sent). IsThere t x) (sym (append-nil w.sent)) (shown.all x h)
+
   -- ---- nothing but a line
 
   quiet_replica : (i : ℕ) (old new : Seated ReplicaState) (did : Did) → slice_get w.replicas i ≡ Some old → old.state ≡ new.state → sends_by (actors.Replica i) did ≡ [] → MayTell (lines_by (actors.Replica i) (length w.sent) did) → Later m f (passes p (at_replica w i (new, did))) c
@@ -157,6 +173,7 @@ module _ {S : Type 0} (m : Meaning S) (f : ℕ) (few : f ≤ 3) (short : Results
           sequencers = shown.sequencers;
           clients = shown.clients;
           sent = λ s h. none_sent s (subst (λ (t : List Sent). Has (w.sent ++ t) s) none h);
+          all = λ x h. subst (λ (t : List Sent). IsThere (w.sent ++ t) x) (sym none) (none_more x h);
         };
         said = [];
         others = lines_by (actors.Replica i) (length w.sent) did;
@@ -177,6 +194,7 @@ module _ {S : Type 0} (m : Meaning S) (f : ℕ) (few : f ≤ 3) (short : Results
           sequencers = seats_shown w.sequencers c.sequencers c.sequencers i new shown.sequencers (shown.sequencers i old e ∙ same) (λ j a. refl);
           clients = shown.clients;
           sent = λ s h. none_sent s (subst (λ (t : List Sent). Has (w.sent ++ t) s) none h);
+          all = λ x h. subst (λ (t : List Sent). IsThere (w.sent ++ t) x) (sym none) (none_more x h);
         };
         said = [];
         others = lines_by (actors.Sequencer i) (length w.sent) did;
@@ -197,6 +215,7 @@ module _ {S : Type 0} (m : Meaning S) (f : ℕ) (few : f ≤ 3) (short : Results
           sequencers = shown.sequencers;
           clients = seats_shown w.clients c.clients c.clients i new shown.clients (shown.clients i old e ∙ same) (λ j a. refl);
           sent = λ s h. none_sent s (subst (λ (t : List Sent). Has (w.sent ++ t) s) none h);
+          all = λ x h. subst (λ (t : List Sent). IsThere (w.sent ++ t) x) (sym none) (none_more x h);
         };
         said = [];
         others = lines_by (actors.Client i) (length w.sent) did;
@@ -217,6 +236,7 @@ module _ {S : Type 0} (m : Meaning S) (f : ℕ) (few : f ≤ 3) (short : Results
           sequencers = shown.sequencers;
           clients = shown.clients;
           sent = λ s h. none_sent s (subst (λ (t : List Sent). Has (w.sent ++ t) s) none h);
+          all = λ x h. subst (λ (t : List Sent). IsThere (w.sent ++ t) x) (sym none) (none_more x h);
         };
         said = [];
         others = lines_by actors.Controller (length w.sent) did;
@@ -267,6 +287,7 @@ module _ {S : Type 0} (m : Meaning S) (f : ℕ) (few : f ≤ 3) (short : Results
           sequencers = λ j q h. ap (λ (g : ℕ → SequencerState). g j) go.sequencers ∙ shown.sequencers j q h;
           clients = λ j q h. ap (λ (g : ℕ → ClientState). g j) go.clients ∙ shown.clients j q h;
           sent = old_sent (sends_of (actors.Replica i) outs) d keeps.1 (sends_carry d (actors.Replica i) outs go.sends);
+          all = all_there (actors.Replica i) c d w.sent outs go.only shown.all;
         };
         said = [];
         others = lines_from (actors.Replica i) (length w.sent) outs;
@@ -298,6 +319,7 @@ module _ {S : Type 0} (m : Meaning S) (f : ℕ) (few : f ≤ 3) (short : Results
           sequencers = seats_shown w.sequencers c.sequencers d.sequencers i new shown.sequencers go.state go.others;
           clients = λ j q h. ap (λ (g : ℕ → ClientState). g j) go.clients ∙ shown.clients j q h;
           sent = old_sent (sends_of (actors.Sequencer i) outs) d keeps.1 (sends_carry d (actors.Sequencer i) outs go.sends);
+          all = all_there (actors.Sequencer i) c d w.sent outs go.only shown.all;
         };
         said = [];
         others = lines_from (actors.Sequencer i) (length w.sent) outs;
@@ -323,6 +345,7 @@ module _ {S : Type 0} (m : Meaning S) (f : ℕ) (few : f ≤ 3) (short : Results
           sequencers = λ j q h. ap (λ (g : ℕ → SequencerState). g j) go.sequencers ∙ shown.sequencers j q h;
           clients = seats_shown w.clients c.clients d.clients i new shown.clients go.state go.others;
           sent = old_sent (sends_of (actors.Client i) x.1) d keeps.1 (go.sends (actors.Client i));
+          all = all_there (actors.Client i) c d w.sent x.1 go.only shown.all;
         };
         said = go.said;
         others = t.others;

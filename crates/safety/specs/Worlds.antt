@@ -20,7 +20,13 @@ pub record Carries (c : Conf) (bytes : List ℕ) : Type 0 where
   pub sent : WasSent c datagram
   pub spelled : bytes ≡ spelling datagram
 
--- each actor of the world has the state that is shown, and each datagram is one that was sent
+-- the network has the datagram
+pub record IsThere (sent : List Sent) (d : Datagram) : Type 0 where
+  pub datagram : Sent
+  pub has : Has sent datagram
+  pub spelled : datagram.bytes ≡ spelling d
+
+-- each actor of the world has the state that is shown, and the network has the datagrams that were sent and no others
 pub record ShowsWorld (f : ℕ) (w : WorldState) (c : Conf) : Type 0 where
   pub config : w.config.replicas ≡ 2 * f + 1
   pub replica_count : length w.replicas ≡ 2 * f + 1
@@ -29,6 +35,7 @@ pub record ShowsWorld (f : ℕ) (w : WorldState) (c : Conf) : Type 0 where
   pub sequencers : (j : ℕ) (p : Seated SequencerState) → slice_get w.sequencers j ≡ Some p → c.sequencers j ≡ p.state
   pub clients : (k : ℕ) (p : Seated ClientState) → slice_get w.clients k ≡ Some p → c.clients k ≡ p.state
   pub sent : (s : Sent) → Has w.sent s → Carries c s.bytes
+  pub all : (d : Datagram) → WasSent c d → IsThere w.sent d
 
 -- and lines and past are the same
 pub record Shows (f : ℕ) (p : Passed) (c : Conf) : Type 0 where
