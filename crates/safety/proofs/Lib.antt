@@ -1,10 +1,12 @@
 pub mod Accept
 pub mod ClientRows
+pub mod Answers
 pub mod Clients
 pub mod Concluding
 pub mod Counting
 pub mod Keep
 pub mod Local
+pub mod MainLogs
 pub mod Outside
 pub mod Pasts
 pub mod Puts

@@ -6,4 +6,6 @@ pub mod Invariant
 pub mod Moves
 pub mod Passed
 pub mod Runs
+pub mod Safe
+pub mod Sound
 pub mod Worlds

@@ -1,6 +1,7 @@
 pub mod Certificates
 pub mod Changes
 pub mod Fixing
+pub mod Growing
 pub mod Keeping
 pub mod Lists
 pub mod Logs

@@ -1,5 +1,6 @@
 pub mod Agreement
 pub mod Fixes
+pub mod Growing
 pub mod Logs
 pub mod Parts
 pub mod Past

@@ -2,6 +2,7 @@
 #![tactic(auto)]
 
 mod examples;
+mod growing_laws;
 mod log_laws;
 mod past_laws;
 mod quorum_laws;
@@ -11,6 +12,7 @@ mod view_laws;
 pub use examples::{
     log_of_left_view_must_stay, noted_steps, settled_gap_is_kept, unsettled_gap_is_lost,
 };
+pub use growing_laws::{fixed_prefixes_stay, pasts_grow};
 pub use log_laws::{laid_log, logs_go_toward, prefixes_agree, toward_keeps, written_log};
 pub use past_laws::{first_past_is_empty, noted_entry, noted_log, noted_start, past_of_parts};
 pub use quorum_laws::{others_and_leader, quorum_of_more, quorums_share};

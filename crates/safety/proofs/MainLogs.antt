@@ -1,0 +1,112 @@
+-- The log from which the history is read is that of the leader of the greatest last normal view.
+use Rattle.std.proofs.Common.{◌≡◌, ℕ, zero, suc, ◌+◌, ◌*◌, ◌<◌, ◌≤◌, Bool, true, false, Option, Some, None, refl, sym, ap, subst, ◌∙◌, arith, inl, inr, length, List, [], ◌∷◌, map}
+use Rattle.std.specs.Prelude.{◌⊎◌, slice_get, if◌then◌else◌}
+use Rattle.std.proofs.lemmas.Option.{slice_get_within}
+use Rattle.nop_types.specs.declared.view.View.{View}
+use Rattle.nop_types.specs.declared.request.Entry.{Entry}
+use Rattle.nop_types.specs.Lists.{Has}
+use Rattle.nop_types.specs.Views.{outranks, leader_of}
+use Rattle.nop_types.specs.Meaning.{Meaning}
+use Rattle.started_views.specs.Past.{HadLog}
+use Rattle.started_views.specs.Settled.{MainLog}
+use Rattle.started_views.proofs.Lists.{has_none, has_first, has_rest, has_cases, get_within}
+use Rattle.started_views.proofs.Quorums.{leader_within}
+use Rattle.started_views.proofs.Views.{RanksAtMost, ranks_refl, ranks_trans, ranks_from_true, ranks_from_false, ranks_to_false}
+use Rattle.world.specs.declared.replica_state.ReplicaState.{ReplicaState}
+use Rattle.world.specs.Seats.{Seated}
+use Rattle.world.specs.WorldSteps.{WorldState, greatest_view, greatest_of, main_view, log_of, main_log}
+use Rattle.safety.specs.Conf.{Conf}
+use Rattle.safety.specs.Invariant.{Inv}
+use Rattle.safety.specs.Worlds.{ShowsWorld}
+use Rattle.safety.proofs.Concluding.{last_normals}
+
+-- the greatest of a first view and others is one of them, and none outranks it
+pub record Greatest (v : View) (ws : List View) (g : View) : Type 0 where
+  pub is : (g ≡ v) ⊎ Has ws g
+  pub first : RanksAtMost v g
+  pub rest : (w : View) → Has ws w → RanksAtMost w g
+
+greatest_by : (v w : View) (ws : List View) → ((u : View) → Greatest u ws (greatest_view u ws)) → (b : Bool) → outranks w v ≡ b → Greatest v (w ∷ ws) (greatest_view (if b then w else v) ws)
+greatest_by v w ws others true e =
+    let g = others w in
+    record {
+      is = elim g.is [ inl s ↦ inr (has_first _ w ws s) | inr i ↦ inr (has_rest _ w ws i) ];
+      first = ranks_trans v w (greatest_view w ws) (ranks_from_true w v e) g.first;
+      rest = λ u i. elim (has_cases u w ws i) [ inl s ↦ subst (λ (x : View). RanksAtMost x (greatest_view w ws)) (sym s) g.first | inr j ↦ g.rest u j ];
+    }
+greatest_by v w ws others false e =
+    let g = others v in
+    record {
+      is = elim g.is [ inl s ↦ inl s | inr i ↦ inr (has_rest _ w ws i) ];
+      first = g.first;
+      rest = λ u i. elim (has_cases u w ws i) [ inl s ↦ subst (λ (x : View). RanksAtMost x (greatest_view v ws)) (sym s) (ranks_trans w v (greatest_view v ws) (ranks_from_false w v e) g.first) | inr j ↦ g.rest u j ];
+    }
+
+greatest_is : (v : View) (ws : List View) → Greatest v ws (greatest_view v ws)
+greatest_is v [] = record { is = inl refl; first = ranks_refl v; rest = λ w i. absurd (has_none w i) }
+greatest_is v (w ∷ ws) = greatest_by v w ws (λ u. greatest_is u ws) (outranks w v) refl
+
+-- the last normal view of one of the replicas, which none outranks
+pub record GreatestOf (ps : List (Seated ReplicaState)) (g : View) : Type 0 where
+  pub place : ℕ
+  pub seat : Seated ReplicaState
+  pub there : slice_get ps place ≡ Some seat
+  pub is : seat.state.last_normal ≡ g
+  pub most : (i : ℕ) (p : Seated ReplicaState) → slice_get ps i ≡ Some p → RanksAtMost p.state.last_normal g
+
+abbrev view_of : Seated ReplicaState → View
+view_of p = p.state.last_normal
+
+get_of_map : (ps : List (Seated ReplicaState)) (i : ℕ) (w : View) → slice_get (map view_of ps) i ≡ Some w → (p : Seated ReplicaState) × (slice_get ps i ≡ Some p) × (view_of p ≡ w)
+get_of_map [] i w e = absurd cc
+get_of_map (p ∷ ps) zero w e = (p, refl, cc)
+get_of_map (p ∷ ps) (suc i) w e = get_of_map ps i w e
+
+get_in_map : (ps : List (Seated ReplicaState)) (i : ℕ) (p : Seated ReplicaState) → slice_get ps i ≡ Some p → slice_get (map view_of ps) i ≡ Some (view_of p)
+get_in_map [] i p e = absurd cc
+get_in_map (q ∷ ps) zero p e = let s : q ≡ p = cc in ap (λ (x : Seated ReplicaState). Some (view_of x)) s
+get_in_map (q ∷ ps) (suc i) p e = get_in_map ps i p e
+
+greatest_of_is : (ps : List (Seated ReplicaState)) → 0 < length ps → GreatestOf ps (greatest_of (map view_of ps))
+greatest_of_is [] l = absurd (omega (arith, l))
+greatest_of_is (p ∷ ps) l =
+    let g = greatest_is (view_of p) (map view_of ps) in
+    elim g.is [
+      | inl s ↦ record { place = 0; seat = p; there = refl; is = sym s; most = most g }
+      | inr i ↦ (let q = get_of_map ps i.0 (greatest_view (view_of p) (map view_of ps)) i.1 in record { place = suc i.0; seat = q.0; there = q.1; is = q.2; most = most g })
+    ]
+  where
+    most : Greatest (view_of p) (map view_of ps) (greatest_view (view_of p) (map view_of ps)) → (i : ℕ) (q : Seated ReplicaState) → slice_get (p ∷ ps) i ≡ Some q → RanksAtMost (view_of q) (greatest_view (view_of p) (map view_of ps))
+    most g zero q e = let s : p ≡ q = cc in subst (λ (x : Seated ReplicaState). RanksAtMost (view_of x) (greatest_view (view_of p) (map view_of ps))) s g.first
+    most g (suc i) q e = g.rest (view_of q) (i, get_in_map ps i q e)
+
+module _ {S : Type 0} (m : Meaning S) (f : ℕ) (w : WorldState) (c : Conf) (inv : Inv m f c) (shown : ShowsWorld f w c) where
+  found : GreatestOf w.replicas (main_view w)
+  unfolding main_view
+  found = greatest_of_is w.replicas (omega (arith, shown.replica_count))
+
+  abbrev leader : ℕ
+  leader = leader_of (main_view w) (2 * f + 1)
+
+  within : leader < 2 * f + 1
+  within = leader_within f (main_view w)
+
+  -- the leader's seat
+  its_seat : (p : Seated ReplicaState) × (slice_get w.replicas leader ≡ Some p)
+  its_seat = get_within w.replicas leader (omega (arith, within, shown.replica_count))
+
+  log_is : main_log w ≡ (c.replicas leader).log
+  unfolding main_log
+  log_is =
+      ap (λ (n : ℕ). log_of (slice_get w.replicas (leader_of (main_view w) n))) shown.config
+      ∙ ap log_of its_seat.1
+      ∙ ap (λ (s : ReplicaState). s.log) (sym (shown.replicas leader its_seat.0 its_seat.1))
+
+  pub is_main_log : MainLog f (last_normals m f c inv) c.past (main_view w) (main_log w)
+  is_main_log = record {
+    held = (found.place, omega (arith, slice_get_within w.replicas found.place found.seat found.there, shown.replica_count), ap (λ (s : ReplicaState). s.last_normal) (shown.replicas found.place found.seat found.there) ∙ found.is);
+    greatest = λ r l.
+        let p = get_within w.replicas r (omega (arith, l, shown.replica_count)) in
+        ranks_to_false (last_normals m f c inv r) (main_view w) (subst (λ (s : ReplicaState). RanksAtMost s.last_normal (main_view w)) (sym (shown.replicas r p.0 p.1)) (found.most r p.0 p.1));
+    current = subst (λ (t : List Entry). HadLog c.past leader (last_normals m f c inv leader) t) (sym log_is) (inv.current leader within);
+  }

@@ -1,0 +1,30 @@
+-- Safety: in each world that events lead to.
+use Rattle.std.specs.Prelude.{◌≡◌, ℕ, List, true, Ok}
+use Rattle.nop_types.specs.Configuration.{Configuration, is_configuration}
+use Rattle.nop_types.specs.Legality.{Legal}
+use Rattle.nop_types.specs.Meaning.{Meaning}
+use Rattle.schedule_text.specs.declared.event.Event.{Event}
+use Rattle.world.specs.Agreement.{Agreed}
+use Rattle.world.specs.WorldSteps.{Happened, run, history}
+use Rattle.safety.specs.Answers.{ResultsShort}
+use Rattle.safety.specs.Fits.{EventsFit}
+use Rattle.safety.specs.Passed.{Passed, passed}
+use Rattle.safety.specs.Sound.{Sound}
+
+-- replicas agree as far as they are synchronised, and what was accepted is of the one history
+pub record Safe {S : Type 0} (m : Meaning S) (h : Happened) : Type 0 where
+  pub agreed : Agreed h.world
+  pub legal : Legal m h.lines (history h.world)
+
+-- what the events passed, with all that holds of it
+pub record SafelyPassed {S : Type 0} (m : Meaning S) (config : Configuration) (es : List Event) (h : Happened) : Type 0 where
+  pub passed : Passed
+  pub is : Rattle.safety.specs.Passed.passed m config es ≡ Ok passed
+  pub world : passed.world ≡ h.world
+  pub lines : passed.lines ≡ h.lines
+  pub sound : Sound m passed
+  pub safe : Safe m h
+
+-- over each host, and for every list of events that are not refused
+abbrev pub RunsAreSafe : {S : Type 0} → Meaning S → Type 0
+RunsAreSafe m = ResultsShort m → (config : Configuration) (es : List Event) (h : Happened) → is_configuration config ≡ true → EventsFit es → run m config es ≡ Ok h → SafelyPassed m config es h
