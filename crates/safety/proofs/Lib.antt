@@ -4,6 +4,7 @@ pub mod Answers
 pub mod Clients
 pub mod Concluding
 pub mod Counting
+pub mod Events
 pub mod Keep
 pub mod Local
 pub mod MainLogs
@@ -16,6 +17,7 @@ pub mod ReplicaRows
 pub mod Runs
 pub mod Seats
 pub mod SequencerRows
+pub mod Sounding
 pub mod Stamp
 pub mod Stays
 pub mod Submit
