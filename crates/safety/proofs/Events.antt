@@ -22,7 +22,7 @@ use Rattle.world.specs.WorldSteps.{WorldState, Refusal, Happened, counted, step,
 use Rattle.safety.specs.Answers.{ResultsShort}
 use Rattle.safety.specs.Conf.{Conf, WasSent}
 use Rattle.safety.specs.Evolves.{Evolves}
-use Rattle.safety.specs.Fits.{EventFits, EventsFit}
+use Rattle.schedule_text.specs.Fits.{EventFits, EventsFit}
 use Rattle.safety.specs.Invariant.{Inv}
 use Rattle.safety.specs.Passed.{Passed, passes, pass_on, passed_from, passed}
 use Rattle.safety.specs.Runs.{opening}

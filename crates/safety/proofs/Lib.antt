@@ -1,6 +1,6 @@
 pub mod Accept
-pub mod ClientRows
 pub mod Answers
+pub mod ClientRows
 pub mod Clients
 pub mod Concluding
 pub mod Counting
@@ -23,4 +23,5 @@ pub mod Stays
 pub mod Submit
 pub mod Take
 pub mod Tell
+pub mod Whole
 pub mod Worlds

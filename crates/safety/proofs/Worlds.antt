@@ -36,7 +36,7 @@ use Rattle.world.specs.WorldSteps.{WorldState, Happened, at_replica, at_sequence
 use Rattle.safety.specs.Answers.{ResultsShort}
 use Rattle.safety.specs.Conf.{Conf, WasSent, standing}
 use Rattle.safety.specs.Evolves.{Evolves}
-use Rattle.safety.specs.Fits.{EventFits, EventsFit}
+use Rattle.schedule_text.specs.Fits.{EventFits, EventsFit}
 use Rattle.safety.specs.Invariant.{Inv}
 use Rattle.safety.specs.Moves.{tell, MayTell}
 use Rattle.safety.specs.Passed.{Passed, faults, noted, passes}

@@ -1,7 +1,6 @@
 pub mod Answers
 pub mod Conf
 pub mod Evolves
-pub mod Fits
 pub mod Invariant
 pub mod Moves
 pub mod Passed

@@ -1,13 +1,16 @@
 -- Safety: in each world that events lead to.
-use Rattle.std.specs.Prelude.{◌≡◌, ℕ, List, true, Ok}
+use Rattle.std.specs.Prelude.{◌≡◌, ℕ, ⊤, List, take, drop, true, Result, Ok, Err}
 use Rattle.nop_types.specs.Configuration.{Configuration, is_configuration}
 use Rattle.nop_types.specs.Legality.{Legal}
+use Rattle.nop_types.specs.Lines.{Line}
 use Rattle.nop_types.specs.Meaning.{Meaning}
 use Rattle.schedule_text.specs.declared.event.Event.{Event}
 use Rattle.world.specs.Agreement.{Agreed}
-use Rattle.world.specs.WorldSteps.{Happened, run, history}
+use Rattle.world.specs.WorldSteps.{WorldState, Happened, Refusal, NoSuchActor, NoSuchDatagram, run_from, run, history}
+use Rattle.world.specs.declared.step_error.StepError.{StepError}
+use Rattle.world.specs.declared.step_error.StepError.TheVariants as errors
 use Rattle.safety.specs.Answers.{ResultsShort}
-use Rattle.safety.specs.Fits.{EventsFit}
+use Rattle.schedule_text.specs.Fits.{EventsFit}
 use Rattle.safety.specs.Passed.{Passed, passed}
 use Rattle.safety.specs.Sound.{Sound}
 
@@ -28,3 +31,21 @@ pub record SafelyPassed {S : Type 0} (m : Meaning S) (config : Configuration) (e
 -- over each host, and for every list of events that are not refused
 abbrev pub RunsAreSafe : {S : Type 0} → Meaning S → Type 0
 RunsAreSafe m = ResultsShort m → (config : Configuration) (es : List Event) (h : Happened) → is_configuration config ≡ true → EventsFit es → run m config es ≡ Ok h → SafelyPassed m config es h
+
+-- the events lead to this world, and all of that holds of it
+pub record LeadTo {S : Type 0} (m : Meaning S) (config : Configuration) (es : List Event) (w : WorldState) : Type 0 where
+  pub lines : List Line
+  pub is : run m config es ≡ Ok (record { world = w; lines = lines })
+  pub safely : SafelyPassed m config es (record { world = w; lines = lines })
+
+-- the error is the refusal of the first event that is refused, or memory ran out
+abbrev pub IsRefusedBy : StepError → Result Happened Refusal → Type 0
+IsRefusedBy (errors.NoSuchDatagram index sent) r = r ≡ Err (NoSuchDatagram index sent)
+IsRefusedBy errors.NoSuchActor r = r ≡ Err NoSuchActor
+IsRefusedBy errors.NoMemory r = ⊤
+
+-- some events led to this world, each of them in its ranges, and the rest leads where all of them lead
+pub record Running {S : Type 0} (m : Meaning S) (config : Configuration) (es : List Event) (w : WorldState) (i : ℕ) : Type 0 where
+  pub lines : List Line
+  pub goes : run_from m lines w (drop i es) ≡ run m config es
+  pub fit : EventsFit (take i es)

@@ -1,2 +1,6 @@
-//! Safety over all schedules: replicas agree as far as they are synchronised, and what clients accepted is one history.
+//! Safety over all schedules: replicas agree as far as they are synchronised, and what clients accepted is of one history.
 #![tactic(auto)]
+
+mod run;
+
+pub use run::{run_events, runs_are_safe};

@@ -2,6 +2,7 @@ pub mod Cuts
 pub mod Digits
 pub mod Filled
 pub mod Firsts
+pub mod Fitting
 pub mod LineLemmas
 pub mod Prefix
 pub mod Searched

@@ -2,6 +2,7 @@ pub mod Cutting
 pub mod Deciding
 pub mod Fields
 pub mod Filling
+pub mod Fits
 pub mod LineAnswer
 pub mod LineText
 pub mod Reading

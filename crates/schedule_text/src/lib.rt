@@ -5,6 +5,7 @@ mod buffer;
 mod event;
 mod field;
 mod first_line;
+mod laws;
 mod line_error;
 mod next_error;
 mod reader;
@@ -14,6 +15,7 @@ mod split;
 mod transcript;
 
 pub use event::Event;
+pub use laws::{read_events_fit, read_headers_fit};
 pub use next_error::NextError;
 pub use reader::Reader;
 pub use transcript::{

@@ -1,4 +1,5 @@
-ghost use Rattle.std.specs.Prelude.{◌≡◌, IfOk, IfErr, length};
+ghost use Rattle.std.specs.Prelude.{◌≡◌, ◌≤◌, IfOk, IfErr, OnOk, length};
+ghost use Rattle.schedule_text.specs.Fits.{EventFits};
 ghost use Rattle.world.specs.Actors.{world_of, Happens};
 ghost use Rattle.world.specs.SeatOutcomes.{Refuses};
 ghost use Rattle.world.specs.WorldSteps.{submit, deliver, crash, step};
@@ -11,7 +12,7 @@ use crate::replica::Replica;
 use crate::seat::{Seat, crash_one, crash_seat, deliver, deliver_to, input_to};
 use crate::sequencer::Sequencer;
 use crate::step_error::StepError;
-use nop_types::{Actor, Config, Host, Input, Op};
+use nop_types::{Actor, Config, Host, Input, MAX_OP_BYTES, Op};
 use schedule_text::Event;
 use std::alloc::Global;
 
@@ -31,8 +32,11 @@ impl<H: Host> Actors<H> {
         ensures config { self.new.config ≡ self.old.config }
         ensures count { length self.new.replicas.items ≡ length self.old.replicas.items }
         ensures ok { IfOk result (Happens (submit (world_of self.old) client op.now) (world_of self.new)) }
+        ensures fits { length op.now ≤ MAX_OP_BYTES }
         ensures err { IfErr result (λ e. Refuses e (submit (world_of self.old) client op.now) (world_of self.new ≡ world_of self.old)) }
     {
+        // for the limit of an op
+        let _ = op.as_slice();
         let did = input_to(alloc, &mut self.clients, client as usize, Input::Submit(op))?;
         Ok(carry_out(alloc, &mut self.network, Actor::Client(client), did)?)
     }
@@ -101,6 +105,7 @@ impl<H: Host> Actors<H> {
         ensures config { self.new.config ≡ self.old.config }
         ensures count { length self.new.replicas.items ≡ length self.old.replicas.items }
         ensures ok { IfOk result (Happens (step H.meaning (world_of self.old) event.now) (world_of self.new)) }
+        ensures fits { OnOk result (EventFits event.now) }
         ensures err { IfErr result (λ e. Refuses e (step H.meaning (world_of self.old) event.now) (world_of self.new ≡ world_of self.old)) }
     {
         match event {

@@ -1,4 +1,5 @@
 ghost use Rattle.std.specs.Prelude.{◌≡◌, ◌↔◌, ◌<◌, ◌++◌, ◌∷◌, [], IsSome, IfOk, IfErr, IsErrOf, OnOk, false, true, length, map, option_map, slice_get};
+ghost use Rattle.schedule_text.specs.Fits.{EventFits};
 ghost use Rattle.world.specs.Actors.{world_of, Happens};
 ghost use Rattle.world.specs.SeatOutcomes.{seated_of, Refuses};
 ghost use Rattle.world.specs.ClientSteps as client;
@@ -169,6 +170,7 @@ impl<H: Host> World<H> {
     pub fn step(&mut self, event: &Event) -> Result<Lines, StepError>
         ensures ok { IfOk result (Happens (step H.meaning self.old.state event.now) self.new.state) }
         ensures err { IfErr result (λ e. Refuses e (step H.meaning self.old.state event.now) (self.new ≡ self.old)) }
+        ensures fits { OnOk result (EventFits event.now) }
         ensures well { OnOk result ((self.old.failed ≡ false) × (self.new.failed ≡ false)) }
         ensures failed { IsErrOf result StepError.NoMemory → self.new.failed ≡ true }
         ensures for_good { self.old.failed ≡ true → IsErrOf result StepError.NoMemory }

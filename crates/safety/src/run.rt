@@ -1,0 +1,36 @@
+ghost use Rattle.std.specs.Prelude.{◌≡◌, IfOk, IfErr};
+ghost use Rattle.nop_types.specs.Meaning.{Meaning};
+ghost use Rattle.world.specs.WorldSteps.{run};
+ghost use Rattle.safety.specs.Safe.{RunsAreSafe, LeadTo, IsRefusedBy};
+
+use nop_types::{Config, Host};
+use schedule_text::Event;
+use std::alloc::Global;
+use world::{StepError, World};
+
+/// The world that the events lead to, one after the other, from the opening. In it replicas agree as far as they are
+/// synchronised, what clients accepted is of the one history, and all that was stamped, logged and replied is sound. Else the
+/// refusal of the first event that is refused.
+pub fn run_events<H: Host>(
+    alloc: Global,
+    config: Config,
+    events: &[Event],
+) -> Result<World<H>, StepError>
+    ensures ok { IfOk result (λ w. LeadTo H.meaning config events.now w.state) }
+    ensures err { IfErr result (λ e. IsRefusedBy e (run H.meaning config events.now)) }
+{
+    // for the limits of a configuration
+    let _ = config.replicas();
+    let mut world = World::new(alloc, config)?;
+    for event in events {
+        world.step(event)?;
+    }
+    Ok(world)
+}
+
+/// Each run is safe: over any host whose results fit a reply, and for every list of events that are in their ranges and not
+/// refused.
+#[tactic(auto, using(crate::proofs::Whole::runs_are_safe))]
+pub fn runs_are_safe<S>()
+    ensures { (m : Meaning S) → RunsAreSafe m }
+{}

@@ -1,0 +1,143 @@
+-- What is read from lines is in its ranges.
+use Rattle.std.proofs.Common.{◌≡◌, ℕ, ◌+◌, ◌*◌, ◌≤◌, Bool, true, false, Option, Some, None, refl, sym, ap, subst, ◌∙◌, arith, length, List, [], ◌∷◌}
+use Rattle.std.specs.Prelude.{codes, nat_le, Result, Ok, Err, if◌then◌else◌}
+use Rattle.std.proofs.lemmas.Bool.Decides.{nat_tests}
+use Rattle.hex.specs.Hex.{decode_of}
+use Rattle.hex.specs.declared.error.FromHexError.{FromHexError}
+use Rattle.hex.proofs.HexLemmas.{decode_of-ok}
+use Rattle.nop_types.specs.declared.limits.TheConstants.{MAX_OP_BYTES, MAX_LINES}
+use Rattle.nop_types.specs.Configuration.{Configuration, is_configuration}
+use Rattle.nop_types.specs.declared.output.Actor.{Actor}
+use Rattle.schedule_text.specs.declared.event.Event.{Event}
+use Rattle.schedule_text.specs.declared.event.Event.TheVariants.{Submit, Deliver, Crash}
+use Rattle.schedule_text.specs.Fields.{is_text, number_of, actor_of, client_number, as_option, bytes_of, fields}
+use Rattle.schedule_text.specs.Fits.{EventFits}
+use Rattle.schedule_text.specs.Rules.{◌>>=◌, or_rule, keeps_rule, max_op_text, submit_event, deliver_event, crash_event, submit_of, deliver_of, crash_of, event_of_fields, configuration_of, count_of, header_counts, header_rest, header_of_fields, plain_line, header_of, event_of}
+
+-- a step that gave a value, and what came of it
+then_ok : {A B : Type 0} (r : Result A ℕ) (f : A → Result B ℕ) (y : B) → (r >>= f) ≡ Ok y → (x : A) × (r ≡ Ok x) × (f x ≡ Ok y)
+then_ok (Ok x) f y e = (x, refl, e)
+then_ok (Err rule) f y e = absurd cc
+
+value_ok : {A : Type 0} (rule : ℕ) (o : Option A) (x : A) → or_rule rule o ≡ Ok x → o ≡ Some x
+value_ok rule None x e = absurd cc
+value_ok rule (Some y) x e = let same : y ≡ x = cc in ap Some same
+
+test_ok : (rule : ℕ) (b c : Bool) → keeps_rule rule b ≡ Ok c → b ≡ true
+test_ok rule true c e = refl
+test_ok rule false c e = absurd cc
+
+at_least : (a b : ℕ) → nat_le a b ≡ true → a ≤ b
+at_least a b e = grind (arith, nat_tests, e)
+
+-- ---- ops
+
+decoded : (r : Result (List ℕ) FromHexError) (bytes : List ℕ) → as_option r ≡ Some bytes → r ≡ Ok bytes
+decoded (Ok xs) bytes e = let same : xs ≡ bytes = cc in ap Ok same
+decoded (Err x) bytes e = absurd cc
+
+digits_short : (d : ℕ) (ds bytes : List ℕ) (b : Bool) → (if b then Some [] else as_option (decode_of (d ∷ ds))) ≡ Some bytes → 2 * length bytes ≤ length (d ∷ ds)
+digits_short d ds bytes true e = let same : [] ≡ bytes = cc in subst (λ (t : List ℕ). 2 * length t ≤ length (d ∷ ds)) same (omega arith)
+digits_short d ds bytes false e = let h = decode_of-ok (d ∷ ds) bytes (decoded (decode_of (d ∷ ds)) bytes e) in omega (arith, h.2)
+
+bytes_short : (field bytes : List ℕ) → bytes_of field ≡ Some bytes → 2 * length bytes ≤ length field
+unfolding bytes_of
+bytes_short [] bytes e = absurd cc
+bytes_short (d ∷ ds) bytes e = digits_short d ds bytes (is_text (codes "-") (d ∷ ds)) e
+
+submit_fits : (c : Configuration) (client op : List ℕ) (e : Event) → submit_event c client op ≡ Ok e → EventFits e
+submit_fits c client op e h =
+    let a = then_ok (keeps_rule 5 (nat_le (length op) max_op_text)) _ e h in
+    let b = then_ok (or_rule 6 (bytes_of op)) _ e a.2 in
+    let d = then_ok (or_rule 7 (client_number (actor_of c client))) _ e b.2 in
+    let low = at_least (length op) max_op_text (test_ok 5 (nat_le (length op) max_op_text) a.0 a.1) in
+    let small = bytes_short op b.0 (value_ok 6 (bytes_of op) b.0 b.1) in
+    let is : Submit d.0 b.0 ≡ e = (let g = d.2 in cc) in
+    subst EventFits is (omega (arith, low, small))
+
+deliver_fits : (c : Configuration) (index actor : List ℕ) (e : Event) → deliver_event c index actor ≡ Ok e → EventFits e
+deliver_fits c index actor e h =
+    let a = then_ok (or_rule 5 (number_of index)) _ e h in
+    let b = then_ok (or_rule 7 (actor_of c actor)) _ e a.2 in
+    let is : Deliver a.0 b.0 ≡ e = (let g = b.2 in cc) in
+    subst EventFits is tt
+
+crash_fits : (c : Configuration) (actor : List ℕ) (e : Event) → crash_event c actor ≡ Ok e → EventFits e
+crash_fits c actor e h =
+    let a = then_ok (or_rule 7 (actor_of c actor)) _ e h in
+    let is : Crash a.0 ≡ e = (let g = a.2 in cc) in
+    subst EventFits is tt
+
+submit_of_fits : (c : Configuration) (xs : List (List ℕ)) (e : Event) → submit_of c xs ≡ Ok e → EventFits e
+submit_of_fits c [] e h = absurd cc
+submit_of_fits c (a ∷ []) e h = absurd cc
+submit_of_fits c (a ∷ b ∷ []) e h = submit_fits c a b e h
+submit_of_fits c (a ∷ b ∷ d ∷ xs) e h = absurd cc
+
+deliver_of_fits : (c : Configuration) (xs : List (List ℕ)) (e : Event) → deliver_of c xs ≡ Ok e → EventFits e
+deliver_of_fits c [] e h = absurd cc
+deliver_of_fits c (a ∷ []) e h = absurd cc
+deliver_of_fits c (a ∷ b ∷ []) e h = deliver_fits c a b e h
+deliver_of_fits c (a ∷ b ∷ d ∷ xs) e h = absurd cc
+
+crash_of_fits : (c : Configuration) (xs : List (List ℕ)) (e : Event) → crash_of c xs ≡ Ok e → EventFits e
+crash_of_fits c [] e h = absurd cc
+crash_of_fits c (a ∷ []) e h = crash_fits c a e h
+crash_of_fits c (a ∷ b ∷ xs) e h = absurd cc
+
+by_word : (c : Configuration) (rest : List (List ℕ)) (e : Event) (s d k : Bool) → (if s then submit_of c rest else if d then deliver_of c rest else if k then crash_of c rest else Err 3) ≡ Ok e → EventFits e
+by_word c rest e true d k h = submit_of_fits c rest e h
+by_word c rest e false true k h = deliver_of_fits c rest e h
+by_word c rest e false false true h = crash_of_fits c rest e h
+by_word c rest e false false false h = absurd cc
+
+of_fields_fits : (c : Configuration) (xs : List (List ℕ)) (e : Event) → event_of_fields c xs ≡ Ok e → EventFits e
+of_fields_fits c [] e h = absurd cc
+of_fields_fits c (word ∷ rest) e h = by_word c rest e (is_text (codes "submit") word) (is_text (codes "deliver") word) (is_text (codes "crash") word) h
+
+limited : (c : Configuration) (line : List ℕ) (e : Event) (b : Bool) → (if b then Err 10 else plain_line line >>= λ text. event_of_fields c (fields text)) ≡ Ok e → EventFits e
+limited c line e true h = absurd cc
+limited c line e false h = let a = then_ok (plain_line line) (λ text. event_of_fields c (fields text)) e h in of_fields_fits c (fields a.0) e a.2
+
+pub events_fit : (c : Configuration) (before : ℕ) (line : List ℕ) (e : Event) → event_of c before line ≡ Ok e → EventFits e
+unfolding event_of
+events_fit c before line e h = limited c line e (nat_le MAX_LINES before) h
+
+-- ---- headers
+
+made_fits : (made c : Configuration) (b : Bool) → is_configuration made ≡ b → (if◌then◌else◌ {A = Result Configuration ℕ} b (Ok made) (Err 5)) ≡ Ok c → is_configuration c ≡ true
+made_fits made c true is h = let same : made ≡ c = cc in subst (λ (x : Configuration). is_configuration x ≡ true) same is
+made_fits made c false is h = absurd cc
+
+configuration_fits : (n s k : Option ℕ) (c : Configuration) → configuration_of n s k ≡ Ok c → is_configuration c ≡ true
+configuration_fits (Some n) (Some s) (Some k) c h = made_fits (record { replicas = n; sequencers = s; clients = k }) c (is_configuration (record { replicas = n; sequencers = s; clients = k })) refl h
+configuration_fits None s k c h = absurd cc
+configuration_fits (Some n) None k c h = absurd cc
+configuration_fits (Some n) (Some s) None c h = absurd cc
+
+counts_fit : (n s k : List ℕ) (c : Configuration) (b : Bool) → (if b then configuration_of (count_of n) (count_of s) (count_of k) else Err 5) ≡ Ok c → is_configuration c ≡ true
+counts_fit n s k c true h = configuration_fits (count_of n) (count_of s) (count_of k) c h
+counts_fit n s k c false h = absurd cc
+
+rest_fits : (xs : List (List ℕ)) (c : Configuration) → header_rest xs ≡ Ok c → is_configuration c ≡ true
+rest_fits [] c h = absurd cc
+rest_fits (x1 ∷ []) c h = absurd cc
+rest_fits (x1 ∷ x2 ∷ []) c h = absurd cc
+rest_fits (x1 ∷ x2 ∷ x3 ∷ []) c h = absurd cc
+rest_fits (x1 ∷ x2 ∷ x3 ∷ x4 ∷ []) c h = absurd cc
+rest_fits (x1 ∷ x2 ∷ x3 ∷ x4 ∷ x5 ∷ []) c h = absurd cc
+rest_fits (x1 ∷ x2 ∷ x3 ∷ x4 ∷ x5 ∷ x6 ∷ []) c h = absurd cc
+rest_fits (version ∷ replicas ∷ n ∷ sequencers ∷ s ∷ clients ∷ k ∷ []) c h = counts_fit n s k c _ h
+rest_fits (x1 ∷ x2 ∷ x3 ∷ x4 ∷ x5 ∷ x6 ∷ x7 ∷ x8 ∷ xs) c h = absurd cc
+
+word_fits : (rest : List (List ℕ)) (c : Configuration) (b : Bool) → (if b then header_rest rest else Err 3) ≡ Ok c → is_configuration c ≡ true
+word_fits rest c true h = rest_fits rest c h
+word_fits rest c false h = absurd cc
+
+header_fields_fit : (xs : List (List ℕ)) (c : Configuration) → header_of_fields xs ≡ Ok c → is_configuration c ≡ true
+header_fields_fit [] c h = absurd cc
+header_fields_fit (word ∷ rest) c h = word_fits rest c (is_text (codes "nopaxos") word) h
+
+pub headers_fit : (line : List ℕ) (c : Configuration) → header_of line ≡ Ok c → is_configuration c ≡ true
+unfolding header_of
+headers_fit line c h = let a = then_ok (plain_line line) (λ text. header_of_fields (fields text)) c h in header_fields_fit (fields a.0) c a.2
