@@ -1,6 +1,7 @@
 ghost use Rattle.std.specs.Prelude.{◌≡◌};
 ghost use Rattle.outside.specs.Causes.{Rose};
 ghost use Rattle.kv_host.specs.Kv.{kv_meaning};
+ghost use Rattle.replay.specs.Safety.{RunsSafelyOf};
 ghost use Rattle.nopaxos.specs.Words.{Taken};
 ghost use Rattle.nopaxos.specs.Ending.{ReplayEnds, UsageEnds, EndsWithoutFault, RefusesWithoutFault};
 
@@ -12,6 +13,7 @@ use std::alloc::Global;
 
 fn run_replay<S: Source, K: Sink>(alloc: Global, source: &mut S, sink: &mut K) -> Status
     ensures ends { ReplayEnds kv_meaning (S.left source.old) (S.left source.new) (K.held sink.old) (K.held sink.new) result }
+    ensures safe { result ≡ Status.Done → RunsSafelyOf kv_meaning (S.left source.old) }
     ensures read { result ≡ Status.ReadFault → Rose (S.fault_count source.old) (S.fault_count source.new) }
     ensures write { result ≡ Status.WriteFault → Rose (K.fault_count sink.old) (K.fault_count sink.new) }
 {
@@ -47,6 +49,7 @@ pub fn run<S: Source, K: Sink, P: Ports, C: Clock>(
     clock: &mut C,
 ) -> Status
     ensures replay { Taken words.now → ReplayEnds kv_meaning (S.left source.old) (S.left source.new) (K.held sink.old) (K.held sink.new) result }
+    ensures safe { Taken words.now → result ≡ Status.Done → RunsSafelyOf kv_meaning (S.left source.old) }
     ensures usage { ¬ Taken words.now → UsageEnds (K.held sink.old) (K.held sink.new) result }
     ensures read { result ≡ Status.ReadFault → Rose (S.fault_count source.old) (S.fault_count source.new) }
     ensures write { result ≡ Status.WriteFault → Rose (K.fault_count sink.old) (K.fault_count sink.new) }

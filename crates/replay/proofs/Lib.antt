@@ -2,3 +2,4 @@ pub mod Beginning
 pub mod Fronts
 pub mod Progressing
 pub mod Runs
+pub mod Safely

@@ -1,4 +1,5 @@
 pub mod Outcome
 pub mod Output
 pub mod Progress
+pub mod Safety
 pub mod Steps

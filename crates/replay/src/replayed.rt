@@ -1,6 +1,8 @@
+ghost use Rattle.std.specs.Prelude.{OnOk};
 ghost use Rattle.outside.specs.Causes.{HasCauseFor};
 ghost use Rattle.kv_host.specs.Kv.{kv_meaning};
 ghost use Rattle.replay.specs.Outcome.{EndsWith};
+ghost use Rattle.replay.specs.Safety.{RunsSafelyOf};
 
 use crate::error::ReplayError;
 use crate::turn::{finish, stop, take_event};
@@ -18,6 +20,7 @@ pub fn replay_with<H: Host, S: Source, K: Sink>(
     sink: &mut K,
 ) -> Result<(), ReplayError>
     ensures ends { EndsWith H.meaning (S.left source.old) (S.left source.new) (K.held sink.old) (K.held sink.new) result }
+    ensures safe { OnOk result (RunsSafelyOf H.meaning (S.left source.old)) }
     ensures read { HasCauseFor (S.fault_count source.old) (S.fault_count source.new) ReplayError.ReadFault result }
     ensures write { HasCauseFor (K.fault_count sink.old) (K.fault_count sink.new) ReplayError.WriteFault result }
 {
@@ -51,6 +54,7 @@ pub fn replay<S: Source, K: Sink>(
     sink: &mut K,
 ) -> Result<(), ReplayError>
     ensures ends { EndsWith kv_meaning (S.left source.old) (S.left source.new) (K.held sink.old) (K.held sink.new) result }
+    ensures safe { OnOk result (RunsSafelyOf kv_meaning (S.left source.old)) }
     ensures read { HasCauseFor (S.fault_count source.old) (S.fault_count source.new) ReplayError.ReadFault result }
     ensures write { HasCauseFor (K.fault_count sink.old) (K.fault_count sink.new) ReplayError.WriteFault result }
 {

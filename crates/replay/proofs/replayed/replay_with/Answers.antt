@@ -2,8 +2,10 @@ use Rattle.std.proofs.Common.{◌≡◌, ◌∙◌, ◌++◌, List, ℕ, ap, ari
 use Rattle.std.proofs.lemmas.Result.{err_from_is_err_and}
 use Rattle.schedule_text.specs.Reading.{Reading}
 use Rattle.schedule_text.specs.Transcript.{transcript_line}
+use Rattle.safety.proofs.Answers.{results_short}
 use Rattle.replay.proofs.Beginning.{opened, unopened}
 use Rattle.replay.proofs.Progressing.{stopped, finished, advanced, refused_event, starved}
+use Rattle.replay.proofs.Safely.{done_is_safe}
 use Rattle.replay.proofs.replayed.replay_with.Goals as goal
 
 pub returns-in-Err-clause-ends : goal.returns-in-Err-clause-ends
@@ -69,6 +71,17 @@ returns-in-Ok-None-clause-ends g c =
     let kept = c.loop-turn.invariant in
     finished m (left c.args.source.now) (left c.loop-turn.source) (left c.next.new.source) (held c.args.sink.now) (held c.loop-turn.sink) (held c.finish.new.sink)
     c.loop-turn.pending.items c.loop-turn.reader c.next.new.self kept.going.0 c.loop-turn.world.state c.finish.result kept.going.1 (rw c.in-Ok-None.field-0-is at c.in-Ok-None.ensures.takes) c.finish.ensures.writes
+
+pub returns-in-Ok-None-clause-safe : goal.returns-in-Ok-None-clause-safe
+returns-in-Ok-None-clause-safe g c =
+    let m = g.H.Host.meaning in
+    let left = g.S.Source.left in
+    let held = g.K.Sink.held in
+    let kept = c.loop-turn.invariant in
+    let short = results_short m g.H.Host.is_sound g.met.H.Host.opens_sound g.met.H.Host.stays_sound g.met.H.Host.answers_short in
+    done_is_safe m short (left c.args.source.now) (left c.next.new.source) (held c.args.sink.now) (held c.finish.new.sink) c.finish.result
+    (finished m (left c.args.source.now) (left c.loop-turn.source) (left c.next.new.source) (held c.args.sink.now) (held c.loop-turn.sink) (held c.finish.new.sink)
+    c.loop-turn.pending.items c.loop-turn.reader c.next.new.self kept.going.0 c.loop-turn.world.state c.finish.result kept.going.1 (rw c.in-Ok-None.field-0-is at c.in-Ok-None.ensures.takes) c.finish.ensures.writes)
 
 pub returns-in-Err-next-clause-ends : goal.returns-in-Err-next-clause-ends
 returns-in-Err-next-clause-ends g c =
