@@ -17,7 +17,7 @@ pub use laws::{
     fields_are_read, read_fields_stand, read_is_spelled, spelled_is_read, spelling_is_injective,
 };
 pub use read::decode;
-pub use write::{encode, put_request, put_u16, put_u32, put_u64, put_view};
+pub use write::{encode, put_fragment, put_request, put_u16, put_u32, put_u64, put_view};
 
 #[cfg(test)]
 mod tests;

@@ -2,9 +2,9 @@ ghost use Rattle.std.specs.Prelude.{◌≡◌, ◌++◌, ◌<◌, ◌≤◌, ◌
 ghost use Rattle.std.specs.Int.{w16, w32, w64};
 ghost use Rattle.nop_types.specs.Ranges.{DatagramFits};
 ghost use Rattle.oum_codec.specs.Numbers.{be_bytes};
-ghost use Rattle.oum_codec.specs.Spelling.{view_bytes, counted_bytes, request_bytes, stamped_bytes, reply_bytes, signal_bytes, fragment_bytes, header, spelling};
+ghost use Rattle.oum_codec.specs.Spelling.{view_bytes, counted_bytes, request_bytes, stamped_bytes, reply_bytes, signal_bytes, header, spelling};
 
-use nop_types::{Datagram, Fragment, MAX_RESULT_BYTES, NoMemory, Reply, Request, Stamped, View};
+use nop_types::{Datagram, MAX_RESULT_BYTES, NoMemory, Reply, Request, Stamped, View};
 use std::alloc::Global;
 
 /// Appends two bytes.
@@ -98,21 +98,30 @@ fn put_signal(to: &mut Vec<u8>, sequencer: u8, n: u32) -> Result<(), NoMemory>
     put_u32(to, n)
 }
 
-fn put_fragment(to: &mut Vec<u8>, fragment: &Fragment) -> Result<(), NoMemory>
-    ensures { OnOk result (to.new.items ≡ to.old.items ++ fragment_bytes fragment.now) }
-{
-    to.push(fragment.replica)?;
-    put_u64(to, fragment.message)?;
-    put_u16(to, fragment.index)?;
-    put_u16(to, fragment.count)?;
-    to.extend_from_slice(fragment.payload.as_slice())?;
-    Ok(())
-}
-
 fn put_header(to: &mut Vec<u8>, kind: u8) -> Result<(), NoMemory>
     ensures { OnOk result (to.new.items ≡ to.old.items ++ header kind) }
 {
     to.extend_from_slice(&[0x4e, 0x4f, 1, kind])?;
+    Ok(())
+}
+
+/// Appends a fragment's spelling, from its fields and its payload. After an error `to` may end with a part of it.
+pub fn put_fragment(
+    to: &mut Vec<u8>,
+    replica: u8,
+    message: u64,
+    index: u16,
+    count: u16,
+    payload: &[u8],
+) -> Result<(), NoMemory>
+    ensures { OnOk result (to.new.items ≡ to.old.items ++ spelling (Datagram.Fragment (record { replica = replica; message = message; index = index; count = count; payload = payload.now }))) }
+{
+    put_header(to, 8)?;
+    to.push(replica)?;
+    put_u64(to, message)?;
+    put_u16(to, index)?;
+    put_u16(to, count)?;
+    to.extend_from_slice(payload)?;
     Ok(())
 }
 
@@ -149,10 +158,14 @@ fn put(to: &mut Vec<u8>, datagram: &Datagram) -> Result<(), NoMemory>
             put_header(to, 7)?;
             put_signal(to, *sequencer, *round)
         }
-        Datagram::Fragment(fragment) => {
-            put_header(to, 8)?;
-            put_fragment(to, fragment)
-        }
+        Datagram::Fragment(fragment) => put_fragment(
+            to,
+            fragment.replica,
+            fragment.message,
+            fragment.index,
+            fragment.count,
+            fragment.payload.as_slice(),
+        ),
     }
 }
 
