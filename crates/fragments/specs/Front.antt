@@ -1,0 +1,19 @@
+-- Parts of which the first stand in one piece.
+use Rattle.std.specs.Prelude.{◌≡◌, ℕ, zero, suc, ◌*◌, ◌≤◌, List, [], ◌∷◌, ◌++◌, length, drop, Option, Some}
+use Rattle.nop_types.specs.declared.limits.TheConstants.{FRAGMENT_BYTES}
+use Rattle.fragments.specs.Parts.{missing}
+use Rattle.fragments.specs.Cutting.{piece}
+
+-- so many full parts, which stand one behind the other
+abbrev pub front_parts : List ℕ → ℕ → List (Option (List ℕ))
+front_parts front zero = []
+front_parts front (suc k) = front_parts front k ++ Some (piece front k) ∷ []
+
+-- those, and the places behind them
+abbrev pub parts_of : List ℕ → ℕ → List (Option (List ℕ)) → List (Option (List ℕ))
+parts_of front filled later = front_parts front filled ++ drop filled later
+
+pub record IsSplit (front : List ℕ) (filled : ℕ) (later : List (Option (List ℕ))) (gone : ℕ) : Type 0 where
+  pub size : length front ≡ FRAGMENT_BYTES * filled
+  pub within : filled ≤ length later
+  pub counted : gone ≡ missing (parts_of front filled later)

@@ -1,0 +1,64 @@
+//! What is kept and answered, over any list of fragments.
+
+ghost use Rattle.std.specs.Prelude.{◌≡◌, ◌++◌, ◌∷◌, ℕ, List, [], Some, true, All, length};
+ghost use Rattle.nop_types.specs.declared.datagram.Fragment.{Fragment};
+ghost use Rattle.nop_types.specs.Lists.{Has};
+ghost use Rattle.nop_types.specs.Ranges.{FragmentFits};
+ghost use Rattle.fragments.specs.Cutting.{fragments_of};
+ghost use Rattle.fragments.specs.Joining.{Waiting, is_in_range, opening, taken};
+ghost use Rattle.fragments.specs.Runs.{AllCame, CameInParts, StepKeeps, after, Sent, AreDistinct, AreCutFrom, WasSent, WaitingFits, CanBeCut};
+
+/// Nothing is kept at the opening, so all of it came in any fragments.
+pub fn opening_came()
+    ensures { (net : List Fragment) (n : ℕ) → AllCame net (opening n) }
+{}
+
+/// What came in some fragments came in these and more.
+pub fn stays_came()
+    ensures { (net more : List Fragment) (all : List Waiting) → AllCame net all → AllCame (net ++ more) all }
+{}
+
+/// Where all that is kept came in the fragments of a list, so it is after one more of them; and where bytes are answered,
+/// for each index below the count a fragment of that sender, number, count and index with that part is in the list.
+pub fn keeps_what_came()
+    ensures { (net : List Fragment) (all : List Waiting) (f : Fragment) → Has net f → AllCame net all →
+        StepKeeps net f (taken all f) }
+{}
+
+/// Whatever was taken before, bytes are answered only where each of their parts was taken.
+pub fn answers_what_came()
+    ensures { (n : ℕ) (past : List Fragment) (f : Fragment) (bytes : List ℕ) →
+        (taken (after n past) f).1 ≡ Some bytes → CameInParts (past ++ f ∷ []) f bytes }
+{}
+
+/// Where each fragment of a list was cut by its sender, and no sender used a number twice, bytes that came in them are one
+/// message, which its sender sent.
+pub fn joins_what_was_sent()
+    ensures { (sent : List Sent) (net : List Fragment) (f : Fragment) (bytes : List ℕ) →
+        AreDistinct sent → AreCutFrom sent net → Has net f → CameInParts net f bytes → WasSent sent f bytes }
+{}
+
+/// Where each fragment that was taken was cut by its sender, and no sender used a number twice, what is answered is one
+/// message, which its sender sent.
+pub fn answers_what_was_sent()
+    ensures { (sent : List Sent) (n : ℕ) (past : List Fragment) (f : Fragment) (bytes : List ℕ) →
+        AreDistinct sent → AreCutFrom sent (past ++ f ∷ []) → (taken (after n past) f).1 ≡ Some bytes →
+        WasSent sent f bytes }
+{}
+
+/// What is cut is in the ranges of fragments.
+pub fn cut_fragments_fit()
+    ensures { (sender number : ℕ) (bytes : List ℕ) (f : Fragment) → CanBeCut sender number bytes →
+        Has (fragments_of sender number bytes) f → FragmentFits f }
+{}
+
+/// A fragment in its ranges is never passed over for its shape.
+pub fn fitting_is_in_range()
+    ensures { (f : Fragment) → FragmentFits f → is_in_range f ≡ true }
+{}
+
+/// No fragment brings more unfinished messages, parts or bytes than the limits allow.
+pub fn stays_within_limits()
+    ensures opened { (n : ℕ) → All WaitingFits (opening n) }
+    ensures taken { (all : List Waiting) (f : Fragment) → All WaitingFits all → All WaitingFits (taken all f).0 }
+{}
