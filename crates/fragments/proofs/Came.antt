@@ -11,7 +11,7 @@ use Rattle.std.proofs.lemmas.Option.{slice_get-get_or, get_or_from_slice_get, sl
 use Rattle.nop_types.specs.declared.datagram.Fragment.{Fragment}
 use Rattle.nop_types.specs.Lists.{Has}
 use Rattle.fragments.specs.Parts.{Partial, missing, whole, bytes_of, with_part}
-use Rattle.fragments.specs.Joining.{Waiting, begun, started, refuses, completes, continued, placed, place, joined, at_sender, taken, taken_if, is_in_range, payload_fits, opening}
+use Rattle.fragments.specs.Joining.{Waiting, begun, started, refuses, completes, continued, placed, place, joined, at_sender, taken, taken_if, is_in_range, opening}
 use Rattle.fragments.specs.Runs.{part_of, Came, AllCame, StepKeeps, after_all, after, CameInParts}
 use Rattle.fragments.proofs.Has.{Has-append_left, Has-push, Has-later, Has-first}
 

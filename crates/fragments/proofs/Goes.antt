@@ -1,12 +1,12 @@
 -- A fragment of a message that waits.
-use Rattle.std.proofs.Common.{◌≡◌, suc, ◌≢◌, ℕ, ◌<◌, ◌≤◌, true, false, eqb, List, length, get_or, set, replicate, Option, Some, None, refl, sym, ap, arith}
+use Rattle.std.proofs.Common.{◌≡◌, suc, ◌≢◌, ℕ, ◌<◌, true, false, eqb, length, get_or, set, replicate, Some, None, refl, arith}
 use Rattle.std.specs.Prelude.{slice_get, remove}
 use Rattle.std.proofs.lemmas.Bool.Decides.{nat_tests}
 use Rattle.nop_types.specs.declared.datagram.Fragment.{Fragment}
 use Rattle.fragments.specs.Parts.{Partial, missing, is_open, whole, with_part}
 use Rattle.fragments.specs.Joining.{Waiting, found, is_in_range}
 use Rattle.std.proofs.lemmas.Option.{slice_get_read}
-use Rattle.std.proofs.lemmas.List.{take-set, drop-set-lt, length-replicate}
+use Rattle.std.proofs.lemmas.List.{take-set, drop-set-lt}
 use Rattle.fragments.proofs.Counting.{missing_set, open_at_first}
 use Rattle.fragments.proofs.Came.{index_within}
 

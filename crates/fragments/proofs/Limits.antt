@@ -1,8 +1,8 @@
 -- What is cut is in its ranges, and what is kept stays within the limits.
-use Rattle.std.proofs.Common.{◌≡◌, ℕ, zero, suc, ◌+◌, ◌-◌, ◌*◌, ◌<◌, ◌≤◌, Bool, true, false, cond, eqb, ltb, List, [], ◌∷◌, ◌++◌, length, get_or, set, take, drop, replicate, All, Option, Some, None, refl, sym, ap, subst, ◌∙◌, arith, inl, inr}
+use Rattle.std.proofs.Common.{◌≡◌, ℕ, suc, ◌+◌, ◌*◌, ◌<◌, ◌≤◌, Bool, true, false, cond, eqb, ltb, List, [], ◌∷◌, ◌++◌, length, get_or, take, drop, replicate, All, Option, Some, None, refl, sym, subst, arith}
 use Rattle.std.specs.Prelude.{slice_get, nat_lt, nat_le, ◌&&◌, ◌||◌}
 use Rattle.std.proofs.lemmas.Bool.Decides.{nat_tests}
-use Rattle.std.proofs.lemmas.Bool.{ltb-true, ltb-false}
+use Rattle.std.proofs.lemmas.Bool.{ltb-false}
 use Rattle.std.proofs.lemmas.List.{length-append, length-drop, length-take, length-set, length-replicate}
 use Rattle.std.proofs.lemmas.List.Elements.{All-replicate, All-push, All-drop, All-take, All-append, All-set, All-get_or}
 use Rattle.std.proofs.lemmas.List.Quantifiers.{position-Some}
@@ -13,7 +13,7 @@ use Rattle.nop_types.specs.Lists.{Has}
 use Rattle.nop_types.specs.Ranges.{FragmentFits}
 use Rattle.fragments.specs.Cutting.{piece, piece_count, fragments_of}
 use Rattle.fragments.specs.Parts.{Partial, bytes_of, with_part}
-use Rattle.fragments.specs.Joining.{Waiting, is_in_range, begun, started, refuses, completes, continued, placed, place, joined, at_sender, taken, taken_if, opening}
+use Rattle.fragments.specs.Joining.{Waiting, is_in_range, begun, started, refuses, completes, continued, placed, place, joined, at_sender, taken, taken_if}
 use Rattle.fragments.specs.Runs.{PartialFits, WaitingFits, CanBeCut}
 use Rattle.fragments.proofs.Whole.{is_at}
 

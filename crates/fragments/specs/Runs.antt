@@ -1,12 +1,11 @@
 -- What is kept and what is answered, over any fragments.
-use Rattle.std.specs.Prelude.{◌≡◌, ℕ, ◌<◌, ◌≤◌, ◌^◌, List, [], ◌∷◌, ◌++◌, length, get_or, Option, Some, None, All, true}
+use Rattle.std.specs.Prelude.{◌≡◌, ℕ, ◌<◌, ◌≤◌, ◌^◌, List, [], ◌∷◌, length, get_or, Option, Some, None, All}
 use Rattle.std.specs.List.{flat_map}
 use Rattle.nop_types.specs.declared.limits.TheConstants.{FRAGMENT_BYTES, MAX_FRAGMENTS, MAX_UNFINISHED}
 use Rattle.nop_types.specs.declared.datagram.Fragment.{Fragment}
 use Rattle.nop_types.specs.Lists.{Has}
-use Rattle.nop_types.specs.Ranges.{FragmentFits}
 use Rattle.fragments.specs.Parts.{Partial, bytes_of}
-use Rattle.fragments.specs.Joining.{Waiting, opening, taken, is_in_range}
+use Rattle.fragments.specs.Joining.{Waiting, opening, taken}
 use Rattle.fragments.specs.Cutting.{fragments_of, piece_count}
 
 -- ---- what is kept and answered came in fragments

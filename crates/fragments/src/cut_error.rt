@@ -1,5 +1,4 @@
 use nop_types::NoMemory as OutOfMemory;
-use std::alloc::AllocError;
 
 /// Why a message was not cut.
 #[derive(Clone, Copy, Debug, PartialEq, Eq)]
@@ -16,17 +15,6 @@ impl From<OutOfMemory> for CutError {
     ghost from_gives = { λ _ e. e ≡ NoMemory };
 
     fn from(_e: OutOfMemory) -> CutError {
-        CutError::NoMemory
-    }
-}
-
-impl From<AllocError> for CutError {
-    ghost use Rattle.std.specs.Prelude.{◌≡◌};
-    ghost use Rattle.fragments.specs.declared.cut_error.CutError.TheVariants.{NoMemory};
-
-    ghost from_gives = { λ _ e. e ≡ NoMemory };
-
-    fn from(_e: AllocError) -> CutError {
         CutError::NoMemory
     }
 }

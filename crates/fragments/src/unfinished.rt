@@ -88,6 +88,7 @@ fn append_whole(
     ensures ok { OnOk result (to.new.items ≡ to.old.items ++ whole (set parts.now index (Some payload.now))) }
     ensures err { OnErr result (to.new.items ≡ to.old.items) }
 {
+    to.reserve_exact(FRAGMENT_BYTES.saturating_mul(parts.len()))?;
     let len = to.len();
     let appended = append_with(to, parts, index, payload);
     if appended.is_err() {

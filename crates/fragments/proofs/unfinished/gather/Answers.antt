@@ -1,4 +1,4 @@
-use Rattle.std.proofs.Common.{◌≡◌, ◌<◌, ◌+◌, ◌*◌, ◌++◌, Some, None, length, get_or, set, refl, sym, ◌∙◌, arith}
+use Rattle.std.proofs.Common.{◌≡◌, ◌<◌, ◌++◌, Some, None, length, get_or, sym, ◌∙◌, arith}
 use Rattle.std.proofs.lemmas.List.{get_or_read, length-append, length-set}
 use Rattle.nop_types.specs.declared.limits.TheConstants.{FRAGMENT_BYTES}
 use Rattle.fragments.proofs.Fronts.{gather_step}
