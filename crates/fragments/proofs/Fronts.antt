@@ -10,7 +10,7 @@ use Rattle.fragments.specs.Front.{front_parts, parts_of, IsSplit}
 use Rattle.fragments.proofs.Counting.{missing_set, open_missing, open_within}
 use Rattle.fragments.proofs.Pieces.{take_add}
 
-front_len : (front : List ℕ) (k : ℕ) → length (front_parts front k) ≡ k
+pub front_len : (front : List ℕ) (k : ℕ) → length (front_parts front k) ≡ k
 front_len front zero = refl
 front_len front (suc k) = omega (arith, length-append (front_parts front k) (Some (piece front k) ∷ []), front_len front k)
 
@@ -91,7 +91,7 @@ open_past front k i later h = elim (cases_lt i k) [
 ]
 
 -- the front's bytes are its parts
-whole_taken : (front : List ℕ) (k : ℕ) → whole (front_parts front k) ≡ take (FRAGMENT_BYTES * k) front
+pub whole_taken : (front : List ℕ) (k : ℕ) → whole (front_parts front k) ≡ take (FRAGMENT_BYTES * k) front
 unfolding piece
 whole_taken front zero = refl
 whole_taken front (suc k) =

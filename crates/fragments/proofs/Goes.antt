@@ -10,10 +10,10 @@ use Rattle.std.proofs.lemmas.List.{take-set, drop-set-lt}
 use Rattle.fragments.proofs.Counting.{missing_set, open_at_first}
 use Rattle.fragments.proofs.Came.{index_within}
 
-same_number : (a b : ℕ) → a ≡ b → eqb a b ≡ true
+pub same_number : (a b : ℕ) → a ≡ b → eqb a b ≡ true
 same_number a b e = grind (arith, nat_tests)
 
-other_number : (a b : ℕ) → a ≢ b → eqb a b ≡ false
+pub other_number : (a b : ℕ) → a ≢ b → eqb a b ≡ false
 other_number a b e = grind (arith, nat_tests)
 
 pub found_last : (q : Waiting) (f : Fragment) (at : ℕ) (b : Partial) → slice_get q at ≡ Some b → f.count ≡ length b.parts → is_open b.parts f.index ≡ true → missing b.parts ≡ 1 → found q f at (slice_get q at) ≡ (remove q at, Some (whole (with_part b f.index f.payload).parts))

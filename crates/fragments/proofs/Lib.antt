@@ -5,4 +5,5 @@ pub mod Goes
 pub mod Has
 pub mod Limits
 pub mod Pieces
+pub mod Together
 pub mod Whole

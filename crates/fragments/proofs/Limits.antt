@@ -11,7 +11,7 @@ use Rattle.nop_types.specs.declared.limits.TheConstants.{FRAGMENT_BYTES, MAX_FRA
 use Rattle.nop_types.specs.declared.datagram.Fragment.{Fragment}
 use Rattle.nop_types.specs.Lists.{Has}
 use Rattle.nop_types.specs.Ranges.{FragmentFits}
-use Rattle.fragments.specs.Cutting.{piece, piece_count, fragments_of}
+use Rattle.fragments.specs.Cutting.{piece, piece_count, fragment_at, fragments_of}
 use Rattle.fragments.specs.Parts.{Partial, bytes_of, with_part}
 use Rattle.fragments.specs.Joining.{Waiting, is_in_range, begun, started, refuses, completes, continued, placed, place, joined, at_sender, taken, taken_if}
 use Rattle.fragments.specs.Runs.{PartialFits, WaitingFits, CanBeCut}
@@ -46,20 +46,24 @@ piece_fits bytes i lt =
       full = λ more. omega (arith, l, t, d, more);
     }
 
-pub cut_fragments_fit : (sender number : ℕ) (bytes : List ℕ) (f : Fragment) → CanBeCut sender number bytes → Has (fragments_of sender number bytes) f → FragmentFits f
-cut_fragments_fit sender number bytes f can here =
-    let at = is_at sender number bytes (piece_count bytes) f here in
-    let p = piece_fits bytes f.index at.below in
-    subst FragmentFits (sym at.same) (record {
+pub fragment_fits : (sender number : ℕ) (bytes : List ℕ) (i : ℕ) → CanBeCut sender number bytes → i < piece_count bytes → FragmentFits (fragment_at sender number bytes i)
+fragment_fits sender number bytes i can lt =
+    let p = piece_fits bytes i lt in
+    record {
       replica = can.replica;
       message_low = can.low;
       message = can.high;
-      index = at.below;
+      index = lt;
       count = can.few;
       some = p.some;
       most = p.most;
       full = p.full;
-    })
+    }
+
+pub cut_fragments_fit : (sender number : ℕ) (bytes : List ℕ) (f : Fragment) → CanBeCut sender number bytes → Has (fragments_of sender number bytes) f → FragmentFits f
+cut_fragments_fit sender number bytes f can here =
+    let at = is_at sender number bytes (piece_count bytes) f here in
+    subst FragmentFits (sym at.same) (fragment_fits sender number bytes f.index can at.below)
 
 -- ---- limits
 

@@ -46,7 +46,7 @@ concat-pieces (x ∷ xs) bytes h =
     let size : FRAGMENT_BYTES + FRAGMENT_BYTES * length xs ≡ FRAGMENT_BYTES * suc (length xs) = omega arith in
     flat_map-cons (λ (p : List ℕ). p) x xs ∙ rw (first, others) (take_add FRAGMENT_BYTES (FRAGMENT_BYTES * length xs) bytes ∙ ap (λ (n : ℕ). take n bytes) size)
 
-enough : (bytes : List ℕ) → length bytes ≤ FRAGMENT_BYTES * piece_count bytes
+pub enough : (bytes : List ℕ) → length bytes ≤ FRAGMENT_BYTES * piece_count bytes
 unfolding piece_count
 enough bytes = omega arith
 

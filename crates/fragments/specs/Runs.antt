@@ -1,6 +1,7 @@
 -- What is kept and what is answered, over any fragments.
-use Rattle.std.specs.Prelude.{◌≡◌, ℕ, ◌<◌, ◌≤◌, ◌^◌, List, [], ◌∷◌, length, get_or, Option, Some, None, All}
+use Rattle.std.specs.Prelude.{◌≡◌, ℕ, ◌<◌, ◌≤◌, ◌^◌, List, [], ◌∷◌, ◌++◌, length, get_or, Option, Some, None, All}
 use Rattle.std.specs.List.{flat_map}
+use Rattle.std.specs.Option.{option_to_list}
 use Rattle.nop_types.specs.declared.limits.TheConstants.{FRAGMENT_BYTES, MAX_FRAGMENTS, MAX_UNFINISHED}
 use Rattle.nop_types.specs.declared.datagram.Fragment.{Fragment}
 use Rattle.nop_types.specs.Lists.{Has}
@@ -45,6 +46,11 @@ after_all all (f ∷ fs) = after_all (taken all f).0 fs
 
 abbrev pub after : ℕ → List Fragment → List Waiting
 after n past = after_all (opening n) past
+
+-- what they answer, in order
+abbrev pub answered : List Waiting → List Fragment → List (List ℕ)
+answered all [] = []
+answered all (f ∷ fs) = option_to_list (taken all f).1 ++ answered (taken all f).0 fs
 
 -- ---- what is answered was sent
 

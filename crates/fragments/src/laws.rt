@@ -1,12 +1,12 @@
 //! What is kept and answered, over any list of fragments.
 
-ghost use Rattle.std.specs.Prelude.{◌≡◌, ◌++◌, ◌∷◌, ℕ, List, [], Some, true, All, length};
+ghost use Rattle.std.specs.Prelude.{◌≡◌, ◌<◌, ◌++◌, ◌∷◌, ℕ, List, [], Some, true, All, length};
 ghost use Rattle.nop_types.specs.declared.datagram.Fragment.{Fragment};
 ghost use Rattle.nop_types.specs.Lists.{Has};
 ghost use Rattle.nop_types.specs.Ranges.{FragmentFits};
 ghost use Rattle.fragments.specs.Cutting.{fragments_of};
 ghost use Rattle.fragments.specs.Joining.{Waiting, is_in_range, opening, taken};
-ghost use Rattle.fragments.specs.Runs.{AllCame, CameInParts, StepKeeps, after, Sent, AreDistinct, AreCutFrom, WasSent, WaitingFits, CanBeCut};
+ghost use Rattle.fragments.specs.Runs.{AllCame, CameInParts, StepKeeps, after, answered, Sent, AreDistinct, AreCutFrom, WasSent, WaitingFits, CanBeCut};
 
 /// Nothing is kept at the opening, so all of it came in any fragments.
 pub fn opening_came()
@@ -50,6 +50,12 @@ pub fn answers_what_was_sent()
 pub fn cut_fragments_fit()
     ensures { (sender number : ℕ) (bytes : List ℕ) (f : Fragment) → CanBeCut sender number bytes →
         Has (fragments_of sender number bytes) f → FragmentFits f }
+{}
+
+/// What is cut, and comes in order where nothing was kept, is joined at its last fragment.
+pub fn cut_is_joined()
+    ensures { (n sender number : ℕ) (bytes : List ℕ) → sender < n → CanBeCut sender number bytes →
+        answered (opening n) (fragments_of sender number bytes) ≡ bytes ∷ [] }
 {}
 
 /// A fragment in its ranges is never passed over for its shape.
