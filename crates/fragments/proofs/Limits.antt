@@ -1,5 +1,5 @@
 -- What is cut is in its ranges, and what is kept stays within the limits.
-use Rattle.std.proofs.Common.{◌≡◌, ℕ, suc, ◌+◌, ◌*◌, ◌<◌, ◌≤◌, Bool, true, false, cond, eqb, ltb, List, [], ◌∷◌, ◌++◌, length, get_or, take, drop, replicate, All, Option, Some, None, refl, sym, subst, arith}
+use Rattle.std.proofs.Common.{◌≡◌, ℕ, suc, ◌+◌, ◌*◌, ◌<◌, ◌≤◌, Bool, true, false, cond, eqb, ltb, List, [], ◌∷◌, ◌++◌, length, get_or, take, drop, replicate, All, Option, Some, None, refl, sym, subst, arith, inl, inr}
 use Rattle.std.specs.Prelude.{slice_get, nat_lt, nat_le, ◌&&◌, ◌||◌}
 use Rattle.std.proofs.lemmas.Bool.Decides.{nat_tests}
 use Rattle.std.proofs.lemmas.Bool.{ltb-false}
@@ -11,7 +11,7 @@ use Rattle.nop_types.specs.declared.limits.TheConstants.{FRAGMENT_BYTES, MAX_FRA
 use Rattle.nop_types.specs.declared.datagram.Fragment.{Fragment}
 use Rattle.nop_types.specs.Lists.{Has}
 use Rattle.nop_types.specs.Ranges.{FragmentFits}
-use Rattle.fragments.specs.Cutting.{piece, piece_count, fragment_at, fragments_of}
+use Rattle.fragments.specs.Cutting.{piece, piece_count, fragment_at, fragments_of, HasNoCut}
 use Rattle.fragments.specs.Parts.{Partial, bytes_of, with_part}
 use Rattle.fragments.specs.Joining.{Waiting, is_in_range, begun, started, refuses, completes, continued, placed, place, joined, at_sender, taken, taken_if}
 use Rattle.fragments.specs.Runs.{PartialFits, WaitingFits, CanBeCut}
@@ -45,6 +45,16 @@ piece_fits bytes i lt =
       most = omega (arith, l, t);
       full = λ more. omega (arith, l, t, d, more);
     }
+
+pub few_pieces : (bytes : List ℕ) → length bytes ≤ MAX_FRAGMENTS * FRAGMENT_BYTES → piece_count bytes ≤ MAX_FRAGMENTS
+unfolding piece_count
+few_pieces bytes short = omega (arith, short)
+
+pub has_cut : (bytes : List ℕ) → 1 ≤ length bytes → length bytes ≤ MAX_FRAGMENTS * FRAGMENT_BYTES → ¬ HasNoCut bytes
+has_cut bytes some short none = elim none [
+  | inl nothing ↦ omega (arith, some, nothing)
+  | inr many ↦ omega (arith, many, few_pieces bytes short)
+]
 
 pub fragment_fits : (sender number : ℕ) (bytes : List ℕ) (i : ℕ) → CanBeCut sender number bytes → i < piece_count bytes → FragmentFits (fragment_at sender number bytes i)
 fragment_fits sender number bytes i can lt =

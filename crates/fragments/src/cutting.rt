@@ -31,7 +31,13 @@ fn datagram(
     payload: &[u8],
 ) -> Result<Bytes, NoMemory>
     requires { length payload.now ≤ FRAGMENT_BYTES }
-    ensures { IfOk result (λ b. b ≡ spelling (datagrams.Fragment (record { replica = sender; message = number; index = index; count = count; payload = payload.now }))) }
+    ensures { IfOk result (λ b. b ≡ spelling (datagrams.Fragment (record {
+      replica = sender;
+      message = number;
+      index = index;
+      count = count;
+      payload = payload.now;
+    }))) }
 {
     let mut bytes = Vec::with_capacity(alloc, FIELD_BYTES + payload.len())?;
     put_fragment(&mut bytes, sender, number, index, count, payload)?;

@@ -1,12 +1,14 @@
 //! What is kept and answered, over any list of fragments.
 
-ghost use Rattle.std.specs.Prelude.{◌≡◌, ◌<◌, ◌++◌, ◌∷◌, ℕ, List, [], Some, true, All, length};
+ghost use Rattle.std.specs.Prelude.{◌≡◌, ◌<◌, ◌≤◌, ◌*◌, ◌++◌, ◌∷◌, ℕ, List, [], Some, true, All, length};
 ghost use Rattle.nop_types.specs.declared.datagram.Fragment.{Fragment};
 ghost use Rattle.nop_types.specs.Lists.{Has};
 ghost use Rattle.nop_types.specs.Ranges.{FragmentFits};
-ghost use Rattle.fragments.specs.Cutting.{fragments_of};
+ghost use Rattle.fragments.specs.Cutting.{fragments_of, piece_count, HasNoCut};
 ghost use Rattle.fragments.specs.Joining.{Waiting, is_in_range, opening, taken};
 ghost use Rattle.fragments.specs.Runs.{AllCame, CameInParts, StepKeeps, after, answered, Sent, AreDistinct, AreCutFrom, WasSent, WaitingFits, CanBeCut};
+
+use nop_types::{FRAGMENT_BYTES, MAX_FRAGMENTS};
 
 /// Nothing is kept at the opening, so all of it came in any fragments.
 pub fn opening_came()
@@ -44,6 +46,14 @@ pub fn answers_what_was_sent()
     ensures { (sent : List Sent) (n : ℕ) (past : List Fragment) (f : Fragment) (bytes : List ℕ) →
         AreDistinct sent → AreCutFrom sent (past ++ f ∷ []) → (taken (after n past) f).1 ≡ Some bytes →
         WasSent sent f bytes }
+{}
+
+/// A message with some bytes, and no more than fill the most fragments, is cut.
+pub fn message_within_limit_is_cut()
+    ensures count { (bytes : List ℕ) → length bytes ≤ MAX_FRAGMENTS * FRAGMENT_BYTES →
+        piece_count bytes ≤ MAX_FRAGMENTS }
+    ensures cut { (bytes : List ℕ) → 1 ≤ length bytes →
+        length bytes ≤ MAX_FRAGMENTS * FRAGMENT_BYTES → ¬ HasNoCut bytes }
 {}
 
 /// What is cut is in the ranges of fragments.
