@@ -1,16 +1,13 @@
 -- The move of a client that accepts a result.
-use Rattle.std.proofs.Common.{◌≡◌, ℕ, ◌+◌, ◌*◌, ◌<◌, ◌≤◌, true, false, Option, Some, None, refl, sym, ap, subst, ◌∙◌, inl, inr, arith, List, [], ◌∷◌, ◌++◌, length, map, take}
-use Rattle.std.specs.Prelude.{◌⊎◌, ◌==◌, ◌&&◌, ◌/◌, nat_le, filter, find, count_by, slice_get, if◌then◌else◌}
-use Rattle.std.proofs.lemmas.Bool.{cases_eq}
+use Rattle.std.proofs.Common.{◌≡◌, ℕ, ◌+◌, ◌*◌, ◌<◌, ◌≤◌, true, false, Some, None, refl, sym, ap, subst, ◌∙◌, inl, inr, arith, List, [], ◌∷◌, length, map, take}
+use Rattle.std.specs.Prelude.{◌⊎◌, ◌==◌, ◌&&◌, ◌/◌, nat_le, filter, find, count_by, if◌then◌else◌}
 use Rattle.std.proofs.lemmas.Bool.Decides.{nat_tests}
 use Rattle.std.proofs.lemmas.List.{length-map}
 use Rattle.std.proofs.lemmas.List.Sums.{length-filter}
 use Rattle.nop_types.specs.declared.view.View.{View}
 use Rattle.nop_types.specs.declared.request.Request.{Request}
-use Rattle.nop_types.specs.declared.request.Entry.{Entry}
 use Rattle.nop_types.specs.declared.request.Entry.TheVariants.{Req}
 use Rattle.nop_types.specs.declared.datagram.Reply.{Reply}
-use Rattle.nop_types.specs.Legality.{IsSubmittedBefore}
 use Rattle.nop_types.specs.Lines.{Line, Submit, Accept}
 use Rattle.nop_types.specs.Lists.{Has}
 use Rattle.nop_types.specs.Meaning.{Meaning}
@@ -28,7 +25,7 @@ use Rattle.world.specs.ClientSteps.{matches, is_leaders, quorum_of, accepts}
 use Rattle.safety.specs.Conf.{Conf}
 use Rattle.safety.specs.Evolves.{Evolves}
 use Rattle.safety.specs.Moves.{accept, MayAccept}
-use Rattle.safety.specs.Invariant.{WasSubmitted, Replied, Accepted, KeptReply, GoodLines, GoodClient, Inv}
+use Rattle.safety.specs.Invariant.{Replied, Accepted, KeptReply, GoodLines, GoodClient, Inv}
 use Rattle.safety.proofs.Counting.{counts_filter, counts_has, find_has}
 use Rattle.safety.proofs.Local.{Keeps}
 use Rattle.safety.proofs.Outside.{outside_keeps}
@@ -214,18 +211,18 @@ module _ {S : Type 0} (m : Meaning S) (f : ℕ) (c : Conf) (inv : Inv m f c) (k 
 
   pub accept_keeps : Keeps m f c d
   accept_keeps = outside_keeps m f c inv (record { sequencers = c.sequencers; clients = d.clients; requests = c.requests; stamps = c.stamps; lines = d.lines })
-    (record {
-      requests = λ x i. i;
-      stamps = λ x i. i;
-      lines = (the_line ∷ [], refl);
-      sequencers = λ j. onward_refl (c.sequencers j);
-      last_ids = last_ids;
-    })
-    (λ ev. record {
-      requests = λ x i. inl i;
-      stamps = λ x i. inl i;
-      stamped_once = inv.stamped_once;
-      sequencers = inv.sequencers;
-      lines = good_lines ev;
-      clients = put_all (GoodClient f d) c.clients k (accepts s p.id leaders) good_client (λ i a. client_lasts m f c d ev i (c.clients i) (inv.clients i));
-    })
+      (record {
+        requests = λ x i. i;
+        stamps = λ x i. i;
+        lines = (the_line ∷ [], refl);
+        sequencers = λ j. onward_refl (c.sequencers j);
+        last_ids = last_ids;
+      })
+      (λ ev. record {
+        requests = λ x i. inl i;
+        stamps = λ x i. inl i;
+        stamped_once = inv.stamped_once;
+        sequencers = inv.sequencers;
+        lines = good_lines ev;
+        clients = put_all (GoodClient f d) c.clients k (accepts s p.id leaders) good_client (λ i a. client_lasts m f c d ev i (c.clients i) (inv.clients i));
+      })

@@ -1,11 +1,11 @@
 -- A host with short answers gives short results.
-use Rattle.std.proofs.Common.{◌≡◌, ℕ, ◌≤◌, Bool, true, false, cond, Option, Some, None, refl, sym, ap, subst, ◌∙◌, arith, List, [], ◌∷◌, length, take}
+use Rattle.std.proofs.Common.{◌≡◌, ℕ, ◌≤◌, Bool, true, false, cond, Option, Some, None, refl, sym, subst, ◌∙◌, List, [], ◌∷◌, length, take}
 use Rattle.std.specs.Prelude.{◌==◌}
 use Rattle.nop_types.specs.declared.limits.TheConstants.{MAX_RESULT_BYTES}
 use Rattle.nop_types.specs.declared.request.Request.{Request}
 use Rattle.nop_types.specs.declared.request.Entry.{Entry}
 use Rattle.nop_types.specs.declared.request.Entry.TheVariants.{NoOp, Req}
-use Rattle.nop_types.specs.Execution.{Answered, Executed, opening, execute, exec, exec_kept, enter_kept, is_above_kept, result_kept, result_at}
+use Rattle.nop_types.specs.Execution.{Answered, Executed, opening, execute, exec, exec_kept, enter_kept, is_above_kept, result_kept}
 use Rattle.nop_types.specs.Meaning.{Meaning}
 use Rattle.histories.proofs.Results.{exec_is_by_kept, result_is_kept, result_is_of_request}
 use Rattle.safety.specs.Answers.{ResultsShort}

@@ -1,5 +1,5 @@
 -- Each row of a client's step table is a list of moves.
-use Rattle.std.proofs.Common.{◌≡◌, ℕ, ◌+◌, ◌*◌, ◌<◌, ◌≤◌, Bool, true, false, Option, Some, None, refl, sym, ap, subst, ◌∙◌, List, [], ◌∷◌, ◌++◌, inl, inr, length}
+use Rattle.std.proofs.Common.{◌≡◌, ℕ, ◌<◌, ◌≤◌, Bool, true, false, Option, Some, None, refl, sym, ap, subst, ◌∙◌, List, [], ◌∷◌, ◌++◌, inl, inr, length}
 use Rattle.std.specs.Prelude.{◌^◌, Result, Ok, Err, not, filter, ◌==◌}
 use Rattle.std.proofs.lemmas.List.{append-nil}
 use Rattle.nop_types.specs.declared.limits.TheConstants.{MAX_OP_BYTES}
@@ -24,7 +24,7 @@ use Rattle.oum_codec.specs.Reading.{reading}
 use Rattle.oum_codec.specs.Spelling.{spelling}
 use Rattle.started_views.proofs.Lists.{has_none, has_first, has_rest, has_cases}
 use Rattle.world.specs.declared.client.ClientState.{ClientState}
-use Rattle.world.specs.ClientSteps.{can_submit, request_of, submitted, submit_if, submit, is_expected, kept, keep_reply, quorum_of, accepts, accept_if, accept, reply_if, reply, on_datagram, next}
+use Rattle.world.specs.ClientSteps.{can_submit, request_of, submitted, submit_if, is_expected, kept, keep_reply, quorum_of, accepts, accept_if, reply_if, on_datagram, next}
 use Rattle.world.specs.Network.{Sent, sends_of, lines_from}
 use Rattle.safety.specs.Answers.{ResultsShort}
 use Rattle.safety.specs.Conf.{Conf, WasSent}
@@ -96,7 +96,8 @@ module _ {S : Type 0} (m : Meaning S) (f : ℕ) (few : f ≤ 3) (short : Results
     may = tt;
     state = refl;
     others = λ i a. refl;
-    replicas = refl; past = refl;
+    replicas = refl;
+    past = refl;
     sequencers = refl;
     said = [];
     lines = sym (append-nil c.lines);
@@ -113,7 +114,8 @@ module _ {S : Type 0} (m : Meaning S) (f : ℕ) (few : f ≤ 3) (short : Results
     may = tt;
     state = refl;
     others = λ i a. refl;
-    replicas = refl; past = refl;
+    replicas = refl;
+    past = refl;
     sequencers = refl;
     said = [];
     lines = sym (append-nil c.lines);
@@ -130,7 +132,8 @@ module _ {S : Type 0} (m : Meaning S) (f : ℕ) (few : f ≤ 3) (short : Results
         may = (may, tt);
         state = put_same c.clients k (submitted s r);
         others = λ i a. put_apart c.clients k (submitted s r) i a;
-        replicas = refl; past = refl;
+        replicas = refl;
+        past = refl;
         sequencers = refl;
         said = line.Submit r ∷ [];
         lines = refl;
@@ -155,7 +158,8 @@ module _ {S : Type 0} (m : Meaning S) (f : ℕ) (few : f ≤ 3) (short : Results
     may = (record { sent = sent; expected = expected }, tt);
     state = put_same c.clients k (kept s p);
     others = λ i a. put_apart c.clients k (kept s p) i a;
-    replicas = refl; past = refl;
+    replicas = refl;
+    past = refl;
     sequencers = refl;
     said = [];
     lines = sym (append-nil c.lines);
@@ -175,13 +179,14 @@ module _ {S : Type 0} (m : Meaning S) (f : ℕ) (few : f ≤ 3) (short : Results
         may = (record { sent = sent; expected = expected }, (may, tt));
         state = put_same d.clients k (accepts (d.clients k) p.id leaders) ∙ ap (λ (t : ClientState). accepts t p.id leaders) here;
         others = λ i a. put_apart d.clients k (accepts (d.clients k) p.id leaders) i a ∙ put_apart c.clients k (kept s p) i a;
-        replicas = refl; past = refl;
+        replicas = refl;
+        past = refl;
         sequencers = refl;
         said = line.Accept s.number p.id leaders.result ∷ [];
         lines = ap (λ (t : ClientState). c.lines ++ line.Accept t.number p.id leaders.result ∷ []) here;
         tells = λ from count. record { others = []; are = refl; may = no_line };
         sends = λ from x i. absurd (has_none x i);
-    only = λ x h. inl (same_sent (run m f c (moves.Keep k p ∷ moves.Accept k p leaders ∷ [])) refl refl refl x h);
+        only = λ x h. inl (same_sent (run m f c (moves.Keep k p ∷ moves.Accept k p leaders ∷ [])) refl refl refl x h);
       }
 
   reply_cases : (p : Reply) → Has c.replies p → (b : Bool) → is_expected s p ≡ b → Reaches m f c k (reply_if b s p)

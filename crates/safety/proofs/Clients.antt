@@ -1,17 +1,15 @@
 -- What the moves of clients have in common.
-use Rattle.std.proofs.Common.{◌≡◌, ℕ, ◌+◌, ◌*◌, ◌<◌, ◌≤◌, Some, refl, sym, ap, subst, ◌∙◌, inl, inr, arith, List, [], ◌∷◌, ◌++◌, length}
+use Rattle.std.proofs.Common.{◌≡◌, ℕ, Some, subst, arith, List, ◌++◌}
 use Rattle.std.specs.Prelude.{slice_get}
 use Rattle.nop_types.specs.declared.request.Request.{Request}
-use Rattle.nop_types.specs.declared.datagram.Reply.{Reply}
 use Rattle.nop_types.specs.Lines.{Line, Submit, Accept}
 use Rattle.nop_types.specs.Lists.{Has}
 use Rattle.nop_types.specs.Meaning.{Meaning}
 use Rattle.histories.specs.Legality.{IsOtherLine}
 use Rattle.histories.proofs.Lines.{old_line, submitted_once_with_others, accepted_once_with_others}
-use Rattle.world.specs.declared.client.ClientState.{ClientState}
 use Rattle.safety.specs.Conf.{Conf}
 use Rattle.safety.specs.Evolves.{Evolves}
-use Rattle.safety.specs.Invariant.{WasSubmitted, GoodLines}
+use Rattle.safety.specs.Invariant.{GoodLines}
 use Rattle.safety.proofs.Stays.{accepted_lasts}
 
 -- no client waits for a request that it did not wait for before

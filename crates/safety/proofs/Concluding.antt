@@ -1,6 +1,6 @@
 -- What follows: the log from which the history is read has what was accepted.
-use Rattle.std.proofs.Common.{◌≡◌, ℕ, ◌+◌, ◌*◌, ◌<◌, ◌≤◌, Some, refl, sym, ap, subst, ◌∙◌, arith, inl, inr, List, take, length}
-use Rattle.std.specs.Prelude.{◌-◌, slice_get}
+use Rattle.std.proofs.Common.{◌≡◌, ℕ, ◌+◌, ◌*◌, ◌<◌, Some, sym, ap, subst, ◌∙◌, arith, List, take, length}
+use Rattle.std.specs.Prelude.{◌-◌}
 use Rattle.nop_types.specs.declared.view.View.{View}
 use Rattle.nop_types.specs.declared.request.Request.{Request}
 use Rattle.nop_types.specs.declared.request.Entry.{Entry}
@@ -8,16 +8,14 @@ use Rattle.nop_types.specs.declared.request.Entry.TheVariants.{NoOp, Req}
 use Rattle.nop_types.specs.Execution.{result_at}
 use Rattle.nop_types.specs.Histories.{history_of}
 use Rattle.nop_types.specs.Legality.{IsOf, Legal}
-use Rattle.nop_types.specs.Lines.{Accept}
-use Rattle.nop_types.specs.Lists.{Has, IsPrefixOf, slot_of}
+use Rattle.nop_types.specs.Lists.{IsPrefixOf, slot_of}
 use Rattle.nop_types.specs.Meaning.{Meaning}
 use Rattle.nop_types.specs.Stamps.{WasStamped}
 use Rattle.nop_types.specs.Views.{leader_of}
 use Rattle.histories.specs.Legality.{IsGrounded, Grounded}
 use Rattle.histories.proofs.Legal.{grounds_carry, legal_from_grounds}
 use Rattle.log_merge.specs.Starting.{Start}
-use Rattle.started_views.specs.Fixes as fixes
-use Rattle.started_views.specs.Past.{HadLog, LeaderHad, IsStart}
+use Rattle.started_views.specs.Past.{HadLog, LeaderHad}
 use Rattle.started_views.specs.Settled.{Reached, Fixed, MainLog}
 use Rattle.started_views.specs.Started.{Grounds}
 use Rattle.started_views.proofs.Fixing.{accept_fixes}

@@ -1,12 +1,11 @@
 -- Lists of events, from the opening on.
-use Rattle.std.proofs.Common.{◌≡◌, ℕ, zero, suc, ◌+◌, ◌*◌, ◌<◌, ◌≤◌, Bool, true, false, Some, refl, sym, ap, subst, ◌∙◌, arith, inl, inr, length, length-append, List, [], ◌∷◌, ◌++◌}
+use Rattle.std.proofs.Common.{◌≡◌, ℕ, zero, suc, ◌+◌, ◌*◌, ◌≤◌, true, Some, refl, ap, subst, ◌∙◌, arith, inl, inr, length, length-append, List, [], ◌∷◌}
 use Rattle.std.specs.Prelude.{◌==◌, ◌%◌, ◌/◌, ◌&&◌, nat_lt, nat_le, Result, Ok, Err, slice_get}
 use Rattle.std.proofs.lemmas.Bool.Decides.{nat_tests}
 use Rattle.nop_types.specs.declared.limits.TheConstants.{MAX_REPLICAS, MAX_SEQUENCERS, MAX_CLIENTS}
 use Rattle.nop_types.specs.Configuration.{Configuration, is_configuration}
 use Rattle.nop_types.specs.declared.datagram.Datagram.{Datagram}
 use Rattle.nop_types.specs.declared.datagram.Datagram.TheVariants as datagrams
-use Rattle.nop_types.specs.Lines.{Line}
 use Rattle.nop_types.specs.Meaning.{Meaning}
 use Rattle.histories.proofs.Lists.{slice_get-push_cases}
 use Rattle.schedule_text.specs.declared.event.Event.{Event}
@@ -21,12 +20,11 @@ use Rattle.world.specs.WorldSteps as world
 use Rattle.world.specs.WorldSteps.{WorldState, Refusal, Happened, counted, step, go_on, run_from, run}
 use Rattle.safety.specs.Answers.{ResultsShort}
 use Rattle.safety.specs.Conf.{Conf, WasSent}
-use Rattle.safety.specs.Evolves.{Evolves}
 use Rattle.schedule_text.specs.Fits.{EventFits, EventsFit}
 use Rattle.safety.specs.Invariant.{Inv}
 use Rattle.safety.specs.Passed.{Passed, passes, pass_on, passed_from, passed}
 use Rattle.safety.specs.Runs.{opening}
-use Rattle.safety.specs.Worlds.{IsThere, ShowsWorld, Shows}
+use Rattle.safety.specs.Worlds.{IsThere, Shows}
 use Rattle.safety.proofs.Runs.{opening_holds}
 use Rattle.safety.proofs.Stays.{evolves_refl, evolves_trans}
 use Rattle.safety.proofs.Worlds.{Later, step_later}

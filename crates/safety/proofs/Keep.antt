@@ -1,5 +1,5 @@
 -- The move of a client that keeps a reply.
-use Rattle.std.proofs.Common.{◌≡◌, ℕ, ◌+◌, ◌*◌, ◌<◌, ◌≤◌, true, false, not, Option, Some, None, refl, sym, ap, subst, ◌∙◌, inl, inr, arith, List, [], ◌∷◌, ◌++◌, map}
+use Rattle.std.proofs.Common.{◌≡◌, ℕ, ◌<◌, ◌≤◌, true, not, Option, Some, None, refl, sym, subst, inl, inr, arith, [], ◌∷◌, map}
 use Rattle.std.specs.Prelude.{◌==◌, ◌&&◌, nat_lt, filter}
 use Rattle.std.proofs.lemmas.Bool.{cases_eq}
 use Rattle.std.proofs.lemmas.Bool.Decides.{nat_tests}
@@ -11,10 +11,10 @@ use Rattle.nop_types.specs.Meaning.{Meaning}
 use Rattle.histories.proofs.Lists.{Has-append_cases, Has-one}
 use Rattle.started_views.specs.Quorums.{counts}
 use Rattle.started_views.proofs.Lists.{has_none, has_from_filter}
-use Rattle.started_views.proofs.Past.{both_true, is_same, is_apart, is_same_true}
+use Rattle.started_views.proofs.Past.{both_true, is_same_true}
 use Rattle.started_views.proofs.Slots.{prefix_refl}
 use Rattle.world.specs.declared.client.ClientState.{ClientState}
-use Rattle.world.specs.ClientSteps.{is_of, is_expected, kept, keep_reply}
+use Rattle.world.specs.ClientSteps.{is_of, kept, keep_reply}
 use Rattle.safety.specs.Conf.{Conf}
 use Rattle.safety.specs.Evolves.{Evolves}
 use Rattle.safety.specs.Moves.{keep, MayKeep}
@@ -24,7 +24,7 @@ use Rattle.safety.proofs.Counting.{counts_filter, counts_push, counts_left_out}
 use Rattle.safety.proofs.Local.{Keeps}
 use Rattle.safety.proofs.Outside.{outside_keeps}
 use Rattle.safety.proofs.Puts.{put_all}
-use Rattle.safety.proofs.Stays.{onward_refl, client_lasts, kept_lasts}
+use Rattle.safety.proofs.Stays.{onward_refl, client_lasts}
 
 less_from : (a b : ℕ) → nat_lt a b ≡ true → a < b
 less_from a b e = grind (arith, nat_tests, e)
@@ -89,20 +89,20 @@ module _ {S : Type 0} (m : Meaning S) (f : ℕ) (c : Conf) (inv : Inv m f c) (k 
 
   pub keep_keeps : Keeps m f c d
   keep_keeps = outside_keeps m f c inv (record { sequencers = c.sequencers; clients = d.clients; requests = c.requests; stamps = c.stamps; lines = c.lines })
-    (record {
-      requests = λ x i. i;
-      stamps = λ x i. i;
-      lines = prefix_refl c.lines;
-      sequencers = λ j. onward_refl (c.sequencers j);
-      last_ids = put_all (λ i t. (c.clients i).last_id ≤ t.last_id) c.clients k (kept s p) (omega arith) (λ i a. omega arith);
-    })
-    (λ ev. record {
-      requests = λ x i. inl i;
-      stamps = λ x i. inl i;
-      stamped_once = inv.stamped_once;
-      sequencers = inv.sequencers;
-      lines = lines_with_others m f c d [] ev
-          (put_all (λ i t. (q : Request) → t.pending ≡ Some q → (c.clients i).pending ≡ Some q) c.clients k (kept s p) (λ q e. e) (λ i a q e. e))
-          (λ line i. absurd (has_none line i)) (sym (append-nil c.lines)) inv.lines;
-      clients = put_all (GoodClient f d) c.clients k (kept s p) (good_client ev) (λ i a. client_lasts m f c d ev i (c.clients i) (inv.clients i));
-    })
+      (record {
+        requests = λ x i. i;
+        stamps = λ x i. i;
+        lines = prefix_refl c.lines;
+        sequencers = λ j. onward_refl (c.sequencers j);
+        last_ids = put_all (λ i t. (c.clients i).last_id ≤ t.last_id) c.clients k (kept s p) (omega arith) (λ i a. omega arith);
+      })
+      (λ ev. record {
+        requests = λ x i. inl i;
+        stamps = λ x i. inl i;
+        stamped_once = inv.stamped_once;
+        sequencers = inv.sequencers;
+        lines = lines_with_others m f c d [] ev
+            (put_all (λ i t. (q : Request) → t.pending ≡ Some q → (c.clients i).pending ≡ Some q) c.clients k (kept s p) (λ q e. e) (λ i a q e. e))
+            (λ line i. absurd (has_none line i)) (sym (append-nil c.lines)) inv.lines;
+        clients = put_all (GoodClient f d) c.clients k (kept s p) (good_client ev) (λ i a. client_lasts m f c d ev i (c.clients i) (inv.clients i));
+      })

@@ -1,18 +1,16 @@
 -- A move of one replica in its view.
-use Rattle.std.proofs.Common.{◌≡◌, ℕ, ◌+◌, ◌*◌, ◌<◌, ◌≤◌, Some, refl, sym, ap, subst, ◌∙◌, inl, inr, arith, List, [], ◌++◌}
+use Rattle.std.proofs.Common.{◌≡◌, ℕ, ◌+◌, ◌*◌, ◌<◌, ◌≤◌, Some, refl, sym, ap, subst, ◌∙◌, inl, inr, arith, List, ◌++◌}
 use Rattle.std.specs.Prelude.{◌⊎◌}
 use Rattle.std.proofs.lemmas.Bool.{cases_eq}
 use Rattle.nop_types.specs.declared.view.View.{View}
-use Rattle.nop_types.specs.declared.request.Request.{Request}
 use Rattle.nop_types.specs.declared.request.Entry.{Entry}
 use Rattle.nop_types.specs.declared.datagram.Reply.{Reply}
 use Rattle.nop_types.specs.Lists.{Has, IsPrefixOf}
 use Rattle.nop_types.specs.Meaning.{Meaning}
 use Rattle.nop_types.specs.Views.{AtMost, leader_of}
-use Rattle.histories.proofs.Lists.{Has-append_left, Has-append_right, Has-append_cases}
-use Rattle.log_merge.specs.Starting.{Start}
+use Rattle.histories.proofs.Lists.{Has-append_right, Has-append_cases}
 use Rattle.started_views.specs.Logs.{Toward}
-use Rattle.started_views.specs.Past.{Entered, Past, HadLog, LeaderHad, IsStart, with_log, note}
+use Rattle.started_views.specs.Past.{Entered, Past, HadLog, LeaderHad, with_log, note}
 use Rattle.started_views.proofs.Logs.{toward_refl, toward_longer}
 use Rattle.started_views.proofs.Past.{log_here, log_places, log_cases}
 use Rattle.started_views.proofs.Slots.{prefix_refl}

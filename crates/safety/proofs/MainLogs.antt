@@ -1,5 +1,5 @@
 -- The log from which the history is read is that of the leader of the greatest last normal view.
-use Rattle.std.proofs.Common.{◌≡◌, ℕ, zero, suc, ◌+◌, ◌*◌, ◌<◌, ◌≤◌, Bool, true, false, Option, Some, None, refl, sym, ap, subst, ◌∙◌, arith, inl, inr, length, List, [], ◌∷◌, map}
+use Rattle.std.proofs.Common.{◌≡◌, ℕ, zero, suc, ◌+◌, ◌*◌, ◌<◌, Bool, true, false, Some, refl, sym, ap, subst, ◌∙◌, arith, inl, inr, length, List, [], ◌∷◌, map}
 use Rattle.std.specs.Prelude.{◌⊎◌, slice_get, if◌then◌else◌}
 use Rattle.std.proofs.lemmas.Option.{slice_get_within}
 use Rattle.nop_types.specs.declared.view.View.{View}

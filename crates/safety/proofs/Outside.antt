@@ -1,5 +1,5 @@
 -- A move that leaves the replicas, their replies and the past as they are.
-use Rattle.std.proofs.Common.{◌≡◌, ℕ, ◌+◌, ◌*◌, ◌<◌, ◌≤◌, Some, refl, sym, ap, subst, ◌∙◌, inl, inr, arith, List, []}
+use Rattle.std.proofs.Common.{ℕ, ◌≤◌, inl, inr, arith, List}
 use Rattle.std.specs.Prelude.{◌⊎◌}
 use Rattle.nop_types.specs.declared.request.Request.{Request}
 use Rattle.nop_types.specs.declared.datagram.Stamped.{Stamped}

@@ -1,9 +1,8 @@
 -- What an event notes, where one replica made a step, or none.
-use Rattle.std.proofs.Common.{◌≡◌, ℕ, zero, suc, ◌+◌, ◌*◌, ◌<◌, ◌≤◌, Some, refl, sym, ap, subst, ◌∙◌, arith, inl, inr, List, [], ◌∷◌}
+use Rattle.std.proofs.Common.{◌≡◌, ℕ, zero, suc, ◌+◌, Some, refl, sym, ap, subst, ◌∙◌, arith, inl, inr, List, [], ◌∷◌}
 use Rattle.std.specs.Prelude.{slice_get, slice_set}
 use Rattle.nop_types.specs.declared.view.View.{View}
 use Rattle.started_views.specs.Past.{Past, Standing, HadLog, note}
-use Rattle.started_views.specs.Parts.{SamePast}
 use Rattle.started_views.proofs.Past.{note_log_here, note_log_places, note_log_other, note_entry_same, note_start_same}
 use Rattle.started_views.proofs.Parts.{same_past}
 use Rattle.world.specs.declared.replica_state.ReplicaState.{ReplicaState}

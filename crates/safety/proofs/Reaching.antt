@@ -1,5 +1,5 @@
 -- Moves that lead to what a step of an actor makes.
-use Rattle.std.proofs.Common.{◌≡◌, ℕ, ◌+◌, ◌*◌, ◌<◌, ◌≤◌, refl, sym, ap, subst, ◌∙◌, inl, inr, List, [], ◌∷◌, ◌++◌}
+use Rattle.std.proofs.Common.{◌≡◌, ℕ, ◌+◌, refl, sym, ap, subst, ◌∙◌, inl, inr, List, [], ◌∷◌, ◌++◌}
 use Rattle.std.specs.Prelude.{◌⊎◌}
 use Rattle.nop_types.specs.declared.datagram.Datagram.{Datagram}
 use Rattle.nop_types.specs.declared.datagram.Datagram.TheVariants as datagrams
@@ -10,7 +10,6 @@ use Rattle.nop_types.specs.declared.output.Out.TheVariants as outs
 use Rattle.nop_types.specs.Lines.{Line, Send}
 use Rattle.nop_types.specs.Lists.{Has}
 use Rattle.nop_types.specs.Meaning.{Meaning}
-use Rattle.nop_types.specs.Ranges.{DatagramFits}
 use Rattle.histories.specs.Legality.{IsOtherLine}
 use Rattle.histories.proofs.Lists.{Has-append_left, Has-append_right}
 use Rattle.oum_codec.specs.Spelling.{spelling}
@@ -18,7 +17,7 @@ use Rattle.started_views.proofs.Lists.{has_none, has_first, has_rest, has_cases}
 use Rattle.world.specs.Network.{Sent, sends_of, lines_from}
 use Rattle.safety.specs.Conf.{Conf, WasSent}
 use Rattle.safety.specs.Evolves.{Evolves}
-use Rattle.safety.specs.Runs.{Move, happens, May, run, MayAll}
+use Rattle.safety.specs.Runs.{Move, happens, run, MayAll}
 use Rattle.safety.specs.Worlds.{Carries, IsThere}
 
 -- ---- one list of moves after the other

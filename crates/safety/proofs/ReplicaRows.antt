@@ -1,5 +1,5 @@
 -- Each row of a replica's step table is a list of moves.
-use Rattle.std.proofs.Common.{◌≡◌, ℕ, zero, suc, ◌+◌, ◌*◌, ◌<◌, ◌≤◌, Bool, true, false, Option, Some, None, refl, sym, ap, subst, ◌∙◌, arith, inl, inr, length, List, [], ◌∷◌, ◌++◌}
+use Rattle.std.proofs.Common.{◌≡◌, ℕ, zero, suc, ◌+◌, ◌*◌, ◌<◌, ◌≤◌, Bool, true, false, Option, Some, None, refl, sym, ap, subst, ◌∙◌, inl, inr, length, List, [], ◌∷◌, ◌++◌}
 use Rattle.std.specs.Prelude.{◌-◌, Result, Ok, Err}
 use Rattle.nop_types.specs.declared.limits.TheConstants.{MAX_SLOTS}
 use Rattle.nop_types.specs.declared.datagram.Stamped.{Stamped}
@@ -12,7 +12,7 @@ use Rattle.nop_types.specs.declared.output.Dest.TheVariants.{One}
 use Rattle.nop_types.specs.declared.output.Actor.TheVariants.{Client}
 use Rattle.nop_types.specs.declared.request.Request.{Request}
 use Rattle.nop_types.specs.Execution.{result_at}
-use Rattle.nop_types.specs.Given.{Given, Packet, Ticked, Submit}
+use Rattle.nop_types.specs.Given.{Packet}
 use Rattle.nop_types.specs.Lists.{Has}
 use Rattle.nop_types.specs.Meaning.{Meaning}
 use Rattle.histories.proofs.Lists.{Has-append_left, Has-append_cases, Has-one}
@@ -26,18 +26,14 @@ use Rattle.oum_receiver.specs.Receiving.{verdict_of, judged, front_of}
 use Rattle.started_views.specs.Past.{Past, note}
 use Rattle.started_views.proofs.Lists.{has_none, has_first}
 use Rattle.started_views.proofs.Parts.{past_of_parts, same_past}
-use Rattle.world.specs.declared.client.ClientState.{ClientState}
 use Rattle.world.specs.declared.replica_state.ReplicaState.{ReplicaState}
-use Rattle.world.specs.declared.sequencer.SequencerState.{SequencerState}
 use Rattle.world.specs.ReplicaSteps.{then_do, leads, leader_reply, reply_if, reply, has_room, logged, drain_at, drain_by, drain, offer, stamped_by, stamped, on_datagram, next}
 use Rattle.world.specs.ReplicaSteps as rows
 use Rattle.safety.specs.Answers.{ResultsShort}
 use Rattle.safety.specs.Conf.{Conf, Effect, WasSent, standing, after}
-use Rattle.safety.specs.Evolves.{Evolves}
 use Rattle.safety.specs.Invariant.{Inv}
 use Rattle.safety.specs.Moves.{queue, take, leader_replies, replies_if, replies_for}
 use Rattle.safety.specs.Runs.{Move, Queue, Take, happens, May, run, MayAll}
-use Rattle.safety.specs.Worlds.{Carries}
 use Rattle.safety.proofs.Pasts.{note_idle}
 use Rattle.safety.proofs.Puts.{put_same, put_apart}
 use Rattle.safety.proofs.Reaching.{run_more, may_more, Sends, AllSend, sends_last, OnlySends, only_more}

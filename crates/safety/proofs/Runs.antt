@@ -1,8 +1,6 @@
 -- Lists of moves keep what holds of the opening.
-use Rattle.std.proofs.Common.{◌≡◌, ℕ, ◌+◌, ◌*◌, ◌<◌, ◌≤◌, Bool, true, false, cond, Some, None, refl, sym, ap, subst, ◌∙◌, arith, inl, inr, List, [], ◌∷◌}
-use Rattle.std.specs.Prelude.{◌%◌, ◌==◌, if◌then◌else◌}
-use Rattle.std.specs.FinMap as finite
-use Rattle.std.specs.Ordering.{nat_cmp}
+use Rattle.std.proofs.Common.{◌≡◌, ℕ, ◌+◌, ◌*◌, ◌≤◌, Bool, true, false, Some, refl, sym, subst, arith, List, [], ◌∷◌}
+use Rattle.std.specs.Prelude.{◌==◌, if◌then◌else◌}
 use Rattle.nop_types.specs.Configuration.{Configuration}
 use Rattle.nop_types.specs.declared.view.View.{View}
 use Rattle.nop_types.specs.declared.request.Entry.{Entry}
@@ -11,17 +9,15 @@ use Rattle.nop_types.specs.Meaning.{Meaning}
 use Rattle.nop_types.specs.Lists.{slot_of}
 use Rattle.nop_types.specs.Views.{AtMost, first_view, leader_of}
 use Rattle.log_merge.specs.Starting.{Start}
-use Rattle.started_views.specs.Past.{HadLog, LeaderHad, IsStart, first_past}
+use Rattle.started_views.specs.Past.{HadLog, LeaderHad, IsStart}
 use Rattle.started_views.proofs.Lists.{has_none}
 use Rattle.started_views.proofs.Past.{first_log, first_start, is_same_true}
 use Rattle.started_views.proofs.Slots.{prefix_refl, slot_within}
 use Rattle.started_views.proofs.Views.{at_most_refl}
 use Rattle.oum_receiver.proofs.Stamps.{opened_stamped}
-use Rattle.world.specs.SequencerSteps as sequencer
 use Rattle.safety.specs.Answers.{ResultsShort}
 use Rattle.safety.specs.Conf.{Conf}
-use Rattle.safety.specs.Evolves.{Evolves}
-use Rattle.safety.specs.Invariant.{GoodSequencer, GoodLog, GoodStart, Own, GoodClient, Inv}
+use Rattle.safety.specs.Invariant.{GoodSequencer, GoodLog, Inv}
 use Rattle.safety.specs.Runs.{Move, Queue, Take, Stamp, Submit, Keep, Accept, Tell, happens, May, run, MayAll, opening}
 use Rattle.safety.proofs.Accept.{accept_keeps}
 use Rattle.safety.proofs.Keep.{keep_keeps}

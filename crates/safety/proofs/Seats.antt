@@ -1,11 +1,11 @@
 -- What a step at one seat leaves, and where a step of the world comes from.
-use Rattle.std.proofs.Common.{◌≡◌, ℕ, zero, suc, ◌+◌, ◌<◌, ◌≤◌, Option, Some, None, refl, sym, ap, subst, ◌∙◌, arith, inl, inr, List, [], ◌∷◌, length}
-use Rattle.std.specs.Prelude.{◌⊎◌, Result, Ok, Err, slice_get, slice_set}
+use Rattle.std.proofs.Common.{◌≡◌, ℕ, zero, suc, Option, Some, None, refl, sym, ap, ◌∙◌, arith, inl, inr, List, [], ◌∷◌, length}
+use Rattle.std.specs.Prelude.{◌⊎◌, Ok, slice_get, slice_set}
 use Rattle.nop_types.specs.Given.{Given, Packet}
 use Rattle.nop_types.specs.declared.output.Out.{Out}
 use Rattle.world.specs.Network.{Sent}
 use Rattle.world.specs.Seats.{Seated, Did, seat_step, crash_step}
-use Rattle.world.specs.WorldSteps.{Refusal, Happened, then_at, input_at, bytes_at, delivery_at, crash_at}
+use Rattle.world.specs.WorldSteps.{Happened, then_at, input_at, bytes_at, delivery_at, crash_at}
 
 pub set_length : {A : Type 0} (xs : List A) (i : ℕ) (x : A) → length (slice_set xs i x) ≡ length xs
 set_length [] i x = refl

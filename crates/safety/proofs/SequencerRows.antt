@@ -1,5 +1,5 @@
 -- Each row of a sequencer's step table is a list of moves.
-use Rattle.std.proofs.Common.{◌≡◌, ℕ, ◌+◌, ◌*◌, ◌<◌, ◌≤◌, Bool, true, false, refl, sym, ap, subst, ◌∙◌, inl, inr, List, [], ◌∷◌}
+use Rattle.std.proofs.Common.{◌≡◌, ℕ, ◌≤◌, Bool, true, false, refl, ap, inl, inr, List, [], ◌∷◌}
 use Rattle.std.specs.Prelude.{Result, Ok, Err}
 use Rattle.nop_types.specs.declared.request.Request.{Request}
 use Rattle.nop_types.specs.declared.datagram.Stamped.{Stamped}
@@ -17,14 +17,14 @@ use Rattle.oum_codec.specs.Reading.{reading}
 use Rattle.oum_codec.specs.Spelling.{spelling}
 use Rattle.started_views.proofs.Lists.{has_none, has_first, has_cases}
 use Rattle.world.specs.declared.sequencer.SequencerState.{SequencerState}
-use Rattle.world.specs.SequencerSteps.{can_stamp, stamped, after_stamp, stamp_if, stamp, on_datagram, next}
+use Rattle.world.specs.SequencerSteps.{can_stamp, stamped, after_stamp, stamp_if, on_datagram, next}
 use Rattle.safety.specs.Answers.{ResultsShort}
 use Rattle.safety.specs.Conf.{Conf, WasSent}
 use Rattle.safety.specs.Invariant.{Inv}
 use Rattle.safety.specs.Moves as moves
 use Rattle.safety.specs.Runs.{Move, Stamp, run, MayAll}
 use Rattle.safety.proofs.Puts.{put_same, put_apart}
-use Rattle.safety.proofs.Reaching.{Sends, AllSend, OnlySends}
+use Rattle.safety.proofs.Reaching.{AllSend, OnlySends}
 use Rattle.safety.proofs.Runs.{run_keeps}
 
 -- some moves make of the sequencer what the step makes of it, change no other actor, and send what it sends
@@ -69,7 +69,8 @@ module _ {S : Type 0} (m : Meaning S) (f : ℕ) (few : f ≤ 3) (short : Results
         may = (record { sent = sent; can = e }, tt);
         state = put_same c.sequencers j (after_stamp s);
         others = λ i a. put_apart c.sequencers j (after_stamp s) i a;
-        replicas = refl; past = refl;
+        replicas = refl;
+        past = refl;
         clients = refl;
         lines = refl;
         sends = λ y h. record {

@@ -1,6 +1,6 @@
 -- What is shown is sound.
-use Rattle.std.proofs.Common.{◌≡◌, ℕ, ◌+◌, ◌*◌, ◌<◌, ◌≤◌, Bool, true, false, Some, refl, sym, ap, subst, ◌∙◌, arith, inl, inr, length, List, [], ◌∷◌, ◌++◌, take}
-use Rattle.std.specs.Prelude.{◌-◌, ◌/◌, ◌==◌, Ok, slice_get, if◌then◌else◌}
+use Rattle.std.proofs.Common.{◌≡◌, ℕ, ◌+◌, ◌*◌, ◌<◌, ◌≤◌, Bool, true, false, Some, refl, sym, ap, subst, ◌∙◌, arith, inl, inr, length, List, ◌++◌, take}
+use Rattle.std.specs.Prelude.{◌-◌, ◌==◌, Ok, slice_get, if◌then◌else◌}
 use Rattle.std.specs.FinMap as finite
 use Rattle.std.proofs.lemmas.Option.{slice_get_within}
 use Rattle.std.proofs.lemmas.Bool.{cases_eq}
@@ -9,8 +9,6 @@ use Rattle.nop_types.specs.declared.view.View.{View}
 use Rattle.nop_types.specs.declared.request.Request.{Request}
 use Rattle.nop_types.specs.declared.request.Entry.{Entry}
 use Rattle.nop_types.specs.declared.request.Entry.TheVariants.{NoOp, Req}
-use Rattle.nop_types.specs.declared.datagram.Stamped.{Stamped}
-use Rattle.nop_types.specs.declared.datagram.Reply.{Reply}
 use Rattle.nop_types.specs.declared.datagram.Datagram.{Datagram}
 use Rattle.nop_types.specs.declared.datagram.Datagram.TheVariants as datagrams
 use Rattle.nop_types.specs.Legality.{IsSubmittedBefore, Legal}
@@ -31,7 +29,6 @@ use Rattle.world.specs.declared.client.ClientState.{ClientState}
 use Rattle.world.specs.declared.replica_state.ReplicaState.{ReplicaState}
 use Rattle.world.specs.declared.sequencer.SequencerState.{SequencerState}
 use Rattle.world.specs.Agreement.{AgreeAt, Agreed}
-use Rattle.world.specs.Network.{Sent}
 use Rattle.world.specs.Seats.{Seated}
 use Rattle.world.specs.SequencerSteps as sequencer
 use Rattle.world.specs.WorldSteps.{WorldState, main_view, main_log, history}
@@ -41,7 +38,7 @@ use Rattle.safety.specs.Invariant as kept
 use Rattle.safety.specs.Invariant.{Inv, Replied, Accepted}
 use Rattle.safety.specs.Passed.{Passed, faults}
 use Rattle.safety.specs.Runs.{opening}
-use Rattle.safety.specs.Sound.{IsSent, IsStamped, StampsAreSound, RequestsAreSubmitted, KeptWasSent, LogsAreSound, NumbersAreSound, ReplyIsSound, RepliesAreSound, RepliedAt, AcceptIsSound, AcceptsAreSound, Sound}
+use Rattle.safety.specs.Sound.{IsSent, IsStamped, StampsAreSound, RequestsAreSubmitted, KeptWasSent, LogsAreSound, NumbersAreSound, RepliesAreSound, RepliedAt, AcceptsAreSound, Sound}
 use Rattle.safety.specs.Worlds.{ShowsWorld, Shows}
 use Rattle.safety.proofs.Concluding.{legal}
 use Rattle.safety.proofs.MainLogs.{is_main_log}
@@ -105,7 +102,7 @@ module _ {S : Type 0} (m : Meaning S) (f : ℕ) (p : Passed) (c : Conf) (inv : I
         let t = inv.logs i v l (had i v l h) in
         let same = some_same (c.past.start v) t.start x t.is_start (started v x g) in
         slot i v l x k e (subst (λ (y : Start). length y.log < k → slot_of l k ≡ Some NoOp → ⊥) same (t.requests k) above)
-            (λ q. subst (λ (y : Start). length y.log < k → slot_of l k ≡ Some (Req q) → WasStamped c.stamps v.session (y.next + (k - length y.log - 1)) q) same (t.by_number k q) above) at;
+        (λ q. subst (λ (y : Start). length y.log < k → slot_of l k ≡ Some (Req q) → WasStamped c.stamps v.session (y.next + (k - length y.log - 1)) q) same (t.by_number k q) above) at;
   }
     where
       slot : (i : ℕ) (v : View) (l : List Entry) (x : Start) (k : ℕ) (e : Entry) → (slot_of l k ≡ Some NoOp → ⊥) → ((q : Request) → slot_of l k ≡ Some (Req q) → WasStamped c.stamps v.session (x.next + (k - length x.log - 1)) q) → slot_of l k ≡ Some e
@@ -117,7 +114,7 @@ module _ {S : Type 0} (m : Meaning S) (f : ℕ) (p : Passed) (c : Conf) (inv : I
   numbers i q x e h =
       let own = inv.own i (within i q e) in
       let its = subst (λ (s : ReplicaState). (y : Start) → IsStart c.past s.last_normal y → s.next + length y.log ≡ y.next + length s.log) (shown.replicas i q e)
-          (λ y g. subst (λ (z : Start). (c.replicas i).next + length z.log ≡ z.next + length (c.replicas i).log) (some_same (c.past.start (c.replicas i).last_normal) own.start y own.is_start g) own.counted) in
+      (λ y g. subst (λ (z : Start). (c.replicas i).next + length z.log ≡ z.next + length (c.replicas i).log) (some_same (c.past.start (c.replicas i).last_normal) own.start y own.is_start g) own.counted) in
       its x (started q.state.last_normal x h)
 
   requests : RequestsAreSubmitted p

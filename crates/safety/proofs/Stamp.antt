@@ -1,6 +1,6 @@
 -- The move of a sequencer that stamps a request.
-use Rattle.std.proofs.Common.{◌≡◌, ℕ, ◌+◌, ◌*◌, ◌<◌, ◌≤◌, true, Some, refl, sym, ap, subst, ◌∙◌, inl, inr, arith, List, [], ◌∷◌}
-use Rattle.std.specs.Prelude.{◌⊎◌, ◌&&◌, nat_lt}
+use Rattle.std.proofs.Common.{◌≡◌, ℕ, ◌<◌, ◌≤◌, true, refl, sym, ap, subst, ◌∙◌, inl, inr, arith}
+use Rattle.std.specs.Prelude.{nat_lt}
 use Rattle.std.proofs.lemmas.Bool.Decides.{nat_tests}
 use Rattle.nop_types.specs.declared.limits.TheConstants.{NUMBER_END}
 use Rattle.nop_types.specs.declared.request.Request.{Request}
@@ -11,8 +11,8 @@ use Rattle.started_views.proofs.Lists.{has_rest, has_cases}
 use Rattle.started_views.proofs.Past.{both_true}
 use Rattle.started_views.proofs.Slots.{prefix_refl}
 use Rattle.world.specs.declared.sequencer.SequencerState.{SequencerState}
-use Rattle.world.specs.SequencerSteps.{can_stamp, stamped, after_stamp}
-use Rattle.safety.specs.Conf.{Conf, put}
+use Rattle.world.specs.SequencerSteps.{stamped, after_stamp}
+use Rattle.safety.specs.Conf.{Conf}
 use Rattle.safety.specs.Evolves.{Onward, Evolves}
 use Rattle.safety.specs.Moves.{stamp, MayStamp}
 use Rattle.safety.specs.Invariant.{TrueStamp, GoodSequencer, Inv}
@@ -83,18 +83,18 @@ module _ {S : Type 0} (m : Meaning S) (f : ℕ) (c : Conf) (inv : Inv m f c) (j 
 
   pub stamp_keeps : Keeps m f c d
   stamp_keeps = outside_keeps m f c inv (record { sequencers = d.sequencers; clients = c.clients; requests = c.requests; stamps = d.stamps; lines = c.lines })
-    (record {
-      requests = λ x i. i;
-      stamps = λ p i. has_rest p (stamped s r) c.stamps i;
-      lines = prefix_refl c.lines;
-      sequencers = put_all (λ i t. Onward (c.sequencers i) t) c.sequencers j (after_stamp s) (record { session = omega arith; next = λ e. omega arith }) (λ i a. onward_refl (c.sequencers i));
-      last_ids = λ k. omega arith;
-    })
-    (λ ev. record {
-      requests = λ x i. inl i;
-      stamps = λ p i. elim (has_cases p (stamped s r) c.stamps i) [ inl e ↦ inr (subst (TrueStamp d) (sym e) (true_stamp ev)) | inr old ↦ inl old ];
-      stamped_once = once;
-      sequencers = put_all GoodSequencer c.sequencers j (after_stamp s) (record { owns = good.owns; session = good.session; next = omega arith }) (λ i a. inv.sequencers i);
-      lines = lines_last m f c d ev refl refl inv.lines;
-      clients = λ k. client_lasts m f c d ev k (c.clients k) (inv.clients k);
-    })
+      (record {
+        requests = λ x i. i;
+        stamps = λ p i. has_rest p (stamped s r) c.stamps i;
+        lines = prefix_refl c.lines;
+        sequencers = put_all (λ i t. Onward (c.sequencers i) t) c.sequencers j (after_stamp s) (record { session = omega arith; next = λ e. omega arith }) (λ i a. onward_refl (c.sequencers i));
+        last_ids = λ k. omega arith;
+      })
+      (λ ev. record {
+        requests = λ x i. inl i;
+        stamps = λ p i. elim (has_cases p (stamped s r) c.stamps i) [ inl e ↦ inr (subst (TrueStamp d) (sym e) (true_stamp ev)) | inr old ↦ inl old ];
+        stamped_once = once;
+        sequencers = put_all GoodSequencer c.sequencers j (after_stamp s) (record { owns = good.owns; session = good.session; next = omega arith }) (λ i a. inv.sequencers i);
+        lines = lines_last m f c d ev refl refl inv.lines;
+        clients = λ k. client_lasts m f c d ev k (c.clients k) (inv.clients k);
+      })

@@ -1,5 +1,5 @@
 -- What is said of old things lasts.
-use Rattle.std.proofs.Common.{◌≡◌, ℕ, ◌+◌, ◌*◌, ◌<◌, ◌≤◌, Option, Some, refl, sym, ap, subst, ◌∙◌, arith, length, List, [], ◌++◌, take}
+use Rattle.std.proofs.Common.{◌≡◌, ℕ, ◌+◌, ◌*◌, ◌≤◌, Option, Some, sym, ap, subst, ◌∙◌, arith, length, List, take}
 use Rattle.std.specs.Prelude.{◌-◌}
 use Rattle.std.proofs.lemmas.List.{take-append-le}
 use Rattle.nop_types.specs.declared.view.View.{View}
@@ -9,19 +9,16 @@ use Rattle.nop_types.specs.declared.request.Entry.TheVariants.{NoOp, Req}
 use Rattle.nop_types.specs.declared.datagram.Stamped.{Stamped}
 use Rattle.nop_types.specs.declared.datagram.Reply.{Reply}
 use Rattle.nop_types.specs.declared.peer.Change.{Change}
-use Rattle.nop_types.specs.Execution.{result_at}
-use Rattle.nop_types.specs.Legality.{IsOf, IsSubmittedBefore}
-use Rattle.nop_types.specs.Lines.{Line, Submit}
-use Rattle.nop_types.specs.Lists.{Has, IsPrefixOf, slot_of}
+use Rattle.nop_types.specs.Lines.{Submit}
+use Rattle.nop_types.specs.Lists.{Has, IsPrefixOf}
 use Rattle.nop_types.specs.Meaning.{Meaning}
 use Rattle.nop_types.specs.Stamps.{WasStamped}
-use Rattle.nop_types.specs.Views.{AtMost, first_view, leader_of}
+use Rattle.nop_types.specs.Views.{leader_of}
 use Rattle.histories.proofs.Lines.{submitted_stays}
 use Rattle.histories.proofs.Lists.{Has-prefix}
 use Rattle.histories.proofs.Results.{result_needs_prefix}
-use Rattle.log_merge.specs.Starting.{Start, opened}
-use Rattle.started_views.specs.Past.{Entered, HadLog, LeaderHad, IsStart}
-use Rattle.started_views.specs.Quorums.{Quorum}
+use Rattle.log_merge.specs.Starting.{Start}
+use Rattle.started_views.specs.Past.{Entered, HadLog, LeaderHad}
 use Rattle.started_views.specs.Settled.{Certificate}
 use Rattle.started_views.proofs.Lists.{prefix_length}
 use Rattle.started_views.proofs.Logs.{toward_refl, toward_trans}

@@ -1,10 +1,10 @@
 -- The move of a client that submits an op.
-use Rattle.std.proofs.Common.{◌≡◌, ℕ, ◌+◌, ◌*◌, ◌<◌, ◌≤◌, true, Option, Some, None, refl, sym, ap, subst, ◌∙◌, inl, inr, arith, List, [], ◌∷◌, ◌++◌, length}
-use Rattle.std.specs.Prelude.{◌⊎◌, ◌&&◌, ◌-◌, ◌^◌, nat_lt, slice_get}
+use Rattle.std.proofs.Common.{◌≡◌, ℕ, ◌+◌, ◌<◌, ◌≤◌, true, Some, refl, sym, ap, subst, ◌∙◌, inl, inr, arith, List, [], ◌∷◌}
+use Rattle.std.specs.Prelude.{◌-◌, ◌^◌, nat_lt}
 use Rattle.std.proofs.lemmas.Bool.Decides.{nat_tests}
 use Rattle.nop_types.specs.declared.request.Request.{Request}
 use Rattle.nop_types.specs.Legality.{IsOf}
-use Rattle.nop_types.specs.Lines.{Line, Submit, Accept}
+use Rattle.nop_types.specs.Lines.{Submit, Accept}
 use Rattle.nop_types.specs.Lists.{Has}
 use Rattle.nop_types.specs.Meaning.{Meaning}
 use Rattle.histories.proofs.Lines.{submitted_once_stays, accepted_once_stays}
@@ -12,7 +12,7 @@ use Rattle.histories.proofs.Lists.{Has-append_right, Has-append_cases, Has-one, 
 use Rattle.started_views.proofs.Lists.{has_none, has_rest, has_cases}
 use Rattle.started_views.proofs.Past.{both_true}
 use Rattle.world.specs.declared.client.ClientState.{ClientState}
-use Rattle.world.specs.ClientSteps.{has_none as none_waits, can_submit, request_of, submitted}
+use Rattle.world.specs.ClientSteps.{has_none as none_waits, request_of, submitted}
 use Rattle.safety.specs.Conf.{Conf}
 use Rattle.safety.specs.Evolves.{Evolves}
 use Rattle.safety.specs.Moves.{submit, MaySubmit}
@@ -20,7 +20,7 @@ use Rattle.safety.specs.Invariant.{WasSubmitted, TrueRequest, GoodLines, GoodCli
 use Rattle.safety.proofs.Local.{Keeps}
 use Rattle.safety.proofs.Outside.{outside_keeps}
 use Rattle.safety.proofs.Puts.{put_all, put_same}
-use Rattle.safety.proofs.Stays.{onward_refl, accepted_lasts, client_lasts, submitted_lasts}
+use Rattle.safety.proofs.Stays.{onward_refl, accepted_lasts, client_lasts}
 
 less_from : (a b : ℕ) → nat_lt a b ≡ true → a < b
 less_from a b e = grind (arith, nat_tests, e)
@@ -85,10 +85,10 @@ module _ {S : Type 0} (m : Meaning S) (f : ℕ) (c : Conf) (inv : Inv m f c) (k 
   done : (i : ℕ) → Done i (d.clients i)
   done = put_all Done c.clients k (submitted s r)
       (λ id result h q e same.
-          let low : id ≤ s.last_id = inv.lines.accepted_ids k id result h in
-          let new : r ≡ q = cc in
-          let its : q.id ≡ s.last_id + 1 = ap (λ (x : Request). x.id) (sym new) in
-          omega (arith, low, its, same))
+      let low : id ≤ s.last_id = inv.lines.accepted_ids k id result h in
+      let new : r ≡ q = cc in
+      let its : q.id ≡ s.last_id + 1 = ap (λ (x : Request). x.id) (sym new) in
+      omega (arith, low, its, same))
       (λ i a id result h q e same. inv.lines.accepted_done i id result h q e same)
 
   good_lines : Evolves f c d → GoodLines f d
@@ -118,18 +118,18 @@ module _ {S : Type 0} (m : Meaning S) (f : ℕ) (c : Conf) (inv : Inv m f c) (k 
 
   pub submit_keeps : Keeps m f c d
   submit_keeps = outside_keeps m f c inv (record { sequencers = c.sequencers; clients = d.clients; requests = d.requests; stamps = c.stamps; lines = d.lines })
-    (record {
-      requests = λ x i. has_rest x r c.requests i;
-      stamps = λ p i. i;
-      lines = (Submit r ∷ [], refl);
-      sequencers = λ j. onward_refl (c.sequencers j);
-      last_ids = last_ids;
-    })
-    (λ ev. record {
-      requests = λ x i. elim (has_cases x r c.requests i) [ inl e ↦ inr (subst (TrueRequest d) (sym e) true_request) | inr old ↦ inl old ];
-      stamps = λ p i. inl i;
-      stamped_once = inv.stamped_once;
-      sequencers = inv.sequencers;
-      lines = good_lines ev;
-      clients = put_all (GoodClient f d) c.clients k (submitted s r) good_client (λ i a. client_lasts m f c d ev i (c.clients i) (inv.clients i));
-    })
+      (record {
+        requests = λ x i. has_rest x r c.requests i;
+        stamps = λ p i. i;
+        lines = (Submit r ∷ [], refl);
+        sequencers = λ j. onward_refl (c.sequencers j);
+        last_ids = last_ids;
+      })
+      (λ ev. record {
+        requests = λ x i. elim (has_cases x r c.requests i) [ inl e ↦ inr (subst (TrueRequest d) (sym e) true_request) | inr old ↦ inl old ];
+        stamps = λ p i. inl i;
+        stamped_once = inv.stamped_once;
+        sequencers = inv.sequencers;
+        lines = good_lines ev;
+        clients = put_all (GoodClient f d) c.clients k (submitted s r) good_client (λ i a. client_lasts m f c d ev i (c.clients i) (inv.clients i));
+      })

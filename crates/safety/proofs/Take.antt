@@ -1,37 +1,34 @@
 -- The move that logs the request in front, and replies.
-use Rattle.std.proofs.Common.{◌≡◌, ℕ, zero, suc, ◌+◌, ◌*◌, ◌<◌, ◌≤◌, Bool, true, false, Option, Some, None, refl, sym, ap, subst, ◌∙◌, arith, inl, inr, length, length-append, List, [], ◌∷◌, ◌++◌}
-use Rattle.std.specs.Prelude.{◌-◌, ◌==◌, ◌&&◌, nat_lt}
-use Rattle.std.proofs.lemmas.Bool.{cases_eq}
+use Rattle.std.proofs.Common.{◌≡◌, ℕ, suc, ◌+◌, ◌*◌, ◌<◌, ◌≤◌, Bool, true, false, Option, Some, None, refl, sym, ap, subst, ◌∙◌, arith, inl, inr, length, length-append, List, [], ◌∷◌, ◌++◌}
+use Rattle.std.specs.Prelude.{◌-◌, ◌&&◌, nat_lt}
 use Rattle.std.proofs.lemmas.Bool.Decides.{nat_tests}
 use Rattle.nop_types.specs.declared.limits.TheConstants.{MAX_SLOTS, MAX_RESULT_BYTES, NUMBER_END}
 use Rattle.nop_types.specs.declared.view.View.{View}
 use Rattle.nop_types.specs.declared.request.Request.{Request}
 use Rattle.nop_types.specs.declared.request.Entry.{Entry}
 use Rattle.nop_types.specs.declared.request.Entry.TheVariants.{NoOp, Req}
-use Rattle.nop_types.specs.declared.datagram.Stamped.{Stamped}
 use Rattle.nop_types.specs.declared.datagram.Reply.{Reply}
 use Rattle.nop_types.specs.declared.replica_state.Phase.{Phase}
 use Rattle.nop_types.specs.declared.replica_state.Phase.TheVariants.{Normal, Change}
 use Rattle.nop_types.specs.Execution.{result_at}
-use Rattle.nop_types.specs.Lists.{Has, IsPrefixOf, slot_of}
+use Rattle.nop_types.specs.Lists.{Has, slot_of}
 use Rattle.nop_types.specs.Meaning.{Meaning}
-use Rattle.nop_types.specs.Ranges.{ReplyFits, StampedFits, RequestFits}
+use Rattle.nop_types.specs.Ranges.{RequestFits}
 use Rattle.nop_types.specs.Stamps.{WasStamped}
 use Rattle.nop_types.specs.Views.{leader_of}
 use Rattle.histories.proofs.Lists.{Has-one, Has-append_cases}
-use Rattle.oum_receiver.specs.Front.{Message}
 use Rattle.oum_receiver.proofs.Stamps.{front_stamped, taken_stamped}
 use Rattle.started_views.specs.Past.{HadLog, LeaderHad}
 use Rattle.started_views.proofs.Lists.{has_none}
 use Rattle.started_views.proofs.Logs.{toward_append}
-use Rattle.started_views.proofs.Past.{both_true, is_same_true, is_same_from}
+use Rattle.started_views.proofs.Past.{both_true, is_same_from}
 use Rattle.started_views.proofs.Slots.{prefix_trans, slot_last, slot_push_cases}
 use Rattle.world.specs.declared.replica_state.ReplicaState.{ReplicaState}
 use Rattle.world.specs.ReplicaSteps.{leads, is_normal, has_room, logged}
 use Rattle.safety.specs.Answers.{ResultsShort}
 use Rattle.safety.specs.Conf.{Conf, after}
 use Rattle.safety.specs.Evolves.{Evolves}
-use Rattle.safety.specs.Moves.{take, MayTake, reply_with, leader_replies, replies_if, replies_for}
+use Rattle.safety.specs.Moves.{take, MayTake, reply_with, leader_replies, replies_if}
 use Rattle.safety.specs.Invariant.{WasSubmitted, GoodLog, TrueReply, Own, Inv}
 use Rattle.safety.proofs.Local.{Keeps, Turns, local_keeps}
 use Rattle.safety.proofs.Stays.{some_same, log_lasts, own_lasts, stamped_lasts, submitted_lasts}

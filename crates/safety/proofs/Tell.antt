@@ -1,5 +1,5 @@
 -- The move that adds lines that neither submit nor accept.
-use Rattle.std.proofs.Common.{◌≡◌, ℕ, ◌+◌, ◌*◌, ◌≤◌, refl, inl, arith, List, ◌++◌}
+use Rattle.std.proofs.Common.{ℕ, refl, inl, arith, List, ◌++◌}
 use Rattle.nop_types.specs.Lines.{Line}
 use Rattle.nop_types.specs.Meaning.{Meaning}
 use Rattle.safety.specs.Conf.{Conf}

@@ -1,6 +1,6 @@
 -- Each run is safe.
-use Rattle.std.proofs.Common.{◌≡◌, ℕ, zero, suc, ◌+◌, ◌*◌, ◌<◌, ◌≤◌, Bool, true, false, Some, refl, sym, ap, subst, ◌∙◌, arith, length, List, [], ◌∷◌, ◌++◌, take, drop}
-use Rattle.std.specs.Prelude.{Result, Ok, Err, slice_get}
+use Rattle.std.proofs.Common.{◌≡◌, ℕ, zero, suc, ◌+◌, ◌≤◌, true, Some, refl, sym, ap, subst, ◌∙◌, arith, length, List, [], ◌∷◌, ◌++◌, take, drop}
+use Rattle.std.specs.Prelude.{Result, Ok, slice_get}
 use Rattle.nop_types.specs.Configuration.{Configuration, is_configuration}
 use Rattle.nop_types.specs.Legality.{Legal}
 use Rattle.nop_types.specs.Lines.{Line}
@@ -11,10 +11,8 @@ use Rattle.schedule_text.specs.Fits.{EventFits, EventsFit}
 use Rattle.world.specs.Agreement.{Agreed}
 use Rattle.world.specs.WorldSteps.{WorldState, Refusal, Happened, step, go_on, run_from, run, history}
 use Rattle.safety.specs.Answers.{ResultsShort}
-use Rattle.safety.specs.Passed.{Passed, passed}
-use Rattle.safety.specs.Runs.{opening}
-use Rattle.safety.specs.Safe.{Safe, SafelyPassed, RunsAreSafe, LeadTo, Running}
-use Rattle.safety.proofs.Events.{Counts, counts_from, first, all_later, run_passes}
+use Rattle.safety.specs.Safe.{RunsAreSafe, LeadTo, Running}
+use Rattle.safety.proofs.Events.{counts_from, first, all_later, run_passes}
 use Rattle.safety.proofs.Sounding.{sound, agreed, legally}
 
 pub runs_are_safe : {S : Type 0} (m : Meaning S) → RunsAreSafe m

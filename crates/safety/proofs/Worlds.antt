@@ -1,6 +1,6 @@
 -- Each world that events lead to is shown by actors and a past that moves lead to.
-use Rattle.std.proofs.Common.{◌≡◌, ℕ, zero, suc, ◌+◌, ◌*◌, ◌<◌, ◌≤◌, Bool, true, false, Option, Some, None, refl, sym, ap, subst, ◌∙◌, arith, inl, inr, length, List, [], ◌∷◌, ◌++◌, append_assoc}
-use Rattle.std.specs.Prelude.{◌/◌, ◌^◌, Result, Ok, Err, slice_get, slice_set}
+use Rattle.std.proofs.Common.{◌≡◌, ℕ, ◌+◌, ◌*◌, ◌<◌, ◌≤◌, Bool, true, false, Some, refl, sym, ap, subst, ◌∙◌, arith, inl, inr, length, List, [], ◌∷◌, ◌++◌, append_assoc}
+use Rattle.std.specs.Prelude.{◌^◌, Ok, slice_get, slice_set}
 use Rattle.std.proofs.lemmas.List.{append-nil}
 use Rattle.std.proofs.lemmas.Option.{slice_get_within}
 use Rattle.nop_types.specs.declared.limits.TheConstants.{MAX_OP_BYTES}
@@ -9,14 +9,13 @@ use Rattle.nop_types.specs.declared.datagram.Datagram.TheVariants as datagrams
 use Rattle.nop_types.specs.declared.output.Actor.{Actor}
 use Rattle.nop_types.specs.declared.output.Actor.TheVariants as actors
 use Rattle.nop_types.specs.declared.output.Out.{Out}
-use Rattle.nop_types.specs.Given.{Given, Packet, Submit}
+use Rattle.nop_types.specs.Given.{Packet, Submit}
 use Rattle.nop_types.specs.Lines.{Line, Dead}
 use Rattle.nop_types.specs.Lists.{Has}
 use Rattle.nop_types.specs.Meaning.{Meaning}
 use Rattle.histories.specs.Legality.{IsOtherLine}
 use Rattle.histories.proofs.Lists.{Has-append_cases, Has-one}
 use Rattle.oum_codec.specs.Reading.{reading}
-use Rattle.oum_codec.specs.Spelling.{spelling}
 use Rattle.oum_codec.proofs.Datagrams.{reads_again}
 use Rattle.schedule_text.specs.declared.event.Event.{Event}
 use Rattle.schedule_text.specs.declared.event.Event.TheVariants as events
@@ -32,11 +31,11 @@ use Rattle.world.specs.ReplicaSteps as replica
 use Rattle.world.specs.SequencerSteps as sequencer
 use Rattle.world.specs.Network.{Sent, sends_of, lines_from, sends_by, lines_by}
 use Rattle.world.specs.Seats.{Seated, Did, Nothing, Outputs, stepped, seat_step, crashed_by, crash_step}
-use Rattle.world.specs.WorldSteps.{WorldState, Happened, at_replica, at_sequencer, at_client, at_controller, submit, crash, deliver, step}
+use Rattle.world.specs.WorldSteps.{WorldState, Happened, at_replica, at_sequencer, at_client, at_controller, crash, deliver, step}
 use Rattle.safety.specs.Answers.{ResultsShort}
 use Rattle.safety.specs.Conf.{Conf, WasSent, standing}
 use Rattle.safety.specs.Evolves.{Evolves}
-use Rattle.schedule_text.specs.Fits.{EventFits, EventsFit}
+use Rattle.schedule_text.specs.Fits.{EventFits}
 use Rattle.safety.specs.Invariant.{Inv}
 use Rattle.safety.specs.Moves.{tell, MayTell}
 use Rattle.safety.specs.Passed.{Passed, faults, noted, passes}
@@ -48,7 +47,7 @@ use Rattle.safety.proofs.Pasts.{note_idle, HasLogs, noted_idle, noted_one}
 use Rattle.safety.proofs.Reaching.{carries_lasts, sends_carry, sends_tell, all_there}
 use Rattle.safety.proofs.ReplicaRows as replicas
 use Rattle.safety.proofs.Runs.{run_keeps}
-use Rattle.safety.proofs.Seats.{set_length, seats_shown, Took, input_took, TookDatagram, delivery_took, Crashed, crash_took}
+use Rattle.safety.proofs.Seats.{set_length, seats_shown, input_took, delivery_took, crash_took}
 use Rattle.safety.proofs.SequencerRows as sequencers
 use Rattle.safety.proofs.Stays.{evolves_refl, evolves_trans}
 use Rattle.safety.proofs.Tell.{tell_keeps}

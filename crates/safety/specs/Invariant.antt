@@ -11,7 +11,7 @@ use Rattle.nop_types.specs.declared.replica_state.Phase.TheVariants.{Normal}
 use Rattle.nop_types.specs.declared.peer.Change.{Change}
 use Rattle.nop_types.specs.Execution.{result_at}
 use Rattle.nop_types.specs.Legality.{IsOf, IsSubmittedBefore, AcceptedOnce}
-use Rattle.nop_types.specs.Lines.{Line, Submit, Accept}
+use Rattle.nop_types.specs.Lines.{Submit, Accept}
 use Rattle.nop_types.specs.Lists.{Has, IsPrefixOf, slot_of}
 use Rattle.nop_types.specs.Meaning.{Meaning}
 use Rattle.nop_types.specs.Ranges.{RequestFits, StampedFits, ReplyFits, ViewFits}
