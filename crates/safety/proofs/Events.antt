@@ -86,6 +86,7 @@ opening_shown config n = record {
     replicas = counted_get (replica.opening config) config.replicas;
     sequencers = counted_get sequencer.opening config.sequencers;
     clients = counted_get (client.opening config) config.clients;
+    controller = refl;
     sent = λ s i. absurd (has_none s i);
     all = nothing_sent config;
   };

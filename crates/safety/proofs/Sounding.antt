@@ -26,6 +26,7 @@ use Rattle.started_views.specs.Quorums.{Quorum}
 use Rattle.started_views.proofs.Past.{is_same_from}
 use Rattle.started_views.proofs.Quorums.{quorum_weaker}
 use Rattle.world.specs.declared.client.ClientState.{ClientState}
+use Rattle.world.specs.declared.controller.ControllerState.{ControllerState}
 use Rattle.world.specs.declared.replica_state.ReplicaState.{ReplicaState}
 use Rattle.world.specs.declared.sequencer.SequencerState.{SequencerState}
 use Rattle.world.specs.Agreement.{AgreeAt, Agreed}
@@ -189,6 +190,10 @@ module _ {S : Type 0} (m : Meaning S) (f : ℕ) (p : Passed) (c : Conf) (inv : I
     stamps = record {
       once = λ session number a b h g. inv.stamped_once session number a b (back _ h) (back _ g);
       session = λ s h. (inv.stamps s (back (datagrams.Stamped s) h)).owns.1;
+      controller = λ s h.
+          let one : s.session ≡ 1 = (inv.stamps s (back (datagrams.Stamped s) h)).owns.1 in
+          let began : w.controller.state.session ≡ 1 = ap (λ (x : ControllerState). x.session) shown.controller in
+          omega (arith, one, began);
       sequencers = λ j q e. ap (λ (s : SequencerState). s.session) (sym (shown.sequencers j q e)) ∙ session_is j;
       passed = λ j q s e h same.
           let t = inv.stamps s (back (datagrams.Stamped s) h) in

@@ -117,6 +117,7 @@ module _ {S : Type 0} (m : Meaning S) (f : ℕ) (few : f ≤ 3) (short : Results
             replicas = go.world.replicas;
             sequencers = go.world.sequencers;
             clients = go.world.clients;
+            controller = go.world.controller;
             sent = λ s i. carries_lasts f d (tell d go.others) told.1 s.bytes (go.world.sent s i);
             all = λ x h. go.world.all x (untold d go.others x h);
           };
@@ -171,6 +172,7 @@ module _ {S : Type 0} (m : Meaning S) (f : ℕ) (few : f ≤ 3) (short : Results
           replicas = seats_shown w.replicas c.replicas c.replicas i new shown.replicas (shown.replicas i old e ∙ same) (λ j a. refl);
           sequencers = shown.sequencers;
           clients = shown.clients;
+          controller = shown.controller;
           sent = λ s h. none_sent s (subst (λ (t : List Sent). Has (w.sent ++ t) s) none h);
           all = λ x h. subst (λ (t : List Sent). IsThere (w.sent ++ t) x) (sym none) (none_more x h);
         };
@@ -192,6 +194,7 @@ module _ {S : Type 0} (m : Meaning S) (f : ℕ) (few : f ≤ 3) (short : Results
           replicas = shown.replicas;
           sequencers = seats_shown w.sequencers c.sequencers c.sequencers i new shown.sequencers (shown.sequencers i old e ∙ same) (λ j a. refl);
           clients = shown.clients;
+          controller = shown.controller;
           sent = λ s h. none_sent s (subst (λ (t : List Sent). Has (w.sent ++ t) s) none h);
           all = λ x h. subst (λ (t : List Sent). IsThere (w.sent ++ t) x) (sym none) (none_more x h);
         };
@@ -213,6 +216,7 @@ module _ {S : Type 0} (m : Meaning S) (f : ℕ) (few : f ≤ 3) (short : Results
           replicas = shown.replicas;
           sequencers = shown.sequencers;
           clients = seats_shown w.clients c.clients c.clients i new shown.clients (shown.clients i old e ∙ same) (λ j a. refl);
+          controller = shown.controller;
           sent = λ s h. none_sent s (subst (λ (t : List Sent). Has (w.sent ++ t) s) none h);
           all = λ x h. subst (λ (t : List Sent). IsThere (w.sent ++ t) x) (sym none) (none_more x h);
         };
@@ -224,8 +228,8 @@ module _ {S : Type 0} (m : Meaning S) (f : ℕ) (few : f ≤ 3) (short : Results
         past = idle_past;
       })
 
-  quiet_controller : (new : Seated ControllerState) (did : Did) → sends_by actors.Controller did ≡ [] → MayTell (lines_by actors.Controller (length w.sent) did) → Later m f (passes p (at_controller w (new, did))) c
-  quiet_controller new did none may =
+  quiet_controller : (new : Seated ControllerState) (did : Did) → new.state ≡ w.controller.state → sends_by actors.Controller did ≡ [] → MayTell (lines_by actors.Controller (length w.sent) did) → Later m f (passes p (at_controller w (new, did))) c
+  quiet_controller new did same none may =
       goes_later (at_controller w (new, did)) c same_conf (record {
         world = record {
           config = shown.config;
@@ -234,6 +238,7 @@ module _ {S : Type 0} (m : Meaning S) (f : ℕ) (few : f ≤ 3) (short : Results
           replicas = shown.replicas;
           sequencers = shown.sequencers;
           clients = shown.clients;
+          controller = same ∙ shown.controller;
           sent = λ s h. none_sent s (subst (λ (t : List Sent). Has (w.sent ++ t) s) none h);
           all = λ x h. subst (λ (t : List Sent). IsThere (w.sent ++ t) x) (sym none) (none_more x h);
         };
@@ -263,8 +268,8 @@ module _ {S : Type 0} (m : Meaning S) (f : ℕ) (few : f ≤ 3) (short : Results
   crash_client i old false e = quiet_client i old (crashed_by old.state false).0 (Outputs []) e refl refl no_line
 
   crash_controller : (b : Bool) → Later m f (passes p (at_controller w (crashed_by w.controller.state b))) c
-  crash_controller true = quiet_controller (crashed_by w.controller.state true).0 Nothing refl (dead_line actors.Controller)
-  crash_controller false = quiet_controller (crashed_by w.controller.state false).0 (Outputs []) refl no_line
+  crash_controller true = quiet_controller (crashed_by w.controller.state true).0 Nothing refl refl (dead_line actors.Controller)
+  crash_controller false = quiet_controller (crashed_by w.controller.state false).0 (Outputs []) refl refl no_line
 
   -- ---- a datagram comes
 
@@ -285,6 +290,7 @@ module _ {S : Type 0} (m : Meaning S) (f : ℕ) (few : f ≤ 3) (short : Results
           replicas = seats_shown w.replicas c.replicas d.replicas i new shown.replicas go.state go.others;
           sequencers = λ j q h. ap (λ (g : ℕ → SequencerState). g j) go.sequencers ∙ shown.sequencers j q h;
           clients = λ j q h. ap (λ (g : ℕ → ClientState). g j) go.clients ∙ shown.clients j q h;
+          controller = shown.controller;
           sent = old_sent (sends_of (actors.Replica i) outs) d keeps.1 (sends_carry d (actors.Replica i) outs go.sends);
           all = all_there (actors.Replica i) c d w.sent outs go.only shown.all;
         };
@@ -317,6 +323,7 @@ module _ {S : Type 0} (m : Meaning S) (f : ℕ) (few : f ≤ 3) (short : Results
           replicas = λ j q h. ap (λ (g : ℕ → ReplicaState). g j) go.replicas ∙ shown.replicas j q h;
           sequencers = seats_shown w.sequencers c.sequencers d.sequencers i new shown.sequencers go.state go.others;
           clients = λ j q h. ap (λ (g : ℕ → ClientState). g j) go.clients ∙ shown.clients j q h;
+          controller = shown.controller;
           sent = old_sent (sends_of (actors.Sequencer i) outs) d keeps.1 (sends_carry d (actors.Sequencer i) outs go.sends);
           all = all_there (actors.Sequencer i) c d w.sent outs go.only shown.all;
         };
@@ -343,6 +350,7 @@ module _ {S : Type 0} (m : Meaning S) (f : ℕ) (few : f ≤ 3) (short : Results
           replicas = λ j q h. ap (λ (g : ℕ → ReplicaState). g j) go.replicas ∙ shown.replicas j q h;
           sequencers = λ j q h. ap (λ (g : ℕ → SequencerState). g j) go.sequencers ∙ shown.sequencers j q h;
           clients = seats_shown w.clients c.clients d.clients i new shown.clients go.state go.others;
+          controller = shown.controller;
           sent = old_sent (sends_of (actors.Client i) x.1) d keeps.1 (go.sends (actors.Client i));
           all = all_there (actors.Client i) c d w.sent x.1 go.only shown.all;
         };
@@ -367,8 +375,8 @@ module _ {S : Type 0} (m : Meaning S) (f : ℕ) (few : f ≤ 3) (short : Results
 
   to_controller : (bytes : List ℕ) (b : Bool) → Later m f (passes p (at_controller w (stepped controller.next w.controller.state (Packet bytes) b))) c
   unfolding controller.next
-  to_controller bytes true = quiet_controller (stepped controller.next w.controller.state (Packet bytes) true).0 Nothing refl (dead_line actors.Controller)
-  to_controller bytes false = quiet_controller (stepped controller.next w.controller.state (Packet bytes) false).0 (Outputs []) refl no_line
+  to_controller bytes true = quiet_controller (stepped controller.next w.controller.state (Packet bytes) true).0 Nothing refl refl (dead_line actors.Controller)
+  to_controller bytes false = quiet_controller (stepped controller.next w.controller.state (Packet bytes) false).0 (Outputs []) refl refl no_line
 
   -- ---- events
 

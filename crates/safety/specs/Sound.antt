@@ -41,10 +41,11 @@ IsStamped w session number q = IsSent w (datagrams.Stamped (record { session = s
 abbrev pub WasSubmitted : Passed → Request → Type 0
 WasSubmitted p r = Has p.lines (Submit r)
 
--- sessions and numbers: each stamp is the only one with its session and number, and of session 1, in which its sequencer stays and has passed its number
+-- sessions and numbers: each stamp is the only one with its session and number, and of session 1, which the controller began with; its sequencer stays in that session and has passed its number
 pub record StampsAreSound (p : Passed) : Type 0 where
   pub once : (session number : ℕ) (a b : Request) → IsStamped p.world session number a → IsStamped p.world session number b → a ≡ b
   pub session : (s : Stamped) → IsSent p.world (datagrams.Stamped s) → s.session ≡ 1
+  pub controller : (s : Stamped) → IsSent p.world (datagrams.Stamped s) → s.session ≤ p.world.controller.state.session
   pub sequencers : (j : ℕ) (q : Seated SequencerState) → slice_get p.world.sequencers j ≡ Some q → q.state.session ≡ (sequencer.opening j).session
   pub passed : (j : ℕ) (q : Seated SequencerState) (s : Stamped) → slice_get p.world.sequencers j ≡ Some q → IsSent p.world (datagrams.Stamped s) → s.session ≡ q.state.session → s.number < q.state.next
 

@@ -7,6 +7,7 @@ use Rattle.oum_codec.specs.Spelling.{spelling}
 use Rattle.world.specs.declared.client.ClientState.{ClientState}
 use Rattle.world.specs.declared.replica_state.ReplicaState.{ReplicaState}
 use Rattle.world.specs.declared.sequencer.SequencerState.{SequencerState}
+use Rattle.world.specs.ControllerSteps as controller
 use Rattle.world.specs.Network.{Sent}
 use Rattle.world.specs.Seats.{Seated}
 use Rattle.world.specs.WorldSteps.{WorldState}
@@ -34,6 +35,8 @@ pub record ShowsWorld (f : ℕ) (w : WorldState) (c : Conf) : Type 0 where
   pub replicas : (i : ℕ) (p : Seated ReplicaState) → slice_get w.replicas i ≡ Some p → c.replicas i ≡ p.state
   pub sequencers : (j : ℕ) (p : Seated SequencerState) → slice_get w.sequencers j ≡ Some p → c.sequencers j ≡ p.state
   pub clients : (k : ℕ) (p : Seated ClientState) → slice_get w.clients k ≡ Some p → c.clients k ≡ p.state
+  -- the controller makes no move so far
+  pub controller : w.controller.state ≡ controller.opening 1
   pub sent : (s : Sent) → Has w.sent s → Carries c s.bytes
   pub all : (d : Datagram) → WasSent c d → IsThere w.sent d
 
