@@ -1,0 +1,5 @@
+pub mod EachField
+pub mod EachKind
+pub mod Entries
+pub mod Loop
+pub mod Peers

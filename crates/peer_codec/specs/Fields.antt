@@ -1,0 +1,55 @@
+-- The fields of messages at the front of the bytes: each with the bytes after it, or the first test that fails.
+use Rattle.std.specs.Prelude.{ℕ, Bool, List, Option, ok_or, Result, Ok, Err, nat_lt, nat_le, ◌&&◌, if◌then◌else◌}
+use Rattle.std.specs.Int.{w16, w32, w64}
+use Rattle.nop_types.specs.declared.limits.TheConstants.{MAX_OP_BYTES, MAX_REPLICAS, MAX_SLOTS, NUMBER_END}
+use Rattle.nop_types.specs.declared.view.View.{View}
+use Rattle.nop_types.specs.declared.request.Request.{Request}
+use Rattle.oum_codec.specs.Numbers.{number_at, byte_at, bytes_at}
+use Rattle.oum_codec.specs.Numbers as numbers
+use Rattle.oum_codec.specs.Reading.{◌>>=◌}
+use Rattle.peer_codec.specs.declared.bad_peer.BadPeer.{BadPeer}
+use Rattle.peer_codec.specs.declared.bad_peer.BadPeer.TheVariants.{Short, Field}
+
+-- the bytes of a field are there
+abbrev pub there : {A : Type 0} → Option A → Result A BadPeer
+there found = ok_or found Short
+
+-- they are there, then the field is in range
+abbrev pub in_range : {A : Type 0} → (A → Bool) → Option (A × List ℕ) → Result (A × List ℕ) BadPeer
+in_range test found = there found >>= λ x. if test x.0 then Ok x else Err Field
+
+unfoldable pub sender_at : List ℕ → Result (ℕ × List ℕ) BadPeer
+sender_at bytes = in_range (λ n. nat_lt n MAX_REPLICAS) (byte_at bytes)
+
+-- leader numbers have any value, sessions count from 1
+unfoldable pub view_at : List ℕ → Result (View × List ℕ) BadPeer
+view_at bytes = in_range (λ v. nat_lt 0 v.session) (numbers.view_at bytes)
+
+-- slots count from 1
+unfoldable pub slot_at : List ℕ → Result (ℕ × List ℕ) BadPeer
+slot_at bytes = in_range (λ n. nat_lt 0 n && nat_le n MAX_SLOTS) (number_at w32 bytes)
+
+-- the number of a session's next request
+unfoldable pub next_at : List ℕ → Result (ℕ × List ℕ) BadPeer
+next_at bytes = in_range (λ n. nat_lt 0 n && nat_le n NUMBER_END) (number_at w64 bytes)
+
+-- the length of a log
+unfoldable pub length_at : List ℕ → Result (ℕ × List ℕ) BadPeer
+length_at bytes = in_range (λ n. nat_le n MAX_SLOTS) (number_at w32 bytes)
+
+-- ids count from 1
+unfoldable pub id_at : List ℕ → Result (ℕ × List ℕ) BadPeer
+id_at bytes = in_range (λ n. nat_lt 0 n) (number_at w64 bytes)
+
+-- an op's length, and the op
+unfoldable pub op_at : List ℕ → Result (List ℕ × List ℕ) BadPeer
+op_at bytes = do
+  len ← in_range (λ n. nat_le n MAX_OP_BYTES) (number_at w16 bytes)
+  there (bytes_at len.0 len.1)
+
+unfoldable pub request_at : List ℕ → Result (Request × List ℕ) BadPeer
+request_at bytes = do
+  client ← there (number_at w32 bytes)
+  id ← id_at client.1
+  op ← op_at id.1
+  Ok (record { client = client.0; id = id.0; op = op.0 }, op.1)

@@ -1,0 +1,5 @@
+pub mod Answers
+pub mod Fields
+pub mod Logs
+pub mod Reading
+pub mod Spelling

@@ -1,0 +1,29 @@
+-- Entries and logs at the front of the bytes.
+use Rattle.std.specs.Prelude.{ℕ, zero, suc, List, [], ◌∷◌, Result, Ok, Err}
+use Rattle.nop_types.specs.declared.request.Entry.{Entry}
+use Rattle.nop_types.specs.declared.request.Entry.TheVariants.{NoOp, Req}
+use Rattle.oum_codec.specs.Reading.{◌>>=◌}
+use Rattle.peer_codec.specs.declared.bad_peer.BadPeer.{BadPeer}
+use Rattle.peer_codec.specs.declared.bad_peer.BadPeer.TheVariants.{Short, Field}
+use Rattle.peer_codec.specs.Fields.{length_at, request_at}
+
+-- the tag is 0 for a NO-OP, and 1 for a request
+unfoldable pub entry_at : List ℕ → Result (Entry × List ℕ) BadPeer
+entry_at [] = Err Short
+entry_at (zero ∷ rest) = Ok (NoOp, rest)
+entry_at (suc zero ∷ rest) = request_at rest >>= λ r. Ok (Req r.0, r.1)
+entry_at (suc (suc tag) ∷ rest) = Err Field
+
+-- so many entries, one after the other
+unfoldable pub entries_at : ℕ → List ℕ → Result (List Entry × List ℕ) BadPeer
+entries_at zero bytes = Ok ([], bytes)
+entries_at (suc n) bytes = do
+  first ← entry_at bytes
+  others ← entries_at n first.1
+  Ok (first.0 ∷ others.0, others.1)
+
+-- their number, then the entries
+unfoldable pub log_at : List ℕ → Result (List Entry × List ℕ) BadPeer
+log_at bytes = do
+  count ← length_at bytes
+  entries_at count.0 count.1

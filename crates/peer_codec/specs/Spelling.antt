@@ -1,0 +1,59 @@
+-- The one spelling of each message.
+use Rattle.std.specs.Prelude.{◌≡◌, ℕ, List, [], ◌∷◌, ◌++◌, length}
+use Rattle.std.specs.Int.{w32, w64}
+use Rattle.std.specs.List.{flat_map}
+use Rattle.nop_types.specs.Ranges.{PeerFits}
+use Rattle.nop_types.specs.declared.view.View.{View}
+use Rattle.nop_types.specs.declared.request.Entry.{Entry}
+use Rattle.nop_types.specs.declared.request.Entry.TheVariants.{NoOp, Req}
+use Rattle.nop_types.specs.declared.peer.Peer.{Peer}
+use Rattle.nop_types.specs.declared.peer.Body.{Body}
+use Rattle.nop_types.specs.declared.peer.Body.TheVariants as bodies
+use Rattle.oum_codec.specs.Numbers.{be_bytes}
+use Rattle.oum_codec.specs.Spelling.{view_bytes, request_bytes}
+
+-- a tag, and the request if there is one
+abbrev pub entry_bytes : Entry → List ℕ
+entry_bytes NoOp = 0 ∷ []
+entry_bytes (Req r) = 1 ∷ [] ++ request_bytes r
+
+-- four bytes of length, and the entries
+abbrev pub log_bytes : List Entry → List ℕ
+log_bytes log = be_bytes w32 (length log) ++ flat_map entry_bytes log
+
+abbrev pub kind_of : Body → ℕ
+kind_of (bodies.SlotLookup slot) = 16
+kind_of (bodies.Found slot r) = 17
+kind_of (bodies.GapCommit slot) = 18
+kind_of (bodies.GapRep slot) = 19
+kind_of bodies.ViewChangeReq = 20
+kind_of (bodies.ViewChange last_normal next log) = 21
+kind_of (bodies.StartView next log) = 22
+kind_of (bodies.SyncPrepare log) = 23
+kind_of (bodies.SyncRep len) = 24
+kind_of (bodies.SyncCommit len) = 25
+
+-- the fields that are there in every kind
+abbrev pub head_bytes : ℕ → ℕ → View → List ℕ
+head_bytes kind sender view = kind ∷ sender ∷ [] ++ view_bytes view
+
+-- the fields of the kind
+abbrev pub body_bytes : Body → List ℕ
+body_bytes (bodies.SlotLookup slot) = be_bytes w32 slot
+body_bytes (bodies.Found slot r) = be_bytes w32 slot ++ request_bytes r
+body_bytes (bodies.GapCommit slot) = be_bytes w32 slot
+body_bytes (bodies.GapRep slot) = be_bytes w32 slot
+body_bytes bodies.ViewChangeReq = []
+body_bytes (bodies.ViewChange last_normal next log) = view_bytes last_normal ++ be_bytes w64 next ++ log_bytes log
+body_bytes (bodies.StartView next log) = be_bytes w64 next ++ log_bytes log
+body_bytes (bodies.SyncPrepare log) = log_bytes log
+body_bytes (bodies.SyncRep len) = be_bytes w32 len
+body_bytes (bodies.SyncCommit len) = be_bytes w32 len
+
+abbrev pub spelling : Peer → List ℕ
+spelling p = head_bytes (kind_of p.body) p.sender p.view ++ body_bytes p.body
+
+-- the bytes are the value's spelling, with each field in its range
+pub record Spells (p : Peer) (bytes : List ℕ) : Type 0 where
+  pub fits : PeerFits p
+  pub spelled : bytes ≡ spelling p
