@@ -123,7 +123,12 @@ pub fn encode_peer(alloc: Global, message: &Peer, to: &mut Vec<u8>) -> Result<()
     ensures err { OnErr result (to.new.items ≡ to.old.items) }
 {
     let mut bytes = Vec::with_capacity(alloc, spelled_len(message))?;
-    put_head(&mut bytes, kind_of(&message.body), message.sender, message.view)?;
+    put_head(
+        &mut bytes,
+        kind_of(&message.body),
+        message.sender,
+        message.view,
+    )?;
     put_body(&mut bytes, &message.body)?;
     if to.is_empty() {
         *to = bytes;
