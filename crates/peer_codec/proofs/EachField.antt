@@ -10,7 +10,6 @@ use Rattle.nop_types.specs.declared.request.Request.{Request}
 use Rattle.oum_codec.specs.Numbers.{IsBytes, be_bytes, number_at, byte_at, bytes_at}
 use Rattle.oum_codec.specs.Numbers as numbers
 use Rattle.oum_codec.specs.Spelling.{view_bytes, counted_bytes, request_bytes}
-use Rattle.oum_codec.specs.Reading.{◌>>=◌}
 use Rattle.oum_codec.proofs.Steps.{bind_ok, ok_is, ok_or_ok, passed_ok}
 use Rattle.oum_codec.proofs.Numbers.{Takes, Takes-then, IsWide, wide16, wide32, wide64, number_takes, number_again, u32_takes, u32_again, byte_takes, bytes_take, bytes_again, view_takes, view_again}
 use Rattle.peer_codec.specs.declared.bad_peer.BadPeer.{BadPeer}

@@ -1,6 +1,6 @@
 -- The fields of each kind: what was spelled is read, and what is read is spelled.
-use Rattle.std.proofs.Common.{◌≡◌, ℕ, Bool, true, false, cond, eqb, List, [], ◌∷◌, ◌++◌, Result, Ok, Err, refl, sym, ap, subst, ◌∙◌, append_assoc, inl, inr, ◌⊎◌}
-use Rattle.std.specs.Prelude.{◌≤◌, ⊤}
+use Rattle.std.proofs.Common.{◌≡◌, ℕ, Bool, true, false, cond, eqb, List, ◌++◌, Result, Ok, refl, sym, ap, subst, ◌∙◌, append_assoc, inl, inr, ◌⊎◌}
+use Rattle.std.specs.Prelude.{◌≤◌}
 use Rattle.std.specs.Int.{w32, w64}
 use Rattle.std.proofs.lemmas.Bool.{eqb-true}
 use Rattle.nop_types.specs.Ranges.{RequestFits, LogFits, SlotFits, NextFits, LogChangeFits, BodyFits}

@@ -3,3 +3,4 @@ pub mod EachKind
 pub mod Entries
 pub mod Loop
 pub mod Peers
+pub mod SpelledLengths

@@ -9,7 +9,6 @@ use Rattle.nop_types.specs.declared.peer.Body.{Body}
 use Rattle.nop_types.specs.declared.peer.Body.TheVariants.{SlotLookup, Found, GapCommit, GapRep, ViewChangeReq, ViewChange, StartView, SyncPrepare, SyncRep, SyncCommit}
 use Rattle.oum_codec.specs.Numbers.{IsBytes}
 use Rattle.oum_codec.specs.Spelling.{view_bytes}
-use Rattle.oum_codec.specs.Reading.{◌>>=◌}
 use Rattle.oum_codec.proofs.Steps.{bind_ok, ok_is, passed_ok}
 use Rattle.oum_codec.proofs.Numbers.{IsBytes-rest, Takes-then}
 use Rattle.peer_codec.specs.declared.bad_peer.BadPeer.{BadPeer}

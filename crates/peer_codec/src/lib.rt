@@ -4,6 +4,7 @@
 mod bad_peer;
 mod fields;
 mod laws;
+mod lengths;
 mod logs;
 mod read;
 mod write;

@@ -1,8 +1,9 @@
-ghost use Rattle.std.specs.Prelude.{◌≡◌, ◌++◌, ◌∷◌, ◌≤◌, ◌+◌, ◌*◌, [], OnOk, OnErr};
+ghost use Rattle.std.specs.Prelude.{◌≡◌, ◌++◌, ◌∷◌, [], OnOk, OnErr};
 ghost use Rattle.nop_types.specs.Ranges.{PeerFits};
 ghost use Rattle.oum_codec.specs.Spelling.{view_bytes};
 ghost use Rattle.peer_codec.specs.Spelling.{entry_bytes, log_bytes, kind_of, head_bytes, body_bytes, spelling};
 
+use crate::lengths::spelled_len;
 use nop_types::{Body, Entry, Log, NoMemory, Peer, View};
 use oum_codec::{put_request, put_u32, put_u64, put_view};
 use std::alloc::Global;
@@ -83,36 +84,6 @@ fn put_body(to: &mut Vec<u8>, body: &Body) -> Result<(), NoMemory>
         }
         Body::SyncPrepare(log) => put_log(to, log),
         Body::SyncRep(length) | Body::SyncCommit(length) => put_u32(to, *length),
-    }
-}
-
-/// How many bytes the entries of a log take.
-fn entries_len(log: &Log) -> usize
-    ensures { result ≤ 4096 * 655 }
-{
-    let mut len: usize = 0;
-    for entry in log.as_slice() {
-        len += match entry {
-            Entry::NoOp => 1,
-            Entry::Req(request) => 15 + request.op.as_slice().len(),
-        };
-    }
-    len
-}
-
-/// How many bytes the spelling has.
-fn spelled_len(message: &Peer) -> usize {
-    match &message.body {
-        Body::SlotLookup(_)
-        | Body::GapCommit(_)
-        | Body::GapRep(_)
-        | Body::SyncRep(_)
-        | Body::SyncCommit(_) => 14,
-        Body::Found(_, request) => 28 + request.op.as_slice().len(),
-        Body::ViewChangeReq => 10,
-        Body::ViewChange { log, .. } => 30 + entries_len(log),
-        Body::StartView { log, .. } => 22 + entries_len(log),
-        Body::SyncPrepare(log) => 14 + entries_len(log),
     }
 }
 

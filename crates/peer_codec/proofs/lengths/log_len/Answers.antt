@@ -1,0 +1,13 @@
+use Rattle.std.proofs.Common.{◌+◌, List, length, sym, ap, ◌∙◌}
+use Rattle.std.specs.List.{sum_by}
+use Rattle.std.proofs.lemmas.List.{take_all}
+use Rattle.nop_types.specs.declared.request.Entry.{Entry}
+use Rattle.peer_codec.specs.Spelling.{entry_bytes}
+use Rattle.peer_codec.proofs.SpelledLengths.{log_len}
+use Rattle.peer_codec.proofs.lengths.log_len.Goals as goal
+
+pub returns-clause-exact : goal.returns-clause-exact
+returns-clause-exact c =
+    c.loop-entry.invariant.exact
+    ∙ ap (λ (log : List Entry). 4 + sum_by (λ e. length (entry_bytes e)) log) (take_all c.loop-entry.entry-index c.as_slice-entry-items.result.now c.loop-entry-test.false ∙ c.as_slice-entry-items.ensures.entries)
+    ∙ sym (log_len c.args.log.now)

@@ -1,0 +1,63 @@
+//! How many bytes spellings have.
+
+ghost use Rattle.std.specs.Prelude.{◌≡◌, ◌≤◌, ◌+◌, ◌*◌, length};
+ghost use Rattle.nop_types.specs.declared.limits.TheConstants.{MAX_OP_BYTES, MAX_SLOTS};
+ghost use Rattle.oum_codec.specs.Spelling.{request_bytes};
+ghost use Rattle.peer_codec.specs.Spelling.{entry_bytes, log_bytes, body_bytes, spelling};
+
+use nop_types::{Body, Entry, Log, Peer, Request};
+
+#[tactic(auto, using(crate::proofs::SpelledLengths::request_len))]
+fn request_len(request: &Request) -> usize
+    ensures exact { result ≡ length (request_bytes request.now) }
+    ensures small { result ≤ 14 + MAX_OP_BYTES }
+{
+    14 + request.op.as_slice().len()
+}
+
+fn entry_len(entry: &Entry) -> usize
+    ensures exact { result ≡ length (entry_bytes entry.now) }
+    ensures small { result ≤ 15 + MAX_OP_BYTES }
+{
+    match entry {
+        Entry::NoOp => 1,
+        Entry::Req(request) => 1 + request_len(request),
+    }
+}
+
+fn log_len(log: &Log) -> usize
+    ensures exact { result ≡ length (log_bytes log.now) }
+    ensures small { result ≤ 4 + MAX_SLOTS * (15 + MAX_OP_BYTES) }
+{
+    let mut len: usize = 4;
+    for entry in log.as_slice() {
+        len += entry_len(entry);
+    }
+    len
+}
+
+#[tactic(auto, using(crate::proofs::SpelledLengths::body_lens))]
+fn body_len(body: &Body) -> usize
+    ensures exact { result ≡ length (body_bytes body.now) }
+    ensures small { result ≤ 20 + MAX_SLOTS * (15 + MAX_OP_BYTES) }
+{
+    match body {
+        Body::SlotLookup(_)
+        | Body::GapCommit(_)
+        | Body::GapRep(_)
+        | Body::SyncRep(_)
+        | Body::SyncCommit(_) => 4,
+        Body::Found(_, request) => 4 + request_len(request),
+        Body::ViewChangeReq => 0,
+        Body::ViewChange { log, .. } => 16 + log_len(log),
+        Body::StartView { log, .. } => 8 + log_len(log),
+        Body::SyncPrepare(log) => log_len(log),
+    }
+}
+
+#[tactic(auto, using(crate::proofs::SpelledLengths::spelling_len))]
+pub fn spelled_len(message: &Peer) -> usize
+    ensures { result ≡ length (spelling message.now) }
+{
+    10 + body_len(&message.body)
+}
