@@ -1,5 +1,6 @@
 //! The same work in plain Rust: the message as structs, its ops as vectors of their own.
 
+use std::hint::black_box;
 use std::time::Instant;
 
 struct Request {
@@ -125,19 +126,22 @@ fn main() {
     for entries in [64u16, 512, 4096] {
         let bytes = spelled(entries);
         let message = decode(&bytes).unwrap();
+        assert!(encode(&message) == bytes);
         let rounds = (1 << 20) / entries as usize;
         let all = rounds * bytes.len();
         let (mut encodes, mut decodes) = (0, 0);
         for _ in 0..5 {
             let start = Instant::now();
+            let mut total = 0;
             for _ in 0..rounds {
-                assert!(encode(&message) == bytes);
+                total += black_box(encode(&message)).len();
             }
+            assert_eq!(total, all);
             encodes = encodes.max(megabytes_a_second(all, start));
             let start = Instant::now();
             let mut total = 0;
             for _ in 0..rounds {
-                total += decode(&bytes).unwrap().log.len();
+                total += black_box(decode(&bytes).unwrap()).log.len();
             }
             assert_eq!(total, rounds * entries as usize);
             decodes = decodes.max(megabytes_a_second(all, start));
