@@ -4,7 +4,7 @@ use std::alloc::Global;
 use std::test::Fail;
 
 /// Bytes, how many bytes 255 follow them, and the message that both spell, with `*` for the bytes 255.
-fn values() -> [(&'static [u8], usize, &'static str); 27] {
+fn values() -> [(&'static [u8], usize, &'static str); 29] {
     [
         // the examples of the formats
         (
@@ -56,6 +56,16 @@ fn values() -> [(&'static [u8], usize, &'static str); 27] {
             b"\x19\0\0\0\0\0\0\0\0\x01\0\0\0\x01",
             0,
             "Peer { sender: 0, view: View { leader: 0, session: 1 }, body: SyncCommit(1) }",
+        ),
+        (
+            b"\x16\x01\0\0\0\x01\0\0\0\x01\0\x01\0\0\0\0\0\0\0\0\0\0",
+            0,
+            "Peer { sender: 1, view: View { leader: 1, session: 1 }, body: StartView { next: 281474976710656, log: Log { entries: [] } } }",
+        ),
+        (
+            b"\x18\x01\0\0\0\0\0\0\0\x01\0\0\0\0",
+            0,
+            "Peer { sender: 1, view: View { leader: 0, session: 1 }, body: SyncRep(0) }",
         ),
         // each field at its least, then at its greatest
         (

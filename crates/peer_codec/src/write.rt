@@ -1,5 +1,7 @@
 ghost use Rattle.std.specs.Prelude.{◌≡◌, ◌++◌, ◌∷◌, [], OnOk, OnErr};
+ghost use Rattle.std.specs.Int.{w16, w32, w64};
 ghost use Rattle.nop_types.specs.Ranges.{PeerFits};
+ghost use Rattle.oum_codec.specs.Numbers.{be_bytes};
 ghost use Rattle.oum_codec.specs.Spelling.{view_bytes};
 ghost use Rattle.peer_codec.specs.Spelling.{entry_bytes, log_bytes, kind_of, head_bytes, body_bytes, spelling};
 
@@ -8,19 +10,31 @@ use nop_types::{Body, Entry, Log, NoMemory, Peer, View};
 use oum_codec::{put_request, put_u32, put_u64, put_view};
 use std::alloc::Global;
 
+/// The fields of a request's entry before its op: tag, client, id and the length of the op.
+#[tactic(auto, unfolding(oum_codec::specs::Numbers::be_bytes))]
+fn entry_front(client: u32, id: u64, op_len: u16) -> [u8; 15]
+    ensures { result ≡ 1 ∷ [] ++ be_bytes w32 client ++ be_bytes w64 id ++ be_bytes w16 op_len }
+{
+    let [c0, c1, c2, c3] = client.to_be_bytes();
+    let [i0, i1, i2, i3, i4, i5, i6, i7] = id.to_be_bytes();
+    let [n0, n1] = op_len.to_be_bytes();
+    [1, c0, c1, c2, c3, i0, i1, i2, i3, i4, i5, i6, i7, n0, n1]
+}
+
+/// A request in two pieces, its fields and its op, since a log has thousands.
 fn put_entry(to: &mut Vec<u8>, entry: &Entry) -> Result<(), NoMemory>
     ensures { OnOk result (to.new.items ≡ to.old.items ++ entry_bytes entry.now) }
 {
     match entry {
-        Entry::NoOp => {
-            to.push(0)?;
-            Ok(())
-        }
+        Entry::NoOp => to.push(0)?,
         Entry::Req(request) => {
-            to.push(1)?;
-            put_request(to, request)
+            let op = request.op.as_slice();
+            let front = entry_front(request.client, request.id, op.len() as u16);
+            to.extend_from_slice(&front)?;
+            to.extend_from_slice(op)?;
         }
     }
+    Ok(())
 }
 
 fn put_log(to: &mut Vec<u8>, log: &Log) -> Result<(), NoMemory>
