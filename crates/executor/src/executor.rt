@@ -1,15 +1,26 @@
-ghost use Rattle.std.specs.Prelude.{◌≡◌, ◌≤◌, length, OnOk, OnErr, IfOk};
+ghost use Rattle.std.specs.Prelude.{◌≡◌, ◌≤◌, ℕ, List, [], true, false, length, OnOk, OnErr, IfOk, IsErr, IfSome};
+ghost use Rattle.std.specs.Option.{option_copied};
+ghost use Rattle.nop_types.specs.declared.request.Entry.{Entry as LogEntry};
+ghost use Rattle.nop_types.specs.Execution.{result_kept};
+ghost use Rattle.client_table.specs.Table.{kept_for};
+ghost use Rattle.executor.specs.Steps.{HasExecuted};
+ghost use Rattle.executor.specs.Results.{IsResult};
 
-use client_table::{ClientTable, Kept};
-use nop_types::{Host, NoMemory};
+use crate::moves::{advance, go_back};
+use crate::step::Step;
+use client_table::{ClientTable, Judged};
+use nop_types::{Bytes, Host, MAX_RESULT_BYTES, NoMemory};
+use replica_log::ReplicaLog;
 use std::alloc::Global;
 use std::marker::Model;
 
+/// The execution of the first slots of a log: a host's state, and the last answer to each client. For each executed slot it
+/// keeps what undoes it. Where a call ran out of memory it has failed, and executes nothing more.
 #[derive(Drop)]
 pub struct Executor<H: Host> {
     host: H,
     table: ClientTable,
-    steps: Vec<Option<(H::Undo, Kept)>>,
+    steps: Vec<Option<Step<H::Undo>>>,
     failed: bool,
 }
 
@@ -17,6 +28,7 @@ impl<H: Host> Model for Executor<H> {
     ghost use Rattle.std.specs.Prelude.{◌≤◌, length};
     ghost use Rattle.nop_types.specs.declared.limits.TheConstants.{MAX_SLOTS};
     ghost use Rattle.executor.specs.Running.{Running, running_code};
+    ghost use Rattle.executor.specs.Steps.{StepsFit};
 
     ghost Value = { Running H H.Undo };
 
@@ -24,13 +36,91 @@ impl<H: Host> Model for Executor<H> {
 
     ghost view = { λ e. record { host = e.host; table = e.table; steps = e.steps.items; failed = e.failed } };
 
-    ghost invariant = { λ e. length e.steps.items ≤ MAX_SLOTS };
+    ghost invariant = { λ e. (length e.steps.items ≤ MAX_SLOTS) × StepsFit (H.fits e.host) e.steps.items };
+}
+
+#[tactic(auto, using(client_table::specs::Laws::result_by_verdict))]
+fn kept_result(table: &ClientTable, client: u32, id: u64) -> Option<&Bytes>
+    ensures { option_copied result ≡ result_kept (kept_for table.now client) id }
+{
+    match table.judge(client, id) {
+        Judged::Same(answer) => Some(answer),
+        Judged::Fresh | Judged::Stale => None,
+    }
 }
 
 impl<H: Host> Executor<H> {
+    /// Nothing is executed yet.
+    pub fn new(alloc: Global) -> Result<Executor<H>, NoMemory>
+        ensures executed { IfOk result (λ e. e.steps ≡ []) }
+        ensures run { IfOk result (λ e. (log : List LogEntry) → HasExecuted H.state H.meaning H.undo_of log e) }
+        ensures failed { IfOk result (λ e. e.failed ≡ false) }
+    {
+        Ok(Executor {
+            host: H::fresh(alloc)?,
+            table: ClientTable::new(alloc),
+            steps: Vec::new(alloc),
+            failed: false,
+        })
+    }
+
+    /// How many slots are executed.
     pub fn executed(&self) -> u32
         ensures { result ≡ length self.now.steps }
     {
         self.steps.len() as u32
+    }
+
+    /// Executes the entries of the log up to a slot.
+    pub fn run_to(&mut self, log: &ReplicaLog, slot: u32) -> Result<(), NoMemory>
+        requires from { length self.old.steps ≤ slot }
+        requires there { slot ≤ length log.now }
+        requires run { HasExecuted H.state H.meaning H.undo_of log.now self.old }
+        ensures executed { OnOk result (length self.new.steps ≡ slot) }
+        ensures run { HasExecuted H.state H.meaning H.undo_of log.now self.new }
+        ensures ok { OnOk result (self.new.failed ≡ false) }
+        ensures err { OnErr result (self.new.failed ≡ true) }
+        ensures for_good { self.old.failed ≡ true → IsErr result }
+    {
+        if self.failed {
+            return Err(NoMemory);
+        }
+        let done = advance(
+            &mut self.host,
+            &mut self.table,
+            &mut self.steps,
+            log.as_slice(),
+            slot as usize,
+        );
+        self.failed = done.is_err();
+        done
+    }
+
+    /// Undoes the entries of the log above a slot, from the last one down. It takes no memory.
+    pub fn rewind(&mut self, log: &ReplicaLog, slot: u32)
+        requires back { slot ≤ length self.old.steps }
+        requires run { HasExecuted H.state H.meaning H.undo_of log.now self.old }
+        ensures executed { length self.new.steps ≡ slot }
+        ensures run { HasExecuted H.state H.meaning H.undo_of log.now self.new }
+        ensures failed { self.new.failed ≡ self.old.failed }
+    {
+        go_back(
+            &mut self.host,
+            &mut self.table,
+            &mut self.steps,
+            log.as_slice(),
+            slot as usize,
+        );
+    }
+
+    /// The result of a request, where it is the last executed one of its client.
+    pub fn result(&self, client: u32, id: u64) -> Option<&Bytes>
+        ensures kept { option_copied result ≡ result_kept (kept_for self.now.table client) id }
+        ensures slots { (log : List LogEntry) → HasExecuted H.state H.meaning H.undo_of log self.now
+            → IsResult H.meaning log (length self.now.steps) client id (option_copied result) }
+        ensures short { (log : List LogEntry) → HasExecuted H.state H.meaning H.undo_of log self.now
+            → IfSome (option_copied result) (λ bytes. length bytes ≤ MAX_RESULT_BYTES) }
+    {
+        kept_result(&self.table, client, id)
     }
 }

@@ -2,5 +2,10 @@
 #![tactic(auto)]
 
 mod executor;
+mod moves;
+mod step;
 
 pub use crate::executor::Executor;
+
+#[cfg(test)]
+mod tests;

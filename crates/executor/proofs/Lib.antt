@@ -1,0 +1,3 @@
+pub mod ExecutedLemmas
+pub mod ResultLemmas
+pub mod StepLemmas

@@ -1,0 +1,21 @@
+use Rattle.std.proofs.Common.{◌≤◌, List, ◌++◌, ◌∷◌, [], length, Option, sym, subst, rules, arith}
+use Rattle.executor.specs.declared.step.Step.{Step}
+use Rattle.executor.specs.Running.{execution}
+use Rattle.executor.specs.Steps.{IsExecuted, StepsFit}
+use Rattle.executor.proofs.ExecutedLemmas.{last_is_kept, executed_before, fit_front, fit_still}
+use Rattle.executor.proofs.moves.go_back.Goals as goal
+
+pub leave-requires-clause-kept : goal.leave-requires-clause-kept
+leave-requires-clause-kept g c =
+    let x = execution (g.H.Host.state c.loop-steps.host) c.loop-steps.table in
+    last_is_kept g.H.Host.meaning g.H.Host.undo_of c.args.log.now x c.pop.new.self.items c.in-Some.step (rw c.in-Some.ensures.items at c.loop-steps.invariant.run)
+
+pub loop-steps-preserved-in-Some : goal.loop-steps-preserved-in-Some
+loop-steps-preserved-in-Some g c =
+    let x = execution (g.H.Host.state c.loop-steps.host) c.loop-steps.table in
+    let y = execution (g.H.Host.state c.leave.new.host) c.leave.new.table in
+    record {
+      back = search rules;
+      run = executed_before g.H.Host.meaning g.H.Host.undo_of g.H.Host.undone g.met.H.Host.undoes c.args.log.now x y c.pop.new.self.items c.in-Some.step (rw c.in-Some.ensures.items at c.loop-steps.invariant.run) c.leave.ensures.execution;
+      fits = fit_still (g.H.Host.fits c.loop-steps.host) (g.H.Host.fits c.leave.new.host) c.leave.ensures.still_fits c.pop.new.self.items (fit_front (g.H.Host.fits c.loop-steps.host) c.pop.new.self.items c.in-Some.step (rw c.in-Some.ensures.items at c.loop-steps.invariant.fits)).0;
+    }
