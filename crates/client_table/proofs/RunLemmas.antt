@@ -1,14 +1,13 @@
 -- What a table keeps after answers that were kept one after the other.
 use Rattle.std.proofs.Common.{◌≡◌, ℕ, zero, suc, ◌<◌, ◌≤◌, Bool, true, false, cond, eqb, List, [], ◌∷◌, ◌++◌, length, Option, Some, None, refl, sym, ap, subst, ◌∙◌, append_assoc, inl, inr, arith}
-use Rattle.std.specs.Prelude.{◌⊎◌, ◌&&◌, ◌||◌, ◌==◌, nat_lt, slice_get, IsTrue}
-use Rattle.std.specs.List.{flat_map}
+use Rattle.std.specs.Prelude.{◌⊎◌, ◌||◌, ◌==◌, nat_lt, slice_get}
 use Rattle.std.specs.Ordering.{nat_cmp}
 use Rattle.std.specs.FinMap as finite
 use Rattle.std.proofs.lemmas.Bool.{eqb-true, ltb-true, ltb-false, lt-ltb, eqb-false}
 use Rattle.std.proofs.lemmas.List.{append-nil}
 use Rattle.nop_types.specs.Lists.{Has, IsGreatest, all_below, any_above}
 use Rattle.nop_types.specs.Execution.{Answered}
-use Rattle.client_table.specs.Table.{Table, Verdict, Fresh, Same, Stale, kept_for, verdict_on}
+use Rattle.client_table.specs.Table.{Table, Fresh, Same, Stale, kept_for, verdict_on}
 use Rattle.client_table.specs.Runs.{Given, kept_after, EachIsFresh, id_for, ids_for, IsVerdict}
 use Rattle.client_table.specs.Laws.{kept_of_insert}
 

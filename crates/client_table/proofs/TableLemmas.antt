@@ -4,10 +4,10 @@ use Rattle.std.specs.Prelude.{map, option_map, is_some, IsSome}
 use Rattle.std.specs.Ordering.{nat_cmp, eq_by_cmp}
 use Rattle.std.specs.Map.{lookup}
 use Rattle.std.specs.FinMap as finite
-use Rattle.std.specs.BTreeMap.{BTreeMap, Updates, IsUnchanged, get, is_at}
+use Rattle.std.specs.BTreeMap.{BTreeMap, Updates, get, is_at}
 use Rattle.std.proofs.lemmas.Cmp.{nat_cmp_total, eq_by_cmp_equiv}
 use Rattle.client_table.specs.declared.answer.Answer.{Answer}
-use Rattle.client_table.specs.Table.{Table, kept_for}
+use Rattle.client_table.specs.Table.{kept_for}
 use Rattle.client_table.specs.Answers.{answered, table_of}
 
 map-cond : (b : Bool) (w o : Option Answer) → option_map answered (cond b w o) ≡ cond b (option_map answered w) (option_map answered o)

@@ -1,11 +1,10 @@
 -- The table as the code has it.
-use Rattle.std.specs.Prelude.{ℕ, List, Option, map, option_map}
-use Rattle.std.specs.Ordering.{nat_cmp}
+use Rattle.std.specs.Prelude.{ℕ, map}
 use Rattle.std.specs.FinMap as finite
 use Rattle.std.specs.BTreeMap.{BTreeMap}
 use Rattle.nop_types.specs.Execution.{Answered}
 use Rattle.client_table.specs.declared.answer.Answer.{Answer}
-use Rattle.client_table.specs.Table.{Table, Former}
+use Rattle.client_table.specs.Table.{Table}
 
 abbrev pub answered : Answer → Answered
 answered a = record { id = a.id; result = a.result }

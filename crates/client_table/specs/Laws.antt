@@ -1,13 +1,13 @@
 -- Laws of the table: by client, and that what was kept is taken out again.
-use Rattle.std.proofs.Common.{◌≡◌, ℕ, Bool, true, false, cond, eqb, List, Option, Some, None, refl, sym, ap, ◌∙◌, true≢false, arith}
-use Rattle.std.specs.Prelude.{nat_lt, ◌==◌, IsSome, is_some, if◌then◌else◌}
+use Rattle.std.proofs.Common.{◌≡◌, ℕ, Bool, true, false, cond, eqb, List, Option, Some, None, refl, ap, ◌∙◌, arith}
+use Rattle.std.specs.Prelude.{nat_lt, ◌==◌, IsSome, is_some}
 use Rattle.std.proofs.lemmas.Bool.{eqb-true, ltb-true, eq-eqb}
 use Rattle.std.specs.Ordering.{nat_cmp, eq_by_cmp}
 use Rattle.std.specs.Cmp.{unsigned_tied}
 use Rattle.std.proofs.lemmas.Cmp.{nat_cmp_total, eq_by_cmp_equiv}
 use Rattle.std.specs.FinMap as finite
 use Rattle.nop_types.specs.Execution.{Answered, is_above_kept, result_kept}
-use Rattle.client_table.specs.Table.{Table, Verdict, Fresh, Same, Stale, is_fresh, result_in, Former, kept_for, verdict_on, with_answer, former_of, put_back, unkept}
+use Rattle.client_table.specs.Table.{Table, Fresh, Same, Stale, is_fresh, result_in, kept_for, verdict_on, with_answer, former_of, put_back, unkept}
 
 tie : (client q : ℕ) → eq_by_cmp nat_cmp q client ≡ eqb client q
 tie client q = (eq_by_cmp_equiv nat_cmp_total).symm q client ∙ unsigned_tied client q

@@ -18,7 +18,11 @@ pub fn find(answers: &Answers, client: u32) -> Option<&Answer>
 }
 
 /// Keeps an answer for a client, and gives the one before it.
-pub fn insert(answers: &mut Answers, client: u32, answer: Answer) -> Result<Option<Answer>, NoMemory>
+pub fn insert(
+    answers: &mut Answers,
+    client: u32,
+    answer: Answer,
+) -> Result<Option<Answer>, NoMemory>
     ensures ok { OnOk result (table_of answers.new ≡ finite.insert (table_of answers.old) client (answered answer)) }
     ensures former { IfOk result (λ former. option_map answered former ≡ kept_for (table_of answers.old) client) }
     ensures err { OnErr result (table_of answers.new ≡ table_of answers.old) }

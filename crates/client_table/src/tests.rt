@@ -42,7 +42,14 @@ fn judges_by_the_last_id(rt: HostRuntime) -> Result<(), Fail> {
     assert_eq!(rt; said(&table, 7, 1).0, "fresh");
     let _first = kept(&rt, rt.alloc(), &mut table, 7, 3, b"none")?;
     let _second = kept(&rt, rt.alloc(), &mut table, 7, 5, b"=v")?;
-    let _other = kept(&rt, rt.alloc(), &mut table, 4_294_967_295, 18_446_744_073_709_551_615, b"")?;
+    let _other = kept(
+        &rt,
+        rt.alloc(),
+        &mut table,
+        4_294_967_295,
+        18_446_744_073_709_551_615,
+        b"",
+    )?;
     let cases: [(u32, u64, &str, &[u8]); 8] = [
         (7, 1, "stale", b""),
         (7, 3, "stale", b""),

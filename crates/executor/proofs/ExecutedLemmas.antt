@@ -1,13 +1,12 @@
 -- How the steps of an executed log grow and shrink.
-use Rattle.std.proofs.Common.{◌≡◌, ℕ, zero, suc, ◌+◌, ◌<◌, ◌≤◌, List, [], ◌∷◌, ◌++◌, length, take, Option, Some, None, refl, sym, ap, subst, ◌∙◌, inl, inr, arith, length-append, take-take}
+use Rattle.std.proofs.Common.{◌≡◌, ℕ, zero, suc, ◌+◌, ◌<◌, ◌≤◌, List, [], ◌∷◌, ◌++◌, length, take, Option, Some, None, refl, sym, ap, subst, ◌∙◌, inl, inr, arith, length-append}
 use Rattle.std.specs.Prelude.{◌⊎◌, slice_get, IfSome, IsSome}
-use Rattle.std.specs.List.{AllByRecursion}
 use Rattle.std.proofs.lemmas.Option.{slice_get_within}
 use Rattle.std.proofs.lemmas.Bool.Decides.{eqb_tells}
 use Rattle.nop_types.specs.declared.request.Entry.{Entry}
 use Rattle.nop_types.specs.Meaning.{Meaning}
 use Rattle.nop_types.specs.Execution.{Executed, opening, exec, enter_kept}
-use Rattle.histories.proofs.Lists.{slice_get-append_within, slice_get_at, slice_get-take}
+use Rattle.histories.proofs.Lists.{slice_get-append_within, slice_get_at}
 use Rattle.histories.proofs.Results.{exec_of_next_slot}
 use Rattle.executor.specs.declared.step.Step.{Step}
 use Rattle.executor.specs.Steps.{step_of, before_step, IsExecuted, StepFits, StepsFit}
@@ -38,8 +37,8 @@ module _ {S U : Type 0} (m : Meaning S) (undo_of : S → List ℕ → U) where
         undoing = λ i d less is. elim (split i (rw more at less)) [
           | inl l ↦ slice_get-append_within steps (s ∷ []) i l ∙ h.undoing i d l is
           | inr same ↦
-            let here : e ≡ d = let a = rw same at is in cc in
-            rw (same, step, h.execution, here) (slice_get_at steps (step_of undo_of (exec m (take (length steps) log)) d) [])
+              let here : e ≡ d = let a = rw same at is in cc in
+              rw (same, step, h.execution, here) (slice_get_at steps (step_of undo_of (exec m (take (length steps) log)) d) [])
         ];
       }
     where

@@ -1,5 +1,5 @@
 -- What was executed of a log that changes above the executed slots.
-use Rattle.std.proofs.Common.{◌≡◌, ℕ, zero, suc, ◌<◌, ◌≤◌, List, ◌++◌, length, take, Option, Some, refl, sym, ap, ◌∙◌, arith, length-take, take-take}
+use Rattle.std.proofs.Common.{◌≡◌, ℕ, zero, suc, ◌<◌, List, ◌++◌, length, take, Option, Some, sym, ap, ◌∙◌, arith, length-take, take-take}
 use Rattle.std.specs.Prelude.{slice_get}
 use Rattle.std.proofs.lemmas.List.{take-append-le, take-set-le}
 use Rattle.nop_types.specs.declared.request.Entry.{Entry}
@@ -20,6 +20,7 @@ module _ {S U : Type 0} (m : Meaning S) (undo_of : S → List ℕ → U) where
     where
       same_entry : (i : ℕ) → i < length steps → slice_get log i ≡ slice_get other i
       same_entry i less = sym (slice_get-take log (length steps) i less) ∙ ap (λ (t : List Entry). slice_get t i) (sym e) ∙ slice_get-take other (length steps) i less
+
       same_front : (i : ℕ) → i < length steps → take i log ≡ take i other
       same_front i less = sym (take-take i (length steps) log (omega arith)) ∙ ap (take i) (sym e) ∙ take-take i (length steps) other (omega arith)
 

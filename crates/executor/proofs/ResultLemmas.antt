@@ -1,20 +1,20 @@
 -- What is kept after an execution, and the results at its slots.
-use Rattle.std.proofs.Common.{◌≡◌, ℕ, zero, suc, ◌≤◌, Bool, true, false, cond, eqb, List, [], ◌∷◌, ◌++◌, length, take, drop, Option, Some, None, refl, sym, ap, subst, ◌∙◌, inl, inr, arith, take-take}
-use Rattle.std.specs.Prelude.{◌⊎◌, slice_get, IfSome, IsSome}
+use Rattle.std.proofs.Common.{◌≡◌, ℕ, ◌≤◌, Bool, true, false, cond, eqb, List, [], ◌∷◌, length, take, Option, Some, None, refl, sym, ap, subst, ◌∙◌, take-take}
+use Rattle.std.specs.Prelude.{IfSome, IsSome}
 use Rattle.std.proofs.lemmas.Bool.{eqb-true}
 use Rattle.nop_types.specs.declared.limits.TheConstants.{MAX_RESULT_BYTES}
 use Rattle.nop_types.specs.declared.request.Request.{Request}
 use Rattle.nop_types.specs.declared.request.Entry.{Entry}
 use Rattle.nop_types.specs.declared.request.Entry.TheVariants.{NoOp, Req}
 use Rattle.nop_types.specs.Meaning.{Meaning}
-use Rattle.nop_types.specs.Lists.{Has, IsPrefixOf, IsGreatest, slot_of}
+use Rattle.nop_types.specs.Lists.{IsPrefixOf, IsGreatest, slot_of}
 use Rattle.nop_types.specs.Execution.{Answered, Executed, opening, ids_of, execute, exec, enter_kept, exec_kept, is_above_kept, result_kept, result_at}
 use Rattle.nop_types.specs.Histories.{history_of}
-use Rattle.nop_types.specs.Legality.{IsOf, IsAnswered}
+use Rattle.nop_types.specs.Legality.{IsAnswered}
 use Rattle.histories.specs.Execution.{KeepsGreatest}
 use Rattle.histories.proofs.Lists.{IsPrefixOf-take, Has-prefix, Has-slot_of}
 use Rattle.histories.proofs.Ids.{ids_of-append, has_id}
-use Rattle.histories.proofs.Members.{history_of_prefix, answered_as, answer_stays, answers_are_equal}
+use Rattle.histories.proofs.Members.{history_of_prefix, answer_stays, answers_are_equal}
 use Rattle.histories.proofs.Steps.{kept_is_answered}
 use Rattle.histories.proofs.Results.{kept_is_greatest, exec_is_by_kept, result_is_kept, result_is_answered, greatest_has_result}
 use Rattle.executor.specs.declared.step.Step.{Step}

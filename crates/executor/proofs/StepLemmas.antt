@@ -1,5 +1,5 @@
 -- One step of an execution, forward and back.
-use Rattle.std.proofs.Common.{◌≡◌, ℕ, Bool, true, false, cond, eqb, List, Option, Some, None, refl, sym, ap, ◌∙◌}
+use Rattle.std.proofs.Common.{◌≡◌, ℕ, Bool, true, false, cond, eqb, List, Some, None, refl, ap, ◌∙◌}
 use Rattle.std.specs.Prelude.{IfSome, IsSome, is_some}
 use Rattle.std.proofs.lemmas.Bool.{eqb-true, eq-eqb}
 use Rattle.nop_types.specs.declared.request.Request.{Request}
@@ -8,8 +8,8 @@ use Rattle.nop_types.specs.declared.request.Entry.TheVariants.{NoOp, Req}
 use Rattle.nop_types.specs.Meaning.{Meaning}
 use Rattle.std.specs.Ordering.{nat_cmp}
 use Rattle.std.specs.FinMap as finite
-use Rattle.nop_types.specs.Execution.{Answered, Executed, opening, execute, enter_kept, is_above_kept}
-use Rattle.client_table.specs.Table.{Table, Fresh, Former, is_fresh, kept_for, verdict_on, with_answer, unkept}
+use Rattle.nop_types.specs.Execution.{Executed, opening, execute, enter_kept, is_above_kept}
+use Rattle.client_table.specs.Table.{Table, Fresh, is_fresh, kept_for, verdict_on, with_answer, unkept}
 use Rattle.client_table.specs.Laws.{kept_of_with_answer, kept_of_put_back, above_by_verdict}
 use Rattle.executor.specs.declared.step.Step.{Step}
 use Rattle.executor.specs.Running.{execution}

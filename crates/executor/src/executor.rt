@@ -1,6 +1,6 @@
 ghost use Rattle.std.specs.Prelude.{◌≡◌, ◌≤◌, ℕ, List, [], true, false, length, OnOk, OnErr, IfOk, IsErr, IfSome};
 ghost use Rattle.std.specs.Option.{option_copied};
-ghost use Rattle.nop_types.specs.declared.request.Entry.{Entry as LogEntry};
+ghost use Rattle.nop_types.specs.declared.request.Entry.{Entry};
 ghost use Rattle.nop_types.specs.Execution.{result_kept};
 ghost use Rattle.client_table.specs.Table.{kept_for};
 ghost use Rattle.executor.specs.Steps.{HasExecuted};
@@ -53,7 +53,7 @@ impl<H: Host> Executor<H> {
     /// Nothing is executed yet.
     pub fn new(alloc: Global) -> Result<Executor<H>, NoMemory>
         ensures executed { IfOk result (λ e. e.steps ≡ []) }
-        ensures run { IfOk result (λ e. (log : List LogEntry) → HasExecuted H.state H.meaning H.undo_of log e) }
+        ensures run { IfOk result (λ e. (log : List Entry) → HasExecuted H.state H.meaning H.undo_of log e) }
         ensures failed { IfOk result (λ e. e.failed ≡ false) }
     {
         Ok(Executor {
@@ -116,9 +116,9 @@ impl<H: Host> Executor<H> {
     /// The result of a request, where it is the last executed one of its client.
     pub fn result(&self, client: u32, id: u64) -> Option<&Bytes>
         ensures kept { option_copied result ≡ result_kept (kept_for self.now.table client) id }
-        ensures slots { (log : List LogEntry) → HasExecuted H.state H.meaning H.undo_of log self.now
+        ensures slots { (log : List Entry) → HasExecuted H.state H.meaning H.undo_of log self.now
             → IsResult H.meaning log (length self.now.steps) client id (option_copied result) }
-        ensures short { (log : List LogEntry) → HasExecuted H.state H.meaning H.undo_of log self.now
+        ensures short { (log : List Entry) → HasExecuted H.state H.meaning H.undo_of log self.now
             → IfSome (option_copied result) (λ bytes. length bytes ≤ MAX_RESULT_BYTES) }
     {
         kept_result(&self.table, client, id)

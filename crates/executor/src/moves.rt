@@ -20,8 +20,9 @@ fn enter<H: Host>(
     ensures fits { IfOk result (λ s. StepFits (H.fits host.new) s) }
     ensures still_fits { (u : H.Undo) → H.fits host.old u → H.fits host.new u }
 {
-    let Entry::Req(request) = entry else {
-        return Ok(None);
+    let request = match entry {
+        Entry::NoOp => return Ok(None),
+        Entry::Req(request) => request,
     };
     let Judged::Fresh = table.judge(request.client, request.id) else {
         return Ok(None);
@@ -43,9 +44,9 @@ fn leave<H: Host>(host: &mut H, table: &mut ClientTable, step: Option<Step<H::Un
     ensures execution { execution (H.state host.new) table.new ≡ before_step H.undone (execution (H.state host.old) table.old) step }
     ensures still_fits { (u : H.Undo) → H.fits host.old u → H.fits host.new u }
 {
-    if let Some(Step { undo, kept }) = step {
-        host.undo(undo);
-        table.unkeep(kept);
+    if let Some(step) = step {
+        host.undo(step.undo);
+        table.unkeep(step.kept);
     }
 }
 

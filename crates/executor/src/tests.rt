@@ -84,7 +84,11 @@ fn each_again<H: Host>(
 }
 
 /// The results of some requests, by client and id.
-fn answers<H: Host>(rt: &impl Abort, executor: &Executor<H>, expected: &[(u32, u64, Option<&[u8]>)]) {
+fn answers<H: Host>(
+    rt: &impl Abort,
+    executor: &Executor<H>,
+    expected: &[(u32, u64, Option<&[u8]>)],
+) {
     for (client, id, bytes) in expected {
         let found = match executor.result(*client, *id) {
             Some(bytes) => Some(bytes.as_slice()),

@@ -1,5 +1,4 @@
-use Rattle.std.proofs.Common.{◌≡◌, sym, ap, ◌∙◌, subst}
-use Rattle.std.specs.Prelude.{IsSome}
+use Rattle.std.proofs.Common.{◌≡◌, ◌∙◌}
 use Rattle.client_table.specs.Table.{kept_for, unkept}
 use Rattle.client_table.specs.Laws.{unkept_is_before}
 use Rattle.client_table.proofs.tests.takes_answers_out.Goals as goal

@@ -20,5 +20,5 @@ loop-steps-preserved g c =
       within = search rules;
       run = rw pushed (executed_next m g.H.Host.undo_of log x y old c.index-log-len.result c.in_ok-step.step c.loop-steps.invariant.run at c.in_ok-step.ensures.execution c.in_ok-step.ensures.step);
       fits = rw pushed (fit_push (g.H.Host.fits c.enter.new.host) old c.in_ok-step.step
-      (fit_still (g.H.Host.fits c.loop-steps.host) (g.H.Host.fits c.enter.new.host) c.in_ok-step.ensures.still_fits old c.loop-steps.invariant.fits) c.in_ok-step.ensures.fits);
+          (fit_still (g.H.Host.fits c.loop-steps.host) (g.H.Host.fits c.enter.new.host) c.in_ok-step.ensures.still_fits old c.loop-steps.invariant.fits) c.in_ok-step.ensures.fits);
     }

@@ -1,7 +1,5 @@
-use Rattle.std.proofs.Common.{◌≤◌, List, ◌++◌, ◌∷◌, [], length, Option, sym, subst, rules, arith}
-use Rattle.executor.specs.declared.step.Step.{Step}
+use Rattle.std.proofs.Common.{rules}
 use Rattle.executor.specs.Running.{execution}
-use Rattle.executor.specs.Steps.{IsExecuted, StepsFit}
 use Rattle.executor.proofs.ExecutedLemmas.{last_is_kept, executed_before, fit_front, fit_still}
 use Rattle.executor.proofs.moves.go_back.Goals as goal
 
