@@ -1,5 +1,5 @@
 -- One step of an execution, forward and back.
-use Rattle.std.proofs.Common.{◌≡◌, ℕ, Bool, true, false, cond, eqb, List, Some, None, refl, ap, ◌∙◌}
+use Rattle.std.proofs.Common.{Option, ◌≡◌, ℕ, Bool, true, false, cond, eqb, List, Some, None, refl, ap, ◌∙◌}
 use Rattle.std.specs.Prelude.{IfSome, IsSome, is_some}
 use Rattle.std.proofs.lemmas.Bool.{eqb-true, eq-eqb}
 use Rattle.nop_types.specs.declared.request.Request.{Request}
@@ -30,8 +30,8 @@ module _ {S : Type 0} (m : Meaning S) (s : S) (t : Table) (r : Request) where
       rw (is, above, after, table, answer) executes
 
 -- a host and a table that were put back are the execution before the step
-pub leaves : {S U : Type 0} (undone : S → U → S) (s s' : S) (t t' : Table) (step : Step U) → s' ≡ undone s step.undo → t' ≡ unkept t step.kept → execution s' t' ≡ before_step undone (execution s t) (Some step)
-leaves undone s s' t t' step host table = λ i. record { host = host i; kept = λ c. (ap (λ (u : Table). kept_for u c) table ∙ kept_of_put_back t step.kept.client step.kept.answer c) i }
+pub leaves : {S U : Type 0} (undone : S → U → S) (s s' : S) (t t' : Table) (o : Option (Step U)) (step : Step U) → o ≡ Some step → s' ≡ undone s step.undo → t' ≡ unkept t step.kept → execution s' t' ≡ before_step undone (execution s t) o
+leaves undone s s' t t' o step is host table = rw is (λ i. record { host = host i; kept = λ c. (ap (λ (u : Table). kept_for u c) table ∙ kept_of_put_back t step.kept.client step.kept.answer c) i })
 
 module _ {S U : Type 0} (m : Meaning S) (undo_of : S → List ℕ → U) (x : Executed S) where
   back_if : (undone : S → U → S) → ((s : S) (op : List ℕ) → undone (m.after s op) (undo_of s op) ≡ s) → (r : Request) (b : Bool)

@@ -1,3 +1,4 @@
+pub mod InRanges
 pub mod Merged
 pub mod Rows
 pub mod Slots

@@ -2,7 +2,9 @@ ghost use Rattle.std.specs.Prelude.{◌≡◌, ◌↔◌, ◌∷◌, ℕ, List, 
 ghost use Rattle.nop_types.specs.declared.request.Request.{Request};
 ghost use Rattle.nop_types.specs.declared.request.Entry.TheVariants.{NoOp, Req};
 ghost use Rattle.nop_types.specs.declared.peer.Change.{Change};
+ghost use Rattle.std.specs.List.{AllByRecursion};
 ghost use Rattle.nop_types.specs.Lists.{IsGreatest, slot_of};
+ghost use Rattle.nop_types.specs.Ranges.{LogFits, ChangeFits};
 ghost use Rattle.log_merge.specs.Merge.{merge};
 ghost use Rattle.log_merge.specs.Merged.{HasNoOp, HasLowest, HasDistinctSenders, TellSame};
 
@@ -18,4 +20,11 @@ pub fn merge_by_slot()
 #[tactic(auto, using(crate::proofs::Merged::merge_of_same))]
 pub fn merge_is_of_pairs()
     ensures { (cs ds : List Change) → HasDistinctSenders cs → TellSame cs ds → merge cs ≡ merge ds }
+{}
+
+/// The entries of a merge are in their ranges where those of all logs are.
+#[tactic(auto, using(crate::proofs::InRanges::merge_fits, crate::proofs::InRanges::merge_of_changes_fits))]
+pub fn merge_is_in_ranges()
+    ensures logs { (cs : List Change) → AllByRecursion (λ c. LogFits c.log) cs → LogFits (merge cs) }
+    ensures changes { (cs : List Change) → AllByRecursion ChangeFits cs → LogFits (merge cs) }
 {}

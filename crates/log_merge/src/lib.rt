@@ -4,7 +4,7 @@
 mod laws;
 mod merging;
 
-pub use laws::{merge_by_slot, merge_is_of_pairs};
+pub use laws::{merge_by_slot, merge_is_in_ranges, merge_is_of_pairs};
 pub use merging::merge;
 
 #[cfg(test)]

@@ -1,7 +1,11 @@
-ghost use Rattle.std.specs.Prelude.{◌≡◌, ◌≢◌, ◌<◌, ◌≤◌, ◌+◌, ℕ, List, Some, length, max};
+ghost use Rattle.std.specs.Prelude.{◌≡◌, ◌≢◌, ◌<◌, ◌≤◌, ◌+◌, ◌++◌, ◌∷◌, [], ℕ, List, Some, length, max, take};
 ghost use Rattle.nop_types.specs.declared.request.Entry.{Entry};
+ghost use Rattle.nop_types.specs.declared.request.Entry.TheVariants.{NoOp};
 ghost use Rattle.nop_types.specs.Lists.{slot_of};
+ghost use Rattle.nop_types.specs.Ranges.{EntryFits, LogFits};
 ghost use Rattle.nop_types.specs.Slots.{set_slot, laid};
+
+use nop_types::MAX_SLOTS;
 
 /// One slot becomes the entry, and all others stay.
 pub fn set_slot_by_slot()
@@ -15,4 +19,12 @@ pub fn laid_by_slot()
     ensures len { (l k : List Entry) → length (laid l k) ≡ max (length l) (length k) }
     ensures front { (l k : List Entry) (i : ℕ) → i ≤ length l → slot_of (laid l k) i ≡ slot_of l i }
     ensures above { (l k : List Entry) (i : ℕ) → length l < i → slot_of (laid l k) i ≡ slot_of k i }
+{}
+
+/// A log whose entries are in their ranges stays so, whatever entries in their ranges come in.
+pub fn log_stays_in_ranges()
+    ensures append { (l : List Entry) (e : Entry) → LogFits l → EntryFits e → length l < MAX_SLOTS → LogFits (l ++ e ∷ []) }
+    ensures noop { (l : List Entry) (k : ℕ) → LogFits l → LogFits (set_slot l k NoOp) }
+    ensures overlay { (l k : List Entry) → LogFits l → LogFits k → LogFits (laid l k) }
+    ensures copy { (l : List Entry) (n : ℕ) → LogFits l → LogFits (take n l) }
 {}

@@ -4,7 +4,7 @@
 mod laws;
 mod log;
 
-pub use laws::{laid_by_slot, set_slot_by_slot};
+pub use laws::{laid_by_slot, log_stays_in_ranges, set_slot_by_slot};
 pub use log::ReplicaLog;
 
 #[cfg(test)]

@@ -1,0 +1,67 @@
+-- The merge of logs whose entries are in their ranges.
+use Rattle.std.proofs.Common.{◌≡◌, ℕ, zero, suc, ◌≤◌, Bool, true, false, cond, List, [], ◌∷◌, length, max, map, Option, Some, None, arith}
+use Rattle.std.specs.Prelude.{IfSome, slice_get, nat_le}
+use Rattle.std.specs.List.{AllByRecursion, range_with_len}
+use Rattle.nop_types.specs.declared.limits.TheConstants.{MAX_SLOTS}
+use Rattle.nop_types.specs.declared.request.Entry.{Entry}
+use Rattle.nop_types.specs.declared.request.Entry.TheVariants.{NoOp, Req}
+use Rattle.nop_types.specs.declared.peer.Change.{Change}
+use Rattle.nop_types.specs.Lists.{slot_of}
+use Rattle.nop_types.specs.Ranges.{EntryFits, LogFits, ChangeFits}
+use Rattle.log_merge.specs.Merge.{Told, told, of_both, of_two, chosen, entry_of, longest, merge}
+use Rattle.log_merge.proofs.Merged.{length-merge}
+
+abbrev ToldFits : Option Told → Type 0
+ToldFits o = IfSome o (λ t. EntryFits t.entry)
+
+place_fits : (l : List Entry) (i : ℕ) (s : ℕ) → AllByRecursion EntryFits l → ToldFits (told s (slice_get l i))
+place_fits [] i s h = tt
+place_fits (x ∷ l) zero s h = h.0
+place_fits (x ∷ l) (suc i) s h = place_fits l i s h.1
+
+slot_fits : (l : List Entry) (k : ℕ) (s : ℕ) → AllByRecursion EntryFits l → ToldFits (told s (slot_of l k))
+slot_fits l zero s h = tt
+slot_fits l (suc i) s h = place_fits l i s h
+
+either_fits : (b : Bool) (x y : Told) → EntryFits x.entry → EntryFits y.entry → EntryFits (cond b x y).entry
+either_fits true x y h g = h
+either_fits false x y h g = g
+
+both_fit : (d e : Entry) (x y : Told) → EntryFits x.entry → EntryFits y.entry → EntryFits (of_both d e x y).entry
+both_fit NoOp e x y h g = h
+both_fit (Req q) NoOp x y h g = g
+both_fit (Req q) (Req r) x y h g = either_fits (nat_le x.sender y.sender) x y h g
+
+two_fit : (a b : Option Told) → ToldFits a → ToldFits b → ToldFits (of_two a b)
+two_fit None b h g = g
+two_fit (Some x) None h g = h
+two_fit (Some x) (Some y) h g = both_fit x.entry y.entry x y h g
+
+chosen_fits : (cs : List Change) (k : ℕ) → AllByRecursion (λ c. LogFits c.log) cs → ToldFits (chosen cs k)
+chosen_fits [] k h = tt
+chosen_fits (c ∷ cs) k h = two_fit (told c.sender (slot_of c.log k)) (chosen cs k) (slot_fits c.log k c.sender h.0.each) (chosen_fits cs k h.1)
+
+entry_fits : (o : Option Told) → ToldFits o → EntryFits (entry_of o)
+entry_fits None h = tt
+entry_fits (Some t) h = h
+
+all_map : (f : ℕ → Entry) (ks : List ℕ) → ((k : ℕ) → EntryFits (f k)) → AllByRecursion EntryFits (map f ks)
+all_map f [] h = tt
+all_map f (k ∷ ks) h = (h k, all_map f ks h)
+
+longest_fits : (cs : List Change) → AllByRecursion (λ c. LogFits c.log) cs → longest cs ≤ MAX_SLOTS
+longest_fits [] h = omega arith
+longest_fits (c ∷ cs) h = let one = h.0.len in let rest = longest_fits cs h.1 in omega arith
+
+pub merge_fits : (cs : List Change) → AllByRecursion (λ c. LogFits c.log) cs → LogFits (merge cs)
+merge_fits cs h = record {
+  len = let most = longest_fits cs h in omega (arith, length-merge cs);
+  each = all_map (λ k. entry_of (chosen cs k)) (range_with_len 1 (longest cs)) (λ k. entry_fits (chosen cs k) (chosen_fits cs k h));
+}
+
+logs_of : (cs : List Change) → AllByRecursion ChangeFits cs → AllByRecursion (λ c. LogFits c.log) cs
+logs_of [] h = tt
+logs_of (c ∷ cs) h = (h.0.rest.entries, logs_of cs h.1)
+
+pub merge_of_changes_fits : (cs : List Change) → AllByRecursion ChangeFits cs → LogFits (merge cs)
+merge_of_changes_fits cs h = merge_fits cs (logs_of cs h)
