@@ -1,4 +1,4 @@
 pub mod ExecutedLemmas
 pub mod FrontLemmas
 pub mod ResultLemmas
-pub mod StepLemmas
+pub mod UndoLemmas

@@ -17,8 +17,8 @@ use Rattle.histories.proofs.Ids.{ids_of-append, has_id}
 use Rattle.histories.proofs.Members.{history_of_prefix, answer_stays, answers_are_equal}
 use Rattle.histories.proofs.Steps.{kept_is_answered}
 use Rattle.histories.proofs.Results.{kept_is_greatest, exec_is_by_kept, result_is_kept, result_is_answered, greatest_has_result}
-use Rattle.executor.specs.declared.step.Step.{Step}
-use Rattle.executor.specs.Steps.{IsExecuted}
+use Rattle.executor.specs.declared.slot_undo.SlotUndo.{SlotUndo}
+use Rattle.executor.specs.Undoing.{IsExecuted}
 use Rattle.executor.specs.Results.{IsResult}
 
 -- ---- results
@@ -91,10 +91,10 @@ module _ {S : Type 0} (m : Meaning S) (log : List Entry) (n : ℕ) where
       some (Some x) f = f x refl
 
 -- the kept answer of an executor
-pub result_of_executed : {S U : Type 0} (m : Meaning S) (undo_of : S → List ℕ → U) (log : List Entry) (x : Executed S) (steps : List (Option (Step U))) → IsExecuted m undo_of log x steps → (client id : ℕ) (o : Option (List ℕ)) → o ≡ result_kept (x.kept client) id → IsResult m log (length steps) client id o
-result_of_executed m undo_of log x steps h client id o e =
-    let same : result_kept ((exec m (take (length steps) log)).kept client) id ≡ o = sym (e ∙ ap (λ (y : Executed _). result_kept (y.kept client) id) h.execution) in
-    subst (IsResult m log (length steps) client id) same (kept_results m log (length steps) client id)
+pub result_of_executed : {S U : Type 0} (m : Meaning S) (undo_of : S → List ℕ → U) (log : List Entry) (x : Executed S) (undos : List (Option (SlotUndo U))) → IsExecuted m undo_of log x undos → (client id : ℕ) (o : Option (List ℕ)) → o ≡ result_kept (x.kept client) id → IsResult m log (length undos) client id o
+result_of_executed m undo_of log x undos h client id o e =
+    let same : result_kept ((exec m (take (length undos) log)).kept client) id ≡ o = sym (e ∙ ap (λ (y : Executed _). result_kept (y.kept client) id) h.execution) in
+    subst (IsResult m log (length undos) client id) same (kept_results m log (length undos) client id)
 
 -- ---- short results
 
@@ -133,8 +133,8 @@ module _ {S : Type 0} (m : Meaning S) (sound : S → Type 0) (stays : (s : S) (o
       let all : IsShort (exec m log) = rw (exec_is_by_kept m log) (executed (opening m) log (record { host = opens; kept = λ c. tt })) in
       short_at ((exec m log).kept client) id (all.kept client)
 
-  pub short_of_executed : {U : Type 0} → sound m.opening → (undo_of : S → List ℕ → U) (log : List Entry) (x : Executed S) (steps : List (Option (Step U))) → IsExecuted m undo_of log x steps → (client id : ℕ) (o : Option (List ℕ)) → o ≡ result_kept (x.kept client) id
+  pub short_of_executed : {U : Type 0} → sound m.opening → (undo_of : S → List ℕ → U) (log : List Entry) (x : Executed S) (undos : List (Option (SlotUndo U))) → IsExecuted m undo_of log x undos → (client id : ℕ) (o : Option (List ℕ)) → o ≡ result_kept (x.kept client) id
       → IfSome o (λ bytes. length bytes ≤ MAX_RESULT_BYTES)
-  short_of_executed opens undo_of log x steps h client id o e =
-      let same : result_kept ((exec m (take (length steps) log)).kept client) id ≡ o = sym (e ∙ ap (λ (y : Executed S). result_kept (y.kept client) id) h.execution) in
-      subst (λ (p : Option (List ℕ)). IfSome p (λ bytes. length bytes ≤ MAX_RESULT_BYTES)) same (kept_is_short opens (take (length steps) log) client id)
+  short_of_executed opens undo_of log x undos h client id o e =
+      let same : result_kept ((exec m (take (length undos) log)).kept client) id ≡ o = sym (e ∙ ap (λ (y : Executed S). result_kept (y.kept client) id) h.execution) in
+      subst (λ (p : Option (List ℕ)). IfSome p (λ bytes. length bytes ≤ MAX_RESULT_BYTES)) same (kept_is_short opens (take (length undos) log) client id)

@@ -1,3 +1,3 @@
 pub mod Results
 pub mod Running
-pub mod Steps
+pub mod Undoing

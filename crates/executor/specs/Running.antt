@@ -1,29 +1,29 @@
--- What an executor is: a host and a table, and for each executed slot what undoes it.
+-- What an executor is: a host, a table, and for each executed slot what undoes it.
 use Rattle.std.specs.Prelude.{ℕ, List, Option, Bool, refl}
 use Rattle.std.specs.Coded.{Coded, code_by, coded×, coded_ℕ, coded_list, coded_option, coded_bool}
 use Rattle.std.specs.FinMap as finite
 use Rattle.nop_types.specs.Execution.{Answered, Executed}
 use Rattle.client_table.specs.Table.{Table, Former, answered_code, kept_for}
-use Rattle.executor.specs.declared.step.Step.{Step}
+use Rattle.executor.specs.declared.slot_undo.SlotUndo.{SlotUndo}
 
--- the step of a slot is none where its entry did nothing
+-- a slot whose entry did nothing keeps nothing
 pub record Running (H U : Type 0) : Type 0 where
   pub host : H
   pub table : Table
-  pub steps : List (Option (Step U))
+  pub undos : List (Option (SlotUndo U))
   pub failed : Bool
 
 abbrev pub former_code : Coded Former
 former_code = code_by (ℕ × Option Answered) (coded× coded_ℕ (coded_option answered_code)) (λ f. (f.client, f.answer)) (λ p. record { client = p.0; answer = p.1 }) (λ _. refl)
 
-abbrev pub step_code : {U : Type 0} → Coded U → Coded (Step U)
-step_code {U} u = code_by (U × Former) (coded× u former_code) (λ s. (s.undo, s.kept)) (λ p. record { undo = p.0; kept = p.1 }) (λ _. refl)
+abbrev pub slot_undo_code : {U : Type 0} → Coded U → Coded (SlotUndo U)
+slot_undo_code {U} u = code_by (U × Former) (coded× u former_code) (λ s. (s.undo, s.kept)) (λ p. record { undo = p.0; kept = p.1 }) (λ _. refl)
 
 abbrev pub running_code : {H U : Type 0} → Coded H → Coded U → Coded (Running H U)
 running_code {H} {U} h u =
-    code_by (H × (Table × (List (Option (Step U)) × Bool))) (coded× h (coded× (finite.code coded_ℕ answered_code) (coded× (coded_list (coded_option (step_code u))) coded_bool)))
-    (λ r. (r.host, (r.table, (r.steps, r.failed))))
-    (λ p. record { host = p.0; table = p.1.0; steps = p.1.1.0; failed = p.1.1.1 })
+    code_by (H × (Table × (List (Option (SlotUndo U)) × Bool))) (coded× h (coded× (finite.code coded_ℕ answered_code) (coded× (coded_list (coded_option (slot_undo_code u))) coded_bool)))
+    (λ r. (r.host, (r.table, (r.undos, r.failed))))
+    (λ p. record { host = p.0; table = p.1.0; undos = p.1.1.0; failed = p.1.1.1 })
     (λ _. refl)
 
 -- a host's state and a table as an execution has them

@@ -4,10 +4,10 @@
 mod executor;
 mod laws;
 mod moves;
-mod step;
+mod slot_undo;
 
 pub use crate::executor::Executor;
-pub use laws::{executed_slots_are_enough, executions_are_equal, step_undoes_entry};
+pub use laws::{entry_is_undone, executed_slots_are_enough, executions_are_equal};
 
 #[cfg(test)]
 mod tests;

@@ -2,9 +2,9 @@ ghost use Rattle.std.specs.Prelude.{◌≡◌, ◌≤◌, length, OnOk, OnErr, I
 ghost use Rattle.nop_types.specs.Execution.{enter_kept};
 ghost use Rattle.client_table.specs.Table.{kept_for};
 ghost use Rattle.executor.specs.Running.{execution};
-ghost use Rattle.executor.specs.Steps.{step_of, before_step, IsExecuted, StepFits, StepsFit, StepIsKept};
+ghost use Rattle.executor.specs.Undoing.{slot_undo_of, undone_by, IsExecuted, UndoFits, UndosFit, ClientIsKept};
 
-use crate::step::Step;
+use crate::slot_undo::SlotUndo;
 use client_table::{ClientTable, Judged};
 use nop_types::{Entry, Host, NoMemory};
 
@@ -13,11 +13,11 @@ fn enter<H: Host>(
     host: &mut H,
     table: &mut ClientTable,
     entry: &Entry,
-) -> Result<Option<Step<H::Undo>>, NoMemory>
+) -> Result<Option<SlotUndo<H::Undo>>, NoMemory>
     ensures execution { OnOk result (execution (H.state host.new) table.new ≡ enter_kept H.meaning (execution (H.state host.old) table.old) entry.now) }
-    ensures step { IfOk result (λ s. s ≡ step_of H.undo_of (execution (H.state host.old) table.old) entry.now) }
+    ensures slot_undo { IfOk result (λ s. s ≡ slot_undo_of H.undo_of (execution (H.state host.old) table.old) entry.now) }
     ensures err { OnErr result (execution (H.state host.new) table.new ≡ execution (H.state host.old) table.old) }
-    ensures fits { IfOk result (λ s. StepFits (H.fits host.new) s) }
+    ensures fits { IfOk result (λ s. UndoFits (H.fits host.new) s) }
     ensures still_fits { (u : H.Undo) → H.fits host.old u → H.fits host.new u }
 {
     let request = match entry {
@@ -29,7 +29,7 @@ fn enter<H: Host>(
     };
     let (answer, undo) = host.apply(request.op.as_slice())?;
     match table.keep(request.client, request.id, answer) {
-        Ok(kept) => Ok(Some(Step { undo, kept })),
+        Ok(kept) => Ok(Some(SlotUndo { undo, kept })),
         Err(NoMemory) => {
             host.undo(undo);
             Err(NoMemory)
@@ -37,16 +37,16 @@ fn enter<H: Host>(
     }
 }
 
-/// Undoes the last step.
-fn leave<H: Host>(host: &mut H, table: &mut ClientTable, step: Option<Step<H::Undo>>)
-    requires fits { StepFits (H.fits host.old) step }
-    requires kept { StepIsKept table.old step }
-    ensures execution { execution (H.state host.new) table.new ≡ before_step H.undone (execution (H.state host.old) table.old) step }
+/// Undoes the last slot, where its entry did something.
+fn leave<H: Host>(host: &mut H, table: &mut ClientTable, slot_undo: Option<SlotUndo<H::Undo>>)
+    requires fits { UndoFits (H.fits host.old) slot_undo }
+    requires kept { ClientIsKept table.old slot_undo }
+    ensures execution { execution (H.state host.new) table.new ≡ undone_by H.undone (execution (H.state host.old) table.old) slot_undo }
     ensures still_fits { (u : H.Undo) → H.fits host.old u → H.fits host.new u }
 {
-    if let Some(step) = step {
-        host.undo(step.undo);
-        table.unkeep(step.kept);
+    if let Some(slot_undo) = slot_undo {
+        host.undo(slot_undo.undo);
+        table.unkeep(slot_undo.kept);
     }
 }
 
@@ -54,23 +54,24 @@ fn leave<H: Host>(host: &mut H, table: &mut ClientTable, step: Option<Step<H::Un
 pub fn advance<H: Host>(
     host: &mut H,
     table: &mut ClientTable,
-    steps: &mut Vec<Option<Step<H::Undo>>>,
+    undos: &mut Vec<Option<SlotUndo<H::Undo>>>,
     log: &[Entry],
     slot: usize,
 ) -> Result<(), NoMemory>
-    requires from { length steps.old.items ≤ slot }
+    requires from { length undos.old.items ≤ slot }
     requires there { slot ≤ length log.now }
-    requires run { IsExecuted H.meaning H.undo_of log.now (execution (H.state host.old) table.old) steps.old.items }
-    requires fits { StepsFit (H.fits host.old) steps.old.items }
-    ensures ok { OnOk result (length steps.new.items ≡ slot) }
-    ensures run { IsExecuted H.meaning H.undo_of log.now (execution (H.state host.new) table.new) steps.new.items }
-    ensures within { length steps.new.items ≤ slot }
-    ensures fits { StepsFit (H.fits host.new) steps.new.items }
+    requires run { IsExecuted H.meaning H.undo_of log.now (execution (H.state host.old) table.old) undos.old.items }
+    requires fits { UndosFit (H.fits host.old) undos.old.items }
+    ensures ok { OnOk result (length undos.new.items ≡ slot) }
+    ensures run { IsExecuted H.meaning H.undo_of log.now (execution (H.state host.new) table.new) undos.new.items }
+    ensures stays { length undos.old.items ≤ length undos.new.items }
+    ensures within { length undos.new.items ≤ slot }
+    ensures fits { UndosFit (H.fits host.new) undos.new.items }
 {
-    while steps.len() < slot {
-        steps.reserve(1)?;
-        let step = enter(host, table, &log[steps.len()])?;
-        steps.push(step).unwrap();
+    while undos.len() < slot {
+        undos.reserve(1)?;
+        let slot_undo = enter(host, table, &log[undos.len()])?;
+        undos.push(slot_undo).unwrap();
     }
     Ok(())
 }
@@ -79,20 +80,20 @@ pub fn advance<H: Host>(
 pub fn go_back<H: Host>(
     host: &mut H,
     table: &mut ClientTable,
-    steps: &mut Vec<Option<Step<H::Undo>>>,
+    undos: &mut Vec<Option<SlotUndo<H::Undo>>>,
     log: &[Entry],
     slot: usize,
 )
-    requires back { slot ≤ length steps.old.items }
-    requires run { IsExecuted H.meaning H.undo_of log.now (execution (H.state host.old) table.old) steps.old.items }
-    requires fits { StepsFit (H.fits host.old) steps.old.items }
-    ensures len { length steps.new.items ≡ slot }
-    ensures run { IsExecuted H.meaning H.undo_of log.now (execution (H.state host.new) table.new) steps.new.items }
-    ensures fits { StepsFit (H.fits host.new) steps.new.items }
+    requires back { slot ≤ length undos.old.items }
+    requires run { IsExecuted H.meaning H.undo_of log.now (execution (H.state host.old) table.old) undos.old.items }
+    requires fits { UndosFit (H.fits host.old) undos.old.items }
+    ensures len { length undos.new.items ≡ slot }
+    ensures run { IsExecuted H.meaning H.undo_of log.now (execution (H.state host.new) table.new) undos.new.items }
+    ensures fits { UndosFit (H.fits host.new) undos.new.items }
 {
-    while steps.len() > slot {
-        if let Some(step) = steps.pop() {
-            leave(host, table, step);
+    while undos.len() > slot {
+        if let Some(slot_undo) = undos.pop() {
+            leave(host, table, slot_undo);
         }
     }
 }

@@ -1,6 +1,6 @@
 //! Logs of a key-value service, executed and undone; ops and answers written by hand from the rules.
 ghost use Rattle.std.specs.Prelude.{IfOk};
-ghost use Rattle.executor.specs.Steps.{HasExecuted};
+ghost use Rattle.executor.specs.Undoing.{HasExecuted};
 
 use super::*;
 use kv_host::KvHost;

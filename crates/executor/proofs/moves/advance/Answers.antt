@@ -5,20 +5,21 @@ use Rattle.executor.specs.Running.{execution}
 use Rattle.executor.proofs.ExecutedLemmas.{executed_next, fit_push, fit_still}
 use Rattle.executor.proofs.moves.advance.Goals as goal
 
-pub loop-steps-preserved : goal.loop-steps-preserved
-loop-steps-preserved g c =
+pub loop-undos-preserved : goal.loop-undos-preserved
+loop-undos-preserved g c =
     let m = g.H.Host.meaning in
-    let x = execution (g.H.Host.state c.loop-steps.host) c.loop-steps.table in
+    let x = execution (g.H.Host.state c.loop-undos.host) c.loop-undos.table in
     let y = execution (g.H.Host.state c.enter.new.host) c.enter.new.table in
-    let old = c.loop-steps.steps.items in
+    let old = c.loop-undos.undos.items in
     let log = c.args.log.now in
-    let pushed : c.push.new.self.items ≡ c.loop-steps.steps.items ++ c.in_ok-step.step ∷ [] = search rules in
-    let len : length c.loop-steps.steps.items ≡ c.len-in-loop-steps.result = search rules in
-    let at : slice_get c.args.log.now (length c.loop-steps.steps.items) ≡ Some c.index-log-len.result =
-    rw len (slice_get_read log (length log) c.len-in-loop-steps.result c.index-log-len.result refl (omega arith) c.index-log-len.is) in
+    let pushed : c.push.new.self.items ≡ c.loop-undos.undos.items ++ c.in_ok-slot_undo.slot_undo ∷ [] = search rules in
+    let len : length c.loop-undos.undos.items ≡ c.len-in-loop-undos.result = search rules in
+    let at : slice_get c.args.log.now (length c.loop-undos.undos.items) ≡ Some c.index-log-len.result =
+    rw len (slice_get_read log (length log) c.len-in-loop-undos.result c.index-log-len.result refl (omega arith) c.index-log-len.is) in
     record {
+      stays = search rules;
       within = search rules;
-      run = rw pushed (executed_next m g.H.Host.undo_of log x y old c.index-log-len.result c.in_ok-step.step c.loop-steps.invariant.run at c.in_ok-step.ensures.execution c.in_ok-step.ensures.step);
-      fits = rw pushed (fit_push (g.H.Host.fits c.enter.new.host) old c.in_ok-step.step
-          (fit_still (g.H.Host.fits c.loop-steps.host) (g.H.Host.fits c.enter.new.host) c.in_ok-step.ensures.still_fits old c.loop-steps.invariant.fits) c.in_ok-step.ensures.fits);
+      run = rw pushed (executed_next m g.H.Host.undo_of log x y old c.index-log-len.result c.in_ok-slot_undo.slot_undo c.loop-undos.invariant.run at c.in_ok-slot_undo.ensures.execution c.in_ok-slot_undo.ensures.slot_undo);
+      fits = rw pushed (fit_push (g.H.Host.fits c.enter.new.host) old c.in_ok-slot_undo.slot_undo
+          (fit_still (g.H.Host.fits c.loop-undos.host) (g.H.Host.fits c.enter.new.host) c.in_ok-slot_undo.ensures.still_fits old c.loop-undos.invariant.fits) c.in_ok-slot_undo.ensures.fits);
     }

@@ -1,5 +1,5 @@
 use Rattle.std.proofs.Common.{rules}
-use Rattle.executor.proofs.StepLemmas.{enters}
+use Rattle.executor.proofs.UndoLemmas.{enters}
 use Rattle.executor.proofs.moves.enter.Goals as goal
 
 pub returns-in-Ok-clause-execution : goal.returns-in-Ok-clause-execution

@@ -1,14 +1,14 @@
 use Rattle.std.proofs.Common.{◌≤◌, length}
 use Rattle.executor.specs.Running.{execution}
-use Rattle.executor.specs.Steps.{IsExecuted, StepsFit}
+use Rattle.executor.specs.Undoing.{IsExecuted, UndosFit}
 use Rattle.executor.proofs.moves.go_back.Given as goal
 
-abbrev pub invariant-loop-steps : goal.invariant-loop-steps
-invariant-loop-steps g l = record {
-  back : l.slot ≤ length l.steps.items;
-  run : IsExecuted g.H.Host.meaning g.H.Host.undo_of l.log (execution (g.H.Host.state l.host) l.table) l.steps.items;
-  fits : StepsFit (g.H.Host.fits l.host) l.steps.items;
+abbrev pub invariant-loop-undos : goal.invariant-loop-undos
+invariant-loop-undos g l = record {
+  back : l.slot ≤ length l.undos.items;
+  run : IsExecuted g.H.Host.meaning g.H.Host.undo_of l.log (execution (g.H.Host.state l.host) l.table) l.undos.items;
+  fits : UndosFit (g.H.Host.fits l.host) l.undos.items;
 }
 
-abbrev pub decreases-loop-steps : goal.decreases-loop-steps
-decreases-loop-steps g l = length l.steps.items
+abbrev pub decreases-loop-undos : goal.decreases-loop-undos
+decreases-loop-undos g l = length l.undos.items

@@ -1,5 +1,5 @@
 use Rattle.std.proofs.Common.{rules}
-use Rattle.executor.proofs.StepLemmas.{leaves}
+use Rattle.executor.proofs.UndoLemmas.{leaves}
 use Rattle.executor.proofs.moves.leave.Goals as goal
 
 pub returns-in-Some-clause-execution : goal.returns-in-Some-clause-execution

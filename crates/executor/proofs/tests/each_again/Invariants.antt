@@ -1,4 +1,4 @@
-use Rattle.executor.specs.Steps.{HasExecuted}
+use Rattle.executor.specs.Undoing.{HasExecuted}
 use Rattle.executor.proofs.tests.each_again.Given as goal
 
 abbrev pub invariant-loop-slot : goal.invariant-loop-slot

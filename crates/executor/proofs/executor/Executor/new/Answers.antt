@@ -1,4 +1,4 @@
-use Rattle.executor.proofs.StepLemmas.{opens}
+use Rattle.executor.proofs.UndoLemmas.{opens}
 use Rattle.executor.proofs.ExecutedLemmas.{executed_nothing}
 use Rattle.executor.proofs.executor.Executor.new.Goals as goal
 

@@ -2,7 +2,7 @@ use client_table::Kept;
 
 /// What undoes an executed request: the op at the host, and the answer in the table.
 #[derive(Drop)]
-pub struct Step<U> {
+pub struct SlotUndo<U> {
     pub undo: U,
     pub kept: Kept,
 }

@@ -1,4 +1,4 @@
--- One step of an execution, forward and back.
+-- One slot of an execution, forward and back.
 use Rattle.std.proofs.Common.{Option, ◌≡◌, ℕ, Bool, true, false, cond, eqb, List, Some, None, refl, ap, ◌∙◌}
 use Rattle.std.specs.Prelude.{IfSome, IsSome, is_some}
 use Rattle.std.proofs.lemmas.Bool.{eqb-true, eq-eqb}
@@ -11,9 +11,9 @@ use Rattle.std.specs.FinMap as finite
 use Rattle.nop_types.specs.Execution.{Executed, opening, execute, enter_kept, is_above_kept}
 use Rattle.client_table.specs.Table.{Table, Fresh, is_fresh, kept_for, verdict_on, with_answer, unkept}
 use Rattle.client_table.specs.Laws.{kept_of_with_answer, kept_of_put_back, above_by_verdict}
-use Rattle.executor.specs.declared.step.Step.{Step}
+use Rattle.executor.specs.declared.slot_undo.SlotUndo.{SlotUndo}
 use Rattle.executor.specs.Running.{execution}
-use Rattle.executor.specs.Steps.{step_of, before_step}
+use Rattle.executor.specs.Undoing.{slot_undo_of, undone_by}
 
 -- a fresh host and an empty table open an execution
 pub opens : {S : Type 0} (m : Meaning S) (s : S) (t : Table) → s ≡ m.opening → t ≡ finite.empty → execution s t ≡ opening m
@@ -29,13 +29,13 @@ module _ {S : Type 0} (m : Meaning S) (s : S) (t : Table) (r : Request) where
       let above : is_above_kept (kept_for t r.client) r.id ≡ true = above_by_verdict (kept_for t r.client) r.id ∙ ap is_fresh fresh in
       rw (is, above, after, table, answer) executes
 
--- a host and a table that were put back are the execution before the step
-pub leaves : {S U : Type 0} (undone : S → U → S) (s s' : S) (t t' : Table) (o : Option (Step U)) (step : Step U) → o ≡ Some step → s' ≡ undone s step.undo → t' ≡ unkept t step.kept → execution s' t' ≡ before_step undone (execution s t) o
-leaves undone s s' t t' o step is host table = rw is (λ i. record { host = host i; kept = λ c. (ap (λ (u : Table). kept_for u c) table ∙ kept_of_put_back t step.kept.client step.kept.answer c) i })
+-- a host and a table that were put back are the execution before the slot
+pub leaves : {S U : Type 0} (undone : S → U → S) (s s' : S) (t t' : Table) (o : Option (SlotUndo U)) (slot_undo : SlotUndo U) → o ≡ Some slot_undo → s' ≡ undone s slot_undo.undo → t' ≡ unkept t slot_undo.kept → execution s' t' ≡ undone_by undone (execution s t) o
+leaves undone s s' t t' o slot_undo is host table = rw is (λ i. record { host = host i; kept = λ c. (ap (λ (u : Table). kept_for u c) table ∙ kept_of_put_back t slot_undo.kept.client slot_undo.kept.answer c) i })
 
 module _ {S U : Type 0} (m : Meaning S) (undo_of : S → List ℕ → U) (x : Executed S) where
   back_if : (undone : S → U → S) → ((s : S) (op : List ℕ) → undone (m.after s op) (undo_of s op) ≡ s) → (r : Request) (b : Bool)
-      → before_step undone (cond b (execute m x r) x) (cond b (Some (record { undo = undo_of x.host r.op; kept = record { client = r.client; answer = x.kept r.client } })) None) ≡ x
+      → undone_by undone (cond b (execute m x r) x) (cond b (Some (record { undo = undo_of x.host r.op; kept = record { client = r.client; answer = x.kept r.client } })) None) ≡ x
   back_if undone undoes r true = λ i. record { host = undoes x.host r.op i; kept = λ c. again c (eqb r.client c) refl i }
     where
       again : (c : ℕ) (b : Bool) → eqb r.client c ≡ b → cond b (x.kept r.client) (cond b (Some (record { id = r.id; result = m.answer x.host r.op })) (x.kept c)) ≡ x.kept c
@@ -43,16 +43,16 @@ module _ {S U : Type 0} (m : Meaning S) (undo_of : S → List ℕ → U) (x : Ex
       again c false e = refl
   back_if undone undoes r false = refl
 
-  -- an entry is undone by its step
-  pub goes_back : (undone : S → U → S) → ((s : S) (op : List ℕ) → undone (m.after s op) (undo_of s op) ≡ s) → (e : Entry) → before_step undone (enter_kept m x e) (step_of undo_of x e) ≡ x
+  -- an entry is undone by what its slot keeps
+  pub goes_back : (undone : S → U → S) → ((s : S) (op : List ℕ) → undone (m.after s op) (undo_of s op) ≡ s) → (e : Entry) → undone_by undone (enter_kept m x e) (slot_undo_of undo_of x e) ≡ x
   goes_back undone undoes NoOp = refl
   goes_back undone undoes (Req r) = back_if undone undoes r (is_above_kept (x.kept r.client) r.id)
 
-  kept_if : (r : Request) (b : Bool) → IfSome {T = Step U} (cond b (Some (record { undo = undo_of x.host r.op; kept = record { client = r.client; answer = x.kept r.client } })) None) (λ s. IsSome ((cond b (execute m x r) x).kept s.kept.client))
+  kept_if : (r : Request) (b : Bool) → IfSome {T = SlotUndo U} (cond b (Some (record { undo = undo_of x.host r.op; kept = record { client = r.client; answer = x.kept r.client } })) None) (λ s. IsSome ((cond b (execute m x r) x).kept s.kept.client))
   kept_if r true = ap (λ (b : Bool). is_some (cond b (Some (record { id = r.id; result = m.answer x.host r.op })) (x.kept r.client))) (eq-eqb r.client r.client refl)
   kept_if r false = tt
 
   -- and what its client has then is there
-  pub has_kept : (e : Entry) → IfSome (step_of undo_of x e) (λ s. IsSome ((enter_kept m x e).kept s.kept.client))
+  pub has_kept : (e : Entry) → IfSome (slot_undo_of undo_of x e) (λ s. IsSome ((enter_kept m x e).kept s.kept.client))
   has_kept NoOp = tt
   has_kept (Req r) = kept_if r (is_above_kept (x.kept r.client) r.id)
