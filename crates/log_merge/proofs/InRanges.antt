@@ -1,5 +1,5 @@
 -- The merge of logs whose entries are in their ranges.
-use Rattle.std.proofs.Common.{◌≡◌, ℕ, zero, suc, ◌≤◌, Bool, true, false, cond, List, [], ◌∷◌, length, max, map, Option, Some, None, arith}
+use Rattle.std.proofs.Common.{ℕ, zero, suc, ◌≤◌, Bool, true, false, cond, List, [], ◌∷◌, map, Option, Some, None, arith}
 use Rattle.std.specs.Prelude.{IfSome, slice_get, nat_le}
 use Rattle.std.specs.List.{AllByRecursion, range_with_len}
 use Rattle.nop_types.specs.declared.limits.TheConstants.{MAX_SLOTS}

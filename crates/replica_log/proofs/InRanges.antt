@@ -4,7 +4,6 @@ use Rattle.std.specs.List.{AllByRecursion}
 use Rattle.std.specs.Prelude.{slice_set}
 use Rattle.nop_types.specs.declared.limits.TheConstants.{MAX_SLOTS}
 use Rattle.nop_types.specs.declared.request.Entry.{Entry}
-use Rattle.nop_types.specs.declared.request.Entry.TheVariants.{NoOp}
 use Rattle.nop_types.specs.Ranges.{EntryFits, LogFits}
 use Rattle.nop_types.specs.Slots.{set_slot, laid}
 use Rattle.replica_log.proofs.Laid.{length_of_laid}
