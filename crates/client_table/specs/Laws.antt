@@ -1,5 +1,5 @@
 -- Laws of the table: by client, and that what was kept is taken out again.
-use Rattle.std.proofs.Common.{◌≡◌, ℕ, Bool, true, false, cond, eqb, List, Option, Some, None, refl, ap, ◌∙◌, arith}
+use Rattle.std.proofs.Common.{◌≡◌, ℕ, Bool, true, false, cond, eqb, List, Option, Some, None, refl, sym, ap, ◌∙◌, arith}
 use Rattle.std.specs.Prelude.{nat_lt, ◌==◌, IsSome, is_some}
 use Rattle.std.proofs.lemmas.Bool.{eqb-true, ltb-true, eq-eqb}
 use Rattle.std.specs.Ordering.{nat_cmp, eq_by_cmp}
@@ -7,7 +7,7 @@ use Rattle.std.specs.Cmp.{unsigned_tied}
 use Rattle.std.proofs.lemmas.Cmp.{nat_cmp_total, eq_by_cmp_equiv}
 use Rattle.std.specs.FinMap as finite
 use Rattle.nop_types.specs.Execution.{Answered, is_above_kept, result_kept}
-use Rattle.client_table.specs.Table.{Table, Fresh, Same, Stale, is_fresh, result_in, kept_for, verdict_on, with_answer, former_of, put_back, unkept}
+use Rattle.client_table.specs.Table.{Table, Fresh, Same, Stale, is_fresh, result_in, Former, kept_for, verdict_on, with_answer, former_of, put_back, unkept}
 
 tie : (client q : ℕ) → eq_by_cmp nat_cmp q client ≡ eqb client q
 tie client q = (eq_by_cmp_equiv nat_cmp_total).symm q client ∙ unsigned_tied client q
@@ -39,6 +39,14 @@ unkept_is_before table client id result =
     kept_of_put_back (with_answer table client id result) client (kept_for table client) q
     ∙ ap (cond (eqb client q) (kept_for table client)) (kept_of_insert table client (record { id = id; result = result }) q)
     ∙ twice (eqb client q) (kept_for table client) (Some (record { id = id; result = result })) (kept_for table q) (λ e. ap (kept_for table) (eqb-true client q e)))
+
+-- and what was taken out is kept again
+pub kept_is_again : (table : Table) (former : Former) (id : ℕ) (result : List ℕ) → kept_for table former.client ≡ Some (record { id = id; result = result }) → with_answer (unkept table former) former.client id result ≡ table
+kept_is_again table former id result h =
+    same_table _ table (λ q.
+    kept_of_insert (unkept table former) former.client (record { id = id; result = result }) q
+    ∙ ap (cond (eqb former.client q) (Some (record { id = id; result = result }))) (kept_of_put_back table former.client former.answer q)
+    ∙ twice (eqb former.client q) (Some (record { id = id; result = result })) former.answer (kept_for table q) (λ e. sym h ∙ ap (kept_for table) (eqb-true former.client q e)))
 
 -- the client of an answer that was kept has one
 pub has_answer : (table : Table) (client id : ℕ) (result : List ℕ) → IsSome (kept_for (with_answer table client id result) client)

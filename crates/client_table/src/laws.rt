@@ -1,7 +1,7 @@
 ghost use Rattle.std.specs.Prelude.{◌≡◌, ◌==◌, ℕ, List, Option, Some, IsSome, if◌then◌else◌};
 ghost use Rattle.std.specs.FinMap as finite;
 ghost use Rattle.nop_types.specs.Execution.{Answered, is_above_kept, result_kept};
-ghost use Rattle.client_table.specs.Table.{Table, kept_for, verdict_on, is_fresh, result_in, with_answer, former_of, put_back, unkept};
+ghost use Rattle.client_table.specs.Table.{Table, Former, kept_for, verdict_on, is_fresh, result_in, with_answer, former_of, put_back, unkept};
 ghost use Rattle.client_table.specs.Runs.{Given, kept_after, EachIsFresh, IsVerdict};
 
 /// A table is what it keeps for each client.
@@ -21,13 +21,17 @@ pub fn answer_is_for_client()
         ≡ (if client == q then answer else kept_for table q) }
 {}
 
-/// An answer that was kept can be taken out again, and the table is as before.
-#[tactic(auto, using(crate::specs::Laws::has_answer, crate::specs::Laws::unkept_is_before))]
+/// An answer that was kept can be taken out again, and the table is as before. So it is where an answer is taken out and kept
+/// again.
+#[tactic(auto, using(crate::specs::Laws::has_answer, crate::specs::Laws::unkept_is_before, crate::specs::Laws::kept_is_again))]
 pub fn unkept_is_before()
     ensures fits { (table : Table) (client id : ℕ) (answer : List ℕ)
         → IsSome (kept_for (with_answer table client id answer) client) }
     ensures table { (table : Table) (client id : ℕ) (answer : List ℕ)
         → unkept (with_answer table client id answer) (former_of table client) ≡ table }
+    ensures again { (table : Table) (former : Former) (id : ℕ) (answer : List ℕ)
+        → kept_for table former.client ≡ Some (record { id = id; result = answer })
+        → with_answer (unkept table former) former.client id answer ≡ table }
 {}
 
 /// A verdict says what the definitions of execution ask: whether a request is executed, and what its result is.
