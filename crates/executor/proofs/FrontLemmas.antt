@@ -6,7 +6,7 @@ use Rattle.nop_types.specs.declared.request.Entry.{Entry}
 use Rattle.nop_types.specs.Meaning.{Meaning}
 use Rattle.nop_types.specs.Execution.{Executed, exec}
 use Rattle.histories.proofs.Lists.{slice_get-take}
-use Rattle.replica_log.specs.Slots.{set_slot}
+use Rattle.nop_types.specs.Slots.{set_slot}
 use Rattle.executor.specs.declared.slot_undo.SlotUndo.{SlotUndo}
 use Rattle.executor.specs.Undoing.{slot_undo_of, IsExecuted}
 

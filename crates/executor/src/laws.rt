@@ -2,7 +2,7 @@ ghost use Rattle.std.specs.Prelude.{◌≡◌, ◌<◌, ◌++◌, ℕ, List, Opt
 ghost use Rattle.nop_types.specs.declared.request.Entry.{Entry};
 ghost use Rattle.nop_types.specs.Meaning.{Meaning};
 ghost use Rattle.nop_types.specs.Execution.{Executed, enter_kept};
-ghost use Rattle.replica_log.specs.Slots.{set_slot};
+ghost use Rattle.nop_types.specs.Slots.{set_slot};
 ghost use Rattle.executor.specs.declared.slot_undo.SlotUndo.{SlotUndo};
 ghost use Rattle.executor.specs.Undoing.{IsExecuted, slot_undo_of, undone_by};
 
