@@ -8,13 +8,13 @@ use std::alloc::Global;
 
 /// An entry and who told it.
 #[derive(Clone, Copy)]
-struct Told<'a> {
-    sender: u8,
-    entry: &'a Entry,
+pub struct Told<'a> {
+    pub sender: u8,
+    pub entry: &'a Entry,
 }
 
 /// What a change tells of a place of its log.
-fn told_at(change: &Change, place: usize) -> Option<Told<'_>>
+pub fn told_at(change: &Change, place: usize) -> Option<Told<'_>>
     ensures { option_map given result ≡ told change.now.sender (slot_of change.now.log (suc place)) }
 {
     let entry = change.log.as_slice().get(place)?;
@@ -35,7 +35,7 @@ fn of_both<'a>(a: Told<'a>, b: Told<'a>) -> Told<'a>
     }
 }
 
-fn of_two<'a>(a: Option<Told<'a>>, b: Option<Told<'a>>) -> Option<Told<'a>>
+pub fn of_two<'a>(a: Option<Told<'a>>, b: Option<Told<'a>>) -> Option<Told<'a>>
     ensures { option_map given result ≡ of_two (option_map given a.entry) (option_map given b.entry) }
 {
     match (a, b) {

@@ -78,3 +78,26 @@ fn merges_nothing(rt: HostRuntime) -> Result<(), Fail> {
     assert!(rt; merged.as_slice().is_empty());
     Ok(())
 }
+
+/// The log of another last normal view counts for nothing, neither its NO-OP nor its length.
+#[test]
+fn merges_those_of_a_view(rt: HostRuntime) -> Result<(), Fail> {
+    let alloc = rt.alloc();
+    let mut other = change(alloc, 0, &[0, 0, 0, 0])?;
+    other.last_normal = View {
+        leader: 1,
+        session: 1,
+    };
+    let changes = [
+        change(alloc, 1, &[1, 2])?,
+        other,
+        change(alloc, 2, &[1, 0, 3])?,
+    ];
+    let view = View {
+        leader: 0,
+        session: 1,
+    };
+    let merged = merge_of_view(alloc, &changes, view).ok().ok_or("memory")?;
+    assert_eq!(rt; ids(alloc, &merged)?.as_slice(), [1, 0, 3].as_slice());
+    Ok(())
+}

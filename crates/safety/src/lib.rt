@@ -2,5 +2,7 @@
 #![tactic(auto)]
 
 mod run;
+#[cfg(test)]
+mod tests;
 
 pub use run::{run_events, runs_are_safe};

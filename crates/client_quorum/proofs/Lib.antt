@@ -1,0 +1,8 @@
+pub mod KeptReplies
+pub mod Members
+pub mod Quorums
+pub mod Received
+pub mod Rows
+pub mod Short
+pub mod Turns
+pub mod Waits

@@ -1,0 +1,103 @@
+-- What a client keeps is no quorum.
+use Rattle.std.proofs.Common.{◌≡◌, ℕ, ◌+◌, ◌≤◌, Bool, true, false, cond, Option, Some, None, refl, sym, ap, subst, ◌∙◌, ◌⊎◌, inl, inr, arith, List, [], ◌∷◌, ◌++◌, length}
+use Rattle.std.specs.Prelude.{◌==◌, ◌/◌, not, filter}
+use Rattle.nop_types.specs.Configuration.{Configuration}
+use Rattle.nop_types.specs.Given.{Given}
+use Rattle.nop_types.specs.Lists.{Has}
+use Rattle.nop_types.specs.declared.view.View.{View}
+use Rattle.nop_types.specs.declared.datagram.Reply.{Reply}
+use Rattle.client_quorum.specs.declared.client_state.ClientState.{ClientState}
+use Rattle.client_quorum.specs.ClientSteps.{opening, next, kept, accept_if}
+use Rattle.client_quorum.specs.KeptReplies.{HasOneEach, keep_reply, matches, quorum_of}
+use Rattle.client_quorum.specs.Runs.{after, HasQuorum}
+use Rattle.client_quorum.proofs.KeptReplies.{kept_one_each}
+use Rattle.client_quorum.proofs.Members.{has_none, has_filter, push_cases}
+use Rattle.client_quorum.proofs.Quorums.{is_matched, matched, gets_quorum}
+use Rattle.client_quorum.proofs.Rows.{row_does}
+use Rattle.client_quorum.proofs.Turns.{none_apart}
+
+-- one that fails the test adds nothing
+without_last : (m : Reply → Bool) (xs : List Reply) (p : Reply) → m p ≡ false → filter m (xs ++ p ∷ []) ≡ filter m xs
+without_last m [] p e = ap (λ (b : Bool). cond b (p ∷ []) []) e
+without_last m (x ∷ xs) p e = ap (λ (l : List Reply). cond (m x) (x ∷ l) l) (without_last m xs p e)
+
+longer : (b : Bool) (x : Reply) (l k : List Reply) → length l ≤ length k → length (cond b (x ∷ l) l) ≤ length (cond b (x ∷ k) k)
+longer true x l k h = omega (arith, h)
+longer false x l k h = h
+
+no_shorter : (b : Bool) (x : Reply) (l k : List Reply) → length l ≤ length k → length l ≤ length (cond b (x ∷ k) k)
+no_shorter true x l k h = omega (arith, h)
+no_shorter false x l k h = h
+
+fewer_at : (m : Reply → Bool) (x : Reply) (left ks : List Reply) (b : Bool) → length (filter m left) ≤ length (filter m ks) → length (filter m (cond b (x ∷ left) left)) ≤ length (filter m (x ∷ ks))
+fewer_at m x left ks true h = longer (m x) x (filter m left) (filter m ks) h
+fewer_at m x left ks false h = no_shorter (m x) x (filter m left) (filter m ks) h
+
+fewer_match : (m g : Reply → Bool) (ks : List Reply) → length (filter m (filter g ks)) ≤ length (filter m ks)
+fewer_match m g [] = omega arith
+fewer_match m g (x ∷ ks) = fewer_at m x (filter g ks) ks (g x) (fewer_match m g ks)
+
+-- a quorum without the reply that came was there before
+module _ (n : ℕ) (ks : List Reply) (p : Reply) (v : View) (slot : ℕ) (result : List ℕ) where
+  before : matches v slot p ≡ false → HasQuorum n (keep_reply ks p) v slot result → HasQuorum n ks v slot result
+  before e q =
+      let same : length (filter (matches v slot) (keep_reply ks p)) ≡ length (filter (matches v slot) (filter (λ k. not (k.replica == p.replica)) ks)) =
+      ap (λ (l : List Reply). length l) (without_last (matches v slot) (filter (λ k. not (k.replica == p.replica)) ks) p e) in
+      let fewer = fewer_match (matches v slot) (λ k. not (k.replica == p.replica)) ks in
+      let enough = q.enough in
+      let member : Has ks q.leaders = elim (push_cases q.leaders p (filter (λ k. not (k.replica == p.replica)) ks) q.member) [
+        | inl h ↦ (has_filter (λ k. not (k.replica == p.replica)) q.leaders ks h).0
+        | inr h ↦
+            let is = is_matched v slot p (ap (λ (k : Reply). k.view) h ∙ q.at_view) (ap (λ (k : Reply). k.slot) h ∙ q.at_slot) in
+            absurd cc
+      ] in
+      record { enough = omega (arith, same, fewer, enough); leaders = q.leaders; member = member; at_view = q.at_view; at_slot = q.at_slot; leads = q.leads; tagged = q.tagged; brings = q.brings }
+
+abbrev None_in : ℕ → List Reply → Type 0
+None_in n ks = (v : View) (slot : ℕ) (result : List ℕ) → HasQuorum n ks v slot result → ⊥
+
+record Short (n : ℕ) (s : ClientState) : Type 0 where
+  replicas : s.config.replicas ≡ n
+  one_each : HasOneEach s.replies
+  none : None_in n s.replies
+
+none_each : HasOneEach []
+none_each r = omega arith
+
+none_empty : (n : ℕ) → None_in n []
+none_empty n v slot result q = has_none q.leaders q.member
+
+module _ (n : ℕ) (s : ClientState) (short : Short n s) (p : Reply) where
+  still_none : quorum_of n (keep_reply s.replies p) p.view p.slot ≡ None → None_in n (keep_reply s.replies p)
+  still_none e v slot result q = at (matches v slot p) refl
+    where
+      at : (b : Bool) → matches v slot p ≡ b → ⊥
+      at true m =
+          let place = matched v slot p m in
+          let here : HasQuorum n (keep_reply s.replies p) p.view p.slot result =
+          subst (λ (w : View). HasQuorum n (keep_reply s.replies p) w p.slot result) (sym place.0)
+          (subst (λ (k : ℕ). HasQuorum n (keep_reply s.replies p) v k result) (sym place.1) q) in
+          let z = gets_quorum n (keep_reply s.replies p) p.view p.slot result (kept_one_each p s.replies short.one_each) here in
+          none_apart z.0 (sym e ∙ z.1)
+      at false m = short.none v slot result (before n s.replies p v slot result m q)
+
+  accept_short : (o : Option Reply) → quorum_of s.config.replicas (keep_reply s.replies p) p.view p.slot ≡ o → Short n (accept_if (kept s p) p.id o).0
+  accept_short None e = record {
+    replicas = short.replicas;
+    one_each = kept_one_each p s.replies short.one_each;
+    none = still_none (subst (λ (m : ℕ). quorum_of m (keep_reply s.replies p) p.view p.slot ≡ None) short.replicas e);
+  }
+  accept_short (Some z) e = record { replicas = short.replicas; one_each = none_each; none = none_empty n }
+
+step_short : (n : ℕ) (s : ClientState) (x : Given) → Short n s → Short n (next s x).0
+step_short n s x short = row_does (λ y. Short n y.0) s x
+    (λ outs q. short)
+    (λ op waiting none from. record { replicas = short.replicas; one_each = none_each; none = none_empty n })
+    (λ p e has o is. accept_short n s short p o is)
+
+short_after : (n : ℕ) (xs : List Given) (s : ClientState) → Short n s → Short n (after s xs)
+short_after n [] s short = short
+short_after n (x ∷ xs) s short = short_after n xs (next s x).0 (step_short n s x short)
+
+pub keeps_no_quorum : (config : Configuration) (number : ℕ) (ops : List (List ℕ)) (inputs : List Given) (v : View) (slot : ℕ) (result : List ℕ) → HasQuorum config.replicas (after (opening config number ops) inputs).replies v slot result → ⊥
+keeps_no_quorum config number ops inputs = (short_after config.replicas inputs (opening config number ops) (record { replicas = refl; one_each = none_each; none = none_empty config.replicas })).none

@@ -1,0 +1,154 @@
+-- The step table of the client.
+use Rattle.std.specs.Prelude.{ℕ, ◌+◌, ◌-◌, ◌^◌, List, [], ◌∷◌, Bool, true, false, Option, Some, None, Result, Ok, Err, nat_lt, ◌==◌, ◌&&◌}
+use Rattle.nop_types.specs.Configuration.{Configuration}
+use Rattle.nop_types.specs.Given.{Given, Packet, Ticked, Submit}
+use Rattle.nop_types.specs.declared.input.Tick.{Tick}
+use Rattle.nop_types.specs.declared.input.Tick.TheVariants as ticks
+use Rattle.nop_types.specs.declared.output.Out.{Out}
+use Rattle.nop_types.specs.declared.output.Out.TheVariants.{Send, Submitted, Accepted, Busy}
+use Rattle.nop_types.specs.declared.output.Dest.TheVariants.{Sequencers}
+use Rattle.nop_types.specs.declared.request.Request.{Request}
+use Rattle.nop_types.specs.declared.datagram.Reply.{Reply}
+use Rattle.nop_types.specs.declared.datagram.Datagram.{Datagram}
+use Rattle.nop_types.specs.declared.datagram.Datagram.TheVariants as datagrams
+use Rattle.oum_codec.specs.declared.bad.Bad.{Bad}
+use Rattle.oum_codec.specs.Reading.{reading}
+use Rattle.oum_codec.specs.Spelling.{spelling}
+use Rattle.client_quorum.specs.KeptReplies.{keep_reply, quorum_of}
+use Rattle.client_quorum.specs.declared.client_state.ClientState.{ClientState}
+
+abbrev pub opening : Configuration → ℕ → List (List ℕ) → ClientState
+opening config number ops = record { config = config; number = number; last_id = 0; pending = None; replies = []; accepted = None; waiting = ops }
+
+abbrev pub has_none : Option Request → Bool
+has_none None = true
+has_none (Some r) = false
+
+-- the request, to all sequencers
+abbrev pub sent : Request → Out
+sent r = Send Sequencers (spelling (datagrams.Request r))
+
+-- ---- an op is submitted
+
+-- no request is pending, and an id is left
+abbrev pub can_submit : ClientState → Bool
+can_submit s = has_none s.pending && nat_lt s.last_id (2 ^ 64 - 1)
+
+abbrev pub request_of : ClientState → List ℕ → Request
+request_of s op = record { client = s.number; id = s.last_id + 1; op = op }
+
+abbrev pub submitted : ClientState → Request → ClientState
+submitted s r = record s { last_id = s.last_id + 1; pending = Some r; replies = []; accepted = None }
+
+abbrev pub begin : ClientState → Request → ClientState × List Out
+begin s r = (submitted s r, Submitted r ∷ sent r ∷ [])
+
+abbrev pub submit_if : Bool → ClientState → Request → ClientState × List Out
+submit_if true s r = begin s r
+submit_if false s r = (s, Busy s.number ∷ [])
+
+abbrev pub submit : ClientState → List ℕ → ClientState × List Out
+submit s op = submit_if (can_submit s) s (request_of s op)
+
+-- ---- the tick Next
+
+abbrev pub is_empty : List (List ℕ) → Bool
+is_empty [] = true
+is_empty (op ∷ ops) = false
+
+abbrev pub first_of : List (List ℕ) → Option (List ℕ)
+first_of [] = None
+first_of (op ∷ ops) = Some op
+
+abbrev pub after_first : List (List ℕ) → List (List ℕ)
+after_first [] = []
+after_first (op ∷ ops) = ops
+
+-- the first waiting op, if one waits
+abbrev pub submit_first : Option (List ℕ) → ClientState → ClientState × List Out
+submit_first None s = (s, [])
+submit_first (Some op) s = begin (record s { waiting = after_first s.waiting }) (request_of s op)
+
+abbrev pub submit_waiting_if : Bool → ClientState → ClientState × List Out
+submit_waiting_if true s = submit_first (first_of s.waiting) s
+submit_waiting_if false s = (s, [])
+
+abbrev pub submit_waiting : ClientState → ClientState × List Out
+submit_waiting s = submit_waiting_if (can_submit s) s
+
+-- ---- a reply comes
+
+abbrev pub is_of : ℕ → Option Request → Bool
+is_of id None = false
+is_of id (Some r) = r.id == id
+
+-- it is for this client, the pending id, and from a replica of the configuration
+abbrev pub is_expected : ClientState → Reply → Bool
+is_expected s p = (p.client == s.number) && (is_of p.id s.pending && nat_lt p.replica s.config.replicas)
+
+abbrev pub kept : ClientState → Reply → ClientState
+kept s p = record s { replies = keep_reply s.replies p }
+
+abbrev pub accepts : ClientState → ℕ → Reply → ClientState
+accepts s id p = record s { pending = None; replies = []; accepted = Some (record { id = id; result = p.result }) }
+
+abbrev pub accept_if : ClientState → ℕ → Option Reply → ClientState × List Out
+accept_if s id None = (s, [])
+accept_if s id (Some p) = (accepts s id p, Accepted s.number id p.result ∷ [])
+
+abbrev pub accept : ClientState → Reply → ClientState × List Out
+accept s p = accept_if s p.id (quorum_of s.config.replicas s.replies p.view p.slot)
+
+abbrev pub reply_if : Bool → ClientState → Reply → ClientState × List Out
+reply_if true s p = accept (kept s p) p
+reply_if false s p = (s, [])
+
+abbrev pub reply : ClientState → Reply → ClientState × List Out
+reply s p = reply_if (is_expected s p) s p
+
+-- ---- the tick Retry
+
+abbrev pub retry_of : Option Request → List Out
+retry_of None = []
+retry_of (Some r) = sent r ∷ []
+
+abbrev pub retry : ClientState → ClientState × List Out
+retry s = (s, retry_of s.pending)
+
+-- ---- all rows
+
+abbrev pub on_datagram : ClientState → Result Datagram Bad → ClientState × List Out
+on_datagram s (Ok (datagrams.Reply p)) = reply s p
+on_datagram s (Ok (datagrams.Request r)) = (s, [])
+on_datagram s (Ok (datagrams.Stamped p)) = (s, [])
+on_datagram s (Ok (datagrams.Install sequencer session)) = (s, [])
+on_datagram s (Ok (datagrams.Installed sequencer session)) = (s, [])
+on_datagram s (Ok (datagrams.Ping sequencer round)) = (s, [])
+on_datagram s (Ok (datagrams.Pong sequencer round)) = (s, [])
+on_datagram s (Ok (datagrams.Fragment f)) = (s, [])
+on_datagram s (Err e) = (s, [])
+
+abbrev pub on_tick : ClientState → Tick → ClientState × List Out
+on_tick s ticks.Next = submit_waiting s
+on_tick s ticks.Retry = retry s
+on_tick s ticks.Suspect = (s, [])
+on_tick s ticks.Watch = (s, [])
+on_tick s ticks.Resend = (s, [])
+on_tick s ticks.Sync = (s, [])
+on_tick s ticks.Probe = (s, [])
+on_tick s (ticks.Install sequencer) = (s, [])
+
+unfoldable pub next : ClientState → Given → ClientState × List Out
+next s (Packet bytes) = on_datagram s (reading bytes)
+next s (Ticked tick) = on_tick s tick
+next s (Submit op) = submit s op
+
+-- ---- timers, and the end
+
+-- with their periods in milliseconds
+abbrev pub timers : List (Tick × ℕ)
+timers = (ticks.Next, 0) ∷ (ticks.Retry, 200) ∷ []
+
+-- nothing is pending or waiting
+abbrev pub is_done : ClientState → Bool
+is_done s = has_none s.pending && is_empty s.waiting

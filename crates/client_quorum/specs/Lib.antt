@@ -1,0 +1,3 @@
+pub mod ClientSteps
+pub mod KeptReplies
+pub mod Runs

@@ -1,0 +1,131 @@
+-- Runs of a client over any inputs, and what they give.
+use Rattle.std.specs.Prelude.{◌≡◌, ℕ, ◌+◌, ⊤, List, [], ◌∷◌, ◌++◌, Bool, true, false, Option, Some, None, Result, Ok, Err, filter, length, ◌/◌, ◌≤◌, ◌<◌}
+use Rattle.nop_types.specs.Given.{Given, Packet, Ticked, Submit}
+use Rattle.nop_types.specs.Lists.{Has}
+use Rattle.nop_types.specs.Views.{leader_of}
+use Rattle.nop_types.specs.declared.view.View.{View}
+use Rattle.nop_types.specs.declared.output.Accept.{Accept}
+use Rattle.nop_types.specs.declared.output.Out.{Out}
+use Rattle.nop_types.specs.declared.output.Out.TheVariants.{Send, Submitted, Accepted, Busy}
+use Rattle.nop_types.specs.declared.output.Dest.{Dest}
+use Rattle.nop_types.specs.declared.request.Request.{Request}
+use Rattle.nop_types.specs.declared.datagram.Reply.{Reply}
+use Rattle.nop_types.specs.declared.datagram.Datagram.{Datagram}
+use Rattle.nop_types.specs.declared.datagram.Datagram.TheVariants as datagrams
+use Rattle.oum_codec.specs.declared.bad.Bad.{Bad}
+use Rattle.oum_codec.specs.Reading.{reading}
+use Rattle.client_quorum.specs.declared.client_state.ClientState.{ClientState}
+use Rattle.client_quorum.specs.ClientSteps.{next, has_none, sent}
+use Rattle.client_quorum.specs.KeptReplies.{HasOneEach, matches}
+
+-- the state after some inputs
+abbrev pub after : ClientState → List Given → ClientState
+after s [] = s
+after s (x ∷ xs) = after (next s x).0 xs
+
+-- what they give, in order
+abbrev pub gave : ClientState → List Given → List Out
+gave s [] = []
+gave s (x ∷ xs) = (next s x).1 ++ gave (next s x).0 xs
+
+-- ---- quorums
+
+-- f + 1 of n = 2f + 1 replies are of this view and slot, and the leader's is one of them, with the result
+pub record HasQuorum (n : ℕ) (kept : List Reply) (view : View) (slot : ℕ) (result : List ℕ) : Type 0 where
+  pub enough : n / 2 + 1 ≤ length (filter (matches view slot) kept)
+  pub leaders : Reply
+  pub member : Has kept leaders
+  pub at_view : leaders.view ≡ view
+  pub at_slot : leaders.slot ≡ slot
+  pub leads : leaders.replica ≡ leader_of view n
+  pub tagged : leaders.tag ≡ 1
+  pub brings : leaders.result ≡ result
+
+-- the reply that a packet is, if it is one
+abbrev pub reply_in : Result Datagram Bad → List Reply
+reply_in (Ok (datagrams.Reply p)) = p ∷ []
+reply_in (Ok (datagrams.Request r)) = []
+reply_in (Ok (datagrams.Stamped p)) = []
+reply_in (Ok (datagrams.Install sequencer session)) = []
+reply_in (Ok (datagrams.Installed sequencer session)) = []
+reply_in (Ok (datagrams.Ping sequencer round)) = []
+reply_in (Ok (datagrams.Pong sequencer round)) = []
+reply_in (Ok (datagrams.Fragment f)) = []
+reply_in (Err e) = []
+
+abbrev pub reply_of : Given → List Reply
+reply_of (Packet bytes) = reply_in (reading bytes)
+reply_of (Ticked tick) = []
+reply_of (Submit op) = []
+
+-- the replies that came, in order
+abbrev pub replies_of : List Given → List Reply
+replies_of [] = []
+replies_of (x ∷ xs) = reply_of x ++ replies_of xs
+
+-- of a replica below n, for this client and id, at this view and slot
+pub record IsReplyFor (n client id : ℕ) (view : View) (slot : ℕ) (p : Reply) : Type 0 where
+  pub within : p.replica < n
+  pub of_client : p.client ≡ client
+  pub of_id : p.id ≡ id
+  pub at_view : p.view ≡ view
+  pub at_slot : p.slot ≡ slot
+
+-- f + 1 different replicas replied for the client and id at one view and slot, the leader of that view with the result
+pub record IsAgreed (n : ℕ) (came : List Reply) (client id : ℕ) (result : List ℕ) : Type 0 where
+  pub view : View
+  pub slot : ℕ
+  pub replies : List Reply
+  pub enough : n / 2 + 1 ≤ length replies
+  pub one_each : HasOneEach replies
+  pub received : (p : Reply) → Has replies p → Has came p
+  pub fits : (p : Reply) → Has replies p → IsReplyFor n client id view slot p
+  pub leaders : Reply
+  pub member : Has replies leaders
+  pub leads : leaders.replica ≡ leader_of view n
+  pub tagged : leaders.tag ≡ 1
+  pub brings : leaders.result ≡ result
+
+-- ---- one request after the other
+
+-- the open request is sent
+abbrev pub SendsOpen : Option Request → Out → Type 0
+SendsOpen None out = ⊥
+SendsOpen (Some r) out = out ≡ sent r
+
+-- with this request held open, if one is, and this id the last one: a request is submitted under the next id where none is open,
+-- what is sent is the open request, and the open one is accepted once
+abbrev pub TakesTurns : ℕ → Option Request → ℕ → List Out → Type 0
+TakesTurns number held last [] = ⊤
+TakesTurns number held last (Submitted r ∷ outs) = (has_none held ≡ true) × (r.client ≡ number) × (r.id ≡ last + 1) × TakesTurns number (Some r) (last + 1) outs
+TakesTurns number held last (Send dest bytes ∷ outs) = SendsOpen held (Send dest bytes) × TakesTurns number held last outs
+TakesTurns number held last (Accepted client id result ∷ outs) = (has_none held ≡ false) × (client ≡ number) × (id ≡ last) × TakesTurns number None last outs
+TakesTurns number held last (Busy client ∷ outs) = (client ≡ number) × TakesTurns number held last outs
+
+-- ---- ops
+
+-- the ops that are submitted, in order
+abbrev pub ops_of : List Out → List (List ℕ)
+ops_of [] = []
+ops_of (Submitted r ∷ outs) = r.op ∷ ops_of outs
+ops_of (Send dest bytes ∷ outs) = ops_of outs
+ops_of (Accepted client id result ∷ outs) = ops_of outs
+ops_of (Busy client ∷ outs) = ops_of outs
+
+-- no op comes from outside
+abbrev pub HasNoSubmit : List Given → Type 0
+HasNoSubmit [] = ⊤
+HasNoSubmit (Packet bytes ∷ xs) = HasNoSubmit xs
+HasNoSubmit (Ticked tick ∷ xs) = HasNoSubmit xs
+HasNoSubmit (Submit op ∷ xs) = ⊥
+
+-- xs ends with these
+abbrev pub EndsWith : List (List ℕ) → List (List ℕ) → Type 0
+EndsWith xs rest = (front : List (List ℕ)) × (xs ≡ front ++ rest)
+
+-- how the last request stands, after these outputs
+pub data Stands (outs : List Out) (s : ClientState) : Type 0 where
+  -- none was submitted
+  NoneYet : s.last_id ≡ 0 → s.pending ≡ None → s.accepted ≡ None → Stands outs s
+  IsOpen : (r : Request) → s.pending ≡ Some r → r.id ≡ s.last_id → s.accepted ≡ None → Stands outs s
+  WasAccepted : (a : Accept) → s.accepted ≡ Some a → a.id ≡ s.last_id → s.pending ≡ None → Has outs (Accepted s.number a.id a.result) → Stands outs s

@@ -1,0 +1,98 @@
+ghost use Rattle.std.specs.Prelude.{◌≡◌, false, IfOk};
+ghost use Rattle.std.specs.Option.{option_copied};
+ghost use Rattle.client_quorum.specs.ClientSteps.{opening, timers, is_done};
+
+use crate::steps::act;
+use crate::{ClientState, Pending, Replies, Waiting};
+use nop_types::{Accept, Config, Core, Input, NoMemory, Op, Outbox, Tick};
+use std::alloc::Global;
+use std::marker::Model;
+
+/// A client: one request is open at a time, and is accepted at f + 1 matching replies with the leader's.
+#[derive(Drop)]
+pub struct Client {
+    alloc: Global,
+    failed: bool,
+    pub(crate) state: ClientState,
+}
+
+impl Model for Client {
+    ghost use Rattle.nop_types.specs.Kept.{Kept};
+    ghost use Rattle.client_quorum.specs.declared.client_state.ClientState.{ClientState};
+
+    ghost Value = { Kept ClientState };
+
+    ghost view = { λ c. record { failed = c.failed; state = c.state } };
+}
+
+impl Client {
+    /// A client that submits these ops in turn, one at each tick Next at which none is pending.
+    pub fn new(alloc: Global, config: Config, number: u32, ops: Vec<Op>) -> Result<Client, NoMemory>
+        ensures { IfOk result (λ c. c ≡ record { failed = false; state = opening config number ops.items }) }
+    {
+        Ok(Client {
+            alloc,
+            failed: false,
+            state: ClientState {
+                config,
+                number,
+                last_id: 0,
+                pending: Pending::none(),
+                replies: Replies::new(alloc),
+                accepted: None,
+                waiting: Waiting::from_vec(ops),
+            },
+        })
+    }
+
+    /// The last acceptance: None exactly where no request was submitted, or the last submitted one was not accepted.
+    pub fn accepted(&self) -> Option<&Accept>
+        ensures { option_copied result ≡ self.now.state.accepted }
+    {
+        self.state.accepted.as_ref()
+    }
+}
+
+impl Core for Client {
+    ghost use Rattle.client_quorum.specs.declared.client_state.ClientState.{ClientState};
+    ghost use Rattle.client_quorum.specs.ClientSteps.{next, timers, is_done};
+
+    ghost State = { ClientState };
+
+    ghost state = { λ c. c.state };
+
+    ghost has_failed = { λ c. c.failed };
+
+    ghost next = { next };
+
+    ghost timers = { timers };
+
+    ghost is_done = { is_done };
+
+    fn step(&mut self, input: Input<'_>, out: &mut Outbox) -> Result<(), NoMemory> {
+        if self.failed {
+            return Err(NoMemory);
+        }
+        let mut made = Outbox::new(self.alloc);
+        let acted = act(self.alloc, &mut self.state, input, &mut made);
+        if acted.is_err() || out.append(made).is_err() {
+            self.failed = true;
+            return Err(NoMemory);
+        }
+        Ok(())
+    }
+
+    fn timer(&self, i: u8) -> Option<(Tick, u64)> {
+        if i == 0 {
+            return Some((Tick::Next, 0));
+        }
+        if i == 1 {
+            return Some((Tick::Retry, 200));
+        }
+        None
+    }
+
+    fn done(&self) -> bool {
+        self.state.pending.is_none() && self.state.waiting.is_empty()
+    }
+}

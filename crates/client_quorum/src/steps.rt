@@ -1,0 +1,156 @@
+ghost use Rattle.std.specs.Prelude.{◌≡◌, ◌++◌, ◌∷◌, ◌<◌, ◌^◌, ◌+◌, [], OnOk, IfOk};
+ghost use Rattle.nop_types.specs.Given.{given};
+ghost use Rattle.nop_types.specs.Ranges.{RequestFits};
+ghost use Rattle.client_quorum.specs.ClientSteps.{begin, can_submit, is_expected, next, on_tick, reply, retry, sent, submit, submit_waiting};
+
+use crate::{ClientState, Pending};
+use nop_types::{
+    Accept, Bytes, Datagram, Dest, Input, NoMemory, Op, Out, Outbox, Reply, Request, Tick,
+};
+use oum_codec::{Bad, decode, encode};
+use std::alloc::Global;
+
+fn can_submit(state: &ClientState) -> bool
+    ensures { result ≡ can_submit state.now }
+{
+    state.pending.is_none() && state.last_id < u64::MAX
+}
+
+/// The send of a request to all sequencers.
+fn sent(alloc: Global, request: Request) -> Result<Out, NoMemory>
+    requires { RequestFits request }
+    ensures { IfOk result (λ out. out ≡ sent request) }
+{
+    let mut text = Vec::new(alloc);
+    encode(alloc, &Datagram::Request(request), &mut text)?;
+    Ok(Out::Send(Dest::Sequencers, Bytes::from_vec(text)))
+}
+
+/// The op is pending under the next id, and its request is sent.
+fn begin(alloc: Global, state: &mut ClientState, op: Op, out: &mut Outbox) -> Result<(), NoMemory>
+    requires { state.old.last_id + 1 < 2 ^ 64 }
+    ensures state { OnOk result (state.new ≡ (begin state.old (record { client = state.old.number; id = state.old.last_id + 1; op = op })).0) }
+    ensures out { OnOk result (out.new ≡ out.old ++ (begin state.old (record { client = state.old.number; id = state.old.last_id + 1; op = op })).1) }
+{
+    let id = state.last_id + 1;
+    let request = Request {
+        client: state.number,
+        id,
+        op,
+    };
+    out.push(Out::Submitted(request.try_clone()?))?;
+    out.push(sent(alloc, request.try_clone()?)?)?;
+    state.last_id = id;
+    state.pending = Pending::of(request);
+    state.replies.clear();
+    state.accepted = None;
+    Ok(())
+}
+
+/// An op is submitted.
+fn submit(alloc: Global, state: &mut ClientState, op: &Op, out: &mut Outbox) -> Result<(), NoMemory>
+    ensures state { OnOk result (state.new ≡ (submit state.old op.now).0) }
+    ensures out { OnOk result (out.new ≡ out.old ++ (submit state.old op.now).1) }
+{
+    if !can_submit(state) {
+        return out.push(Out::Busy(state.number));
+    }
+    begin(alloc, state, op.try_clone()?, out)
+}
+
+/// The first waiting op is submitted, where that gives no Busy.
+fn submit_waiting(alloc: Global, state: &mut ClientState, out: &mut Outbox) -> Result<(), NoMemory>
+    ensures state { OnOk result (state.new ≡ (submit_waiting state.old).0) }
+    ensures out { OnOk result (out.new ≡ out.old ++ (submit_waiting state.old).1) }
+{
+    if !can_submit(state) {
+        return Ok(());
+    }
+    match state.waiting.take_first() {
+        Some(op) => begin(alloc, state, op, out),
+        None => Ok(()),
+    }
+}
+
+fn is_expected(state: &ClientState, came: &Reply) -> bool
+    ensures { result ≡ is_expected state.now came.now }
+{
+    came.client == state.number
+        && state.pending.has_id(came.id)
+        && came.replica < state.config.replicas()
+}
+
+/// A reply comes: it is kept, and accepts at a quorum.
+fn reply(state: &mut ClientState, came: Reply, out: &mut Outbox) -> Result<(), NoMemory>
+    ensures state { OnOk result (state.new ≡ (reply state.old came).0) }
+    ensures out { OnOk result (out.new ≡ out.old ++ (reply state.old came).1) }
+{
+    if !is_expected(state, &came) {
+        return Ok(());
+    }
+    let id = came.id;
+    let view = came.view;
+    let slot = came.slot;
+    state.replies.put(came)?;
+    let (kept, shown) = match state.replies.quorum(state.config, view, slot) {
+        Some(leaders) => (leaders.result.try_clone()?, leaders.result.try_clone()?),
+        None => return Ok(()),
+    };
+    state.pending = Pending::none();
+    state.replies.clear();
+    state.accepted = Some(Accept { id, result: kept });
+    out.push(Out::Accepted {
+        client: state.number,
+        id,
+        result: shown,
+    })
+}
+
+/// The pending request is sent again.
+fn retry(alloc: Global, state: &ClientState, out: &mut Outbox) -> Result<(), NoMemory>
+    ensures { OnOk result (out.new ≡ out.old ++ (retry state.now).1) }
+{
+    match state.pending.request() {
+        Some(request) => out.push(sent(alloc, request.try_clone()?)?),
+        None => Ok(()),
+    }
+}
+
+fn on_tick(
+    alloc: Global,
+    state: &mut ClientState,
+    tick: Tick,
+    out: &mut Outbox,
+) -> Result<(), NoMemory>
+    ensures state { OnOk result (state.new ≡ (on_tick state.old tick).0) }
+    ensures out { OnOk result (out.new ≡ out.old ++ (on_tick state.old tick).1) }
+{
+    match tick {
+        Tick::Next => submit_waiting(alloc, state, out),
+        Tick::Retry => retry(alloc, state, out),
+        _ => Ok(()),
+    }
+}
+
+/// One step, which may leave anything where memory runs out.
+#[tactic(auto, unfolding(crate::specs::ClientSteps::next))]
+pub(crate) fn act(
+    alloc: Global,
+    state: &mut ClientState,
+    input: Input<'_>,
+    out: &mut Outbox,
+) -> Result<(), NoMemory>
+    ensures state { OnOk result (state.new ≡ (next state.old (given input.entry)).0) }
+    ensures out { OnOk result (out.new ≡ out.old ++ (next state.old (given input.entry)).1) }
+{
+    match input {
+        Input::Tick(tick) => on_tick(alloc, state, tick, out),
+        Input::Submit(op) => submit(alloc, state, op, out),
+        Input::Packet(bytes) => match decode(alloc, bytes) {
+            Ok(Datagram::Reply(came)) => reply(state, came, out),
+            Ok(_) => Ok(()),
+            Err(Bad::NoMemory) => Err(NoMemory),
+            Err(_) => Ok(()),
+        },
+    }
+}

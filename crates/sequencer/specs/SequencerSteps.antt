@@ -1,0 +1,98 @@
+-- The step table of the sequencer.
+use Rattle.std.specs.Prelude.{ℕ, ◌+◌, ◌<◌, ◌≤◌, List, [], ◌∷◌, Bool, true, false, cond, Option, Some, None, Result, Ok, Err, nat_lt, nat_le, ◌==◌, ◌&&◌, if◌then◌else◌}
+use Rattle.nop_types.specs.declared.limits.TheConstants.{NUMBER_END, MAX_SEQUENCERS}
+use Rattle.nop_types.specs.Given.{Given, Packet, Ticked, Submit}
+use Rattle.nop_types.specs.declared.output.Out.{Out}
+use Rattle.nop_types.specs.declared.output.Out.TheVariants.{Send}
+use Rattle.nop_types.specs.declared.output.Dest.TheVariants.{Replicas, One}
+use Rattle.nop_types.specs.declared.output.Actor.TheVariants.{Controller}
+use Rattle.nop_types.specs.declared.request.Request.{Request}
+use Rattle.nop_types.specs.declared.datagram.Stamped.{Stamped}
+use Rattle.nop_types.specs.declared.datagram.Datagram.{Datagram}
+use Rattle.nop_types.specs.declared.datagram.Datagram.TheVariants as datagrams
+use Rattle.oum_codec.specs.declared.bad.Bad.{Bad}
+use Rattle.oum_codec.specs.Reading.{reading}
+use Rattle.oum_codec.specs.Spelling.{spelling}
+use Rattle.sequencer.specs.declared.state.SequencerState.{SequencerState}
+
+-- within the limits
+pub record IsWithin (s : SequencerState) : Type 0 where
+  pub number : s.number < MAX_SEQUENCERS
+  pub low : 1 ≤ s.next
+  pub high : s.next ≤ NUMBER_END
+
+-- sequencer 0 opens in session 1, the others without a session
+abbrev pub opening : ℕ → SequencerState
+opening number = record { number = number; session = if number == 0 then 1 else 0; next = 1 }
+
+-- ---- a request comes
+
+-- it has a session, and a number is left
+abbrev pub can_stamp : SequencerState → Bool
+can_stamp s = nat_lt 0 s.session && nat_lt s.next NUMBER_END
+
+abbrev pub stamped : SequencerState → Request → Stamped
+stamped s r = record { session = s.session; number = s.next; request = r }
+
+-- the packet that a request becomes
+abbrev pub stamped_by : SequencerState → Request → Option Stamped
+stamped_by s r = cond (can_stamp s) (Some (stamped s r)) None
+
+abbrev pub after_stamp : SequencerState → SequencerState
+after_stamp s = cond (can_stamp s) (record s { next = s.next + 1 }) s
+
+-- a packet is sent to all replicas
+abbrev pub send_packet : Option Stamped → List Out
+send_packet (Some p) = Send Replicas (spelling (datagrams.Stamped p)) ∷ []
+send_packet None = []
+
+abbrev pub stamp : SequencerState → Request → SequencerState × List Out
+stamp s r = (after_stamp s, send_packet (stamped_by s r))
+
+-- ---- a session is installed
+
+-- it is for this sequencer, and not older than its session
+abbrev pub can_install : SequencerState → ℕ → ℕ → Bool
+can_install s sequencer session = (sequencer == s.number) && nat_le s.session session
+
+-- a newer session begins at number 1, and the own one goes on
+abbrev pub in_session : SequencerState → ℕ → SequencerState
+in_session s session = cond (nat_lt s.session session) (record s { session = session; next = 1 }) s
+
+-- a datagram is sent to the controller
+abbrev pub tell : Datagram → List Out
+tell d = Send (One Controller) (spelling d) ∷ []
+
+abbrev pub install_if : Bool → SequencerState → ℕ → SequencerState × List Out
+install_if true s session = (in_session s session, tell (datagrams.Installed s.number session))
+install_if false s session = (s, [])
+
+abbrev pub install : SequencerState → ℕ → ℕ → SequencerState × List Out
+install s sequencer session = install_if (can_install s sequencer session) s session
+
+-- ---- the controller asks whether it is there
+
+abbrev pub ping_if : Bool → SequencerState → ℕ → SequencerState × List Out
+ping_if true s round = (s, tell (datagrams.Pong s.number round))
+ping_if false s round = (s, [])
+
+abbrev pub ping : SequencerState → ℕ → ℕ → SequencerState × List Out
+ping s sequencer round = ping_if (sequencer == s.number) s round
+
+-- ---- all rows
+
+abbrev pub on_datagram : SequencerState → Result Datagram Bad → SequencerState × List Out
+on_datagram s (Ok (datagrams.Request r)) = stamp s r
+on_datagram s (Ok (datagrams.Stamped p)) = (s, [])
+on_datagram s (Ok (datagrams.Reply p)) = (s, [])
+on_datagram s (Ok (datagrams.Install sequencer session)) = install s sequencer session
+on_datagram s (Ok (datagrams.Installed sequencer session)) = (s, [])
+on_datagram s (Ok (datagrams.Ping sequencer round)) = ping s sequencer round
+on_datagram s (Ok (datagrams.Pong sequencer round)) = (s, [])
+on_datagram s (Ok (datagrams.Fragment f)) = (s, [])
+on_datagram s (Err e) = (s, [])
+
+unfoldable pub next : SequencerState → Given → SequencerState × List Out
+next s (Packet bytes) = on_datagram s (reading bytes)
+next s (Ticked tick) = (s, [])
+next s (Submit op) = (s, [])

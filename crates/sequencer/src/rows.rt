@@ -1,0 +1,133 @@
+ghost use Rattle.std.specs.Prelude.{◌≡◌, ◌++◌, ◌≤◌, ◌∷◌, [], OnOk};
+ghost use Rattle.nop_types.specs.declared.output.Out.TheVariants.{Send};
+ghost use Rattle.nop_types.specs.Given.{given};
+ghost use Rattle.nop_types.specs.Ranges.{DatagramFits, RequestFits, SignalFits};
+ghost use Rattle.oum_codec.specs.Spelling.{spelling};
+ghost use Rattle.sequencer.specs.SequencerSteps.{IsWithin, stamped_by, after_stamp, stamp, install, ping, next};
+
+use crate::SequencerState;
+use nop_types::{
+    Actor, Bytes, Datagram, Dest, Input, NUMBER_END, NoMemory, Out, Outbox, Request, Stamped,
+};
+use oum_codec::{Bad, decode, encode};
+use std::alloc::Global;
+
+/// The request with the session and the next number, None where there is no session or no number is left.
+pub fn stamp_next(state: &mut SequencerState, request: Request) -> Option<Stamped>
+    requires { IsWithin state.old }
+    ensures within { IsWithin state.new }
+    ensures packet { result ≡ stamped_by state.old request }
+    ensures after { state.new ≡ after_stamp state.old }
+{
+    if state.session == 0 || state.next >= NUMBER_END {
+        return None;
+    }
+    let number = state.next;
+    state.next += 1;
+    Some(Stamped {
+        session: state.session,
+        number,
+        request,
+    })
+}
+
+/// Sends one datagram.
+fn send(alloc: Global, out: &mut Outbox, dest: Dest, datagram: &Datagram) -> Result<(), NoMemory>
+    requires { DatagramFits datagram.now }
+    ensures { OnOk result (out.new ≡ out.old ++ Send dest (spelling datagram.now) ∷ []) }
+{
+    let mut bytes = Vec::new(alloc);
+    encode(alloc, datagram, &mut bytes)?;
+    out.push(Out::Send(dest, Bytes::from_vec(bytes)))
+}
+
+/// A request is stamped and sent to all replicas.
+fn stamp(
+    alloc: Global,
+    state: &mut SequencerState,
+    request: Request,
+    out: &mut Outbox,
+) -> Result<(), NoMemory>
+    requires within { IsWithin state.old }
+    requires fits { RequestFits request }
+    ensures within { IsWithin state.new }
+    ensures state { OnOk result (state.new ≡ (stamp state.old request).0) }
+    ensures out { OnOk result (out.new ≡ out.old ++ (stamp state.old request).1) }
+{
+    match stamp_next(state, request) {
+        Some(stamped) => send(alloc, out, Dest::Replicas, &Datagram::Stamped(stamped)),
+        None => Ok(()),
+    }
+}
+
+/// A session that is not older than the own is confirmed; a newer one is taken, and its numbers begin at 1.
+fn install(
+    alloc: Global,
+    state: &mut SequencerState,
+    sequencer: u8,
+    session: u32,
+    out: &mut Outbox,
+) -> Result<(), NoMemory>
+    requires within { IsWithin state.old }
+    requires fits { SignalFits sequencer session }
+    ensures within { IsWithin state.new }
+    ensures state { OnOk result (state.new ≡ (install state.old sequencer session).0) }
+    ensures out { OnOk result (out.new ≡ out.old ++ (install state.old sequencer session).1) }
+{
+    if sequencer != state.number || session < state.session {
+        return Ok(());
+    }
+    if session > state.session {
+        state.session = session;
+        state.next = 1;
+    }
+    let installed = Datagram::Installed { sequencer, session };
+    send(alloc, out, Dest::One(Actor::Controller), &installed)
+}
+
+/// A ping of this sequencer is answered with its round.
+fn ping(
+    alloc: Global,
+    state: &SequencerState,
+    sequencer: u8,
+    round: u32,
+    out: &mut Outbox,
+) -> Result<(), NoMemory>
+    requires fits { SignalFits sequencer round }
+    ensures state { state.now ≡ (ping state.now sequencer round).0 }
+    ensures out { OnOk result (out.new ≡ out.old ++ (ping state.now sequencer round).1) }
+{
+    if sequencer != state.number {
+        return Ok(());
+    }
+    let pong = Datagram::Pong { sequencer, round };
+    send(alloc, out, Dest::One(Actor::Controller), &pong)
+}
+
+/// One step, which may leave anything where memory runs out.
+#[tactic(auto, unfolding(crate::specs::SequencerSteps::next))]
+pub fn act(
+    alloc: Global,
+    state: &mut SequencerState,
+    input: Input<'_>,
+    out: &mut Outbox,
+) -> Result<(), NoMemory>
+    requires { IsWithin state.old }
+    ensures within { IsWithin state.new }
+    ensures state { OnOk result (state.new ≡ (next state.old (given input.entry)).0) }
+    ensures out { OnOk result (out.new ≡ out.old ++ (next state.old (given input.entry)).1) }
+{
+    let Input::Packet(bytes) = input else {
+        return Ok(());
+    };
+    match decode(alloc, bytes) {
+        Ok(Datagram::Request(request)) => stamp(alloc, state, request, out),
+        Ok(Datagram::Install { sequencer, session }) => {
+            install(alloc, state, sequencer, session, out)
+        }
+        Ok(Datagram::Ping { sequencer, round }) => ping(alloc, state, sequencer, round, out),
+        Ok(_) => Ok(()),
+        Err(Bad::NoMemory) => Err(NoMemory),
+        Err(_) => Ok(()),
+    }
+}

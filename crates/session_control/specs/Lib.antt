@@ -1,0 +1,2 @@
+pub mod ControllerSteps
+pub mod Moves

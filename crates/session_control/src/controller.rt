@@ -1,0 +1,103 @@
+ghost use Rattle.std.specs.Prelude.{◌≡◌, ◌≤◌, false, IfOk};
+ghost use Rattle.session_control.specs.ControllerSteps.{IsWithin, opening};
+
+use crate::rows::act;
+use crate::{ControllerState, PROBE_MILLIS, RESEND_MILLIS};
+use nop_types::{Config, Core, Input, NoMemory, Outbox, Tick};
+use std::alloc::Global;
+use std::marker::Model;
+
+/// The controller: it probes the current sequencer, and moves to another one under a new session.
+#[derive(Drop)]
+pub struct Controller {
+    alloc: Global,
+    failed: bool,
+    state: ControllerState,
+}
+
+impl Model for Controller {
+    ghost use Rattle.nop_types.specs.Kept.{Kept};
+    ghost use Rattle.session_control.specs.declared.state.ControllerState.{ControllerState};
+    ghost use Rattle.session_control.specs.ControllerSteps.{IsWithin};
+
+    ghost Value = { Kept ControllerState };
+
+    ghost view = { λ c. record { failed = c.failed; state = c.state } };
+
+    ghost invariant = { λ c. IsWithin c.state };
+}
+
+impl Controller {
+    /// A controller whose current sequencer is 0, in this session. The session is one that no controller of these sequencers had
+    /// before, or 1 at the first start.
+    pub fn new(alloc: Global, config: Config, session: u32) -> Result<Controller, NoMemory>
+        requires { 1 ≤ session }
+        ensures { IfOk result (λ c. c ≡ record { failed = false; state = opening config session }) }
+    {
+        Ok(Controller {
+            alloc,
+            failed: false,
+            state: ControllerState {
+                config,
+                session,
+                current: 0,
+                confirmed: true,
+                round: 0,
+                heard: true,
+                missed: 0,
+            },
+        })
+    }
+
+    pub fn state(&self) -> ControllerState
+        ensures value { result ≡ self.now.state }
+        ensures within { IsWithin result }
+    {
+        self.state
+    }
+}
+
+impl Core for Controller {
+    ghost use Rattle.std.specs.Prelude.{false};
+    ghost use Rattle.session_control.specs.declared.state.ControllerState.{ControllerState};
+    ghost use Rattle.session_control.specs.ControllerSteps.{timers, next};
+
+    ghost State = { ControllerState };
+
+    ghost state = { λ c. c.state };
+
+    ghost has_failed = { λ c. c.failed };
+
+    ghost next = { next };
+
+    ghost timers = { timers };
+
+    ghost is_done = { λ _. false };
+
+    fn step(&mut self, input: Input<'_>, out: &mut Outbox) -> Result<(), NoMemory> {
+        if self.failed {
+            return Err(NoMemory);
+        }
+        let mut made = Outbox::new(self.alloc);
+        let mut state = self.state;
+        let acted = act(self.alloc, &mut state, input, &mut made);
+        if acted.is_err() || out.append(made).is_err() {
+            self.failed = true;
+            return Err(NoMemory);
+        }
+        self.state = state;
+        Ok(())
+    }
+
+    fn timer(&self, i: u8) -> Option<(Tick, u64)> {
+        match i {
+            0 => Some((Tick::Resend, RESEND_MILLIS)),
+            1 => Some((Tick::Probe, PROBE_MILLIS)),
+            _ => None,
+        }
+    }
+
+    fn done(&self) -> bool {
+        false
+    }
+}

@@ -1,0 +1,14 @@
+//! The controller: it probes the current sequencer, and moves to another one under a new session.
+#![tactic(auto)]
+
+mod controller;
+mod laws;
+mod rows;
+mod state;
+
+pub use controller::Controller;
+pub use laws::{installs_are_of_last_move, moves_rise};
+pub use state::{ControllerState, MISSED_END, PROBE_MILLIS, RESEND_MILLIS};
+
+#[cfg(test)]
+mod tests;

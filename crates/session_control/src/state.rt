@@ -1,0 +1,23 @@
+use nop_types::Config;
+
+/// So many probes without an answer make the controller move.
+pub const MISSED_END: u8 = 3;
+
+/// How long an Install waits for its answer before it is sent again.
+pub const RESEND_MILLIS: u64 = 100;
+
+/// The time between two probes.
+pub const PROBE_MILLIS: u64 = 300;
+
+/// What the controller knows: the greatest session, the current sequencer and whether that confirmed its session, the round of
+/// the last probe (0 is none) and whether it was answered, and how many in a row were not.
+#[derive(Clone, Copy, Debug, PartialEq, Eq)]
+pub struct ControllerState {
+    pub config: Config,
+    pub session: u32,
+    pub current: u8,
+    pub confirmed: bool,
+    pub round: u32,
+    pub heard: bool,
+    pub missed: u8,
+}

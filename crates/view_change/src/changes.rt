@@ -1,0 +1,111 @@
+ghost use Rattle.std.specs.Prelude.{◌≡◌, ◌≤◌, ◌↔◌, length, IfOk, OnOk, OnErr};
+ghost use Rattle.log_merge.specs.Merged.{HasDistinctSenders};
+ghost use Rattle.log_merge.specs.Starting.{opened};
+ghost use Rattle.view_change.specs.declared.starting.Step.TheVariants.{Waiting};
+ghost use Rattle.view_change.specs.Gathering.{entered, has_sender, counted, started, step_of};
+
+use crate::starting::start_of;
+use crate::{Start, Step};
+use nop_types::{Change, NoMemory, View};
+use std::alloc::Global;
+use std::marker::Model;
+
+/// The changes that the leader of a new view has: its own, and the first one of each other sender.
+#[derive(Debug, Drop)]
+pub struct Changes {
+    alloc: Global,
+    view: View,
+    f: u8,
+    changes: Vec<Change>,
+}
+
+impl Model for Changes {
+    ghost use Rattle.log_merge.specs.Merged.{HasDistinctSenders};
+    ghost use Rattle.view_change.specs.Gathering.{Gathering};
+
+    ghost Value = { Gathering };
+
+    ghost view = { λ g. record { view = g.view; f = g.f; changes = g.changes.items } };
+
+    ghost invariant = { λ g. HasDistinctSenders g.changes.items };
+}
+
+fn has_sender(changes: &[Change], sender: u8) -> bool
+    ensures { result ≡ has_sender changes.now sender }
+{
+    for change in changes {
+        if change.sender == sender {
+            return true;
+        }
+    }
+    false
+}
+
+impl Changes {
+    /// The leader of a view begins with its own change. The view is started with those of `f` others.
+    pub fn enter(alloc: Global, view: View, f: u8, own: Change) -> Result<Changes, NoMemory>
+        ensures { IfOk result (λ g. g ≡ entered view f own) }
+    {
+        let mut changes = Vec::new(alloc);
+        changes.push(own)?;
+        Ok(Changes {
+            alloc,
+            view,
+            f,
+            changes,
+        })
+    }
+
+    pub fn view(&self) -> View
+        ensures { result ≡ self.now.view }
+    {
+        self.view
+    }
+
+    /// One change of each sender, in the order in which they came.
+    pub fn as_slice(&self) -> &[Change]
+        ensures changes { result.now ≡ self.now.changes }
+        ensures distinct { HasDistinctSenders result.now }
+    {
+        &self.changes
+    }
+
+    /// What the changes that are there give.
+    fn outcome(&self) -> Result<Step, NoMemory>
+        ensures { IfOk result (λ s. s ≡ step_of self.now) }
+    {
+        if self.changes.len() <= self.f as usize {
+            return Ok(Step::Waiting);
+        }
+        let started = start_of(self.alloc, self.view, &self.changes)?;
+        Ok(Step::Started(started))
+    }
+
+    /// Takes a change, unless its sender's is there. Started, with what the view is started with, exactly where `f` + 1
+    /// senders are there then.
+    pub fn on_change(&mut self, change: Change) -> Result<Step, NoMemory>
+        ensures after { OnOk result (self.new ≡ counted self.old change) }
+        ensures step { IfOk result (λ s. s ≡ step_of (counted self.old change)) }
+        ensures waits { IfOk result (λ s. (s ≡ Waiting) ↔ (length (counted self.old change).changes ≤ self.old.f)) }
+        ensures err { OnErr result (self.new ≡ self.old) }
+    {
+        if has_sender(&self.changes, change.sender) {
+            return self.outcome();
+        }
+        self.changes.push(change)?;
+        let step = self.outcome();
+        if step.is_err() {
+            self.changes.pop();
+        }
+        step
+    }
+
+    /// What a leader without others starts its view with.
+    pub fn start_now(&mut self) -> Result<Start, NoMemory>
+        requires { self.old.f ≡ 0 }
+        ensures start { IfOk result (λ s. s ≡ started (opened self.old.view self.old.changes)) }
+        ensures same { self.new ≡ self.old }
+    {
+        start_of(self.alloc, self.view, &self.changes)
+    }
+}

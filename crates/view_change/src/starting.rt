@@ -1,0 +1,77 @@
+ghost use Rattle.std.specs.Prelude.{◌≡◌, filter, IfOk};
+ghost use Rattle.nop_types.specs.Views.{is_view, outranks};
+ghost use Rattle.log_merge.specs.Starting.{greatest, greatest_next, opened};
+ghost use Rattle.view_change.specs.Gathering.{greater, started};
+
+use log_merge::merge_of_view;
+use nop_types::{Change, Log, NoMemory, View};
+use std::alloc::Global;
+
+/// What a view is started with: the next message number and the log.
+#[derive(Debug, Drop)]
+pub struct Start {
+    pub next: u64,
+    pub log: Log,
+}
+
+/// Whether a change was the one that starts the view.
+#[derive(Debug, Drop)]
+pub enum Step {
+    Started(Start),
+    Waiting,
+}
+
+/// Whether a view ranks above another one: by session, then by leader number.
+fn ranks_above(a: View, b: View) -> bool
+    ensures { result ≡ outranks a b }
+{
+    a.session > b.session || (a.session == b.session && a.leader > b.leader)
+}
+
+/// The one of two views that ranks above the other.
+fn greater(a: View, b: View) -> View
+    ensures { result ≡ greater a b }
+{
+    if ranks_above(b, a) { b } else { a }
+}
+
+/// The last normal view of greatest rank.
+fn greatest(changes: &[Change]) -> View
+    ensures { result ≡ greatest changes.now }
+{
+    let mut best = View {
+        leader: 0,
+        session: 0,
+    };
+    for change in changes {
+        best = greater(best, change.last_normal);
+    }
+    best
+}
+
+/// The greatest next number of the changes with this last normal view.
+fn greatest_next(changes: &[Change], view: View) -> u64
+    ensures { result ≡ greatest_next (filter (λ c. is_view c.last_normal view) changes.now) }
+{
+    let mut most = 0;
+    for change in changes {
+        if change.last_normal.leader == view.leader && change.last_normal.session == view.session {
+            most = most.max(change.next);
+        }
+    }
+    most
+}
+
+/// What a view is started with from these changes.
+pub fn start_of(alloc: Global, view: View, changes: &[Change]) -> Result<Start, NoMemory>
+    ensures { IfOk result (λ s. s ≡ started (opened view changes.now)) }
+{
+    let last = greatest(changes);
+    let log = merge_of_view(alloc, changes, last)?;
+    let next = if last.session == view.session {
+        greatest_next(changes, last)
+    } else {
+        1
+    };
+    Ok(Start { next, log })
+}
