@@ -1,6 +1,6 @@
 -- Members of lists.
-use Rattle.std.proofs.Common.{◌≡◌, ℕ, zero, suc, Bool, true, false, cond, Option, Some, None, refl, sym, ap, subst, ◌⊎◌, inl, inr, List, [], ◌∷◌, ◌++◌}
-use Rattle.std.specs.Prelude.{slice_get, filter, find}
+use Rattle.std.proofs.Common.{◌≡◌, zero, suc, Bool, true, false, cond, Some, refl, sym, ap, subst, ◌⊎◌, inl, inr, List, [], ◌∷◌, ◌++◌}
+use Rattle.std.specs.Prelude.{filter, find}
 use Rattle.nop_types.specs.Lists.{Has}
 use Rattle.client_quorum.proofs.Turns.{none_apart, some_same}
 

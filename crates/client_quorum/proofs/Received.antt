@@ -1,6 +1,6 @@
 -- What is kept came in replies to the open request, so f + 1 replicas replied where a client accepts.
-use Rattle.std.proofs.Common.{◌≡◌, ℕ, zero, suc, ◌+◌, ◌<◌, ◌≤◌, Bool, true, false, Option, Some, None, refl, sym, ap, subst, ◌∙◌, ◌⊎◌, inl, inr, arith, List, [], ◌∷◌, ◌++◌}
-use Rattle.std.specs.Prelude.{◌==◌, ◌&&◌, ◌/◌, length, nat_lt, not, filter, slice_get}
+use Rattle.std.proofs.Common.{◌≡◌, ℕ, zero, suc, ◌+◌, ◌<◌, ◌≤◌, true, Option, Some, None, refl, sym, subst, ◌∙◌, inl, inr, arith, List, [], ◌∷◌, ◌++◌}
+use Rattle.std.specs.Prelude.{◌==◌, ◌&&◌, ◌/◌, length, nat_lt, not, filter}
 use Rattle.nop_types.specs.Views.{leader_of}
 use Rattle.std.proofs.lemmas.Bool.Decides.{nat_tests}
 use Rattle.nop_types.specs.Configuration.{Configuration}
@@ -9,16 +9,16 @@ use Rattle.nop_types.specs.Lists.{Has}
 use Rattle.nop_types.specs.declared.request.Request.{Request}
 use Rattle.nop_types.specs.declared.datagram.Reply.{Reply}
 use Rattle.nop_types.specs.declared.output.Out.{Out}
-use Rattle.nop_types.specs.declared.output.Out.TheVariants.{Submitted, Send, Accepted, Busy}
+use Rattle.nop_types.specs.declared.output.Out.TheVariants.{Submitted, Accepted}
 use Rattle.client_quorum.specs.declared.client_state.ClientState.{ClientState}
-use Rattle.client_quorum.specs.ClientSteps.{opening, next, has_none, request_of, begin, sent, is_of, is_expected, kept, accept_if, retry_of}
+use Rattle.client_quorum.specs.ClientSteps.{opening, next, request_of, sent, is_of, is_expected, kept, accept_if}
 use Rattle.client_quorum.specs.KeptReplies.{HasOneEach, keep_reply, matches, quorum_of}
-use Rattle.client_quorum.specs.Runs.{after, replies_of, reply_of, HasQuorum, IsReplyFor, IsAgreed}
-use Rattle.client_quorum.proofs.KeptReplies.{times, times_is, fewer, kept_one_each}
+use Rattle.client_quorum.specs.Runs.{after, replies_of, reply_of, HasQuorum, IsAgreed}
+use Rattle.client_quorum.proofs.KeptReplies.{times_is, fewer, kept_one_each}
 use Rattle.client_quorum.proofs.Members.{has_left, has_right, has_filter, into_filter, push_cases}
 use Rattle.client_quorum.proofs.Members as members
 use Rattle.client_quorum.proofs.Quorums.{matched, is_matched, has_quorum}
-use Rattle.client_quorum.proofs.Rows.{ComesFrom, Quiet, Nothing, IsBusy, Again, row_does}
+use Rattle.client_quorum.proofs.Rows.{Quiet, Nothing, IsBusy, Again, row_does}
 use Rattle.client_quorum.proofs.Turns.{both_true, is_same_true, none_apart}
 
 is_below : (m n : ℕ) → nat_lt m n ≡ true → m < n

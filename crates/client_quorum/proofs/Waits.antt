@@ -1,19 +1,18 @@
 -- Waiting ops, and the last request.
-use Rattle.std.proofs.Common.{◌≡◌, ℕ, zero, suc, ◌+◌, Bool, true, false, Option, Some, None, refl, sym, ap, subst, ◌∙◌, ◌⊎◌, inl, inr, arith, List, [], ◌∷◌, ◌++◌, length, append_assoc, length-append}
-use Rattle.std.specs.Prelude.{◌==◌, ◌&&◌, nat_lt, ⊤}
+use Rattle.std.proofs.Common.{◌≡◌, ℕ, zero, ◌+◌, true, Option, Some, None, refl, sym, ap, ◌∙◌, inl, inr, arith, List, [], ◌∷◌, ◌++◌, length, append_assoc, length-append}
+use Rattle.std.specs.Prelude.{◌==◌, ◌&&◌, nat_lt}
 use Rattle.nop_types.specs.Configuration.{Configuration}
 use Rattle.nop_types.specs.Given.{Given, Packet, Ticked, Submit}
 use Rattle.nop_types.specs.Lists.{Has}
 use Rattle.nop_types.specs.declared.request.Request.{Request}
 use Rattle.nop_types.specs.declared.datagram.Reply.{Reply}
-use Rattle.nop_types.specs.declared.output.Accept.{Accept}
 use Rattle.nop_types.specs.declared.output.Out.{Out}
 use Rattle.nop_types.specs.declared.output.Out.TheVariants.{Submitted, Send, Accepted, Busy}
 use Rattle.client_quorum.specs.declared.client_state.ClientState.{ClientState}
-use Rattle.client_quorum.specs.ClientSteps.{opening, next, request_of, begin, is_of, is_expected, kept, accept_if, retry_of}
+use Rattle.client_quorum.specs.ClientSteps.{opening, next, request_of, is_of, is_expected, kept, accept_if}
 use Rattle.client_quorum.specs.Runs.{after, gave, ops_of, HasNoSubmit, EndsWith, Stands, NoneYet, IsOpen, WasAccepted}
 use Rattle.client_quorum.proofs.Members.{has_left, has_right}
-use Rattle.client_quorum.proofs.Rows.{ComesFrom, Quiet, Nothing, IsBusy, Again, row_does}
+use Rattle.client_quorum.proofs.Rows.{Quiet, Nothing, IsBusy, Again, row_does}
 use Rattle.client_quorum.proofs.Turns.{both_true, none_apart, some_same, IsTidy, open_of}
 
 ops_append : (xs ys : List Out) → ops_of (xs ++ ys) ≡ ops_of xs ++ ops_of ys

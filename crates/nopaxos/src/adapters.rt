@@ -1,3 +1,5 @@
+ghost use Rattle.std.specs.Prelude.{◌≡◌};
+
 use outside::{Failed, Sink, Source, WriteError};
 use std::io::{Read, Write};
 
@@ -9,7 +11,10 @@ pub struct StandardIn<R: Read + Drop> {
 }
 
 impl<R: Read + Drop> StandardIn<R> {
-    pub fn new(inner: R) -> StandardIn<R> {
+    /// No fault so far.
+    pub fn new(inner: R) -> StandardIn<R>
+        ensures { result ≡ record { inner = inner; faults = 0 } }
+    {
         StandardIn { inner, faults: 0 }
     }
 }
@@ -42,7 +47,10 @@ pub struct StandardOut<W: Write + Drop> {
 }
 
 impl<W: Write + Drop> StandardOut<W> {
-    pub fn new(inner: W) -> StandardOut<W> {
+    /// No fault so far.
+    pub fn new(inner: W) -> StandardOut<W>
+        ensures { result ≡ record { inner = inner; faults = 0 } }
+    {
         StandardOut { inner, faults: 0 }
     }
 }
