@@ -1,4 +1,4 @@
-ghost use Rattle.std.specs.Prelude.{◌≡◌, IfOk, IfErr};
+ghost use Rattle.std.specs.Prelude.{◌≡◌, IfOk, IfErr, false};
 ghost use Rattle.nop_types.specs.Meaning.{Meaning};
 ghost use Rattle.world.specs.WorldSteps.{run};
 ghost use Rattle.safety.specs.Safe.{RunsAreSafe, LeadTo, IsRefusedBy};
@@ -9,14 +9,15 @@ use std::alloc::Global;
 use world::{StepError, World};
 
 /// The world that the events lead to, one after the other, from the opening. In it replicas agree as far as they are
-/// synchronised, what clients accepted is of the one history, and all that was stamped, logged and replied is sound. Else the
-/// refusal of the first event that is refused.
+/// synchronised, what clients accepted is of the one history, and all that was stamped, logged and replied is sound. It has
+/// not failed. Else the refusal of the first event that is refused.
 pub fn run_events<H: Host>(
     alloc: Global,
     config: Config,
     events: &[Event],
 ) -> Result<World<H>, StepError>
     ensures ok { IfOk result (λ w. LeadTo H.meaning config events.now w.state) }
+    ensures well { IfOk result (λ w. w.failed ≡ false) }
     ensures err { IfErr result (λ e. IsRefusedBy e (run H.meaning config events.now)) }
 {
     // for the limits of a configuration
