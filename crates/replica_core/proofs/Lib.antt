@@ -1,0 +1,9 @@
+pub mod Counting
+pub mod Draining
+pub mod Lengths
+pub mod Opening
+pub mod Posted
+pub mod Ready
+pub mod Replying
+pub mod Rows
+pub mod Running

@@ -1,0 +1,44 @@
+-- Replies for one slot after the other.
+use Rattle.std.proofs.Common.{◌≡◌, ℕ, zero, suc, ◌+◌, ◌<◌, ◌≤◌, List, [], ◌∷◌, ◌++◌, length, drop, Option, Some, refl, sym, ap, subst, ◌∙◌, arith, append_assoc}
+use Rattle.std.specs.Prelude.{slice_get}
+use Rattle.std.proofs.lemmas.List.{append-nil}
+use Rattle.nop_types.specs.declared.request.Entry.{Entry}
+use Rattle.nop_types.specs.Lists.{slot_of}
+use Rattle.nop_types.specs.Meaning.{Meaning}
+use Rattle.histories.proofs.Lists.{splits}
+use Rattle.replica_core.specs.declared.sending.Sending.{Sending}
+use Rattle.replica_core.specs.declared.state.ReplicaState.{ReplicaState}
+use Rattle.replica_core.specs.Replies.{reply_at, reply_for_any, replies_to, replies_above}
+
+has_place : (l : List Entry) (i : ℕ) → i < length l → (e : Entry) × (slice_get l i ≡ Some e)
+has_place [] i less = absurd (omega (arith, less))
+has_place (x ∷ l) zero less = (x, refl)
+has_place (x ∷ l) (suc i) less = has_place l i (omega (arith, less))
+
+none_left : (l : List Entry) (i : ℕ) → length l ≤ i → drop i l ≡ []
+none_left [] zero le = refl
+none_left [] (suc i) le = refl
+none_left (x ∷ l) zero le = absurd (omega (arith, le))
+none_left (x ∷ l) (suc i) le = none_left l i (omega (arith, le))
+
+module _ {S : Type 0} (m : Meaning S) where
+  first : (s : ReplicaState) (i : ℕ) → i < length s.log → replies_above m s i ≡ reply_at m s (i + 1) ++ replies_above m s (i + 1)
+  first s i less =
+      let place = has_place s.log i less in
+      let next : i + 1 ≡ suc i = omega arith in
+      ap (replies_to m s (i + 1)) (splits s.log i place.0 place.1).back
+      ∙ ap (λ (o : Option Entry). reply_for_any m s (i + 1) o ++ replies_to m s (i + 1 + 1) (drop (suc i) s.log)) (sym (ap (slot_of s.log) next ∙ place.1))
+      ∙ ap (λ k. reply_at m s (i + 1) ++ replies_to m s (i + 1 + 1) (drop k s.log)) (sym next)
+
+  -- replying for one slot more, of what is to be replied in all
+  pub replies_on : (s t : ReplicaState) (i : ℕ) (old new total : List Sending) → s ≡ t → i < length s.log → new ≡ old ++ reply_at m s (i + 1) → old ++ replies_above m t i ≡ total → new ++ replies_above m t (i + 1) ≡ total
+  replies_on s t i old new total same less sent so_far =
+      let here : i < length t.log = subst (λ (p : ReplicaState). i < length p.log) same less in
+      ap (λ (xs : List Sending). xs ++ replies_above m t (i + 1)) (sent ∙ ap (λ (p : ReplicaState). old ++ reply_at m p (i + 1)) same)
+      ∙ append_assoc old (reply_at m t (i + 1)) (replies_above m t (i + 1))
+      ∙ ap (λ (xs : List Sending). old ++ xs) (sym (first t i here))
+      ∙ so_far
+
+  pub replies_end : (t : ReplicaState) (i : ℕ) (old total : List Sending) → length t.log ≤ i → old ++ replies_above m t i ≡ total → old ≡ total
+  replies_end t i old total le so_far =
+      sym (append-nil old) ∙ ap (λ (es : List Entry). old ++ replies_to m t (i + 1) es) (sym (none_left t.log i le)) ∙ so_far

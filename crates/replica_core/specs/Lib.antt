@@ -1,0 +1,12 @@
+pub mod Code
+pub mod Draining
+pub mod Messages
+pub mod Moves
+pub mod Posting
+pub mod Replies
+pub mod ReplicaSteps
+pub mod Responses
+pub mod Rows
+pub mod Sends
+pub mod State
+pub mod Within

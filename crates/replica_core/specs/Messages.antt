@@ -1,0 +1,102 @@
+-- The step table of a replica over whole messages.
+use Rattle.std.specs.Prelude.{ℕ, Bool, true, false, not, nat_lt, ◌==◌, ◌&&◌}
+use Rattle.nop_types.specs.Meaning.{Meaning}
+use Rattle.nop_types.specs.Views.{is_view}
+use Rattle.nop_types.specs.declared.view.View.{View}
+use Rattle.nop_types.specs.declared.input.Tick.{Tick}
+use Rattle.nop_types.specs.declared.input.Tick.TheVariants as ticks
+use Rattle.nop_types.specs.declared.datagram.Stamped.{Stamped}
+use Rattle.nop_types.specs.declared.peer.Peer.{Peer}
+use Rattle.nop_types.specs.declared.peer.Body.{Body}
+use Rattle.nop_types.specs.declared.peer.Body.TheVariants as bodies
+use Rattle.replica_core.specs.declared.state.ReplicaState.{ReplicaState}
+use Rattle.replica_core.specs.State.{leader, leads, is_normal}
+use Rattle.replica_core.specs.Sends.{Effect, still, when}
+use Rattle.replica_core.specs.Rows as rows
+
+-- what a replica takes: a stamped request, a message of another replica, or a tick
+pub data Arrival : Type 0 where
+  Packet : Stamped → Arrival
+  Told : Peer → Arrival
+  Ticked : Tick → Arrival
+
+-- ---- messages of the view in which the replica is Normal
+
+abbrev pub is_current : ReplicaState → View → Bool
+is_current s v = is_view v s.view && is_normal s.status
+
+-- of the leader, to a follower
+abbrev pub is_from_leader : ReplicaState → View → ℕ → Bool
+is_from_leader s v q = is_current s v && (not (leads s) && (q == leader s))
+
+-- of a follower, to the leader
+abbrev pub is_to_leader : ReplicaState → View → Bool
+is_to_leader s v = is_current s v && leads s
+
+abbrev pub from_leader : {S : Type 0} → Meaning S → Body → ReplicaState → Effect
+from_leader m (bodies.GapCommit k) s = rows.gap_commit m k s
+from_leader m (bodies.Found k r) s = rows.found m k r s
+from_leader m (bodies.SyncPrepare l) s = rows.sync_prepare m l s
+from_leader m (bodies.SyncCommit k) s = rows.sync_commit k s
+from_leader m (bodies.SlotLookup k) s = still s
+from_leader m (bodies.GapRep k) s = still s
+from_leader m (bodies.SyncRep k) s = still s
+from_leader m bodies.ViewChangeReq s = still s
+from_leader m (bodies.ViewChange u x l) s = still s
+from_leader m (bodies.StartView x l) s = still s
+
+abbrev pub from_follower : {S : Type 0} → Meaning S → ℕ → Body → ReplicaState → Effect
+from_follower m q (bodies.SlotLookup k) s = rows.slot_lookup m q k s
+from_follower m q (bodies.GapRep k) s = rows.gap_reply m q k s
+from_follower m q (bodies.SyncRep k) s = rows.sync_reply q k s
+from_follower m q (bodies.GapCommit k) s = still s
+from_follower m q (bodies.Found k r) s = still s
+from_follower m q (bodies.SyncPrepare l) s = still s
+from_follower m q (bodies.SyncCommit k) s = still s
+from_follower m q bodies.ViewChangeReq s = still s
+from_follower m q (bodies.ViewChange u x l) s = still s
+from_follower m q (bodies.StartView x l) s = still s
+
+abbrev pub told_as : {S : Type 0} → Meaning S → Bool → Bool → ℕ → Body → ReplicaState → Effect
+told_as m true to_leader q body s = from_leader m body s
+told_as m false true q body s = from_follower m q body s
+told_as m false false q body s = still s
+
+abbrev pub told_in_view : {S : Type 0} → Meaning S → ℕ → View → Body → ReplicaState → Effect
+told_in_view m q v body s = told_as m (is_from_leader s v q) (is_to_leader s v) q body s
+
+-- ---- all messages
+
+abbrev pub told_by : {S : Type 0} → Meaning S → Peer → Body → ReplicaState → Effect
+told_by m p bodies.ViewChangeReq s = rows.view_change_request m s p.view
+told_by m p (bodies.ViewChange u x l) s = rows.view_change m s p.view (record { sender = p.sender; last_normal = u; next = x; log = l })
+told_by m p (bodies.StartView x l) s = rows.start_view m s p.sender p.view x l
+told_by m p (bodies.GapCommit k) s = told_in_view m p.sender p.view (bodies.GapCommit k) s
+told_by m p (bodies.Found k r) s = told_in_view m p.sender p.view (bodies.Found k r) s
+told_by m p (bodies.SyncPrepare l) s = told_in_view m p.sender p.view (bodies.SyncPrepare l) s
+told_by m p (bodies.SyncCommit k) s = told_in_view m p.sender p.view (bodies.SyncCommit k) s
+told_by m p (bodies.SlotLookup k) s = told_in_view m p.sender p.view (bodies.SlotLookup k) s
+told_by m p (bodies.GapRep k) s = told_in_view m p.sender p.view (bodies.GapRep k) s
+told_by m p (bodies.SyncRep k) s = told_in_view m p.sender p.view (bodies.SyncRep k) s
+
+-- a replica takes no message of its own
+abbrev pub is_other : ReplicaState → ℕ → Bool
+is_other s q = nat_lt q s.config.replicas && not (q == s.number)
+
+unfoldable pub told : {S : Type 0} → Meaning S → ReplicaState → Peer → Effect
+told m s p = when (is_other s p.sender) (told_by m p p.body) s
+
+abbrev pub ticked : {S : Type 0} → Meaning S → ReplicaState → Tick → Effect
+ticked m s ticks.Suspect = rows.suspect m s
+ticked m s ticks.Watch = rows.watch m s
+ticked m s ticks.Resend = rows.resend s
+ticked m s ticks.Sync = rows.sync s
+ticked m s ticks.Retry = still s
+ticked m s ticks.Next = still s
+ticked m s ticks.Probe = still s
+ticked m s (ticks.Install j) = still s
+
+unfoldable pub arrive : {S : Type 0} → Meaning S → ReplicaState → Arrival → Effect
+arrive m s (Packet p) = rows.stamped m s p
+arrive m s (Told p) = told m s p
+arrive m s (Ticked tick) = ticked m s tick

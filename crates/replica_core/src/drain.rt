@@ -1,0 +1,158 @@
+ghost use Rattle.std.specs.Prelude.{◌≡◌, ◌≤◌, ◌<◌, ◌++◌, ◌+◌, ◌↔◌, length, true, IsTrue, OnOk, IfOk};
+ghost use Rattle.nop_types.specs.Ranges.{EntryFits};
+ghost use Rattle.nop_types.specs.declared.limits.TheConstants.{MAX_SLOTS, NUMBER_END};
+ghost use Rattle.oum_receiver.specs.Front.{Dropped};
+ghost use Rattle.oum_receiver.specs.Receiving.{front_of};
+ghost use Rattle.replica_core.specs.State.{drains, may_append, waiting_in, leads};
+ghost use Rattle.replica_core.specs.Moves.{appended, gap_opened, open_gap, ask, drain};
+ghost use Rattle.replica_core.specs.Within.{IsWithin, Runs};
+ghost use Rattle.replica_core.specs.Draining.{TakesFront, TakesOne};
+
+use crate::ReplicaState;
+use crate::member::Member;
+use gap_agree::Gap;
+use nop_types::{Body, Entry, Host, MAX_SLOTS, NoMemory};
+use oum_receiver::Upcall;
+
+/// The gap that waits for votes in a slot, unless nobody has to vote.
+fn gap_in(slot: u32, f: u8) -> Option<Gap>
+    ensures { result ≡ waiting_in slot f }
+{
+    if f == 0 {
+        return None;
+    }
+    Some(Gap::begin(slot, f))
+}
+
+impl ReplicaState {
+    /// Appends an entry that did not come through the receiver, which goes to the number after it.
+    pub fn append(&mut self, entry: Entry) -> Result<(), NoMemory>
+        requires { may_append self.old ≡ true }
+        ensures { OnOk result (self.new ≡ appended self.old entry) }
+    {
+        self.log.append(entry)?;
+        self.next += 1;
+        self.receiver.advance(self.next);
+        Ok(())
+    }
+
+    /// Puts a NO-OP into the next slot, for which votes are then counted.
+    fn put_gap(&mut self) -> Result<(), NoMemory>
+        requires { may_append self.old ≡ true }
+        ensures { OnOk result (self.new ≡ gap_opened self.old) }
+    {
+        self.append(Entry::NoOp)?;
+        self.gap = gap_in(self.log.len(), self.others());
+        Ok(())
+    }
+
+    /// Logs the request in front, where one stands there.
+    fn take_front(&mut self) -> Result<bool, NoMemory>
+        requires within { IsWithin self.old }
+        requires drains { drains self.old ≡ true }
+        ensures { IfOk result (TakesFront self.old self.new) }
+    {
+        let Some(request) = self.receiver.take_message() else {
+            return Ok(false);
+        };
+        self.log.append(Entry::Req(request))?;
+        self.next = self.receiver.next();
+        Ok(true)
+    }
+
+    /// Whether the receiver has a drop in front.
+    pub fn has_drop(&self) -> bool
+        ensures drop { IsTrue result ↔ (front_of self.now.receiver ≡ Dropped) }
+        ensures more { IsTrue result → self.now.receiver.next < NUMBER_END }
+    {
+        let _next = self.receiver.next();
+        matches!(self.receiver.front(), Some(Upcall::Drop))
+    }
+}
+
+impl<H: Host> Member<H> {
+    /// The same, with what was executed.
+    #[tactic(auto, using(crate::proofs::Running::append_runs))]
+    pub fn append(&mut self, entry: Entry) -> Result<(), NoMemory>
+        requires runs { Runs H.state H.meaning H.undo_of self.old.state self.old.executor }
+        requires room { may_append self.old.state ≡ true }
+        requires fits { EntryFits entry }
+        ensures runs { OnOk result (Runs H.state H.meaning H.undo_of self.new.state self.new.executor) }
+        ensures executor { self.new.executor ≡ self.old.executor }
+        ensures sends { self.new.sends ≡ self.old.sends }
+        ensures state { OnOk result (self.new.state ≡ appended self.old.state entry) }
+    {
+        self.state.append(entry)
+    }
+
+    /// Puts a NO-OP into the next slot, and tells all others.
+    #[tactic(auto, using(crate::proofs::Running::open_gap_runs), unfolding(crate::specs::Moves::open_gap))]
+    pub fn open_gap(&mut self) -> Result<(), NoMemory>
+        requires runs { Runs H.state H.meaning H.undo_of self.old.state self.old.executor }
+        requires room { may_append self.old.state ≡ true }
+        ensures runs { OnOk result (Runs H.state H.meaning H.undo_of self.new.state self.new.executor) }
+        ensures state { OnOk result (self.new.state ≡ (open_gap self.old.state).0) }
+        ensures sends { OnOk result (self.new.sends ≡ self.old.sends ++ (open_gap self.old.state).1) }
+    {
+        self.state.put_gap()?;
+        let slot = self.state.log.len();
+        self.to_all(Body::GapCommit(slot))
+    }
+
+    /// Asks the leader for the next slot, once.
+    fn ask(&mut self) -> Result<(), NoMemory>
+        requires runs { Runs H.state H.meaning H.undo_of self.old.state self.old.executor }
+        requires room { length self.old.state.log < MAX_SLOTS }
+        ensures runs { OnOk result (Runs H.state H.meaning H.undo_of self.new.state self.new.executor) }
+        ensures state { OnOk result (self.new.state ≡ (ask self.old.state).0) }
+        ensures sends { OnOk result (self.new.sends ≡ self.old.sends ++ (ask self.old.state).1) }
+    {
+        let slot = self.state.log.len() + 1;
+        if self.state.asked == slot {
+            return Ok(());
+        }
+        self.state.asked = slot;
+        self.to_leader(Body::SlotLookup(slot))
+    }
+
+    /// Takes what stands in front, where it may: a request is logged; at a drop a leader opens a gap, and a follower asks for
+    /// the slot. Says whether it goes on.
+    fn drain_one(&mut self) -> Result<bool, NoMemory>
+        requires runs { Runs H.state H.meaning H.undo_of self.old.state self.old.executor }
+        ensures runs { OnOk result (Runs H.state H.meaning H.undo_of self.new.state self.new.executor) }
+        ensures taken { IfOk result (TakesOne H.meaning self.old.state self.old.sends self.new.state self.new.sends) }
+    {
+        if !self.state.drains() {
+            return Ok(false);
+        }
+        if self.state.take_front()? {
+            let slot = self.state.log.len();
+            self.reply_at(slot)?;
+            return Ok(true);
+        }
+        if !self.state.has_drop() {
+            return Ok(false);
+        }
+        if self.state.leads() {
+            self.open_gap()?;
+            return Ok(true);
+        }
+        self.ask()?;
+        Ok(false)
+    }
+
+    /// Takes what stands in front, one after the other.
+    pub fn drain(&mut self) -> Result<(), NoMemory>
+        requires runs { Runs H.state H.meaning H.undo_of self.old.state self.old.executor }
+        ensures runs { OnOk result (Runs H.state H.meaning H.undo_of self.new.state self.new.executor) }
+        ensures state { OnOk result (self.new.state ≡ (drain H.meaning self.old.state).0) }
+        ensures sends { OnOk result (self.new.sends ≡ self.old.sends ++ (drain H.meaning self.old.state).1) }
+    {
+        for _ in 0..MAX_SLOTS {
+            if !self.drain_one()? {
+                return Ok(());
+            }
+        }
+        Ok(())
+    }
+}

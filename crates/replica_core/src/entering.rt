@@ -1,0 +1,115 @@
+ghost use Rattle.std.specs.Prelude.{◌≡◌, ◌≤◌, ◌++◌, OnOk, IfOk};
+ghost use Rattle.nop_types.specs.Ranges.{ViewFits};
+ghost use Rattle.nop_types.specs.Views.{AtMost};
+ghost use Rattle.replica_core.specs.Moves.{left, entered, enter, own_change, change_told};
+ghost use Rattle.replica_core.specs.Rows.{enter_view, enter_and_drain};
+ghost use Rattle.replica_core.specs.Within.{IsWithin, Runs};
+
+use crate::ReplicaState;
+use crate::member::Member;
+use nop_types::{Body, Change, Host, NoMemory, Phase, View};
+use view_change::Changes;
+
+impl ReplicaState {
+    /// Nothing of the view that is left stays: no gap, no votes, no changes. The replica listens for the leader of the new one.
+    pub fn leave(&mut self)
+        ensures { self.new ≡ left self.old }
+    {
+        self.gap = None;
+        self.sync.clear();
+        self.changes = None;
+        self.asked = 0;
+        self.heard = true;
+    }
+
+    /// Goes to a greater view, and waits for it to start.
+    fn go_to(&mut self, view: View)
+        ensures { self.new ≡ entered self.old view }
+    {
+        if self.view.session < view.session && self.receiver.session() != view.session {
+            self.receiver.reset(view.session, 1);
+        }
+        self.leave();
+        self.view = view;
+        self.status = Phase::Change;
+    }
+
+    /// What a replica tells the leader of the view that it enters.
+    fn own_change(&self) -> Result<Change, NoMemory>
+        ensures { IfOk result (λ c. c ≡ own_change self.now) }
+    {
+        Ok(Change {
+            sender: self.number,
+            last_normal: self.last_normal,
+            next: self.next,
+            log: self.log.copy(self.log.len())?,
+        })
+    }
+}
+
+impl<H: Host> Member<H> {
+    /// Sends the own change to the leader of the view.
+    pub fn send_change(&mut self) -> Result<(), NoMemory>
+        requires within { IsWithin self.old.state }
+        ensures state { self.new.state ≡ self.old.state }
+        ensures executor { self.new.executor ≡ self.old.executor }
+        ensures sends { OnOk result (self.new.sends ≡ self.old.sends ++ change_told self.old.state) }
+    {
+        let own = self.state.own_change()?;
+        self.to_leader(Body::ViewChange {
+            last_normal: own.last_normal,
+            next: own.next,
+            log: own.log,
+        })
+    }
+
+    #[tactic(auto, unfolding(crate::specs::Moves::enter))]
+    fn enter(&mut self, view: View) -> Result<(), NoMemory>
+        requires runs { Runs H.state H.meaning H.undo_of self.old.state self.old.executor }
+        requires fits { ViewFits view }
+        ensures runs { OnOk result (Runs H.state H.meaning H.undo_of self.new.state self.new.executor) }
+        ensures state { OnOk result (self.new.state ≡ (enter self.old.state view).0) }
+        ensures sends { OnOk result (self.new.sends ≡ self.old.sends ++ (enter self.old.state view).1) }
+    {
+        self.state.go_to(view);
+        self.to_all(Body::ViewChangeReq)?;
+        if !self.state.leads() {
+            return self.send_change();
+        }
+        let own = self.state.own_change()?;
+        let changes = Changes::enter(self.alloc, view, self.state.others(), own)?;
+        self.state.changes = Some(changes);
+        Ok(())
+    }
+
+    /// Enters a greater view; its leader starts it at once where it is alone.
+    #[tactic(auto, unfolding(crate::specs::Rows::enter_view))]
+    fn enter_view(&mut self, view: View) -> Result<(), NoMemory>
+        requires runs { Runs H.state H.meaning H.undo_of self.old.state self.old.executor }
+        requires fits { ViewFits view }
+        ensures runs { OnOk result (Runs H.state H.meaning H.undo_of self.new.state self.new.executor) }
+        ensures state { OnOk result (self.new.state ≡ (enter_view H.meaning self.old.state view).0) }
+        ensures sends { OnOk result (self.new.sends ≡ self.old.sends ++ (enter_view H.meaning self.old.state view).1) }
+    {
+        self.enter(view)?;
+        if self.state.others() > 0 {
+            return Ok(());
+        }
+        let Some(changes) = &mut self.state.changes else {
+            return Ok(());
+        };
+        let start = changes.start_now()?;
+        self.open_with(start)
+    }
+
+    pub fn enter_and_drain(&mut self, view: View) -> Result<(), NoMemory>
+        requires runs { Runs H.state H.meaning H.undo_of self.old.state self.old.executor }
+        requires fits { ViewFits view }
+        ensures runs { OnOk result (Runs H.state H.meaning H.undo_of self.new.state self.new.executor) }
+        ensures state { OnOk result (self.new.state ≡ (enter_and_drain H.meaning view self.old.state).0) }
+        ensures sends { OnOk result (self.new.sends ≡ self.old.sends ++ (enter_and_drain H.meaning view self.old.state).1) }
+    {
+        self.enter_view(view)?;
+        self.drain()
+    }
+}

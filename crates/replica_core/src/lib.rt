@@ -1,0 +1,27 @@
+//! The replica core: its rows over whole messages, and the way of those messages as fragments.
+#![tactic(auto)]
+
+mod arrivals;
+mod drain;
+mod entering;
+mod execution;
+mod follower;
+mod laws;
+mod leader;
+mod member;
+mod posting;
+mod replica;
+mod reply;
+mod sending;
+mod starting;
+mod state;
+mod ticks;
+mod view_changes;
+
+pub use laws::{messages_are_cut, rows_send_few_messages};
+pub use replica::Replica;
+pub use sending::{Sending, Sends};
+pub use state::{LAST_MESSAGE, RESEND_MILLIS, ReplicaState, SYNC_MILLIS, WATCH_MILLIS};
+
+#[cfg(test)]
+mod tests;

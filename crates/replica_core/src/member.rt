@@ -1,0 +1,85 @@
+ghost use Rattle.std.specs.Prelude.{◌≡◌, ◌≤◌, ◌<◌, ◌++◌, ◌+◌, OnOk};
+ghost use Rattle.nop_types.specs.Ranges.{BodyFits};
+ghost use Rattle.replica_core.specs.Sends.{message, to_replica, to_leader, to_all};
+ghost use Rattle.replica_core.specs.Within.{IsWithin};
+
+use crate::{ReplicaState, Sending, Sends};
+use executor::Executor;
+use nop_types::{Actor, Body, Dest, Host, NoMemory, Peer};
+use std::alloc::Global;
+
+/// A replica over whole messages: its state, the execution of its log, and what it sends in this step.
+#[derive(Drop)]
+pub struct Member<H: Host> {
+    pub alloc: Global,
+    pub state: ReplicaState,
+    pub executor: Executor<H>,
+    pub sends: Sends,
+}
+
+impl ReplicaState {
+    fn message(&self, body: Body) -> Peer
+        ensures { result ≡ message self.now body }
+    {
+        Peer {
+            sender: self.number,
+            view: self.view,
+            body,
+        }
+    }
+
+    /// Sends a message to a replica.
+    pub fn send_to(&self, replica: u8, body: Body, sends: &mut Sends) -> Result<(), NoMemory>
+        requires within { IsWithin self.now }
+        requires fits { BodyFits body }
+        ensures { OnOk result (sends.new ≡ sends.old ++ to_replica self.now replica body) }
+    {
+        let dest = Dest::One(Actor::Replica(replica));
+        sends.push(Sending::ToReplicas(dest, self.message(body)))
+    }
+
+    /// Sends a message to all others, where there are others.
+    pub fn send_to_all(&self, body: Body, sends: &mut Sends) -> Result<(), NoMemory>
+        requires within { IsWithin self.now }
+        requires fits { BodyFits body }
+        ensures { OnOk result (sends.new ≡ sends.old ++ to_all self.now body) }
+    {
+        if self.others() == 0 {
+            return Ok(());
+        }
+        sends.push(Sending::ToReplicas(Dest::Replicas, self.message(body)))
+    }
+}
+
+impl<H: Host> Member<H> {
+    pub fn to_replica(&mut self, replica: u8, body: Body) -> Result<(), NoMemory>
+        requires within { IsWithin self.old.state }
+        requires fits { BodyFits body }
+        ensures state { self.new.state ≡ self.old.state }
+        ensures executor { self.new.executor ≡ self.old.executor }
+        ensures sends { OnOk result (self.new.sends ≡ self.old.sends ++ to_replica self.old.state replica body) }
+    {
+        self.state.send_to(replica, body, &mut self.sends)
+    }
+
+    pub fn to_leader(&mut self, body: Body) -> Result<(), NoMemory>
+        requires within { IsWithin self.old.state }
+        requires fits { BodyFits body }
+        ensures state { self.new.state ≡ self.old.state }
+        ensures executor { self.new.executor ≡ self.old.executor }
+        ensures sends { OnOk result (self.new.sends ≡ self.old.sends ++ to_leader self.old.state body) }
+    {
+        self.state
+            .send_to(self.state.leader(), body, &mut self.sends)
+    }
+
+    pub fn to_all(&mut self, body: Body) -> Result<(), NoMemory>
+        requires within { IsWithin self.old.state }
+        requires fits { BodyFits body }
+        ensures state { self.new.state ≡ self.old.state }
+        ensures executor { self.new.executor ≡ self.old.executor }
+        ensures sends { OnOk result (self.new.sends ≡ self.old.sends ++ to_all self.old.state body) }
+    {
+        self.state.send_to_all(body, &mut self.sends)
+    }
+}

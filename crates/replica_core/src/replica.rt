@@ -1,0 +1,303 @@
+ghost use Rattle.std.specs.Prelude.{◌≡◌, ◌≤◌, ◌<◌, ◌++◌, false, OnOk, IfOk};
+ghost use Rattle.nop_types.specs.declared.limits.TheConstants.{MAX_SLOTS};
+ghost use Rattle.nop_types.specs.Given.{given};
+ghost use Rattle.nop_types.specs.Ranges.{ViewFits, LogFits};
+ghost use Rattle.peer_codec.specs.Reading as peer;
+ghost use Rattle.replica_core.specs.State as words;
+ghost use Rattle.replica_core.specs.State.{executed_to};
+ghost use Rattle.replica_core.specs.Messages.{arrive};
+ghost use Rattle.replica_core.specs.ReplicaSteps.{replica_of, arrival_of, row, read, next, opening};
+ghost use Rattle.replica_core.specs.ReplicaSteps as steps;
+ghost use Rattle.replica_core.specs.Within.{ArrivalFits, Runs, IsReady};
+
+use crate::member::Member;
+use crate::posting::post;
+use crate::{LAST_MESSAGE, RESEND_MILLIS, ReplicaState, SYNC_MILLIS, Sends, WATCH_MILLIS};
+use executor::Executor;
+use fragments::Reassembly;
+use nop_types::{
+    Bytes, Config, Core, Datagram, Fragment, Host, Input, NoMemory, Outbox, Peer, Phase, Stamped,
+    Tick, View,
+};
+use oum_codec::{Bad, decode};
+use oum_receiver::Receiver;
+use peer_codec::{BadPeer, decode_peer};
+use replica_log::ReplicaLog;
+use std::alloc::Global;
+use std::marker::Model;
+use std::mem;
+use sync_points::SyncPoints;
+
+/// A replica with what its messages need, while it has not failed.
+#[derive(Drop)]
+struct Node<H: Host> {
+    member: Member<H>,
+    /// The last message number that was used.
+    messages: u64,
+    reassembly: Reassembly,
+}
+
+/// A replica of a service. It logs the requests of its session in the order of their numbers and replies for each; it agrees
+/// with the others on the slots whose requests were lost, on the log that a new view starts with, and on synchronised prefixes.
+#[derive(Drop)]
+pub struct Replica<H: Host> {
+    failed: bool,
+    node: Node<H>,
+}
+
+impl<H: Host> Model for Replica<H> {
+    ghost use Rattle.std.specs.Prelude.{◌≡◌, false};
+    ghost use Rattle.nop_types.specs.Kept.{Kept};
+    ghost use Rattle.replica_core.specs.ReplicaSteps as steps;
+    ghost use Rattle.replica_core.specs.Code.{kept_code};
+    ghost use Rattle.replica_core.specs.Within.{IsReady};
+
+    ghost Value = { Kept steps.Replica };
+
+    ghost coded = { kept_code };
+
+    ghost view = { λ r. record { failed = r.failed; state = steps.replica_of r.node } };
+
+    ghost invariant = { λ r. r.failed ≡ false → IsReady H.state H.meaning H.undo_of r.node };
+}
+
+/// What a whole input is: a stamped request, a message of another replica, or a tick.
+#[derive(Drop)]
+enum Arrival {
+    Stamped(Stamped),
+    Told(Peer),
+    Ticked(Tick),
+}
+
+/// The state of a replica before its first input.
+fn opening_state(alloc: Global, config: Config, number: u8) -> Result<ReplicaState, NoMemory>
+    ensures { IfOk result (λ s. s ≡ words.opening config number) }
+{
+    let first = View {
+        leader: 0,
+        session: 1,
+    };
+    Ok(ReplicaState {
+        config,
+        number,
+        view: first,
+        status: Phase::Normal,
+        last_normal: first,
+        log: ReplicaLog::new(alloc),
+        next: 1,
+        base: 0,
+        receiver: Receiver::new(alloc, 1, 1)?,
+        gap: None,
+        sync: SyncPoints::new(config.replicas() / 2),
+        changes: None,
+        asked: 0,
+        heard: true,
+    })
+}
+
+impl<H: Host> Member<H> {
+    /// The row for what arrives.
+    #[tactic(auto, unfolding(crate::specs::Messages::arrive))]
+    fn arrive(&mut self, arrival: Arrival) -> Result<(), NoMemory>
+        requires runs { Runs H.state H.meaning H.undo_of self.old.state self.old.executor }
+        requires fits { ArrivalFits (arrival_of arrival) }
+        ensures runs { OnOk result (Runs H.state H.meaning H.undo_of self.new.state self.new.executor) }
+        ensures state { OnOk result (self.new.state ≡ (arrive H.meaning self.old.state (arrival_of arrival)).0) }
+        ensures sends { OnOk result (self.new.sends ≡ self.old.sends ++ (arrive H.meaning self.old.state (arrival_of arrival)).1) }
+    {
+        match arrival {
+            Arrival::Stamped(packet) => self.stamped(&packet),
+            Arrival::Told(message) => self.told(message),
+            Arrival::Ticked(tick) => self.ticked(tick),
+        }
+    }
+}
+
+impl<H: Host> Node<H> {
+    /// The row for what arrives, while message numbers are left, and the datagrams of what it sends.
+    #[tactic(auto, using(crate::proofs::Counting::arrive_sends_few, crate::proofs::Counting::arrive_keeps_config))]
+    fn arrive(&mut self, arrival: Arrival, out: &mut Outbox) -> Result<(), NoMemory>
+        requires ready { IsReady H.state H.meaning H.undo_of self.old }
+        requires fits { ArrivalFits (arrival_of arrival) }
+        ensures ready { OnOk result (IsReady H.state H.meaning H.undo_of self.new) }
+        ensures state { OnOk result (replica_of self.new ≡ (row H.meaning (replica_of self.old) (arrival_of arrival)).0) }
+        ensures out { OnOk result (out.new ≡ out.old ++ (row H.meaning (replica_of self.old) (arrival_of arrival)).1) }
+    {
+        if self.messages >= LAST_MESSAGE {
+            return Ok(());
+        }
+        self.member.arrive(arrival)?;
+        self.member.settle()?;
+        let alloc = self.member.alloc;
+        let sends = mem::replace(&mut self.member.sends, Sends::new(alloc));
+        self.messages = post(alloc, self.messages, sends, out)?;
+        Ok(())
+    }
+
+    /// Bytes that were joined of the fragments of a replica.
+    fn joined(&mut self, replica: u8, bytes: &Bytes, out: &mut Outbox) -> Result<(), NoMemory>
+        requires { IsReady H.state H.meaning H.undo_of self.old }
+        ensures ready { OnOk result (IsReady H.state H.meaning H.undo_of self.new) }
+        ensures state { OnOk result (replica_of self.new ≡ (read H.meaning (replica_of self.old) replica (peer.reading bytes.now)).0) }
+        ensures out { OnOk result (out.new ≡ out.old ++ (read H.meaning (replica_of self.old) replica (peer.reading bytes.now)).1) }
+    {
+        match decode_peer(self.member.alloc, bytes.as_slice()) {
+            Ok(message) => {
+                if message.sender != replica {
+                    return Ok(());
+                }
+                self.arrive(Arrival::Told(message), out)
+            }
+            Err(BadPeer::NoMemory) => Err(NoMemory),
+            Err(_) => Ok(()),
+        }
+    }
+
+    /// A fragment comes, of another replica or else for nobody.
+    #[tactic(auto, unfolding(crate::specs::ReplicaSteps::fragment))]
+    fn fragment(&mut self, fragment: &Fragment, out: &mut Outbox) -> Result<(), NoMemory>
+        requires { IsReady H.state H.meaning H.undo_of self.old }
+        ensures ready { OnOk result (IsReady H.state H.meaning H.undo_of self.new) }
+        ensures state { OnOk result (replica_of self.new ≡ (steps.fragment H.meaning (replica_of self.old) fragment.now).0) }
+        ensures out { OnOk result (out.new ≡ out.old ++ (steps.fragment H.meaning (replica_of self.old) fragment.now).1) }
+    {
+        if !self.member.state.is_other(fragment.replica) {
+            return Ok(());
+        }
+        match self.reassembly.take(fragment)? {
+            Some(bytes) => self.joined(fragment.replica, &bytes, out),
+            None => Ok(()),
+        }
+    }
+
+    /// One step, which may leave anything where memory runs out.
+    #[tactic(auto, unfolding(crate::specs::ReplicaSteps::next))]
+    fn act(&mut self, input: Input<'_>, out: &mut Outbox) -> Result<(), NoMemory>
+        requires { IsReady H.state H.meaning H.undo_of self.old }
+        ensures ready { OnOk result (IsReady H.state H.meaning H.undo_of self.new) }
+        ensures state { OnOk result (replica_of self.new ≡ (next H.meaning (replica_of self.old) (given input.entry)).0) }
+        ensures out { OnOk result (out.new ≡ out.old ++ (next H.meaning (replica_of self.old) (given input.entry)).1) }
+    {
+        let bytes = match input {
+            Input::Tick(tick) => return self.arrive(Arrival::Ticked(tick), out),
+            Input::Submit(_) => return Ok(()),
+            Input::Packet(bytes) => bytes,
+        };
+        match decode(self.member.alloc, bytes) {
+            Ok(Datagram::Stamped(packet)) => self.arrive(Arrival::Stamped(packet), out),
+            Ok(Datagram::Fragment(fragment)) => self.fragment(&fragment, out),
+            Ok(_) => Ok(()),
+            Err(Bad::NoMemory) => Err(NoMemory),
+            Err(_) => Ok(()),
+        }
+    }
+}
+
+impl<H: Host> Replica<H> {
+    pub fn new(alloc: Global, config: Config, number: u8) -> Result<Replica<H>, NoMemory>
+        requires { number < config.replicas }
+        ensures { IfOk result (λ r. r ≡ record { failed = false; state = opening config number }) }
+    {
+        let state = opening_state(alloc, config, number)?;
+        Ok(Replica {
+            failed: false,
+            node: Node {
+                member: Member {
+                    alloc,
+                    state,
+                    executor: Executor::new(alloc)?,
+                    sends: Sends::new(alloc),
+                },
+                messages: 0,
+                reassembly: Reassembly::new(alloc, config.replicas())?,
+            },
+        })
+    }
+
+    pub fn view(&self) -> View
+        ensures value { result ≡ self.now.state.state.view }
+        ensures fits { self.now.failed ≡ false → ViewFits result }
+    {
+        self.node.member.state.view
+    }
+
+    pub fn status(&self) -> Phase
+        ensures { result ≡ self.now.state.state.status }
+    {
+        self.node.member.state.status
+    }
+
+    /// The last view in which the replica had status Normal.
+    pub fn last_normal(&self) -> View
+        ensures value { result ≡ self.now.state.state.last_normal }
+        ensures fits { self.now.failed ≡ false → ViewFits result }
+    {
+        self.node.member.state.last_normal
+    }
+
+    pub fn log(&self) -> &ReplicaLog
+        ensures value { result.now ≡ self.now.state.state.log }
+        ensures fits { self.now.failed ≡ false → LogFits result.now }
+    {
+        &self.node.member.state.log
+    }
+
+    /// Up to this slot the replica's log is synchronised.
+    pub fn sync_point(&self) -> u32
+        ensures value { result ≡ self.now.state.state.sync.sync_point }
+        ensures limit { self.now.failed ≡ false → result ≤ MAX_SLOTS }
+    {
+        self.node.member.state.sync.sync_point()
+    }
+
+    /// How many slots the host has executed: a leader in Normal has the whole log, another what is synchronised.
+    pub fn executed(&self) -> u32
+        ensures { self.now.failed ≡ false → result ≡ executed_to self.now.state.state }
+    {
+        self.node.member.executor.executed()
+    }
+}
+
+impl<H: Host> Core for Replica<H> {
+    ghost use Rattle.std.specs.Prelude.{false};
+    ghost use Rattle.replica_core.specs.ReplicaSteps as steps;
+    ghost use Rattle.replica_core.specs.ReplicaSteps.{timers, next};
+
+    ghost State = { steps.Replica };
+
+    ghost state = { λ r. r.state };
+
+    ghost has_failed = { λ r. r.failed };
+
+    ghost next = { next H.meaning };
+
+    ghost timers = { timers };
+
+    ghost is_done = { λ _. false };
+
+    fn step(&mut self, input: Input<'_>, out: &mut Outbox) -> Result<(), NoMemory> {
+        if self.failed {
+            return Err(NoMemory);
+        }
+        let mut made = Outbox::new(self.node.member.alloc);
+        let acted = self.node.act(input, &mut made);
+        if acted.is_err() || out.append(made).is_err() {
+            self.failed = true;
+            return Err(NoMemory);
+        }
+        Ok(())
+    }
+
+    fn timer(&self, i: u8) -> Option<(Tick, u64)> {
+        match i {
+            0 => Some((Tick::Resend, RESEND_MILLIS)),
+            1 => Some((Tick::Sync, SYNC_MILLIS)),
+            2 => Some((Tick::Watch, WATCH_MILLIS)),
+            _ => None,
+        }
+    }
+
+    fn done(&self) -> bool {
+        false
+    }
+}

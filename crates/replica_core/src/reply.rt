@@ -1,0 +1,87 @@
+ghost use Rattle.std.specs.Prelude.{◌≡◌, ◌≤◌, ◌<◌, ◌++◌, ◌+◌, length, OnOk};
+ghost use Rattle.nop_types.specs.declared.limits.TheConstants.{MAX_RESULT_BYTES};
+ghost use Rattle.nop_types.specs.Ranges.{SlotFits};
+ghost use Rattle.replica_core.specs.Replies.{reply_with, reply_at, replies_above};
+ghost use Rattle.replica_core.specs.Within.{IsWithin, Runs};
+
+use crate::member::Member;
+use crate::{ReplicaState, Sending, Sends};
+use nop_types::{Bytes, Entry, Host, NoMemory, Reply};
+
+impl ReplicaState {
+    /// Sends a reply to a client.
+    fn send_reply(
+        &self,
+        slot: u32,
+        client: u32,
+        id: u64,
+        tag: u8,
+        answer: Bytes,
+        sends: &mut Sends,
+    ) -> Result<(), NoMemory>
+        requires within { IsWithin self.now }
+        requires slot { SlotFits slot }
+        requires id { 1 ≤ id }
+        requires tag { tag ≤ 1 }
+        requires short { length answer ≤ MAX_RESULT_BYTES }
+        requires without { tag ≡ 0 → length answer ≡ 0 }
+        ensures { OnOk result (sends.new ≡ sends.old ++ reply_with self.now slot client id tag answer) }
+    {
+        sends.push(Sending::ToClient(Reply {
+            replica: self.number,
+            view: self.view,
+            slot,
+            client,
+            id,
+            tag,
+            result: answer,
+        }))
+    }
+}
+
+impl<H: Host> Member<H> {
+    /// Replies for a slot, where a request stands there: a leader with its result, a follower without.
+    #[tactic(auto, unfolding(crate::specs::Replies::reply_to))]
+    pub fn reply_at(&mut self, slot: u32) -> Result<(), NoMemory>
+        requires runs { Runs H.state H.meaning H.undo_of self.old.state self.old.executor }
+        requires there { slot ≤ length self.old.state.log }
+        requires ahead { length self.old.executor.undos < slot }
+        ensures state { self.new.state ≡ self.old.state }
+        ensures runs { OnOk result (Runs H.state H.meaning H.undo_of self.new.state self.new.executor) }
+        ensures behind { OnOk result (length self.new.executor.undos ≤ slot) }
+        ensures sends { OnOk result (self.new.sends ≡ self.old.sends ++ reply_at H.meaning self.old.state slot) }
+    {
+        let Some(Entry::Req(request)) = self.state.log.at(slot) else {
+            return Ok(());
+        };
+        let client = request.client;
+        let id = request.id;
+        if !self.state.leads() {
+            let none = Bytes::from_vec(Vec::new(self.alloc));
+            return self
+                .state
+                .send_reply(slot, client, id, 0, none, &mut self.sends);
+        }
+        self.executor.run_to(&self.state.log, slot)?;
+        let Some(answer) = self.executor.result(client, id) else {
+            return Ok(());
+        };
+        let answer = answer.try_clone()?;
+        self.state
+            .send_reply(slot, client, id, 1, answer, &mut self.sends)
+    }
+
+    /// Replies for each request above a slot, in the order of their slots.
+    pub fn replies_above(&mut self, slot: u32) -> Result<(), NoMemory>
+        requires runs { Runs H.state H.meaning H.undo_of self.old.state self.old.executor }
+        requires behind { length self.old.executor.undos ≤ slot }
+        ensures state { self.new.state ≡ self.old.state }
+        ensures runs { OnOk result (Runs H.state H.meaning H.undo_of self.new.state self.new.executor) }
+        ensures sends { OnOk result (self.new.sends ≡ self.old.sends ++ replies_above H.meaning self.old.state slot) }
+    {
+        for at in slot..self.state.log.len() {
+            self.reply_at(at + 1)?;
+        }
+        Ok(())
+    }
+}

@@ -1,0 +1,118 @@
+ghost use Rattle.std.specs.Prelude.{◌≡◌, ◌≤◌, ◌<◌, ◌+◌, ◌-◌, length, option_map};
+ghost use Rattle.nop_types.specs.Views.{is_view};
+ghost use Rattle.replica_core.specs.State.{others, leader, leads, is_normal, has_room, may_append, drains};
+ghost use Rattle.replica_core.specs.State as words;
+ghost use Rattle.replica_core.specs.Within.{IsWithin};
+
+use gap_agree::Gap;
+use nop_types::{Config, NUMBER_END, Phase, View, leader_of};
+use oum_receiver::Receiver;
+use replica_log::ReplicaLog;
+use sync_points::SyncPoints;
+use view_change::Changes;
+
+/// The time between two resends of what was not answered.
+pub const RESEND_MILLIS: u64 = 50;
+
+/// The time between two synchronisations.
+pub const SYNC_MILLIS: u64 = 100;
+
+/// A follower that takes nothing of its leader for so long suspects it.
+pub const WATCH_MILLIS: u64 = 1000;
+
+/// A replica that used this message number, or a greater one, takes no row any more. A step uses at most eight.
+pub const LAST_MESSAGE: u64 = u64::MAX - 8;
+
+/// What a replica knows, apart from how its messages travel. `next` is the number of the request that it logs next, `base` how
+/// many entries its view started with, `asked` the slot that it asked for last (0 is none), and `heard` whether it heard of its
+/// leader since the last tick Watch.
+#[derive(Drop)]
+pub struct ReplicaState {
+    pub config: Config,
+    pub number: u8,
+    pub view: View,
+    pub status: Phase,
+    pub last_normal: View,
+    pub log: ReplicaLog,
+    pub next: u64,
+    pub base: u32,
+    pub receiver: Receiver,
+    pub gap: Option<Gap>,
+    pub sync: SyncPoints,
+    pub changes: Option<Changes>,
+    pub asked: u32,
+    pub heard: bool,
+}
+
+/// Whether two views are one.
+pub fn same_view(a: View, b: View) -> bool
+    ensures { result ≡ is_view a b }
+{
+    a.leader == b.leader && a.session == b.session
+}
+
+impl ReplicaState {
+    /// f: how many others make a quorum with a replica.
+    pub fn others(&self) -> u8
+        ensures { result ≡ others self.now }
+    {
+        self.config.replicas() / 2
+    }
+
+    /// The replica that leads the view.
+    pub fn leader(&self) -> u8
+        ensures leader { result ≡ leader self.now }
+        ensures within { result < self.now.config.replicas }
+    {
+        leader_of(self.view, self.config.replicas())
+    }
+
+    pub fn leads(&self) -> bool
+        ensures { result ≡ leads self.now }
+    {
+        self.leader() == self.number
+    }
+
+    pub fn is_normal(&self) -> bool
+        ensures { result ≡ is_normal self.now.status }
+    {
+        self.status == Phase::Normal
+    }
+
+    /// Whether a gap waits for votes.
+    pub fn waits(&self) -> bool
+        ensures { result ≡ words.waits self.now.gap }
+    {
+        self.gap.is_some()
+    }
+
+    /// The slot whose gap waits for votes.
+    pub fn gap_slot(&self) -> Option<u32>
+        ensures { result ≡ option_map (λ g. g.slot) self.now.gap }
+    {
+        self.gap.as_ref().map(|gap| gap.slot())
+    }
+
+    /// Whether the log has room for an entry, and there is a number for the one after it.
+    pub fn may_append(&self) -> bool
+        ensures { result ≡ may_append self.now }
+    {
+        self.log.has_room() && self.next < NUMBER_END
+    }
+
+    /// Whether what stands in front of the receiver may be taken.
+    pub fn drains(&self) -> bool
+        ensures { result ≡ drains self.now }
+    {
+        self.is_normal() && !self.waits() && self.log.has_room()
+    }
+
+    /// The number at which the view started.
+    pub fn start(&self) -> u64
+        requires { IsWithin self.now }
+        ensures value { result ≡ self.now.next - (length self.now.log - self.now.base) }
+        ensures low { 1 ≤ result }
+    {
+        self.next - u64::from(self.log.len() - self.base)
+    }
+}
