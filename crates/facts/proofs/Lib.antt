@@ -1,0 +1,9 @@
+pub mod Bools
+pub mod Functions
+pub mod Members
+pub mod Numbers
+pub mod Options
+pub mod Places
+pub mod Prefixes
+pub mod Slots
+pub mod Views
