@@ -3,6 +3,7 @@ use Rattle.std.proofs.Common.{◌≡◌, ℕ, ◌+◌, ◌≤◌, Bool, true, fa
 use Rattle.std.specs.Prelude.{◌==◌, not, filter, count_by}
 use Rattle.std.proofs.lemmas.List.Recursion.{is_count_by}
 use Rattle.std.proofs.lemmas.Bool.Decides.{nat_tests}
+use Rattle.std.proofs.lemmas.Bool.{eqb-true}
 use Rattle.nop_types.specs.declared.datagram.Reply.{Reply}
 use Rattle.client_quorum.specs.KeptReplies.{HasOneEach, keep_reply}
 
@@ -19,7 +20,7 @@ grows : (b : Bool) (m n : ℕ) → m ≤ n → cond b (1 + m) m ≤ cond b (1 + 
 grows true m n h = omega (arith, h)
 grows false m n h = h
 
-above : (b : Bool) (n : ℕ) → n ≤ cond b (1 + n) n
+pub above : (b : Bool) (n : ℕ) → n ≤ cond b (1 + n) n
 above true n = omega arith
 above false n = omega arith
 
@@ -52,15 +53,12 @@ pub times_push : (r : ℕ) (ks : List Reply) (p : Reply) → times r (ks ++ p �
 times_push r [] p = omega arith
 times_push r (k ∷ ks) p = plus (k.replica == r) (times r (ks ++ p ∷ [])) (times r ks) (one_if (p.replica == r)) (times_push r ks p)
 
-same_number : (m n : ℕ) → (m == n) ≡ true → m ≡ n
-same_number m n e = grind (arith, nat_tests, e)
-
 kept_times : (r : ℕ) (p : Reply) (ks : List Reply) → times r ks ≤ 1 → times r (keep_reply ks p) ≤ 1
 kept_times r p ks one = at (p.replica == r) refl
   where
     at : (b : Bool) → (p.replica == r) ≡ b → times r (keep_reply ks p) ≤ 1
     at true e =
-        let same : p.replica ≡ r = same_number p.replica r e in
+        let same : p.replica ≡ r = eqb-true p.replica r e in
         let none : times r (filter (λ k. not (k.replica == p.replica)) ks) ≡ 0 = rw same (none_left r ks) in
         let push : times r (keep_reply ks p) ≡ times r (filter (λ k. not (k.replica == p.replica)) ks) + one_if (p.replica == r) = times_push r (filter (λ k. not (k.replica == p.replica)) ks) p in
         let one : one_if (p.replica == r) ≡ 1 = rw e refl in

@@ -1,5 +1,4 @@
 pub mod KeptReplies
-pub mod Members
 pub mod Quorums
 pub mod Received
 pub mod Rows

@@ -3,45 +3,28 @@ use Rattle.std.proofs.Common.{◌≡◌, ℕ, zero, suc, ◌+◌, ◌≤◌, Boo
 use Rattle.std.specs.Prelude.{◌==◌, ◌&&◌, ◌/◌, nat_le, find, count_by, slice_get, if◌then◌else◌}
 use Rattle.std.proofs.lemmas.Bool.Decides.{nat_tests}
 use Rattle.std.proofs.lemmas.List.Sums.{length-filter}
+use Rattle.std.proofs.lemmas.Bool.{eq-eqb, leb-true, le-leb, and_from, and_parts, eqb-true}
+use Rattle.std.proofs.lemmas.Option.{none-some, same_Some}
 use Rattle.nop_types.specs.Lists.{Has}
 use Rattle.nop_types.specs.Views.{is_view, leader_of}
 use Rattle.nop_types.specs.declared.view.View.{View}
 use Rattle.nop_types.specs.declared.datagram.Reply.{Reply}
 use Rattle.nop_types.specs.declared.output.Out.TheVariants.{Accepted}
+use Rattle.facts.proofs.Views.{is_view-true, is_view-same}
+use Rattle.facts.proofs.Members.{Has-none, Has-from_find, find-some}
 use Rattle.client_quorum.specs.declared.client_state.ClientState.{ClientState}
 use Rattle.client_quorum.specs.ClientSteps.{is_expected, kept, accept_if, reply_if, reply}
 use Rattle.client_quorum.specs.KeptReplies.{HasOneEach, keep_reply, matches, is_leaders, quorum_of}
 use Rattle.client_quorum.specs.Runs.{HasQuorum}
-use Rattle.client_quorum.proofs.KeptReplies.{times, times_is, kept_one_each}
-use Rattle.client_quorum.proofs.Members.{has_none, find_has, finds}
-use Rattle.client_quorum.proofs.Turns.{both_true, is_same_true, none_apart, some_same}
-
-is_same : (m n : ℕ) → m ≡ n → (m == n) ≡ true
-is_same m n e = grind (arith, nat_tests, e)
-
-at_least : (m n : ℕ) → nat_le m n ≡ true → m ≤ n
-at_least m n e = grind (arith, nat_tests, e)
-
-is_at_least : (m n : ℕ) → m ≤ n → nat_le m n ≡ true
-is_at_least m n h = grind (arith, nat_tests, h)
-
-same_view : (a b : View) → is_view a b ≡ true → a ≡ b
-same_view a b e =
-    let t = both_true (a.leader == b.leader) (a.session == b.session) e in
-    let x = is_same_true a.leader b.leader t.0 in
-    let y = is_same_true a.session b.session t.1 in
-    λ i. record { leader = x i; session = y i }
-
-is_its_view : (a b : View) → a ≡ b → is_view a b ≡ true
-is_its_view a b e = rw (is_same a.leader b.leader (ap (λ (v : View). v.leader) e)) (is_same a.session b.session (ap (λ (v : View). v.session) e))
+use Rattle.client_quorum.proofs.KeptReplies.{above, times, times_is, kept_one_each}
 
 pub matched : (v : View) (slot : ℕ) (p : Reply) → matches v slot p ≡ true → (p.view ≡ v) × (p.slot ≡ slot)
 matched v slot p e =
-    let t = both_true (is_view p.view v) (p.slot == slot) e in
-    (same_view p.view v t.0, is_same_true p.slot slot t.1)
+    let t = and_parts (is_view p.view v) (p.slot == slot) e in
+    (is_view-true p.view v t.0, eqb-true p.slot slot t.1)
 
 pub is_matched : (v : View) (slot : ℕ) (p : Reply) → p.view ≡ v → p.slot ≡ slot → matches v slot p ≡ true
-is_matched v slot p at_view at_slot = rw (is_its_view p.view v at_view) (is_same p.slot slot at_slot)
+is_matched v slot p at_view at_slot = rw (is_view-same p.view v at_view) (eq-eqb p.slot slot at_slot)
 
 -- ---- a replica has one kept reply
 
@@ -49,24 +32,20 @@ once_more : (b : Bool) (n : ℕ) → b ≡ true → cond b (1 + n) n ≡ 1 + n
 once_more true n e = refl
 once_more false n e = absurd cc
 
-no_less : (b : Bool) (n : ℕ) → n ≤ cond b (1 + n) n
-no_less true n = omega arith
-no_less false n = omega arith
-
 first_counts : (r : ℕ) (k a : Reply) (ks : List Reply) → Some k ≡ Some a → a.replica ≡ r → times r (k ∷ ks) ≡ 1 + times r ks
-first_counts r k a ks e of = once_more (k.replica == r) (times r ks) (is_same k.replica r (ap (λ (x : Reply). x.replica) (some_same k a e) ∙ of))
+first_counts r k a ks e of = once_more (k.replica == r) (times r ks) (eq-eqb k.replica r (ap (λ (x : Reply). x.replica) (same_Some k a e) ∙ of))
 
 counted : (r : ℕ) (ks : List Reply) (i : ℕ) (a : Reply) → slice_get ks i ≡ Some a → a.replica ≡ r → 1 ≤ times r ks
-counted r [] i a e of = absurd (none_apart a e)
+counted r [] i a e of = absurd (none-some a e)
 counted r (k ∷ ks) zero a e of = let h = first_counts r k a ks e of in omega (arith, h)
 counted r (k ∷ ks) (suc i) a e of =
     let h = counted r ks i a e of in
-    let g = no_less (k.replica == r) (times r ks) in
+    let g = above (k.replica == r) (times r ks) in
     omega (arith, h, g)
 
 one_at : (r : ℕ) (ks : List Reply) → times r ks ≤ 1 → (i j : ℕ) (a b : Reply) → slice_get ks i ≡ Some a → a.replica ≡ r → slice_get ks j ≡ Some b → b.replica ≡ r → a ≡ b
-one_at r [] few i j a b e of f to = absurd (none_apart a e)
-one_at r (k ∷ ks) few zero zero a b e of f to = some_same a b (sym e ∙ f)
+one_at r [] few i j a b e of f to = absurd (none-some a e)
+one_at r (k ∷ ks) few zero zero a b e of f to = same_Some a b (sym e ∙ f)
 one_at r (k ∷ ks) few zero (suc j) a b e of f to =
     let h = first_counts r k a ks e of in
     let g = counted r ks j b f to in
@@ -76,7 +55,7 @@ one_at r (k ∷ ks) few (suc i) zero a b e of f to =
     let g = counted r ks i a e of in
     absurd (omega (arith, few, h, g))
 one_at r (k ∷ ks) few (suc i) (suc j) a b e of f to =
-    let g = no_less (k.replica == r) (times r ks) in
+    let g = above (k.replica == r) (times r ks) in
     one_at r ks (omega (arith, few, g)) i j a b e of f to
 
 pub same_reply : (ks : List Reply) (a b : Reply) → HasOneEach ks → Has ks a → Has ks b → a.replica ≡ b.replica → a ≡ b
@@ -93,11 +72,11 @@ module _ (n : ℕ) (ks : List Reply) (v : View) (slot : ℕ) where
 
   quorum_at : (z : Reply) (b : Bool) → nat_le (n / 2 + 1) (count_by (matches v slot) ks) ≡ b → (if b then find (λ k. matches v slot k && is_leaders n k) ks else None) ≡ Some z → HasQuorum n ks v slot z.result
   quorum_at z true t e =
-      let found = find_has (λ k. matches v slot k && is_leaders n k) ks z e in
-      let tests = both_true (matches v slot z) (is_leaders n z) found.1 in
+      let found = Has-from_find (λ k. matches v slot k && is_leaders n k) ks z e in
+      let tests = and_parts (matches v slot z) (is_leaders n z) found.1 in
       let place = matched v slot z tests.0 in
-      let leading = both_true (z.replica == leader_of z.view n) (z.tag == 1) tests.1 in
-      let many = at_least (n / 2 + 1) (count_by (matches v slot) ks) t in
+      let leading = and_parts (z.replica == leader_of z.view n) (z.tag == 1) tests.1 in
+      let many = leb-true (n / 2 + 1) (count_by (matches v slot) ks) t in
       let counts = length-filter (matches v slot) ks in
       record {
         enough = omega (arith, many, counts);
@@ -105,36 +84,32 @@ module _ (n : ℕ) (ks : List Reply) (v : View) (slot : ℕ) where
         member = found.0;
         at_view = place.0;
         at_slot = place.1;
-        leads = is_same_true z.replica (leader_of z.view n) leading.0 ∙ ap (λ (w : View). leader_of w n) place.0;
-        tagged = is_same_true z.tag 1 leading.1;
+        leads = eqb-true z.replica (leader_of z.view n) leading.0 ∙ ap (λ (w : View). leader_of w n) place.0;
+        tagged = eqb-true z.tag 1 leading.1;
         brings = refl;
       }
-  quorum_at z false t e = absurd (none_apart z e)
+  quorum_at z false t e = absurd (none-some z e)
 
   pub has_quorum : (z : Reply) → quorum_of n ks v slot ≡ Some z → HasQuorum n ks v slot z.result
   has_quorum z e = quorum_at z (nat_le (n / 2 + 1) (count_by (matches v slot) ks)) refl e
 
   leads_at : (z : Reply) → z.view ≡ v → z.replica ≡ leader_of v n → z.tag ≡ 1 → is_leaders n z ≡ true
   leads_at z at_view leads tagged =
-      rw (is_same z.replica (leader_of z.view n) (leads ∙ ap (λ (w : View). leader_of w n) (sym at_view))) (is_same z.tag 1 tagged)
-
-  both_hold : (a b : Bool) → a ≡ true → b ≡ true → (a && b) ≡ true
-  both_hold true b e f = f
-  both_hold false b e f = absurd cc
+      rw (eq-eqb z.replica (leader_of z.view n) (leads ∙ ap (λ (w : View). leader_of w n) (sym at_view))) (eq-eqb z.tag 1 tagged)
 
   pub gets_quorum : (result : List ℕ) → HasOneEach ks → HasQuorum n ks v slot result → (z : Reply) × (quorum_of n ks v slot ≡ Some z) × (z.result ≡ result)
   gets_quorum result one q =
       let counts = length-filter (matches v slot) ks in
       let many : n / 2 + 1 ≤ count_by (matches v slot) ks = omega (arith, q.enough, counts) in
-      let test = both_hold (matches v slot q.leaders) (is_leaders n q.leaders) (is_matched v slot q.leaders q.at_view q.at_slot) (leads_at q.leaders q.at_view q.leads q.tagged) in
-      let z = finds (λ k. matches v slot k && is_leaders n k) ks q.leaders q.member test in
-      let taken : quorum_of n ks v slot ≡ Some z.0 = rw (is_at_least (n / 2 + 1) (count_by (matches v slot) ks) many) z.1 in
+      let test = and_from (matches v slot q.leaders) (is_leaders n q.leaders) (is_matched v slot q.leaders q.at_view q.at_slot) (leads_at q.leaders q.at_view q.leads q.tagged) in
+      let z = find-some (λ k. matches v slot k && is_leaders n k) ks q.leaders q.member test in
+      let taken : quorum_of n ks v slot ≡ Some z.0 = rw (le-leb (n / 2 + 1) (count_by (matches v slot) ks) many) z.1 in
       let its = has_quorum z.0 taken in
-      let found = find_has (λ k. matches v slot k && is_leaders n k) ks z.0 z.1 in
-      let tests = both_true (matches v slot z.0) (is_leaders n z.0) found.1 in
+      let found = Has-from_find (λ k. matches v slot k && is_leaders n k) ks z.0 z.1 in
+      let tests = and_parts (matches v slot z.0) (is_leaders n z.0) found.1 in
       let place = matched v slot z.0 tests.0 in
-      let leading = both_true (z.0.replica == leader_of z.0.view n) (z.0.tag == 1) tests.1 in
-      let leads : z.0.replica ≡ leader_of v n = is_same_true z.0.replica (leader_of z.0.view n) leading.0 ∙ ap (λ (w : View). leader_of w n) place.0 in
+      let leading = and_parts (z.0.replica == leader_of z.0.view n) (z.0.tag == 1) tests.1 in
+      let leads : z.0.replica ≡ leader_of v n = eqb-true z.0.replica (leader_of z.0.view n) leading.0 ∙ ap (λ (w : View). leader_of w n) place.0 in
       (z.0, taken, ap (λ (k : Reply). k.result) (same_reply ks z.0 q.leaders one found.0 q.member (leads ∙ sym q.leads)) ∙ q.brings)
 
 -- ---- a reply accepts
@@ -144,11 +119,11 @@ module _ (s : ClientState) (p : Reply) (result : List ℕ) where
   Quorate = HasQuorum s.config.replicas (keep_reply s.replies p) p.view p.slot result
 
   accepted_at : (o : Option Reply) → quorum_of s.config.replicas (keep_reply s.replies p) p.view p.slot ≡ o → Has (accept_if (kept s p) p.id o).1 (Accepted s.number p.id result) → Quorate
-  accepted_at None e has = absurd (has_none (Accepted s.number p.id result) has)
+  accepted_at None e has = absurd (Has-none (Accepted s.number p.id result) has)
   accepted_at (Some z) e (zero, h) =
       let same : z.result ≡ result = cc in
       subst (λ (r : List ℕ). HasQuorum s.config.replicas (keep_reply s.replies p) p.view p.slot r) same (has_quorum s.config.replicas (keep_reply s.replies p) p.view p.slot z e)
-  accepted_at (Some z) e (suc i, h) = absurd (none_apart (Accepted s.number p.id result) h)
+  accepted_at (Some z) e (suc i, h) = absurd (none-some (Accepted s.number p.id result) h)
 
   pub accepted_by : is_expected s p ≡ true → Has (reply s p).1 (Accepted s.number p.id result) → Quorate
   accepted_by e =

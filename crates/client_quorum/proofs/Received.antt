@@ -3,6 +3,8 @@ use Rattle.std.proofs.Common.{◌≡◌, ℕ, zero, suc, ◌+◌, ◌<◌, ◌�
 use Rattle.std.specs.Prelude.{◌==◌, ◌&&◌, ◌/◌, length, nat_lt, not, filter}
 use Rattle.nop_types.specs.Views.{leader_of}
 use Rattle.std.proofs.lemmas.Bool.Decides.{nat_tests}
+use Rattle.std.proofs.lemmas.Bool.{ltb-true, and_parts, eqb-true}
+use Rattle.std.proofs.lemmas.Option.{none-some}
 use Rattle.nop_types.specs.Configuration.{Configuration}
 use Rattle.nop_types.specs.Given.{Given}
 use Rattle.nop_types.specs.Lists.{Has}
@@ -10,19 +12,14 @@ use Rattle.nop_types.specs.declared.request.Request.{Request}
 use Rattle.nop_types.specs.declared.datagram.Reply.{Reply}
 use Rattle.nop_types.specs.declared.output.Out.{Out}
 use Rattle.nop_types.specs.declared.output.Out.TheVariants.{Submitted, Accepted}
+use Rattle.facts.proofs.Members.{Has-none, Has-rest, Has-append_left, Has-append_right, Has-from_filter, Has-filter, Has-push_cases}
 use Rattle.client_quorum.specs.declared.client_state.ClientState.{ClientState}
 use Rattle.client_quorum.specs.ClientSteps.{opening, next, request_of, sent, is_of, is_expected, kept, accept_if}
 use Rattle.client_quorum.specs.KeptReplies.{HasOneEach, keep_reply, matches, quorum_of}
 use Rattle.client_quorum.specs.Runs.{after, replies_of, reply_of, HasQuorum, IsAgreed}
 use Rattle.client_quorum.proofs.KeptReplies.{times_is, fewer, kept_one_each}
-use Rattle.client_quorum.proofs.Members.{has_left, has_right, has_filter, into_filter, push_cases}
-use Rattle.client_quorum.proofs.Members as members
 use Rattle.client_quorum.proofs.Quorums.{matched, is_matched, has_quorum}
 use Rattle.client_quorum.proofs.Rows.{Quiet, Nothing, IsBusy, Again, row_does}
-use Rattle.client_quorum.proofs.Turns.{both_true, is_same_true, none_apart}
-
-is_below : (m n : ℕ) → nat_lt m n ≡ true → m < n
-is_below m n e = grind (arith, nat_tests, e)
 
 -- a kept reply came, from a replica, for the open request
 record KeptFits (all : List Reply) (s : ClientState) (k : Reply) : Type 0 where
@@ -43,13 +40,13 @@ none_each r = omega arith
 module _ (n number : ℕ) (all : List Reply) (s : ClientState) (x : Given) (kept_so : IsKept n number all s) (covers : (p : Reply) → Has (reply_of x) p → Has all p) where
   its_own : (p : Reply) → is_expected s p ≡ true → Has (reply_of x) p → KeptFits all s p
   its_own p e has =
-      let t = both_true (p.client == s.number) (is_of p.id s.pending && nat_lt p.replica s.config.replicas) e in
-      let u = both_true (is_of p.id s.pending) (nat_lt p.replica s.config.replicas) t.1 in
-      record { came = covers p has; within = is_below p.replica s.config.replicas u.1; of_client = is_same_true p.client s.number t.0; of_id = u.0 }
+      let t = and_parts (p.client == s.number) (is_of p.id s.pending && nat_lt p.replica s.config.replicas) e in
+      let u = and_parts (is_of p.id s.pending) (nat_lt p.replica s.config.replicas) t.1 in
+      record { came = covers p has; within = ltb-true p.replica s.config.replicas u.1; of_client = eqb-true p.client s.number t.0; of_id = u.0 }
 
   each_kept : (p : Reply) → is_expected s p ≡ true → Has (reply_of x) p → (k : Reply) → Has (keep_reply s.replies p) k → KeptFits all s k
-  each_kept p e has k h = elim (push_cases k p (filter (λ k. not (k.replica == p.replica)) s.replies) h) [
-    | inl old ↦ kept_so.each k (has_filter (λ k. not (k.replica == p.replica)) k s.replies old).0
+  each_kept p e has k h = elim (Has-push_cases (filter (λ k. not (k.replica == p.replica)) s.replies) p k h) [
+    | inl old ↦ kept_so.each k (Has-from_filter (λ k. not (k.replica == p.replica)) k s.replies old).0
     | inr same ↦ subst (KeptFits all s) same (its_own p e has)
   ]
 
@@ -63,32 +60,32 @@ module _ (n number : ℕ) (all : List Reply) (s : ClientState) (x : Given) (kept
 
   after_accept : (p : Reply) → is_expected s p ≡ true → Has (reply_of x) p → (o : Option Reply) → IsKept n number all (accept_if (kept s p) p.id o).0
   after_accept p e has None = with_reply p e has
-  after_accept p e has (Some leaders) = record { replicas = kept_so.replicas; mine = kept_so.mine; one_each = none_each; each = λ k h. absurd (members.has_none k h) }
+  after_accept p e has (Some leaders) = record { replicas = kept_so.replicas; mine = kept_so.mine; one_each = none_each; each = λ k h. absurd (Has-none k h) }
 
   still_kept : IsKept n number all (next s x).0
   still_kept = row_does (λ y. IsKept n number all y.0) s x
       (λ outs q. kept_so)
-      (λ op waiting none from. record { replicas = kept_so.replicas; mine = kept_so.mine; one_each = none_each; each = λ k h. absurd (members.has_none k h) })
+      (λ op waiting none from. record { replicas = kept_so.replicas; mine = kept_so.mine; one_each = none_each; each = λ k h. absurd (Has-none k h) })
       (λ p e has o is. after_accept p e has o)
 
   -- ---- an output that accepts
 
   quiet_none : (outs : List Out) → Quiet outs → (client id : ℕ) (result : List ℕ) → Has outs (Accepted client id result) → IsAgreed n all number id result
-  quiet_none outs Nothing client id result h = absurd (members.has_none (Accepted client id result) h)
+  quiet_none outs Nothing client id result h = absurd (Has-none (Accepted client id result) h)
   quiet_none outs (IsBusy c) client id result (zero, e) = absurd cc
-  quiet_none outs (IsBusy c) client id result (suc i, e) = absurd (none_apart (Accepted client id result) e)
-  quiet_none outs (Again None) client id result h = absurd (members.has_none (Accepted client id result) h)
+  quiet_none outs (IsBusy c) client id result (suc i, e) = absurd (none-some (Accepted client id result) e)
+  quiet_none outs (Again None) client id result h = absurd (Has-none (Accepted client id result) h)
   quiet_none outs (Again (Some r)) client id result (zero, e) = absurd cc
-  quiet_none outs (Again (Some r)) client id result (suc i, e) = absurd (none_apart (Accepted client id result) e)
+  quiet_none outs (Again (Some r)) client id result (suc i, e) = absurd (none-some (Accepted client id result) e)
 
   begun_none : (r : Request) (client id : ℕ) (result : List ℕ) → Has (Submitted r ∷ sent r ∷ []) (Accepted client id result) → IsAgreed n all number id result
   begun_none r client id result (zero, e) = absurd cc
   begun_none r client id result (suc zero, e) = absurd cc
-  begun_none r client id result (suc (suc i), e) = absurd (none_apart (Accepted client id result) e)
+  begun_none r client id result (suc (suc i), e) = absurd (none-some (Accepted client id result) e)
 
   same_id : (o : Option Request) (a b : ℕ) → is_of a o ≡ true → is_of b o ≡ true → a ≡ b
   same_id None a b e f = absurd cc
-  same_id (Some r) a b e f = sym (is_same_true r.id a e) ∙ is_same_true r.id b f
+  same_id (Some r) a b e f = sym (eqb-true r.id a e) ∙ eqb-true r.id b f
 
   matching_one_each : (v : _) (slot : ℕ) (ks : List Reply) → HasOneEach ks → HasOneEach (filter (matches v slot) ks)
   matching_one_each v slot ks one r =
@@ -107,14 +104,14 @@ module _ (n number : ℕ) (all : List Reply) (s : ClientState) (x : Given) (kept
         replies = filter (matches p.view p.slot) (keep_reply s.replies p);
         enough = subst (λ m. m / 2 + 1 ≤ length (filter (matches p.view p.slot) (keep_reply s.replies p))) kept_so.replicas q.enough;
         one_each = matching_one_each p.view p.slot (keep_reply s.replies p) now.one_each;
-        received = λ k h. (now.each k (has_filter (matches p.view p.slot) k (keep_reply s.replies p) h).0).came;
+        received = λ k h. (now.each k (Has-from_filter (matches p.view p.slot) k (keep_reply s.replies p) h).0).came;
         fits = λ k h.
-            let m = has_filter (matches p.view p.slot) k (keep_reply s.replies p) h in
+            let m = Has-from_filter (matches p.view p.slot) k (keep_reply s.replies p) h in
             let f = now.each k m.0 in
             let place = matched p.view p.slot k m.1 in
             record { within = subst (λ m. k.replica < m) kept_so.replicas f.within; of_client = f.of_client ∙ kept_so.mine; of_id = same_id s.pending k.id p.id f.of_id (its_own p e has).of_id; at_view = place.0; at_slot = place.1 };
         leaders = q.leaders;
-        member = into_filter (matches p.view p.slot) q.leaders (keep_reply s.replies p) q.member (is_matched p.view p.slot q.leaders q.at_view q.at_slot);
+        member = Has-filter (matches p.view p.slot) q.leaders (keep_reply s.replies p) q.member (is_matched p.view p.slot q.leaders q.at_view q.at_slot);
         leads = subst (λ m. q.leaders.replica ≡ leader_of p.view m) kept_so.replicas q.leads;
         tagged = q.tagged;
         brings = q.brings;
@@ -122,13 +119,13 @@ module _ (n number : ℕ) (all : List Reply) (s : ClientState) (x : Given) (kept
 
   reply_agreed : (p : Reply) → is_expected s p ≡ true → Has (reply_of x) p → (o : Option Reply) → quorum_of s.config.replicas (kept s p).replies p.view p.slot ≡ o
       → (client id : ℕ) (result : List ℕ) → Has (accept_if (kept s p) p.id o).1 (Accepted client id result) → IsAgreed n all number id result
-  reply_agreed p e has None is client id result h = absurd (members.has_none (Accepted client id result) h)
+  reply_agreed p e has None is client id result h = absurd (Has-none (Accepted client id result) h)
   reply_agreed p e has (Some z) is client id result (zero, h) =
       let same : p.id ≡ id = cc in
       let brings : z.result ≡ result = cc in
       subst (λ k. IsAgreed n all number k result) same (subst (λ r. IsAgreed n all number p.id r) brings
       (agreed p e has z.result (has_quorum s.config.replicas (keep_reply s.replies p) p.view p.slot z is)))
-  reply_agreed p e has (Some z) is client id result (suc i, h) = absurd (none_apart (Accepted client id result) h)
+  reply_agreed p e has (Some z) is client id result (suc i, h) = absurd (none-some (Accepted client id result) h)
 
   accepted_agreed : (client id : ℕ) (result : List ℕ) → Has (next s x).1 (Accepted client id result) → IsAgreed n all number id result
   accepted_agreed = row_does (λ y. (client id : ℕ) (result : List ℕ) → Has y.1 (Accepted client id result) → IsAgreed n all number id result) s x
@@ -139,27 +136,27 @@ module _ (n number : ℕ) (all : List Reply) (s : ClientState) (x : Given) (kept
 kept_after : (n number : ℕ) (all : List Reply) (xs : List Given) → ((p : Reply) → Has (replies_of xs) p → Has all p) → (s : ClientState) → IsKept n number all s → IsKept n number all (after s xs)
 kept_after n number all [] covers s k = k
 kept_after n number all (x ∷ xs) covers s k =
-    kept_after n number all xs (λ p h. covers p (has_right p (reply_of x) (replies_of xs) h)) (next s x).0
-    (still_kept n number all s x k (λ p h. covers p (has_left p (reply_of x) (replies_of xs) h)))
+    kept_after n number all xs (λ p h. covers p (Has-append_right (reply_of x) (replies_of xs) p h)) (next s x).0
+    (still_kept n number all s x k (λ p h. covers p (Has-append_left (reply_of x) (replies_of xs) p h)))
 
 -- what came is in all that came
 early : (past : List Given) (x : Given) (p : Reply) → Has (replies_of past) p → Has (replies_of (past ++ x ∷ [])) p
-early [] x p h = absurd (members.has_none p h)
+early [] x p h = absurd (Has-none p h)
 early (y ∷ past) x p h = early_at (reply_of y) (early past x p) h
   where
     early_at : (first : List Reply) → (Has (replies_of past) p → Has (replies_of (past ++ x ∷ [])) p) → Has (first ++ replies_of past) p → Has (first ++ replies_of (past ++ x ∷ [])) p
     early_at [] rest h = rest h
     early_at (k ∷ ks) rest (zero, e) = (zero, e)
-    early_at (k ∷ ks) rest (suc i, e) = members.has_rest p k (ks ++ replies_of (past ++ x ∷ [])) (early_at ks rest (i, e))
+    early_at (k ∷ ks) rest (suc i, e) = Has-rest p k (ks ++ replies_of (past ++ x ∷ [])) (early_at ks rest (i, e))
 
 last_one : (past : List Given) (x : Given) (p : Reply) → Has (reply_of x) p → Has (replies_of (past ++ x ∷ [])) p
-last_one [] x p h = has_left p (reply_of x) [] h
-last_one (y ∷ past) x p h = has_right p (reply_of y) (replies_of (past ++ x ∷ [])) (last_one past x p h)
+last_one [] x p h = Has-append_left (reply_of x) [] p h
+last_one (y ∷ past) x p h = Has-append_right (reply_of y) (replies_of (past ++ x ∷ [])) p (last_one past x p h)
 
 pub accepts_replied : (config : Configuration) (number : ℕ) (ops : List (List ℕ)) (past : List Given) (x : Given) (client id : ℕ) (result : List ℕ)
     → Has (next (after (opening config number ops) past) x).1 (Accepted client id result) → IsAgreed config.replicas (replies_of (past ++ x ∷ [])) number id result
 accepts_replied config number ops past x =
     accepted_agreed config.replicas number (replies_of (past ++ x ∷ [])) (after (opening config number ops) past) x
     (kept_after config.replicas number (replies_of (past ++ x ∷ [])) past (early past x) (opening config number ops)
-    (record { replicas = refl; mine = refl; one_each = none_each; each = λ k h. absurd (members.has_none k h) }))
+    (record { replicas = refl; mine = refl; one_each = none_each; each = λ k h. absurd (Has-none k h) }))
     (last_one past x)

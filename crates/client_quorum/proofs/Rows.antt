@@ -1,6 +1,7 @@
 -- What holds of every row, from what holds of the four things that rows do.
 use Rattle.std.proofs.Common.{◌≡◌, ℕ, zero, Bool, true, false, Option, refl, ◌⊎◌, inl, inr, List, [], ◌∷◌}
 use Rattle.std.specs.Prelude.{Result, Ok, Err}
+use Rattle.std.proofs.lemmas.Bool.{and_parts}
 use Rattle.nop_types.specs.Given.{Given, Packet, Ticked, Submit}
 use Rattle.nop_types.specs.Lists.{Has}
 use Rattle.nop_types.specs.declared.input.Tick.{Tick}
@@ -16,7 +17,6 @@ use Rattle.client_quorum.specs.declared.client_state.ClientState.{ClientState}
 use Rattle.client_quorum.specs.ClientSteps.{next, on_tick, on_datagram, has_none, can_submit, request_of, begin, submit_if, first_of, after_first, submit_first, submit_waiting_if, is_expected, kept, accept_if, reply_if, retry_of}
 use Rattle.client_quorum.specs.KeptReplies.{quorum_of}
 use Rattle.client_quorum.specs.Runs.{reply_in, reply_of}
-use Rattle.client_quorum.proofs.Turns.{both_true}
 
 -- where the op comes from that a row submits, and what then waits
 abbrev pub ComesFrom : ClientState → Given → List ℕ → List (List ℕ) → Type 0
@@ -33,7 +33,7 @@ module _ (P : ClientState × List Out → Type 0) (s : ClientState) (x : Given)
     (begins : (op : List ℕ) (waiting : List (List ℕ)) → has_none s.pending ≡ true → ComesFrom s x op waiting → P (begin (record s { waiting = waiting }) (request_of s op)))
     (replies : (p : Reply) → is_expected s p ≡ true → Has (reply_of x) p → (o : Option Reply) → quorum_of s.config.replicas (kept s p).replies p.view p.slot ≡ o → P (accept_if (kept s p) p.id o)) where
   submit_does : (op : List ℕ) → x ≡ Submit op → (b : Bool) → can_submit s ≡ b → P (submit_if b s (request_of s op))
-  submit_does op is true e = begins op s.waiting (both_true (has_none s.pending) _ e).0 (inr (is, refl))
+  submit_does op is true e = begins op s.waiting (and_parts (has_none s.pending) _ e).0 (inr (is, refl))
   submit_does op is false e = stays (Busy s.number ∷ []) (IsBusy s.number)
 
   first_does : has_none s.pending ≡ true → (ops : List (List ℕ)) → s.waiting ≡ ops → P (submit_first (first_of ops) s)
@@ -43,7 +43,7 @@ module _ (P : ClientState × List Out → Type 0) (s : ClientState) (x : Given)
       begins op (after_first s.waiting) none (inl left)
 
   waiting_does : (b : Bool) → can_submit s ≡ b → P (submit_waiting_if b s)
-  waiting_does true e = first_does (both_true (has_none s.pending) _ e).0 s.waiting refl
+  waiting_does true e = first_does (and_parts (has_none s.pending) _ e).0 s.waiting refl
   waiting_does false e = stays [] Nothing
 
   reply_does : (p : Reply) → Has (reply_of x) p → (b : Bool) → is_expected s p ≡ b → P (reply_if b s p)

@@ -1,20 +1,20 @@
 -- What a client keeps is no quorum.
 use Rattle.std.proofs.Common.{◌≡◌, ℕ, ◌≤◌, Bool, true, false, cond, Option, Some, None, refl, sym, ap, subst, ◌∙◌, inl, inr, arith, List, [], ◌∷◌, ◌++◌, length}
 use Rattle.std.specs.Prelude.{◌==◌, not, filter}
+use Rattle.std.proofs.lemmas.Option.{none-some}
 use Rattle.nop_types.specs.Configuration.{Configuration}
 use Rattle.nop_types.specs.Given.{Given}
 use Rattle.nop_types.specs.Lists.{Has}
 use Rattle.nop_types.specs.declared.view.View.{View}
 use Rattle.nop_types.specs.declared.datagram.Reply.{Reply}
+use Rattle.facts.proofs.Members.{Has-none, Has-from_filter, Has-push_cases}
 use Rattle.client_quorum.specs.declared.client_state.ClientState.{ClientState}
 use Rattle.client_quorum.specs.ClientSteps.{opening, next, kept, accept_if}
 use Rattle.client_quorum.specs.KeptReplies.{HasOneEach, keep_reply, matches, quorum_of}
 use Rattle.client_quorum.specs.Runs.{after, HasQuorum}
 use Rattle.client_quorum.proofs.KeptReplies.{kept_one_each}
-use Rattle.client_quorum.proofs.Members.{has_none, has_filter, push_cases}
 use Rattle.client_quorum.proofs.Quorums.{is_matched, matched, gets_quorum}
 use Rattle.client_quorum.proofs.Rows.{row_does}
-use Rattle.client_quorum.proofs.Turns.{none_apart}
 
 -- one that fails the test adds nothing
 without_last : (m : Reply → Bool) (xs : List Reply) (p : Reply) → m p ≡ false → filter m (xs ++ p ∷ []) ≡ filter m xs
@@ -45,8 +45,8 @@ module _ (n : ℕ) (ks : List Reply) (p : Reply) (v : View) (slot : ℕ) (result
       ap (λ (l : List Reply). length l) (without_last (matches v slot) (filter (λ k. not (k.replica == p.replica)) ks) p e) in
       let fewer = fewer_match (matches v slot) (λ k. not (k.replica == p.replica)) ks in
       let enough = q.enough in
-      let member : Has ks q.leaders = elim (push_cases q.leaders p (filter (λ k. not (k.replica == p.replica)) ks) q.member) [
-        | inl h ↦ (has_filter (λ k. not (k.replica == p.replica)) q.leaders ks h).0
+      let member : Has ks q.leaders = elim (Has-push_cases (filter (λ k. not (k.replica == p.replica)) ks) p q.leaders q.member) [
+        | inl h ↦ (Has-from_filter (λ k. not (k.replica == p.replica)) q.leaders ks h).0
         | inr h ↦
             let is = is_matched v slot p (ap (λ (k : Reply). k.view) h ∙ q.at_view) (ap (λ (k : Reply). k.slot) h ∙ q.at_slot) in
             absurd cc
@@ -65,7 +65,7 @@ none_each : HasOneEach []
 none_each r = omega arith
 
 none_empty : (n : ℕ) → None_in n []
-none_empty n v slot result q = has_none q.leaders q.member
+none_empty n v slot result q = Has-none q.leaders q.member
 
 module _ (n : ℕ) (s : ClientState) (short : Short n s) (p : Reply) where
   still_none : quorum_of n (keep_reply s.replies p) p.view p.slot ≡ None → None_in n (keep_reply s.replies p)
@@ -78,7 +78,7 @@ module _ (n : ℕ) (s : ClientState) (short : Short n s) (p : Reply) where
           subst (λ (w : View). HasQuorum n (keep_reply s.replies p) w p.slot result) (sym place.0)
           (subst (λ (k : ℕ). HasQuorum n (keep_reply s.replies p) v k result) (sym place.1) q) in
           let z = gets_quorum n (keep_reply s.replies p) p.view p.slot result (kept_one_each p s.replies short.one_each) here in
-          none_apart z.0 (sym e ∙ z.1)
+          none-some z.0 (sym e ∙ z.1)
       at false m = short.none v slot result (before n s.replies p v slot result m q)
 
   accept_short : (o : Option Reply) → quorum_of s.config.replicas (keep_reply s.replies p) p.view p.slot ≡ o → Short n (accept_if (kept s p) p.id o).0

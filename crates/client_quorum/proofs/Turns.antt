@@ -2,6 +2,8 @@
 use Rattle.std.proofs.Common.{◌≡◌, ℕ, zero, suc, ◌+◌, ◌<◌, ◌≤◌, Bool, true, false, cond, Option, Some, None, refl, sym, ap, subst, ◌∙◌, arith, List, [], ◌∷◌, ◌++◌}
 use Rattle.std.specs.Prelude.{Result, Ok, Err, slice_get, ◌&&◌, ◌==◌, nat_lt}
 use Rattle.std.proofs.lemmas.Bool.Decides.{nat_tests}
+use Rattle.std.proofs.lemmas.Bool.{and_parts, eqb-true}
+use Rattle.std.proofs.lemmas.Option.{none-some, same_Some}
 use Rattle.nop_types.specs.Configuration.{Configuration}
 use Rattle.nop_types.specs.Given.{Given, Packet, Ticked, Submit}
 use Rattle.nop_types.specs.declared.input.Tick.{Tick}
@@ -19,19 +21,6 @@ use Rattle.client_quorum.specs.ClientSteps.{opening, next, on_tick, on_datagram,
 use Rattle.client_quorum.specs.KeptReplies.{quorum_of}
 use Rattle.client_quorum.specs.Runs.{gave, TakesTurns}
 
-pub both_true : (a b : Bool) → (a && b) ≡ true → (a ≡ true) × (b ≡ true)
-both_true true b e = (refl, e)
-both_true false b e = absurd cc
-
-pub is_same_true : (m n : ℕ) → (m == n) ≡ true → m ≡ n
-is_same_true m n e = grind (arith, nat_tests, e)
-
-pub none_apart : {A : Type 0} (x : A) → None ≡ Some x → ⊥
-none_apart x e = cc
-
-pub some_same : {A : Type 0} (x y : A) → Some x ≡ Some y → x ≡ y
-some_same x y e = cc
-
 -- ---- a client takes turns
 
 -- the pending request has the last id
@@ -44,7 +33,7 @@ open_of s id tidy = at s.pending refl
   where
     at : (o : Option Request) → s.pending ≡ o → is_of id o ≡ true → (has_none o ≡ false) × (id ≡ s.last_id)
     at None e h = absurd cc
-    at (Some r) e h = (refl, sym (is_same_true r.id id h) ∙ tidy r e)
+    at (Some r) e h = (refl, sym (eqb-true r.id id h) ∙ tidy r e)
 
 module _ (xs : List Given) (rest : (t : ClientState) → IsTidy t → TakesTurns t.number t.pending t.last_id (gave t xs)) (s : ClientState) (tidy : IsTidy s) where
   -- the outputs of a row, and those of the inputs that follow
@@ -53,10 +42,10 @@ module _ (xs : List Given) (rest : (t : ClientState) → IsTidy t → TakesTurns
 
   begin_goes : (op : List ℕ) (waiting : List (List ℕ)) → has_none s.pending ≡ true → Goes (begin (record s { waiting = waiting }) (request_of s op))
   begin_goes op waiting none =
-      (none, refl, refl, (refl, rest (begin (record s { waiting = waiting }) (request_of s op)).0 (λ r e. ap (λ (q : Request). q.id) (sym (some_same (request_of s op) r e)))))
+      (none, refl, refl, (refl, rest (begin (record s { waiting = waiting }) (request_of s op)).0 (λ r e. ap (λ (q : Request). q.id) (sym (same_Some (request_of s op) r e)))))
 
   submit_goes : (op : List ℕ) (b : Bool) → can_submit s ≡ b → Goes (submit_if b s (request_of s op))
-  submit_goes op true e = begin_goes op s.waiting (both_true (has_none s.pending) _ e).0
+  submit_goes op true e = begin_goes op s.waiting (and_parts (has_none s.pending) _ e).0
   submit_goes op false e = (refl, rest s tidy)
 
   first_goes : has_none s.pending ≡ true → (o : Option (List ℕ)) → Goes (submit_first o s)
@@ -64,17 +53,17 @@ module _ (xs : List Given) (rest : (t : ClientState) → IsTidy t → TakesTurns
   first_goes none (Some op) = begin_goes op (after_first s.waiting) none
 
   waiting_goes : (b : Bool) → can_submit s ≡ b → Goes (submit_waiting_if b s)
-  waiting_goes true e = first_goes (both_true (has_none s.pending) _ e).0 (first_of s.waiting)
+  waiting_goes true e = first_goes (and_parts (has_none s.pending) _ e).0 (first_of s.waiting)
   waiting_goes false e = rest s tidy
 
   accept_goes : (p : Reply) → has_none s.pending ≡ false → p.id ≡ s.last_id → (o : Option Reply) → Goes (accept_if (kept s p) p.id o)
   accept_goes p held id None = rest (kept s p) tidy
-  accept_goes p held id (Some leaders) = (held, refl, id, rest (accepts (kept s p) p.id leaders) (λ r e. absurd (none_apart r e)))
+  accept_goes p held id (Some leaders) = (held, refl, id, rest (accepts (kept s p) p.id leaders) (λ r e. absurd (none-some r e)))
 
   reply_goes : (p : Reply) (b : Bool) → is_expected s p ≡ b → Goes (reply_if b s p)
   reply_goes p true e =
-      let mine = (both_true (p.client == s.number) (is_of p.id s.pending && nat_lt p.replica s.config.replicas) e).1 in
-      let held = open_of s p.id tidy (both_true (is_of p.id s.pending) (nat_lt p.replica s.config.replicas) mine).0 in
+      let mine = (and_parts (p.client == s.number) (is_of p.id s.pending && nat_lt p.replica s.config.replicas) e).1 in
+      let held = open_of s p.id tidy (and_parts (is_of p.id s.pending) (nat_lt p.replica s.config.replicas) mine).0 in
       accept_goes p held.0 held.1 (quorum_of s.config.replicas (kept s p).replies p.view p.slot)
   reply_goes p false e = rest s tidy
 
@@ -114,7 +103,7 @@ turns_from [] s tidy = tt
 turns_from (x ∷ xs) s tidy = row_goes xs (λ t h. turns_from xs t h) s tidy x
 
 pub takes_turns : (config : Configuration) (number : ℕ) (ops : List (List ℕ)) (inputs : List Given) → TakesTurns number None 0 (gave (opening config number ops) inputs)
-takes_turns config number ops inputs = turns_from inputs (opening config number ops) (λ r e. absurd (none_apart r e))
+takes_turns config number ops inputs = turns_from inputs (opening config number ops) (λ r e. absurd (none-some r e))
 
 -- ---- each id is used once
 
@@ -151,7 +140,7 @@ submitted_first number held last (Accepted client id result) outs r t e = absurd
 submitted_first number held last (Busy client) outs r t e = absurd cc
 
 submitted_above : (number : ℕ) (held : Option Request) (last : ℕ) (outs : List Out) → TakesTurns number held last outs → (i : ℕ) (r : Request) → slice_get outs i ≡ Some (Submitted r) → last < r.id
-submitted_above number held last [] t i r e = absurd (none_apart (Submitted r) e)
+submitted_above number held last [] t i r e = absurd (none-some (Submitted r) e)
 submitted_above number held last (x ∷ outs) t zero r e = let f = submitted_first number held last x outs r t e in omega (arith, f.0)
 submitted_above number held last (x ∷ outs) t (suc i) r e =
     let f = rest_of number held last x outs t in
@@ -160,7 +149,7 @@ submitted_above number held last (x ∷ outs) t (suc i) r e =
 
 submitted_once_at : (number : ℕ) (held : Option Request) (last : ℕ) (outs : List Out) → TakesTurns number held last outs
     → (i j : ℕ) (p q : Request) → slice_get outs i ≡ Some (Submitted p) → slice_get outs j ≡ Some (Submitted q) → p.id ≡ q.id → i ≡ j
-submitted_once_at number held last [] t i j p q e f same = absurd (none_apart (Submitted p) e)
+submitted_once_at number held last [] t i j p q e f same = absurd (none-some (Submitted p) e)
 submitted_once_at number held last (x ∷ outs) t zero zero p q e f same = refl
 submitted_once_at number held last (x ∷ outs) t zero (suc j) p q e f same =
     let first = submitted_first number held last x outs p t e in
@@ -186,7 +175,7 @@ at_last true n e = absurd cc
 at_last false n e = omega arith
 
 accepted_from : (number : ℕ) (held : Option Request) (last : ℕ) (outs : List Out) → TakesTurns number held last outs → (i client id : ℕ) (result : List ℕ) → slice_get outs i ≡ Some (Accepted client id result) → cond (has_none held) (last + 1) last ≤ id
-accepted_from number held last [] t i client id result e = absurd (none_apart (Accepted client id result) e)
+accepted_from number held last [] t i client id result e = absurd (none-some (Accepted client id result) e)
 accepted_from number held last (x ∷ outs) t zero client id result e =
     let f = accepted_first number held last x outs client id result t e in
     let g = at_last (has_none held) last f.0 in
@@ -198,7 +187,7 @@ accepted_from number held last (x ∷ outs) t (suc i) client id result e =
 
 accepted_once_at : (number : ℕ) (held : Option Request) (last : ℕ) (outs : List Out) → TakesTurns number held last outs
     → (i j client other id : ℕ) (a b : List ℕ) → slice_get outs i ≡ Some (Accepted client id a) → slice_get outs j ≡ Some (Accepted other id b) → i ≡ j
-accepted_once_at number held last [] t i j client other id a b e f = absurd (none_apart (Accepted client id a) e)
+accepted_once_at number held last [] t i j client other id a b e f = absurd (none-some (Accepted client id a) e)
 accepted_once_at number held last (x ∷ outs) t zero zero client other id a b e f = refl
 accepted_once_at number held last (x ∷ outs) t zero (suc j) client other id a b e f =
     let first = accepted_first number held last x outs client id a t e in

@@ -1,6 +1,8 @@
 -- Waiting ops, and the last request.
 use Rattle.std.proofs.Common.{◌≡◌, ℕ, zero, ◌+◌, true, Option, Some, None, refl, sym, ap, ◌∙◌, inl, inr, arith, List, [], ◌∷◌, ◌++◌, length, append_assoc, length-append}
 use Rattle.std.specs.Prelude.{◌==◌, ◌&&◌, nat_lt}
+use Rattle.std.proofs.lemmas.Bool.{and_parts}
+use Rattle.std.proofs.lemmas.Option.{none-some, same_Some}
 use Rattle.nop_types.specs.Configuration.{Configuration}
 use Rattle.nop_types.specs.Given.{Given, Packet, Ticked, Submit}
 use Rattle.nop_types.specs.Lists.{Has}
@@ -8,12 +10,12 @@ use Rattle.nop_types.specs.declared.request.Request.{Request}
 use Rattle.nop_types.specs.declared.datagram.Reply.{Reply}
 use Rattle.nop_types.specs.declared.output.Out.{Out}
 use Rattle.nop_types.specs.declared.output.Out.TheVariants.{Submitted, Send, Accepted, Busy}
+use Rattle.facts.proofs.Members.{Has-append_left, Has-append_right}
 use Rattle.client_quorum.specs.declared.client_state.ClientState.{ClientState}
 use Rattle.client_quorum.specs.ClientSteps.{opening, next, request_of, is_of, is_expected, kept, accept_if}
 use Rattle.client_quorum.specs.Runs.{after, gave, ops_of, HasNoSubmit, EndsWith, Stands, NoneYet, IsOpen, WasAccepted}
-use Rattle.client_quorum.proofs.Members.{has_left, has_right}
 use Rattle.client_quorum.proofs.Rows.{Quiet, Nothing, IsBusy, Again, row_does}
-use Rattle.client_quorum.proofs.Turns.{both_true, none_apart, some_same, IsTidy, open_of}
+use Rattle.client_quorum.proofs.Turns.{IsTidy, open_of}
 
 ops_append : (xs ys : List Out) → ops_of (xs ++ ys) ≡ ops_of xs ++ ops_of ys
 ops_append [] ys = refl
@@ -121,9 +123,9 @@ last_counts config number ops inputs = let h = counts_from inputs (opening confi
 
 module _ (all : List Out) (s : ClientState) where
   tidy_of : Stands all s → IsTidy s
-  tidy_of (NoneYet last none free) r e = absurd (none_apart r (sym none ∙ e))
-  tidy_of (IsOpen q is id free) r e = ap (λ (x : Request). x.id) (some_same r q (sym e ∙ is)) ∙ id
-  tidy_of (WasAccepted a is id none has) r e = absurd (none_apart r (sym none ∙ e))
+  tidy_of (NoneYet last none free) r e = absurd (none-some r (sym none ∙ e))
+  tidy_of (IsOpen q is id free) r e = ap (λ (x : Request). x.id) (same_Some r q (sym e ∙ is)) ∙ id
+  tidy_of (WasAccepted a is id none has) r e = absurd (none-some r (sym none ∙ e))
 
   with_kept : (p : Reply) → Stands all s → Stands all (kept s p)
   with_kept p (NoneYet last none free) = NoneYet last none free
@@ -133,8 +135,8 @@ module _ (all : List Out) (s : ClientState) where
   accept_stands : (p : Reply) → Stands all s → is_expected s p ≡ true → (o : Option Reply) → ((y : Out) → Has (accept_if (kept s p) p.id o).1 y → Has all y) → Stands all (accept_if (kept s p) p.id o).0
   accept_stands p stands e None covers = with_kept p stands
   accept_stands p stands e (Some z) covers =
-      let t = both_true (p.client == s.number) (is_of p.id s.pending && nat_lt p.replica s.config.replicas) e in
-      let u = both_true (is_of p.id s.pending) (nat_lt p.replica s.config.replicas) t.1 in
+      let t = and_parts (p.client == s.number) (is_of p.id s.pending && nat_lt p.replica s.config.replicas) e in
+      let u = and_parts (is_of p.id s.pending) (nat_lt p.replica s.config.replicas) t.1 in
       WasAccepted (record { id = p.id; result = z.result }) refl (open_of s p.id (tidy_of stands) u.0).1 refl (covers (Accepted s.number p.id z.result) (zero, refl))
 
   step_stands : (x : Given) → Stands all s → ((y : Out) → Has (next s x).1 y → Has all y) → Stands all (next s x).0
@@ -146,8 +148,8 @@ module _ (all : List Out) (s : ClientState) where
 stands_from : (all : List Out) (xs : List Given) (s : ClientState) → ((y : Out) → Has (gave s xs) y → Has all y) → Stands all s → Stands all (after s xs)
 stands_from all [] s covers stands = stands
 stands_from all (x ∷ xs) s covers stands =
-    stands_from all xs (next s x).0 (λ y h. covers y (has_right y (next s x).1 (gave (next s x).0 xs) h))
-    (step_stands all s x stands (λ y h. covers y (has_left y (next s x).1 (gave (next s x).0 xs) h)))
+    stands_from all xs (next s x).0 (λ y h. covers y (Has-append_right (next s x).1 (gave (next s x).0 xs) y h))
+    (step_stands all s x stands (λ y h. covers y (Has-append_left (next s x).1 (gave (next s x).0 xs) y h)))
 
 pub last_stands : (config : Configuration) (number : ℕ) (ops : List (List ℕ)) (inputs : List Given) → Stands (gave (opening config number ops) inputs) (after (opening config number ops) inputs)
 last_stands config number ops inputs = stands_from (gave (opening config number ops) inputs) inputs (opening config number ops) (λ y h. h) (NoneYet refl refl refl)

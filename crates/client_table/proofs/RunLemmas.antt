@@ -7,42 +7,13 @@ use Rattle.std.proofs.lemmas.Bool.{eqb-true, ltb-true, ltb-false, lt-ltb, eqb-fa
 use Rattle.std.proofs.lemmas.List.{append-nil}
 use Rattle.nop_types.specs.Lists.{Has, IsGreatest, all_below, any_above}
 use Rattle.nop_types.specs.Execution.{Answered}
+use Rattle.facts.proofs.Places.{slice_get-append_left, slice_get-append_at, slice_get-push_cases}
+use Rattle.facts.proofs.Numbers.{all_below-from, any_above-from}
 use Rattle.client_table.specs.Table.{Table, Fresh, Same, Stale, kept_for, verdict_on}
 use Rattle.client_table.specs.Runs.{Given, kept_after, EachIsFresh, id_for, ids_for, IsVerdict}
 use Rattle.client_table.specs.Laws.{kept_of_insert}
 
 -- ---- lists
-
-older : {A : Type 0} (xs ys : List A) (i : ℕ) (x : A) → slice_get xs i ≡ Some x → slice_get (xs ++ ys) i ≡ Some x
-older [] ys i x h = absurd cc
-older (z ∷ xs) ys zero x h = h
-older (z ∷ xs) ys (suc i) x h = older xs ys i x h
-
-newest : {A : Type 0} (xs : List A) (x : A) → slice_get (xs ++ x ∷ []) (length xs) ≡ Some x
-newest [] x = refl
-newest (z ∷ xs) x = newest xs x
-
-either : {A : Type 0} (xs : List A) (y : A) (i : ℕ) (x : A) → slice_get (xs ++ y ∷ []) i ≡ Some x → (slice_get xs i ≡ Some x) ⊎ (y ≡ x)
-either [] y zero x h = inr cc
-either [] y (suc i) x h = absurd cc
-either (z ∷ xs) y zero x h = inl h
-either (z ∷ xs) y (suc i) x h = either xs y i x h
-
-below_from : (ns : List ℕ) (n : ℕ) → ((k : ℕ) → Has ns k → k < n) → all_below ns n ≡ true
-below_from [] n h = refl
-below_from (k ∷ ns) n h =
-    let here : nat_lt k n ≡ true = lt-ltb k n (h k (zero, refl)) in
-    let rest : all_below ns n ≡ true = below_from ns n (λ j p. h j (suc p.0, p.1)) in
-    rw (here, rest) refl
-
-above_from : (ns : List ℕ) (n i k : ℕ) → slice_get ns i ≡ Some k → n < k → any_above ns n ≡ true
-above_from [] n i k h l = absurd cc
-above_from (j ∷ ns) n zero k h l = let same : j ≡ k = cc in rw (same, lt-ltb n k l) refl
-above_from (j ∷ ns) n (suc i) k h l = rw (above_from ns n i k h l) (or_true (nat_lt n j))
-  where
-    or_true : (b : Bool) → (b || true) ≡ true
-    or_true true = refl
-    or_true false = refl
 
 ids_for-append : (c : ℕ) (xs ys : List Given) → ids_for c (xs ++ ys) ≡ ids_for c xs ++ ids_for c ys
 ids_for-append c [] ys = refl
@@ -71,22 +42,22 @@ module _ (before : List Given) (table : Table) (given : Given) (last : (c : ℕ)
 
   of_client : (c : ℕ) → given.0 ≡ c → IsGreatest (ids_for c before ++ given.1.id ∷ []) given.1.id
   of_client c same = record {
-    has = (length (ids_for c before), newest (ids_for c before) given.1.id);
-    most = λ k p. elim (either (ids_for c before) given.1.id p.0 k p.1) [
-      | inl e ↦ let less : k < given.1.id = below_fresh before c given.1.id (kept_for table c) (last c) (rw (← same) fresh) k (p.0, e) in omega arith
-      | inr e ↦ omega arith
+    has = (length (ids_for c before), slice_get-append_at (ids_for c before) given.1.id []);
+    most = λ k p. elim (slice_get-push_cases (ids_for c before) given.1.id p.0 k p.1) [
+      | inl e ↦ let less : k < given.1.id = below_fresh before c given.1.id (kept_for table c) (last c) (rw (← same) fresh) k (p.0, e.1) in omega arith
+      | inr e ↦ omega (arith, e.1)
     ];
   }
 
   others : (c : ℕ) (kept : Option Answered) → IsLast before c kept → ids_for c (before ++ given ∷ []) ≡ ids_for c before → IsLast (before ++ given ∷ []) c kept
   others c None h e = e ∙ h
-  others c (Some a) h e = (rw e h.0, (h.1.0, older before (given ∷ []) h.1.0 (c, a) h.1.1))
+  others c (Some a) h e = (rw e h.0, (h.1.0, slice_get-append_left before (given ∷ []) h.1.0 (c, a) h.1.1))
 
   last_push : (c : ℕ) (b : Bool) → eqb given.0 c ≡ b → IsLast (before ++ given ∷ []) c (cond b (Some given.1) (kept_for table c))
   last_push c true e =
       let same : given.0 ≡ c = eqb-true given.0 c e in
       let ids : ids_for c (before ++ given ∷ []) ≡ ids_for c before ++ given.1.id ∷ [] = ids_push c ∙ ap (λ (b : Bool). ids_for c before ++ cond b (given.1.id ∷ []) []) e in
-      (rw ids (of_client c same), (length before, newest before given ∙ ap (λ (n : ℕ). Some (n, given.1)) same))
+      (rw ids (of_client c same), (length before, slice_get-append_at before given [] ∙ ap (λ (n : ℕ). Some (n, given.1)) same))
   last_push c false e =
       others c (kept_for table c) (last c) (ids_push c ∙ ap (λ (b : Bool). ids_for c before ++ cond b (given.1.id ∷ []) []) e ∙ append-nil (ids_for c before))
 
@@ -104,7 +75,7 @@ by_last givens client id None h = rw h refl
 by_last givens client id (Some last) h = here (nat_lt last.id id) (last.id == id) refl refl
   where
     here : (b c : Bool) → nat_lt last.id id ≡ b → (last.id == id) ≡ c → IsVerdict givens client id (cond b Fresh (cond c (Same last.result) Stale))
-    here true c e f = below_from (ids_for client givens) id (λ k p. let less = ltb-true last.id id e in let most = h.0.most k p in omega arith)
+    here true c e f = all_below-from (ids_for client givens) id (λ k p. let less = ltb-true last.id id e in let most = h.0.most k p in omega arith)
     here false true e f =
         let same : last.id ≡ id = eqb-true last.id id f in
         let P : ℕ → Type 0 = λ n. IsGreatest (ids_for client givens) n × Has givens (client, record { id = n; result = last.result }) in
@@ -112,7 +83,7 @@ by_last givens client id (Some last) h = here (nat_lt last.id id) (last.id == id
     here false false e f =
         let least : id ≤ last.id = ltb-false last.id id e in
         let apart : ¬ (last.id ≡ id) = eqb-false last.id id f in
-        above_from (ids_for client givens) id h.0.has.0 last.id h.0.has.1 (omega arith)
+        any_above-from (ids_for client givens) id last.id h.0.has (omega arith)
 
 -- a verdict compares with all ids that were given for the client
 pub verdict_is_by_ids : (givens : List Given) (client id : ℕ) → EachIsFresh finite.empty givens → IsVerdict givens client id (verdict_on (kept_for (kept_after finite.empty givens) client) id)

@@ -3,23 +3,15 @@ use Rattle.std.proofs.Common.{◌≡◌, ℕ, zero, suc, ◌+◌, ◌<◌, ◌�
 use Rattle.std.specs.Prelude.{◌⊎◌, slice_get, IfSome, IsSome}
 use Rattle.std.proofs.lemmas.Option.{slice_get_within}
 use Rattle.std.proofs.lemmas.Bool.Decides.{eqb_tells}
+use Rattle.std.proofs.lemmas.List.{length_push}
 use Rattle.nop_types.specs.declared.request.Entry.{Entry}
 use Rattle.nop_types.specs.Meaning.{Meaning}
 use Rattle.nop_types.specs.Execution.{Executed, opening, exec, enter_kept}
-use Rattle.histories.proofs.Lists.{slice_get-append_within, slice_get_at}
+use Rattle.facts.proofs.Places.{slice_get-some, slice_get-append_within, slice_get-append_at}
 use Rattle.histories.proofs.Results.{exec_of_next_slot}
 use Rattle.executor.specs.declared.slot_undo.SlotUndo.{SlotUndo}
 use Rattle.executor.specs.Undoing.{slot_undo_of, undone_by, IsExecuted, UndoFits, UndosFit}
 use Rattle.executor.proofs.UndoLemmas.{goes_back, has_kept}
-
--- what stands at a place
-there : {A : Type 0} (xs : List A) (i : ℕ) → i < length xs → (x : A) × (slice_get xs i ≡ Some x)
-there [] i l = absurd (omega (arith, l))
-there (x ∷ xs) zero l = (x, refl)
-there (x ∷ xs) (suc i) l = there xs i (omega (arith, l))
-
-length_push : {A : Type 0} (xs : List A) (x : A) → length (xs ++ x ∷ []) ≡ length xs + 1
-length_push xs x = omega (arith, length-append xs (x ∷ []))
 
 module _ {S U : Type 0} (m : Meaning S) (undo_of : S → List ℕ → U) where
   -- before the first slot
@@ -38,7 +30,7 @@ module _ {S U : Type 0} (m : Meaning S) (undo_of : S → List ℕ → U) where
           | inl l ↦ slice_get-append_within undos (s ∷ []) i l ∙ h.undoing i d l is
           | inr same ↦
               let here : e ≡ d = let a = rw same at is in cc in
-              rw (same, slot_undo, h.execution, here) (slice_get_at undos (slot_undo_of undo_of (exec m (take (length undos) log)) d) [])
+              rw (same, slot_undo, h.execution, here) (slice_get-append_at undos (slot_undo_of undo_of (exec m (take (length undos) log)) d) [])
         ];
       }
     where
@@ -57,11 +49,11 @@ module _ {S U : Type 0} (m : Meaning S) (undo_of : S → List ℕ → U) where
   last log x undos s h =
       let more : length (undos ++ s ∷ []) ≡ length undos + 1 = length_push undos s in
       let within : length (undos ++ s ∷ []) ≤ length log = h.within in
-      let e = there log (length undos) (omega arith) in
+      let e = slice_get-some log (length undos) (omega arith) in
       record {
         entry = e.0;
         at = e.1;
-        slot_undo = let a = slice_get_at undos s [] in let b = h.undoing (length undos) e.0 (omega arith) e.1 in cc;
+        slot_undo = let a = slice_get-append_at undos s [] in let b = h.undoing (length undos) e.0 (omega arith) e.1 in cc;
         here = h.execution ∙ ap (λ (n : ℕ). exec m (take n log)) more ∙ exec_of_next_slot m log (length undos) e.0 e.1;
         before = record {
           within = omega arith;

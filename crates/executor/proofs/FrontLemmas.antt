@@ -5,8 +5,8 @@ use Rattle.std.proofs.lemmas.List.{take-append-le, take-set-le}
 use Rattle.nop_types.specs.declared.request.Entry.{Entry}
 use Rattle.nop_types.specs.Meaning.{Meaning}
 use Rattle.nop_types.specs.Execution.{Executed, exec}
-use Rattle.histories.proofs.Lists.{slice_get-take}
 use Rattle.nop_types.specs.Slots.{set_slot}
+use Rattle.facts.proofs.Places.{slice_get-take}
 use Rattle.executor.specs.declared.slot_undo.SlotUndo.{SlotUndo}
 use Rattle.executor.specs.Undoing.{slot_undo_of, IsExecuted}
 

@@ -11,8 +11,9 @@ use Rattle.nop_types.specs.Lists.{IsPrefixOf, IsGreatest, slot_of}
 use Rattle.nop_types.specs.Execution.{Answered, Executed, opening, ids_of, execute, exec, enter_kept, exec_kept, is_above_kept, result_kept, result_at}
 use Rattle.nop_types.specs.Histories.{history_of}
 use Rattle.nop_types.specs.Legality.{IsAnswered}
+use Rattle.facts.proofs.Prefixes.{IsPrefixOf-take, Has-prefix}
+use Rattle.facts.proofs.Slots.{Has-slot_of}
 use Rattle.histories.specs.Execution.{KeepsGreatest}
-use Rattle.histories.proofs.Lists.{IsPrefixOf-take, Has-prefix, Has-slot_of}
 use Rattle.histories.proofs.Ids.{ids_of-append, has_id}
 use Rattle.histories.proofs.Members.{history_of_prefix, answer_stays, answers_are_equal}
 use Rattle.histories.proofs.Steps.{kept_is_answered}

@@ -1,5 +1,6 @@
 pub mod Bools
 pub mod Functions
+pub mod Limits
 pub mod Members
 pub mod Numbers
 pub mod Options

@@ -156,3 +156,7 @@ same_View-from_ranks a b e g =
     let n = k.leader (sym s) in
     let l : a.leader ≡ b.leader = omega (arith, m, n) in
     same_View a b l s
+
+-- for the attributes of functions
+pub ruleset order_of_views = (AtMost-trans, AtMost-antisym, Below-trans, Below-sum)
+pub ruleset rank_of_views = (same_View-from_ranks, outranks-from_at_most, AtMost-not_outranked)

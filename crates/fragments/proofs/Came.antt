@@ -1,7 +1,7 @@
 -- What is kept came in fragments, and so did what is answered.
 use Rattle.std.proofs.Common.{◌≡◌, ℕ, zero, suc, ◌<◌, Bool, true, false, cond, eqb, List, [], ◌∷◌, ◌++◌, length, get_or, map, take, drop, replicate, All, Option, Some, None, refl, sym, subst, ◌∙◌, arith, inl, inr}
 use Rattle.std.specs.Prelude.{slice_get, not, ◌||◌, ◌&&◌}
-use Rattle.std.proofs.lemmas.Bool.{cases_lt, cases_eq, eqb-true, ltb-true}
+use Rattle.std.proofs.lemmas.Bool.{cases_lt, cases_eq, eqb-true, ltb-true, not-false, or_parts, and_parts}
 use Rattle.std.proofs.lemmas.List.{append-nil, get_or-set_same, get_or-set_other, set_past, length-set, length-map, length-replicate}
 use Rattle.std.proofs.lemmas.List.Concat.{flat_map-cons}
 use Rattle.std.proofs.lemmas.List.Folds.{flat_map-map}
@@ -10,10 +10,10 @@ use Rattle.std.proofs.lemmas.List.Quantifiers.{position-Some}
 use Rattle.std.proofs.lemmas.Option.{slice_get-get_or, get_or_from_slice_get, slice_get_within}
 use Rattle.nop_types.specs.declared.datagram.Fragment.{Fragment}
 use Rattle.nop_types.specs.Lists.{Has}
+use Rattle.facts.proofs.Members.{Has-append_left, Has-push, Has-rest, Has-first}
 use Rattle.fragments.specs.Parts.{Partial, missing, whole, bytes_of, with_part}
 use Rattle.fragments.specs.Joining.{Waiting, begun, started, refuses, completes, continued, placed, place, joined, at_sender, taken, taken_if, is_in_range, opening}
 use Rattle.fragments.specs.Runs.{part_of, Came, AllCame, StepKeeps, after_all, after, CameInParts}
-use Rattle.fragments.proofs.Has.{Has-append_left, Has-push, Has-later, Has-first}
 
 fragment_is : (f : Fragment) (s n i c : ℕ) (p : List ℕ) → s ≡ f.replica → n ≡ f.message → i ≡ f.index → c ≡ f.count → p ≡ f.payload → record { replica = s; message = n; index = i; count = c; payload = p } ≡ f
 fragment_is f s n i c p e1 e2 e3 e4 e5 = rw (e1, e2, e3, e4, e5) refl
@@ -90,25 +90,13 @@ started_keeps net q f false here lt one all = record {
   gave = λ bytes e. absurd cc;
 }
 
-not_true : (b : Bool) → not b ≡ false → b ≡ true
-not_true true e = refl
-not_true false e = absurd cc
-
-neither : (a b : Bool) → (a || b) ≡ false → (a ≡ false) × (b ≡ false)
-neither true b e = absurd cc
-neither false b e = (refl, e)
-
-both : (a b : Bool) → (a && b) ≡ true → (a ≡ true) × (b ≡ true)
-both true b e = (refl, e)
-both false b e = absurd cc
-
 -- the index of a fragment that is in its ranges
 pub index_within : (f : Fragment) → is_in_range f ≡ true → f.index < f.count
-index_within f e = ltb-true _ _ (both _ _ e).0
+index_within f e = ltb-true _ _ (and_parts _ _ e).0
 
 -- a fragment that is not refused has the count that is kept
 same_count : (m : Partial) (f : Fragment) → refuses m f ≡ false → f.count ≡ length m.parts
-same_count m f e = eqb-true _ _ (not_true _ (neither _ _ e).0)
+same_count m f e = eqb-true _ _ (not-false _ (or_parts _ _ e).0)
 
 continued_keeps : (net : List Fragment) (q : Waiting) (f : Fragment) (at : ℕ) (m : Partial) (r l : Bool) → Has net f → refuses m f ≡ r → completes m f ≡ l → m.number ≡ f.message → Came net f.replica m → All (Came net f.replica) q → Keeps net f (continued q f at m r l)
 continued_keeps net q f at m true l here er el number h all = record {
@@ -170,7 +158,7 @@ stays_came net more all h = record {
 
 after_keeps : (net : List Fragment) (all : List Waiting) (fs : List Fragment) → ((g : Fragment) → Has fs g → Has net g) → AllCame net all → AllCame net (after_all all fs)
 after_keeps net all [] each h = h
-after_keeps net all (f ∷ fs) each h = after_keeps net (taken all f).0 fs (λ g there. each g (Has-later fs f g there)) (keeps_what_came net all f (each f (Has-first fs f)) h).kept
+after_keeps net all (f ∷ fs) each h = after_keeps net (taken all f).0 fs (λ g there. each g (Has-rest g f fs there)) (keeps_what_came net all f (each f (Has-first f f fs refl)) h).kept
 
 nothing_at : (n s : ℕ) → get_or (opening n) s [] ≡ []
 nothing_at zero s = refl

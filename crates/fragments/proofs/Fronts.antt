@@ -1,5 +1,6 @@
 -- Parts of which the first stand in one piece: what comes next goes behind them, and what comes early waits.
 use Rattle.std.proofs.Common.{◌≡◌, ℕ, zero, suc, ◌+◌, ◌-◌, ◌*◌, ◌<◌, ◌≤◌, true, false, List, [], ◌∷◌, ◌++◌, length, get_or, set, take, drop, Option, Some, None, refl, sym, ap, subst, ◌∙◌, append_assoc, arith, add-one, inl, inr}
+use Rattle.std.proofs.Math.Seq.{take-add}
 use Rattle.std.proofs.lemmas.Bool.{cases_lt}
 use Rattle.std.proofs.lemmas.Grind.{flat_map-append}
 use Rattle.std.proofs.lemmas.List.{append-nil, length-append, length-drop, length-set, drop-append-le, take-append-le, drop_at, take_all, drop_more, set-append_right, drop-set-add, drop-set-lt, get_or_append_left, get_or-append_right, get_or-drop}
@@ -8,7 +9,6 @@ use Rattle.fragments.specs.Parts.{missing, is_open, whole, bytes_of}
 use Rattle.fragments.specs.Cutting.{piece}
 use Rattle.fragments.specs.Front.{front_parts, parts_of, IsSplit}
 use Rattle.fragments.proofs.Counting.{missing_set, open_missing, open_within}
-use Rattle.fragments.proofs.Pieces.{take_add}
 
 pub front_len : (front : List ℕ) (k : ℕ) → length (front_parts front k) ≡ k
 front_len front zero = refl
@@ -96,7 +96,7 @@ unfolding piece
 whole_taken front zero = refl
 whole_taken front (suc k) =
     let size : FRAGMENT_BYTES * k + FRAGMENT_BYTES ≡ FRAGMENT_BYTES * suc k = omega arith in
-    flat_map-append bytes_of (front_parts front k) (Some (piece front k) ∷ []) ∙ rw (whole_taken front k) (ap (λ (t : List ℕ). take (FRAGMENT_BYTES * k) front ++ t) (append-nil (piece front k)) ∙ take_add (FRAGMENT_BYTES * k) FRAGMENT_BYTES front ∙ ap (λ (n : ℕ). take n front) size)
+    flat_map-append bytes_of (front_parts front k) (Some (piece front k) ∷ []) ∙ rw (whole_taken front k) (ap (λ (t : List ℕ). take (FRAGMENT_BYTES * k) front ++ t) (append-nil (piece front k)) ∙ sym (take-add (FRAGMENT_BYTES * k) FRAGMENT_BYTES front) ∙ ap (λ (n : ℕ). take n front) size)
 
 pub whole_front : (front : List ℕ) (k : ℕ) → length front ≡ FRAGMENT_BYTES * k → whole (front_parts front k) ≡ front
 whole_front front k size = whole_taken front k ∙ take_all (FRAGMENT_BYTES * k) front (omega arith)

@@ -7,25 +7,20 @@ use Rattle.fragments.specs.Parts.{Partial, missing, is_open, whole, with_part}
 use Rattle.fragments.specs.Joining.{Waiting, found, is_in_range}
 use Rattle.std.proofs.lemmas.Option.{slice_get_read}
 use Rattle.std.proofs.lemmas.List.{take-set, drop-set-lt}
+use Rattle.std.proofs.lemmas.Bool.{eq-eqb, ne_eqb}
 use Rattle.fragments.proofs.Counting.{missing_set, open_at_first}
 use Rattle.fragments.proofs.Came.{index_within}
 
-pub same_number : (a b : ℕ) → a ≡ b → eqb a b ≡ true
-same_number a b e = grind (arith, nat_tests)
-
-pub other_number : (a b : ℕ) → a ≢ b → eqb a b ≡ false
-other_number a b e = grind (arith, nat_tests)
-
 pub found_last : (q : Waiting) (f : Fragment) (at : ℕ) (b : Partial) → slice_get q at ≡ Some b → f.count ≡ length b.parts → is_open b.parts f.index ≡ true → missing b.parts ≡ 1 → found q f at (slice_get q at) ≡ (remove q at, Some (whole (with_part b f.index f.payload).parts))
 found_last q f at b here same is_free one =
-    let count : eqb f.count (length b.parts) ≡ true = same_number _ _ same in
-    let none : eqb (missing (set b.parts f.index (Some f.payload))) 0 ≡ true = same_number _ _ (omega (arith, missing_set b.parts f.index f.payload is_free)) in
+    let count : eqb f.count (length b.parts) ≡ true = eq-eqb _ _ same in
+    let none : eqb (missing (set b.parts f.index (Some f.payload))) 0 ≡ true = eq-eqb _ _ (omega (arith, missing_set b.parts f.index f.payload is_free)) in
     rw (here, count, is_free, none) refl
 
 pub found_more : (q : Waiting) (f : Fragment) (at : ℕ) (b : Partial) → slice_get q at ≡ Some b → f.count ≡ length b.parts → is_open b.parts f.index ≡ true → missing b.parts ≢ 1 → found q f at (slice_get q at) ≡ (set q at (with_part b f.index f.payload), None)
 found_more q f at b here same is_free more =
-    let count : eqb f.count (length b.parts) ≡ true = same_number _ _ same in
-    let some : eqb (missing (set b.parts f.index (Some f.payload))) 0 ≡ false = other_number _ _ (omega (arith, missing_set b.parts f.index f.payload is_free)) in
+    let count : eqb f.count (length b.parts) ≡ true = eq-eqb _ _ same in
+    let some : eqb (missing (set b.parts f.index (Some f.payload))) 0 ≡ false = ne_eqb _ _ (omega (arith, missing_set b.parts f.index f.payload is_free)) in
     rw (here, count, is_free, some) refl
 
 -- what was read at an index is there

@@ -4,6 +4,7 @@ use Rattle.std.specs.Prelude.{slice_get}
 use Rattle.std.specs.Option.{option_to_list}
 use Rattle.std.proofs.lemmas.List.{append-nil, length-append, length-set, length-replicate, set-append_right, set-set, get_or-append_right, get_or-set_same, take_all}
 use Rattle.std.proofs.lemmas.Option.{slice_get-get_or}
+use Rattle.std.proofs.lemmas.Bool.{eq-eqb, ne_eqb}
 use Rattle.nop_types.specs.declared.limits.TheConstants.{FRAGMENT_BYTES}
 use Rattle.nop_types.specs.declared.datagram.Fragment.{Fragment}
 use Rattle.fragments.specs.Cutting.{piece, piece_count, fragment_at, first_fragments, fragments_of}
@@ -12,7 +13,8 @@ use Rattle.fragments.specs.Parts.{Partial, missing, is_open, whole, with_part}
 use Rattle.fragments.specs.Joining.{Waiting, place, placed, joined, taken, at_sender, opening, is_in_range}
 use Rattle.fragments.specs.Runs.{after_all, answered, CanBeCut}
 use Rattle.fragments.proofs.Fronts.{front_len, whole_taken}
-use Rattle.fragments.proofs.Goes.{found_last, found_more, same_number, other_number}
+use Rattle.fragments.proofs.Counting.{missing_replicate}
+use Rattle.fragments.proofs.Goes.{found_last, found_more}
 use Rattle.fragments.proofs.Limits.{fragment_fits, fitting_is_in_range}
 use Rattle.fragments.proofs.Whole.{enough}
 
@@ -29,16 +31,12 @@ missing-append [] ys = omega arith
 missing-append (None ∷ xs) ys = omega (arith, missing-append xs ys)
 missing-append (Some x ∷ xs) ys = missing-append xs ys
 
-missing_none : (j : ℕ) → missing (replicate j None) ≡ j
-missing_none zero = refl
-missing_none (suc j) = ap suc (missing_none j)
-
 missing_front : (bytes : List ℕ) (k : ℕ) → missing (front_parts bytes k) ≡ 0
 missing_front bytes zero = refl
 missing_front bytes (suc k) = missing-append (front_parts bytes k) (Some (piece bytes k) ∷ []) ∙ rw (missing_front bytes k) refl
 
 missing_at : (bytes : List ℕ) (k j : ℕ) → missing (parts_at bytes k j) ≡ j
-missing_at bytes k j = omega (arith, missing-append (front_parts bytes k) (replicate j None), missing_front bytes k, missing_none j)
+missing_at bytes k j = omega (arith, missing-append (front_parts bytes k) (replicate j None), missing_front bytes k, missing_replicate j)
 
 open_at : (bytes : List ℕ) (k j : ℕ) → is_open (parts_at bytes k (suc j)) k ≡ true
 open_at bytes k j =
@@ -63,7 +61,7 @@ abbrev kept_at : ℕ → List ℕ → ℕ → ℕ → Waiting
 kept_at number bytes k j = record { number = number; parts = parts_at bytes k j } ∷ []
 
 place_own : (m : Partial) (number : ℕ) → m.number ≡ number → place (m ∷ []) number ≡ Some 0
-place_own m number e = let same : eqb m.number number ≡ true = same_number _ _ e in rw same refl
+place_own m number e = let same : eqb m.number number ≡ true = eq-eqb _ _ e in rw same refl
 
 all_in_one : (bytes : List ℕ) → piece_count bytes ≡ 1 → piece bytes 0 ≡ bytes
 unfolding piece piece_count
@@ -71,12 +69,12 @@ all_in_one bytes e = take_all FRAGMENT_BYTES bytes (omega arith)
 
 only_joined : (s number : ℕ) (bytes : List ℕ) → piece_count bytes ≡ 1 → joined [] (fragment_at s number bytes 0) ≡ ([], Some bytes)
 only_joined s number bytes e =
-    let one : eqb (piece_count bytes) 1 ≡ true = same_number _ _ e in
+    let one : eqb (piece_count bytes) 1 ≡ true = eq-eqb _ _ e in
     rw one (ap (λ (b : List ℕ). ([], Some b)) (all_in_one bytes e))
 
 first_joined : (s number : ℕ) (bytes : List ℕ) (j : ℕ) → piece_count bytes ≡ suc (suc j) → joined [] (fragment_at s number bytes 0) ≡ (kept_at number bytes 1 (suc j), None)
 first_joined s number bytes j e =
-    let more : eqb (piece_count bytes) 1 ≡ false = other_number _ _ (λ one. absurd (omega (arith, e, one))) in
+    let more : eqb (piece_count bytes) 1 ≡ false = ne_eqb _ _ (λ one. absurd (omega (arith, e, one))) in
     rw (more, e) refl
 
 next_joined : (s number : ℕ) (bytes : List ℕ) (k j : ℕ) → piece_count bytes ≡ k + suc (suc j) → joined (kept_at number bytes k (suc (suc j))) (fragment_at s number bytes k) ≡ (kept_at number bytes (suc k) (suc j), None)

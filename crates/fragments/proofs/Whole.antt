@@ -1,16 +1,16 @@
 -- Where all was cut by its senders, what is answered was sent.
 use Rattle.std.proofs.Common.{◌≡◌, ℕ, zero, suc, ◌+◌, ◌*◌, ◌<◌, ◌≤◌, List, [], ◌∷◌, ◌++◌, length, get_or, take, drop, Some, refl, sym, ap, subst, ◌∙◌, arith, inl, inr}
+use Rattle.std.proofs.Math.Seq.{take-add}
 use Rattle.std.proofs.lemmas.List.{take_all, drop-drop}
 use Rattle.std.proofs.lemmas.List.Concat.{flat_map-cons}
 use Rattle.nop_types.specs.declared.limits.TheConstants.{FRAGMENT_BYTES}
 use Rattle.nop_types.specs.declared.datagram.Fragment.{Fragment}
 use Rattle.nop_types.specs.Lists.{Has}
+use Rattle.facts.proofs.Members.{Has-push, Has-push_cases}
 use Rattle.fragments.specs.Cutting.{piece, piece_count, fragment_at, first_fragments}
 use Rattle.fragments.specs.Joining.{taken}
 use Rattle.fragments.specs.Runs.{concat, after, CameInParts, Sent, AreDistinct, AreCutFrom, WasSent}
-use Rattle.fragments.proofs.Has.{Has-push, Has-push_cases}
 use Rattle.fragments.proofs.Came.{answers_what_came}
-use Rattle.fragments.proofs.Pieces.{take_add}
 
 -- a fragment that was cut is the one at its index
 pub record IsAt (sender number : ℕ) (bytes : List ℕ) (k : ℕ) (f : Fragment) : Type 0 where
@@ -44,7 +44,7 @@ concat-pieces (x ∷ xs) bytes h =
     let first : x ≡ take FRAGMENT_BYTES bytes = h 0 (omega arith) ∙ first_piece bytes in
     let others : concat xs ≡ take (FRAGMENT_BYTES * length xs) (drop FRAGMENT_BYTES bytes) = concat-pieces xs (drop FRAGMENT_BYTES bytes) (λ i lt. h (suc i) (omega arith) ∙ sym (piece-drop bytes i)) in
     let size : FRAGMENT_BYTES + FRAGMENT_BYTES * length xs ≡ FRAGMENT_BYTES * suc (length xs) = omega arith in
-    flat_map-cons (λ (p : List ℕ). p) x xs ∙ rw (first, others) (take_add FRAGMENT_BYTES (FRAGMENT_BYTES * length xs) bytes ∙ ap (λ (n : ℕ). take n bytes) size)
+    flat_map-cons (λ (p : List ℕ). p) x xs ∙ rw (first, others) (sym (take-add FRAGMENT_BYTES (FRAGMENT_BYTES * length xs) bytes) ∙ ap (λ (n : ℕ). take n bytes) size)
 
 pub enough : (bytes : List ℕ) → length bytes ≤ FRAGMENT_BYTES * piece_count bytes
 unfolding piece_count

@@ -3,6 +3,7 @@ use Rattle.std.proofs.Common.{◌≡◌, ℕ, zero, suc, ◌<◌, Bool, true, fa
 use Rattle.std.specs.Prelude.{◌==◌, ◌||◌, ◌&&◌, ◌⊎◌, ◌↔◌, slice_get}
 use Rattle.std.specs.List.{range_with_len}
 use Rattle.std.proofs.lemmas.Bool.Decides.{nat_tests}
+use Rattle.std.proofs.lemmas.Bool.{and_parts}
 use Rattle.nop_types.specs.declared.limits.TheConstants.{MAX_REPLICAS}
 use Rattle.nop_types.specs.Lists.{Has}
 use Rattle.gap_agree.specs.Votes.{has_vote, with_vote}
@@ -32,10 +33,6 @@ has_with : (votes : List ℕ) (q k : ℕ) → has_vote (with_vote votes q) k ≡
 unfolding with_vote
 has_with votes q k = has_filtered (λ j. (j == q) || has_vote votes j) (range_with_len 0 MAX_REPLICAS) k
 
-both : (a b : Bool) → (a && b) ≡ true → (a ≡ true) × (b ≡ true)
-both true b e = (refl, e)
-both false b e = absurd cc
-
 one_of : (votes : List ℕ) (q k : ℕ) (b : Bool) → (k == q) ≡ b → (b || has_vote votes k) ≡ true → (k ≡ q) ⊎ Has votes k
 one_of votes q k true f e = inl (grind (arith, nat_tests, f))
 one_of votes q k false f e = inr (has_from votes k e)
@@ -51,7 +48,7 @@ from_one votes q k (inr has) = at (k == q) (has_to votes k has.0 has.1)
 pub members_of_with_vote : (votes : List ℕ) (q k : ℕ) → Has (with_vote votes q) k ↔ ((k < MAX_REPLICAS) × ((k ≡ q) ⊎ Has votes k))
 members_of_with_vote votes q k = (
   λ h.
-      let parts = both ((k == q) || has_vote votes k) (has_vote (range_with_len 0 MAX_REPLICAS) k) (sym (has_with votes q k) ∙ has_to (with_vote votes q) k h.0 h.1) in
+      let parts = and_parts ((k == q) || has_vote votes k) (has_vote (range_with_len 0 MAX_REPLICAS) k) (sym (has_with votes q k) ∙ has_to (with_vote votes q) k h.0 h.1) in
       (range_has 0 MAX_REPLICAS k parts.1, one_of votes q k (k == q) refl parts.0),
   λ h. has_from (with_vote votes q) k (has_with votes q k ∙ ap (λ b. b && has_vote (range_with_len 0 MAX_REPLICAS) k) (from_one votes q k h.1) ∙ has_range 0 MAX_REPLICAS k (omega arith) h.0),
 )

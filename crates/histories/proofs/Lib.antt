@@ -1,4 +1,3 @@
-pub mod Lists
 pub mod Ids
 pub mod Members
 pub mod Steps

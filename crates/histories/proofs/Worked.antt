@@ -13,7 +13,8 @@ use Rattle.histories.proofs.Ids.{IsOf-refl}
 use Rattle.histories.proofs.Legal.{legal_at_first, legal_with_submit, legal_with_accept, legal_with_member, legal_from_grounds}
 
 is_of_same : (p q r : Request) → p ≡ r → q ≡ r → IsOf p.client p.id q
-is_of_same p q r e f = let g = f ∙ sym e in record { same_client = ap (λ (t : Request). t.client) g; same_id = ap (λ (t : Request). t.id) g }
+is_of_same p q r e f =
+    let g = f ∙ sym e in record { same_client = ap (λ (t : Request). t.client) g; same_id = ap (λ (t : Request). t.id) g }
 
 -- ---- the retried request: each accept line has its grounds
 
@@ -35,14 +36,17 @@ record AcceptsFirst (k client id : ℕ) (result : List ℕ) : Type 0 where
   of_id : id ≡ 1
   gives : result ≡ 10 ∷ []
 
-retried_accept : (k client id : ℕ) (result : List ℕ) → slice_get retried_lines k ≡ Some (Accept client id result) → AcceptsFirst k client id result
+retried_accept : (k client id : ℕ) (result : List ℕ) → slice_get retried_lines k ≡ Some (Accept client id result)
+    → AcceptsFirst k client id result
 retried_accept zero c n a e = absurd cc
 retried_accept (suc zero) c n a e = absurd cc
 retried_accept (suc (suc zero)) c n a e = record { place = refl; of_client = cc; of_id = cc; gives = cc }
 retried_accept (suc (suc (suc k))) c n a e = absurd cc
 
 retried_before : (r : Request) → r ≡ first_request → (k : ℕ) → k ≡ 2 → IsSubmittedBefore retried_lines k r.client r.id
-retried_before r e k f = record { place = 0; before = omega (arith, f); request = first_request; line = refl; same = is_of_same r first_request first_request e refl }
+retried_before r e k f =
+    record { place = 0; before = omega (arith, f); request = first_request; line = refl;
+    same = is_of_same r first_request first_request e refl }
 
 pub retried : Grounded appending retried_lines retried_log
 retried = record {
@@ -70,7 +74,8 @@ unsubmitted_1 : IsUnsubmitted [] 1 1
 unsubmitted_1 r h same = absurd (let e = h.1 in cc)
 
 unsubmitted_2 : IsUnsubmitted (Submit first_request ∷ []) 2 1
-unsubmitted_2 r (zero, e) same = let f : first_request ≡ r = cc in absurd (omega (arith, ap (λ (t : Request). t.client) f, same.same_client))
+unsubmitted_2 r (zero, e) same =
+    let f : first_request ≡ r = cc in absurd (omega (arith, ap (λ (t : Request). t.client) f, same.same_client))
 unsubmitted_2 r (suc i, e) same = absurd cc
 
 none_yet : IsNoMember [] 2 1
@@ -99,9 +104,12 @@ concurrent =
     let three = legal_with_member appending both [] second_request (1, refl) none_yet two in
     let four = legal_with_member appending both (second_request ∷ []) first_request (0, refl) not_first three in
     let members : List Request = second_request ∷ first_request ∷ [] in
-    let five = legal_with_accept appending both members 2 1 (20 ∷ []) (record { place = 1; before = omega arith; request = second_request; line = refl; same = IsOf-refl second_request }) unaccepted_2
+    let five =
+        legal_with_accept appending both members 2 1 (20 ∷ [])
+        (record { place = 1; before = omega arith; request = second_request; line = refl; same = IsOf-refl second_request }) unaccepted_2
     (record { place = 0; request = second_request; member = refl; same = IsOf-refl second_request; answer = refl }) four in
-    legal_with_accept appending (Submit first_request ∷ Submit second_request ∷ Accept 2 1 (20 ∷ []) ∷ []) members 1 1 (20 ∷ 10 ∷ []) (record { place = 0; before = omega arith; request = first_request; line = refl; same = IsOf-refl first_request }) unaccepted_1
+    legal_with_accept appending (Submit first_request ∷ Submit second_request ∷ Accept 2 1 (20 ∷ []) ∷ []) members 1 1 (20 ∷ 10 ∷ [])
+        (record { place = 0; before = omega arith; request = first_request; line = refl; same = IsOf-refl first_request }) unaccepted_1
     (record { place = 1; request = first_request; member = refl; same = IsOf-refl first_request; answer = refl }) five
 
 -- ---- lines that no history makes legal
@@ -120,11 +128,15 @@ wrong_submit r (suc (suc i), e) = absurd cc
 pub wrong : (history : List Request) → Legal appending wrong_lines history → ⊥
 wrong history l = let a = l.answered 1 1 1 (11 ∷ []) refl in here history l a.place a.request a.member a.answer
   where
-    here : (history : List Request) → Legal appending wrong_lines history → (i : ℕ) (r : Request) → slice_get history i ≡ Some r → answer_at appending history i ≡ Some (11 ∷ []) → ⊥
+    here : (history : List Request) → Legal appending wrong_lines history → (i : ℕ) (r : Request) → slice_get history i ≡ Some r
+        → answer_at appending history i ≡ Some (11 ∷ []) → ⊥
     here [] l i r h g = cc
-    here (q ∷ rest) l zero r h g = let e : q ≡ first_request = wrong_submit q (l.submitted q (zero, refl)) in let f : q.op ≡ 11 ∷ [] = cc in let o = ap (λ (t : Request). t.op) e in cc
+    here (q ∷ rest) l zero r h g = let e : q ≡ first_request = wrong_submit q (l.submitted q (zero, refl)) in let f : q.op ≡ 11 ∷ [] =
+        cc in let o = ap (λ (t : Request). t.op) e in cc
     here (q ∷ rest) l (suc i) r h g =
-        let e : 0 ≡ suc i = l.apart 0 (suc i) q r refl h (is_of_same q r first_request (wrong_submit q (l.submitted q (zero, refl))) (wrong_submit r (l.submitted r (suc i, h)))) in
+        let e : 0 ≡ suc i =
+            l.apart 0 (suc i) q r refl h
+            (is_of_same q r first_request (wrong_submit q (l.submitted q (zero, refl))) (wrong_submit r (l.submitted r (suc i, h)))) in
         omega (arith, e)
 
 swapped_submit : (r : Request) → Has swapped_lines (Submit r) → (r ≡ first_request) ⊎ (r ≡ second_request)
@@ -136,15 +148,21 @@ swapped_submit r (suc (suc (suc i)), e) = absurd cc
 pub swapped : (history : List Request) → Legal appending swapped_lines history → ⊥
 swapped history l = let a = l.answered 1 1 1 (20 ∷ 10 ∷ []) refl in here history l a.place a.request a.member a.same a.answer
   where
-    here : (history : List Request) → Legal appending swapped_lines history → (i : ℕ) (r : Request) → slice_get history i ≡ Some r → IsOf 1 1 r → answer_at appending history i ≡ Some (20 ∷ 10 ∷ []) → ⊥
+    here : (history : List Request) → Legal appending swapped_lines history → (i : ℕ) (r : Request) → slice_get history i ≡ Some r
+        → IsOf 1 1 r → answer_at appending history i ≡ Some (20 ∷ 10 ∷ []) → ⊥
     here [] l i r h same g = cc
     here (q ∷ rest) l zero r h same g = elim (swapped_submit q (l.submitted q (zero, refl))) [
       | inl e ↦ let o = ap (λ (t : Request). t.op) e in cc
       | inr e ↦ let o = ap (λ (t : Request). t.op) e in cc
     ]
     here (q ∷ rest) l (suc i) r h same g = elim (swapped_submit q (l.submitted q (zero, refl))) [
-      | inl e ↦ let f : 0 ≡ suc i = l.apart 0 (suc i) q r refl h (record { same_client = same.same_client ∙ sym (ap (λ (t : Request). t.client) e); same_id = same.same_id ∙ sym (ap (λ (t : Request). t.id) e) }) in omega (arith, f)
-      | inr e ↦ let lt = l.ordered 1 2 1 1 (20 ∷ 10 ∷ []) second_request (omega arith) refl refl (suc i) 0 r q h same refl (is_of_same second_request q second_request refl e) in omega (arith, lt)
+      | inl e ↦ let f : 0 ≡ suc i =
+          l.apart 0 (suc i) q r refl h
+          (record { same_client = same.same_client ∙ sym (ap (λ (t : Request). t.client) e);
+          same_id = same.same_id ∙ sym (ap (λ (t : Request). t.id) e) }) in omega (arith, f)
+      | inr e ↦ let lt =
+          l.ordered 1 2 1 1 (20 ∷ 10 ∷ []) second_request (omega arith) refl refl (suc i) 0 r q h same refl
+          (is_of_same second_request q second_request refl e) in omega (arith, lt)
     ]
 
 -- ---- histories that the lines do not allow

@@ -31,7 +31,8 @@ IsNoMember history client id = (r : Request) → Has history r → IsOf client i
 
 -- at most one line submits each client and id
 abbrev pub SubmittedOnce : List Line → Type 0
-SubmittedOnce lines = (k l : ℕ) (p q : Request) → slice_get lines k ≡ Some (Submit p) → slice_get lines l ≡ Some (Submit q) → IsOf p.client p.id q → k ≡ l
+SubmittedOnce lines =
+    (k l : ℕ) (p q : Request) → slice_get lines k ≡ Some (Submit p) → slice_get lines l ≡ Some (Submit q) → IsOf p.client p.id q → k ≡ l
 
 -- why the line at a place k may accept: the log has the request at a slot with this result, and lines before k submit each request up to there
 pub record IsGrounded {S : Type 0} (m : Meaning S) (lines : List Line) (log : List Entry) (k client id : ℕ) (result : List ℕ) : Type 0 where
@@ -47,4 +48,5 @@ pub record Grounded {S : Type 0} (m : Meaning S) (lines : List Line) (log : List
   pub submitted : (r : Request) → Has log (Req r) → Has lines (Submit r)
   pub submitted_once : SubmittedOnce lines
   pub accepted_once : AcceptedOnce lines
-  pub grounds : (k client id : ℕ) (result : List ℕ) → slice_get lines k ≡ Some (Accept client id result) → IsGrounded m lines log k client id result
+  pub grounds : (k client id : ℕ) (result : List ℕ) → slice_get lines k ≡ Some (Accept client id result)
+      → IsGrounded m lines log k client id result

@@ -1,5 +1,6 @@
 -- What a run of calls hands up.
 use Rattle.std.proofs.Common.{◌≡◌, ℕ, zero, suc, Some, None, refl, subst, List, [], ◌∷◌, ◌++◌}
+use Rattle.std.proofs.lemmas.Option.{same_Some, none-some}
 use Rattle.nop_types.specs.declared.request.Request.{Request}
 use Rattle.nop_types.specs.declared.datagram.Stamped.{Stamped}
 use Rattle.nop_types.specs.Lists.{Has}
@@ -9,7 +10,7 @@ use Rattle.oum_receiver.specs.Front.{Front, Nothing, Message, Dropped}
 use Rattle.oum_receiver.specs.Receiving.{Receiving, opened, verdict_of, judged, offered, front_of, front_taken, advanced}
 use Rattle.nop_types.specs.Stamps.{WasStamped}
 use Rattle.oum_receiver.specs.Runs.{Call, Offer, TakeFront, TakeMessage, Advance, Reset, HandedUp, past_front, past_message, handed_front, handed_message, handed_up, packets_of, IsUninterrupted, IsConsecutive, IsStampedBy, HaveOneRequest}
-use Rattle.oum_receiver.proofs.Stamps.{opened_stamped, offered_stamped, taken_stamped, advanced_stamped, front_stamped, some_same, none_apart}
+use Rattle.oum_receiver.proofs.Stamps.{opened_stamped, offered_stamped, taken_stamped, advanced_stamped, front_stamped}
 
 -- an offer changes neither session nor next number
 offer_then : (r : Receiving) (packet : Stamped) (calls : List Call) → ((s : Receiving) → IsConsecutive s.session s.next (handed_up s calls)) → (v : Verdict) → IsConsecutive r.session r.next (handed_up (judged v r packet) calls)
@@ -50,14 +51,14 @@ RestIsFrom packets calls = (s : Receiving) → IsStampedBy packets s → (h : Ha
 module _ (packets : List Stamped) (r : Receiving) (stamped : IsStampedBy packets r) (calls : List Call) (rest : RestIsFrom packets calls) where
   first_from : (request : Request) (h : HandedUp) → front_of r ≡ Message request → Some (record { session = r.session; number = r.next; request = Some request }) ≡ Some h → IsFrom packets h
   first_from request h is e =
-      subst (IsFrom packets) (some_same _ h e) (λ (q : Request) (same : Some request ≡ Some q).
-      subst (WasStamped packets r.session r.next) (some_same request q same) (front_stamped packets r request stamped is))
+      subst (IsFrom packets) (same_Some _ h e) (λ (q : Request) (same : Some request ≡ Some q).
+      subst (WasStamped packets r.session r.next) (same_Some request q same) (front_stamped packets r request stamped is))
 
   front_from : (f : Front) → front_of r ≡ f → (h : HandedUp) → Has (handed_front f r ++ handed_up (past_front f r) calls) h → IsFrom packets h
   front_from Nothing is h has = rest r stamped h has
   front_from (Message request) is h (zero, e) = first_from request h is e
   front_from (Message request) is h (suc i, e) = rest (front_taken r) (taken_stamped packets r stamped) h (i, e)
-  front_from Dropped is h (zero, e) = subst (IsFrom packets) (some_same _ h e) (λ (q : Request) (none : None ≡ Some q). absurd (none_apart q none))
+  front_from Dropped is h (zero, e) = subst (IsFrom packets) (same_Some _ h e) (λ (q : Request) (none : None ≡ Some q). absurd (none-some q none))
   front_from Dropped is h (suc i, e) = rest (front_taken r) (taken_stamped packets r stamped) h (i, e)
 
   message_from : (f : Front) → front_of r ≡ f → (h : HandedUp) → Has (handed_message f r ++ handed_up (past_message f r) calls) h → IsFrom packets h
@@ -67,7 +68,7 @@ module _ (packets : List Stamped) (r : Receiving) (stamped : IsStampedBy packets
   message_from Dropped is h has = rest r stamped h has
 
 run_from : (packets : List Stamped) (calls : List Call) → Covers packets calls → RestIsFrom packets calls
-run_from packets [] covers s stamped h has = absurd (none_apart h has.1)
+run_from packets [] covers s stamped h has = absurd (none-some h has.1)
 run_from packets (Offer packet ∷ calls) covers s stamped h has =
     run_from packets calls (λ p in_calls. covers p (suc in_calls.0, in_calls.1)) (offered s packet) (offered_stamped packets s packet stamped (covers packet (zero, refl))) h has
 run_from packets (TakeFront ∷ calls) covers s stamped h has = front_from packets s stamped calls (run_from packets calls covers) (front_of s) refl h has

@@ -5,6 +5,7 @@ use Rattle.std.specs.Ordering.{nat_cmp, eq_by_cmp}
 use Rattle.std.specs.Cmp.{nat_cmp_total, unsigned_tied}
 use Rattle.std.specs.FinMap as finite
 use Rattle.std.proofs.lemmas.Bool.Decides.{nat_tests}
+use Rattle.std.proofs.lemmas.Bool.{or_parts}
 use Rattle.nop_types.specs.declared.limits.TheConstants.{MAX_QUEUED, NUMBER_END}
 use Rattle.nop_types.specs.declared.request.Request.{Request}
 use Rattle.nop_types.specs.declared.datagram.Stamped.{Stamped}
@@ -33,10 +34,6 @@ opened_sound session next high = record {
   each = λ number. rw (finite.get-empty nat_cmp number) tt;
 }
 
-pub both_false : (a b : Bool) → (a || b) ≡ false → (a ≡ false) × (b ≡ false)
-both_false true b e = absurd (true≢false e)
-both_false false b e = (refl, e)
-
 -- what the verdict says of its tests
 pub queued_tests : (later old full : Bool) (session : ℕ) → (if later then Terminated session else (if old then Old else (if full then Full else Queued))) ≡ Queued → (later ≡ false) × (old ≡ false) × (full ≡ false)
 queued_tests true old full session e = cc
@@ -54,8 +51,8 @@ pub queued_sound : (r : Receiving) (packet : Stamped) → IsSound r → StampedF
 unfolding verdict_of
 queued_sound r packet sound fits verdict =
     let tests = queued_tests (nat_lt r.session packet.session) (is_old r packet) (nat_le MAX_QUEUED (finite.len r.queued)) packet.session verdict in
-    let old = both_false (nat_lt packet.session r.session) _ tests.1 in
-    let passed = both_false (nat_lt packet.number r.next) (finite.contains_key r.queued packet.number) old.1 in
+    let old = or_parts (nat_lt packet.session r.session) _ tests.1 in
+    let passed = or_parts (nat_lt packet.number r.next) (finite.contains_key r.queued packet.number) old.1 in
     record {
       next = sound.next;
       few = rw (finite.len-insert nat_cmp_total r.queued packet.number packet.request) (rw passed.1 (grind (arith, nat_tests, tests.2)));
@@ -74,8 +71,8 @@ pub queued_absent : (r : Receiving) (packet : Stamped) → verdict_of r packet �
 unfolding verdict_of
 queued_absent r packet verdict =
     let tests = queued_tests (nat_lt r.session packet.session) (is_old r packet) (nat_le MAX_QUEUED (finite.len r.queued)) packet.session verdict in
-    let old = both_false (nat_lt packet.session r.session) _ tests.1 in
-    at (finite.get r.queued packet.number) (both_false (nat_lt packet.number r.next) (finite.contains_key r.queued packet.number) old.1).1
+    let old = or_parts (nat_lt packet.session r.session) _ tests.1 in
+    at (finite.get r.queued packet.number) (or_parts (nat_lt packet.number r.next) (finite.contains_key r.queued packet.number) old.1).1
   where
     at : (o : Option Request) → is_some o ≡ false → o ≡ None
     at None none = refl

@@ -5,6 +5,8 @@ use Rattle.std.specs.Ordering.{nat_cmp, eq_by_cmp}
 use Rattle.std.specs.Cmp.{nat_cmp_total}
 use Rattle.std.specs.FinMap as finite
 use Rattle.std.proofs.lemmas.Bool.Decides.{nat_tests}
+use Rattle.std.proofs.lemmas.Option.{none-some, same_Some}
+use Rattle.std.proofs.lemmas.Bool.{or_parts}
 use Rattle.nop_types.specs.declared.limits.TheConstants.{MAX_QUEUED}
 use Rattle.nop_types.specs.declared.request.Request.{Request}
 use Rattle.nop_types.specs.declared.datagram.Stamped.{Stamped}
@@ -17,21 +19,18 @@ use Rattle.oum_receiver.specs.Receiving.{Receiving, opened, is_old, verdict_of, 
 use Rattle.nop_types.specs.Stamps.{WasStamped}
 use Rattle.oum_receiver.specs.Runs.{IsStampedBy}
 use Rattle.oum_receiver.proofs.Entries.{get_kept}
-use Rattle.oum_receiver.proofs.Sound.{queued_tests, both_false, same_number}
-
-pub none_apart : {A : Type 0} (x : A) → None ≡ Some x → ⊥
-none_apart x e = cc
+use Rattle.oum_receiver.proofs.Sound.{queued_tests, same_number}
 
 pub opened_stamped : (packets : List Stamped) (session next : ℕ) → IsStampedBy packets (opened session next)
-opened_stamped packets session next number request is = absurd (none_apart request (sym (finite.get-empty nat_cmp number) ∙ is))
+opened_stamped packets session next number request is = absurd (none-some request (sym (finite.get-empty nat_cmp number) ∙ is))
 
 -- what is found where some is left out
 part_found : (b : Bool) (o : Option Request) (request : Request) → cond b o None ≡ Some request → o ≡ Some request
 part_found true o request is = is
-part_found false o request is = absurd (none_apart request is)
+part_found false o request is = absurd (none-some request is)
 
 rest_found : (b : Bool) (o : Option Request) (request : Request) → cond b None o ≡ Some request → o ≡ Some request
-rest_found true o request is = absurd (none_apart request is)
+rest_found true o request is = absurd (none-some request is)
 rest_found false o request is = is
 
 pub advanced_stamped : (packets : List Stamped) (r : Receiving) (next : ℕ) → IsStampedBy packets r → IsStampedBy packets (advanced r next)
@@ -56,11 +55,8 @@ same_session : (r : Receiving) (packet : Stamped) → verdict_of r packet ≡ Qu
 unfolding verdict_of
 same_session r packet verdict =
     let tests = queued_tests (nat_lt r.session packet.session) (is_old r packet) (nat_le MAX_QUEUED (finite.len r.queued)) packet.session verdict in
-    let older : nat_lt packet.session r.session ≡ false = (both_false (nat_lt packet.session r.session) _ tests.1).0 in
+    let older : nat_lt packet.session r.session ≡ false = (or_parts (nat_lt packet.session r.session) _ tests.1).0 in
     grind (arith, nat_tests, tests.0, older)
-
-pub some_same : {A : Type 0} (x y : A) → Some x ≡ Some y → x ≡ y
-some_same x y e = cc
 
 queued_stamped : (packets : List Stamped) (r : Receiving) (packet : Stamped) → IsStampedBy packets r → Has packets packet → packet.session ≡ r.session → IsStampedBy packets (judged Queued r packet)
 queued_stamped packets r packet stamped has same number request is =
@@ -69,7 +65,7 @@ queued_stamped packets r packet stamped has same number request is =
     at : (b : Bool) → eq_by_cmp nat_cmp number packet.number ≡ b → cond b (Some packet.request) (finite.get r.queued number) ≡ Some request → WasStamped packets r.session number request
     at true tied found =
         let numbers : packet.number ≡ number = sym (same_number number packet.number tied) in
-        let requests : packet.request ≡ request = some_same packet.request request found in
+        let requests : packet.request ≡ request = same_Some packet.request request found in
         let whole : packet ≡ record { session = r.session; number = number; request = request } = λ i. record { session = same i; number = numbers i; request = requests i } in
         subst (Has packets) whole has
     at false tied found = stamped number request found

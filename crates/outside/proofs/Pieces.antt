@@ -1,15 +1,10 @@
 -- Bytes that are read or written piece by piece.
 use Rattle.std.proofs.Common.{◌≡◌, ℕ, ◌+◌, ◌-◌, ◌≤◌, List, ◌++◌, length, take, drop, Option, refl, arith, sym, ◌∙◌}
 use Rattle.std.proofs.KnownBytes.{Appends-trans}
+use Rattle.std.proofs.Math.Seq.{take-add}
 use Rattle.std.proofs.lemmas.Grind.{common_steps}
 use Rattle.std.proofs.lemmas.List.{take-append-drop, drop-take, drop-drop, take_rest, take_at}
 use Rattle.std.specs.Io.KnownBytes.{Appends}
-
--- a front of n + m bytes is two fronts, one after the other
-pub take-add : (n m : ℕ) (xs : List ℕ) → take (n + m) xs ≡ take n xs ++ take m (drop n xs)
-take-add n m xs =
-    let front : take n (take (n + m) xs) ≡ take n xs = grind (arith, common_steps) in
-    sym (take-append-drop n (take (n + m) xs)) ∙ rw (front, drop-take) refl
 
 -- the front was written, and then some bytes of the rest
 pub Appends_more : (old mid new : Option (List ℕ)) (xs : List ℕ) (at count : ℕ) → Appends old mid (take at xs) → Appends mid new (take count (take (length xs - at) (drop at xs))) → Appends old new (take (at + count) xs)

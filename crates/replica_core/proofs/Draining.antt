@@ -1,7 +1,7 @@
 -- What stands in front is taken, one after the other.
 use Rattle.std.proofs.Common.{◌≡◌, ℕ, zero, suc, ◌+◌, ◌-◌, ◌<◌, ◌≤◌, Bool, true, false, List, [], ◌∷◌, ◌++◌, length, Some, refl, sym, ap, ◌∙◌, arith, append_assoc, length-append}
 use Rattle.std.specs.Prelude.{◌&&◌, not, nat_lt, slice_get}
-use Rattle.std.proofs.lemmas.Bool.{ltb-true, le-ltb}
+use Rattle.std.proofs.lemmas.Bool.{ltb-true, le-ltb, and_parts}
 use Rattle.std.proofs.lemmas.List.{append-nil}
 use Rattle.nop_types.specs.declared.limits.TheConstants.{MAX_SLOTS, NUMBER_END}
 use Rattle.nop_types.specs.declared.request.Request.{Request}
@@ -19,10 +19,6 @@ use Rattle.replica_core.specs.Sends.{Effect, still, then_do}
 use Rattle.replica_core.specs.Replies.{reply_at, reply_for_any}
 use Rattle.replica_core.specs.Moves.{logged, take_front, appended, fill, open_gap, drain_drop, drain_at, drain_by, drain}
 use Rattle.replica_core.specs.Draining.{TookFront, TookNone, TakesFront, GoesOn, Stops, TakesOne}
-
-both : (a b : Bool) → (a && b) ≡ true → (a ≡ true) × (b ≡ true)
-both true b e = (refl, e)
-both false b e = absurd cc
 
 last_false : (a b c : Bool) → c ≡ false → (a && (b && c)) ≡ false
 last_false true true c e = e
@@ -98,7 +94,7 @@ module _ {S : Type 0} (m : Meaning S) where
       (sent ∙ ap (λ (p : ReplicaState). old ++ (open_gap p).1) none.state)
 
   has_slot : (s : ReplicaState) → drains s ≡ true → length s.log < MAX_SLOTS
-  has_slot s may = ltb-true _ _ (both (not (waits s.gap)) (nat_lt (length s.log) MAX_SLOTS) (both (is_normal s.status) _ may).1).1
+  has_slot s may = ltb-true _ _ (and_parts (not (waits s.gap)) (nat_lt (length s.log) MAX_SLOTS) (and_parts (is_normal s.status) _ may).1).1
 
   -- a full log has no room
   pub is_full : (s : ReplicaState) → MAX_SLOTS ≤ length s.log → drains s ≡ false

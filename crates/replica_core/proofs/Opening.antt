@@ -5,6 +5,7 @@ use Rattle.std.specs.List.{AllByRecursion}
 use Rattle.std.proofs.lemmas.Bool.{lt-ltb, ltb-true, le-ltb}
 use Rattle.std.proofs.lemmas.Bool.Decides.{nat_tests}
 use Rattle.std.proofs.lemmas.List.{append-nil}
+use Rattle.std.proofs.lemmas.Option.{same_Some}
 use Rattle.nop_types.specs.declared.limits.TheConstants.{NUMBER_END}
 use Rattle.nop_types.specs.declared.view.View.{View}
 use Rattle.nop_types.specs.declared.peer.Change.{Change}
@@ -90,9 +91,6 @@ opened_log_fits w cs h = merge_of_changes_fits (kept cs) (filter_all ChangeFits 
 
 -- ---- entering a view
 
-some_same : {A : Type 0} (x y : A) → Some x ≡ Some y → x ≡ y
-some_same x y e = cc
-
 none_after : (e : Effect) (f : ReplicaState → Effect) → f e.0 ≡ still e.0 → then_do e f ≡ e
 none_after e f none = ap (λ (x : Effect). (x.0, e.1 ++ x.1)) none ∙ ap (λ (xs : List Sending). (e.0, xs)) (append-nil e.1)
 
@@ -102,7 +100,7 @@ pub record IsOwn (s : ReplicaState) (g : Gathering) : Type 0 where
   pub one : length g.changes ≡ 1
 
 own_as : (b : Bool) (s : ReplicaState) (g : Gathering) → (enter_as b s).0.changes ≡ Some g → s.changes ≡ None → IsOwn (enter_as b s).0 g
-own_as true s g is none = let same = some_same _ _ is in record { f = ap (λ (h : Gathering). h.f) (sym same); one = ap (λ (h : Gathering). length h.changes) (sym same) }
+own_as true s g is none = let same = same_Some _ _ is in record { f = ap (λ (h : Gathering). h.f) (sym same); one = ap (λ (h : Gathering). length h.changes) (sym same) }
 own_as false s g is none = absurd cc
 
 pub own : (s : ReplicaState) (v : View) (g : Gathering) → (enter s v).0.changes ≡ Some g → IsOwn (enter s v).0 g

@@ -6,6 +6,7 @@ use Rattle.nop_types.specs.declared.limits.TheConstants.{MAX_REPLICAS}
 use Rattle.nop_types.specs.declared.request.Entry.{Entry}
 use Rattle.nop_types.specs.Configuration.{Configuration, is_configuration}
 use Rattle.nop_types.specs.Meaning.{Meaning}
+use Rattle.facts.proofs.Limits.{is_configuration-few_replicas}
 use Rattle.executor.specs.Undoing.{HasExecuted}
 use Rattle.fragments.specs.Joining as joining
 use Rattle.replica_core.specs.declared.replica.Node.{Node}
@@ -31,16 +32,13 @@ opens_within config number there few = record {
   changes = tt;
 }
 
-few_replicas : (config : Configuration) → IsTrue (is_configuration config) → config.replicas ≤ MAX_REPLICAS
-few_replicas config is = grind (arith, is)
-
 either_way : (b : Bool) (n : ℕ) → cond b n n ≡ n
 either_way true n = refl
 either_way false n = refl
 
 pub opens_ready : {H U S : Type 0} (host_state : H → S) (m : Meaning S) (undo_of : S → List ℕ → U) (config : Configuration) (number : ℕ) (n : Node H U) (k : ℕ) → n.member.state ≡ opening config number → number < config.replicas → IsTrue (is_configuration config) → ((log : List Entry) → HasExecuted host_state m undo_of log n.member.executor) → n.member.executor.undos ≡ [] → n.member.sends ≡ [] → n.reassembly ≡ joining.opening k → k ≡ config.replicas → IsReady host_state m undo_of n
 opens_ready host_state m undo_of config number n k is there limits run undos nothing all count = record {
-  runs = record { within = subst IsWithin (sym is) (opens_within config number there (few_replicas config limits)); run = run n.member.state.log };
+  runs = record { within = subst IsWithin (sym is) (opens_within config number there (is_configuration-few_replicas config limits)); run = run n.member.state.log };
   executed = ap length undos ∙ sym (either_way (leads (opening config number)) 0) ∙ ap executed_to (sym is);
   nothing = nothing;
   senders = ap length all ∙ length-replicate k [] ∙ count ∙ ap (λ (t : ReplicaState). t.config.replicas) (sym is);

@@ -1,11 +1,11 @@
 -- Replies for one slot after the other.
 use Rattle.std.proofs.Common.{◌≡◌, ℕ, zero, suc, ◌+◌, ◌<◌, ◌≤◌, List, [], ◌∷◌, ◌++◌, length, drop, Option, Some, refl, sym, ap, subst, ◌∙◌, arith, append_assoc}
 use Rattle.std.specs.Prelude.{slice_get}
-use Rattle.std.proofs.lemmas.List.{append-nil}
+use Rattle.std.proofs.lemmas.List.{append-nil, drop_all}
 use Rattle.nop_types.specs.declared.request.Entry.{Entry}
 use Rattle.nop_types.specs.Lists.{slot_of}
 use Rattle.nop_types.specs.Meaning.{Meaning}
-use Rattle.histories.proofs.Lists.{splits}
+use Rattle.facts.proofs.Places.{Splits-at}
 use Rattle.replica_core.specs.declared.sending.Sending.{Sending}
 use Rattle.replica_core.specs.declared.state.ReplicaState.{ReplicaState}
 use Rattle.replica_core.specs.Replies.{reply_at, reply_for_any, replies_to, replies_above}
@@ -15,18 +15,12 @@ has_place [] i less = absurd (omega (arith, less))
 has_place (x ∷ l) zero less = (x, refl)
 has_place (x ∷ l) (suc i) less = has_place l i (omega (arith, less))
 
-none_left : (l : List Entry) (i : ℕ) → length l ≤ i → drop i l ≡ []
-none_left [] zero le = refl
-none_left [] (suc i) le = refl
-none_left (x ∷ l) zero le = absurd (omega (arith, le))
-none_left (x ∷ l) (suc i) le = none_left l i (omega (arith, le))
-
 module _ {S : Type 0} (m : Meaning S) where
   first : (s : ReplicaState) (i : ℕ) → i < length s.log → replies_above m s i ≡ reply_at m s (i + 1) ++ replies_above m s (i + 1)
   first s i less =
       let place = has_place s.log i less in
       let next : i + 1 ≡ suc i = omega arith in
-      ap (replies_to m s (i + 1)) (splits s.log i place.0 place.1).back
+      ap (replies_to m s (i + 1)) (Splits-at s.log i place.0 place.1).back
       ∙ ap (λ (o : Option Entry). reply_for_any m s (i + 1) o ++ replies_to m s (i + 1 + 1) (drop (suc i) s.log)) (sym (ap (slot_of s.log) next ∙ place.1))
       ∙ ap (λ k. reply_at m s (i + 1) ++ replies_to m s (i + 1 + 1) (drop k s.log)) (sym next)
 
@@ -41,4 +35,4 @@ module _ {S : Type 0} (m : Meaning S) where
 
   pub replies_end : (t : ReplicaState) (i : ℕ) (old total : List Sending) → length t.log ≤ i → old ++ replies_above m t i ≡ total → old ≡ total
   replies_end t i old total le so_far =
-      sym (append-nil old) ∙ ap (λ (es : List Entry). old ++ replies_to m t (i + 1) es) (sym (none_left t.log i le)) ∙ so_far
+      sym (append-nil old) ∙ ap (λ (es : List Entry). old ++ replies_to m t (i + 1) es) (sym (drop_all i t.log le)) ∙ so_far

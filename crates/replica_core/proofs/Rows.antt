@@ -1,7 +1,7 @@
 -- What rows send, part by part.
 use Rattle.std.proofs.Common.{◌≡◌, ℕ, ◌+◌, Bool, true, false, List, ◌++◌, length, refl, sym, ap, ◌∙◌}
 use Rattle.std.specs.Prelude.{◌&&◌}
-use Rattle.std.proofs.lemmas.Bool.{eq-eqb}
+use Rattle.std.proofs.lemmas.Bool.{eq-eqb, and_from}
 use Rattle.nop_types.specs.Meaning.{Meaning}
 use Rattle.nop_types.specs.declared.request.Request.{Request}
 use Rattle.nop_types.specs.declared.request.Entry.TheVariants.{Req}
@@ -15,10 +15,6 @@ use Rattle.replica_core.specs.Rows.{hear, found}
 use Rattle.replica_core.proofs.Running.{sent_on}
 use Rattle.replica_core.proofs.Draining.{replies_filled}
 
-both_true : (a b : Bool) → a ≡ true → b ≡ true → (a && b) ≡ true
-both_true true b e f = f
-both_true false b e f = absurd cc
-
 found_if : {S : Type 0} (m : Meaning S) (b : Bool) (s : ReplicaState) (r : Request) → b ≡ true → when b (λ t. then_do (fill m (hear t) r) (drain m)) s ≡ then_do (fill m (hear s) r) (drain m)
 found_if m true s r e = refl
 found_if m false s r e = absurd cc
@@ -30,4 +26,4 @@ found_sends m s t slot r old mid new room next state replied drained =
     ∙ ap (λ (p : ReplicaState). old ++ (reply_at m p slot ++ (drain m p).1)) state
     ∙ ap (λ k. old ++ (reply_at m (appended (hear s) (Req r)) k ++ (drain m (appended (hear s) (Req r))).1)) next
     ∙ ap (λ (xs : List Sending). old ++ (xs ++ (drain m (appended (hear s) (Req r))).1)) (replies_filled m (hear s) r)
-    ∙ ap (λ x. old ++ x.1) (sym (found_if m _ s r (both_true _ _ (eq-eqb _ _ next) room)))
+    ∙ ap (λ x. old ++ x.1) (sym (found_if m _ s r (and_from _ _ (eq-eqb _ _ next) room)))

@@ -2,14 +2,15 @@
 use Rattle.std.proofs.Common.{◌≡◌, ◌<◌, ◌≤◌, ◌+◌, ◌-◌, ℕ, zero, suc, Bool, true, false, List, [], ◌∷◌, ◌++◌, length, take, refl, sym, ap, ◌∙◌, arith, append_assoc, length-append, inl, inr}
 use Rattle.std.specs.Prelude.{cond, ◌&&◌, ◌⊎◌, slice_get, slice_set, not, nat_lt, IfSome, Some, Result, Ok, Err, OnOk}
 use Rattle.std.specs.List.{AllByRecursion}
-use Rattle.std.proofs.lemmas.Bool.{ltb-true}
+use Rattle.std.proofs.lemmas.Bool.{ltb-true, and_parts}
+use Rattle.std.proofs.lemmas.Option.{same_Some}
+use Rattle.std.proofs.lemmas.List.{length-set}
 use Rattle.nop_types.specs.declared.limits.TheConstants.{MAX_SLOTS, NUMBER_END}
 use Rattle.nop_types.specs.declared.request.Request.{Request}
 use Rattle.nop_types.specs.declared.request.Entry.{Entry}
 use Rattle.nop_types.specs.declared.request.Entry.TheVariants.{NoOp, Req}
 use Rattle.nop_types.specs.Lists.{slot_of}
 use Rattle.nop_types.specs.Slots.{set_slot, laid}
-use Rattle.replica_log.proofs.Laid.{length_of_laid}
 use Rattle.nop_types.specs.Meaning.{Meaning}
 use Rattle.nop_types.specs.Ranges.{EntryFits, RequestFits, LogFits, SlotFits, ViewFits, NextFits, ChangeFits}
 use Rattle.gap_agree.specs.Agreement.{Agreement, begun}
@@ -18,6 +19,7 @@ use Rattle.nop_types.specs.declared.replica_state.Vote.{Vote}
 use Rattle.nop_types.specs.declared.replica_state.Vote.TheVariants.{Settled, Waiting}
 use Rattle.nop_types.specs.declared.view.View.{View}
 use Rattle.nop_types.specs.declared.datagram.Stamped.{Stamped}
+use Rattle.facts.proofs.Slots.{length-set_slot, length-laid}
 use Rattle.oum_receiver.specs.Receiving.{Receiving}
 use Rattle.view_change.specs.Gathering.{Gathering}
 use Rattle.executor.specs.Running.{Running}
@@ -42,10 +44,6 @@ always (Err e) P p = tt
 pub sent_on : {A : Type 0} (old a mid b new : List A) → mid ≡ old ++ a → new ≡ mid ++ b → new ≡ old ++ (a ++ b)
 sent_on old a mid b new first then = then ∙ ap (λ xs. xs ++ b) first ∙ append_assoc old a b
 
-both : (a b : Bool) → (a && b) ≡ true → (a ≡ true) × (b ≡ true)
-both true b e = (refl, e)
-both false b e = absurd cc
-
 waiting_fits : (g : Agreement) → SlotFits g.slot → (v : Vote) → IfSome (unless_settled g v) (λ g. SlotFits g.slot)
 waiting_fits g fits Settled = tt
 waiting_fits g fits Waiting = fits
@@ -54,7 +52,7 @@ waiting_fits g fits Waiting = fits
 
 pub append_within : (s : ReplicaState) (e : Entry) → IsWithin s → EntryFits e → may_append s ≡ true → IsWithin (appended s e)
 append_within s e w fits may =
-    let tests = both (nat_lt (length s.log) MAX_SLOTS) (nat_lt s.next NUMBER_END) may in
+    let tests = and_parts (nat_lt (length s.log) MAX_SLOTS) (nat_lt s.next NUMBER_END) may in
     let room : length s.log < MAX_SLOTS = ltb-true _ _ tests.0 in
     let more : s.next < NUMBER_END = ltb-true _ _ tests.1 in
     let low = w.next.low in
@@ -81,7 +79,7 @@ append_within s e w fits may =
 open_gap_within : (s : ReplicaState) → IsWithin s → may_append s ≡ true → IsWithin (gap_opened s)
 open_gap_within s w may =
     let a = append_within s NoOp w tt may in
-    let room : length s.log < MAX_SLOTS = ltb-true _ _ (both (nat_lt (length s.log) MAX_SLOTS) (nat_lt s.next NUMBER_END) may).0 in
+    let room : length s.log < MAX_SLOTS = ltb-true _ _ (and_parts (nat_lt (length s.log) MAX_SLOTS) (nat_lt s.next NUMBER_END) may).0 in
     record {
       number = a.number;
       few = a.few;
@@ -101,8 +99,8 @@ open_gap_within s w may =
 
 logged_within : (s : ReplicaState) (r : Request) → IsWithin s → RequestFits r → drains s ≡ true → s.next < NUMBER_END → IsWithin (logged s r)
 logged_within s r w fits d more =
-    let normal = both (is_normal s.status) _ d in
-    let room : length s.log < MAX_SLOTS = ltb-true _ _ (both (not (waits s.gap)) (nat_lt (length s.log) MAX_SLOTS) normal.1).1 in
+    let normal = and_parts (is_normal s.status) _ d in
+    let room : length s.log < MAX_SLOTS = ltb-true _ _ (and_parts (not (waits s.gap)) (nat_lt (length s.log) MAX_SLOTS) normal.1).1 in
     let low = w.next.low in
     let base = w.base in
     let start = w.start in
@@ -126,30 +124,18 @@ logged_within s r w fits d more =
 
 -- ---- a slot becomes a NO-OP
 
-some_same : {A : Type 0} (x y : A) → Some x ≡ Some y → x ≡ y
-some_same x y e = cc
-
 set_same : (l : List Entry) (i : ℕ) (e : Entry) → slice_get l i ≡ Some e → slice_set l i e ≡ l
 set_same [] i e h = refl
-set_same (x ∷ l) zero e h = ap (λ y. y ∷ l) (sym (some_same _ _ h))
+set_same (x ∷ l) zero e h = ap (λ y. y ∷ l) (sym (same_Some _ _ h))
 set_same (x ∷ l) (suc i) e h = ap (λ k. x ∷ k) (set_same l i e h)
 
 slot_same : (l : List Entry) (k : ℕ) (e : Entry) → slot_of l k ≡ Some e → set_slot l k e ≡ l
 slot_same l zero e h = refl
 slot_same l (suc i) e h = set_same l i e h
 
-length_set : (l : List Entry) (i : ℕ) (e : Entry) → length (slice_set l i e) ≡ length l
-length_set [] i e = refl
-length_set (x ∷ l) zero e = refl
-length_set (x ∷ l) (suc i) e = ap suc (length_set l i e)
-
-length_slot : (l : List Entry) (k : ℕ) (e : Entry) → length (set_slot l k e) ≡ length l
-length_slot l zero e = refl
-length_slot l (suc i) e = length_set l i e
-
 noop_within : (s : ReplicaState) (k : ℕ) → IsWithin s → IsWithin (record s { log = set_slot s.log k NoOp })
 noop_within s k w =
-    let same = length_slot s.log k NoOp in
+    let same = length-set_slot s.log k NoOp in
     let base = w.base in
     let start = w.start in
     record {
@@ -269,7 +255,7 @@ laid_front (x ∷ l) (y ∷ k) (suc n) same le =
 
 overlaid_within : (s : ReplicaState) (l : List Entry) → IsWithin s → LogFits l → s.next + (length l - length s.log) ≤ NUMBER_END → IsWithin (overlaid s l)
 overlaid_within s l w fits high =
-    let len = length_of_laid l s.log in
+    let len = length-laid l s.log in
     let low = w.next.low in
     let base = w.base in
     let start = w.start in

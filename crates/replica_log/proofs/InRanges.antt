@@ -6,7 +6,7 @@ use Rattle.nop_types.specs.declared.limits.TheConstants.{MAX_SLOTS}
 use Rattle.nop_types.specs.declared.request.Entry.{Entry}
 use Rattle.nop_types.specs.Ranges.{EntryFits, LogFits}
 use Rattle.nop_types.specs.Slots.{set_slot, laid}
-use Rattle.replica_log.proofs.Laid.{length_of_laid}
+use Rattle.facts.proofs.Slots.{length-laid}
 
 each-push : (l : List Entry) (e : Entry) → AllByRecursion EntryFits l → EntryFits e → AllByRecursion EntryFits (l ++ e ∷ [])
 each-push [] e h fits = (fits, tt)
@@ -40,7 +40,7 @@ slot_fits l zero e h fits = h
 slot_fits l (suc i) e h fits = record { len = let most = h.len in omega (arith, length-set l i e); each = each-set l i e h.each fits }
 
 pub laid_fits : (l k : List Entry) → LogFits l → LogFits k → LogFits (laid l k)
-laid_fits l k h g = record { len = let a = h.len in let b = g.len in omega (arith, length_of_laid l k); each = each-laid l k h.each g.each }
+laid_fits l k h g = record { len = let a = h.len in let b = g.len in omega (arith, length-laid l k); each = each-laid l k h.each g.each }
 
 pub front_fits : (l : List Entry) (n : ℕ) → LogFits l → LogFits (take n l)
 front_fits l n h = record { len = let most = h.len in omega (arith, length-take n l); each = each-take n l h.each }

@@ -1,2 +1,1 @@
 pub mod InRanges
-pub mod Laid

@@ -138,7 +138,7 @@ impl ReplicaLog {
 
     /// Takes the entries of another log over the own ones, and keeps the own ones above it. The answer is how many slots more
     /// there are.
-    #[tactic(auto, using(crate::proofs::Laid::laid_is_append, crate::proofs::Laid::laid_over_shorter))]
+    #[tactic(auto, using(facts::proofs::Slots::laid_parts))]
     pub fn overlay(&mut self, log: &Log) -> Result<u32, NoMemory>
         ensures appended { IfOk result (λ count. count ≡ length log.now - length self.old) }
         ensures ok { OnOk result (self.new ≡ laid log.now self.old) }

@@ -17,12 +17,12 @@ use Rattle.nop_types.specs.Lines as line
 use Rattle.nop_types.specs.Lines.{Line}
 use Rattle.nop_types.specs.Lists.{Has}
 use Rattle.nop_types.specs.Meaning.{Meaning}
+use Rattle.facts.proofs.Members.{Has-one, Has-append_right, Has-none, Has-first, Has-rest, Has-cases}
+use Rattle.facts.proofs.Functions.{put-here, put-other}
 use Rattle.histories.specs.Legality.{IsOtherLine}
-use Rattle.histories.proofs.Lists.{Has-one, Has-append_right}
 use Rattle.oum_codec.specs.declared.bad.Bad.{Bad}
 use Rattle.oum_codec.specs.Reading.{reading}
 use Rattle.oum_codec.specs.Spelling.{spelling}
-use Rattle.started_views.proofs.Lists.{has_none, has_first, has_rest, has_cases}
 use Rattle.world.specs.declared.client.ClientState.{ClientState}
 use Rattle.world.specs.ClientSteps.{can_submit, request_of, submitted, submit_if, is_expected, kept, keep_reply, quorum_of, accepts, accept_if, reply_if, on_datagram, next}
 use Rattle.world.specs.Network.{Sent, sends_of, lines_from}
@@ -34,7 +34,6 @@ use Rattle.safety.specs.Moves.{MaySubmit, MayAccept, MayTell}
 use Rattle.safety.specs.Runs as moves
 use Rattle.safety.specs.Runs.{Move, happens, run, MayAll}
 use Rattle.safety.specs.Worlds.{Carries}
-use Rattle.safety.proofs.Puts.{put_same, put_apart}
 use Rattle.safety.proofs.Reaching.{OnlySends}
 use Rattle.safety.proofs.Runs.{run_keeps}
 
@@ -60,7 +59,7 @@ pub record Reaches {S : Type 0} (m : Meaning S) (f : ℕ) (c : Conf) (k : ℕ) (
   pub only : OnlySends c (run m f c moves) p.1
 
 no_line : MayTell []
-no_line line i = absurd (has_none line i)
+no_line line i = absurd (Has-none line i)
 
 module _ {S : Type 0} (m : Meaning S) (f : ℕ) (few : f ≤ 3) (short : ResultsShort m) (k : ℕ) (c : Conf) (inv : Inv m f c) where
   abbrev s : ClientState
@@ -78,8 +77,8 @@ module _ {S : Type 0} (m : Meaning S) (f : ℕ) (few : f ≤ 3) (short : Results
   same_sent d a b e (datagrams.Fragment p) h = absurd h
 
   only_submit : (op : List ℕ) → OnlySends c (moved.submit c k op) (outs.Submitted (request_of s op) ∷ outs.Send Sequencers (spelling (datagrams.Request (request_of s op))) ∷ [])
-  only_submit op (datagrams.Request q) h = elim (has_cases q (request_of s op) c.requests h) [
-    | inl e ↦ inr (record { dest = Sequencers; has = has_rest _ _ (outs.Send Sequencers (spelling (datagrams.Request (request_of s op))) ∷ []) (has_first _ _ [] (ap (λ (x : Request). outs.Send Sequencers (spelling (datagrams.Request x))) e)) })
+  only_submit op (datagrams.Request q) h = elim (Has-cases q (request_of s op) c.requests h) [
+    | inl e ↦ inr (record { dest = Sequencers; has = Has-rest _ _ (outs.Send Sequencers (spelling (datagrams.Request (request_of s op))) ∷ []) (Has-first _ _ [] (ap (λ (x : Request). outs.Send Sequencers (spelling (datagrams.Request x))) e)) })
     | inr old ↦ inl old
   ]
   only_submit op (datagrams.Stamped p) h = inl h
@@ -102,7 +101,7 @@ module _ {S : Type 0} (m : Meaning S) (f : ℕ) (few : f ≤ 3) (short : Results
     said = [];
     lines = sym (append-nil c.lines);
     tells = λ from count. record { others = []; are = refl; may = no_line };
-    sends = λ from x i. absurd (has_none x i);
+    sends = λ from x i. absurd (Has-none x i);
     only = λ x h. inl h;
   }
 
@@ -120,7 +119,7 @@ module _ {S : Type 0} (m : Meaning S) (f : ℕ) (few : f ≤ 3) (short : Results
     said = [];
     lines = sym (append-nil c.lines);
     tells = λ from count. record { others = line.Busy s.number ∷ []; are = refl; may = λ x i. subst IsOtherLine (sym (Has-one x _ i)) tt };
-    sends = λ from x i. absurd (has_none x i);
+    sends = λ from x i. absurd (Has-none x i);
     only = λ x h. inl h;
   }
   submit_cases op number fits true e =
@@ -130,8 +129,8 @@ module _ {S : Type 0} (m : Meaning S) (f : ℕ) (few : f ≤ 3) (short : Results
       record {
         moves = moves.Submit k op ∷ [];
         may = (may, tt);
-        state = put_same c.clients k (submitted s r);
-        others = λ i a. put_apart c.clients k (submitted s r) i a;
+        state = put-here c.clients k (submitted s r);
+        others = λ i a. put-other c.clients k (submitted s r) i a;
         replicas = refl;
         past = refl;
         sequencers = refl;
@@ -140,8 +139,8 @@ module _ {S : Type 0} (m : Meaning S) (f : ℕ) (few : f ≤ 3) (short : Results
         tells = λ from count. record { others = line.Send count from Sequencers (spelling (datagrams.Request r)) ∷ []; are = refl; may = λ x i. subst IsOtherLine (sym (Has-one x _ i)) tt };
         sends = λ from x i. subst (λ (t : Sent). Carries (run m f c (moves.Submit k op ∷ [])) t.bytes) (sym (Has-one x _ i)) (record {
           datagram = datagrams.Request r;
-          fits = (keeps.0.requests r (has_first _ _ c.requests refl)).fits;
-          sent = has_first _ _ c.requests refl;
+          fits = (keeps.0.requests r (Has-first _ _ c.requests refl)).fits;
+          sent = Has-first _ _ c.requests refl;
           spelled = refl;
         });
         only = only_submit op;
@@ -156,20 +155,20 @@ module _ {S : Type 0} (m : Meaning S) (f : ℕ) (few : f ≤ 3) (short : Results
   accept_cases p sent expected None e = record {
     moves = moves.Keep k p ∷ [];
     may = (record { sent = sent; expected = expected }, tt);
-    state = put_same c.clients k (kept s p);
-    others = λ i a. put_apart c.clients k (kept s p) i a;
+    state = put-here c.clients k (kept s p);
+    others = λ i a. put-other c.clients k (kept s p) i a;
     replicas = refl;
     past = refl;
     sequencers = refl;
     said = [];
     lines = sym (append-nil c.lines);
     tells = λ from count. record { others = []; are = refl; may = no_line };
-    sends = λ from x i. absurd (has_none x i);
+    sends = λ from x i. absurd (Has-none x i);
     only = λ x h. inl (same_sent (run m f c (moves.Keep k p ∷ [])) refl refl refl x h);
   }
   accept_cases p sent expected (Some leaders) e =
       let d = happens m f c (moves.Keep k p) in
-      let here : d.clients k ≡ kept s p = put_same c.clients k (kept s p) in
+      let here : d.clients k ≡ kept s p = put-here c.clients k (kept s p) in
       let may : MayAccept d k p leaders = record {
         kept = subst (λ (t : ClientState). Has t.replies p) (sym here) (kept_there p);
         enough = subst (λ (t : ClientState). quorum_of t.config.replicas t.replies p.view p.slot ≡ Some leaders) (sym here) e;
@@ -177,15 +176,15 @@ module _ {S : Type 0} (m : Meaning S) (f : ℕ) (few : f ≤ 3) (short : Results
       record {
         moves = moves.Keep k p ∷ moves.Accept k p leaders ∷ [];
         may = (record { sent = sent; expected = expected }, (may, tt));
-        state = put_same d.clients k (accepts (d.clients k) p.id leaders) ∙ ap (λ (t : ClientState). accepts t p.id leaders) here;
-        others = λ i a. put_apart d.clients k (accepts (d.clients k) p.id leaders) i a ∙ put_apart c.clients k (kept s p) i a;
+        state = put-here d.clients k (accepts (d.clients k) p.id leaders) ∙ ap (λ (t : ClientState). accepts t p.id leaders) here;
+        others = λ i a. put-other d.clients k (accepts (d.clients k) p.id leaders) i a ∙ put-other c.clients k (kept s p) i a;
         replicas = refl;
         past = refl;
         sequencers = refl;
         said = line.Accept s.number p.id leaders.result ∷ [];
         lines = ap (λ (t : ClientState). c.lines ++ line.Accept t.number p.id leaders.result ∷ []) here;
         tells = λ from count. record { others = []; are = refl; may = no_line };
-        sends = λ from x i. absurd (has_none x i);
+        sends = λ from x i. absurd (Has-none x i);
         only = λ x h. inl (same_sent (run m f c (moves.Keep k p ∷ moves.Accept k p leaders ∷ [])) refl refl refl x h);
       }
 

@@ -12,6 +12,8 @@ use Rattle.nop_types.specs.Lists.{IsPrefixOf, slot_of}
 use Rattle.nop_types.specs.Meaning.{Meaning}
 use Rattle.nop_types.specs.Stamps.{WasStamped}
 use Rattle.nop_types.specs.Views.{leader_of}
+use Rattle.facts.proofs.Prefixes.{IsPrefixOf-refl}
+use Rattle.facts.proofs.Options.{same_Some-at}
 use Rattle.histories.specs.Legality.{IsGrounded, Grounded}
 use Rattle.histories.proofs.Legal.{grounds_carry, legal_from_grounds}
 use Rattle.log_merge.specs.Starting.{Start}
@@ -21,10 +23,8 @@ use Rattle.started_views.specs.Started.{Grounds}
 use Rattle.started_views.proofs.Fixing.{accept_fixes}
 use Rattle.started_views.proofs.Keeping.{main_log_has_fixed}
 use Rattle.started_views.proofs.Quorums.{quorum_weaker}
-use Rattle.started_views.proofs.Slots.{prefix_refl}
 use Rattle.safety.specs.Conf.{Conf}
 use Rattle.safety.specs.Invariant.{Replied, Accepted, Inv}
-use Rattle.safety.proofs.Stays.{some_same}
 
 module _ {S : Type 0} (m : Meaning S) (f : ℕ) (c : Conf) (inv : Inv m f c) where
   abbrev pub last_normals : ℕ → View
@@ -43,12 +43,12 @@ module _ {S : Type 0} (m : Meaning S) (f : ℕ) (c : Conf) (inv : Inv m f c) whe
     entries_chain = inv.chain;
     nothing_between = inv.between;
     certificate = λ w x h apart. (inv.starts w x h).certificate apart;
-    begins_with_start = λ r w l x h g. let t = inv.logs r w l h in subst (λ (y : Start). IsPrefixOf y.log l) (some_same (c.past.start w) t.start x t.is_start g) t.begins;
-    request_by_number = λ r w l x k q h g. let t = inv.logs r w l h in subst (λ (y : Start). length y.log < k → slot_of l k ≡ Some (Req q) → WasStamped c.stamps w.session (y.next + (k - length y.log - 1)) q) (some_same (c.past.start w) t.start x t.is_start g) (t.by_number k q);
+    begins_with_start = λ r w l x h g. let t = inv.logs r w l h in subst (λ (y : Start). IsPrefixOf y.log l) (same_Some-at (c.past.start w) t.start x t.is_start g) t.begins;
+    request_by_number = λ r w l x k q h g. let t = inv.logs r w l h in subst (λ (y : Start). length y.log < k → slot_of l k ≡ Some (Req q) → WasStamped c.stamps w.session (y.next + (k - length y.log - 1)) q) (same_Some-at (c.past.start w) t.start x t.is_start g) (t.by_number k q);
     noop_is_leaders = λ r w l n x k h led g a e.
         let t = inv.logs r w l h in
-        let low : length t.start.log < k = subst (λ (y : Start). length y.log < k) (sym (some_same (c.past.start w) t.start x t.is_start g)) a in
-        subst (λ (y : List Entry). slot_of y k ≡ Some NoOp) (some_same (c.past.log (leader_of w (2 * f + 1)) w) t.lead n t.leads led) (t.noops k low e);
+        let low : length t.start.log < k = subst (λ (y : Start). length y.log < k) (sym (same_Some-at (c.past.start w) t.start x t.is_start g)) a in
+        subst (λ (y : List Entry). slot_of y k ≡ Some NoOp) (same_Some-at (c.past.log (leader_of w (2 * f + 1)) w) t.lead n t.leads led) (t.noops k low e);
   }
 
   -- what the leader replied, in the log that it had then
@@ -63,7 +63,7 @@ module _ {S : Type 0} (m : Meaning S) (f : ℕ) (c : Conf) (inv : Inv m f c) whe
       let p = a.leaders.reply in
       let t = inv.replies p a.leaders.sent in
       let led : LeaderHad f c.past a.view t.log = subst (λ (i : ℕ). HadLog c.past i a.view t.log) a.leaders.by (subst (λ (v : View). HadLog c.past p.replica v t.log) a.leaders.at_view t.had) in
-      let same : t.log ≡ a.log = some_same (c.past.log (leader_of a.view (2 * f + 1)) a.view) t.log a.log led a.leads in
+      let same : t.log ≡ a.log = same_Some-at (c.past.log (leader_of a.view (2 * f + 1)) a.view) t.log a.log led a.leads in
       let leads : p.replica ≡ leader_of p.view (2 * f + 1) = a.leaders.by ∙ ap (λ (v : View). leader_of v (2 * f + 1)) (sym a.leaders.at_view) in
       let q = t.leads leads in
       record {
@@ -90,7 +90,7 @@ module _ {S : Type 0} (m : Meaning S) (f : ℕ) (c : Conf) (inv : Inv m f c) whe
         reached = quorum_weaker f (Replied c a.view a.slot client id) (Reached c.past a.view a.slot) (λ r h. reached a.view a.slot client id r h) a.quorum;
         noops = λ i x is above low e.
             let t = inv.logs (leader_of a.view (2 * f + 1)) a.view a.log a.leads in
-            let same : t.start ≡ x = some_same (c.past.start a.view) t.start x t.is_start is in
+            let same : t.start ≡ x = same_Some-at (c.past.start a.view) t.start x t.is_start is in
             absurd (t.requests i (subst (λ (y : Start). length y.log < i) (sym same) above) e);
       })
 
@@ -102,7 +102,7 @@ module _ {S : Type 0} (m : Meaning S) (f : ℕ) (c : Conf) (inv : Inv m f c) whe
     grounded_at k client id result a =
         let said = told k client id result a in
         let here : IsGrounded m c.lines a.log k client id result = record { slot = a.slot; request = said.request; entry = said.entry; same = said.same; gives = said.gives; known = a.known } in
-        grounds_carry m c.lines c.lines a.log main k client id result here (prefix_refl c.lines) (accepted_begins k client id result a)
+        grounds_carry m c.lines c.lines a.log main k client id result here (IsPrefixOf-refl c.lines) (accepted_begins k client id result a)
 
     pub grounded : Grounded m c.lines main
     grounded = record {

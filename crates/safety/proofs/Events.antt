@@ -2,16 +2,16 @@
 use Rattle.std.proofs.Common.{◌≡◌, ℕ, zero, suc, ◌+◌, ◌*◌, ◌≤◌, true, Some, refl, ap, subst, ◌∙◌, arith, inl, inr, length, length-append, List, [], ◌∷◌}
 use Rattle.std.specs.Prelude.{◌==◌, ◌%◌, ◌/◌, ◌&&◌, nat_lt, nat_le, Result, Ok, Err, slice_get}
 use Rattle.std.proofs.lemmas.Bool.Decides.{nat_tests}
+use Rattle.std.proofs.lemmas.Bool.{leb-true, and_parts, eqb-true}
 use Rattle.nop_types.specs.declared.limits.TheConstants.{MAX_REPLICAS, MAX_SEQUENCERS, MAX_CLIENTS}
 use Rattle.nop_types.specs.Configuration.{Configuration, is_configuration}
 use Rattle.nop_types.specs.declared.datagram.Datagram.{Datagram}
 use Rattle.nop_types.specs.declared.datagram.Datagram.TheVariants as datagrams
 use Rattle.nop_types.specs.Meaning.{Meaning}
-use Rattle.histories.proofs.Lists.{slice_get-push_cases}
+use Rattle.facts.proofs.Places.{slice_get-push_cases}
+use Rattle.facts.proofs.Members.{Has-none}
 use Rattle.schedule_text.specs.declared.event.Event.{Event}
 use Rattle.started_views.specs.Past.{first_past}
-use Rattle.started_views.proofs.Lists.{has_none}
-use Rattle.started_views.proofs.Past.{both_true, is_same_true}
 use Rattle.world.specs.Seats.{Seated, seated}
 use Rattle.world.specs.ReplicaSteps as replica
 use Rattle.world.specs.SequencerSteps as sequencer
@@ -37,19 +37,16 @@ pub record Counts (config : Configuration) : Type 0 where
   pub few : f ≤ 3
   pub clients : config.clients ≤ 16
 
-at_least : (a b : ℕ) → nat_le a b ≡ true → a ≤ b
-at_least a b e = grind (arith, nat_tests, e)
-
 pub counts_from : (config : Configuration) → is_configuration config ≡ true → Counts config
 counts_from c e =
-    let a = both_true (c.replicas % 2 == 1) (nat_le c.replicas MAX_REPLICAS && (nat_lt 0 c.sequencers && (nat_le c.sequencers MAX_SEQUENCERS && (nat_lt 0 c.clients && nat_le c.clients MAX_CLIENTS)))) e in
-    let b = both_true (nat_le c.replicas MAX_REPLICAS) (nat_lt 0 c.sequencers && (nat_le c.sequencers MAX_SEQUENCERS && (nat_lt 0 c.clients && nat_le c.clients MAX_CLIENTS))) a.1 in
-    let d = both_true (nat_lt 0 c.sequencers) (nat_le c.sequencers MAX_SEQUENCERS && (nat_lt 0 c.clients && nat_le c.clients MAX_CLIENTS)) b.1 in
-    let g = both_true (nat_le c.sequencers MAX_SEQUENCERS) (nat_lt 0 c.clients && nat_le c.clients MAX_CLIENTS) d.1 in
-    let h = both_true (nat_lt 0 c.clients) (nat_le c.clients MAX_CLIENTS) g.1 in
-    let odd = is_same_true (c.replicas % 2) 1 a.0 in
-    let most = at_least c.replicas MAX_REPLICAS b.0 in
-    record { f = c.replicas / 2; replicas = omega (arith, odd); few = omega (arith, most); clients = at_least c.clients MAX_CLIENTS h.1 }
+    let a = and_parts (c.replicas % 2 == 1) (nat_le c.replicas MAX_REPLICAS && (nat_lt 0 c.sequencers && (nat_le c.sequencers MAX_SEQUENCERS && (nat_lt 0 c.clients && nat_le c.clients MAX_CLIENTS)))) e in
+    let b = and_parts (nat_le c.replicas MAX_REPLICAS) (nat_lt 0 c.sequencers && (nat_le c.sequencers MAX_SEQUENCERS && (nat_lt 0 c.clients && nat_le c.clients MAX_CLIENTS))) a.1 in
+    let d = and_parts (nat_lt 0 c.sequencers) (nat_le c.sequencers MAX_SEQUENCERS && (nat_lt 0 c.clients && nat_le c.clients MAX_CLIENTS)) b.1 in
+    let g = and_parts (nat_le c.sequencers MAX_SEQUENCERS) (nat_lt 0 c.clients && nat_le c.clients MAX_CLIENTS) d.1 in
+    let h = and_parts (nat_lt 0 c.clients) (nat_le c.clients MAX_CLIENTS) g.1 in
+    let odd = eqb-true (c.replicas % 2) 1 a.0 in
+    let most = leb-true c.replicas MAX_REPLICAS b.0 in
+    record { f = c.replicas / 2; replicas = omega (arith, odd); few = omega (arith, most); clients = leb-true c.clients MAX_CLIENTS h.1 }
 
 -- ---- the opening
 
@@ -68,9 +65,9 @@ abbrev pub first : Configuration → Passed
 first config = record { world = world.opening config; lines = []; past = first_past }
 
 nothing_sent : (config : Configuration) (d : Datagram) → WasSent (opening config) d → IsThere [] d
-nothing_sent config (datagrams.Request r) h = absurd (has_none r h)
-nothing_sent config (datagrams.Stamped p) h = absurd (has_none p h)
-nothing_sent config (datagrams.Reply p) h = absurd (has_none p h)
+nothing_sent config (datagrams.Request r) h = absurd (Has-none r h)
+nothing_sent config (datagrams.Stamped p) h = absurd (Has-none p h)
+nothing_sent config (datagrams.Reply p) h = absurd (Has-none p h)
 nothing_sent config (datagrams.Install sequencer session) h = absurd h
 nothing_sent config (datagrams.Installed sequencer session) h = absurd h
 nothing_sent config (datagrams.Ping sequencer round) h = absurd h
@@ -87,7 +84,7 @@ opening_shown config n = record {
     sequencers = counted_get sequencer.opening config.sequencers;
     clients = counted_get (client.opening config) config.clients;
     controller = refl;
-    sent = λ s i. absurd (has_none s i);
+    sent = λ s i. absurd (Has-none s i);
     all = nothing_sent config;
   };
   lines = refl;

@@ -10,7 +10,6 @@ pub mod Local
 pub mod MainLogs
 pub mod Outside
 pub mod Pasts
-pub mod Puts
 pub mod Queue
 pub mod Reaching
 pub mod ReplicaRows

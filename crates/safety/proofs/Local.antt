@@ -8,25 +8,27 @@ use Rattle.nop_types.specs.declared.datagram.Reply.{Reply}
 use Rattle.nop_types.specs.Lists.{Has, IsPrefixOf}
 use Rattle.nop_types.specs.Meaning.{Meaning}
 use Rattle.nop_types.specs.Views.{AtMost, leader_of}
-use Rattle.histories.proofs.Lists.{Has-append_right, Has-append_cases}
+use Rattle.facts.proofs.Members.{Has-append_right, Has-append_cases}
+use Rattle.facts.proofs.Prefixes.{IsPrefixOf-refl}
+use Rattle.facts.proofs.Views.{is_view-same, AtMost-refl, AtMost-same, AtMost-trans, AtMost-antisym}
+use Rattle.facts.specs.Functions.{put}
+use Rattle.facts.proofs.Functions.{put-all}
+use Rattle.facts.proofs.Options.{same_Some-at}
 use Rattle.started_views.specs.Logs.{Toward}
 use Rattle.started_views.specs.Past.{Entered, Past, HadLog, LeaderHad, with_log, note}
 use Rattle.started_views.proofs.Logs.{toward_refl, toward_longer}
 use Rattle.started_views.proofs.Past.{log_here, log_places, log_cases}
-use Rattle.started_views.proofs.Slots.{prefix_refl}
-use Rattle.started_views.proofs.Views.{is_view_same, at_most_refl, at_most_same, at_most_trans, at_most_both}
 use Rattle.world.specs.declared.replica_state.ReplicaState.{ReplicaState}
-use Rattle.safety.specs.Conf.{Conf, Effect, put, standing, after}
+use Rattle.safety.specs.Conf.{Conf, Effect, standing, after}
 use Rattle.safety.specs.Evolves.{Evolves}
 use Rattle.safety.specs.Invariant.{GoodLog, GoodLines, TrueReply, Own, Inv}
-use Rattle.safety.proofs.Puts.{put_all}
-use Rattle.safety.proofs.Stays.{some_same, onward_refl, request_lasts, stamp_lasts, log_lasts, start_lasts, entry_lasts, reply_lasts, own_lasts, accepted_lasts, client_lasts}
+use Rattle.safety.proofs.Stays.{onward_refl, request_lasts, stamp_lasts, log_lasts, start_lasts, entry_lasts, reply_lasts, own_lasts, accepted_lasts, client_lasts}
 
 -- the part of the past that a move in a view changes
 pub note_inside : (f : ℕ) (p : Past) (r : ℕ) (old new : ReplicaState) → new.view ≡ old.view → new.last_normal ≡ old.last_normal → note f p r (standing old) (standing new) ≡ with_log r old.last_normal new.log p
 note_inside f p r old new v n =
-    let a = is_view_same new.view old.view v in
-    let b = is_view_same new.last_normal old.last_normal n in
+    let a = is_view-same new.view old.view v in
+    let b = is_view-same new.last_normal old.last_normal n in
     rw (a, b) (ap (λ (t : View). with_log r t new.log p) n)
 
 -- how the log of a replica may change in its view
@@ -36,7 +38,7 @@ pub record Turns (f : ℕ) (c : Conf) (r : ℕ) (l : List Entry) : Type 0 where
   pub follows : (m : List Entry) → LeaderHad f c.past (c.replicas r).last_normal m → (r ≡ leader_of (c.replicas r).last_normal (2 * f + 1) → ⊥) → Toward m (c.replicas r).log l
 
 pub turns_same : (f : ℕ) (c : Conf) (r : ℕ) → Turns f c r (c.replicas r).log
-turns_same f c r = record { here = inl refl; leads = λ s. prefix_refl (c.replicas r).log; follows = λ m h a. toward_refl m (c.replicas r).log }
+turns_same f c r = record { here = inl refl; leads = λ s. IsPrefixOf-refl (c.replicas r).log; follows = λ m h a. toward_refl m (c.replicas r).log }
 
 -- what such a move owes
 pub record Due {S : Type 0} (m : Meaning S) (f : ℕ) (d : Conf) (r : ℕ) (w : View) (e : Effect) : Type 0 where
@@ -70,7 +72,7 @@ module _ {S : Type 0} (m : Meaning S) (f : ℕ) (c : Conf) (r : ℕ) (e : Effect
   d = written c r e (with_log r u e.state.log c.past)
 
   old_log : (q : ℕ) (w : View) (l : List Entry) → q ≡ r → w ≡ u → HadLog c.past q w l → l ≡ (c.replicas r).log
-  old_log q w l s t h = some_same (c.past.log r u) l (c.replicas r).log (subst (λ (i : ℕ). c.past.log i u ≡ Some l) s (subst (λ (x : View). c.past.log q x ≡ Some l) t h)) (inv.current r within)
+  old_log q w l s t h = same_Some-at (c.past.log r u) l (c.replicas r).log (subst (λ (i : ℕ). c.past.log i u ≡ Some l) s (subst (λ (x : View). c.past.log q x ≡ Some l) t h)) (inv.current r within)
 
   new_log : (q : ℕ) (w : View) → q ≡ r → w ≡ u → HadLog d.past q w e.state.log
   new_log q w s t = subst (λ (i : ℕ). HadLog d.past i w e.state.log) (sym s) (subst (λ (x : View). HadLog d.past r x e.state.log) (sym t) (log_here c.past r u e.state.log))
@@ -82,7 +84,7 @@ module _ {S : Type 0} (m : Meaning S) (f : ℕ) (c : Conf) (r : ℕ) (e : Effect
             let same = old_log (leader_of w (2 * f + 1)) w k s t h in
             let mine : r ≡ leader_of u (2 * f + 1) = sym s ∙ ap (λ (x : View). leader_of x (2 * f + 1)) t in
             (e.state.log, new_log (leader_of w (2 * f + 1)) w s t, subst (λ (l : List Entry). IsPrefixOf l e.state.log) (sym same) (turns.leads mine))
-        | inr g ↦ (k, g ∙ h, prefix_refl k)
+        | inr g ↦ (k, g ∙ h, IsPrefixOf-refl k)
       ]
 
   logs : (q : ℕ) (w : View) (l : List Entry) → HadLog c.past q w l → (k : List Entry) × HadLog d.past q w k × (x : List Entry) × LeaderHad f d.past w x × Toward x l k
@@ -117,7 +119,7 @@ module _ {S : Type 0} (m : Meaning S) (f : ℕ) (c : Conf) (r : ℕ) (e : Effect
                   let good = inv.entries q x o i in
                   let up : AtMost x (c.replicas r).view = subst (λ (j : ℕ). AtMost x (c.replicas j).view) s good.reached in
                   let down : AtMost x o.last_normal = subst (AtMost x) (sym (t ∙ normal)) up in
-                  absurd (good.order.apart (at_most_both o.last_normal x good.order.at_most down))
+                  absurd (good.order.apart (AtMost-antisym o.last_normal x good.order.at_most down))
             ]
         | inr g ↦ g ∙ page
       ]
@@ -127,17 +129,17 @@ module _ {S : Type 0} (m : Meaning S) (f : ℕ) (c : Conf) (r : ℕ) (e : Effect
     requests = λ x i. i;
     stamps = λ x i. i;
     replies = λ x i. Has-append_right e.replies c.replies x i;
-    lines = prefix_refl c.lines;
+    lines = IsPrefixOf-refl c.lines;
     starts = λ w x i. i;
     entries = λ q w x i. i;
     leads = leads;
     logs = logs;
     frozen = frozen;
-    views = put_all (λ q p. AtMost (c.replicas q).view p.view) c.replicas r e.state (at_most_same (c.replicas r).view e.state.view (sym v)) (λ q a. at_most_refl (c.replicas q).view);
-    normals = put_all (λ q p. AtMost (c.replicas q).last_normal p.last_normal) c.replicas r e.state (at_most_same (c.replicas r).last_normal e.state.last_normal (sym n)) (λ q a. at_most_refl (c.replicas q).last_normal);
+    views = put-all (λ q p. AtMost (c.replicas q).view p.view) c.replicas r e.state (AtMost-same (c.replicas r).view e.state.view (sym v)) (λ q a. AtMost-refl (c.replicas q).view);
+    normals = put-all (λ q p. AtMost (c.replicas q).last_normal p.last_normal) c.replicas r e.state (AtMost-same (c.replicas r).last_normal e.state.last_normal (sym n)) (λ q a. AtMost-refl (c.replicas q).last_normal);
     sequencers = λ j. onward_refl (c.sequencers j);
     last_ids = λ k. omega arith;
-    sync_points = put_all (λ q p. (c.replicas q).sync_point ≤ p.sync_point) c.replicas r e.state (omega (arith, s)) (λ q a. omega arith);
+    sync_points = put-all (λ q p. (c.replicas q).sync_point ≤ p.sync_point) c.replicas r e.state (omega (arith, s)) (λ q a. omega arith);
   }
 
   kept : Due m f d r u e → Inv m f d
@@ -151,8 +153,8 @@ module _ {S : Type 0} (m : Meaning S) (f : ℕ) (c : Conf) (r : ℕ) (e : Effect
       | inr g ↦ log_lasts m f c d evolves q w l (inv.logs q w l g)
     ];
     reached = λ q w l h. elim (log_cases c.past r u e.state.log q w l h) [
-      | inl (a, b, s) ↦ at_most_trans w (c.replicas q).last_normal (d.replicas q).last_normal (subst (λ (i : ℕ). AtMost w (c.replicas i).last_normal) (sym a) (subst (AtMost w) b (at_most_refl w))) (evolves.normals q)
-      | inr g ↦ at_most_trans w (c.replicas q).last_normal (d.replicas q).last_normal (inv.reached q w l g) (evolves.normals q)
+      | inl (a, b, s) ↦ AtMost-trans w (c.replicas q).last_normal (d.replicas q).last_normal (subst (λ (i : ℕ). AtMost w (c.replicas i).last_normal) (sym a) (subst (AtMost w) b (AtMost-refl w))) (evolves.normals q)
+      | inr g ↦ AtMost-trans w (c.replicas q).last_normal (d.replicas q).last_normal (inv.reached q w l g) (evolves.normals q)
     ];
     starts = λ w x i. start_lasts m f c d evolves w x (inv.starts w x i);
     entries = λ q w x i. entry_lasts m f c d evolves q w x i (inv.entries q w x i);
@@ -162,8 +164,8 @@ module _ {S : Type 0} (m : Meaning S) (f : ℕ) (c : Conf) (r : ℕ) (e : Effect
       | inr g ↦ inv.between q x w o l i g
     ];
     replies = λ p i. elim (Has-append_cases e.replies c.replies p i) [ inl g ↦ due.replies p g | inr g ↦ reply_lasts m f c d evolves p (inv.replies p g) ];
-    current = put_all (λ q p. q < 2 * f + 1 → HadLog d.past q p.last_normal p.log) c.replicas r e.state (λ l. new_log r e.state.last_normal refl n) (λ q a l. elim (log_places c.past r u e.state.log q (c.replicas q).last_normal) [ inl (s, t) ↦ absurd (a s) | inr g ↦ g ∙ inv.current q l ]);
-    own = put_all (λ q p. q < 2 * f + 1 → Own f d q p) c.replicas r e.state (λ l. due.own) (λ q a l. own_lasts m f c d evolves q (c.replicas q) (inv.own q l));
+    current = put-all (λ q p. q < 2 * f + 1 → HadLog d.past q p.last_normal p.log) c.replicas r e.state (λ l. new_log r e.state.last_normal refl n) (λ q a l. elim (log_places c.past r u e.state.log q (c.replicas q).last_normal) [ inl (s, t) ↦ absurd (a s) | inr g ↦ g ∙ inv.current q l ]);
+    own = put-all (λ q p. q < 2 * f + 1 → Own f d q p) c.replicas r e.state (λ l. due.own) (λ q a l. own_lasts m f c d evolves q (c.replicas q) (inv.own q l));
     lines = lines_last m f c d evolves refl refl inv.lines;
     clients = λ k. client_lasts m f c d evolves k (c.clients k) (inv.clients k);
   }

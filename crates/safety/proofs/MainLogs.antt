@@ -7,11 +7,12 @@ use Rattle.nop_types.specs.declared.request.Entry.{Entry}
 use Rattle.nop_types.specs.Lists.{Has}
 use Rattle.nop_types.specs.Views.{outranks, leader_of}
 use Rattle.nop_types.specs.Meaning.{Meaning}
+use Rattle.facts.proofs.Members.{Has-none, Has-first, Has-rest, Has-cases}
+use Rattle.facts.proofs.Places.{slice_get-some}
+use Rattle.facts.proofs.Views.{RanksAtMost, RanksAtMost-refl, RanksAtMost-trans, outranks-true, outranks-false, outranks-from_ranks}
 use Rattle.started_views.specs.Past.{HadLog}
 use Rattle.started_views.specs.Settled.{MainLog}
-use Rattle.started_views.proofs.Lists.{has_none, has_first, has_rest, has_cases, get_within}
 use Rattle.started_views.proofs.Quorums.{leader_within}
-use Rattle.started_views.proofs.Views.{RanksAtMost, ranks_refl, ranks_trans, ranks_from_true, ranks_from_false, ranks_to_false}
 use Rattle.world.specs.declared.replica_state.ReplicaState.{ReplicaState}
 use Rattle.world.specs.Seats.{Seated}
 use Rattle.world.specs.WorldSteps.{WorldState, greatest_view, greatest_of, main_view, log_of, main_log}
@@ -30,20 +31,20 @@ greatest_by : (v w : View) (ws : List View) → ((u : View) → Greatest u ws (g
 greatest_by v w ws others true e =
     let g = others w in
     record {
-      is = elim g.is [ inl s ↦ inr (has_first _ w ws s) | inr i ↦ inr (has_rest _ w ws i) ];
-      first = ranks_trans v w (greatest_view w ws) (ranks_from_true w v e) g.first;
-      rest = λ u i. elim (has_cases u w ws i) [ inl s ↦ subst (λ (x : View). RanksAtMost x (greatest_view w ws)) (sym s) g.first | inr j ↦ g.rest u j ];
+      is = elim g.is [ inl s ↦ inr (Has-first _ w ws s) | inr i ↦ inr (Has-rest _ w ws i) ];
+      first = RanksAtMost-trans v w (greatest_view w ws) (outranks-true w v e) g.first;
+      rest = λ u i. elim (Has-cases u w ws i) [ inl s ↦ subst (λ (x : View). RanksAtMost x (greatest_view w ws)) (sym s) g.first | inr j ↦ g.rest u j ];
     }
 greatest_by v w ws others false e =
     let g = others v in
     record {
-      is = elim g.is [ inl s ↦ inl s | inr i ↦ inr (has_rest _ w ws i) ];
+      is = elim g.is [ inl s ↦ inl s | inr i ↦ inr (Has-rest _ w ws i) ];
       first = g.first;
-      rest = λ u i. elim (has_cases u w ws i) [ inl s ↦ subst (λ (x : View). RanksAtMost x (greatest_view v ws)) (sym s) (ranks_trans w v (greatest_view v ws) (ranks_from_false w v e) g.first) | inr j ↦ g.rest u j ];
+      rest = λ u i. elim (Has-cases u w ws i) [ inl s ↦ subst (λ (x : View). RanksAtMost x (greatest_view v ws)) (sym s) (RanksAtMost-trans w v (greatest_view v ws) (outranks-false w v e) g.first) | inr j ↦ g.rest u j ];
     }
 
 greatest_is : (v : View) (ws : List View) → Greatest v ws (greatest_view v ws)
-greatest_is v [] = record { is = inl refl; first = ranks_refl v; rest = λ w i. absurd (has_none w i) }
+greatest_is v [] = record { is = inl refl; first = RanksAtMost-refl v; rest = λ w i. absurd (Has-none w i) }
 greatest_is v (w ∷ ws) = greatest_by v w ws (λ u. greatest_is u ws) (outranks w v) refl
 
 -- the last normal view of one of the replicas, which none outranks
@@ -93,7 +94,7 @@ module _ {S : Type 0} (m : Meaning S) (f : ℕ) (w : WorldState) (c : Conf) (inv
 
   -- the leader's seat
   its_seat : (p : Seated ReplicaState) × (slice_get w.replicas leader ≡ Some p)
-  its_seat = get_within w.replicas leader (omega (arith, within, shown.replica_count))
+  its_seat = slice_get-some w.replicas leader (omega (arith, within, shown.replica_count))
 
   log_is : main_log w ≡ (c.replicas leader).log
   unfolding main_log
@@ -106,7 +107,7 @@ module _ {S : Type 0} (m : Meaning S) (f : ℕ) (w : WorldState) (c : Conf) (inv
   is_main_log = record {
     held = (found.place, omega (arith, slice_get_within w.replicas found.place found.seat found.there, shown.replica_count), ap (λ (s : ReplicaState). s.last_normal) (shown.replicas found.place found.seat found.there) ∙ found.is);
     greatest = λ r l.
-        let p = get_within w.replicas r (omega (arith, l, shown.replica_count)) in
-        ranks_to_false (last_normals m f c inv r) (main_view w) (subst (λ (s : ReplicaState). RanksAtMost s.last_normal (main_view w)) (sym (shown.replicas r p.0 p.1)) (found.most r p.0 p.1));
+        let p = slice_get-some w.replicas r (omega (arith, l, shown.replica_count)) in
+        outranks-from_ranks (last_normals m f c inv r) (main_view w) (subst (λ (s : ReplicaState). RanksAtMost s.last_normal (main_view w)) (sym (shown.replicas r p.0 p.1)) (found.most r p.0 p.1));
     current = subst (λ (t : List Entry). HadLog c.past leader (last_normals m f c inv leader) t) (sym log_is) (inv.current leader within);
   }

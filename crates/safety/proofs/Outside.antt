@@ -6,9 +6,9 @@ use Rattle.nop_types.specs.declared.datagram.Stamped.{Stamped}
 use Rattle.nop_types.specs.Lines.{Line}
 use Rattle.nop_types.specs.Lists.{Has, IsPrefixOf}
 use Rattle.nop_types.specs.Meaning.{Meaning}
+use Rattle.facts.proofs.Prefixes.{IsPrefixOf-refl}
+use Rattle.facts.proofs.Views.{AtMost-refl}
 use Rattle.started_views.proofs.Logs.{toward_refl}
-use Rattle.started_views.proofs.Slots.{prefix_refl}
-use Rattle.started_views.proofs.Views.{at_most_refl}
 use Rattle.world.specs.declared.client.ClientState.{ClientState}
 use Rattle.world.specs.declared.sequencer.SequencerState.{SequencerState}
 use Rattle.safety.specs.Conf.{Conf}
@@ -57,11 +57,11 @@ module _ {S : Type 0} (m : Meaning S) (f : ℕ) (c : Conf) (inv : Inv m f c) (x 
     lines = grows.lines;
     starts = λ w y i. i;
     entries = λ r v e i. i;
-    leads = λ w k h. (k, h, prefix_refl k);
+    leads = λ w k h. (k, h, IsPrefixOf-refl k);
     logs = λ r w l h. let g = inv.logs r w l h in (l, h, g.lead, g.leads, toward_refl g.lead l);
     frozen = λ r v e i h. h;
-    views = λ r. at_most_refl (c.replicas r).view;
-    normals = λ r. at_most_refl (c.replicas r).last_normal;
+    views = λ r. AtMost-refl (c.replicas r).view;
+    normals = λ r. AtMost-refl (c.replicas r).last_normal;
     sequencers = grows.sequencers;
     last_ids = grows.last_ids;
     sync_points = λ r. omega arith;

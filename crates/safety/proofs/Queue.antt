@@ -2,11 +2,11 @@
 use Rattle.std.proofs.Common.{◌≡◌, ℕ, ◌+◌, ◌*◌, ◌<◌, refl, ap, ◌∙◌}
 use Rattle.nop_types.specs.declared.datagram.Stamped.{Stamped}
 use Rattle.nop_types.specs.Meaning.{Meaning}
+use Rattle.facts.proofs.Members.{Has-none}
 use Rattle.oum_receiver.specs.declared.verdict.Verdict.{Verdict}
 use Rattle.oum_receiver.specs.declared.verdict.Verdict.TheVariants.{Queued}
 use Rattle.oum_receiver.specs.Receiving.{Receiving, verdict_of, judged, offered}
 use Rattle.oum_receiver.proofs.Stamps.{offered_stamped}
-use Rattle.started_views.proofs.Lists.{has_none}
 use Rattle.world.specs.declared.replica_state.ReplicaState.{ReplicaState}
 use Rattle.safety.specs.Conf.{Conf, after}
 use Rattle.safety.specs.Moves.{queue, MayQueue}
@@ -28,7 +28,7 @@ module _ {S : Type 0} (m : Meaning S) (f : ℕ) (c : Conf) (r : ℕ) (inv : Inv 
       let same = offered_same p.receiver x may.verdict in
       record {
         log = log_lasts m f c d ev r p.last_normal p.log (inv.logs r p.last_normal p.log (inv.current r within));
-        replies = λ y i. absurd (has_none y i);
+        replies = λ y i. absurd (Has-none y i);
         own = record {
           number = o.number;
           replicas = o.replicas;

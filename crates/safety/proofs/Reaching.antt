@@ -10,10 +10,9 @@ use Rattle.nop_types.specs.declared.output.Out.TheVariants as outs
 use Rattle.nop_types.specs.Lines.{Line, Send}
 use Rattle.nop_types.specs.Lists.{Has}
 use Rattle.nop_types.specs.Meaning.{Meaning}
+use Rattle.facts.proofs.Members.{Has-append_left, Has-append_right, Has-none, Has-first, Has-rest, Has-cases}
 use Rattle.histories.specs.Legality.{IsOtherLine}
-use Rattle.histories.proofs.Lists.{Has-append_left, Has-append_right}
 use Rattle.oum_codec.specs.Spelling.{spelling}
-use Rattle.started_views.proofs.Lists.{has_none, has_first, has_rest, has_cases}
 use Rattle.world.specs.Network.{Sent, sends_of, lines_from}
 use Rattle.safety.specs.Conf.{Conf, WasSent}
 use Rattle.safety.specs.Evolves.{Evolves}
@@ -61,25 +60,25 @@ sends_last f c d ev x h = record { dest = h.dest; bytes = h.bytes; is = h.is; ca
 
 -- what the network gets of it
 pub sends_carry : (c : Conf) (from : Actor) (xs : List Out) → AllSend c xs → (s : Sent) → Has (sends_of from xs) s → Carries c s.bytes
-sends_carry c from [] all s i = absurd (has_none s i)
-sends_carry c from (outs.Send dest bytes ∷ xs) all s i = elim (has_cases s (record { from = from; dest = dest; bytes = bytes }) (sends_of from xs) i) [
-  | inl e ↦ (let h = all (outs.Send dest bytes) (has_first _ _ xs refl) in let same : h.bytes ≡ bytes = (let g = h.is in cc) in subst (Carries c) (same ∙ ap (λ (t : Sent). t.bytes) (sym e)) h.carried)
-  | inr j ↦ sends_carry c from xs (λ x h. all x (has_rest x (outs.Send dest bytes) xs h)) s j
+sends_carry c from [] all s i = absurd (Has-none s i)
+sends_carry c from (outs.Send dest bytes ∷ xs) all s i = elim (Has-cases s (record { from = from; dest = dest; bytes = bytes }) (sends_of from xs) i) [
+  | inl e ↦ (let h = all (outs.Send dest bytes) (Has-first _ _ xs refl) in let same : h.bytes ≡ bytes = (let g = h.is in cc) in subst (Carries c) (same ∙ ap (λ (t : Sent). t.bytes) (sym e)) h.carried)
+  | inr j ↦ sends_carry c from xs (λ x h. all x (Has-rest x (outs.Send dest bytes) xs h)) s j
 ]
-sends_carry c from (outs.Submitted r ∷ xs) all s i = sends_carry c from xs (λ x h. all x (has_rest x (outs.Submitted r) xs h)) s i
-sends_carry c from (outs.Accepted client id result ∷ xs) all s i = sends_carry c from xs (λ x h. all x (has_rest x (outs.Accepted client id result) xs h)) s i
-sends_carry c from (outs.Busy client ∷ xs) all s i = sends_carry c from xs (λ x h. all x (has_rest x (outs.Busy client) xs h)) s i
+sends_carry c from (outs.Submitted r ∷ xs) all s i = sends_carry c from xs (λ x h. all x (Has-rest x (outs.Submitted r) xs h)) s i
+sends_carry c from (outs.Accepted client id result ∷ xs) all s i = sends_carry c from xs (λ x h. all x (Has-rest x (outs.Accepted client id result) xs h)) s i
+sends_carry c from (outs.Busy client ∷ xs) all s i = sends_carry c from xs (λ x h. all x (Has-rest x (outs.Busy client) xs h)) s i
 
 -- its lines neither submit nor accept
 pub sends_tell : (c : Conf) (from : Actor) (count : ℕ) (xs : List Out) → AllSend c xs → (line : Line) → Has (lines_from from count xs) line → IsOtherLine line
-sends_tell c from count [] all line i = absurd (has_none line i)
-sends_tell c from count (outs.Send dest bytes ∷ xs) all line i = elim (has_cases line (Send count from dest bytes) (lines_from from (count + 1) xs) i) [
+sends_tell c from count [] all line i = absurd (Has-none line i)
+sends_tell c from count (outs.Send dest bytes ∷ xs) all line i = elim (Has-cases line (Send count from dest bytes) (lines_from from (count + 1) xs) i) [
   | inl e ↦ subst IsOtherLine (sym e) tt
-  | inr j ↦ sends_tell c from (count + 1) xs (λ x h. all x (has_rest x (outs.Send dest bytes) xs h)) line j
+  | inr j ↦ sends_tell c from (count + 1) xs (λ x h. all x (Has-rest x (outs.Send dest bytes) xs h)) line j
 ]
-sends_tell c from count (outs.Submitted r ∷ xs) all line i = absurd (let h = (all (outs.Submitted r) (has_first _ _ xs refl)).is in cc)
-sends_tell c from count (outs.Accepted client id result ∷ xs) all line i = absurd (let h = (all (outs.Accepted client id result) (has_first _ _ xs refl)).is in cc)
-sends_tell c from count (outs.Busy client ∷ xs) all line i = absurd (let h = (all (outs.Busy client) (has_first _ _ xs refl)).is in cc)
+sends_tell c from count (outs.Submitted r ∷ xs) all line i = absurd (let h = (all (outs.Submitted r) (Has-first _ _ xs refl)).is in cc)
+sends_tell c from count (outs.Accepted client id result ∷ xs) all line i = absurd (let h = (all (outs.Accepted client id result) (Has-first _ _ xs refl)).is in cc)
+sends_tell c from count (outs.Busy client ∷ xs) all line i = absurd (let h = (all (outs.Busy client) (Has-first _ _ xs refl)).is in cc)
 
 -- ---- what is new was sent by the outputs
 
@@ -101,14 +100,14 @@ only_more a b c xs ys one two x h = elim (two x h) [
 
 -- a datagram among the outputs goes into the network
 pub sends_there : (from : Actor) (xs : List Out) (dest : Dest) (bytes : List ℕ) → Has xs (outs.Send dest bytes) → Has (sends_of from xs) (record { from = from; dest = dest; bytes = bytes })
-sends_there from [] dest bytes h = absurd (has_none _ h)
-sends_there from (outs.Send e text ∷ xs) dest bytes h = elim (has_cases (outs.Send dest bytes) (outs.Send e text) xs h) [
-  | inl g ↦ (let same_dest : e ≡ dest = cc in let same_bytes : text ≡ bytes = cc in has_first _ _ (sends_of from xs) (λ i. record { from = from; dest = sym same_dest i; bytes = sym same_bytes i }))
-  | inr t ↦ has_rest _ _ (sends_of from xs) (sends_there from xs dest bytes t)
+sends_there from [] dest bytes h = absurd (Has-none _ h)
+sends_there from (outs.Send e text ∷ xs) dest bytes h = elim (Has-cases (outs.Send dest bytes) (outs.Send e text) xs h) [
+  | inl g ↦ (let same_dest : e ≡ dest = cc in let same_bytes : text ≡ bytes = cc in Has-first _ _ (sends_of from xs) (λ i. record { from = from; dest = sym same_dest i; bytes = sym same_bytes i }))
+  | inr t ↦ Has-rest _ _ (sends_of from xs) (sends_there from xs dest bytes t)
 ]
-sends_there from (outs.Submitted r ∷ xs) dest bytes h = elim (has_cases (outs.Send dest bytes) (outs.Submitted r) xs h) [ inl g ↦ absurd cc | inr t ↦ sends_there from xs dest bytes t ]
-sends_there from (outs.Accepted client id result ∷ xs) dest bytes h = elim (has_cases (outs.Send dest bytes) (outs.Accepted client id result) xs h) [ inl g ↦ absurd cc | inr t ↦ sends_there from xs dest bytes t ]
-sends_there from (outs.Busy client ∷ xs) dest bytes h = elim (has_cases (outs.Send dest bytes) (outs.Busy client) xs h) [ inl g ↦ absurd cc | inr t ↦ sends_there from xs dest bytes t ]
+sends_there from (outs.Submitted r ∷ xs) dest bytes h = elim (Has-cases (outs.Send dest bytes) (outs.Submitted r) xs h) [ inl g ↦ absurd cc | inr t ↦ sends_there from xs dest bytes t ]
+sends_there from (outs.Accepted client id result ∷ xs) dest bytes h = elim (Has-cases (outs.Send dest bytes) (outs.Accepted client id result) xs h) [ inl g ↦ absurd cc | inr t ↦ sends_there from xs dest bytes t ]
+sends_there from (outs.Busy client ∷ xs) dest bytes h = elim (Has-cases (outs.Send dest bytes) (outs.Busy client) xs h) [ inl g ↦ absurd cc | inr t ↦ sends_there from xs dest bytes t ]
 
 -- the network has all of it
 pub all_there : (from : Actor) (c d : Conf) (sent : List Sent) (xs : List Out) → OnlySends c d xs → ((x : Datagram) → WasSent c x → IsThere sent x) → (x : Datagram) → WasSent d x → IsThere (sent ++ sends_of from xs) x

@@ -15,7 +15,8 @@ use Rattle.nop_types.specs.Execution.{result_at}
 use Rattle.nop_types.specs.Given.{Packet}
 use Rattle.nop_types.specs.Lists.{Has}
 use Rattle.nop_types.specs.Meaning.{Meaning}
-use Rattle.histories.proofs.Lists.{Has-append_left, Has-append_cases, Has-one}
+use Rattle.facts.proofs.Members.{Has-append_left, Has-append_cases, Has-one, Has-none, Has-first}
+use Rattle.facts.proofs.Functions.{put-here, put-other}
 use Rattle.oum_codec.specs.declared.bad.Bad.{Bad}
 use Rattle.oum_codec.specs.Reading.{reading}
 use Rattle.oum_codec.specs.Spelling.{spelling}
@@ -24,7 +25,6 @@ use Rattle.oum_receiver.specs.declared.verdict.Verdict.TheVariants.{Queued, Old,
 use Rattle.oum_receiver.specs.Front.{Front, Nothing, Message, Dropped}
 use Rattle.oum_receiver.specs.Receiving.{verdict_of, judged, front_of}
 use Rattle.started_views.specs.Past.{Past, note}
-use Rattle.started_views.proofs.Lists.{has_none, has_first}
 use Rattle.started_views.proofs.Parts.{past_of_parts, same_past}
 use Rattle.world.specs.declared.replica_state.ReplicaState.{ReplicaState}
 use Rattle.world.specs.ReplicaSteps.{then_do, leads, leader_reply, reply_if, reply, has_room, logged, drain_at, drain_by, drain, offer, stamped_by, stamped, on_datagram, next}
@@ -35,7 +35,6 @@ use Rattle.safety.specs.Invariant.{Inv}
 use Rattle.safety.specs.Moves.{queue, take, leader_replies, replies_if, replies_for}
 use Rattle.safety.specs.Runs.{Move, Queue, Take, happens, May, run, MayAll}
 use Rattle.safety.proofs.Pasts.{note_idle}
-use Rattle.safety.proofs.Puts.{put_same, put_apart}
 use Rattle.safety.proofs.Reaching.{run_more, may_more, Sends, AllSend, sends_last, OnlySends, only_more}
 use Rattle.safety.proofs.Runs.{run_keeps}
 
@@ -71,7 +70,7 @@ module _ {S : Type 0} (m : Meaning S) (f : ℕ) (few : f ≤ 3) (short : Results
     view = refl;
     normal = refl;
     past = sym (note_idle f c.past r (standing (c.replicas r)) (inv.current r l));
-    sends = λ x i. absurd (has_none x i);
+    sends = λ x i. absurd (Has-none x i);
     only = λ x h. inl h;
   }
 
@@ -109,13 +108,13 @@ module _ {S : Type 0} (m : Meaning S) (f : ℕ) (few : f ≤ 3) (short : Results
   -- the outputs of a reply are its typed replies
   leader_typed : (p : ReplicaState) (slot : ℕ) (q : Request) (o : Option (List ℕ)) (x : Out) → Has (leader_reply p slot q.client q.id o) x → (y : Reply) × Has (leader_replies p slot q o) y × (x ≡ reply_out y)
   unfolding reply_out
-  leader_typed p slot q None x i = absurd (has_none x i)
-  leader_typed p slot q (Some result) x i = (_, has_first _ _ [] refl, Has-one x _ i)
+  leader_typed p slot q None x i = absurd (Has-none x i)
+  leader_typed p slot q (Some result) x i = (_, Has-first _ _ [] refl, Has-one x _ i)
 
   typed_if : (b : Bool) (p : ReplicaState) (slot : ℕ) (q : Request) (x : Out) → Has (reply_if m b p slot q.client q.id) x → (y : Reply) × Has (replies_if m b p slot q) y × (x ≡ reply_out y)
   unfolding reply_out
   typed_if true p slot q x i = leader_typed p slot q (result_at m p.log slot) x i
-  typed_if false p slot q x i = (_, has_first _ _ [] refl, Has-one x _ i)
+  typed_if false p slot q x i = (_, Has-first _ _ [] refl, Has-one x _ i)
 
   typed : (p : ReplicaState) (slot : ℕ) (q : Request) (x : Out) → Has (reply m p slot q.client q.id) x → (y : Reply) × Has (replies_for m p slot q) y × (x ≡ reply_out y)
   unfolding reply
@@ -124,13 +123,13 @@ module _ {S : Type 0} (m : Meaning S) (f : ℕ) (few : f ≤ 3) (short : Results
   -- and each typed reply is an output
   leader_untyped : (p : ReplicaState) (slot : ℕ) (q : Request) (o : Option (List ℕ)) (y : Reply) → Has (leader_replies p slot q o) y → Has (leader_reply p slot q.client q.id o) (reply_out y)
   unfolding reply_out
-  leader_untyped p slot q None y i = absurd (has_none y i)
-  leader_untyped p slot q (Some result) y i = has_first _ _ [] (ap reply_out (Has-one y _ i))
+  leader_untyped p slot q None y i = absurd (Has-none y i)
+  leader_untyped p slot q (Some result) y i = Has-first _ _ [] (ap reply_out (Has-one y _ i))
 
   untyped_if : (b : Bool) (p : ReplicaState) (slot : ℕ) (q : Request) (y : Reply) → Has (replies_if m b p slot q) y → Has (reply_if m b p slot q.client q.id) (reply_out y)
   unfolding reply_out
   untyped_if true p slot q y i = leader_untyped p slot q (result_at m p.log slot) y i
-  untyped_if false p slot q y i = has_first _ _ [] (ap reply_out (Has-one y _ i))
+  untyped_if false p slot q y i = Has-first _ _ [] (ap reply_out (Has-one y _ i))
 
   untyped : (p : ReplicaState) (slot : ℕ) (q : Request) (y : Reply) → Has (replies_for m p slot q) y → Has (reply m p slot q.client q.id) (reply_out y)
   unfolding reply
@@ -160,8 +159,8 @@ module _ {S : Type 0} (m : Meaning S) (f : ℕ) (few : f ≤ 3) (short : Results
       record {
         moves = x ∷ [];
         may = (may, tt);
-        state = ap (λ (d : Conf). d.replicas r) is ∙ put_same c.replicas r e.state;
-        others = λ q a. ap (λ (d : Conf). d.replicas q) is ∙ put_apart c.replicas r e.state q a;
+        state = ap (λ (d : Conf). d.replicas r) is ∙ put-here c.replicas r e.state;
+        others = λ q a. ap (λ (d : Conf). d.replicas q) is ∙ put-other c.replicas r e.state q a;
         sequencers = ap (λ (d : Conf). d.sequencers) is;
         clients = ap (λ (d : Conf). d.clients) is;
         lines = ap (λ (d : Conf). d.lines) is;
@@ -211,7 +210,7 @@ module _ {S : Type 0} (m : Meaning S) (f : ℕ) (few : f ≤ 3) (short : Results
   stamped_cases c p inv l sent Full e = subst (λ (s : ReplicaState). Reaches m f c r (drain m s)) (unchanged (c.replicas r) p Full e refl) (whole_drain c inv l)
   stamped_cases c p inv l sent Queued e =
       reaches_then c (offer (c.replicas r) p, []) (drain m) inv
-      (reaches_one c (queue (c.replicas r) p) (Queue r p) [] inv (l, record { sent = sent; verdict = e }) refl refl refl (λ y i. absurd (has_none y i)) (λ y i. absurd (has_none y i)))
+      (reaches_one c (queue (c.replicas r) p) (Queue r p) [] inv (l, record { sent = sent; verdict = e }) refl refl refl (λ y i. absurd (Has-none y i)) (λ y i. absurd (Has-none y i)))
       (λ d i. whole_drain d i l)
 
   datagram_reaches : (c : Conf) (x : Result Datagram Bad) → Inv m f c → r < 2 * f + 1 → ((d : Datagram) → x ≡ Ok d → WasSent c d) → Reaches m f c r (on_datagram m (c.replicas r) x)

@@ -1,6 +1,7 @@
 -- Lists of moves keep what holds of the opening.
 use Rattle.std.proofs.Common.{◌≡◌, ℕ, ◌+◌, ◌*◌, ◌≤◌, Bool, true, false, Some, refl, sym, subst, arith, List, [], ◌∷◌}
 use Rattle.std.specs.Prelude.{◌==◌, if◌then◌else◌}
+use Rattle.std.proofs.lemmas.Bool.{eqb-true}
 use Rattle.nop_types.specs.Configuration.{Configuration}
 use Rattle.nop_types.specs.declared.view.View.{View}
 use Rattle.nop_types.specs.declared.request.Entry.{Entry}
@@ -8,12 +9,13 @@ use Rattle.nop_types.specs.declared.request.Entry.TheVariants.{NoOp, Req}
 use Rattle.nop_types.specs.Meaning.{Meaning}
 use Rattle.nop_types.specs.Lists.{slot_of}
 use Rattle.nop_types.specs.Views.{AtMost, first_view, leader_of}
+use Rattle.facts.proofs.Members.{Has-none}
+use Rattle.facts.proofs.Prefixes.{IsPrefixOf-refl}
+use Rattle.facts.proofs.Slots.{slot_of-within}
+use Rattle.facts.proofs.Views.{AtMost-refl}
 use Rattle.log_merge.specs.Starting.{Start}
 use Rattle.started_views.specs.Past.{HadLog, LeaderHad, IsStart}
-use Rattle.started_views.proofs.Lists.{has_none}
-use Rattle.started_views.proofs.Past.{first_log, first_start, is_same_true}
-use Rattle.started_views.proofs.Slots.{prefix_refl, slot_within}
-use Rattle.started_views.proofs.Views.{at_most_refl}
+use Rattle.started_views.proofs.Past.{first_log, first_start}
 use Rattle.oum_receiver.proofs.Stamps.{opened_stamped}
 use Rattle.safety.specs.Answers.{ResultsShort}
 use Rattle.safety.specs.Conf.{Conf}
@@ -49,7 +51,7 @@ module _ {S : Type 0} (m : Meaning S) (f : ℕ) (few : f ≤ 3) (short : Results
 -- ---- the opening
 
 none_there : (x : Entry) (k : ℕ) → slot_of [] k ≡ Some x → ⊥
-none_there x k e = let h = slot_within [] k x e in omega (arith, h.0, h.1)
+none_there x k e = let h = slot_of-within [] k x e in omega (arith, h.0, h.1)
 
 abbrev first_start_of : Start
 first_start_of = record { next = 1; log = [] }
@@ -70,32 +72,32 @@ module _ {S : Type 0} (m : Meaning S) (f : ℕ) (config : Configuration) (count 
     is_start = is_first;
     lead = [];
     leads = had_first (leader_of first_view (2 * f + 1));
-    begins = prefix_refl [];
+    begins = IsPrefixOf-refl [];
     by_number = λ k q a e. absurd (none_there (Req q) k e);
     noops = λ k a e. absurd (none_there NoOp k e);
     requests = λ k a e. none_there NoOp k e;
-    submitted = λ q i. absurd (has_none _ i);
+    submitted = λ q i. absurd (Has-none _ i);
   }
 
   sequencer_good : (j : ℕ) (b : Bool) → (j == 0) ≡ b → GoodSequencer j (record { number = j; session = if b then 1 else 0; next = 1 })
-  sequencer_good j true e = record { owns = λ one. (is_same_true j 0 e, refl); session = omega arith; next = omega arith }
+  sequencer_good j true e = record { owns = λ one. (eqb-true j 0 e, refl); session = omega arith; next = omega arith }
   sequencer_good j false e = record { owns = λ one. absurd (omega (arith, one)); session = omega arith; next = omega arith }
 
   pub opening_holds : Inv m f c
   opening_holds = record {
-    requests = λ r i. absurd (has_none r i);
-    stamps = λ p i. absurd (has_none p i);
-    stamped_once = λ session number a b h g. absurd (has_none _ h);
+    requests = λ r i. absurd (Has-none r i);
+    stamps = λ p i. absurd (Has-none p i);
+    stamped_once = λ session number a b h g. absurd (Has-none _ h);
     sequencers = λ j. sequencer_good j (j == 0) refl;
     logs = λ r w l h. let g = first_log r w l h in subst (λ (x : View). GoodLog f c r x l) (sym g.0) (subst (GoodLog f c r first_view) (sym g.1) (first_log_good r));
-    reached = λ r w l h. let g = first_log r w l h in subst (λ (x : View). AtMost x first_view) (sym g.0) (at_most_refl first_view);
+    reached = λ r w l h. let g = first_log r w l h in subst (λ (x : View). AtMost x first_view) (sym g.0) (AtMost-refl first_view);
     starts = λ w x h.
         let g = first_start w x h in
         record { session = subst (λ (v : View). 1 ≤ v.session) (sym g.0) (omega arith); lead = []; leads = subst (λ (v : View). LeaderHad f c.past v []) (sym g.0) (had_first (leader_of first_view (2 * f + 1))); certificate = λ apart. absurd (apart g.0) };
     entries = λ r v e h. absurd cc;
     chain = λ r v w d e h g. absurd cc;
     between = λ r v w e l h g. absurd cc;
-    replies = λ p i. absurd (has_none p i);
+    replies = λ p i. absurd (Has-none p i);
     current = λ r l. had_first r;
     own = λ r l. record {
       number = refl;
@@ -112,17 +114,17 @@ module _ {S : Type 0} (m : Meaning S) (f : ℕ) (config : Configuration) (count 
     };
     lines = record {
       submitted_once = λ k l p q h g same. absurd cc;
-      submitted_ids = λ q i. absurd (has_none _ i);
+      submitted_ids = λ q i. absurd (Has-none _ i);
       accepted_once = λ k l client id a b h g. absurd cc;
-      accepted_ids = λ client id result i. absurd (has_none _ i);
-      accepted_done = λ client id result i. absurd (has_none _ i);
+      accepted_ids = λ client id result i. absurd (Has-none _ i);
+      accepted_done = λ client id result i. absurd (Has-none _ i);
       grounds = λ k client id result e. absurd cc;
     };
     clients = λ k. record {
       number = refl;
       replicas = count;
       pending = λ q e. absurd cc;
-      kept = λ p i. absurd (has_none p i);
+      kept = λ p i. absurd (Has-none p i);
       once = λ r. omega arith;
     };
   }

@@ -1,28 +1,18 @@
 -- What a step at one seat leaves, and where a step of the world comes from.
 use Rattle.std.proofs.Common.{◌≡◌, ℕ, zero, suc, Option, Some, None, refl, sym, ap, ◌∙◌, arith, inl, inr, List, [], ◌∷◌, length}
 use Rattle.std.specs.Prelude.{◌⊎◌, Ok, slice_get, slice_set}
+use Rattle.std.proofs.lemmas.List.{length-set}
 use Rattle.nop_types.specs.Given.{Given, Packet}
 use Rattle.nop_types.specs.declared.output.Out.{Out}
+use Rattle.facts.proofs.Places.{slice_get-set_cases}
 use Rattle.world.specs.Network.{Sent}
 use Rattle.world.specs.Seats.{Seated, Did, seat_step, crash_step}
 use Rattle.world.specs.WorldSteps.{Happened, then_at, input_at, bytes_at, delivery_at, crash_at}
 
-pub set_length : {A : Type 0} (xs : List A) (i : ℕ) (x : A) → length (slice_set xs i x) ≡ length xs
-set_length [] i x = refl
-set_length (y ∷ ys) zero x = refl
-set_length (y ∷ ys) (suc i) x = ap suc (set_length ys i x)
-
-set_cases : {A : Type 0} (xs : List A) (i : ℕ) (x : A) (j : ℕ) (y : A) → slice_get (slice_set xs i x) j ≡ Some y → ((j ≡ i) × (y ≡ x)) ⊎ ((j ≡ i → ⊥) × (slice_get xs j ≡ Some y))
-set_cases [] i x j y e = absurd cc
-set_cases (z ∷ zs) zero x zero y e = inl (refl, cc)
-set_cases (z ∷ zs) zero x (suc j) y e = inr (λ a. omega (arith, a), e)
-set_cases (z ∷ zs) (suc i) x zero y e = inr (λ a. omega (arith, a), e)
-set_cases (z ∷ zs) (suc i) x (suc j) y e = elim (set_cases zs i x j y e) [ inl (a, b) ↦ inl (ap suc a, b) | inr (a, b) ↦ inr (λ s. a (omega (arith, s)), b) ]
-
 -- the changed seat has its new state, and each other its old one
 pub seats_shown : {S : Type 0} (xs : List (Seated S)) (old new : ℕ → S) (i : ℕ) (q : Seated S) → ((j : ℕ) (p : Seated S) → slice_get xs j ≡ Some p → old j ≡ p.state) → new i ≡ q.state → ((j : ℕ) → (j ≡ i → ⊥) → new j ≡ old j)
     → (j : ℕ) (p : Seated S) → slice_get (slice_set xs i q) j ≡ Some p → new j ≡ p.state
-seats_shown xs old new i q shown here others j p e = elim (set_cases xs i q j p e) [
+seats_shown xs old new i q shown here others j p e = elim (slice_get-set_cases xs i q j p e) [
   | inl (a, b) ↦ ap new a ∙ here ∙ ap (λ t. t.state) (sym b)
   | inr (a, b) ↦ others j a ∙ shown j p b
 ]

@@ -11,11 +11,11 @@ use Rattle.nop_types.specs.declared.output.Out.TheVariants.{Send}
 use Rattle.nop_types.specs.Given.{Packet}
 use Rattle.nop_types.specs.Lists.{Has}
 use Rattle.nop_types.specs.Meaning.{Meaning}
-use Rattle.histories.proofs.Lists.{Has-one}
+use Rattle.facts.proofs.Members.{Has-one, Has-none, Has-first, Has-cases}
+use Rattle.facts.proofs.Functions.{put-here, put-other}
 use Rattle.oum_codec.specs.declared.bad.Bad.{Bad}
 use Rattle.oum_codec.specs.Reading.{reading}
 use Rattle.oum_codec.specs.Spelling.{spelling}
-use Rattle.started_views.proofs.Lists.{has_none, has_first, has_cases}
 use Rattle.world.specs.declared.sequencer.SequencerState.{SequencerState}
 use Rattle.world.specs.SequencerSteps.{can_stamp, stamped, after_stamp, stamp_if, on_datagram, next}
 use Rattle.safety.specs.Answers.{ResultsShort}
@@ -23,7 +23,6 @@ use Rattle.safety.specs.Conf.{Conf, WasSent}
 use Rattle.safety.specs.Invariant.{Inv}
 use Rattle.safety.specs.Moves as moves
 use Rattle.safety.specs.Runs.{Move, Stamp, run, MayAll}
-use Rattle.safety.proofs.Puts.{put_same, put_apart}
 use Rattle.safety.proofs.Reaching.{AllSend, OnlySends}
 use Rattle.safety.proofs.Runs.{run_keeps}
 
@@ -45,12 +44,12 @@ module _ {S : Type 0} (m : Meaning S) (f : ℕ) (few : f ≤ 3) (short : Results
   s = c.sequencers j
 
   still : Reaches m f c j (s, [])
-  still = record { moves = []; may = tt; state = refl; others = λ q a. refl; replicas = refl; past = refl; clients = refl; lines = refl; sends = λ x i. absurd (has_none x i); only = λ x h. inl h }
+  still = record { moves = []; may = tt; state = refl; others = λ q a. refl; replicas = refl; past = refl; clients = refl; lines = refl; sends = λ x i. absurd (Has-none x i); only = λ x h. inl h }
 
   only_stamp : (r : Request) → OnlySends c (moves.stamp c j r) (Send Replicas (spelling (datagrams.Stamped (stamped s r))) ∷ [])
   only_stamp r (datagrams.Request q) h = inl h
-  only_stamp r (datagrams.Stamped p) h = elim (has_cases p (stamped s r) c.stamps h) [
-    | inl e ↦ inr (record { dest = Replicas; has = has_first _ _ [] (ap (λ (x : Stamped). Send Replicas (spelling (datagrams.Stamped x))) e) })
+  only_stamp r (datagrams.Stamped p) h = elim (Has-cases p (stamped s r) c.stamps h) [
+    | inl e ↦ inr (record { dest = Replicas; has = Has-first _ _ [] (ap (λ (x : Stamped). Send Replicas (spelling (datagrams.Stamped x))) e) })
     | inr old ↦ inl old
   ]
   only_stamp r (datagrams.Reply p) h = inl h
@@ -67,8 +66,8 @@ module _ {S : Type 0} (m : Meaning S) (f : ℕ) (few : f ≤ 3) (short : Results
       record {
         moves = Stamp j r ∷ [];
         may = (record { sent = sent; can = e }, tt);
-        state = put_same c.sequencers j (after_stamp s);
-        others = λ i a. put_apart c.sequencers j (after_stamp s) i a;
+        state = put-here c.sequencers j (after_stamp s);
+        others = λ i a. put-other c.sequencers j (after_stamp s) i a;
         replicas = refl;
         past = refl;
         clients = refl;
@@ -77,7 +76,7 @@ module _ {S : Type 0} (m : Meaning S) (f : ℕ) (few : f ≤ 3) (short : Results
           dest = Replicas;
           bytes = spelling (datagrams.Stamped (stamped s r));
           is = Has-one y _ h;
-          carried = record { datagram = datagrams.Stamped (stamped s r); fits = (k.0.stamps (stamped s r) (has_first _ _ c.stamps refl)).fits; sent = has_first _ _ c.stamps refl; spelled = refl };
+          carried = record { datagram = datagrams.Stamped (stamped s r); fits = (k.0.stamps (stamped s r) (Has-first _ _ c.stamps refl)).fits; sent = Has-first _ _ c.stamps refl; spelled = refl };
         };
         only = only_stamp r;
       }

@@ -3,7 +3,7 @@ use Rattle.std.proofs.Common.{◌≡◌, ℕ, ◌+◌, ◌*◌, ◌<◌, ◌≤�
 use Rattle.std.specs.Prelude.{◌-◌, ◌==◌, Ok, slice_get, if◌then◌else◌}
 use Rattle.std.specs.FinMap as finite
 use Rattle.std.proofs.lemmas.Option.{slice_get_within}
-use Rattle.std.proofs.lemmas.Bool.{cases_eq}
+use Rattle.std.proofs.lemmas.Bool.{cases_eq, eq-eqb}
 use Rattle.nop_types.specs.Configuration.{Configuration}
 use Rattle.nop_types.specs.declared.view.View.{View}
 use Rattle.nop_types.specs.declared.request.Request.{Request}
@@ -18,12 +18,12 @@ use Rattle.nop_types.specs.Meaning.{Meaning}
 use Rattle.nop_types.specs.Ranges.{DatagramFits}
 use Rattle.nop_types.specs.Stamps.{WasStamped}
 use Rattle.nop_types.specs.Views.{leader_of}
+use Rattle.facts.proofs.Options.{same_Some-at}
 use Rattle.log_merge.specs.Starting.{Start}
 use Rattle.oum_codec.specs.Reading.{reading}
 use Rattle.oum_codec.proofs.Datagrams.{reads_again}
 use Rattle.started_views.specs.Past.{HadLog, LeaderHad, IsStart}
 use Rattle.started_views.specs.Quorums.{Quorum}
-use Rattle.started_views.proofs.Past.{is_same_from}
 use Rattle.started_views.proofs.Quorums.{quorum_weaker}
 use Rattle.world.specs.declared.client.ClientState.{ClientState}
 use Rattle.world.specs.declared.controller.ControllerState.{ControllerState}
@@ -43,7 +43,6 @@ use Rattle.safety.specs.Sound.{IsSent, IsStamped, StampsAreSound, RequestsAreSub
 use Rattle.safety.specs.Worlds.{ShowsWorld, Shows}
 use Rattle.safety.proofs.Concluding.{legal}
 use Rattle.safety.proofs.MainLogs.{is_main_log}
-use Rattle.safety.proofs.Stays.{some_same}
 
 module _ {S : Type 0} (m : Meaning S) (f : ℕ) (p : Passed) (c : Conf) (inv : Inv m f c) (shows : Shows f p c) where
   abbrev w : WorldState
@@ -98,10 +97,10 @@ module _ {S : Type 0} (m : Meaning S) (f : ℕ) (p : Passed) (c : Conf) (inv : I
   logs : LogsAreSound p
   logs = record {
     current = λ i q e. had_back i q.state.last_normal q.state.log (subst (λ (s : ReplicaState). HadLog c.past i s.last_normal s.log) (shown.replicas i q e) (inv.current i (within i q e)));
-    begins = λ i v l x h g. let t = inv.logs i v l (had i v l h) in subst (λ (y : Start). IsPrefixOf y.log l) (some_same (c.past.start v) t.start x t.is_start (started v x g)) t.begins;
+    begins = λ i v l x h g. let t = inv.logs i v l (had i v l h) in subst (λ (y : Start). IsPrefixOf y.log l) (same_Some-at (c.past.start v) t.start x t.is_start (started v x g)) t.begins;
     slots = λ i v l x k e h g above at.
         let t = inv.logs i v l (had i v l h) in
-        let same = some_same (c.past.start v) t.start x t.is_start (started v x g) in
+        let same = same_Some-at (c.past.start v) t.start x t.is_start (started v x g) in
         slot i v l x k e (subst (λ (y : Start). length y.log < k → slot_of l k ≡ Some NoOp → ⊥) same (t.requests k) above)
         (λ q. subst (λ (y : Start). length y.log < k → slot_of l k ≡ Some (Req q) → WasStamped c.stamps v.session (y.next + (k - length y.log - 1)) q) same (t.by_number k q) above) at;
   }
@@ -115,7 +114,7 @@ module _ {S : Type 0} (m : Meaning S) (f : ℕ) (p : Passed) (c : Conf) (inv : I
   numbers i q x e h =
       let own = inv.own i (within i q e) in
       let its = subst (λ (s : ReplicaState). (y : Start) → IsStart c.past s.last_normal y → s.next + length y.log ≡ y.next + length s.log) (shown.replicas i q e)
-      (λ y g. subst (λ (z : Start). (c.replicas i).next + length z.log ≡ z.next + length (c.replicas i).log) (some_same (c.past.start (c.replicas i).last_normal) own.start y own.is_start g) own.counted) in
+      (λ y g. subst (λ (z : Start). (c.replicas i).next + length z.log ≡ z.next + length (c.replicas i).log) (same_Some-at (c.past.start (c.replicas i).last_normal) own.start y own.is_start g) own.counted) in
       its x (started q.state.last_normal x h)
 
   requests : RequestsAreSubmitted p
@@ -181,7 +180,7 @@ module _ {S : Type 0} (m : Meaning S) (f : ℕ) (p : Passed) (c : Conf) (inv : I
     ]
       where
         not_first : (i : ℕ) → (i == 0) ≡ false → i ≡ 0 → ⊥
-        not_first i e s = absurd (let t : (i == 0) ≡ true = is_same_from i 0 s in cc)
+        not_first i e s = absurd (let t : (i == 0) ≡ true = eq-eqb i 0 s in cc)
 
     session_is : (j : ℕ) → (c.sequencers j).session ≡ (sequencer.opening j).session
     session_is j = session_by j (j == 0) refl (ev.sequencers j).session

@@ -14,26 +14,23 @@ use Rattle.nop_types.specs.Lists.{Has, IsPrefixOf}
 use Rattle.nop_types.specs.Meaning.{Meaning}
 use Rattle.nop_types.specs.Stamps.{WasStamped}
 use Rattle.nop_types.specs.Views.{leader_of}
+use Rattle.facts.proofs.Options.{same_Some-at}
+use Rattle.facts.proofs.Prefixes.{Has-prefix, length-prefix, IsPrefixOf-refl, IsPrefixOf-trans}
+use Rattle.facts.proofs.Slots.{slot_of-prefix}
+use Rattle.facts.proofs.Views.{AtMost-refl, AtMost-trans}
 use Rattle.histories.proofs.Lines.{submitted_stays}
-use Rattle.histories.proofs.Lists.{Has-prefix}
 use Rattle.histories.proofs.Results.{result_needs_prefix}
 use Rattle.log_merge.specs.Starting.{Start}
 use Rattle.started_views.specs.Past.{Entered, HadLog, LeaderHad}
 use Rattle.started_views.specs.Settled.{Certificate}
-use Rattle.started_views.proofs.Lists.{prefix_length}
 use Rattle.started_views.proofs.Logs.{toward_refl, toward_trans}
 use Rattle.started_views.proofs.Quorums.{quorum_weaker}
-use Rattle.started_views.proofs.Slots.{prefix_refl, prefix_trans, prefix_slot}
-use Rattle.started_views.proofs.Views.{at_most_refl, at_most_trans}
 use Rattle.world.specs.declared.client.ClientState.{ClientState}
 use Rattle.world.specs.declared.replica_state.ReplicaState.{ReplicaState}
 use Rattle.world.specs.declared.sequencer.SequencerState.{SequencerState}
 use Rattle.safety.specs.Conf.{Conf}
 use Rattle.safety.specs.Evolves.{Onward, Evolves}
 use Rattle.safety.specs.Invariant.{WasSubmitted, TrueRequest, TrueStamp, GoodLog, GoodStart, GoodEntry, TrueReply, Own, Replied, Accepted, KeptReply, GoodClient}
-
-pub some_same : {A : Type 0} (o : Option A) (x y : A) → o ≡ Some x → o ≡ Some y → x ≡ y
-some_same o x y e g = cc
 
 -- ---- reflexive and transitive
 
@@ -55,14 +52,14 @@ evolves_refl f c led = record {
   requests = λ x h. h;
   stamps = λ x h. h;
   replies = λ x h. h;
-  lines = prefix_refl c.lines;
+  lines = IsPrefixOf-refl c.lines;
   starts = λ w x h. h;
   entries = λ r v e h. h;
-  leads = λ w m h. (m, h, prefix_refl m);
+  leads = λ w m h. (m, h, IsPrefixOf-refl m);
   logs = λ r w l h. let g = led r w l h in (l, h, g.0, g.1, toward_refl g.0 l);
   frozen = λ r v e h g. g;
-  views = λ r. at_most_refl (c.replicas r).view;
-  normals = λ r. at_most_refl (c.replicas r).last_normal;
+  views = λ r. AtMost-refl (c.replicas r).view;
+  normals = λ r. AtMost-refl (c.replicas r).last_normal;
   sequencers = λ j. onward_refl (c.sequencers j);
   last_ids = λ k. omega arith;
   sync_points = λ r. omega arith;
@@ -73,22 +70,22 @@ evolves_trans f a b c h g = record {
   requests = λ x i. g.requests x (h.requests x i);
   stamps = λ x i. g.stamps x (h.stamps x i);
   replies = λ x i. g.replies x (h.replies x i);
-  lines = prefix_trans a.lines b.lines c.lines h.lines g.lines;
+  lines = IsPrefixOf-trans a.lines b.lines c.lines h.lines g.lines;
   starts = λ w x i. g.starts w x (h.starts w x i);
   entries = λ r v e i. g.entries r v e (h.entries r v e i);
   leads = λ w m i.
       let k = h.leads w m i in
       let j = g.leads w k.0 k.1 in
-      (j.0, j.1, prefix_trans m k.0 j.0 k.2 j.2);
+      (j.0, j.1, IsPrefixOf-trans m k.0 j.0 k.2 j.2);
   logs = λ r w l i.
       let k = h.logs r w l i in
       let j = g.logs r w k.0 k.1 in
       let n = g.leads w k.2 k.3 in
-      let same : n.0 ≡ j.2 = some_same (c.past.log (leader_of w (2 * f + 1)) w) n.0 j.2 n.1 j.3 in
+      let same : n.0 ≡ j.2 = same_Some-at (c.past.log (leader_of w (2 * f + 1)) w) n.0 j.2 n.1 j.3 in
       (j.0, j.1, j.2, j.3, toward_trans k.2 j.2 l k.0 j.0 (subst (λ (t : List Entry). IsPrefixOf k.2 t) same n.2) k.4 j.4);
   frozen = λ r v e i j. g.frozen r v e (h.entries r v e i) (h.frozen r v e i j);
-  views = λ r. at_most_trans (a.replicas r).view (b.replicas r).view (c.replicas r).view (h.views r) (g.views r);
-  normals = λ r. at_most_trans (a.replicas r).last_normal (b.replicas r).last_normal (c.replicas r).last_normal (h.normals r) (g.normals r);
+  views = λ r. AtMost-trans (a.replicas r).view (b.replicas r).view (c.replicas r).view (h.views r) (g.views r);
+  normals = λ r. AtMost-trans (a.replicas r).last_normal (b.replicas r).last_normal (c.replicas r).last_normal (h.normals r) (g.normals r);
   sequencers = λ j. onward_trans (a.sequencers j) (b.sequencers j) (c.sequencers j) (h.sequencers j) (g.sequencers j);
   last_ids = λ k. omega (arith, h.last_ids k, g.last_ids k);
   sync_points = λ r. omega (arith, h.sync_points r, g.sync_points r);
@@ -131,7 +128,7 @@ module _ {S : Type 0} (m : Meaning S) (f : ℕ) (c d : Conf) (h : Evolves f c d)
         leads = n.1;
         begins = g.begins;
         by_number = λ k q a e. stamped_lasts w.session (g.start.next + (k - length g.start.log - 1)) q (g.by_number k q a e);
-        noops = λ k a e. prefix_slot g.lead n.0 k NoOp n.2 (g.noops k a e);
+        noops = λ k a e. slot_of-prefix g.lead n.0 k NoOp n.2 (g.noops k a e);
         requests = g.requests;
         submitted = λ q i. submitted_lasts q (g.submitted q i);
       }
@@ -147,7 +144,7 @@ module _ {S : Type 0} (m : Meaning S) (f : ℕ) (c d : Conf) (h : Evolves f c d)
   pub entry_lasts : (r : ℕ) (v : View) (e : Entered) → c.past.entry r v ≡ Some e → GoodEntry f c r v e → GoodEntry f d r v e
   entry_lasts r v e i g = record {
     order = g.order;
-    reached = at_most_trans v (c.replicas r).view (d.replicas r).view g.reached (h.views r);
+    reached = AtMost-trans v (c.replicas r).view (d.replicas r).view g.reached (h.views r);
     log = h.frozen r v e i g.log;
     counted = (g.counted.0, h.starts e.last_normal g.counted.0 g.counted.1, g.counted.2);
   }
@@ -158,7 +155,7 @@ module _ {S : Type 0} (m : Meaning S) (f : ℕ) (c d : Conf) (h : Evolves f c d)
       let mine : LeaderHad f c.past w l = subst (λ (i : ℕ). c.past.log i w ≡ Some l) s had in
       let n = h.leads w l mine in
       let its : d.past.log r w ≡ Some n.0 = subst (λ (i : ℕ). d.past.log i w ≡ Some n.0) (sym s) n.1 in
-      subst (λ (t : List Entry). IsPrefixOf l t) (some_same (d.past.log r w) n.0 k its has) n.2
+      subst (λ (t : List Entry). IsPrefixOf l t) (same_Some-at (d.past.log r w) n.0 k its has) n.2
 
   pub reply_lasts : (p : Reply) → TrueReply m f c p → TrueReply m f d p
   reply_lasts p t =
@@ -171,7 +168,7 @@ module _ {S : Type 0} (m : Meaning S) (f : ℕ) (c d : Conf) (h : Evolves f c d)
         tag = t.tag;
         leads = λ s.
             let q = t.leads s in
-            (q.0, prefix_slot t.log j.0 p.slot (Req q.0) (later_lead p.replica p.view t.log j.0 t.had j.1 s) q.1, q.2);
+            (q.0, slot_of-prefix t.log j.0 p.slot (Req q.0) (later_lead p.replica p.view t.log j.0 t.had j.1 s) q.1, q.2);
         gives = λ s. result_needs_prefix m t.log j.0 p.slot (later_lead p.replica p.view t.log j.0 t.had j.1 s) t.within ∙ t.gives s;
       }
 
@@ -207,7 +204,7 @@ module _ {S : Type 0} (m : Meaning S) (f : ℕ) (c d : Conf) (h : Evolves f c d)
         slot = a.slot;
         log = n.0;
         leads = n.1;
-        within = omega (arith, a.within, prefix_length a.log n.0 n.2);
+        within = omega (arith, a.within, length-prefix a.log n.0 n.2);
         quorum = quorum_weaker f (Replied c a.view a.slot client id) (Replied d a.view a.slot client id) (λ r t. replied_lasts a.view a.slot client id r t) a.quorum;
         leaders = replied_lasts a.view a.slot client id (leader_of a.view (2 * f + 1)) a.leaders;
         gives = a.gives;

@@ -2,15 +2,16 @@
 use Rattle.std.proofs.Common.{◌≡◌, ℕ, ◌+◌, ◌<◌, ◌≤◌, true, Some, refl, sym, ap, subst, ◌∙◌, inl, inr, arith, List, [], ◌∷◌}
 use Rattle.std.specs.Prelude.{◌-◌, ◌^◌, nat_lt}
 use Rattle.std.proofs.lemmas.Bool.Decides.{nat_tests}
+use Rattle.std.proofs.lemmas.Bool.{ltb-true, and_parts}
 use Rattle.nop_types.specs.declared.request.Request.{Request}
 use Rattle.nop_types.specs.Legality.{IsOf}
 use Rattle.nop_types.specs.Lines.{Submit, Accept}
 use Rattle.nop_types.specs.Lists.{Has}
 use Rattle.nop_types.specs.Meaning.{Meaning}
+use Rattle.facts.proofs.Members.{Has-append_right, Has-append_cases, Has-one, Has-none, Has-rest, Has-cases}
+use Rattle.facts.proofs.Places.{slice_get-push_cases}
+use Rattle.facts.proofs.Functions.{put-all, put-here}
 use Rattle.histories.proofs.Lines.{submitted_once_stays, accepted_once_stays}
-use Rattle.histories.proofs.Lists.{Has-append_right, Has-append_cases, Has-one, slice_get-push_cases}
-use Rattle.started_views.proofs.Lists.{has_none, has_rest, has_cases}
-use Rattle.started_views.proofs.Past.{both_true}
 use Rattle.world.specs.declared.client.ClientState.{ClientState}
 use Rattle.world.specs.ClientSteps.{has_none as none_waits, request_of, submitted}
 use Rattle.safety.specs.Conf.{Conf}
@@ -19,11 +20,7 @@ use Rattle.safety.specs.Moves.{submit, MaySubmit}
 use Rattle.safety.specs.Invariant.{WasSubmitted, TrueRequest, GoodLines, GoodClient, Inv}
 use Rattle.safety.proofs.Local.{Keeps}
 use Rattle.safety.proofs.Outside.{outside_keeps}
-use Rattle.safety.proofs.Puts.{put_all, put_same}
 use Rattle.safety.proofs.Stays.{onward_refl, accepted_lasts, client_lasts}
-
-less_from : (a b : ℕ) → nat_lt a b ≡ true → a < b
-less_from a b e = grind (arith, nat_tests, e)
 
 same_submit : (q x : Request) → Submit x ≡ Submit q → x ≡ q
 same_submit q x e = cc
@@ -39,16 +36,16 @@ module _ {S : Type 0} (m : Meaning S) (f : ℕ) (c : Conf) (inv : Inv m f c) (k 
   d = submit c k op
 
   room : s.last_id < 2 ^ 64 - 1
-  room = less_from s.last_id (2 ^ 64 - 1) (both_true (none_waits s.pending) (nat_lt s.last_id (2 ^ 64 - 1)) may.can).1
+  room = ltb-true s.last_id (2 ^ 64 - 1) (and_parts (none_waits s.pending) (nat_lt s.last_id (2 ^ 64 - 1)) may.can).1
 
   mine : r.client ≡ k
   mine = (inv.clients k).number
 
   after_here : d.clients k ≡ submitted s r
-  after_here = put_same c.clients k (submitted s r)
+  after_here = put-here c.clients k (submitted s r)
 
   last_ids : (i : ℕ) → (c.clients i).last_id ≤ (d.clients i).last_id
-  last_ids = put_all (λ i t. (c.clients i).last_id ≤ t.last_id) c.clients k (submitted s r) (omega arith) (λ i a. omega arith)
+  last_ids = put-all (λ i t. (c.clients i).last_id ≤ t.last_id) c.clients k (submitted s r) (omega arith) (λ i a. omega arith)
 
   new_last : (d.clients r.client).last_id ≡ s.last_id + 1
   new_last = subst (λ (i : ℕ). (d.clients i).last_id ≡ s.last_id + 1) (sym mine) (ap (λ (t : ClientState). t.last_id) after_here)
@@ -83,7 +80,7 @@ module _ {S : Type 0} (m : Meaning S) (f : ℕ) (c : Conf) (inv : Inv m f c) (k 
   Done i t = (id : ℕ) (result : List ℕ) → Has c.lines (Accept i id result) → (q : Request) → t.pending ≡ Some q → q.id ≡ id → ⊥
 
   done : (i : ℕ) → Done i (d.clients i)
-  done = put_all Done c.clients k (submitted s r)
+  done = put-all Done c.clients k (submitted s r)
       (λ id result h q e same.
       let low : id ≤ s.last_id = inv.lines.accepted_ids k id result h in
       let new : r ≡ q = cc in
@@ -112,24 +109,24 @@ module _ {S : Type 0} (m : Meaning S) (f : ℕ) (c : Conf) (inv : Inv m f c) (k 
     number = (inv.clients k).number;
     replicas = (inv.clients k).replicas;
     pending = λ q e. let same : r ≡ q = cc in subst (λ (x : Request). (x.client ≡ k) × (x.id ≡ s.last_id + 1) × WasSubmitted d x) same (mine, refl, known);
-    kept = λ p i. absurd (has_none p i);
+    kept = λ p i. absurd (Has-none p i);
     once = λ i. omega arith;
   }
 
   pub submit_keeps : Keeps m f c d
   submit_keeps = outside_keeps m f c inv (record { sequencers = c.sequencers; clients = d.clients; requests = d.requests; stamps = c.stamps; lines = d.lines })
       (record {
-        requests = λ x i. has_rest x r c.requests i;
+        requests = λ x i. Has-rest x r c.requests i;
         stamps = λ p i. i;
         lines = (Submit r ∷ [], refl);
         sequencers = λ j. onward_refl (c.sequencers j);
         last_ids = last_ids;
       })
       (λ ev. record {
-        requests = λ x i. elim (has_cases x r c.requests i) [ inl e ↦ inr (subst (TrueRequest d) (sym e) true_request) | inr old ↦ inl old ];
+        requests = λ x i. elim (Has-cases x r c.requests i) [ inl e ↦ inr (subst (TrueRequest d) (sym e) true_request) | inr old ↦ inl old ];
         stamps = λ p i. inl i;
         stamped_once = inv.stamped_once;
         sequencers = inv.sequencers;
         lines = good_lines ev;
-        clients = put_all (GoodClient f d) c.clients k (submitted s r) good_client (λ i a. client_lasts m f c d ev i (c.clients i) (inv.clients i));
+        clients = put-all (GoodClient f d) c.clients k (submitted s r) good_client (λ i a. client_lasts m f c d ev i (c.clients i) (inv.clients i));
       })

@@ -2,6 +2,7 @@
 use Rattle.std.proofs.Common.{◌≡◌, ℕ, suc, ◌+◌, ◌*◌, ◌<◌, ◌≤◌, Bool, true, false, Option, Some, None, refl, sym, ap, subst, ◌∙◌, arith, inl, inr, length, length-append, List, [], ◌∷◌, ◌++◌}
 use Rattle.std.specs.Prelude.{◌-◌, ◌&&◌, nat_lt}
 use Rattle.std.proofs.lemmas.Bool.Decides.{nat_tests}
+use Rattle.std.proofs.lemmas.Bool.{ltb-true, and_parts, eq-eqb}
 use Rattle.nop_types.specs.declared.limits.TheConstants.{MAX_SLOTS, MAX_RESULT_BYTES, NUMBER_END}
 use Rattle.nop_types.specs.declared.view.View.{View}
 use Rattle.nop_types.specs.declared.request.Request.{Request}
@@ -16,13 +17,13 @@ use Rattle.nop_types.specs.Meaning.{Meaning}
 use Rattle.nop_types.specs.Ranges.{RequestFits}
 use Rattle.nop_types.specs.Stamps.{WasStamped}
 use Rattle.nop_types.specs.Views.{leader_of}
-use Rattle.histories.proofs.Lists.{Has-one, Has-append_cases}
+use Rattle.facts.proofs.Members.{Has-one, Has-append_cases, Has-none}
+use Rattle.facts.proofs.Prefixes.{IsPrefixOf-trans}
+use Rattle.facts.proofs.Slots.{slot_of-last, slot_of-push_cases}
+use Rattle.facts.proofs.Options.{same_Some-at}
 use Rattle.oum_receiver.proofs.Stamps.{front_stamped, taken_stamped}
 use Rattle.started_views.specs.Past.{HadLog, LeaderHad}
-use Rattle.started_views.proofs.Lists.{has_none}
 use Rattle.started_views.proofs.Logs.{toward_append}
-use Rattle.started_views.proofs.Past.{both_true, is_same_from}
-use Rattle.started_views.proofs.Slots.{prefix_trans, slot_last, slot_push_cases}
 use Rattle.world.specs.declared.replica_state.ReplicaState.{ReplicaState}
 use Rattle.world.specs.ReplicaSteps.{leads, is_normal, has_room, logged}
 use Rattle.safety.specs.Answers.{ResultsShort}
@@ -31,7 +32,7 @@ use Rattle.safety.specs.Evolves.{Evolves}
 use Rattle.safety.specs.Moves.{take, MayTake, reply_with, leader_replies, replies_if}
 use Rattle.safety.specs.Invariant.{WasSubmitted, GoodLog, TrueReply, Own, Inv}
 use Rattle.safety.proofs.Local.{Keeps, Turns, local_keeps}
-use Rattle.safety.proofs.Stays.{some_same, log_lasts, own_lasts, stamped_lasts, submitted_lasts}
+use Rattle.safety.proofs.Stays.{log_lasts, own_lasts, stamped_lasts, submitted_lasts}
 
 -- there is room in Normal, below the limits of the log and of numbers
 pub record Room (p : ReplicaState) : Type 0 where
@@ -42,14 +43,11 @@ normal_from : (s : Phase) → is_normal s ≡ true → s ≡ Normal
 normal_from Normal e = refl
 normal_from Change e = absurd cc
 
-less_from : (a b : ℕ) → nat_lt a b ≡ true → a < b
-less_from a b e = grind (arith, nat_tests, e)
-
 pub room_from : (p : ReplicaState) → has_room p ≡ true → Room p
 room_from p e =
-    let a = both_true (is_normal p.status) (nat_lt (length p.log) MAX_SLOTS && nat_lt p.next NUMBER_END) e in
-    let b = both_true (nat_lt (length p.log) MAX_SLOTS) (nat_lt p.next NUMBER_END) a.1 in
-    record { normal = normal_from p.status a.0; slots = less_from (length p.log) MAX_SLOTS b.0 }
+    let a = and_parts (is_normal p.status) (nat_lt (length p.log) MAX_SLOTS && nat_lt p.next NUMBER_END) e in
+    let b = and_parts (nat_lt (length p.log) MAX_SLOTS) (nat_lt p.next NUMBER_END) a.1 in
+    record { normal = normal_from p.status a.0; slots = ltb-true (length p.log) MAX_SLOTS b.0 }
 
 pub push_length : (l : List Entry) (x : Entry) → length (l ++ x ∷ []) ≡ suc (length l)
 push_length l x = omega (arith, length-append l (x ∷ []))
@@ -95,11 +93,11 @@ module _ {S : Type 0} (m : Meaning S) (f : ℕ) (few : f ≤ 3) (short : Results
     own = own_lasts m f c d ev r p (inv.own r within)
 
     same_start : good.start ≡ own.start
-    same_start = some_same (d.past.start p.last_normal) good.start own.start good.is_start own.is_start
+    same_start = same_Some-at (d.past.start p.last_normal) good.start own.start good.is_start own.is_start
 
     numbered : (k : ℕ) (x : Request) → length good.start.log < k → slot_of l k ≡ Some (Req x) → WasStamped d.stamps p.last_normal.session (good.start.next + (k - length good.start.log - 1)) x
     numbered k x a e =
-        elim (slot_push_cases p.log (Req q) k (Req x) e) [
+        elim (slot_of-push_cases p.log (Req q) k (Req x) e) [
           | inl (at, this) ↦
               let counted : p.next + length good.start.log ≡ good.start.next + length p.log = subst (λ y. p.next + length y.log ≡ y.next + length p.log) (sym same_start) own.counted in
               let number : good.start.next + (k - length good.start.log - 1) ≡ p.next = omega (arith, counted, at, a) in
@@ -109,7 +107,7 @@ module _ {S : Type 0} (m : Meaning S) (f : ℕ) (few : f ≤ 3) (short : Results
 
     no_noop : (k : ℕ) → length good.start.log < k → slot_of l k ≡ Some NoOp → ⊥
     no_noop k a e =
-        elim (slot_push_cases p.log (Req q) k NoOp e) [
+        elim (slot_of-push_cases p.log (Req q) k NoOp e) [
           | inl (at, this) ↦ absurd cc
           | inr old ↦ good.requests k a old
         ]
@@ -127,7 +125,7 @@ module _ {S : Type 0} (m : Meaning S) (f : ℕ) (few : f ≤ 3) (short : Results
       is_start = good.is_start;
       lead = k;
       leads = led;
-      begins = prefix_trans good.start.log p.log l good.begins (Req q ∷ [], refl);
+      begins = IsPrefixOf-trans good.start.log p.log l good.begins (Req q ∷ [], refl);
       by_number = numbered;
       noops = λ i a e. absurd (no_noop i a e);
       requests = no_noop;
@@ -172,12 +170,12 @@ module _ {S : Type 0} (m : Meaning S) (f : ℕ) (few : f ≤ 3) (short : Results
       had = subst (λ (i : ℕ). HadLog d.past i p.view l) (sym own.number) (subst (λ (w : View). HadLog d.past r w l) now had);
       within = omega (arith, push_length p.log (Req q));
       tag = tagged;
-      leads = λ s. (q, (let e : suc (length p.log) ≡ length p.log + 1 = omega arith in subst (λ (i : ℕ). slot_of l i ≡ Some (Req q)) e (slot_last p.log (Req q))), record { same_client = refl; same_id = refl });
+      leads = λ s. (q, (let e : suc (length p.log) ≡ length p.log + 1 = omega arith in subst (λ (i : ℕ). slot_of l i ≡ Some (Req q)) e (slot_of-last p.log (Req q))), record { same_client = refl; same_id = refl });
       gives = gives;
     }
 
     leader_true : (o : Option (List ℕ)) → result_at m l (length p.log + 1) ≡ o → (y : Reply) → Has (leader_replies (logged p q) (length p.log + 1) q o) y → TrueReply m f d y
-    leader_true None e y i = absurd (has_none y i)
+    leader_true None e y i = absurd (Has-none y i)
     leader_true (Some result) e y i =
         subst (TrueReply m f d) (sym (Has-one y (reply_with (logged p q) (length p.log + 1) q 1 result) i))
         (reply_true 1 result (omega arith) (short l (length p.log + 1) result e) (λ n. absurd (omega (arith, n))) (λ s. refl) (λ s. e))
@@ -186,7 +184,7 @@ module _ {S : Type 0} (m : Meaning S) (f : ℕ) (few : f ≤ 3) (short : Results
     no_leader : leads (logged p q) ≡ false → p.number ≡ leader_of p.view (2 * f + 1) → ⊥
     no_leader e s =
         let same : leader_of p.view p.config.replicas ≡ p.number = ap (λ (n : ℕ). leader_of p.view n) own.replicas ∙ sym s in
-        let yes : leads (logged p q) ≡ true = is_same_from (leader_of p.view p.config.replicas) p.number same in
+        let yes : leads (logged p q) ≡ true = eq-eqb (leader_of p.view p.config.replicas) p.number same in
         absurd cc
 
     replies_true : (b : Bool) → leads (logged p q) ≡ b → (y : Reply) → Has (replies_if m b (logged p q) (length p.log + 1) q) y → TrueReply m f d y

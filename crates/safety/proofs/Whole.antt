@@ -1,11 +1,12 @@
 -- Each run is safe.
 use Rattle.std.proofs.Common.{◌≡◌, ℕ, zero, suc, ◌+◌, ◌≤◌, true, Some, refl, sym, ap, subst, ◌∙◌, arith, length, List, [], ◌∷◌, ◌++◌, take, drop}
 use Rattle.std.specs.Prelude.{Result, Ok, slice_get}
+use Rattle.std.proofs.lemmas.List.{drop_all}
 use Rattle.nop_types.specs.Configuration.{Configuration, is_configuration}
 use Rattle.nop_types.specs.Legality.{Legal}
 use Rattle.nop_types.specs.Lines.{Line}
 use Rattle.nop_types.specs.Meaning.{Meaning}
-use Rattle.histories.proofs.Lists.{splits}
+use Rattle.facts.proofs.Places.{Splits-at}
 use Rattle.schedule_text.specs.declared.event.Event.{Event}
 use Rattle.schedule_text.specs.Fits.{EventFits, EventsFit}
 use Rattle.world.specs.Agreement.{Agreed}
@@ -42,7 +43,7 @@ fit_more (suc i) (x ∷ es) e at fits one = (fits.0, fit_more i es e at fits.1 o
 
 running_next : {S : Type 0} (m : Meaning S) (config : Configuration) (es : List Event) (w v : WorldState) (more : List Line) (i : ℕ) (e : Event) → slice_get es i ≡ Some e → EventFits e → step m w e ≡ Ok (record { world = v; lines = more }) → Running m config es w i → Running m config es v (suc i)
 running_next m config es w v more i e at fits is r =
-    let rest : drop i es ≡ e ∷ drop (suc i) es = (splits es i e at).back in
+    let rest : drop i es ≡ e ∷ drop (suc i) es = (Splits-at es i e at).back in
     let on : run_from m r.lines w (e ∷ drop (suc i) es) ≡ run_from m (r.lines ++ more) v (drop (suc i) es) = ap (λ (x : Result Happened Refusal). go_on m r.lines x (λ ls u. run_from m ls u (drop (suc i) es))) is in
     record {
       lines = r.lines ++ more;
@@ -60,13 +61,7 @@ all_taken [] i low fits = tt
 all_taken (x ∷ es) zero low fits = absurd (omega (arith, low))
 all_taken (x ∷ es) (suc i) low fits = (fits.0, all_taken es i (omega (arith, low)) fits.1)
 
-none_left : (es : List Event) (i : ℕ) → length es ≤ i → drop i es ≡ []
-none_left [] zero low = refl
-none_left [] (suc i) low = refl
-none_left (x ∷ es) zero low = absurd (omega (arith, low))
-none_left (x ∷ es) (suc i) low = none_left es i (omega (arith, low))
-
 pub run_led : {S : Type 0} (m : Meaning S) → ResultsShort m → (config : Configuration) → is_configuration config ≡ true → (es : List Event) (w : WorldState) (i : ℕ) → length es ≤ i → Running m config es w i → LeadTo m config es w
 run_led m short config is_one es w i low r =
-    let is : run m config es ≡ Ok (record { world = w; lines = r.lines }) = sym r.goes ∙ ap (λ (xs : List Event). run_from m r.lines w xs) (none_left es i low) in
+    let is : run m config es ≡ Ok (record { world = w; lines = r.lines }) = sym r.goes ∙ ap (λ (xs : List Event). run_from m r.lines w xs) (drop_all i es low) in
     record { lines = r.lines; is = is; safely = runs_are_safe m short config es (record { world = w; lines = r.lines }) is_one (all_taken es i low r.fit) is }

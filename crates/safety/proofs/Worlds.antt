@@ -13,14 +13,13 @@ use Rattle.nop_types.specs.Given.{Packet, Submit}
 use Rattle.nop_types.specs.Lines.{Line, Dead}
 use Rattle.nop_types.specs.Lists.{Has}
 use Rattle.nop_types.specs.Meaning.{Meaning}
+use Rattle.facts.proofs.Members.{Has-append_cases, Has-one, Has-none}
 use Rattle.histories.specs.Legality.{IsOtherLine}
-use Rattle.histories.proofs.Lists.{Has-append_cases, Has-one}
 use Rattle.oum_codec.specs.Reading.{reading}
 use Rattle.oum_codec.proofs.Datagrams.{reads_again}
 use Rattle.schedule_text.specs.declared.event.Event.{Event}
 use Rattle.schedule_text.specs.declared.event.Event.TheVariants as events
 use Rattle.started_views.specs.Past.{Past, note}
-use Rattle.started_views.proofs.Lists.{has_none}
 use Rattle.world.specs.declared.client.ClientState.{ClientState}
 use Rattle.world.specs.declared.controller.ControllerState.{ControllerState}
 use Rattle.world.specs.declared.replica_state.ReplicaState.{ReplicaState}
@@ -155,7 +154,7 @@ module _ {S : Type 0} (m : Meaning S) (f : ℕ) (few : f ≤ 3) (short : Results
   ]
 
   none_sent : (s : Sent) → Has (w.sent ++ []) s → Carries c s.bytes
-  none_sent s i = old_sent [] c idle (λ x j. absurd (has_none x j)) s i
+  none_sent s i = old_sent [] c idle (λ x j. absurd (Has-none x j)) s i
 
   none_more : (x : Datagram) → WasSent c x → IsThere (w.sent ++ []) x
   none_more x h = subst (λ (t : List Sent). IsThere t x) (sym (append-nil w.sent)) (shown.all x h)
@@ -253,7 +252,7 @@ module _ {S : Type 0} (m : Meaning S) (f : ℕ) (few : f ≤ 3) (short : Results
   -- ---- a crash
 
   no_line : MayTell []
-  no_line line i = absurd (has_none line i)
+  no_line line i = absurd (Has-none line i)
 
   crash_replica : (i : ℕ) (old : Seated ReplicaState) (b : Bool) → slice_get w.replicas i ≡ Some old → Later m f (passes p (at_replica w i (crashed_by old.state b))) c
   crash_replica i old true e = quiet_replica i old (crashed_by old.state true).0 Nothing e refl refl (dead_line (actors.Replica i))

@@ -1,5 +1,5 @@
 -- The actors, what was sent, and the past beside them.
-use Rattle.std.specs.Prelude.{◌==◌, ℕ, cond, List, ◌++◌}
+use Rattle.std.specs.Prelude.{ℕ, List, ◌++◌}
 use Rattle.nop_types.specs.declared.request.Request.{Request}
 use Rattle.nop_types.specs.declared.datagram.Stamped.{Stamped}
 use Rattle.nop_types.specs.declared.datagram.Reply.{Reply}
@@ -7,6 +7,7 @@ use Rattle.nop_types.specs.declared.datagram.Datagram.{Datagram}
 use Rattle.nop_types.specs.declared.datagram.Datagram.TheVariants as datagrams
 use Rattle.nop_types.specs.Lines.{Line}
 use Rattle.nop_types.specs.Lists.{Has}
+use Rattle.facts.specs.Functions.{put}
 use Rattle.started_views.specs.Past.{Past, Standing, note}
 use Rattle.world.specs.declared.client.ClientState.{ClientState}
 use Rattle.world.specs.declared.replica_state.ReplicaState.{ReplicaState}
@@ -22,10 +23,6 @@ pub record Conf : Type 0 where
   pub replies : List Reply
   pub lines : List Line
   pub past : Past
-
--- one place of a function changes
-abbrev pub put : {S : Type 0} → (ℕ → S) → ℕ → S → ℕ → S
-put states r p q = cond (q == r) p (states q)
 
 -- what is noted of a replica; so far each view is started with an empty log
 abbrev pub standing : ReplicaState → Standing

@@ -8,6 +8,7 @@ use Rattle.nop_types.specs.Execution.{result_at}
 use Rattle.nop_types.specs.Lines.{Line, Submit, Accept}
 use Rattle.nop_types.specs.Lists.{Has}
 use Rattle.nop_types.specs.Meaning.{Meaning}
+use Rattle.facts.specs.Functions.{put}
 use Rattle.histories.specs.Legality.{IsOtherLine}
 use Rattle.oum_receiver.specs.declared.verdict.Verdict.TheVariants.{Queued}
 use Rattle.oum_receiver.specs.Front.{Message}
@@ -16,7 +17,7 @@ use Rattle.world.specs.declared.replica_state.ReplicaState.{ReplicaState}
 use Rattle.world.specs.ReplicaSteps.{leads, has_room, logged, offer}
 use Rattle.world.specs.SequencerSteps.{can_stamp, stamped, after_stamp}
 use Rattle.world.specs.ClientSteps.{can_submit, request_of, submitted, is_expected, kept, quorum_of, accepts}
-use Rattle.safety.specs.Conf.{Conf, Effect, put}
+use Rattle.safety.specs.Conf.{Conf, Effect}
 
 -- ---- a replica
 

@@ -2,6 +2,7 @@
 use Rattle.std.proofs.Common.{◌≡◌, ℕ, ◌+◌, ◌*◌, ◌≤◌, Bool, true, false, Option, Some, None, refl, sym, ap, subst, ◌∙◌, arith, length, List, [], ◌∷◌}
 use Rattle.std.specs.Prelude.{codes, nat_le, Result, Ok, Err, if◌then◌else◌}
 use Rattle.std.proofs.lemmas.Bool.Decides.{nat_tests}
+use Rattle.std.proofs.lemmas.Bool.{leb-true}
 use Rattle.hex.specs.Hex.{decode_of}
 use Rattle.hex.specs.declared.error.FromHexError.{FromHexError}
 use Rattle.hex.proofs.HexLemmas.{decode_of-ok}
@@ -27,9 +28,6 @@ test_ok : (rule : ℕ) (b c : Bool) → keeps_rule rule b ≡ Ok c → b ≡ tru
 test_ok rule true c e = refl
 test_ok rule false c e = absurd cc
 
-at_least : (a b : ℕ) → nat_le a b ≡ true → a ≤ b
-at_least a b e = grind (arith, nat_tests, e)
-
 -- ---- ops
 
 decoded : (r : Result (List ℕ) FromHexError) (bytes : List ℕ) → as_option r ≡ Some bytes → r ≡ Ok bytes
@@ -50,7 +48,7 @@ submit_fits c client op e h =
     let a = then_ok (keeps_rule 5 (nat_le (length op) max_op_text)) _ e h in
     let b = then_ok (or_rule 6 (bytes_of op)) _ e a.2 in
     let d = then_ok (or_rule 7 (client_number (actor_of c client))) _ e b.2 in
-    let low = at_least (length op) max_op_text (test_ok 5 (nat_le (length op) max_op_text) a.0 a.1) in
+    let low = leb-true (length op) max_op_text (test_ok 5 (nat_le (length op) max_op_text) a.0 a.1) in
     let small = bytes_short op b.0 (value_ok 6 (bytes_of op) b.0 b.1) in
     let is : Submit d.0 b.0 ≡ e = (let g = d.2 in cc) in
     subst EventFits is (omega (arith, low, small))

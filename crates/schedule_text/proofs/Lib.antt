@@ -4,7 +4,6 @@ pub mod Filled
 pub mod Firsts
 pub mod Fitting
 pub mod LineLemmas
-pub mod Prefix
 pub mod Searched
 pub mod SplitLemmas
 pub mod Takings

@@ -1,7 +1,7 @@
 -- No session and number is stamped twice.
 use Rattle.std.proofs.Common.{◌≡◌, ◌≤◌, ◌+◌, ℕ, zero, suc, List, [], ◌∷◌, ◌++◌, refl, ap, sym, subst, ◌∙◌, Some, None, Bool, true, false, cond, Result, Ok, Err, arith}
 use Rattle.std.specs.Prelude.{slice_get, nat_lt}
-use Rattle.std.proofs.lemmas.Option.{none-some}
+use Rattle.std.proofs.lemmas.Option.{none-some, same_Some}
 use Rattle.nop_types.specs.Given.{Given, Packet, Ticked, Submit}
 use Rattle.nop_types.specs.declared.request.Request.{Request}
 use Rattle.nop_types.specs.declared.datagram.Stamped.{Stamped}
@@ -20,9 +20,6 @@ record IsAhead (s : SequencerState) (p : Stamped) : Type 0 where
 
 abbrev AreAhead : SequencerState → List Stamped → Type 0
 AreAhead s ps = (j : ℕ) (p : Stamped) → slice_get ps j ≡ Some p → IsAhead s p
-
-some_same : {A : Type 0} (x y : A) → Some x ≡ Some y → x ≡ y
-some_same x y e = cc
 
 -- ---- what is stamped later is ahead
 
@@ -44,7 +41,7 @@ ping_ahead false s round p h = h
 -- ---- a request
 
 packet_first : (b : Bool) (s : SequencerState) (r : Request) (ps : List Stamped) → AreAhead (cond b (record s { next = s.next + 1 }) s) ps → AreAhead s (one_or_none (cond b (Some (stamped s r)) None) ++ ps)
-packet_first true s r ps rest zero p e = subst (IsAhead s) (some_same _ p e) (record { session = omega arith; number = λ _. omega arith })
+packet_first true s r ps rest zero p e = subst (IsAhead s) (same_Some _ p e) (record { session = omega arith; number = λ _. omega arith })
 packet_first true s r ps rest (suc j) p e = after_number s p (rest j p e)
 packet_first false s r ps rest j p e = rest j p e
 
@@ -88,8 +85,8 @@ passed s r p q is h same number =
 
 packet_once : (b : Bool) (s : SequencerState) (r : Request) (ps : List Stamped) → AreAhead (cond b (record s { next = s.next + 1 }) s) ps → AreOnce ps → AreOnce (one_or_none (cond b (Some (stamped s r)) None) ++ ps)
 packet_once true s r ps ahead once zero zero p q e f session number = refl
-packet_once true s r ps ahead once zero (suc j) p q e f session number = absurd (passed s r p q (some_same _ p e) (ahead j q f) session number)
-packet_once true s r ps ahead once (suc i) zero p q e f session number = absurd (passed s r q p (some_same _ q f) (ahead i p e) (sym session) (sym number))
+packet_once true s r ps ahead once zero (suc j) p q e f session number = absurd (passed s r p q (same_Some _ p e) (ahead j q f) session number)
+packet_once true s r ps ahead once (suc i) zero p q e f session number = absurd (passed s r q p (same_Some _ q f) (ahead i p e) (sym session) (sym number))
 packet_once true s r ps ahead once (suc i) (suc j) p q e f session number = ap suc (once i j p q e f session number)
 packet_once false s r ps ahead once i j p q e f session number = once i j p q e f session number
 

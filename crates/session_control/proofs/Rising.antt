@@ -1,7 +1,7 @@
 -- The sessions of the moves rise, and the last move is what the state has.
 use Rattle.std.proofs.Common.{◌≡◌, ◌≤◌, ◌<◌, ◌+◌, ℕ, zero, suc, List, [], ◌∷◌, ◌++◌, refl, ap, sym, subst, ◌∙◌, Some, Bool, true, false, cond, Result, Ok, Err, arith}
 use Rattle.std.specs.Prelude.{◌==◌, ◌&&◌, slice_get, nat_lt, nat_le}
-use Rattle.std.proofs.lemmas.Option.{none-some}
+use Rattle.std.proofs.lemmas.Option.{none-some, same_Some}
 use Rattle.nop_types.specs.Given.{Given, Packet, Ticked, Submit}
 use Rattle.nop_types.specs.declared.input.Tick.{Tick}
 use Rattle.nop_types.specs.declared.input.Tick.TheVariants as ticks
@@ -91,12 +91,9 @@ pub moves_rise : (s : ControllerState) (inputs : List Given) → AreRising s.ses
 moves_rise s [] = tt
 moves_rise s (i ∷ is) = rising_at ((next s i).0.session == s.session) s (next s i).0 (moves (next s i).0 is) refl (goes_on s i) (moves_rise (next s i).0 is)
 
-some_same : {A : Type 0} (x y : A) → Some x ≡ Some y → x ≡ y
-some_same x y e = cc
-
 all_above : (n : ℕ) (ms : List Move) → AreRising n ms → (i : ℕ) (a : Move) → slice_get ms i ≡ Some a → n < a.session
 all_above n [] rising i a e = absurd (none-some a e)
-all_above n (m ∷ ms) rising zero a e = subst (λ (x : Move). n < x.session) (some_same m a e) rising.0
+all_above n (m ∷ ms) rising zero a e = subst (λ (x : Move). n < x.session) (same_Some m a e) rising.0
 all_above n (m ∷ ms) rising (suc i) a e = let low : m.session < a.session = all_above m.session ms rising.1 i a e in omega (arith, rising.0, low)
 
 apart : (n : ℕ) (ms : List Move) (m : Move) → AreRising m.session ms → (i : ℕ) (a b : Move) → m ≡ a → slice_get ms i ≡ Some b → a.session ≡ b.session → ⊥
@@ -108,8 +105,8 @@ apart n ms m rising i a b is e same =
 rising_once : (n : ℕ) (ms : List Move) → AreRising n ms → (i j : ℕ) (a b : Move) → slice_get ms i ≡ Some a → slice_get ms j ≡ Some b → a.session ≡ b.session → i ≡ j
 rising_once n [] rising i j a b e f same = absurd (none-some a e)
 rising_once n (m ∷ ms) rising zero zero a b e f same = refl
-rising_once n (m ∷ ms) rising zero (suc j) a b e f same = absurd (apart n ms m rising.1 j a b (some_same m a e) f same)
-rising_once n (m ∷ ms) rising (suc i) zero a b e f same = absurd (apart n ms m rising.1 i b a (some_same m b f) e (sym same))
+rising_once n (m ∷ ms) rising zero (suc j) a b e f same = absurd (apart n ms m rising.1 j a b (same_Some m a e) f same)
+rising_once n (m ∷ ms) rising (suc i) zero a b e f same = absurd (apart n ms m rising.1 i b a (same_Some m b f) e (sym same))
 rising_once n (m ∷ ms) rising (suc i) (suc j) a b e f same = ap suc (rising_once m.session ms rising.1 i j a b e f same)
 
 pub moves_once : (s : ControllerState) (inputs : List Given) (i j : ℕ) (a b : Move) → slice_get (moves s inputs) i ≡ Some a → slice_get (moves s inputs) j ≡ Some b → a.session ≡ b.session → i ≡ j

@@ -16,7 +16,9 @@ sync_fixes f past w m s h =
       leads = h.leads;
       within = h.within;
       reached = quorum_weaker f (HadSame past w s m) (Reached past w s) (λ r g. (g.0, g.1, g.2.left)) same;
-      noops = λ k x is above le e. quorum_weaker f (HadSame past w s m) (HadNoOp past w k) (λ r g. (g.0, g.1, same_slot s g.0 m k NoOp g.2 le e)) same;
+      noops =
+          λ k x is above le e.
+          quorum_weaker f (HadSame past w s m) (HadNoOp past w k) (λ r g. (g.0, g.1, same_slot s g.0 m k NoOp g.2 le e)) same;
     }
 
 pub accept_fixes : AcceptFixes

@@ -3,7 +3,6 @@ pub mod Changes
 pub mod Fixing
 pub mod Growing
 pub mod Keeping
-pub mod Lists
 pub mod Logs
 pub mod Merges
 pub mod Opening
@@ -12,6 +11,4 @@ pub mod Passing
 pub mod Past
 pub mod Pasts
 pub mod Quorums
-pub mod Slots
-pub mod Views
 pub mod Worked

@@ -9,8 +9,8 @@ use Rattle.started_views.specs.Parts.{SamePast, InParts}
 use Rattle.started_views.proofs.Past.{Enters, Starts, note_log_here, note_log_places, note_entry_here, note_entry_places, note_entry_same, note_start_here, note_start_places, note_start_same}
 
 -- what stands at one place stands at an equal one
-moved : {A : Type 0} (g : ℕ → View → A) (x : A) (q r : ℕ) (w v : View) → q ≡ r → w ≡ v → g r v ≡ x → g q w ≡ x
-moved g x q r w v e d h = subst (λ i. g i w ≡ x) (sym e) (subst (λ u. g r u ≡ x) (sym d) h)
+same_place : {A : Type 0} (g : ℕ → View → A) (x : A) (q r : ℕ) (w v : View) → q ≡ r → w ≡ v → g r v ≡ x → g q w ≡ x
+same_place g x q r w v e d h = subst (λ i. g i w ≡ x) (sym e) (subst (λ u. g r u ≡ x) (sym d) h)
 
 module _ (f : ℕ) (p : Past) (r : ℕ) (a b c : Standing) (h : InParts f p r a b c) where
   abbrev middle : Past
@@ -23,7 +23,9 @@ module _ (f : ℕ) (p : Past) (r : ℕ) (a b c : Standing) (h : InParts f p r a 
   whole = note f p r a c
 
   log_at : (q : ℕ) (w : View) → q ≡ r → w ≡ c.last_normal → parts.log q w ≡ whole.log q w
-  log_at q w e d = moved parts.log (Some c.log) q r w c.last_normal e d (note_log_here f middle r b c) ∙ sym (moved whole.log (Some c.log) q r w c.last_normal e d (note_log_here f p r a c))
+  log_at q w e d =
+      same_place parts.log (Some c.log) q r w c.last_normal e d (note_log_here f middle r b c)
+      ∙ sym (same_place whole.log (Some c.log) q r w c.last_normal e d (note_log_here f p r a c))
 
   logs : (q : ℕ) (w : View) → parts.log q w ≡ whole.log q w
   logs q w =
@@ -36,8 +38,8 @@ module _ (f : ℕ) (p : Past) (r : ℕ) (a b c : Standing) (h : InParts f p r a 
             | inl t ↦ elim h.log [
               | inl same ↦ log_at q w t.0 (t.1 ∙ sym same)
               | inr had ↦
-                  let mid = moved middle.log (Some b.log) q r w b.last_normal t.0 t.1 (note_log_here f p r a b) in
-                  let old = moved p.log (Some b.log) q r w b.last_normal t.0 t.1 had in
+                  let mid = same_place middle.log (Some b.log) q r w b.last_normal t.0 t.1 (note_log_here f p r a b) in
+                  let old = same_place p.log (Some b.log) q r w b.last_normal t.0 t.1 had in
                   two ∙ mid ∙ sym old ∙ sym one
             ]
           ]
@@ -48,8 +50,10 @@ module _ (f : ℕ) (p : Past) (r : ℕ) (a b c : Standing) (h : InParts f p r a 
   module _ (same : c.view ≡ b.view) where
     entry_first : (q : ℕ) (w : View) → Enters a b → q ≡ r → w ≡ b.view → middle.entry q w ≡ whole.entry q w
     entry_first q w enters e d =
-        moved middle.entry (Some (entered_with a)) q r w b.view e d (note_entry_here f p r a b enters)
-        ∙ sym (moved whole.entry (Some (entered_with a)) q r w c.view e (d ∙ sym same) (note_entry_here f p r a c (λ t. enters (sym same ∙ t))))
+        same_place middle.entry (Some (entered_with a)) q r w b.view e d (note_entry_here f p r a b enters)
+        ∙ sym
+            (same_place whole.entry (Some (entered_with a)) q r w c.view e (d
+            ∙ sym same) (note_entry_here f p r a c (λ t. enters (sym same ∙ t))))
 
     entries_first : (q : ℕ) (w : View) → parts.entry q w ≡ whole.entry q w
     entries_first q w =
@@ -66,9 +70,9 @@ module _ (f : ℕ) (p : Past) (r : ℕ) (a b c : Standing) (h : InParts f p r a 
   module _ (same : b.view ≡ a.view) (with : entered_with b ≡ entered_with a) where
     entry_second : (q : ℕ) (w : View) → Enters b c → q ≡ r → w ≡ c.view → parts.entry q w ≡ whole.entry q w
     entry_second q w enters e d =
-        moved parts.entry (Some (entered_with b)) q r w c.view e d (note_entry_here f middle r b c enters)
+        same_place parts.entry (Some (entered_with b)) q r w c.view e d (note_entry_here f middle r b c enters)
         ∙ ap (λ (t : Entered). Some t) with
-        ∙ sym (moved whole.entry (Some (entered_with a)) q r w c.view e d (note_entry_here f p r a c (λ t. enters (t ∙ sym same))))
+        ∙ sym (same_place whole.entry (Some (entered_with a)) q r w c.view e d (note_entry_here f p r a c (λ t. enters (t ∙ sym same))))
 
     entries_second : (q : ℕ) (w : View) → parts.entry q w ≡ whole.entry q w
     entries_second q w =
@@ -88,7 +92,10 @@ module _ (f : ℕ) (p : Past) (r : ℕ) (a b c : Standing) (h : InParts f p r a 
     start_second : (w : View) → Starts f r b c → w ≡ c.last_normal → parts.start w ≡ whole.start w
     start_second w s d =
         subst (λ u. parts.start u ≡ whole.start u) (sym d)
-        (note_start_here f middle r b c s ∙ sym (note_start_here f p r a c (record { adopts = λ t. s.adopts (t ∙ sym same); leads = s.leads })))
+        (note_start_here f middle r b c s ∙ sym (note_start_here f p r a c (record {
+          adopts = λ t. s.adopts (t ∙ sym same);
+          leads = s.leads;
+        })))
 
     starts_second : (w : View) → parts.start w ≡ whole.start w
     starts_second w =
@@ -105,8 +112,13 @@ module _ (f : ℕ) (p : Past) (r : ℕ) (a b c : Standing) (h : InParts f p r a 
     start_first : (w : View) → Starts f r a b → w ≡ b.last_normal → middle.start w ≡ whole.start w
     start_first w s d =
         let leads : r ≡ leader_of c.last_normal (2 * f + 1) = s.leads ∙ ap (λ (u : View). leader_of u (2 * f + 1)) (sym same) in
-        let mid : middle.start w ≡ Some (started_with b) = subst (λ u. middle.start u ≡ Some (started_with b)) (sym d) (note_start_here f p r a b s) in
-        let all : whole.start w ≡ Some (started_with c) = subst (λ u. whole.start u ≡ Some (started_with c)) (same ∙ sym d) (note_start_here f p r a c (record { adopts = λ t. s.adopts (sym same ∙ t); leads = leads })) in
+        let mid : middle.start w ≡ Some (started_with b) =
+            subst (λ u. middle.start u ≡ Some (started_with b)) (sym d) (note_start_here f p r a b s) in
+        let all : whole.start w ≡ Some (started_with c) =
+            subst (λ u. whole.start u ≡ Some (started_with c)) (same ∙ sym d) (note_start_here f p r a c (record {
+              adopts = λ t. s.adopts (sym same ∙ t);
+              leads = leads;
+            })) in
         mid ∙ ap (λ (t : Start). Some t) (sym (keeps leads)) ∙ sym all
 
     starts_first : (w : View) → parts.start w ≡ whole.start w
@@ -115,7 +127,10 @@ module _ (f : ℕ) (p : Past) (r : ℕ) (a b c : Standing) (h : InParts f p r a 
         ∙ elim (note_start_places f p r a b w) [
           | inl t ↦ start_first w t.0 t.1
           | inr three ↦ elim (note_start_places f p r a c w) [
-            | inl t ↦ start_first w (record { adopts = λ u. t.0.adopts (same ∙ u); leads = t.0.leads ∙ ap (λ (u : View). leader_of u (2 * f + 1)) same }) (t.1 ∙ same)
+            | inl t ↦ start_first w (record {
+              adopts = λ u. t.0.adopts (same ∙ u);
+              leads = t.0.leads ∙ ap (λ (u : View). leader_of u (2 * f + 1)) same;
+            }) (t.1 ∙ same)
             | inr one ↦ three ∙ sym one
           ]
         ]
@@ -128,7 +143,8 @@ module _ (f : ℕ) (p : Past) (r : ℕ) (a b c : Standing) (h : InParts f p r a 
   past_of_parts = record { logs = logs; starts = starts; entries = entries }
 
 -- a part that enters a view and changes nothing else, and one that enters none
-pub in_parts_entering : (f : ℕ) (p : Past) (r : ℕ) (a b c : Standing) → b.last_normal ≡ a.last_normal → b.next ≡ a.next → b.log ≡ a.log → HadLog p r a.last_normal a.log → c.view ≡ b.view → InParts f p r a b c
+pub in_parts_entering : (f : ℕ) (p : Past) (r : ℕ) (a b c : Standing) → b.last_normal ≡ a.last_normal → b.next ≡ a.next → b.log ≡ a.log
+    → HadLog p r a.last_normal a.log → c.view ≡ b.view → InParts f p r a b c
 in_parts_entering f p r a b c v n l had e = record {
   log = inr (had_moved b.last_normal b.log v l);
   entry = inl e;
@@ -139,7 +155,8 @@ in_parts_entering f p r a b c v n l had e = record {
     had_moved u k g h = rw (g, h) had
 
 -- any part, and one that stays in the view and keeps what a leader started it with
-pub in_parts_staying : (f : ℕ) (p : Past) (r : ℕ) (a b c : Standing) → c.view ≡ b.view → c.last_normal ≡ b.last_normal → (r ≡ leader_of c.last_normal (2 * f + 1) → started_with c ≡ started_with b) → InParts f p r a b c
+pub in_parts_staying : (f : ℕ) (p : Past) (r : ℕ) (a b c : Standing) → c.view ≡ b.view → c.last_normal ≡ b.last_normal
+    → (r ≡ leader_of c.last_normal (2 * f + 1) → started_with c ≡ started_with b) → InParts f p r a b c
 in_parts_staying f p r a b c e v s = record { log = inl v; entry = inl e; start = inr (v, s) }
 
 -- two pasts that say the same are one

@@ -5,11 +5,11 @@ use Rattle.nop_types.specs.declared.view.View.{View}
 use Rattle.nop_types.specs.declared.request.Entry.TheVariants.{NoOp, Req}
 use Rattle.nop_types.specs.Lists.{IsPrefixOf, slot_of}
 use Rattle.nop_types.specs.Views.{first_view, outranks}
+use Rattle.facts.proofs.Slots.{slot_of-prefix}
 use Rattle.started_views.specs.Past.{Entered, HadLog}
 use Rattle.started_views.specs.Quorums.{counts, Quorum}
 use Rattle.started_views.specs.Settled.{Reached, HadNoOp, Fixed, MainLog}
 use Rattle.started_views.specs.Worked.{second_view, request_of, leader_log, follower_log, worked_last_normal, settled_past, unsettled_past, overrun_past}
-use Rattle.started_views.proofs.Slots.{prefix_slot}
 use Rattle.started_views.proofs.Worked.{Logged, Leader, Follower, Other, Next, logged, views_apart}
 
 -- ---- quorums of the replicas 0 and 1
@@ -17,8 +17,8 @@ use Rattle.started_views.proofs.Worked.{Logged, Leader, Follower, Other, Next, l
 member_low : (k : ℕ) → 1 ≤ counts k (0 ∷ 1 ∷ []) → k < 2
 member_low k h = grind (arith, nat_tests)
 
-both : (P : ℕ → Type 0) → P 0 → P 1 → Quorum 1 P
-both P a b =
+both_are_quorum : (P : ℕ → Type 0) → P 0 → P 1 → Quorum 1 P
+both_are_quorum P a b =
     record {
       members = 0 ∷ 1 ∷ [];
       enough = omega arith;
@@ -39,14 +39,15 @@ settled_fixed =
     record {
       leads = refl;
       within = omega arith;
-      reached = both (Reached settled_past first_view 2) (leader_log, refl, omega arith) (follower_log NoOp, refl, omega arith);
+      reached = both_are_quorum (Reached settled_past first_view 2) (leader_log, refl, omega arith) (follower_log NoOp, refl, omega arith);
       noops = λ k x is above le e. noops k le e;
     }
   where
     noops : (k : ℕ) → k ≤ 2 → slot_of leader_log k ≡ Some NoOp → Quorum 1 (HadNoOp settled_past first_view k)
     noops zero le e = absurd cc
     noops (suc zero) le e = absurd cc
-    noops (suc (suc zero)) le e = both (HadNoOp settled_past first_view 2) (leader_log, refl, refl) (follower_log NoOp, refl, refl)
+    noops (suc (suc zero)) le e =
+        both_are_quorum (HadNoOp settled_past first_view 2) (leader_log, refl, refl) (follower_log NoOp, refl, refl)
     noops (suc (suc (suc k))) le e = absurd (omega (arith, le))
 
 pub settled_main : MainLog 1 worked_last_normal settled_past second_view (follower_log NoOp ++ NoOp ∷ [])
@@ -68,24 +69,28 @@ third_alone r (l, had, long) = at (logged NoOp r first_view l had)
     at (Next w q is) = absurd (views_apart w)
 
 pub third_lost : IsPrefixOf (take 3 leader_log) (follower_log NoOp) → ⊥
-third_lost h = let e = prefix_slot (take 3 leader_log) (follower_log NoOp) 3 (Req (request_of 3)) h refl in absurd cc
+third_lost h = let e = slot_of-prefix (take 3 leader_log) (follower_log NoOp) 3 (Req (request_of 3)) h refl in absurd cc
 
 -- ---- the gap that is not settled
 
 pub unsettled_reached : Quorum 1 (Reached unsettled_past first_view 2)
-unsettled_reached = both (Reached unsettled_past first_view 2) (leader_log, refl, omega arith) (follower_log (Req (request_of 2)), refl, omega arith)
+unsettled_reached =
+    both_are_quorum (Reached unsettled_past first_view 2) (leader_log, refl, omega arith) (follower_log (Req (request_of 2)), refl,
+        omega arith)
 
 pub noop_alone : (r : ℕ) → HadNoOp unsettled_past first_view 2 r → r ≡ 0
 noop_alone r (l, had, e) = at (logged (Req (request_of 2)) r first_view l had)
   where
     at : Logged (Req (request_of 2)) r first_view l → r ≡ 0
     at (Leader w q is) = q
-    at (Follower w q is) = absurd (let g : slot_of (follower_log (Req (request_of 2))) 2 ≡ Some NoOp = subst (λ t. slot_of t 2 ≡ Some NoOp) is e in cc)
-    at (Other w q is) = absurd (let g : slot_of (follower_log (Req (request_of 2))) 2 ≡ Some NoOp = subst (λ t. slot_of t 2 ≡ Some NoOp) is e in cc)
+    at (Follower w q is) =
+        absurd (let g : slot_of (follower_log (Req (request_of 2))) 2 ≡ Some NoOp = subst (λ t. slot_of t 2 ≡ Some NoOp) is e in cc)
+    at (Other w q is) =
+        absurd (let g : slot_of (follower_log (Req (request_of 2))) 2 ≡ Some NoOp = subst (λ t. slot_of t 2 ≡ Some NoOp) is e in cc)
     at (Next w q is) = absurd (views_apart w)
 
 pub noop_lost : IsPrefixOf (take 2 leader_log) (follower_log (Req (request_of 2))) → ⊥
-noop_lost h = let e = prefix_slot (take 2 leader_log) (follower_log (Req (request_of 2))) 2 NoOp h refl in absurd cc
+noop_lost h = let e = slot_of-prefix (take 2 leader_log) (follower_log (Req (request_of 2))) 2 NoOp h refl in absurd cc
 
 -- ---- a log that goes on in a view that its replica left
 
@@ -94,11 +99,12 @@ overrun_fixed =
     record {
       leads = refl;
       within = omega arith;
-      reached = both (Reached overrun_past first_view 3) (leader_log, refl, omega arith) (leader_log, refl, omega arith);
-      noops = λ k x is above le e. both (HadNoOp overrun_past first_view k) (leader_log, refl, e) (leader_log, refl, e);
+      reached = both_are_quorum (Reached overrun_past first_view 3) (leader_log, refl, omega arith) (leader_log, refl, omega arith);
+      noops = λ k x is above le e. both_are_quorum (HadNoOp overrun_past first_view k) (leader_log, refl, e) (leader_log, refl, e);
     }
 
 pub overrun_entry : ((r : ℕ) (v : View) (e : Entered) → overrun_past.entry r v ≡ Some e → HadLog overrun_past r e.last_normal e.log) → ⊥
 overrun_entry h =
-    let e : Some leader_log ≡ Some (follower_log NoOp) = h 1 second_view (record { last_normal = first_view; next = 3; log = follower_log NoOp }) refl in
+    let e : Some leader_log ≡ Some (follower_log NoOp) =
+        h 1 second_view (record { last_normal = first_view; next = 3; log = follower_log NoOp }) refl in
     absurd cc

@@ -12,11 +12,14 @@ abbrev counted : ℕ → List ℕ → ℕ
 counted zero xs = 0
 counted (suc n) xs = counts n xs + counted n xs
 
-one_more : (n x : ℕ) (xs : List ℕ) → counted n (x ∷ xs) ≡ cond (ltb x n) 1 0 + counted n xs
-one_more zero x xs = grind (arith, nat_tests)
-one_more (suc n) x xs = step (eqb x n) (ltb x n) (ltb x (suc n)) (grind (arith, nat_tests)) (counts n xs) (counted n xs) (counted n (x ∷ xs)) (one_more n x xs)
+counted_more : (n x : ℕ) (xs : List ℕ) → counted n (x ∷ xs) ≡ cond (ltb x n) 1 0 + counted n xs
+counted_more zero x xs = grind (arith, nat_tests)
+counted_more (suc n) x xs =
+    step (eqb x n) (ltb x n) (ltb x (suc n)) (grind (arith, nat_tests)) (counts n xs) (counted n xs) (counted n (x ∷ xs))
+        (counted_more n x xs)
   where
-    step : (a b c : Bool) → cond a 1 0 + cond b 1 0 ≡ cond c 1 0 → (m n k : ℕ) → k ≡ cond b 1 0 + n → cond a 1 0 + m + k ≡ cond c 1 0 + (m + n)
+    step : (a b c : Bool) → cond a 1 0 + cond b 1 0 ≡ cond c 1 0 → (m n k : ℕ) → k ≡ cond b 1 0 + n
+        → cond a 1 0 + m + k ≡ cond c 1 0 + (m + n)
     step a b c e m n k f = omega (arith, e, f)
 
 -- the first stands in its list
@@ -35,36 +38,46 @@ all_counted n [] h = none n
     none : (m : ℕ) → counted m [] ≡ 0
     none zero = refl
     none (suc m) = omega (arith, none m)
-all_counted n (x ∷ xs) h = one_more n x xs ∙ rw (lt-ltb x n (h x (counts_first x xs)), all_counted n xs (λ k g. h k (counts_rest k x xs g))) (omega arith)
+all_counted n (x ∷ xs) h =
+    counted_more n x xs ∙ rw (lt-ltb x n (h x (counts_first x xs)), all_counted n xs (λ k g. h k (counts_rest k x xs g))) (omega arith)
 
 -- where no number below n stands more than once in both lists together, they are no more than n
-fit : (n : ℕ) (xs ys : List ℕ) → ((k : ℕ) → k < n → counts k xs + counts k ys ≤ 1) → counted n xs + counted n ys ≤ n
-fit zero xs ys h = omega arith
-fit (suc n) xs ys h = omega (arith, h n (omega arith), fit n xs ys (λ k lt. h k (omega arith)))
+counted_fit : (n : ℕ) (xs ys : List ℕ) → ((k : ℕ) → k < n → counts k xs + counts k ys ≤ 1) → counted n xs + counted n ys ≤ n
+counted_fit zero xs ys h = omega arith
+counted_fit (suc n) xs ys h = omega (arith, h n (omega arith), counted_fit n xs ys (λ k lt. h k (omega arith)))
 
 -- a number below n that stands in both, or none does
-shared : (n : ℕ) (xs ys : List ℕ) → ((k : ℕ) → counts k xs ≤ 1) → ((k : ℕ) → counts k ys ≤ 1) → ((k : ℕ) × (k < n) × (1 ≤ counts k xs) × (1 ≤ counts k ys)) ⊎ ((k : ℕ) → k < n → counts k xs + counts k ys ≤ 1)
-shared zero xs ys p q = inr (λ k lt. absurd (omega (arith, lt)))
-shared (suc n) xs ys p q = here (counts n xs) (counts n ys) refl refl (shared n xs ys p q)
+shared_or_apart : (n : ℕ) (xs ys : List ℕ) → ((k : ℕ) → counts k xs ≤ 1) → ((k : ℕ) → counts k ys ≤ 1)
+    → ((k : ℕ) × (k < n) × (1 ≤ counts k xs) × (1 ≤ counts k ys)) ⊎ ((k : ℕ) → k < n → counts k xs + counts k ys ≤ 1)
+shared_or_apart zero xs ys p q = inr (λ k lt. absurd (omega (arith, lt)))
+shared_or_apart (suc n) xs ys p q = here (counts n xs) (counts n ys) refl refl (shared_or_apart n xs ys p q)
   where
-    here : (a b : ℕ) → counts n xs ≡ a → counts n ys ≡ b → (((k : ℕ) × (k < n) × (1 ≤ counts k xs) × (1 ≤ counts k ys)) ⊎ ((k : ℕ) → k < n → counts k xs + counts k ys ≤ 1))
+    here : (a b : ℕ) → counts n xs ≡ a → counts n ys ≡ b
+        → (((k : ℕ) × (k < n) × (1 ≤ counts k xs) × (1 ≤ counts k ys)) ⊎ ((k : ℕ) → k < n → counts k xs + counts k ys ≤ 1))
         → ((k : ℕ) × (k < suc n) × (1 ≤ counts k xs) × (1 ≤ counts k ys)) ⊎ ((k : ℕ) → k < suc n → counts k xs + counts k ys ≤ 1)
     here a b e f (inl s) = inl (s.0, omega (arith, s.1), s.2, s.3)
-    here zero b e f (inr s) = inr (λ k lt. elim (cases_lt k n) [ inl l ↦ s k l | inr g ↦ let same : k ≡ n = omega arith in rw same (omega (arith, e, q n)) ])
-    here (suc a) zero e f (inr s) = inr (λ k lt. elim (cases_lt k n) [ inl l ↦ s k l | inr g ↦ let same : k ≡ n = omega arith in rw same (omega (arith, f, p n)) ])
+    here zero b e f (inr s) =
+        inr (λ k lt. elim (cases_lt k n) [ inl l ↦ s k l | inr g ↦ let same : k ≡ n = omega arith in rw same (omega (arith, e, q n)) ])
+    here (suc a) zero e f (inr s) =
+        inr (λ k lt. elim (cases_lt k n) [ inl l ↦ s k l | inr g ↦ let same : k ≡ n = omega arith in rw same (omega (arith, f, p n)) ])
     here (suc a) (suc b) e f (inr s) = inl (n, omega arith, omega (arith, e), omega (arith, f))
 
 -- two quorums share a member
 pub quorums_share : (f : ℕ) (P Q : ℕ → Type 0) → Quorum f P → Quorum f Q → (r : ℕ) × (r < 2 * f + 1) × P r × Q r
 quorums_share f P Q a b =
-    elim (shared (2 * f + 1) a.members b.members a.once b.once) [
+    elim (shared_or_apart (2 * f + 1) a.members b.members a.once b.once) [
       | inl s ↦ (s.0, s.1, a.holds s.0 s.2, b.holds s.0 s.3)
-      | inr none ↦ absurd (omega (arith, a.enough, b.enough, fit (2 * f + 1) a.members b.members none, all_counted (2 * f + 1) a.members a.within, all_counted (2 * f + 1) b.members b.within))
+      | inr none ↦
+          let few = counted_fit (2 * f + 1) a.members b.members none in
+          let left = all_counted (2 * f + 1) a.members a.within in
+          let right = all_counted (2 * f + 1) b.members b.within in
+          absurd (omega (arith, a.enough, b.enough, few, left, right))
     ]
 
 -- where Q follows from P
 pub quorum_weaker : (f : ℕ) (P Q : ℕ → Type 0) → ((r : ℕ) → P r → Q r) → Quorum f P → Quorum f Q
-quorum_weaker f P Q g q = record { members = q.members; enough = q.enough; once = q.once; within = q.within; holds = λ k h. g k (q.holds k h) }
+quorum_weaker f P Q g q =
+    record { members = q.members; enough = q.enough; once = q.once; within = q.within; holds = λ k h. g k (q.holds k h) }
 
 -- f others and one more are a quorum
 pub others_and_one : (f r : ℕ) (P : ℕ → Type 0) → r < 2 * f + 1 → P r → Others f r P → Quorum f P
@@ -85,5 +98,6 @@ pub leader_within : (f : ℕ) (w : View) → leader_of w (2 * f + 1) < 2 * f + 1
 leader_within f w = omega arith
 
 -- f others and the leader are a quorum
-pub others_and_leader : (f : ℕ) (w : View) (P : ℕ → Type 0) → P (leader_of w (2 * f + 1)) → Others f (leader_of w (2 * f + 1)) P → Quorum f P
+pub others_and_leader : (f : ℕ) (w : View) (P : ℕ → Type 0) → P (leader_of w (2 * f + 1)) → Others f (leader_of w (2 * f + 1)) P
+    → Quorum f P
 others_and_leader f w P here o = others_and_one f (leader_of w (2 * f + 1)) P (leader_within f w) here o

@@ -11,13 +11,13 @@ use Rattle.nop_types.specs.declared.datagram.Stamped.{Stamped}
 use Rattle.nop_types.specs.Lists.{Has, IsPrefixOf, slot_of}
 use Rattle.nop_types.specs.Stamps.{WasStamped}
 use Rattle.nop_types.specs.Views.{AtMost, Below, Comparable, first_view, is_view}
+use Rattle.facts.proofs.Members.{Has-cases, Has-none}
+use Rattle.facts.proofs.Views.{is_view-true, AtMost-same}
 use Rattle.log_merge.specs.Starting.{Start, opened}
 use Rattle.started_views.specs.Past.{Entered, Past, HadLog, LeaderHad, IsStart, IsStarted}
 use Rattle.started_views.specs.Settled.{Certificate}
 use Rattle.started_views.specs.Started.{Grounds}
 use Rattle.started_views.specs.Worked.{second_view, request_of, stamp_of, worked_stamps, leader_log, follower_log, second_start, worked_logs, worked_starts, worked_entries, worked_past, worked_last_normal}
-use Rattle.started_views.proofs.Lists.{has_cases, has_none}
-use Rattle.started_views.proofs.Views.{is_view_true, at_most_same}
 
 -- what stands in slot 2 of replica 1: a NO-OP, or the request of that number
 abbrev pub Second : Entry → Type 0
@@ -39,14 +39,14 @@ pub logged : (x : Entry) (r : ℕ) (w : View) (l : List Entry) → HadLog (worke
 logged x r w l e = step r (is_view w first_view) (is_view w second_view) refl refl e
   where
     step : (r : ℕ) (a b : Bool) → is_view w first_view ≡ a → is_view w second_view ≡ b → worked_logs x r a b ≡ Some l → Logged x r w l
-    step zero true b g h e = Leader (is_view_true w first_view g) refl cc
-    step (suc zero) true b g h e = Follower (is_view_true w first_view g) refl cc
-    step (suc (suc zero)) true b g h e = Other (is_view_true w first_view g) refl cc
+    step zero true b g h e = Leader (is_view-true w first_view g) refl cc
+    step (suc zero) true b g h e = Follower (is_view-true w first_view g) refl cc
+    step (suc (suc zero)) true b g h e = Other (is_view-true w first_view g) refl cc
     step (suc (suc (suc r))) true true g h e = absurd cc
     step (suc (suc (suc r))) true false g h e = absurd cc
     step zero false true g h e = absurd cc
     step zero false false g h e = absurd cc
-    step (suc zero) false true g h e = Next (is_view_true w second_view h) refl cc
+    step (suc zero) false true g h e = Next (is_view-true w second_view h) refl cc
     step (suc zero) false false g h e = absurd cc
     step (suc (suc zero)) false true g h e = absurd cc
     step (suc (suc zero)) false false g h e = absurd cc
@@ -61,8 +61,8 @@ begun : (x : Entry) (w : View) (s : Start) → IsStart (worked_past x) w s → B
 begun x w s e = step (is_view w first_view) (is_view w second_view) refl refl e
   where
     step : (a b : Bool) → is_view w first_view ≡ a → is_view w second_view ≡ b → worked_starts x a b ≡ Some s → Begun x w s
-    step true b g h e = First (is_view_true w first_view g) cc
-    step false true g h e = Later (is_view_true w second_view h) cc
+    step true b g h e = First (is_view-true w first_view g) cc
+    step false true g h e = Later (is_view-true w second_view h) cc
     step false false g h e = absurd cc
 
 abbrev first_entry : Entry → Entered
@@ -78,9 +78,9 @@ came x r w e is = step r (is_view w second_view) refl is
     step : (r : ℕ) (b : Bool) → is_view w second_view ≡ b → worked_entries x r b ≡ Some e → Came x r w e
     step zero true h e = absurd cc
     step zero false h e = absurd cc
-    step (suc zero) true h e = One (is_view_true w second_view h) refl cc
+    step (suc zero) true h e = One (is_view-true w second_view h) refl cc
     step (suc zero) false h e = absurd cc
-    step (suc (suc zero)) true h e = Two (is_view_true w second_view h) refl cc
+    step (suc (suc zero)) true h e = Two (is_view-true w second_view h) refl cc
     step (suc (suc zero)) false h e = absurd cc
     step (suc (suc (suc r))) true h e = absurd cc
     step (suc (suc (suc r))) false h e = absurd cc
@@ -111,7 +111,9 @@ stamped_once n k a b h g = stamped_is n k a h ∙ sym (stamped_is n k b g)
 
 -- each request of the log l stands in the slot of its number
 abbrev Numbered : View → Start → List Entry → Type 0
-Numbered w s l = (k : ℕ) (q : Request) → length s.log < k → slot_of l k ≡ Some (Req q) → WasStamped worked_stamps w.session (s.next + (k - length s.log - 1)) q
+Numbered w s l =
+    (k : ℕ) (q : Request) → length s.log < k → slot_of l k ≡ Some (Req q)
+    → WasStamped worked_stamps w.session (s.next + (k - length s.log - 1)) q
 
 leader_numbered : Numbered first_view first_start leader_log
 leader_numbered zero q h e = absurd cc
@@ -162,9 +164,9 @@ changes x = told_by 1 x ∷ told_by 2 (Req (request_of 2)) ∷ []
 
 change_cases : (x : Entry) (d : Change) → Has (changes x) d → (d ≡ told_by 1 x) ⊎ (d ≡ told_by 2 (Req (request_of 2)))
 change_cases x d h =
-    elim (has_cases d (told_by 1 x) (told_by 2 (Req (request_of 2)) ∷ []) h) [
+    elim (Has-cases d (told_by 1 x) (told_by 2 (Req (request_of 2)) ∷ []) h) [
       | inl e ↦ inl e
-      | inr g ↦ elim (has_cases d (told_by 2 (Req (request_of 2))) [] g) [ inl e ↦ inr e | inr n ↦ absurd (has_none d n) ]
+      | inr g ↦ elim (Has-cases d (told_by 2 (Req (request_of 2))) [] g) [ inl e ↦ inr e | inr n ↦ absurd (Has-none d n) ]
     ]
 
 certified : (x : Entry) → Certificate 1 (worked_past x) second_view (changes x)
@@ -172,7 +174,10 @@ certified x =
     record {
       enough = omega arith;
       once = λ k. grind (arith, nat_tests);
-      within = λ d h. elim (change_cases x d h) [ inl e ↦ omega (arith, ap (λ (t : Change). t.sender) e) | inr e ↦ omega (arith, ap (λ (t : Change). t.sender) e) ];
+      within = λ d h. elim (change_cases x d h) [
+        | inl e ↦ omega (arith, ap (λ (t : Change). t.sender) e)
+        | inr e ↦ omega (arith, ap (λ (t : Change). t.sender) e)
+      ];
       entries = λ d h. elim (change_cases x d h) [ inl e ↦ rw e refl | inr e ↦ rw e refl ];
     }
 
@@ -186,7 +191,8 @@ module _ (x : Entry) (c : Second x) where
   abbrev past : Past
   past = worked_past x
 
-  leader_had : (w : View) (m : List Entry) → IsStarted past w → LeaderHad 1 past w m → ((w ≡ first_view) × (m ≡ leader_log)) ⊎ ((w ≡ second_view) × (m ≡ second_log x))
+  leader_had : (w : View) (m : List Entry) → IsStarted past w → LeaderHad 1 past w m
+      → ((w ≡ first_view) × (m ≡ leader_log)) ⊎ ((w ≡ second_view) × (m ≡ second_log x))
   leader_had w m (s, is) lead = at (begun x w s is)
     where
       at : Begun x w s → ((w ≡ first_view) × (m ≡ leader_log)) ⊎ ((w ≡ second_view) × (m ≡ second_log x))
@@ -215,7 +221,9 @@ module _ (x : Entry) (c : Second x) where
   in_first r w e = subst (λ u. IsStarted past u × AtMost u (worked_last_normal r)) (sym e) ((first_start, refl), first_at_most r)
 
   in_second : (r : ℕ) (w : View) → w ≡ second_view → r ≡ 1 → IsStarted past w × AtMost w (worked_last_normal r)
-  in_second r w e q = subst (λ u. IsStarted past u × AtMost u (worked_last_normal r)) (sym e) ((second_start x, refl), at_most_same second_view (worked_last_normal r) (ap worked_last_normal (sym q)))
+  in_second r w e q =
+      subst (λ u. IsStarted past u × AtMost u (worked_last_normal r)) (sym e) ((second_start x, refl),
+      AtMost-same second_view (worked_last_normal r) (ap worked_last_normal (sym q)))
 
   log_in_started : (r : ℕ) (w : View) (l : List Entry) → HadLog past r w l → IsStarted past w × AtMost w (worked_last_normal r)
   log_in_started r w l had = at (logged x r w l had)
@@ -240,27 +248,35 @@ module _ (x : Entry) (c : Second x) where
   entry_log r v e is = at (came x r v e is)
     where
       at : Came x r v e → HadLog past r e.last_normal e.log
-      at (One w q g) = subst (λ (t : Entered). HadLog past r t.last_normal t.log) (sym g) (subst (λ i. HadLog past i first_view (follower_log x)) (sym q) refl)
-      at (Two w q g) = subst (λ (t : Entered). HadLog past r t.last_normal t.log) (sym g) (subst (λ i. HadLog past i first_view (follower_log (Req (request_of 2)))) (sym q) refl)
+      at (One w q g) =
+          subst (λ (t : Entered). HadLog past r t.last_normal t.log) (sym g)
+          (subst (λ i. HadLog past i first_view (follower_log x)) (sym q) refl)
+      at (Two w q g) =
+          subst (λ (t : Entered). HadLog past r t.last_normal t.log) (sym g)
+          (subst (λ i. HadLog past i first_view (follower_log (Req (request_of 2)))) (sym q) refl)
 
   entries_chain : (r : ℕ) (v w : View) (d e : Entered) → past.entry r v ≡ Some d → past.entry r w ≡ Some e → Comparable v w
-  entries_chain r v w d e a b = inl (at_most_same v w ((came_to x r v d (came x r v d a)).0 ∙ sym (came_to x r w e (came x r w e b)).0))
+  entries_chain r v w d e a b = inl (AtMost-same v w ((came_to x r v d (came x r v d a)).0 ∙ sym (came_to x r w e (came x r w e b)).0))
 
-  nothing_between : (r : ℕ) (v w : View) (e : Entered) (l : List Entry) → past.entry r v ≡ Some e → HadLog past r w l → AtMost w e.last_normal ⊎ AtMost v w
+  nothing_between : (r : ℕ) (v w : View) (e : Entered) (l : List Entry) → past.entry r v ≡ Some e → HadLog past r w l
+      → AtMost w e.last_normal ⊎ AtMost v w
   nothing_between r v w e l is had = at (came_to x r v e (came x r v e is)) (logged x r w l had)
     where
       at : ((v ≡ second_view) × (e.last_normal ≡ first_view)) → Logged x r w l → AtMost w e.last_normal ⊎ AtMost v w
-      at t (Leader u q g) = inl (at_most_same w e.last_normal (u ∙ sym t.1))
-      at t (Follower u q g) = inl (at_most_same w e.last_normal (u ∙ sym t.1))
-      at t (Other u q g) = inl (at_most_same w e.last_normal (u ∙ sym t.1))
-      at t (Next u q g) = inr (at_most_same v w (t.0 ∙ sym u))
+      at t (Leader u q g) = inl (AtMost-same w e.last_normal (u ∙ sym t.1))
+      at t (Follower u q g) = inl (AtMost-same w e.last_normal (u ∙ sym t.1))
+      at t (Other u q g) = inl (AtMost-same w e.last_normal (u ∙ sym t.1))
+      at t (Next u q g) = inr (AtMost-same v w (t.0 ∙ sym u))
 
-  certificate : (w : View) (s : Start) → IsStart past w s → (w ≡ first_view → ⊥) → (cs : List Change) × Certificate 1 past w cs × (s ≡ opened w cs)
+  certificate : (w : View) (s : Start) → IsStart past w s → (w ≡ first_view → ⊥)
+      → (cs : List Change) × Certificate 1 past w cs × (s ≡ opened w cs)
   certificate w s is not = at (begun x w s is)
     where
       at : Begun x w s → (cs : List Change) × Certificate 1 past w cs × (s ≡ opened w cs)
       at (First e g) = absurd (not e)
-      at (Later e g) = (changes x, subst (λ u. Certificate 1 past u (changes x)) (sym e) (certified x), g ∙ opened_is x c ∙ ap (λ (u : View). opened u (changes x)) (sym e))
+      at (Later e g) =
+          (changes x, subst (λ u. Certificate 1 past u (changes x)) (sym e) (certified x), g ∙ opened_is x c
+          ∙ ap (λ (u : View). opened u (changes x)) (sym e))
 
   second_begins : (r : ℕ) (w : View) (l : List Entry) → w ≡ second_view → Logged x r w l → IsPrefixOf (follower_log x) l
   second_begins r w l e (Leader u q g) = absurd (views_apart (sym u ∙ e))
@@ -278,17 +294,21 @@ module _ (x : Entry) (c : Second x) where
   numbered : (r : ℕ) (w : View) (l : List Entry) (s : Start) → Begun x w s → Logged x r w l → Numbered w s l
   numbered r w l s (First e g) (Leader u q is) = numbered_at first_view w first_start s leader_log l e g is leader_numbered
   numbered r w l s (First e g) (Follower u q is) = numbered_at first_view w first_start s (follower_log x) l e g is (follower_numbered x c)
-  numbered r w l s (First e g) (Other u q is) = numbered_at first_view w first_start s (follower_log (Req (request_of 2))) l e g is (follower_numbered (Req (request_of 2)) (inr refl))
+  numbered r w l s (First e g) (Other u q is) =
+      numbered_at first_view w first_start s (follower_log (Req (request_of 2))) l e g is
+      (follower_numbered (Req (request_of 2)) (inr refl))
   numbered r w l s (First e g) (Next u q is) = absurd (views_apart (sym e ∙ u))
   numbered r w l s (Later e g) (Leader u q is) = absurd (views_apart (sym u ∙ e))
   numbered r w l s (Later e g) (Follower u q is) = absurd (views_apart (sym u ∙ e))
   numbered r w l s (Later e g) (Other u q is) = absurd (views_apart (sym u ∙ e))
   numbered r w l s (Later e g) (Next u q is) = numbered_at second_view w (second_start x) s (second_log x) l e g is (second_numbered x)
 
-  led_noops : (r : ℕ) (w : View) (l m : List Entry) → Logged x r w l → ((w ≡ first_view) × (m ≡ leader_log)) ⊎ ((w ≡ second_view) × (m ≡ second_log x)) → NoOpsIn m l
+  led_noops : (r : ℕ) (w : View) (l m : List Entry) → Logged x r w l
+      → ((w ≡ first_view) × (m ≡ leader_log)) ⊎ ((w ≡ second_view) × (m ≡ second_log x)) → NoOpsIn m l
   led_noops r w l m (Leader u q is) (inl t) = noops_at m l leader_log leader_log t.1 is (λ k e. e)
   led_noops r w l m (Follower u q is) (inl t) = noops_at m l leader_log (follower_log x) t.1 is (follower_noops x)
-  led_noops r w l m (Other u q is) (inl t) = noops_at m l leader_log (follower_log (Req (request_of 2))) t.1 is (follower_noops (Req (request_of 2)))
+  led_noops r w l m (Other u q is) (inl t) =
+      noops_at m l leader_log (follower_log (Req (request_of 2))) t.1 is (follower_noops (Req (request_of 2)))
   led_noops r w l m (Next u q is) (inl t) = absurd (views_apart (sym t.0 ∙ u))
   led_noops r w l m (Leader u q is) (inr t) = absurd (views_apart (sym u ∙ t.0))
   led_noops r w l m (Follower u q is) (inr t) = absurd (views_apart (sym u ∙ t.0))

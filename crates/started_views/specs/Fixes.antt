@@ -29,7 +29,8 @@ pub record Accepted (f : ℕ) (past : Past) (w : View) (m : List Entry) (s : ℕ
   pub request : Request
   pub last : slot_of m s ≡ Some (Req request)
   pub reached : Quorum f (Reached past w s)
-  pub noops : (k : ℕ) (x : Start) → IsStart past w x → length x.log < k → k < length m → slot_of m k ≡ Some NoOp → Others f (leader_of w (2 * f + 1)) (HadNoOp past w k)
+  pub noops : (k : ℕ) (x : Start) → IsStart past w x → length x.log < k → k < length m → slot_of m k ≡ Some NoOp
+      → Others f (leader_of w (2 * f + 1)) (HadNoOp past w k)
 
 abbrev pub SyncFixes : Type 0
 SyncFixes = (f : ℕ) (past : Past) (w : View) (m : List Entry) (s : ℕ) → Synchronised f past w m s → Fixed f past w m s

@@ -23,7 +23,8 @@ pub record Grows (f : ℕ) (past later : Past) : Type 0 where
 pub data LogGoesOn (f : ℕ) (past : Past) (r : ℕ) (w : View) (k : List Entry) : Type 0 where
   First : past.log r w ≡ None → LogGoesOn f past r w k
   Leading : (l : List Entry) → r ≡ leader_of w (2 * f + 1) → HadLog past r w l → IsPrefixOf l k → LogGoesOn f past r w k
-  Following : (l m : List Entry) → (r ≡ leader_of w (2 * f + 1) → ⊥) → HadLog past r w l → LeaderHad f past w m → Toward m l k → LogGoesOn f past r w k
+  Following : (l m : List Entry) → (r ≡ leader_of w (2 * f + 1) → ⊥) → HadLog past r w l → LeaderHad f past w m → Toward m l k
+      → LogGoesOn f past r w k
 
 -- the replica r enters a view that it had not entered, starts one that was not started, and its log goes on
 pub record GoesOn (f : ℕ) (past : Past) (r : ℕ) (old new : Standing) : Type 0 where

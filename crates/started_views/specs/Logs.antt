@@ -12,4 +12,5 @@ pub record SameTo (s : ℕ) (l m : List Entry) : Type 0 where
 -- from l to k no slot is lost, and each slot keeps its entry or gets that of m
 pub record Toward (m l k : List Entry) : Type 0 where
   pub longer : length l ≤ length k
-  pub slots : (i : ℕ) (x : Entry) → slot_of l i ≡ Some x → (slot_of k i ≡ Some x) ⊎ ((y : Entry) × (slot_of m i ≡ Some y) × (slot_of k i ≡ Some y))
+  pub slots : (i : ℕ) (x : Entry) → slot_of l i ≡ Some x
+      → (slot_of k i ≡ Some x) ⊎ ((y : Entry) × (slot_of m i ≡ Some y) × (slot_of k i ≡ Some y))

@@ -17,4 +17,5 @@ pub record InParts (f : ℕ) (past : Past) (r : ℕ) (old middle new : Standing)
   -- the second part enters no view, or the first one enters none and changes nothing that is noted on entering
   pub entry : (new.view ≡ middle.view) ⊎ ((middle.view ≡ old.view) × (entered_with middle ≡ entered_with old))
   -- the first part adopts no view, or the second one adopts none and keeps what a leader started its view with
-  pub start : (middle.last_normal ≡ old.last_normal) ⊎ ((new.last_normal ≡ middle.last_normal) × (r ≡ leader_of new.last_normal (2 * f + 1) → started_with new ≡ started_with middle))
+  pub start : (middle.last_normal ≡ old.last_normal)
+      ⊎ ((new.last_normal ≡ middle.last_normal) × (r ≡ leader_of new.last_normal (2 * f + 1) → started_with new ≡ started_with middle))

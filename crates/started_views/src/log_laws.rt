@@ -30,7 +30,7 @@ pub fn toward_keeps()
 
 /// A log in which a slot is written has as many slots; that slot has the entry, and each other slot
 /// what it had.
-#[tactic(auto, using(crate::proofs::Slots::set_length, crate::proofs::Slots::slot_of_set))]
+#[tactic(auto, using(facts::proofs::Slots::written_slots))]
 pub fn written_log()
     ensures length { (l : List Entry) (k : ℕ) (x : Entry) → length (set_slot l k x) ≡ length l }
     ensures here { (l : List Entry) (k : ℕ) (x : Entry) → 0 < k → k ≤ length l
@@ -41,7 +41,7 @@ pub fn written_log()
 
 /// A log laid over another begins the outcome, which is as long as the longer of the two and has
 /// above it what the other has.
-#[tactic(auto, using(crate::proofs::Slots::laid_length, crate::proofs::Slots::prefix_of_laid))]
+#[tactic(auto, using(facts::proofs::Slots::laid_slots))]
 pub fn laid_log()
     ensures length { (l k : List Entry) → length (laid l k) ≡ max (length l) (length k) }
     ensures begins { (l k : List Entry) → IsPrefixOf l (laid l k) }

@@ -1,14 +1,11 @@
 -- Changes and their senders.
 use Rattle.std.proofs.Common.{◌≡◌, ℕ, zero, suc, Bool, true, false, cond, List, [], ◌∷◌, ◌++◌, length, Some, refl, sym, subst, ap, ◌∙◌, arith, inl, inr}
 use Rattle.std.specs.Prelude.{◌==◌, ◌||◌, ◌⊎◌, ◌↔◌, slice_get}
-use Rattle.std.proofs.lemmas.Option.{none-some}
+use Rattle.std.proofs.lemmas.Option.{none-some, same_Some}
 use Rattle.nop_types.specs.declared.peer.Change.{Change}
 use Rattle.nop_types.specs.Lists.{Has}
 use Rattle.log_merge.specs.Merged.{HasDistinctSenders}
 use Rattle.view_change.specs.Gathering.{IsOfSender, has_sender, with_change}
-
-some_same : {A : Type 0} (x y : A) → Some x ≡ Some y → x ≡ y
-some_same x y e = cc
 
 -- ---- whether a sender is there
 
@@ -38,13 +35,13 @@ not_rest false cs q e = e
 
 pub none_there : (cs : List Change) (q : ℕ) → has_sender cs q ≡ false → (i : ℕ) (c : Change) → slice_get cs i ≡ Some c → c.sender ≡ q → ⊥
 none_there [] q e i c is same = none-some c is
-none_there (x ∷ cs) q e zero c is same = not_first x cs q e (ap (λ (y : Change). y.sender) (some_same x c is) ∙ same)
+none_there (x ∷ cs) q e zero c is same = not_first x cs q e (ap (λ (y : Change). y.sender) (same_Some x c is) ∙ same)
 none_there (x ∷ cs) q e (suc i) c is same = none_there cs q (not_rest (x.sender == q) cs q e) i c is same
 
 -- ---- a change at the end
 
 at_push : (cs : List Change) (c d : Change) (i : ℕ) → slice_get (cs ++ c ∷ []) i ≡ Some d → (slice_get cs i ≡ Some d) ⊎ ((i ≡ length cs) × (d ≡ c))
-at_push [] c d zero e = inr (refl, sym (some_same c d e))
+at_push [] c d zero e = inr (refl, sym (same_Some c d e))
 at_push [] c d (suc i) e = absurd (none-some d e)
 at_push (x ∷ cs) c d zero e = inl e
 at_push (x ∷ cs) c d (suc i) e = later (at_push cs c d i e)

@@ -1,7 +1,7 @@
 -- Requests are taken one after the other.
 use Rattle.std.proofs.Common.{◌≡◌, ℕ, zero, suc, ◌+◌, ◌-◌, ◌<◌, ◌≤◌, Bool, true, false, List, [], ◌∷◌, ◌++◌, length, None, refl, sym, ap, ◌∙◌, arith, append_assoc, length-append, inl, inr}
 use Rattle.std.specs.Prelude.{◌⊎◌, ◌&&◌}
-use Rattle.std.proofs.lemmas.Bool.{ltb-true, le-ltb}
+use Rattle.std.proofs.lemmas.Bool.{ltb-true, le-ltb, and_parts}
 use Rattle.std.proofs.lemmas.List.{append-nil}
 use Rattle.nop_types.specs.declared.limits.TheConstants.{MAX_SLOTS}
 use Rattle.nop_types.specs.Meaning.{Meaning}
@@ -14,16 +14,12 @@ use Rattle.world.specs.declared.replica_state.ReplicaState.{ReplicaState}
 use Rattle.world.specs.ReplicaSteps.{then_do, has_room, take, drain_at, drain_by, drain}
 use Rattle.world.specs.Takes.{Took, TookNone, TakesOne}
 
-both : (a b : Bool) → (a && b) ≡ true → (a ≡ true) × (b ≡ true)
-both true b e = (refl, e)
-both false b e = absurd cc
-
 neither_right : (a b c : Bool) → b ≡ false → (a && (b && c)) ≡ false
 neither_right true b c e = rw e refl
 neither_right false b c e = refl
 
 has_free_slot : (s : ReplicaState) → has_room s ≡ true → length s.log < MAX_SLOTS
-has_free_slot s e = ltb-true _ _ (both _ _ (both _ _ e).1).0
+has_free_slot s e = ltb-true _ _ (and_parts _ _ (and_parts _ _ e).1).0
 
 -- a full log has no room
 pub is_full : (s : ReplicaState) → MAX_SLOTS ≤ length s.log → has_room s ≡ false

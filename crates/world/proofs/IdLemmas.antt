@@ -4,7 +4,7 @@ use Rattle.std.specs.Prelude.{◌&&◌, nat_lt}
 use Rattle.std.specs.Ordering.{nat_cmp}
 use Rattle.std.specs.BTreeMap.{BTreeMap, IsEmpty, get, is_at}
 use Rattle.std.specs.Map.{lookup}
-use Rattle.std.proofs.lemmas.Bool.{eqb-true, ltb-true, lt-ltb}
+use Rattle.std.proofs.lemmas.Bool.{eqb-true, ltb-true, lt-ltb, and_parts}
 use Rattle.std.proofs.lemmas.Bool.Decides.{nat_tests}
 use Rattle.std.proofs.lemmas.List.{take_more, append-nil}
 use Rattle.nop_types.specs.declared.request.Request.{Request}
@@ -12,7 +12,8 @@ use Rattle.nop_types.specs.declared.request.Entry.{Entry}
 use Rattle.nop_types.specs.declared.request.Entry.TheVariants.{NoOp, Req}
 use Rattle.nop_types.specs.Lists.{all_below}
 use Rattle.nop_types.specs.Execution.{ids_of}
-use Rattle.histories.proofs.Ids.{ids_of-append, not_below, below_each}
+use Rattle.facts.proofs.Numbers.{all_below-false, all_below-true}
+use Rattle.histories.proofs.Ids.{ids_of-append}
 use Rattle.world.specs.Ids.{is_above, TellsNew, Adds}
 
 and_assoc : (a b c : Bool) → ((a && b) && c) ≡ (a && (b && c))
@@ -23,14 +24,10 @@ all_below-push : (ns : List ℕ) (k n : ℕ) → all_below (ns ++ k ∷ []) n �
 all_below-push [] k n = elim (nat_lt k n) as (λ b. (b && true) ≡ b) [ true ↦ refl | false ↦ refl ]
 all_below-push (x ∷ ns) k n = ap (λ b. nat_lt x n && b) (all_below-push ns k n) ∙ sym (and_assoc (nat_lt x n) (all_below ns n) (nat_lt k n))
 
-both : (a b : Bool) → (a && b) ≡ true → (a ≡ true) × (b ≡ true)
-both true b e = (refl, e)
-both false b e = absurd cc
-
 all_below-more : (ns : List ℕ) (k n : ℕ) → all_below ns k ≡ true → k < n → all_below ns n ≡ true
 all_below-more [] k n e lt = refl
 all_below-more (x ∷ ns) k n e lt =
-    let p = both (nat_lt x k) (all_below ns k) e in
+    let p = and_parts (nat_lt x k) (all_below ns k) e in
     let first : nat_lt x n ≡ true = grind (arith, nat_tests, p.0) in
     rw (first, all_below-more ns k n p.1 lt) refl
 
@@ -48,8 +45,8 @@ new_tells ns k n false e t = t ∙ sym (all_below-push ns k n ∙ rw t (none (al
 -- an id that is not new changes nothing of that
 not_new : (ns : List ℕ) (k n : ℕ) (b : Bool) → all_below ns k ≡ false → all_below ns n ≡ b → all_below ns n ≡ all_below (ns ++ k ∷ []) n
 not_new ns k n true e t =
-    let w = not_below ns k e in
-    let lt : k < n = omega (arith, below_each ns n w.0 t w.1, w.2) in
+    let w = all_below-false ns k e in
+    let lt : k < n = omega (arith, all_below-true ns n w.0 t w.1, w.2) in
     t ∙ sym (all_below-push ns k n ∙ rw (t, lt-ltb _ _ lt) refl)
 not_new ns k n false e t = t ∙ sym (all_below-push ns k n ∙ rw t refl)
 

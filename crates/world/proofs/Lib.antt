@@ -1,7 +1,6 @@
 pub mod Draining
 pub mod Executions
 pub mod IdLemmas
-pub mod Limits
 pub mod LineLemmas
 pub mod MainLog
 pub mod MarkLemmas

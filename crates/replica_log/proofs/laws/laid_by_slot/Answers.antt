@@ -1,11 +1,11 @@
-use Rattle.replica_log.proofs.Laid.{length_of_laid, front_of_laid, above_laid}
+use Rattle.facts.proofs.Slots.{length-laid, slot_of-laid_below, slot_of-laid_above}
 use Rattle.replica_log.proofs.laws.laid_by_slot.Goals as goal
 
 pub returns-clause-len : goal.returns-clause-len
-returns-clause-len c = length_of_laid
+returns-clause-len c = length-laid
 
 pub returns-clause-front : goal.returns-clause-front
-returns-clause-front c = front_of_laid
+returns-clause-front c = slot_of-laid_below
 
 pub returns-clause-above : goal.returns-clause-above
-returns-clause-above c = above_laid
+returns-clause-above c = slot_of-laid_above
