@@ -1,5 +1,6 @@
 ghost use Rattle.std.specs.Prelude.{◌≡◌, ◌≤◌, ℕ, List, length, IfOk, OnOk, OnErr};
 ghost use Rattle.nop_types.specs.Meaning.{Meaning};
+ghost use Rattle.nop_types.specs.declared.limits.TheConstants.{MAX_RESULT_BYTES};
 
 use crate::{Bytes, NoMemory};
 use std::alloc::Global;
@@ -32,7 +33,7 @@ pub trait Host: Sized + Drop {
     /// Answers an op, and says how to undo it. An answer has at most `MAX_RESULT_BYTES` bytes.
     fn apply(&mut self, op: &[u8]) -> Result<(Bytes, Self::Undo), NoMemory>
         ensures answer { IfOk result (λ r. r.0 ≡ meaning.answer (state self.old) op.now) }
-        ensures short { IfOk result (λ r. length r.0 ≤ 257) }
+        ensures short { IfOk result (λ r. length r.0 ≤ MAX_RESULT_BYTES) }
         ensures after { OnOk result (state self.new ≡ meaning.after (state self.old) op.now) }
         ensures undo { IfOk result (λ r. r.1 ≡ undo_of (state self.old) op.now) }
         ensures fits { IfOk result (λ r. fits self.new r.1) }
@@ -54,5 +55,5 @@ pub trait Host: Sized + Drop {
 
     ghost stays_sound: { (s : State) (op : List ℕ) → is_sound s → is_sound (meaning.after s op) };
 
-    ghost answers_short: { (s : State) (op : List ℕ) → is_sound s → length (meaning.answer s op) ≤ 257 };
+    ghost answers_short: { (s : State) (op : List ℕ) → is_sound s → length (meaning.answer s op) ≤ MAX_RESULT_BYTES };
 }

@@ -7,6 +7,7 @@ mod core_trait;
 mod datagram;
 mod host;
 mod input;
+pub mod kinds;
 mod limits;
 mod log;
 mod memory;

@@ -1,5 +1,5 @@
 ghost use Rattle.std.specs.Prelude.{◌≡◌, ◌↔◌, ◌≤◌, ◌<◌, IsTrue};
-ghost use Rattle.nop_types.specs.Views.{AtMost, join_of, leader_of};
+ghost use Rattle.nop_types.specs.Views.{AtMost, is_view, join_of, leader_of, outranks};
 
 /// A view: a leader number, and the session of the sequencer. The leader number is no replica's number; `leader_of` says
 /// which replica leads.
@@ -25,6 +25,21 @@ impl View {
             leader: a.leader.max(b.leader),
             session: a.session.max(b.session),
         }
+    }
+
+    /// Whether this is the other view.
+    pub fn is(self, other: View) -> bool
+        ensures { result ≡ is_view self other }
+    {
+        self.leader == other.leader && self.session == other.session
+    }
+
+    /// Whether this view ranks above the other one: by session, then by leader number.
+    pub fn outranks(self, other: View) -> bool
+        ensures { result ≡ outranks self other }
+    {
+        self.session > other.session
+            || (self.session == other.session && self.leader > other.leader)
     }
 }
 

@@ -1,10 +1,11 @@
 -- Reading a datagram from left to right, with the first test that fails.
-use Rattle.std.specs.Prelude.{◌≡◌, ℕ, Bool, List, ◌∷◌, length, Option, ok_or, Result, Ok, Err, nat_lt, ◌==◌, ◌&&◌, not, ⊤, if◌then◌else◌}
+use Rattle.std.specs.Prelude.{◌≡◌, ℕ, Bool, List, ◌∷◌, length, Option, Some, None, ok_or, Result, Ok, Err, nat_lt, ◌==◌, ◌&&◌, not, ⊤, if◌then◌else◌}
 use Rattle.nop_types.specs.declared.datagram.Datagram.{Datagram}
 use Rattle.nop_types.specs.declared.datagram.Datagram.TheVariants as datagrams
 use Rattle.oum_codec.specs.declared.bad.Bad.{Bad}
 use Rattle.oum_codec.specs.declared.bad.Bad.TheVariants.{Short, Magic, Version, Kind, Field, Trailing, NoMemory}
 use Rattle.oum_codec.specs.declared.fixed.SignalFields.{SignalFields}
+use Rattle.nop_types.specs.declared.kinds.TheConstants as kinds
 use Rattle.nop_types.specs.declared.limits.TheConstants.{FRAGMENT_BYTES}
 use Rattle.oum_codec.specs.Fixed.{request_fields_at, request_in_range, stamped_fields_at, stamped_in_range, reply_fields_at, reply_in_range, signal_fields_at, signal_in_range, fragment_fields_at, fragment_in_range, least_payload}
 
@@ -21,6 +22,11 @@ GivesBy view (Err e) read = Fails e read
 -- the same of what was returned as it is
 abbrev pub Gives : {A : Type 0} → Result A Bad → Result A Bad → Type 0
 Gives result read = GivesBy (λ x. x) result read
+
+-- what was found is what reading gives: a value, or nothing where a test fails
+abbrev pub Finds : {A E : Type 0} → Option A → Result A E → Type 0
+Finds {A} {E} (Some x) read = read ≡ Ok x
+Finds {A} {E} None read = (e : E) × (read ≡ Err e)
 
 -- the next step, where the first did not fail
 infixl 10 ◌>>=◌
@@ -74,20 +80,20 @@ fragment_of bytes = do
 -- what follows the four bytes, by the kind
 abbrev pub body_of : ℕ → List ℕ → Result Datagram Bad
 body_of kind rest =
-    if kind == 1 then request_of rest
-    else if kind == 2 then stamped_of rest
-    else if kind == 3 then reply_of rest
-    else if kind == 4 then (signal_of rest >>= λ f. Ok (datagrams.Install f.sequencer f.number))
-    else if kind == 5 then (signal_of rest >>= λ f. Ok (datagrams.Installed f.sequencer f.number))
-    else if kind == 6 then (signal_of rest >>= λ f. Ok (datagrams.Ping f.sequencer f.number))
-    else if kind == 7 then (signal_of rest >>= λ f. Ok (datagrams.Pong f.sequencer f.number))
-    else if kind == 8 then fragment_of rest
+    if kind == kinds.REQUEST then request_of rest
+    else if kind == kinds.STAMPED then stamped_of rest
+    else if kind == kinds.REPLY then reply_of rest
+    else if kind == kinds.INSTALL then (signal_of rest >>= λ f. Ok (datagrams.Install f.sequencer f.number))
+    else if kind == kinds.INSTALLED then (signal_of rest >>= λ f. Ok (datagrams.Installed f.sequencer f.number))
+    else if kind == kinds.PING then (signal_of rest >>= λ f. Ok (datagrams.Ping f.sequencer f.number))
+    else if kind == kinds.PONG then (signal_of rest >>= λ f. Ok (datagrams.Pong f.sequencer f.number))
+    else if kind == kinds.FRAGMENT then fragment_of rest
     else Err Kind
 
 -- the value that the bytes spell, or the first test that they fail
 unfoldable pub reading : List ℕ → Result Datagram Bad
 reading (first ∷ second ∷ version ∷ kind ∷ rest) =
-    if not (first == 0x4e && second == 0x4f) then Err Magic
-    else if not (version == 1) then Err Version
+    if not (first == kinds.FIRST_MAGIC && second == kinds.SECOND_MAGIC) then Err Magic
+    else if not (version == kinds.VERSION) then Err Version
     else body_of kind rest
 reading _ = Err Short

@@ -9,11 +9,12 @@ use Rattle.nop_types.specs.declared.datagram.Reply.{Reply}
 use Rattle.nop_types.specs.declared.datagram.Fragment.{Fragment}
 use Rattle.nop_types.specs.declared.datagram.Datagram.{Datagram}
 use Rattle.nop_types.specs.declared.datagram.Datagram.TheVariants as datagrams
+use Rattle.nop_types.specs.declared.kinds.TheConstants as kinds
 use Rattle.oum_codec.specs.Numbers.{be_bytes}
 
 -- the letters N and O, the version and the kind
 abbrev pub header : ℕ → List ℕ
-header kind = 0x4e ∷ 0x4f ∷ 1 ∷ kind ∷ []
+header kind = kinds.FIRST_MAGIC ∷ kinds.SECOND_MAGIC ∷ kinds.VERSION ∷ kind ∷ []
 
 abbrev pub view_bytes : View → List ℕ
 view_bytes v = be_bytes w32 v.leader ++ be_bytes w32 v.session
@@ -39,14 +40,14 @@ abbrev pub fragment_bytes : Fragment → List ℕ
 fragment_bytes f = f.replica ∷ [] ++ be_bytes w64 f.message ++ be_bytes w16 f.index ++ be_bytes w16 f.count ++ f.payload
 
 abbrev pub spelling : Datagram → List ℕ
-spelling (datagrams.Request r) = header 1 ++ request_bytes r
-spelling (datagrams.Stamped s) = header 2 ++ stamped_bytes s
-spelling (datagrams.Reply r) = header 3 ++ reply_bytes r
-spelling (datagrams.Install sequencer session) = header 4 ++ signal_bytes sequencer session
-spelling (datagrams.Installed sequencer session) = header 5 ++ signal_bytes sequencer session
-spelling (datagrams.Ping sequencer round) = header 6 ++ signal_bytes sequencer round
-spelling (datagrams.Pong sequencer round) = header 7 ++ signal_bytes sequencer round
-spelling (datagrams.Fragment f) = header 8 ++ fragment_bytes f
+spelling (datagrams.Request r) = header kinds.REQUEST ++ request_bytes r
+spelling (datagrams.Stamped s) = header kinds.STAMPED ++ stamped_bytes s
+spelling (datagrams.Reply r) = header kinds.REPLY ++ reply_bytes r
+spelling (datagrams.Install sequencer session) = header kinds.INSTALL ++ signal_bytes sequencer session
+spelling (datagrams.Installed sequencer session) = header kinds.INSTALLED ++ signal_bytes sequencer session
+spelling (datagrams.Ping sequencer round) = header kinds.PING ++ signal_bytes sequencer round
+spelling (datagrams.Pong sequencer round) = header kinds.PONG ++ signal_bytes sequencer round
+spelling (datagrams.Fragment f) = header kinds.FRAGMENT ++ fragment_bytes f
 
 -- the bytes are the value's spelling, with each field in its range
 pub record Spells (d : Datagram) (bytes : List ℕ) : Type 0 where

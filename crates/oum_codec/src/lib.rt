@@ -6,6 +6,7 @@ mod fields;
 mod fixed;
 mod laws;
 mod read;
+mod send;
 mod write;
 
 pub use bad::Bad;
@@ -16,7 +17,8 @@ pub use fields::{
 pub use laws::{
     fields_are_read, read_fields_stand, read_is_spelled, spelled_is_read, spelling_is_injective,
 };
-pub use read::decode;
+pub use read::{decode, read_datagram};
+pub use send::send_datagram;
 pub use write::{encode, put_fragment, put_request, put_u16, put_u32, put_u64, put_view};
 
 #[cfg(test)]

@@ -1,11 +1,13 @@
-ghost use Rattle.std.specs.Prelude.{◌≡◌, ◌⊎◌, IfOk};
+ghost use Rattle.std.specs.Prelude.{◌≡◌, ◌⊎◌, IfOk, IfSome};
 ghost use Rattle.nop_types.specs.declared.datagram.Datagram.{Datagram};
 ghost use Rattle.oum_codec.specs.Spelling.{Spells};
-ghost use Rattle.oum_codec.specs.Reading.{Gives, GivesBy, sized, request_of, stamped_of, reply_of, signal_of, fragment_of, body_of, reading};
+ghost use Rattle.oum_codec.specs.Reading.{Finds, Gives, GivesBy, sized, request_of, stamped_of, reply_of, signal_of, fragment_of, body_of, reading};
 
 use crate::Bad;
 use crate::fixed::{FragmentFields, ReplyFields, RequestFields, SignalFields, StampedFields};
-use nop_types::{Bytes, Datagram, FRAGMENT_BYTES, Fragment, Op, Reply, Request, Stamped};
+use nop_types::{
+    Bytes, Datagram, FRAGMENT_BYTES, Fragment, NoMemory, Op, Reply, Request, Stamped, kinds,
+};
 use std::alloc::Global;
 
 /// The bytes, where there are at least and at most so many.
@@ -114,38 +116,38 @@ fn body(alloc: Global, kind: u8, rest: &[u8]) -> Result<Datagram, Bad>
     ensures { Gives result (body_of kind rest.now) }
 {
     match kind {
-        1 => request(alloc, rest),
-        2 => stamped(alloc, rest),
-        3 => reply(alloc, rest),
-        4 => {
+        kinds::REQUEST => request(alloc, rest),
+        kinds::STAMPED => stamped(alloc, rest),
+        kinds::REPLY => reply(alloc, rest),
+        kinds::INSTALL => {
             let fields = signal(rest)?;
             Ok(Datagram::Install {
                 sequencer: fields.sequencer,
                 session: fields.number,
             })
         }
-        5 => {
+        kinds::INSTALLED => {
             let fields = signal(rest)?;
             Ok(Datagram::Installed {
                 sequencer: fields.sequencer,
                 session: fields.number,
             })
         }
-        6 => {
+        kinds::PING => {
             let fields = signal(rest)?;
             Ok(Datagram::Ping {
                 sequencer: fields.sequencer,
                 round: fields.number,
             })
         }
-        7 => {
+        kinds::PONG => {
             let fields = signal(rest)?;
             Ok(Datagram::Pong {
                 sequencer: fields.sequencer,
                 round: fields.number,
             })
         }
-        8 => fragment(alloc, rest),
+        kinds::FRAGMENT => fragment(alloc, rest),
         _ => Err(Bad::Kind),
     }
 }
@@ -156,10 +158,10 @@ fn datagram(alloc: Global, bytes: &[u8]) -> Result<Datagram, Bad>
 {
     match bytes {
         [first, second, version, kind, rest @ ..] => {
-            if *first != 0x4e || *second != 0x4f {
+            if *first != kinds::FIRST_MAGIC || *second != kinds::SECOND_MAGIC {
                 return Err(Bad::Magic);
             }
-            if *version != 1 {
+            if *version != kinds::VERSION {
                 return Err(Bad::Version);
             }
             body(alloc, *kind, rest)
@@ -179,4 +181,16 @@ pub fn decode(alloc: Global, bytes: &[u8]) -> Result<Datagram, Bad>
     ensures exact { Gives result (reading bytes.now) }
 {
     datagram(alloc, bytes)
+}
+
+/// The datagram that the bytes spell, None where they spell none.
+pub fn read_datagram(alloc: Global, bytes: &[u8]) -> Result<Option<Datagram>, NoMemory>
+    ensures found { IfOk result (λ found. IfSome found (λ d. Spells d bytes.now)) }
+    ensures exact { IfOk result (λ found. Finds found (reading bytes.now)) }
+{
+    match decode(alloc, bytes) {
+        Ok(datagram) => Ok(Some(datagram)),
+        Err(Bad::NoMemory) => Err(NoMemory),
+        Err(_) => Ok(None),
+    }
 }

@@ -4,7 +4,7 @@ ghost use Rattle.nop_types.specs.Ranges.{DatagramFits};
 ghost use Rattle.oum_codec.specs.Numbers.{be_bytes};
 ghost use Rattle.oum_codec.specs.Spelling.{view_bytes, counted_bytes, request_bytes, stamped_bytes, reply_bytes, signal_bytes, header, spelling};
 
-use nop_types::{Datagram, MAX_RESULT_BYTES, NoMemory, Reply, Request, Stamped, View};
+use nop_types::{Datagram, MAX_RESULT_BYTES, NoMemory, Reply, Request, Stamped, View, kinds};
 use std::alloc::Global;
 
 /// Appends two bytes.
@@ -101,7 +101,12 @@ fn put_signal(to: &mut Vec<u8>, sequencer: u8, n: u32) -> Result<(), NoMemory>
 fn put_header(to: &mut Vec<u8>, kind: u8) -> Result<(), NoMemory>
     ensures { OnOk result (to.new.items ≡ to.old.items ++ header kind) }
 {
-    to.extend_from_slice(&[0x4e, 0x4f, 1, kind])?;
+    to.extend_from_slice(&[
+        kinds::FIRST_MAGIC,
+        kinds::SECOND_MAGIC,
+        kinds::VERSION,
+        kind,
+    ])?;
     Ok(())
 }
 
@@ -116,7 +121,7 @@ pub fn put_fragment(
 ) -> Result<(), NoMemory>
     ensures { OnOk result (to.new.items ≡ to.old.items ++ spelling (Datagram.Fragment (record { replica = replica; message = message; index = index; count = count; payload = payload.now }))) }
 {
-    put_header(to, 8)?;
+    put_header(to, kinds::FRAGMENT)?;
     to.push(replica)?;
     put_u64(to, message)?;
     put_u16(to, index)?;
@@ -131,31 +136,31 @@ fn put(to: &mut Vec<u8>, datagram: &Datagram) -> Result<(), NoMemory>
 {
     match datagram {
         Datagram::Request(request) => {
-            put_header(to, 1)?;
+            put_header(to, kinds::REQUEST)?;
             put_request(to, request)
         }
         Datagram::Stamped(stamped) => {
-            put_header(to, 2)?;
+            put_header(to, kinds::STAMPED)?;
             put_stamped(to, stamped)
         }
         Datagram::Reply(reply) => {
-            put_header(to, 3)?;
+            put_header(to, kinds::REPLY)?;
             put_reply(to, reply)
         }
         Datagram::Install { sequencer, session } => {
-            put_header(to, 4)?;
+            put_header(to, kinds::INSTALL)?;
             put_signal(to, *sequencer, *session)
         }
         Datagram::Installed { sequencer, session } => {
-            put_header(to, 5)?;
+            put_header(to, kinds::INSTALLED)?;
             put_signal(to, *sequencer, *session)
         }
         Datagram::Ping { sequencer, round } => {
-            put_header(to, 6)?;
+            put_header(to, kinds::PING)?;
             put_signal(to, *sequencer, *round)
         }
         Datagram::Pong { sequencer, round } => {
-            put_header(to, 7)?;
+            put_header(to, kinds::PONG)?;
             put_signal(to, *sequencer, *round)
         }
         Datagram::Fragment(fragment) => put_fragment(

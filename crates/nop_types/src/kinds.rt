@@ -1,0 +1,48 @@
+//! What the first bytes of datagrams and of peer messages are.
+
+/// The first byte of each datagram, the letter N.
+pub const FIRST_MAGIC: u8 = 0x4e;
+
+/// The second byte of each datagram, the letter O.
+pub const SECOND_MAGIC: u8 = 0x4f;
+
+/// The version of the formats, the third byte of each datagram.
+pub const VERSION: u8 = 1;
+
+/// The kinds of datagrams, the fourth byte of each.
+pub const REQUEST: u8 = 1;
+
+pub const STAMPED: u8 = 2;
+
+pub const REPLY: u8 = 3;
+
+pub const INSTALL: u8 = 4;
+
+pub const INSTALLED: u8 = 5;
+
+pub const PING: u8 = 6;
+
+pub const PONG: u8 = 7;
+
+pub const FRAGMENT: u8 = 8;
+
+/// The kinds of peer messages, the first byte of each. They count from `SLOT_LOOKUP` to `SYNC_COMMIT`.
+pub const SLOT_LOOKUP: u8 = 16;
+
+pub const FOUND: u8 = 17;
+
+pub const GAP_COMMIT: u8 = 18;
+
+pub const GAP_REP: u8 = 19;
+
+pub const VIEW_CHANGE_REQ: u8 = 20;
+
+pub const VIEW_CHANGE: u8 = 21;
+
+pub const START_VIEW: u8 = 22;
+
+pub const SYNC_PREPARE: u8 = 23;
+
+pub const SYNC_REP: u8 = 24;
+
+pub const SYNC_COMMIT: u8 = 25;
