@@ -1,3 +1,4 @@
+pub mod Counted
 pub mod InRanges
 pub mod Merged
 pub mod Rows

@@ -3,11 +3,9 @@
 
 mod laws;
 mod merging;
-mod of_view;
 
 pub use laws::{merge_by_slot, merge_is_in_ranges, merge_is_of_pairs};
-pub use merging::merge;
-pub use of_view::merge_of_view;
+pub use merging::{merge, merge_of_view};
 
 #[cfg(test)]
 mod tests;

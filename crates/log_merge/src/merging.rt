@@ -1,22 +1,37 @@
-ghost use Rattle.std.specs.Prelude.{◌≡◌, ◌≤◌, suc, IfOk, option_map};
+ghost use Rattle.std.specs.Prelude.{◌≡◌, ◌≤◌, suc, cond, filter, IfOk, None, option_map};
 ghost use Rattle.nop_types.specs.Lists.{slot_of};
-ghost use Rattle.log_merge.specs.Merge.{told, of_both, of_two, chosen, entry_of, longest, merge};
+ghost use Rattle.nop_types.specs.Views.{is_view};
+ghost use Rattle.log_merge.specs.Merge.{told, of_both, of_two, counts, chosen, entry_of, longest, merge};
 ghost use Rattle.log_merge.specs.Given.{given};
 
-use nop_types::{Change, Entry, Log, MAX_SLOTS, NoMemory};
+use nop_types::{Change, Entry, Log, MAX_SLOTS, NoMemory, View};
 use std::alloc::Global;
 
 /// An entry and who told it.
 #[derive(Clone, Copy)]
-pub struct Told<'a> {
-    pub sender: u8,
-    pub entry: &'a Entry,
+struct Told<'a> {
+    sender: u8,
+    entry: &'a Entry,
 }
 
-/// What a change tells of a place of its log.
-pub fn told_at(change: &Change, place: usize) -> Option<Told<'_>>
-    ensures { option_map given result ≡ told change.now.sender (slot_of change.now.log (suc place)) }
+/// Whether a change counts: each one where no view is given, else those with this last normal view.
+fn counts(change: &Change, of: Option<View>) -> bool
+    ensures { result ≡ counts of change.now }
 {
+    match of {
+        Some(view) => change.last_normal.is(view),
+        None => true,
+    }
+}
+
+/// What a change that counts tells of a place of its log. The others tell nothing.
+fn told_at(change: &Change, of: Option<View>, place: usize) -> Option<Told<'_>>
+    ensures { option_map given result
+        ≡ cond (counts of change.now) (told change.now.sender (slot_of change.now.log (suc place))) None }
+{
+    if !counts(change, of) {
+        return None;
+    }
     let entry = change.log.as_slice().get(place)?;
     Some(Told {
         sender: change.sender,
@@ -35,7 +50,7 @@ fn of_both<'a>(a: Told<'a>, b: Told<'a>) -> Told<'a>
     }
 }
 
-pub fn of_two<'a>(a: Option<Told<'a>>, b: Option<Told<'a>>) -> Option<Told<'a>>
+fn of_two<'a>(a: Option<Told<'a>>, b: Option<Told<'a>>) -> Option<Told<'a>>
     ensures { option_map given result ≡ of_two (option_map given a.entry) (option_map given b.entry) }
 {
     match (a, b) {
@@ -46,34 +61,49 @@ pub fn of_two<'a>(a: Option<Told<'a>>, b: Option<Told<'a>>) -> Option<Told<'a>>
 }
 
 /// What wins at a place of the logs.
-fn chosen(changes: &[Change], place: usize) -> Option<Told<'_>>
-    ensures { option_map given result ≡ chosen changes.now (suc place) }
+fn chosen(changes: &[Change], of: Option<View>, place: usize) -> Option<Told<'_>>
+    ensures { option_map given result ≡ chosen (filter (counts of) changes.now) (suc place) }
 {
     let mut best = None;
     for change in changes {
-        best = of_two(best, told_at(change, place));
+        best = of_two(best, told_at(change, of, place));
     }
     best
 }
 
-fn entry_at(changes: &[Change], place: usize) -> Result<Entry, NoMemory>
-    ensures { IfOk result (λ entry. entry ≡ entry_of (chosen changes.now (suc place))) }
+fn entry_at(changes: &[Change], of: Option<View>, place: usize) -> Result<Entry, NoMemory>
+    ensures { IfOk result (λ entry.
+        entry ≡ entry_of (chosen (filter (counts of) changes.now) (suc place))) }
 {
-    match chosen(changes, place) {
+    match chosen(changes, of, place) {
         Some(told) => told.entry.try_clone(),
         None => Ok(Entry::NoOp),
     }
 }
 
-fn longest(changes: &[Change]) -> usize
-    ensures value { result ≡ longest changes.now }
+fn longest(changes: &[Change], of: Option<View>) -> usize
+    ensures value { result ≡ longest (filter (counts of) changes.now) }
     ensures limit { result ≤ MAX_SLOTS }
 {
     let mut most = 0;
     for change in changes {
-        most = most.max(change.log.as_slice().len());
+        if counts(change, of) {
+            most = most.max(change.log.as_slice().len());
+        }
     }
     most
+}
+
+/// The merge of the changes that count. Only the entries of the result are copied.
+fn merged(alloc: Global, changes: &[Change], of: Option<View>) -> Result<Log, NoMemory>
+    ensures { IfOk result (λ log. log ≡ merge (filter (counts of) changes.now)) }
+{
+    let slots = longest(changes, of);
+    let mut log = Log::with_capacity(alloc, slots)?;
+    for place in 0..slots {
+        log.push(entry_at(changes, of, place)?)?;
+    }
+    Ok(log)
 }
 
 /// As long as the longest log. In each slot stands a NO-OP where any log has one there, else the request of the lowest sender
@@ -81,10 +111,12 @@ fn longest(changes: &[Change]) -> usize
 pub fn merge(alloc: Global, changes: &[Change]) -> Result<Log, NoMemory>
     ensures { IfOk result (λ log. log ≡ merge changes.now) }
 {
-    let slots = longest(changes);
-    let mut log = Log::with_capacity(alloc, slots)?;
-    for place in 0..slots {
-        log.push(entry_at(changes, place)?)?;
-    }
-    Ok(log)
+    merged(alloc, changes, None)
+}
+
+/// The merge of the changes with this last normal view.
+pub fn merge_of_view(alloc: Global, changes: &[Change], view: View) -> Result<Log, NoMemory>
+    ensures { IfOk result (λ log. log ≡ merge (filter (λ c. is_view c.last_normal view) changes.now)) }
+{
+    merged(alloc, changes, Some(view))
 }

@@ -1,8 +1,10 @@
-use Rattle.std.proofs.Common.{◌≡◌, suc, drop, option_map}
-use Rattle.log_merge.specs.Merge.{of_two, chosen}
+use Rattle.std.proofs.Common.{◌≡◌, suc, drop, filter, option_map}
+use Rattle.log_merge.specs.Merge.{of_two, counts, chosen}
 use Rattle.log_merge.specs.Given.{given}
 use Rattle.log_merge.proofs.merging.chosen.Given as goal
 
 -- what won so far, against the rest
 abbrev pub invariant-loop-change : goal.invariant-loop-change
-invariant-loop-change l = of_two (option_map given l.best) (chosen (drop l.change-index l.changes) (suc l.place)) ≡ chosen l.changes (suc l.place)
+invariant-loop-change l =
+    of_two (option_map given l.best) (chosen (filter (counts l.of) (drop l.change-index l.changes)) (suc l.place))
+    ≡ chosen (filter (counts l.of) l.changes) (suc l.place)

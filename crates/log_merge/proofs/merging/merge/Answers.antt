@@ -1,14 +1,10 @@
-use Rattle.std.proofs.Common.{suc, length, ap, ◌∙◌, arith}
-use Rattle.std.proofs.lemmas.List.FromFn.{length-map-range_with_len, map-range_with_len_more}
-use Rattle.log_merge.specs.Merge.{chosen, entry_of}
+use Rattle.std.proofs.Common.{◌≡◌, List, subst}
+use Rattle.std.specs.Prelude.{IfOk}
+use Rattle.nop_types.specs.declared.peer.Change.{Change}
+use Rattle.log_merge.specs.Merge.{merge}
+use Rattle.log_merge.proofs.Counted.{all_count}
 use Rattle.log_merge.proofs.merging.merge.Goals as goal
 
-pub push-requires : goal.push-requires
-push-requires c = omega (arith, ap length c.loop-place.invariant ∙ length-map-range_with_len (λ k. entry_of (chosen c.args.changes.now k)) 1 c.loop-place.place, c.longest-slots.ensures.limit)
-
-pub loop-place-preserved : goal.loop-place-preserved
-loop-place-preserved c =
-    let next = map-range_with_len_more (λ k. entry_of (chosen c.args.changes.now k)) 1 c.loop-place.place (suc c.loop-place.place) (omega arith) in
-    let log = c.in_ok-push.ensures.ok in
-    let entry = c.in_ok-entry_at.ensures in
-    cc
+pub returns : goal.returns
+returns c =
+    subst (λ (cs : List Change). IfOk c.merged.result (λ log. log ≡ merge cs)) (all_count c.args.changes.now) c.merged.ensures

@@ -1,7 +1,0 @@
-use Rattle.std.proofs.Common.{◌≡◌, map}
-use Rattle.std.specs.List.{range_with_len}
-use Rattle.log_merge.specs.Merge.{chosen, entry_of}
-use Rattle.log_merge.proofs.merging.merge.Given as goal
-
-abbrev pub invariant-loop-place : goal.invariant-loop-place
-invariant-loop-place l = l.log ≡ map (λ k. entry_of (chosen l.changes k)) (range_with_len 1 l.place)
