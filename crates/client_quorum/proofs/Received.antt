@@ -13,13 +13,13 @@ use Rattle.nop_types.specs.declared.datagram.Reply.{Reply}
 use Rattle.nop_types.specs.declared.output.Out.{Out}
 use Rattle.nop_types.specs.declared.output.Out.TheVariants.{Submitted, Accepted}
 use Rattle.facts.proofs.Members.{Has-none, Has-rest, Has-append_left, Has-append_right, Has-from_filter, Has-filter, Has-push_cases}
-use Rattle.client_quorum.specs.declared.client_state.ClientState.{ClientState}
+use Rattle.client_quorum.specs.declared.state.ClientState.{ClientState}
 use Rattle.client_quorum.specs.ClientSteps.{opening, next, request_of, sent, is_of, is_expected, kept, accept_if}
 use Rattle.client_quorum.specs.KeptReplies.{HasOneEach, keep_reply, matches, quorum_of}
 use Rattle.client_quorum.specs.Runs.{after, replies_of, reply_of, HasQuorum, IsAgreed}
 use Rattle.client_quorum.proofs.KeptReplies.{times_is, fewer, kept_one_each}
 use Rattle.client_quorum.proofs.Quorums.{matched, is_matched, has_quorum}
-use Rattle.client_quorum.proofs.Rows.{Quiet, Nothing, IsBusy, Again, row_does}
+use Rattle.client_quorum.proofs.WorkedRows.{Quiet, Nothing, IsBusy, Again, row_does}
 
 -- a kept reply came, from a replica, for the open request
 record KeptFits (all : List Reply) (s : ClientState) (k : Reply) : Type 0 where

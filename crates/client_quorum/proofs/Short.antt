@@ -8,13 +8,13 @@ use Rattle.nop_types.specs.Lists.{Has}
 use Rattle.nop_types.specs.declared.view.View.{View}
 use Rattle.nop_types.specs.declared.datagram.Reply.{Reply}
 use Rattle.facts.proofs.Members.{Has-none, Has-from_filter, Has-push_cases}
-use Rattle.client_quorum.specs.declared.client_state.ClientState.{ClientState}
+use Rattle.client_quorum.specs.declared.state.ClientState.{ClientState}
 use Rattle.client_quorum.specs.ClientSteps.{opening, next, kept, accept_if}
 use Rattle.client_quorum.specs.KeptReplies.{HasOneEach, keep_reply, matches, quorum_of}
 use Rattle.client_quorum.specs.Runs.{after, HasQuorum}
 use Rattle.client_quorum.proofs.KeptReplies.{kept_one_each}
 use Rattle.client_quorum.proofs.Quorums.{is_matched, matched, gets_quorum}
-use Rattle.client_quorum.proofs.Rows.{row_does}
+use Rattle.client_quorum.proofs.WorkedRows.{row_does}
 
 -- one that fails the test adds nothing
 without_last : (m : Reply → Bool) (xs : List Reply) (p : Reply) → m p ≡ false → filter m (xs ++ p ∷ []) ≡ filter m xs

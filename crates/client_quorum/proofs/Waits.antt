@@ -11,10 +11,10 @@ use Rattle.nop_types.specs.declared.datagram.Reply.{Reply}
 use Rattle.nop_types.specs.declared.output.Out.{Out}
 use Rattle.nop_types.specs.declared.output.Out.TheVariants.{Submitted, Send, Accepted, Busy}
 use Rattle.facts.proofs.Members.{Has-append_left, Has-append_right}
-use Rattle.client_quorum.specs.declared.client_state.ClientState.{ClientState}
+use Rattle.client_quorum.specs.declared.state.ClientState.{ClientState}
 use Rattle.client_quorum.specs.ClientSteps.{opening, next, request_of, is_of, is_expected, kept, accept_if}
 use Rattle.client_quorum.specs.Runs.{after, gave, ops_of, HasNoSubmit, EndsWith, Stands, NoneYet, IsOpen, WasAccepted}
-use Rattle.client_quorum.proofs.Rows.{Quiet, Nothing, IsBusy, Again, row_does}
+use Rattle.client_quorum.proofs.WorkedRows.{Quiet, Nothing, IsBusy, Again, row_does}
 use Rattle.client_quorum.proofs.Turns.{IsTidy, open_of}
 
 ops_append : (xs ys : List Out) → ops_of (xs ++ ys) ≡ ops_of xs ++ ops_of ys

@@ -15,7 +15,7 @@ use Rattle.oum_codec.specs.declared.bad.Bad.{Bad}
 use Rattle.oum_codec.specs.Reading.{reading}
 use Rattle.oum_codec.specs.Spelling.{spelling}
 use Rattle.client_quorum.specs.KeptReplies.{keep_reply, quorum_of}
-use Rattle.client_quorum.specs.declared.client_state.ClientState.{ClientState}
+use Rattle.client_quorum.specs.declared.state.ClientState.{ClientState}
 
 abbrev pub opening : Configuration → ℕ → List (List ℕ) → ClientState
 opening config number ops = record { config = config; number = number; last_id = 0; pending = None; replies = []; accepted = None; waiting = ops }

@@ -2,7 +2,7 @@ ghost use Rattle.std.specs.Prelude.{◌≡◌, false, IfOk};
 ghost use Rattle.std.specs.Option.{option_copied};
 ghost use Rattle.client_quorum.specs.ClientSteps.{opening, timers, is_done};
 
-use crate::steps::act;
+use crate::rows::act;
 use crate::{ClientState, Pending, Replies, Waiting};
 use nop_types::{Accept, Config, Core, Input, NoMemory, Op, Outbox, Tick};
 use std::alloc::Global;
@@ -17,10 +17,10 @@ pub struct Client {
 }
 
 impl Model for Client {
-    ghost use Rattle.nop_types.specs.Kept.{Kept};
-    ghost use Rattle.client_quorum.specs.declared.client_state.ClientState.{ClientState};
+    ghost use Rattle.nop_types.specs.Machine.{Machine};
+    ghost use Rattle.client_quorum.specs.declared.state.ClientState.{ClientState};
 
-    ghost Value = { Kept ClientState };
+    ghost Value = { Machine ClientState };
 
     ghost view = { λ c. record { failed = c.failed; state = c.state } };
 }
@@ -54,7 +54,7 @@ impl Client {
 }
 
 impl Core for Client {
-    ghost use Rattle.client_quorum.specs.declared.client_state.ClientState.{ClientState};
+    ghost use Rattle.client_quorum.specs.declared.state.ClientState.{ClientState};
     ghost use Rattle.client_quorum.specs.ClientSteps.{next, timers, is_done};
 
     ghost State = { ClientState };

@@ -8,7 +8,7 @@ ghost use Rattle.nop_types.specs.declared.view.View.{View};
 ghost use Rattle.nop_types.specs.declared.datagram.Reply.{Reply};
 ghost use Rattle.nop_types.specs.declared.request.Request.{Request};
 ghost use Rattle.nop_types.specs.declared.output.Out.TheVariants.{Submitted, Accepted};
-ghost use Rattle.client_quorum.specs.declared.client_state.ClientState.{ClientState};
+ghost use Rattle.client_quorum.specs.declared.state.ClientState.{ClientState};
 ghost use Rattle.client_quorum.specs.ClientSteps.{opening, next, reply, is_expected};
 ghost use Rattle.client_quorum.specs.KeptReplies.{HasOneEach, keep_reply};
 ghost use Rattle.client_quorum.specs.Runs.{after, gave, replies_of, ops_of, HasNoSubmit, HasQuorum, IsAgreed, EndsWith, Stands, TakesTurns};

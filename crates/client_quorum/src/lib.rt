@@ -2,21 +2,21 @@
 #![tactic(auto)]
 
 mod client;
-mod client_state;
 mod laws;
 mod pending;
 mod replies;
-mod steps;
+mod rows;
+mod state;
 mod waiting;
 
 pub use client::Client;
-pub use client_state::ClientState;
 pub use laws::{
     accepts_exactly_at_a_quorum, accepts_what_replicas_replied, keeps_no_quorum,
     knows_the_last_request, submits_waiting_ops_in_order, takes_turns, uses_each_id_once,
 };
 pub use pending::Pending;
 pub use replies::Replies;
+pub use state::ClientState;
 pub use waiting::Waiting;
 
 #[cfg(test)]

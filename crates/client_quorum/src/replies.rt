@@ -28,7 +28,7 @@ impl Model for Replies {
 fn is_match(view: View, slot: u32, kept: &Reply) -> bool
     ensures { result ≡ matches view slot kept.now }
 {
-    kept.view.leader == view.leader && kept.view.session == view.session && kept.slot == slot
+    kept.view.is(view) && kept.slot == slot
 }
 
 /// Whether it is the leader's of its view, with a result.

@@ -5,7 +5,7 @@ use Rattle.nop_types.specs.declared.request.Entry.TheVariants.{NoOp, Req}
 use Rattle.nop_types.specs.declared.view.View.{View}
 use Rattle.nop_types.specs.declared.peer.Change.{Change}
 use Rattle.log_merge.specs.Merge.{merge}
-use Rattle.log_merge.specs.Starting.{opened}
+use Rattle.log_merge.specs.Starting.{start_of}
 
 abbrev req : ℕ → Entry
 req n = Req (record { client = n; id = n; op = [] })
@@ -27,12 +27,12 @@ row_3 : merge [] ≡ []
 row_3 = refl
 
 -- only the changes of the greatest last normal view count; next is theirs in the same session, and 1 in another
-row_4 : opened (view 2 1) (change 0 (view 1 1) 3 (req 1 ∷ req 2 ∷ []) ∷ change 1 (view 0 1) 9 (NoOp ∷ []) ∷ change 2 (view 1 1) 2 (req 1 ∷ []) ∷ []) ≡ record { next = 3; log = req 1 ∷ req 2 ∷ [] }
+row_4 : start_of (view 2 1) (change 0 (view 1 1) 3 (req 1 ∷ req 2 ∷ []) ∷ change 1 (view 0 1) 9 (NoOp ∷ []) ∷ change 2 (view 1 1) 2 (req 1 ∷ []) ∷ []) ≡ record { next = 3; log = req 1 ∷ req 2 ∷ [] }
 row_4 = refl
 
-row_5 : opened (view 2 2) (change 0 (view 1 1) 3 (req 1 ∷ req 2 ∷ []) ∷ change 1 (view 0 1) 9 (NoOp ∷ []) ∷ []) ≡ record { next = 1; log = req 1 ∷ req 2 ∷ [] }
+row_5 : start_of (view 2 2) (change 0 (view 1 1) 3 (req 1 ∷ req 2 ∷ []) ∷ change 1 (view 0 1) 9 (NoOp ∷ []) ∷ []) ≡ record { next = 1; log = req 1 ∷ req 2 ∷ [] }
 row_5 = refl
 
 -- sessions rank before leader numbers
-row_6 : opened (view 6 2) (change 0 (view 5 1) 3 (req 1 ∷ []) ∷ change 1 (view 0 2) 7 (req 2 ∷ []) ∷ []) ≡ record { next = 7; log = req 2 ∷ [] }
+row_6 : start_of (view 6 2) (change 0 (view 5 1) 3 (req 1 ∷ []) ∷ change 1 (view 0 2) 7 (req 2 ∷ []) ∷ []) ≡ record { next = 7; log = req 2 ∷ [] }
 row_6 = refl

@@ -25,5 +25,5 @@ greatest_next [] = 0
 greatest_next (c ∷ cs) = max c.next (greatest_next cs)
 
 -- what the view w is started with: the merge of the kept logs, and their greatest next number where they come from its session
-abbrev pub opened : View → List Change → Start
-opened w cs = record { next = cond ((greatest cs).session == w.session) (greatest_next (kept cs)) 1; log = merge (kept cs) }
+abbrev pub start_of : View → List Change → Start
+start_of w cs = record { next = cond ((greatest cs).session == w.session) (greatest_next (kept cs)) 1; log = merge (kept cs) }

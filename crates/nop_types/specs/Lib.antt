@@ -2,10 +2,10 @@ pub mod Configuration
 pub mod Execution
 pub mod Given
 pub mod Histories
-pub mod Kept
 pub mod Legality
 pub mod Lines
 pub mod Lists
+pub mod Machine
 pub mod Meaning
 pub mod Ranges
 pub mod Slots

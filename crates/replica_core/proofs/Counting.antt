@@ -22,11 +22,11 @@ use Rattle.nop_types.specs.declared.peer.Peer.{Peer}
 use Rattle.nop_types.specs.declared.peer.Body.{Body}
 use Rattle.nop_types.specs.declared.peer.Body.TheVariants as bodies
 use Rattle.gap_agree.specs.Agreement.{Agreement}
-use Rattle.log_merge.specs.Starting.{opened}
+use Rattle.log_merge.specs.Starting.{start_of}
 use Rattle.oum_receiver.specs.Front.{Front, Nothing, Message, Dropped}
 use Rattle.oum_receiver.specs.Receiving.{front_of}
-use Rattle.slot_lookup.specs.Reaction.{Reaction, Found, GapAgain, Begin, answer_of}
-use Rattle.slot_lookup.specs.Reaction as reactions
+use Rattle.slot_lookup.specs.Answer.{Answer, Found, GapAgain, Begin, answer_of}
+use Rattle.slot_lookup.specs.Answer as answers
 use Rattle.sync_points.specs.Synchronisation.{vote_for}
 use Rattle.view_change.specs.Gathering.{Gathering}
 use Rattle.replica_core.specs.declared.sending.Sending.{Sending}
@@ -224,7 +224,7 @@ open_with_few m s x l = then_few (λ t. adopt m t t.view x l) 1 1 2 (omega arith
 
 open_if_few : {S : Type 0} (m : Meaning S) (o : Option Gathering) (s : ReplicaState) → Few 2 s (open_if_enough m o s)
 open_if_few m None s = still_few 2 s
-open_if_few m (Some g) s = when_few 2 (nat_lt g.f (length g.changes)) (open_view m g) s (open_with_few m s (opened g.view g.changes).next (opened g.view g.changes).log)
+open_if_few m (Some g) s = when_few 2 (nat_lt g.f (length g.changes)) (open_view m g) s (open_with_few m s (start_of g.view g.changes).next (start_of g.view g.changes).log)
 
 enter_view_few : {S : Type 0} (m : Meaning S) (s : ReplicaState) (v : View) → Few 4 s (rows.enter_view m s v)
 unfolding rows.enter_view
@@ -299,11 +299,11 @@ open_gap_few : (s : ReplicaState) → Few 1 s (open_gap s)
 unfolding open_gap
 open_gap_few s = all_few s (gap_opened s) (bodies.GapCommit (length s.log + 1)) refl
 
-lookup_by_few : {S : Type 0} (m : Meaning S) (r : Reaction) (q k : ℕ) (s : ReplicaState) → Few 2 s (rows.slot_lookup_by m r q k s)
+lookup_by_few : {S : Type 0} (m : Meaning S) (r : Answer) (q k : ℕ) (s : ReplicaState) → Few 2 s (rows.slot_lookup_by m r q k s)
 lookup_by_few m (Found r) q k s = record { few = omega arith; config = refl }
 lookup_by_few m GapAgain q k s = record { few = omega arith; config = refl }
 lookup_by_few m Begin q k s = when_few 2 (nat_lt s.next NUMBER_END) (λ t. then_do (open_gap t) (drain m)) s (and_drain m 1 (open_gap_few s))
-lookup_by_few m reactions.Nothing q k s = still_few 2 s
+lookup_by_few m answers.Nothing q k s = still_few 2 s
 
 lookup_few : {S : Type 0} (m : Meaning S) (q k : ℕ) (s : ReplicaState) → Few 2 s (rows.slot_lookup m q k s)
 unfolding rows.slot_lookup

@@ -12,7 +12,7 @@ use Rattle.nop_types.specs.declared.peer.Change.{Change}
 use Rattle.nop_types.specs.Ranges.{ChangeFits, NextFits, LogFits}
 use Rattle.nop_types.specs.Views.{is_view, outranks}
 use Rattle.nop_types.specs.Meaning.{Meaning}
-use Rattle.log_merge.specs.Starting.{greatest, greatest_next, kept, opened}
+use Rattle.log_merge.specs.Starting.{greatest, greatest_next, kept, start_of}
 use Rattle.log_merge.proofs.InRanges.{merge_of_changes_fits}
 use Rattle.view_change.specs.Gathering.{Gathering, started, counted, has_sender, step_of}
 use Rattle.view_change.specs.declared.starting.Step.TheVariants.{Started, Waiting}
@@ -75,7 +75,7 @@ greatest_has : (c : Change) (cs : List Change) → HasView (greatest (c ∷ cs))
 greatest_has c [] = greatest_of c [] (outranks (greatest []) c.last_normal) (λ e. absurd (true≢false (sym e ∙ lowest c.last_normal)))
 greatest_has c (d ∷ ds) = greatest_of c (d ∷ ds) (outranks (greatest (d ∷ ds)) c.last_normal) (λ _. greatest_has d ds)
 
-pub opened_next_fits : (w : View) (cs : List Change) → AllByRecursion ChangeFits cs → 0 < length cs → NextFits (opened w cs).next
+pub opened_next_fits : (w : View) (cs : List Change) → AllByRecursion ChangeFits cs → 0 < length cs → NextFits (start_of w cs).next
 opened_next_fits w [] h some = absurd (omega (arith, some))
 opened_next_fits w (c ∷ cs) h some = at ((greatest (c ∷ cs)).session == w.session)
   where
@@ -86,7 +86,7 @@ opened_next_fits w (c ∷ cs) h some = at ((greatest (c ∷ cs)).session == w.se
     }
     at false = record { low = omega arith; high = omega arith }
 
-pub opened_log_fits : (w : View) (cs : List Change) → AllByRecursion ChangeFits cs → LogFits (opened w cs).log
+pub opened_log_fits : (w : View) (cs : List Change) → AllByRecursion ChangeFits cs → LogFits (start_of w cs).log
 opened_log_fits w cs h = merge_of_changes_fits (kept cs) (filter_all ChangeFits (λ d. is_view d.last_normal (greatest cs)) cs h)
 
 -- ---- entering a view
@@ -131,15 +131,15 @@ module _ {S : Type 0} (m : Meaning S) where
       ap (λ (x : Effect). (x.0, (enter s v).1 ++ x.1)) rest
 
   -- the same, with what the code has after each part
-  pub opens_alone : (s t p : ReplicaState) (v : View) (g : Gathering) (start : Start) → t ≡ (enter s v).0 → t.changes ≡ Some g → g.f ≡ 0 → p ≡ t → start ≡ started (opened g.view g.changes) → enter_view m s v ≡ then_do (enter s v) (λ _. open_with m p start.next start.log)
+  pub opens_alone : (s t p : ReplicaState) (v : View) (g : Gathering) (start : Start) → t ≡ (enter s v).0 → t.changes ≡ Some g → g.f ≡ 0 → p ≡ t → start ≡ started (start_of g.view g.changes) → enter_view m s v ≡ then_do (enter s v) (λ _. open_with m p start.next start.log)
   opens_alone s t p v g start e is none same begins =
       enters_alone s v g (ap (λ (q : ReplicaState). q.changes) (sym e) ∙ is) none
       ∙ ap (λ (x : Effect). (x.0, (enter s v).1 ++ x.1))
       (ap (λ (q : ReplicaState). open_view m g q) (sym e ∙ sym same) ∙ ap (λ (b : Start). open_with m p b.next b.log) (sym begins))
 
-pub start_fits : (g : Gathering) (start : Start) → AllByRecursion ChangeFits g.changes → 0 < length g.changes → start ≡ started (opened g.view g.changes) → NextFits start.next × LogFits start.log
+pub start_fits : (g : Gathering) (start : Start) → AllByRecursion ChangeFits g.changes → 0 < length g.changes → start ≡ started (start_of g.view g.changes) → NextFits start.next × LogFits start.log
 start_fits g start all some begins =
-    let fits : NextFits (started (opened g.view g.changes)).next × LogFits (started (opened g.view g.changes)).log = (opened_next_fits g.view g.changes all some, opened_log_fits g.view g.changes all) in
+    let fits : NextFits (started (start_of g.view g.changes)).next × LogFits (started (start_of g.view g.changes)).log = (opened_next_fits g.view g.changes all some, opened_log_fits g.view g.changes all) in
     subst (λ (b : Start). NextFits b.next × LogFits b.log) (sym begins) fits
 
 -- what is put back after a look
@@ -164,5 +164,5 @@ begun_by true s start e = (refl, cc)
 begun_by false s start e = absurd cc
 
 -- a view starts where enough changes are there, with what they make
-pub begins : (g : Gathering) (start : Start) → step_of g ≡ Started start → (g.f < length g.changes) × (start ≡ started (opened g.view g.changes))
+pub begins : (g : Gathering) (start : Start) → step_of g ≡ Started start → (g.f < length g.changes) × (start ≡ started (start_of g.view g.changes))
 begins g start e = let r = begun_by (nat_lt g.f (length g.changes)) _ start e in (ltb-true _ _ r.0, r.1)

@@ -1,7 +1,7 @@
 -- The code of what a replica keeps, by which a proof tells its values apart.
 use Rattle.std.specs.Prelude.{ℕ, List, Option, Bool, refl}
 use Rattle.std.specs.Coded.{Coded, code_by, coded×, coded_ℕ, coded_list, coded_option, coded_bool}
-use Rattle.nop_types.specs.Kept.{Kept}
+use Rattle.nop_types.specs.Machine.{Machine}
 use Rattle.fragments.specs.Parts.{Partial}
 use Rattle.replica_core.specs.declared.state.ReplicaState.{ReplicaState}
 use Rattle.replica_core.specs.contracts.state.ReplicaState as state
@@ -17,5 +17,5 @@ replica_code =
     (λ p. record { state = p.0; messages = p.1.0; reassembly = p.1.1 })
     (λ _. refl)
 
-abbrev pub kept_code : Coded (Kept Replica)
-kept_code = code_by (Bool × Replica) (coded× coded_bool replica_code) (λ k. (k.failed, k.state)) (λ p. record { failed = p.0; state = p.1 }) (λ _. refl)
+abbrev pub machine_code : Coded (Machine Replica)
+machine_code = code_by (Bool × Replica) (coded× coded_bool replica_code) (λ k. (k.failed, k.state)) (λ p. record { failed = p.0; state = p.1 }) (λ _. refl)

@@ -15,12 +15,12 @@ use Rattle.nop_types.specs.declared.datagram.Stamped.{Stamped}
 use Rattle.nop_types.specs.declared.peer.Change as peer
 use Rattle.nop_types.specs.declared.peer.Body.TheVariants as bodies
 use Rattle.gap_agree.specs.Agreement.{Agreement, counted}
-use Rattle.log_merge.specs.Starting.{opened}
+use Rattle.log_merge.specs.Starting.{start_of}
 use Rattle.oum_receiver.specs.Front.{Front, Nothing, Message, Dropped}
 use Rattle.oum_receiver.specs.Receiving as receiving
 use Rattle.oum_receiver.specs.Receiving.{Receiving, offered, front_of, front_taken, advanced}
 use Rattle.sync_points.specs.Synchronisation as synchronisation
-use Rattle.sync_points.specs.Synchronisation.{cleared, told, committed, vote_for}
+use Rattle.sync_points.specs.Synchronisation.{cleared, with_round, committed, vote_for}
 use Rattle.view_change.specs.Gathering as gathering
 use Rattle.view_change.specs.Gathering.{Gathering}
 use Rattle.replica_core.specs.declared.sending.Sending.{Sending}
@@ -160,7 +160,7 @@ abbrev pub open_with : {S : Type 0} → Meaning S → ReplicaState → ℕ → L
 open_with m s x l = then_do (s, to_all s (bodies.StartView x l)) (λ t. adopt m t t.view x l)
 
 abbrev pub open_view : {S : Type 0} → Meaning S → Gathering → ReplicaState → Effect
-open_view m g s = open_with m s (opened g.view g.changes).next (opened g.view g.changes).log
+open_view m g s = open_with m s (start_of g.view g.changes).next (start_of g.view g.changes).log
 
 -- the view is opened where enough changes are there
 abbrev pub open_if_enough : {S : Type 0} → Meaning S → Option Gathering → ReplicaState → Effect
@@ -195,7 +195,7 @@ obey s k = still (record s { sync = committed s.sync k })
 
 -- a leader tells its log, and waits for votes
 abbrev pub open_sync : ReplicaState → Effect
-open_sync s = (record s { sync = told s.sync (length s.log) }, to_all s (bodies.SyncPrepare s.log))
+open_sync s = (record s { sync = with_round s.sync (length s.log) }, to_all s (bodies.SyncPrepare s.log))
 
 -- or says again what is synchronised
 abbrev pub repeat_commit : ReplicaState → Effect

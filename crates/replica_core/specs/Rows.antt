@@ -14,8 +14,8 @@ use Rattle.nop_types.specs.declared.peer.Body.TheVariants as bodies
 use Rattle.gap_agree.specs.Agreement.{Agreement}
 use Rattle.oum_receiver.specs.Front.{Front, Nothing, Message, Dropped}
 use Rattle.oum_receiver.specs.Receiving.{front_of}
-use Rattle.slot_lookup.specs.Reaction.{Reaction, Found, GapAgain, Begin, answer_of}
-use Rattle.slot_lookup.specs.Reaction as reactions
+use Rattle.slot_lookup.specs.Answer.{Answer, Found, GapAgain, Begin, answer_of}
+use Rattle.slot_lookup.specs.Answer as answers
 use Rattle.view_change.specs.Gathering.{Gathering}
 use Rattle.replica_core.specs.declared.state.ReplicaState.{ReplicaState}
 use Rattle.replica_core.specs.State.{leads, is_normal, waits, has_room, may_append}
@@ -130,11 +130,11 @@ sync_commit k s = when (nat_le k s.sync.prepared) (λ t. obey (hear t) k) s
 abbrev pub begin_gap : {S : Type 0} → Meaning S → ReplicaState → Effect
 begin_gap m s = when (nat_lt s.next NUMBER_END) (λ t. then_do (open_gap t) (drain m)) s
 
-abbrev pub slot_lookup_by : {S : Type 0} → Meaning S → Reaction → ℕ → ℕ → ReplicaState → Effect
+abbrev pub slot_lookup_by : {S : Type 0} → Meaning S → Answer → ℕ → ℕ → ReplicaState → Effect
 slot_lookup_by m (Found r) q k s = (s, to_replica s q (bodies.Found k r))
 slot_lookup_by m GapAgain q k s = (s, to_replica s q (bodies.GapCommit k))
 slot_lookup_by m Begin q k s = begin_gap m s
-slot_lookup_by m reactions.Nothing q k s = still s
+slot_lookup_by m answers.Nothing q k s = still s
 
 unfoldable pub slot_lookup : {S : Type 0} → Meaning S → ℕ → ℕ → ReplicaState → Effect
 slot_lookup m q k s = slot_lookup_by m (answer_of s.log (waits s.gap) k) q k s

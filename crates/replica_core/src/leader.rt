@@ -1,7 +1,7 @@
 ghost use Rattle.std.specs.Prelude.{◌≡◌, ◌<◌, ◌++◌, length, OnOk, IfOk};
 ghost use Rattle.nop_types.specs.Ranges.{SlotFits, LogFits};
 ghost use Rattle.nop_types.specs.declared.limits.TheConstants.{MAX_REPLICAS, MAX_SLOTS};
-ghost use Rattle.slot_lookup.specs.Reaction.{answer_of};
+ghost use Rattle.slot_lookup.specs.Answer.{answer_of};
 ghost use Rattle.replica_core.specs.State.{waits};
 ghost use Rattle.replica_core.specs.Responses.{response_to, ResponseFits};
 ghost use Rattle.replica_core.specs.Rows.{begin_gap, slot_lookup, gap_reply, sync_reply};

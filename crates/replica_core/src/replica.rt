@@ -47,14 +47,14 @@ pub struct Replica<H: Host> {
 
 impl<H: Host> Model for Replica<H> {
     ghost use Rattle.std.specs.Prelude.{◌≡◌, false};
-    ghost use Rattle.nop_types.specs.Kept.{Kept};
+    ghost use Rattle.nop_types.specs.Machine.{Machine};
     ghost use Rattle.replica_core.specs.ReplicaSteps as steps;
-    ghost use Rattle.replica_core.specs.Code.{kept_code};
+    ghost use Rattle.replica_core.specs.Code.{machine_code};
     ghost use Rattle.replica_core.specs.Within.{IsReady};
 
-    ghost Value = { Kept steps.Replica };
+    ghost Value = { Machine steps.Replica };
 
-    ghost coded = { kept_code };
+    ghost coded = { machine_code };
 
     ghost view = { λ r. record { failed = r.failed; state = steps.replica_of r.node } };
 

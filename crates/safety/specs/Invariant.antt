@@ -18,7 +18,7 @@ use Rattle.nop_types.specs.Ranges.{RequestFits, StampedFits, ReplyFits, ViewFits
 use Rattle.nop_types.specs.Stamps.{WasStamped}
 use Rattle.nop_types.specs.Views.{AtMost, Below, Comparable, first_view, leader_of}
 use Rattle.histories.specs.Legality.{SubmittedOnce}
-use Rattle.log_merge.specs.Starting.{Start, opened}
+use Rattle.log_merge.specs.Starting.{Start, start_of}
 use Rattle.started_views.specs.Past.{Entered, HadLog, LeaderHad, IsStart}
 use Rattle.started_views.specs.Quorums.{counts, Quorum}
 use Rattle.started_views.specs.Settled.{Certificate}
@@ -79,7 +79,7 @@ pub record GoodStart (f : ℕ) (c : Conf) (w : View) (x : Start) : Type 0 where
   pub session : 1 ≤ w.session
   pub lead : List Entry
   pub leads : LeaderHad f c.past w lead
-  pub certificate : (w ≡ first_view → ⊥) → (cs : List Change) × Certificate f c.past w cs × (x ≡ opened w cs)
+  pub certificate : (w ≡ first_view → ⊥) → (cs : List Change) × Certificate f c.past w cs × (x ≡ start_of w cs)
 
 -- each view that a replica entered: above its last normal view, with the log that it had there
 pub record GoodEntry (f : ℕ) (c : Conf) (r : ℕ) (v : View) (e : Entered) : Type 0 where

@@ -2,12 +2,12 @@
 #![tactic(auto)]
 
 mod laws;
-mod machine;
 mod rows;
+mod sequencer;
 mod state;
 
 pub use laws::{outputs_are_stamps, stamps_once};
-pub use machine::Sequencer;
+pub use sequencer::Sequencer;
 pub use state::SequencerState;
 
 #[cfg(test)]

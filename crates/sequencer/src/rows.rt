@@ -1,15 +1,11 @@
-ghost use Rattle.std.specs.Prelude.{◌≡◌, ◌++◌, ◌≤◌, ◌∷◌, [], OnOk};
-ghost use Rattle.nop_types.specs.declared.output.Out.TheVariants.{Send};
+ghost use Rattle.std.specs.Prelude.{◌≡◌, ◌++◌, OnOk};
 ghost use Rattle.nop_types.specs.Given.{given};
-ghost use Rattle.nop_types.specs.Ranges.{DatagramFits, RequestFits, SignalFits};
-ghost use Rattle.oum_codec.specs.Spelling.{spelling};
+ghost use Rattle.nop_types.specs.Ranges.{RequestFits, SignalFits};
 ghost use Rattle.sequencer.specs.SequencerSteps.{IsWithin, stamped_by, after_stamp, stamp, install, ping, next};
 
 use crate::SequencerState;
-use nop_types::{
-    Actor, Bytes, Datagram, Dest, Input, NUMBER_END, NoMemory, Out, Outbox, Request, Stamped,
-};
-use oum_codec::{Bad, decode, encode};
+use nop_types::{Actor, Datagram, Dest, Input, NUMBER_END, NoMemory, Outbox, Request, Stamped};
+use oum_codec::{read_datagram, send_datagram};
 use std::alloc::Global;
 
 /// The request with the session and the next number, None where there is no session or no number is left.
@@ -31,16 +27,6 @@ pub fn stamp_next(state: &mut SequencerState, request: Request) -> Option<Stampe
     })
 }
 
-/// Sends one datagram.
-fn send(alloc: Global, out: &mut Outbox, dest: Dest, datagram: &Datagram) -> Result<(), NoMemory>
-    requires { DatagramFits datagram.now }
-    ensures { OnOk result (out.new ≡ out.old ++ Send dest (spelling datagram.now) ∷ []) }
-{
-    let mut bytes = Vec::new(alloc);
-    encode(alloc, datagram, &mut bytes)?;
-    out.push(Out::Send(dest, Bytes::from_vec(bytes)))
-}
-
 /// A request is stamped and sent to all replicas.
 fn stamp(
     alloc: Global,
@@ -55,12 +41,12 @@ fn stamp(
     ensures out { OnOk result (out.new ≡ out.old ++ (stamp state.old request).1) }
 {
     match stamp_next(state, request) {
-        Some(stamped) => send(alloc, out, Dest::Replicas, &Datagram::Stamped(stamped)),
+        Some(stamped) => send_datagram(alloc, Dest::Replicas, &Datagram::Stamped(stamped), out),
         None => Ok(()),
     }
 }
 
-/// A session that is not older than the own is confirmed; a newer one is taken, and its numbers begin at 1.
+/// A session that is not older than its own is confirmed; a newer one is taken, and its numbers begin at 1.
 fn install(
     alloc: Global,
     state: &mut SequencerState,
@@ -82,7 +68,7 @@ fn install(
         state.next = 1;
     }
     let installed = Datagram::Installed { sequencer, session };
-    send(alloc, out, Dest::One(Actor::Controller), &installed)
+    send_datagram(alloc, Dest::One(Actor::Controller), &installed, out)
 }
 
 /// A ping of this sequencer is answered with its round.
@@ -101,7 +87,7 @@ fn ping(
         return Ok(());
     }
     let pong = Datagram::Pong { sequencer, round };
-    send(alloc, out, Dest::One(Actor::Controller), &pong)
+    send_datagram(alloc, Dest::One(Actor::Controller), &pong, out)
 }
 
 /// One step, which may leave anything where memory runs out.
@@ -120,14 +106,12 @@ pub fn act(
     let Input::Packet(bytes) = input else {
         return Ok(());
     };
-    match decode(alloc, bytes) {
-        Ok(Datagram::Request(request)) => stamp(alloc, state, request, out),
-        Ok(Datagram::Install { sequencer, session }) => {
+    match read_datagram(alloc, bytes)? {
+        Some(Datagram::Request(request)) => stamp(alloc, state, request, out),
+        Some(Datagram::Install { sequencer, session }) => {
             install(alloc, state, sequencer, session, out)
         }
-        Ok(Datagram::Ping { sequencer, round }) => ping(alloc, state, sequencer, round, out),
-        Ok(_) => Ok(()),
-        Err(Bad::NoMemory) => Err(NoMemory),
-        Err(_) => Ok(()),
+        Some(Datagram::Ping { sequencer, round }) => ping(alloc, state, sequencer, round, out),
+        _ => Ok(()),
     }
 }

@@ -16,11 +16,11 @@ pub struct Controller {
 }
 
 impl Model for Controller {
-    ghost use Rattle.nop_types.specs.Kept.{Kept};
+    ghost use Rattle.nop_types.specs.Machine.{Machine};
     ghost use Rattle.session_control.specs.declared.state.ControllerState.{ControllerState};
     ghost use Rattle.session_control.specs.ControllerSteps.{IsWithin};
 
-    ghost Value = { Kept ControllerState };
+    ghost Value = { Machine ControllerState };
 
     ghost view = { λ c. record { failed = c.failed; state = c.state } };
 

@@ -1,27 +1,11 @@
-ghost use Rattle.std.specs.Prelude.{◌≡◌, ◌<◌, ◌++◌, ◌∷◌, [], OnOk};
-ghost use Rattle.nop_types.specs.declared.output.Out.TheVariants.{Send};
-ghost use Rattle.nop_types.specs.declared.output.Dest.TheVariants.{One};
-ghost use Rattle.nop_types.specs.declared.output.Actor.TheVariants.{Sequencer};
+ghost use Rattle.std.specs.Prelude.{◌≡◌, ◌<◌, ◌++◌, OnOk};
 ghost use Rattle.nop_types.specs.Given.{given};
-ghost use Rattle.nop_types.specs.Ranges.{DatagramFits};
-ghost use Rattle.oum_codec.specs.Spelling.{spelling};
 ghost use Rattle.session_control.specs.ControllerSteps.{IsWithin, install_of, move_to, ask, probe, resend_install, order_move, pong, installed, on_tick, next};
 
 use crate::{ControllerState, MISSED_END};
-use nop_types::{Actor, Bytes, Datagram, Dest, Input, NoMemory, Out, Outbox, Tick};
-use oum_codec::{Bad, decode, encode};
+use nop_types::{Actor, Datagram, Dest, Input, NoMemory, Outbox, Tick};
+use oum_codec::{read_datagram, send_datagram};
 use std::alloc::Global;
-
-/// Sends one datagram to a sequencer.
-fn send(alloc: Global, out: &mut Outbox, sequencer: u8, datagram: &Datagram) -> Result<(), NoMemory>
-    requires { DatagramFits datagram.now }
-    ensures { OnOk result (out.new ≡ out.old ++ Send (One (Sequencer sequencer)) (spelling datagram.now) ∷ []) }
-{
-    let mut bytes = Vec::new(alloc);
-    encode(alloc, datagram, &mut bytes)?;
-    let dest = Dest::One(Actor::Sequencer(sequencer));
-    out.push(Out::Send(dest, Bytes::from_vec(bytes)))
-}
 
 /// Sends the session to the current sequencer.
 fn send_install(alloc: Global, state: &ControllerState, out: &mut Outbox) -> Result<(), NoMemory>
@@ -32,7 +16,8 @@ fn send_install(alloc: Global, state: &ControllerState, out: &mut Outbox) -> Res
         sequencer: state.current,
         session: state.session,
     };
-    send(alloc, out, state.current, &install)
+    let dest = Dest::One(Actor::Sequencer(state.current));
+    send_datagram(alloc, dest, &install, out)
 }
 
 /// Moves to a sequencer under the next session, where there is one.
@@ -75,7 +60,8 @@ fn ask(alloc: Global, state: &mut ControllerState, out: &mut Outbox) -> Result<(
         sequencer: state.current,
         round: state.round,
     };
-    send(alloc, out, state.current, &ping)
+    let dest = Dest::One(Actor::Sequencer(state.current));
+    send_datagram(alloc, dest, &ping, out)
 }
 
 /// Counts a probe that was not answered, and moves at the third one in a row; else it probes.
@@ -184,12 +170,10 @@ pub fn act(
         Input::Submit(_) => return Ok(()),
         Input::Packet(bytes) => bytes,
     };
-    match decode(alloc, bytes) {
-        Ok(Datagram::Pong { sequencer, round }) => pong(state, sequencer, round),
-        Ok(Datagram::Installed { sequencer, session }) => installed(state, sequencer, session),
-        Ok(_) => {}
-        Err(Bad::NoMemory) => return Err(NoMemory),
-        Err(_) => {}
+    match read_datagram(alloc, bytes)? {
+        Some(Datagram::Pong { sequencer, round }) => pong(state, sequencer, round),
+        Some(Datagram::Installed { sequencer, session }) => installed(state, sequencer, session),
+        _ => {}
     }
     Ok(())
 }

@@ -1,1 +1,1 @@
-pub mod Reaction
+pub mod Answer

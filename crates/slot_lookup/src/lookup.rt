@@ -1,5 +1,5 @@
 ghost use Rattle.std.specs.Prelude.{◌≡◌};
-ghost use Rattle.slot_lookup.specs.Reaction.{given, answer_of};
+ghost use Rattle.slot_lookup.specs.Answer.{given, answer_of};
 
 use crate::Answer;
 use nop_types::Entry;

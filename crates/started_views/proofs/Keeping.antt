@@ -12,7 +12,7 @@ use Rattle.nop_types.specs.Views.{AtMost, Below, first_view, leader_of, outranks
 use Rattle.facts.proofs.Prefixes.{IsPrefixOf-take, IsPrefixOf-trans}
 use Rattle.facts.proofs.Views.{cases_View, same_View, AtMost-antisym, AtMost-trans, Below-after_at_most, AtMost-not_outranked, Below-induction, same_View-from_ranks, RanksAtMost, RanksAtMost-refl, RanksAtMost-trans, RanksAtMost-cases, outranks-from_ranks}
 use Rattle.log_merge.specs.Merge.{merge}
-use Rattle.log_merge.specs.Starting.{Start, greatest, kept, opened}
+use Rattle.log_merge.specs.Starting.{Start, greatest, kept, start_of}
 use Rattle.started_views.specs.Logs.{SameTo}
 use Rattle.started_views.specs.Past.{Past, HadLog, LeaderHad, IsStart, IsStarted}
 use Rattle.started_views.specs.Settled.{Certificate, Fixed, Anchored, MainLog}
@@ -63,7 +63,7 @@ module _ (f : ℕ) (stamps : List Stamped) (last_normal : ℕ → View) (past : 
 
   -- whatever certificate a view gets, its start begins with each prefix that is fixed below it
   pub certificate_begins_start : (w v : View) (cs : List Change) (m : List Entry) (s : ℕ) → Certificate f past v cs → Fixed f past w m s
-      → Below w v → IsPrefixOf (take s m) (opened v cs).log
+      → Below w v → IsPrefixOf (take s m) (start_of v cs).log
   certificate_begins_start w v cs m s c fixed below =
       certificate_has_fixed w v cs m s c fixed below (λ u y lower upper started. fixed_begins_start w m s fixed u upper y started)
 
@@ -126,9 +126,9 @@ module _ (f : ℕ) (stamps : List Stamped) (last_normal : ℕ → View) (past : 
 
   -- whatever a later view is started with, and its leader's log, begin with it
   pub certificate_synchronised : (u v : View) (cs : List Change) (b l : List Entry) (s : ℕ) → LeaderHad f past u b → SameTo s l b
-      → Anchored f past u s → Certificate f past v cs → Below u v → IsPrefixOf (take s l) (opened v cs).log
+      → Anchored f past u s → Certificate f past v cs → Below u v → IsPrefixOf (take s l) (start_of v cs).log
   certificate_synchronised u v cs b l s lead same at c below =
-      synchronised_begins u b l (opened v cs).log s lead same at
+      synchronised_begins u b l (start_of v cs).log s lead same at
           (λ w low m fixed. certificate_begins_start w v cs m s c fixed (Below-after_at_most w u v low below))
 
   pub start_synchronised : (u v : View) (x : Start) (b l : List Entry) (s : ℕ) → LeaderHad f past u b → SameTo s l b → Anchored f past u s

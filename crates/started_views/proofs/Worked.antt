@@ -13,7 +13,7 @@ use Rattle.nop_types.specs.Stamps.{WasStamped}
 use Rattle.nop_types.specs.Views.{AtMost, Below, Comparable, first_view, is_view}
 use Rattle.facts.proofs.Members.{Has-cases, Has-none}
 use Rattle.facts.proofs.Views.{is_view-true, AtMost-same}
-use Rattle.log_merge.specs.Starting.{Start, opened}
+use Rattle.log_merge.specs.Starting.{Start, start_of}
 use Rattle.started_views.specs.Past.{Entered, Past, HadLog, LeaderHad, IsStart, IsStarted}
 use Rattle.started_views.specs.Settled.{Certificate}
 use Rattle.started_views.specs.Started.{Grounds}
@@ -181,7 +181,7 @@ certified x =
       entries = λ d h. elim (change_cases x d h) [ inl e ↦ rw e refl | inr e ↦ rw e refl ];
     }
 
-opened_is : (x : Entry) → Second x → second_start x ≡ opened second_view (changes x)
+opened_is : (x : Entry) → Second x → second_start x ≡ start_of second_view (changes x)
 opened_is x (inl e) = rw e refl
 opened_is x (inr e) = rw e refl
 
@@ -269,14 +269,14 @@ module _ (x : Entry) (c : Second x) where
       at t (Next u q g) = inr (AtMost-same v w (t.0 ∙ sym u))
 
   certificate : (w : View) (s : Start) → IsStart past w s → (w ≡ first_view → ⊥)
-      → (cs : List Change) × Certificate 1 past w cs × (s ≡ opened w cs)
+      → (cs : List Change) × Certificate 1 past w cs × (s ≡ start_of w cs)
   certificate w s is not = at (begun x w s is)
     where
-      at : Begun x w s → (cs : List Change) × Certificate 1 past w cs × (s ≡ opened w cs)
+      at : Begun x w s → (cs : List Change) × Certificate 1 past w cs × (s ≡ start_of w cs)
       at (First e g) = absurd (not e)
       at (Later e g) =
           (changes x, subst (λ u. Certificate 1 past u (changes x)) (sym e) (certified x), g ∙ opened_is x c
-          ∙ ap (λ (u : View). opened u (changes x)) (sym e))
+          ∙ ap (λ (u : View). start_of u (changes x)) (sym e))
 
   second_begins : (r : ℕ) (w : View) (l : List Entry) → w ≡ second_view → Logged x r w l → IsPrefixOf (follower_log x) l
   second_begins r w l e (Leader u q g) = absurd (views_apart (sym u ∙ e))

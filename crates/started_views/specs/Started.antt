@@ -9,7 +9,7 @@ use Rattle.nop_types.specs.declared.datagram.Stamped.{Stamped}
 use Rattle.nop_types.specs.Lists.{IsPrefixOf, slot_of}
 use Rattle.nop_types.specs.Stamps.{WasStamped}
 use Rattle.nop_types.specs.Views.{AtMost, Below, Comparable, first_view}
-use Rattle.log_merge.specs.Starting.{Start, opened}
+use Rattle.log_merge.specs.Starting.{Start, start_of}
 use Rattle.started_views.specs.Logs.{SameTo}
 use Rattle.started_views.specs.Past.{Entered, Past, HadLog, LeaderHad, IsStart, IsStarted}
 use Rattle.started_views.specs.Settled.{Certificate, Fixed, Anchored, MainLog}
@@ -30,7 +30,7 @@ pub record Grounds (f : ℕ) (stamps : List Stamped) (last_normal : ℕ → View
       → AtMost w e.last_normal ⊎ AtMost v w
   -- each started view but the first is started by the rule, from what f + 1 replicas entered it with
   pub certificate : (w : View) (x : Start) → IsStart past w x → (w ≡ first_view → ⊥)
-      → (cs : List Change) × Certificate f past w cs × (x ≡ opened w cs)
+      → (cs : List Change) × Certificate f past w cs × (x ≡ start_of w cs)
   -- a log begins with the start of its view; above it each slot has the request of its number, or a NO-OP that the leader has there too
   pub begins_with_start : (r : ℕ) (w : View) (l : List Entry) (x : Start) → HadLog past r w l → IsStart past w x → IsPrefixOf x.log l
   pub request_by_number : (r : ℕ) (w : View) (l : List Entry) (x : Start) (k : ℕ) (q : Request) → HadLog past r w l → IsStart past w x

@@ -8,7 +8,7 @@ ghost use Rattle.nop_types.specs.Lists.{IsPrefixOf, slot_of};
 ghost use Rattle.nop_types.specs.Stamps.{WasStamped};
 ghost use Rattle.nop_types.specs.Views.{AtMost, Below, first_view};
 ghost use Rattle.log_merge.specs.Merge.{merge};
-ghost use Rattle.log_merge.specs.Starting.{Start, opened};
+ghost use Rattle.log_merge.specs.Starting.{Start, start_of};
 ghost use Rattle.started_views.specs.Agreement.{AgreeOn};
 ghost use Rattle.started_views.specs.Logs.{SameTo};
 ghost use Rattle.started_views.specs.Past.{Past, LeaderHad, IsStart, first_past};
@@ -57,7 +57,7 @@ pub fn fixed_prefixes_are_kept()
     ensures certificates { (f : ℕ) (stamps : List Stamped) (last_normal : ℕ → View) (past : Past)
         → Grounds f stamps last_normal past
         → (w v : View) (cs : List Change) (m : List Entry) (s : ℕ) → Certificate f past v cs
-        → Fixed f past w m s → Below w v → IsPrefixOf (take s m) (opened v cs).log }
+        → Fixed f past w m s → Below w v → IsPrefixOf (take s m) (start_of v cs).log }
     ensures leaders { (f : ℕ) (stamps : List Stamped) (last_normal : ℕ → View) (past : Past)
         → Grounds f stamps last_normal past → (w v : View) (m a : List Entry) (s : ℕ)
         → Fixed f past w m s → AtMost w v → LeaderHad f past v a → IsPrefixOf (take s m) a }
@@ -75,7 +75,7 @@ pub fn synchronised_prefixes_are_kept()
         → Grounds f stamps last_normal past
         → (u v : View) (cs : List Change) (b l : List Entry) (s : ℕ) → LeaderHad f past u b
         → SameTo s l b → Anchored f past u s → Certificate f past v cs → Below u v
-        → IsPrefixOf (take s l) (opened v cs).log }
+        → IsPrefixOf (take s l) (start_of v cs).log }
     ensures leaders { (f : ℕ) (stamps : List Stamped) (last_normal : ℕ → View) (past : Past)
         → Grounds f stamps last_normal past → (u v : View) (a b l : List Entry) (s : ℕ)
         → LeaderHad f past u b → SameTo s l b → Anchored f past u s → LeaderHad f past v a

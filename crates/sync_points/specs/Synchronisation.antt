@@ -19,8 +19,8 @@ pub record Synchronisation : Type 0 where
   -- a leader's round, if one is under way
   pub syncing : Option Round
 
-abbrev pub opened : ℕ → Synchronisation
-opened f = record { f = f; sync_point = 0; prepared = 0; syncing = None }
+abbrev pub opening : ℕ → Synchronisation
+opening f = record { f = f; sync_point = 0; prepared = 0; syncing = None }
 
 -- in another view
 abbrev pub cleared : Synchronisation → Synchronisation
@@ -31,8 +31,8 @@ abbrev pub begun : Bool → Synchronisation → ℕ → Synchronisation
 begun alone s len = cond alone (record s { sync_point = len; syncing = None }) (record s { syncing = Some (record { len = len; votes = [] }) })
 
 -- a leader tells a log of this length: a round begins where that is longer than the sync point
-abbrev pub told : Synchronisation → ℕ → Synchronisation
-told s len = cond (nat_lt s.sync_point len) (begun (s.f == 0) s len) s
+abbrev pub with_round : Synchronisation → ℕ → Synchronisation
+with_round s len = cond (nat_lt s.sync_point len) (begun (s.f == 0) s len) s
 
 -- a follower took a log of this length from its leader
 abbrev pub taken : Synchronisation → ℕ → Synchronisation

@@ -1,8 +1,8 @@
 ghost use Rattle.std.specs.Prelude.{◌≡◌, ◌<◌, option_map};
 ghost use Rattle.sync_points.specs.Synchronisation.{
-  opened,
+  opening,
   cleared,
-  told,
+  with_round,
   taken,
   counted,
   vote_for,
@@ -61,7 +61,7 @@ impl Model for SyncPoints {
 impl SyncPoints {
     /// A sync point of 0. The votes of `f` other replicas settle a round.
     pub fn new(f: u8) -> SyncPoints
-        ensures { result ≡ opened f }
+        ensures { result ≡ opening f }
     {
         SyncPoints {
             f,
@@ -103,7 +103,7 @@ impl SyncPoints {
     /// A leader tells a log of this length: where it is longer than the sync point, a round without votes begins, in the place
     /// of an earlier one.
     pub fn prepare(&mut self, len: u32)
-        ensures { self.new ≡ told self.old len }
+        ensures { self.new ≡ with_round self.old len }
     {
         if len <= self.sync_point {
             return;

@@ -43,4 +43,4 @@ started s = record { next = s.next; log = s.log }
 
 -- the view is started where f + 1 senders are there
 abbrev pub step_of : Gathering → Step
-step_of g = cond (nat_lt g.f (length g.changes)) (Started (started (starting.opened g.view g.changes))) Waiting
+step_of g = cond (nat_lt g.f (length g.changes)) (Started (started (starting.start_of g.view g.changes))) Waiting

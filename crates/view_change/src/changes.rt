@@ -1,6 +1,6 @@
 ghost use Rattle.std.specs.Prelude.{◌≡◌, ◌≤◌, ◌↔◌, length, IfOk, OnOk, OnErr};
 ghost use Rattle.log_merge.specs.Merged.{HasDistinctSenders};
-ghost use Rattle.log_merge.specs.Starting.{opened};
+ghost use Rattle.log_merge.specs.Starting.{start_of};
 ghost use Rattle.view_change.specs.declared.starting.Step.TheVariants.{Waiting};
 ghost use Rattle.view_change.specs.Gathering.{entered, has_sender, counted, started, step_of};
 
@@ -103,7 +103,7 @@ impl Changes {
     /// What a leader without others starts its view with.
     pub fn start_now(&mut self) -> Result<Start, NoMemory>
         requires { self.old.f ≡ 0 }
-        ensures start { IfOk result (λ s. s ≡ started (opened self.old.view self.old.changes)) }
+        ensures start { IfOk result (λ s. s ≡ started (start_of self.old.view self.old.changes)) }
         ensures same { self.new ≡ self.old }
     {
         start_of(self.alloc, self.view, &self.changes)

@@ -1,6 +1,6 @@
 ghost use Rattle.std.specs.Prelude.{◌≡◌, filter, IfOk};
-ghost use Rattle.nop_types.specs.Views.{is_view, outranks};
-ghost use Rattle.log_merge.specs.Starting.{greatest, greatest_next, opened};
+ghost use Rattle.nop_types.specs.Views.{is_view};
+ghost use Rattle.log_merge.specs.Starting.{greatest, greatest_next, start_of};
 ghost use Rattle.view_change.specs.Gathering.{greater, started};
 
 use log_merge::merge_of_view;
@@ -21,18 +21,11 @@ pub enum Step {
     Waiting,
 }
 
-/// Whether a view ranks above another one: by session, then by leader number.
-fn ranks_above(a: View, b: View) -> bool
-    ensures { result ≡ outranks a b }
-{
-    a.session > b.session || (a.session == b.session && a.leader > b.leader)
-}
-
 /// The one of two views that ranks above the other.
 fn greater(a: View, b: View) -> View
     ensures { result ≡ greater a b }
 {
-    if ranks_above(b, a) { b } else { a }
+    if b.outranks(a) { b } else { a }
 }
 
 /// The last normal view of greatest rank.
@@ -55,7 +48,7 @@ fn greatest_next(changes: &[Change], view: View) -> u64
 {
     let mut most = 0;
     for change in changes {
-        if change.last_normal.leader == view.leader && change.last_normal.session == view.session {
+        if change.last_normal.is(view) {
             most = most.max(change.next);
         }
     }
@@ -64,7 +57,7 @@ fn greatest_next(changes: &[Change], view: View) -> u64
 
 /// What a view is started with from these changes.
 pub fn start_of(alloc: Global, view: View, changes: &[Change]) -> Result<Start, NoMemory>
-    ensures { IfOk result (λ s. s ≡ started (opened view changes.now)) }
+    ensures { IfOk result (λ s. s ≡ started (start_of view changes.now)) }
 {
     let last = greatest(changes);
     let log = merge_of_view(alloc, changes, last)?;

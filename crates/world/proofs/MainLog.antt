@@ -2,7 +2,7 @@
 use Rattle.std.proofs.Common.{◌≡◌, ℕ, List, [], ◌∷◌, refl, sym, ap, ◌∙◌}
 use Rattle.std.specs.Prelude.{map, slice_get, option_map}
 use Rattle.std.proofs.lemmas.Option.{slice_get-map}
-use Rattle.nop_types.specs.Kept.{Kept}
+use Rattle.nop_types.specs.Machine.{Machine}
 use Rattle.nop_types.specs.Views.{leader_of}
 use Rattle.nop_types.specs.declared.view.View.{View}
 use Rattle.nop_types.specs.declared.request.Entry.{Entry}
@@ -14,10 +14,10 @@ use Rattle.world.specs.Seats.{Seated}
 use Rattle.world.specs.SeatOutcomes.{seated_of}
 use Rattle.world.specs.WorldSteps.{greatest_of, main_view, main_log, log_of}
 
-abbrev place : Seat (Kept ReplicaState) → Seated ReplicaState
+abbrev place : Seat (Machine ReplicaState) → Seated ReplicaState
 place p = seated_of (λ r. r.state) p
 
-normals : (seats : List (Seat (Kept ReplicaState))) → map (λ p. p.core.state.last_normal) seats ≡ map (λ p. p.state.last_normal) (map place seats)
+normals : (seats : List (Seat (Machine ReplicaState))) → map (λ p. p.core.state.last_normal) seats ≡ map (λ p. p.state.last_normal) (map place seats)
 normals [] = refl
 normals (p ∷ seats) = ap (λ (vs : List View). p.core.state.last_normal ∷ vs) (normals seats)
 

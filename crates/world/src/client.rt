@@ -33,10 +33,10 @@ pub struct Client {
 }
 
 impl Model for Client {
-    ghost use Rattle.nop_types.specs.Kept.{Kept};
+    ghost use Rattle.nop_types.specs.Machine.{Machine};
     ghost use Rattle.world.specs.declared.client.ClientState.{ClientState};
 
-    ghost Value = { Kept ClientState };
+    ghost Value = { Machine ClientState };
 
     ghost view = { λ c. record { failed = c.failed; state = c.state } };
 }

@@ -23,10 +23,10 @@ pub struct Controller {
 }
 
 impl Model for Controller {
-    ghost use Rattle.nop_types.specs.Kept.{Kept};
+    ghost use Rattle.nop_types.specs.Machine.{Machine};
     ghost use Rattle.world.specs.declared.controller.ControllerState.{ControllerState};
 
-    ghost Value = { Kept ControllerState };
+    ghost Value = { Machine ControllerState };
 
     ghost view = { λ c. record { failed = c.failed; state = c.state } };
 }

@@ -21,15 +21,15 @@ pub struct Replica<H> {
 }
 
 impl<H> Model for Replica<H> {
-    ghost use Rattle.nop_types.specs.Kept.{Kept};
+    ghost use Rattle.nop_types.specs.Machine.{Machine};
     ghost use Rattle.world.specs.declared.replica_state.ReplicaState.{ReplicaState};
-    ghost use Rattle.world.specs.ReplicaCode.{kept_code};
+    ghost use Rattle.world.specs.ReplicaCode.{machine_code};
     ghost use Rattle.world.specs.ReplicaSound.{IsSound};
     ghost use Rattle.std.specs.Prelude.{◌≡◌, false};
 
-    ghost Value = { Kept ReplicaState };
+    ghost Value = { Machine ReplicaState };
 
-    ghost coded = { kept_code };
+    ghost coded = { machine_code };
 
     ghost view = { λ r. record { failed = r.failed; state = r.state } };
 

@@ -26,10 +26,10 @@ pub struct Sequencer {
 }
 
 impl Model for Sequencer {
-    ghost use Rattle.nop_types.specs.Kept.{Kept};
+    ghost use Rattle.nop_types.specs.Machine.{Machine};
     ghost use Rattle.world.specs.declared.sequencer.SequencerState.{SequencerState};
 
-    ghost Value = { Kept SequencerState };
+    ghost Value = { Machine SequencerState };
 
     ghost view = { λ s. record { failed = s.failed; state = s.state } };
 

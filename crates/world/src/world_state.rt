@@ -34,12 +34,12 @@ pub struct World<H> {
 
 impl<H> Model for World<H> {
     ghost use Rattle.std.specs.Coded.{codes};
-    ghost use Rattle.nop_types.specs.Kept.{Kept};
+    ghost use Rattle.nop_types.specs.Machine.{Machine};
     ghost use Rattle.world.specs.contracts.replica_state.ReplicaState as state;
     ghost use Rattle.world.specs.WorldSteps.{WorldState};
     ghost use Rattle.world.specs.Actors.{world_of};
 
-    ghost Value = { Kept WorldState };
+    ghost Value = { Machine WorldState };
 
     ghost coded = { Prim.hlevel (codes, state.the_row.coded) };
 

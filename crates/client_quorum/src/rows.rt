@@ -1,13 +1,11 @@
-ghost use Rattle.std.specs.Prelude.{◌≡◌, ◌++◌, ◌∷◌, ◌<◌, ◌^◌, ◌+◌, [], OnOk, IfOk};
+ghost use Rattle.std.specs.Prelude.{◌≡◌, ◌++◌, ◌∷◌, ◌<◌, ◌^◌, ◌+◌, [], OnOk};
 ghost use Rattle.nop_types.specs.Given.{given};
 ghost use Rattle.nop_types.specs.Ranges.{RequestFits};
 ghost use Rattle.client_quorum.specs.ClientSteps.{begin, can_submit, is_expected, next, on_tick, reply, retry, sent, submit, submit_waiting};
 
 use crate::{ClientState, Pending};
-use nop_types::{
-    Accept, Bytes, Datagram, Dest, Input, NoMemory, Op, Out, Outbox, Reply, Request, Tick,
-};
-use oum_codec::{Bad, decode, encode};
+use nop_types::{Accept, Datagram, Dest, Input, NoMemory, Op, Out, Outbox, Reply, Request, Tick};
+use oum_codec::{read_datagram, send_datagram};
 use std::alloc::Global;
 
 fn can_submit(state: &ClientState) -> bool
@@ -16,14 +14,13 @@ fn can_submit(state: &ClientState) -> bool
     state.pending.is_none() && state.last_id < u64::MAX
 }
 
-/// The send of a request to all sequencers.
-fn sent(alloc: Global, request: Request) -> Result<Out, NoMemory>
-    requires { RequestFits request }
-    ensures { IfOk result (λ out. out ≡ sent request) }
+/// Sends a request to all sequencers.
+fn send(alloc: Global, request: &Request, out: &mut Outbox) -> Result<(), NoMemory>
+    requires { RequestFits request.now }
+    ensures { OnOk result (out.new ≡ out.old ++ sent request.now ∷ []) }
 {
-    let mut text = Vec::new(alloc);
-    encode(alloc, &Datagram::Request(request), &mut text)?;
-    Ok(Out::Send(Dest::Sequencers, Bytes::from_vec(text)))
+    let datagram = Datagram::Request(request.try_clone()?);
+    send_datagram(alloc, Dest::Sequencers, &datagram, out)
 }
 
 /// The op is pending under the next id, and its request is sent.
@@ -39,7 +36,7 @@ fn begin(alloc: Global, state: &mut ClientState, op: Op, out: &mut Outbox) -> Re
         op,
     };
     out.push(Out::Submitted(request.try_clone()?))?;
-    out.push(sent(alloc, request.try_clone()?)?)?;
+    send(alloc, &request, out)?;
     state.last_id = id;
     state.pending = Pending::of(request);
     state.replies.clear();
@@ -111,7 +108,7 @@ fn retry(alloc: Global, state: &ClientState, out: &mut Outbox) -> Result<(), NoM
     ensures { OnOk result (out.new ≡ out.old ++ (retry state.now).1) }
 {
     match state.pending.request() {
-        Some(request) => out.push(sent(alloc, request.try_clone()?)?),
+        Some(request) => send(alloc, request, out),
         None => Ok(()),
     }
 }
@@ -146,11 +143,9 @@ pub(crate) fn act(
     match input {
         Input::Tick(tick) => on_tick(alloc, state, tick, out),
         Input::Submit(op) => submit(alloc, state, op, out),
-        Input::Packet(bytes) => match decode(alloc, bytes) {
-            Ok(Datagram::Reply(came)) => reply(state, came, out),
-            Ok(_) => Ok(()),
-            Err(Bad::NoMemory) => Err(NoMemory),
-            Err(_) => Ok(()),
+        Input::Packet(bytes) => match read_datagram(alloc, bytes)? {
+            Some(Datagram::Reply(came)) => reply(state, came, out),
+            _ => Ok(()),
         },
     }
 }

@@ -19,11 +19,11 @@ pub struct Sequencer {
 }
 
 impl Model for Sequencer {
-    ghost use Rattle.nop_types.specs.Kept.{Kept};
+    ghost use Rattle.nop_types.specs.Machine.{Machine};
     ghost use Rattle.sequencer.specs.declared.state.SequencerState.{SequencerState};
     ghost use Rattle.sequencer.specs.SequencerSteps.{IsWithin};
 
-    ghost Value = { Kept SequencerState };
+    ghost Value = { Machine SequencerState };
 
     ghost view = { λ s. record { failed = s.failed; state = s.state } };
 
