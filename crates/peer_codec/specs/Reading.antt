@@ -3,6 +3,7 @@ use Rattle.std.specs.Prelude.{ℕ, List, [], ◌∷◌, length, Result, Ok, Err,
 use Rattle.nop_types.specs.declared.peer.Peer.{Peer}
 use Rattle.nop_types.specs.declared.peer.Body.{Body}
 use Rattle.nop_types.specs.declared.peer.Body.TheVariants as bodies
+use Rattle.nop_types.specs.declared.kinds.TheConstants as kinds
 use Rattle.oum_codec.specs.Reading.{◌>>=◌}
 use Rattle.peer_codec.specs.declared.bad_peer.BadPeer.{BadPeer}
 use Rattle.peer_codec.specs.declared.bad_peer.BadPeer.TheVariants.{Short, Kind, Trailing}
@@ -34,16 +35,16 @@ sync_prepare_at bytes = log_at bytes >>= λ log. Ok (bodies.SyncPrepare log.0, l
 -- what follows the view, by the kind
 abbrev pub body_at : ℕ → List ℕ → Result (Body × List ℕ) BadPeer
 body_at kind bytes =
-    if kind == 16 then (slot_at bytes >>= λ slot. Ok (bodies.SlotLookup slot.0, slot.1))
-    else if kind == 17 then found_at bytes
-    else if kind == 18 then (slot_at bytes >>= λ slot. Ok (bodies.GapCommit slot.0, slot.1))
-    else if kind == 19 then (slot_at bytes >>= λ slot. Ok (bodies.GapRep slot.0, slot.1))
-    else if kind == 20 then Ok (bodies.ViewChangeReq, bytes)
-    else if kind == 21 then view_change_at bytes
-    else if kind == 22 then start_view_at bytes
-    else if kind == 23 then sync_prepare_at bytes
-    else if kind == 24 then (length_at bytes >>= λ len. Ok (bodies.SyncRep len.0, len.1))
-    else if kind == 25 then (length_at bytes >>= λ len. Ok (bodies.SyncCommit len.0, len.1))
+    if kind == kinds.SLOT_LOOKUP then (slot_at bytes >>= λ slot. Ok (bodies.SlotLookup slot.0, slot.1))
+    else if kind == kinds.FOUND then found_at bytes
+    else if kind == kinds.GAP_COMMIT then (slot_at bytes >>= λ slot. Ok (bodies.GapCommit slot.0, slot.1))
+    else if kind == kinds.GAP_REP then (slot_at bytes >>= λ slot. Ok (bodies.GapRep slot.0, slot.1))
+    else if kind == kinds.VIEW_CHANGE_REQ then Ok (bodies.ViewChangeReq, bytes)
+    else if kind == kinds.VIEW_CHANGE then view_change_at bytes
+    else if kind == kinds.START_VIEW then start_view_at bytes
+    else if kind == kinds.SYNC_PREPARE then sync_prepare_at bytes
+    else if kind == kinds.SYNC_REP then (length_at bytes >>= λ len. Ok (bodies.SyncRep len.0, len.1))
+    else if kind == kinds.SYNC_COMMIT then (length_at bytes >>= λ len. Ok (bodies.SyncCommit len.0, len.1))
     else Err Kind
 
 -- what follows the kind: sender, view, the fields of the kind, and nothing more
@@ -57,4 +58,4 @@ message_of kind bytes = do
 -- the value that the bytes spell, or the first test that they fail
 unfoldable pub reading : List ℕ → Result Peer BadPeer
 reading [] = Err Short
-reading (kind ∷ rest) = if nat_le 16 kind && nat_le kind 25 then message_of kind rest else Err Kind
+reading (kind ∷ rest) = if nat_le kinds.SLOT_LOOKUP kind && nat_le kind kinds.SYNC_COMMIT then message_of kind rest else Err Kind

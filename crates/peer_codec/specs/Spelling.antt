@@ -9,6 +9,7 @@ use Rattle.nop_types.specs.declared.request.Entry.TheVariants.{NoOp, Req}
 use Rattle.nop_types.specs.declared.peer.Peer.{Peer}
 use Rattle.nop_types.specs.declared.peer.Body.{Body}
 use Rattle.nop_types.specs.declared.peer.Body.TheVariants as bodies
+use Rattle.nop_types.specs.declared.kinds.TheConstants as kinds
 use Rattle.oum_codec.specs.Numbers.{be_bytes}
 use Rattle.oum_codec.specs.Spelling.{view_bytes, request_bytes}
 
@@ -22,16 +23,16 @@ abbrev pub log_bytes : List Entry → List ℕ
 log_bytes log = be_bytes w32 (length log) ++ flat_map entry_bytes log
 
 abbrev pub kind_of : Body → ℕ
-kind_of (bodies.SlotLookup slot) = 16
-kind_of (bodies.Found slot r) = 17
-kind_of (bodies.GapCommit slot) = 18
-kind_of (bodies.GapRep slot) = 19
-kind_of bodies.ViewChangeReq = 20
-kind_of (bodies.ViewChange last_normal next log) = 21
-kind_of (bodies.StartView next log) = 22
-kind_of (bodies.SyncPrepare log) = 23
-kind_of (bodies.SyncRep len) = 24
-kind_of (bodies.SyncCommit len) = 25
+kind_of (bodies.SlotLookup slot) = kinds.SLOT_LOOKUP
+kind_of (bodies.Found slot r) = kinds.FOUND
+kind_of (bodies.GapCommit slot) = kinds.GAP_COMMIT
+kind_of (bodies.GapRep slot) = kinds.GAP_REP
+kind_of bodies.ViewChangeReq = kinds.VIEW_CHANGE_REQ
+kind_of (bodies.ViewChange last_normal next log) = kinds.VIEW_CHANGE
+kind_of (bodies.StartView next log) = kinds.START_VIEW
+kind_of (bodies.SyncPrepare log) = kinds.SYNC_PREPARE
+kind_of (bodies.SyncRep len) = kinds.SYNC_REP
+kind_of (bodies.SyncCommit len) = kinds.SYNC_COMMIT
 
 -- the fields that are there in every kind
 abbrev pub head_bytes : ℕ → ℕ → View → List ℕ

@@ -11,7 +11,7 @@ mod write;
 
 pub use bad_peer::BadPeer;
 pub use laws::{read_is_spelled, spelled_is_read, spelling_is_injective};
-pub use read::decode_peer;
+pub use read::{decode_peer, read_peer};
 pub use write::encode_peer;
 
 #[cfg(test)]

@@ -1,5 +1,6 @@
-ghost use Rattle.std.specs.Prelude.{◌≡◌, ◌⊎◌, IfOk};
+ghost use Rattle.std.specs.Prelude.{◌≡◌, ◌⊎◌, IfOk, IfSome};
 ghost use Rattle.nop_types.specs.declared.peer.Peer.{Peer};
+ghost use Rattle.oum_codec.specs.Reading.{Finds};
 ghost use Rattle.peer_codec.specs.Answers.{Gives, GivesBy};
 ghost use Rattle.peer_codec.specs.Spelling.{Spells};
 ghost use Rattle.peer_codec.specs.Reading.{found_at, view_change_at, start_view_at, sync_prepare_at, body_at, message_of, reading};
@@ -9,7 +10,7 @@ use crate::fields::{
     split_length, split_next, split_request, split_sender, split_slot, split_started,
 };
 use crate::logs::split_log;
-use nop_types::{Body, Peer};
+use nop_types::{Body, NoMemory, Peer, kinds};
 use std::alloc::Global;
 
 #[tactic(auto, unfolding(crate::specs::Reading::found_at))]
@@ -57,28 +58,28 @@ fn body(alloc: Global, kind: u8, bytes: &[u8]) -> Result<(Body, &[u8]), BadPeer>
     ensures { GivesBy (λ x. (x.0, x.1.now)) result (body_at kind bytes.now) }
 {
     match kind {
-        16 => {
+        kinds::SLOT_LOOKUP => {
             let (slot, rest) = split_slot(bytes)?;
             Ok((Body::SlotLookup(slot), rest))
         }
-        17 => found(alloc, bytes),
-        18 => {
+        kinds::FOUND => found(alloc, bytes),
+        kinds::GAP_COMMIT => {
             let (slot, rest) = split_slot(bytes)?;
             Ok((Body::GapCommit(slot), rest))
         }
-        19 => {
+        kinds::GAP_REP => {
             let (slot, rest) = split_slot(bytes)?;
             Ok((Body::GapRep(slot), rest))
         }
-        20 => Ok((Body::ViewChangeReq, bytes)),
-        21 => view_change(alloc, bytes),
-        22 => start_view(alloc, bytes),
-        23 => sync_prepare(alloc, bytes),
-        24 => {
+        kinds::VIEW_CHANGE_REQ => Ok((Body::ViewChangeReq, bytes)),
+        kinds::VIEW_CHANGE => view_change(alloc, bytes),
+        kinds::START_VIEW => start_view(alloc, bytes),
+        kinds::SYNC_PREPARE => sync_prepare(alloc, bytes),
+        kinds::SYNC_REP => {
             let (length, rest) = split_length(bytes)?;
             Ok((Body::SyncRep(length), rest))
         }
-        25 => {
+        kinds::SYNC_COMMIT => {
             let (length, rest) = split_length(bytes)?;
             Ok((Body::SyncCommit(length), rest))
         }
@@ -107,7 +108,7 @@ fn peer(alloc: Global, bytes: &[u8]) -> Result<Peer, BadPeer>
     match bytes {
         [] => Err(BadPeer::Short),
         [kind, rest @ ..] => {
-            if *kind < 16 || 25 < *kind {
+            if *kind < kinds::SLOT_LOOKUP || kinds::SYNC_COMMIT < *kind {
                 return Err(BadPeer::Kind);
             }
             message(alloc, *kind, rest)
@@ -126,4 +127,16 @@ pub fn decode_peer(alloc: Global, bytes: &[u8]) -> Result<Peer, BadPeer>
     ensures exact { Gives result (reading bytes.now) }
 {
     peer(alloc, bytes)
+}
+
+/// The message that the bytes spell, None where they spell none.
+pub fn read_peer(alloc: Global, bytes: &[u8]) -> Result<Option<Peer>, NoMemory>
+    ensures found { IfOk result (λ found. IfSome found (λ p. Spells p bytes.now)) }
+    ensures exact { IfOk result (λ found. Finds found (reading bytes.now)) }
+{
+    match decode_peer(alloc, bytes) {
+        Ok(message) => Ok(Some(message)),
+        Err(BadPeer::NoMemory) => Err(NoMemory),
+        Err(_) => Ok(None),
+    }
 }

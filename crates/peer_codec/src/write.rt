@@ -6,7 +6,7 @@ ghost use Rattle.oum_codec.specs.Spelling.{view_bytes};
 ghost use Rattle.peer_codec.specs.Spelling.{entry_bytes, log_bytes, kind_of, head_bytes, body_bytes, spelling};
 
 use crate::lengths::spelled_len;
-use nop_types::{Body, Entry, Log, NoMemory, Peer, View};
+use nop_types::{Body, Entry, Log, NoMemory, Peer, View, kinds};
 use oum_codec::{put_request, put_u32, put_u64, put_view};
 use std::alloc::Global;
 
@@ -52,16 +52,16 @@ fn kind_of(body: &Body) -> u8
     ensures { result ≡ kind_of body.now }
 {
     match body {
-        Body::SlotLookup(_) => 16,
-        Body::Found(..) => 17,
-        Body::GapCommit(_) => 18,
-        Body::GapRep(_) => 19,
-        Body::ViewChangeReq => 20,
-        Body::ViewChange { .. } => 21,
-        Body::StartView { .. } => 22,
-        Body::SyncPrepare(_) => 23,
-        Body::SyncRep(_) => 24,
-        Body::SyncCommit(_) => 25,
+        Body::SlotLookup(_) => kinds::SLOT_LOOKUP,
+        Body::Found(..) => kinds::FOUND,
+        Body::GapCommit(_) => kinds::GAP_COMMIT,
+        Body::GapRep(_) => kinds::GAP_REP,
+        Body::ViewChangeReq => kinds::VIEW_CHANGE_REQ,
+        Body::ViewChange { .. } => kinds::VIEW_CHANGE,
+        Body::StartView { .. } => kinds::START_VIEW,
+        Body::SyncPrepare(_) => kinds::SYNC_PREPARE,
+        Body::SyncRep(_) => kinds::SYNC_REP,
+        Body::SyncCommit(_) => kinds::SYNC_COMMIT,
     }
 }
 
