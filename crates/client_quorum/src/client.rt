@@ -28,7 +28,8 @@ impl Model for Client {
 impl Client {
     /// A client that submits these ops in turn, one at each tick Next at which none is pending.
     pub fn new(alloc: Global, config: Config, number: u32, ops: Vec<Op>) -> Result<Client, NoMemory>
-        ensures { IfOk result (λ c. c ≡ record { failed = false; state = opening config number ops.items }) }
+        ensures { IfOk result (λ c.
+            c ≡ record { failed = false; state = opening config number ops.items }) }
     {
         Ok(Client {
             alloc,

@@ -16,7 +16,8 @@ ghost use Rattle.client_quorum.specs.Runs.{after, gave, replies_of, ops_of, HasN
 /// A reply for the pending client and id makes the client accept a result exactly where f + 1 kept replies, this one with
 /// them, are of its view and slot, and the leader's is one of them with that result.
 pub fn accepts_exactly_at_a_quorum()
-    ensures { (s : ClientState) (p : Reply) (result : List ℕ) → HasOneEach s.replies → is_expected s p ≡ true →
+    ensures { (s : ClientState) (p : Reply) (result : List ℕ) → HasOneEach s.replies
+        → is_expected s p ≡ true →
         Has (reply s p).1 (Accepted s.number p.id result) ↔
         HasQuorum s.config.replicas (keep_reply s.replies p) p.view p.slot result }
 {}
@@ -24,7 +25,8 @@ pub fn accepts_exactly_at_a_quorum()
 /// Whatever came before, a result is accepted only where f + 1 different replicas replied for the client and id at one view
 /// and slot, the leader of that view with that result.
 pub fn accepts_what_replicas_replied()
-    ensures { (config : Configuration) (number : ℕ) (ops : List (List ℕ)) (past : List Given) (x : Given)
+    ensures { (config : Configuration) (number : ℕ) (ops : List (List ℕ))
+        (past : List Given) (x : Given)
         (client id : ℕ) (result : List ℕ) →
         Has (next (after (opening config number ops) past) x).1 (Accepted client id result) →
         IsAgreed config.replicas (replies_of (past ++ x ∷ [])) number id result }
@@ -33,17 +35,21 @@ pub fn accepts_what_replicas_replied()
 /// One request is open at a time: each is submitted under the next id, counted from 1, once the one before was accepted, what
 /// is sent is the open request, and it is accepted once.
 pub fn takes_turns()
-    ensures { (config : Configuration) (number : ℕ) (ops : List (List ℕ)) (inputs : List Given) →
+    ensures { (config : Configuration) (number : ℕ) (ops : List (List ℕ))
+        (inputs : List Given) →
         TakesTurns number None 0 (gave (opening config number ops) inputs) }
 {}
 
 /// Each id is submitted once and accepted at most once.
 pub fn uses_each_id_once()
-    ensures submitted { (config : Configuration) (number : ℕ) (ops : List (List ℕ)) (inputs : List Given)
+    ensures submitted { (config : Configuration) (number : ℕ) (ops : List (List ℕ))
+        (inputs : List Given)
         (i j : ℕ) (p q : Request) →
         slice_get (gave (opening config number ops) inputs) i ≡ Some (Submitted p) →
-        slice_get (gave (opening config number ops) inputs) j ≡ Some (Submitted q) → p.id ≡ q.id → i ≡ j }
-    ensures accepted { (config : Configuration) (number : ℕ) (ops : List (List ℕ)) (inputs : List Given)
+        slice_get (gave (opening config number ops) inputs) j ≡ Some (Submitted q) →
+        p.id ≡ q.id → i ≡ j }
+    ensures accepted { (config : Configuration) (number : ℕ) (ops : List (List ℕ))
+        (inputs : List Given)
         (i j client other id : ℕ) (a b : List ℕ) →
         slice_get (gave (opening config number ops) inputs) i ≡ Some (Accepted client id a) →
         slice_get (gave (opening config number ops) inputs) j ≡ Some (Accepted other id b) → i ≡ j }
@@ -52,26 +58,34 @@ pub fn uses_each_id_once()
 /// Waiting ops are submitted in their order, each once, and none is lost or added: where no op comes from outside, those that
 /// were submitted and those that wait are the client's ops. In any run those that wait are the last of them.
 pub fn submits_waiting_ops_in_order()
-    ensures alone { (config : Configuration) (number : ℕ) (ops : List (List ℕ)) (inputs : List Given) →
+    ensures alone { (config : Configuration) (number : ℕ) (ops : List (List ℕ))
+        (inputs : List Given) →
         HasNoSubmit inputs →
-        ops_of (gave (opening config number ops) inputs) ++ (after (opening config number ops) inputs).waiting ≡ ops }
-    ensures any { (config : Configuration) (number : ℕ) (ops : List (List ℕ)) (inputs : List Given) →
+        ops_of (gave (opening config number ops) inputs)
+        ++ (after (opening config number ops) inputs).waiting ≡ ops }
+    ensures any { (config : Configuration) (number : ℕ) (ops : List (List ℕ))
+        (inputs : List Given) →
         EndsWith ops (after (opening config number ops) inputs).waiting }
 {}
 
 /// The last id is the number of requests that were submitted, and there is an acceptance exactly where one was submitted and
 /// the last one is not pending: then it is that request's, as it was given.
 pub fn knows_the_last_request()
-    ensures count { (config : Configuration) (number : ℕ) (ops : List (List ℕ)) (inputs : List Given) →
+    ensures count { (config : Configuration) (number : ℕ) (ops : List (List ℕ))
+        (inputs : List Given) →
         (after (opening config number ops) inputs).last_id ≡
         length (ops_of (gave (opening config number ops) inputs)) }
-    ensures stands { (config : Configuration) (number : ℕ) (ops : List (List ℕ)) (inputs : List Given) →
-        Stands (gave (opening config number ops) inputs) (after (opening config number ops) inputs) }
+    ensures stands { (config : Configuration) (number : ℕ) (ops : List (List ℕ))
+        (inputs : List Given) →
+        Stands (gave (opening config number ops) inputs)
+        (after (opening config number ops) inputs) }
 {}
 
 /// What is kept is never a quorum: with the reply that makes it one, the request is accepted.
 pub fn keeps_no_quorum()
-    ensures { (config : Configuration) (number : ℕ) (ops : List (List ℕ)) (inputs : List Given)
+    ensures { (config : Configuration) (number : ℕ) (ops : List (List ℕ))
+        (inputs : List Given)
         (view : View) (slot : ℕ) (result : List ℕ) →
-        ¬ HasQuorum config.replicas (after (opening config number ops) inputs).replies view slot result }
+        ¬ HasQuorum config.replicas (after (opening config number ops) inputs).replies
+        view slot result }
 {}

@@ -26,8 +26,18 @@ fn send(alloc: Global, request: &Request, out: &mut Outbox) -> Result<(), NoMemo
 /// The op is pending under the next id, and its request is sent.
 fn begin(alloc: Global, state: &mut ClientState, op: Op, out: &mut Outbox) -> Result<(), NoMemory>
     requires { state.old.last_id + 1 < 2 ^ 64 }
-    ensures state { OnOk result (state.new ≡ (begin state.old (record { client = state.old.number; id = state.old.last_id + 1; op = op })).0) }
-    ensures out { OnOk result (out.new ≡ out.old ++ (begin state.old (record { client = state.old.number; id = state.old.last_id + 1; op = op })).1) }
+    ensures state { OnOk result (state.new
+        ≡ (begin state.old (record {
+          client = state.old.number;
+          id = state.old.last_id + 1;
+          op = op;
+        })).0) }
+    ensures out { OnOk result (out.new ≡ out.old
+        ++ (begin state.old (record {
+          client = state.old.number;
+          id = state.old.last_id + 1;
+          op = op;
+        })).1) }
 {
     let id = state.last_id + 1;
     let request = Request {

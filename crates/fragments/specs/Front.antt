@@ -4,7 +4,7 @@ use Rattle.nop_types.specs.declared.limits.TheConstants.{FRAGMENT_BYTES}
 use Rattle.fragments.specs.Parts.{missing}
 use Rattle.fragments.specs.Cutting.{piece}
 
--- so many full parts, which stand one behind the other
+-- a number of full parts, one behind the other
 abbrev pub front_parts : List ℕ → ℕ → List (Option (List ℕ))
 front_parts front zero = []
 front_parts front (suc k) = front_parts front k ++ Some (piece front k) ∷ []

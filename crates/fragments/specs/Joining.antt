@@ -20,7 +20,7 @@ Waiting = List Partial
 abbrev pub at_most_limit : Waiting → Waiting
 at_most_limit q = if nat_lt MAX_UNFINISHED (length q) then drop 1 q else q
 
--- a message of which nothing came but this fragment
+-- a message that has this fragment alone
 abbrev pub begun : Fragment → Partial
 begun f = with_part (record { number = f.message; parts = replicate f.count None }) f.index f.payload
 
@@ -71,6 +71,6 @@ taken_if true all f = at_sender all f (slice_get all f.replica)
 abbrev pub taken : List Waiting → Fragment → List Waiting × Option (List ℕ)
 taken all f = taken_if (is_in_range f) all f
 
--- nothing came of any of so many senders
+-- nothing came of any of n senders
 abbrev pub opening : ℕ → List Waiting
 opening n = replicate n []

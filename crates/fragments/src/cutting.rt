@@ -76,7 +76,8 @@ pub fn cut(
 ) -> Result<(), CutError>
     requires replica { sender ≤ 6 }
     requires from_1 { 1 ≤ number }
-    ensures ok { OnOk result (out.new ≡ out.old ++ sends_of dest (fragments_of sender number bytes.now)) }
+    ensures ok { OnOk result (out.new ≡ out.old
+        ++ sends_of dest (fragments_of sender number bytes.now)) }
     ensures err { OnErr result (out.new ≡ out.old) }
     ensures size { IsErrOf result CutError.Size ↔ HasNoCut bytes.now }
 {

@@ -17,13 +17,15 @@ pub fn opening_came()
 
 /// What came in some fragments came in these and more.
 pub fn stays_came()
-    ensures { (net more : List Fragment) (all : List Waiting) → AllCame net all → AllCame (net ++ more) all }
+    ensures { (net more : List Fragment) (all : List Waiting) → AllCame net all
+        → AllCame (net ++ more) all }
 {}
 
 /// Where all that is kept came in the fragments of a list, so it is after one more of them; and where bytes are answered,
 /// for each index below the count a fragment of that sender, number, count and index with that part is in the list.
 pub fn keeps_what_came()
-    ensures { (net : List Fragment) (all : List Waiting) (f : Fragment) → Has net f → AllCame net all →
+    ensures { (net : List Fragment) (all : List Waiting) (f : Fragment) → Has net f
+        → AllCame net all →
         StepKeeps net f (taken all f) }
 {}
 
@@ -37,14 +39,16 @@ pub fn answers_what_came()
 /// message, which its sender sent.
 pub fn joins_what_was_sent()
     ensures { (sent : List Sent) (net : List Fragment) (f : Fragment) (bytes : List ℕ) →
-        AreDistinct sent → AreCutFrom sent net → Has net f → CameInParts net f bytes → WasSent sent f bytes }
+        AreDistinct sent → AreCutFrom sent net → Has net f → CameInParts net f bytes →
+        WasSent sent f bytes }
 {}
 
 /// Where each fragment that was taken was cut by its sender, and no sender used a number twice, what is answered is one
 /// message, which its sender sent.
 pub fn answers_what_was_sent()
     ensures { (sent : List Sent) (n : ℕ) (past : List Fragment) (f : Fragment) (bytes : List ℕ) →
-        AreDistinct sent → AreCutFrom sent (past ++ f ∷ []) → (taken (after n past) f).1 ≡ Some bytes →
+        AreDistinct sent → AreCutFrom sent (past ++ f ∷ []) →
+        (taken (after n past) f).1 ≡ Some bytes →
         WasSent sent f bytes }
 {}
 
@@ -76,5 +80,6 @@ pub fn fitting_is_in_range()
 /// No fragment brings more unfinished messages, parts or bytes than the limits allow.
 pub fn stays_within_limits()
     ensures opened { (n : ℕ) → All WaitingFits (opening n) }
-    ensures taken { (all : List Waiting) (f : Fragment) → All WaitingFits all → All WaitingFits (taken all f).0 }
+    ensures taken { (all : List Waiting) (f : Fragment) → All WaitingFits all
+        → All WaitingFits (taken all f).0 }
 {}

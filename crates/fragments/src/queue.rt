@@ -24,7 +24,7 @@ impl Model for Queue {
     ghost invariant = { λ q. length q.messages.items ≤ MAX_UNFINISHED };
 }
 
-/// A message of which nothing came but this fragment.
+/// A message that has this fragment alone.
 #[tactic(auto, using(crate::proofs::Goes::open_in_range))]
 fn begun(alloc: Global, fragment: &Fragment) -> Result<Unfinished, NoMemory>
     requires { is_in_range fragment.now ≡ true }
@@ -52,8 +52,10 @@ impl Queue {
 
     fn start(&mut self, fragment: &Fragment) -> Result<Option<Bytes>, NoMemory>
         requires { is_in_range fragment.now ≡ true }
-        ensures gives { IfOk result (λ r. r ≡ (started self.old fragment.now (fragment.now.count == 1)).1) }
-        ensures kept { OnOk result (self.new ≡ (started self.old fragment.now (fragment.now.count == 1)).0) }
+        ensures gives { IfOk result (λ r.
+            r ≡ (started self.old fragment.now (fragment.now.count == 1)).1) }
+        ensures kept { OnOk result (self.new
+            ≡ (started self.old fragment.now (fragment.now.count == 1)).0) }
         ensures err { OnErr result (self.new ≡ self.old) }
     {
         if fragment.count == 1 {
@@ -70,8 +72,10 @@ impl Queue {
 
     fn go_on(&mut self, at: usize, fragment: &Fragment) -> Result<Option<Bytes>, NoMemory>
         requires { at < length self.old }
-        ensures gives { IfOk result (λ r. r ≡ (found self.old fragment.now at (slice_get self.old at)).1) }
-        ensures kept { OnOk result (self.new ≡ (found self.old fragment.now at (slice_get self.old at)).0) }
+        ensures gives { IfOk result (λ r.
+            r ≡ (found self.old fragment.now at (slice_get self.old at)).1) }
+        ensures kept { OnOk result (self.new
+            ≡ (found self.old fragment.now at (slice_get self.old at)).0) }
         ensures err { OnErr result (self.new ≡ self.old) }
     {
         let index = fragment.index as usize;

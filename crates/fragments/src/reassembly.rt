@@ -34,7 +34,7 @@ fn is_in_range(fragment: &Fragment) -> bool
 }
 
 impl Reassembly {
-    /// With nothing kept of any of so many senders.
+    /// With nothing kept of any of `n` senders.
     pub fn new(alloc: Global, n: u8) -> Result<Reassembly, NoMemory>
         ensures { IfOk result (λ r. r ≡ opening n) }
     {

@@ -29,7 +29,8 @@ impl Model for Unfinished {
 
     ghost Value = { Partial };
 
-    ghost view = { λ u. record { number = u.number; parts = parts_of u.front.items u.filled u.later.items } };
+    ghost view = { λ u.
+        record { number = u.number; parts = parts_of u.front.items u.filled u.later.items } };
 
     ghost invariant = { λ u. IsSplit u.front.items u.filled u.later.items u.missing };
 }
@@ -66,7 +67,8 @@ fn append_with(
     payload: &[u8],
 ) -> Result<(), NoMemory>
     requires { index < length parts.now }
-    ensures ok { OnOk result (to.new.items ≡ to.old.items ++ whole (set parts.now index (Some payload.now))) }
+    ensures ok { OnOk result (to.new.items ≡ to.old.items
+        ++ whole (set parts.now index (Some payload.now))) }
     ensures front { take (length to.old.items) to.new.items ≡ to.old.items }
 {
     let (before, rest) = parts.split_at(index);
@@ -85,7 +87,8 @@ fn append_whole(
     payload: &[u8],
 ) -> Result<(), NoMemory>
     requires { index < length parts.now }
-    ensures ok { OnOk result (to.new.items ≡ to.old.items ++ whole (set parts.now index (Some payload.now))) }
+    ensures ok { OnOk result (to.new.items ≡ to.old.items
+        ++ whole (set parts.now index (Some payload.now))) }
     ensures err { OnErr result (to.new.items ≡ to.old.items) }
 {
     to.reserve_exact(FRAGMENT_BYTES.saturating_mul(parts.len()))?;
@@ -110,7 +113,8 @@ fn is_empty_at(parts: &[Option<Bytes>], index: usize) -> bool
 fn gather(front: &mut Vec<u8>, filled: usize, later: &mut Vec<Option<Bytes>>) -> usize
     requires size { length front.old.items ≡ FRAGMENT_BYTES * filled }
     requires within { filled ≤ length later.old.items }
-    ensures same { parts_of front.new.items result later.new.items ≡ parts_of front.old.items filled later.old.items }
+    ensures same { parts_of front.new.items result later.new.items
+        ≡ parts_of front.old.items filled later.old.items }
     ensures size { length front.new.items ≡ FRAGMENT_BYTES * result }
     ensures within { result ≤ length later.new.items }
 {
@@ -195,7 +199,8 @@ impl Unfinished {
     /// Gives the parts that came and this one, in the order of their indexes, and keeps nothing of them.
     pub(crate) fn complete(&mut self, index: usize, payload: &[u8]) -> Result<Bytes, NoMemory>
         requires { is_open self.old.parts index ≡ true }
-        ensures ok { IfOk result (λ bytes. bytes ≡ whole (with_part self.old index payload.now).parts) }
+        ensures ok { IfOk result (λ bytes.
+            bytes ≡ whole (with_part self.old index payload.now).parts) }
         ensures err { OnErr result (self.new ≡ self.old) }
     {
         let (_, rest) = self.later.split_at(self.filled);

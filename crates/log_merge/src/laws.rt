@@ -11,9 +11,12 @@ ghost use Rattle.log_merge.specs.Merged.{HasNoOp, HasLowest, HasDistinctSenders,
 /// A merge is as long as the longest log. It has a NO-OP exactly where a log has one, and a request exactly where no log has a
 /// NO-OP and that is the request of the lowest sender whose log has the slot.
 pub fn merge_by_slot()
-    ensures longest { (cs : List Change) → IsGreatest (0 ∷ map (λ c. length c.log) cs) (length (merge cs)) }
-    ensures noop { (cs : List Change) (k : ℕ) → ((slot_of (merge cs) k ≡ Some NoOp) ↔ HasNoOp cs k) }
-    ensures request { (cs : List Change) (k : ℕ) (r : Request) → HasDistinctSenders cs → ((slot_of (merge cs) k ≡ Some (Req r)) ↔ HasLowest cs k r) }
+    ensures longest { (cs : List Change)
+        → IsGreatest (0 ∷ map (λ c. length c.log) cs) (length (merge cs)) }
+    ensures noop { (cs : List Change) (k : ℕ)
+        → ((slot_of (merge cs) k ≡ Some NoOp) ↔ HasNoOp cs k) }
+    ensures request { (cs : List Change) (k : ℕ) (r : Request) → HasDistinctSenders cs
+        → ((slot_of (merge cs) k ≡ Some (Req r)) ↔ HasLowest cs k r) }
 {}
 
 /// A merge depends on who told which log, and not on the order of the changes, nor on anything else in them.
@@ -25,6 +28,7 @@ pub fn merge_is_of_pairs()
 /// The entries of a merge are in their ranges where those of all logs are.
 #[tactic(auto, using(crate::proofs::InRanges::merge_fits, crate::proofs::InRanges::merge_of_changes_fits))]
 pub fn merge_is_in_ranges()
-    ensures logs { (cs : List Change) → AllByRecursion (λ c. LogFits c.log) cs → LogFits (merge cs) }
+    ensures logs { (cs : List Change) → AllByRecursion (λ c. LogFits c.log) cs
+        → LogFits (merge cs) }
     ensures changes { (cs : List Change) → AllByRecursion ChangeFits cs → LogFits (merge cs) }
 {}

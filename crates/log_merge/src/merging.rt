@@ -27,7 +27,8 @@ fn counts(change: &Change, of: Option<View>) -> bool
 /// What a change that counts tells of a place of its log. The others tell nothing.
 fn told_at(change: &Change, of: Option<View>, place: usize) -> Option<Told<'_>>
     ensures { option_map given result
-        ≡ cond (counts of change.now) (told change.now.sender (slot_of change.now.log (suc place))) None }
+        ≡ cond (counts of change.now)
+        (told change.now.sender (slot_of change.now.log (suc place))) None }
 {
     if !counts(change, of) {
         return None;
@@ -41,7 +42,8 @@ fn told_at(change: &Change, of: Option<View>, place: usize) -> Option<Told<'_>>
 
 /// A NO-OP wins, else the lower sender.
 fn of_both<'a>(a: Told<'a>, b: Told<'a>) -> Told<'a>
-    ensures { given result ≡ of_both a.entry.entry.now b.entry.entry.now (given a.entry) (given b.entry) }
+    ensures { given result
+        ≡ of_both a.entry.entry.now b.entry.entry.now (given a.entry) (given b.entry) }
 {
     match (a.entry, b.entry) {
         (Entry::NoOp, _) => a,
@@ -51,7 +53,8 @@ fn of_both<'a>(a: Told<'a>, b: Told<'a>) -> Told<'a>
 }
 
 fn of_two<'a>(a: Option<Told<'a>>, b: Option<Told<'a>>) -> Option<Told<'a>>
-    ensures { option_map given result ≡ of_two (option_map given a.entry) (option_map given b.entry) }
+    ensures { option_map given result
+        ≡ of_two (option_map given a.entry) (option_map given b.entry) }
 {
     match (a, b) {
         (Some(a), Some(b)) => Some(of_both(a, b)),
@@ -116,7 +119,8 @@ pub fn merge(alloc: Global, changes: &[Change]) -> Result<Log, NoMemory>
 
 /// The merge of the changes with this last normal view.
 pub fn merge_of_view(alloc: Global, changes: &[Change], view: View) -> Result<Log, NoMemory>
-    ensures { IfOk result (λ log. log ≡ merge (filter (λ c. is_view c.last_normal view) changes.now)) }
+    ensures { IfOk result (λ log.
+        log ≡ merge (filter (λ c. is_view c.last_normal view) changes.now)) }
 {
     merged(alloc, changes, Some(view))
 }

@@ -18,18 +18,30 @@ impl Model for Config {
 
     ghost Value = { Configuration };
 
-    ghost view = { λ c. record { replicas = c.replicas; sequencers = c.sequencers; clients = c.clients } };
+    ghost view = { λ c.
+        record { replicas = c.replicas; sequencers = c.sequencers; clients = c.clients } };
 
-    ghost invariant = { λ c. IsTrue (is_configuration (record { replicas = c.replicas; sequencers = c.sequencers; clients = c.clients })) };
+    ghost invariant = { λ c. IsTrue (is_configuration (record {
+      replicas = c.replicas;
+      sequencers = c.sequencers;
+      clients = c.clients;
+    })) };
 
-    ghost inverse = { λ d. record { replicas = d.replicas; sequencers = d.sequencers; clients = d.clients } };
+    ghost inverse = { λ d.
+        record { replicas = d.replicas; sequencers = d.sequencers; clients = d.clients } };
 }
 
 impl Config {
     /// None exactly outside the limits.
     pub fn new(replicas: u8, sequencers: u8, clients: u8) -> Option<Config>
-        ensures some { IsSome result ↔ IsTrue (is_configuration (record { replicas = replicas; sequencers = sequencers; clients = clients })) }
-        ensures value { IfSome result (λ c. c ≡ record { replicas = replicas; sequencers = sequencers; clients = clients }) }
+        ensures some { IsSome result
+            ↔ IsTrue (is_configuration (record {
+              replicas = replicas;
+              sequencers = sequencers;
+              clients = clients;
+            })) }
+        ensures value { IfSome result (λ c.
+            c ≡ record { replicas = replicas; sequencers = sequencers; clients = clients }) }
     {
         if replicas % 2 == 0 || replicas > MAX_REPLICAS {
             return None;

@@ -26,8 +26,10 @@ pub trait Core {
 
     /// One step. Where memory runs out, the outputs are as before, and so does each later step.
     fn step(&mut self, input: Input<'_>, out: &mut Outbox) -> Result<(), NoMemory>
-        ensures state { OnOk result (state self.new ≡ (next (state self.old) (given input.entry)).0) }
-        ensures outputs { OnOk result (out.new ≡ out.old ++ (next (state self.old) (given input.entry)).1) }
+        ensures state { OnOk result (state self.new
+            ≡ (next (state self.old) (given input.entry)).0) }
+        ensures outputs { OnOk result (out.new ≡ out.old
+            ++ (next (state self.old) (given input.entry)).1) }
         ensures well { OnOk result (has_failed self.new ≡ has_failed self.old) }
         ensures failed { OnErr result (has_failed self.new ≡ true) }
         ensures kept { OnErr result (out.new ≡ out.old) }

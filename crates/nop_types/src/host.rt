@@ -55,5 +55,6 @@ pub trait Host: Sized + Drop {
 
     ghost stays_sound: { (s : State) (op : List ℕ) → is_sound s → is_sound (meaning.after s op) };
 
-    ghost answers_short: { (s : State) (op : List ℕ) → is_sound s → length (meaning.answer s op) ≤ MAX_RESULT_BYTES };
+    ghost answers_short: { (s : State) (op : List ℕ) → is_sound s
+        → length (meaning.answer s op) ≤ MAX_RESULT_BYTES };
 }

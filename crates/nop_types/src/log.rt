@@ -31,7 +31,7 @@ impl Log {
         }
     }
 
-    /// An empty log with room for so many entries.
+    /// An empty log with room for `capacity` entries.
     pub fn with_capacity(alloc: Global, capacity: usize) -> Result<Log, NoMemory>
         ensures { IfOk result (λ l. l ≡ []) }
     {

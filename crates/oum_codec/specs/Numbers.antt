@@ -7,7 +7,7 @@ use Rattle.nop_types.specs.declared.view.View.{View}
 abbrev pub IsBytes : List ℕ → Type 0
 IsBytes bytes = (i : ℕ) → slice_index bytes i < 256
 
--- the number written in so many bytes; not an abbreviation, so that goals do not show each byte
+-- the number written in the bytes of a width; not an abbreviation, so that goals do not show each byte
 unfoldable pub be_bytes : Width → ℕ → List ℕ
 be_bytes w n = to_be_bytes w n
 
@@ -16,7 +16,7 @@ infixl 10 ◌>>=◌
 abbrev pub ◌>>=◌ : {A B : Type 0} → Option A → (A → Option B) → Option B
 found >>= next = option_and_then next found
 
--- the number in so many bytes, the highest one first
+-- the number in the bytes of a width, the highest one first
 abbrev pub number_at : Width → List ℕ → Option (ℕ × List ℕ)
 number_at w bytes = if nat_lt (length bytes) (byte_len w) then None else Some (from_be_bytes w (take (byte_len w) bytes), drop (byte_len w) bytes)
 
@@ -25,7 +25,7 @@ abbrev pub byte_at : List ℕ → Option (ℕ × List ℕ)
 byte_at [] = None
 byte_at (b ∷ rest) = Some (b, rest)
 
--- so many bytes
+-- the first n bytes
 abbrev pub bytes_at : ℕ → List ℕ → Option (List ℕ × List ℕ)
 bytes_at n bytes = if nat_lt (length bytes) n then None else Some (take n bytes, drop n bytes)
 

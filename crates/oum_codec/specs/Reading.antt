@@ -9,7 +9,7 @@ use Rattle.nop_types.specs.declared.kinds.TheConstants as kinds
 use Rattle.nop_types.specs.declared.limits.TheConstants.{FRAGMENT_BYTES}
 use Rattle.oum_codec.specs.Fixed.{request_fields_at, request_in_range, stamped_fields_at, stamped_in_range, reply_fields_at, reply_in_range, signal_fields_at, signal_in_range, fragment_fields_at, fragment_in_range, least_payload}
 
--- reading fails with this error; want of memory says nothing of it
+-- reading fails with this error; being out of memory says nothing of it
 abbrev pub Fails : {A : Type 0} → Bad → Result A Bad → Type 0
 Fails NoMemory read = ⊤
 Fails e read = read ≡ Err e
@@ -38,7 +38,7 @@ abbrev pub ◌>>=◌ : {A B E : Type 0} → Result A E → (A → Result B E) �
 abbrev pub fields_of : {F : Type 0} → Option (F × List ℕ) → (F → Bool) → Result (F × List ℕ) Bad
 fields_of found test = ok_or found Short >>= λ f. if test f.0 then Ok f else Err Field
 
--- at least so many bytes are there, and at most so many
+-- there are at least `least` bytes, and at most `most`
 abbrev pub sized : ℕ → ℕ → List ℕ → Result (List ℕ) Bad
 sized least most bytes = if nat_lt (length bytes) least then Err Short else if nat_lt most (length bytes) then Err Trailing else Ok bytes
 

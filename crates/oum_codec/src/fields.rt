@@ -56,7 +56,7 @@ pub fn split_u64(bytes: &[u8]) -> Option<(u64, &[u8])>
     Some((number, rest))
 }
 
-/// So many bytes, and the bytes after them.
+/// The first `count` bytes, and those after them.
 pub fn split_bytes(bytes: &[u8], count: usize) -> Option<(&[u8], &[u8])>
     ensures { option_map (λ x. (x.0.now, x.1.now)) result ≡ bytes_at count bytes.now }
 {

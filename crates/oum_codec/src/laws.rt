@@ -19,7 +19,8 @@ pub fn spelled_is_read()
 
 /// What is read from bytes is spelled so.
 pub fn read_is_spelled()
-    ensures { (bytes : List ℕ) (d : Datagram) → IsBytes bytes → reading bytes ≡ Ok d → Spells d bytes }
+    ensures { (bytes : List ℕ) (d : Datagram) → IsBytes bytes → reading bytes ≡ Ok d
+        → Spells d bytes }
 {}
 
 /// Different values have different spellings.
@@ -52,6 +53,7 @@ pub fn read_fields_stand()
         → (n < 2 ^ 64) × StandsAt at (be_bytes w64 n) bytes }
     ensures view { (at : ℕ) (v : View) (bytes : List ℕ) → IsBytes bytes → view_in at bytes ≡ Some v
         → ViewWidths v × StandsAt at (view_bytes v) bytes }
-    ensures request { (at : ℕ) (r : Request) (bytes : List ℕ) → IsBytes bytes → request_in at bytes ≡ Some r
+    ensures request { (at : ℕ) (r : Request) (bytes : List ℕ) → IsBytes bytes
+        → request_in at bytes ≡ Some r
         → RequestFits r × StandsAt at (request_bytes r) bytes }
 {}

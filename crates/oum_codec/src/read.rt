@@ -10,7 +10,7 @@ use nop_types::{
 };
 use std::alloc::Global;
 
-/// The bytes, where there are at least and at most so many.
+/// The bytes, where there are at least `least` and at most `most`.
 fn within(bytes: &[u8], least: usize, most: usize) -> Result<&[u8], Bad>
     ensures { GivesBy (λ b. b.now) result (sized least most bytes.now) }
 {
@@ -176,7 +176,8 @@ pub fn decode(alloc: Global, bytes: &[u8]) -> Result<Datagram, Bad>
     // What is read is spelled so.
     ensures found { IfOk result (λ d. Spells d bytes.now) }
     // What is spelled so is read, unless memory runs out.
-    ensures only { (d : Datagram) → Spells d bytes.now → (result ≡ Ok d) ⊎ (result ≡ Err Bad.NoMemory) }
+    ensures only { (d : Datagram) → Spells d bytes.now
+        → (result ≡ Ok d) ⊎ (result ≡ Err Bad.NoMemory) }
     // Else the first test that fails is answered.
     ensures exact { Gives result (reading bytes.now) }
 {

@@ -73,7 +73,8 @@ fn put_stamped(to: &mut Vec<u8>, stamped: &Stamped) -> Result<(), NoMemory>
 
 /// Who replies, and for which slot.
 fn put_place(to: &mut Vec<u8>, replica: u8, view: View, slot: u32) -> Result<(), NoMemory>
-    ensures { OnOk result (to.new.items ≡ to.old.items ++ (replica ∷ [] ++ view_bytes view ++ be_bytes w32 slot)) }
+    ensures { OnOk result (to.new.items ≡ to.old.items
+        ++ (replica ∷ [] ++ view_bytes view ++ be_bytes w32 slot)) }
 {
     to.push(replica)?;
     put_view(to, view)?;
@@ -119,7 +120,14 @@ pub fn put_fragment(
     count: u16,
     payload: &[u8],
 ) -> Result<(), NoMemory>
-    ensures { OnOk result (to.new.items ≡ to.old.items ++ spelling (Datagram.Fragment (record { replica = replica; message = message; index = index; count = count; payload = payload.now }))) }
+    ensures { OnOk result (to.new.items ≡ to.old.items
+        ++ spelling (Datagram.Fragment (record {
+          replica = replica;
+          message = message;
+          index = index;
+          count = count;
+          payload = payload.now;
+        }))) }
 {
     put_header(to, kinds::FRAGMENT)?;
     to.push(replica)?;

@@ -3,7 +3,7 @@ use Rattle.std.specs.Prelude.{◌≡◌, Result, Ok, Err, ⊤}
 use Rattle.peer_codec.specs.declared.bad_peer.BadPeer.{BadPeer}
 use Rattle.peer_codec.specs.declared.bad_peer.BadPeer.TheVariants.{NoMemory}
 
--- reading fails with this error; want of memory says nothing of it
+-- reading fails with this error; being out of memory says nothing of it
 abbrev pub Fails : {A : Type 0} → BadPeer → Result A BadPeer → Type 0
 Fails NoMemory read = ⊤
 Fails e read = read ≡ Err e

@@ -14,7 +14,7 @@ entry_at (zero ∷ rest) = Ok (NoOp, rest)
 entry_at (suc zero ∷ rest) = request_at rest >>= λ r. Ok (Req r.0, r.1)
 entry_at (suc (suc tag) ∷ rest) = Err Field
 
--- so many entries, one after the other
+-- a given number of entries, one after the other
 unfoldable pub entries_at : ℕ → List ℕ → Result (List Entry × List ℕ) BadPeer
 entries_at zero bytes = Ok ([], bytes)
 entries_at (suc n) bytes = do

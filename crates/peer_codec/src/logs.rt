@@ -26,7 +26,7 @@ fn split_entry(alloc: Global, bytes: &[u8]) -> Result<(Entry, &[u8]), BadPeer>
     }
 }
 
-/// So many entries. Each has a byte at least, so there is room for no more than there are bytes.
+/// `count` entries. Each has a byte at least, so there is room for no more than there are bytes.
 fn split_entries(alloc: Global, count: u32, bytes: &[u8]) -> Result<(Log, &[u8]), BadPeer>
     requires { count ≤ MAX_SLOTS }
     ensures { GivesBy (λ x. (x.0, x.1.now)) result (entries_at count bytes.now) }

@@ -122,7 +122,8 @@ pub fn decode_peer(alloc: Global, bytes: &[u8]) -> Result<Peer, BadPeer>
     // What is read is spelled so.
     ensures found { IfOk result (λ p. Spells p bytes.now) }
     // What is spelled so is read, unless memory runs out.
-    ensures only { (p : Peer) → Spells p bytes.now → (result ≡ Ok p) ⊎ (result ≡ Err BadPeer.NoMemory) }
+    ensures only { (p : Peer) → Spells p bytes.now
+        → (result ≡ Ok p) ⊎ (result ≡ Err BadPeer.NoMemory) }
     // Else the first test that fails is answered.
     ensures exact { Gives result (reading bytes.now) }
 {

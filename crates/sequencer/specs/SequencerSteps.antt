@@ -55,7 +55,7 @@ stamp s r = (after_stamp s, send_packet (stamped_by s r))
 abbrev pub can_install : SequencerState → ℕ → ℕ → Bool
 can_install s sequencer session = (sequencer == s.number) && nat_le s.session session
 
--- a newer session begins at number 1, and the own one goes on
+-- a newer session begins at number 1, and its own one goes on
 abbrev pub in_session : SequencerState → ℕ → SequencerState
 in_session s session = cond (nat_lt s.session session) (record s { session = session; next = 1 }) s
 

@@ -6,7 +6,8 @@ ghost use Rattle.sequencer.specs.Runs.{Call, Step, run, stamps, spelled, to_repl
 
 /// Whatever the inputs, what a sequencer sends to the replicas are the packets that it stamps in its steps, in order.
 pub fn outputs_are_stamps()
-    ensures { (s : SequencerState) (inputs : List Given) → to_replicas (run s inputs).1 ≡ map spelled (stamps s (map Step inputs)) }
+    ensures { (s : SequencerState) (inputs : List Given)
+        → to_replicas (run s inputs).1 ≡ map spelled (stamps s (map Step inputs)) }
 {}
 
 /// Whatever the steps and the calls of `stamp`, a sequencer never stamps two packets with one session and number.

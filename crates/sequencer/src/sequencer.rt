@@ -59,8 +59,10 @@ impl Sequencer {
     /// is no session or the next number is `NUMBER_END`. A step does the same with a request that comes, and sends it.
     pub fn stamp(&mut self, request: &Request) -> Result<Option<Stamped>, NoMemory>
         ensures packet { IfOk result (λ packet. packet ≡ stamped_by self.old.state request.now) }
-        ensures none { IfOk result (λ packet. (packet ≡ None) ↔ ((self.old.state.session ≡ 0) ⊎ (self.old.state.next ≡ NUMBER_END))) }
-        ensures after { OnOk result (self.new ≡ record self.old { state = after_stamp self.old.state }) }
+        ensures none { IfOk result (λ packet. (packet ≡ None)
+            ↔ ((self.old.state.session ≡ 0) ⊎ (self.old.state.next ≡ NUMBER_END))) }
+        ensures after { OnOk result (self.new
+            ≡ record self.old { state = after_stamp self.old.state }) }
         ensures err { OnErr result (self.new ≡ self.old) }
         ensures for_good { self.old.failed ≡ true → IsErr result }
     {

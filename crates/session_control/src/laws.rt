@@ -15,16 +15,22 @@ ghost use Rattle.session_control.specs.Moves.{Move, after, moves, last_move, Are
 
 /// Whatever the inputs, each move has a greater session than the one before it. So no session is that of two moves.
 pub fn moves_rise()
-    ensures rising { (s : ControllerState) (inputs : List Given) → AreRising s.session (moves s inputs) }
+    ensures rising { (s : ControllerState) (inputs : List Given)
+        → AreRising s.session (moves s inputs) }
     ensures once { (s : ControllerState) (inputs : List Given) (i j : ℕ) (a b : Move) →
-        slice_get (moves s inputs) i ≡ Some a → slice_get (moves s inputs) j ≡ Some b → a.session ≡ b.session → i ≡ j }
+        slice_get (moves s inputs) i ≡ Some a → slice_get (moves s inputs) j ≡ Some b →
+        a.session ≡ b.session → i ≡ j }
 {}
 
-/// Whatever the inputs, each Install that the controller sends goes to the sequencer of its last move, and has that one's
-/// session. Where it did not move yet, these are sequencer 0 and the first session.
+/// Whatever the inputs, each Install that the controller sends goes to the sequencer of its last move, with the session
+/// of that move. Where it did not move yet, these are sequencer 0 and the first session.
 pub fn installs_are_of_last_move()
-    ensures { (config : Configuration) (session : ℕ) (inputs : List Given) (input : Given) (dest : Dest) (bytes : List ℕ) (j x : ℕ) →
+    ensures { (config : Configuration) (session : ℕ) (inputs : List Given) (input : Given)
+        (dest : Dest) (bytes : List ℕ) (j x : ℕ) →
         IsTrue (is_configuration config) → IsCount session →
-        Has (next (after (opening config session) inputs) input).1 (Send dest bytes) → reading bytes ≡ Ok (Install j x) →
-        (dest ≡ One (Sequencer j)) × (record { sequencer = j; session = x } ≡ last_move (opening config session) (inputs ++ input ∷ [])) }
+        Has (next (after (opening config session) inputs) input).1 (Send dest bytes) →
+        reading bytes ≡ Ok (Install j x) →
+        (dest ≡ One (Sequencer j))
+        × (record { sequencer = j; session = x }
+        ≡ last_move (opening config session) (inputs ++ input ∷ [])) }
 {}

@@ -1,6 +1,6 @@
 use nop_types::Config;
 
-/// So many probes without an answer make the controller move.
+/// After this many probes in a row without an answer the controller moves.
 pub const MISSED_END: u8 = 3;
 
 /// How long an Install waits for its answer before it is sent again.

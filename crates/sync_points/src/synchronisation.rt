@@ -55,7 +55,12 @@ impl Model for SyncPoints {
 
     ghost Value = { Synchronisation };
 
-    ghost view = { λ s. record { f = s.f; sync_point = s.sync_point; prepared = s.prepared; syncing = option_map round_given s.syncing } };
+    ghost view = { λ s. record {
+      f = s.f;
+      sync_point = s.sync_point;
+      prepared = s.prepared;
+      syncing = option_map round_given s.syncing;
+    } };
 }
 
 impl SyncPoints {

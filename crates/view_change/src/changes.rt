@@ -86,7 +86,8 @@ impl Changes {
     pub fn on_change(&mut self, change: Change) -> Result<Step, NoMemory>
         ensures after { OnOk result (self.new ≡ counted self.old change) }
         ensures step { IfOk result (λ s. s ≡ step_of (counted self.old change)) }
-        ensures waits { IfOk result (λ s. (s ≡ Waiting) ↔ (length (counted self.old change).changes ≤ self.old.f)) }
+        ensures waits { IfOk result (λ s.
+            (s ≡ Waiting) ↔ (length (counted self.old change).changes ≤ self.old.f)) }
         ensures err { OnErr result (self.new ≡ self.old) }
     {
         if has_sender(&self.changes, change.sender) {

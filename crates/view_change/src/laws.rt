@@ -6,8 +6,10 @@ ghost use Rattle.view_change.specs.Gathering.{IsOfSender, with_change};
 
 /// A sender counts once: a change of a sender that is there changes nothing, and any other one is added, with nothing else.
 pub fn senders_count_once()
-    ensures distinct { (cs : List Change) (c : Change) → HasDistinctSenders cs → HasDistinctSenders (with_change cs c) }
-    ensures first_stays { (cs : List Change) (c : Change) → IsOfSender cs c.sender → with_change cs c ≡ cs }
+    ensures distinct { (cs : List Change) (c : Change) → HasDistinctSenders cs
+        → HasDistinctSenders (with_change cs c) }
+    ensures first_stays { (cs : List Change) (c : Change) → IsOfSender cs c.sender
+        → with_change cs c ≡ cs }
     ensures members { (cs : List Change) (c d : Change) →
         (Has (with_change cs c) d ↔ (Has cs d ⊎ ((IsOfSender cs c.sender → ⊥) × (d ≡ c)))) }
 {}
