@@ -4,7 +4,7 @@ ghost use Rattle.client_quorum.specs.ClientSteps.{opening, timers, is_done};
 
 use crate::rows::act;
 use crate::{ClientState, Pending, Replies, Waiting};
-use nop_types::{Accept, Config, Core, Input, NoMemory, Op, Outbox, Tick};
+use nop_types::{Accept, Config, Core, Input, NoMemory, Op, Outbox, Tick, end_step};
 use std::alloc::Global;
 use std::marker::Model;
 
@@ -76,11 +76,7 @@ impl Core for Client {
         }
         let mut made = Outbox::new(self.alloc);
         let acted = act(self.alloc, &mut self.state, input, &mut made);
-        if acted.is_err() || out.append(made).is_err() {
-            self.failed = true;
-            return Err(NoMemory);
-        }
-        Ok(())
+        end_step(acted, made, out, &mut self.failed)
     }
 
     fn timer(&self, i: u8) -> Option<(Tick, u64)> {

@@ -5,6 +5,7 @@ mod bytes;
 mod config;
 mod core_trait;
 mod datagram;
+mod ending;
 mod host;
 mod input;
 pub mod kinds;
@@ -22,6 +23,7 @@ pub use bytes::Bytes;
 pub use config::Config;
 pub use core_trait::Core;
 pub use datagram::{Datagram, Fragment, Reply, Stamped};
+pub use ending::end_step;
 pub use host::Host;
 pub use input::{Input, Tick};
 pub use limits::{

@@ -5,7 +5,7 @@ ghost use Rattle.sequencer.specs.SequencerSteps.{IsWithin, opening, stamped_by, 
 use crate::SequencerState;
 use crate::rows::{act, stamp_next};
 use nop_types::{
-    Core, Input, MAX_SEQUENCERS, NUMBER_END, NoMemory, Outbox, Request, Stamped, Tick,
+    Core, Input, MAX_SEQUENCERS, NUMBER_END, NoMemory, Outbox, Request, Stamped, Tick, end_step,
 };
 use std::alloc::Global;
 use std::marker::Model;
@@ -98,10 +98,7 @@ impl Core for Sequencer {
         let mut made = Outbox::new(self.alloc);
         let mut state = self.state;
         let acted = act(self.alloc, &mut state, input, &mut made);
-        if acted.is_err() || out.append(made).is_err() {
-            self.failed = true;
-            return Err(NoMemory);
-        }
+        end_step(acted, made, out, &mut self.failed)?;
         self.state = state;
         Ok(())
     }

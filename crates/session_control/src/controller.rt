@@ -3,7 +3,7 @@ ghost use Rattle.session_control.specs.ControllerSteps.{IsWithin, opening};
 
 use crate::rows::act;
 use crate::{ControllerState, PROBE_MILLIS, RESEND_MILLIS};
-use nop_types::{Config, Core, Input, NoMemory, Outbox, Tick};
+use nop_types::{Config, Core, Input, NoMemory, Outbox, Tick, end_step};
 use std::alloc::Global;
 use std::marker::Model;
 
@@ -81,10 +81,7 @@ impl Core for Controller {
         let mut made = Outbox::new(self.alloc);
         let mut state = self.state;
         let acted = act(self.alloc, &mut state, input, &mut made);
-        if acted.is_err() || out.append(made).is_err() {
-            self.failed = true;
-            return Err(NoMemory);
-        }
+        end_step(acted, made, out, &mut self.failed)?;
         self.state = state;
         Ok(())
     }
