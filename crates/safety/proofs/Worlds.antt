@@ -1,7 +1,7 @@
 -- Each world that events lead to is shown by actors and a past that moves lead to.
 use Rattle.std.proofs.Common.{◌≡◌, ℕ, ◌+◌, ◌*◌, ◌<◌, ◌≤◌, Bool, true, false, Some, refl, sym, ap, subst, ◌∙◌, arith, inl, inr, length, List, [], ◌∷◌, ◌++◌, append_assoc}
 use Rattle.std.specs.Prelude.{◌^◌, Ok, slice_get, slice_set}
-use Rattle.std.proofs.lemmas.List.{append-nil}
+use Rattle.std.proofs.lemmas.List.{append-nil, length-set}
 use Rattle.std.proofs.lemmas.Option.{slice_get_within}
 use Rattle.nop_types.specs.declared.limits.TheConstants.{MAX_OP_BYTES}
 use Rattle.nop_types.specs.declared.datagram.Datagram.{Datagram}
@@ -46,7 +46,7 @@ use Rattle.safety.proofs.Pasts.{note_idle, HasLogs, noted_idle, noted_one}
 use Rattle.safety.proofs.Reaching.{carries_lasts, sends_carry, sends_tell, all_there}
 use Rattle.safety.proofs.ReplicaRows as replicas
 use Rattle.safety.proofs.Runs.{run_keeps}
-use Rattle.safety.proofs.Seats.{set_length, seats_shown, input_took, delivery_took, crash_took}
+use Rattle.safety.proofs.Seats.{seats_shown, input_took, delivery_took, crash_took}
 use Rattle.safety.proofs.SequencerRows as sequencers
 use Rattle.safety.proofs.Stays.{evolves_refl, evolves_trans}
 use Rattle.safety.proofs.Tell.{tell_keeps}
@@ -166,7 +166,7 @@ module _ {S : Type 0} (m : Meaning S) (f : ℕ) (few : f ≤ 3) (short : Results
       goes_later (at_replica w i (new, did)) c same_conf (record {
         world = record {
           config = shown.config;
-          replica_count = set_length w.replicas i new ∙ shown.replica_count;
+          replica_count = length-set w.replicas i new ∙ shown.replica_count;
           client_count = shown.client_count;
           replicas = seats_shown w.replicas c.replicas c.replicas i new shown.replicas (shown.replicas i old e ∙ same) (λ j a. refl);
           sequencers = shown.sequencers;
@@ -211,7 +211,7 @@ module _ {S : Type 0} (m : Meaning S) (f : ℕ) (few : f ≤ 3) (short : Results
         world = record {
           config = shown.config;
           replica_count = shown.replica_count;
-          client_count = omega (arith, set_length w.clients i new, shown.client_count);
+          client_count = omega (arith, length-set w.clients i new, shown.client_count);
           replicas = shown.replicas;
           sequencers = shown.sequencers;
           clients = seats_shown w.clients c.clients c.clients i new shown.clients (shown.clients i old e ∙ same) (λ j a. refl);
@@ -284,7 +284,7 @@ module _ {S : Type 0} (m : Meaning S) (f : ℕ) (few : f ≤ 3) (short : Results
       goes_later (at_replica w i (new, Outputs outs)) d keeps (record {
         world = record {
           config = shown.config;
-          replica_count = set_length w.replicas i new ∙ shown.replica_count;
+          replica_count = length-set w.replicas i new ∙ shown.replica_count;
           client_count = shown.client_count;
           replicas = seats_shown w.replicas c.replicas d.replicas i new shown.replicas go.state go.others;
           sequencers = λ j q h. ap (λ (g : ℕ → SequencerState). g j) go.sequencers ∙ shown.sequencers j q h;
@@ -345,7 +345,7 @@ module _ {S : Type 0} (m : Meaning S) (f : ℕ) (few : f ≤ 3) (short : Results
         world = record {
           config = shown.config;
           replica_count = shown.replica_count;
-          client_count = omega (arith, set_length w.clients i new, shown.client_count);
+          client_count = omega (arith, length-set w.clients i new, shown.client_count);
           replicas = λ j q h. ap (λ (g : ℕ → ReplicaState). g j) go.replicas ∙ shown.replicas j q h;
           sequencers = λ j q h. ap (λ (g : ℕ → SequencerState). g j) go.sequencers ∙ shown.sequencers j q h;
           clients = seats_shown w.clients c.clients d.clients i new shown.clients go.state go.others;
