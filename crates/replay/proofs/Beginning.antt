@@ -7,6 +7,7 @@ use Rattle.schedule_text.specs.declared.event.Event.{Event}
 use Rattle.schedule_text.specs.declared.next_error.NextError.{NextError}
 use Rattle.schedule_text.specs.declared.next_error.NextError.TheVariants as nexts
 use Rattle.schedule_text.specs.Cutting.{lines_of}
+use Rattle.schedule_text.specs.declared.rule.Rule.{Rule}
 use Rattle.schedule_text.specs.Rules.{header_of}
 use Rattle.schedule_text.specs.Reading.{Reading, Next, Gives, Refuses, Ends, Turn, Takes, TakesOf, LeavesNone, turn, turn_of, header_turn, lines_before, opening}
 use Rattle.schedule_text.specs.Transcript.{transcript_line}
@@ -16,6 +17,7 @@ use Rattle.replay.specs.Output.{Output, then_text, begun, output_of_lines, outpu
 use Rattle.replay.specs.Outcome.{EndsWith}
 use Rattle.replay.specs.Progress.{Progress, GoingOf, refused, after_turn}
 use Rattle.replay.specs.Steps.{Stops, bad_line}
+use Rattle.replay.proofs.Texts.{output_some}
 use Rattle.replay.proofs.Runs.{begun_is, rest_is, turn_config}
 use Rattle.replay.proofs.Progressing.{refuses_with, interrupts_with, fails_with, unknown_ends, none_follow, turn_keeps}
 
@@ -59,7 +61,7 @@ module _ {S : Type 0} (m : Meaning S) where
   refused_turn line (Refuses rule) = refused (bad_line (line + 1) rule)
   refused_turn line Ends = record { text = []; bad = None }
 
-  not_begun_line : (line : List ℕ) (lines : List (List ℕ)) (q : Result Configuration ℕ) → (header_turn 0 line lines q).config ≡ None
+  not_begun_line : (line : List ℕ) (lines : List (List ℕ)) (q : Result Configuration Rule) → (header_turn 0 line lines q).config ≡ None
       → begun m true lines q ≡ refused_turn (header_turn 0 line lines q).line (header_turn 0 line lines q).next
   not_begun_line line lines (Err rule) is = refl
   not_begun_line line lines (Ok c) is = absurd (cc (is, turn_config c 1 lines))
@@ -68,7 +70,7 @@ module _ {S : Type 0} (m : Meaning S) where
   not_begun [] is = refl
   not_begun (line ∷ lines) is = not_begun_line line lines (header_of line) is
 
-  undecided_line : (line : List ℕ) (lines : List (List ℕ)) (q : Result Configuration ℕ) → (header_turn 0 line lines q).config ≡ None → (header_turn 0 line lines q).rest ≡ []
+  undecided_line : (line : List ℕ) (lines : List (List ℕ)) (q : Result Configuration Rule) → (header_turn 0 line lines q).config ≡ None → (header_turn 0 line lines q).rest ≡ []
       → begun m false lines q ≡ record { text = []; bad = None }
   undecided_line line lines (Err rule) config none = absurd cc
   undecided_line line lines (Ok c) config none = absurd (cc (config, turn_config c 1 lines))
@@ -114,4 +116,4 @@ module _ {S : Type 0} (m : Meaning S) where
   unopened (Some bytes) (Some left) before after r nexts.NoMemory x took is none f =
       let taken = took.0 in
       let p = unopened_progress bytes left taken before r (Err nexts.NoMemory) took.1 took.2 in
-      fails_with m bytes left before before after [] r (λ ended more. output m ended (taken ++ more)) [] (output m true (taken ++ left)).text x p refl f
+      fails_with m bytes left before before after [] r (λ ended more. output m ended (taken ++ more)) [] (output m true (taken ++ left)).text x p refl (output_some m (taken ++ left)) f

@@ -3,3 +3,4 @@ pub mod Fronts
 pub mod Progressing
 pub mod Runs
 pub mod Safely
+pub mod Texts

@@ -1,5 +1,5 @@
 -- A replay goes on line by line, and ends.
-use Rattle.std.proofs.Common.{◌≡◌, ℕ, List, [], ◌++◌, Bool, true, false, Option, Some, None, Result, Ok, Err, refl, sym, ap, ◌∙◌, append_assoc}
+use Rattle.std.proofs.Common.{◌≡◌, ◌≢◌, ℕ, List, [], ◌++◌, Bool, true, false, Option, Some, None, Result, Ok, Err, refl, sym, ap, ◌∙◌, append_assoc}
 use Rattle.std.proofs.KnownBytes.{Appends-trans}
 use Rattle.std.proofs.lemmas.List.{append-nil}
 use Rattle.nop_types.specs.Configuration.{Configuration}
@@ -13,10 +13,11 @@ use Rattle.world.specs.WorldSteps.{WorldState, Refusal, Happened, step}
 use Rattle.replay.specs.declared.error.ReplayError.{ReplayError}
 use Rattle.replay.specs.declared.error.ReplayError.TheVariants as errors
 use Rattle.replay.specs.Output.{BadLine, Output, bad_text, refused_line, ending, then_text, final_text, rest, output}
-use Rattle.replay.specs.Outcome.{AppendsFront, EndsWith}
+use Rattle.replay.specs.Outcome.{LeavesSome, EndsWith}
 use Rattle.replay.specs.Progress.{Progress, Going, GoingOf, refused, after_step, after_turn, after_answer}
-use Rattle.replay.specs.Steps.{Fails, Writes, Refuses, Interrupts, Stops, Advances, RefusesStep, bad_line}
-use Rattle.replay.proofs.Fronts.{front_nil, front_behind, front_longer}
+use Rattle.replay.specs.Steps.{Fails, Misses, Writes, Refuses, Interrupts, Stops, Advances, RefusesStep, bad_line}
+use Rattle.replay.proofs.Fronts.{part_nil, part_behind, part_longer, front_then}
+use Rattle.replay.proofs.Texts.{rest_some, after_turn_some, output_some}
 use Rattle.replay.proofs.Runs.{rest_is, turn_config}
 
 module _ {S : Type 0} (m : Meaning S) where
@@ -25,12 +26,11 @@ module _ {S : Type 0} (m : Meaning S) where
       (p : Progress m bytes left before now pending r follows) → output m true bytes ≡ then_text (p.written ++ pending) (follows true left)
   whole bytes left before now pending r follows p = rw p.split (p.goes true left (record { nothing = p.end; end = λ e. refl }))
 
-  -- a front of what follows is a front of the whole output
-  pub fronts : (bytes left : List ℕ) (before now after : Option (List ℕ)) (pending : List ℕ) (r : Reading) (follows : Bool → List ℕ → Output) (t u : List ℕ)
-      → Progress m bytes left before now pending r follows → (follows true left).text ≡ t ++ u → AppendsFront now after (pending ++ t) → AppendsFront before after (output m true bytes).text
-  fronts bytes left before now after pending r follows t u p is f =
-      let longer = front_longer now after (pending ++ t) u f in
-      let all = front_behind before now after p.written ((pending ++ t) ++ u) p.wrote longer in
+  -- where something is left of what follows, something is left of the whole output
+  pub parts : (bytes left : List ℕ) (before now after : Option (List ℕ)) (pending : List ℕ) (r : Reading) (follows : Bool → List ℕ → Output) (t u : List ℕ)
+      → Progress m bytes left before now pending r follows → (follows true left).text ≡ t ++ u → LeavesSome now after ((pending ++ t) ++ u) → LeavesSome before after (output m true bytes).text
+  parts bytes left before now after pending r follows t u p is f =
+      let all = part_behind before now after p.written ((pending ++ t) ++ u) p.wrote f in
       let text : (output m true bytes).text ≡ p.written ++ ((pending ++ t) ++ u) =
       ap (λ (o : Output). o.text) (whole bytes left before now pending r follows p)
       ∙ ap (λ (s : List ℕ). (p.written ++ pending) ++ s) is
@@ -38,18 +38,26 @@ module _ {S : Type 0} (m : Meaning S) where
       ∙ ap (λ (s : List ℕ). p.written ++ s) (sym (append_assoc pending t u)) in
       rw text all
 
-  -- nothing more was written
-  pub fronts_now : (bytes left : List ℕ) (before now : Option (List ℕ)) (pending : List ℕ) (r : Reading) (follows : Bool → List ℕ → Output)
-      → Progress m bytes left before now pending r follows → AppendsFront before now (output m true bytes).text
-  fronts_now bytes left before now pending r follows p =
-      fronts bytes left before now now pending r follows [] (follows true left).text p refl (front_nil now (pending ++ []))
+  -- not all of what is gathered and follows was written
+  pub misses_with : (bytes left : List ℕ) (before now after : Option (List ℕ)) (pending : List ℕ) (r : Reading) (follows : Bool → List ℕ → Output) (t u : List ℕ) (e : ReplayError)
+      → Progress m bytes left before now pending r follows → (follows true left).text ≡ t ++ u → Misses now after (pending ++ t) e → EndsWith m (Some bytes) (Some left) before after (Err e)
+  misses_with bytes left before now after pending r follows t u (errors.Malformed line rule) p is f = absurd f
+  misses_with bytes left before now after pending r follows t u errors.ReadFault p is f = absurd f
+  misses_with bytes left before now after pending r follows t u errors.WriteFault p is f =
+      parts bytes left before now after pending r follows t u p is (part_longer now after (pending ++ t) u f)
+  misses_with bytes left before now after pending r follows t u errors.NoMemory p is f =
+      parts bytes left before now after pending r follows t u p is (part_longer now after (pending ++ t) u f)
 
+  -- a front was written, and more follows
   pub fails_with : (bytes left : List ℕ) (before now after : Option (List ℕ)) (pending : List ℕ) (r : Reading) (follows : Bool → List ℕ → Output) (t u : List ℕ) (e : ReplayError)
-      → Progress m bytes left before now pending r follows → (follows true left).text ≡ t ++ u → Fails now after (pending ++ t) e → EndsWith m (Some bytes) (Some left) before after (Err e)
-  fails_with bytes left before now after pending r follows t u (errors.Malformed line rule) p is f = absurd f
-  fails_with bytes left before now after pending r follows t u errors.ReadFault p is f = absurd f
-  fails_with bytes left before now after pending r follows t u errors.WriteFault p is f = fronts bytes left before now after pending r follows t u p is f
-  fails_with bytes left before now after pending r follows t u errors.NoMemory p is f = fronts bytes left before now after pending r follows t u p is f
+      → Progress m bytes left before now pending r follows → (follows true left).text ≡ t ++ u → u ≢ [] → Fails now after (pending ++ t) e
+      → EndsWith m (Some bytes) (Some left) before after (Err e)
+  fails_with bytes left before now after pending r follows t u (errors.Malformed line rule) p is some f = absurd f
+  fails_with bytes left before now after pending r follows t u errors.ReadFault p is some f = absurd f
+  fails_with bytes left before now after pending r follows t u errors.WriteFault p is some f =
+      parts bytes left before now after pending r follows t u p is (front_then now after (pending ++ t) u some f)
+  fails_with bytes left before now after pending r follows t u errors.NoMemory p is some f =
+      parts bytes left before now after pending r follows t u p is (front_then now after (pending ++ t) u some f)
 
   -- the rest of the output is an error line
   pub refuses_with : (bytes left : List ℕ) (before now after : Option (List ℕ)) (pending : List ℕ) (r : Reading) (follows : Bool → List ℕ → Output) (b : BadLine) (e : ReplayError)
@@ -73,9 +81,9 @@ module _ {S : Type 0} (m : Meaning S) where
       }
   refuses_with bytes left before now after pending r follows b errors.ReadFault p is end f = absurd f
   refuses_with bytes left before now after pending r follows b errors.WriteFault p is end f =
-      fronts bytes left before now after pending r follows (bad_text b) [] p (ap (λ (o : Output). o.text) (is left end) ∙ sym (append-nil (bad_text b))) f
+      misses_with bytes left before now after pending r follows (bad_text b) [] errors.WriteFault p (ap (λ (o : Output). o.text) (is left end) ∙ sym (append-nil (bad_text b))) f
   refuses_with bytes left before now after pending r follows b errors.NoMemory p is end f =
-      fronts bytes left before now after pending r follows (bad_text b) [] p (ap (λ (o : Output). o.text) (is left end) ∙ sym (append-nil (bad_text b))) f
+      misses_with bytes left before now after pending r follows (bad_text b) [] errors.NoMemory p (ap (λ (o : Output). o.text) (is left end) ∙ sym (append-nil (bad_text b))) f
 
   -- nothing is decided behind what was taken
   pub interrupts_with : (bytes left : List ℕ) (before now after : Option (List ℕ)) (pending : List ℕ) (r : Reading) (follows : Bool → List ℕ → Output) (e : ReplayError)
@@ -90,12 +98,13 @@ module _ {S : Type 0} (m : Meaning S) where
       record {
         taken = p.taken;
         split = p.split;
+        good = ap (λ (o : Output). o.bad) all;
         wrote = rw (all, append-nil (p.written ++ pending)) (Appends-trans before now after p.written pending p.wrote f);
       }
   interrupts_with bytes left before now after pending r follows errors.WriteFault p going is f =
-      fronts bytes left before now after pending r follows [] (follows true left).text p refl (rw (append-nil pending) f)
+      misses_with bytes left before now after pending r follows [] (follows true left).text errors.WriteFault p refl (rw (append-nil pending) f)
   interrupts_with bytes left before now after pending r follows errors.NoMemory p going is f =
-      fronts bytes left before now after pending r follows [] (follows true left).text p refl (rw (append-nil pending) f)
+      misses_with bytes left before now after pending r follows [] (follows true left).text errors.NoMemory p refl (rw (append-nil pending) f)
 
   -- the input has ended
   pub finishes : (bytes left : List ℕ) (before now after : Option (List ℕ)) (pending : List ℕ) (r : Reading) (follows : Bool → List ℕ → Output) (w : WorldState) (x : Result (Unit {0}) ReplayError)
@@ -110,7 +119,7 @@ module _ {S : Type 0} (m : Meaning S) where
         wrote = rw text (Appends-trans before now after p.written (pending ++ final_text w) p.wrote f);
       }
   finishes bytes left before now after pending r follows w (Err e) p ended is f =
-      fails_with bytes left before now after pending r follows (final_text w) [] e p (ap (λ (o : Output). o.text) (is left) ∙ sym (append-nil (final_text w))) f
+      misses_with bytes left before now after pending r follows (final_text w) [] e p (ap (λ (o : Output). o.text) (is left) ∙ sym (append-nil (final_text w))) f
 
   -- ---- a turn of the reader
 
@@ -190,16 +199,9 @@ module _ {S : Type 0} (m : Meaning S) where
   unknown_ends left before now (Err errors.WriteFault) = tt
   unknown_ends left before now (Err errors.NoMemory) = tt
 
-  pub starved : (bytes left : Option (List ℕ)) (before now : Option (List ℕ)) (pending : List ℕ) (r : Reading) (c : Configuration) (w : WorldState)
-      → GoingOf m bytes left before now pending r c w → EndsWith m bytes left before now (Err errors.NoMemory)
-  starved None left before now pending r c w going = tt
-  starved (Some bytes) None before now pending r c w going = absurd going
-  starved (Some bytes) (Some left) before now pending r c w going =
-      fronts_now bytes left before now pending r (λ ended more. rest m ended c w r.line (lines_before r ended more)) going.progress
-
   pub starved_first : (bytes left before : Option (List ℕ)) → EndsWith m bytes left before before (Err errors.NoMemory)
   starved_first None left before = tt
-  starved_first (Some bytes) left before = front_nil before (output m true bytes).text
+  starved_first (Some bytes) left before = part_nil before (output m true bytes).text (output_some m bytes)
 
   pub stopped : (bytes left rest_left : Option (List ℕ)) (before now after : Option (List ℕ)) (pending : List ℕ) (r s : Reading) (c : Configuration) (w : WorldState) (e : NextError) (x : ReplayError)
       → GoingOf m bytes left before now pending r c w → TakesOf r s left rest_left (Err e) → LeavesNone s (Err e) → Stops now after pending e x → EndsWith m bytes rest_left before after (Err x)
@@ -214,7 +216,7 @@ module _ {S : Type 0} (m : Meaning S) where
       interrupts_with bytes rest_left before now after pending s _ x p none.0 (fault_follows r s c w took.0 rest_left going.config took.2 none) f
   stopped (Some bytes) (Some left) (Some rest_left) before now after pending r s c w nexts.NoMemory x going took none f =
       let p = answered bytes left rest_left before now pending r s c w (Err nexts.NoMemory) going took.0 took.1 took.2 in
-      fails_with bytes rest_left before now after pending s _ [] _ x p refl (rw (append-nil pending) f)
+      fails_with bytes rest_left before now after pending s _ [] _ x p refl (after_turn_some m c w (turn_of s true rest_left)) (rw (append-nil pending) f)
 
   pub finished : (bytes left rest_left : Option (List ℕ)) (before now after : Option (List ℕ)) (pending : List ℕ) (r s : Reading) (c : Configuration) (w : WorldState) (x : Result (Unit {0}) ReplayError)
       → GoingOf m bytes left before now pending r c w → TakesOf r s left rest_left (Ok None) → Writes now after (pending ++ final_text w) x → EndsWith m bytes rest_left before after x
@@ -265,7 +267,8 @@ module _ {S : Type 0} (m : Meaning S) where
       → EndsWith m (Some bytes) (Some left) before after (Err x)
   step_refused bytes left before now after pending r c w e (Ok h) x is p f =
       let lines = lines_before r true left in
-      fails_with bytes left before now after pending r _ (lines_text h.lines) (rest m true c h.world r.line lines).text x p (ap (λ (q : Result Happened Refusal). (after_step m true c r.line lines q).text) is) f
+      fails_with bytes left before now after pending r _ (lines_text h.lines) (rest m true c h.world r.line lines).text x p
+      (ap (λ (q : Result Happened Refusal). (after_step m true c r.line lines q).text) is) (rest_some m c h.world r.line lines) f
   step_refused bytes left before now after pending r c w e (Err refusal) x is p f =
       refuses_with bytes left before now after pending r _ (refused_line r.line refusal) x p (λ more nothing. ap (after_step m true c r.line (lines_before r true more)) is) p.end f
 

@@ -6,6 +6,7 @@ use Rattle.nop_types.specs.Configuration.{Configuration}
 use Rattle.nop_types.specs.Lines.{Line}
 use Rattle.nop_types.specs.Meaning.{Meaning}
 use Rattle.schedule_text.specs.declared.event.Event.{Event}
+use Rattle.schedule_text.specs.declared.rule.Rule.{Rule}
 use Rattle.schedule_text.specs.Rules.{header_of, event_of}
 use Rattle.schedule_text.specs.Reading.{turn, turn_after, event_turn, header_turn}
 use Rattle.schedule_text.specs.Transcript.{transcript_line, line_text, lines_text}
@@ -14,7 +15,7 @@ use Rattle.replay.specs.Output.{Schedule, BadLine, ending, then_text, text_after
 use Rattle.replay.specs.Progress.{after_step, after_turn}
 
 -- a reader that took line 1 keeps its configuration
-turn_config_line : (c : Configuration) (k : ℕ) (line : List ℕ) (lines : List (List ℕ)) (r : Result Event ℕ) → (event_turn c k line lines r).config ≡ Some c
+turn_config_line : (c : Configuration) (k : ℕ) (line : List ℕ) (lines : List (List ℕ)) (r : Result Event Rule) → (event_turn c k line lines r).config ≡ Some c
 turn_config_line c k line lines (Ok e) = refl
 turn_config_line c k line lines (Err rule) = refl
 
@@ -65,7 +66,7 @@ module _ {S : Type 0} (m : Meaning S) where
         ap (more_runs es []) is ∙ run_behind es h.lines h.world ∙ ap (after_lines h.lines) p.1,
       )
 
-  schedule_runs_line : (c : Configuration) (lines : List (List ℕ)) → ScheduleRuns c lines → (w : WorldState) (k : ℕ) (r : Result Event ℕ)
+  schedule_runs_line : (c : Configuration) (lines : List (List ℕ)) → ScheduleRuns c lines → (w : WorldState) (k : ℕ) (r : Result Event Rule)
       → Runs w (scheduled m w k r (λ v. schedule_from m c v (k + 1) lines)).events
   schedule_runs_line c lines all w k (Err rule) = (record { world = w; lines = [] }, refl)
   schedule_runs_line c lines all w k (Ok e) = schedule_runs_event c lines all w k e (step m w e) refl
@@ -94,7 +95,7 @@ module _ {S : Type 0} (m : Meaning S) where
   rest_is_event ended c w k lines e (Err refusal) is = refl
   rest_is_event ended c w k lines e (Ok h) is = written_event ended w e h (schedule_from m c h.world (k + 1) lines) is (schedule_runs c lines h.world (k + 1))
 
-  rest_is_line : (ended : Bool) (c : Configuration) (w : WorldState) (k : ℕ) (line : List ℕ) (lines : List (List ℕ)) (r : Result Event ℕ)
+  rest_is_line : (ended : Bool) (c : Configuration) (w : WorldState) (k : ℕ) (line : List ℕ) (lines : List (List ℕ)) (r : Result Event Rule)
       → written m ended w (scheduled m w k r (λ v. schedule_from m c v (k + 1) lines)) ≡ after_turn m ended c w (event_turn c k line lines r)
   rest_is_line ended c w k line lines (Err rule) = refl
   rest_is_line ended c w k line lines (Ok e) = rest_is_event ended c w k lines e (step m w e) refl
@@ -104,7 +105,7 @@ module _ {S : Type 0} (m : Meaning S) where
   rest_is ended c w k (line ∷ lines) = rest_is_line ended c w k line lines (event_of c k line)
 
   -- line 1 was taken
-  begun_is_line : (ended : Bool) (c : Configuration) (line : List ℕ) (lines : List (List ℕ)) (r : Result Configuration ℕ) → (header_turn 0 line lines r).config ≡ Some c
+  begun_is_line : (ended : Bool) (c : Configuration) (line : List ℕ) (lines : List (List ℕ)) (r : Result Configuration Rule) → (header_turn 0 line lines r).config ≡ Some c
       → begun m ended lines r ≡ then_text (transcript_line c) (after_turn m ended c (opening c) (header_turn 0 line lines r))
   begun_is_line ended c line lines (Err rule) is = absurd cc
   begun_is_line ended c line lines (Ok d) is =

@@ -7,6 +7,7 @@ use Rattle.nop_types.specs.Meaning.{Meaning}
 use Rattle.schedule_text.specs.declared.event.Event.{Event}
 use Rattle.schedule_text.specs.Cutting.{lines_of}
 use Rattle.schedule_text.specs.Fits.{EventsFit}
+use Rattle.schedule_text.specs.declared.rule.Rule.{Rule}
 use Rattle.schedule_text.specs.Rules.{header_of, event_of}
 use Rattle.schedule_text.specs.Transcript.{transcript_line, lines_text}
 use Rattle.schedule_text.proofs.Fitting.{events_fit, headers_fit}
@@ -35,7 +36,7 @@ module _ {S : Type 0} (m : Meaning S) (c : Configuration) where
       }
 
   line_well : (w : WorldState) (k : ℕ) (line : List ℕ) (f : WorldState → Schedule) → ((v : WorldState) → (f v).bad ≡ None → RunsWell m v (f v))
-      → (r : Result Event ℕ) → event_of c k line ≡ r → (scheduled m w k r f).bad ≡ None → RunsWell m w (scheduled m w k r f)
+      → (r : Result Event Rule) → event_of c k line ≡ r → (scheduled m w k r f).bad ≡ None → RunsWell m w (scheduled m w k r f)
   line_well w k line f rest (Err rule) is good = absurd cc
   line_well w k line f rest (Ok e) is good = step_well w k line e f is rest (step m w e) refl good
 
@@ -44,7 +45,7 @@ module _ {S : Type 0} (m : Meaning S) (c : Configuration) where
   schedule_well w k (line ∷ lines) good = line_well w k line (λ v. schedule_from m c v (k + 1) lines) (λ v g. schedule_well v (k + 1) lines g) (event_of c k line) refl good
 
 module _ {S : Type 0} (m : Meaning S) (short : ResultsShort m) (bytes : List ℕ) where
-  with_header : (line : List ℕ) (lines : List (List ℕ)) → lines_of true 0 bytes ≡ line ∷ lines → (r : Result Configuration ℕ) → header_of line ≡ r → (begun m true lines r).bad ≡ None → RunsSafely m bytes
+  with_header : (line : List ℕ) (lines : List (List ℕ)) → lines_of true 0 bytes ≡ line ∷ lines → (r : Result Configuration Rule) → header_of line ≡ r → (begun m true lines r).bad ≡ None → RunsSafely m bytes
   unfolding output
   with_header line lines cut (Err rule) is good = absurd cc
   with_header line lines cut (Ok c) is good =
@@ -64,7 +65,7 @@ module _ {S : Type 0} (m : Meaning S) (short : ResultsShort m) (bytes : List ℕ
         safely = runs_are_safe m short c s.events h.0 (headers_fit line c is) well.fit h.1;
         text =
             ap (λ (ls : List (List ℕ)). (output_of_lines m true ls).text) cut
-            ∙ ap (λ (r : Result Configuration ℕ). (begun m true lines r).text) is
+            ∙ ap (λ (r : Result Configuration Rule). (begun m true lines r).text) is
             ∙ ap (λ (b : Option BadLine). transcript_line c ++ text_after true b (run_from m [] (opening c) s.events)) good
             ∙ ap (λ (r : Result Happened Refusal). transcript_line c ++ text_after true None r) h.1;
       }

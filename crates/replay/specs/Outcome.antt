@@ -1,5 +1,5 @@
 -- How a replay ends.
-use Rattle.std.specs.Prelude.{◌≡◌, ℕ, List, [], ◌++◌, Bool, true, false, Option, Some, None, Result, Ok, Err, ⊤}
+use Rattle.std.specs.Prelude.{◌≡◌, ◌≢◌, ℕ, List, [], ◌++◌, Bool, true, false, Option, Some, None, Result, Ok, Err, ⊤}
 use Rattle.std.specs.Io.KnownBytes.{Appends}
 use Rattle.nop_types.specs.Meaning.{Meaning}
 use Rattle.replay.specs.declared.error.ReplayError.{ReplayError}
@@ -11,6 +11,14 @@ pub record AppendsFront (before now : Option (List ℕ)) (text : List ℕ) : Typ
   pub front : List ℕ
   pub behind : List ℕ
   pub split : text ≡ front ++ behind
+  pub wrote : Appends before now front
+
+-- a front of the text was written, and something behind it was not
+pub record LeavesSome (before now : Option (List ℕ)) (text : List ℕ) : Type 0 where
+  pub front : List ℕ
+  pub behind : List ℕ
+  pub split : text ≡ front ++ behind
+  pub unwritten : behind ≢ []
   pub wrote : Appends before now front
 
 module _ {S : Type 0} (m : Meaning S) where
@@ -34,10 +42,11 @@ module _ {S : Type 0} (m : Meaning S) where
     pub decides : (more : List ℕ) → (ended ≡ true → more ≡ []) → output m true (taken ++ more) ≡ record { text = text; bad = Some bad }
     pub wrote : Appends before now text
 
-  -- What was written are the lines that the bytes taken decide.
+  -- The bytes taken decide no bad line, and what was written are the lines that they decide.
   pub record Interrupted (bytes left : List ℕ) (before now : Option (List ℕ)) : Type 0 where
     pub taken : List ℕ
     pub split : bytes ≡ taken ++ left
+    pub good : (output m false taken).bad ≡ None
     pub wrote : Appends before now (output m false taken).text
 
   -- ---- the same of a source that tells its bytes, or not
@@ -57,10 +66,10 @@ module _ {S : Type 0} (m : Meaning S) where
   IsInterrupted (Some bytes) None before now = ⊥
   IsInterrupted (Some bytes) (Some left) before now = Interrupted bytes left before now
 
-  -- a front of the output of the whole input was written
+  -- a front of the output of the whole input was written, and not all
   abbrev pub WroteFront : Option (List ℕ) → Option (List ℕ) → Option (List ℕ) → Type 0
   WroteFront None before now = ⊤
-  WroteFront (Some bytes) before now = AppendsFront before now (output m true bytes).text
+  WroteFront (Some bytes) before now = LeavesSome before now (output m true bytes).text
 
   -- how a replay ended, by the bytes before it, those left, and what the sink held before and holds now
   abbrev pub EndsWith : Option (List ℕ) → Option (List ℕ) → Option (List ℕ) → Option (List ℕ) → Result (Unit {0}) ReplayError → Type 0

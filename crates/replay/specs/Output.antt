@@ -5,7 +5,9 @@ use Rattle.nop_types.specs.Meaning.{Meaning}
 use Rattle.nop_types.specs.declared.request.Request.{Request}
 use Rattle.schedule_text.specs.declared.event.Event.{Event}
 use Rattle.schedule_text.specs.Cutting.{lines_of}
-use Rattle.schedule_text.specs.Rules.{header_of, event_of}
+use Rattle.schedule_text.specs.declared.rule.Rule.{Rule}
+use Rattle.schedule_text.specs.declared.rule.Rule.TheVariants as rules
+use Rattle.schedule_text.specs.Rules.{rule_number, header_of, event_of}
 use Rattle.schedule_text.specs.Transcript.{transcript_line, lines_text, history_line, error_line, end_line}
 use Rattle.world.specs.StateLines.{replicas_text}
 use Rattle.world.specs.WorldSteps.{WorldState, Refusal, NoSuchActor, NoSuchDatagram, Happened, step, run_from, opening, history}
@@ -21,15 +23,15 @@ final_text w = replicas_text 0 w.replicas ++ history_text 1 (history w) ++ end_l
 
 -- ---- a schedule
 
--- the line that is bad, its rule, and at a datagram that was not sent its index and how many were
+-- the line that is bad, the number of its rule, and at a datagram that was not sent its index and how many were
 pub record BadLine : Type 0 where
   pub line : ℕ
   pub rule : ℕ
   pub index_sent : Option (ℕ × ℕ)
 
 abbrev pub refused_line : ℕ → Refusal → BadLine
-refused_line line NoSuchActor = record { line = line; rule = 7; index_sent = None }
-refused_line line (NoSuchDatagram index sent) = record { line = line; rule = 8; index_sent = Some (index, sent) }
+refused_line line NoSuchActor = record { line = line; rule = rule_number rules.WrongActor; index_sent = None }
+refused_line line (NoSuchDatagram index sent) = record { line = line; rule = rule_number rules.NoSuchDatagram; index_sent = Some (index, sent) }
 
 abbrev pub bad_text : BadLine → List ℕ
 bad_text b = error_line b.line b.rule b.index_sent
@@ -50,8 +52,8 @@ stepped k e (Err refusal) f = stops_at (refused_line (k + 1) refusal)
 stepped k e (Ok h) f = event_first e (f h.world)
 
 module _ {S : Type 0} (m : Meaning S) where
-  abbrev pub scheduled : WorldState → ℕ → Result Event ℕ → (WorldState → Schedule) → Schedule
-  scheduled w k (Err rule) f = stops_at (record { line = k + 1; rule = rule; index_sent = None })
+  abbrev pub scheduled : WorldState → ℕ → Result Event Rule → (WorldState → Schedule) → Schedule
+  scheduled w k (Err rule) f = stops_at (record { line = k + 1; rule = rule_number rule; index_sent = None })
   scheduled w k (Ok e) f = stepped k e (step m w e) f
 
   -- the schedule of the lines from here on, where so many lines lead to this world
@@ -87,13 +89,13 @@ module _ {S : Type 0} (m : Meaning S) where
   rest ended c w k lines = written ended w (schedule_from m c w k lines)
 
   -- line 1 begins the transcript
-  abbrev pub begun : Bool → List (List ℕ) → Result Configuration ℕ → Output
-  begun ended lines (Err rule) = let b : BadLine = record { line = 1; rule = rule; index_sent = None } in record { text = bad_text b; bad = Some b }
+  abbrev pub begun : Bool → List (List ℕ) → Result Configuration Rule → Output
+  begun ended lines (Err rule) = let b : BadLine = record { line = 1; rule = rule_number rule; index_sent = None } in record { text = bad_text b; bad = Some b }
   begun ended lines (Ok c) = then_text (transcript_line c) (rest ended c (opening c) 1 lines)
 
-  -- without any line the first one breaks rule 3, once the input has ended
+  -- without any line the first one has a wrong word, once the input has ended
   abbrev pub nothing_yet : Bool → Output
-  nothing_yet true = begun true [] (Err 3)
+  nothing_yet true = begun true [] (Err rules.WrongWord)
   nothing_yet false = record { text = []; bad = None }
 
   abbrev pub output_of_lines : Bool → List (List ℕ) → Output

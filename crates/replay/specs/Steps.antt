@@ -9,36 +9,43 @@ use Rattle.world.specs.WorldSteps.{WorldState, Refusal, Happened}
 use Rattle.replay.specs.declared.error.ReplayError.{ReplayError}
 use Rattle.replay.specs.declared.error.ReplayError.TheVariants as errors
 use Rattle.replay.specs.Output.{BadLine, bad_text, refused_line}
-use Rattle.replay.specs.Outcome.{AppendsFront}
+use Rattle.replay.specs.Outcome.{AppendsFront, LeavesSome}
 
 abbrev pub bad_line : ℕ → ℕ → BadLine
 bad_line line rule = record { line = line; rule = rule; index_sent = None }
 
--- only a front was written
+-- a front was written, perhaps all
 abbrev pub Fails : Option (List ℕ) → Option (List ℕ) → List ℕ → ReplayError → Type 0
 Fails before now text (errors.Malformed line rule) = ⊥
 Fails before now text errors.ReadFault = ⊥
 Fails before now text errors.WriteFault = AppendsFront before now text
 Fails before now text errors.NoMemory = AppendsFront before now text
 
--- all was written, or a front
+-- a front was written, and not all
+abbrev pub Misses : Option (List ℕ) → Option (List ℕ) → List ℕ → ReplayError → Type 0
+Misses before now text (errors.Malformed line rule) = ⊥
+Misses before now text errors.ReadFault = ⊥
+Misses before now text errors.WriteFault = LeavesSome before now text
+Misses before now text errors.NoMemory = LeavesSome before now text
+
+-- all was written, or not all
 abbrev pub Writes : Option (List ℕ) → Option (List ℕ) → List ℕ → Result (Unit {0}) ReplayError → Type 0
 Writes before now text (Ok x) = Appends before now text
-Writes before now text (Err e) = Fails before now text e
+Writes before now text (Err e) = Misses before now text e
 
--- the error line was written and this line is told, or a front was written
+-- the error line was written and this line is told, or not all was written
 abbrev pub Refuses : Option (List ℕ) → Option (List ℕ) → List ℕ → BadLine → ReplayError → Type 0
 Refuses before now pending b (errors.Malformed line rule) = (b.line ≡ line) × (b.rule ≡ rule) × Appends before now (pending ++ bad_text b)
 Refuses before now pending b errors.ReadFault = ⊥
-Refuses before now pending b errors.WriteFault = AppendsFront before now (pending ++ bad_text b)
-Refuses before now pending b errors.NoMemory = AppendsFront before now (pending ++ bad_text b)
+Refuses before now pending b errors.WriteFault = LeavesSome before now (pending ++ bad_text b)
+Refuses before now pending b errors.NoMemory = LeavesSome before now (pending ++ bad_text b)
 
--- what is gathered was written and the fault is told, or a front was written
+-- what is gathered was written and the fault is told, or not all was written
 abbrev pub Interrupts : Option (List ℕ) → Option (List ℕ) → List ℕ → ReplayError → Type 0
 Interrupts before now pending (errors.Malformed line rule) = ⊥
 Interrupts before now pending errors.ReadFault = Appends before now pending
-Interrupts before now pending errors.WriteFault = AppendsFront before now pending
-Interrupts before now pending errors.NoMemory = AppendsFront before now pending
+Interrupts before now pending errors.WriteFault = LeavesSome before now pending
+Interrupts before now pending errors.NoMemory = LeavesSome before now pending
 
 -- an error of the reader ends the replay
 abbrev pub Stops : Option (List ℕ) → Option (List ℕ) → List ℕ → NextError → ReplayError → Type 0

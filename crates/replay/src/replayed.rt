@@ -33,7 +33,7 @@ pub fn replay_with<H: Host, S: Source, K: Sink>(
     transcript_line(config, &mut pending)?;
     let mut world: World<H> = World::new(alloc, config)?;
 
-    // each turn takes a line, and one more finds the end
+    // line 1 was taken, each turn takes one more, and the last one finds the end or a line too many
     for _turn in 0..MAX_LINES {
         match reader.next(source) {
             Ok(Some(event)) => {
@@ -43,7 +43,7 @@ pub fn replay_with<H: Host, S: Source, K: Sink>(
             Err(e) => return Err(stop(e, &mut pending, sink)),
         }
     }
-    Err(ReplayError::NoMemory)
+    unreachable!()
 }
 
 /// Reads a schedule from the source and writes its transcript, line by line. What was written before a bad line, a fault or want of

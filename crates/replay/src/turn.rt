@@ -9,14 +9,10 @@ use crate::final_lines::final_lines;
 use crate::writing::{GATHERED_BYTES, flush};
 use nop_types::Host;
 use outside::Sink;
-use schedule_text::{Event, NextError, error_line};
+use schedule_text::{Event, NextError, Rule, error_line};
 use world::{StepError, World};
 
-const NO_SUCH_ACTOR: u8 = 7;
-
-const NO_SUCH_DATAGRAM: u8 = 8;
-
-/// Writes what was gathered and the error line.
+/// Writes what was gathered and the error line, in which the rule has its number.
 fn refuse<K: Sink>(
     line: u32,
     rule: u8,
@@ -72,9 +68,10 @@ pub fn take_event<H: Host, K: Sink>(
             }
             Ok(())
         }
-        Err(StepError::NoSuchActor) => Err(refuse(line, NO_SUCH_ACTOR, None, pending, sink)),
+        Err(StepError::NoSuchActor) => Err(refuse(line, Rule::WrongActor.number(), None, pending, sink)),
         Err(StepError::NoSuchDatagram { index, sent }) => {
-            Err(refuse(line, NO_SUCH_DATAGRAM, Some((index, sent)), pending, sink))
+            let rule = Rule::NoSuchDatagram.number();
+            Err(refuse(line, rule, Some((index, sent)), pending, sink))
         }
         Err(StepError::NoMemory) => Err(ReplayError::NoMemory),
     }

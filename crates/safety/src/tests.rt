@@ -9,11 +9,6 @@ use world::{StepError, World};
 /// A put of the value `v` at the key `k`.
 const PUT: &[u8] = b"P\0\x01k\0\x01v";
 
-fn submit(alloc: Global, client: u32) -> Result<Event, Fail> {
-    let op = Op::new(alloc, PUT).ok().ok_or("memory")?;
-    Ok(Event::Submit(client, op))
-}
-
 /// What events lead to, with three replicas, one sequencer and one client.
 fn run_three(alloc: Global, events: &[Event]) -> Result<Result<World<KvHost>, StepError>, Fail> {
     let config = Config::new(3, 1, 1).ok_or("no configuration")?;
@@ -24,12 +19,13 @@ fn is_the_put(request: &Request) -> bool {
     request.client == 0 && request.id == 1 && request.op.as_slice() == PUT
 }
 
-/// One put that each replica logs, where the last replica crashes before the stamped request comes a second time.
+/// One put that each replica logs, where the last replica crashes before the stamped request comes a second time. With a last
+/// event that is refused there is no world.
 #[test]
 fn a_put_over_three_replicas(rt: HostRuntime) -> Result<(), Fail> {
     let alloc = rt.alloc();
     let events = [
-        submit(alloc, 0)?,
+        Event::Submit(0, Op::new(alloc, PUT).ok().ok_or("memory")?),
         Event::Deliver(0, Actor::Sequencer(0)),
         Event::Deliver(1, Actor::Replica(1)),
         Event::Deliver(1, Actor::Replica(0)),
@@ -38,8 +34,13 @@ fn a_put_over_three_replicas(rt: HostRuntime) -> Result<(), Fail> {
         Event::Deliver(3, Actor::Client(0)),
         Event::Crash(Actor::Replica(2)),
         Event::Deliver(1, Actor::Replica(2)),
+        Event::Deliver(5, Actor::Replica(2)),
     ];
-    let world = run_three(alloc, &events)?.ok().ok_or("refused")?;
+    assert_eq!(rt;
+        run_three(alloc, &events)?.err(),
+        Some(StepError::NoSuchDatagram { index: 5, sent: 5 })
+    );
+    let world = run_three(alloc, &events[..9])?.ok().ok_or("refused")?;
     let sent: [&[u8]; 5] = [
         b"NO\x01\x01\0\0\0\0\0\0\0\0\0\0\0\x01\0\x07P\0\x01k\0\x01v",
         b"NO\x01\x02\0\0\0\x01\0\0\0\0\0\0\0\x01\0\0\0\0\0\0\0\0\0\0\0\x01\0\x07P\0\x01k\0\x01v",
@@ -68,72 +69,5 @@ fn a_put_over_three_replicas(rt: HostRuntime) -> Result<(), Fail> {
     let history = world.history().ok().ok_or("memory")?;
     assert_eq!(rt; history.len(), 1);
     assert!(rt; is_the_put(&history[0]));
-    Ok(())
-}
-
-/// Nothing happens where there are no events.
-#[test]
-fn no_events(rt: HostRuntime) -> Result<(), Fail> {
-    let alloc = rt.alloc();
-    let world = run_three(alloc, &[])?.ok().ok_or("refused")?;
-    assert_eq!(rt; world.sent_count(), 0);
-    assert_eq!(rt; world.history().ok().ok_or("memory")?.len(), 0);
-    Ok(())
-}
-
-/// The first event that is refused ends the run: what follows it is not taken, and can be refused in another way.
-#[test]
-fn the_first_refused_event_ends_the_run(rt: HostRuntime) -> Result<(), Fail> {
-    let alloc = rt.alloc();
-    let not_sent = |index, sent| StepError::NoSuchDatagram { index, sent };
-    let absent = [
-        // no such client
-        [submit(alloc, 1)?, Event::Deliver(0, Actor::Client(0))],
-        // no such replica
-        [submit(alloc, 0)?, Event::Deliver(0, Actor::Replica(3))],
-        // no such sequencer, which is looked up before the datagram
-        [submit(alloc, 0)?, Event::Deliver(1, Actor::Sequencer(1))],
-        [
-            Event::Crash(Actor::Client(1)),
-            Event::Deliver(0, Actor::Client(0)),
-        ],
-    ];
-    for (i, events) in absent.iter().enumerate() {
-        assert_eq!(rt;
-            run_three(alloc, events)?.err(),
-            Some(StepError::NoSuchActor),
-            "{i}"
-        );
-    }
-    let early = [
-        // the datagram that is to come is sent after it
-        (
-            [
-                Event::Deliver(0, Actor::Sequencer(0)),
-                submit(alloc, 0)?,
-                Event::Deliver(0, Actor::Replica(3)),
-            ],
-            not_sent(0, 0),
-        ),
-        (
-            [
-                submit(alloc, 0)?,
-                Event::Deliver(1, Actor::Replica(0)),
-                Event::Deliver(0, Actor::Sequencer(0)),
-            ],
-            not_sent(1, 1),
-        ),
-        (
-            [
-                submit(alloc, 0)?,
-                Event::Deliver(0, Actor::Sequencer(0)),
-                Event::Deliver(2, Actor::Client(0)),
-            ],
-            not_sent(2, 2),
-        ),
-    ];
-    for (i, (events, refusal)) in early.iter().enumerate() {
-        assert_eq!(rt; run_three(alloc, events)?.err(), Some(*refusal), "{i}");
-    }
     Ok(())
 }

@@ -13,18 +13,20 @@ use Rattle.schedule_text.specs.declared.event.Event.{Event}
 use Rattle.schedule_text.specs.declared.event.Event.TheVariants.{Submit, Deliver, Crash}
 use Rattle.schedule_text.specs.Fields.{is_text, number_of, actor_of, client_number, as_option, bytes_of, fields}
 use Rattle.schedule_text.specs.Fits.{EventFits}
-use Rattle.schedule_text.specs.Rules.{◌>>=◌, or_rule, keeps_rule, max_op_text, submit_event, deliver_event, crash_event, submit_of, deliver_of, crash_of, event_of_fields, configuration_of, count_of, header_counts, header_rest, header_of_fields, plain_line, header_of, event_of}
+use Rattle.schedule_text.specs.declared.rule.Rule.{Rule}
+use Rattle.schedule_text.specs.declared.rule.Rule.TheVariants.{WrongWord, WrongField, WrongHex, WrongActor, TooManyLines}
+use Rattle.schedule_text.specs.Rules.{Read, ◌>>=◌, or_rule, keeps_rule, max_op_text, submit_event, deliver_event, crash_event, submit_of, deliver_of, crash_of, event_of_fields, configuration_of, count_of, header_counts, header_rest, header_of_fields, plain_line, header_of, event_of}
 
 -- a step that gave a value, and what came of it
-then_ok : {A B : Type 0} (r : Result A ℕ) (f : A → Result B ℕ) (y : B) → (r >>= f) ≡ Ok y → (x : A) × (r ≡ Ok x) × (f x ≡ Ok y)
+then_ok : {A B : Type 0} (r : Read A) (f : A → Read B) (y : B) → (r >>= f) ≡ Ok y → (x : A) × (r ≡ Ok x) × (f x ≡ Ok y)
 then_ok (Ok x) f y e = (x, refl, e)
 then_ok (Err rule) f y e = absurd cc
 
-value_ok : {A : Type 0} (rule : ℕ) (o : Option A) (x : A) → or_rule rule o ≡ Ok x → o ≡ Some x
+value_ok : {A : Type 0} (rule : Rule) (o : Option A) (x : A) → or_rule rule o ≡ Ok x → o ≡ Some x
 value_ok rule None x e = absurd cc
 value_ok rule (Some y) x e = let same : y ≡ x = cc in ap Some same
 
-test_ok : (rule : ℕ) (b c : Bool) → keeps_rule rule b ≡ Ok c → b ≡ true
+test_ok : (rule : Rule) (b c : Bool) → keeps_rule rule b ≡ Ok c → b ≡ true
 test_ok rule true c e = refl
 test_ok rule false c e = absurd cc
 
@@ -45,24 +47,24 @@ bytes_short (d ∷ ds) bytes e = digits_short d ds bytes (is_text (codes "-") (d
 
 submit_fits : (c : Configuration) (client op : List ℕ) (e : Event) → submit_event c client op ≡ Ok e → EventFits e
 submit_fits c client op e h =
-    let a = then_ok (keeps_rule 5 (nat_le (length op) max_op_text)) _ e h in
-    let b = then_ok (or_rule 6 (bytes_of op)) _ e a.2 in
-    let d = then_ok (or_rule 7 (client_number (actor_of c client))) _ e b.2 in
-    let low = leb-true (length op) max_op_text (test_ok 5 (nat_le (length op) max_op_text) a.0 a.1) in
-    let small = bytes_short op b.0 (value_ok 6 (bytes_of op) b.0 b.1) in
+    let a = then_ok (keeps_rule WrongField (nat_le (length op) max_op_text)) _ e h in
+    let b = then_ok (or_rule WrongHex (bytes_of op)) _ e a.2 in
+    let d = then_ok (or_rule WrongActor (client_number (actor_of c client))) _ e b.2 in
+    let low = leb-true (length op) max_op_text (test_ok WrongField (nat_le (length op) max_op_text) a.0 a.1) in
+    let small = bytes_short op b.0 (value_ok WrongHex (bytes_of op) b.0 b.1) in
     let is : Submit d.0 b.0 ≡ e = (let g = d.2 in cc) in
     subst EventFits is (omega (arith, low, small))
 
 deliver_fits : (c : Configuration) (index actor : List ℕ) (e : Event) → deliver_event c index actor ≡ Ok e → EventFits e
 deliver_fits c index actor e h =
-    let a = then_ok (or_rule 5 (number_of index)) _ e h in
-    let b = then_ok (or_rule 7 (actor_of c actor)) _ e a.2 in
+    let a = then_ok (or_rule WrongField (number_of index)) _ e h in
+    let b = then_ok (or_rule WrongActor (actor_of c actor)) _ e a.2 in
     let is : Deliver a.0 b.0 ≡ e = (let g = b.2 in cc) in
     subst EventFits is tt
 
 crash_fits : (c : Configuration) (actor : List ℕ) (e : Event) → crash_event c actor ≡ Ok e → EventFits e
 crash_fits c actor e h =
-    let a = then_ok (or_rule 7 (actor_of c actor)) _ e h in
+    let a = then_ok (or_rule WrongActor (actor_of c actor)) _ e h in
     let is : Crash a.0 ≡ e = (let g = a.2 in cc) in
     subst EventFits is tt
 
@@ -83,7 +85,7 @@ crash_of_fits c [] e h = absurd cc
 crash_of_fits c (a ∷ []) e h = crash_fits c a e h
 crash_of_fits c (a ∷ b ∷ xs) e h = absurd cc
 
-by_word : (c : Configuration) (rest : List (List ℕ)) (e : Event) (s d k : Bool) → (if s then submit_of c rest else if d then deliver_of c rest else if k then crash_of c rest else Err 3) ≡ Ok e → EventFits e
+by_word : (c : Configuration) (rest : List (List ℕ)) (e : Event) (s d k : Bool) → (if s then submit_of c rest else if d then deliver_of c rest else if k then crash_of c rest else Err WrongWord) ≡ Ok e → EventFits e
 by_word c rest e true d k h = submit_of_fits c rest e h
 by_word c rest e false true k h = deliver_of_fits c rest e h
 by_word c rest e false false true h = crash_of_fits c rest e h
@@ -93,7 +95,7 @@ of_fields_fits : (c : Configuration) (xs : List (List ℕ)) (e : Event) → even
 of_fields_fits c [] e h = absurd cc
 of_fields_fits c (word ∷ rest) e h = by_word c rest e (is_text (codes "submit") word) (is_text (codes "deliver") word) (is_text (codes "crash") word) h
 
-limited : (c : Configuration) (line : List ℕ) (e : Event) (b : Bool) → (if b then Err 10 else plain_line line >>= λ text. event_of_fields c (fields text)) ≡ Ok e → EventFits e
+limited : (c : Configuration) (line : List ℕ) (e : Event) (b : Bool) → (if b then Err TooManyLines else plain_line line >>= λ text. event_of_fields c (fields text)) ≡ Ok e → EventFits e
 limited c line e true h = absurd cc
 limited c line e false h = let a = then_ok (plain_line line) (λ text. event_of_fields c (fields text)) e h in of_fields_fits c (fields a.0) e a.2
 
@@ -103,7 +105,7 @@ events_fit c before line e h = limited c line e (nat_le MAX_LINES before) h
 
 -- ---- headers
 
-made_fits : (made c : Configuration) (b : Bool) → is_configuration made ≡ b → (if◌then◌else◌ {A = Result Configuration ℕ} b (Ok made) (Err 5)) ≡ Ok c → is_configuration c ≡ true
+made_fits : (made c : Configuration) (b : Bool) → is_configuration made ≡ b → (if◌then◌else◌ {A = Read Configuration} b (Ok made) (Err WrongField)) ≡ Ok c → is_configuration c ≡ true
 made_fits made c true is h = let same : made ≡ c = cc in subst (λ (x : Configuration). is_configuration x ≡ true) same is
 made_fits made c false is h = absurd cc
 
@@ -113,7 +115,7 @@ configuration_fits None s k c h = absurd cc
 configuration_fits (Some n) None k c h = absurd cc
 configuration_fits (Some n) (Some s) None c h = absurd cc
 
-counts_fit : (n s k : List ℕ) (c : Configuration) (b : Bool) → (if b then configuration_of (count_of n) (count_of s) (count_of k) else Err 5) ≡ Ok c → is_configuration c ≡ true
+counts_fit : (n s k : List ℕ) (c : Configuration) (b : Bool) → (if b then configuration_of (count_of n) (count_of s) (count_of k) else Err WrongField) ≡ Ok c → is_configuration c ≡ true
 counts_fit n s k c true h = configuration_fits (count_of n) (count_of s) (count_of k) c h
 counts_fit n s k c false h = absurd cc
 
@@ -128,7 +130,7 @@ rest_fits (x1 ∷ x2 ∷ x3 ∷ x4 ∷ x5 ∷ x6 ∷ []) c h = absurd cc
 rest_fits (version ∷ replicas ∷ n ∷ sequencers ∷ s ∷ clients ∷ k ∷ []) c h = counts_fit n s k c _ h
 rest_fits (x1 ∷ x2 ∷ x3 ∷ x4 ∷ x5 ∷ x6 ∷ x7 ∷ x8 ∷ xs) c h = absurd cc
 
-word_fits : (rest : List (List ℕ)) (c : Configuration) (b : Bool) → (if b then header_rest rest else Err 3) ≡ Ok c → is_configuration c ≡ true
+word_fits : (rest : List (List ℕ)) (c : Configuration) (b : Bool) → (if b then header_rest rest else Err WrongWord) ≡ Ok c → is_configuration c ≡ true
 word_fits rest c true h = rest_fits rest c h
 word_fits rest c false h = absurd cc
 

@@ -7,7 +7,8 @@ use Rattle.nop_types.specs.Configuration.{Configuration}
 use Rattle.schedule_text.specs.declared.event.Event.{Event}
 use Rattle.schedule_text.specs.declared.first_line.FirstLine.{FirstLine}
 use Rattle.schedule_text.specs.declared.next_error.NextError.TheVariants.{BadLine, NoMemory}
-use Rattle.schedule_text.specs.Rules.{Read, ◌>>=◌, plain_line, header_of, header_of_fields, event_of, event_of_fields}
+use Rattle.schedule_text.specs.declared.rule.Rule.TheVariants.{TooManyLines, WrongWord}
+use Rattle.schedule_text.specs.Rules.{Read, rule_number, ◌>>=◌, plain_line, header_of, header_of_fields, event_of, event_of_fields}
 use Rattle.schedule_text.specs.Fields.{fields}
 use Rattle.schedule_text.specs.Cutting.{lines_of}
 use Rattle.schedule_text.specs.Deciding.{IsFirstLine, IsUndecided, Follows}
@@ -29,7 +30,7 @@ header_fits line c is =
     let read = was_read (plain_line line) (λ text. header_of_fields (fields text)) c is in
     plain_fits line read.0 read.1
 
-past_read : (past : Bool) (r : Read Event) (e : Event) → (if past then Err 10 else r) ≡ Ok e → (past ≡ false) × (r ≡ Ok e)
+past_read : (past : Bool) (r : Read Event) (e : Event) → (if past then Err TooManyLines else r) ≡ Ok e → (past ≡ false) × (r ≡ Ok e)
 past_read true r e is = absurd cc
 past_read false r e is = (refl, is)
 
@@ -58,7 +59,7 @@ needs_a_read r undecided going (inr some) = some (ap (lines_of false r.line) (ap
 no_line : (r : Reading) (ended : Bool) (more : List ℕ) → r.ended ≡ true → r.pending ≡ [] → MayFollow r ended more → lines_before r ended more ≡ []
 no_line r ended more was none follows = no_lines ended r.line r.pending more none (follows.nothing was)
 
-pub no_header : (r : Reading) → r.config ≡ None → r.ended ≡ true → r.pending ≡ [] → Answers r r (Err (BadLine (r.line + 1) 3))
+pub no_header : (r : Reading) → r.config ≡ None → r.ended ≡ true → r.pending ≡ [] → Answers r r (Err (BadLine (r.line + 1) (rule_number WrongWord)))
 no_header r closed was none = record {
   ended = refl;
   turn = λ ended more follows.

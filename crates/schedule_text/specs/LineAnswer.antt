@@ -1,9 +1,10 @@
 -- What a call that reads a line may answer, where want of memory decides nothing.
-use Rattle.std.specs.Prelude.{◌≡◌, ℕ, Result, Ok, Err, ⊤}
+use Rattle.std.specs.Prelude.{◌≡◌, Result, Ok, Err, ⊤}
 use Rattle.schedule_text.specs.declared.line_error.LineError.{LineError}
-use Rattle.schedule_text.specs.declared.line_error.LineError.TheVariants.{Rule, NoMemory}
+use Rattle.schedule_text.specs.declared.line_error.LineError.TheVariants.{Breaks, NoMemory}
+use Rattle.schedule_text.specs.declared.rule.Rule.{Rule}
 
-abbrev pub IsAnswer : {A : Type 0} → Result A LineError → Result A ℕ → Type 0
+abbrev pub IsAnswer : {A : Type 0} → Result A LineError → Result A Rule → Type 0
 IsAnswer (Ok x) r = r ≡ Ok x
-IsAnswer (Err (Rule rule)) r = r ≡ Err rule
+IsAnswer (Err (Breaks rule)) r = r ≡ Err rule
 IsAnswer (Err NoMemory) r = ⊤

@@ -4,10 +4,12 @@ use Rattle.nop_types.specs.Configuration.{Configuration}
 use Rattle.schedule_text.specs.declared.event.Event.{Event}
 use Rattle.schedule_text.specs.declared.next_error.NextError.{NextError}
 use Rattle.schedule_text.specs.declared.next_error.NextError.TheVariants.{BadLine, ReadFault, NoMemory}
-use Rattle.schedule_text.specs.Rules.{header_of, event_of}
+use Rattle.schedule_text.specs.declared.rule.Rule.{Rule}
+use Rattle.schedule_text.specs.declared.rule.Rule.TheVariants.{WrongWord}
+use Rattle.schedule_text.specs.Rules.{rule_number, header_of, event_of}
 use Rattle.schedule_text.specs.Cutting.{lines_of}
 
--- the next line is an event, breaks a rule, or there is none
+-- the next line is an event, breaks the rule of this number, or there is none
 pub data Next : Type 0 where
   Gives : Event → Next
   Refuses : (rule : ℕ) → Next
@@ -20,23 +22,23 @@ pub record Turn : Type 0 where
   pub line : ℕ
   pub rest : List (List ℕ)
 
-abbrev pub event_turn : Configuration → ℕ → List ℕ → List (List ℕ) → Result Event ℕ → Turn
+abbrev pub event_turn : Configuration → ℕ → List ℕ → List (List ℕ) → Result Event Rule → Turn
 event_turn c k line rest (Ok e) = record { next = Gives e; config = Some c; line = k + 1; rest = rest }
-event_turn c k line rest (Err rule) = record { next = Refuses rule; config = Some c; line = k; rest = line ∷ rest }
+event_turn c k line rest (Err rule) = record { next = Refuses (rule_number rule); config = Some c; line = k; rest = line ∷ rest }
 
 -- line 1 was taken
 abbrev pub turn_after : Configuration → ℕ → List (List ℕ) → Turn
 turn_after c k [] = record { next = Ends; config = Some c; line = k; rest = [] }
 turn_after c k (line ∷ rest) = event_turn c k line rest (event_of c k line)
 
-abbrev pub header_turn : ℕ → List ℕ → List (List ℕ) → Result Configuration ℕ → Turn
+abbrev pub header_turn : ℕ → List ℕ → List (List ℕ) → Result Configuration Rule → Turn
 header_turn k line rest (Ok c) = turn_after c (k + 1) rest
-header_turn k line rest (Err rule) = record { next = Refuses rule; config = None; line = k; rest = line ∷ rest }
+header_turn k line rest (Err rule) = record { next = Refuses (rule_number rule); config = None; line = k; rest = line ∷ rest }
 
--- without any line the first one breaks rule 3
+-- without any line the first one has a wrong word
 abbrev pub turn : Option Configuration → ℕ → List (List ℕ) → Turn
 turn (Some c) k lines = turn_after c k lines
-turn None k [] = record { next = Refuses 3; config = None; line = k; rest = [] }
+turn None k [] = record { next = Refuses (rule_number WrongWord); config = None; line = k; rest = [] }
 turn None k (line ∷ rest) = header_turn k line rest (header_of line)
 
 -- ---- a reader
@@ -83,6 +85,12 @@ abbrev pub TakesOf : Reading → Reading → Option (List ℕ) → Option (List 
 TakesOf old new None after answer = ⊤
 TakesOf old new (Some before) None answer = ⊥
 TakesOf old new (Some before) (Some left) answer = (taken : List ℕ) × (before ≡ taken ++ left) × Takes old new taken left answer
+
+-- how many lines a call took that answered so, where line 1 was taken before
+abbrev pub lines_taken : Result (Option Event) NextError → ℕ
+lines_taken (Ok (Some e)) = 1
+lines_taken (Ok None) = 0
+lines_taken (Err e) = 0
 
 -- at a fault no line was left that is decided, and the source had not ended
 abbrev pub LeavesNone : Reading → Result (Option Event) NextError → Type 0

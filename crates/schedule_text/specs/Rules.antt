@@ -5,23 +5,37 @@ use Rattle.nop_types.specs.declared.limits.TheConstants.{MAX_LINE_BYTES, MAX_LIN
 use Rattle.nop_types.specs.Configuration.{Configuration, is_configuration}
 use Rattle.schedule_text.specs.declared.event.Event.{Event}
 use Rattle.schedule_text.specs.declared.event.Event.TheVariants.{Submit, Deliver, Crash}
+use Rattle.schedule_text.specs.declared.rule.Rule.{Rule}
+use Rattle.schedule_text.specs.declared.rule.Rule.TheVariants.{LineTooLong, WrongByte, WrongWord, WrongFieldCount, WrongField, WrongHex, WrongActor, NoSuchDatagram, TooManyLines}
 use Rattle.schedule_text.specs.Fields.{fields, is_text, number_of, number_below, actor_of, client_number, bytes_of}
 
--- the value, or the number of the rule
+-- the number of a rule, as an error line has it
+abbrev pub rule_number : Rule → ℕ
+rule_number LineTooLong = 1
+rule_number WrongByte = 2
+rule_number WrongWord = 3
+rule_number WrongFieldCount = 4
+rule_number WrongField = 5
+rule_number WrongHex = 6
+rule_number WrongActor = 7
+rule_number NoSuchDatagram = 8
+rule_number TooManyLines = 10
+
+-- the value, or the rule that is broken
 abbrev pub Read : Type 0 → Type 0
-Read A = Result A ℕ
+Read A = Result A Rule
 
 infixl 10 ◌>>=◌
-abbrev pub ◌>>=◌ : {A B : Type 0} → Result A ℕ → (A → Result B ℕ) → Result B ℕ
+abbrev pub ◌>>=◌ : {A B : Type 0} → Result A Rule → (A → Result B Rule) → Result B Rule
 Ok x >>= f = f x
 Err rule >>= f = Err rule
 
 -- where there is no value, the rule is broken
-abbrev pub or_rule : {A : Type 0} → ℕ → Option A → Result A ℕ
+abbrev pub or_rule : {A : Type 0} → Rule → Option A → Result A Rule
 or_rule rule None = Err rule
 or_rule rule (Some x) = Ok x
 
-abbrev pub keeps_rule : ℕ → Bool → Result Bool ℕ
+abbrev pub keeps_rule : Rule → Bool → Result Bool Rule
 keeps_rule rule true = Ok true
 keeps_rule rule false = Err rule
 
@@ -35,44 +49,44 @@ max_op_text = 1280
 
 -- ---- events
 
-abbrev pub submit_event : Configuration → List ℕ → List ℕ → Result Event ℕ
+abbrev pub submit_event : Configuration → List ℕ → List ℕ → Result Event Rule
 submit_event c client op = do
-  short ← keeps_rule 5 (nat_le (length op) max_op_text)
-  bytes ← or_rule 6 (bytes_of op)
-  number ← or_rule 7 (client_number (actor_of c client))
+  short ← keeps_rule WrongField (nat_le (length op) max_op_text)
+  bytes ← or_rule WrongHex (bytes_of op)
+  number ← or_rule WrongActor (client_number (actor_of c client))
   Ok (Submit number bytes)
 
-abbrev pub deliver_event : Configuration → List ℕ → List ℕ → Result Event ℕ
+abbrev pub deliver_event : Configuration → List ℕ → List ℕ → Result Event Rule
 deliver_event c index actor = do
-  number ← or_rule 5 (number_of index)
-  to ← or_rule 7 (actor_of c actor)
+  number ← or_rule WrongField (number_of index)
+  to ← or_rule WrongActor (actor_of c actor)
   Ok (Deliver number to)
 
-abbrev pub crash_event : Configuration → List ℕ → Result Event ℕ
+abbrev pub crash_event : Configuration → List ℕ → Result Event Rule
 crash_event c actor = do
-  one ← or_rule 7 (actor_of c actor)
+  one ← or_rule WrongActor (actor_of c actor)
   Ok (Crash one)
 
 -- the fields after the word
-abbrev pub submit_of : Configuration → List (List ℕ) → Result Event ℕ
+abbrev pub submit_of : Configuration → List (List ℕ) → Result Event Rule
 submit_of c (client ∷ op ∷ []) = submit_event c client op
-submit_of c _ = Err 4
+submit_of c _ = Err WrongFieldCount
 
-abbrev pub deliver_of : Configuration → List (List ℕ) → Result Event ℕ
+abbrev pub deliver_of : Configuration → List (List ℕ) → Result Event Rule
 deliver_of c (index ∷ actor ∷ []) = deliver_event c index actor
-deliver_of c _ = Err 4
+deliver_of c _ = Err WrongFieldCount
 
-abbrev pub crash_of : Configuration → List (List ℕ) → Result Event ℕ
+abbrev pub crash_of : Configuration → List (List ℕ) → Result Event Rule
 crash_of c (actor ∷ []) = crash_event c actor
-crash_of c _ = Err 4
+crash_of c _ = Err WrongFieldCount
 
-abbrev pub event_of_fields : Configuration → List (List ℕ) → Result Event ℕ
-event_of_fields c [] = Err 3
+abbrev pub event_of_fields : Configuration → List (List ℕ) → Result Event Rule
+event_of_fields c [] = Err WrongWord
 event_of_fields c (word ∷ rest) =
     if is_text (codes "submit") word then submit_of c rest
     else if is_text (codes "deliver") word then deliver_of c rest
     else if is_text (codes "crash") word then crash_of c rest
-    else Err 3
+    else Err WrongWord
 
 -- ---- the header
 
@@ -80,42 +94,42 @@ event_of_fields c (word ∷ rest) =
 abbrev pub count_of : List ℕ → Option ℕ
 count_of field = number_below 256 field
 
-abbrev pub configuration_of : Option ℕ → Option ℕ → Option ℕ → Result Configuration ℕ
+abbrev pub configuration_of : Option ℕ → Option ℕ → Option ℕ → Result Configuration Rule
 configuration_of (Some n) (Some s) (Some c) =
     let made : Configuration = record { replicas = n; sequencers = s; clients = c } in
-    if is_configuration made then Ok made else Err 5
-configuration_of _ _ _ = Err 5
+    if is_configuration made then Ok made else Err WrongField
+configuration_of _ _ _ = Err WrongField
 
-abbrev pub header_counts : List ℕ → List ℕ → List ℕ → List ℕ → List ℕ → List ℕ → List ℕ → Result Configuration ℕ
+abbrev pub header_counts : List ℕ → List ℕ → List ℕ → List ℕ → List ℕ → List ℕ → List ℕ → Result Configuration Rule
 header_counts version replicas n sequencers s clients c =
     if is_text (codes "1") version && (is_text (codes "replicas") replicas && (is_text (codes "sequencers") sequencers && is_text (codes "clients") clients))
     then configuration_of (count_of n) (count_of s) (count_of c)
-    else Err 5
+    else Err WrongField
 
 -- the fields after the word
-abbrev pub header_rest : List (List ℕ) → Result Configuration ℕ
+abbrev pub header_rest : List (List ℕ) → Result Configuration Rule
 header_rest (version ∷ replicas ∷ n ∷ sequencers ∷ s ∷ clients ∷ c ∷ []) = header_counts version replicas n sequencers s clients c
-header_rest _ = Err 4
+header_rest _ = Err WrongFieldCount
 
-abbrev pub header_of_fields : List (List ℕ) → Result Configuration ℕ
-header_of_fields [] = Err 3
-header_of_fields (word ∷ rest) = if is_text (codes "nopaxos") word then header_rest rest else Err 3
+abbrev pub header_of_fields : List (List ℕ) → Result Configuration Rule
+header_of_fields [] = Err WrongWord
+header_of_fields (word ∷ rest) = if is_text (codes "nopaxos") word then header_rest rest else Err WrongWord
 
 -- ---- whole lines
 
 -- rules 1 and 2
-abbrev pub plain_line : List ℕ → Result (List ℕ) ℕ
+abbrev pub plain_line : List ℕ → Result (List ℕ) Rule
 plain_line line =
-    if nat_lt MAX_LINE_BYTES (length line) then Err 1
+    if nat_lt MAX_LINE_BYTES (length line) then Err LineTooLong
     else if list_all is_plain line then Ok line
-    else Err 2
+    else Err WrongByte
 
 -- the first line
-unfoldable pub header_of : List ℕ → Result Configuration ℕ
+unfoldable pub header_of : List ℕ → Result Configuration Rule
 header_of line = plain_line line >>= λ text. header_of_fields (fields text)
 
 -- any other line, where so many lines stand before it
-unfoldable pub event_of : Configuration → ℕ → List ℕ → Result Event ℕ
+unfoldable pub event_of : Configuration → ℕ → List ℕ → Result Event Rule
 event_of c before line =
-    if nat_le MAX_LINES before then Err 10
+    if nat_le MAX_LINES before then Err TooManyLines
     else plain_line line >>= λ text. event_of_fields c (fields text)

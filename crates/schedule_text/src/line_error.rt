@@ -1,10 +1,11 @@
+use crate::rule::Rule;
 use nop_types::NoMemory as OutOfMemory;
 
 /// Why a line gave nothing.
 #[derive(Clone, Copy, Debug, PartialEq, Eq)]
 pub enum LineError {
     /// The first rule that the line breaks.
-    Rule(u8),
+    Breaks(Rule),
     NoMemory,
 }
 
@@ -19,13 +20,13 @@ impl From<OutOfMemory> for LineError {
     }
 }
 
-impl From<u8> for LineError {
+impl From<Rule> for LineError {
     ghost use Rattle.std.specs.Prelude.{◌≡◌};
-    ghost use Rattle.schedule_text.specs.declared.line_error.LineError.TheVariants.{Rule};
+    ghost use Rattle.schedule_text.specs.declared.line_error.LineError.TheVariants.{Breaks};
 
-    ghost from_gives = { λ rule e. e ≡ Rule rule };
+    ghost from_gives = { λ rule e. e ≡ Breaks rule };
 
-    fn from(rule: u8) -> LineError {
-        LineError::Rule(rule)
+    fn from(rule: Rule) -> LineError {
+        LineError::Breaks(rule)
     }
 }

@@ -2,24 +2,20 @@ ghost use Rattle.std.specs.Prelude.{◌≡◌, ◌≢◌, ◌+◌, ◌≤◌, �
 ghost use Rattle.nop_types.specs.declared.limits.TheConstants.{MAX_LINES};
 ghost use Rattle.outside.specs.Causes.{HasCauseFor};
 ghost use Rattle.schedule_text.specs.Deciding.{IsUndecided};
-ghost use Rattle.schedule_text.specs.Reading.{opening, lines_before, TakesOf, LeavesNone};
+ghost use Rattle.schedule_text.specs.Reading.{opening, lines_before, lines_taken, TakesOf, LeavesNone};
+ghost use Rattle.schedule_text.specs.Rules.{rule_number};
 ghost use Rattle.schedule_text.specs.Stepping.{after_step, answer_with, Answers, IsFirst, NeedsNoRead, Reaches};
 
 use crate::buffer::Buffer;
 use crate::first_line::{FirstLine, first_line};
 use crate::line_error::LineError;
+use crate::rule::Rule;
 use crate::rules::{event, header};
 use crate::{Event, NextError};
 use nop_types::Config;
 use outside::Source;
 use std::alloc::Global;
 use std::marker::Model;
-
-#[cfg(test)]
-mod tests;
-
-/// The rule that line 1 breaks where there are no bytes.
-const NO_FIRST_LINE: u8 = 3;
 
 /// Reads the events of a schedule, line by line. It asks a source for pieces of at most 4,096 bytes, and only while no further
 /// line is decided: a line is decided by its end, by a byte more than a line or a line more than a schedule may have, or by
@@ -36,7 +32,8 @@ pub struct Reader {
 
 impl Model for Reader {
     ghost use Rattle.schedule_text.specs.Reading.{Reading};
-    ghost use Rattle.schedule_text.specs.Stepping.{IsReader};
+    ghost use Rattle.schedule_text.specs.Rules.{rule_number};
+ghost use Rattle.schedule_text.specs.Stepping.{IsReader};
 
     ghost Value = { Reading };
 
@@ -82,6 +79,7 @@ impl Reader {
         ensures takes { TakesOf self.old self.new (S.left source.old) (S.left source.new) result }
         ensures none_left { LeavesNone self.new result }
         ensures cause { HasCauseFor (S.fault_count source.old) (S.fault_count source.new) NextError.ReadFault result }
+        ensures line { IsSome self.old.config → self.new.line ≡ self.old.line + lines_taken result }
 
         // The source is not asked after its end, nor where a line behind line 1 is decided.
         ensures after_end { self.old.ended ≡ true → source.new ≡ source.old }
@@ -97,6 +95,7 @@ impl Reader {
     /// What line 1 says; takes it if it was not taken.
     pub fn open<S: Source>(&mut self, source: &mut S) -> Result<Config, NextError>
         ensures config { IfOk result (λ c. self.new.config ≡ Some c) }
+        ensures line { OnOk result ((1 ≤ self.new.line) × (self.new.line ≤ MAX_LINES)) }
         ensures closed { OnErr result (self.new.config ≡ self.old.config) }
         ensures takes { TakesOf self.old self.new (S.left source.old) (S.left source.new) (after_step result) }
         ensures none_left { LeavesNone self.new (after_step result) }
@@ -108,15 +107,17 @@ impl Reader {
             return Ok(config);
         }
         match self.reach_line(source)? {
-            None => Err(self.bad_line(NO_FIRST_LINE)),
+            // no bytes, so no word
+            None => Err(self.bad_line(Rule::WrongWord)),
             Some(first) => self.take_header(first),
         }
     }
 
     /// Reads until the first line is decided; None at the end of the source.
     fn reach_line<S: Source>(&mut self, source: &mut S) -> Result<Option<FirstLine>, NextError>
-        ensures line { IfOk result (Reaches self.new) }
+        ensures first { IfOk result (Reaches self.new) }
         ensures config { self.new.config ≡ self.old.config }
+        ensures line { self.new.line ≡ self.old.line }
         ensures takes { TakesOf self.old self.new (S.left source.old) (S.left source.new) (after_step result) }
         ensures none_left { LeavesNone self.new (after_step result) }
         ensures cause { HasCauseFor (S.fault_count source.old) (S.fault_count source.new) NextError.ReadFault result }
@@ -144,6 +145,7 @@ impl Reader {
         requires going { self.old.ended ≡ false }
         ensures more { OnOk result ((self.new.ended ≡ true) ⊎ (length self.old.pending < length self.new.pending)) }
         ensures config { self.new.config ≡ self.old.config }
+        ensures line { self.new.line ≡ self.old.line }
         ensures takes { TakesOf self.old self.new (S.left source.old) (S.left source.new) (after_step result) }
         ensures kept { OnErr result (self.new ≡ self.old) }
         ensures cause { HasCauseFor (S.fault_count source.old) (S.fault_count source.new) NextError.ReadFault result }
@@ -158,6 +160,7 @@ impl Reader {
         requires first { IsFirst self.old first }
         requires config { self.old.config ≡ None }
         ensures config { IfOk result (λ c. self.new.config ≡ Some c) }
+        ensures line { OnOk result (self.new.line ≡ self.old.line + 1) }
         ensures kept { OnErr result (self.new ≡ self.old) }
         ensures answers { Answers self.old self.new (after_step result) }
         ensures no_fault { result ≢ Err NextError.ReadFault }
@@ -178,6 +181,7 @@ impl Reader {
         requires first { IsFirst self.old first }
         requires config { self.old.config ≡ Some config }
         ensures answers { Answers self.old self.new (answer_with result) }
+        ensures line { self.new.line ≡ self.old.line + lines_taken (answer_with result) }
         ensures no_fault { result ≢ Err NextError.ReadFault }
     {
         let line = &self.buffer.as_slice()[..first.len];
@@ -188,16 +192,19 @@ impl Reader {
                 self.line += 1;
                 Ok(event)
             }
-            Err(LineError::Rule(rule)) => Err(self.bad_line(rule)),
+            Err(LineError::Breaks(rule)) => Err(self.bad_line(rule)),
             Err(LineError::NoMemory) => Err(NextError::NoMemory),
         }
     }
 
     /// The next line breaks the rule.
-    fn bad_line(&self, rule: u8) -> NextError
-        ensures { result ≡ NextError.BadLine (self.now.line + 1) rule }
+    fn bad_line(&self, rule: Rule) -> NextError
+        ensures { result ≡ NextError.BadLine (self.now.line + 1) (rule_number rule) }
     {
         let line = self.line + 1;
-        NextError::BadLine { line, rule }
+        NextError::BadLine {
+            line,
+            rule: rule.number(),
+        }
     }
 }

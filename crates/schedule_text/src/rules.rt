@@ -10,29 +10,11 @@ ghost use Rattle.schedule_text.specs.Split.{other_fields};
 
 use crate::event::Event;
 use crate::line_error::LineError;
+use crate::rule::Rule;
 use crate::spelling::{actor, number, op, small_number};
 use crate::split::{cut, is_word};
 use nop_types::{Actor, Config, MAX_LINE_BYTES, MAX_LINES, MAX_OP_BYTES};
 use std::alloc::Global;
-
-#[cfg(test)]
-mod tests;
-
-const LINE_TOO_LONG: u8 = 1;
-
-const WRONG_BYTE: u8 = 2;
-
-const WRONG_WORD: u8 = 3;
-
-const WRONG_FIELD_COUNT: u8 = 4;
-
-const WRONG_FIELD: u8 = 5;
-
-const WRONG_HEX: u8 = 6;
-
-const WRONG_ACTOR: u8 = 7;
-
-const TOO_MANY_LINES: u8 = 10;
 
 /// The most characters of an op.
 const MAX_OP_TEXT: usize = 2 * MAX_OP_BYTES;
@@ -50,39 +32,39 @@ fn has_plain_bytes(line: &[u8]) -> bool
 }
 
 /// The line is not too long, and has printable characters of ASCII alone.
-fn plain(line: &[u8]) -> Result<(), u8>
+fn plain(line: &[u8]) -> Result<(), Rule>
     ensures { MatchResult result
         (λ _. plain_line line.now ≡ Ok line.now)
         (λ rule. plain_line line.now ≡ Err rule) }
 {
     if line.len() > MAX_LINE_BYTES {
-        return Err(LINE_TOO_LONG);
+        return Err(Rule::LineTooLong);
     }
     if has_plain_bytes(line) {
         Ok(())
     } else {
-        Err(WRONG_BYTE)
+        Err(Rule::WrongByte)
     }
 }
 
 /// The next field of those that follow, and what follows it.
-fn next_field(rest: Option<&[u8]>) -> Result<(&[u8], Option<&[u8]>), u8>
+fn next_field(rest: Option<&[u8]>) -> Result<(&[u8], Option<&[u8]>), Rule>
     ensures { let fields = other_fields (option_copied rest.entry) in
-        MatchResult result (λ p. fields ≡ p.0.now ∷ other_fields (option_copied p.1)) (λ rule. (rule ≡ 4) × (fields ≡ [])) }
+        MatchResult result (λ p. fields ≡ p.0.now ∷ other_fields (option_copied p.1)) (λ rule. (rule ≡ Rule.WrongFieldCount) × (fields ≡ [])) }
 {
     match rest {
         Some(rest) => Ok(cut(rest)),
-        None => Err(WRONG_FIELD_COUNT),
+        None => Err(Rule::WrongFieldCount),
     }
 }
 
 /// No field follows.
-fn no_field(rest: Option<&[u8]>) -> Result<(), u8>
+fn no_field(rest: Option<&[u8]>) -> Result<(), Rule>
     ensures { let fields = other_fields (option_copied rest.entry) in
-        MatchResult result (λ _. fields ≡ []) (λ rule. (rule ≡ 4) × (first : List ℕ) × (more : List (List ℕ)) × (fields ≡ first ∷ more)) }
+        MatchResult result (λ _. fields ≡ []) (λ rule. (rule ≡ Rule.WrongFieldCount) × (first : List ℕ) × (more : List (List ℕ)) × (fields ≡ first ∷ more)) }
 {
     match rest {
-        Some(_) => Err(WRONG_FIELD_COUNT),
+        Some(_) => Err(Rule::WrongFieldCount),
         None => Ok(()),
     }
 }
@@ -93,12 +75,12 @@ fn count(field: &[u8]) -> Option<u8>
     small_number(256, field)
 }
 
-fn configuration(n: &[u8], s: &[u8], c: &[u8]) -> Result<Config, u8>
+fn configuration(n: &[u8], s: &[u8], c: &[u8]) -> Result<Config, Rule>
     ensures { result ≡ configuration_of (count_of n.now) (count_of s.now) (count_of c.now) }
 {
     match (count(n), count(s), count(c)) {
-        (Some(n), Some(s), Some(c)) => Config::new(n, s, c).ok_or(WRONG_FIELD),
-        _ => Err(WRONG_FIELD),
+        (Some(n), Some(s), Some(c)) => Config::new(n, s, c).ok_or(Rule::WrongField),
+        _ => Err(Rule::WrongField),
     }
 }
 
@@ -113,7 +95,7 @@ fn has_words(version: &[u8], replicas: &[u8], sequencers: &[u8], clients: &[u8])
         && is_word(clients, "clients")
 }
 
-fn counts(rest: Option<&[u8]>) -> Result<Config, u8>
+fn counts(rest: Option<&[u8]>) -> Result<Config, Rule>
     ensures { result ≡ header_rest (other_fields (option_copied rest.entry)) }
 {
     let (version, rest) = next_field(rest)?;
@@ -127,19 +109,19 @@ fn counts(rest: Option<&[u8]>) -> Result<Config, u8>
     if has_words(version, replicas, sequencers, clients) {
         configuration(n, s, c)
     } else {
-        Err(WRONG_FIELD)
+        Err(Rule::WrongField)
     }
 }
 
 /// The configuration of the first line, or the rule that it breaks.
 #[tactic(auto, unfolding(crate::specs::Rules::header_of))]
-pub fn header(line: &[u8]) -> Result<Config, u8>
+pub fn header(line: &[u8]) -> Result<Config, Rule>
     ensures { result ≡ header_of line.now }
 {
     plain(line)?;
     let (word, rest) = cut(line);
     if !is_word(word, "nopaxos") {
-        return Err(WRONG_WORD);
+        return Err(Rule::WrongWord);
     }
     counts(rest)
 }
@@ -153,14 +135,14 @@ fn submit_fields(
     ensures { IsAnswer result (submit_event config client.now text.now) }
 {
     if text.len() > MAX_OP_TEXT {
-        return Err(LineError::Rule(WRONG_FIELD));
+        return Err(LineError::Breaks(Rule::WrongField));
     }
     let Some(op) = op(alloc, text)? else {
-        return Err(LineError::Rule(WRONG_HEX));
+        return Err(LineError::Breaks(Rule::WrongHex));
     };
     match actor(config, client) {
         Some(Actor::Client(number)) => Ok(Event::Submit(number, op)),
-        _ => Err(LineError::Rule(WRONG_ACTOR)),
+        _ => Err(LineError::Breaks(Rule::WrongActor)),
     }
 }
 
@@ -173,15 +155,15 @@ fn submit(alloc: Global, config: Config, rest: Option<&[u8]>) -> Result<Event, L
     submit_fields(alloc, config, client, text)
 }
 
-fn deliver_fields(config: Config, index: &[u8], to: &[u8]) -> Result<Event, u8>
+fn deliver_fields(config: Config, index: &[u8], to: &[u8]) -> Result<Event, Rule>
     ensures { result ≡ deliver_event config index.now to.now }
 {
-    let index = number(index).ok_or(WRONG_FIELD)?;
-    let to = actor(config, to).ok_or(WRONG_ACTOR)?;
+    let index = number(index).ok_or(Rule::WrongField)?;
+    let to = actor(config, to).ok_or(Rule::WrongActor)?;
     Ok(Event::Deliver(index, to))
 }
 
-fn deliver(config: Config, rest: Option<&[u8]>) -> Result<Event, u8>
+fn deliver(config: Config, rest: Option<&[u8]>) -> Result<Event, Rule>
     ensures { result ≡ deliver_of config (other_fields (option_copied rest.entry)) }
 {
     let (index, rest) = next_field(rest)?;
@@ -190,12 +172,12 @@ fn deliver(config: Config, rest: Option<&[u8]>) -> Result<Event, u8>
     deliver_fields(config, index, to)
 }
 
-fn crash(config: Config, rest: Option<&[u8]>) -> Result<Event, u8>
+fn crash(config: Config, rest: Option<&[u8]>) -> Result<Event, Rule>
     ensures { result ≡ crash_of config (other_fields (option_copied rest.entry)) }
 {
     let (one, rest) = next_field(rest)?;
     no_field(rest)?;
-    let one = actor(config, one).ok_or(WRONG_ACTOR)?;
+    let one = actor(config, one).ok_or(Rule::WrongActor)?;
     Ok(Event::Crash(one))
 }
 
@@ -205,7 +187,7 @@ pub fn event(alloc: Global, config: Config, before: u32, line: &[u8]) -> Result<
     ensures { IsAnswer result (event_of config before line.now) }
 {
     if before >= MAX_LINES {
-        return Err(LineError::Rule(TOO_MANY_LINES));
+        return Err(LineError::Breaks(Rule::TooManyLines));
     }
     plain(line)?;
     let (word, rest) = cut(line);
@@ -218,5 +200,5 @@ pub fn event(alloc: Global, config: Config, before: u32, line: &[u8]) -> Result<
     if is_word(word, "crash") {
         return Ok(crash(config, rest)?);
     }
-    Err(LineError::Rule(WRONG_WORD))
+    Err(LineError::Breaks(Rule::WrongWord))
 }

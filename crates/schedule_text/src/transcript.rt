@@ -6,9 +6,6 @@ ghost use Rattle.schedule_text.specs.Transcript as texts;
 use crate::field::{Field, write_line};
 use nop_types::{Actor, Bytes, Config, Dest, Entry, NoMemory, Phase, Request, View};
 
-#[cfg(test)]
-mod tests;
-
 /// The first line of a transcript.
 #[tactic(auto, using(crate::proofs::LineLemmas::transcript_fields))]
 pub fn transcript_line(config: Config, to: &mut Vec<u8>) -> Result<(), NoMemory>

@@ -1,4 +1,4 @@
-ghost use Rattle.std.specs.Prelude.{◌≡◌, ◌↔◌, ◌<◌, ◌++◌, ◌∷◌, [], IsSome, IfOk, IfErr, IsErrOf, OnOk, false, true, length, map, option_map, slice_get};
+ghost use Rattle.std.specs.Prelude.{◌≡◌, ◌↔◌, ◌<◌, ◌++◌, ◌∷◌, [], IsSome, IfOk, IfErr, IsErrOf, OnOk, OnErr, false, true, length, map, option_map, slice_get};
 ghost use Rattle.schedule_text.specs.Fits.{EventFits};
 ghost use Rattle.world.specs.Actors.{world_of, Happens};
 ghost use Rattle.world.specs.SeatOutcomes.{seated_of, Refuses};
@@ -230,9 +230,14 @@ impl<H: Host> World<H> {
     /// Appends a line for each replica, and one for each slot of it up to its sync point.
     pub fn replica_lines(&self, to: &mut Vec<u8>) -> Result<(), NoMemory>
         ensures ok { OnOk result (to.new.items ≡ to.old.items ++ replicas_text 0 self.now.state.replicas) }
+        ensures err { OnErr result (to.new.items ≡ to.old.items) }
     {
+        // at most seven
         let _count = self.actors.config.replicas();
-        put_replicas(&self.actors.replicas, to)
+        let mut lines = Vec::new(self.alloc);
+        put_replicas(&self.actors.replicas, &mut lines)?;
+        to.extend_from_slice(&lines)?;
+        Ok(())
     }
 
     /// The requests of the log of the greatest last normal view's leader whose id exceeds each earlier id of the same client

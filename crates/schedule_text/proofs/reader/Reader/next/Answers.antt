@@ -16,7 +16,7 @@ returns-in-None-clause-takes g c =
     let left = g.S.Source.left in
     let now = c.reach_line.new.self in
     let reached = then_takes c.args.self.now c.open.new.self now (Err NoMemory) (left c.args.source.now) (left c.open.new.source) (left c.reach_line.new.source) c.in_ok-config.ensures.takes c.in_ok-reach_line.ensures.takes in
-    let at_end = rw c.in-None.is at c.in_ok-reach_line.ensures.line in
+    let at_end = rw c.in-None.is at c.in_ok-reach_line.ensures.first in
     let opened : now.config ≡ Some c.in_ok-config.config = c.in_ok-reach_line.ensures.config ∙ c.in_ok-config.ensures.config in
     then_answers c.args.self.now now now (Ok None) (left c.args.source.now) (left c.reach_line.new.source) reached (no_event now c.in_ok-config.config opened at_end.0 at_end.1)
 

@@ -13,6 +13,7 @@ loop-first-preserved g c =
     let going : c.loop-first.self.ended ≡ false = ap (λ (r : Reading). r.ended) (sym c.self.view_is) ∙ c.if-self.false in
     record {
       config = c.in_ok-read_piece.ensures.config ∙ kept.config;
+      line = c.in_ok-read_piece.ensures.line ∙ kept.line;
       takes = then_takes c.args.self.now c.loop-first.self c.read_piece.new.self (Err NoMemory) (left c.args.source.now) (left c.loop-first.source) (left c.read_piece.new.source) kept.takes c.in_ok-read_piece.ensures.takes;
       unread = λ needs.
           let stayed = kept.unread needs in

@@ -8,6 +8,7 @@ abbrev pub invariant-loop-first : goal.invariant-loop-first
 invariant-loop-first g l =
     record {
       config : l.self.config ≡ l.fn.self.config;
+      line : l.self.line ≡ l.fn.self.line;
       takes : TakesOf l.fn.self l.self (g.S.Source.left l.fn.source) (g.S.Source.left l.source) (Err NoMemory);
       unread : NeedsNoRead l.fn.self → (l.source ≡ l.fn.source) × (l.self ≡ l.fn.self);
       later : g.S.Source.fault_count l.fn.source ≤ g.S.Source.fault_count l.source;

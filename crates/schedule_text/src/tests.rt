@@ -1,0 +1,161 @@
+ghost use Rattle.std.specs.Prelude.{◌≤◌, length};
+
+use super::*;
+use nop_types::{
+    Actor, Bytes, Config, Dest, Entry, MAX_LINE_BYTES, NoMemory, Op, Phase, Request, View,
+};
+use outside::ReadMem;
+use std::alloc::Global;
+use std::test::Fail;
+
+const FIRST: &[u8] = b"nopaxos 1 replicas 3 sequencers 2 clients 2\n";
+
+fn letter(answer: &Result<Option<Event>, NextError>) -> u8 {
+    match answer {
+        Ok(Some(Event::Submit(..))) => b's',
+        Ok(Some(Event::Deliver(..))) => b'd',
+        Ok(Some(Event::Crash(_))) => b'c',
+        Ok(None) => b'.',
+        Err(NextError::BadLine { rule, .. }) => b'0'.wrapping_add(*rule),
+        Err(NextError::ReadFault) => b'f',
+        Err(NextError::NoMemory) => b'm',
+    }
+}
+
+// A letter for each of the first answers, for a rule its digit.
+fn letters(
+    alloc: Global,
+    text: Vec<u8>,
+    most: usize,
+    calls: usize,
+) -> Result<Vec<u8>, Fail>
+    requires { 1 ≤ most }
+{
+    let mut source = ReadMem::with_limit(text, most);
+    let mut reader = Reader::new(alloc);
+    let mut letters = Vec::new(alloc);
+    for _ in 0..calls {
+        letters.push(letter(&reader.next(&mut source)))?;
+    }
+    Ok(letters)
+}
+
+// Behind line 1, or as line 1, so many equal bytes behind a front; a line that is refused is refused again.
+#[test]
+fn lines_that_are_read(rt: HostRuntime) -> Result<(), Fail> {
+    let alloc = rt.alloc();
+    for (first, front, byte, count, want) in [
+        (FIRST, "submit c0 5000016b000176\ndeliver 0 s0\ncrash r1", b'\n', 0, "sdc."),
+        (FIRST, "crash ctl\nsubmit c1 -\ncrash c2", b'\n', 2, "cs77"),
+        (FIRST, "submit c1 fFAa09\ndeliver 18446744073709551615 ctl\n", b' ', 1, "sd33"),
+        (FIRST, "submit c0 ", b'0', 1280, "s..."),
+        (FIRST, "submit c0 ", b'0', 1281, "5555"),
+        (FIRST, "submit c0 ", b'g', 1280, "6666"),
+        (FIRST, "", b'x', MAX_LINE_BYTES, "3333"),
+        (FIRST, "", b'x', MAX_LINE_BYTES + 1, "1111"),
+        (FIRST, "crash r0", b'\r', 1, "2222"),
+        (FIRST, "crash r0", b'\x7f', 1, "2222"),
+        (FIRST, "nopaxos 1 replicas 3 sequencers 2 clients 2", b'\n', 1, "3333"),
+        (FIRST, "crash r0", b' ', 1, "4444"),
+        (FIRST, "deliver 18446744073709551616 r", b'0', 1, "5555"),
+        (FIRST, "deliver  r", b'0', 1, "5555"),
+        (FIRST, "deliver 01 r", b'3', 1, "5555"),
+        (FIRST, "submit c2 ", b'0', 1, "6666"),
+        (FIRST, "submit r0 ", b'0', 2, "7777"),
+        (FIRST, "crash s", b'2', 1, "7777"),
+        (FIRST, "crash ctl", b'0', 1, "7777"),
+        (b"", "nopaxos 1 replicas 7 sequencers 4 clients ", b'4', 1, "...."),
+        (b"", "", b'x', 0, "3333"),
+        (b"", "Nopaxos 1 replicas 3 sequencers 2 clients ", b'2', 1, "3333"),
+        (b"", "nopaxos 1 replicas 3 sequencers 2 clients 2", b' ', 1, "4444"),
+        (b"", "nopaxos 2 replicas 3 sequencers 2 clients ", b'2', 1, "5555"),
+        (b"", "nopaxos 1 replicas 2 sequencers 2 clients ", b'2', 1, "5555"),
+        (b"", "nopaxos 1 replicas 03 sequencers 2 clients ", b'2', 1, "5555"),
+        (b"", "nopaxos 1 replicas 259 sequencers 2 clients ", b'2', 1, "5555"),
+        (b"", "nopaxos 1 replicas 3 sequencers 5 clients ", b'2', 1, "5555"),
+        (b"", "nopaxos 1 replicas 3 sequencers 2 clients 1", b'7', 1, "5555"),
+    ] {
+        for most in [1, 7, 4096] {
+            let mut text = first.to_vec(alloc)?;
+            text.extend_from_slice(front.as_bytes())?;
+            text.extend_from_slice(&vec![in alloc; byte; count]?)?;
+            let told = letters(alloc, text, most, 4)?;
+            assert_eq!(rt; told.as_slice(), want.as_bytes(), "{front}");
+        }
+    }
+    Ok(())
+}
+
+const LINES: &str = "\
+transcript 1 replicas 3 sequencers 2 clients 16
+dead ctl
+dead c15
+submit c4294967295 18446744073709551615 -
+accept c1 2 6e6f6e65
+busy c3
+send 0 c0 s* request 25
+send 1 s0 r* stamped 37
+send 2 r0 c0 reply 36
+send 3 ctl s1 install 9
+send 4 s1 ctl installed 9
+send 5 ctl s0 ping 9
+send 6 s0 ctl pong 9
+send 18446744073709551615 r1 r2 fragment 31
+replica r6 crashed change 4294967295 2 4096 7
+entry r0 1 noop
+entry r2 4096 c7 9 00ff1a
+history 4096 c7 9 00ff1a
+end
+error line 1000001 rule 10
+error line 5 rule 8 index 7 sent 2
+";
+
+fn request(alloc: Global, client: u32, id: u64, op: &[u8]) -> Result<Request, NoMemory>
+    requires { length op.now ≤ 7 }
+{
+    Ok(Request {
+        client,
+        id,
+        op: Op::new(alloc, op)?,
+    })
+}
+
+#[test]
+fn lines_that_are_written(rt: HostRuntime) -> Result<(), Fail> {
+    let alloc = rt.alloc();
+    let mut to = Vec::new(alloc);
+    transcript_line(Config::new(3, 2, 16).ok_or("limits")?, &mut to)?;
+    dead_line(Actor::Controller, &mut to)?;
+    dead_line(Actor::Client(15), &mut to)?;
+    submit_line(&request(alloc, u32::MAX, u64::MAX, b"")?, &mut to)?;
+    accept_line(1, 2, &Bytes::new(alloc, b"none")?, &mut to)?;
+    busy_line(3, &mut to)?;
+    for (index, from, dest, kind, len) in [
+        (0, Actor::Client(0), Dest::Sequencers, 1, 25),
+        (1, Actor::Sequencer(0), Dest::Replicas, 2, 37),
+        (2, Actor::Replica(0), Dest::One(Actor::Client(0)), 3, 36),
+        (3, Actor::Controller, Dest::One(Actor::Sequencer(1)), 4, 9),
+        (4, Actor::Sequencer(1), Dest::One(Actor::Controller), 5, 9),
+        (5, Actor::Controller, Dest::One(Actor::Sequencer(0)), 6, 9),
+        (6, Actor::Sequencer(0), Dest::One(Actor::Controller), 7, 9),
+        (u64::MAX, Actor::Replica(1), Dest::One(Actor::Replica(2)), 8, 31),
+    ] {
+        let mut datagram = Vec::from_slice(alloc, &[0x4e, 0x4f, 1, kind])?;
+        datagram.resize(len, 0)?;
+        send_line(index, from, dest, &datagram, &mut to)?;
+    }
+    let view = View {
+        leader: u32::MAX,
+        session: 2,
+    };
+    replica_line(6, true, Phase::Change, view, 4096, 7, &mut to)?;
+    entry_line(0, 1, &Entry::NoOp, &mut to)?;
+    let entry = Entry::Req(request(alloc, 7, 9, b"\x00\xff\x1a")?);
+    entry_line(2, 4096, &entry, &mut to)?;
+    history_line(4096, &request(alloc, 7, 9, b"\x00\xff\x1a")?, &mut to)?;
+    end_line(&mut to)?;
+    error_line(1_000_001, 10, None, &mut to)?;
+    error_line(5, 8, Some((7, 2)), &mut to)?;
+    assert_eq!(rt; std::str::from_utf8(&to)?, LINES);
+    Ok(())
+}
