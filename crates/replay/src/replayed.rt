@@ -46,8 +46,7 @@ pub fn replay_with<H: Host, S: Source, K: Sink>(
     unreachable!()
 }
 
-/// Reads a schedule from the source and writes its transcript, line by line. What was written before a bad line, a fault or want of
-/// memory stays.
+/// Reads a schedule from the source and writes its transcript, line by line. What was written before an error stays.
 pub fn replay<S: Source, K: Sink>(
     alloc: Global,
     source: &mut S,

@@ -1,4 +1,4 @@
--- What a call that reads a line may answer, where want of memory decides nothing.
+-- What a call that reads a line may answer, where NoMemory decides nothing.
 use Rattle.std.specs.Prelude.{◌≡◌, Result, Ok, Err, ⊤}
 use Rattle.schedule_text.specs.declared.line_error.LineError.{LineError}
 use Rattle.schedule_text.specs.declared.line_error.LineError.TheVariants.{Breaks, NoMemory}

@@ -15,7 +15,7 @@ pub record IsReader (searched line : ℕ) (pending : List ℕ) (config : Option 
   pub most : line ≤ MAX_LINES
   pub opened : IsNone config ↔ (line ≡ 0)
 
--- a step that went well leaves what comes next as it was, as want of memory does
+-- a step that went well leaves what comes next as it was, as NoMemory does
 abbrev pub after_step : {A : Type 0} → Result A NextError → Result (Option Event) NextError
 after_step (Ok x) = Err NoMemory
 after_step (Err e) = Err e

@@ -73,8 +73,8 @@ impl Reader {
         self.line
     }
 
-    /// The event of the next line, None at the end of the source. A line that breaks a rule is not taken. After a fault or want of
-    /// memory nothing that was taken is lost, and the next call goes on.
+    /// The event of the next line, None at the end of the source. A line that breaks a rule is not taken. After ReadFault and
+    /// NoMemory nothing that was taken is lost, and the next call goes on.
     pub fn next<S: Source>(&mut self, source: &mut S) -> Result<Option<Event>, NextError>
         ensures takes { TakesOf self.old self.new (S.left source.old) (S.left source.new) result }
         ensures none_left { LeavesNone self.new result }
