@@ -9,7 +9,8 @@ use Rattle.schedule_text.specs.declared.next_error.NextError.TheVariants as next
 use Rattle.schedule_text.specs.Cutting.{lines_of}
 use Rattle.schedule_text.specs.declared.rule.Rule.{Rule}
 use Rattle.schedule_text.specs.Rules.{header_of}
-use Rattle.schedule_text.specs.Reading.{Reading, Next, Gives, Refuses, Ends, Turn, Takes, TakesOf, LeavesNone, turn, turn_of, header_turn, lines_before, opening}
+use Rattle.schedule_text.specs.Reading.{Reading, Next, Gives, Refuses, Ends, Turn, Takes, TakesOf, LeavesNone, turn, turn_of, header_turn}
+use Rattle.schedule_text.specs.Reading.{lines_before, opening}
 use Rattle.schedule_text.specs.Transcript.{transcript_line}
 use Rattle.world.specs.WorldSteps as world
 use Rattle.replay.specs.declared.error.ReplayError.{ReplayError}
@@ -27,7 +28,8 @@ module _ {S : Type 0} (m : Meaning S) where
   output_lines ended bytes = refl
 
   -- line 1 was taken
-  pub opened : (bytes left before : Option (List ℕ)) (r : Reading) (c : Configuration) → TakesOf opening r bytes left (Err nexts.NoMemory) → r.config ≡ Some c
+  pub opened : (bytes left before : Option (List ℕ)) (r : Reading) (c : Configuration) → TakesOf opening r bytes left (Err nexts.NoMemory)
+      → r.config ≡ Some c
       → GoingOf m bytes left before before (transcript_line c) r c (world.opening c)
   opened None left before r c took is = tt
   opened (Some bytes) None before r c took is = absurd took
@@ -49,7 +51,8 @@ module _ {S : Type 0} (m : Meaning S) where
               output_lines ended (taken ++ more)
               ∙ begun_is m ended c lines config
               ∙ ap (λ (t : Turn). then_text (transcript_line c) (after_turn m ended c (world.opening c) t)) same
-              ∙ ap (λ (o : Option Configuration). then_text (transcript_line c) (after_turn m ended c (world.opening c) (turn o r.line (lines_before r ended more)))) is
+              ∙ ap (λ (o : Option Configuration). then_text (transcript_line c)
+              (after_turn m ended c (world.opening c) (turn o r.line (lines_before r ended more)))) is
               ∙ ap (then_text (transcript_line c)) (sym (rest_is m ended c (world.opening c) r.line (lines_before r ended more)));
         };
       }
@@ -66,26 +69,31 @@ module _ {S : Type 0} (m : Meaning S) where
   not_begun_line line lines (Err rule) is = refl
   not_begun_line line lines (Ok c) is = absurd (cc (is, turn_config c 1 lines))
 
-  pub not_begun : (lines : List (List ℕ)) → (turn None 0 lines).config ≡ None → output_of_lines m true lines ≡ refused_turn (turn None 0 lines).line (turn None 0 lines).next
+  pub not_begun : (lines : List (List ℕ)) → (turn None 0 lines).config ≡ None
+      → output_of_lines m true lines ≡ refused_turn (turn None 0 lines).line (turn None 0 lines).next
   not_begun [] is = refl
   not_begun (line ∷ lines) is = not_begun_line line lines (header_of line) is
 
-  undecided_line : (line : List ℕ) (lines : List (List ℕ)) (q : Result Configuration Rule) → (header_turn 0 line lines q).config ≡ None → (header_turn 0 line lines q).rest ≡ []
+  undecided_line : (line : List ℕ) (lines : List (List ℕ)) (q : Result Configuration Rule) → (header_turn 0 line lines q).config ≡ None
+      → (header_turn 0 line lines q).rest ≡ []
       → begun m false lines q ≡ record { text = []; bad = None }
   undecided_line line lines (Err rule) config none = absurd cc
   undecided_line line lines (Ok c) config none = absurd (cc (config, turn_config c 1 lines))
 
-  pub undecided : (lines : List (List ℕ)) → (turn None 0 lines).config ≡ None → (turn None 0 lines).rest ≡ [] → output_of_lines m false lines ≡ record { text = []; bad = None }
+  pub undecided : (lines : List (List ℕ)) → (turn None 0 lines).config ≡ None → (turn None 0 lines).rest ≡ []
+      → output_of_lines m false lines ≡ record { text = []; bad = None }
   undecided [] config none = refl
   undecided (line ∷ lines) config none = undecided_line line lines (header_of line) config none
 
   -- what was taken says only what the output is
-  pub unopened_progress : (bytes left taken : List ℕ) (before : Option (List ℕ)) (r : Reading) (answer : Result (Option Event) NextError) → bytes ≡ taken ++ left → Takes opening r taken left answer
+  pub unopened_progress : (bytes left taken : List ℕ) (before : Option (List ℕ)) (r : Reading) (answer : Result (Option Event) NextError)
+      → bytes ≡ taken ++ left → Takes opening r taken left answer
       → Progress m bytes left before before [] r (λ ended more. output m ended (taken ++ more))
   unopened_progress bytes left taken before r answer split k =
       record { taken = taken; split = split; end = k.end refl; written = []; wrote = Appends-nil before; goes = λ ended more may. refl }
 
-  pub unopened : (bytes left before after : Option (List ℕ)) (r : Reading) (e : NextError) (x : ReplayError) → TakesOf opening r bytes left (Err e) → r.config ≡ None → LeavesNone r (Err e)
+  pub unopened : (bytes left before after : Option (List ℕ)) (r : Reading) (e : NextError) (x : ReplayError)
+      → TakesOf opening r bytes left (Err e) → r.config ≡ None → LeavesNone r (Err e)
       → Stops before after [] e x → EndsWith m bytes left before after (Err x)
   unopened None left before after r e x took is none f = unknown_ends m left before after (Err x)
   unopened (Some bytes) None before after r e x took is none f = absurd took
@@ -109,11 +117,13 @@ module _ {S : Type 0} (m : Meaning S) where
       let p = unopened_progress bytes left taken before r (Err nexts.ReadFault) took.1 k in
       let lines = lines_of false 0 (taken ++ []) in
       let told : turn None 0 lines ≡ turn None r.line [] =
-      k.turn false [] (none_follow m r none.0) ∙ ap (λ (o : Option Configuration). turn o r.line (lines_before r false [])) is ∙ ap (turn None r.line) none.1 in
+      k.turn false [] (none_follow m r none.0)
+      ∙ ap (λ (o : Option Configuration). turn o r.line (lines_before r false [])) is ∙ ap (turn None r.line) none.1 in
       interrupts_with m bytes left before before after [] r (λ ended more. output m ended (taken ++ more)) x p none.0
       (output_lines false (taken ++ []) ∙ undecided lines (ap (λ (t : Turn). t.config) told) (ap (λ (t : Turn). t.rest) told))
       f
   unopened (Some bytes) (Some left) before after r nexts.NoMemory x took is none f =
       let taken = took.0 in
       let p = unopened_progress bytes left taken before r (Err nexts.NoMemory) took.1 took.2 in
-      fails_with m bytes left before before after [] r (λ ended more. output m ended (taken ++ more)) [] (output m true (taken ++ left)).text x p refl (output_some m (taken ++ left)) f
+      fails_with m bytes left before before after [] r
+      (λ ended more. output m ended (taken ++ more)) [] (output m true (taken ++ left)).text x p refl (output_some m (taken ++ left)) f

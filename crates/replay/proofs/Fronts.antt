@@ -41,7 +41,8 @@ part_of_front a b text f =
     }
 
 -- bytes before a front
-pub part_behind : (a b c : Option (List ℕ)) (written text : List ℕ) → Appends a b written → LeavesSome b c text → LeavesSome a c (written ++ text)
+pub part_behind : (a b c : Option (List ℕ)) (written text : List ℕ) → Appends a b written → LeavesSome b c text
+    → LeavesSome a c (written ++ text)
 part_behind a b c written text before f =
     record {
       front = written ++ f.front;

@@ -1,5 +1,6 @@
 -- A replay goes on line by line, and ends.
-use Rattle.std.proofs.Common.{◌≡◌, ◌≢◌, ℕ, List, [], ◌++◌, Bool, true, false, Option, Some, None, Result, Ok, Err, refl, sym, ap, ◌∙◌, append_assoc}
+use Rattle.std.proofs.Common.{◌≡◌, ◌≢◌, ℕ, List, [], ◌++◌, Bool, true, false, Option, Some, None, Result, Ok, Err, refl, sym, ap, ◌∙◌}
+use Rattle.std.proofs.Common.{append_assoc}
 use Rattle.std.proofs.KnownBytes.{Appends-trans}
 use Rattle.std.proofs.lemmas.List.{append-nil}
 use Rattle.nop_types.specs.Configuration.{Configuration}
@@ -27,8 +28,10 @@ module _ {S : Type 0} (m : Meaning S) where
   whole bytes left before now pending r follows p = rw p.split (p.goes true left (record { nothing = p.end; end = λ e. refl }))
 
   -- where something is left of what follows, something is left of the whole output
-  pub parts : (bytes left : List ℕ) (before now after : Option (List ℕ)) (pending : List ℕ) (r : Reading) (follows : Bool → List ℕ → Output) (t u : List ℕ)
-      → Progress m bytes left before now pending r follows → (follows true left).text ≡ t ++ u → LeavesSome now after ((pending ++ t) ++ u) → LeavesSome before after (output m true bytes).text
+  pub parts : (bytes left : List ℕ) (before now after : Option (List ℕ)) (pending : List ℕ) (r : Reading)
+      (follows : Bool → List ℕ → Output) (t u : List ℕ)
+      → Progress m bytes left before now pending r follows → (follows true left).text ≡ t ++ u
+      → LeavesSome now after ((pending ++ t) ++ u) → LeavesSome before after (output m true bytes).text
   parts bytes left before now after pending r follows t u p is f =
       let all = part_behind before now after p.written ((pending ++ t) ++ u) p.wrote f in
       let text : (output m true bytes).text ≡ p.written ++ ((pending ++ t) ++ u) =
@@ -39,8 +42,10 @@ module _ {S : Type 0} (m : Meaning S) where
       rw text all
 
   -- not all of what is gathered and follows was written
-  pub misses_with : (bytes left : List ℕ) (before now after : Option (List ℕ)) (pending : List ℕ) (r : Reading) (follows : Bool → List ℕ → Output) (t u : List ℕ) (e : ReplayError)
-      → Progress m bytes left before now pending r follows → (follows true left).text ≡ t ++ u → Misses now after (pending ++ t) e → EndsWith m (Some bytes) (Some left) before after (Err e)
+  pub misses_with : (bytes left : List ℕ) (before now after : Option (List ℕ)) (pending : List ℕ) (r : Reading)
+      (follows : Bool → List ℕ → Output) (t u : List ℕ) (e : ReplayError)
+      → Progress m bytes left before now pending r follows → (follows true left).text ≡ t ++ u → Misses now after (pending ++ t) e
+      → EndsWith m (Some bytes) (Some left) before after (Err e)
   misses_with bytes left before now after pending r follows t u (errors.Malformed line rule) p is f = absurd f
   misses_with bytes left before now after pending r follows t u errors.ReadFault p is f = absurd f
   misses_with bytes left before now after pending r follows t u errors.WriteFault p is f =
@@ -49,7 +54,8 @@ module _ {S : Type 0} (m : Meaning S) where
       parts bytes left before now after pending r follows t u p is (part_longer now after (pending ++ t) u f)
 
   -- a front was written, and more follows
-  pub fails_with : (bytes left : List ℕ) (before now after : Option (List ℕ)) (pending : List ℕ) (r : Reading) (follows : Bool → List ℕ → Output) (t u : List ℕ) (e : ReplayError)
+  pub fails_with : (bytes left : List ℕ) (before now after : Option (List ℕ)) (pending : List ℕ) (r : Reading)
+      (follows : Bool → List ℕ → Output) (t u : List ℕ) (e : ReplayError)
       → Progress m bytes left before now pending r follows → (follows true left).text ≡ t ++ u → u ≢ [] → Fails now after (pending ++ t) e
       → EndsWith m (Some bytes) (Some left) before after (Err e)
   fails_with bytes left before now after pending r follows t u (errors.Malformed line rule) p is some f = absurd f
@@ -60,8 +66,10 @@ module _ {S : Type 0} (m : Meaning S) where
       parts bytes left before now after pending r follows t u p is (front_then now after (pending ++ t) u some f)
 
   -- the rest of the output is an error line
-  pub refuses_with : (bytes left : List ℕ) (before now after : Option (List ℕ)) (pending : List ℕ) (r : Reading) (follows : Bool → List ℕ → Output) (b : BadLine) (e : ReplayError)
-      → Progress m bytes left before now pending r follows → ((more : List ℕ) → (r.ended ≡ true → more ≡ []) → follows true more ≡ refused b) → (r.ended ≡ true → left ≡ [])
+  pub refuses_with : (bytes left : List ℕ) (before now after : Option (List ℕ)) (pending : List ℕ) (r : Reading)
+      (follows : Bool → List ℕ → Output) (b : BadLine) (e : ReplayError)
+      → Progress m bytes left before now pending r follows
+      → ((more : List ℕ) → (r.ended ≡ true → more ≡ []) → follows true more ≡ refused b) → (r.ended ≡ true → left ≡ [])
       → Refuses now after pending b e → EndsWith m (Some bytes) (Some left) before after (Err e)
   refuses_with bytes left before now after pending r follows b (errors.Malformed line rule) p is end (line_is, rule_is, wrote) =
       record {
@@ -81,12 +89,15 @@ module _ {S : Type 0} (m : Meaning S) where
       }
   refuses_with bytes left before now after pending r follows b errors.ReadFault p is end f = absurd f
   refuses_with bytes left before now after pending r follows b errors.WriteFault p is end f =
-      misses_with bytes left before now after pending r follows (bad_text b) [] errors.WriteFault p (ap (λ (o : Output). o.text) (is left end) ∙ sym (append-nil (bad_text b))) f
+      misses_with bytes left before now after pending r follows (bad_text b) [] errors.WriteFault p
+      (ap (λ (o : Output). o.text) (is left end) ∙ sym (append-nil (bad_text b))) f
   refuses_with bytes left before now after pending r follows b errors.NoMemory p is end f =
-      misses_with bytes left before now after pending r follows (bad_text b) [] errors.NoMemory p (ap (λ (o : Output). o.text) (is left end) ∙ sym (append-nil (bad_text b))) f
+      misses_with bytes left before now after pending r follows (bad_text b) [] errors.NoMemory p
+      (ap (λ (o : Output). o.text) (is left end) ∙ sym (append-nil (bad_text b))) f
 
   -- nothing is decided behind what was taken
-  pub interrupts_with : (bytes left : List ℕ) (before now after : Option (List ℕ)) (pending : List ℕ) (r : Reading) (follows : Bool → List ℕ → Output) (e : ReplayError)
+  pub interrupts_with : (bytes left : List ℕ) (before now after : Option (List ℕ)) (pending : List ℕ) (r : Reading)
+      (follows : Bool → List ℕ → Output) (e : ReplayError)
       → Progress m bytes left before now pending r follows → r.ended ≡ false → follows false [] ≡ record { text = []; bad = None }
       → Interrupts now after pending e → EndsWith m (Some bytes) (Some left) before after (Err e)
   interrupts_with bytes left before now after pending r follows (errors.Malformed line rule) p going is f = absurd f
@@ -102,49 +113,61 @@ module _ {S : Type 0} (m : Meaning S) where
         wrote = rw (all, append-nil (p.written ++ pending)) (Appends-trans before now after p.written pending p.wrote f);
       }
   interrupts_with bytes left before now after pending r follows errors.WriteFault p going is f =
-      misses_with bytes left before now after pending r follows [] (follows true left).text errors.WriteFault p refl (rw (append-nil pending) f)
+      misses_with bytes left before now after pending r follows [] (follows true left).text errors.WriteFault p refl
+      (rw (append-nil pending) f)
   interrupts_with bytes left before now after pending r follows errors.NoMemory p going is f =
-      misses_with bytes left before now after pending r follows [] (follows true left).text errors.NoMemory p refl (rw (append-nil pending) f)
+      misses_with bytes left before now after pending r follows [] (follows true left).text errors.NoMemory p refl
+      (rw (append-nil pending) f)
 
   -- the input has ended
-  pub finishes : (bytes left : List ℕ) (before now after : Option (List ℕ)) (pending : List ℕ) (r : Reading) (follows : Bool → List ℕ → Output) (w : WorldState) (x : Result (Unit {0}) ReplayError)
-      → Progress m bytes left before now pending r follows → r.ended ≡ true → ((more : List ℕ) → follows true more ≡ record { text = ending true w None; bad = None })
+  pub finishes : (bytes left : List ℕ) (before now after : Option (List ℕ)) (pending : List ℕ) (r : Reading)
+      (follows : Bool → List ℕ → Output) (w : WorldState) (x : Result (Unit {0}) ReplayError)
+      → Progress m bytes left before now pending r follows → r.ended ≡ true
+      → ((more : List ℕ) → follows true more ≡ record { text = ending true w None; bad = None })
       → Writes now after (pending ++ final_text w) x → EndsWith m (Some bytes) (Some left) before after x
   finishes bytes left before now after pending r follows w (Ok x) p ended is f =
       let all = whole bytes left before now pending r follows p ∙ ap (then_text (p.written ++ pending)) (is left) in
-      let text : (output m true bytes).text ≡ p.written ++ (pending ++ final_text w) = ap (λ (o : Output). o.text) all ∙ append_assoc p.written pending (final_text w) in
+      let text : (output m true bytes).text ≡ p.written ++ (pending ++ final_text w) =
+      ap (λ (o : Output). o.text) all ∙ append_assoc p.written pending (final_text w) in
       record {
         all = p.end ended;
         good = ap (λ (o : Output). o.bad) all;
         wrote = rw text (Appends-trans before now after p.written (pending ++ final_text w) p.wrote f);
       }
   finishes bytes left before now after pending r follows w (Err e) p ended is f =
-      misses_with bytes left before now after pending r follows (final_text w) [] e p (ap (λ (o : Output). o.text) (is left) ∙ sym (append-nil (final_text w))) f
+      misses_with bytes left before now after pending r follows (final_text w) [] e p
+      (ap (λ (o : Output). o.text) (is left) ∙ sym (append-nil (final_text w))) f
 
   -- ---- a turn of the reader
 
-  pub turned : (c : Configuration) (w : WorldState) (ended : Bool) (more : List ℕ) (r : Reading) (answer : Result (Option Event) NextError) (t : Turn) → IsTurn r ended more answer t
+  pub turned : (c : Configuration) (w : WorldState) (ended : Bool) (more : List ℕ) (r : Reading)
+      (answer : Result (Option Event) NextError) (t : Turn) → IsTurn r ended more answer t
       → after_turn m ended c w t ≡ after_answer m ended more c w r answer
   turned c w ended more r (Ok (Some e)) t is = ap (after_turn m ended c w) is
   turned c w ended more r (Ok None) t is = ap (after_turn m ended c w) is.0
-  turned c w ended more r (Err (nexts.BadLine line rule)) t is = ap (after_turn m ended c w) is.0 ∙ ap (λ (l : ℕ). refused (bad_line l rule)) (sym is.1)
+  turned c w ended more r (Err (nexts.BadLine line rule)) t is =
+      ap (after_turn m ended c w) is.0 ∙ ap (λ (l : ℕ). refused (bad_line l rule)) (sym is.1)
   turned c w ended more r (Err nexts.ReadFault) t is = ap (after_turn m ended c w) is
   turned c w ended more r (Err nexts.NoMemory) t is = ap (after_turn m ended c w) is
 
   -- the end of the source, told by one of two readings
-  pub end_of : (r s : Reading) (left rest taken : List ℕ) (answer : Result (Option Event) NextError) (b : Bool) → r.ended ≡ b → (r.ended ≡ true → left ≡ []) → left ≡ taken ++ rest
+  pub end_of : (r s : Reading) (left rest taken : List ℕ) (answer : Result (Option Event) NextError) (b : Bool) → r.ended ≡ b
+      → (r.ended ≡ true → left ≡ []) → left ≡ taken ++ rest
       → Takes r s taken rest answer → s.ended ≡ true → rest ≡ []
   end_of r s left rest taken answer false is end split k ended = k.end is ended
-  end_of r s left rest taken answer true is end split k ended = sym (sym (end is) ∙ split ∙ ap (λ (t : List ℕ). t ++ rest) ((k.after_end is).0))
+  end_of r s left rest taken answer true is end split k ended =
+      sym (sym (end is) ∙ split ∙ ap (λ (t : List ℕ). t ++ rest) ((k.after_end is).0))
 
-  pub may_follow : (r s : Reading) (rest taken more : List ℕ) (ended : Bool) (answer : Result (Option Event) NextError) → Takes r s taken rest answer → MayFollow s ended more → MayFollow r ended (taken ++ more)
+  pub may_follow : (r s : Reading) (rest taken more : List ℕ) (ended : Bool) (answer : Result (Option Event) NextError)
+      → Takes r s taken rest answer → MayFollow s ended more → MayFollow r ended (taken ++ more)
   may_follow r s rest taken more ended answer k may =
       record {
         nothing = λ e. ap (λ (t : List ℕ). t ++ more) ((k.after_end e).0) ∙ may.nothing ((k.after_end e).1);
         end = λ e. may.end ((k.after_end e).1);
       }
 
-  pub answered : (bytes left rest_left : List ℕ) (before now : Option (List ℕ)) (pending : List ℕ) (r s : Reading) (c : Configuration) (w : WorldState) (answer : Result (Option Event) NextError)
+  pub answered : (bytes left rest_left : List ℕ) (before now : Option (List ℕ)) (pending : List ℕ) (r s : Reading) (c : Configuration)
+      (w : WorldState) (answer : Result (Option Event) NextError)
       → Going m bytes left before now pending r c w → (taken : List ℕ) → left ≡ taken ++ rest_left → Takes r s taken rest_left answer
       → Progress m bytes rest_left before now pending s (λ ended more. after_answer m ended more c w s answer)
   answered bytes left rest_left before now pending r s c w answer going taken split k =
@@ -171,21 +194,29 @@ module _ {S : Type 0} (m : Meaning S) where
   pub none_follow : (r : Reading) → r.ended ≡ false → MayFollow r false []
   none_follow r going = record { nothing = λ e. refl; end = λ e. absurd cc }
 
-  pub turn_keeps : (r : Reading) (c : Configuration) (ended : Bool) (more : List ℕ) → r.config ≡ Some c → (turn_of r ended more).config ≡ Some c
-  turn_keeps r c ended more is = ap (λ (o : Option Configuration). (turn o r.line (lines_before r ended more)).config) is ∙ turn_config c r.line (lines_before r ended more)
+  pub turn_keeps : (r : Reading) (c : Configuration) (ended : Bool) (more : List ℕ) → r.config ≡ Some c
+      → (turn_of r ended more).config ≡ Some c
+  turn_keeps r c ended more is =
+      ap (λ (o : Option Configuration). (turn o r.line (lines_before r ended more)).config) is
+      ∙ turn_config c r.line (lines_before r ended more)
 
-  pub event_keeps : (r s : Reading) (c : Configuration) (taken left : List ℕ) (e : Event) → r.config ≡ Some c → Takes r s taken left (Ok (Some e)) → s.config ≡ Some c
-  event_keeps r s c taken left e is k = sym (ap (λ (t : Turn). t.config) (k.turn true [] (all_ended s))) ∙ turn_keeps r c true (taken ++ []) is
+  pub event_keeps : (r s : Reading) (c : Configuration) (taken left : List ℕ) (e : Event) → r.config ≡ Some c
+      → Takes r s taken left (Ok (Some e)) → s.config ≡ Some c
+  event_keeps r s c taken left e is k =
+      sym (ap (λ (t : Turn). t.config) (k.turn true [] (all_ended s))) ∙ turn_keeps r c true (taken ++ []) is
 
   -- nothing is decided
-  pub nothing_left : (c : Configuration) (w : WorldState) (o : Option Configuration) (line : ℕ) → (turn o line []).config ≡ Some c → after_turn m false c w (turn o line []) ≡ record { text = []; bad = None }
+  pub nothing_left : (c : Configuration) (w : WorldState) (o : Option Configuration) (line : ℕ) → (turn o line []).config ≡ Some c
+      → after_turn m false c w (turn o line []) ≡ record { text = []; bad = None }
   nothing_left c w None line is = absurd cc
   nothing_left c w (Some d) line is = refl
 
-  pub fault_follows : (r s : Reading) (c : Configuration) (w : WorldState) (taken left : List ℕ) → r.config ≡ Some c → Takes r s taken left (Err nexts.ReadFault) → LeavesNone s (Err nexts.ReadFault)
+  pub fault_follows : (r s : Reading) (c : Configuration) (w : WorldState) (taken left : List ℕ) → r.config ≡ Some c
+      → Takes r s taken left (Err nexts.ReadFault) → LeavesNone s (Err nexts.ReadFault)
       → after_turn m false c w (turn_of s false []) ≡ record { text = []; bad = None }
   fault_follows r s c w taken left is k none =
-      let kept : (turn_of s false []).config ≡ Some c = sym (ap (λ (t : Turn). t.config) (k.turn false [] (none_follow s none.0))) ∙ turn_keeps r c false (taken ++ []) is in
+      let kept : (turn_of s false []).config ≡ Some c =
+      sym (ap (λ (t : Turn). t.config) (k.turn false [] (none_follow s none.0))) ∙ turn_keeps r c false (taken ++ []) is in
       ap (λ (ls : List (List ℕ)). after_turn m false c w (turn s.config s.line ls)) none.1
       ∙ nothing_left c w s.config s.line (sym (ap (λ (ls : List (List ℕ)). (turn s.config s.line ls).config) none.1) ∙ kept)
 
@@ -203,8 +234,10 @@ module _ {S : Type 0} (m : Meaning S) where
   starved_first None left before = tt
   starved_first (Some bytes) left before = part_nil before (output m true bytes).text (output_some m bytes)
 
-  pub stopped : (bytes left rest_left : Option (List ℕ)) (before now after : Option (List ℕ)) (pending : List ℕ) (r s : Reading) (c : Configuration) (w : WorldState) (e : NextError) (x : ReplayError)
-      → GoingOf m bytes left before now pending r c w → TakesOf r s left rest_left (Err e) → LeavesNone s (Err e) → Stops now after pending e x → EndsWith m bytes rest_left before after (Err x)
+  pub stopped : (bytes left rest_left : Option (List ℕ)) (before now after : Option (List ℕ)) (pending : List ℕ) (r s : Reading)
+      (c : Configuration) (w : WorldState) (e : NextError) (x : ReplayError)
+      → GoingOf m bytes left before now pending r c w → TakesOf r s left rest_left (Err e) → LeavesNone s (Err e)
+      → Stops now after pending e x → EndsWith m bytes rest_left before after (Err x)
   stopped None left rest_left before now after pending r s c w e x going took none f = unknown_ends rest_left before after (Err x)
   stopped (Some bytes) None rest_left before now after pending r s c w e x going took none f = absurd going
   stopped (Some bytes) (Some left) None before now after pending r s c w e x going took none f = absurd took
@@ -213,13 +246,17 @@ module _ {S : Type 0} (m : Meaning S) where
       refuses_with bytes rest_left before now after pending s _ (bad_line line rule) x p (λ more nothing. refl) p.end f
   stopped (Some bytes) (Some left) (Some rest_left) before now after pending r s c w nexts.ReadFault x going took none f =
       let p = answered bytes left rest_left before now pending r s c w (Err nexts.ReadFault) going took.0 took.1 took.2 in
-      interrupts_with bytes rest_left before now after pending s _ x p none.0 (fault_follows r s c w took.0 rest_left going.config took.2 none) f
+      interrupts_with bytes rest_left before now after pending s _ x p none.0
+      (fault_follows r s c w took.0 rest_left going.config took.2 none) f
   stopped (Some bytes) (Some left) (Some rest_left) before now after pending r s c w nexts.NoMemory x going took none f =
       let p = answered bytes left rest_left before now pending r s c w (Err nexts.NoMemory) going took.0 took.1 took.2 in
-      fails_with bytes rest_left before now after pending s _ [] _ x p refl (after_turn_some m c w (turn_of s true rest_left)) (rw (append-nil pending) f)
+      fails_with bytes rest_left before now after pending s _ [] _ x p refl (after_turn_some m c w (turn_of s true rest_left))
+      (rw (append-nil pending) f)
 
-  pub finished : (bytes left rest_left : Option (List ℕ)) (before now after : Option (List ℕ)) (pending : List ℕ) (r s : Reading) (c : Configuration) (w : WorldState) (x : Result (Unit {0}) ReplayError)
-      → GoingOf m bytes left before now pending r c w → TakesOf r s left rest_left (Ok None) → Writes now after (pending ++ final_text w) x → EndsWith m bytes rest_left before after x
+  pub finished : (bytes left rest_left : Option (List ℕ)) (before now after : Option (List ℕ)) (pending : List ℕ) (r s : Reading)
+      (c : Configuration) (w : WorldState) (x : Result (Unit {0}) ReplayError)
+      → GoingOf m bytes left before now pending r c w → TakesOf r s left rest_left (Ok None)
+      → Writes now after (pending ++ final_text w) x → EndsWith m bytes rest_left before after x
   finished None left rest_left before now after pending r s c w x going took f = unknown_ends rest_left before after x
   finished (Some bytes) None rest_left before now after pending r s c w x going took f = absurd going
   finished (Some bytes) (Some left) None before now after pending r s c w x going took f = absurd took
@@ -227,12 +264,15 @@ module _ {S : Type 0} (m : Meaning S) where
       let p = answered bytes left rest_left before now pending r s c w (Ok None) going took.0 took.1 took.2 in
       finishes bytes rest_left before now after pending s _ w x p ((took.2.turn true [] (all_ended s)).1) (λ more. refl) f
 
-  pub advances : (bytes left : List ℕ) (before now after : Option (List ℕ)) (pending new_pending : List ℕ) (r : Reading) (c : Configuration) (w v : WorldState) (e : Event)
-      → r.config ≡ Some c → Progress m bytes left before now pending r (λ ended more. after_answer m ended more c w r (Ok (Some e))) → Advances (step m w e) v now after pending new_pending
+  pub advances : (bytes left : List ℕ) (before now after : Option (List ℕ)) (pending new_pending : List ℕ) (r : Reading)
+      (c : Configuration) (w v : WorldState) (e : Event)
+      → r.config ≡ Some c → Progress m bytes left before now pending r
+      (λ ended more. after_answer m ended more c w r (Ok (Some e))) → Advances (step m w e) v now after pending new_pending
       → Going m bytes left before after new_pending r c v
   advances bytes left before now after pending new_pending r c w v e config p a =
       let gathered : (p.written ++ pending) ++ lines_text a.lines ≡ (p.written ++ a.written) ++ new_pending =
-      append_assoc p.written pending (lines_text a.lines) ∙ ap (λ (t : List ℕ). p.written ++ t) (sym a.text) ∙ sym (append_assoc p.written a.written new_pending) in
+      append_assoc p.written pending (lines_text a.lines)
+      ∙ ap (λ (t : List ℕ). p.written ++ t) (sym a.text) ∙ sym (append_assoc p.written a.written new_pending) in
       record {
         config = config;
         progress = record {
@@ -244,16 +284,20 @@ module _ {S : Type 0} (m : Meaning S) where
           goes = λ ended more may.
               let lines = lines_before r ended more in
               let after_it = rest m ended c v r.line lines in
-              let text : (p.written ++ pending) ++ (lines_text a.lines ++ after_it.text) ≡ ((p.written ++ a.written) ++ new_pending) ++ after_it.text =
-              sym (append_assoc (p.written ++ pending) (lines_text a.lines) after_it.text) ∙ ap (λ (t : List ℕ). t ++ after_it.text) gathered in
+              let text : (p.written ++ pending) ++ (lines_text a.lines ++ after_it.text) ≡ ((p.written ++ a.written) ++ new_pending)
+              ++ after_it.text =
+              sym (append_assoc (p.written ++ pending) (lines_text a.lines) after_it.text)
+              ∙ ap (λ (t : List ℕ). t ++ after_it.text) gathered in
               p.goes ended more may
               ∙ ap (λ (q : Result Happened Refusal). then_text (p.written ++ pending) (after_step m ended c r.line lines q)) a.is
               ∙ ap (λ (t : List ℕ). record { text = t; bad = after_it.bad }) text;
         };
       }
 
-  pub advanced : (bytes left rest_left : Option (List ℕ)) (before now after : Option (List ℕ)) (pending new_pending : List ℕ) (r s : Reading) (c : Configuration) (w v : WorldState) (e : Event)
-      → GoingOf m bytes left before now pending r c w → TakesOf r s left rest_left (Ok (Some e)) → Advances (step m w e) v now after pending new_pending
+  pub advanced : (bytes left rest_left : Option (List ℕ)) (before now after : Option (List ℕ)) (pending new_pending : List ℕ)
+      (r s : Reading) (c : Configuration) (w v : WorldState) (e : Event)
+      → GoingOf m bytes left before now pending r c w → TakesOf r s left rest_left (Ok (Some e))
+      → Advances (step m w e) v now after pending new_pending
       → GoingOf m bytes rest_left before after new_pending s c v
   advanced None left rest_left before now after pending new_pending r s c w v e going took a = tt
   advanced (Some bytes) None rest_left before now after pending new_pending r s c w v e going took a = absurd going
@@ -262,20 +306,26 @@ module _ {S : Type 0} (m : Meaning S) where
       let p = answered bytes left rest_left before now pending r s c w (Ok (Some e)) going took.0 took.1 took.2 in
       advances bytes rest_left before now after pending new_pending s c w v e (event_keeps r s c took.0 rest_left e going.config took.2) p a
 
-  pub step_refused : (bytes left : List ℕ) (before now after : Option (List ℕ)) (pending : List ℕ) (r : Reading) (c : Configuration) (w : WorldState) (e : Event) (q : Result Happened Refusal) (x : ReplayError)
-      → step m w e ≡ q → Progress m bytes left before now pending r (λ ended more. after_answer m ended more c w r (Ok (Some e))) → RefusesStep now after pending r.line q x
+  pub step_refused : (bytes left : List ℕ) (before now after : Option (List ℕ)) (pending : List ℕ) (r : Reading) (c : Configuration)
+      (w : WorldState) (e : Event) (q : Result Happened Refusal) (x : ReplayError)
+      → step m w e ≡ q → Progress m bytes left before now pending r
+      (λ ended more. after_answer m ended more c w r (Ok (Some e))) → RefusesStep now after pending r.line q x
       → EndsWith m (Some bytes) (Some left) before after (Err x)
   step_refused bytes left before now after pending r c w e (Ok h) x is p f =
       let lines = lines_before r true left in
       fails_with bytes left before now after pending r _ (lines_text h.lines) (rest m true c h.world r.line lines).text x p
       (ap (λ (q : Result Happened Refusal). (after_step m true c r.line lines q).text) is) (rest_some m c h.world r.line lines) f
   step_refused bytes left before now after pending r c w e (Err refusal) x is p f =
-      refuses_with bytes left before now after pending r _ (refused_line r.line refusal) x p (λ more nothing. ap (after_step m true c r.line (lines_before r true more)) is) p.end f
+      refuses_with bytes left before now after pending r _ (refused_line r.line refusal) x p
+      (λ more nothing. ap (after_step m true c r.line (lines_before r true more)) is) p.end f
 
-  pub refused_event : (bytes left rest_left : Option (List ℕ)) (before now after : Option (List ℕ)) (pending : List ℕ) (r s : Reading) (c : Configuration) (w : WorldState) (e : Event) (x : ReplayError)
-      → GoingOf m bytes left before now pending r c w → TakesOf r s left rest_left (Ok (Some e)) → RefusesStep now after pending s.line (step m w e) x → EndsWith m bytes rest_left before after (Err x)
+  pub refused_event : (bytes left rest_left : Option (List ℕ)) (before now after : Option (List ℕ)) (pending : List ℕ) (r s : Reading)
+      (c : Configuration) (w : WorldState) (e : Event) (x : ReplayError)
+      → GoingOf m bytes left before now pending r c w → TakesOf r s left rest_left (Ok (Some e))
+      → RefusesStep now after pending s.line (step m w e) x → EndsWith m bytes rest_left before after (Err x)
   refused_event None left rest_left before now after pending r s c w e x going took f = unknown_ends rest_left before after (Err x)
   refused_event (Some bytes) None rest_left before now after pending r s c w e x going took f = absurd going
   refused_event (Some bytes) (Some left) None before now after pending r s c w e x going took f = absurd took
   refused_event (Some bytes) (Some left) (Some rest_left) before now after pending r s c w e x going took f =
-      step_refused bytes rest_left before now after pending s c w e (step m w e) x refl (answered bytes left rest_left before now pending r s c w (Ok (Some e)) going took.0 took.1 took.2) f
+      step_refused bytes rest_left before now after pending s c w e (step m w e) x refl
+      (answered bytes left rest_left before now pending r s c w (Ok (Some e)) going took.0 took.1 took.2) f

@@ -11,11 +11,13 @@ use Rattle.schedule_text.specs.Rules.{header_of, event_of}
 use Rattle.schedule_text.specs.Reading.{turn, turn_after, event_turn, header_turn}
 use Rattle.schedule_text.specs.Transcript.{transcript_line, line_text, lines_text}
 use Rattle.world.specs.WorldSteps.{WorldState, Refusal, Happened, step, go_on, run_from, opening}
-use Rattle.replay.specs.Output.{Schedule, BadLine, ending, then_text, text_after, stepped, scheduled, schedule_from, written, rest, begun, output_of_lines}
+use Rattle.replay.specs.Output.{Schedule, BadLine, ending, then_text, text_after, stepped, scheduled, schedule_from, written, rest, begun}
+use Rattle.replay.specs.Output.{output_of_lines}
 use Rattle.replay.specs.Progress.{after_step, after_turn}
 
 -- a reader that took line 1 keeps its configuration
-turn_config_line : (c : Configuration) (k : ℕ) (line : List ℕ) (lines : List (List ℕ)) (r : Result Event Rule) → (event_turn c k line lines r).config ≡ Some c
+turn_config_line : (c : Configuration) (k : ℕ) (line : List ℕ) (lines : List (List ℕ)) (r : Result Event Rule)
+    → (event_turn c k line lines r).config ≡ Some c
 turn_config_line c k line lines (Ok e) = refl
 turn_config_line c k line lines (Err rule) = refl
 
@@ -40,10 +42,12 @@ module _ {S : Type 0} (m : Meaning S) where
   abbrev pub RunsBehind : List Event → Type 0
   RunsBehind es = (lines : List Line) (w : WorldState) → run_from m lines w es ≡ after_lines lines (run_from m [] w es)
 
-  run_behind_step : (es : List Event) → RunsBehind es → (lines : List Line) (r : Result Happened Refusal) → more_runs es lines r ≡ after_lines lines (more_runs es [] r)
+  run_behind_step : (es : List Event) → RunsBehind es → (lines : List Line) (r : Result Happened Refusal)
+      → more_runs es lines r ≡ after_lines lines (more_runs es [] r)
   run_behind_step es behind lines (Err refusal) = refl
   run_behind_step es behind lines (Ok h) =
-      behind (lines ++ h.lines) h.world ∙ sym (after_lines_twice lines h.lines (run_from m [] h.world es)) ∙ ap (after_lines lines) (sym (behind h.lines h.world))
+      behind (lines ++ h.lines) h.world ∙ sym (after_lines_twice lines h.lines (run_from m [] h.world es))
+      ∙ ap (after_lines lines) (sym (behind h.lines h.world))
 
   pub run_behind : (es : List Event) → RunsBehind es
   run_behind [] lines w = ap (λ (ls : List Line). Ok (record { world = w; lines = ls })) (sym (append-nil lines))
@@ -56,7 +60,8 @@ module _ {S : Type 0} (m : Meaning S) where
   abbrev pub ScheduleRuns : Configuration → List (List ℕ) → Type 0
   ScheduleRuns c lines = (w : WorldState) (k : ℕ) → Runs w (schedule_from m c w k lines).events
 
-  schedule_runs_event : (c : Configuration) (lines : List (List ℕ)) → ScheduleRuns c lines → (w : WorldState) (k : ℕ) (e : Event) (r : Result Happened Refusal) → step m w e ≡ r
+  schedule_runs_event : (c : Configuration) (lines : List (List ℕ)) → ScheduleRuns c lines
+      → (w : WorldState) (k : ℕ) (e : Event) (r : Result Happened Refusal) → step m w e ≡ r
       → Runs w (stepped k e r (λ v. schedule_from m c v (k + 1) lines)).events
   schedule_runs_event c lines all w k e (Err refusal) is = (record { world = w; lines = [] }, refl)
   schedule_runs_event c lines all w k e (Ok h) is =
@@ -79,9 +84,11 @@ module _ {S : Type 0} (m : Meaning S) where
   pub text_behind : (ended : Bool) (bad : Option BadLine) (lines : List Line) (r : Result Happened Refusal) (h : Happened) → r ≡ Ok h →
       text_after ended bad (after_lines lines r) ≡ lines_text lines ++ text_after ended bad r
   text_behind ended bad lines r h is =
-      rw is (ap (λ (t : List ℕ). t ++ ending ended h.world bad) (flat_map-append line_text lines h.lines) ∙ append_assoc (lines_text lines) (lines_text h.lines) (ending ended h.world bad))
+      rw is (ap (λ (t : List ℕ). t ++ ending ended h.world bad) (flat_map-append line_text lines h.lines)
+      ∙ append_assoc (lines_text lines) (lines_text h.lines) (ending ended h.world bad))
 
-  pub written_event : (ended : Bool) (w : WorldState) (e : Event) (h : Happened) (s : Schedule) → step m w e ≡ Ok h → Runs h.world s.events →
+  pub written_event : (ended : Bool) (w : WorldState) (e : Event) (h : Happened) (s : Schedule) → step m w e ≡ Ok h
+      → Runs h.world s.events →
       written m ended w (record { events = e ∷ s.events; bad = s.bad }) ≡ then_text (lines_text h.lines) (written m ended h.world s)
   written_event ended w e h s is runs =
       let text =
@@ -90,22 +97,27 @@ module _ {S : Type 0} (m : Meaning S) where
       ap (λ (t : List ℕ). record { text = t; bad = s.bad }) text
 
   -- what is written is what the turn of the reader gives
-  rest_is_event : (ended : Bool) (c : Configuration) (w : WorldState) (k : ℕ) (lines : List (List ℕ)) (e : Event) (r : Result Happened Refusal) → step m w e ≡ r
+  rest_is_event : (ended : Bool) (c : Configuration) (w : WorldState) (k : ℕ) (lines : List (List ℕ)) (e : Event)
+      (r : Result Happened Refusal) → step m w e ≡ r
       → written m ended w (stepped k e r (λ v. schedule_from m c v (k + 1) lines)) ≡ after_step m ended c (k + 1) lines r
   rest_is_event ended c w k lines e (Err refusal) is = refl
-  rest_is_event ended c w k lines e (Ok h) is = written_event ended w e h (schedule_from m c h.world (k + 1) lines) is (schedule_runs c lines h.world (k + 1))
+  rest_is_event ended c w k lines e (Ok h) is =
+      written_event ended w e h (schedule_from m c h.world (k + 1) lines) is (schedule_runs c lines h.world (k + 1))
 
   rest_is_line : (ended : Bool) (c : Configuration) (w : WorldState) (k : ℕ) (line : List ℕ) (lines : List (List ℕ)) (r : Result Event Rule)
-      → written m ended w (scheduled m w k r (λ v. schedule_from m c v (k + 1) lines)) ≡ after_turn m ended c w (event_turn c k line lines r)
+      → written m ended w (scheduled m w k r
+      (λ v. schedule_from m c v (k + 1) lines)) ≡ after_turn m ended c w (event_turn c k line lines r)
   rest_is_line ended c w k line lines (Err rule) = refl
   rest_is_line ended c w k line lines (Ok e) = rest_is_event ended c w k lines e (step m w e) refl
 
-  pub rest_is : (ended : Bool) (c : Configuration) (w : WorldState) (k : ℕ) (lines : List (List ℕ)) → rest m ended c w k lines ≡ after_turn m ended c w (turn_after c k lines)
+  pub rest_is : (ended : Bool) (c : Configuration) (w : WorldState) (k : ℕ) (lines : List (List ℕ))
+      → rest m ended c w k lines ≡ after_turn m ended c w (turn_after c k lines)
   rest_is ended c w k [] = refl
   rest_is ended c w k (line ∷ lines) = rest_is_line ended c w k line lines (event_of c k line)
 
   -- line 1 was taken
-  begun_is_line : (ended : Bool) (c : Configuration) (line : List ℕ) (lines : List (List ℕ)) (r : Result Configuration Rule) → (header_turn 0 line lines r).config ≡ Some c
+  begun_is_line : (ended : Bool) (c : Configuration) (line : List ℕ) (lines : List (List ℕ)) (r : Result Configuration Rule)
+      → (header_turn 0 line lines r).config ≡ Some c
       → begun m ended lines r ≡ then_text (transcript_line c) (after_turn m ended c (opening c) (header_turn 0 line lines r))
   begun_is_line ended c line lines (Err rule) is = absurd cc
   begun_is_line ended c line lines (Ok d) is =

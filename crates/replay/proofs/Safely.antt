@@ -15,7 +15,8 @@ use Rattle.world.specs.WorldSteps.{WorldState, Refusal, Happened, step, go_on, r
 use Rattle.safety.specs.Answers.{ResultsShort}
 use Rattle.safety.proofs.Whole.{runs_are_safe}
 use Rattle.replay.specs.declared.error.ReplayError.{ReplayError}
-use Rattle.replay.specs.Output.{BadLine, Schedule, stepped, scheduled, schedule_from, final_text, text_after, Output, output, output_of_lines, begun}
+use Rattle.replay.specs.Output.{BadLine, Schedule, stepped, scheduled, schedule_from, final_text, text_after, Output, output}
+use Rattle.replay.specs.Output.{output_of_lines, begun}
 use Rattle.replay.specs.Outcome.{Done, EndsWith}
 use Rattle.replay.specs.Safety.{RunsSafely, RunsSafelyOf}
 
@@ -25,27 +26,33 @@ pub record RunsWell {S : Type 0} (m : Meaning S) (w : WorldState) (s : Schedule)
   pub leads : (ls : List Line) → (h : Happened) × (run_from m ls w s.events ≡ Ok h)
 
 module _ {S : Type 0} (m : Meaning S) (c : Configuration) where
-  step_well : (w : WorldState) (k : ℕ) (line : List ℕ) (e : Event) (f : WorldState → Schedule) → event_of c k line ≡ Ok e → ((v : WorldState) → (f v).bad ≡ None → RunsWell m v (f v))
+  step_well : (w : WorldState) (k : ℕ) (line : List ℕ) (e : Event) (f : WorldState → Schedule) → event_of c k line ≡ Ok e
+      → ((v : WorldState) → (f v).bad ≡ None → RunsWell m v (f v))
       → (r : Result Happened Refusal) → step m w e ≡ r → (stepped k e r f).bad ≡ None → RunsWell m w (stepped k e r f)
   step_well w k line e f is rest (Err refusal) s good = absurd cc
   step_well w k line e f is rest (Ok h) s good =
       let t = rest h.world good in
       record {
         fit = (events_fit c k line e is, t.fit);
-        leads = λ ls. let g = t.leads (ls ++ h.lines) in (g.0, ap (λ (x : Result Happened Refusal). go_on m ls x (λ more v. run_from m more v (f h.world).events)) s ∙ g.1);
+        leads = λ ls. let g = t.leads (ls ++ h.lines) in
+            (g.0, ap (λ (x : Result Happened Refusal). go_on m ls x (λ more v. run_from m more v (f h.world).events)) s ∙ g.1);
       }
 
-  line_well : (w : WorldState) (k : ℕ) (line : List ℕ) (f : WorldState → Schedule) → ((v : WorldState) → (f v).bad ≡ None → RunsWell m v (f v))
+  line_well : (w : WorldState) (k : ℕ) (line : List ℕ) (f : WorldState → Schedule)
+      → ((v : WorldState) → (f v).bad ≡ None → RunsWell m v (f v))
       → (r : Result Event Rule) → event_of c k line ≡ r → (scheduled m w k r f).bad ≡ None → RunsWell m w (scheduled m w k r f)
   line_well w k line f rest (Err rule) is good = absurd cc
   line_well w k line f rest (Ok e) is good = step_well w k line e f is rest (step m w e) refl good
 
-  pub schedule_well : (w : WorldState) (k : ℕ) (lines : List (List ℕ)) → (schedule_from m c w k lines).bad ≡ None → RunsWell m w (schedule_from m c w k lines)
+  pub schedule_well : (w : WorldState) (k : ℕ) (lines : List (List ℕ)) → (schedule_from m c w k lines).bad ≡ None
+      → RunsWell m w (schedule_from m c w k lines)
   schedule_well w k [] good = record { fit = tt; leads = λ ls. (record { world = w; lines = ls }, refl) }
-  schedule_well w k (line ∷ lines) good = line_well w k line (λ v. schedule_from m c v (k + 1) lines) (λ v g. schedule_well v (k + 1) lines g) (event_of c k line) refl good
+  schedule_well w k (line ∷ lines) good =
+      line_well w k line (λ v. schedule_from m c v (k + 1) lines) (λ v g. schedule_well v (k + 1) lines g) (event_of c k line) refl good
 
 module _ {S : Type 0} (m : Meaning S) (short : ResultsShort m) (bytes : List ℕ) where
-  with_header : (line : List ℕ) (lines : List (List ℕ)) → lines_of true 0 bytes ≡ line ∷ lines → (r : Result Configuration Rule) → header_of line ≡ r → (begun m true lines r).bad ≡ None → RunsSafely m bytes
+  with_header : (line : List ℕ) (lines : List (List ℕ)) → lines_of true 0 bytes ≡ line ∷ lines → (r : Result Configuration Rule)
+      → header_of line ≡ r → (begun m true lines r).bad ≡ None → RunsSafely m bytes
   unfolding output
   with_header line lines cut (Err rule) is good = absurd cc
   with_header line lines cut (Ok c) is good =
@@ -79,7 +86,9 @@ module _ {S : Type 0} (m : Meaning S) (short : ResultsShort m) (bytes : List ℕ
   good_is_safe good = by_lines (lines_of true 0 bytes) refl good
 
 -- a replay that is done ran safely
-pub done_is_safe : {S : Type 0} (m : Meaning S) → ResultsShort m → (bytes left before now : Option (List ℕ)) (r : Result (Unit {0}) ReplayError) → EndsWith m bytes left before now r → OnOk r (RunsSafelyOf m bytes)
+pub done_is_safe : {S : Type 0} (m : Meaning S) → ResultsShort m
+    → (bytes left before now : Option (List ℕ)) (r : Result (Unit {0}) ReplayError) → EndsWith m bytes left before now r
+    → OnOk r (RunsSafelyOf m bytes)
 done_is_safe m short None left before now (Ok x) ends = tt
 done_is_safe m short (Some bytes) None before now (Ok x) ends = absurd ends
 done_is_safe m short (Some bytes) (Some left) before now (Ok x) ends = good_is_safe m short bytes ends.good

@@ -9,7 +9,8 @@ use Rattle.schedule_text.specs.Reading.{Turn, Next, Gives, Refuses, Ends}
 use Rattle.schedule_text.specs.Transcript.{error_line, end_line, lines_text, transcript_line}
 use Rattle.world.specs.StateLines.{replicas_text}
 use Rattle.world.specs.WorldSteps.{WorldState, Refusal, Happened, step, run_from, opening, history}
-use Rattle.replay.specs.Output.{BadLine, bad_text, history_text, final_text, ending, text_after, schedule_from, rest, begun, output_of_lines, output}
+use Rattle.replay.specs.Output.{BadLine, bad_text, history_text, final_text, ending, text_after, schedule_from, rest, begun}
+use Rattle.replay.specs.Output.{output_of_lines, output}
 use Rattle.replay.specs.Progress.{after_step, after_next, after_turn}
 use Rattle.replay.proofs.Fronts.{some_right}
 use Rattle.replay.proofs.Runs.{schedule_runs}
@@ -38,11 +39,14 @@ module _ {S : Type 0} (m : Meaning S) where
       subst (λ (r : Result Happened Refusal). text_after true s.bad r ≢ []) (sym runs.1)
       (some_right (lines_text runs.0.lines) (ending true runs.0.world s.bad) (ending_some runs.0.world s.bad))
 
-  after_step_some : (c : Configuration) (line : ℕ) (lines : List (List ℕ)) (r : Result Happened Refusal) → (after_step m true c line lines r).text ≢ []
+  after_step_some : (c : Configuration) (line : ℕ) (lines : List (List ℕ)) (r : Result Happened Refusal)
+      → (after_step m true c line lines r).text ≢ []
   after_step_some c line lines (Err refusal) = bad_text_some _
-  after_step_some c line lines (Ok h) = some_right (lines_text h.lines) (rest m true c h.world line lines).text (rest_some c h.world line lines)
+  after_step_some c line lines (Ok h) =
+      some_right (lines_text h.lines) (rest m true c h.world line lines).text (rest_some c h.world line lines)
 
-  after_next_some : (c : Configuration) (w : WorldState) (line : ℕ) (lines : List (List ℕ)) (next : Next) → (after_next m true c w line lines next).text ≢ []
+  after_next_some : (c : Configuration) (w : WorldState) (line : ℕ) (lines : List (List ℕ)) (next : Next)
+      → (after_next m true c w line lines next).text ≢ []
   after_next_some c w line lines (Gives e) = after_step_some c line lines (step m w e)
   after_next_some c w line lines (Refuses rule) = bad_text_some _
   after_next_some c w line lines Ends = final_text_some w

@@ -31,7 +31,8 @@ pub record BadLine : Type 0 where
 
 abbrev pub refused_line : ℕ → Refusal → BadLine
 refused_line line NoSuchActor = record { line = line; rule = rule_number rules.WrongActor; index_sent = None }
-refused_line line (NoSuchDatagram index sent) = record { line = line; rule = rule_number rules.NoSuchDatagram; index_sent = Some (index, sent) }
+refused_line line (NoSuchDatagram index sent) =
+    record { line = line; rule = rule_number rules.NoSuchDatagram; index_sent = Some (index, sent) }
 
 abbrev pub bad_text : BadLine → List ℕ
 bad_text b = error_line b.line b.rule b.index_sent
@@ -90,7 +91,8 @@ module _ {S : Type 0} (m : Meaning S) where
 
   -- line 1 begins the transcript
   abbrev pub begun : Bool → List (List ℕ) → Result Configuration Rule → Output
-  begun ended lines (Err rule) = let b : BadLine = record { line = 1; rule = rule_number rule; index_sent = None } in record { text = bad_text b; bad = Some b }
+  begun ended lines (Err rule) = let b : BadLine = record { line = 1; rule = rule_number rule; index_sent = None } in
+      record { text = bad_text b; bad = Some b }
   begun ended lines (Ok c) = then_text (transcript_line c) (rest ended c (opening c) 1 lines)
 
   -- without any line the first one has a wrong word, once the input has ended

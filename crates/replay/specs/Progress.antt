@@ -39,20 +39,24 @@ module _ {S : Type 0} (m : Meaning S) where
   after_answer ended more c w r (Err nexts.NoMemory) = after_turn ended c w (turn_of r ended more)
 
   -- these bytes were taken, this much was written and is gathered, and what is written then, whatever bytes follow
-  pub record Progress (bytes left : List ℕ) (before now : Option (List ℕ)) (pending : List ℕ) (r : Reading) (follows : Bool → List ℕ → Output) : Type 0 where
+  pub record Progress (bytes left : List ℕ) (before now : Option (List ℕ)) (pending : List ℕ) (r : Reading)
+      (follows : Bool → List ℕ → Output) : Type 0 where
     pub taken : List ℕ
     pub split : bytes ≡ taken ++ left
     pub end : r.ended ≡ true → left ≡ []
     pub written : List ℕ
     pub wrote : Appends before now written
-    pub goes : (ended : Bool) (more : List ℕ) → MayFollow r ended more → output m ended (taken ++ more) ≡ then_text (written ++ pending) (follows ended more)
+    pub goes : (ended : Bool) (more : List ℕ) → MayFollow r ended more
+        → output m ended (taken ++ more) ≡ then_text (written ++ pending) (follows ended more)
 
   -- between two turns
-  pub record Going (bytes left : List ℕ) (before now : Option (List ℕ)) (pending : List ℕ) (r : Reading) (c : Configuration) (w : WorldState) : Type 0 where
+  pub record Going (bytes left : List ℕ) (before now : Option (List ℕ)) (pending : List ℕ) (r : Reading) (c : Configuration)
+      (w : WorldState) : Type 0 where
     pub config : r.config ≡ Some c
     pub progress : Progress bytes left before now pending r (λ ended more. rest m ended c w r.line (lines_before r ended more))
 
-  abbrev pub GoingOf : Option (List ℕ) → Option (List ℕ) → Option (List ℕ) → Option (List ℕ) → List ℕ → Reading → Configuration → WorldState → Type 0
+  abbrev pub GoingOf : Option (List ℕ) → Option (List ℕ) → Option (List ℕ) → Option (List ℕ) → List ℕ → Reading → Configuration
+      → WorldState → Type 0
   GoingOf None left before now pending r c w = ⊤
   GoingOf (Some bytes) None before now pending r c w = ⊥
   GoingOf (Some bytes) (Some left) before now pending r c w = Going bytes left before now pending r c w

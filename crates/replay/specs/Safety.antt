@@ -10,7 +10,9 @@ use Rattle.world.specs.WorldSteps.{Happened, opening, run}
 use Rattle.safety.specs.Safe.{SafelyPassed}
 use Rattle.replay.specs.Output.{final_text, schedule_from, output}
 
--- the bytes are a header and the lines of these events. What the events lead to is safe: replicas agree as far as they are synchronised, and the accepted replies are those of the one history. The text that is written for the bytes has the lines of the events, and that history
+-- the bytes are a header and the lines of these events. What the events lead to is safe: replicas agree as far as they are synchronised,
+-- and the accepted replies are those of the one history. The text that is written for the bytes has the lines of the events, and that
+-- history
 pub record RunsSafely {S : Type 0} (m : Meaning S) (bytes : List ℕ) : Type 0 where
   pub config : Configuration
   pub header : List ℕ

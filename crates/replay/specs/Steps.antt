@@ -54,7 +54,8 @@ Stops before now pending nexts.ReadFault e = Interrupts before now pending e
 Stops before now pending nexts.NoMemory e = Fails before now pending e
 
 -- the event happened; its lines were gathered, and what was gathered is written or stays
-pub record Advances (r : Result Happened Refusal) (new : WorldState) (before now : Option (List ℕ)) (old_pending new_pending : List ℕ) : Type 0 where
+pub record Advances (r : Result Happened Refusal) (new : WorldState) (before now : Option (List ℕ))
+    (old_pending new_pending : List ℕ) : Type 0 where
   pub lines : List Line
   pub is : r ≡ Ok (record { world = new; lines = lines })
   pub written : List ℕ
@@ -66,6 +67,7 @@ RefusesStep before now pending line (Ok h) e = Fails before now (pending ++ line
 RefusesStep before now pending line (Err refusal) e = Refuses before now pending (refused_line line refusal) e
 
 -- the event of this line is taken, or ends the replay
-abbrev pub TakesEvent : Option (List ℕ) → Option (List ℕ) → List ℕ → List ℕ → ℕ → Result Happened Refusal → WorldState → Result (Unit {0}) ReplayError → Type 0
+abbrev pub TakesEvent : Option (List ℕ) → Option (List ℕ) → List ℕ → List ℕ → ℕ → Result Happened Refusal → WorldState
+    → Result (Unit {0}) ReplayError → Type 0
 TakesEvent before now old_pending new_pending line r new (Ok x) = Advances r new before now old_pending new_pending
 TakesEvent before now old_pending new_pending line r new (Err e) = RefusesStep before now old_pending line r e

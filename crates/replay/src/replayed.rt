@@ -19,10 +19,13 @@ pub fn replay_with<H: Host, S: Source, K: Sink>(
     source: &mut S,
     sink: &mut K,
 ) -> Result<(), ReplayError>
-    ensures ends { EndsWith H.meaning (S.left source.old) (S.left source.new) (K.held sink.old) (K.held sink.new) result }
+    ensures ends { EndsWith H.meaning (S.left source.old) (S.left source.new) (K.held sink.old)
+        (K.held sink.new) result }
     ensures safe { OnOk result (RunsSafelyOf H.meaning (S.left source.old)) }
-    ensures read { HasCauseFor (S.fault_count source.old) (S.fault_count source.new) ReplayError.ReadFault result }
-    ensures write { HasCauseFor (K.fault_count sink.old) (K.fault_count sink.new) ReplayError.WriteFault result }
+    ensures read { HasCauseFor (S.fault_count source.old) (S.fault_count source.new)
+        ReplayError.ReadFault result }
+    ensures write { HasCauseFor (K.fault_count sink.old) (K.fault_count sink.new)
+        ReplayError.WriteFault result }
 {
     let mut reader = Reader::new(alloc);
     let mut pending = Vec::new(alloc);
@@ -52,10 +55,13 @@ pub fn replay<S: Source, K: Sink>(
     source: &mut S,
     sink: &mut K,
 ) -> Result<(), ReplayError>
-    ensures ends { EndsWith kv_meaning (S.left source.old) (S.left source.new) (K.held sink.old) (K.held sink.new) result }
+    ensures ends { EndsWith kv_meaning (S.left source.old) (S.left source.new) (K.held sink.old)
+        (K.held sink.new) result }
     ensures safe { OnOk result (RunsSafelyOf kv_meaning (S.left source.old)) }
-    ensures read { HasCauseFor (S.fault_count source.old) (S.fault_count source.new) ReplayError.ReadFault result }
-    ensures write { HasCauseFor (K.fault_count sink.old) (K.fault_count sink.new) ReplayError.WriteFault result }
+    ensures read { HasCauseFor (S.fault_count source.old) (S.fault_count source.new)
+        ReplayError.ReadFault result }
+    ensures write { HasCauseFor (K.fault_count sink.old) (K.fault_count sink.new)
+        ReplayError.WriteFault result }
 {
     replay_with::<KvHost, S, K>(alloc, source, sink)
 }

@@ -11,7 +11,13 @@ const START: &str = "transcript 1 replicas 1 sequencers 1 clients 1\n";
 fn schedules_of_few_lines(rt: HostRuntime) -> Result<(), Fail> {
     let alloc = rt.alloc();
     for (first, body, start, lines, ended) in [
-        (HEADER, "", START, "replica r0 up normal 0 1 0 0\nend\n", Ok(())),
+        (
+            HEADER,
+            "",
+            START,
+            "replica r0 up normal 0 1 0 0\nend\n",
+            Ok(()),
+        ),
         (
             HEADER,
             "crash r0\ncrash r0\n",

@@ -20,9 +20,11 @@ fn refuse<K: Sink>(
     pending: &mut Vec<u8>,
     sink: &mut K,
 ) -> ReplayError
-    ensures refuses { Refuses (K.held sink.old) (K.held sink.new) pending.old.items (record { line = line; rule = rule; index_sent = index_sent }) result }
+    ensures refuses { Refuses (K.held sink.old) (K.held sink.new) pending.old.items
+        (record { line = line; rule = rule; index_sent = index_sent }) result }
     ensures later { K.fault_count sink.old ≤ K.fault_count sink.new }
-    ensures cause { result ≡ ReplayError.WriteFault → Rose (K.fault_count sink.old) (K.fault_count sink.new) }
+    ensures cause { result ≡ ReplayError.WriteFault
+        → Rose (K.fault_count sink.old) (K.fault_count sink.new) }
 {
     if error_line(line, rule, index_sent, pending).is_err() {
         return ReplayError::NoMemory;
@@ -37,7 +39,8 @@ fn refuse<K: Sink>(
 pub fn stop<K: Sink>(error: NextError, pending: &mut Vec<u8>, sink: &mut K) -> ReplayError
     ensures stops { Stops (K.held sink.old) (K.held sink.new) pending.old.items error result }
     ensures later { K.fault_count sink.old ≤ K.fault_count sink.new }
-    ensures cause { result ≡ ReplayError.WriteFault → Rose (K.fault_count sink.old) (K.fault_count sink.new) }
+    ensures cause { result ≡ ReplayError.WriteFault
+        → Rose (K.fault_count sink.old) (K.fault_count sink.new) }
 {
     match error {
         NextError::BadLine { line, rule } => refuse(line, rule, None, pending, sink),
@@ -57,8 +60,10 @@ pub fn take_event<H: Host, K: Sink>(
     pending: &mut Vec<u8>,
     sink: &mut K,
 ) -> Result<(), ReplayError>
-    ensures takes { TakesEvent (K.held sink.old) (K.held sink.new) pending.old.items pending.new.items line (step H.meaning world.old.state event.now) world.new.state result }
-    ensures cause { HasCauseFor (K.fault_count sink.old) (K.fault_count sink.new) ReplayError.WriteFault result }
+    ensures takes { TakesEvent (K.held sink.old) (K.held sink.new) pending.old.items
+        pending.new.items line (step H.meaning world.old.state event.now) world.new.state result }
+    ensures cause { HasCauseFor (K.fault_count sink.old) (K.fault_count sink.new)
+        ReplayError.WriteFault result }
 {
     match world.step(event) {
         Ok(lines) => {
@@ -68,7 +73,10 @@ pub fn take_event<H: Host, K: Sink>(
             }
             Ok(())
         }
-        Err(StepError::NoSuchActor) => Err(refuse(line, Rule::WrongActor.number(), None, pending, sink)),
+        Err(StepError::NoSuchActor) => {
+            let rule = Rule::WrongActor.number();
+            Err(refuse(line, rule, None, pending, sink))
+        }
         Err(StepError::NoSuchDatagram { index, sent }) => {
             let rule = Rule::NoSuchDatagram.number();
             Err(refuse(line, rule, Some((index, sent)), pending, sink))
@@ -83,8 +91,10 @@ pub fn finish<H: Host, K: Sink>(
     pending: &mut Vec<u8>,
     sink: &mut K,
 ) -> Result<(), ReplayError>
-    ensures writes { Writes (K.held sink.old) (K.held sink.new) (pending.old.items ++ final_text world.now.state) result }
-    ensures cause { HasCauseFor (K.fault_count sink.old) (K.fault_count sink.new) ReplayError.WriteFault result }
+    ensures writes { Writes (K.held sink.old) (K.held sink.new)
+        (pending.old.items ++ final_text world.now.state) result }
+    ensures cause { HasCauseFor (K.fault_count sink.old) (K.fault_count sink.new)
+        ReplayError.WriteFault result }
 {
     final_lines(world, pending)?;
     flush(sink, pending)

@@ -12,7 +12,8 @@ pub const GATHERED_BYTES: usize = 0x1_0000;
 pub fn flush<K: Sink>(sink: &mut K, pending: &mut Vec<u8>) -> Result<(), ReplayError>
     ensures writes { Writes (K.held sink.old) (K.held sink.new) pending.old.items result }
     ensures empty { OnOk result (pending.new.items ≡ []) }
-    ensures cause { HasCauseFor (K.fault_count sink.old) (K.fault_count sink.new) ReplayError.WriteFault result }
+    ensures cause { HasCauseFor (K.fault_count sink.old) (K.fault_count sink.new)
+        ReplayError.WriteFault result }
 {
     match write_all(sink, pending) {
         Ok(()) => {

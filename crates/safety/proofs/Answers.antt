@@ -10,7 +10,9 @@ use Rattle.nop_types.specs.Meaning.{Meaning}
 use Rattle.histories.proofs.Results.{exec_is_by_kept, result_is_kept, result_is_of_request}
 use Rattle.safety.specs.Answers.{ResultsShort}
 
-module _ {S : Type 0} (m : Meaning S) (is_sound : S → Type 0) (opens : is_sound m.opening) (stays : (s : S) (op : List ℕ) → is_sound s → is_sound (m.after s op)) (short : (s : S) (op : List ℕ) → is_sound s → length (m.answer s op) ≤ MAX_RESULT_BYTES) where
+module _ {S : Type 0} (m : Meaning S) (is_sound : S → Type 0) (opens : is_sound m.opening)
+    (stays : (s : S) (op : List ℕ) → is_sound s → is_sound (m.after s op))
+    (short : (s : S) (op : List ℕ) → is_sound s → length (m.answer s op) ≤ MAX_RESULT_BYTES) where
   record KeepsShort (x : Executed S) : Type 0 where
     host : is_sound x.host
     kept : (client : ℕ) (k : Answered) → x.kept client ≡ Some k → length k.result ≤ MAX_RESULT_BYTES
@@ -40,7 +42,8 @@ module _ {S : Type 0} (m : Meaning S) (is_sound : S → Type 0) (opens : is_soun
   exec_short x [] h = h
   exec_short x (e ∷ log) h = exec_short (enter_kept m x e) log (enter_short x e h)
 
-  result_short : (o : Option Answered) (id : ℕ) (result : List ℕ) → ((k : Answered) → o ≡ Some k → length k.result ≤ MAX_RESULT_BYTES) → result_kept o id ≡ Some result → length result ≤ MAX_RESULT_BYTES
+  result_short : (o : Option Answered) (id : ℕ) (result : List ℕ) → ((k : Answered) → o ≡ Some k → length k.result ≤ MAX_RESULT_BYTES)
+      → result_kept o id ≡ Some result → length result ≤ MAX_RESULT_BYTES
   result_short None id result h e = absurd cc
   result_short (Some k) id result h e = at (k.id == id) e
     where

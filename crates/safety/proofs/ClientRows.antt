@@ -1,5 +1,6 @@
 -- Each row of a client's step table is a list of moves.
-use Rattle.std.proofs.Common.{◌≡◌, ℕ, ◌<◌, ◌≤◌, Bool, true, false, Option, Some, None, refl, sym, ap, subst, ◌∙◌, List, [], ◌∷◌, ◌++◌, inl, inr, length}
+use Rattle.std.proofs.Common.{◌≡◌, ℕ, ◌<◌, ◌≤◌, Bool, true, false, Option, Some, None, refl, sym, ap, subst, ◌∙◌, List, [], ◌∷◌, ◌++◌}
+use Rattle.std.proofs.Common.{inl, inr, length}
 use Rattle.std.specs.Prelude.{◌^◌, Result, Ok, Err, not, filter, ◌==◌}
 use Rattle.std.proofs.lemmas.List.{append-nil}
 use Rattle.nop_types.specs.declared.limits.TheConstants.{MAX_OP_BYTES}
@@ -24,7 +25,8 @@ use Rattle.oum_codec.specs.declared.bad.Bad.{Bad}
 use Rattle.oum_codec.specs.Reading.{reading}
 use Rattle.oum_codec.specs.Spelling.{spelling}
 use Rattle.world.specs.declared.client.ClientState.{ClientState}
-use Rattle.world.specs.ClientSteps.{can_submit, request_of, submitted, submit_if, is_expected, kept, keep_reply, quorum_of, accepts, accept_if, reply_if, on_datagram, next}
+use Rattle.world.specs.ClientSteps.{can_submit, request_of, submitted, submit_if, is_expected, kept, keep_reply, quorum_of, accepts}
+use Rattle.world.specs.ClientSteps.{accept_if, reply_if, on_datagram, next}
 use Rattle.world.specs.Network.{Sent, sends_of, lines_from}
 use Rattle.safety.specs.Answers.{ResultsShort}
 use Rattle.safety.specs.Conf.{Conf, WasSent}
@@ -66,7 +68,8 @@ module _ {S : Type 0} (m : Meaning S) (f : ℕ) (few : f ≤ 3) (short : Results
   s = c.clients k
 
   -- where neither requests nor stamps nor replies were added
-  same_sent : (d : Conf) → d.requests ≡ c.requests → d.stamps ≡ c.stamps → d.replies ≡ c.replies → (x : Datagram) → WasSent d x → WasSent c x
+  same_sent : (d : Conf) → d.requests ≡ c.requests → d.stamps ≡ c.stamps → d.replies ≡ c.replies → (x : Datagram) → WasSent d x
+      → WasSent c x
   same_sent d a b e (datagrams.Request r) h = subst (λ (t : List Request). Has t r) a h
   same_sent d a b e (datagrams.Stamped p) h = subst (λ (t : List Stamped). Has t p) b h
   same_sent d a b e (datagrams.Reply p) h = subst (λ (t : List Reply). Has t p) e h
@@ -76,9 +79,15 @@ module _ {S : Type 0} (m : Meaning S) (f : ℕ) (few : f ≤ 3) (short : Results
   same_sent d a b e (datagrams.Pong sequencer round) h = absurd h
   same_sent d a b e (datagrams.Fragment p) h = absurd h
 
-  only_submit : (op : List ℕ) → OnlySends c (moved.submit c k op) (outs.Submitted (request_of s op) ∷ outs.Send Sequencers (spelling (datagrams.Request (request_of s op))) ∷ [])
+  only_submit : (op : List ℕ) → OnlySends c (moved.submit c k op)
+      (outs.Submitted (request_of s op) ∷ outs.Send Sequencers (spelling (datagrams.Request (request_of s op))) ∷ [])
   only_submit op (datagrams.Request q) h = elim (Has-cases q (request_of s op) c.requests h) [
-    | inl e ↦ inr (record { dest = Sequencers; has = Has-rest _ _ (outs.Send Sequencers (spelling (datagrams.Request (request_of s op))) ∷ []) (Has-first _ _ [] (ap (λ (x : Request). outs.Send Sequencers (spelling (datagrams.Request x))) e)) })
+    | inl e ↦ inr (record {
+      dest = Sequencers;
+      has = Has-rest _ _
+          (outs.Send Sequencers (spelling (datagrams.Request (request_of s op))) ∷ [])
+          (Has-first _ _ [] (ap (λ (x : Request). outs.Send Sequencers (spelling (datagrams.Request x))) e));
+    })
     | inr old ↦ inl old
   ]
   only_submit op (datagrams.Stamped p) h = inl h
@@ -107,7 +116,8 @@ module _ {S : Type 0} (m : Meaning S) (f : ℕ) (few : f ≤ 3) (short : Results
 
   -- ---- an op is submitted
 
-  submit_cases : (op : List ℕ) → k < 2 ^ 32 → length op ≤ MAX_OP_BYTES → (b : Bool) → can_submit s ≡ b → Reaches m f c k (submit_if b s (request_of s op))
+  submit_cases : (op : List ℕ) → k < 2 ^ 32 → length op ≤ MAX_OP_BYTES → (b : Bool) → can_submit s ≡ b
+      → Reaches m f c k (submit_if b s (request_of s op))
   submit_cases op number fits false e = record {
     moves = [];
     may = tt;
@@ -136,7 +146,11 @@ module _ {S : Type 0} (m : Meaning S) (f : ℕ) (few : f ≤ 3) (short : Results
         sequencers = refl;
         said = line.Submit r ∷ [];
         lines = refl;
-        tells = λ from count. record { others = line.Send count from Sequencers (spelling (datagrams.Request r)) ∷ []; are = refl; may = λ x i. subst IsOtherLine (sym (Has-one x _ i)) tt };
+        tells = λ from count. record {
+          others = line.Send count from Sequencers (spelling (datagrams.Request r)) ∷ [];
+          are = refl;
+          may = λ x i. subst IsOtherLine (sym (Has-one x _ i)) tt;
+        };
         sends = λ from x i. subst (λ (t : Sent). Carries (run m f c (moves.Submit k op ∷ [])) t.bytes) (sym (Has-one x _ i)) (record {
           datagram = datagrams.Request r;
           fits = (keeps.0.requests r (Has-first _ _ c.requests refl)).fits;
@@ -151,7 +165,8 @@ module _ {S : Type 0} (m : Meaning S) (f : ℕ) (few : f ≤ 3) (short : Results
   kept_there : (p : Reply) → Has (keep_reply s.replies p) p
   kept_there p = Has-append_right (filter (λ x. not (x.replica == p.replica)) s.replies) (p ∷ []) p (0, refl)
 
-  accept_cases : (p : Reply) → Has c.replies p → is_expected s p ≡ true → (o : Option Reply) → quorum_of s.config.replicas (kept s p).replies p.view p.slot ≡ o → Reaches m f c k (accept_if (kept s p) p.id o)
+  accept_cases : (p : Reply) → Has c.replies p → is_expected s p ≡ true → (o : Option Reply)
+      → quorum_of s.config.replicas (kept s p).replies p.view p.slot ≡ o → Reaches m f c k (accept_if (kept s p) p.id o)
   accept_cases p sent expected None e = record {
     moves = moves.Keep k p ∷ [];
     may = (record { sent = sent; expected = expected }, tt);

@@ -1,5 +1,6 @@
 -- Lists of events, from the opening on.
-use Rattle.std.proofs.Common.{◌≡◌, ℕ, zero, suc, ◌+◌, ◌*◌, ◌≤◌, true, Some, refl, ap, subst, ◌∙◌, arith, inl, inr, length, length-append, List, [], ◌∷◌}
+use Rattle.std.proofs.Common.{◌≡◌, ℕ, zero, suc, ◌+◌, ◌*◌, ◌≤◌, true, Some, refl, ap, subst, ◌∙◌, arith, inl, inr, length, length-append}
+use Rattle.std.proofs.Common.{List, [], ◌∷◌}
 use Rattle.std.specs.Prelude.{◌==◌, ◌%◌, ◌/◌, ◌&&◌, nat_lt, nat_le, Result, Ok, Err, slice_get}
 use Rattle.std.proofs.lemmas.Bool.Decides.{nat_tests}
 use Rattle.std.proofs.lemmas.Bool.{leb-true, and_parts, eqb-true}
@@ -39,9 +40,13 @@ pub record Counts (config : Configuration) : Type 0 where
 
 pub counts_from : (config : Configuration) → is_configuration config ≡ true → Counts config
 counts_from c e =
-    let a = and_parts (c.replicas % 2 == 1) (nat_le c.replicas MAX_REPLICAS && (nat_lt 0 c.sequencers && (nat_le c.sequencers MAX_SEQUENCERS && (nat_lt 0 c.clients && nat_le c.clients MAX_CLIENTS)))) e in
-    let b = and_parts (nat_le c.replicas MAX_REPLICAS) (nat_lt 0 c.sequencers && (nat_le c.sequencers MAX_SEQUENCERS && (nat_lt 0 c.clients && nat_le c.clients MAX_CLIENTS))) a.1 in
-    let d = and_parts (nat_lt 0 c.sequencers) (nat_le c.sequencers MAX_SEQUENCERS && (nat_lt 0 c.clients && nat_le c.clients MAX_CLIENTS)) b.1 in
+    let a = and_parts (c.replicas % 2 == 1)
+    (nat_le c.replicas MAX_REPLICAS &&
+    (nat_lt 0 c.sequencers && (nat_le c.sequencers MAX_SEQUENCERS && (nat_lt 0 c.clients && nat_le c.clients MAX_CLIENTS)))) e in
+    let b = and_parts (nat_le c.replicas MAX_REPLICAS)
+    (nat_lt 0 c.sequencers && (nat_le c.sequencers MAX_SEQUENCERS && (nat_lt 0 c.clients && nat_le c.clients MAX_CLIENTS))) a.1 in
+    let d = and_parts (nat_lt 0 c.sequencers) (nat_le c.sequencers MAX_SEQUENCERS && (nat_lt 0 c.clients && nat_le c.clients MAX_CLIENTS))
+    b.1 in
     let g = and_parts (nat_le c.sequencers MAX_SEQUENCERS) (nat_lt 0 c.clients && nat_le c.clients MAX_CLIENTS) d.1 in
     let h = and_parts (nat_lt 0 c.clients) (nat_le c.clients MAX_CLIENTS) g.1 in
     let odd = eqb-true (c.replicas % 2) 1 a.0 in
@@ -102,16 +107,33 @@ module _ {S : Type 0} (m : Meaning S) (f : ℕ) (few : f ≤ 3) (short : Results
   event_then x es p q c fits inv shows rest (Ok h) is e =
       let one = step_later m f few short p c inv shows x h fits is in
       let all = rest (passes p h) one.conf one.holds one.shows e in
-      record { conf = all.conf; holds = all.holds; shows = all.shows; evolves = evolves_trans f c one.conf all.conf one.evolves all.evolves }
+      record {
+        conf = all.conf;
+        holds = all.holds;
+        shows = all.shows;
+        evolves = evolves_trans f c one.conf all.conf one.evolves
+            all.evolves;
+      }
 
-  pub later_from : (es : List Event) (p q : Passed) (c : Conf) → EventsFit es → Inv m f c → Shows f p c → passed_from m p es ≡ Ok q → Later m f q c
+  pub later_from : (es : List Event) (p q : Passed) (c : Conf) → EventsFit es → Inv m f c → Shows f p c → passed_from m p es ≡ Ok q
+      → Later m f q c
   later_from [] p q c fits inv shows e =
       let same : p ≡ q = cc in
-      record { conf = c; holds = inv; shows = subst (λ (t : Passed). Shows f t c) same shows; evolves = evolves_refl f c (λ r w l h. let g = inv.logs r w l h in (g.lead, g.leads)) }
-  later_from (x ∷ es) p q c fits inv shows e = event_then x es p q c fits.0 inv shows (λ v d i s g. later_from es v q d fits.1 i s g) (step m p.world x) refl e
+      record {
+        conf = c;
+        holds = inv;
+        shows = subst
+            (λ (t : Passed). Shows f t c) same shows;
+        evolves = evolves_refl f c (λ r w l h. let g = inv.logs r w l h in (g.lead, g.leads));
+      }
+  later_from (x ∷ es) p q c fits inv shows e =
+      event_then x es p q c fits.0 inv shows (λ v d i s g. later_from es v q d fits.1 i s g) (step m p.world x) refl e
 
-pub all_later : {S : Type 0} (m : Meaning S) (short : ResultsShort m) (config : Configuration) (n : Counts config) (es : List Event) (q : Passed) → EventsFit es → passed m config es ≡ Ok q → Later m n.f q (opening config)
-all_later m short config n es q fits e = later_from m n.f n.few short es (first config) q (opening config) fits (opening_holds m n.f config n.replicas) (opening_shown config n) e
+pub all_later : {S : Type 0} (m : Meaning S) (short : ResultsShort m) (config : Configuration) (n : Counts config) (es : List Event)
+    (q : Passed) → EventsFit es → passed m config es ≡ Ok q → Later m n.f q (opening config)
+all_later m short config n es q fits e =
+    later_from m n.f n.few short es (first config) q (opening config) fits (opening_holds m n.f config n.replicas)
+    (opening_shown config n) e
 
 -- ---- a run, and what it passes
 
@@ -123,13 +145,22 @@ pub record Passes {S : Type 0} (m : Meaning S) (p : Passed) (es : List Event) (h
   pub lines : passed.lines ≡ h.lines
 
 module _ {S : Type 0} (m : Meaning S) where
-  passes_then : (x : Event) (es : List Event) (p : Passed) (h : Happened) → ((v : Passed) → run_from m v.lines v.world es ≡ Ok h → Passes m v es h)
-      → (r : Result Happened Refusal) → step m p.world x ≡ r → go_on m p.lines r (λ more v. run_from m more v es) ≡ Ok h → Passes m p (x ∷ es) h
+  passes_then : (x : Event) (es : List Event) (p : Passed) (h : Happened)
+      → ((v : Passed) → run_from m v.lines v.world es ≡ Ok h → Passes m v es h)
+      → (r : Result Happened Refusal) → step m p.world x ≡ r
+      → go_on m p.lines r (λ more v. run_from m more v es) ≡ Ok h → Passes m p (x ∷ es) h
   passes_then x es p h rest (Err refusal) is e = absurd cc
   passes_then x es p h rest (Ok g) is e =
       let t = rest (passes p g) e in
-      record { passed = t.passed; is = ap (λ (r : Result Happened Refusal). pass_on r (λ k. passed_from m (passes p k) es)) is ∙ t.is; world = t.world; lines = t.lines }
+      record {
+        passed = t.passed;
+        is = ap
+            (λ (r : Result Happened Refusal). pass_on r (λ k. passed_from m (passes p k) es)) is ∙ t.is;
+        world = t.world;
+        lines = t.lines;
+      }
 
   pub run_passes : (es : List Event) (p : Passed) (h : Happened) → run_from m p.lines p.world es ≡ Ok h → Passes m p es h
-  run_passes [] p h e = let same : record { world = p.world; lines = p.lines } ≡ h = cc in record { passed = p; is = refl; world = ap (λ (t : Happened). t.world) same; lines = ap (λ (t : Happened). t.lines) same }
+  run_passes [] p h e = let same : record { world = p.world; lines = p.lines } ≡ h = cc in
+      record { passed = p; is = refl; world = ap (λ (t : Happened). t.world) same; lines = ap (λ (t : Happened). t.lines) same }
   run_passes (x ∷ es) p h e = passes_then x es p h (λ v g. run_passes es v h g) (step m p.world x) refl e

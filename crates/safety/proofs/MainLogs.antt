@@ -1,5 +1,6 @@
 -- The log from which the history is read is that of the leader of the greatest last normal view.
-use Rattle.std.proofs.Common.{◌≡◌, ℕ, zero, suc, ◌+◌, ◌*◌, ◌<◌, Bool, true, false, Some, refl, sym, ap, subst, ◌∙◌, arith, inl, inr, length, List, [], ◌∷◌, map}
+use Rattle.std.proofs.Common.{◌≡◌, ℕ, zero, suc, ◌+◌, ◌*◌, ◌<◌, Bool, true, false, Some, refl, sym, ap, subst, ◌∙◌, arith, inl, inr}
+use Rattle.std.proofs.Common.{length, List, [], ◌∷◌, map}
 use Rattle.std.specs.Prelude.{◌⊎◌, slice_get, if◌then◌else◌}
 use Rattle.std.proofs.lemmas.Option.{slice_get_within}
 use Rattle.nop_types.specs.declared.view.View.{View}
@@ -27,20 +28,26 @@ pub record Greatest (v : View) (ws : List View) (g : View) : Type 0 where
   pub first : RanksAtMost v g
   pub rest : (w : View) → Has ws w → RanksAtMost w g
 
-greatest_by : (v w : View) (ws : List View) → ((u : View) → Greatest u ws (greatest_view u ws)) → (b : Bool) → outranks w v ≡ b → Greatest v (w ∷ ws) (greatest_view (if b then w else v) ws)
+greatest_by : (v w : View) (ws : List View) → ((u : View) → Greatest u ws (greatest_view u ws)) → (b : Bool) → outranks w v ≡ b
+    → Greatest v (w ∷ ws) (greatest_view (if b then w else v) ws)
 greatest_by v w ws others true e =
     let g = others w in
     record {
       is = elim g.is [ inl s ↦ inr (Has-first _ w ws s) | inr i ↦ inr (Has-rest _ w ws i) ];
       first = RanksAtMost-trans v w (greatest_view w ws) (outranks-true w v e) g.first;
-      rest = λ u i. elim (Has-cases u w ws i) [ inl s ↦ subst (λ (x : View). RanksAtMost x (greatest_view w ws)) (sym s) g.first | inr j ↦ g.rest u j ];
+      rest = λ u i. elim (Has-cases u w ws i)
+          [ inl s ↦ subst (λ (x : View). RanksAtMost x (greatest_view w ws)) (sym s) g.first | inr j ↦ g.rest u j ];
     }
 greatest_by v w ws others false e =
     let g = others v in
     record {
       is = elim g.is [ inl s ↦ inl s | inr i ↦ inr (Has-rest _ w ws i) ];
       first = g.first;
-      rest = λ u i. elim (Has-cases u w ws i) [ inl s ↦ subst (λ (x : View). RanksAtMost x (greatest_view v ws)) (sym s) (RanksAtMost-trans w v (greatest_view v ws) (outranks-false w v e) g.first) | inr j ↦ g.rest u j ];
+      rest = λ u i. elim (Has-cases u w ws i) [
+        | inl s ↦ subst (λ (x : View). RanksAtMost x (greatest_view v ws)) (sym s)
+            (RanksAtMost-trans w v (greatest_view v ws) (outranks-false w v e) g.first)
+        | inr j ↦ g.rest u j
+      ];
     }
 
 greatest_is : (v : View) (ws : List View) → Greatest v ws (greatest_view v ws)
@@ -58,12 +65,14 @@ pub record GreatestOf (ps : List (Seated ReplicaState)) (g : View) : Type 0 wher
 abbrev view_of : Seated ReplicaState → View
 view_of p = p.state.last_normal
 
-get_of_map : (ps : List (Seated ReplicaState)) (i : ℕ) (w : View) → slice_get (map view_of ps) i ≡ Some w → (p : Seated ReplicaState) × (slice_get ps i ≡ Some p) × (view_of p ≡ w)
+get_of_map : (ps : List (Seated ReplicaState)) (i : ℕ) (w : View) → slice_get (map view_of ps) i ≡ Some w → (p : Seated ReplicaState)
+    × (slice_get ps i ≡ Some p) × (view_of p ≡ w)
 get_of_map [] i w e = absurd cc
 get_of_map (p ∷ ps) zero w e = (p, refl, cc)
 get_of_map (p ∷ ps) (suc i) w e = get_of_map ps i w e
 
-get_in_map : (ps : List (Seated ReplicaState)) (i : ℕ) (p : Seated ReplicaState) → slice_get ps i ≡ Some p → slice_get (map view_of ps) i ≡ Some (view_of p)
+get_in_map : (ps : List (Seated ReplicaState)) (i : ℕ) (p : Seated ReplicaState) → slice_get ps i ≡ Some p
+    → slice_get (map view_of ps) i ≡ Some (view_of p)
 get_in_map [] i p e = absurd cc
 get_in_map (q ∷ ps) zero p e = let s : q ≡ p = cc in ap (λ (x : Seated ReplicaState). Some (view_of x)) s
 get_in_map (q ∷ ps) (suc i) p e = get_in_map ps i p e
@@ -74,11 +83,14 @@ greatest_of_is (p ∷ ps) l =
     let g = greatest_is (view_of p) (map view_of ps) in
     elim g.is [
       | inl s ↦ record { place = 0; seat = p; there = refl; is = sym s; most = most g }
-      | inr i ↦ (let q = get_of_map ps i.0 (greatest_view (view_of p) (map view_of ps)) i.1 in record { place = suc i.0; seat = q.0; there = q.1; is = q.2; most = most g })
+      | inr i ↦ (let q = get_of_map ps i.0 (greatest_view (view_of p) (map view_of ps)) i.1 in
+          record { place = suc i.0; seat = q.0; there = q.1; is = q.2; most = most g })
     ]
   where
-    most : Greatest (view_of p) (map view_of ps) (greatest_view (view_of p) (map view_of ps)) → (i : ℕ) (q : Seated ReplicaState) → slice_get (p ∷ ps) i ≡ Some q → RanksAtMost (view_of q) (greatest_view (view_of p) (map view_of ps))
-    most g zero q e = let s : p ≡ q = cc in subst (λ (x : Seated ReplicaState). RanksAtMost (view_of x) (greatest_view (view_of p) (map view_of ps))) s g.first
+    most : Greatest (view_of p) (map view_of ps) (greatest_view (view_of p) (map view_of ps)) → (i : ℕ) (q : Seated ReplicaState)
+        → slice_get (p ∷ ps) i ≡ Some q → RanksAtMost (view_of q) (greatest_view (view_of p) (map view_of ps))
+    most g zero q e = let s : p ≡ q = cc in
+        subst (λ (x : Seated ReplicaState). RanksAtMost (view_of x) (greatest_view (view_of p) (map view_of ps))) s g.first
     most g (suc i) q e = g.rest (view_of q) (i, get_in_map ps i q e)
 
 module _ {S : Type 0} (m : Meaning S) (f : ℕ) (w : WorldState) (c : Conf) (inv : Inv m f c) (shown : ShowsWorld f w c) where
@@ -105,9 +117,15 @@ module _ {S : Type 0} (m : Meaning S) (f : ℕ) (w : WorldState) (c : Conf) (inv
 
   pub is_main_log : MainLog f (last_normals m f c inv) c.past (main_view w) (main_log w)
   is_main_log = record {
-    held = (found.place, omega (arith, slice_get_within w.replicas found.place found.seat found.there, shown.replica_count), ap (λ (s : ReplicaState). s.last_normal) (shown.replicas found.place found.seat found.there) ∙ found.is);
+    held = (
+      found.place,
+      omega (arith, slice_get_within w.replicas found.place found.seat found.there, shown.replica_count),
+      ap
+          (λ (s : ReplicaState). s.last_normal) (shown.replicas found.place found.seat found.there) ∙ found.is,
+    );
     greatest = λ r l.
         let p = slice_get-some w.replicas r (omega (arith, l, shown.replica_count)) in
-        outranks-from_ranks (last_normals m f c inv r) (main_view w) (subst (λ (s : ReplicaState). RanksAtMost s.last_normal (main_view w)) (sym (shown.replicas r p.0 p.1)) (found.most r p.0 p.1));
+        outranks-from_ranks (last_normals m f c inv r) (main_view w)
+        (subst (λ (s : ReplicaState). RanksAtMost s.last_normal (main_view w)) (sym (shown.replicas r p.0 p.1)) (found.most r p.0 p.1));
     current = subst (λ (t : List Entry). HadLog c.past leader (last_normals m f c inv leader) t) (sym log_is) (inv.current leader within);
   }

@@ -34,27 +34,36 @@ note_idle f past r s had = same_past (note f past r s s) past (record {
 abbrev pub HasLogs : Past → ℕ → List (Seated ReplicaState) → Type 0
 HasLogs past k ps = (i : ℕ) (p : Seated ReplicaState) → slice_get ps i ≡ Some p → HadLog past (k + i) p.state.last_normal p.state.log
 
-rest_has : (past : Past) (k : ℕ) (p : Seated ReplicaState) (ps : List (Seated ReplicaState)) → HasLogs past k (p ∷ ps) → HasLogs past (suc k) ps
-rest_has past k p ps h i q e = let same : k + suc i ≡ suc k + i = omega arith in subst (λ (j : ℕ). HadLog past j q.state.last_normal q.state.log) same (h (suc i) q e)
+rest_has : (past : Past) (k : ℕ) (p : Seated ReplicaState) (ps : List (Seated ReplicaState)) → HasLogs past k (p ∷ ps)
+    → HasLogs past (suc k) ps
+rest_has past k p ps h i q e = let same : k + suc i ≡ suc k + i = omega arith in
+    subst (λ (j : ℕ). HadLog past j q.state.last_normal q.state.log) same (h (suc i) q e)
 
-first_has : (past : Past) (k : ℕ) (p : Seated ReplicaState) (ps : List (Seated ReplicaState)) → HasLogs past k (p ∷ ps) → HadLog past k p.state.last_normal p.state.log
-first_has past k p ps h = let same : k + 0 ≡ k = omega arith in subst (λ (j : ℕ). HadLog past j p.state.last_normal p.state.log) same (h 0 p refl)
+first_has : (past : Past) (k : ℕ) (p : Seated ReplicaState) (ps : List (Seated ReplicaState)) → HasLogs past k (p ∷ ps)
+    → HadLog past k p.state.last_normal p.state.log
+first_has past k p ps h = let same : k + 0 ≡ k = omega arith in
+    subst (λ (j : ℕ). HadLog past j p.state.last_normal p.state.log) same (h 0 p refl)
 
 pub noted_idle : (f : ℕ) (past : Past) (k : ℕ) (ps : List (Seated ReplicaState)) → HasLogs past k ps → noted f past k ps ps ≡ past
 noted_idle f past k [] h = refl
 noted_idle f past k (p ∷ ps) h =
-    ap (λ (t : Past). noted f t (suc k) ps ps) (note_idle f past k (standing p.state) (first_has past k p ps h)) ∙ noted_idle f past (suc k) ps (rest_has past k p ps h)
+    ap (λ (t : Past). noted f t (suc k) ps ps) (note_idle f past k (standing p.state) (first_has past k p ps h))
+    ∙ noted_idle f past (suc k) ps (rest_has past k p ps h)
 
 -- what was noted of a replica tells nothing new of those with greater numbers
-after_has : (f : ℕ) (past : Past) (k : ℕ) (a b : Standing) (ps : List (Seated ReplicaState)) → HasLogs past (suc k) ps → HasLogs (note f past k a b) (suc k) ps
+after_has : (f : ℕ) (past : Past) (k : ℕ) (a b : Standing) (ps : List (Seated ReplicaState)) → HasLogs past (suc k) ps
+    → HasLogs (note f past k a b) (suc k) ps
 after_has f past k a b ps h i p e = note_log_other f past k a b (suc k + i) p.state.last_normal (λ s. omega (arith, s)) ∙ h i p e
 
-pub noted_one : (f : ℕ) (past : Past) (k : ℕ) (ps : List (Seated ReplicaState)) (i : ℕ) (old new : Seated ReplicaState) → HasLogs past k ps → slice_get ps i ≡ Some old → noted f past k ps (slice_set ps i new) ≡ note f past (k + i) (standing old.state) (standing new.state)
+pub noted_one : (f : ℕ) (past : Past) (k : ℕ) (ps : List (Seated ReplicaState)) (i : ℕ) (old new : Seated ReplicaState)
+    → HasLogs past k ps → slice_get ps i ≡ Some old
+    → noted f past k ps (slice_set ps i new) ≡ note f past (k + i) (standing old.state) (standing new.state)
 noted_one f past k [] i old new h e = absurd cc
 noted_one f past k (p ∷ ps) zero old new h e =
     let same : p ≡ old = cc in
     let here : k + 0 ≡ k = omega arith in
-    noted_idle f (note f past k (standing p.state) (standing new.state)) (suc k) ps (after_has f past k (standing p.state) (standing new.state) ps (rest_has past k p ps h))
+    noted_idle f (note f past k (standing p.state) (standing new.state)) (suc k) ps
+    (after_has f past k (standing p.state) (standing new.state) ps (rest_has past k p ps h))
     ∙ ap (λ (t : Seated ReplicaState). note f past k (standing t.state) (standing new.state)) same
     ∙ ap (λ (j : ℕ). note f past j (standing old.state) (standing new.state)) (sym here)
 noted_one f past k (p ∷ ps) (suc i) old new h e =

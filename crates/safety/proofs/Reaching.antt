@@ -43,7 +43,8 @@ sent_lasts f c d ev (datagrams.Pong sequencer round) h = absurd h
 sent_lasts f c d ev (datagrams.Fragment p) h = absurd h
 
 pub carries_lasts : (f : ℕ) (c d : Conf) → Evolves f c d → (bytes : List ℕ) → Carries c bytes → Carries d bytes
-carries_lasts f c d ev bytes h = record { datagram = h.datagram; fits = h.fits; sent = sent_lasts f c d ev h.datagram h.sent; spelled = h.spelled }
+carries_lasts f c d ev bytes h =
+    record { datagram = h.datagram; fits = h.fits; sent = sent_lasts f c d ev h.datagram h.sent; spelled = h.spelled }
 
 -- the output sends a datagram that was sent
 pub record Sends (c : Conf) (x : Out) : Type 0 where
@@ -61,23 +62,29 @@ sends_last f c d ev x h = record { dest = h.dest; bytes = h.bytes; is = h.is; ca
 -- what the network gets of it
 pub sends_carry : (c : Conf) (from : Actor) (xs : List Out) → AllSend c xs → (s : Sent) → Has (sends_of from xs) s → Carries c s.bytes
 sends_carry c from [] all s i = absurd (Has-none s i)
-sends_carry c from (outs.Send dest bytes ∷ xs) all s i = elim (Has-cases s (record { from = from; dest = dest; bytes = bytes }) (sends_of from xs) i) [
-  | inl e ↦ (let h = all (outs.Send dest bytes) (Has-first _ _ xs refl) in let same : h.bytes ≡ bytes = (let g = h.is in cc) in subst (Carries c) (same ∙ ap (λ (t : Sent). t.bytes) (sym e)) h.carried)
-  | inr j ↦ sends_carry c from xs (λ x h. all x (Has-rest x (outs.Send dest bytes) xs h)) s j
-]
+sends_carry c from (outs.Send dest bytes ∷ xs) all s i =
+    elim (Has-cases s (record { from = from; dest = dest; bytes = bytes }) (sends_of from xs) i) [
+      | inl e ↦ (let h = all (outs.Send dest bytes) (Has-first _ _ xs refl) in let same : h.bytes ≡ bytes = (let g = h.is in cc) in
+          subst (Carries c) (same ∙ ap (λ (t : Sent). t.bytes) (sym e)) h.carried)
+      | inr j ↦ sends_carry c from xs (λ x h. all x (Has-rest x (outs.Send dest bytes) xs h)) s j
+    ]
 sends_carry c from (outs.Submitted r ∷ xs) all s i = sends_carry c from xs (λ x h. all x (Has-rest x (outs.Submitted r) xs h)) s i
-sends_carry c from (outs.Accepted client id result ∷ xs) all s i = sends_carry c from xs (λ x h. all x (Has-rest x (outs.Accepted client id result) xs h)) s i
+sends_carry c from (outs.Accepted client id result ∷ xs) all s i =
+    sends_carry c from xs (λ x h. all x (Has-rest x (outs.Accepted client id result) xs h)) s i
 sends_carry c from (outs.Busy client ∷ xs) all s i = sends_carry c from xs (λ x h. all x (Has-rest x (outs.Busy client) xs h)) s i
 
 -- its lines neither submit nor accept
-pub sends_tell : (c : Conf) (from : Actor) (count : ℕ) (xs : List Out) → AllSend c xs → (line : Line) → Has (lines_from from count xs) line → IsOtherLine line
+pub sends_tell : (c : Conf) (from : Actor) (count : ℕ) (xs : List Out) → AllSend c xs → (line : Line)
+    → Has (lines_from from count xs) line → IsOtherLine line
 sends_tell c from count [] all line i = absurd (Has-none line i)
-sends_tell c from count (outs.Send dest bytes ∷ xs) all line i = elim (Has-cases line (Send count from dest bytes) (lines_from from (count + 1) xs) i) [
-  | inl e ↦ subst IsOtherLine (sym e) tt
-  | inr j ↦ sends_tell c from (count + 1) xs (λ x h. all x (Has-rest x (outs.Send dest bytes) xs h)) line j
-]
+sends_tell c from count (outs.Send dest bytes ∷ xs) all line i =
+    elim (Has-cases line (Send count from dest bytes) (lines_from from (count + 1) xs) i) [
+      | inl e ↦ subst IsOtherLine (sym e) tt
+      | inr j ↦ sends_tell c from (count + 1) xs (λ x h. all x (Has-rest x (outs.Send dest bytes) xs h)) line j
+    ]
 sends_tell c from count (outs.Submitted r ∷ xs) all line i = absurd (let h = (all (outs.Submitted r) (Has-first _ _ xs refl)).is in cc)
-sends_tell c from count (outs.Accepted client id result ∷ xs) all line i = absurd (let h = (all (outs.Accepted client id result) (Has-first _ _ xs refl)).is in cc)
+sends_tell c from count (outs.Accepted client id result ∷ xs) all line i =
+    absurd (let h = (all (outs.Accepted client id result) (Has-first _ _ xs refl)).is in cc)
 sends_tell c from count (outs.Busy client ∷ xs) all line i = absurd (let h = (all (outs.Busy client) (Has-first _ _ xs refl)).is in cc)
 
 -- ---- what is new was sent by the outputs
@@ -99,19 +106,32 @@ only_more a b c xs ys one two x h = elim (two x h) [
 ]
 
 -- a datagram among the outputs goes into the network
-pub sends_there : (from : Actor) (xs : List Out) (dest : Dest) (bytes : List ℕ) → Has xs (outs.Send dest bytes) → Has (sends_of from xs) (record { from = from; dest = dest; bytes = bytes })
+pub sends_there : (from : Actor) (xs : List Out) (dest : Dest) (bytes : List ℕ) → Has xs (outs.Send dest bytes)
+    → Has (sends_of from xs) (record { from = from; dest = dest; bytes = bytes })
 sends_there from [] dest bytes h = absurd (Has-none _ h)
 sends_there from (outs.Send e text ∷ xs) dest bytes h = elim (Has-cases (outs.Send dest bytes) (outs.Send e text) xs h) [
-  | inl g ↦ (let same_dest : e ≡ dest = cc in let same_bytes : text ≡ bytes = cc in Has-first _ _ (sends_of from xs) (λ i. record { from = from; dest = sym same_dest i; bytes = sym same_bytes i }))
+  | inl g ↦ (let same_dest : e ≡ dest = cc in let same_bytes : text ≡ bytes = cc in
+      Has-first _ _ (sends_of from xs) (λ i. record { from = from; dest = sym same_dest i; bytes = sym same_bytes i }))
   | inr t ↦ Has-rest _ _ (sends_of from xs) (sends_there from xs dest bytes t)
 ]
-sends_there from (outs.Submitted r ∷ xs) dest bytes h = elim (Has-cases (outs.Send dest bytes) (outs.Submitted r) xs h) [ inl g ↦ absurd cc | inr t ↦ sends_there from xs dest bytes t ]
-sends_there from (outs.Accepted client id result ∷ xs) dest bytes h = elim (Has-cases (outs.Send dest bytes) (outs.Accepted client id result) xs h) [ inl g ↦ absurd cc | inr t ↦ sends_there from xs dest bytes t ]
-sends_there from (outs.Busy client ∷ xs) dest bytes h = elim (Has-cases (outs.Send dest bytes) (outs.Busy client) xs h) [ inl g ↦ absurd cc | inr t ↦ sends_there from xs dest bytes t ]
+sends_there from (outs.Submitted r ∷ xs) dest bytes h =
+    elim (Has-cases (outs.Send dest bytes) (outs.Submitted r) xs h) [ inl g ↦ absurd cc | inr t ↦ sends_there from xs dest bytes t ]
+sends_there from (outs.Accepted client id result ∷ xs) dest bytes h =
+    elim (Has-cases (outs.Send dest bytes) (outs.Accepted client id result) xs h)
+    [ inl g ↦ absurd cc | inr t ↦ sends_there from xs dest bytes t ]
+sends_there from (outs.Busy client ∷ xs) dest bytes h =
+    elim (Has-cases (outs.Send dest bytes) (outs.Busy client) xs h) [ inl g ↦ absurd cc | inr t ↦ sends_there from xs dest bytes t ]
 
 -- the network has all of it
-pub all_there : (from : Actor) (c d : Conf) (sent : List Sent) (xs : List Out) → OnlySends c d xs → ((x : Datagram) → WasSent c x → IsThere sent x) → (x : Datagram) → WasSent d x → IsThere (sent ++ sends_of from xs) x
+pub all_there : (from : Actor) (c d : Conf) (sent : List Sent) (xs : List Out) → OnlySends c d xs
+    → ((x : Datagram) → WasSent c x → IsThere sent x) → (x : Datagram) → WasSent d x → IsThere (sent ++ sends_of from xs) x
 all_there from c d sent xs only old x h = elim (only x h) [
-  | inl g ↦ (let t = old x g in record { datagram = t.datagram; has = Has-append_left sent (sends_of from xs) t.datagram t.has; spelled = t.spelled })
-  | inr t ↦ record { datagram = record { from = from; dest = t.dest; bytes = spelling x }; has = Has-append_right sent (sends_of from xs) _ (sends_there from xs t.dest (spelling x) t.has); spelled = refl }
+  | inl g ↦ (let t = old x g in record
+      { datagram = t.datagram; has = Has-append_left sent (sends_of from xs) t.datagram t.has; spelled = t.spelled })
+  | inr t ↦ record {
+    datagram = record { from = from; dest = t.dest; bytes = spelling x };
+    has = Has-append_right sent (sends_of from xs)
+        _ (sends_there from xs t.dest (spelling x) t.has);
+    spelled = refl;
+  }
 ]

@@ -89,11 +89,18 @@ module _ {S : Type 0} (m : Meaning S) (f : ℕ) (config : Configuration) (count 
     stamps = λ p i. absurd (Has-none p i);
     stamped_once = λ session number a b h g. absurd (Has-none _ h);
     sequencers = λ j. sequencer_good j (j == 0) refl;
-    logs = λ r w l h. let g = first_log r w l h in subst (λ (x : View). GoodLog f c r x l) (sym g.0) (subst (GoodLog f c r first_view) (sym g.1) (first_log_good r));
+    logs = λ r w l h. let g = first_log r w l h in
+        subst (λ (x : View). GoodLog f c r x l) (sym g.0) (subst (GoodLog f c r first_view) (sym g.1) (first_log_good r));
     reached = λ r w l h. let g = first_log r w l h in subst (λ (x : View). AtMost x first_view) (sym g.0) (AtMost-refl first_view);
     starts = λ w x h.
         let g = first_start w x h in
-        record { session = subst (λ (v : View). 1 ≤ v.session) (sym g.0) (omega arith); lead = []; leads = subst (λ (v : View). LeaderHad f c.past v []) (sym g.0) (had_first (leader_of first_view (2 * f + 1))); certificate = λ apart. absurd (apart g.0) };
+        record {
+          session = subst (λ (v : View). 1 ≤ v.session) (sym g.0) (omega arith);
+          lead = [];
+          leads = subst
+              (λ (v : View). LeaderHad f c.past v []) (sym g.0) (had_first (leader_of first_view (2 * f + 1)));
+          certificate = λ apart. absurd (apart g.0);
+        };
     entries = λ r v e h. absurd cc;
     chain = λ r v w d e h g. absurd cc;
     between = λ r v w e l h g. absurd cc;

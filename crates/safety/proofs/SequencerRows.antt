@@ -44,12 +44,27 @@ module _ {S : Type 0} (m : Meaning S) (f : ℕ) (few : f ≤ 3) (short : Results
   s = c.sequencers j
 
   still : Reaches m f c j (s, [])
-  still = record { moves = []; may = tt; state = refl; others = λ q a. refl; replicas = refl; past = refl; clients = refl; lines = refl; sends = λ x i. absurd (Has-none x i); only = λ x h. inl h }
+  still = record {
+    moves = [];
+    may = tt;
+    state = refl;
+    others = λ q a. refl;
+    replicas = refl;
+    past = refl;
+    clients = refl;
+    lines = refl;
+    sends = λ x i. absurd (Has-none x i);
+    only = λ x h. inl h;
+  }
 
   only_stamp : (r : Request) → OnlySends c (moves.stamp c j r) (Send Replicas (spelling (datagrams.Stamped (stamped s r))) ∷ [])
   only_stamp r (datagrams.Request q) h = inl h
   only_stamp r (datagrams.Stamped p) h = elim (Has-cases p (stamped s r) c.stamps h) [
-    | inl e ↦ inr (record { dest = Replicas; has = Has-first _ _ [] (ap (λ (x : Stamped). Send Replicas (spelling (datagrams.Stamped x))) e) })
+    | inl e ↦ inr (record {
+      dest = Replicas;
+      has = Has-first _ _ []
+          (ap (λ (x : Stamped). Send Replicas (spelling (datagrams.Stamped x))) e);
+    })
     | inr old ↦ inl old
   ]
   only_stamp r (datagrams.Reply p) h = inl h
@@ -76,7 +91,12 @@ module _ {S : Type 0} (m : Meaning S) (f : ℕ) (few : f ≤ 3) (short : Results
           dest = Replicas;
           bytes = spelling (datagrams.Stamped (stamped s r));
           is = Has-one y _ h;
-          carried = record { datagram = datagrams.Stamped (stamped s r); fits = (k.0.stamps (stamped s r) (Has-first _ _ c.stamps refl)).fits; sent = Has-first _ _ c.stamps refl; spelled = refl };
+          carried = record {
+            datagram = datagrams.Stamped (stamped s r);
+            fits = (k.0.stamps (stamped s r) (Has-first _ _ c.stamps refl)).fits;
+            sent = Has-first _ _ c.stamps refl;
+            spelled = refl;
+          };
         };
         only = only_stamp r;
       }

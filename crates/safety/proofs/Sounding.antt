@@ -1,5 +1,6 @@
 -- What is shown is sound.
-use Rattle.std.proofs.Common.{◌≡◌, ℕ, ◌+◌, ◌*◌, ◌<◌, ◌≤◌, Bool, true, false, Some, refl, sym, ap, subst, ◌∙◌, arith, inl, inr, length, List, ◌++◌, take}
+use Rattle.std.proofs.Common.{◌≡◌, ℕ, ◌+◌, ◌*◌, ◌<◌, ◌≤◌, Bool, true, false, Some, refl, sym, ap, subst, ◌∙◌, arith, inl, inr, length}
+use Rattle.std.proofs.Common.{List, ◌++◌, take}
 use Rattle.std.specs.Prelude.{◌-◌, ◌==◌, Ok, slice_get, if◌then◌else◌}
 use Rattle.std.specs.FinMap as finite
 use Rattle.std.proofs.lemmas.Option.{slice_get_within}
@@ -39,7 +40,8 @@ use Rattle.safety.specs.Invariant as kept
 use Rattle.safety.specs.Invariant.{Inv, Replied, Accepted}
 use Rattle.safety.specs.Passed.{Passed, faults}
 use Rattle.safety.specs.Runs.{opening}
-use Rattle.safety.specs.Sound.{IsSent, IsStamped, StampsAreSound, RequestsAreSubmitted, KeptWasSent, LogsAreSound, NumbersAreSound, RepliesAreSound, RepliedAt, AcceptsAreSound, Sound}
+use Rattle.safety.specs.Sound.{IsSent, IsStamped, StampsAreSound, RequestsAreSubmitted, KeptWasSent, LogsAreSound, NumbersAreSound}
+use Rattle.safety.specs.Sound.{RepliesAreSound, RepliedAt, AcceptsAreSound, Sound}
 use Rattle.safety.specs.Worlds.{ShowsWorld, Shows}
 use Rattle.safety.proofs.Concluding.{legal}
 use Rattle.safety.proofs.MainLogs.{is_main_log}
@@ -96,32 +98,45 @@ module _ {S : Type 0} (m : Meaning S) (f : ℕ) (p : Passed) (c : Conf) (inv : I
 
   logs : LogsAreSound p
   logs = record {
-    current = λ i q e. had_back i q.state.last_normal q.state.log (subst (λ (s : ReplicaState). HadLog c.past i s.last_normal s.log) (shown.replicas i q e) (inv.current i (within i q e)));
-    begins = λ i v l x h g. let t = inv.logs i v l (had i v l h) in subst (λ (y : Start). IsPrefixOf y.log l) (same_Some-at (c.past.start v) t.start x t.is_start (started v x g)) t.begins;
+    current = λ i q e. had_back i q.state.last_normal q.state.log
+        (subst (λ (s : ReplicaState). HadLog c.past i s.last_normal s.log) (shown.replicas i q e) (inv.current i (within i q e)));
+    begins = λ i v l x h g. let t = inv.logs i v l (had i v l h) in
+        subst (λ (y : Start). IsPrefixOf y.log l) (same_Some-at (c.past.start v) t.start x t.is_start (started v x g)) t.begins;
     slots = λ i v l x k e h g above at.
         let t = inv.logs i v l (had i v l h) in
         let same = same_Some-at (c.past.start v) t.start x t.is_start (started v x g) in
         slot i v l x k e (subst (λ (y : Start). length y.log < k → slot_of l k ≡ Some NoOp → ⊥) same (t.requests k) above)
-        (λ q. subst (λ (y : Start). length y.log < k → slot_of l k ≡ Some (Req q) → WasStamped c.stamps v.session (y.next + (k - length y.log - 1)) q) same (t.by_number k q) above) at;
+        (λ q. subst (λ (y : Start). length y.log < k → slot_of l k ≡ Some (Req q)
+        → WasStamped c.stamps v.session (y.next + (k - length y.log - 1)) q) same (t.by_number k q) above) at;
   }
     where
-      slot : (i : ℕ) (v : View) (l : List Entry) (x : Start) (k : ℕ) (e : Entry) → (slot_of l k ≡ Some NoOp → ⊥) → ((q : Request) → slot_of l k ≡ Some (Req q) → WasStamped c.stamps v.session (x.next + (k - length x.log - 1)) q) → slot_of l k ≡ Some e
+      slot : (i : ℕ) (v : View) (l : List Entry) (x : Start) (k : ℕ) (e : Entry) → (slot_of l k ≡ Some NoOp → ⊥)
+          → ((q : Request) → slot_of l k ≡ Some (Req q) → WasStamped c.stamps v.session (x.next + (k - length x.log - 1)) q)
+          → slot_of l k ≡ Some e
           → (q : Request) × (e ≡ Req q) × IsStamped w v.session (x.next + (k - length x.log - 1)) q
       slot i v l x k NoOp none by at = absurd (none at)
-      slot i v l x k (Req q) none by at = (q, refl, there (datagrams.Stamped (record { session = v.session; number = x.next + (k - length x.log - 1); request = q })) (by q at))
+      slot i v l x k (Req q) none by at = (
+        q,
+        refl,
+        there (datagrams.Stamped (record { session = v.session; number = x.next + (k - length x.log - 1); request = q }))
+            (by q at),
+      )
 
   numbers : NumbersAreSound p
   numbers i q x e h =
       let own = inv.own i (within i q e) in
-      let its = subst (λ (s : ReplicaState). (y : Start) → IsStart c.past s.last_normal y → s.next + length y.log ≡ y.next + length s.log) (shown.replicas i q e)
-      (λ y g. subst (λ (z : Start). (c.replicas i).next + length z.log ≡ z.next + length (c.replicas i).log) (same_Some-at (c.past.start (c.replicas i).last_normal) own.start y own.is_start g) own.counted) in
+      let its = subst (λ (s : ReplicaState). (y : Start) → IsStart c.past s.last_normal y → s.next + length y.log ≡ y.next + length s.log)
+      (shown.replicas i q e)
+      (λ y g. subst (λ (z : Start). (c.replicas i).next + length z.log ≡ z.next + length (c.replicas i).log)
+      (same_Some-at (c.past.start (c.replicas i).last_normal) own.start y own.is_start g) own.counted) in
       its x (started q.state.last_normal x h)
 
   requests : RequestsAreSubmitted p
   requests = record {
     sent = λ r h. submitted r (inv.requests r (back (datagrams.Request r) h)).submitted;
     stamped = λ s h. submitted s.request (inv.stamps s (back (datagrams.Stamped s) h)).submitted;
-    pending = λ k q r e h. submitted r ((inv.clients k).pending r (subst (λ (s : ClientState). s.pending ≡ Some r) (sym (shown.clients k q e)) h)).2;
+    pending = λ k q r e h. submitted r
+        ((inv.clients k).pending r (subst (λ (s : ClientState). s.pending ≡ Some r) (sym (shown.clients k q e)) h)).2;
     logged = λ i v l r h g. submitted r ((inv.logs i v l (had i v l h)).submitted r g);
   }
 
@@ -129,8 +144,10 @@ module _ {S : Type 0} (m : Meaning S) (f : ℕ) (p : Passed) (c : Conf) (inv : I
   kept_sent = record {
     queued = λ i q number r e h.
         there (datagrams.Stamped (record { session = q.state.receiver.session; number = number; request = r }))
-        (subst (λ (s : ReplicaState). finite.get s.receiver.queued number ≡ Some r → WasStamped c.stamps s.receiver.session number r) (shown.replicas i q e) ((inv.own i (within i q e)).queued number r) h);
-    replies = λ k q y e h. there (datagrams.Reply y) ((inv.clients k).kept y (subst (λ (s : ClientState). Has s.replies y) (sym (shown.clients k q e)) h)).sent;
+        (subst (λ (s : ReplicaState). finite.get s.receiver.queued number ≡ Some r → WasStamped c.stamps s.receiver.session number r)
+        (shown.replicas i q e) ((inv.own i (within i q e)).queued number r) h);
+    replies = λ k q y e h. there (datagrams.Reply y)
+        ((inv.clients k).kept y (subst (λ (s : ClientState). Has s.replies y) (sym (shown.clients k q e)) h)).sent;
   }
 
   replies : RepliesAreSound m p
@@ -148,31 +165,55 @@ module _ {S : Type 0} (m : Meaning S) (f : ℕ) (p : Passed) (c : Conf) (inv : I
       }
 
   replied_at : (v : View) (slot client id r : ℕ) → Replied c v slot client id r → RepliedAt w v slot client id r
-  replied_at v slot client id r h = record { reply = h.reply; sent = there (datagrams.Reply h.reply) h.sent; by = h.by; at_view = h.at_view; at_slot = h.at_slot; of_client = h.of_client; of_id = h.of_id }
+  replied_at v slot client id r h =
+      record {
+        reply = h.reply;
+        sent = there (datagrams.Reply h.reply) h.sent;
+        by = h.by;
+        at_view = h.at_view;
+        at_slot = h.at_slot;
+        of_client = h.of_client;
+        of_id = h.of_id;
+      }
 
   accepts : AcceptsAreSound p
   unfolding replied_at
   accepts k client id result e =
-      let a = inv.lines.grounds k client id result (subst (λ (t : List Line). slice_get t k ≡ Some (Accept client id result)) shows.lines e) in
+      let a = inv.lines.grounds k client id result
+      (subst (λ (t : List Line). slice_get t k ≡ Some (Accept client id result)) shows.lines e) in
       record {
         view = a.view;
         slot = a.slot;
         log = a.log;
-        leads = subst (λ (n : ℕ). LeaderHad n p.past a.view a.log) (sym half) (had_back (leader_of a.view (2 * f + 1)) a.view a.log a.leads);
+        leads = subst (λ (n : ℕ). LeaderHad n p.past a.view a.log) (sym half)
+            (had_back (leader_of a.view (2 * f + 1)) a.view a.log a.leads);
         within = a.within;
-        quorum = subst (λ (n : ℕ). Quorum n (RepliedAt w a.view a.slot client id)) (sym half) (quorum_weaker f (Replied c a.view a.slot client id) (RepliedAt w a.view a.slot client id) (λ r t. replied_at a.view a.slot client id r t) a.quorum);
+        quorum = subst (λ (n : ℕ). Quorum n (RepliedAt w a.view a.slot client id)) (sym half)
+            (quorum_weaker f (Replied c a.view a.slot client id) (RepliedAt w a.view a.slot client id)
+            (λ r t. replied_at a.view a.slot client id r t) a.quorum);
         leaders = replied_at a.view a.slot client id (leader_of a.view (2 * faults w + 1)) (leading a.view a.slot client id a.leaders);
         gives = a.gives;
         known = λ q i. subst (λ (t : List Line). IsSubmittedBefore t k q.client q.id) (sym shows.lines) (a.known q i);
       }
     where
-      leading : (v : View) (slot client id : ℕ) → Replied c v slot client id (leader_of v (2 * f + 1)) → Replied c v slot client id (leader_of v (2 * faults w + 1))
-      leading v slot client id h = record { reply = h.reply; sent = h.sent; by = h.by ∙ ap (λ (n : ℕ). leader_of v (2 * n + 1)) (sym half); at_view = h.at_view; at_slot = h.at_slot; of_client = h.of_client; of_id = h.of_id }
+      leading : (v : View) (slot client id : ℕ) → Replied c v slot client id (leader_of v (2 * f + 1))
+          → Replied c v slot client id (leader_of v (2 * faults w + 1))
+      leading v slot client id h = record {
+        reply = h.reply;
+        sent = h.sent;
+        by = h.by
+            ∙ ap (λ (n : ℕ). leader_of v (2 * n + 1)) (sym half);
+        at_view = h.at_view;
+        at_slot = h.at_slot;
+        of_client = h.of_client;
+        of_id = h.of_id;
+      }
 
   -- ---- sessions
 
   module _ (config : Configuration) (ev : Evolves f (opening config) c) where
-    session_by : (j : ℕ) (b : Bool) → (j == 0) ≡ b → (if b then 1 else 0) ≤ (c.sequencers j).session → (c.sequencers j).session ≡ (if b then 1 else 0)
+    session_by : (j : ℕ) (b : Bool) → (j == 0) ≡ b → (if b then 1 else 0) ≤ (c.sequencers j).session
+        → (c.sequencers j).session ≡ (if b then 1 else 0)
     session_by j true e low = ((inv.sequencers j).owns low).1
     session_by j false e low = elim (cases_eq (c.sequencers j).session 0) [
       | inl s ↦ s
@@ -199,12 +240,21 @@ module _ {S : Type 0} (m : Meaning S) (f : ℕ) (p : Passed) (c : Conf) (inv : I
           let here : s.session ≡ (c.sequencers j).session = same ∙ ap (λ (x : SequencerState). x.session) (sym (shown.sequencers j q e)) in
           let mine = (inv.sequencers j).owns (omega (arith, here, t.fits.session.low)) in
           let owner : t.owner ≡ j = t.owns.0 ∙ sym mine.0 in
-          let low : s.number < (c.sequencers j).next = subst (λ (i : ℕ). s.session ≡ (c.sequencers i).session → s.number < (c.sequencers i).next) owner t.passed here in
+          let low : s.number < (c.sequencers j).next =
+          subst (λ (i : ℕ). s.session ≡ (c.sequencers i).session → s.number < (c.sequencers i).next) owner t.passed here in
           subst (λ (x : SequencerState). s.number < x.next) (shown.sequencers j q e) low;
     }
 
     pub sound : Sound m p
-    sound = record { stamps = stamps; requests = requests; kept = kept_sent; logs = logs; numbers = numbers; replies = replies; accepts = accepts }
+    sound = record {
+      stamps = stamps;
+      requests = requests;
+      kept = kept_sent;
+      logs = logs;
+      numbers = numbers;
+      replies = replies;
+      accepts = accepts;
+    }
 
   -- ---- agreement and legality
 
@@ -212,7 +262,8 @@ module _ {S : Type 0} (m : Meaning S) (f : ℕ) (p : Passed) (c : Conf) (inv : I
   nothing_synchronised i q e = ap (λ (s : ReplicaState). s.sync_point) (sym (shown.replicas i q e)) ∙ (inv.own i (within i q e)).sync_point
 
   agree : (a b : ReplicaState) (slot : ℕ) → a.sync_point ≡ 0 → AgreeAt a b slot
-  agree a b slot none low other = let zero : slot ≡ 0 = omega (arith, none, low) in ap (λ (k : ℕ). slot_of a.log k) zero ∙ ap (λ (k : ℕ). slot_of b.log k) (sym zero)
+  agree a b slot none low other = let zero : slot ≡ 0 = omega (arith, none, low) in
+      ap (λ (k : ℕ). slot_of a.log k) zero ∙ ap (λ (k : ℕ). slot_of b.log k) (sym zero)
 
   pub agreed : Agreed w
   agreed = record {
@@ -221,4 +272,5 @@ module _ {S : Type 0} (m : Meaning S) (f : ℕ) (p : Passed) (c : Conf) (inv : I
   }
 
   pub legally : Legal m p.lines (history w)
-  legally = subst (λ (t : List Line). Legal m t (history w)) (sym shows.lines) (legal m f c inv (main_view w) (main_log w) (is_main_log m f w c inv shown))
+  legally = subst (λ (t : List Line). Legal m t (history w)) (sym shows.lines)
+      (legal m f c inv (main_view w) (main_log w) (is_main_log m f w c inv shown))

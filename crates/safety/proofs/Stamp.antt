@@ -62,7 +62,8 @@ module _ {S : Type 0} (m : Meaning S) (f : ℕ) (c : Conf) (inv : Inv m f c) (j 
       let t = inv.stamps (record { session = session; number = number; request = q }) old in
       let mine = good.owns tests.0 in
       let same : t.owner ≡ j = t.owns.0 ∙ sym mine.0 in
-      let low : number < s.next = subst (λ (i : ℕ). session ≡ (c.sequencers i).session → number < (c.sequencers i).next) same t.passed same_session in
+      let low : number < s.next = subst
+      (λ (i : ℕ). session ≡ (c.sequencers i).session → number < (c.sequencers i).next) same t.passed same_session in
       omega (arith, low, same_number)
 
   once : (session number : ℕ) (a b : Request) → WasStamped d.stamps session number a → WasStamped d.stamps session number b → a ≡ b
@@ -79,19 +80,23 @@ module _ {S : Type 0} (m : Meaning S) (f : ℕ) (c : Conf) (inv : Inv m f c) (j 
       ]
 
   pub stamp_keeps : Keeps m f c d
-  stamp_keeps = outside_keeps m f c inv (record { sequencers = d.sequencers; clients = c.clients; requests = c.requests; stamps = d.stamps; lines = c.lines })
+  stamp_keeps = outside_keeps m f c inv
+      (record { sequencers = d.sequencers; clients = c.clients; requests = c.requests; stamps = d.stamps; lines = c.lines })
       (record {
         requests = λ x i. i;
         stamps = λ p i. Has-rest p (stamped s r) c.stamps i;
         lines = IsPrefixOf-refl c.lines;
-        sequencers = put-all (λ i t. Onward (c.sequencers i) t) c.sequencers j (after_stamp s) (record { session = omega arith; next = λ e. omega arith }) (λ i a. onward_refl (c.sequencers i));
+        sequencers = put-all (λ i t. Onward (c.sequencers i) t) c.sequencers j (after_stamp s)
+            (record { session = omega arith; next = λ e. omega arith }) (λ i a. onward_refl (c.sequencers i));
         last_ids = λ k. omega arith;
       })
       (λ ev. record {
         requests = λ x i. inl i;
-        stamps = λ p i. elim (Has-cases p (stamped s r) c.stamps i) [ inl e ↦ inr (subst (TrueStamp d) (sym e) (true_stamp ev)) | inr old ↦ inl old ];
+        stamps = λ p i. elim (Has-cases p (stamped s r) c.stamps i)
+            [ inl e ↦ inr (subst (TrueStamp d) (sym e) (true_stamp ev)) | inr old ↦ inl old ];
         stamped_once = once;
-        sequencers = put-all GoodSequencer c.sequencers j (after_stamp s) (record { owns = good.owns; session = good.session; next = omega arith }) (λ i a. inv.sequencers i);
+        sequencers = put-all GoodSequencer c.sequencers j (after_stamp s)
+            (record { owns = good.owns; session = good.session; next = omega arith }) (λ i a. inv.sequencers i);
         lines = lines_last m f c d ev refl refl inv.lines;
         clients = λ k. client_lasts m f c d ev k (c.clients k) (inv.clients k);
       })

@@ -30,7 +30,8 @@ use Rattle.world.specs.declared.replica_state.ReplicaState.{ReplicaState}
 use Rattle.world.specs.declared.sequencer.SequencerState.{SequencerState}
 use Rattle.safety.specs.Conf.{Conf}
 use Rattle.safety.specs.Evolves.{Onward, Evolves}
-use Rattle.safety.specs.Invariant.{WasSubmitted, TrueRequest, TrueStamp, GoodLog, GoodStart, GoodEntry, TrueReply, Own, Replied, Accepted, KeptReply, GoodClient}
+use Rattle.safety.specs.Invariant.{WasSubmitted, TrueRequest, TrueStamp, GoodLog, GoodStart, GoodEntry, TrueReply, Own, Replied, Accepted}
+use Rattle.safety.specs.Invariant.{KeptReply, GoodClient}
 
 -- ---- reflexive and transitive
 
@@ -47,7 +48,8 @@ onward_trans s t u a b = record {
 }
 
 -- where the leader of each log is known
-pub evolves_refl : (f : ℕ) (c : Conf) → ((r : ℕ) (w : View) (l : List Entry) → HadLog c.past r w l → (m : List Entry) × LeaderHad f c.past w m) → Evolves f c c
+pub evolves_refl : (f : ℕ) (c : Conf)
+    → ((r : ℕ) (w : View) (l : List Entry) → HadLog c.past r w l → (m : List Entry) × LeaderHad f c.past w m) → Evolves f c c
 evolves_refl f c led = record {
   requests = λ x h. h;
   stamps = λ x h. h;
@@ -134,12 +136,22 @@ module _ {S : Type 0} (m : Meaning S) (f : ℕ) (c d : Conf) (h : Evolves f c d)
       }
 
   pub certificate_lasts : (w : View) (cs : List Change) → Certificate f c.past w cs → Certificate f d.past w cs
-  certificate_lasts w cs g = record { enough = g.enough; once = g.once; within = g.within; entries = λ x i. h.entries x.sender w (record { last_normal = x.last_normal; next = x.next; log = x.log }) (g.entries x i) }
+  certificate_lasts w cs g = record {
+    enough = g.enough;
+    once = g.once;
+    within = g.within;
+    entries = λ x i. h.entries x.sender w (record { last_normal = x.last_normal; next = x.next; log = x.log }) (g.entries x i);
+  }
 
   pub start_lasts : (w : View) (x : Start) → GoodStart f c w x → GoodStart f d w x
   start_lasts w x g =
       let n = h.leads w g.lead g.leads in
-      record { session = g.session; lead = n.0; leads = n.1; certificate = λ apart. let s = g.certificate apart in (s.0, certificate_lasts w s.0 s.1, s.2) }
+      record {
+        session = g.session;
+        lead = n.0;
+        leads = n.1;
+        certificate = λ apart. let s = g.certificate apart in (s.0, certificate_lasts w s.0 s.1, s.2);
+      }
 
   pub entry_lasts : (r : ℕ) (v : View) (e : Entered) → c.past.entry r v ≡ Some e → GoodEntry f c r v e → GoodEntry f d r v e
   entry_lasts r v e i g = record {
@@ -150,7 +162,8 @@ module _ {S : Type 0} (m : Meaning S) (f : ℕ) (c d : Conf) (h : Evolves f c d)
   }
 
   -- the leader's log as it is later
-  later_lead : (r : ℕ) (w : View) (l k : List Entry) → HadLog c.past r w l → HadLog d.past r w k → r ≡ leader_of w (2 * f + 1) → IsPrefixOf l k
+  later_lead : (r : ℕ) (w : View) (l k : List Entry) → HadLog c.past r w l → HadLog d.past r w k → r ≡ leader_of w (2 * f + 1)
+      → IsPrefixOf l k
   later_lead r w l k had has s =
       let mine : LeaderHad f c.past w l = subst (λ (i : ℕ). c.past.log i w ≡ Some l) s had in
       let n = h.leads w l mine in
@@ -190,7 +203,16 @@ module _ {S : Type 0} (m : Meaning S) (f : ℕ) (c d : Conf) (h : Evolves f c d)
   -- ---- clients
 
   replied_lasts : (w : View) (slot client id r : ℕ) → Replied c w slot client id r → Replied d w slot client id r
-  replied_lasts w slot client id r t = record { reply = t.reply; sent = h.replies t.reply t.sent; by = t.by; at_view = t.at_view; at_slot = t.at_slot; of_client = t.of_client; of_id = t.of_id }
+  replied_lasts w slot client id r t =
+      record {
+        reply = t.reply;
+        sent = h.replies t.reply t.sent;
+        by = t.by;
+        at_view = t.at_view;
+        at_slot = t.at_slot;
+        of_client = t.of_client;
+        of_id = t.of_id;
+      }
 
   take_same : (s : ℕ) (l k : List Entry) → s ≤ length l → IsPrefixOf l k → take s k ≡ take s l
   take_same s l k le p = ap (λ (t : List Entry). take s t) p.1 ∙ take-append-le s l p.0 le
@@ -205,14 +227,23 @@ module _ {S : Type 0} (m : Meaning S) (f : ℕ) (c d : Conf) (h : Evolves f c d)
         log = n.0;
         leads = n.1;
         within = omega (arith, a.within, length-prefix a.log n.0 n.2);
-        quorum = quorum_weaker f (Replied c a.view a.slot client id) (Replied d a.view a.slot client id) (λ r t. replied_lasts a.view a.slot client id r t) a.quorum;
+        quorum = quorum_weaker f (Replied c a.view a.slot client id) (Replied d a.view a.slot client id)
+            (λ r t. replied_lasts a.view a.slot client id r t) a.quorum;
         leaders = replied_lasts a.view a.slot client id (leader_of a.view (2 * f + 1)) a.leaders;
         gives = a.gives;
-        known = λ q i. submitted_stays c.lines d.lines k q.client q.id h.lines (a.known q (subst (λ (t : List Entry). Has t (Req q)) (take_same a.slot a.log n.0 a.within n.2) i));
+        known = λ q i. submitted_stays c.lines d.lines k q.client q.id h.lines
+            (a.known q (subst (λ (t : List Entry). Has t (Req q)) (take_same a.slot a.log n.0 a.within n.2) i));
       }
 
   pub kept_lasts : (s : ClientState) (p : Reply) → KeptReply f c s p → KeptReply f d s p
-  kept_lasts s p t = record { sent = h.replies p t.sent; replica = t.replica; client = t.client; request = t.request; pending = t.pending; id = t.id }
+  kept_lasts s p t = record {
+    sent = h.replies p t.sent;
+    replica = t.replica;
+    client = t.client;
+    request = t.request;
+    pending = t.pending;
+    id = t.id;
+  }
 
   pub client_lasts : (k : ℕ) (s : ClientState) → GoodClient f c k s → GoodClient f d k s
   client_lasts k s g = record {

@@ -93,10 +93,12 @@ module _ {S : Type 0} (m : Meaning S) (f : ℕ) (c : Conf) (inv : Inv m f c) (k 
     submitted_once = submitted_once_stays c.lines (Submit r) inv.lines.submitted_once is_new;
     submitted_ids = λ q i. elim (Has-append_cases c.lines (Submit r ∷ []) (Submit q) i) [
       | inl old ↦ (let low = inv.lines.submitted_ids q old in omega (arith, low, last_ids q.client))
-      | inr new ↦ subst (λ (x : Request). x.id ≤ (d.clients x.client).last_id) (sym (same_submit r q (Has-one (Submit q) (Submit r) new))) (omega (arith, new_last))
+      | inr new ↦ subst (λ (x : Request). x.id ≤ (d.clients x.client).last_id) (sym (same_submit r q (Has-one (Submit q) (Submit r) new)))
+          (omega (arith, new_last))
     ];
     accepted_once = accepted_once_stays c.lines (Submit r) inv.lines.accepted_once (λ client id result e. absurd cc);
-    accepted_ids = λ client id result i. let low = inv.lines.accepted_ids client id result (old_accept client id result i) in omega (arith, low, last_ids client);
+    accepted_ids = λ client id result i. let low = inv.lines.accepted_ids client id result (old_accept client id result i) in
+        omega (arith, low, last_ids client);
     accepted_done = λ client id result i. done client id result (old_accept client id result i);
     grounds = λ at client id result e. elim (slice_get-push_cases c.lines (Submit r) at (Accept client id result) e) [
       | inl old ↦ accepted_lasts m f c d ev at client id result (inv.lines.grounds at client id result old.1)
@@ -108,13 +110,15 @@ module _ {S : Type 0} (m : Meaning S) (f : ℕ) (c : Conf) (inv : Inv m f c) (k 
   good_client = record {
     number = (inv.clients k).number;
     replicas = (inv.clients k).replicas;
-    pending = λ q e. let same : r ≡ q = cc in subst (λ (x : Request). (x.client ≡ k) × (x.id ≡ s.last_id + 1) × WasSubmitted d x) same (mine, refl, known);
+    pending = λ q e. let same : r ≡ q = cc in
+        subst (λ (x : Request). (x.client ≡ k) × (x.id ≡ s.last_id + 1) × WasSubmitted d x) same (mine, refl, known);
     kept = λ p i. absurd (Has-none p i);
     once = λ i. omega arith;
   }
 
   pub submit_keeps : Keeps m f c d
-  submit_keeps = outside_keeps m f c inv (record { sequencers = c.sequencers; clients = d.clients; requests = d.requests; stamps = c.stamps; lines = d.lines })
+  submit_keeps = outside_keeps m f c inv
+      (record { sequencers = c.sequencers; clients = d.clients; requests = d.requests; stamps = c.stamps; lines = d.lines })
       (record {
         requests = λ x i. Has-rest x r c.requests i;
         stamps = λ p i. i;
@@ -123,10 +127,12 @@ module _ {S : Type 0} (m : Meaning S) (f : ℕ) (c : Conf) (inv : Inv m f c) (k 
         last_ids = last_ids;
       })
       (λ ev. record {
-        requests = λ x i. elim (Has-cases x r c.requests i) [ inl e ↦ inr (subst (TrueRequest d) (sym e) true_request) | inr old ↦ inl old ];
+        requests = λ x i. elim (Has-cases x r c.requests i)
+            [ inl e ↦ inr (subst (TrueRequest d) (sym e) true_request) | inr old ↦ inl old ];
         stamps = λ p i. inl i;
         stamped_once = inv.stamped_once;
         sequencers = inv.sequencers;
         lines = good_lines ev;
-        clients = put-all (GoodClient f d) c.clients k (submitted s r) good_client (λ i a. client_lasts m f c d ev i (c.clients i) (inv.clients i));
+        clients = put-all (GoodClient f d) c.clients k (submitted s r) good_client
+            (λ i a. client_lasts m f c d ev i (c.clients i) (inv.clients i));
       })

@@ -1,5 +1,6 @@
 -- The move that logs the request in front, and replies.
-use Rattle.std.proofs.Common.{◌≡◌, ℕ, suc, ◌+◌, ◌*◌, ◌<◌, ◌≤◌, Bool, true, false, Option, Some, None, refl, sym, ap, subst, ◌∙◌, arith, inl, inr, length, length-append, List, [], ◌∷◌, ◌++◌}
+use Rattle.std.proofs.Common.{◌≡◌, ℕ, suc, ◌+◌, ◌*◌, ◌<◌, ◌≤◌, Bool, true, false, Option, Some, None, refl, sym, ap, subst, ◌∙◌, arith}
+use Rattle.std.proofs.Common.{inl, inr, length, length-append, List, [], ◌∷◌, ◌++◌}
 use Rattle.std.specs.Prelude.{◌-◌, ◌&&◌, nat_lt}
 use Rattle.std.proofs.lemmas.Bool.Decides.{nat_tests}
 use Rattle.std.proofs.lemmas.Bool.{ltb-true, and_parts, eq-eqb}
@@ -55,7 +56,8 @@ push_length l x = omega (arith, length-append l (x ∷ []))
 same_request : (q x : Request) → Req x ≡ Req q → x ≡ q
 same_request q x e = cc
 
-module _ {S : Type 0} (m : Meaning S) (f : ℕ) (few : f ≤ 3) (short : ResultsShort m) (c : Conf) (r : ℕ) (inv : Inv m f c) (within : r < 2 * f + 1) (q : Request) (may : MayTake (c.replicas r) q) where
+module _ {S : Type 0} (m : Meaning S) (f : ℕ) (few : f ≤ 3) (short : ResultsShort m) (c : Conf) (r : ℕ) (inv : Inv m f c)
+    (within : r < 2 * f + 1) (q : Request) (may : MayTake (c.replicas r) q) where
   abbrev p : ReplicaState
   p = c.replicas r
 
@@ -74,7 +76,8 @@ module _ {S : Type 0} (m : Meaning S) (f : ℕ) (few : f ≤ 3) (short : Results
       let own = inv.own r within in
       let session : p.receiver.session ≡ p.last_normal.session = own.session ∙ ap (λ (v : View). v.session) (sym now) in
       let there : WasStamped c.stamps p.receiver.session p.receiver.next q = front_stamped c.stamps p.receiver q own.queued may.front in
-      subst (λ (s : ℕ). WasStamped c.stamps s p.next q) session (subst (λ (i : ℕ). WasStamped c.stamps p.receiver.session i q) (own.front room.normal) there)
+      subst (λ (s : ℕ). WasStamped c.stamps s p.next q) session
+      (subst (λ (i : ℕ). WasStamped c.stamps p.receiver.session i q) (own.front room.normal) there)
 
   fits : RequestFits q
   fits = (inv.stamps (record { session = p.last_normal.session; number = p.next; request = q }) stamped_here).fits.request
@@ -95,13 +98,16 @@ module _ {S : Type 0} (m : Meaning S) (f : ℕ) (few : f ≤ 3) (short : Results
     same_start : good.start ≡ own.start
     same_start = same_Some-at (d.past.start p.last_normal) good.start own.start good.is_start own.is_start
 
-    numbered : (k : ℕ) (x : Request) → length good.start.log < k → slot_of l k ≡ Some (Req x) → WasStamped d.stamps p.last_normal.session (good.start.next + (k - length good.start.log - 1)) x
+    numbered : (k : ℕ) (x : Request) → length good.start.log < k → slot_of l k ≡ Some (Req x)
+        → WasStamped d.stamps p.last_normal.session (good.start.next + (k - length good.start.log - 1)) x
     numbered k x a e =
         elim (slot_of-push_cases p.log (Req q) k (Req x) e) [
           | inl (at, this) ↦
-              let counted : p.next + length good.start.log ≡ good.start.next + length p.log = subst (λ y. p.next + length y.log ≡ y.next + length p.log) (sym same_start) own.counted in
+              let counted : p.next + length good.start.log ≡ good.start.next + length p.log =
+              subst (λ y. p.next + length y.log ≡ y.next + length p.log) (sym same_start) own.counted in
               let number : good.start.next + (k - length good.start.log - 1) ≡ p.next = omega (arith, counted, at, a) in
-              rw number (subst (λ y. WasStamped d.stamps p.last_normal.session p.next y) (sym (same_request q x this)) (stamped_lasts m f c d ev p.last_normal.session p.next q stamped_here))
+              rw number (subst (λ y. WasStamped d.stamps p.last_normal.session p.next y) (sym (same_request q x this))
+              (stamped_lasts m f c d ev p.last_normal.session p.next q stamped_here))
           | inr old ↦ good.by_number k x a old
         ]
 
@@ -153,7 +159,9 @@ module _ {S : Type 0} (m : Meaning S) (f : ℕ) (few : f ≤ 3) (short : Results
     -- ---- the reply
 
     reply_true : (tag : ℕ) (result : List ℕ) → tag ≤ 1 → length result ≤ MAX_RESULT_BYTES → (tag ≡ 0 → length result ≡ 0)
-        → (p.number ≡ leader_of p.view (2 * f + 1) → tag ≡ 1) → (p.number ≡ leader_of p.view (2 * f + 1) → result_at m l (length p.log + 1) ≡ Some result) → TrueReply m f d (reply_with (logged p q) (length p.log + 1) q tag result)
+        → (p.number ≡ leader_of p.view (2 * f + 1) → tag ≡ 1)
+        → (p.number ≡ leader_of p.view (2 * f + 1) → result_at m l (length p.log + 1) ≡ Some result)
+        → TrueReply m f d (reply_with (logged p q) (length p.log + 1) q tag result)
     reply_true tag result low small without tagged gives = record {
       fits = record {
         replica = omega (arith, own.number, within, few);
@@ -170,11 +178,17 @@ module _ {S : Type 0} (m : Meaning S) (f : ℕ) (few : f ≤ 3) (short : Results
       had = subst (λ (i : ℕ). HadLog d.past i p.view l) (sym own.number) (subst (λ (w : View). HadLog d.past r w l) now had);
       within = omega (arith, push_length p.log (Req q));
       tag = tagged;
-      leads = λ s. (q, (let e : suc (length p.log) ≡ length p.log + 1 = omega arith in subst (λ (i : ℕ). slot_of l i ≡ Some (Req q)) e (slot_of-last p.log (Req q))), record { same_client = refl; same_id = refl });
+      leads = λ s. (
+        q,
+        (let e : suc (length p.log) ≡ length p.log + 1 = omega arith in
+            subst (λ (i : ℕ). slot_of l i ≡ Some (Req q)) e (slot_of-last p.log (Req q))),
+        record { same_client = refl; same_id = refl },
+      );
       gives = gives;
     }
 
-    leader_true : (o : Option (List ℕ)) → result_at m l (length p.log + 1) ≡ o → (y : Reply) → Has (leader_replies (logged p q) (length p.log + 1) q o) y → TrueReply m f d y
+    leader_true : (o : Option (List ℕ)) → result_at m l (length p.log + 1) ≡ o → (y : Reply)
+        → Has (leader_replies (logged p q) (length p.log + 1) q o) y → TrueReply m f d y
     leader_true None e y i = absurd (Has-none y i)
     leader_true (Some result) e y i =
         subst (TrueReply m f d) (sym (Has-one y (reply_with (logged p q) (length p.log + 1) q 1 result) i))
@@ -187,7 +201,8 @@ module _ {S : Type 0} (m : Meaning S) (f : ℕ) (few : f ≤ 3) (short : Results
         let yes : leads (logged p q) ≡ true = eq-eqb (leader_of p.view p.config.replicas) p.number same in
         absurd cc
 
-    replies_true : (b : Bool) → leads (logged p q) ≡ b → (y : Reply) → Has (replies_if m b (logged p q) (length p.log + 1) q) y → TrueReply m f d y
+    replies_true : (b : Bool) → leads (logged p q) ≡ b → (y : Reply) → Has (replies_if m b (logged p q) (length p.log + 1) q) y
+        → TrueReply m f d y
     replies_true true e y i = leader_true (result_at m l (length p.log + 1)) refl y i
     replies_true false e y i =
         subst (TrueReply m f d) (sym (Has-one y (reply_with (logged p q) (length p.log + 1) q 0 []) i))

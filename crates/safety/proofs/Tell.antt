@@ -11,7 +11,9 @@ use Rattle.safety.proofs.Outside.{outside_keeps}
 use Rattle.safety.proofs.Stays.{onward_refl, client_lasts}
 
 pub tell_keeps : {S : Type 0} (m : Meaning S) (f : ℕ) (c : Conf) → Inv m f c → (more : List Line) → MayTell more → Keeps m f c (tell c more)
-tell_keeps m f c inv more may = outside_keeps m f c inv (record { sequencers = c.sequencers; clients = c.clients; requests = c.requests; stamps = c.stamps; lines = c.lines ++ more })
+tell_keeps m f c inv more may =
+    outside_keeps m f c inv (record
+    { sequencers = c.sequencers; clients = c.clients; requests = c.requests; stamps = c.stamps; lines = c.lines ++ more })
     (record {
       requests = λ x i. i;
       stamps = λ p i. i;

@@ -1,5 +1,6 @@
 -- Each world that events lead to is shown by actors and a past that moves lead to.
-use Rattle.std.proofs.Common.{◌≡◌, ℕ, ◌+◌, ◌*◌, ◌<◌, ◌≤◌, Bool, true, false, Some, refl, sym, ap, subst, ◌∙◌, arith, inl, inr, length, List, [], ◌∷◌, ◌++◌, append_assoc}
+use Rattle.std.proofs.Common.{◌≡◌, ℕ, ◌+◌, ◌*◌, ◌<◌, ◌≤◌, Bool, true, false, Some, refl, sym, ap, subst, ◌∙◌, arith, inl, inr, length}
+use Rattle.std.proofs.Common.{List, [], ◌∷◌, ◌++◌, append_assoc}
 use Rattle.std.specs.Prelude.{◌^◌, Ok, slice_get, slice_set}
 use Rattle.std.proofs.lemmas.List.{append-nil, length-set}
 use Rattle.std.proofs.lemmas.Option.{slice_get_within}
@@ -89,7 +90,8 @@ pub record Later {S : Type 0} (m : Meaning S) (f : ℕ) (p : Passed) (c : Conf) 
   pub shows : Shows f p conf
   pub evolves : Evolves f c conf
 
-module _ {S : Type 0} (m : Meaning S) (f : ℕ) (few : f ≤ 3) (short : ResultsShort m) (p : Passed) (c : Conf) (inv : Inv m f c) (shows : Shows f p c) where
+module _ {S : Type 0} (m : Meaning S) (f : ℕ) (few : f ≤ 3) (short : ResultsShort m) (p : Passed) (c : Conf) (inv : Inv m f c)
+    (shows : Shows f p c) where
   abbrev w : WorldState
   w = p.world
 
@@ -120,7 +122,8 @@ module _ {S : Type 0} (m : Meaning S) (f : ℕ) (few : f ≤ 3) (short : Results
             sent = λ s i. carries_lasts f d (tell d go.others) told.1 s.bytes (go.world.sent s i);
             all = λ x h. go.world.all x (untold d go.others x h);
           };
-          lines = ap (λ (t : List Line). p.lines ++ t) go.are ∙ ap (λ (t : List Line). t ++ (go.said ++ go.others)) shows.lines ∙ sym (append_assoc c.lines go.said go.others) ∙ ap (λ (t : List Line). t ++ go.others) (sym go.lines);
+          lines = ap (λ (t : List Line). p.lines ++ t) go.are ∙ ap (λ (t : List Line). t ++ (go.said ++ go.others)) shows.lines
+              ∙ sym (append_assoc c.lines go.said go.others) ∙ ap (λ (t : List Line). t ++ go.others) (sym go.lines);
           past = ap (λ (n : ℕ). noted n p.past 0 w.replicas h.world.replicas) half ∙ go.past;
         };
         evolves = evolves_trans f c d (tell d go.others) keeps.1 told.1;
@@ -140,14 +143,16 @@ module _ {S : Type 0} (m : Meaning S) (f : ℕ) (few : f ≤ 3) (short : Results
   idle_past = noted_idle f p.past 0 w.replicas has_logs ∙ shows.past
 
   -- one replica's state is as before
-  quiet_past : (i : ℕ) (old new : Seated ReplicaState) → slice_get w.replicas i ≡ Some old → old.state ≡ new.state → noted f p.past 0 w.replicas (slice_set w.replicas i new) ≡ c.past
+  quiet_past : (i : ℕ) (old new : Seated ReplicaState) → slice_get w.replicas i ≡ Some old → old.state ≡ new.state
+      → noted f p.past 0 w.replicas (slice_set w.replicas i new) ≡ c.past
   quiet_past i old new e same =
       noted_one f p.past 0 w.replicas i old new has_logs e
       ∙ ap (λ (t : ReplicaState). note f p.past (0 + i) (standing old.state) (standing t)) (sym same)
       ∙ note_idle f p.past (0 + i) (standing old.state) (has_logs i old e)
       ∙ shows.past
 
-  old_sent : (more : List Sent) (d : Conf) → Evolves f c d → ((s : Sent) → Has more s → Carries d s.bytes) → (s : Sent) → Has (w.sent ++ more) s → Carries d s.bytes
+  old_sent : (more : List Sent) (d : Conf) → Evolves f c d → ((s : Sent) → Has more s → Carries d s.bytes) → (s : Sent)
+      → Has (w.sent ++ more) s → Carries d s.bytes
   old_sent more d ev new s i = elim (Has-append_cases w.sent more s i) [
     | inl old ↦ carries_lasts f c d ev s.bytes (shown.sent s old)
     | inr fresh ↦ new s fresh
@@ -161,7 +166,9 @@ module _ {S : Type 0} (m : Meaning S) (f : ℕ) (few : f ≤ 3) (short : Results
 
   -- ---- nothing but a line
 
-  quiet_replica : (i : ℕ) (old new : Seated ReplicaState) (did : Did) → slice_get w.replicas i ≡ Some old → old.state ≡ new.state → sends_by (actors.Replica i) did ≡ [] → MayTell (lines_by (actors.Replica i) (length w.sent) did) → Later m f (passes p (at_replica w i (new, did))) c
+  quiet_replica : (i : ℕ) (old new : Seated ReplicaState) (did : Did) → slice_get w.replicas i ≡ Some old → old.state ≡ new.state
+      → sends_by (actors.Replica i) did ≡ [] → MayTell (lines_by (actors.Replica i) (length w.sent) did)
+      → Later m f (passes p (at_replica w i (new, did))) c
   quiet_replica i old new did e same none may =
       goes_later (at_replica w i (new, did)) c same_conf (record {
         world = record {
@@ -183,7 +190,9 @@ module _ {S : Type 0} (m : Meaning S) (f : ℕ) (few : f ≤ 3) (short : Results
         past = quiet_past i old new e same;
       })
 
-  quiet_sequencer : (i : ℕ) (old new : Seated SequencerState) (did : Did) → slice_get w.sequencers i ≡ Some old → old.state ≡ new.state → sends_by (actors.Sequencer i) did ≡ [] → MayTell (lines_by (actors.Sequencer i) (length w.sent) did) → Later m f (passes p (at_sequencer w i (new, did))) c
+  quiet_sequencer : (i : ℕ) (old new : Seated SequencerState) (did : Did) → slice_get w.sequencers i ≡ Some old → old.state ≡ new.state
+      → sends_by (actors.Sequencer i) did ≡ [] → MayTell (lines_by (actors.Sequencer i) (length w.sent) did)
+      → Later m f (passes p (at_sequencer w i (new, did))) c
   quiet_sequencer i old new did e same none may =
       goes_later (at_sequencer w i (new, did)) c same_conf (record {
         world = record {
@@ -191,7 +200,8 @@ module _ {S : Type 0} (m : Meaning S) (f : ℕ) (few : f ≤ 3) (short : Results
           replica_count = shown.replica_count;
           client_count = shown.client_count;
           replicas = shown.replicas;
-          sequencers = seats_shown w.sequencers c.sequencers c.sequencers i new shown.sequencers (shown.sequencers i old e ∙ same) (λ j a. refl);
+          sequencers = seats_shown w.sequencers c.sequencers c.sequencers i new shown.sequencers (shown.sequencers i old e ∙ same)
+              (λ j a. refl);
           clients = shown.clients;
           controller = shown.controller;
           sent = λ s h. none_sent s (subst (λ (t : List Sent). Has (w.sent ++ t) s) none h);
@@ -205,7 +215,9 @@ module _ {S : Type 0} (m : Meaning S) (f : ℕ) (few : f ≤ 3) (short : Results
         past = idle_past;
       })
 
-  quiet_client : (i : ℕ) (old new : Seated ClientState) (did : Did) → slice_get w.clients i ≡ Some old → old.state ≡ new.state → sends_by (actors.Client i) did ≡ [] → MayTell (lines_by (actors.Client i) (length w.sent) did) → Later m f (passes p (at_client w i (new, did))) c
+  quiet_client : (i : ℕ) (old new : Seated ClientState) (did : Did) → slice_get w.clients i ≡ Some old → old.state ≡ new.state
+      → sends_by (actors.Client i) did ≡ [] → MayTell (lines_by (actors.Client i) (length w.sent) did)
+      → Later m f (passes p (at_client w i (new, did))) c
   quiet_client i old new did e same none may =
       goes_later (at_client w i (new, did)) c same_conf (record {
         world = record {
@@ -227,7 +239,8 @@ module _ {S : Type 0} (m : Meaning S) (f : ℕ) (few : f ≤ 3) (short : Results
         past = idle_past;
       })
 
-  quiet_controller : (new : Seated ControllerState) (did : Did) → new.state ≡ w.controller.state → sends_by actors.Controller did ≡ [] → MayTell (lines_by actors.Controller (length w.sent) did) → Later m f (passes p (at_controller w (new, did))) c
+  quiet_controller : (new : Seated ControllerState) (did : Did) → new.state ≡ w.controller.state → sends_by actors.Controller did ≡ []
+      → MayTell (lines_by actors.Controller (length w.sent) did) → Later m f (passes p (at_controller w (new, did))) c
   quiet_controller new did same none may =
       goes_later (at_controller w (new, did)) c same_conf (record {
         world = record {
@@ -254,15 +267,18 @@ module _ {S : Type 0} (m : Meaning S) (f : ℕ) (few : f ≤ 3) (short : Results
   no_line : MayTell []
   no_line line i = absurd (Has-none line i)
 
-  crash_replica : (i : ℕ) (old : Seated ReplicaState) (b : Bool) → slice_get w.replicas i ≡ Some old → Later m f (passes p (at_replica w i (crashed_by old.state b))) c
+  crash_replica : (i : ℕ) (old : Seated ReplicaState) (b : Bool) → slice_get w.replicas i ≡ Some old
+      → Later m f (passes p (at_replica w i (crashed_by old.state b))) c
   crash_replica i old true e = quiet_replica i old (crashed_by old.state true).0 Nothing e refl refl (dead_line (actors.Replica i))
   crash_replica i old false e = quiet_replica i old (crashed_by old.state false).0 (Outputs []) e refl refl no_line
 
-  crash_sequencer : (i : ℕ) (old : Seated SequencerState) (b : Bool) → slice_get w.sequencers i ≡ Some old → Later m f (passes p (at_sequencer w i (crashed_by old.state b))) c
+  crash_sequencer : (i : ℕ) (old : Seated SequencerState) (b : Bool) → slice_get w.sequencers i ≡ Some old
+      → Later m f (passes p (at_sequencer w i (crashed_by old.state b))) c
   crash_sequencer i old true e = quiet_sequencer i old (crashed_by old.state true).0 Nothing e refl refl (dead_line (actors.Sequencer i))
   crash_sequencer i old false e = quiet_sequencer i old (crashed_by old.state false).0 (Outputs []) e refl refl no_line
 
-  crash_client : (i : ℕ) (old : Seated ClientState) (b : Bool) → slice_get w.clients i ≡ Some old → Later m f (passes p (at_client w i (crashed_by old.state b))) c
+  crash_client : (i : ℕ) (old : Seated ClientState) (b : Bool) → slice_get w.clients i ≡ Some old
+      → Later m f (passes p (at_client w i (crashed_by old.state b))) c
   crash_client i old true e = quiet_client i old (crashed_by old.state true).0 Nothing e refl refl (dead_line (actors.Client i))
   crash_client i old false e = quiet_client i old (crashed_by old.state false).0 (Outputs []) e refl refl no_line
 
@@ -272,11 +288,15 @@ module _ {S : Type 0} (m : Meaning S) (f : ℕ) (few : f ≤ 3) (short : Results
 
   -- ---- a datagram comes
 
-  to_replica : (i : ℕ) (old : Seated ReplicaState) (bytes : List ℕ) (b : Bool) → slice_get w.replicas i ≡ Some old → Carries c bytes → Later m f (passes p (at_replica w i (stepped (replica.next m) old.state (Packet bytes) b))) c
-  to_replica i old bytes true e carried = quiet_replica i old (stepped (replica.next m) old.state (Packet bytes) true).0 Nothing e refl refl (dead_line (actors.Replica i))
+  to_replica : (i : ℕ) (old : Seated ReplicaState) (bytes : List ℕ) (b : Bool) → slice_get w.replicas i ≡ Some old → Carries c bytes
+      → Later m f (passes p (at_replica w i (stepped (replica.next m) old.state (Packet bytes) b))) c
+  to_replica i old bytes true e carried =
+      quiet_replica i old (stepped (replica.next m) old.state (Packet bytes) true).0 Nothing e refl refl (dead_line (actors.Replica i))
   to_replica i old bytes false e carried =
       let l : i < 2 * f + 1 = omega (arith, slice_get_within w.replicas i old e, shown.replica_count) in
-      let go : replicas.Reaches m f c i (replica.next m old.state (Packet bytes)) = subst (λ (t : ReplicaState). replicas.Reaches m f c i (replica.next m t (Packet bytes))) (shown.replicas i old e) (replicas.packet_reaches m f few short i c bytes inv l (λ d g. read_sent c bytes d carried g)) in
+      let go : replicas.Reaches m f c i (replica.next m old.state (Packet bytes)) =
+      subst (λ (t : ReplicaState). replicas.Reaches m f c i (replica.next m t (Packet bytes))) (shown.replicas i old e)
+      (replicas.packet_reaches m f few short i c bytes inv l (λ d g. read_sent c bytes d carried g)) in
       let d = run m f c go.moves in
       let keeps = run_keeps m f few short c go.moves inv go.may in
       let outs = (replica.next m old.state (Packet bytes)).1 in
@@ -306,10 +326,14 @@ module _ {S : Type 0} (m : Meaning S) (f : ℕ) (few : f ≤ 3) (short : Results
             ∙ sym go.past;
       })
 
-  to_sequencer : (i : ℕ) (old : Seated SequencerState) (bytes : List ℕ) (b : Bool) → slice_get w.sequencers i ≡ Some old → Carries c bytes → Later m f (passes p (at_sequencer w i (stepped sequencer.next old.state (Packet bytes) b))) c
-  to_sequencer i old bytes true e carried = quiet_sequencer i old (stepped sequencer.next old.state (Packet bytes) true).0 Nothing e refl refl (dead_line (actors.Sequencer i))
+  to_sequencer : (i : ℕ) (old : Seated SequencerState) (bytes : List ℕ) (b : Bool) → slice_get w.sequencers i ≡ Some old → Carries c bytes
+      → Later m f (passes p (at_sequencer w i (stepped sequencer.next old.state (Packet bytes) b))) c
+  to_sequencer i old bytes true e carried =
+      quiet_sequencer i old (stepped sequencer.next old.state (Packet bytes) true).0 Nothing e refl refl (dead_line (actors.Sequencer i))
   to_sequencer i old bytes false e carried =
-      let go : sequencers.Reaches m f c i (sequencer.next old.state (Packet bytes)) = subst (λ (t : SequencerState). sequencers.Reaches m f c i (sequencer.next t (Packet bytes))) (shown.sequencers i old e) (sequencers.packet_reaches m f few short i c inv bytes (λ d g. read_sent c bytes d carried g)) in
+      let go : sequencers.Reaches m f c i (sequencer.next old.state (Packet bytes)) =
+      subst (λ (t : SequencerState). sequencers.Reaches m f c i (sequencer.next t (Packet bytes))) (shown.sequencers i old e)
+      (sequencers.packet_reaches m f few short i c inv bytes (λ d g. read_sent c bytes d carried g)) in
       let d = run m f c go.moves in
       let keeps = run_keeps m f few short c go.moves inv go.may in
       let outs = (sequencer.next old.state (Packet bytes)).1 in
@@ -335,7 +359,8 @@ module _ {S : Type 0} (m : Meaning S) (f : ℕ) (few : f ≤ 3) (short : Results
       })
 
   -- a client that takes a step
-  client_later : (i : ℕ) (old : Seated ClientState) (x : ClientState × List Out) → clients.Reaches m f c i x → Later m f (passes p (at_client w i (record { state = x.0; crashed = false }, Outputs x.1))) c
+  client_later : (i : ℕ) (old : Seated ClientState) (x : ClientState × List Out) → clients.Reaches m f c i x
+      → Later m f (passes p (at_client w i (record { state = x.0; crashed = false }, Outputs x.1))) c
   client_later i old x go =
       let d = run m f c go.moves in
       let keeps = run_keeps m f few short c go.moves inv go.may in
@@ -361,21 +386,32 @@ module _ {S : Type 0} (m : Meaning S) (f : ℕ) (few : f ≤ 3) (short : Results
         past = idle_past ∙ sym go.past;
       })
 
-  to_client : (i : ℕ) (old : Seated ClientState) (bytes : List ℕ) (b : Bool) → slice_get w.clients i ≡ Some old → Carries c bytes → Later m f (passes p (at_client w i (stepped client.next old.state (Packet bytes) b))) c
-  to_client i old bytes true e carried = quiet_client i old (stepped client.next old.state (Packet bytes) true).0 Nothing e refl refl (dead_line (actors.Client i))
+  to_client : (i : ℕ) (old : Seated ClientState) (bytes : List ℕ) (b : Bool) → slice_get w.clients i ≡ Some old → Carries c bytes
+      → Later m f (passes p (at_client w i (stepped client.next old.state (Packet bytes) b))) c
+  to_client i old bytes true e carried =
+      quiet_client i old (stepped client.next old.state (Packet bytes) true).0 Nothing e refl refl (dead_line (actors.Client i))
   to_client i old bytes false e carried =
-      client_later i old (client.next old.state (Packet bytes)) (subst (λ (t : ClientState). clients.Reaches m f c i (client.next t (Packet bytes))) (shown.clients i old e) (clients.packet_reaches m f few short i c inv bytes (λ d g. read_sent c bytes d carried g)))
+      client_later i old (client.next old.state (Packet bytes))
+      (subst (λ (t : ClientState). clients.Reaches m f c i (client.next t (Packet bytes))) (shown.clients i old e)
+      (clients.packet_reaches m f few short i c inv bytes (λ d g. read_sent c bytes d carried g)))
 
-  submit_client : (i : ℕ) (old : Seated ClientState) (op : List ℕ) (b : Bool) → slice_get w.clients i ≡ Some old → length op ≤ MAX_OP_BYTES → Later m f (passes p (at_client w i (stepped client.next old.state (Submit op) b))) c
-  submit_client i old op true e fits = quiet_client i old (stepped client.next old.state (Submit op) true).0 Nothing e refl refl (dead_line (actors.Client i))
+  submit_client : (i : ℕ) (old : Seated ClientState) (op : List ℕ) (b : Bool) → slice_get w.clients i ≡ Some old
+      → length op ≤ MAX_OP_BYTES → Later m f (passes p (at_client w i (stepped client.next old.state (Submit op) b))) c
+  submit_client i old op true e fits =
+      quiet_client i old (stepped client.next old.state (Submit op) true).0 Nothing e refl refl (dead_line (actors.Client i))
   submit_client i old op false e fits =
       let number : i < 2 ^ 32 = omega (arith, slice_get_within w.clients i old e, shown.client_count) in
-      client_later i old (client.next old.state (Submit op)) (subst (λ (t : ClientState). clients.Reaches m f c i (client.next t (Submit op))) (shown.clients i old e) (clients.submit_reaches m f few short i c inv op number fits))
+      client_later i old (client.next old.state (Submit op))
+      (subst (λ (t : ClientState). clients.Reaches m f c i (client.next t (Submit op))) (shown.clients i old e)
+      (clients.submit_reaches m f few short i c inv op number fits))
 
-  to_controller : (bytes : List ℕ) (b : Bool) → Later m f (passes p (at_controller w (stepped controller.next w.controller.state (Packet bytes) b))) c
+  to_controller : (bytes : List ℕ) (b : Bool)
+      → Later m f (passes p (at_controller w (stepped controller.next w.controller.state (Packet bytes) b))) c
   unfolding controller.next
-  to_controller bytes true = quiet_controller (stepped controller.next w.controller.state (Packet bytes) true).0 Nothing refl refl (dead_line actors.Controller)
-  to_controller bytes false = quiet_controller (stepped controller.next w.controller.state (Packet bytes) false).0 (Outputs []) refl refl no_line
+  to_controller bytes true = quiet_controller (stepped controller.next w.controller.state (Packet bytes) true).0 Nothing refl refl
+      (dead_line actors.Controller)
+  to_controller bytes false = quiet_controller (stepped controller.next w.controller.state (Packet bytes) false).0 (Outputs []) refl refl
+      no_line
 
   -- ---- events
 
@@ -385,17 +421,22 @@ module _ {S : Type 0} (m : Meaning S) (f : ℕ) (few : f ≤ 3) (short : Results
   deliver_later : (index : ℕ) (actor : Actor) (h : Happened) → deliver m w index actor ≡ Ok h → Later m f (passes p h) c
   deliver_later index (actors.Replica i) h e =
       let t = delivery_took (at_replica w i) (replica.next m) w.sent index (slice_get w.replicas i) h e in
-      moved (at_replica w i (seat_step (replica.next m) t.took.seat (Packet t.datagram.bytes))) h t.took.gives (to_replica i t.took.seat t.datagram.bytes t.took.seat.crashed t.took.there (shown.sent t.datagram (index, t.was_sent)))
+      moved (at_replica w i (seat_step (replica.next m) t.took.seat (Packet t.datagram.bytes))) h t.took.gives
+      (to_replica i t.took.seat t.datagram.bytes t.took.seat.crashed t.took.there (shown.sent t.datagram (index, t.was_sent)))
   deliver_later index (actors.Sequencer i) h e =
       let t = delivery_took (at_sequencer w i) sequencer.next w.sent index (slice_get w.sequencers i) h e in
-      moved (at_sequencer w i (seat_step sequencer.next t.took.seat (Packet t.datagram.bytes))) h t.took.gives (to_sequencer i t.took.seat t.datagram.bytes t.took.seat.crashed t.took.there (shown.sent t.datagram (index, t.was_sent)))
+      moved (at_sequencer w i (seat_step sequencer.next t.took.seat (Packet t.datagram.bytes))) h t.took.gives
+      (to_sequencer i t.took.seat t.datagram.bytes t.took.seat.crashed t.took.there (shown.sent t.datagram (index, t.was_sent)))
   deliver_later index (actors.Client i) h e =
       let t = delivery_took (at_client w i) client.next w.sent index (slice_get w.clients i) h e in
-      moved (at_client w i (seat_step client.next t.took.seat (Packet t.datagram.bytes))) h t.took.gives (to_client i t.took.seat t.datagram.bytes t.took.seat.crashed t.took.there (shown.sent t.datagram (index, t.was_sent)))
+      moved (at_client w i (seat_step client.next t.took.seat (Packet t.datagram.bytes))) h t.took.gives
+      (to_client i t.took.seat t.datagram.bytes t.took.seat.crashed t.took.there (shown.sent t.datagram (index, t.was_sent)))
   deliver_later index actors.Controller h e =
       let t = delivery_took (at_controller w) controller.next w.sent index (Some w.controller) h e in
       let same : t.took.seat ≡ w.controller = (let g : Some w.controller ≡ Some t.took.seat = t.took.there in cc) in
-      moved (at_controller w (seat_step controller.next w.controller (Packet t.datagram.bytes))) h (ap (λ (q : Seated ControllerState). at_controller w (seat_step controller.next q (Packet t.datagram.bytes))) (sym same) ∙ t.took.gives) (to_controller t.datagram.bytes w.controller.crashed)
+      moved (at_controller w (seat_step controller.next w.controller (Packet t.datagram.bytes))) h
+      (ap (λ (q : Seated ControllerState). at_controller w (seat_step controller.next q (Packet t.datagram.bytes))) (sym same)
+      ∙ t.took.gives) (to_controller t.datagram.bytes w.controller.crashed)
 
   crash_later : (actor : Actor) (h : Happened) → crash w actor ≡ Ok h → Later m f (passes p h) c
   crash_later (actors.Replica i) h e =
@@ -410,7 +451,8 @@ module _ {S : Type 0} (m : Meaning S) (f : ℕ) (few : f ≤ 3) (short : Results
   crash_later actors.Controller h e =
       let t = crash_took (at_controller w) (Some w.controller) h e in
       let same : t.seat ≡ w.controller = (let g : Some w.controller ≡ Some t.seat = t.there in cc) in
-      moved (at_controller w (crash_step w.controller)) h (ap (λ (q : Seated ControllerState). at_controller w (crash_step q)) (sym same) ∙ t.gives) (crash_controller w.controller.crashed)
+      moved (at_controller w (crash_step w.controller)) h
+      (ap (λ (q : Seated ControllerState). at_controller w (crash_step q)) (sym same) ∙ t.gives) (crash_controller w.controller.crashed)
 
   pub step_later : (e : Event) (h : Happened) → EventFits e → step m w e ≡ Ok h → Later m f (passes p h) c
   unfolding step

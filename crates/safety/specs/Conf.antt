@@ -34,7 +34,12 @@ pub record Effect : Type 0 where
   pub replies : List Reply
 
 abbrev pub after : ℕ → Conf → ℕ → Effect → Conf
-after f c r e = record c { replicas = put c.replicas r e.state; replies = e.replies ++ c.replies; past = note f c.past r (standing (c.replicas r)) (standing e.state) }
+after f c r e = record c {
+  replicas = put c.replicas r e.state;
+  replies = e.replies
+      ++ c.replies;
+  past = note f c.past r (standing (c.replicas r)) (standing e.state);
+}
 
 -- the datagram was sent
 abbrev pub WasSent : Conf → Datagram → Type 0

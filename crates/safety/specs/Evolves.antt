@@ -18,7 +18,8 @@ pub record Onward (s t : SequencerState) : Type 0 where
   pub session : s.session ≤ t.session
   pub next : s.session ≡ t.session → s.next ≤ t.next
 
--- what was sent stays, and so do starts and entries; a leader's log grows, each other goes toward it, and one that was left stays; nothing that counts falls
+-- what was sent stays, and so do starts and entries; a leader's log grows, each other goes toward it, and one that was left stays;
+-- nothing that counts falls
 pub record Evolves (f : ℕ) (c d : Conf) : Type 0 where
   pub requests : (r : Request) → Has c.requests r → Has d.requests r
   pub stamps : (p : Stamped) → Has c.stamps p → Has d.stamps p
@@ -27,8 +28,10 @@ pub record Evolves (f : ℕ) (c d : Conf) : Type 0 where
   pub starts : (w : View) (x : Start) → IsStart c.past w x → IsStart d.past w x
   pub entries : (r : ℕ) (v : View) (e : Entered) → c.past.entry r v ≡ Some e → d.past.entry r v ≡ Some e
   pub leads : (w : View) (m : List Entry) → LeaderHad f c.past w m → (k : List Entry) × LeaderHad f d.past w k × IsPrefixOf m k
-  pub logs : (r : ℕ) (w : View) (l : List Entry) → HadLog c.past r w l → (k : List Entry) × HadLog d.past r w k × (m : List Entry) × LeaderHad f d.past w m × Toward m l k
-  pub frozen : (r : ℕ) (v : View) (e : Entered) → c.past.entry r v ≡ Some e → HadLog c.past r e.last_normal e.log → HadLog d.past r e.last_normal e.log
+  pub logs : (r : ℕ) (w : View) (l : List Entry) → HadLog c.past r w l → (k : List Entry) × HadLog d.past r w k × (m : List Entry)
+      × LeaderHad f d.past w m × Toward m l k
+  pub frozen : (r : ℕ) (v : View) (e : Entered) → c.past.entry r v ≡ Some e → HadLog c.past r e.last_normal e.log
+      → HadLog d.past r e.last_normal e.log
   pub views : (r : ℕ) → AtMost (c.replicas r).view (d.replicas r).view
   pub normals : (r : ℕ) → AtMost (c.replicas r).last_normal (d.replicas r).last_normal
   pub sequencers : (j : ℕ) → Onward (c.sequencers j) (d.sequencers j)

@@ -61,14 +61,16 @@ StampedOnce stamps = (session number : ℕ) (a b : Request) → WasStamped stamp
 
 -- ---- the logs of a view
 
--- each log that a replica had in a view: it begins with the view's start, and above that each slot has the request of its number, or a NO-OP that the leader has there too
+-- each log that a replica had in a view: it begins with the view's start, and above that each slot has the request of its number, or a
+-- NO-OP that the leader has there too
 pub record GoodLog (f : ℕ) (c : Conf) (r : ℕ) (w : View) (l : List Entry) : Type 0 where
   pub start : Start
   pub is_start : IsStart c.past w start
   pub lead : List Entry
   pub leads : LeaderHad f c.past w lead
   pub begins : IsPrefixOf start.log l
-  pub by_number : (k : ℕ) (q : Request) → length start.log < k → slot_of l k ≡ Some (Req q) → WasStamped c.stamps w.session (start.next + (k - length start.log - 1)) q
+  pub by_number : (k : ℕ) (q : Request) → length start.log < k → slot_of l k ≡ Some (Req q)
+      → WasStamped c.stamps w.session (start.next + (k - length start.log - 1)) q
   pub noops : (k : ℕ) → length start.log < k → slot_of l k ≡ Some NoOp → slot_of lead k ≡ Some NoOp
   -- so far nobody logs a NO-OP
   pub requests : (k : ℕ) → length start.log < k → slot_of l k ≡ Some NoOp → ⊥
@@ -129,7 +131,8 @@ pub record Replied (c : Conf) (w : View) (slot client id r : ℕ) : Type 0 where
   pub of_client : reply.client ≡ client
   pub of_id : reply.id ≡ id
 
--- why the line at a place k may accept: f + 1 replicas replied at one view and slot, the leader among them, with this result; its log had the slot, and each request up to there was submitted before
+-- why the line at a place k may accept: f + 1 replicas replied at one view and slot, the leader among them, with this result; its log had
+-- the slot, and each request up to there was submitted before
 pub record Accepted (f : ℕ) (c : Conf) (k client id : ℕ) (result : List ℕ) : Type 0 where
   pub view : View
   pub slot : ℕ
@@ -147,7 +150,8 @@ pub record GoodLines (f : ℕ) (c : Conf) : Type 0 where
   pub submitted_ids : (q : Request) → WasSubmitted c q → q.id ≤ (c.clients q.client).last_id
   pub accepted_once : AcceptedOnce c.lines
   pub accepted_ids : (client id : ℕ) (result : List ℕ) → Has c.lines (Accept client id result) → id ≤ (c.clients client).last_id
-  pub accepted_done : (client id : ℕ) (result : List ℕ) → Has c.lines (Accept client id result) → (q : Request) → (c.clients client).pending ≡ Some q → q.id ≡ id → ⊥
+  pub accepted_done : (client id : ℕ) (result : List ℕ) → Has c.lines (Accept client id result) → (q : Request)
+      → (c.clients client).pending ≡ Some q → q.id ≡ id → ⊥
   pub grounds : (k client id : ℕ) (result : List ℕ) → slice_get c.lines k ≡ Some (Accept client id result) → Accepted f c k client id result
 
 -- a reply that a client keeps was sent by a replica for the pending request
@@ -179,7 +183,8 @@ pub record Inv {S : Type 0} (m : Meaning S) (f : ℕ) (c : Conf) : Type 0 where
   pub starts : (w : View) (x : Start) → IsStart c.past w x → GoodStart f c w x
   pub entries : (r : ℕ) (v : View) (e : Entered) → c.past.entry r v ≡ Some e → GoodEntry f c r v e
   pub chain : (r : ℕ) (v w : View) (d e : Entered) → c.past.entry r v ≡ Some d → c.past.entry r w ≡ Some e → Comparable v w
-  pub between : (r : ℕ) (v w : View) (e : Entered) (l : List Entry) → c.past.entry r v ≡ Some e → HadLog c.past r w l → AtMost w e.last_normal ⊎ AtMost v w
+  pub between : (r : ℕ) (v w : View) (e : Entered) (l : List Entry) → c.past.entry r v ≡ Some e → HadLog c.past r w l
+      → AtMost w e.last_normal ⊎ AtMost v w
   pub replies : (p : Reply) → Has c.replies p → TrueReply m f c p
   pub current : (r : ℕ) → r < 2 * f + 1 → HadLog c.past r (c.replicas r).last_normal (c.replicas r).log
   pub own : (r : ℕ) → r < 2 * f + 1 → Own f c r (c.replicas r)

@@ -30,7 +30,8 @@ pub record MayQueue (c : Conf) (p : ReplicaState) (x : Stamped) : Type 0 where
   pub verdict : verdict_of p.receiver x ≡ Queued
 
 abbrev pub reply_with : ReplicaState → ℕ → Request → ℕ → List ℕ → Reply
-reply_with p slot r tag result = record { replica = p.number; view = p.view; slot = slot; client = r.client; id = r.id; tag = tag; result = result }
+reply_with p slot r tag result =
+    record { replica = p.number; view = p.view; slot = slot; client = r.client; id = r.id; tag = tag; result = result }
 
 abbrev pub leader_replies : ReplicaState → ℕ → Request → Option (List ℕ) → List Reply
 leader_replies p slot r None = []

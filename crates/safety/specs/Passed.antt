@@ -27,7 +27,12 @@ noted f past i (a ∷ old) [] = past
 noted f past i (a ∷ old) (b ∷ new) = noted f (note f past i (standing a.state) (standing b.state)) (suc i) old new
 
 abbrev pub passes : Passed → Happened → Passed
-passes p h = record { world = h.world; lines = p.lines ++ h.lines; past = noted (faults p.world) p.past 0 p.world.replicas h.world.replicas }
+passes p h = record {
+  world = h.world;
+  lines = p.lines
+      ++ h.lines;
+  past = noted (faults p.world) p.past 0 p.world.replicas h.world.replicas;
+}
 
 abbrev pub pass_on : Result Happened Refusal → (Happened → Result Passed Refusal) → Result Passed Refusal
 pass_on (Err refusal) f = Err refusal

@@ -30,7 +30,8 @@ pub record SafelyPassed {S : Type 0} (m : Meaning S) (config : Configuration) (e
 
 -- over each host, and for every list of events that are not refused
 abbrev pub RunsAreSafe : {S : Type 0} → Meaning S → Type 0
-RunsAreSafe m = ResultsShort m → (config : Configuration) (es : List Event) (h : Happened) → is_configuration config ≡ true → EventsFit es → run m config es ≡ Ok h → SafelyPassed m config es h
+RunsAreSafe m = ResultsShort m → (config : Configuration) (es : List Event) (h : Happened) → is_configuration config ≡ true → EventsFit es
+    → run m config es ≡ Ok h → SafelyPassed m config es h
 
 -- the events lead to this world, and all of that holds of it
 pub record LeadTo {S : Type 0} (m : Meaning S) (config : Configuration) (es : List Event) (w : WorldState) : Type 0 where

@@ -41,36 +41,45 @@ IsStamped w session number q = IsSent w (datagrams.Stamped (record { session = s
 abbrev pub WasSubmitted : Passed → Request → Type 0
 WasSubmitted p r = Has p.lines (Submit r)
 
--- sessions and numbers: each stamp is the only one with its session and number, and of session 1, which the controller began with; its sequencer stays in that session and has passed its number
+-- sessions and numbers: each stamp is the only one with its session and number, and of session 1, which the controller began with; its
+-- sequencer stays in that session and has passed its number
 pub record StampsAreSound (p : Passed) : Type 0 where
   pub once : (session number : ℕ) (a b : Request) → IsStamped p.world session number a → IsStamped p.world session number b → a ≡ b
   pub session : (s : Stamped) → IsSent p.world (datagrams.Stamped s) → s.session ≡ 1
   pub controller : (s : Stamped) → IsSent p.world (datagrams.Stamped s) → s.session ≤ p.world.controller.state.session
-  pub sequencers : (j : ℕ) (q : Seated SequencerState) → slice_get p.world.sequencers j ≡ Some q → q.state.session ≡ (sequencer.opening j).session
-  pub passed : (j : ℕ) (q : Seated SequencerState) (s : Stamped) → slice_get p.world.sequencers j ≡ Some q → IsSent p.world (datagrams.Stamped s) → s.session ≡ q.state.session → s.number < q.state.next
+  pub sequencers : (j : ℕ) (q : Seated SequencerState) → slice_get p.world.sequencers j ≡ Some q
+      → q.state.session ≡ (sequencer.opening j).session
+  pub passed : (j : ℕ) (q : Seated SequencerState) (s : Stamped) → slice_get p.world.sequencers j ≡ Some q
+      → IsSent p.world (datagrams.Stamped s) → s.session ≡ q.state.session → s.number < q.state.next
 
 -- each request, wherever it is, was submitted
 pub record RequestsAreSubmitted (p : Passed) : Type 0 where
   pub sent : (r : Request) → IsSent p.world (datagrams.Request r) → WasSubmitted p r
   pub stamped : (s : Stamped) → IsSent p.world (datagrams.Stamped s) → WasSubmitted p s.request
-  pub pending : (k : ℕ) (q : Seated ClientState) (r : Request) → slice_get p.world.clients k ≡ Some q → q.state.pending ≡ Some r → WasSubmitted p r
+  pub pending : (k : ℕ) (q : Seated ClientState) (r : Request) → slice_get p.world.clients k ≡ Some q → q.state.pending ≡ Some r
+      → WasSubmitted p r
   pub logged : (i : ℕ) (w : View) (l : List Entry) (r : Request) → HadLog p.past i w l → Has l (Req r) → WasSubmitted p r
 
 -- what is kept was sent: each queued request was stamped with the receiver's session and its number, and each kept reply is one
 pub record KeptWasSent (p : Passed) : Type 0 where
-  pub queued : (i : ℕ) (q : Seated ReplicaState) (number : ℕ) (r : Request) → slice_get p.world.replicas i ≡ Some q → finite.get q.state.receiver.queued number ≡ Some r → IsStamped p.world q.state.receiver.session number r
-  pub replies : (k : ℕ) (q : Seated ClientState) (y : Reply) → slice_get p.world.clients k ≡ Some q → Has q.state.replies y → IsSent p.world (datagrams.Reply y)
+  pub queued : (i : ℕ) (q : Seated ReplicaState) (number : ℕ) (r : Request) → slice_get p.world.replicas i ≡ Some q
+      → finite.get q.state.receiver.queued number ≡ Some r → IsStamped p.world q.state.receiver.session number r
+  pub replies : (k : ℕ) (q : Seated ClientState) (y : Reply) → slice_get p.world.clients k ≡ Some q → Has q.state.replies y
+      → IsSent p.world (datagrams.Reply y)
 
--- the logs of views: each begins with the start of its view, and each slot above has the request that was stamped with its number in the view's session. The last of them is the replica's log
+-- the logs of views: each begins with the start of its view, and each slot above has the request that was stamped with its number in the
+-- view's session. The last of them is the replica's log
 pub record LogsAreSound (p : Passed) : Type 0 where
   pub current : (i : ℕ) (q : Seated ReplicaState) → slice_get p.world.replicas i ≡ Some q → HadLog p.past i q.state.last_normal q.state.log
   pub begins : (i : ℕ) (w : View) (l : List Entry) (x : Start) → HadLog p.past i w l → IsStart p.past w x → IsPrefixOf x.log l
-  pub slots : (i : ℕ) (w : View) (l : List Entry) (x : Start) (k : ℕ) (e : Entry) → HadLog p.past i w l → IsStart p.past w x → length x.log < k → slot_of l k ≡ Some e
+  pub slots : (i : ℕ) (w : View) (l : List Entry) (x : Start) (k : ℕ) (e : Entry) → HadLog p.past i w l → IsStart p.past w x
+      → length x.log < k → slot_of l k ≡ Some e
       → (q : Request) × (e ≡ Req q) × IsStamped p.world w.session (x.next + (k - length x.log - 1)) q
 
 -- a replica's next number is as far above that of its view's start as its log is longer
 abbrev pub NumbersAreSound : Passed → Type 0
-NumbersAreSound p = (i : ℕ) (q : Seated ReplicaState) (x : Start) → slice_get p.world.replicas i ≡ Some q → IsStart p.past q.state.last_normal x → q.state.next + length x.log ≡ x.next + length q.state.log
+NumbersAreSound p = (i : ℕ) (q : Seated ReplicaState) (x : Start) → slice_get p.world.replicas i ≡ Some q
+    → IsStart p.past q.state.last_normal x → q.state.next + length x.log ≡ x.next + length q.state.log
 
 -- who replied had the slot; and the leader's reply is for the request there, with its result
 pub record ReplyIsSound {S : Type 0} (m : Meaning S) (p : Passed) (y : Reply) : Type 0 where
@@ -78,7 +87,8 @@ pub record ReplyIsSound {S : Type 0} (m : Meaning S) (p : Passed) (y : Reply) : 
   pub had : HadLog p.past y.replica y.view log
   pub low : 1 ≤ y.slot
   pub within : y.slot ≤ length log
-  pub leads : y.replica ≡ leader_of y.view (2 * faults p.world + 1) → (q : Request) × (slot_of log y.slot ≡ Some (Req q)) × IsOf y.client y.id q × (result_at m log y.slot ≡ Some y.result)
+  pub leads : y.replica ≡ leader_of y.view (2 * faults p.world + 1) → (q : Request) × (slot_of log y.slot ≡ Some (Req q))
+      × IsOf y.client y.id q × (result_at m log y.slot ≡ Some y.result)
 
 abbrev pub RepliesAreSound : {S : Type 0} → Meaning S → Passed → Type 0
 RepliesAreSound m p = (y : Reply) → IsSent p.world (datagrams.Reply y) → ReplyIsSound m p y
@@ -93,7 +103,8 @@ pub record RepliedAt (w : WorldState) (v : View) (slot client id r : ℕ) : Type
   pub of_client : reply.client ≡ client
   pub of_id : reply.id ≡ id
 
--- f + 1 replicas replied at one view and slot, the leader among them with this result; its log had the slot, and all requests up to there were submitted before
+-- f + 1 replicas replied at one view and slot, the leader among them with this result; its log had the slot, and all requests up to there
+-- were submitted before
 pub record AcceptIsSound (p : Passed) (k client id : ℕ) (result : List ℕ) : Type 0 where
   pub view : View
   pub slot : ℕ
@@ -106,7 +117,8 @@ pub record AcceptIsSound (p : Passed) (k client id : ℕ) (result : List ℕ) : 
   pub known : (q : Request) → Has (take slot log) (Req q) → IsSubmittedBefore p.lines k q.client q.id
 
 abbrev pub AcceptsAreSound : Passed → Type 0
-AcceptsAreSound p = (k client id : ℕ) (result : List ℕ) → slice_get p.lines k ≡ Some (Accept client id result) → AcceptIsSound p k client id result
+AcceptsAreSound p = (k client id : ℕ) (result : List ℕ) → slice_get p.lines k ≡ Some (Accept client id result)
+    → AcceptIsSound p k client id result
 
 pub record Sound {S : Type 0} (m : Meaning S) (p : Passed) : Type 0 where
   pub stamps : StampsAreSound p

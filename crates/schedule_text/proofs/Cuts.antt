@@ -1,5 +1,6 @@
 -- Where lines are cut.
-use Rattle.std.proofs.Common.{◌≡◌, ◌≢◌, ℕ, zero, suc, ◌+◌, ◌<◌, ◌≤◌, Bool, true, false, eqb, ltb, leb, List, [], ◌∷◌, ◌++◌, length, get_or, take, drop, refl, sym, ap, ◌∙◌, arith, append_assoc}
+use Rattle.std.proofs.Common.{◌≡◌, ◌≢◌, ℕ, zero, suc, ◌+◌, ◌<◌, ◌≤◌, Bool, true, false, eqb, ltb, leb, List, [], ◌∷◌, ◌++◌, length}
+use Rattle.std.proofs.Common.{get_or, take, drop, refl, sym, ap, ◌∙◌, arith, append_assoc}
 use Rattle.std.proofs.lemmas.List.{append-nil, length-append, length_push}
 use Rattle.std.proofs.lemmas.Bool.Decides.{nat_tests}
 use Rattle.schedule_text.specs.Cutting.{lines_on, lines_of, last_line}
@@ -20,7 +21,8 @@ module _ (ended : Bool) (before : ℕ) (fits : before < 1000000) where
   at_end : (line rest : List ℕ) → lines_on ended before line (10 ∷ rest) ≡ line ∷ lines_on ended (before + 1) [] rest
   at_end line rest = rw below refl
 
-  goes_on : (line rest : List ℕ) (b : ℕ) → b ≢ 10 → length line < 4096 → lines_on ended before line (b ∷ rest) ≡ lines_on ended before (line ++ b ∷ []) rest
+  goes_on : (line rest : List ℕ) (b : ℕ) → b ≢ 10 → length line < 4096
+      → lines_on ended before line (b ∷ rest) ≡ lines_on ended before (line ++ b ∷ []) rest
   goes_on line rest b other short =
       let not_end : eqb b 10 ≡ false = grind (arith, nat_tests) in
       let not_full : eqb (length line) 4096 ≡ false = grind (arith, nat_tests) in
@@ -48,11 +50,13 @@ module _ (ended : Bool) (before : ℕ) (fits : before < 1000000) where
   cut_long so_far (b ∷ []) rest none short full = too_long so_far rest b (none_here b [] none) (omega arith)
   cut_long so_far (b ∷ c ∷ line) rest none short full =
       goes_on so_far (c ∷ line ++ rest) b (none_here b (c ∷ line) none) (omega arith)
-      ∙ cut_long (so_far ++ b ∷ []) (c ∷ line) rest (none_later b (c ∷ line) none) (omega (arith, length_push so_far b)) (omega (arith, length_push so_far b))
+      ∙ cut_long (so_far ++ b ∷ []) (c ∷ line) rest (none_later b (c ∷ line) none) (omega (arith, length_push so_far b))
+      (omega (arith, length_push so_far b))
       ∙ ap (λ (xs : List ℕ). xs ∷ []) (append_assoc so_far (b ∷ []) (c ∷ line))
 
   -- with neither there is what the end makes of it
-  pub cut_last : (so_far line : List ℕ) → HasNoEnd (length line) line → length so_far + length line ≤ 4096 → lines_on ended before so_far line ≡ last_line ended (so_far ++ line)
+  pub cut_last : (so_far line : List ℕ) → HasNoEnd (length line) line → length so_far + length line ≤ 4096
+      → lines_on ended before so_far line ≡ last_line ended (so_far ++ line)
   cut_last so_far [] none short = rw (append-nil so_far) refl
   cut_last so_far (b ∷ line) none short =
       goes_on so_far line b (none_here b line none) (omega arith)

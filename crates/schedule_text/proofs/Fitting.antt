@@ -1,5 +1,6 @@
 -- What is read from lines is in its ranges.
-use Rattle.std.proofs.Common.{◌≡◌, ℕ, ◌+◌, ◌*◌, ◌≤◌, Bool, true, false, Option, Some, None, refl, sym, ap, subst, ◌∙◌, arith, length, List, [], ◌∷◌}
+use Rattle.std.proofs.Common.{◌≡◌, ℕ, ◌+◌, ◌*◌, ◌≤◌, Bool, true, false, Option, Some, None, refl, sym, ap, subst, ◌∙◌, arith, length}
+use Rattle.std.proofs.Common.{List, [], ◌∷◌}
 use Rattle.std.specs.Prelude.{codes, nat_le, Result, Ok, Err, if◌then◌else◌}
 use Rattle.std.proofs.lemmas.Bool.Decides.{nat_tests}
 use Rattle.std.proofs.lemmas.Bool.{leb-true}
@@ -15,7 +16,9 @@ use Rattle.schedule_text.specs.Fields.{is_text, number_of, actor_of, client_numb
 use Rattle.schedule_text.specs.Fits.{EventFits}
 use Rattle.schedule_text.specs.declared.rule.Rule.{Rule}
 use Rattle.schedule_text.specs.declared.rule.Rule.TheVariants.{WrongWord, WrongField, WrongHex, WrongActor, TooManyLines}
-use Rattle.schedule_text.specs.Rules.{Read, ◌>>=◌, or_rule, keeps_rule, max_op_text, submit_event, deliver_event, crash_event, submit_of, deliver_of, crash_of, event_of_fields, configuration_of, count_of, header_counts, header_rest, header_of_fields, plain_line, header_of, event_of}
+use Rattle.schedule_text.specs.Rules.{Read, ◌>>=◌, or_rule, keeps_rule, max_op_text, submit_event, deliver_event, crash_event, submit_of}
+use Rattle.schedule_text.specs.Rules.{deliver_of, crash_of, event_of_fields, configuration_of, count_of, header_counts, header_rest}
+use Rattle.schedule_text.specs.Rules.{header_of_fields, plain_line, header_of, event_of}
 
 -- a step that gave a value, and what came of it
 then_ok : {A B : Type 0} (r : Read A) (f : A → Read B) (y : B) → (r >>= f) ≡ Ok y → (x : A) × (r ≡ Ok x) × (f x ≡ Ok y)
@@ -36,7 +39,8 @@ decoded : (r : Result (List ℕ) FromHexError) (bytes : List ℕ) → as_option 
 decoded (Ok xs) bytes e = let same : xs ≡ bytes = cc in ap Ok same
 decoded (Err x) bytes e = absurd cc
 
-digits_short : (d : ℕ) (ds bytes : List ℕ) (b : Bool) → (if b then Some [] else as_option (decode_of (d ∷ ds))) ≡ Some bytes → 2 * length bytes ≤ length (d ∷ ds)
+digits_short : (d : ℕ) (ds bytes : List ℕ) (b : Bool) → (if b then Some [] else as_option (decode_of (d ∷ ds))) ≡ Some bytes
+    → 2 * length bytes ≤ length (d ∷ ds)
 digits_short d ds bytes true e = let same : [] ≡ bytes = cc in subst (λ (t : List ℕ). 2 * length t ≤ length (d ∷ ds)) same (omega arith)
 digits_short d ds bytes false e = let h = decode_of-ok (d ∷ ds) bytes (decoded (decode_of (d ∷ ds)) bytes e) in omega (arith, h.2)
 
@@ -85,7 +89,8 @@ crash_of_fits c [] e h = absurd cc
 crash_of_fits c (a ∷ []) e h = crash_fits c a e h
 crash_of_fits c (a ∷ b ∷ xs) e h = absurd cc
 
-by_word : (c : Configuration) (rest : List (List ℕ)) (e : Event) (s d k : Bool) → (if s then submit_of c rest else if d then deliver_of c rest else if k then crash_of c rest else Err WrongWord) ≡ Ok e → EventFits e
+by_word : (c : Configuration) (rest : List (List ℕ)) (e : Event) (s d k : Bool)
+    → (if s then submit_of c rest else if d then deliver_of c rest else if k then crash_of c rest else Err WrongWord) ≡ Ok e → EventFits e
 by_word c rest e true d k h = submit_of_fits c rest e h
 by_word c rest e false true k h = deliver_of_fits c rest e h
 by_word c rest e false false true h = crash_of_fits c rest e h
@@ -93,11 +98,14 @@ by_word c rest e false false false h = absurd cc
 
 of_fields_fits : (c : Configuration) (xs : List (List ℕ)) (e : Event) → event_of_fields c xs ≡ Ok e → EventFits e
 of_fields_fits c [] e h = absurd cc
-of_fields_fits c (word ∷ rest) e h = by_word c rest e (is_text (codes "submit") word) (is_text (codes "deliver") word) (is_text (codes "crash") word) h
+of_fields_fits c (word ∷ rest) e h =
+    by_word c rest e (is_text (codes "submit") word) (is_text (codes "deliver") word) (is_text (codes "crash") word) h
 
-limited : (c : Configuration) (line : List ℕ) (e : Event) (b : Bool) → (if b then Err TooManyLines else plain_line line >>= λ text. event_of_fields c (fields text)) ≡ Ok e → EventFits e
+limited : (c : Configuration) (line : List ℕ) (e : Event) (b : Bool)
+    → (if b then Err TooManyLines else plain_line line >>= λ text. event_of_fields c (fields text)) ≡ Ok e → EventFits e
 limited c line e true h = absurd cc
-limited c line e false h = let a = then_ok (plain_line line) (λ text. event_of_fields c (fields text)) e h in of_fields_fits c (fields a.0) e a.2
+limited c line e false h = let a =
+    then_ok (plain_line line) (λ text. event_of_fields c (fields text)) e h in of_fields_fits c (fields a.0) e a.2
 
 pub events_fit : (c : Configuration) (before : ℕ) (line : List ℕ) (e : Event) → event_of c before line ≡ Ok e → EventFits e
 unfolding event_of
@@ -105,17 +113,21 @@ events_fit c before line e h = limited c line e (nat_le MAX_LINES before) h
 
 -- ---- headers
 
-made_fits : (made c : Configuration) (b : Bool) → is_configuration made ≡ b → (if◌then◌else◌ {A = Read Configuration} b (Ok made) (Err WrongField)) ≡ Ok c → is_configuration c ≡ true
+made_fits : (made c : Configuration) (b : Bool) → is_configuration made ≡ b
+    → (if◌then◌else◌ {A = Read Configuration} b (Ok made) (Err WrongField)) ≡ Ok c → is_configuration c ≡ true
 made_fits made c true is h = let same : made ≡ c = cc in subst (λ (x : Configuration). is_configuration x ≡ true) same is
 made_fits made c false is h = absurd cc
 
 configuration_fits : (n s k : Option ℕ) (c : Configuration) → configuration_of n s k ≡ Ok c → is_configuration c ≡ true
-configuration_fits (Some n) (Some s) (Some k) c h = made_fits (record { replicas = n; sequencers = s; clients = k }) c (is_configuration (record { replicas = n; sequencers = s; clients = k })) refl h
+configuration_fits (Some n) (Some s) (Some k) c h =
+    made_fits (record { replicas = n; sequencers = s; clients = k }) c
+    (is_configuration (record { replicas = n; sequencers = s; clients = k })) refl h
 configuration_fits None s k c h = absurd cc
 configuration_fits (Some n) None k c h = absurd cc
 configuration_fits (Some n) (Some s) None c h = absurd cc
 
-counts_fit : (n s k : List ℕ) (c : Configuration) (b : Bool) → (if b then configuration_of (count_of n) (count_of s) (count_of k) else Err WrongField) ≡ Ok c → is_configuration c ≡ true
+counts_fit : (n s k : List ℕ) (c : Configuration) (b : Bool)
+    → (if b then configuration_of (count_of n) (count_of s) (count_of k) else Err WrongField) ≡ Ok c → is_configuration c ≡ true
 counts_fit n s k c true h = configuration_fits (count_of n) (count_of s) (count_of k) c h
 counts_fit n s k c false h = absurd cc
 
@@ -130,7 +142,8 @@ rest_fits (x1 ∷ x2 ∷ x3 ∷ x4 ∷ x5 ∷ x6 ∷ []) c h = absurd cc
 rest_fits (version ∷ replicas ∷ n ∷ sequencers ∷ s ∷ clients ∷ k ∷ []) c h = counts_fit n s k c _ h
 rest_fits (x1 ∷ x2 ∷ x3 ∷ x4 ∷ x5 ∷ x6 ∷ x7 ∷ x8 ∷ xs) c h = absurd cc
 
-word_fits : (rest : List (List ℕ)) (c : Configuration) (b : Bool) → (if b then header_rest rest else Err WrongWord) ≡ Ok c → is_configuration c ≡ true
+word_fits : (rest : List (List ℕ)) (c : Configuration) (b : Bool) → (if b then header_rest rest else Err WrongWord) ≡ Ok c
+    → is_configuration c ≡ true
 word_fits rest c true h = rest_fits rest c h
 word_fits rest c false h = absurd cc
 
@@ -140,4 +153,5 @@ header_fields_fit (word ∷ rest) c h = word_fits rest c (is_text (codes "nopaxo
 
 pub headers_fit : (line : List ℕ) (c : Configuration) → header_of line ≡ Ok c → is_configuration c ≡ true
 unfolding header_of
-headers_fit line c h = let a = then_ok (plain_line line) (λ text. header_of_fields (fields text)) c h in header_fields_fit (fields a.0) c a.2
+headers_fit line c h = let a =
+    then_ok (plain_line line) (λ text. header_of_fields (fields text)) c h in header_fields_fit (fields a.0) c a.2

@@ -10,16 +10,19 @@ use Rattle.schedule_text.specs.LineText.{line_of}
 use Rattle.schedule_text.specs.Transcript.{actor_text, dest_text, kind_text, phase_text, up_text, send_line, replica_line, transcript_line}
 
 pub transcript_fields : (c : Configuration) →
-    line_of (codes "transcript") (codes "1" ∷ codes "replicas" ∷ decimal c.replicas ∷ codes "sequencers" ∷ decimal c.sequencers ∷ codes "clients" ∷ decimal c.clients ∷ []) ≡ transcript_line c
+    line_of (codes "transcript") (codes "1" ∷ codes "replicas" ∷ decimal c.replicas ∷ codes "sequencers" ∷ decimal c.sequencers ∷ codes
+    "clients" ∷ decimal c.clients ∷ []) ≡ transcript_line c
 unfolding transcript_line
 transcript_fields c = simp append_assoc
 
 pub send_fields : (index : ℕ) (from : Actor) (dest : Dest) (datagram : List ℕ) →
-    line_of (codes "send") (decimal index ∷ actor_text from ∷ dest_text dest ∷ kind_text (slice_index datagram 3) ∷ decimal (length datagram) ∷ []) ≡ send_line index from dest datagram
+    line_of (codes "send") (decimal index ∷ actor_text from ∷ dest_text dest ∷ kind_text (slice_index datagram 3) ∷ decimal
+    (length datagram) ∷ []) ≡ send_line index from dest datagram
 unfolding send_line
 send_fields index from dest datagram = simp append_assoc
 
 pub replica_fields : (number : ℕ) (crashed : Bool) (status : Phase) (view : View) (len sync_point : ℕ) →
-    line_of (codes "replica") (actor_text (actors.Replica number) ∷ up_text crashed ∷ phase_text status ∷ decimal view.leader ∷ decimal view.session ∷ decimal len ∷ decimal sync_point ∷ []) ≡ replica_line number crashed status view len sync_point
+    line_of (codes "replica") (actor_text (actors.Replica number) ∷ up_text crashed ∷ phase_text status ∷ decimal view.leader ∷ decimal
+    view.session ∷ decimal len ∷ decimal sync_point ∷ []) ≡ replica_line number crashed status view len sync_point
 unfolding replica_line
 replica_fields number crashed status view len sync_point = simp append_assoc

@@ -1,5 +1,6 @@
 -- The first field ends at the first space.
-use Rattle.std.proofs.Common.{◌≡◌, ℕ, Bool, true, false, not, nat_lt, ◌==◌, ◌+◌, Option, Some, None, cond, position, take, drop, length, List, [], ◌∷◌, ◌++◌, refl, arith, append_assoc, append-nil}
+use Rattle.std.proofs.Common.{◌≡◌, ℕ, Bool, true, false, not, nat_lt, ◌==◌, ◌+◌, Option, Some, None, cond, position, take, drop, length}
+use Rattle.std.proofs.Common.{List, [], ◌∷◌, ◌++◌, refl, arith, append_assoc, append-nil}
 use Rattle.std.specs.List.{position_or_len, before_first, after_first}
 use Rattle.std.proofs.Math.Seq.{take-length}
 use Rattle.std.proofs.lemmas.List.Sums.{prefix_len-le-length}
@@ -18,7 +19,8 @@ abbrev cut_at_space : List ℕ → List ℕ → List (List ℕ)
 cut_at_space field line =
     (field ++ before_first (λ b. b == 32) line) ∷ others (nat_lt (first_space line) (length line)) (after_first (λ b. b == 32) line)
 
-at_byte : (space : Bool) (field : List ℕ) (b : ℕ) (bs : List ℕ) → b == 32 ≡ space → fields_on (field ++ b ∷ []) bs ≡ cut_at_space (field ++ b ∷ []) bs → fields_on field (b ∷ bs) ≡ cut_at_space field (b ∷ bs)
+at_byte : (space : Bool) (field : List ℕ) (b : ℕ) (bs : List ℕ) → b == 32 ≡ space
+    → fields_on (field ++ b ∷ []) bs ≡ cut_at_space (field ++ b ∷ []) bs → fields_on field (b ∷ bs) ≡ cut_at_space field (b ∷ bs)
 at_byte true field b bs e rest = grind (arith, common_steps, e, append-nil)
 at_byte false field b bs e rest = grind (arith, common_steps, e, rest, append_assoc)
 
@@ -31,7 +33,8 @@ abbrev pub fields_by : List ℕ → Option ℕ → List (List ℕ)
 fields_by line None = line ∷ []
 fields_by line (Some i) = take i line ∷ fields (drop (i + 1) line)
 
-by_place : (found : Bool) (line : List ℕ) → nat_lt (first_space line) (length line) ≡ found → fields line ≡ fields_by line (cond found (Some (first_space line)) None)
+by_place : (found : Bool) (line : List ℕ) → nat_lt (first_space line) (length line) ≡ found
+    → fields line ≡ fields_by line (cond found (Some (first_space line)) None)
 unfolding fields
 by_place true line e = rw (first_field [] line, e) refl
 by_place false line e =

@@ -1,5 +1,6 @@
 -- Steps of a reader, one after the other.
-use Rattle.std.proofs.Common.{◌≡◌, ℕ, Bool, true, false, List, [], ◌∷◌, ◌++◌, Option, Some, None, Result, Ok, Err, refl, sym, ap, subst, ◌∙◌, append_assoc}
+use Rattle.std.proofs.Common.{◌≡◌, ℕ, Bool, true, false, List, [], ◌∷◌, ◌++◌, Option, Some, None, Result, Ok, Err, refl, sym, ap, subst}
+use Rattle.std.proofs.Common.{◌∙◌, append_assoc}
 use Rattle.std.proofs.lemmas.Bool.{false≢true}
 use Rattle.schedule_text.specs.declared.event.Event.{Event}
 use Rattle.schedule_text.specs.declared.next_error.NextError.{NextError}
@@ -21,40 +22,54 @@ by_ended true f g = g refl
 by_ended false f g = f refl
 
 module _ (old mid new : Reading) (answer : Result (Option Event) NextError) where
-  both : (one two left : List ℕ) → Takes old mid one (two ++ left) (Err NoMemory) → Takes mid new two left answer → Takes old new (one ++ two) left answer
+  both : (one two left : List ℕ) → Takes old mid one (two ++ left) (Err NoMemory) → Takes mid new two left answer
+      → Takes old new (one ++ two) left answer
   both one two left first second = record {
     end = λ going ended. by_ended mid.ended (λ not_yet. second.end not_yet ended) (λ was. nil_right two left (first.end going was));
-    after_end = λ was. (nil_both one two (first.after_end was).0 (second.after_end (first.after_end was).1).0, (second.after_end (first.after_end was).1).1);
+    after_end = λ was. (
+      nil_both one two (first.after_end was).0
+          (second.after_end (first.after_end was).1).0,
+      (second.after_end (first.after_end was).1).1,
+    );
     turn = λ ended more follows.
         let middle : MayFollow mid ended (two ++ more) = record {
           nothing = λ was. nil_both two more (second.after_end was).0 (follows.nothing (second.after_end was).1);
           end = λ was. follows.end (second.after_end was).1;
         } in
-        let same : turn_of old ended (one ++ two ++ more) ≡ turn_of mid ended (two ++ more) = ap (turn_of old ended) (append_assoc one two more) ∙ first.turn ended (two ++ more) middle in
+        let same : turn_of old ended (one ++ two ++ more) ≡ turn_of mid ended (two ++ more) =
+        ap (turn_of old ended) (append_assoc one two more) ∙ first.turn ended (two ++ more) middle in
         rw same (second.turn ended more follows);
   }
 
   -- both steps may take bytes
-  pub then_takes : (before middle left : Option (List ℕ)) → TakesOf old mid before middle (Err NoMemory) → TakesOf mid new middle left answer → TakesOf old new before left answer
+  pub then_takes : (before middle left : Option (List ℕ)) → TakesOf old mid before middle (Err NoMemory)
+      → TakesOf mid new middle left answer → TakesOf old new before left answer
   then_takes None middle left first second = tt
   then_takes (Some before) None left first second = elim first [ ]
   then_takes (Some before) (Some middle) None first second = elim second [ ]
   then_takes (Some before) (Some middle) (Some left) first second =
       let one = first.0 in
-      let two = second.0 in
-      (one ++ two, first.1 ∙ ap (λ (xs : List ℕ). one ++ xs) second.1 ∙ sym (append_assoc one two left), both one two left (subst (λ (xs : List ℕ). Takes old mid one xs (Err NoMemory)) second.1 first.2) second.2)
+      let two = second.0 in (
+        one ++ two,
+        first.1 ∙ ap (λ (xs : List ℕ). one ++ xs) second.1
+            ∙ sym (append_assoc one two left),
+        both one two left (subst (λ (xs : List ℕ). Takes old mid one xs (Err NoMemory)) second.1 first.2)
+            second.2,
+      )
 
   alone : (taken left : List ℕ) → Takes old mid taken left (Err NoMemory) → Answers mid new answer → Takes old new taken left answer
   alone taken left first second = record {
     end = λ going ended. first.end going (sym second.ended ∙ ended);
     after_end = λ was. ((first.after_end was).0, second.ended ∙ (first.after_end was).1);
     turn = λ ended more follows.
-        let middle : MayFollow mid ended more = record { nothing = λ was. follows.nothing (second.ended ∙ was); end = λ was. follows.end (second.ended ∙ was) } in
+        let middle : MayFollow mid ended more =
+        record { nothing = λ was. follows.nothing (second.ended ∙ was); end = λ was. follows.end (second.ended ∙ was) } in
         rw (first.turn ended more middle) (second.turn ended more follows);
   }
 
   -- the second step takes none
-  pub then_answers : (before left : Option (List ℕ)) → TakesOf old mid before left (Err NoMemory) → Answers mid new answer → TakesOf old new before left answer
+  pub then_answers : (before left : Option (List ℕ)) → TakesOf old mid before left (Err NoMemory) → Answers mid new answer
+      → TakesOf old new before left answer
   then_answers None left first second = tt
   then_answers (Some before) None first second = elim first [ ]
   then_answers (Some before) (Some left) first second = (first.0, first.1, alone first.0 left first.2 second)
@@ -62,4 +77,9 @@ module _ (old mid new : Reading) (answer : Result (Option Event) NextError) wher
 -- a step that does nothing
 pub stays : (r : Reading) (left : Option (List ℕ)) → TakesOf r r left left (Err NoMemory)
 stays r None = tt
-stays r (Some left) = ([], refl, record { end = λ going ended. absurd (false≢true (sym going ∙ ended)); after_end = λ was. (refl, was); turn = λ ended more follows. refl })
+stays r (Some left) = (
+  [],
+  refl,
+  record
+      { end = λ going ended. absurd (false≢true (sym going ∙ ended)); after_end = λ was. (refl, was); turn = λ ended more follows. refl },
+)

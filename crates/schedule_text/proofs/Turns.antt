@@ -1,5 +1,6 @@
 -- A line that is taken.
-use Rattle.std.proofs.Common.{◌≡◌, ℕ, zero, ◌+◌, ◌<◌, ◌≤◌, Bool, true, false, leb, List, [], ◌∷◌, ◌++◌, length, take, drop, Option, Some, None, Result, Ok, Err, refl, sym, ap, ◌∙◌, inl, inr, arith, if◌then◌else◌}
+use Rattle.std.proofs.Common.{◌≡◌, ℕ, zero, ◌+◌, ◌<◌, ◌≤◌, Bool, true, false, leb, List, [], ◌∷◌, ◌++◌, length, take, drop, Option, Some}
+use Rattle.std.proofs.Common.{None, Result, Ok, Err, refl, sym, ap, ◌∙◌, inl, inr, arith, if◌then◌else◌}
 use Rattle.std.proofs.lemmas.Bool.{false≢true}
 use Rattle.std.proofs.lemmas.Bool.Decides.{nat_tests}
 use Rattle.std.proofs.lemmas.List.{append-nil, length-take-le}
@@ -35,7 +36,8 @@ past_read true r e is = absurd cc
 past_read false r e is = (refl, is)
 
 -- and stands behind fewer lines than a schedule may have
-pub event_fits : (c : Configuration) (before : ℕ) (line : List ℕ) (e : Event) → event_of c before line ≡ Ok e → (before < 1000000) × (length line ≤ 4096)
+pub event_fits : (c : Configuration) (before : ℕ) (line : List ℕ) (e : Event) → event_of c before line ≡ Ok e → (before < 1000000)
+    × (length line ≤ 4096)
 unfolding event_of
 event_fits c before line e is =
     let last = past_read (leb 1000000 before) (plain_line line >>= λ text. event_of_fields c (fields text)) e is in
@@ -56,10 +58,12 @@ needs_a_read r undecided going (inl was) = false≢true (sym going ∙ was)
 needs_a_read r undecided going (inr some) = some (ap (lines_of false r.line) (append-nil r.pending) ∙ undecided.none)
 
 -- at the end there is no line
-no_line : (r : Reading) (ended : Bool) (more : List ℕ) → r.ended ≡ true → r.pending ≡ [] → MayFollow r ended more → lines_before r ended more ≡ []
+no_line : (r : Reading) (ended : Bool) (more : List ℕ) → r.ended ≡ true → r.pending ≡ [] → MayFollow r ended more
+    → lines_before r ended more ≡ []
 no_line r ended more was none follows = no_lines ended r.line r.pending more none (follows.nothing was)
 
-pub no_header : (r : Reading) → r.config ≡ None → r.ended ≡ true → r.pending ≡ [] → Answers r r (Err (BadLine (r.line + 1) (rule_number WrongWord)))
+pub no_header : (r : Reading) → r.config ≡ None → r.ended ≡ true → r.pending ≡ []
+    → Answers r r (Err (BadLine (r.line + 1) (rule_number WrongWord)))
 no_header r closed was none = record {
   ended = refl;
   turn = λ ended more follows.
@@ -73,30 +77,33 @@ no_event r c opened was none = record {
   turn = λ ended more follows. (rw (opened, no_line r ended more was none follows) refl, was, none);
 }
 
-module _ (before : ℕ) (pending : List ℕ) (was_ended : Bool) (first : FirstLine) (is_first : IsFirstLine before was_ended pending first) where
-  length-first : length (take first.len pending) ≡ first.len
-  length-first = length-take-le first.len pending (omega (arith, is_first.len, is_first.end))
+module _ (before : ℕ) (pending : List ℕ) (was_ended : Bool) (first : FirstLine) (is_first : IsFirstLine before was_ended pending first)
+  where
+    length-first : length (take first.len pending) ≡ first.len
+    length-first = length-take-le first.len pending (omega (arith, is_first.len, is_first.end))
 
-  pub header_taken : (c : Configuration) → before ≡ 0 → header_of (take first.len pending) ≡ Ok c
-      → Answers (record { config = None; line = before; pending = pending; ended = was_ended }) (record { config = Some c; line = before + 1; pending = drop first.end pending; ended = was_ended }) (Err NoMemory)
-  header_taken c begins is = record {
-    ended = refl;
-    turn = λ ended more follows.
-        let after : Follows was_ended ended more = record { nothing = follows.nothing; end = follows.end } in
-        let rest = lines_of ended (before + 1) (drop first.end pending ++ more) in
-        let short = header_fits (take first.len pending) c is in
-        ap (turn None before) (is_first.rest (omega arith) (omega (arith, length-first, short)) ended more after)
-        ∙ ap (header_turn before (take first.len pending) rest) is;
-  }
+    pub header_taken : (c : Configuration) → before ≡ 0 → header_of (take first.len pending) ≡ Ok c
+        → Answers (record { config = None; line = before; pending = pending; ended = was_ended })
+        (record { config = Some c; line = before + 1; pending = drop first.end pending; ended = was_ended }) (Err NoMemory)
+    header_taken c begins is = record {
+      ended = refl;
+      turn = λ ended more follows.
+          let after : Follows was_ended ended more = record { nothing = follows.nothing; end = follows.end } in
+          let rest = lines_of ended (before + 1) (drop first.end pending ++ more) in
+          let short = header_fits (take first.len pending) c is in
+          ap (turn None before) (is_first.rest (omega arith) (omega (arith, length-first, short)) ended more after)
+          ∙ ap (header_turn before (take first.len pending) rest) is;
+    }
 
-  pub event_taken : (c : Configuration) (e : Event) → event_of c before (take first.len pending) ≡ Ok e
-      → Answers (record { config = Some c; line = before; pending = pending; ended = was_ended }) (record { config = Some c; line = before + 1; pending = drop first.end pending; ended = was_ended }) (Ok (Some e))
-  event_taken c e is = record {
-    ended = refl;
-    turn = λ ended more follows.
-        let after : Follows was_ended ended more = record { nothing = follows.nothing; end = follows.end } in
-        let rest = lines_of ended (before + 1) (drop first.end pending ++ more) in
-        let fits = event_fits c before (take first.len pending) e is in
-        ap (turn_after c before) (is_first.rest fits.0 (omega (arith, length-first, fits.1)) ended more after)
-        ∙ ap (event_turn c before (take first.len pending) rest) is;
-  }
+    pub event_taken : (c : Configuration) (e : Event) → event_of c before (take first.len pending) ≡ Ok e
+        → Answers (record { config = Some c; line = before; pending = pending; ended = was_ended })
+        (record { config = Some c; line = before + 1; pending = drop first.end pending; ended = was_ended }) (Ok (Some e))
+    event_taken c e is = record {
+      ended = refl;
+      turn = λ ended more follows.
+          let after : Follows was_ended ended more = record { nothing = follows.nothing; end = follows.end } in
+          let rest = lines_of ended (before + 1) (drop first.end pending ++ more) in
+          let fits = event_fits c before (take first.len pending) e is in
+          ap (turn_after c before) (is_first.rest fits.0 (omega (arith, length-first, fits.1)) ended more after)
+          ∙ ap (event_turn c before (take first.len pending) rest) is;
+    }

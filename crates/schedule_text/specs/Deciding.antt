@@ -30,11 +30,13 @@ pub record Follows (was_ended ended : Bool) (more : List ℕ) : Type 0 where
   pub nothing : was_ended ≡ true → more ≡ []
   pub end : was_ended ≡ true → ended ≡ true
 
--- The first line of the bytes behind so many lines, whatever follows them. Behind one that is not too long stand the lines of the bytes after it.
+-- The first line of the bytes behind so many lines, whatever follows them. Behind one that is not too long stand the lines of the bytes
+-- after it.
 pub record IsFirstLine (before : ℕ) (was_ended : Bool) (bytes : List ℕ) (first : FirstLine) : Type 0 where
   pub len : first.len ≤ first.end
   pub end : first.end ≤ length bytes
-  pub line : (ended : Bool) (more : List ℕ) → Follows was_ended ended more → (rest : List (List ℕ)) × (lines_of ended before (bytes ++ more) ≡ take first.len bytes ∷ rest)
+  pub line : (ended : Bool) (more : List ℕ) → Follows was_ended ended more → (rest : List (List ℕ))
+      × (lines_of ended before (bytes ++ more) ≡ take first.len bytes ∷ rest)
   pub rest : before < MAX_LINES → first.len ≤ MAX_LINE_BYTES → (ended : Bool) (more : List ℕ) → Follows was_ended ended more
       → lines_of ended before (bytes ++ more) ≡ take first.len bytes ∷ lines_of ended (before + 1) (drop first.end bytes ++ more)
 

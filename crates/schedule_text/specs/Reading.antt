@@ -15,7 +15,8 @@ pub data Next : Type 0 where
   Refuses : (rule : ℕ) → Next
   Ends : Next
 
--- what comes next, the configuration once line 1 was taken, how many lines were taken, and the lines that are left; a line that is refused is left
+-- what comes next, the configuration once line 1 was taken, how many lines were taken, and the lines that are left; a line that is
+-- refused is left
 pub record Turn : Type 0 where
   pub next : Next
   pub config : Option Configuration
@@ -68,8 +69,10 @@ turn_of r ended more = turn r.config r.line (lines_before r ended more)
 -- what a call answered is what comes next; a fault decides nothing
 abbrev pub IsTurn : Reading → Bool → List ℕ → Result (Option Event) NextError → Turn → Type 0
 IsTurn r ended more (Ok (Some e)) t = t ≡ record { next = Gives e; config = r.config; line = r.line; rest = lines_before r ended more }
-IsTurn r ended more (Ok None) t = (t ≡ record { next = Ends; config = r.config; line = r.line; rest = [] }) × (r.ended ≡ true) × (r.pending ≡ [])
-IsTurn r ended more (Err (BadLine line rule)) t = (t ≡ record { next = Refuses rule; config = r.config; line = r.line; rest = lines_before r ended more }) × (line ≡ r.line + 1)
+IsTurn r ended more (Ok None) t =
+    (t ≡ record { next = Ends; config = r.config; line = r.line; rest = [] }) × (r.ended ≡ true) × (r.pending ≡ [])
+IsTurn r ended more (Err (BadLine line rule)) t =
+    (t ≡ record { next = Refuses rule; config = r.config; line = r.line; rest = lines_before r ended more }) × (line ≡ r.line + 1)
 IsTurn r ended more (Err ReadFault) t = t ≡ turn_of r ended more
 IsTurn r ended more (Err NoMemory) t = t ≡ turn_of r ended more
 

@@ -1,12 +1,14 @@
 -- What a line of a schedule means, or the first rule that it breaks.
-use Rattle.std.specs.Prelude.{ℕ, List, [], ◌∷◌, length, Bool, true, false, Option, Some, None, Result, Ok, Err, codes, nat_lt, nat_le, ◌&&◌, if◌then◌else◌}
+use Rattle.std.specs.Prelude.{ℕ, List, [], ◌∷◌, length, Bool, true, false, Option, Some, None, Result, Ok, Err, codes, nat_lt, nat_le}
+use Rattle.std.specs.Prelude.{◌&&◌, if◌then◌else◌}
 use Rattle.std.specs.List.{list_all}
 use Rattle.nop_types.specs.declared.limits.TheConstants.{MAX_LINE_BYTES, MAX_LINES}
 use Rattle.nop_types.specs.Configuration.{Configuration, is_configuration}
 use Rattle.schedule_text.specs.declared.event.Event.{Event}
 use Rattle.schedule_text.specs.declared.event.Event.TheVariants.{Submit, Deliver, Crash}
 use Rattle.schedule_text.specs.declared.rule.Rule.{Rule}
-use Rattle.schedule_text.specs.declared.rule.Rule.TheVariants.{LineTooLong, WrongByte, WrongWord, WrongFieldCount, WrongField, WrongHex, WrongActor, NoSuchDatagram, TooManyLines}
+use Rattle.schedule_text.specs.declared.rule.Rule.TheVariants.{LineTooLong, WrongByte, WrongWord, WrongFieldCount, WrongField, WrongHex}
+use Rattle.schedule_text.specs.declared.rule.Rule.TheVariants.{WrongActor, NoSuchDatagram, TooManyLines}
 use Rattle.schedule_text.specs.Fields.{fields, is_text, number_of, number_below, actor_of, client_number, bytes_of}
 
 -- the number of a rule, as an error line has it
@@ -102,7 +104,8 @@ configuration_of _ _ _ = Err WrongField
 
 abbrev pub header_counts : List ℕ → List ℕ → List ℕ → List ℕ → List ℕ → List ℕ → List ℕ → Result Configuration Rule
 header_counts version replicas n sequencers s clients c =
-    if is_text (codes "1") version && (is_text (codes "replicas") replicas && (is_text (codes "sequencers") sequencers && is_text (codes "clients") clients))
+    if is_text (codes "1") version &&
+    (is_text (codes "replicas") replicas && (is_text (codes "sequencers") sequencers && is_text (codes "clients") clients))
     then configuration_of (count_of n) (count_of s) (count_of c)
     else Err WrongField
 

@@ -1,5 +1,6 @@
 -- The lines of a transcript as bytes.
-use Rattle.std.specs.Prelude.{ℕ, List, [], ◌∷◌, ◌++◌, length, Bool, true, false, Option, Some, None, codes, slice_index, decimal, ◌==◌, if◌then◌else◌}
+use Rattle.std.specs.Prelude.{ℕ, List, [], ◌∷◌, ◌++◌, length, Bool, true, false, Option, Some, None, codes, slice_index, decimal, ◌==◌}
+use Rattle.std.specs.Prelude.{if◌then◌else◌}
 use Rattle.std.specs.List.{flat_map}
 use Rattle.hex.specs.Hex.{encode_lower}
 use Rattle.nop_types.specs.Configuration.{Configuration}
@@ -86,7 +87,8 @@ busy_line client = codes "busy " ++ client_text client ++ line_end
 -- the kind is the fourth byte
 unfoldable pub send_line : ℕ → Actor → Dest → List ℕ → List ℕ
 send_line index from dest datagram =
-    codes "send " ++ decimal index ++ space ++ actor_text from ++ space ++ dest_text dest ++ space ++ kind_text (slice_index datagram 3) ++ space ++ decimal (length datagram) ++ line_end
+    codes "send " ++ decimal index ++ space ++ actor_text from ++ space ++ dest_text dest ++ space ++ kind_text (slice_index datagram 3)
+    ++ space ++ decimal (length datagram) ++ line_end
 
 abbrev pub line_text : Line → List ℕ
 line_text (Dead actor) = dead_line actor
@@ -101,11 +103,13 @@ lines_text lines = flat_map line_text lines
 -- ---- the other lines
 
 unfoldable pub transcript_line : Configuration → List ℕ
-transcript_line c = codes "transcript 1 replicas " ++ decimal c.replicas ++ codes " sequencers " ++ decimal c.sequencers ++ codes " clients " ++ decimal c.clients ++ line_end
+transcript_line c = codes "transcript 1 replicas " ++ decimal c.replicas ++ codes " sequencers " ++ decimal c.sequencers
+    ++ codes " clients " ++ decimal c.clients ++ line_end
 
 unfoldable pub replica_line : ℕ → Bool → Phase → View → ℕ → ℕ → List ℕ
 replica_line number crashed status view len sync_point =
-    codes "replica r" ++ decimal number ++ space ++ up_text crashed ++ space ++ phase_text status ++ space ++ decimal view.leader ++ space ++ decimal view.session ++ space ++ decimal len ++ space ++ decimal sync_point ++ line_end
+    codes "replica r" ++ decimal number ++ space ++ up_text crashed ++ space ++ phase_text status ++ space ++ decimal view.leader ++ space
+    ++ decimal view.session ++ space ++ decimal len ++ space ++ decimal sync_point ++ line_end
 
 abbrev pub entry_text : Entry → List ℕ
 entry_text NoOp = codes "noop"

@@ -59,7 +59,8 @@ impl Buffer {
     pub(crate) fn fill<S: Source>(&mut self, source: &mut S) -> Result<usize, NextError>
         requires { length self.old ≤ MAX_LINE_BYTES }
         ensures fills { FillsFrom (S.left source.old) (S.left source.new) self.old self.new result }
-        ensures cause { HasCauseFor (S.fault_count source.old) (S.fault_count source.new) NextError.ReadFault result }
+        ensures cause { HasCauseFor (S.fault_count source.old) (S.fault_count source.new)
+            NextError.ReadFault result }
     {
         move_to_front(&mut self.bytes, self.start, self.end)?;
         let end = self.end - self.start;
@@ -77,7 +78,8 @@ fn move_to_front(bytes: &mut Vec<u8>, start: usize, end: usize) -> Result<(), Al
     requires low { start ≤ end }
     requires high { end ≤ length bytes.old.items }
     requires short { end ≤ start + MAX_LINE_BYTES }
-    ensures moved { OnOk result (take (end - start) bytes.new.items ≡ slice_range bytes.old.items start end) }
+    ensures moved { OnOk result (take (end - start) bytes.new.items
+        ≡ slice_range bytes.old.items start end) }
     ensures room { OnOk result (MAX_LINE_BYTES + PIECE_BYTES ≤ length bytes.new.items) }
     ensures kept { OnErr result (bytes.new.items ≡ bytes.old.items) }
 {

@@ -145,7 +145,8 @@ fn put_field(field: Field<'_>, to: &mut Vec<u8>) -> Result<(), NoMemory>
 }
 
 fn put_line(word: &str, fields: &[Field<'_>], to: &mut Vec<u8>) -> Result<(), NoMemory>
-    ensures ok { OnOk result (to.new.items ≡ to.old.items ++ line_of word.now (field_texts fields.now)) }
+    ensures ok { OnOk result (to.new.items ≡ to.old.items
+        ++ line_of word.now (field_texts fields.now)) }
     ensures err { OnErr result (IsPrefixOf to.old.items to.new.items) }
 {
     put_word(word, to)?;
@@ -159,7 +160,8 @@ fn put_line(word: &str, fields: &[Field<'_>], to: &mut Vec<u8>) -> Result<(), No
 
 /// Appends a line of a word and further fields.
 pub fn write_line(word: &str, fields: &[Field<'_>], to: &mut Vec<u8>) -> Result<(), NoMemory>
-    ensures ok { OnOk result (to.new.items ≡ to.old.items ++ line_of word.now (field_texts fields.now)) }
+    ensures ok { OnOk result (to.new.items ≡ to.old.items
+        ++ line_of word.now (field_texts fields.now)) }
     ensures err { OnErr result (to.new.items ≡ to.old.items) }
 {
     let len = to.len();

@@ -29,7 +29,8 @@ pub(crate) fn first_line(
     bytes: &[u8],
 ) -> Option<FirstLine>
     requires { IsSearched searched bytes.now }
-    ensures { MatchOption result (IsUndecided before ended bytes.now) (IsFirstLine before ended bytes.now) }
+    ensures { MatchOption result (IsUndecided before ended bytes.now)
+        (IsFirstLine before ended bytes.now) }
 {
     if bytes.is_empty() {
         return None;

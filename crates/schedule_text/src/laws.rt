@@ -9,11 +9,13 @@ ghost use Rattle.schedule_text.specs.Rules.{event_of, header_of};
 /// An event of a line is in its ranges.
 #[tactic(auto, using(crate::proofs::Fitting::events_fit))]
 pub fn read_events_fit()
-    ensures { (c : Configuration) (before : ℕ) (line : List ℕ) (e : Event) → event_of c before line ≡ Ok e → EventFits e }
+    ensures { (c : Configuration) (before : ℕ) (line : List ℕ) (e : Event)
+        → event_of c before line ≡ Ok e → EventFits e }
 {}
 
 /// The header of a schedule is within the limits of a configuration.
 #[tactic(auto, using(crate::proofs::Fitting::headers_fit))]
 pub fn read_headers_fit()
-    ensures { (line : List ℕ) (c : Configuration) → header_of line ≡ Ok c → is_configuration c ≡ true }
+    ensures { (line : List ℕ) (c : Configuration) → header_of line ≡ Ok c → is_configuration c
+        ≡ true }
 {}

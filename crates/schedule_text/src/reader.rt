@@ -33,7 +33,7 @@ pub struct Reader {
 impl Model for Reader {
     ghost use Rattle.schedule_text.specs.Reading.{Reading};
     ghost use Rattle.schedule_text.specs.Rules.{rule_number};
-ghost use Rattle.schedule_text.specs.Stepping.{IsReader};
+    ghost use Rattle.schedule_text.specs.Stepping.{IsReader};
 
     ghost Value = { Reading };
 
@@ -78,12 +78,14 @@ impl Reader {
     pub fn next<S: Source>(&mut self, source: &mut S) -> Result<Option<Event>, NextError>
         ensures takes { TakesOf self.old self.new (S.left source.old) (S.left source.new) result }
         ensures none_left { LeavesNone self.new result }
-        ensures cause { HasCauseFor (S.fault_count source.old) (S.fault_count source.new) NextError.ReadFault result }
+        ensures cause { HasCauseFor (S.fault_count source.old) (S.fault_count source.new)
+            NextError.ReadFault result }
         ensures line { IsSome self.old.config → self.new.line ≡ self.old.line + lines_taken result }
 
         // The source is not asked after its end, nor where a line behind line 1 is decided.
         ensures after_end { self.old.ended ≡ true → source.new ≡ source.old }
-        ensures unread { IsSome self.old.config → lines_before self.old false [] ≢ [] → source.new ≡ source.old }
+        ensures unread { IsSome self.old.config → lines_before self.old false [] ≢ [] → source.new
+            ≡ source.old }
     {
         let config = self.open(source)?;
         match self.reach_line(source)? {
@@ -97,11 +99,15 @@ impl Reader {
         ensures config { IfOk result (λ c. self.new.config ≡ Some c) }
         ensures line { OnOk result ((1 ≤ self.new.line) × (self.new.line ≤ MAX_LINES)) }
         ensures closed { OnErr result (self.new.config ≡ self.old.config) }
-        ensures takes { TakesOf self.old self.new (S.left source.old) (S.left source.new) (after_step result) }
+        ensures takes { TakesOf self.old self.new (S.left source.old) (S.left source.new)
+            (after_step result) }
         ensures none_left { LeavesNone self.new (after_step result) }
-        ensures cause { HasCauseFor (S.fault_count source.old) (S.fault_count source.new) NextError.ReadFault result }
-        ensures after_end { self.old.ended ≡ true → (source.new ≡ source.old) × (self.new.ended ≡ true) }
-        ensures unread { IsSome self.old.config → (source.new ≡ source.old) × (self.new ≡ self.old) }
+        ensures cause { HasCauseFor (S.fault_count source.old) (S.fault_count source.new)
+            NextError.ReadFault result }
+        ensures after_end { self.old.ended ≡ true → (source.new ≡ source.old)
+            × (self.new.ended ≡ true) }
+        ensures unread { IsSome self.old.config → (source.new ≡ source.old)
+            × (self.new ≡ self.old) }
     {
         if let Some(config) = self.config {
             return Ok(config);
@@ -118,9 +124,11 @@ impl Reader {
         ensures first { IfOk result (Reaches self.new) }
         ensures config { self.new.config ≡ self.old.config }
         ensures line { self.new.line ≡ self.old.line }
-        ensures takes { TakesOf self.old self.new (S.left source.old) (S.left source.new) (after_step result) }
+        ensures takes { TakesOf self.old self.new (S.left source.old) (S.left source.new)
+            (after_step result) }
         ensures none_left { LeavesNone self.new (after_step result) }
-        ensures cause { HasCauseFor (S.fault_count source.old) (S.fault_count source.new) NextError.ReadFault result }
+        ensures cause { HasCauseFor (S.fault_count source.old) (S.fault_count source.new)
+            NextError.ReadFault result }
         ensures unread { NeedsNoRead self.old → (source.new ≡ source.old) × (self.new ≡ self.old) }
     {
         loop {
@@ -135,7 +143,8 @@ impl Reader {
     }
 
     fn first_line(&self) -> Option<FirstLine>
-        ensures { MatchOption result (IsUndecided self.now.line self.now.ended self.now.pending) (IsFirst self.now) }
+        ensures { MatchOption result (IsUndecided self.now.line self.now.ended self.now.pending)
+            (IsFirst self.now) }
     {
         first_line(self.line, self.ended, self.searched, self.buffer.as_slice())
     }
@@ -143,12 +152,15 @@ impl Reader {
     fn read_piece<S: Source>(&mut self, source: &mut S) -> Result<(), NextError>
         requires undecided { IsUndecided self.old.line self.old.ended self.old.pending }
         requires going { self.old.ended ≡ false }
-        ensures more { OnOk result ((self.new.ended ≡ true) ⊎ (length self.old.pending < length self.new.pending)) }
+        ensures more { OnOk result ((self.new.ended ≡ true)
+            ⊎ (length self.old.pending < length self.new.pending)) }
         ensures config { self.new.config ≡ self.old.config }
         ensures line { self.new.line ≡ self.old.line }
-        ensures takes { TakesOf self.old self.new (S.left source.old) (S.left source.new) (after_step result) }
+        ensures takes { TakesOf self.old self.new (S.left source.old) (S.left source.new)
+            (after_step result) }
         ensures kept { OnErr result (self.new ≡ self.old) }
-        ensures cause { HasCauseFor (S.fault_count source.old) (S.fault_count source.new) NextError.ReadFault result }
+        ensures cause { HasCauseFor (S.fault_count source.old) (S.fault_count source.new)
+            NextError.ReadFault result }
     {
         self.searched = self.buffer.as_slice().len();
         let count = self.buffer.fill(source)?;

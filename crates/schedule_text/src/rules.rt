@@ -50,7 +50,8 @@ fn plain(line: &[u8]) -> Result<(), Rule>
 /// The next field of those that follow, and what follows it.
 fn next_field(rest: Option<&[u8]>) -> Result<(&[u8], Option<&[u8]>), Rule>
     ensures { let fields = other_fields (option_copied rest.entry) in
-        MatchResult result (λ p. fields ≡ p.0.now ∷ other_fields (option_copied p.1)) (λ rule. (rule ≡ Rule.WrongFieldCount) × (fields ≡ [])) }
+        MatchResult result (λ p. fields ≡ p.0.now ∷ other_fields (option_copied p.1))
+        (λ rule. (rule ≡ Rule.WrongFieldCount) × (fields ≡ [])) }
 {
     match rest {
         Some(rest) => Ok(cut(rest)),
@@ -61,7 +62,9 @@ fn next_field(rest: Option<&[u8]>) -> Result<(&[u8], Option<&[u8]>), Rule>
 /// No field follows.
 fn no_field(rest: Option<&[u8]>) -> Result<(), Rule>
     ensures { let fields = other_fields (option_copied rest.entry) in
-        MatchResult result (λ _. fields ≡ []) (λ rule. (rule ≡ Rule.WrongFieldCount) × (first : List ℕ) × (more : List (List ℕ)) × (fields ≡ first ∷ more)) }
+        MatchResult result (λ _. fields ≡ [])
+        (λ rule. (rule ≡ Rule.WrongFieldCount) × (first : List ℕ) × (more : List (List ℕ))
+        × (fields ≡ first ∷ more)) }
 {
     match rest {
         Some(_) => Err(Rule::WrongFieldCount),
@@ -87,7 +90,8 @@ fn configuration(n: &[u8], s: &[u8], c: &[u8]) -> Result<Config, Rule>
 fn has_words(version: &[u8], replicas: &[u8], sequencers: &[u8], clients: &[u8]) -> bool
     ensures { result
         ≡ (is_text (codes "1") version.now && (is_text (codes "replicas") replicas.now
-        && (is_text (codes "sequencers") sequencers.now && is_text (codes "clients") clients.now))) }
+        && (is_text (codes "sequencers") sequencers.now && is_text (codes "clients")
+        clients.now))) }
 {
     is_word(version, "1")
         && is_word(replicas, "replicas")

@@ -23,12 +23,7 @@ fn letter(answer: &Result<Option<Event>, NextError>) -> u8 {
 }
 
 // A letter for each of the first answers, for a rule its digit.
-fn letters(
-    alloc: Global,
-    text: Vec<u8>,
-    most: usize,
-    calls: usize,
-) -> Result<Vec<u8>, Fail>
+fn letters(alloc: Global, text: Vec<u8>, most: usize, calls: usize) -> Result<Vec<u8>, Fail>
     requires { 1 ≤ most }
 {
     let mut source = ReadMem::with_limit(text, most);
@@ -40,14 +35,26 @@ fn letters(
     Ok(letters)
 }
 
-// Behind line 1, or as line 1, so many equal bytes behind a front; a line that is refused is refused again.
+// Behind line 1 or as line 1: a text, and then so many equal bytes. A line that is refused is refused again.
 #[test]
 fn lines_that_are_read(rt: HostRuntime) -> Result<(), Fail> {
     let alloc = rt.alloc();
     for (first, front, byte, count, want) in [
-        (FIRST, "submit c0 5000016b000176\ndeliver 0 s0\ncrash r1", b'\n', 0, "sdc."),
+        (
+            FIRST,
+            "submit c0 5000016b000176\ndeliver 0 s0\ncrash r1",
+            b'\n',
+            0,
+            "sdc.",
+        ),
         (FIRST, "crash ctl\nsubmit c1 -\ncrash c2", b'\n', 2, "cs77"),
-        (FIRST, "submit c1 fFAa09\ndeliver 18446744073709551615 ctl\n", b' ', 1, "sd33"),
+        (
+            FIRST,
+            "submit c1 fFAa09\ndeliver 18446744073709551615 ctl\n",
+            b' ',
+            1,
+            "sd33",
+        ),
         (FIRST, "submit c0 ", b'0', 1280, "s..."),
         (FIRST, "submit c0 ", b'0', 1281, "5555"),
         (FIRST, "submit c0 ", b'g', 1280, "6666"),
@@ -55,7 +62,13 @@ fn lines_that_are_read(rt: HostRuntime) -> Result<(), Fail> {
         (FIRST, "", b'x', MAX_LINE_BYTES + 1, "1111"),
         (FIRST, "crash r0", b'\r', 1, "2222"),
         (FIRST, "crash r0", b'\x7f', 1, "2222"),
-        (FIRST, "nopaxos 1 replicas 3 sequencers 2 clients 2", b'\n', 1, "3333"),
+        (
+            FIRST,
+            "nopaxos 1 replicas 3 sequencers 2 clients 2",
+            b'\n',
+            1,
+            "3333",
+        ),
         (FIRST, "crash r0", b' ', 1, "4444"),
         (FIRST, "deliver 18446744073709551616 r", b'0', 1, "5555"),
         (FIRST, "deliver  r", b'0', 1, "5555"),
@@ -64,16 +77,70 @@ fn lines_that_are_read(rt: HostRuntime) -> Result<(), Fail> {
         (FIRST, "submit r0 ", b'0', 2, "7777"),
         (FIRST, "crash s", b'2', 1, "7777"),
         (FIRST, "crash ctl", b'0', 1, "7777"),
-        (b"", "nopaxos 1 replicas 7 sequencers 4 clients ", b'4', 1, "...."),
+        (
+            b"",
+            "nopaxos 1 replicas 7 sequencers 4 clients ",
+            b'4',
+            1,
+            "....",
+        ),
         (b"", "", b'x', 0, "3333"),
-        (b"", "Nopaxos 1 replicas 3 sequencers 2 clients ", b'2', 1, "3333"),
-        (b"", "nopaxos 1 replicas 3 sequencers 2 clients 2", b' ', 1, "4444"),
-        (b"", "nopaxos 2 replicas 3 sequencers 2 clients ", b'2', 1, "5555"),
-        (b"", "nopaxos 1 replicas 2 sequencers 2 clients ", b'2', 1, "5555"),
-        (b"", "nopaxos 1 replicas 03 sequencers 2 clients ", b'2', 1, "5555"),
-        (b"", "nopaxos 1 replicas 259 sequencers 2 clients ", b'2', 1, "5555"),
-        (b"", "nopaxos 1 replicas 3 sequencers 5 clients ", b'2', 1, "5555"),
-        (b"", "nopaxos 1 replicas 3 sequencers 2 clients 1", b'7', 1, "5555"),
+        (
+            b"",
+            "Nopaxos 1 replicas 3 sequencers 2 clients ",
+            b'2',
+            1,
+            "3333",
+        ),
+        (
+            b"",
+            "nopaxos 1 replicas 3 sequencers 2 clients 2",
+            b' ',
+            1,
+            "4444",
+        ),
+        (
+            b"",
+            "nopaxos 2 replicas 3 sequencers 2 clients ",
+            b'2',
+            1,
+            "5555",
+        ),
+        (
+            b"",
+            "nopaxos 1 replicas 2 sequencers 2 clients ",
+            b'2',
+            1,
+            "5555",
+        ),
+        (
+            b"",
+            "nopaxos 1 replicas 03 sequencers 2 clients ",
+            b'2',
+            1,
+            "5555",
+        ),
+        (
+            b"",
+            "nopaxos 1 replicas 259 sequencers 2 clients ",
+            b'2',
+            1,
+            "5555",
+        ),
+        (
+            b"",
+            "nopaxos 1 replicas 3 sequencers 5 clients ",
+            b'2',
+            1,
+            "5555",
+        ),
+        (
+            b"",
+            "nopaxos 1 replicas 3 sequencers 2 clients 1",
+            b'7',
+            1,
+            "5555",
+        ),
     ] {
         for most in [1, 7, 4096] {
             let mut text = first.to_vec(alloc)?;
@@ -138,7 +205,13 @@ fn lines_that_are_written(rt: HostRuntime) -> Result<(), Fail> {
         (4, Actor::Sequencer(1), Dest::One(Actor::Controller), 5, 9),
         (5, Actor::Controller, Dest::One(Actor::Sequencer(0)), 6, 9),
         (6, Actor::Sequencer(0), Dest::One(Actor::Controller), 7, 9),
-        (u64::MAX, Actor::Replica(1), Dest::One(Actor::Replica(2)), 8, 31),
+        (
+            u64::MAX,
+            Actor::Replica(1),
+            Dest::One(Actor::Replica(2)),
+            8,
+            31,
+        ),
     ] {
         let mut datagram = Vec::from_slice(alloc, &[0x4e, 0x4f, 1, kind])?;
         datagram.resize(len, 0)?;

@@ -50,7 +50,8 @@ pub fn submit_line(request: &Request, to: &mut Vec<u8>) -> Result<(), NoMemory>
 /// A client took a result.
 #[tactic(auto, unfolding(crate::specs::Transcript::accept_line))]
 pub fn accept_line(client: u32, id: u64, answer: &Bytes, to: &mut Vec<u8>) -> Result<(), NoMemory>
-    ensures ok { OnOk result (to.new.items ≡ to.old.items ++ texts.accept_line client id answer.now) }
+    ensures ok { OnOk result (to.new.items ≡ to.old.items
+        ++ texts.accept_line client id answer.now) }
     ensures err { OnErr result (to.new.items ≡ to.old.items) }
 {
     let fields = [
@@ -79,7 +80,8 @@ pub fn send_line(
     datagram: &[u8],
     to: &mut Vec<u8>,
 ) -> Result<(), NoMemory>
-    ensures ok { OnOk result (to.new.items ≡ to.old.items ++ texts.send_line index from dest datagram.now) }
+    ensures ok { OnOk result (to.new.items ≡ to.old.items
+        ++ texts.send_line index from dest datagram.now) }
     ensures err { OnErr result (to.new.items ≡ to.old.items) }
 {
     let fields = [
@@ -103,7 +105,8 @@ pub fn replica_line(
     sync_point: u32,
     to: &mut Vec<u8>,
 ) -> Result<(), NoMemory>
-    ensures ok { OnOk result (to.new.items ≡ to.old.items ++ texts.replica_line number crashed status view len sync_point) }
+    ensures ok { OnOk result (to.new.items ≡ to.old.items
+        ++ texts.replica_line number crashed status view len sync_point) }
     ensures err { OnErr result (to.new.items ≡ to.old.items) }
 {
     let fields = [
@@ -121,7 +124,8 @@ pub fn replica_line(
 /// What stands in a slot of a replica's log.
 #[tactic(auto, unfolding(crate::specs::Transcript::entry_line))]
 pub fn entry_line(replica: u8, slot: u32, entry: &Entry, to: &mut Vec<u8>) -> Result<(), NoMemory>
-    ensures ok { OnOk result (to.new.items ≡ to.old.items ++ texts.entry_line replica slot entry.now) }
+    ensures ok { OnOk result (to.new.items ≡ to.old.items
+        ++ texts.entry_line replica slot entry.now) }
     ensures err { OnErr result (to.new.items ≡ to.old.items) }
 {
     match entry {
@@ -170,7 +174,8 @@ pub fn error_line(
     index_sent: Option<(u64, u64)>,
     to: &mut Vec<u8>,
 ) -> Result<(), NoMemory>
-    ensures ok { OnOk result (to.new.items ≡ to.old.items ++ texts.error_line line rule index_sent) }
+    ensures ok { OnOk result (to.new.items ≡ to.old.items
+        ++ texts.error_line line rule index_sent) }
     ensures err { OnErr result (to.new.items ≡ to.old.items) }
 {
     let line_field = Field::Word("line");

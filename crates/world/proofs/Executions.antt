@@ -13,6 +13,8 @@ use Rattle.world.specs.declared.kept_answer.KeptAnswer.{KeptAnswer}
 use Rattle.world.specs.Kept.{answered, executed}
 
 -- a fresh host and an empty table begin the execution of a log
-pub begins : {S : Type 0} (m : Meaning S) (log : List Entry) (host : S) (table : BTreeMap ℕ KeptAnswer) → host ≡ m.opening → IsEmpty table → exec_kept m (executed host table) log ≡ exec m log
+pub begins : {S : Type 0} (m : Meaning S) (log : List Entry) (host : S) (table : BTreeMap ℕ KeptAnswer) → host ≡ m.opening → IsEmpty table
+    → exec_kept m (executed host table) log ≡ exec m log
 begins m log host table h e =
-    ap (λ x. exec_kept m x log) (executed_is_parts (executed host table) (opening m) h (λ c. ap (λ (es : List (ℕ × KeptAnswer)). option_map answered (lookup (is_at (nat_cmp c)) es)) e)) ∙ sym (exec_is_by_kept m log)
+    ap (λ x. exec_kept m x log) (executed_is_parts (executed host table) (opening m) h
+    (λ c. ap (λ (es : List (ℕ × KeptAnswer)). option_map answered (lookup (is_at (nat_cmp c)) es)) e)) ∙ sym (exec_is_by_kept m log)

@@ -1,5 +1,6 @@
 -- One more entry, and which ids are then new.
-use Rattle.std.proofs.Common.{◌≡◌, ℕ, ◌+◌, ◌<◌, Bool, true, false, cond, ltb, eqb, List, [], ◌∷◌, ◌++◌, length, take, get_or, Option, Some, Result, Ok, Err, OnOk, refl, sym, ap, subst, ◌∙◌, arith}
+use Rattle.std.proofs.Common.{◌≡◌, ℕ, ◌+◌, ◌<◌, Bool, true, false, cond, ltb, eqb, List, [], ◌∷◌, ◌++◌, length, take, get_or, Option}
+use Rattle.std.proofs.Common.{Some, Result, Ok, Err, OnOk, refl, sym, ap, subst, ◌∙◌, arith}
 use Rattle.std.specs.Prelude.{◌&&◌, nat_lt}
 use Rattle.std.specs.Ordering.{nat_cmp}
 use Rattle.std.specs.BTreeMap.{BTreeMap, IsEmpty, get, is_at}
@@ -51,33 +52,42 @@ not_new ns k n true e t =
 not_new ns k n false e t = t ∙ sym (all_below-push ns k n ∙ rw t refl)
 
 -- the ids of a client after one more request
-ids_next : (log : List Entry) (r : Request) (c : ℕ) (b : Bool) → eqb r.client c ≡ b → ids_of c (log ++ Req r ∷ []) ≡ ids_of c log ++ cond b (r.id ∷ []) []
-ids_next log r c b e = ids_of-append c log (Req r ∷ []) ∙ ap (λ (xs : List ℕ). ids_of c log ++ xs) (append-nil (cond (eqb r.client c) (r.id ∷ []) []) ∙ ap (λ (x : Bool). cond x (r.id ∷ []) []) e)
+ids_next : (log : List Entry) (r : Request) (c : ℕ) (b : Bool) → eqb r.client c ≡ b → ids_of c (log ++ Req r ∷ []) ≡ ids_of c log
+    ++ cond b (r.id ∷ []) []
+ids_next log r c b e = ids_of-append c log (Req r ∷ [])
+    ∙ ap (λ (xs : List ℕ). ids_of c log ++ xs)
+    (append-nil (cond (eqb r.client c) (r.id ∷ []) []) ∙ ap (λ (x : Bool). cond x (r.id ∷ []) []) e)
 
 pub tells_none : (table : BTreeMap ℕ ℕ) → IsEmpty table → TellsNew table []
 tells_none table e c n = ap (λ (es : List (ℕ × ℕ)). is_above (lookup (is_at (nat_cmp c)) es) n) e
 
 pub tells_after_noop : (table : BTreeMap ℕ ℕ) (log : List Entry) → TellsNew table log → TellsNew table (log ++ NoOp ∷ [])
-tells_after_noop table log h c n = h c n ∙ ap (λ (xs : List ℕ). all_below xs n) (sym (ids_of-append c log (NoOp ∷ []) ∙ append-nil (ids_of c log)))
+tells_after_noop table log h c n =
+    h c n ∙ ap (λ (xs : List ℕ). all_below xs n) (sym (ids_of-append c log (NoOp ∷ []) ∙ append-nil (ids_of c log)))
 
-pub tells_after_old : (table : BTreeMap ℕ ℕ) (log : List Entry) (r : Request) → is_above (get nat_cmp table r.client) r.id ≡ false → TellsNew table log → TellsNew table (log ++ Req r ∷ [])
+pub tells_after_old : (table : BTreeMap ℕ ℕ) (log : List Entry) (r : Request) → is_above (get nat_cmp table r.client) r.id ≡ false
+    → TellsNew table log → TellsNew table (log ++ Req r ∷ [])
 tells_after_old table log r old h c n = by (eqb r.client c) refl
   where
     by : (b : Bool) → eqb r.client c ≡ b → is_above (get nat_cmp table c) n ≡ all_below (ids_of c (log ++ Req r ∷ [])) n
     by true e =
         let same : r.client ≡ c = eqb-true r.client c e in
-        let stale : all_below (ids_of c log) r.id ≡ false = sym (h c r.id) ∙ ap (λ k. is_above (get nat_cmp table k) r.id) (sym same) ∙ old in
-        h c n ∙ not_new (ids_of c log) r.id n (all_below (ids_of c log) n) stale refl ∙ ap (λ (xs : List ℕ). all_below xs n) (sym (ids_next log r c true e))
+        let stale : all_below (ids_of c log) r.id ≡ false =
+        sym (h c r.id) ∙ ap (λ k. is_above (get nat_cmp table k) r.id) (sym same) ∙ old in
+        h c n ∙ not_new (ids_of c log) r.id n (all_below (ids_of c log) n) stale refl
+        ∙ ap (λ (xs : List ℕ). all_below xs n) (sym (ids_next log r c true e))
     by false e = h c n ∙ ap (λ (xs : List ℕ). all_below xs n) (sym (ids_next log r c false e ∙ append-nil (ids_of c log)))
 
 pub tells_after_new : (table new : BTreeMap ℕ ℕ) (log : List Entry) (r : Request) → is_above (get nat_cmp table r.client) r.id ≡ true
-    → ((c : ℕ) → get nat_cmp new c ≡ cond (eqb r.client c) (Some r.id) (get nat_cmp table c)) → TellsNew table log → TellsNew new (log ++ Req r ∷ [])
+    → ((c : ℕ) → get nat_cmp new c ≡ cond (eqb r.client c) (Some r.id) (get nat_cmp table c)) → TellsNew table log
+    → TellsNew new (log ++ Req r ∷ [])
 tells_after_new table new log r fresh put h c n = by (eqb r.client c) refl
   where
     by : (b : Bool) → eqb r.client c ≡ b → is_above (get nat_cmp new c) n ≡ all_below (ids_of c (log ++ Req r ∷ [])) n
     by true e =
         let same : r.client ≡ c = eqb-true r.client c e in
-        let below : all_below (ids_of c log) r.id ≡ true = sym (h c r.id) ∙ ap (λ k. is_above (get nat_cmp table k) r.id) (sym same) ∙ fresh in
+        let below : all_below (ids_of c log) r.id ≡ true =
+        sym (h c r.id) ∙ ap (λ k. is_above (get nat_cmp table k) r.id) (sym same) ∙ fresh in
         ap (λ (o : Option ℕ). is_above o n) (put c ∙ ap (λ (b : Bool). cond b (Some r.id) (get nat_cmp table c)) e)
         ∙ new_tells (ids_of c log) r.id n (ltb r.id n) below refl
         ∙ ap (λ (xs : List ℕ). all_below xs n) (sym (ids_next log r c true e))
@@ -98,21 +108,26 @@ adds_noop table requests = record {
   tells = λ log h. tells_after_noop table log h;
 }
 
-pub adds_old : (table : BTreeMap ℕ ℕ) (requests : List Request) (r : Request) → is_above (get nat_cmp table r.client) r.id ≡ false → Adds table table requests requests (Req r)
+pub adds_old : (table : BTreeMap ℕ ℕ) (requests : List Request) (r : Request) → is_above (get nat_cmp table r.client) r.id ≡ false
+    → Adds table table requests requests (Req r)
 adds_old table requests r old = record {
   members = λ log h. sym (ap (λ (b : Bool). requests ++ cond b (r ∷ []) []) (sym (h r.client r.id) ∙ old) ∙ append-nil requests);
   tells = λ log h. tells_after_old table log r old h;
 }
 
 pub adds_new : (table new : BTreeMap ℕ ℕ) (requests : List Request) (r : Request) → is_above (get nat_cmp table r.client) r.id ≡ true
-    → ((c : ℕ) → get nat_cmp new c ≡ cond (eqb r.client c) (Some r.id) (get nat_cmp table c)) → Adds table new requests (requests ++ r ∷ []) (Req r)
+    → ((c : ℕ) → get nat_cmp new c ≡ cond (eqb r.client c) (Some r.id) (get nat_cmp table c))
+    → Adds table new requests (requests ++ r ∷ []) (Req r)
 adds_new table new requests r fresh put = record {
   members = λ log h. sym (ap (λ (b : Bool). requests ++ cond b (r ∷ []) []) (sym (h r.client r.id) ∙ fresh));
   tells = λ log h. tells_after_new table new log r fresh put h;
 }
 
 -- where the table could be written
-pub adds_new_if : {E : Type 0} (result : Result (Unit {0}) E) (table new : BTreeMap ℕ ℕ) (requests more : List Request) (r : Request) → is_above (get nat_cmp table r.client) r.id ≡ true → more ≡ requests ++ r ∷ []
-    → OnOk result ((c : ℕ) → get nat_cmp new c ≡ cond (eqb r.client c) (Some r.id) (get nat_cmp table c)) → OnOk result (Adds table new requests more (Req r))
-adds_new_if (Ok x) table new requests more r fresh is put = subst (λ (rs : List Request). Adds table new requests rs (Req r)) (sym is) (adds_new table new requests r fresh put)
+pub adds_new_if : {E : Type 0} (result : Result (Unit {0}) E) (table new : BTreeMap ℕ ℕ) (requests more : List Request) (r : Request)
+    → is_above (get nat_cmp table r.client) r.id ≡ true → more ≡ requests ++ r ∷ []
+    → OnOk result ((c : ℕ) → get nat_cmp new c ≡ cond (eqb r.client c) (Some r.id) (get nat_cmp table c))
+    → OnOk result (Adds table new requests more (Req r))
+adds_new_if (Ok x) table new requests more r fresh is put =
+    subst (λ (rs : List Request). Adds table new requests rs (Req r)) (sym is) (adds_new table new requests r fresh put)
 adds_new_if (Err x) table new requests more r fresh is put = tt

@@ -17,14 +17,17 @@ use Rattle.world.specs.WorldSteps.{greatest_of, main_view, main_log, log_of}
 abbrev place : Seat (Machine ReplicaState) → Seated ReplicaState
 place p = seated_of (λ r. r.state) p
 
-normals : (seats : List (Seat (Machine ReplicaState))) → map (λ p. p.core.state.last_normal) seats ≡ map (λ p. p.state.last_normal) (map place seats)
+normals : (seats : List (Seat (Machine ReplicaState)))
+    → map (λ p. p.core.state.last_normal) seats ≡ map (λ p. p.state.last_normal) (map place seats)
 normals [] = refl
 normals (p ∷ seats) = ap (λ (vs : List View). p.core.state.last_normal ∷ vs) (normals seats)
 
-pub main_log_is : {H : Type 0} (a : Actors H) (view : View) (n i : ℕ) (log : List Entry) → view ≡ greatest_of (map (λ p. p.core.state.last_normal) a.replicas.items) → n ≡ a.config.replicas → i ≡ leader_of view n
+pub main_log_is : {H : Type 0} (a : Actors H) (view : View) (n i : ℕ) (log : List Entry)
+    → view ≡ greatest_of (map (λ p. p.core.state.last_normal) a.replicas.items) → n ≡ a.config.replicas → i ≡ leader_of view n
     → log ≡ log_of (option_map (seated_of (λ r. r.state)) (slice_get a.replicas.items i)) → log ≡ main_log (world_of a)
 unfolding main_view main_log
 main_log_is a view n i log view_is n_is i_is log_is =
     let seats = a.replicas.items in
-    let same : i ≡ leader_of (main_view (world_of a)) a.config.replicas = i_is ∙ ap (λ (v : View). leader_of v n) (view_is ∙ ap greatest_of (normals seats)) ∙ ap (leader_of (main_view (world_of a))) n_is in
+    let same : i ≡ leader_of (main_view (world_of a)) a.config.replicas =
+    i_is ∙ ap (λ (v : View). leader_of v n) (view_is ∙ ap greatest_of (normals seats)) ∙ ap (leader_of (main_view (world_of a))) n_is in
     log_is ∙ ap log_of (sym (slice_get-map place seats i)) ∙ ap (λ (k : ℕ). log_of (slice_get (map place seats) k)) same

@@ -15,7 +15,8 @@ pub pair_ok : {A B E : Type 0} (p : A × B) (a : A) (b : B) → a ≡ p.0 → b 
 pair_ok {A} {B} p a b x y = ap (λ (c : A). Ok (c, p.1)) (sym x) ∙ ap (λ (d : B). Ok (a, d)) (sym y)
 
 -- what a step makes of the seat at a place
-pub moves_at : {C S : Type 0} (state : C → S) (old : List (Seat C)) (i : ℕ) (before after : Seat C) (outs : Option (List Out)) (f : Option (Seated S) → Result (Seated S × Did) Refusal)
+pub moves_at : {C S : Type 0} (state : C → S) (old : List (Seat C)) (i : ℕ) (before after : Seat C) (outs : Option (List Out))
+    (f : Option (Seated S) → Result (Seated S × Did) Refusal)
     → slice_get old i ≡ Some before → f (Some (seated_of state before)) ≡ Ok (seated_of state after, did_of outs)
     → MovesAt state (f (slice_get (map (seated_of state) old) i)) old i (slice_set old i after) outs
 moves_at state old i before after outs f h e = record {
@@ -28,4 +29,5 @@ moves_at state old i before after outs f h e = record {
 pub bytes_there : {S : Type 0} (next : S → Given → S × List Out) (p : Seated S) (index count : ℕ) (found : Option Sent) (bytes : List ℕ)
     → Some bytes ≡ option_map (λ (s : Sent). s.bytes) found → bytes_at next p index count found ≡ Ok (seat_step next p (Packet bytes))
 bytes_there next p index count None bytes e = absurd cc
-bytes_there next p index count (Some s) bytes e = let same : bytes ≡ s.bytes = cc in ap (λ (b : List ℕ). Ok (seat_step next p (Packet b))) (sym same)
+bytes_there next p index count (Some s) bytes e = let same : bytes ≡ s.bytes = cc in
+    ap (λ (b : List ℕ). Ok (seat_step next p (Packet b))) (sym same)

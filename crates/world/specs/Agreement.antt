@@ -11,6 +11,8 @@ AgreeAt a b slot = slot ≤ a.sync_point → slot ≤ b.sync_point → slot_of a
 
 pub record Agreed (w : WorldState) : Type 0 where
   -- any two replicas
-  pub pairs : (i j slot : ℕ) (a b : Seated ReplicaState) → slice_get w.replicas i ≡ Some a → slice_get w.replicas j ≡ Some b → AgreeAt a.state b.state slot
+  pub pairs : (i j slot : ℕ) (a b : Seated ReplicaState) → slice_get w.replicas i ≡ Some a → slice_get w.replicas j ≡ Some b
+      → AgreeAt a.state b.state slot
   -- and each with the log that the history is read from
-  pub main : (i : ℕ) (a : Seated ReplicaState) → slice_get w.replicas i ≡ Some a → IsPrefixOf (take a.state.sync_point a.state.log) (main_log w)
+  pub main : (i : ℕ) (a : Seated ReplicaState) → slice_get w.replicas i ≡ Some a
+      → IsPrefixOf (take a.state.sync_point a.state.log) (main_log w)

@@ -1,5 +1,6 @@
 -- The step table of the client.
-use Rattle.std.specs.Prelude.{ℕ, ◌+◌, ◌-◌, ◌/◌, ◌^◌, List, [], ◌∷◌, ◌++◌, filter, find, count_by, Bool, true, false, not, Option, Some, None, Result, Ok, Err, nat_lt, nat_le, ◌==◌, ◌&&◌, if◌then◌else◌}
+use Rattle.std.specs.Prelude.{ℕ, ◌+◌, ◌-◌, ◌/◌, ◌^◌, List, [], ◌∷◌, ◌++◌, filter, find, count_by, Bool, true, false, not, Option, Some}
+use Rattle.std.specs.Prelude.{None, Result, Ok, Err, nat_lt, nat_le, ◌==◌, ◌&&◌, if◌then◌else◌}
 use Rattle.nop_types.specs.Configuration.{Configuration}
 use Rattle.nop_types.specs.Given.{Given, Packet, Ticked, Submit}
 use Rattle.nop_types.specs.Views.{leader_of, is_view}
@@ -63,7 +64,8 @@ is_leaders n k = (k.replica == leader_of k.view n) && (k.tag == 1)
 
 -- the reply of the view's leader among those of this view and slot, where there are f + 1 of these
 abbrev pub quorum_of : ℕ → List Reply → View → ℕ → Option Reply
-quorum_of n kept v slot = if nat_le (n / 2 + 1) (count_by (matches v slot) kept) then find (λ k. matches v slot k && is_leaders n k) kept else None
+quorum_of n kept v slot = if nat_le (n / 2 + 1) (count_by (matches v slot) kept) then find
+    (λ k. matches v slot k && is_leaders n k) kept else None
 
 abbrev pub kept : ClientState → Reply → ClientState
 kept s p = record s { replies = keep_reply s.replies p }

@@ -1,5 +1,6 @@
 -- The step table of the replica.
-use Rattle.std.specs.Prelude.{ℕ, zero, suc, ◌+◌, ◌-◌, List, [], ◌∷◌, ◌++◌, length, Bool, true, false, Option, Some, None, Result, Ok, Err, nat_lt, ◌==◌, ◌&&◌}
+use Rattle.std.specs.Prelude.{ℕ, zero, suc, ◌+◌, ◌-◌, List, [], ◌∷◌, ◌++◌, length, Bool, true, false, Option, Some, None, Result, Ok, Err}
+use Rattle.std.specs.Prelude.{nat_lt, ◌==◌, ◌&&◌}
 use Rattle.nop_types.specs.declared.limits.TheConstants.{MAX_SLOTS, NUMBER_END}
 use Rattle.nop_types.specs.Configuration.{Configuration}
 use Rattle.nop_types.specs.Meaning.{Meaning}
@@ -38,7 +39,16 @@ leads s = leader_of s.view s.config.replicas == s.number
 -- with tag 1 the result, with tag 0 none
 abbrev pub reply_with : ReplicaState → ℕ → ℕ → ℕ → ℕ → List ℕ → List Out
 reply_with s slot client id tag result =
-    Send (One (Client client)) (spelling (datagrams.Reply (record { replica = s.number; view = s.view; slot = slot; client = client; id = id; tag = tag; result = result }))) ∷ []
+    Send (One (Client client)) (spelling
+    (datagrams.Reply (record {
+      replica = s.number;
+      view = s.view;
+      slot = slot;
+      client = client;
+      id = id;
+      tag = tag;
+      result = result;
+    }))) ∷ []
 
 -- a leader sends nothing where the id is below the client's greatest
 abbrev pub leader_reply : ReplicaState → ℕ → ℕ → ℕ → Option (List ℕ) → List Out
@@ -71,7 +81,8 @@ abbrev pub take : {S : Type 0} → Meaning S → ReplicaState → Request → Re
 take m s r = (logged s r, reply m (logged s r) (length s.log + 1) r.client r.id)
 
 -- a request in front is taken, where there is room, and then it goes on; at a drop it stops
-abbrev pub drain_at : {S : Type 0} → Meaning S → (ReplicaState → ReplicaState × List Out) → ReplicaState → Bool → Front → ReplicaState × List Out
+abbrev pub drain_at : {S : Type 0} → Meaning S → (ReplicaState → ReplicaState × List Out) → ReplicaState → Bool → Front → ReplicaState
+    × List Out
 drain_at m again s true (Message r) = then_do (take m s r) again
 drain_at m again s true Nothing = (s, [])
 drain_at m again s true Dropped = (s, [])

@@ -19,7 +19,8 @@ abbrev pub Moves : {C S : Type 0} → (C → S) → Result (Seated S × Did) Ref
 Moves state r new outs = r ≡ Ok (seated_of state new, did_of outs)
 
 -- the same of the seat at a place, and the others stay
-pub record MovesAt {C S : Type 0} (state : C → S) (r : Result (Seated S × Did) Refusal) (old : List (Seat C)) (i : ℕ) (new : List (Seat C)) (outs : Option (List Out)) : Type 0 where
+pub record MovesAt {C S : Type 0} (state : C → S) (r : Result (Seated S × Did) Refusal) (old : List (Seat C)) (i : ℕ)
+    (new : List (Seat C)) (outs : Option (List Out)) : Type 0 where
   pub seat : Seated S
   pub is : r ≡ Ok (seat, did_of outs)
   pub moved : map (seated_of state) new ≡ slice_set (map (seated_of state) old) i seat

@@ -12,7 +12,8 @@ entries_text replica slot (e ∷ es) = entry_line replica slot e ++ entries_text
 -- a replica, and then each slot up to its sync point
 abbrev pub replica_text : ℕ → Seated ReplicaState → List ℕ
 replica_text i p =
-    replica_line i p.crashed p.state.status p.state.view (length p.state.log) p.state.sync_point ++ entries_text i 1 (take p.state.sync_point p.state.log)
+    replica_line i p.crashed p.state.status p.state.view (length p.state.log) p.state.sync_point
+    ++ entries_text i 1 (take p.state.sync_point p.state.log)
 
 abbrev pub replicas_text : ℕ → List (Seated ReplicaState) → List ℕ
 replicas_text i [] = []

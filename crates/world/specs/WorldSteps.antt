@@ -1,5 +1,6 @@
 -- The world: all actors and the network, and one event as one step of one actor.
-use Rattle.std.specs.Prelude.{ℕ, zero, suc, List, [], ◌∷◌, ◌++◌, length, map, Bool, false, Option, Some, None, Result, Ok, Err, slice_get, slice_set, if◌then◌else◌}
+use Rattle.std.specs.Prelude.{ℕ, zero, suc, List, [], ◌∷◌, ◌++◌, length, map, Bool, false, Option, Some, None, Result, Ok, Err, slice_get}
+use Rattle.std.specs.Prelude.{slice_set, if◌then◌else◌}
 use Rattle.nop_types.specs.Configuration.{Configuration}
 use Rattle.nop_types.specs.Meaning.{Meaning}
 use Rattle.nop_types.specs.Given.{Given, Packet, Submit}
@@ -46,7 +47,8 @@ pub record Happened : Type 0 where
 -- ---- what an actor did
 
 abbrev pub carried : WorldState → Actor → Did → WorldState → Happened
-carried old from did new = record { world = record new { sent = old.sent ++ sends_by from did }; lines = lines_by from (length old.sent) did }
+carried old from did new = record
+    { world = record new { sent = old.sent ++ sends_by from did }; lines = lines_by from (length old.sent) did }
 
 abbrev pub at_replica : WorldState → ℕ → Seated ReplicaState × Did → Happened
 at_replica w i p = carried w (actors.Replica i) p.1 (record w { replicas = slice_set w.replicas i p.0 })

@@ -31,9 +31,11 @@ impl<H: Host> Actors<H> {
     fn submit(&mut self, alloc: Global, client: u32, op: &Op) -> Result<Lines, StepError>
         ensures config { self.new.config ≡ self.old.config }
         ensures count { length self.new.replicas.items ≡ length self.old.replicas.items }
-        ensures ok { IfOk result (Happens (submit (world_of self.old) client op.now) (world_of self.new)) }
+        ensures ok { IfOk result (Happens (submit (world_of self.old) client op.now)
+            (world_of self.new)) }
         ensures fits { length op.now ≤ MAX_OP_BYTES }
-        ensures err { IfErr result (λ e. Refuses e (submit (world_of self.old) client op.now) (world_of self.new ≡ world_of self.old)) }
+        ensures err { IfErr result (λ e. Refuses e (submit (world_of self.old) client op.now)
+            (world_of self.new ≡ world_of self.old)) }
     {
         // for the limit of an op
         let _ = op.as_slice();
@@ -44,8 +46,11 @@ impl<H: Host> Actors<H> {
     fn deliver(&mut self, alloc: Global, index: u64, actor: Actor) -> Result<Lines, StepError>
         ensures config { self.new.config ≡ self.old.config }
         ensures count { length self.new.replicas.items ≡ length self.old.replicas.items }
-        ensures ok { IfOk result (Happens (deliver H.meaning (world_of self.old) index actor) (world_of self.new)) }
-        ensures err { IfErr result (λ e. Refuses e (deliver H.meaning (world_of self.old) index actor) (world_of self.new ≡ world_of self.old)) }
+        ensures ok { IfOk result (Happens (deliver H.meaning (world_of self.old) index actor)
+            (world_of self.new)) }
+        ensures err { IfErr result (λ e. Refuses e
+            (deliver H.meaning (world_of self.old) index actor)
+            (world_of self.new ≡ world_of self.old)) }
     {
         match actor {
             Actor::Replica(i) => {
@@ -77,7 +82,8 @@ impl<H: Host> Actors<H> {
         ensures config { self.new.config ≡ self.old.config }
         ensures count { length self.new.replicas.items ≡ length self.old.replicas.items }
         ensures ok { IfOk result (Happens (crash (world_of self.old) actor) (world_of self.new)) }
-        ensures err { IfErr result (λ e. Refuses e (crash (world_of self.old) actor) (world_of self.new ≡ world_of self.old)) }
+        ensures err { IfErr result (λ e. Refuses e (crash (world_of self.old) actor)
+            (world_of self.new ≡ world_of self.old)) }
     {
         match actor {
             Actor::Replica(i) => {
@@ -104,9 +110,11 @@ impl<H: Host> Actors<H> {
     pub fn step(&mut self, alloc: Global, event: &Event) -> Result<Lines, StepError>
         ensures config { self.new.config ≡ self.old.config }
         ensures count { length self.new.replicas.items ≡ length self.old.replicas.items }
-        ensures ok { IfOk result (Happens (step H.meaning (world_of self.old) event.now) (world_of self.new)) }
+        ensures ok { IfOk result (Happens (step H.meaning (world_of self.old) event.now)
+            (world_of self.new)) }
         ensures fits { OnOk result (EventFits event.now) }
-        ensures err { IfErr result (λ e. Refuses e (step H.meaning (world_of self.old) event.now) (world_of self.new ≡ world_of self.old)) }
+        ensures err { IfErr result (λ e. Refuses e (step H.meaning (world_of self.old) event.now)
+            (world_of self.new ≡ world_of self.old)) }
     {
         match event {
             Event::Submit(client, op) => self.submit(alloc, *client, op),

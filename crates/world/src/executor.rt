@@ -33,7 +33,9 @@ fn keep(
     answer: Bytes,
 ) -> Result<(), NoMemory>
     requires { length answer ≤ MAX_RESULT_BYTES }
-    ensures { OnOk result ((c : ℕ) → kept_for kept.new c ≡ (if client == c then Some (record { id = id; result = answer }) else kept_for kept.old c)) }
+    ensures { OnOk result ((c : ℕ) → kept_for kept.new c
+        ≡ (if client == c then Some (record { id = id; result = answer }) else kept_for kept.old
+        c)) }
 {
     kept.insert(client, KeptAnswer { id, result: answer })?;
     Ok(())
@@ -45,7 +47,8 @@ fn enter<H: Host>(
     kept: &mut BTreeMap<u32, KeptAnswer>,
     request: &Request,
 ) -> Result<(), NoMemory>
-    ensures { OnOk result (executed (H.state host.new) kept.new ≡ enter_kept H.meaning (executed (H.state host.old) kept.old) (entries.Req request.now)) }
+    ensures { OnOk result (executed (H.state host.new) kept.new
+        ≡ enter_kept H.meaning (executed (H.state host.old) kept.old) (entries.Req request.now)) }
 {
     if !is_new(kept, request.client, request.id) {
         return Ok(());

@@ -19,7 +19,8 @@ fn is_new(greatest: &BTreeMap<u32, u64>, client: u32, id: u64) -> bool
 }
 
 fn set_greatest(greatest: &mut BTreeMap<u32, u64>, client: u32, id: u64) -> Result<(), NoMemory>
-    ensures { OnOk result ((c : ℕ) → get nat_cmp greatest.new c ≡ (if client == c then Some id else get nat_cmp greatest.old c)) }
+    ensures { OnOk result ((c : ℕ) → get nat_cmp greatest.new c
+        ≡ (if client == c then Some id else get nat_cmp greatest.old c)) }
 {
     greatest.insert(client, id)?;
     Ok(())
@@ -31,7 +32,8 @@ fn add_entry(
     requests: &mut Vec<Request>,
     entry: &Entry,
 ) -> Result<(), NoMemory>
-    ensures { OnOk result (Adds greatest.old greatest.new requests.old.items requests.new.items entry.now) }
+    ensures { OnOk result (Adds greatest.old greatest.new requests.old.items requests.new.items
+        entry.now) }
 {
     let Entry::Req(request) = entry else {
         return Ok(());

@@ -43,7 +43,8 @@ fn carry_out_one(
     tally: &mut Tally,
 ) -> Result<(), NoMemory>
     ensures network { OnOk result (network.new ≡ network.old ++ sends_of from (out.now ∷ [])) }
-    ensures lines { OnOk result (Grows tally.old tally.new (lines_from from (length network.old) (out.now ∷ []))) }
+    ensures lines { OnOk result (Grows tally.old tally.new
+        (lines_from from (length network.old) (out.now ∷ []))) }
 {
     match out {
         Out::Send(dest, bytes) => {
@@ -75,7 +76,8 @@ fn carry_out_all(
     tally: &mut Tally,
 ) -> Result<(), NoMemory>
     ensures network { OnOk result (network.new ≡ network.old ++ sends_of from outs.now) }
-    ensures lines { OnOk result (Grows tally.old tally.new (lines_from from (length network.old) outs.now)) }
+    ensures lines { OnOk result (Grows tally.old tally.new
+        (lines_from from (length network.old) outs.now)) }
 {
     for out in outs {
         carry_out_one(network, from, out, tally)?;

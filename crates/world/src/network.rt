@@ -61,7 +61,8 @@ fn part(bytes: &[u8], start: usize, end: usize) -> &[u8]
 
 fn datagram<'a>(bytes: &'a [u8], marks: &[Mark], index: u64) -> Option<&'a [u8]>
     requires { EndsAt 0 marks.now (length bytes.now) }
-    ensures { option_map (λ b. b.now) result ≡ option_map (λ s. s.bytes) (slice_get (cut_from 0 marks.now bytes.now) index) }
+    ensures { option_map (λ b. b.now) result
+        ≡ option_map (λ s. s.bytes) (slice_get (cut_from 0 marks.now bytes.now) index) }
 {
     if index >= marks.len() as u64 {
         return None;
@@ -80,8 +81,10 @@ fn put(
     datagram: &[u8],
 ) -> Result<(), NoMemory>
     ensures bytes { OnOk result (bytes.new.items ≡ bytes.old.items ++ datagram.now) }
-    ensures marks { OnOk result (marks.new.items ≡ marks.old.items ++ record { end = length bytes.new.items; from = from; dest = dest } ∷ []) }
-    ensures err { OnErr result ((bytes.new.items ≡ bytes.old.items) × (marks.new.items ≡ marks.old.items)) }
+    ensures marks { OnOk result (marks.new.items ≡ marks.old.items
+        ++ record { end = length bytes.new.items; from = from; dest = dest } ∷ []) }
+    ensures err { OnErr result ((bytes.new.items ≡ bytes.old.items)
+        × (marks.new.items ≡ marks.old.items)) }
 {
     let len = bytes.len();
     bytes.extend_from_slice(datagram)?;
@@ -112,13 +115,15 @@ impl Network {
 
     /// The datagram with this index, None where no datagram has it.
     pub fn get(&self, index: u64) -> Option<&[u8]>
-        ensures { option_map (λ b. b.now) result ≡ option_map (λ s. s.bytes) (slice_get self.now index) }
+        ensures { option_map (λ b. b.now) result
+            ≡ option_map (λ s. s.bytes) (slice_get self.now index) }
     {
         datagram(&self.bytes, &self.marks, index)
     }
 
     pub fn push(&mut self, from: Actor, dest: Dest, datagram: &[u8]) -> Result<(), NoMemory>
-        ensures ok { OnOk result (self.new ≡ self.old ++ record { from = from; dest = dest; bytes = datagram.now } ∷ []) }
+        ensures ok { OnOk result (self.new ≡ self.old
+            ++ record { from = from; dest = dest; bytes = datagram.now } ∷ []) }
         ensures err { OnErr result (self.new ≡ self.old) }
     {
         put(&mut self.bytes, &mut self.marks, from, dest, datagram)

@@ -47,7 +47,8 @@ fn act<H: Host>(
     requires { IsSound state.old }
     ensures sound { OnOk result (IsSound state.new) }
     ensures state { OnOk result (state.new ≡ (next H.meaning state.old (given input.entry)).0) }
-    ensures out { OnOk result (out.new ≡ out.old ++ (next H.meaning state.old (given input.entry)).1) }
+    ensures out { OnOk result (out.new ≡ out.old
+        ++ (next H.meaning state.old (given input.entry)).1) }
 {
     let Input::Packet(bytes) = input else {
         return Ok(());

@@ -21,7 +21,15 @@ fn leads(state: &ReplicaState) -> bool
 
 /// The reply of a replica for a slot, to a client's request.
 fn reply_of(state: &ReplicaState, slot: u32, client: u32, id: u64, tag: u8, answer: Bytes) -> Reply
-    ensures { result ≡ record { replica = state.now.number; view = state.now.view; slot = slot; client = client; id = id; tag = tag; result = answer } }
+    ensures { result ≡ record {
+      replica = state.now.number;
+      view = state.now.view;
+      slot = slot;
+      client = client;
+      id = id;
+      tag = tag;
+      result = answer;
+    } }
 {
     Reply {
         replica: state.number,
@@ -71,7 +79,8 @@ pub fn reply_last<H: Host>(
     requires some { 1 ≤ length state.now.log }
     requires last { EndsWith state.now.log client id }
     requires id { 1 ≤ id }
-    ensures { OnOk result (out.new ≡ out.old ++ reply H.meaning state.now (length state.now.log) client id) }
+    ensures { OnOk result (out.new ≡ out.old
+        ++ reply H.meaning state.now (length state.now.log) client id) }
 {
     let log = state.log.as_slice();
     let slot = log.len() as u32;

@@ -22,8 +22,10 @@ pub fn step_seat<C: Core>(
     seat: &mut Seat<C>,
     input: Input<'_>,
 ) -> Result<Option<Outbox>, NoMemory>
-    ensures state { OnOk result (seated_of C.state seat.new ≡ (seat_step C.next (seated_of C.state seat.old) (given input.entry)).0) }
-    ensures did { IfOk result (λ outs. did_of outs ≡ (seat_step C.next (seated_of C.state seat.old) (given input.entry)).1) }
+    ensures state { OnOk result (seated_of C.state seat.new
+        ≡ (seat_step C.next (seated_of C.state seat.old) (given input.entry)).0) }
+    ensures did { IfOk result (λ outs. did_of outs
+        ≡ (seat_step C.next (seated_of C.state seat.old) (given input.entry)).1) }
 {
     if seat.crashed {
         return Ok(None);
@@ -53,8 +55,14 @@ pub fn input_to<C: Core>(
     input: Input<'_>,
 ) -> Result<Option<Outbox>, StepError>
     ensures count { length seats.new.items ≡ length seats.old.items }
-    ensures ok { IfOk result (λ outs. MovesAt C.state (input_at C.next (given input.entry) (slice_get (map (seated_of C.state) seats.old.items) i)) seats.old.items i seats.new.items outs) }
-    ensures err { IfErr result (λ e. Refuses e (input_at C.next (given input.entry) (slice_get (map (seated_of C.state) seats.old.items) i)) (seats.new.items ≡ seats.old.items)) }
+    ensures ok { IfOk result (λ outs. MovesAt C.state
+        (input_at C.next (given input.entry)
+        (slice_get (map (seated_of C.state) seats.old.items) i)) seats.old.items i seats.new.items
+        outs) }
+    ensures err { IfErr result (λ e. Refuses e
+        (input_at C.next (given input.entry)
+        (slice_get (map (seated_of C.state) seats.old.items) i))
+        (seats.new.items ≡ seats.old.items)) }
 {
     if i >= seats.len() {
         return Err(StepError::NoSuchActor);
@@ -70,8 +78,11 @@ pub fn deliver<C: Core>(
     index: u64,
     network: &Network,
 ) -> Result<Option<Outbox>, StepError>
-    ensures ok { IfOk result (λ outs. Moves C.state (delivery_at C.next network.now index (Some (seated_of C.state seat.old))) seat.new outs) }
-    ensures err { IfErr result (λ e. Refuses e (delivery_at C.next network.now index (Some (seated_of C.state seat.old))) (seat.new ≡ seat.old)) }
+    ensures ok { IfOk result (λ outs. Moves C.state
+        (delivery_at C.next network.now index (Some (seated_of C.state seat.old))) seat.new outs) }
+    ensures err { IfErr result (λ e. Refuses e
+        (delivery_at C.next network.now index (Some (seated_of C.state seat.old)))
+        (seat.new ≡ seat.old)) }
 {
     let Some(bytes) = network.get(index) else {
         return Err(StepError::NoSuchDatagram {
@@ -90,8 +101,14 @@ pub fn deliver_to<C: Core>(
     network: &Network,
 ) -> Result<Option<Outbox>, StepError>
     ensures count { length seats.new.items ≡ length seats.old.items }
-    ensures ok { IfOk result (λ outs. MovesAt C.state (delivery_at C.next network.now index (slice_get (map (seated_of C.state) seats.old.items) i)) seats.old.items i seats.new.items outs) }
-    ensures err { IfErr result (λ e. Refuses e (delivery_at C.next network.now index (slice_get (map (seated_of C.state) seats.old.items) i)) (seats.new.items ≡ seats.old.items)) }
+    ensures ok { IfOk result (λ outs. MovesAt C.state
+        (delivery_at C.next network.now index
+        (slice_get (map (seated_of C.state) seats.old.items) i)) seats.old.items i seats.new.items
+        outs) }
+    ensures err { IfErr result (λ e. Refuses e
+        (delivery_at C.next network.now index
+        (slice_get (map (seated_of C.state) seats.old.items) i))
+        (seats.new.items ≡ seats.old.items)) }
 {
     if i >= seats.len() {
         return Err(StepError::NoSuchActor);
@@ -113,8 +130,12 @@ pub fn crash_one<C: Core>(
     i: usize,
 ) -> Result<Option<Outbox>, StepError>
     ensures count { length seats.new.items ≡ length seats.old.items }
-    ensures ok { IfOk result (λ outs. MovesAt C.state (crash_at (slice_get (map (seated_of C.state) seats.old.items) i)) seats.old.items i seats.new.items outs) }
-    ensures err { IfErr result (λ e. Refuses e (crash_at (slice_get (map (seated_of C.state) seats.old.items) i)) (seats.new.items ≡ seats.old.items)) }
+    ensures ok { IfOk result (λ outs. MovesAt C.state
+        (crash_at (slice_get (map (seated_of C.state) seats.old.items) i)) seats.old.items i
+        seats.new.items outs) }
+    ensures err { IfErr result (λ e. Refuses e
+        (crash_at (slice_get (map (seated_of C.state) seats.old.items) i))
+        (seats.new.items ≡ seats.old.items)) }
 {
     if i >= seats.len() {
         return Err(StepError::NoSuchActor);

@@ -42,7 +42,8 @@ impl Model for Sequencer {
 fn stamp(state: &mut SequencerState, request: Request) -> Option<Stamped>
     ensures none { IsNone result ↔ (can_stamp state.old ≡ false) }
     ensures same { IsNone result → state.new ≡ state.old }
-    ensures some { IfSome result (λ s. (s ≡ stamped state.old request) × (state.new ≡ after_stamp state.old)) }
+    ensures some { IfSome result (λ s. (s ≡ stamped state.old request)
+        × (state.new ≡ after_stamp state.old)) }
 {
     if state.session == 0 || state.next >= NUMBER_END {
         return None;

@@ -31,7 +31,8 @@ fn put_replica<H: Host>(
     seat: &Seat<Replica<H>>,
     to: &mut Vec<u8>,
 ) -> Result<(), NoMemory>
-    ensures { OnOk result (to.new.items ≡ to.old.items ++ replica_text number (seated_of (λ r. r.state) seat.now)) }
+    ensures { OnOk result (to.new.items ≡ to.old.items
+        ++ replica_text number (seated_of (λ r. r.state) seat.now)) }
 {
     let core = &seat.core;
     let log = core.log().as_slice();
@@ -51,7 +52,8 @@ fn put_replica<H: Host>(
 /// Appends the lines of all replicas.
 pub fn put_replicas<H: Host>(seats: &[Seat<Replica<H>>], to: &mut Vec<u8>) -> Result<(), NoMemory>
     requires { length seats.now ≤ 7 }
-    ensures { OnOk result (to.new.items ≡ to.old.items ++ replicas_text 0 (map (seated_of (λ r. r.state)) seats.now)) }
+    ensures { OnOk result (to.new.items ≡ to.old.items
+        ++ replicas_text 0 (map (seated_of (λ r. r.state)) seats.now)) }
 {
     for (i, seat) in seats.iter().enumerate() {
         put_replica(i as u8, seat, to)?;

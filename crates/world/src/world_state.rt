@@ -51,7 +51,8 @@ impl<H> Model for World<H> {
 }
 
 fn replicas<H: Host>(alloc: Global, config: Config) -> Result<Vec<Seat<Replica<H>>>, NoMemory>
-    ensures seats { IfOk result (λ v. map (seated_of (λ r. r.state)) v.items ≡ counted (replica.opening config) config.replicas) }
+    ensures seats { IfOk result (λ v. map (seated_of (λ r. r.state)) v.items
+        ≡ counted (replica.opening config) config.replicas) }
     ensures count { IfOk result (λ v. length v.items ≡ config.replicas) }
 {
     let mut seats = Vec::new(alloc);
@@ -66,7 +67,8 @@ fn replicas<H: Host>(alloc: Global, config: Config) -> Result<Vec<Seat<Replica<H
 }
 
 fn sequencers(alloc: Global, config: Config) -> Result<Vec<Seat<Sequencer>>, NoMemory>
-    ensures { IfOk result (λ v. map (seated_of (λ s. s.state)) v.items ≡ counted sequencer.opening config.sequencers) }
+    ensures { IfOk result (λ v. map (seated_of (λ s. s.state)) v.items
+        ≡ counted sequencer.opening config.sequencers) }
 {
     let mut seats = Vec::new(alloc);
     for number in 0..config.sequencers() {
@@ -79,7 +81,8 @@ fn sequencers(alloc: Global, config: Config) -> Result<Vec<Seat<Sequencer>>, NoM
 }
 
 fn clients(alloc: Global, config: Config) -> Result<Vec<Seat<Client>>, NoMemory>
-    ensures { IfOk result (λ v. map (seated_of (λ c. c.state)) v.items ≡ counted (client.opening config) config.clients) }
+    ensures { IfOk result (λ v. map (seated_of (λ c. c.state)) v.items
+        ≡ counted (client.opening config) config.clients) }
 {
     let mut seats = Vec::new(alloc);
     for number in 0..config.clients() {
@@ -168,8 +171,10 @@ impl<H: Host> World<H> {
 
     /// One event. A refused event changes nothing; after want of memory each later step answers it too.
     pub fn step(&mut self, event: &Event) -> Result<Lines, StepError>
-        ensures ok { IfOk result (Happens (step H.meaning self.old.state event.now) self.new.state) }
-        ensures err { IfErr result (λ e. Refuses e (step H.meaning self.old.state event.now) (self.new ≡ self.old)) }
+        ensures ok { IfOk result (Happens (step H.meaning self.old.state event.now)
+            self.new.state) }
+        ensures err { IfErr result (λ e. Refuses e (step H.meaning self.old.state event.now)
+            (self.new ≡ self.old)) }
         ensures fits { OnOk result (EventFits event.now) }
         ensures well { OnOk result ((self.old.failed ≡ false) × (self.new.failed ≡ false)) }
         ensures failed { IsErrOf result StepError.NoMemory → self.new.failed ≡ true }
@@ -193,7 +198,8 @@ impl<H: Host> World<H> {
 
     /// The datagram with this index, None where it was not sent yet.
     pub fn sent(&self, i: u64) -> Option<&[u8]>
-        ensures { option_map (λ b. b.now) result ≡ option_map (λ s. s.bytes) (slice_get self.now.state.sent i) }
+        ensures { option_map (λ b. b.now) result
+            ≡ option_map (λ s. s.bytes) (slice_get self.now.state.sent i) }
     {
         self.actors.network.get(i)
     }
@@ -207,7 +213,8 @@ impl<H: Host> World<H> {
     /// The replica with this number.
     pub fn replica(&self, i: u8) -> Option<&Replica<H>>
         ensures some { IsSome result ↔ (i < self.now.state.config.replicas) }
-        ensures state { option_map (λ r. r.now.state) result ≡ option_map (λ p. p.state) (slice_get self.now.state.replicas i) }
+        ensures state { option_map (λ r. r.now.state) result
+            ≡ option_map (λ p. p.state) (slice_get self.now.state.replicas i) }
     {
         match self.actors.replicas.get(i as usize) {
             Some(seat) => Some(&seat.core),
@@ -229,7 +236,8 @@ impl<H: Host> World<H> {
 
     /// Appends a line for each replica, and one for each slot of it up to its sync point.
     pub fn replica_lines(&self, to: &mut Vec<u8>) -> Result<(), NoMemory>
-        ensures ok { OnOk result (to.new.items ≡ to.old.items ++ replicas_text 0 self.now.state.replicas) }
+        ensures ok { OnOk result (to.new.items ≡ to.old.items
+            ++ replicas_text 0 self.now.state.replicas) }
         ensures err { OnErr result (to.new.items ≡ to.old.items) }
     {
         // at most seven

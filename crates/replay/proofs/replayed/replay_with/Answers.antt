@@ -16,7 +16,8 @@ returns-in-Err-clause-ends g c =
     let takes = rw c.new-reader.ensures at c.in-Err.ensures.takes in
     let closed = c.in-Err.ensures.closed ∙ ap (λ (r : Reading). r.config) c.new-reader.ensures in
     let stops = rw c.new-pending.ensures.items at c.stop.ensures.stops in
-    unopened m (left c.args.source.now) (left c.open.new.source) (held c.args.sink.now) (held c.stop.new.sink) c.open.new.self c.in-Err.e c.stop.result takes closed c.in-Err.ensures.none_left stops
+    unopened m (left c.args.source.now) (left c.open.new.source) (held c.args.sink.now) (held c.stop.new.sink) c.open.new.self c.in-Err.e
+    c.stop.result takes closed c.in-Err.ensures.none_left stops
 
 pub loop-turn-init : goal.loop-turn-init
 loop-turn-init g c =
@@ -25,8 +26,10 @@ loop-turn-init g c =
     let held = g.K.Sink.held in
     let config = c.in-Ok.config in
     let takes = rw c.new-reader.ensures at c.in-Ok.ensures.takes in
-    let going = opened m (left c.args.source.now) (left c.open.new.source) (held c.args.sink.now) c.open.new.self config takes c.in-Ok.ensures.config in
-    let text : c.transcript_line.new.to.items ≡ transcript_line config = c.in_ok-transcript_line.ensures.ok ∙ ap (λ (t : List ℕ). t ++ transcript_line config) c.new-pending.ensures.items in
+    let going = opened m (left c.args.source.now) (left c.open.new.source) (held c.args.sink.now) c.open.new.self config takes
+    c.in-Ok.ensures.config in
+    let text : c.transcript_line.new.to.items ≡ transcript_line config =
+    c.in_ok-transcript_line.ensures.ok ∙ ap (λ (t : List ℕ). t ++ transcript_line config) c.new-pending.ensures.items in
     record {
       going = (config, rw (text, c.in_ok-world.ensures) going);
       read = c.in-Ok.ensures.cause.later;
@@ -42,8 +45,10 @@ loop-turn-preserved g c =
     record {
       going = (
         kept.going.0,
-        advanced m (left c.args.source.now) (left c.loop-turn.source) (left c.next.new.source) (held c.args.sink.now) (held c.loop-turn.sink) (held c.take_event.new.sink)
-            c.loop-turn.pending.items c.take_event.new.pending.items c.loop-turn.reader c.next.new.self kept.going.0 c.loop-turn.world.state c.take_event.new.world.state c.in-Ok-Some.event
+        advanced m (left c.args.source.now) (left c.loop-turn.source) (left c.next.new.source) (held c.args.sink.now)
+            (held c.loop-turn.sink) (held c.take_event.new.sink)
+            c.loop-turn.pending.items c.take_event.new.pending.items c.loop-turn.reader c.next.new.self kept.going.0
+            c.loop-turn.world.state c.take_event.new.world.state c.in-Ok-Some.event
             kept.going.1 (rw c.in-Ok-Some.field-0-is at c.in-Ok-Some.ensures.takes) c.in_ok-take_event-in-Ok-Some.ensures.takes,
       );
       read = omega (arith, kept.read, c.in-Ok-Some.ensures.cause.later);
@@ -58,10 +63,13 @@ returns-in_err-take_event-in-Ok-Some-clause-ends g c =
     let kept = c.loop-turn.invariant in
     let e = c.in_err-take_event-in-Ok-Some.field-0 in
     let refused = rw c.line.ensures.value at c.in_err-take_event-in-Ok-Some.ensures.takes in
-    let p = err_from_is_err_and c.from_residual-in_err-take_event-in-Ok-Some.result c.from_residual-in_err-take_event-in-Ok-Some.ensures.1 in
+    let p = err_from_is_err_and c.from_residual-in_err-take_event-in-Ok-Some.result c.from_residual-in_err-take_event-in-Ok-Some.ensures.1
+    in
     rw (p.1, p.2)
-    (refused_event m (left c.args.source.now) (left c.loop-turn.source) (left c.next.new.source) (held c.args.sink.now) (held c.loop-turn.sink) (held c.take_event.new.sink)
-    c.loop-turn.pending.items c.loop-turn.reader c.next.new.self kept.going.0 c.loop-turn.world.state c.in-Ok-Some.event e.0 kept.going.1 (rw c.in-Ok-Some.field-0-is at c.in-Ok-Some.ensures.takes) refused)
+    (refused_event m (left c.args.source.now) (left c.loop-turn.source) (left c.next.new.source) (held c.args.sink.now)
+    (held c.loop-turn.sink) (held c.take_event.new.sink)
+    c.loop-turn.pending.items c.loop-turn.reader c.next.new.self kept.going.0 c.loop-turn.world.state c.in-Ok-Some.event e.0 kept.going.1
+    (rw c.in-Ok-Some.field-0-is at c.in-Ok-Some.ensures.takes) refused)
 
 pub returns-in-Ok-None-clause-ends : goal.returns-in-Ok-None-clause-ends
 returns-in-Ok-None-clause-ends g c =
@@ -69,8 +77,10 @@ returns-in-Ok-None-clause-ends g c =
     let left = g.S.Source.left in
     let held = g.K.Sink.held in
     let kept = c.loop-turn.invariant in
-    finished m (left c.args.source.now) (left c.loop-turn.source) (left c.next.new.source) (held c.args.sink.now) (held c.loop-turn.sink) (held c.finish.new.sink)
-    c.loop-turn.pending.items c.loop-turn.reader c.next.new.self kept.going.0 c.loop-turn.world.state c.finish.result kept.going.1 (rw c.in-Ok-None.field-0-is at c.in-Ok-None.ensures.takes) c.finish.ensures.writes
+    finished m (left c.args.source.now) (left c.loop-turn.source) (left c.next.new.source) (held c.args.sink.now) (held c.loop-turn.sink)
+    (held c.finish.new.sink)
+    c.loop-turn.pending.items c.loop-turn.reader c.next.new.self kept.going.0 c.loop-turn.world.state c.finish.result kept.going.1
+    (rw c.in-Ok-None.field-0-is at c.in-Ok-None.ensures.takes) c.finish.ensures.writes
 
 pub returns-in-Ok-None-clause-safe : goal.returns-in-Ok-None-clause-safe
 returns-in-Ok-None-clause-safe g c =
@@ -80,8 +90,10 @@ returns-in-Ok-None-clause-safe g c =
     let kept = c.loop-turn.invariant in
     let short = results_short m g.H.Host.is_sound g.met.H.Host.opens_sound g.met.H.Host.stays_sound g.met.H.Host.answers_short in
     done_is_safe m short (left c.args.source.now) (left c.next.new.source) (held c.args.sink.now) (held c.finish.new.sink) c.finish.result
-    (finished m (left c.args.source.now) (left c.loop-turn.source) (left c.next.new.source) (held c.args.sink.now) (held c.loop-turn.sink) (held c.finish.new.sink)
-    c.loop-turn.pending.items c.loop-turn.reader c.next.new.self kept.going.0 c.loop-turn.world.state c.finish.result kept.going.1 (rw c.in-Ok-None.field-0-is at c.in-Ok-None.ensures.takes) c.finish.ensures.writes)
+    (finished m (left c.args.source.now) (left c.loop-turn.source) (left c.next.new.source) (held c.args.sink.now) (held c.loop-turn.sink)
+    (held c.finish.new.sink)
+    c.loop-turn.pending.items c.loop-turn.reader c.next.new.self kept.going.0 c.loop-turn.world.state c.finish.result kept.going.1
+    (rw c.in-Ok-None.field-0-is at c.in-Ok-None.ensures.takes) c.finish.ensures.writes)
 
 pub returns-in-Err-next-clause-ends : goal.returns-in-Err-next-clause-ends
 returns-in-Err-next-clause-ends g c =
@@ -89,12 +101,15 @@ returns-in-Err-next-clause-ends g c =
     let left = g.S.Source.left in
     let held = g.K.Sink.held in
     let kept = c.loop-turn.invariant in
-    stopped m (left c.args.source.now) (left c.loop-turn.source) (left c.next.new.source) (held c.args.sink.now) (held c.loop-turn.sink) (held c.stop-in-Err-next.new.sink)
-    c.loop-turn.pending.items c.loop-turn.reader c.next.new.self kept.going.0 c.loop-turn.world.state c.in-Err-next.e c.stop-in-Err-next.result
+    stopped m (left c.args.source.now) (left c.loop-turn.source) (left c.next.new.source) (held c.args.sink.now) (held c.loop-turn.sink)
+    (held c.stop-in-Err-next.new.sink)
+    c.loop-turn.pending.items c.loop-turn.reader c.next.new.self kept.going.0 c.loop-turn.world.state c.in-Err-next.e
+    c.stop-in-Err-next.result
     kept.going.1 c.in-Err-next.ensures.takes c.in-Err-next.ensures.none_left c.stop-in-Err-next.ensures.stops
 
 pub returns-clause-ends : goal.returns-clause-ends
 returns-clause-ends g c =
     let kept = c.loop-turn.invariant in
-    starved g.H.Host.meaning (g.S.Source.left c.args.source.now) (g.S.Source.left c.loop-turn.source) (g.K.Sink.held c.args.sink.now) (g.K.Sink.held c.loop-turn.sink)
+    starved g.H.Host.meaning (g.S.Source.left c.args.source.now) (g.S.Source.left c.loop-turn.source) (g.K.Sink.held c.args.sink.now)
+    (g.K.Sink.held c.loop-turn.sink)
     c.loop-turn.pending.items c.loop-turn.reader kept.going.0 c.loop-turn.world.state kept.going.1

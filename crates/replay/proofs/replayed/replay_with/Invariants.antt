@@ -6,7 +6,8 @@ use Rattle.replay.proofs.replayed.replay_with.Given as goal
 abbrev pub invariant-loop-turn : goal.invariant-loop-turn
 invariant-loop-turn g l =
     record {
-      going : (c : Configuration) × GoingOf g.H.Host.meaning (g.S.Source.left l.fn.source) (g.S.Source.left l.source) (g.K.Sink.held l.fn.sink) (g.K.Sink.held l.sink) l.pending.items l.reader c l.world.state;
+      going : (c : Configuration) × GoingOf g.H.Host.meaning (g.S.Source.left l.fn.source) (g.S.Source.left l.source)
+          (g.K.Sink.held l.fn.sink) (g.K.Sink.held l.sink) l.pending.items l.reader c l.world.state;
       read : g.S.Source.fault_count l.fn.source ≤ g.S.Source.fault_count l.source;
       write : g.K.Sink.fault_count l.fn.sink ≤ g.K.Sink.fault_count l.sink;
     }

@@ -9,11 +9,16 @@ pub loop-event-preserved : goal.loop-event-preserved
 loop-event-preserved g c =
     let s = c.in_ok-step.ensures in
     record {
-      runs = running_on g.H.Host.meaning c.args.config c.args.events.now c.loop-event.world.state c.step.new.self.state s.ok.are c.loop-event.event-index c.event-item.result (slice_get_read c.args.events.now (length c.args.events.now) c.loop-event.event-index c.event-item.result refl c.loop-event-test.true c.event-item.is) s.fits s.ok.is c.loop-event.invariant.runs;
+      runs = running_on g.H.Host.meaning c.args.config c.args.events.now c.loop-event.world.state c.step.new.self.state s.ok.are
+          c.loop-event.event-index c.event-item.result
+          (slice_get_read c.args.events.now (length c.args.events.now) c.loop-event.event-index c.event-item.result refl
+          c.loop-event-test.true c.event-item.is) s.fits s.ok.is c.loop-event.invariant.runs;
       well = s.well.1;
     }
 
 pub returns-clause-ok : goal.returns-clause-ok
 returns-clause-ok g c =
-    let short : ResultsShort g.H.Host.meaning = results_short g.H.Host.meaning g.H.Host.is_sound g.met.H.Host.opens_sound g.met.H.Host.stays_sound g.met.H.Host.answers_short in
-    run_led g.H.Host.meaning short c.args.config c.replicas.ensures.limits c.args.events.now c.loop-event.world.state c.loop-event.event-index c.loop-event-test.false c.loop-event.invariant.runs
+    let short : ResultsShort g.H.Host.meaning =
+    results_short g.H.Host.meaning g.H.Host.is_sound g.met.H.Host.opens_sound g.met.H.Host.stays_sound g.met.H.Host.answers_short in
+    run_led g.H.Host.meaning short c.args.config c.replicas.ensures.limits c.args.events.now c.loop-event.world.state
+    c.loop-event.event-index c.loop-event-test.false c.loop-event.invariant.runs

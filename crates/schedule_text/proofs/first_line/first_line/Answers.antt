@@ -12,7 +12,8 @@ returns-then-is_empty c =
     rw (nil_from_length c.args.bytes.now none) (undecided_empty c.args.before c.args.ended)
 
 pub returns-then-before-ge-MAX_LINES : goal.returns-then-before-ge-MAX_LINES
-returns-then-before-ge-MAX_LINES c = past_last c.args.before c.args.ended c.args.bytes.now (omega arith) (grind (arith, nat_tests, c.if-is_empty.ensures))
+returns-then-before-ge-MAX_LINES c =
+    past_last c.args.before c.args.ended c.args.bytes.now (omega arith) (grind (arith, nat_tests, c.if-is_empty.ensures))
 
 pub returns-in-Some : goal.returns-in-Some
 returns-in-Some c = by_end c.args.before c.args.ended c.args.bytes.now c.if-before-ge-MAX_LINES.false c.in-Some.len c.in-Some.ensures
@@ -29,11 +30,13 @@ returns-then-ended c =
     let bytes = c.args.bytes.now in
     let none : HasNoEnd (reach bytes) bytes = c.in_default.ensures in
     let short = c.if-bytes-gt-MAX_LINE_BYTES.false in
-    by_last c.args.before c.args.ended bytes c.if-before-ge-MAX_LINES.false (λ k below. none k (omega arith)) short (length bytes) refl (grind (arith, nat_tests, c.if-is_empty.ensures)) c.if-ended.true
+    by_last c.args.before c.args.ended bytes c.if-before-ge-MAX_LINES.false
+    (λ k below. none k (omega arith)) short (length bytes) refl (grind (arith, nat_tests, c.if-is_empty.ensures)) c.if-ended.true
 
 pub returns : goal.returns
 returns c =
     let bytes = c.args.bytes.now in
     let none : HasNoEnd (reach bytes) bytes = c.in_default.ensures in
     let short = c.if-bytes-gt-MAX_LINE_BYTES.false in
-    undecided c.args.before c.args.ended bytes c.if-before-ge-MAX_LINES.false (λ k below. none k (omega arith)) short (λ ended. absurd (false≢true (sym c.if-ended.false ∙ ended)))
+    undecided c.args.before c.args.ended bytes c.if-before-ge-MAX_LINES.false
+    (λ k below. none k (omega arith)) short (λ ended. absurd (false≢true (sym c.if-ended.false ∙ ended)))

@@ -5,4 +5,5 @@ use Rattle.world.proofs.executor.execute.Given as goal
 
 -- what is left to execute, from here, gives the execution of the whole
 abbrev pub invariant-loop-entry : goal.invariant-loop-entry
-invariant-loop-entry g l = exec_kept g.H.Host.meaning (executed (g.H.Host.state l.host) l.kept) (drop l.entry-index l.log) ≡ exec g.H.Host.meaning l.log
+invariant-loop-entry g l = exec_kept g.H.Host.meaning (executed (g.H.Host.state l.host) l.kept) (drop l.entry-index l.log) ≡ exec
+    g.H.Host.meaning l.log

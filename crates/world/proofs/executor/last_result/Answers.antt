@@ -13,5 +13,6 @@ returns-clause-value g c =
     let kept : result_kept (kept_for c.in_ok-done.done.kept e.request.client) e.request.id ≡ result_at m log (length log) =
     ap (λ x. result_kept (x.kept e.request.client) e.request.id) c.in_ok-done.ensures ∙ sym (last_result_is_kept m log e.request e.last) in
     let same : result_kept (kept_for c.in_ok-done.done.kept c.args.client) c.args.id ≡ result_at m log (length log) =
-    ap (λ n. result_kept (kept_for c.in_ok-done.done.kept n) c.args.id) (sym e.same_client) ∙ ap (result_kept (kept_for c.in_ok-done.done.kept e.request.client)) (sym e.same_id) ∙ kept in
+    ap (λ n. result_kept (kept_for c.in_ok-done.done.kept n) c.args.id) (sym e.same_client)
+    ∙ ap (result_kept (kept_for c.in_ok-done.done.kept e.request.client)) (sym e.same_id) ∙ kept in
     subst (λ v. IfOk c.result_for.result (λ x. x ≡ v)) same c.result_for.ensures.value

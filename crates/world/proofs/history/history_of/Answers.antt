@@ -12,9 +12,11 @@ loop-entry-preserved c =
     let log = c.args.log.now in
     let before = take c.loop-entry.entry-index log in
     let e = c.entry-item.result in
-    let next : take (c.loop-entry.entry-index + 1) log ≡ before ++ e ∷ [] = take_next log c.loop-entry.entry-index e c.loop-entry-test.true c.entry-item.is in
+    let next : take (c.loop-entry.entry-index + 1) log ≡ before ++ e ∷ [] =
+    take_next log c.loop-entry.entry-index e c.loop-entry-test.true c.entry-item.is in
     let added = c.in_ok-add_entry.ensures in
     record {
-      requests = added.members before i.tells ∙ ap (λ (rs : List Request). rs ++ new_in before e) i.requests ∙ sym (ap history_of next ∙ history_of_next_entry before e);
+      requests = added.members before i.tells
+          ∙ ap (λ (rs : List Request). rs ++ new_in before e) i.requests ∙ sym (ap history_of next ∙ history_of_next_entry before e);
       tells = subst (TellsNew c.add_entry.new.greatest) (sym next) (added.tells before i.tells);
     }

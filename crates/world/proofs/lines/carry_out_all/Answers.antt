@@ -4,5 +4,8 @@ use Rattle.world.proofs.lines.carry_out_all.Goals as goal
 pub loop-out-preserved : goal.loop-out-preserved
 loop-out-preserved c =
     let i = c.loop-out.invariant in
-    let more = carried_more c.args.from c.args.network.now c.loop-out.network c.carry_out_one.new.network c.args.tally.now c.loop-out.tally c.carry_out_one.new.tally c.args.outs.now c.loop-out.out-index c.out-item.result c.loop-out-test.true c.out-item.is (record { network = i.network; lines = i.lines }) c.in_ok-carry_out_one.ensures.network c.in_ok-carry_out_one.ensures.lines in
+    let more = carried_more c.args.from c.args.network.now c.loop-out.network c.carry_out_one.new.network c.args.tally.now
+    c.loop-out.tally c.carry_out_one.new.tally c.args.outs.now c.loop-out.out-index c.out-item.result c.loop-out-test.true
+    c.out-item.is (record { network = i.network; lines = i.lines }) c.in_ok-carry_out_one.ensures.network
+    c.in_ok-carry_out_one.ensures.lines in
     record { network = more.network; lines = more.lines }

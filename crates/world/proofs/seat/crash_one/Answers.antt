@@ -9,4 +9,6 @@ returns-clause-ok g c =
     let seats = c.args.seats.now.items in
     let before = c.index_mut-seat.result.now in
     let within : c.args.i < length seats = omega (arith, c.len.ensures, c.args.seats.now.ok.0, c.if-i-len.false) in
-    moves_at g.C.Core.state seats c.args.i before c.crash_seat.new.seat c.crash_seat.result crash_at (slice_get_read seats (length seats) c.args.i before refl within c.index_mut-seat.ensures.value) (pair_ok _ _ _ c.crash_seat.ensures.state c.crash_seat.ensures.did)
+    moves_at g.C.Core.state seats c.args.i before c.crash_seat.new.seat c.crash_seat.result crash_at
+    (slice_get_read seats (length seats) c.args.i before refl within c.index_mut-seat.ensures.value)
+    (pair_ok _ _ _ c.crash_seat.ensures.state c.crash_seat.ensures.did)

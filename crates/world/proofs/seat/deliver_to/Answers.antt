@@ -14,5 +14,8 @@ returns-clause-ok g c =
     let next = g.C.Core.next in
     let state = g.C.Core.state in
     let within : c.args.i < length seats = omega (arith, c.len.ensures, c.args.seats.now.ok.0, c.if-i-len.false) in
-    let there = bytes_there next (seated_of state before) c.args.index (length sent) (slice_get sent c.args.index) c.in-Some.bytes.now c.in-Some.ensures in
-    moves_at state seats c.args.i before c.step_seat.new.seat c.in_ok-step_seat.field-0 (delivery_at next sent c.args.index) (slice_get_read seats (length seats) c.args.i before refl within c.index_mut-seat.ensures.value) (there ∙ pair_ok _ _ _ c.in_ok-step_seat.ensures.state c.in_ok-step_seat.ensures.did)
+    let there = bytes_there next (seated_of state before) c.args.index (length sent) (slice_get sent c.args.index) c.in-Some.bytes.now
+    c.in-Some.ensures in
+    moves_at state seats c.args.i before c.step_seat.new.seat c.in_ok-step_seat.field-0 (delivery_at next sent c.args.index)
+    (slice_get_read seats (length seats) c.args.i before refl within c.index_mut-seat.ensures.value)
+    (there ∙ pair_ok _ _ _ c.in_ok-step_seat.ensures.state c.in_ok-step_seat.ensures.did)

@@ -11,4 +11,6 @@ returns-clause-ok g c =
     let before = c.index_mut-seat.result.now in
     let after = c.step_seat.new.seat in
     let within : c.args.i < length seats = omega (arith, c.len.ensures, c.args.seats.now.ok.0, c.if-i-len.false) in
-    moves_at g.C.Core.state seats c.args.i before after c.in_ok-step_seat.field-0 (input_at g.C.Core.next (given c.args.input)) (slice_get_read seats (length seats) c.args.i before refl within c.index_mut-seat.ensures.value) (pair_ok _ _ _ c.in_ok-step_seat.ensures.state c.in_ok-step_seat.ensures.did)
+    moves_at g.C.Core.state seats c.args.i before after c.in_ok-step_seat.field-0 (input_at g.C.Core.next (given c.args.input))
+    (slice_get_read seats (length seats) c.args.i before refl within c.index_mut-seat.ensures.value)
+    (pair_ok _ _ _ c.in_ok-step_seat.ensures.state c.in_ok-step_seat.ensures.did)

@@ -11,4 +11,5 @@ returns g c =
     (c.greatest_last_normal-view.ensures ∙ ap (λ seats. greatest_of (map (λ p. p.core.state.last_normal) seats)) c.deref.ensures.value)
     c.replicas.ensures.count
     c.leader_of.ensures.leader
-    (c.log_at.ensures ∙ ap (λ seats. log_of (option_map (seated_of (λ r. r.state)) (slice_get seats c.leader_of.result))) c.deref-2.ensures.value)
+    (c.log_at.ensures ∙ ap (λ seats. log_of (option_map (seated_of (λ r. r.state)) (slice_get seats c.leader_of.result)))
+    c.deref-2.ensures.value)

@@ -7,4 +7,5 @@ returns c =
     let inside = c.self.inside in
     let bytes = inside.bytes.items in
     let len = length-part bytes inside.start inside.end c.self.invariant.0 c.self.invariant.1 in
-    advanced bytes inside.start inside.end c.args.count (omega (arith, len, ap length c.self.view_is)) ∙ ap (drop c.args.count) c.self.view_is
+    advanced bytes inside.start inside.end c.args.count (omega (arith, len, ap length c.self.view_is))
+    ∙ ap (drop c.args.count) c.self.view_is

@@ -9,28 +9,36 @@ pub returns-in_err-reach_line-clause-takes : goal.returns-in_err-reach_line-clau
 returns-in_err-reach_line-clause-takes g c =
     let left = g.S.Source.left in
     let p = err_from_is_err_and c.from_residual-in_err-reach_line.result c.from_residual-in_err-reach_line.ensures.1 in
-    rw (p.1, p.2) (then_takes c.args.self.now c.open.new.self c.reach_line.new.self (Err c.in_err-reach_line.field-0.0) (left c.args.source.now) (left c.open.new.source) (left c.reach_line.new.source) c.in_ok-config.ensures.takes c.in_err-reach_line.ensures.takes)
+    rw (p.1, p.2) (then_takes c.args.self.now c.open.new.self c.reach_line.new.self (Err c.in_err-reach_line.field-0.0)
+    (left c.args.source.now) (left c.open.new.source) (left c.reach_line.new.source) c.in_ok-config.ensures.takes
+    c.in_err-reach_line.ensures.takes)
 
 pub returns-in-None-clause-takes : goal.returns-in-None-clause-takes
 returns-in-None-clause-takes g c =
     let left = g.S.Source.left in
     let now = c.reach_line.new.self in
-    let reached = then_takes c.args.self.now c.open.new.self now (Err NoMemory) (left c.args.source.now) (left c.open.new.source) (left c.reach_line.new.source) c.in_ok-config.ensures.takes c.in_ok-reach_line.ensures.takes in
+    let reached = then_takes c.args.self.now c.open.new.self now (Err NoMemory) (left c.args.source.now) (left c.open.new.source)
+    (left c.reach_line.new.source) c.in_ok-config.ensures.takes c.in_ok-reach_line.ensures.takes in
     let at_end = rw c.in-None.is at c.in_ok-reach_line.ensures.first in
     let opened : now.config ≡ Some c.in_ok-config.config = c.in_ok-reach_line.ensures.config ∙ c.in_ok-config.ensures.config in
-    then_answers c.args.self.now now now (Ok None) (left c.args.source.now) (left c.reach_line.new.source) reached (no_event now c.in_ok-config.config opened at_end.0 at_end.1)
+    then_answers c.args.self.now now now (Ok None) (left c.args.source.now) (left c.reach_line.new.source) reached
+    (no_event now c.in_ok-config.config opened at_end.0 at_end.1)
 
 pub returns-in_ok-take_event-in-Some-clause-takes : goal.returns-in_ok-take_event-in-Some-clause-takes
 returns-in_ok-take_event-in-Some-clause-takes g c =
     let left = g.S.Source.left in
     let now = c.reach_line.new.self in
-    let reached = then_takes c.args.self.now c.open.new.self now (Err NoMemory) (left c.args.source.now) (left c.open.new.source) (left c.reach_line.new.source) c.in_ok-config.ensures.takes c.in_ok-reach_line.ensures.takes in
-    then_answers c.args.self.now now c.take_event.new.self (Ok (Some c.in_ok-take_event-in-Some.field-0)) (left c.args.source.now) (left c.reach_line.new.source) reached c.in_ok-take_event-in-Some.ensures.answers
+    let reached = then_takes c.args.self.now c.open.new.self now (Err NoMemory) (left c.args.source.now) (left c.open.new.source)
+    (left c.reach_line.new.source) c.in_ok-config.ensures.takes c.in_ok-reach_line.ensures.takes in
+    then_answers c.args.self.now now c.take_event.new.self (Ok (Some c.in_ok-take_event-in-Some.field-0)) (left c.args.source.now)
+    (left c.reach_line.new.source) reached c.in_ok-take_event-in-Some.ensures.answers
 
 pub returns-in_err-take_event-in-Some-clause-takes : goal.returns-in_err-take_event-in-Some-clause-takes
 returns-in_err-take_event-in-Some-clause-takes g c =
     let left = g.S.Source.left in
     let now = c.reach_line.new.self in
-    let reached = then_takes c.args.self.now c.open.new.self now (Err NoMemory) (left c.args.source.now) (left c.open.new.source) (left c.reach_line.new.source) c.in_ok-config.ensures.takes c.in_ok-reach_line.ensures.takes in
+    let reached = then_takes c.args.self.now c.open.new.self now (Err NoMemory) (left c.args.source.now) (left c.open.new.source)
+    (left c.reach_line.new.source) c.in_ok-config.ensures.takes c.in_ok-reach_line.ensures.takes in
     let p = err_from_is_err_and c.from_residual-in_err-take_event-in-Some.result c.from_residual-in_err-take_event-in-Some.ensures.1 in
-    rw (p.1, p.2) (then_answers c.args.self.now now c.take_event.new.self (Err c.in_err-take_event-in-Some.field-0.0) (left c.args.source.now) (left c.reach_line.new.source) reached c.in_err-take_event-in-Some.ensures.answers)
+    rw (p.1, p.2) (then_answers c.args.self.now now c.take_event.new.self (Err c.in_err-take_event-in-Some.field-0.0)
+    (left c.args.source.now) (left c.reach_line.new.source) reached c.in_err-take_event-in-Some.ensures.answers)

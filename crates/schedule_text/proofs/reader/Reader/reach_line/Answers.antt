@@ -14,7 +14,8 @@ loop-first-preserved g c =
     record {
       config = c.in_ok-read_piece.ensures.config ∙ kept.config;
       line = c.in_ok-read_piece.ensures.line ∙ kept.line;
-      takes = then_takes c.args.self.now c.loop-first.self c.read_piece.new.self (Err NoMemory) (left c.args.source.now) (left c.loop-first.source) (left c.read_piece.new.source) kept.takes c.in_ok-read_piece.ensures.takes;
+      takes = then_takes c.args.self.now c.loop-first.self c.read_piece.new.self (Err NoMemory) (left c.args.source.now)
+          (left c.loop-first.source) (left c.read_piece.new.source) kept.takes c.in_ok-read_piece.ensures.takes;
       unread = λ needs.
           let stayed = kept.unread needs in
           absurd (needs_a_read c.loop-first.self c.in_default.ensures going (rw (stayed.1) needs));
@@ -25,4 +26,6 @@ pub returns-in_err-read_piece-clause-takes : goal.returns-in_err-read_piece-clau
 returns-in_err-read_piece-clause-takes g c =
     let left = g.S.Source.left in
     let p = err_from_is_err_and c.from_residual.result c.from_residual.ensures.1 in
-    rw (p.1, p.2) (then_takes c.args.self.now c.loop-first.self c.read_piece.new.self (Err c.in_err-read_piece.field-0.0) (left c.args.source.now) (left c.loop-first.source) (left c.read_piece.new.source) c.loop-first.invariant.takes c.in_err-read_piece.ensures.takes)
+    rw (p.1, p.2) (then_takes c.args.self.now c.loop-first.self c.read_piece.new.self (Err c.in_err-read_piece.field-0.0)
+    (left c.args.source.now) (left c.loop-first.source) (left c.read_piece.new.source) c.loop-first.invariant.takes
+    c.in_err-read_piece.ensures.takes)

@@ -17,4 +17,5 @@ returns-in-Ok-clause-answers c =
     let took : event_of c.args.config inside.line (take c.args.first.len c.as_slice.result.now) ≡ Ok c.in-Ok.event = c.in-Ok.ensures in
     let first = rw (← c.self.view_is) at c.requires.first in
     let config = rw (← c.self.view_is) at c.requires.config in
-    rw (← c.self.view_is, config, c.advance.ensures) (event_taken inside.line inside.buffer inside.ended c.args.first first c.args.config c.in-Ok.event (rw c.as_slice.ensures at took))
+    rw (← c.self.view_is, config, c.advance.ensures)
+    (event_taken inside.line inside.buffer inside.ended c.args.first first c.args.config c.in-Ok.event (rw c.as_slice.ensures at took))

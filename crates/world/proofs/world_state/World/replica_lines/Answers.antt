@@ -3,4 +3,10 @@ use Rattle.facts.proofs.Limits.{is_configuration-few_replicas}
 use Rattle.world.proofs.world_state.World.replica_lines.Goals as goal
 
 pub put_replicas-requires : goal.put_replicas-requires
-put_replicas-requires g c = omega (arith, is_configuration-few_replicas c.self.inside.actors.config c.replicas-count.ensures.limits, c.self.invariant, ap length c.deref.ensures.value)
+put_replicas-requires g c = omega (
+  arith,
+  is_configuration-few_replicas c.self.inside.actors.config c.replicas-count.ensures.limits,
+  c.self.invariant,
+  ap length
+      c.deref.ensures.value,
+)
