@@ -80,6 +80,7 @@ impl Reader {
         ensures none_left { LeavesNone self.new result }
         ensures cause { HasCauseFor (S.fault_count source.old) (S.fault_count source.new)
             NextError.ReadFault result }
+        ensures config { IsSome self.old.config → self.new.config ≡ self.old.config }
         ensures line { IsSome self.old.config → self.new.line ≡ self.old.line + lines_taken result }
 
         // The source is not asked after its end, nor where a line behind line 1 is decided.
@@ -193,6 +194,7 @@ impl Reader {
         requires first { IsFirst self.old first }
         requires config { self.old.config ≡ Some config }
         ensures answers { Answers self.old self.new (answer_with result) }
+        ensures config { self.new.config ≡ self.old.config }
         ensures line { self.new.line ≡ self.old.line + lines_taken (answer_with result) }
         ensures no_fault { result ≢ Err NextError.ReadFault }
     {

@@ -4,7 +4,7 @@ use Rattle.schedule_text.specs.Reading.{Reading}
 use Rattle.schedule_text.specs.Transcript.{transcript_line}
 use Rattle.safety.proofs.Answers.{results_short}
 use Rattle.replay.proofs.Beginning.{opened, unopened}
-use Rattle.replay.proofs.Progressing.{stopped, finished, advanced, refused_event, starved}
+use Rattle.replay.proofs.Progressing.{stopped, finished, advanced, refused_event}
 use Rattle.replay.proofs.Safely.{done_is_safe}
 use Rattle.replay.proofs.replayed.replay_with.Goals as goal
 
@@ -32,6 +32,9 @@ loop-turn-init g c =
     c.in_ok-transcript_line.ensures.ok ∙ ap (λ (t : List ℕ). t ++ transcript_line config) c.new-pending.ensures.items in
     record {
       going = (config, rw (text, c.in_ok-world.ensures) going);
+      opened = rw c.in-Ok.ensures.config tt;
+      lines = omega (arith, c.in-Ok.ensures.line.0);
+      most = c.in-Ok.ensures.line.1;
       read = c.in-Ok.ensures.cause.later;
       write = omega arith;
     }
@@ -51,6 +54,9 @@ loop-turn-preserved g c =
             c.loop-turn.world.state c.take_event.new.world.state c.in-Ok-Some.event
             kept.going.1 (rw c.in-Ok-Some.field-0-is at c.in-Ok-Some.ensures.takes) c.in_ok-take_event-in-Ok-Some.ensures.takes,
       );
+      opened = rw (c.in-Ok-Some.ensures.config kept.opened) kept.opened;
+      lines = let one = (rw c.in-Ok-Some.field-0-is at c.in-Ok-Some.ensures.line) kept.opened in omega (arith, one, kept.lines);
+      most = rw (← c.line.ensures.value) c.line.ensures.most;
       read = omega (arith, kept.read, c.in-Ok-Some.ensures.cause.later);
       write = omega (arith, kept.write, c.in_ok-take_event-in-Ok-Some.ensures.cause.later);
     }
@@ -106,10 +112,3 @@ returns-in-Err-next-clause-ends g c =
     c.loop-turn.pending.items c.loop-turn.reader c.next.new.self kept.going.0 c.loop-turn.world.state c.in-Err-next.e
     c.stop-in-Err-next.result
     kept.going.1 c.in-Err-next.ensures.takes c.in-Err-next.ensures.none_left c.stop-in-Err-next.ensures.stops
-
-pub returns-clause-ends : goal.returns-clause-ends
-returns-clause-ends g c =
-    let kept = c.loop-turn.invariant in
-    starved g.H.Host.meaning (g.S.Source.left c.args.source.now) (g.S.Source.left c.loop-turn.source) (g.K.Sink.held c.args.sink.now)
-    (g.K.Sink.held c.loop-turn.sink)
-    c.loop-turn.pending.items c.loop-turn.reader kept.going.0 c.loop-turn.world.state kept.going.1

@@ -1,4 +1,6 @@
-use Rattle.std.proofs.Common.{◌≤◌}
+use Rattle.std.proofs.Common.{◌≤◌, ◌<◌}
+use Rattle.std.specs.Prelude.{IsSome}
+use Rattle.nop_types.specs.declared.limits.TheConstants.{MAX_LINES}
 use Rattle.nop_types.specs.Configuration.{Configuration}
 use Rattle.replay.specs.Progress.{GoingOf}
 use Rattle.replay.proofs.replayed.replay_with.Given as goal
@@ -8,6 +10,9 @@ invariant-loop-turn g l =
     record {
       going : (c : Configuration) × GoingOf g.H.Host.meaning (g.S.Source.left l.fn.source) (g.S.Source.left l.source)
           (g.K.Sink.held l.fn.sink) (g.K.Sink.held l.sink) l.pending.items l.reader c l.world.state;
+      opened : IsSome l.reader.config;
+      lines : l.turn < l.reader.line;
+      most : l.reader.line ≤ MAX_LINES;
       read : g.S.Source.fault_count l.fn.source ≤ g.S.Source.fault_count l.source;
       write : g.K.Sink.fault_count l.fn.sink ≤ g.K.Sink.fault_count l.sink;
     }
