@@ -48,9 +48,11 @@ voters_of_set mask q high =
     filter_same (is_set (set mask q)) (λ k. (k == q) || has_vote (voters_of mask) k) 0 MAX_REPLICAS
     (λ k from below. set_is mask q k high ∙ ap (λ b. (k == q) || b) (sym (has_voter mask k (omega arith))))
 
-pub voters_of_set_again : (mask q : ℕ) → q < MAX_REPLICAS → Has (voters_of mask) q → voters_of (bit_or mask (1 * 2 ^ q % 2 ^ 8)) ≡ voters_of mask
+pub voters_of_set_again : (mask q : ℕ) → q < MAX_REPLICAS → Has (voters_of mask) q
+    → voters_of (bit_or mask (1 * 2 ^ q % 2 ^ 8)) ≡ voters_of mask
 unfolding voters_of
-voters_of_set_again mask q high voted = filter_same (is_set (set mask q)) (is_set mask) 0 MAX_REPLICAS (λ k from below. set_is mask q k high ∙ at k (k == q) refl)
+voters_of_set_again mask q high voted =
+    filter_same (is_set (set mask q)) (is_set mask) 0 MAX_REPLICAS (λ k from below. set_is mask q k high ∙ at k (k == q) refl)
   where
     at : (k : ℕ) (b : Bool) → (k == q) ≡ b → (b || is_set mask k) ≡ is_set mask k
     at k true e =
@@ -75,17 +77,23 @@ ones_of_bit (suc (suc b)) small = absurd (omega arith)
 ones_more : (n : ℕ) → count_ones n ≡ count_ones (n / 2) + count_ones (n % 2)
 ones_more n = ap count_ones (omega arith) ∙ ones_cat 1 (n / 2) (n % 2) (omega arith)
 
-length_filtered : (m n a : ℕ) (p : ℕ → Bool) → n < 2 ^ m → ((i : ℕ) → i < m → p (a + i) ≡ is_set n i) → length (filter p (range_with_len a m)) ≡ count_ones n
+length_filtered : (m n a : ℕ) (p : ℕ → Bool) → n < 2 ^ m → ((i : ℕ) → i < m → p (a + i) ≡ is_set n i)
+    → length (filter p (range_with_len a m)) ≡ count_ones n
 length_filtered zero n a p small h = omega (arith, ones-le 0 n small)
 length_filtered (suc m) n a p small h =
     let half : n / 2 < 2 ^ m = omega (arith, pow-suc 2 m) in
-    let rest = length_filtered m (n / 2) (a + 1) p half (λ i less. ap p (omega arith) ∙ h (suc i) (omega arith) ∙ ap (λ b. b == 1) (bit_at-suc n i)) in
+    let rest =
+        length_filtered m (n / 2) (a + 1) p half
+        (λ i less. ap p (omega arith) ∙ h (suc i) (omega arith) ∙ ap (λ b. b == 1) (bit_at-suc n i)) in
     let first : p a ≡ ((n % 2) == 1) = ap p (omega arith) ∙ h 0 (omega arith) ∙ ap (λ b. b == 1) (bit_at_lowest n) in
     at (p a) first rest
   where
-    at : (b : Bool) → b ≡ ((n % 2) == 1) → length (filter p (range_with_len (a + 1) m)) ≡ count_ones (n / 2) → length (cond b (a ∷ filter p (range_with_len (a + 1) m)) (filter p (range_with_len (a + 1) m))) ≡ count_ones n
-    at true e rest = let bit : count_ones (n % 2) ≡ 1 = ones_of_bit (n % 2) (omega arith) ∙ ap (λ c. cond c 1 0) (sym e) in omega (arith, rest, ones_more n, bit)
-    at false e rest = let bit : count_ones (n % 2) ≡ 0 = ones_of_bit (n % 2) (omega arith) ∙ ap (λ c. cond c 1 0) (sym e) in omega (arith, rest, ones_more n, bit)
+    at : (b : Bool) → b ≡ ((n % 2) == 1) → length (filter p (range_with_len (a + 1) m)) ≡ count_ones (n / 2)
+        → length (cond b (a ∷ filter p (range_with_len (a + 1) m)) (filter p (range_with_len (a + 1) m))) ≡ count_ones n
+    at true e rest = let bit : count_ones (n % 2) ≡ 1 = ones_of_bit (n % 2) (omega arith) ∙ ap (λ c. cond c 1 0) (sym e) in
+        omega (arith, rest, ones_more n, bit)
+    at false e rest = let bit : count_ones (n % 2) ≡ 0 = ones_of_bit (n % 2) (omega arith) ∙ ap (λ c. cond c 1 0) (sym e) in
+        omega (arith, rest, ones_more n, bit)
 
 pub length_of_voters : (mask : ℕ) → mask < 2 ^ MAX_REPLICAS → count_ones mask ≡ length (voters_of mask)
 unfolding voters_of

@@ -29,7 +29,8 @@ has_to (v ∷ votes) k (suc i) e = at (v == k) (has_to votes k i e)
     at true h = refl
     at false h = h
 
-has_with : (votes : List ℕ) (q k : ℕ) → has_vote (with_vote votes q) k ≡ (((k == q) || has_vote votes k) && has_vote (range_with_len 0 MAX_REPLICAS) k)
+has_with : (votes : List ℕ) (q k : ℕ)
+    → has_vote (with_vote votes q) k ≡ (((k == q) || has_vote votes k) && has_vote (range_with_len 0 MAX_REPLICAS) k)
 unfolding with_vote
 has_with votes q k = has_filtered (λ j. (j == q) || has_vote votes j) (range_with_len 0 MAX_REPLICAS) k
 
@@ -48,12 +49,16 @@ from_one votes q k (inr has) = at (k == q) (has_to votes k has.0 has.1)
 pub members_of_with_vote : (votes : List ℕ) (q k : ℕ) → Has (with_vote votes q) k ↔ ((k < MAX_REPLICAS) × ((k ≡ q) ⊎ Has votes k))
 members_of_with_vote votes q k = (
   λ h.
-      let parts = and_parts ((k == q) || has_vote votes k) (has_vote (range_with_len 0 MAX_REPLICAS) k) (sym (has_with votes q k) ∙ has_to (with_vote votes q) k h.0 h.1) in
+      let parts =
+          and_parts ((k == q) || has_vote votes k) (has_vote (range_with_len 0 MAX_REPLICAS) k)
+          (sym (has_with votes q k) ∙ has_to (with_vote votes q) k h.0 h.1) in
       (range_has 0 MAX_REPLICAS k parts.1, one_of votes q k (k == q) refl parts.0),
-  λ h. has_from (with_vote votes q) k (has_with votes q k ∙ ap (λ b. b && has_vote (range_with_len 0 MAX_REPLICAS) k) (from_one votes q k h.1) ∙ has_range 0 MAX_REPLICAS k (omega arith) h.0),
+  λ h. has_from (with_vote votes q) k (has_with votes q k
+      ∙ ap (λ b. b && has_vote (range_with_len 0 MAX_REPLICAS) k) (from_one votes q k h.1) ∙ has_range 0 MAX_REPLICAS k (omega arith) h.0),
 )
 
-pub with_vote_apart : (votes : List ℕ) (q i j k : ℕ) → slice_get (with_vote votes q) i ≡ Some k → slice_get (with_vote votes q) j ≡ Some k → i ≡ j
+pub with_vote_apart : (votes : List ℕ) (q i j k : ℕ) → slice_get (with_vote votes q) i ≡ Some k → slice_get (with_vote votes q) j ≡ Some k
+    → i ≡ j
 unfolding with_vote
 with_vote_apart votes q i j k e f = filter_apart (λ l. (l == q) || has_vote votes l) 0 MAX_REPLICAS i j k e f
 
@@ -62,7 +67,8 @@ true_last true b e = e
 true_last false b e = refl
 
 has_with_within : (votes : List ℕ) (q k : ℕ) → k < MAX_REPLICAS → has_vote (with_vote votes q) k ≡ ((k == q) || has_vote votes k)
-has_with_within votes q k high = has_with votes q k ∙ true_last ((k == q) || has_vote votes k) (has_vote (range_with_len 0 MAX_REPLICAS) k) (has_range 0 MAX_REPLICAS k (omega arith) high)
+has_with_within votes q k high = has_with votes q k
+    ∙ true_last ((k == q) || has_vote votes k) (has_vote (range_with_len 0 MAX_REPLICAS) k) (has_range 0 MAX_REPLICAS k (omega arith) high)
 
 pub with_vote_again : (votes : List ℕ) (q r : ℕ) → Has (with_vote votes q) r → with_vote (with_vote votes q) r ≡ with_vote votes q
 unfolding with_vote
@@ -70,7 +76,8 @@ with_vote_again votes q r has =
     filter_same (λ k. (k == r) || has_vote (with_vote votes q) k) (λ k. (k == q) || has_vote votes k) 0 MAX_REPLICAS
     (λ k from below. at k (k == r) refl (has_with_within votes q k (omega arith)))
   where
-    at : (k : ℕ) (b : Bool) → (k == r) ≡ b → has_vote (with_vote votes q) k ≡ ((k == q) || has_vote votes k) → (b || has_vote (with_vote votes q) k) ≡ ((k == q) || has_vote votes k)
+    at : (k : ℕ) (b : Bool) → (k == r) ≡ b → has_vote (with_vote votes q) k ≡ ((k == q) || has_vote votes k)
+        → (b || has_vote (with_vote votes q) k) ≡ ((k == q) || has_vote votes k)
     at k true e h =
         let same : k ≡ r = grind (arith, nat_tests, e) in
         sym (ap (has_vote (with_vote votes q)) same ∙ has_to (with_vote votes q) r has.0 has.1) ∙ h

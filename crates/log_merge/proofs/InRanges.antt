@@ -39,7 +39,8 @@ two_fit (Some x) (Some y) h g = both_fit x.entry y.entry x y h g
 
 chosen_fits : (cs : List Change) (k : ℕ) → AllByRecursion (λ c. LogFits c.log) cs → ToldFits (chosen cs k)
 chosen_fits [] k h = tt
-chosen_fits (c ∷ cs) k h = two_fit (told c.sender (slot_of c.log k)) (chosen cs k) (slot_fits c.log k c.sender h.0.each) (chosen_fits cs k h.1)
+chosen_fits (c ∷ cs) k h =
+    two_fit (told c.sender (slot_of c.log k)) (chosen cs k) (slot_fits c.log k c.sender h.0.each) (chosen_fits cs k h.1)
 
 entry_fits : (o : Option Told) → ToldFits o → EntryFits (entry_of o)
 entry_fits None h = tt

@@ -27,7 +27,8 @@ noop_in_merge cs k = at (winner cs k)
       λ h. some ∙ ap (λ (x : Entry). Some x) (only_noop w.entry w.sender h.0 (wins h.0 NoOp h.1)),
     )
 
-lowest_is : (cs : List Change) (k : ℕ) (r : Request) (s : ℕ) → HasInSlot cs k s (Req r) → ((t : ℕ) (x : Entry) → HasInSlot cs k t x → WinsBy (Req r) x s t) → HasLowest cs k r
+lowest_is : (cs : List Change) (k : ℕ) (r : Request) (s : ℕ) → HasInSlot cs k s (Req r)
+    → ((t : ℕ) (x : Entry) → HasInSlot cs k t x → WinsBy (Req r) x s t) → HasLowest cs k r
 lowest_is cs k r s has wins = record {
   no_noop = λ h. elim (wins h.0 NoOp h.1) [ ];
   sender = s;
@@ -41,7 +42,9 @@ lowest_is cs k r s has wins = record {
 
 same_entry : (cs : List Change) (k s t : ℕ) (x y : Entry) → HasDistinctSenders cs → HasInSlot cs k s x → HasInSlot cs k t y → s ≡ t → x ≡ y
 same_entry cs k s t x y distinct h g e =
-    let place = distinct h.told.member.0 g.told.member.0 h.told.change g.told.change h.told.member.1 g.told.member.1 (h.told.sender ∙ e ∙ sym g.told.sender) in
+    let place =
+        distinct h.told.member.0 g.told.member.0 h.told.change g.told.change h.told.member.1 g.told.member.1
+        (h.told.sender ∙ e ∙ sym g.told.sender) in
     let left = h.told.member.1 in
     let right = g.told.member.1 in
     let change : h.told.change ≡ g.told.change = cc in
@@ -49,14 +52,17 @@ same_entry cs k s t x y distinct h g e =
     let entry : Some x ≡ Some y = sym h.entry ∙ ap (λ (l : List Entry). slot_of l k) log ∙ g.entry in
     cc
 
-lowest_wins : (cs : List Change) (k : ℕ) (r : Request) (w : Told) → HasDistinctSenders cs → HasLowest cs k r → HasInSlot cs k w.sender w.entry → ((s : ℕ) (x : Entry) → HasInSlot cs k s x → WinsBy w.entry x w.sender s) → w.entry ≡ Req r
+lowest_wins : (cs : List Change) (k : ℕ) (r : Request) (w : Told) → HasDistinctSenders cs → HasLowest cs k r
+    → HasInSlot cs k w.sender w.entry → ((s : ℕ) (x : Entry) → HasInSlot cs k s x → WinsBy w.entry x w.sender s) → w.entry ≡ Req r
 lowest_wins cs k r w distinct h has wins = at w.entry has (wins h.sender (Req r) h.request)
   where
     at : (x : Entry) → HasInSlot cs k w.sender x → WinsBy x (Req r) w.sender h.sender → x ≡ Req r
     at NoOp g less = absurd (h.no_noop (w.sender, g))
-    at (Req q) g less = same_entry cs k w.sender h.sender (Req q) (Req r) distinct g h.request (omega (arith, less, h.lowest w.sender (Req q) g))
+    at (Req q) g less =
+        same_entry cs k w.sender h.sender (Req q) (Req r) distinct g h.request (omega (arith, less, h.lowest w.sender (Req q) g))
 
-pub request_in_merge : (cs : List Change) (k : ℕ) (r : Request) → HasDistinctSenders cs → (slot_of (merge cs) k ≡ Some (Req r)) ↔ HasLowest cs k r
+pub request_in_merge : (cs : List Change) (k : ℕ) (r : Request) → HasDistinctSenders cs
+    → (slot_of (merge cs) k ≡ Some (Req r)) ↔ HasLowest cs k r
 request_in_merge cs k r distinct = at (winner cs k)
   where
     at : Winner cs k → (slot_of (merge cs) k ≡ Some (Req r)) ↔ HasLowest cs k r
@@ -125,6 +131,7 @@ merge_of_same cs ds distinct same = same_slots (merge cs) (merge ds) (λ k. at k
         on (Somebody w some has wins) = absurd (nobody w.sender w.entry (carried cs ds k w.sender w.entry same has))
     at k (Somebody w some has wins) = on w.entry has wins ∙ sym some
       where
-        on : (x : Entry) → HasInSlot ds k w.sender x → ((s : ℕ) (y : Entry) → HasInSlot ds k s y → WinsBy x y w.sender s) → slot_of (merge cs) k ≡ Some x
+        on : (x : Entry) → HasInSlot ds k w.sender x → ((s : ℕ) (y : Entry) → HasInSlot ds k s y → WinsBy x y w.sender s)
+            → slot_of (merge cs) k ≡ Some x
         on NoOp h g = (noop_in_merge cs k).1 (w.sender, carried ds cs k w.sender NoOp (turned cs ds same) h)
         on (Req r) h g = (request_in_merge cs k r distinct).1 (lowest_carried ds cs k r (turned cs ds same) (lowest_is ds k r w.sender h g))

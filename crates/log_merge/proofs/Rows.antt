@@ -17,22 +17,27 @@ abbrev change : ℕ → View → ℕ → List Entry → Change
 change sender last_normal next log = record { sender = sender; last_normal = last_normal; next = next; log = log }
 
 -- a NO-OP wins from either side, and the lower sender among requests, in either order of the list
-row_1 : merge (change 2 (view 0 1) 3 (req 1 ∷ req 2 ∷ []) ∷ change 1 (view 0 1) 4 (NoOp ∷ req 3 ∷ req 4 ∷ []) ∷ []) ≡ NoOp ∷ req 3 ∷ req 4 ∷ []
+row_1 : merge (change 2 (view 0 1) 3 (req 1 ∷ req 2 ∷ []) ∷ change 1 (view 0 1) 4 (NoOp ∷ req 3 ∷ req 4 ∷ []) ∷ [])
+    ≡ NoOp ∷ req 3 ∷ req 4 ∷ []
 row_1 = refl
 
-row_2 : merge (change 1 (view 0 1) 3 (req 1 ∷ req 2 ∷ []) ∷ change 2 (view 0 1) 4 (req 5 ∷ req 3 ∷ NoOp ∷ []) ∷ []) ≡ req 1 ∷ req 2 ∷ NoOp ∷ []
+row_2 : merge (change 1 (view 0 1) 3 (req 1 ∷ req 2 ∷ []) ∷ change 2 (view 0 1) 4 (req 5 ∷ req 3 ∷ NoOp ∷ []) ∷ [])
+    ≡ req 1 ∷ req 2 ∷ NoOp ∷ []
 row_2 = refl
 
 row_3 : merge [] ≡ []
 row_3 = refl
 
 -- only the changes of the greatest last normal view count; next is theirs in the same session, and 1 in another
-row_4 : start_of (view 2 1) (change 0 (view 1 1) 3 (req 1 ∷ req 2 ∷ []) ∷ change 1 (view 0 1) 9 (NoOp ∷ []) ∷ change 2 (view 1 1) 2 (req 1 ∷ []) ∷ []) ≡ record { next = 3; log = req 1 ∷ req 2 ∷ [] }
+row_4 : start_of (view 2 1) (change 0 (view 1 1) 3 (req 1 ∷ req 2 ∷ []) ∷ change 1 (view 0 1) 9 (NoOp ∷ []) ∷ change 2 (view 1 1) 2
+    (req 1 ∷ []) ∷ []) ≡ record { next = 3; log = req 1 ∷ req 2 ∷ [] }
 row_4 = refl
 
-row_5 : start_of (view 2 2) (change 0 (view 1 1) 3 (req 1 ∷ req 2 ∷ []) ∷ change 1 (view 0 1) 9 (NoOp ∷ []) ∷ []) ≡ record { next = 1; log = req 1 ∷ req 2 ∷ [] }
+row_5 : start_of (view 2 2) (change 0 (view 1 1) 3 (req 1 ∷ req 2 ∷ []) ∷ change 1 (view 0 1) 9 (NoOp ∷ []) ∷ [])
+    ≡ record { next = 1; log = req 1 ∷ req 2 ∷ [] }
 row_5 = refl
 
 -- sessions rank before leader numbers
-row_6 : start_of (view 6 2) (change 0 (view 5 1) 3 (req 1 ∷ []) ∷ change 1 (view 0 2) 7 (req 2 ∷ []) ∷ []) ≡ record { next = 7; log = req 2 ∷ [] }
+row_6 : start_of (view 6 2) (change 0 (view 5 1) 3 (req 1 ∷ []) ∷ change 1 (view 0 2) 7 (req 2 ∷ []) ∷ [])
+    ≡ record { next = 7; log = req 2 ∷ [] }
 row_6 = refl

@@ -10,7 +10,8 @@ use Rattle.log_merge.specs.Merge.{Told, told, of_two, chosen, entry_of, longest,
 
 get-map-range : {A : Type 0} (f : ℕ → A) (a n i : ℕ) → slice_get (map f (range_with_len a n)) i ≡ cond (nat_lt i n) (Some (f (a + i))) None
 get-map-range f a zero i = rw (let past : nat_lt i zero ≡ false = grind (arith, nat_tests) in past) refl
-get-map-range f a (suc n) zero = rw (let here : nat_lt zero (suc n) ≡ true = grind (arith, nat_tests) in here) (ap (λ k. Some (f k)) (omega arith))
+get-map-range f a (suc n) zero =
+    rw (let here : nat_lt zero (suc n) ≡ true = grind (arith, nat_tests) in here) (ap (λ k. Some (f k)) (omega arith))
 get-map-range f a (suc n) (suc i) =
     get-map-range f (a + 1) n i
     ∙ ap (λ b. cond b (Some (f (a + 1 + i))) None) (let less : nat_lt i n ≡ nat_lt (suc i) (suc n) = grind (arith, nat_tests) in less)
@@ -19,7 +20,8 @@ get-map-range f a (suc n) (suc i) =
 some-get : {A : Type 0} (xs : List A) (i : ℕ) → is_some (slice_get xs i) ≡ nat_lt i (length xs)
 some-get [] i = let past : nat_lt i zero ≡ false = grind (arith, nat_tests) in sym past
 some-get (x ∷ xs) zero = let here : nat_lt zero (suc (length xs)) ≡ true = grind (arith, nat_tests) in sym here
-some-get (x ∷ xs) (suc i) = some-get xs i ∙ (let less : nat_lt i (length xs) ≡ nat_lt (suc i) (suc (length xs)) = grind (arith, nat_tests) in less)
+some-get (x ∷ xs) (suc i) =
+    some-get xs i ∙ (let less : nat_lt i (length xs) ≡ nat_lt (suc i) (suc (length xs)) = grind (arith, nat_tests) in less)
 
 some-told : (s : ℕ) (o : Option Entry) → is_some (told s o) ≡ is_some o
 some-told s None = refl

@@ -32,22 +32,27 @@ wins_on (Req o) (Req p) (Req q) r s t h g = omega (arith, h, g)
 abbrev WinsBoth : Told → Told → Told → Type 0
 WinsBoth w a b = Wins w a × Wins w b
 
-both_wins : (x y : Entry) (s t : ℕ) → let a : Told = record { sender = s; entry = x } in let b : Told = record { sender = t; entry = y } in WinsBoth (of_both x y a b) a b
+both_wins : (x y : Entry) (s t : ℕ) → let a : Told =
+    record { sender = s; entry = x } in let b : Told = record { sender = t; entry = y } in WinsBoth (of_both x y a b) a b
 both_wins NoOp y s t = (tt, tt)
 both_wins (Req q) NoOp s t = (tt, tt)
 both_wins (Req q) (Req r) s t = at (nat_le s t) refl
   where
-    at : (b : Bool) → nat_le s t ≡ b → WinsBoth (cond b (record { sender = s; entry = Req q }) (record { sender = t; entry = Req r })) (record { sender = s; entry = Req q }) (record { sender = t; entry = Req r })
+    at : (b : Bool) → nat_le s t ≡ b
+        → WinsBoth (cond b (record { sender = s; entry = Req q }) (record { sender = t; entry = Req r }))
+        (record { sender = s; entry = Req q }) (record { sender = t; entry = Req r })
     at true e = (omega arith, grind (arith, nat_tests, e))
     at false e = (grind (arith, nat_tests, e), omega arith)
 
 two_wins_left : (a : Told) (o : Option Told) (w : Told) → of_two (Some a) o ≡ Some w → Wins w a
 two_wins_left a None w e = let same : a ≡ w = cc in rw (← same) (wins_same a.entry a.sender)
-two_wins_left a (Some b) w e = let same : of_both a.entry b.entry a b ≡ w = cc in rw (← same) (both_wins a.entry b.entry a.sender b.sender).0
+two_wins_left a (Some b) w e =
+    let same : of_both a.entry b.entry a b ≡ w = cc in rw (← same) (both_wins a.entry b.entry a.sender b.sender).0
 
 two_wins_right : (o : Option Told) (b : Told) (w : Told) → of_two o (Some b) ≡ Some w → Wins w b
 two_wins_right None b w e = let same : b ≡ w = cc in rw (← same) (wins_same b.entry b.sender)
-two_wins_right (Some a) b w e = let same : of_both a.entry b.entry a b ≡ w = cc in rw (← same) (both_wins a.entry b.entry a.sender b.sender).1
+two_wins_right (Some a) b w e =
+    let same : of_both a.entry b.entry a b ≡ w = cc in rw (← same) (both_wins a.entry b.entry a.sender b.sender).1
 
 -- ---- what is chosen was told, and wins against all that was told
 
@@ -84,14 +89,16 @@ two_none None b e = (refl, e)
 two_none (Some a) None e = absurd cc
 two_none (Some a) (Some b) e = absurd cc
 
-none_told : (cs : List Change) (k i : ℕ) (c : Change) → chosen cs k ≡ None → slice_get cs i ≡ Some c → told c.sender (slot_of c.log k) ≡ None
+none_told : (cs : List Change) (k i : ℕ) (c : Change) → chosen cs k ≡ None → slice_get cs i ≡ Some c
+    → told c.sender (slot_of c.log k) ≡ None
 none_told [] k i c e g = absurd cc
 none_told (d ∷ cs) k zero c e g =
     let same : d ≡ c = cc in
     rw (← same) (two_none (told d.sender (slot_of d.log k)) (chosen cs k) e).0
 none_told (d ∷ cs) k (suc i) c e g = none_told cs k i c (two_none (told d.sender (slot_of d.log k)) (chosen cs k) e).1 g
 
-chosen_wins : (cs : List Change) (k i : ℕ) (c : Change) (w t : Told) → slice_get cs i ≡ Some c → told c.sender (slot_of c.log k) ≡ Some t → chosen cs k ≡ Some w → Wins w t
+chosen_wins : (cs : List Change) (k i : ℕ) (c : Change) (w t : Told) → slice_get cs i ≡ Some c → told c.sender (slot_of c.log k) ≡ Some t
+    → chosen cs k ≡ Some w → Wins w t
 chosen_wins [] k i c w t g h e = absurd cc
 chosen_wins (d ∷ cs) k zero c w t g h e =
     let same : d ≡ c = cc in
@@ -99,9 +106,11 @@ chosen_wins (d ∷ cs) k zero c w t g h e =
     two_wins_left t (chosen cs k) w (ap (λ (o : Option Told). of_two o (chosen cs k)) (sym here) ∙ e)
 chosen_wins (d ∷ cs) k (suc i) c w t g h e = on (chosen cs k) refl e (λ b is. chosen_wins cs k i c b t g h is)
   where
-    on : (o : Option Told) → chosen cs k ≡ o → of_two (told d.sender (slot_of d.log k)) o ≡ Some w → ((b : Told) → chosen cs k ≡ Some b → Wins b t) → Wins w t
+    on : (o : Option Told) → chosen cs k ≡ o → of_two (told d.sender (slot_of d.log k)) o ≡ Some w
+        → ((b : Told) → chosen cs k ≡ Some b → Wins b t) → Wins w t
     on None is f less = absurd (let none = none_told cs k i c is g in cc)
-    on (Some b) is f less = wins_on w.entry b.entry t.entry w.sender b.sender t.sender (two_wins_right (told d.sender (slot_of d.log k)) b w f) (less b is)
+    on (Some b) is f less =
+        wins_on w.entry b.entry t.entry w.sender b.sender t.sender (two_wins_right (told d.sender (slot_of d.log k)) b w f) (less b is)
 
 -- ---- the same of who has what in a slot
 
@@ -114,7 +123,8 @@ told_is s (Some x) t e =
 has_from : (cs : List Change) (k : ℕ) (t : Told) → WasTold cs k t → HasInSlot cs k t.sender t.entry
 has_from cs k t h =
     let part = told_is h.change.sender (slot_of h.change.log k) t h.told in
-    record { log = h.change.log; told = record { change = h.change; member = (h.place, h.member); sender = part.1; log = refl }; entry = part.0 }
+    record { log = h.change.log; told = record { change = h.change; member = (h.place, h.member); sender = part.1; log = refl }; entry =
+        part.0 }
 
 has_to : (cs : List Change) (k s : ℕ) (x : Entry) → HasInSlot cs k s x → WasTold cs k (record { sender = s; entry = x })
 has_to cs k s x h = record {
@@ -127,7 +137,8 @@ has_to cs k s x h = record {
 -- what wins in a slot: nothing, and nobody has the slot, or what somebody has there, against all others
 pub data Winner (cs : List Change) (k : ℕ) : Type 0 where
   Nobody : slot_of (merge cs) k ≡ None → ((s : ℕ) (x : Entry) → HasInSlot cs k s x → ⊥) → Winner cs k
-  Somebody : (w : Told) → slot_of (merge cs) k ≡ Some w.entry → HasInSlot cs k w.sender w.entry → ((s : ℕ) (x : Entry) → HasInSlot cs k s x → WinsBy w.entry x w.sender s) → Winner cs k
+  Somebody : (w : Told) → slot_of (merge cs) k ≡ Some w.entry → HasInSlot cs k w.sender w.entry
+      → ((s : ℕ) (x : Entry) → HasInSlot cs k s x → WinsBy w.entry x w.sender s) → Winner cs k
 
 pub winner : (cs : List Change) (k : ℕ) → Winner cs k
 winner cs k = at (chosen cs k) refl

@@ -54,7 +54,8 @@ exec m log = exec_from m [] (opening m) log
 abbrev pub result_of : {S : Type 0} → Meaning S → List Entry → List Entry → Option Entry → Option (List ℕ)
 result_of m before upto None = None
 result_of m before upto (Some NoOp) = None
-result_of m before upto (Some (Req r)) = cond (any_above (ids_of r.client before) r.id) None (option_map (λ k. k.result) ((exec m upto).kept r.client))
+result_of m before upto (Some (Req r)) =
+    cond (any_above (ids_of r.client before) r.id) None (option_map (λ k. k.result) ((exec m upto).kept r.client))
 
 -- the result at a slot, which counts from 1
 abbrev pub result_at : {S : Type 0} → Meaning S → List Entry → ℕ → Option (List ℕ)

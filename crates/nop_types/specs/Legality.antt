@@ -28,7 +28,8 @@ pub record IsAnswered {S : Type 0} (m : Meaning S) (history : List Request) (cli
   pub answer : answer_at m history place ≡ Some result
 
 abbrev pub AcceptedOnce : List Line → Type 0
-AcceptedOnce lines = (k l client id : ℕ) (a b : List ℕ) → slice_get lines k ≡ Some (Accept client id a) → slice_get lines l ≡ Some (Accept client id b) → k ≡ l
+AcceptedOnce lines = (k l client id : ℕ) (a b : List ℕ) → slice_get lines k ≡ Some (Accept client id a)
+    → slice_get lines l ≡ Some (Accept client id b) → k ≡ l
 
 pub record Legal {S : Type 0} (m : Meaning S) (lines : List Line) (history : List Request) : Type 0 where
   -- no two members have the same client and id
@@ -40,7 +41,10 @@ pub record Legal {S : Type 0} (m : Meaning S) (lines : List Line) (history : Lis
   -- at most one for each
   pub once : AcceptedOnce lines
   -- and the pair is in the history with the result
-  pub answered : (k client id : ℕ) (result : List ℕ) → slice_get lines k ≡ Some (Accept client id result) → IsAnswered m history client id result
+  pub answered : (k client id : ℕ) (result : List ℕ) → slice_get lines k ≡ Some (Accept client id result)
+      → IsAnswered m history client id result
   -- where an accept line of A stands before a submit line of B's client and id, A stands before B in the history
-  pub ordered : (k l client id : ℕ) (result : List ℕ) (p : Request) → k < l → slice_get lines k ≡ Some (Accept client id result) → slice_get lines l ≡ Some (Submit p)
-      → (i j : ℕ) (a b : Request) → slice_get history i ≡ Some a → IsOf client id a → slice_get history j ≡ Some b → IsOf p.client p.id b → i < j
+  pub ordered : (k l client id : ℕ) (result : List ℕ) (p : Request) → k < l → slice_get lines k ≡ Some (Accept client id result)
+      → slice_get lines l ≡ Some (Submit p)
+      → (i j : ℕ) (a b : Request) → slice_get history i ≡ Some a → IsOf client id a → slice_get history j ≡ Some b → IsOf p.client p.id b
+          → i < j

@@ -20,7 +20,8 @@ chosen : (b : Bool) (x y z : Result Datagram Bad) → cond b x y ≡ z → ((b �
 chosen true x y z e = inl (refl, e)
 chosen false x y z e = inr (refl, e)
 
-body_takes : (kind : ℕ) (rest : List ℕ) (d : Datagram) → IsBytes rest → body_of kind rest ≡ Ok d → DatagramFits d × (header kind ++ rest ≡ spelling d)
+body_takes : (kind : ℕ) (rest : List ℕ) (d : Datagram) → IsBytes rest → body_of kind rest ≡ Ok d
+    → DatagramFits d × (header kind ++ rest ≡ spelling d)
 body_takes kind rest d fits e =
     elim (chosen (eqb kind 1) (request_of rest) _ (Ok d) e) [
       | inl here ↦ rw (eqb-true _ _ here.0) (request_takes rest d fits here.1)
@@ -29,13 +30,18 @@ body_takes kind rest d fits e =
         | inr next ↦ elim (chosen (eqb kind 3) (reply_of rest) _ (Ok d) next.1) [
           | inl here ↦ rw (eqb-true _ _ here.0) (reply_takes rest d fits here.1)
           | inr next ↦ elim (chosen (eqb kind 4) (signal_of rest >>= λ f. Ok (datagrams.Install f.sequencer f.number)) _ (Ok d) next.1) [
-            | inl here ↦ rw (eqb-true _ _ here.0) (kind_takes 4 datagrams.Install rest d (λ sequencer n h. h) (λ sequencer n. refl) fits here.1)
-            | inr next ↦ elim (chosen (eqb kind 5) (signal_of rest >>= λ f. Ok (datagrams.Installed f.sequencer f.number)) _ (Ok d) next.1) [
-              | inl here ↦ rw (eqb-true _ _ here.0) (kind_takes 5 datagrams.Installed rest d (λ sequencer n h. h) (λ sequencer n. refl) fits here.1)
+            | inl here ↦
+                rw (eqb-true _ _ here.0) (kind_takes 4 datagrams.Install rest d (λ sequencer n h. h) (λ sequencer n. refl) fits here.1)
+            | inr next ↦
+                elim (chosen (eqb kind 5) (signal_of rest >>= λ f. Ok (datagrams.Installed f.sequencer f.number)) _ (Ok d) next.1) [
+              | inl here ↦
+                  rw (eqb-true _ _ here.0) (kind_takes 5 datagrams.Installed rest d (λ sequencer n h. h) (λ sequencer n. refl) fits here.1)
               | inr next ↦ elim (chosen (eqb kind 6) (signal_of rest >>= λ f. Ok (datagrams.Ping f.sequencer f.number)) _ (Ok d) next.1) [
-                | inl here ↦ rw (eqb-true _ _ here.0) (kind_takes 6 datagrams.Ping rest d (λ sequencer n h. h) (λ sequencer n. refl) fits here.1)
+                | inl here ↦
+                    rw (eqb-true _ _ here.0) (kind_takes 6 datagrams.Ping rest d (λ sequencer n h. h) (λ sequencer n. refl) fits here.1)
                 | inr next ↦ elim (chosen (eqb kind 7) (signal_of rest >>= λ f. Ok (datagrams.Pong f.sequencer f.number)) _ (Ok d) next.1) [
-                  | inl here ↦ rw (eqb-true _ _ here.0) (kind_takes 7 datagrams.Pong rest d (λ sequencer n h. h) (λ sequencer n. refl) fits here.1)
+                  | inl here ↦
+                      rw (eqb-true _ _ here.0) (kind_takes 7 datagrams.Pong rest d (λ sequencer n h. h) (λ sequencer n. refl) fits here.1)
                   | inr next ↦ elim (chosen (eqb kind 8) (fragment_of rest) _ (Ok d) next.1) [
                     | inl here ↦ rw (eqb-true _ _ here.0) (fragment_takes rest d fits here.1)
                     | inr none ↦ absurd (let h = none.1 in cc)
@@ -57,7 +63,9 @@ is_spelled (a ∷ b ∷ c ∷ []) d fits e = absurd cc
 is_spelled (a ∷ b ∷ c ∷ kind ∷ rest) d fits e =
     let magic = guard_ok (not (eqb a 0x4e && eqb b 0x4f)) Magic _ d e in
     let version = guard_ok (not (eqb c 1)) Version _ d magic.1 in
-    let t = body_takes kind rest d (IsBytes-rest kind rest (IsBytes-rest c (kind ∷ rest) (IsBytes-rest b (c ∷ kind ∷ rest) (IsBytes-rest a (b ∷ c ∷ kind ∷ rest) fits)))) version.1 in
+    let t =
+        body_takes kind rest d (IsBytes-rest kind rest
+        (IsBytes-rest c (kind ∷ rest) (IsBytes-rest b (c ∷ kind ∷ rest) (IsBytes-rest a (b ∷ c ∷ kind ∷ rest) fits)))) version.1 in
     let is_a : a ≡ 0x4e = grind (arith, nat_tests, magic.0) in
     let is_b : b ≡ 0x4f = grind (arith, nat_tests, magic.0) in
     let is_c : c ≡ 1 = grind (arith, nat_tests, version.0) in
@@ -78,7 +86,8 @@ pub is_found : (bytes : List ℕ) (r : Result Datagram Bad) → IsBytes bytes �
 is_found bytes (Ok d) fits given = is_spelled bytes d fits given
 is_found bytes (Err e) fits given = tt
 
-pub is_only : (bytes : List ℕ) (r : Result Datagram Bad) (d : Datagram) → Gives r (reading bytes) → Spells d bytes → (r ≡ Ok d) ⊎ (r ≡ Err NoMemory)
+pub is_only : (bytes : List ℕ) (r : Result Datagram Bad) (d : Datagram) → Gives r (reading bytes) → Spells d bytes
+    → (r ≡ Ok d) ⊎ (r ≡ Err NoMemory)
 is_only bytes r d given s = same r (reading bytes) given (ap reading s.spelled ∙ reads_again d s.fits)
   where
     same : (r read : Result Datagram Bad) → Gives r read → read ≡ Ok d → (r ≡ Ok d) ⊎ (r ≡ Err NoMemory)

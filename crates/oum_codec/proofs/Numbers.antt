@@ -29,7 +29,8 @@ pub record Takes (bytes text rest : List ℕ) : Type 0 where
   pub rest_fits : IsBytes rest
 
 pub Takes-then : (a x b y c : List ℕ) → Takes a x b → Takes b y c → Takes a (x ++ y) c
-Takes-then a x b y c p q = record { parts = p.parts ∙ ap (λ (t : List ℕ). x ++ t) q.parts ∙ sym (append_assoc x y c); rest_fits = q.rest_fits }
+Takes-then a x b y c p q =
+    record { parts = p.parts ∙ ap (λ (t : List ℕ). x ++ t) q.parts ∙ sym (append_assoc x y c); rest_fits = q.rest_fits }
 
 -- the numbers below a limit are those of so many bytes
 pub record IsWide (w : Width) (limit : ℕ) : Type 0 where
@@ -65,28 +66,35 @@ wide64 = record {
   below = λ bytes fits. omega (arith, fits 0, fits 1, fits 2, fits 3, fits 4, fits 5, fits 6, fits 7);
 }
 
-pub number_takes : (w : Width) (limit : ℕ) (wide : IsWide w limit) (bytes : List ℕ) (x : ℕ × List ℕ) → IsBytes bytes → number_at w bytes ≡ Some x → Takes bytes (be_bytes w x.0) x.1 × (x.0 < limit)
+pub number_takes : (w : Width) (limit : ℕ) (wide : IsWide w limit) (bytes : List ℕ) (x : ℕ × List ℕ) → IsBytes bytes
+    → number_at w bytes ≡ Some x → Takes bytes (be_bytes w x.0) x.1 × (x.0 < limit)
 number_takes w limit wide bytes x fits e =
     let made : ℕ × List ℕ = (from_be_bytes w (take (byte_len w) bytes), drop (byte_len w) bytes) in
     let g = guard_some (ltb (length bytes) (byte_len w)) (Some made) x e in
     let long : byte_len w ≤ length bytes = ltb-false _ _ g.0 in
-    let front : be_bytes w (from_be_bytes w (take (byte_len w) bytes)) ≡ take (byte_len w) bytes = wide.back (take (byte_len w) bytes) (omega (arith, length-take (byte_len w) bytes)) (IsBytes-take (byte_len w) bytes fits) in
+    let front : be_bytes w (from_be_bytes w (take (byte_len w) bytes)) ≡ take (byte_len w) bytes =
+        wide.back (take (byte_len w) bytes) (omega (arith, length-take (byte_len w) bytes)) (IsBytes-take (byte_len w) bytes fits) in
     subst (λ (y : ℕ × List ℕ). Takes bytes (be_bytes w y.0) y.1 × (y.0 < limit)) (some_is made x g.1)
-    (record { parts = rw front (sym (take-append-drop (byte_len w) bytes)); rest_fits = IsBytes-drop (byte_len w) bytes fits }, wide.below (take (byte_len w) bytes) (IsBytes-take (byte_len w) bytes fits))
+    (record { parts = rw front (sym (take-append-drop (byte_len w) bytes)); rest_fits = IsBytes-drop (byte_len w) bytes fits },
+        wide.below (take (byte_len w) bytes) (IsBytes-take (byte_len w) bytes fits))
 
-pub number_again : (w : Width) (limit : ℕ) (wide : IsWide w limit) (n : ℕ) (rest : List ℕ) → n < limit → number_at w (be_bytes w n ++ rest) ≡ Some (n, rest)
+pub number_again : (w : Width) (limit : ℕ) (wide : IsWide w limit) (n : ℕ) (rest : List ℕ) → n < limit
+    → number_at w (be_bytes w n ++ rest) ≡ Some (n, rest)
 number_again w limit wide n rest lt =
     let len = wide.len n in
     let long : ltb (length (be_bytes w n ++ rest)) (byte_len w) ≡ false = le-ltb _ _ (omega (arith, length-append (be_bytes w n) rest)) in
     rw (long, take_at (be_bytes w n) rest (byte_len w) len, drop_at (be_bytes w n) rest (byte_len w) len, wide.again n lt) refl
 
-pub u16_takes : (bytes : List ℕ) (x : ℕ × List ℕ) → IsBytes bytes → number_at w16 bytes ≡ Some x → Takes bytes (be_bytes w16 x.0) x.1 × (x.0 < 2 ^ 16)
+pub u16_takes : (bytes : List ℕ) (x : ℕ × List ℕ) → IsBytes bytes → number_at w16 bytes ≡ Some x
+    → Takes bytes (be_bytes w16 x.0) x.1 × (x.0 < 2 ^ 16)
 u16_takes = number_takes w16 (2 ^ 16) wide16
 
-pub u32_takes : (bytes : List ℕ) (x : ℕ × List ℕ) → IsBytes bytes → number_at w32 bytes ≡ Some x → Takes bytes (be_bytes w32 x.0) x.1 × (x.0 < 2 ^ 32)
+pub u32_takes : (bytes : List ℕ) (x : ℕ × List ℕ) → IsBytes bytes → number_at w32 bytes ≡ Some x
+    → Takes bytes (be_bytes w32 x.0) x.1 × (x.0 < 2 ^ 32)
 u32_takes = number_takes w32 (2 ^ 32) wide32
 
-pub u64_takes : (bytes : List ℕ) (x : ℕ × List ℕ) → IsBytes bytes → number_at w64 bytes ≡ Some x → Takes bytes (be_bytes w64 x.0) x.1 × (x.0 < 2 ^ 64)
+pub u64_takes : (bytes : List ℕ) (x : ℕ × List ℕ) → IsBytes bytes → number_at w64 bytes ≡ Some x
+    → Takes bytes (be_bytes w64 x.0) x.1 × (x.0 < 2 ^ 64)
 u64_takes = number_takes w64 (2 ^ 64) wide64
 
 pub u16_again : (n : ℕ) (rest : List ℕ) → n < 2 ^ 16 → number_at w16 (be_bytes w16 n ++ rest) ≡ Some (n, rest)
@@ -100,9 +108,12 @@ u64_again = number_again w64 (2 ^ 64) wide64
 
 pub byte_takes : (bytes : List ℕ) (x : ℕ × List ℕ) → IsBytes bytes → byte_at bytes ≡ Some x → Takes bytes (x.0 ∷ []) x.1
 byte_takes [] x fits e = absurd cc
-byte_takes (b ∷ bytes) x fits e = subst (λ (y : ℕ × List ℕ). Takes (b ∷ bytes) (y.0 ∷ []) y.1) (some_is (b, bytes) x e) (record { parts = refl; rest_fits = IsBytes-rest b bytes fits })
+byte_takes (b ∷ bytes) x fits e =
+    subst (λ (y : ℕ × List ℕ). Takes (b ∷ bytes) (y.0 ∷ []) y.1) (some_is (b, bytes) x e)
+    (record { parts = refl; rest_fits = IsBytes-rest b bytes fits })
 
-pub bytes_take : (n : ℕ) (bytes : List ℕ) (x : List ℕ × List ℕ) → IsBytes bytes → bytes_at n bytes ≡ Some x → Takes bytes x.0 x.1 × (length x.0 ≡ n)
+pub bytes_take : (n : ℕ) (bytes : List ℕ) (x : List ℕ × List ℕ) → IsBytes bytes → bytes_at n bytes ≡ Some x
+    → Takes bytes x.0 x.1 × (length x.0 ≡ n)
 bytes_take n bytes x fits e =
     let made : List ℕ × List ℕ = (take n bytes, drop n bytes) in
     let g = guard_some (ltb (length bytes) n) (Some made) x e in
@@ -115,7 +126,8 @@ bytes_again n front rest len =
     let long : ltb (length (front ++ rest)) n ≡ false = le-ltb _ _ (omega (arith, length-append front rest)) in
     rw (long, take_at front rest n len, drop_at front rest n len) refl
 
-pub view_takes : (bytes : List ℕ) (x : View × List ℕ) → IsBytes bytes → view_at bytes ≡ Some x → Takes bytes (view_bytes x.0) x.1 × ViewWidths x.0
+pub view_takes : (bytes : List ℕ) (x : View × List ℕ) → IsBytes bytes → view_at bytes ≡ Some x
+    → Takes bytes (view_bytes x.0) x.1 × ViewWidths x.0
 unfolding view_at
 view_takes bytes x fits e =
     let a = bind_some (number_at w32 bytes) _ x e in
@@ -124,10 +136,12 @@ view_takes bytes x fits e =
     let t1 = u32_takes a.0.1 b.0 t0.0.rest_fits b.1 in
     let both = Takes-then bytes _ _ _ _ t0.0 t1.0 in
     let made : View × List ℕ = (record { leader = a.0.0; session = b.0.0 }, b.0.1) in
-    subst (λ (y : View × List ℕ). Takes bytes (view_bytes y.0) y.1 × ViewWidths y.0) (some_is made x b.2) (both, record { leader = t0.1; session = t1.1 })
+    subst (λ (y : View × List ℕ). Takes bytes (view_bytes y.0) y.1 × ViewWidths y.0) (some_is made x b.2)
+        (both, record { leader = t0.1; session = t1.1 })
 
 pub view_again : (v : View) (rest : List ℕ) → ViewWidths v → view_at (view_bytes v ++ rest) ≡ Some (v, rest)
 unfolding view_at
 view_again v rest fits =
-    let regrouped : view_bytes v ++ rest ≡ be_bytes w32 v.leader ++ (be_bytes w32 v.session ++ rest) = append_assoc (be_bytes w32 v.leader) (be_bytes w32 v.session) rest in
+    let regrouped : view_bytes v ++ rest ≡ be_bytes w32 v.leader ++ (be_bytes w32 v.session ++ rest) =
+        append_assoc (be_bytes w32 v.leader) (be_bytes w32 v.session) rest in
     rw (regrouped, u32_again v.leader (be_bytes w32 v.session ++ rest) fits.leader, u32_again v.session rest fits.session) refl

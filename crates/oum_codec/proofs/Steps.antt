@@ -17,11 +17,13 @@ pub ok_is : {A E : Type 0} (x y : A) → done {E = E} x ≡ done y → x ≡ y
 ok_is x y e = cc
 
 -- a step that found something had a value, from which the next step found it
-pub bind_some : {A B : Type 0} (o : Option A) (next : A → Option B) (y : B) → numbers.◌>>=◌ o next ≡ Some y → (x : A) × (o ≡ Some x) × (next x ≡ Some y)
+pub bind_some : {A B : Type 0} (o : Option A) (next : A → Option B) (y : B) → numbers.◌>>=◌ o next ≡ Some y
+    → (x : A) × (o ≡ Some x) × (next x ≡ Some y)
 bind_some (Some x) next y e = (x, refl, e)
 bind_some None next y e = absurd cc
 
-pub bind_ok : {A B E : Type 0} (r : Result A E) (next : A → Result B E) (y : B) → results.◌>>=◌ r next ≡ Ok y → (x : A) × (r ≡ Ok x) × (next x ≡ Ok y)
+pub bind_ok : {A B E : Type 0} (r : Result A E) (next : A → Result B E) (y : B) → results.◌>>=◌ r next ≡ Ok y
+    → (x : A) × (r ≡ Ok x) × (next x ≡ Ok y)
 bind_ok (Ok x) next y e = (x, refl, e)
 bind_ok (Err d) next y e = absurd cc
 

@@ -44,7 +44,8 @@ reply_fields_at bytes = do
   id ← number_at w64 client.1
   tag ← byte_at id.1
   result_len ← number_at w16 tag.1
-  Some (record { replica = replica.0; view = view.0; slot = slot.0; client = client.0; id = id.0; tag = tag.0; result_len = result_len.0 }, result_len.1)
+  Some (record { replica = replica.0; view = view.0; slot = slot.0; client = client.0; id = id.0; tag = tag.0; result_len = result_len.0 },
+      result_len.1)
 
 -- with tag 0 there is no result
 abbrev pub tag_fits : ℕ → ℕ → Bool
@@ -52,7 +53,9 @@ tag_fits tag result_len = nat_le tag 1 && (nat_le result_len MAX_RESULT_BYTES &&
 
 -- sessions, slots and ids count from 1
 abbrev pub reply_in_range : ReplyFields → Bool
-reply_in_range f = nat_lt f.replica MAX_REPLICAS && (nat_lt 0 f.view.session && (nat_lt 0 f.slot && (nat_le f.slot MAX_SLOTS && (nat_lt 0 f.id && tag_fits f.tag f.result_len))))
+reply_in_range f =
+    nat_lt f.replica MAX_REPLICAS && (nat_lt 0
+    f.view.session && (nat_lt 0 f.slot && (nat_le f.slot MAX_SLOTS && (nat_lt 0 f.id && tag_fits f.tag f.result_len))))
 
 -- of an install, an installed, a ping or a pong: a sequencer's number, and a session or a round
 unfoldable pub signal_fields_at : List ℕ → Option (SignalFields × List ℕ)

@@ -18,7 +18,8 @@ found >>= next = option_and_then next found
 
 -- the number in the bytes of a width, the highest one first
 abbrev pub number_at : Width → List ℕ → Option (ℕ × List ℕ)
-number_at w bytes = if nat_lt (length bytes) (byte_len w) then None else Some (from_be_bytes w (take (byte_len w) bytes), drop (byte_len w) bytes)
+number_at w bytes =
+    if nat_lt (length bytes) (byte_len w) then None else Some (from_be_bytes w (take (byte_len w) bytes), drop (byte_len w) bytes)
 
 -- one byte
 abbrev pub byte_at : List ℕ → Option (ℕ × List ℕ)

@@ -54,14 +54,17 @@ unfoldable pub stamped_of : List ℕ → Result Datagram Bad
 stamped_of bytes = do
   f ← fields_of (stamped_fields_at bytes) stamped_in_range
   op ← sized f.0.request.op_len f.0.request.op_len f.1
-  Ok (datagrams.Stamped (record { session = f.0.session; number = f.0.number; request = record { client = f.0.request.client; id = f.0.request.id; op = op } }))
+  Ok (datagrams.Stamped
+      (record { session = f.0.session; number = f.0.number; request =
+      record { client = f.0.request.client; id = f.0.request.id; op = op } }))
 
 -- of a reply
 unfoldable pub reply_of : List ℕ → Result Datagram Bad
 reply_of bytes = do
   f ← fields_of (reply_fields_at bytes) reply_in_range
   bytes ← sized f.0.result_len f.0.result_len f.1
-  Ok (datagrams.Reply (record { replica = f.0.replica; view = f.0.view; slot = f.0.slot; client = f.0.client; id = f.0.id; tag = f.0.tag; result = bytes }))
+  Ok (datagrams.Reply
+      (record { replica = f.0.replica; view = f.0.view; slot = f.0.slot; client = f.0.client; id = f.0.id; tag = f.0.tag; result = bytes }))
 
 -- of an install, an installed, a ping or a pong: nothing follows their fields
 unfoldable pub signal_of : List ℕ → Result SignalFields Bad

@@ -30,7 +30,8 @@ abbrev pub stamped_bytes : Stamped → List ℕ
 stamped_bytes s = be_bytes w32 s.session ++ be_bytes w64 s.number ++ request_bytes s.request
 
 abbrev pub reply_bytes : Reply → List ℕ
-reply_bytes r = r.replica ∷ [] ++ view_bytes r.view ++ be_bytes w32 r.slot ++ be_bytes w32 r.client ++ be_bytes w64 r.id ++ r.tag ∷ [] ++ counted_bytes r.result
+reply_bytes r = r.replica ∷ [] ++ view_bytes r.view ++ be_bytes w32 r.slot ++ be_bytes w32 r.client ++ be_bytes w64 r.id ++ r.tag ∷ []
+    ++ counted_bytes r.result
 
 -- a sequencer's number, and a session or a round
 abbrev pub signal_bytes : ℕ → ℕ → List ℕ
