@@ -25,7 +25,8 @@ above true n = omega arith
 above false n = omega arith
 
 -- fewer are left
-fewer_at : (r : ℕ) (k : Reply) (left ks : List Reply) (b : Bool) → times r left ≤ times r ks → times r (cond b (k ∷ left) left) ≤ times r (k ∷ ks)
+fewer_at : (r : ℕ) (k : Reply) (left ks : List Reply) (b : Bool) → times r left ≤ times r ks
+    → times r (cond b (k ∷ left) left) ≤ times r (k ∷ ks)
 fewer_at r k left ks true h = grows (k.replica == r) (times r left) (times r ks) h
 fewer_at r k left ks false h = let a = above (k.replica == r) (times r ks) in omega (arith, h, a)
 
@@ -34,7 +35,8 @@ fewer r g [] = omega arith
 fewer r g (k ∷ ks) = fewer_at r k (filter g ks) ks (g k) (fewer r g ks)
 
 -- none of its replica is left
-none_at : (r : ℕ) (k : Reply) (left : List Reply) (b : Bool) → (k.replica == r) ≡ b → times r left ≡ 0 → times r (cond (not b) (k ∷ left) left) ≡ 0
+none_at : (r : ℕ) (k : Reply) (left : List Reply) (b : Bool) → (k.replica == r) ≡ b → times r left ≡ 0
+    → times r (cond (not b) (k ∷ left) left) ≡ 0
 none_at r k left true e h = h
 none_at r k left false e h = rw e h
 
@@ -60,12 +62,14 @@ kept_times r p ks one = at (p.replica == r) refl
     at true e =
         let same : p.replica ≡ r = eqb-true p.replica r e in
         let none : times r (filter (λ k. not (k.replica == p.replica)) ks) ≡ 0 = rw same (none_left r ks) in
-        let push : times r (keep_reply ks p) ≡ times r (filter (λ k. not (k.replica == p.replica)) ks) + one_if (p.replica == r) = times_push r (filter (λ k. not (k.replica == p.replica)) ks) p in
+        let push : times r (keep_reply ks p) ≡ times r (filter (λ k. not (k.replica == p.replica)) ks) + one_if (p.replica == r) =
+            times_push r (filter (λ k. not (k.replica == p.replica)) ks) p in
         let one : one_if (p.replica == r) ≡ 1 = rw e refl in
         omega (arith, none, push, one)
     at false e =
         let some = fewer r (λ k. not (k.replica == p.replica)) ks in
-        let push : times r (keep_reply ks p) ≡ times r (filter (λ k. not (k.replica == p.replica)) ks) + one_if (p.replica == r) = times_push r (filter (λ k. not (k.replica == p.replica)) ks) p in
+        let push : times r (keep_reply ks p) ≡ times r (filter (λ k. not (k.replica == p.replica)) ks) + one_if (p.replica == r) =
+            times_push r (filter (λ k. not (k.replica == p.replica)) ks) p in
         let none : one_if (p.replica == r) ≡ 0 = rw e refl in
         omega (arith, some, push, none, one)
 

@@ -33,7 +33,8 @@ once_more true n e = refl
 once_more false n e = absurd cc
 
 first_counts : (r : ℕ) (k a : Reply) (ks : List Reply) → Some k ≡ Some a → a.replica ≡ r → times r (k ∷ ks) ≡ 1 + times r ks
-first_counts r k a ks e of = once_more (k.replica == r) (times r ks) (eq-eqb k.replica r (ap (λ (x : Reply). x.replica) (same_Some k a e) ∙ of))
+first_counts r k a ks e of =
+    once_more (k.replica == r) (times r ks) (eq-eqb k.replica r (ap (λ (x : Reply). x.replica) (same_Some k a e) ∙ of))
 
 counted : (r : ℕ) (ks : List Reply) (i : ℕ) (a : Reply) → slice_get ks i ≡ Some a → a.replica ≡ r → 1 ≤ times r ks
 counted r [] i a e of = absurd (none-some a e)
@@ -43,7 +44,8 @@ counted r (k ∷ ks) (suc i) a e of =
     let g = above (k.replica == r) (times r ks) in
     omega (arith, h, g)
 
-one_at : (r : ℕ) (ks : List Reply) → times r ks ≤ 1 → (i j : ℕ) (a b : Reply) → slice_get ks i ≡ Some a → a.replica ≡ r → slice_get ks j ≡ Some b → b.replica ≡ r → a ≡ b
+one_at : (r : ℕ) (ks : List Reply) → times r ks ≤ 1 → (i j : ℕ) (a b : Reply) → slice_get ks i ≡ Some a → a.replica ≡ r
+    → slice_get ks j ≡ Some b → b.replica ≡ r → a ≡ b
 one_at r [] few i j a b e of f to = absurd (none-some a e)
 one_at r (k ∷ ks) few zero zero a b e of f to = same_Some a b (sym e ∙ f)
 one_at r (k ∷ ks) few zero (suc j) a b e of f to =
@@ -70,7 +72,8 @@ module _ (n : ℕ) (ks : List Reply) (v : View) (slot : ℕ) where
   abbrev Test : Reply → Bool
   Test k = matches v slot k && is_leaders n k
 
-  quorum_at : (z : Reply) (b : Bool) → nat_le (n / 2 + 1) (count_by (matches v slot) ks) ≡ b → (if b then find (λ k. matches v slot k && is_leaders n k) ks else None) ≡ Some z → HasQuorum n ks v slot z.result
+  quorum_at : (z : Reply) (b : Bool) → nat_le (n / 2 + 1) (count_by (matches v slot) ks) ≡ b
+      → (if b then find (λ k. matches v slot k && is_leaders n k) ks else None) ≡ Some z → HasQuorum n ks v slot z.result
   quorum_at z true t e =
       let found = Has-from_find (λ k. matches v slot k && is_leaders n k) ks z e in
       let tests = and_parts (matches v slot z) (is_leaders n z) found.1 in
@@ -97,11 +100,14 @@ module _ (n : ℕ) (ks : List Reply) (v : View) (slot : ℕ) where
   leads_at z at_view leads tagged =
       rw (eq-eqb z.replica (leader_of z.view n) (leads ∙ ap (λ (w : View). leader_of w n) (sym at_view))) (eq-eqb z.tag 1 tagged)
 
-  pub gets_quorum : (result : List ℕ) → HasOneEach ks → HasQuorum n ks v slot result → (z : Reply) × (quorum_of n ks v slot ≡ Some z) × (z.result ≡ result)
+  pub gets_quorum : (result : List ℕ) → HasOneEach ks → HasQuorum n ks v slot result
+      → (z : Reply) × (quorum_of n ks v slot ≡ Some z) × (z.result ≡ result)
   gets_quorum result one q =
       let counts = length-filter (matches v slot) ks in
       let many : n / 2 + 1 ≤ count_by (matches v slot) ks = omega (arith, q.enough, counts) in
-      let test = and_from (matches v slot q.leaders) (is_leaders n q.leaders) (is_matched v slot q.leaders q.at_view q.at_slot) (leads_at q.leaders q.at_view q.leads q.tagged) in
+      let test =
+          and_from (matches v slot q.leaders) (is_leaders n q.leaders) (is_matched v slot q.leaders q.at_view q.at_slot)
+          (leads_at q.leaders q.at_view q.leads q.tagged) in
       let z = find-some (λ k. matches v slot k && is_leaders n k) ks q.leaders q.member test in
       let taken : quorum_of n ks v slot ≡ Some z.0 = rw (le-leb (n / 2 + 1) (count_by (matches v slot) ks) many) z.1 in
       let its = has_quorum z.0 taken in
@@ -109,7 +115,8 @@ module _ (n : ℕ) (ks : List Reply) (v : View) (slot : ℕ) where
       let tests = and_parts (matches v slot z.0) (is_leaders n z.0) found.1 in
       let place = matched v slot z.0 tests.0 in
       let leading = and_parts (z.0.replica == leader_of z.0.view n) (z.0.tag == 1) tests.1 in
-      let leads : z.0.replica ≡ leader_of v n = eqb-true z.0.replica (leader_of z.0.view n) leading.0 ∙ ap (λ (w : View). leader_of w n) place.0 in
+      let leads : z.0.replica ≡ leader_of v n =
+          eqb-true z.0.replica (leader_of z.0.view n) leading.0 ∙ ap (λ (w : View). leader_of w n) place.0 in
       (z.0, taken, ap (λ (k : Reply). k.result) (same_reply ks z.0 q.leaders one found.0 q.member (leads ∙ sym q.leads)) ∙ q.brings)
 
 -- ---- a reply accepts
@@ -118,11 +125,13 @@ module _ (s : ClientState) (p : Reply) (result : List ℕ) where
   abbrev Quorate : Type 0
   Quorate = HasQuorum s.config.replicas (keep_reply s.replies p) p.view p.slot result
 
-  accepted_at : (o : Option Reply) → quorum_of s.config.replicas (keep_reply s.replies p) p.view p.slot ≡ o → Has (accept_if (kept s p) p.id o).1 (Accepted s.number p.id result) → Quorate
+  accepted_at : (o : Option Reply) → quorum_of s.config.replicas (keep_reply s.replies p) p.view p.slot ≡ o
+      → Has (accept_if (kept s p) p.id o).1 (Accepted s.number p.id result) → Quorate
   accepted_at None e has = absurd (Has-none (Accepted s.number p.id result) has)
   accepted_at (Some z) e (zero, h) =
       let same : z.result ≡ result = cc in
-      subst (λ (r : List ℕ). HasQuorum s.config.replicas (keep_reply s.replies p) p.view p.slot r) same (has_quorum s.config.replicas (keep_reply s.replies p) p.view p.slot z e)
+      subst (λ (r : List ℕ). HasQuorum s.config.replicas (keep_reply s.replies p) p.view p.slot r) same
+          (has_quorum s.config.replicas (keep_reply s.replies p) p.view p.slot z e)
   accepted_at (Some z) e (suc i, h) = absurd (none-some (Accepted s.number p.id result) h)
 
   pub accepted_by : is_expected s p ≡ true → Has (reply s p).1 (Accepted s.number p.id result) → Quorate

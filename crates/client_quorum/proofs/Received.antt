@@ -37,12 +37,14 @@ record IsKept (n number : ℕ) (all : List Reply) (s : ClientState) : Type 0 whe
 none_each : HasOneEach []
 none_each r = omega arith
 
-module _ (n number : ℕ) (all : List Reply) (s : ClientState) (x : Given) (kept_so : IsKept n number all s) (covers : (p : Reply) → Has (reply_of x) p → Has all p) where
+module _ (n number : ℕ) (all : List Reply) (s : ClientState) (x : Given) (kept_so : IsKept n number all s)
+    (covers : (p : Reply) → Has (reply_of x) p → Has all p) where
   its_own : (p : Reply) → is_expected s p ≡ true → Has (reply_of x) p → KeptFits all s p
   its_own p e has =
       let t = and_parts (p.client == s.number) (is_of p.id s.pending && nat_lt p.replica s.config.replicas) e in
       let u = and_parts (is_of p.id s.pending) (nat_lt p.replica s.config.replicas) t.1 in
-      record { came = covers p has; within = ltb-true p.replica s.config.replicas u.1; of_client = eqb-true p.client s.number t.0; of_id = u.0 }
+      record { came = covers p has; within = ltb-true p.replica s.config.replicas u.1; of_client = eqb-true p.client s.number t.0; of_id =
+          u.0 }
 
   each_kept : (p : Reply) → is_expected s p ≡ true → Has (reply_of x) p → (k : Reply) → Has (keep_reply s.replies p) k → KeptFits all s k
   each_kept p e has k h = elim (Has-push_cases (filter (λ k. not (k.replica == p.replica)) s.replies) p k h) [
@@ -58,19 +60,23 @@ module _ (n number : ℕ) (all : List Reply) (s : ClientState) (x : Given) (kept
     each = λ k h. let f = each_kept p e has k h in record { came = f.came; within = f.within; of_client = f.of_client; of_id = f.of_id };
   }
 
-  after_accept : (p : Reply) → is_expected s p ≡ true → Has (reply_of x) p → (o : Option Reply) → IsKept n number all (accept_if (kept s p) p.id o).0
+  after_accept : (p : Reply) → is_expected s p ≡ true → Has (reply_of x) p → (o : Option Reply)
+      → IsKept n number all (accept_if (kept s p) p.id o).0
   after_accept p e has None = with_reply p e has
-  after_accept p e has (Some leaders) = record { replicas = kept_so.replicas; mine = kept_so.mine; one_each = none_each; each = λ k h. absurd (Has-none k h) }
+  after_accept p e has (Some leaders) =
+      record { replicas = kept_so.replicas; mine = kept_so.mine; one_each = none_each; each = λ k h. absurd (Has-none k h) }
 
   still_kept : IsKept n number all (next s x).0
   still_kept = row_does (λ y. IsKept n number all y.0) s x
       (λ outs q. kept_so)
-      (λ op waiting none from. record { replicas = kept_so.replicas; mine = kept_so.mine; one_each = none_each; each = λ k h. absurd (Has-none k h) })
+      (λ op waiting none from. record { replicas = kept_so.replicas; mine = kept_so.mine; one_each = none_each; each =
+          λ k h. absurd (Has-none k h) })
       (λ p e has o is. after_accept p e has o)
 
   -- ---- an output that accepts
 
-  quiet_none : (outs : List Out) → Quiet outs → (client id : ℕ) (result : List ℕ) → Has outs (Accepted client id result) → IsAgreed n all number id result
+  quiet_none : (outs : List Out) → Quiet outs → (client id : ℕ) (result : List ℕ) → Has outs (Accepted client id result)
+      → IsAgreed n all number id result
   quiet_none outs Nothing client id result h = absurd (Has-none (Accepted client id result) h)
   quiet_none outs (IsBusy c) client id result (zero, e) = absurd cc
   quiet_none outs (IsBusy c) client id result (suc i, e) = absurd (none-some (Accepted client id result) e)
@@ -78,7 +84,8 @@ module _ (n number : ℕ) (all : List Reply) (s : ClientState) (x : Given) (kept
   quiet_none outs (Again (Some r)) client id result (zero, e) = absurd cc
   quiet_none outs (Again (Some r)) client id result (suc i, e) = absurd (none-some (Accepted client id result) e)
 
-  begun_none : (r : Request) (client id : ℕ) (result : List ℕ) → Has (Submitted r ∷ sent r ∷ []) (Accepted client id result) → IsAgreed n all number id result
+  begun_none : (r : Request) (client id : ℕ) (result : List ℕ) → Has (Submitted r ∷ sent r ∷ []) (Accepted client id result)
+      → IsAgreed n all number id result
   begun_none r client id result (zero, e) = absurd cc
   begun_none r client id result (suc zero, e) = absurd cc
   begun_none r client id result (suc (suc i), e) = absurd (none-some (Accepted client id result) e)
@@ -95,7 +102,8 @@ module _ (n number : ℕ) (all : List Reply) (s : ClientState) (x : Given) (kept
       let d = one r in
       omega (arith, a, b, c, d)
 
-  agreed : (p : Reply) → is_expected s p ≡ true → Has (reply_of x) p → (result : List ℕ) → HasQuorum s.config.replicas (keep_reply s.replies p) p.view p.slot result → IsAgreed n all number p.id result
+  agreed : (p : Reply) → is_expected s p ≡ true → Has (reply_of x) p → (result : List ℕ)
+      → HasQuorum s.config.replicas (keep_reply s.replies p) p.view p.slot result → IsAgreed n all number p.id result
   agreed p e has result q =
       let now = with_reply p e has in
       record {
@@ -109,16 +117,21 @@ module _ (n number : ℕ) (all : List Reply) (s : ClientState) (x : Given) (kept
             let m = Has-from_filter (matches p.view p.slot) k (keep_reply s.replies p) h in
             let f = now.each k m.0 in
             let place = matched p.view p.slot k m.1 in
-            record { within = subst (λ m. k.replica < m) kept_so.replicas f.within; of_client = f.of_client ∙ kept_so.mine; of_id = same_id s.pending k.id p.id f.of_id (its_own p e has).of_id; at_view = place.0; at_slot = place.1 };
+            record { within = subst (λ m. k.replica < m) kept_so.replicas f.within; of_client = f.of_client ∙ kept_so.mine; of_id =
+                same_id s.pending k.id p.id f.of_id (its_own p e has).of_id; at_view = place.0; at_slot = place.1 };
         leaders = q.leaders;
-        member = Has-filter (matches p.view p.slot) q.leaders (keep_reply s.replies p) q.member (is_matched p.view p.slot q.leaders q.at_view q.at_slot);
+        member =
+            Has-filter (matches p.view p.slot) q.leaders (keep_reply s.replies p) q.member
+            (is_matched p.view p.slot q.leaders q.at_view q.at_slot);
         leads = subst (λ m. q.leaders.replica ≡ leader_of p.view m) kept_so.replicas q.leads;
         tagged = q.tagged;
         brings = q.brings;
       }
 
-  reply_agreed : (p : Reply) → is_expected s p ≡ true → Has (reply_of x) p → (o : Option Reply) → quorum_of s.config.replicas (kept s p).replies p.view p.slot ≡ o
-      → (client id : ℕ) (result : List ℕ) → Has (accept_if (kept s p) p.id o).1 (Accepted client id result) → IsAgreed n all number id result
+  reply_agreed : (p : Reply) → is_expected s p ≡ true → Has (reply_of x) p → (o : Option Reply)
+      → quorum_of s.config.replicas (kept s p).replies p.view p.slot ≡ o
+      → (client id : ℕ) (result : List ℕ) → Has (accept_if (kept s p) p.id o).1 (Accepted client id result)
+          → IsAgreed n all number id result
   reply_agreed p e has None is client id result h = absurd (Has-none (Accepted client id result) h)
   reply_agreed p e has (Some z) is client id result (zero, h) =
       let same : p.id ≡ id = cc in
@@ -128,12 +141,14 @@ module _ (n number : ℕ) (all : List Reply) (s : ClientState) (x : Given) (kept
   reply_agreed p e has (Some z) is client id result (suc i, h) = absurd (none-some (Accepted client id result) h)
 
   accepted_agreed : (client id : ℕ) (result : List ℕ) → Has (next s x).1 (Accepted client id result) → IsAgreed n all number id result
-  accepted_agreed = row_does (λ y. (client id : ℕ) (result : List ℕ) → Has y.1 (Accepted client id result) → IsAgreed n all number id result) s x
+  accepted_agreed =
+      row_does (λ y. (client id : ℕ) (result : List ℕ) → Has y.1 (Accepted client id result) → IsAgreed n all number id result) s x
       quiet_none
       (λ op waiting none from. begun_none (request_of s op))
       reply_agreed
 
-kept_after : (n number : ℕ) (all : List Reply) (xs : List Given) → ((p : Reply) → Has (replies_of xs) p → Has all p) → (s : ClientState) → IsKept n number all s → IsKept n number all (after s xs)
+kept_after : (n number : ℕ) (all : List Reply) (xs : List Given) → ((p : Reply) → Has (replies_of xs) p → Has all p) → (s : ClientState)
+    → IsKept n number all s → IsKept n number all (after s xs)
 kept_after n number all [] covers s k = k
 kept_after n number all (x ∷ xs) covers s k =
     kept_after n number all xs (λ p h. covers p (Has-append_right (reply_of x) (replies_of xs) p h)) (next s x).0
@@ -144,7 +159,8 @@ early : (past : List Given) (x : Given) (p : Reply) → Has (replies_of past) p 
 early [] x p h = absurd (Has-none p h)
 early (y ∷ past) x p h = early_at (reply_of y) (early past x p) h
   where
-    early_at : (first : List Reply) → (Has (replies_of past) p → Has (replies_of (past ++ x ∷ [])) p) → Has (first ++ replies_of past) p → Has (first ++ replies_of (past ++ x ∷ [])) p
+    early_at : (first : List Reply) → (Has (replies_of past) p → Has (replies_of (past ++ x ∷ [])) p) → Has (first ++ replies_of past) p
+        → Has (first ++ replies_of (past ++ x ∷ [])) p
     early_at [] rest h = rest h
     early_at (k ∷ ks) rest (zero, e) = (zero, e)
     early_at (k ∷ ks) rest (suc i, e) = Has-rest p k (ks ++ replies_of (past ++ x ∷ [])) (early_at ks rest (i, e))
@@ -153,8 +169,10 @@ last_one : (past : List Given) (x : Given) (p : Reply) → Has (reply_of x) p �
 last_one [] x p h = Has-append_left (reply_of x) [] p h
 last_one (y ∷ past) x p h = Has-append_right (reply_of y) (replies_of (past ++ x ∷ [])) p (last_one past x p h)
 
-pub accepts_replied : (config : Configuration) (number : ℕ) (ops : List (List ℕ)) (past : List Given) (x : Given) (client id : ℕ) (result : List ℕ)
-    → Has (next (after (opening config number ops) past) x).1 (Accepted client id result) → IsAgreed config.replicas (replies_of (past ++ x ∷ [])) number id result
+pub accepts_replied : (config : Configuration) (number : ℕ) (ops : List (List ℕ)) (past : List Given) (x : Given) (client id : ℕ)
+    (result : List ℕ)
+    → Has (next (after (opening config number ops) past) x).1 (Accepted client id result)
+        → IsAgreed config.replicas (replies_of (past ++ x ∷ [])) number id result
 accepts_replied config number ops past x =
     accepted_agreed config.replicas number (replies_of (past ++ x ∷ [])) (after (opening config number ops) past) x
     (kept_after config.replicas number (replies_of (past ++ x ∷ [])) past (early past x) (opening config number ops)

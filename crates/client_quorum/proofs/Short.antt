@@ -29,7 +29,8 @@ no_shorter : (b : Bool) (x : Reply) (l k : List Reply) → length l ≤ length k
 no_shorter true x l k h = omega (arith, h)
 no_shorter false x l k h = h
 
-fewer_at : (m : Reply → Bool) (x : Reply) (left ks : List Reply) (b : Bool) → length (filter m left) ≤ length (filter m ks) → length (filter m (cond b (x ∷ left) left)) ≤ length (filter m (x ∷ ks))
+fewer_at : (m : Reply → Bool) (x : Reply) (left ks : List Reply) (b : Bool) → length (filter m left) ≤ length (filter m ks)
+    → length (filter m (cond b (x ∷ left) left)) ≤ length (filter m (x ∷ ks))
 fewer_at m x left ks true h = longer (m x) x (filter m left) (filter m ks) h
 fewer_at m x left ks false h = no_shorter (m x) x (filter m left) (filter m ks) h
 
@@ -41,7 +42,8 @@ fewer_match m g (x ∷ ks) = fewer_at m x (filter g ks) ks (g x) (fewer_match m 
 module _ (n : ℕ) (ks : List Reply) (p : Reply) (v : View) (slot : ℕ) (result : List ℕ) where
   before : matches v slot p ≡ false → HasQuorum n (keep_reply ks p) v slot result → HasQuorum n ks v slot result
   before e q =
-      let same : length (filter (matches v slot) (keep_reply ks p)) ≡ length (filter (matches v slot) (filter (λ k. not (k.replica == p.replica)) ks)) =
+      let same : length (filter (matches v slot) (keep_reply ks p))
+          ≡ length (filter (matches v slot) (filter (λ k. not (k.replica == p.replica)) ks)) =
       ap (λ (l : List Reply). length l) (without_last (matches v slot) (filter (λ k. not (k.replica == p.replica)) ks) p e) in
       let fewer = fewer_match (matches v slot) (λ k. not (k.replica == p.replica)) ks in
       let enough = q.enough in
@@ -51,7 +53,8 @@ module _ (n : ℕ) (ks : List Reply) (p : Reply) (v : View) (slot : ℕ) (result
             let is = is_matched v slot p (ap (λ (k : Reply). k.view) h ∙ q.at_view) (ap (λ (k : Reply). k.slot) h ∙ q.at_slot) in
             absurd cc
       ] in
-      record { enough = omega (arith, same, fewer, enough); leaders = q.leaders; member = member; at_view = q.at_view; at_slot = q.at_slot; leads = q.leads; tagged = q.tagged; brings = q.brings }
+      record { enough = omega (arith, same, fewer, enough); leaders = q.leaders; member = member; at_view = q.at_view; at_slot = q.at_slot;
+          leads = q.leads; tagged = q.tagged; brings = q.brings }
 
 abbrev None_in : ℕ → List Reply → Type 0
 None_in n ks = (v : View) (slot : ℕ) (result : List ℕ) → HasQuorum n ks v slot result → ⊥
@@ -81,7 +84,8 @@ module _ (n : ℕ) (s : ClientState) (short : Short n s) (p : Reply) where
           none-some z.0 (sym e ∙ z.1)
       at false m = short.none v slot result (before n s.replies p v slot result m q)
 
-  accept_short : (o : Option Reply) → quorum_of s.config.replicas (keep_reply s.replies p) p.view p.slot ≡ o → Short n (accept_if (kept s p) p.id o).0
+  accept_short : (o : Option Reply) → quorum_of s.config.replicas (keep_reply s.replies p) p.view p.slot ≡ o
+      → Short n (accept_if (kept s p) p.id o).0
   accept_short None e = record {
     replicas = short.replicas;
     one_each = kept_one_each p s.replies short.one_each;
@@ -99,5 +103,8 @@ short_after : (n : ℕ) (xs : List Given) (s : ClientState) → Short n s → Sh
 short_after n [] s short = short
 short_after n (x ∷ xs) s short = short_after n xs (next s x).0 (step_short n s x short)
 
-pub keeps_no_quorum : (config : Configuration) (number : ℕ) (ops : List (List ℕ)) (inputs : List Given) (v : View) (slot : ℕ) (result : List ℕ) → HasQuorum config.replicas (after (opening config number ops) inputs).replies v slot result → ⊥
-keeps_no_quorum config number ops inputs = (short_after config.replicas inputs (opening config number ops) (record { replicas = refl; one_each = none_each; none = none_empty config.replicas })).none
+pub keeps_no_quorum : (config : Configuration) (number : ℕ) (ops : List (List ℕ)) (inputs : List Given) (v : View) (slot : ℕ)
+    (result : List ℕ) → HasQuorum config.replicas (after (opening config number ops) inputs).replies v slot result → ⊥
+keeps_no_quorum config number ops inputs =
+    (short_after config.replicas inputs (opening config number ops)
+    (record { replicas = refl; one_each = none_each; none = none_empty config.replicas })).none

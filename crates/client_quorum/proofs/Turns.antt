@@ -35,14 +35,18 @@ open_of s id tidy = at s.pending refl
     at None e h = absurd cc
     at (Some r) e h = (refl, sym (eqb-true r.id id h) ∙ tidy r e)
 
-module _ (xs : List Given) (rest : (t : ClientState) → IsTidy t → TakesTurns t.number t.pending t.last_id (gave t xs)) (s : ClientState) (tidy : IsTidy s) where
+module _ (xs : List Given) (rest : (t : ClientState) → IsTidy t → TakesTurns t.number t.pending t.last_id (gave t xs)) (s : ClientState)
+    (tidy : IsTidy s) where
   -- the outputs of a row, and those of the inputs that follow
   abbrev Goes : ClientState × List Out → Type 0
   Goes y = TakesTurns s.number s.pending s.last_id (y.1 ++ gave y.0 xs)
 
-  begin_goes : (op : List ℕ) (waiting : List (List ℕ)) → has_none s.pending ≡ true → Goes (begin (record s { waiting = waiting }) (request_of s op))
+  begin_goes : (op : List ℕ) (waiting : List (List ℕ)) → has_none s.pending ≡ true
+      → Goes (begin (record s { waiting = waiting }) (request_of s op))
   begin_goes op waiting none =
-      (none, refl, refl, (refl, rest (begin (record s { waiting = waiting }) (request_of s op)).0 (λ r e. ap (λ (q : Request). q.id) (sym (same_Some (request_of s op) r e)))))
+      (none, refl, refl,
+          (refl, rest (begin (record s { waiting = waiting }) (request_of s op)).0
+          (λ r e. ap (λ (q : Request). q.id) (sym (same_Some (request_of s op) r e)))))
 
   submit_goes : (op : List ℕ) (b : Bool) → can_submit s ≡ b → Goes (submit_if b s (request_of s op))
   submit_goes op true e = begin_goes op s.waiting (and_parts (has_none s.pending) _ e).0
@@ -102,7 +106,8 @@ turns_from : (xs : List Given) (s : ClientState) → IsTidy s → TakesTurns s.n
 turns_from [] s tidy = tt
 turns_from (x ∷ xs) s tidy = row_goes xs (λ t h. turns_from xs t h) s tidy x
 
-pub takes_turns : (config : Configuration) (number : ℕ) (ops : List (List ℕ)) (inputs : List Given) → TakesTurns number None 0 (gave (opening config number ops) inputs)
+pub takes_turns : (config : Configuration) (number : ℕ) (ops : List (List ℕ)) (inputs : List Given)
+    → TakesTurns number None 0 (gave (opening config number ops) inputs)
 takes_turns config number ops inputs = turns_from inputs (opening config number ops) (λ r e. absurd (none-some r e))
 
 -- ---- each id is used once
@@ -123,14 +128,20 @@ some_is : (b : Bool) (n : ℕ) → b ≡ false → cond b (n + 1) n ≤ n + 1
 some_is true n e = omega arith
 some_is false n e = omega arith
 
-rest_of : (number : ℕ) (held : Option Request) (last : ℕ) (x : Out) (outs : List Out) → TakesTurns number held last (x ∷ outs) → Rest number held last outs
-rest_of number held last (Submitted r) outs t = record { held_then = Some r; last_then = last + 1; higher = none_is (has_none held) last t.0; later = omega arith; turns = t.3 }
-rest_of number held last (Send dest bytes) outs t = record { held_then = held; last_then = last; higher = omega arith; later = omega arith; turns = t.1 }
-rest_of number held last (Accepted client id result) outs t = record { held_then = None; last_then = last; higher = some_is (has_none held) last t.0; later = omega arith; turns = t.3 }
-rest_of number held last (Busy client) outs t = record { held_then = held; last_then = last; higher = omega arith; later = omega arith; turns = t.1 }
+rest_of : (number : ℕ) (held : Option Request) (last : ℕ) (x : Out) (outs : List Out) → TakesTurns number held last (x ∷ outs)
+    → Rest number held last outs
+rest_of number held last (Submitted r) outs t =
+    record { held_then = Some r; last_then = last + 1; higher = none_is (has_none held) last t.0; later = omega arith; turns = t.3 }
+rest_of number held last (Send dest bytes) outs t =
+    record { held_then = held; last_then = last; higher = omega arith; later = omega arith; turns = t.1 }
+rest_of number held last (Accepted client id result) outs t =
+    record { held_then = None; last_then = last; higher = some_is (has_none held) last t.0; later = omega arith; turns = t.3 }
+rest_of number held last (Busy client) outs t =
+    record { held_then = held; last_then = last; higher = omega arith; later = omega arith; turns = t.1 }
 
 -- a first output that is submitted
-submitted_first : (number : ℕ) (held : Option Request) (last : ℕ) (x : Out) (outs : List Out) (r : Request) → TakesTurns number held last (x ∷ outs) → Some x ≡ Some (Submitted r)
+submitted_first : (number : ℕ) (held : Option Request) (last : ℕ) (x : Out) (outs : List Out) (r : Request)
+    → TakesTurns number held last (x ∷ outs) → Some x ≡ Some (Submitted r)
     → (r.id ≡ last + 1) × TakesTurns number (Some r) (last + 1) outs
 submitted_first number held last (Submitted q) outs r t e =
     let same : q ≡ r = cc in
@@ -139,7 +150,8 @@ submitted_first number held last (Send dest bytes) outs r t e = absurd cc
 submitted_first number held last (Accepted client id result) outs r t e = absurd cc
 submitted_first number held last (Busy client) outs r t e = absurd cc
 
-submitted_above : (number : ℕ) (held : Option Request) (last : ℕ) (outs : List Out) → TakesTurns number held last outs → (i : ℕ) (r : Request) → slice_get outs i ≡ Some (Submitted r) → last < r.id
+submitted_above : (number : ℕ) (held : Option Request) (last : ℕ) (outs : List Out) → TakesTurns number held last outs
+    → (i : ℕ) (r : Request) → slice_get outs i ≡ Some (Submitted r) → last < r.id
 submitted_above number held last [] t i r e = absurd (none-some (Submitted r) e)
 submitted_above number held last (x ∷ outs) t zero r e = let f = submitted_first number held last x outs r t e in omega (arith, f.0)
 submitted_above number held last (x ∷ outs) t (suc i) r e =
@@ -163,7 +175,8 @@ submitted_once_at number held last (x ∷ outs) t (suc i) (suc j) p q e f same =
     let g = rest_of number held last x outs t in
     ap suc (submitted_once_at number g.held_then g.last_then outs g.turns i j p q e f same)
 
-accepted_first : (number : ℕ) (held : Option Request) (last : ℕ) (x : Out) (outs : List Out) (client id : ℕ) (result : List ℕ) → TakesTurns number held last (x ∷ outs) → Some x ≡ Some (Accepted client id result)
+accepted_first : (number : ℕ) (held : Option Request) (last : ℕ) (x : Out) (outs : List Out) (client id : ℕ) (result : List ℕ)
+    → TakesTurns number held last (x ∷ outs) → Some x ≡ Some (Accepted client id result)
     → (has_none held ≡ false) × (id ≡ last) × TakesTurns number None last outs
 accepted_first number held last (Submitted q) outs client id result t e = absurd cc
 accepted_first number held last (Send dest bytes) outs client id result t e = absurd cc
@@ -174,7 +187,8 @@ at_last : (b : Bool) (n : ℕ) → b ≡ false → cond b (n + 1) n ≤ n
 at_last true n e = absurd cc
 at_last false n e = omega arith
 
-accepted_from : (number : ℕ) (held : Option Request) (last : ℕ) (outs : List Out) → TakesTurns number held last outs → (i client id : ℕ) (result : List ℕ) → slice_get outs i ≡ Some (Accepted client id result) → cond (has_none held) (last + 1) last ≤ id
+accepted_from : (number : ℕ) (held : Option Request) (last : ℕ) (outs : List Out) → TakesTurns number held last outs
+    → (i client id : ℕ) (result : List ℕ) → slice_get outs i ≡ Some (Accepted client id result) → cond (has_none held) (last + 1) last ≤ id
 accepted_from number held last [] t i client id result e = absurd (none-some (Accepted client id result) e)
 accepted_from number held last (x ∷ outs) t zero client id result e =
     let f = accepted_first number held last x outs client id result t e in
@@ -186,7 +200,8 @@ accepted_from number held last (x ∷ outs) t (suc i) client id result e =
     omega (arith, h, f.higher)
 
 accepted_once_at : (number : ℕ) (held : Option Request) (last : ℕ) (outs : List Out) → TakesTurns number held last outs
-    → (i j client other id : ℕ) (a b : List ℕ) → slice_get outs i ≡ Some (Accepted client id a) → slice_get outs j ≡ Some (Accepted other id b) → i ≡ j
+    → (i j client other id : ℕ) (a b : List ℕ) → slice_get outs i ≡ Some (Accepted client id a)
+        → slice_get outs j ≡ Some (Accepted other id b) → i ≡ j
 accepted_once_at number held last [] t i j client other id a b e f = absurd (none-some (Accepted client id a) e)
 accepted_once_at number held last (x ∷ outs) t zero zero client other id a b e f = refl
 accepted_once_at number held last (x ∷ outs) t zero (suc j) client other id a b e f =
@@ -202,9 +217,14 @@ accepted_once_at number held last (x ∷ outs) t (suc i) (suc j) client other id
     ap suc (accepted_once_at number g.held_then g.last_then outs g.turns i j client other id a b e f)
 
 pub submitted_once : (config : Configuration) (number : ℕ) (ops : List (List ℕ)) (inputs : List Given) (i j : ℕ) (p q : Request)
-    → slice_get (gave (opening config number ops) inputs) i ≡ Some (Submitted p) → slice_get (gave (opening config number ops) inputs) j ≡ Some (Submitted q) → p.id ≡ q.id → i ≡ j
-submitted_once config number ops inputs = submitted_once_at number None 0 (gave (opening config number ops) inputs) (takes_turns config number ops inputs)
+    → slice_get (gave (opening config number ops) inputs) i ≡ Some (Submitted p)
+        → slice_get (gave (opening config number ops) inputs) j ≡ Some (Submitted q) → p.id ≡ q.id → i ≡ j
+submitted_once config number ops inputs =
+    submitted_once_at number None 0 (gave (opening config number ops) inputs) (takes_turns config number ops inputs)
 
-pub accepted_once : (config : Configuration) (number : ℕ) (ops : List (List ℕ)) (inputs : List Given) (i j client other id : ℕ) (a b : List ℕ)
-    → slice_get (gave (opening config number ops) inputs) i ≡ Some (Accepted client id a) → slice_get (gave (opening config number ops) inputs) j ≡ Some (Accepted other id b) → i ≡ j
-accepted_once config number ops inputs = accepted_once_at number None 0 (gave (opening config number ops) inputs) (takes_turns config number ops inputs)
+pub accepted_once : (config : Configuration) (number : ℕ) (ops : List (List ℕ)) (inputs : List Given) (i j client other id : ℕ)
+    (a b : List ℕ)
+    → slice_get (gave (opening config number ops) inputs) i ≡ Some (Accepted client id a)
+        → slice_get (gave (opening config number ops) inputs) j ≡ Some (Accepted other id b) → i ≡ j
+accepted_once config number ops inputs =
+    accepted_once_at number None 0 (gave (opening config number ops) inputs) (takes_turns config number ops inputs)

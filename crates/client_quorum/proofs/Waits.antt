@@ -42,7 +42,8 @@ others (Submit op) xs h = absurd h
 
 -- ---- in order
 
-accept_ops : (s : ClientState) (p : Reply) (o : Option Reply) → ops_of (accept_if (kept s p) p.id o).1 ++ (accept_if (kept s p) p.id o).0.waiting ≡ s.waiting
+accept_ops : (s : ClientState) (p : Reply) (o : Option Reply)
+    → ops_of (accept_if (kept s p) p.id o).1 ++ (accept_if (kept s p) p.id o).0.waiting ≡ s.waiting
 accept_ops s p None = refl
 accept_ops s p (Some z) = refl
 
@@ -87,19 +88,23 @@ ends_from [] s = ([], refl)
 ends_from (x ∷ xs) s =
     let first = step_ends s x in
     let rest = ends_from xs (next s x).0 in
-    (first.0 ++ rest.0, first.1 ∙ ap (λ (l : List (List ℕ)). first.0 ++ l) rest.1 ∙ sym (append_assoc first.0 rest.0 (after (next s x).0 xs).waiting))
+    (first.0 ++ rest.0, first.1 ∙ ap (λ (l : List (List ℕ)). first.0 ++ l) rest.1
+        ∙ sym (append_assoc first.0 rest.0 (after (next s x).0 xs).waiting))
 
-pub waiting_ends : (config : Configuration) (number : ℕ) (ops : List (List ℕ)) (inputs : List Given) → EndsWith ops (after (opening config number ops) inputs).waiting
+pub waiting_ends : (config : Configuration) (number : ℕ) (ops : List (List ℕ)) (inputs : List Given)
+    → EndsWith ops (after (opening config number ops) inputs).waiting
 waiting_ends config number ops inputs = ends_from inputs (opening config number ops)
 
 -- ---- how many were submitted
 
-accept_counts : (s : ClientState) (p : Reply) (o : Option Reply) → (accept_if (kept s p) p.id o).0.last_id ≡ s.last_id + length (ops_of (accept_if (kept s p) p.id o).1)
+accept_counts : (s : ClientState) (p : Reply) (o : Option Reply)
+    → (accept_if (kept s p) p.id o).0.last_id ≡ s.last_id + length (ops_of (accept_if (kept s p) p.id o).1)
 accept_counts s p None = omega arith
 accept_counts s p (Some z) = omega arith
 
 quiet_counts : (s : ClientState) (outs : List Out) → Quiet outs → s.last_id ≡ s.last_id + length (ops_of outs)
-quiet_counts s outs q = let none : length (ops_of outs) ≡ length {A = List ℕ} [] = ap (λ (l : List (List ℕ)). length l) (quiet_ops outs q) in omega (arith, none)
+quiet_counts s outs q = let none : length (ops_of outs) ≡ length {A = List ℕ} [] =
+    ap (λ (l : List (List ℕ)). length l) (quiet_ops outs q) in omega (arith, none)
 
 step_counts : (s : ClientState) (x : Given) → (next s x).0.last_id ≡ s.last_id + length (ops_of (next s x).1)
 step_counts s x = row_does (λ y. y.0.last_id ≡ s.last_id + length (ops_of y.1)) s x
@@ -113,10 +118,12 @@ counts_from (x ∷ xs) s =
     let first = step_counts s x in
     let rest = counts_from xs (next s x).0 in
     let both : length (ops_of (gave s (x ∷ xs))) ≡ length (ops_of (next s x).1) + length (ops_of (gave (next s x).0 xs)) =
-    ap (λ (l : List (List ℕ)). length l) (ops_append (next s x).1 (gave (next s x).0 xs)) ∙ length-append (ops_of (next s x).1) (ops_of (gave (next s x).0 xs)) in
+    ap (λ (l : List (List ℕ)). length l) (ops_append (next s x).1 (gave (next s x).0 xs))
+        ∙ length-append (ops_of (next s x).1) (ops_of (gave (next s x).0 xs)) in
     omega (arith, first, rest, both)
 
-pub last_counts : (config : Configuration) (number : ℕ) (ops : List (List ℕ)) (inputs : List Given) → (after (opening config number ops) inputs).last_id ≡ length (ops_of (gave (opening config number ops) inputs))
+pub last_counts : (config : Configuration) (number : ℕ) (ops : List (List ℕ)) (inputs : List Given)
+    → (after (opening config number ops) inputs).last_id ≡ length (ops_of (gave (opening config number ops) inputs))
 last_counts config number ops inputs = let h = counts_from inputs (opening config number ops) in omega (arith, h)
 
 -- ---- how the last request stands
@@ -132,12 +139,14 @@ module _ (all : List Out) (s : ClientState) where
   with_kept p (IsOpen q is id free) = IsOpen q is id free
   with_kept p (WasAccepted a is id none has) = WasAccepted a is id none has
 
-  accept_stands : (p : Reply) → Stands all s → is_expected s p ≡ true → (o : Option Reply) → ((y : Out) → Has (accept_if (kept s p) p.id o).1 y → Has all y) → Stands all (accept_if (kept s p) p.id o).0
+  accept_stands : (p : Reply) → Stands all s → is_expected s p ≡ true → (o : Option Reply)
+      → ((y : Out) → Has (accept_if (kept s p) p.id o).1 y → Has all y) → Stands all (accept_if (kept s p) p.id o).0
   accept_stands p stands e None covers = with_kept p stands
   accept_stands p stands e (Some z) covers =
       let t = and_parts (p.client == s.number) (is_of p.id s.pending && nat_lt p.replica s.config.replicas) e in
       let u = and_parts (is_of p.id s.pending) (nat_lt p.replica s.config.replicas) t.1 in
-      WasAccepted (record { id = p.id; result = z.result }) refl (open_of s p.id (tidy_of stands) u.0).1 refl (covers (Accepted s.number p.id z.result) (zero, refl))
+      WasAccepted (record { id = p.id; result = z.result }) refl (open_of s p.id (tidy_of stands) u.0).1 refl
+          (covers (Accepted s.number p.id z.result) (zero, refl))
 
   step_stands : (x : Given) → Stands all s → ((y : Out) → Has (next s x).1 y → Has all y) → Stands all (next s x).0
   step_stands x stands = row_does (λ y. ((o : Out) → Has y.1 o → Has all o) → Stands all y.0) s x
@@ -145,11 +154,14 @@ module _ (all : List Out) (s : ClientState) where
       (λ op waiting none from covers. IsOpen (request_of s op) refl refl refl)
       (λ p e has o is covers. accept_stands p stands e o covers)
 
-stands_from : (all : List Out) (xs : List Given) (s : ClientState) → ((y : Out) → Has (gave s xs) y → Has all y) → Stands all s → Stands all (after s xs)
+stands_from : (all : List Out) (xs : List Given) (s : ClientState) → ((y : Out) → Has (gave s xs) y → Has all y) → Stands all s
+    → Stands all (after s xs)
 stands_from all [] s covers stands = stands
 stands_from all (x ∷ xs) s covers stands =
     stands_from all xs (next s x).0 (λ y h. covers y (Has-append_right (next s x).1 (gave (next s x).0 xs) y h))
     (step_stands all s x stands (λ y h. covers y (Has-append_left (next s x).1 (gave (next s x).0 xs) y h)))
 
-pub last_stands : (config : Configuration) (number : ℕ) (ops : List (List ℕ)) (inputs : List Given) → Stands (gave (opening config number ops) inputs) (after (opening config number ops) inputs)
-last_stands config number ops inputs = stands_from (gave (opening config number ops) inputs) inputs (opening config number ops) (λ y h. h) (NoneYet refl refl refl)
+pub last_stands : (config : Configuration) (number : ℕ) (ops : List (List ℕ)) (inputs : List Given)
+    → Stands (gave (opening config number ops) inputs) (after (opening config number ops) inputs)
+last_stands config number ops inputs =
+    stands_from (gave (opening config number ops) inputs) inputs (opening config number ops) (λ y h. h) (NoneYet refl refl refl)

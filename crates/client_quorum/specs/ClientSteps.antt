@@ -18,7 +18,8 @@ use Rattle.client_quorum.specs.KeptReplies.{keep_reply, quorum_of}
 use Rattle.client_quorum.specs.declared.state.ClientState.{ClientState}
 
 abbrev pub opening : Configuration → ℕ → List (List ℕ) → ClientState
-opening config number ops = record { config = config; number = number; last_id = 0; pending = None; replies = []; accepted = None; waiting = ops }
+opening config number ops =
+    record { config = config; number = number; last_id = 0; pending = None; replies = []; accepted = None; waiting = ops }
 
 abbrev pub has_none : Option Request → Bool
 has_none None = true

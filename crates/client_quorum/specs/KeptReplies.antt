@@ -22,4 +22,5 @@ is_leaders n k = (k.replica == leader_of k.view n) && (k.tag == 1)
 
 -- the reply of the view's leader among those of this view and slot, where there are f + 1 of these
 abbrev pub quorum_of : ℕ → List Reply → View → ℕ → Option Reply
-quorum_of n kept v slot = if nat_le (n / 2 + 1) (count_by (matches v slot) kept) then find (λ k. matches v slot k && is_leaders n k) kept else None
+quorum_of n kept v slot =
+    if nat_le (n / 2 + 1) (count_by (matches v slot) kept) then find (λ k. matches v slot k && is_leaders n k) kept else None

@@ -96,9 +96,11 @@ SendsOpen (Some r) out = out ≡ sent r
 -- what is sent is the open request, and the open one is accepted once
 abbrev pub TakesTurns : ℕ → Option Request → ℕ → List Out → Type 0
 TakesTurns number held last [] = ⊤
-TakesTurns number held last (Submitted r ∷ outs) = (has_none held ≡ true) × (r.client ≡ number) × (r.id ≡ last + 1) × TakesTurns number (Some r) (last + 1) outs
+TakesTurns number held last (Submitted r ∷ outs) =
+    (has_none held ≡ true) × (r.client ≡ number) × (r.id ≡ last + 1) × TakesTurns number (Some r) (last + 1) outs
 TakesTurns number held last (Send dest bytes ∷ outs) = SendsOpen held (Send dest bytes) × TakesTurns number held last outs
-TakesTurns number held last (Accepted client id result ∷ outs) = (has_none held ≡ false) × (client ≡ number) × (id ≡ last) × TakesTurns number None last outs
+TakesTurns number held last (Accepted client id result ∷ outs) =
+    (has_none held ≡ false) × (client ≡ number) × (id ≡ last) × TakesTurns number None last outs
 TakesTurns number held last (Busy client ∷ outs) = (client ≡ number) × TakesTurns number held last outs
 
 -- ---- ops
@@ -127,4 +129,5 @@ pub data Stands (outs : List Out) (s : ClientState) : Type 0 where
   -- none was submitted
   NoneYet : s.last_id ≡ 0 → s.pending ≡ None → s.accepted ≡ None → Stands outs s
   IsOpen : (r : Request) → s.pending ≡ Some r → r.id ≡ s.last_id → s.accepted ≡ None → Stands outs s
-  WasAccepted : (a : Accept) → s.accepted ≡ Some a → a.id ≡ s.last_id → s.pending ≡ None → Has outs (Accepted s.number a.id a.result) → Stands outs s
+  WasAccepted : (a : Accept) → s.accepted ≡ Some a → a.id ≡ s.last_id → s.pending ≡ None → Has outs (Accepted s.number a.id a.result)
+      → Stands outs s

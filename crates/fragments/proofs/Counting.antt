@@ -5,7 +5,8 @@ use Rattle.std.proofs.lemmas.List.{set_split}
 use Rattle.fragments.specs.Parts.{missing, is_open, whole}
 
 -- a part that comes is missing no more
-pub missing_set : (parts : List (Option (List ℕ))) (i : ℕ) (x : List ℕ) → is_open parts i ≡ true → missing (set parts i (Some x)) + 1 ≡ missing parts
+pub missing_set : (parts : List (Option (List ℕ))) (i : ℕ) (x : List ℕ) → is_open parts i ≡ true
+    → missing (set parts i (Some x)) + 1 ≡ missing parts
 missing_set [] i x h = absurd cc
 missing_set (Some p ∷ parts) zero x h = absurd cc
 missing_set (None ∷ parts) zero x h = add-one (missing parts)
@@ -32,9 +33,12 @@ open_at_first zero i h = absurd (omega arith)
 open_at_first (suc n) zero h = refl
 open_at_first (suc n) (suc i) h = open_at_first n i (omega arith)
 
-pub whole_set : (parts : List (Option (List ℕ))) (i : ℕ) (x : List ℕ) → i < length parts → whole (set parts i (Some x)) ≡ (whole (take i parts) ++ x) ++ whole (drop (i + 1) parts)
-whole_set parts i x h = rw (set_split parts i (Some x) h, flat_map-append, add-one) (sym (append_assoc (whole (take i parts)) x (whole (drop (suc i) parts))))
+pub whole_set : (parts : List (Option (List ℕ))) (i : ℕ) (x : List ℕ) → i < length parts
+    → whole (set parts i (Some x)) ≡ (whole (take i parts) ++ x) ++ whole (drop (i + 1) parts)
+whole_set parts i x h =
+    rw (set_split parts i (Some x) h, flat_map-append, add-one) (sym (append_assoc (whole (take i parts)) x (whole (drop (suc i) parts))))
 
--- the same behind other bytes
-pub behind_set : (to : List ℕ) (parts : List (Option (List ℕ))) (i : ℕ) (x : List ℕ) → i < length parts → ((to ++ whole (take i parts)) ++ x) ++ whole (drop (i + 1) parts) ≡ to ++ whole (set parts i (Some x))
+-- the bytes of the parts with one more of them, behind other bytes
+pub behind_set : (to : List ℕ) (parts : List (Option (List ℕ))) (i : ℕ) (x : List ℕ) → i < length parts
+    → ((to ++ whole (take i parts)) ++ x) ++ whole (drop (i + 1) parts) ≡ to ++ whole (set parts i (Some x))
 behind_set to parts i x h = rw (whole_set parts i x h) (simp append_assoc)

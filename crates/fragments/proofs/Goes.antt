@@ -11,16 +11,22 @@ use Rattle.std.proofs.lemmas.Bool.{eq-eqb, ne_eqb}
 use Rattle.fragments.proofs.Counting.{missing_set, open_at_first}
 use Rattle.fragments.proofs.Came.{index_within}
 
-pub found_last : (q : Waiting) (f : Fragment) (at : ℕ) (b : Partial) → slice_get q at ≡ Some b → f.count ≡ length b.parts → is_open b.parts f.index ≡ true → missing b.parts ≡ 1 → found q f at (slice_get q at) ≡ (remove q at, Some (whole (with_part b f.index f.payload).parts))
+pub found_last : (q : Waiting) (f : Fragment) (at : ℕ) (b : Partial) → slice_get q at ≡ Some b → f.count ≡ length b.parts
+    → is_open b.parts f.index ≡ true → missing b.parts ≡ 1
+    → found q f at (slice_get q at) ≡ (remove q at, Some (whole (with_part b f.index f.payload).parts))
 found_last q f at b here same is_free one =
     let count : eqb f.count (length b.parts) ≡ true = eq-eqb _ _ same in
-    let none : eqb (missing (set b.parts f.index (Some f.payload))) 0 ≡ true = eq-eqb _ _ (omega (arith, missing_set b.parts f.index f.payload is_free)) in
+    let none : eqb (missing (set b.parts f.index (Some f.payload))) 0 ≡ true =
+        eq-eqb _ _ (omega (arith, missing_set b.parts f.index f.payload is_free)) in
     rw (here, count, is_free, none) refl
 
-pub found_more : (q : Waiting) (f : Fragment) (at : ℕ) (b : Partial) → slice_get q at ≡ Some b → f.count ≡ length b.parts → is_open b.parts f.index ≡ true → missing b.parts ≢ 1 → found q f at (slice_get q at) ≡ (set q at (with_part b f.index f.payload), None)
+pub found_more : (q : Waiting) (f : Fragment) (at : ℕ) (b : Partial) → slice_get q at ≡ Some b → f.count ≡ length b.parts
+    → is_open b.parts f.index ≡ true → missing b.parts ≢ 1
+    → found q f at (slice_get q at) ≡ (set q at (with_part b f.index f.payload), None)
 found_more q f at b here same is_free more =
     let count : eqb f.count (length b.parts) ≡ true = eq-eqb _ _ same in
-    let some : eqb (missing (set b.parts f.index (Some f.payload))) 0 ≡ false = ne_eqb _ _ (omega (arith, missing_set b.parts f.index f.payload is_free)) in
+    let some : eqb (missing (set b.parts f.index (Some f.payload))) 0 ≡ false =
+        ne_eqb _ _ (omega (arith, missing_set b.parts f.index f.payload is_free)) in
     rw (here, count, is_free, some) refl
 
 -- what was read at an index is there

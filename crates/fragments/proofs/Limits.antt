@@ -20,7 +20,9 @@ use Rattle.fragments.proofs.Whole.{is_at}
 pub fitting_is_in_range : (f : Fragment) → FragmentFits f → is_in_range f ≡ true
 fitting_is_in_range f fits = in_range f.index f.count (length f.payload) fits.index fits.count fits.some fits.most fits.full
   where
-    in_range : (i c l : ℕ) → i < c → c ≤ MAX_FRAGMENTS → 1 ≤ l → l ≤ FRAGMENT_BYTES → (i + 1 < c → l ≡ FRAGMENT_BYTES) → (nat_lt i c && (nat_le c MAX_FRAGMENTS && (nat_lt 0 l && (nat_le l FRAGMENT_BYTES && (nat_le c (i + 1) || nat_le FRAGMENT_BYTES l))))) ≡ true
+    in_range : (i c l : ℕ) → i < c → c ≤ MAX_FRAGMENTS → 1 ≤ l → l ≤ FRAGMENT_BYTES → (i + 1 < c → l ≡ FRAGMENT_BYTES)
+        → (nat_lt i
+        c && (nat_le c MAX_FRAGMENTS && (nat_lt 0 l && (nat_le l FRAGMENT_BYTES && (nat_le c (i + 1) || nat_le FRAGMENT_BYTES l))))) ≡ true
     in_range i c l within few some most full = grind (arith, nat_tests)
 
 -- ---- pieces
@@ -56,7 +58,8 @@ has_cut bytes some short none = elim none [
   | inr many ↦ omega (arith, many, few_pieces bytes short)
 ]
 
-pub fragment_fits : (sender number : ℕ) (bytes : List ℕ) (i : ℕ) → CanBeCut sender number bytes → i < piece_count bytes → FragmentFits (fragment_at sender number bytes i)
+pub fragment_fits : (sender number : ℕ) (bytes : List ℕ) (i : ℕ) → CanBeCut sender number bytes → i < piece_count bytes
+    → FragmentFits (fragment_at sender number bytes i)
 fragment_fits sender number bytes i can lt =
     let p = piece_fits bytes i lt in
     record {
@@ -70,7 +73,8 @@ fragment_fits sender number bytes i can lt =
       full = p.full;
     }
 
-pub cut_fragments_fit : (sender number : ℕ) (bytes : List ℕ) (f : Fragment) → CanBeCut sender number bytes → Has (fragments_of sender number bytes) f → FragmentFits f
+pub cut_fragments_fit : (sender number : ℕ) (bytes : List ℕ) (f : Fragment) → CanBeCut sender number bytes
+    → Has (fragments_of sender number bytes) f → FragmentFits f
 cut_fragments_fit sender number bytes f can here =
     let at = is_at sender number bytes (piece_count bytes) f here in
     subst FragmentFits (sym at.same) (fragment_fits sender number bytes f.index can at.below)
@@ -101,12 +105,15 @@ is_short f e =
     record { count = few; payload = short }
 
 begun_fits : (f : Fragment) → IsShort f → PartialFits (begun f)
-begun_fits f short = with_part_fits (record { number = f.message; parts = replicate f.count None }) f.index f.payload (record { count = omega (arith, length-replicate f.count (none_of f), short.count); each = none_long f.count }) short.payload
+begun_fits f short =
+    with_part_fits (record { number = f.message; parts = replicate f.count None }) f.index f.payload
+    (record { count = omega (arith, length-replicate f.count (none_of f), short.count); each = none_long f.count }) short.payload
   where
     none_of : Fragment → Option (List ℕ)
     none_of f = None
 
-limit_fits : (b : Bool) (q : Waiting) → ltb MAX_UNFINISHED (length q) ≡ b → length q ≤ MAX_UNFINISHED + 1 → All PartialFits q → WaitingFits (cond b (drop 1 q) q)
+limit_fits : (b : Bool) (q : Waiting) → ltb MAX_UNFINISHED (length q) ≡ b → length q ≤ MAX_UNFINISHED + 1 → All PartialFits q
+    → WaitingFits (cond b (drop 1 q) q)
 limit_fits true q e few each = record { few = omega (arith, length-drop 1 q); each = All-drop PartialFits 1 q each }
 limit_fits false q e few each = record { few = ltb-false _ _ e; each = each }
 
@@ -116,11 +123,14 @@ started_fits q f false short fits =
     let longer : length (q ++ begun f ∷ []) ≤ MAX_UNFINISHED + 1 = omega (arith, length-append q (begun f ∷ []), fits.few) in
     limit_fits _ (q ++ begun f ∷ []) refl longer (All-push PartialFits q (begun f) fits.each (begun_fits f short))
 
-continued_fits : (q : Waiting) (f : Fragment) (at : ℕ) (m : Partial) (r l : Bool) → IsShort f → PartialFits m → WaitingFits q → WaitingFits (continued q f at m r l).0
+continued_fits : (q : Waiting) (f : Fragment) (at : ℕ) (m : Partial) (r l : Bool) → IsShort f → PartialFits m → WaitingFits q
+    → WaitingFits (continued q f at m r l).0
 continued_fits q f at m true l short own fits = fits
 continued_fits q f at m false true short own fits = record {
   few = omega (arith, length-append (take at q) (drop (suc at) q), length-take at q, length-drop (suc at) q, fits.few);
-  each = All-append PartialFits (take at q) (drop (suc at) q) (All-take PartialFits at q fits.each) (All-drop PartialFits (suc at) q fits.each);
+  each =
+      All-append PartialFits (take at q) (drop (suc at) q) (All-take PartialFits at q fits.each)
+      (All-drop PartialFits (suc at) q fits.each);
 }
 continued_fits q f at m false false short own fits = record {
   few = omega (arith, length-set q at (with_part m f.index f.payload), fits.few);
@@ -135,12 +145,16 @@ placed_fits q f None short e fits = started_fits q f (eqb f.count 1) short fits
 placed_fits q f (Some at) short e fits =
     let found_it = position-Some (λ (m : Partial). eqb m.number f.message) q at no_message e in
     let m = get_or q at no_message in
-    rw (slice_get-get_or q at no_message found_it.0) (continued_fits q f at m (refuses m f) (completes m f) short (All-get_or PartialFits q at no_message found_it.0 fits.each) fits)
+    rw (slice_get-get_or q at no_message found_it.0)
+        (continued_fits q f at m (refuses m f) (completes m f) short (All-get_or PartialFits q at no_message found_it.0 fits.each) fits)
 
-sender_fits : (all : List Waiting) (f : Fragment) (o : Option Waiting) → IsShort f → slice_get all f.replica ≡ o → All WaitingFits all → All WaitingFits (at_sender all f o).0
+sender_fits : (all : List Waiting) (f : Fragment) (o : Option Waiting) → IsShort f → slice_get all f.replica ≡ o → All WaitingFits all
+    → All WaitingFits (at_sender all f o).0
 sender_fits all f None short e fits = fits
 sender_fits all f (Some q) short e fits =
-    let own : WaitingFits q = subst WaitingFits (get_or_from_slice_get all f.replica q [] e) (All-get_or WaitingFits all f.replica [] (slice_get_within all f.replica q e) fits) in
+    let own : WaitingFits q =
+        subst WaitingFits (get_or_from_slice_get all f.replica q [] e)
+        (All-get_or WaitingFits all f.replica [] (slice_get_within all f.replica q e) fits) in
     All-set WaitingFits all f.replica (joined q f).0 (placed_fits q f (place q f.message) short refl own) fits
 
 range_fits : (all : List Waiting) (f : Fragment) (b : Bool) → is_in_range f ≡ b → All WaitingFits all → All WaitingFits (taken_if b all f).0

@@ -9,7 +9,7 @@ abbrev pub front_parts : List ℕ → ℕ → List (Option (List ℕ))
 front_parts front zero = []
 front_parts front (suc k) = front_parts front k ++ Some (piece front k) ∷ []
 
--- those, and the places behind them
+-- the parts of a front, and the places behind them
 abbrev pub parts_of : List ℕ → ℕ → List (Option (List ℕ)) → List (Option (List ℕ))
 parts_of front filled later = front_parts front filled ++ drop filled later
 

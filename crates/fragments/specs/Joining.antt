@@ -6,7 +6,9 @@ use Rattle.fragments.specs.Parts.{Partial, missing, is_open, whole, with_part}
 
 -- a payload that is not the last is full, and none is empty or too long
 abbrev pub payload_fits : Fragment → Bool
-payload_fits f = nat_lt 0 (length f.payload) && (nat_le (length f.payload) FRAGMENT_BYTES && (nat_le f.count (f.index + 1) || nat_le FRAGMENT_BYTES (length f.payload)))
+payload_fits f =
+    nat_lt 0 (length f.payload) && (nat_le (length f.payload)
+    FRAGMENT_BYTES && (nat_le f.count (f.index + 1) || nat_le FRAGMENT_BYTES (length f.payload)))
 
 -- what each fragment that is cut from a message is
 abbrev pub is_in_range : Fragment → Bool
@@ -58,7 +60,7 @@ place q number = position (λ (m : Partial). m.number == number) q
 abbrev pub joined : Waiting → Fragment → Waiting × Option (List ℕ)
 joined q f = placed q f (place q f.message)
 
--- the same among all senders
+-- taking a fragment among the messages of all senders
 abbrev pub at_sender : List Waiting → Fragment → Option Waiting → List Waiting × Option (List ℕ)
 at_sender all f None = (all, None)
 at_sender all f (Some q) = (set all f.replica (joined q f).0, (joined q f).1)

@@ -32,7 +32,8 @@ pub record CameInParts (net : List Fragment) (f : Fragment) (bytes : List ℕ) :
   pub parts : List (List ℕ)
   pub count : length parts ≡ f.count
   pub joined : bytes ≡ concat parts
-  pub came : (i : ℕ) → i < f.count → Has net (record { replica = f.replica; message = f.message; index = i; count = f.count; payload = get_or parts i [] })
+  pub came : (i : ℕ) → i < f.count
+      → Has net (record { replica = f.replica; message = f.message; index = i; count = f.count; payload = get_or parts i [] })
 
 -- of a step: what it leaves and what it answers
 pub record StepKeeps (net : List Fragment) (f : Fragment) (r : List Waiting × Option (List ℕ)) : Type 0 where

@@ -112,7 +112,7 @@ chosen_wins (d ∷ cs) k (suc i) c w t g h e = on (chosen cs k) refl e (λ b is.
     on (Some b) is f less =
         wins_on w.entry b.entry t.entry w.sender b.sender t.sender (two_wins_right (told d.sender (slot_of d.log k)) b w f) (less b is)
 
--- ---- the same of who has what in a slot
+-- ---- winners, by who has what in a slot
 
 told_is : (s : ℕ) (o : Option Entry) (t : Told) → told s o ≡ Some t → (o ≡ Some t.entry) × (s ≡ t.sender)
 told_is s None t e = absurd cc

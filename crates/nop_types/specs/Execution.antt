@@ -62,7 +62,7 @@ abbrev pub result_at : {S : Type 0} → Meaning S → List Entry → ℕ → Opt
 result_at m log zero = None
 result_at m log (suc i) = result_of m (take i log) (take (suc i) log) (slice_get log i)
 
--- ---- the same by what is kept, without the log before
+-- ---- execution by what is kept, without the log before
 
 abbrev pub is_above_kept : Option Answered → ℕ → Bool
 is_above_kept None id = true

@@ -36,6 +36,6 @@ request_at bytes = do
   op ← if request_in_range f.0 then bytes_at f.0.op_len f.1 else None
   Some (record { client = f.0.client; id = f.0.id; op = op.0 }, op.1)
 
--- the same from a place on
+-- the request from a place on, where all of it is there and in range
 abbrev pub request_in : ℕ → List ℕ → Option Request
 request_in at bytes = if nat_lt (length bytes) at then None else option_map (λ x. x.0) (request_at (drop at bytes))

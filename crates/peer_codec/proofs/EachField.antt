@@ -20,7 +20,8 @@ abbrev done : {A : Type 0} → A → Result A BadPeer
 done x = Ok x
 
 -- a field that passed both tests
-in_range_ok : {A : Type 0} (test : A → Bool) (found : Option (A × List ℕ)) (x : A × List ℕ) → in_range test found ≡ Ok x → (found ≡ Some x) × (test x.0 ≡ true)
+in_range_ok : {A : Type 0} (test : A → Bool) (found : Option (A × List ℕ)) (x : A × List ℕ) → in_range test found ≡ Ok x
+    → (found ≡ Some x) × (test x.0 ≡ true)
 in_range_ok test None x e = absurd cc
 in_range_ok {A} test (Some y) x e =
     let g = passed_ok (test y.0) Field (done y) x e in
@@ -34,16 +35,19 @@ pub record TakesNumber (w : Width) (limit : ℕ) (test : ℕ → Bool) (bytes : 
   pub below : x.0 < limit
   pub passes : test x.0 ≡ true
 
-number_in_range : (w : Width) (limit : ℕ) → IsWide w limit → (test : ℕ → Bool) (bytes : List ℕ) (x : ℕ × List ℕ) → IsBytes bytes → in_range test (number_at w bytes) ≡ Ok x → TakesNumber w limit test bytes x
+number_in_range : (w : Width) (limit : ℕ) → IsWide w limit → (test : ℕ → Bool) (bytes : List ℕ) (x : ℕ × List ℕ) → IsBytes bytes
+    → in_range test (number_at w bytes) ≡ Ok x → TakesNumber w limit test bytes x
 number_in_range w limit wide test bytes x fits e =
     let g = in_range_ok test (number_at w bytes) x e in
     let t = number_takes w limit wide bytes x fits g.0 in
     record { takes = t.0; below = t.1; passes = g.1 }
 
-number_in_range_again : (w : Width) (limit : ℕ) → IsWide w limit → (test : ℕ → Bool) (n : ℕ) (rest : List ℕ) → n < limit → test n ≡ true → in_range test (number_at w (be_bytes w n ++ rest)) ≡ Ok (n, rest)
+number_in_range_again : (w : Width) (limit : ℕ) → IsWide w limit → (test : ℕ → Bool) (n : ℕ) (rest : List ℕ) → n < limit → test n ≡ true
+    → in_range test (number_at w (be_bytes w n ++ rest)) ≡ Ok (n, rest)
 number_in_range_again w limit wide test n rest lt passes = rw (number_again w limit wide n rest lt, passes) refl
 
-pub slot_takes : (bytes : List ℕ) (x : ℕ × List ℕ) → IsBytes bytes → slot_at bytes ≡ Ok x → Takes bytes (be_bytes w32 x.0) x.1 × SlotFits x.0
+pub slot_takes : (bytes : List ℕ) (x : ℕ × List ℕ) → IsBytes bytes → slot_at bytes ≡ Ok x
+    → Takes bytes (be_bytes w32 x.0) x.1 × SlotFits x.0
 unfolding slot_at
 slot_takes bytes x fits e =
     let t = number_in_range w32 (2 ^ 32) wide32 (λ n. nat_lt 0 n && nat_le n MAX_SLOTS) bytes x fits e in
@@ -57,7 +61,8 @@ slot_again n rest fits =
     let passes : (nat_lt 0 n && nat_le n MAX_SLOTS) ≡ true = grind (arith, nat_tests, fits.low, fits.high) in
     number_in_range_again w32 (2 ^ 32) wide32 (λ n. nat_lt 0 n && nat_le n MAX_SLOTS) n rest (omega (arith, fits.high)) passes
 
-pub next_takes : (bytes : List ℕ) (x : ℕ × List ℕ) → IsBytes bytes → next_at bytes ≡ Ok x → Takes bytes (be_bytes w64 x.0) x.1 × NextFits x.0
+pub next_takes : (bytes : List ℕ) (x : ℕ × List ℕ) → IsBytes bytes → next_at bytes ≡ Ok x
+    → Takes bytes (be_bytes w64 x.0) x.1 × NextFits x.0
 unfolding next_at
 next_takes bytes x fits e =
     let t = number_in_range w64 (2 ^ 64) wide64 (λ n. nat_lt 0 n && nat_le n NUMBER_END) bytes x fits e in
@@ -71,7 +76,8 @@ next_again n rest fits =
     let passes : (nat_lt 0 n && nat_le n NUMBER_END) ≡ true = grind (arith, nat_tests, fits.low, fits.high) in
     number_in_range_again w64 (2 ^ 64) wide64 (λ n. nat_lt 0 n && nat_le n NUMBER_END) n rest (omega (arith, fits.high)) passes
 
-pub length_takes : (bytes : List ℕ) (x : ℕ × List ℕ) → IsBytes bytes → length_at bytes ≡ Ok x → Takes bytes (be_bytes w32 x.0) x.1 × (x.0 ≤ MAX_SLOTS)
+pub length_takes : (bytes : List ℕ) (x : ℕ × List ℕ) → IsBytes bytes → length_at bytes ≡ Ok x
+    → Takes bytes (be_bytes w32 x.0) x.1 × (x.0 ≤ MAX_SLOTS)
 unfolding length_at
 length_takes bytes x fits e =
     let t = number_in_range w32 (2 ^ 32) wide32 (λ n. nat_le n MAX_SLOTS) bytes x fits e in
@@ -114,7 +120,8 @@ pub sender_again : (n : ℕ) (rest : List ℕ) → n ≤ 6 → sender_at (n ∷ 
 unfolding sender_at
 sender_again n rest le = let passes : nat_lt n MAX_REPLICAS ≡ true = grind (arith, nat_tests, le) in rw passes refl
 
-pub started_takes : (bytes : List ℕ) (x : View × List ℕ) → IsBytes bytes → view_at bytes ≡ Ok x → Takes bytes (view_bytes x.0) x.1 × ViewFits x.0
+pub started_takes : (bytes : List ℕ) (x : View × List ℕ) → IsBytes bytes → view_at bytes ≡ Ok x
+    → Takes bytes (view_bytes x.0) x.1 × ViewFits x.0
 unfolding view_at
 started_takes bytes x fits e =
     let g = in_range_ok (λ v. nat_lt 0 v.session) (numbers.view_at bytes) x e in
@@ -130,7 +137,8 @@ started_again v rest fits =
 
 -- ---- an op and a request
 
-op_takes : (bytes : List ℕ) (x : List ℕ × List ℕ) → IsBytes bytes → op_at bytes ≡ Ok x → Takes bytes (counted_bytes x.0) x.1 × (length x.0 ≤ MAX_OP_BYTES)
+op_takes : (bytes : List ℕ) (x : List ℕ × List ℕ) → IsBytes bytes → op_at bytes ≡ Ok x
+    → Takes bytes (counted_bytes x.0) x.1 × (length x.0 ≤ MAX_OP_BYTES)
 unfolding op_at
 op_takes bytes x fits e =
     let a = bind_ok (in_range (λ n. nat_le n MAX_OP_BYTES) (number_at w16 bytes)) (λ len. there (bytes_at len.0 len.1)) x e in
@@ -145,9 +153,11 @@ unfolding op_at
 op_again op rest le =
     let regrouped : counted_bytes op ++ rest ≡ be_bytes w16 (length op) ++ (op ++ rest) = append_assoc (be_bytes w16 (length op)) op rest in
     let passes : nat_le (length op) MAX_OP_BYTES ≡ true = grind (arith, nat_tests, le) in
-    rw (regrouped, number_again w16 (2 ^ 16) wide16 (length op) (op ++ rest) (omega (arith, le)), passes, bytes_again (length op) op rest refl) refl
+    rw (regrouped, number_again w16 (2 ^ 16) wide16 (length op) (op ++ rest) (omega (arith, le)), passes,
+        bytes_again (length op) op rest refl) refl
 
-pub request_takes : (bytes : List ℕ) (x : Request × List ℕ) → IsBytes bytes → request_at bytes ≡ Ok x → Takes bytes (request_bytes x.0) x.1 × RequestFits x.0
+pub request_takes : (bytes : List ℕ) (x : Request × List ℕ) → IsBytes bytes → request_at bytes ≡ Ok x
+    → Takes bytes (request_bytes x.0) x.1 × RequestFits x.0
 unfolding request_at
 request_takes bytes x fits e =
     let a = bind_ok (there (number_at w32 bytes)) _ x e in
@@ -159,10 +169,14 @@ request_takes bytes x fits e =
     let e1 = Takes-then bytes _ _ _ _ t0.0 t1.0 in
     let e2 = Takes-then bytes _ _ _ _ e1 t2.0 in
     let made : Request × List ℕ = (record { client = a.0.0; id = b.0.0; op = c.0.0 }, c.0.1) in
-    subst (λ (y : Request × List ℕ). Takes bytes (request_bytes y.0) y.1 × RequestFits y.0) (ok_is made x c.2) (e2, record { client = t0.1; id_low = t1.1.low; id = t1.1.high; op = t2.1 })
+    subst (λ (y : Request × List ℕ). Takes bytes (request_bytes y.0) y.1 × RequestFits y.0) (ok_is made x c.2)
+        (e2, record { client = t0.1; id_low = t1.1.low; id = t1.1.high; op = t2.1 })
 
 pub request_again : (r : Request) (rest : List ℕ) → RequestFits r → request_at (request_bytes r ++ rest) ≡ Ok (r, rest)
 unfolding request_at
 request_again r rest fits =
-    let regrouped : request_bytes r ++ rest ≡ be_bytes w32 r.client ++ (be_bytes w64 r.id ++ (counted_bytes r.op ++ rest)) = append_assoc (be_bytes w32 r.client ++ be_bytes w64 r.id) (counted_bytes r.op) rest ∙ append_assoc (be_bytes w32 r.client) (be_bytes w64 r.id) (counted_bytes r.op ++ rest) in
-    rw (regrouped, u32_again r.client (be_bytes w64 r.id ++ (counted_bytes r.op ++ rest)) fits.client, id_again r.id (counted_bytes r.op ++ rest) fits.id_low fits.id, op_again r.op rest fits.op) refl
+    let regrouped : request_bytes r ++ rest ≡ be_bytes w32 r.client ++ (be_bytes w64 r.id ++ (counted_bytes r.op ++ rest)) =
+        append_assoc (be_bytes w32 r.client ++ be_bytes w64 r.id) (counted_bytes r.op) rest
+        ∙ append_assoc (be_bytes w32 r.client) (be_bytes w64 r.id) (counted_bytes r.op ++ rest) in
+    rw (regrouped, u32_again r.client (be_bytes w64 r.id ++ (counted_bytes r.op ++ rest)) fits.client,
+        id_again r.id (counted_bytes r.op ++ rest) fits.id_low fits.id, op_again r.op rest fits.op) refl

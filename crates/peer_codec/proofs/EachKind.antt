@@ -44,7 +44,8 @@ record IsOneNumber (read : List ℕ → Result (ℕ × List ℕ) BadPeer) (Fits 
   pub text : (n : ℕ) → body_bytes (make n) ≡ be_bytes w32 n
   pub fits : (n : ℕ) → Fits n → BodyFits (make n)
 
-number_takes : (read : List ℕ → Result (ℕ × List ℕ) BadPeer) (Fits : ℕ → Type 0) (kind : ℕ) (make : ℕ → Body) → IsOneNumber read Fits kind make
+number_takes : (read : List ℕ → Result (ℕ × List ℕ) BadPeer) (Fits : ℕ → Type 0) (kind : ℕ) (make : ℕ → Body)
+    → IsOneNumber read Fits kind make
     → (bytes : List ℕ) (x : Body × List ℕ) → IsBytes bytes → (read bytes >>= λ n. Ok (make n.0, n.1)) ≡ Ok x → TakesBody kind bytes x
 number_takes read Fits kind make one bytes x fits e =
     let a = bind_ok (read bytes) (λ n. Ok (make n.0, n.1)) x e in
@@ -79,7 +80,8 @@ found_takes bytes x fits e =
     let made : Body × List ℕ = (Found a.0.0 b.0.0, b.0.1) in
     subst (TakesBody 17 bytes) (ok_is made x b.2) (record { is_kind = refl; takes = both; fits = record { place = t0.1; request = t1.1 } })
 
-view_change_req_takes : (bytes : List ℕ) (x : Body × List ℕ) → IsBytes bytes → read_body (ViewChangeReq, bytes) ≡ read_body x → TakesBody 20 bytes x
+view_change_req_takes : (bytes : List ℕ) (x : Body × List ℕ) → IsBytes bytes → read_body (ViewChangeReq, bytes) ≡ read_body x
+    → TakesBody 20 bytes x
 view_change_req_takes bytes x fits e =
     let made : Body × List ℕ = (ViewChangeReq, bytes) in
     subst (TakesBody 20 bytes) (ok_is made x e) (record { is_kind = refl; takes = record { parts = refl; rest_fits = fits }; fits = tt })
@@ -96,7 +98,8 @@ view_change_takes bytes x fits e =
     let e1 = Takes-then bytes _ _ _ _ t0.0 t1.0 in
     let e2 = Takes-then bytes _ _ _ _ e1 t2.0 in
     let made : Body × List ℕ = (ViewChange a.0.0 b.0.0 c.0.0, c.0.1) in
-    subst (TakesBody 21 bytes) (ok_is made x c.2) (record { is_kind = refl; takes = e2; fits = record { view = t0.1; number = t1.1; entries = t2.1 } })
+    subst (TakesBody 21 bytes) (ok_is made x c.2)
+        (record { is_kind = refl; takes = e2; fits = record { view = t0.1; number = t1.1; entries = t2.1 } })
 
 start_view_takes : (bytes : List ℕ) (x : Body × List ℕ) → IsBytes bytes → start_view_at bytes ≡ Ok x → TakesBody 22 bytes x
 unfolding start_view_at
@@ -144,9 +147,11 @@ body_takes kind bytes x fits e =
                   | inr next ↦ elim (chosen (eqb kind 23) (sync_prepare_at bytes) _ (Ok x) next.1) [
                     | inl here ↦ of_kind 23 kind bytes x here.0 (sync_prepare_takes bytes x fits here.1)
                     | inr next ↦ elim (chosen (eqb kind 24) (length_at bytes >>= λ n. Ok (SyncRep n.0, n.1)) _ (Ok x) next.1) [
-                      | inl here ↦ of_kind 24 kind bytes x here.0 (number_takes length_at (λ n. n ≤ MAX_SLOTS) 24 SyncRep sync_rep_kind bytes x fits here.1)
+                      | inl here ↦ of_kind 24 kind bytes x here.0
+                          (number_takes length_at (λ n. n ≤ MAX_SLOTS) 24 SyncRep sync_rep_kind bytes x fits here.1)
                       | inr next ↦ elim (chosen (eqb kind 25) (length_at bytes >>= λ n. Ok (SyncCommit n.0, n.1)) _ (Ok x) next.1) [
-                        | inl here ↦ of_kind 25 kind bytes x here.0 (number_takes length_at (λ n. n ≤ MAX_SLOTS) 25 SyncCommit sync_commit_kind bytes x fits here.1)
+                        | inl here ↦ of_kind 25 kind bytes x here.0
+                            (number_takes length_at (λ n. n ≤ MAX_SLOTS) 25 SyncCommit sync_commit_kind bytes x fits here.1)
                         | inr none ↦ absurd (let h = none.1 in cc)
                       ]
                     ]
@@ -161,24 +166,32 @@ body_takes kind bytes x fits e =
 
 -- ---- what was spelled is read
 
-found_again : (slot : ℕ) (r : Request) (rest : List ℕ) → SlotFits slot → RequestFits r → found_at (be_bytes w32 slot ++ request_bytes r ++ rest) ≡ Ok (Found slot r, rest)
+found_again : (slot : ℕ) (r : Request) (rest : List ℕ) → SlotFits slot → RequestFits r
+    → found_at (be_bytes w32 slot ++ request_bytes r ++ rest) ≡ Ok (Found slot r, rest)
 unfolding found_at
 found_again slot r rest slot_fits fits =
-    let regrouped : be_bytes w32 slot ++ request_bytes r ++ rest ≡ be_bytes w32 slot ++ (request_bytes r ++ rest) = append_assoc (be_bytes w32 slot) (request_bytes r) rest in
+    let regrouped : be_bytes w32 slot ++ request_bytes r ++ rest ≡ be_bytes w32 slot ++ (request_bytes r ++ rest) =
+        append_assoc (be_bytes w32 slot) (request_bytes r) rest in
     rw (regrouped, slot_again slot (request_bytes r ++ rest) slot_fits, request_again r rest fits) refl
 
-start_view_again : (next : ℕ) (log : List Entry) (rest : List ℕ) → NextFits next → LogFits log → start_view_at (be_bytes w64 next ++ log_bytes log ++ rest) ≡ Ok (StartView next log, rest)
+start_view_again : (next : ℕ) (log : List Entry) (rest : List ℕ) → NextFits next → LogFits log
+    → start_view_at (be_bytes w64 next ++ log_bytes log ++ rest) ≡ Ok (StartView next log, rest)
 unfolding start_view_at
 start_view_again next log rest next_fits fits =
-    let regrouped : be_bytes w64 next ++ log_bytes log ++ rest ≡ be_bytes w64 next ++ (log_bytes log ++ rest) = append_assoc (be_bytes w64 next) (log_bytes log) rest in
+    let regrouped : be_bytes w64 next ++ log_bytes log ++ rest ≡ be_bytes w64 next ++ (log_bytes log ++ rest) =
+        append_assoc (be_bytes w64 next) (log_bytes log) rest in
     rw (regrouped, next_again next (log_bytes log ++ rest) next_fits, log_again log rest fits) refl
 
-view_change_again : (v : View) (next : ℕ) (log : List Entry) (rest : List ℕ) → LogChangeFits v next log → view_change_at (view_bytes v ++ be_bytes w64 next ++ log_bytes log ++ rest) ≡ Ok (ViewChange v next log, rest)
+view_change_again : (v : View) (next : ℕ) (log : List Entry) (rest : List ℕ) → LogChangeFits v next log
+    → view_change_at (view_bytes v ++ be_bytes w64 next ++ log_bytes log ++ rest) ≡ Ok (ViewChange v next log, rest)
 unfolding view_change_at
 view_change_again v next log rest fits =
     let more : List ℕ = be_bytes w64 next ++ (log_bytes log ++ rest) in
-    let regrouped : view_bytes v ++ be_bytes w64 next ++ log_bytes log ++ rest ≡ view_bytes v ++ more = append_assoc (view_bytes v ++ be_bytes w64 next) (log_bytes log) rest ∙ append_assoc (view_bytes v) (be_bytes w64 next) (log_bytes log ++ rest) in
-    ap view_change_at regrouped ∙ rw (started_again v more fits.view, next_again next (log_bytes log ++ rest) fits.number, log_again log rest fits.entries) refl
+    let regrouped : view_bytes v ++ be_bytes w64 next ++ log_bytes log ++ rest ≡ view_bytes v ++ more =
+        append_assoc (view_bytes v ++ be_bytes w64 next) (log_bytes log) rest
+        ∙ append_assoc (view_bytes v) (be_bytes w64 next) (log_bytes log ++ rest) in
+    ap view_change_at regrouped
+        ∙ rw (started_again v more fits.view, next_again next (log_bytes log ++ rest) fits.number, log_again log rest fits.entries) refl
 
 sync_prepare_again : (log : List Entry) (rest : List ℕ) → LogFits log → sync_prepare_at (log_bytes log ++ rest) ≡ Ok (SyncPrepare log, rest)
 unfolding sync_prepare_at

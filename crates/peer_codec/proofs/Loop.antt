@@ -15,16 +15,19 @@ Read = Result (List Entry × List ℕ) BadPeer
 abbrev pub with_front : List Entry → Read → Read
 with_front front read = read >>= λ x. Ok (front ++ x.0, x.1)
 
-regroup : (front : List Entry) (n : Entry) (read : Read) → with_front front (read >>= λ x. Ok (n ∷ x.0, x.1)) ≡ with_front (front ++ n ∷ []) read
+regroup : (front : List Entry) (n : Entry) (read : Read)
+    → with_front front (read >>= λ x. Ok (n ∷ x.0, x.1)) ≡ with_front (front ++ n ∷ []) read
 regroup front n (Ok x) = ap (λ (ns : List Entry). Ok (ns, x.1)) (simp append_assoc)
 regroup front n (Err f) = refl
 
-pub goes_on : (front : List Entry) (count i : ℕ) (bytes : List ℕ) (n : Entry) (after : List ℕ) (total : Read) → i < count → entry_at bytes ≡ Ok (n, after)
+pub goes_on : (front : List Entry) (count i : ℕ) (bytes : List ℕ) (n : Entry) (after : List ℕ) (total : Read) → i < count
+    → entry_at bytes ≡ Ok (n, after)
     → with_front front (entries_at (count - i) bytes) ≡ total → with_front (front ++ n ∷ []) (entries_at (count - (i + 1)) after) ≡ total
 unfolding entries_at
 goes_on front count i bytes n after total lt h so_far =
     let k : count - i ≡ suc (count - (i + 1)) = omega arith in
-    let one : with_front front (entries_at (count - i) bytes) ≡ with_front (front ++ n ∷ []) (entries_at (count - (i + 1)) after) = rw (k, h) (regroup front n (entries_at (count - (i + 1)) after)) in
+    let one : with_front front (entries_at (count - i) bytes) ≡ with_front (front ++ n ∷ []) (entries_at (count - (i + 1)) after) =
+        rw (k, h) (regroup front n (entries_at (count - (i + 1)) after)) in
     sym one ∙ so_far
 
 failed : (e : BadPeer) (front : List Entry) (count i : ℕ) (bytes : List ℕ) (total : Read) → i < count → entry_at bytes ≡ Err e
@@ -43,9 +46,11 @@ ends Kind front count i bytes total lt h so_far = failed Kind front count i byte
 ends Field front count i bytes total lt h so_far = failed Field front count i bytes total lt h so_far
 ends Trailing front count i bytes total lt h so_far = failed Trailing front count i bytes total lt h so_far
 
-pub is_done : (front : List Entry) (count i : ℕ) (bytes : List ℕ) (total : Read) → count ≤ i → with_front front (entries_at (count - i) bytes) ≡ total → total ≡ Ok (front, bytes)
+pub is_done : (front : List Entry) (count i : ℕ) (bytes : List ℕ) (total : Read) → count ≤ i
+    → with_front front (entries_at (count - i) bytes) ≡ total → total ≡ Ok (front, bytes)
 unfolding entries_at
 is_done front count i bytes total le so_far =
     let k : count - i ≡ 0 = omega arith in
-    let one : with_front front (entries_at (count - i) bytes) ≡ Ok (front, bytes) = rw k (ap (λ (ns : List Entry). Ok (ns, bytes)) (append-nil front)) in
+    let one : with_front front (entries_at (count - i) bytes) ≡ Ok (front, bytes) =
+        rw k (ap (λ (ns : List Entry). Ok (ns, bytes)) (append-nil front)) in
     sym so_far ∙ one

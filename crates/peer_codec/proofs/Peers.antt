@@ -65,8 +65,10 @@ is_kind (SyncCommit len) = refl
 message_again : (p : Peer) → PeerFits p → message_of (kind_of p.body) (p.sender ∷ (view_bytes p.view ++ body_bytes p.body)) ≡ Ok p
 unfolding message_of
 message_again p fits =
-    let body : body_at (kind_of p.body) (body_bytes p.body) ≡ Ok (p.body, []) = ap (body_at (kind_of p.body)) (sym (append-nil (body_bytes p.body))) ∙ body_again p.body [] fits.body in
-    rw (sender_again p.sender (view_bytes p.view ++ body_bytes p.body) fits.sender, started_again p.view (body_bytes p.body) fits.view, body) refl
+    let body : body_at (kind_of p.body) (body_bytes p.body) ≡ Ok (p.body, []) =
+        ap (body_at (kind_of p.body)) (sym (append-nil (body_bytes p.body))) ∙ body_again p.body [] fits.body in
+    rw (sender_again p.sender (view_bytes p.view ++ body_bytes p.body) fits.sender, started_again p.view (body_bytes p.body) fits.view,
+        body) refl
 
 pub reads_again : (p : Peer) → PeerFits p → reading (spelling p) ≡ Ok p
 unfolding reading
@@ -76,7 +78,8 @@ pub is_found : (bytes : List ℕ) (r : Result Peer BadPeer) → IsBytes bytes �
 is_found bytes (Ok p) fits given = is_spelled bytes p fits given
 is_found bytes (Err e) fits given = tt
 
-pub is_only : (bytes : List ℕ) (r : Result Peer BadPeer) (p : Peer) → Gives r (reading bytes) → Spells p bytes → (r ≡ Ok p) ⊎ (r ≡ Err NoMemory)
+pub is_only : (bytes : List ℕ) (r : Result Peer BadPeer) (p : Peer) → Gives r (reading bytes) → Spells p bytes
+    → (r ≡ Ok p) ⊎ (r ≡ Err NoMemory)
 is_only bytes r p given s = same r (reading bytes) given (ap reading s.spelled ∙ reads_again p s.fits)
   where
     same : (r read : Result Peer BadPeer) → Gives r read → read ≡ Ok p → (r ≡ Ok p) ⊎ (r ≡ Err NoMemory)

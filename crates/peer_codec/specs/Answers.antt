@@ -13,6 +13,6 @@ abbrev pub GivesBy : {A B : Type 0} → (A → B) → Result A BadPeer → Resul
 GivesBy view (Ok x) read = read ≡ Ok (view x)
 GivesBy view (Err e) read = Fails e read
 
--- the same of what was returned as it is
+-- what was returned, as it is, is what reading gives, unless memory ran out
 abbrev pub Gives : {A : Type 0} → Result A BadPeer → Result A BadPeer → Type 0
 Gives result read = GivesBy (λ x. x) result read

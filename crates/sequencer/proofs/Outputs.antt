@@ -52,7 +52,8 @@ sent_in s (Packet bytes) = sent_at s (reading bytes)
 sent_in s (Ticked tick) = refl
 sent_in s (Submit op) = refl
 
-pub outputs_are_stamps : (s : SequencerState) (inputs : List Given) → to_replicas (run s inputs).1 ≡ map spelled (stamps s (map Step inputs))
+pub outputs_are_stamps : (s : SequencerState) (inputs : List Given)
+    → to_replicas (run s inputs).1 ≡ map spelled (stamps s (map Step inputs))
 outputs_are_stamps s [] = refl
 outputs_are_stamps s (i ∷ is) =
     to_replicas_append (next s i).1 (run (next s i).0 is).1

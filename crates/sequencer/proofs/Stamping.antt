@@ -26,7 +26,8 @@ AreAhead s ps = (j : ℕ) (p : Stamped) → slice_get ps j ≡ Some p → IsAhea
 after_number : (s : SequencerState) (p : Stamped) → IsAhead (record s { next = s.next + 1 }) p → IsAhead s p
 after_number s p h = record { session = h.session; number = λ e. omega (arith, h.number e) }
 
-session_ahead : (b : Bool) (s : SequencerState) (session : ℕ) (p : Stamped) → nat_lt s.session session ≡ b → IsAhead (cond b (record s { session = session; next = 1 }) s) p → IsAhead s p
+session_ahead : (b : Bool) (s : SequencerState) (session : ℕ) (p : Stamped) → nat_lt s.session session ≡ b
+    → IsAhead (cond b (record s { session = session; next = 1 }) s) p → IsAhead s p
 session_ahead true s session p test h = record { session = grind (arith, h.session, test); number = λ e. grind (arith, h.session, test, e) }
 session_ahead false s session p test h = h
 
@@ -40,16 +41,19 @@ ping_ahead false s round p h = h
 
 -- ---- a request
 
-packet_first : (b : Bool) (s : SequencerState) (r : Request) (ps : List Stamped) → AreAhead (cond b (record s { next = s.next + 1 }) s) ps → AreAhead s (one_or_none (cond b (Some (stamped s r)) None) ++ ps)
+packet_first : (b : Bool) (s : SequencerState) (r : Request) (ps : List Stamped) → AreAhead (cond b (record s { next = s.next + 1 }) s) ps
+    → AreAhead s (one_or_none (cond b (Some (stamped s r)) None) ++ ps)
 packet_first true s r ps rest zero p e = subst (IsAhead s) (same_Some _ p e) (record { session = omega arith; number = λ _. omega arith })
 packet_first true s r ps rest (suc j) p e = after_number s p (rest j p e)
 packet_first false s r ps rest j p e = rest j p e
 
-rest_ahead : (s : SequencerState) (d : Result Datagram Bad) (ps : List Stamped) → AreAhead (on_datagram s d).0 ps → AreAhead s (stamp_at s d ++ ps)
+rest_ahead : (s : SequencerState) (d : Result Datagram Bad) (ps : List Stamped) → AreAhead (on_datagram s d).0 ps
+    → AreAhead s (stamp_at s d ++ ps)
 rest_ahead s (Ok (datagrams.Request r)) ps rest j p e = packet_first (can_stamp s) s r ps rest j p e
 rest_ahead s (Ok (datagrams.Stamped q)) ps rest j p e = rest j p e
 rest_ahead s (Ok (datagrams.Reply q)) ps rest j p e = rest j p e
-rest_ahead s (Ok (datagrams.Install sequencer session)) ps rest j p e = install_ahead (can_install s sequencer session) s session p (rest j p e)
+rest_ahead s (Ok (datagrams.Install sequencer session)) ps rest j p e =
+    install_ahead (can_install s sequencer session) s session p (rest j p e)
 rest_ahead s (Ok (datagrams.Installed sequencer session)) ps rest j p e = rest j p e
 rest_ahead s (Ok (datagrams.Ping sequencer round)) ps rest j p e = ping_ahead _ s round p (rest j p e)
 rest_ahead s (Ok (datagrams.Pong sequencer round)) ps rest j p e = rest j p e
@@ -73,24 +77,30 @@ stamps_ahead s (c ∷ cs) j p e = call_ahead s c (stamps (after_call s c) cs) (s
 -- ---- once
 
 abbrev AreOnce : List Stamped → Type 0
-AreOnce ps = (i j : ℕ) (p q : Stamped) → slice_get ps i ≡ Some p → slice_get ps j ≡ Some q → p.session ≡ q.session → p.number ≡ q.number → i ≡ j
+AreOnce ps =
+    (i j : ℕ) (p q : Stamped) → slice_get ps i ≡ Some p → slice_get ps j ≡ Some q → p.session ≡ q.session → p.number ≡ q.number → i ≡ j
 
 -- a packet that was stamped is not ahead any more
-passed : (s : SequencerState) (r : Request) (p q : Stamped) → stamped s r ≡ p → IsAhead (record s { next = s.next + 1 }) q → p.session ≡ q.session → p.number ≡ q.number → ⊥
+passed : (s : SequencerState) (r : Request) (p q : Stamped) → stamped s r ≡ p → IsAhead (record s { next = s.next + 1 }) q
+    → p.session ≡ q.session → p.number ≡ q.number → ⊥
 passed s r p q is h same number =
     let session : q.session ≡ s.session = sym same ∙ sym (ap (λ (x : Stamped). x.session) is) in
     let low : s.next + 1 ≤ q.number = h.number session in
     let own : s.next ≡ q.number = ap (λ (x : Stamped). x.number) is ∙ number in
     omega (arith, low, own)
 
-packet_once : (b : Bool) (s : SequencerState) (r : Request) (ps : List Stamped) → AreAhead (cond b (record s { next = s.next + 1 }) s) ps → AreOnce ps → AreOnce (one_or_none (cond b (Some (stamped s r)) None) ++ ps)
+packet_once : (b : Bool) (s : SequencerState) (r : Request) (ps : List Stamped) → AreAhead (cond b (record s { next = s.next + 1 }) s) ps
+    → AreOnce ps → AreOnce (one_or_none (cond b (Some (stamped s r)) None) ++ ps)
 packet_once true s r ps ahead once zero zero p q e f session number = refl
-packet_once true s r ps ahead once zero (suc j) p q e f session number = absurd (passed s r p q (same_Some _ p e) (ahead j q f) session number)
-packet_once true s r ps ahead once (suc i) zero p q e f session number = absurd (passed s r q p (same_Some _ q f) (ahead i p e) (sym session) (sym number))
+packet_once true s r ps ahead once zero (suc j) p q e f session number =
+    absurd (passed s r p q (same_Some _ p e) (ahead j q f) session number)
+packet_once true s r ps ahead once (suc i) zero p q e f session number =
+    absurd (passed s r q p (same_Some _ q f) (ahead i p e) (sym session) (sym number))
 packet_once true s r ps ahead once (suc i) (suc j) p q e f session number = ap suc (once i j p q e f session number)
 packet_once false s r ps ahead once i j p q e f session number = once i j p q e f session number
 
-rest_once : (s : SequencerState) (d : Result Datagram Bad) (ps : List Stamped) → AreAhead (on_datagram s d).0 ps → AreOnce ps → AreOnce (stamp_at s d ++ ps)
+rest_once : (s : SequencerState) (d : Result Datagram Bad) (ps : List Stamped) → AreAhead (on_datagram s d).0 ps → AreOnce ps
+    → AreOnce (stamp_at s d ++ ps)
 rest_once s (Ok (datagrams.Request r)) ps ahead once = packet_once (can_stamp s) s r ps ahead once
 rest_once s (Ok (datagrams.Stamped q)) ps ahead once = once
 rest_once s (Ok (datagrams.Reply q)) ps ahead once = once
@@ -114,4 +124,5 @@ call_once s (Stamp request) ps ahead once = packet_once (can_stamp s) s request 
 pub stamps_once : (s : SequencerState) (calls : List Call) → AreOnce (stamps s calls)
 stamps_once s [] i j p q e f session number = absurd (none-some p e)
 stamps_once s (c ∷ cs) i j p q e f session number =
-    call_once s c (stamps (after_call s c) cs) (stamps_ahead (after_call s c) cs) (stamps_once (after_call s c) cs) i j p q e f session number
+    call_once s c (stamps (after_call s c) cs) (stamps_ahead (after_call s c) cs) (stamps_once (after_call s c) cs) i j p q e f session
+        number

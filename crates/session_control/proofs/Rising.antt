@@ -36,7 +36,9 @@ asked_on false s = same s
 
 missed_on : (b : Bool) (s : ControllerState) → GoesOn s (miss_if b s).0
 missed_on true s = moved_on (nat_lt s.session last_number) s (following s)
-missed_on false s = let on : GoesOn (record s { missed = s.missed + 1 }) (ask_if (nat_lt s.round last_number) (record s { missed = s.missed + 1 })).0 = asked_on (nat_lt s.round last_number) (record s { missed = s.missed + 1 }) in record { rises = on.rises; stays = on.stays }
+missed_on false s =
+    let on : GoesOn (record s { missed = s.missed + 1 }) (ask_if (nat_lt s.round last_number) (record s { missed = s.missed + 1 })).0 =
+    asked_on (nat_lt s.round last_number) (record s { missed = s.missed + 1 }) in record { rises = on.rises; stays = on.stays }
 
 probed_on : (b : Bool) (s : ControllerState) → GoesOn s (probe_if b s).0
 probed_on true s = asked_on (nat_lt s.round last_number) s
@@ -83,33 +85,39 @@ goes_on s (Submit op) = same s
 
 -- ---- the sessions of the moves rise
 
-rising_at : (b : Bool) (s t : ControllerState) (ms : List Move) → (t.session == s.session) ≡ b → GoesOn s t → AreRising t.session ms → AreRising s.session (cond b [] (move_of t ∷ []) ++ ms)
+rising_at : (b : Bool) (s t : ControllerState) (ms : List Move) → (t.session == s.session) ≡ b → GoesOn s t → AreRising t.session ms
+    → AreRising s.session (cond b [] (move_of t ∷ []) ++ ms)
 rising_at true s t ms test on rest = let e : t.session ≡ s.session = grind (arith, test) in subst (λ n. AreRising n ms) e rest
 rising_at false s t ms test on rest = (grind (arith, test, on.rises), rest)
 
 pub moves_rise : (s : ControllerState) (inputs : List Given) → AreRising s.session (moves s inputs)
 moves_rise s [] = tt
-moves_rise s (i ∷ is) = rising_at ((next s i).0.session == s.session) s (next s i).0 (moves (next s i).0 is) refl (goes_on s i) (moves_rise (next s i).0 is)
+moves_rise s (i ∷ is) =
+    rising_at ((next s i).0.session == s.session) s (next s i).0 (moves (next s i).0 is) refl (goes_on s i) (moves_rise (next s i).0 is)
 
 all_above : (n : ℕ) (ms : List Move) → AreRising n ms → (i : ℕ) (a : Move) → slice_get ms i ≡ Some a → n < a.session
 all_above n [] rising i a e = absurd (none-some a e)
 all_above n (m ∷ ms) rising zero a e = subst (λ (x : Move). n < x.session) (same_Some m a e) rising.0
-all_above n (m ∷ ms) rising (suc i) a e = let low : m.session < a.session = all_above m.session ms rising.1 i a e in omega (arith, rising.0, low)
+all_above n (m ∷ ms) rising (suc i) a e =
+    let low : m.session < a.session = all_above m.session ms rising.1 i a e in omega (arith, rising.0, low)
 
-apart : (n : ℕ) (ms : List Move) (m : Move) → AreRising m.session ms → (i : ℕ) (a b : Move) → m ≡ a → slice_get ms i ≡ Some b → a.session ≡ b.session → ⊥
+apart : (n : ℕ) (ms : List Move) (m : Move) → AreRising m.session ms → (i : ℕ) (a b : Move) → m ≡ a → slice_get ms i ≡ Some b
+    → a.session ≡ b.session → ⊥
 apart n ms m rising i a b is e same =
     let low : m.session < b.session = all_above m.session ms rising i b e in
     let own : m.session ≡ b.session = ap (λ (x : Move). x.session) is ∙ same in
     omega (arith, low, own)
 
-rising_once : (n : ℕ) (ms : List Move) → AreRising n ms → (i j : ℕ) (a b : Move) → slice_get ms i ≡ Some a → slice_get ms j ≡ Some b → a.session ≡ b.session → i ≡ j
+rising_once : (n : ℕ) (ms : List Move) → AreRising n ms → (i j : ℕ) (a b : Move) → slice_get ms i ≡ Some a → slice_get ms j ≡ Some b
+    → a.session ≡ b.session → i ≡ j
 rising_once n [] rising i j a b e f same = absurd (none-some a e)
 rising_once n (m ∷ ms) rising zero zero a b e f same = refl
 rising_once n (m ∷ ms) rising zero (suc j) a b e f same = absurd (apart n ms m rising.1 j a b (same_Some m a e) f same)
 rising_once n (m ∷ ms) rising (suc i) zero a b e f same = absurd (apart n ms m rising.1 i b a (same_Some m b f) e (sym same))
 rising_once n (m ∷ ms) rising (suc i) (suc j) a b e f same = ap suc (rising_once m.session ms rising.1 i j a b e f same)
 
-pub moves_once : (s : ControllerState) (inputs : List Given) (i j : ℕ) (a b : Move) → slice_get (moves s inputs) i ≡ Some a → slice_get (moves s inputs) j ≡ Some b → a.session ≡ b.session → i ≡ j
+pub moves_once : (s : ControllerState) (inputs : List Given) (i j : ℕ) (a b : Move) → slice_get (moves s inputs) i ≡ Some a
+    → slice_get (moves s inputs) j ≡ Some b → a.session ≡ b.session → i ≡ j
 moves_once s inputs i j a b e f same = rising_once s.session (moves s inputs) (moves_rise s inputs) i j a b e f same
 
 -- ---- the state has the last move
@@ -117,13 +125,15 @@ moves_once s inputs i j a b e f same = rising_once s.session (moves s inputs) (m
 moved_state : (s t : ControllerState) → t.current ≡ s.current → t.session ≡ s.session → move_of t ≡ move_of s
 moved_state s t current session = cc
 
-last_at : (b : Bool) (s t : ControllerState) (ms : List Move) → (t.session == s.session) ≡ b → GoesOn s t → last_of (move_of t) ms ≡ last_of (move_of s) (cond b [] (move_of t ∷ []) ++ ms)
+last_at : (b : Bool) (s t : ControllerState) (ms : List Move) → (t.session == s.session) ≡ b → GoesOn s t
+    → last_of (move_of t) ms ≡ last_of (move_of s) (cond b [] (move_of t ∷ []) ++ ms)
 last_at true s t ms test on = let e : t.session ≡ s.session = grind (arith, test) in ap (λ m. last_of m ms) (moved_state s t (on.stays e) e)
 last_at false s t ms test on = refl
 
 pub last_of_state : (s : ControllerState) (inputs : List Given) → move_of (after s inputs) ≡ last_move s inputs
 last_of_state s [] = refl
-last_of_state s (i ∷ is) = last_of_state (next s i).0 is ∙ last_at ((next s i).0.session == s.session) s (next s i).0 (moves (next s i).0 is) refl (goes_on s i)
+last_of_state s (i ∷ is) =
+    last_of_state (next s i).0 is ∙ last_at ((next s i).0.session == s.session) s (next s i).0 (moves (next s i).0 is) refl (goes_on s i)
 
 pub one_more : (s : ControllerState) (inputs : List Given) (i : Given) → after s (inputs ++ i ∷ []) ≡ (next (after s inputs) i).0
 one_more s [] i = refl

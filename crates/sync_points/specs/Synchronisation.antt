@@ -28,7 +28,8 @@ cleared s = record s { prepared = 0; syncing = None }
 
 -- a round without votes; where nobody else has to vote, the sync point is the length at once
 abbrev pub begun : Bool → Synchronisation → ℕ → Synchronisation
-begun alone s len = cond alone (record s { sync_point = len; syncing = None }) (record s { syncing = Some (record { len = len; votes = [] }) })
+begun alone s len =
+    cond alone (record s { sync_point = len; syncing = None }) (record s { syncing = Some (record { len = len; votes = [] }) })
 
 -- a leader tells a log of this length: a round begins where that is longer than the sync point
 abbrev pub with_round : Synchronisation → ℕ → Synchronisation

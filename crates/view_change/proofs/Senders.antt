@@ -12,7 +12,8 @@ use Rattle.view_change.specs.Gathering.{IsOfSender, has_sender, with_change}
 behind : (x : Change) (cs : List Change) (q : ℕ) → IsOfSender cs q → IsOfSender (x ∷ cs) q
 behind x cs q found = (found.0, (suc found.1.0, found.1.1), found.2)
 
-found_at : (b : Bool) (x : Change) (cs : List Change) (q : ℕ) → (x.sender == q) ≡ b → (b || has_sender cs q) ≡ true → (has_sender cs q ≡ true → IsOfSender cs q) → IsOfSender (x ∷ cs) q
+found_at : (b : Bool) (x : Change) (cs : List Change) (q : ℕ) → (x.sender == q) ≡ b → (b || has_sender cs q) ≡ true
+    → (has_sender cs q ≡ true → IsOfSender cs q) → IsOfSender (x ∷ cs) q
 found_at true x cs q test e rest = (x, (zero, refl), grind (arith, test))
 found_at false x cs q test e rest = behind x cs q (rest e)
 
@@ -40,7 +41,8 @@ none_there (x ∷ cs) q e (suc i) c is same = none_there cs q (not_rest (x.sende
 
 -- ---- a change at the end
 
-at_push : (cs : List Change) (c d : Change) (i : ℕ) → slice_get (cs ++ c ∷ []) i ≡ Some d → (slice_get cs i ≡ Some d) ⊎ ((i ≡ length cs) × (d ≡ c))
+at_push : (cs : List Change) (c d : Change) (i : ℕ) → slice_get (cs ++ c ∷ []) i ≡ Some d
+    → (slice_get cs i ≡ Some d) ⊎ ((i ≡ length cs) × (d ≡ c))
 at_push [] c d zero e = inr (refl, sym (same_Some c d e))
 at_push [] c d (suc i) e = absurd (none-some d e)
 at_push (x ∷ cs) c d zero e = inl e
@@ -59,7 +61,8 @@ end_of_push : (cs : List Change) (c : Change) → Has (cs ++ c ∷ []) c
 end_of_push [] c = (zero, refl)
 end_of_push (x ∷ cs) c = let rest : Has (cs ++ c ∷ []) c = end_of_push cs c in (suc rest.0, rest.1)
 
-pub push_distinct : (cs : List Change) (c : Change) → HasDistinctSenders cs → has_sender cs c.sender ≡ false → HasDistinctSenders (cs ++ c ∷ [])
+pub push_distinct : (cs : List Change) (c : Change) → HasDistinctSenders cs → has_sender cs c.sender ≡ false
+    → HasDistinctSenders (cs ++ c ∷ [])
 push_distinct cs c distinct none i j a b e f same = both (at_push cs c a i e) (at_push cs c b j f)
   where
     both : (slice_get cs i ≡ Some a) ⊎ ((i ≡ length cs) × (a ≡ c)) → (slice_get cs j ≡ Some b) ⊎ ((j ≡ length cs) × (b ≡ c)) → i ≡ j
@@ -70,7 +73,8 @@ push_distinct cs c distinct none i j a b e f same = both (at_push cs c a i e) (a
 
 -- ---- with a change
 
-distinct_at : (b : Bool) (cs : List Change) (c : Change) → has_sender cs c.sender ≡ b → HasDistinctSenders cs → HasDistinctSenders (cond b cs (cs ++ c ∷ []))
+distinct_at : (b : Bool) (cs : List Change) (c : Change) → has_sender cs c.sender ≡ b → HasDistinctSenders cs
+    → HasDistinctSenders (cond b cs (cs ++ c ∷ []))
 distinct_at true cs c test distinct = distinct
 distinct_at false cs c test distinct = push_distinct cs c distinct test
 
@@ -84,7 +88,8 @@ first_at false cs c test there = absurd (none_there cs c.sender test there.1.0 t
 pub first_stays : (cs : List Change) (c : Change) → IsOfSender cs c.sender → with_change cs c ≡ cs
 first_stays cs c there = first_at (has_sender cs c.sender) cs c refl there
 
-members_at : (b : Bool) (cs : List Change) (c d : Change) → has_sender cs c.sender ≡ b → (Has (cond b cs (cs ++ c ∷ [])) d ↔ (Has cs d ⊎ ((IsOfSender cs c.sender → ⊥) × (d ≡ c))))
+members_at : (b : Bool) (cs : List Change) (c d : Change) → has_sender cs c.sender ≡ b
+    → (Has (cond b cs (cs ++ c ∷ [])) d ↔ (Has cs d ⊎ ((IsOfSender cs c.sender → ⊥) × (d ≡ c))))
 members_at true cs c d test = (λ has. inl has, back)
   where
     back : Has cs d ⊎ ((IsOfSender cs c.sender → ⊥) × (d ≡ c)) → Has cs d
@@ -104,5 +109,7 @@ pub members : (cs : List Change) (c d : Change) → (Has (with_change cs c) d �
 members cs c d = members_at (has_sender cs c.sender) cs c d refl
 
 -- a list with one more change, whose sender a look-up did not find
-pub pushed_distinct : (xs ys : List Change) (c : Change) (b : Bool) → HasDistinctSenders xs → b ≡ has_sender xs c.sender → b ≡ false → ys ≡ xs ++ c ∷ [] → HasDistinctSenders ys
-pushed_distinct xs ys c b distinct looked none pushed = subst HasDistinctSenders (sym pushed) (push_distinct xs c distinct (sym looked ∙ none))
+pub pushed_distinct : (xs ys : List Change) (c : Change) (b : Bool) → HasDistinctSenders xs → b ≡ has_sender xs c.sender → b ≡ false
+    → ys ≡ xs ++ c ∷ [] → HasDistinctSenders ys
+pushed_distinct xs ys c b distinct looked none pushed =
+    subst HasDistinctSenders (sym pushed) (push_distinct xs c distinct (sym looked ∙ none))

@@ -8,13 +8,18 @@ use Rattle.peer_codec.proofs.logs.split_entries.Goals as goal
 pub returns-in_err-entry : goal.returns-in_err-entry
 returns-in_err-entry c =
     let p = err_from_is_err_and c.from_residual-in_err-entry.result c.from_residual-in_err-entry.ensures.1 in
-    rw (p.1, p.2) (ends c.in_err-entry.field-0.0 c.loop.log c.args.count c.loop.counter c.loop.rest.now (entries_at c.args.count c.args.bytes.now) c.loop-test.true c.in_err-entry.ensures c.loop.invariant.so_far)
+    rw (p.1, p.2) (ends c.in_err-entry.field-0.0 c.loop.log c.args.count c.loop.counter c.loop.rest.now
+        (entries_at c.args.count c.args.bytes.now) c.loop-test.true c.in_err-entry.ensures c.loop.invariant.so_far)
 
 pub loop-preserved : goal.loop-preserved
 loop-preserved c = record {
-  so_far = rw c.in_ok-push.ensures.ok (goes_on c.loop.log c.args.count c.loop.counter c.loop.rest.now c.in_ok-entry.entry c.in_ok-entry.after.now (entries_at c.args.count c.args.bytes.now) c.loop-test.true c.in_ok-entry.ensures c.loop.invariant.so_far);
+  so_far =
+      rw c.in_ok-push.ensures.ok (goes_on c.loop.log c.args.count c.loop.counter c.loop.rest.now c.in_ok-entry.entry c.in_ok-entry.after.now
+      (entries_at c.args.count c.args.bytes.now) c.loop-test.true c.in_ok-entry.ensures c.loop.invariant.so_far);
   len = rw c.in_ok-push.ensures.ok (length_push c.loop.log c.in_ok-entry.entry ∙ ap (λ n. n + 1) c.loop.invariant.len);
 }
 
 pub returns : goal.returns
-returns c = is_done c.loop.log c.args.count c.loop.counter c.loop.rest.now (entries_at c.args.count c.args.bytes.now) c.loop-test.false c.loop.invariant.so_far
+returns c =
+    is_done c.loop.log c.args.count c.loop.counter c.loop.rest.now (entries_at c.args.count c.args.bytes.now) c.loop-test.false
+    c.loop.invariant.so_far

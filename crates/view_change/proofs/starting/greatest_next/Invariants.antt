@@ -4,4 +4,5 @@ use Rattle.log_merge.specs.Starting.{greatest_next}
 use Rattle.view_change.proofs.starting.greatest_next.Given as goal
 
 abbrev pub invariant-loop-change : goal.invariant-loop-change
-invariant-loop-change l = max l.most (greatest_next (filter (λ c. is_view c.last_normal l.view) (drop l.change-index l.changes))) ≡ greatest_next (filter (λ c. is_view c.last_normal l.view) l.changes)
+invariant-loop-change l = max l.most (greatest_next (filter (λ c. is_view c.last_normal l.view) (drop l.change-index l.changes)))
+    ≡ greatest_next (filter (λ c. is_view c.last_normal l.view) l.changes)
