@@ -23,6 +23,9 @@ pub const WATCH_MILLIS: u64 = 1000;
 /// A replica that used this message number, or a greater one, takes no row any more. A step uses at most eight.
 pub const LAST_MESSAGE: u64 = u64::MAX - 8;
 
+// its value as STEPS.md has it, which no contract pins
+const _: () = prove!(LAST_MESSAGE == 18_446_744_073_709_551_607);
+
 /// What a replica knows, apart from how its messages travel. `next` is the number of the request that it logs next, `base` how
 /// many entries its view started with, `asked` the slot that it asked for last (0 is none), and `heard` whether it heard of its
 /// leader since the last tick Watch.
