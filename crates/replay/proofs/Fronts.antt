@@ -20,7 +20,7 @@ some_right [] ys some = some
 some_right (x ∷ xs) ys some = λ e. absurd cc
 
 drop_some : (n : ℕ) (xs : List ℕ) → n < length xs → drop n xs ≢ []
-drop_some n xs below none = absurd (omega (arith, below, length-drop n xs, ap length none))
+drop_some n xs below = λ none. absurd (omega (arith, below, length-drop n xs, ap length none))
 
 -- ---- fronts
 

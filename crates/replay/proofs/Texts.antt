@@ -1,17 +1,19 @@
 -- What is written for a whole input always has a last line.
-use Rattle.std.proofs.Common.{◌≡◌, ◌≢◌, ℕ, List, [], ◌∷◌, ◌++◌, true, Option, Some, None, Result, Ok, Err, subst, sym}
+use Rattle.std.proofs.Common.{◌≡◌, ◌≢◌, ℕ, ◌+◌, List, [], ◌∷◌, ◌++◌, true, Option, Some, None, Result, Ok, Err, subst, sym}
 use Rattle.nop_types.specs.Configuration.{Configuration}
 use Rattle.nop_types.specs.Meaning.{Meaning}
 use Rattle.schedule_text.specs.declared.rule.Rule.{Rule}
+use Rattle.schedule_text.specs.declared.rule.Rule.TheVariants.{WrongWord}
 use Rattle.schedule_text.specs.Cutting.{lines_of}
-use Rattle.schedule_text.specs.Rules.{header_of}
+use Rattle.schedule_text.specs.Rules.{rule_number, header_of}
 use Rattle.schedule_text.specs.Reading.{Turn, Next, Gives, Refuses, Ends}
 use Rattle.schedule_text.specs.Transcript.{error_line, end_line, lines_text, transcript_line}
 use Rattle.world.specs.StateLines.{replicas_text}
 use Rattle.world.specs.WorldSteps.{WorldState, Refusal, Happened, step, run_from, opening, history}
-use Rattle.replay.specs.Output.{BadLine, bad_text, history_text, final_text, ending, text_after, schedule_from, rest, begun}
+use Rattle.replay.specs.Output.{BadLine, bad_text, refused_line, history_text, final_text, ending, text_after, schedule_from, rest, begun}
 use Rattle.replay.specs.Output.{output_of_lines, output}
 use Rattle.replay.specs.Progress.{after_step, after_next, after_turn}
+use Rattle.replay.specs.Steps.{bad_line}
 use Rattle.replay.proofs.Fronts.{some_right}
 use Rattle.replay.proofs.Runs.{schedule_runs}
 
@@ -41,25 +43,25 @@ module _ {S : Type 0} (m : Meaning S) where
 
   after_step_some : (c : Configuration) (line : ℕ) (lines : List (List ℕ)) (r : Result Happened Refusal)
       → (after_step m true c line lines r).text ≢ []
-  after_step_some c line lines (Err refusal) = bad_text_some _
+  after_step_some c line lines (Err refusal) = bad_text_some (refused_line line refusal)
   after_step_some c line lines (Ok h) =
       some_right (lines_text h.lines) (rest m true c h.world line lines).text (rest_some c h.world line lines)
 
   after_next_some : (c : Configuration) (w : WorldState) (line : ℕ) (lines : List (List ℕ)) (next : Next)
       → (after_next m true c w line lines next).text ≢ []
   after_next_some c w line lines (Gives e) = after_step_some c line lines (step m w e)
-  after_next_some c w line lines (Refuses rule) = bad_text_some _
+  after_next_some c w line lines (Refuses rule) = bad_text_some (bad_line (line + 1) rule)
   after_next_some c w line lines Ends = final_text_some w
 
   pub after_turn_some : (c : Configuration) (w : WorldState) (t : Turn) → (after_turn m true c w t).text ≢ []
   after_turn_some c w t = after_next_some c w t.line t.rest t.next
 
   begun_some : (lines : List (List ℕ)) (r : Result Configuration Rule) → (begun m true lines r).text ≢ []
-  begun_some lines (Err rule) = bad_text_some _
+  begun_some lines (Err rule) = bad_text_some (bad_line 1 (rule_number rule))
   begun_some lines (Ok c) = some_right (transcript_line c) (rest m true c (opening c) 1 lines).text (rest_some c (opening c) 1 lines)
 
   lines_some : (lines : List (List ℕ)) → (output_of_lines m true lines).text ≢ []
-  lines_some [] = bad_text_some _
+  lines_some [] = begun_some [] (Err WrongWord)
   lines_some (line ∷ lines) = begun_some lines (header_of line)
 
   pub output_some : (bytes : List ℕ) → (output m true bytes).text ≢ []
