@@ -14,7 +14,8 @@ use Rattle.replay.specs.Output.{BadLine, bad_text, refused_line, history_text, f
 use Rattle.replay.specs.Output.{output_of_lines, output}
 use Rattle.replay.specs.Progress.{after_step, after_next, after_turn}
 use Rattle.replay.specs.Steps.{bad_line}
-use Rattle.replay.proofs.Fronts.{some_right}
+use Rattle.replay.specs.Outcome.{LeavesSome}
+use Rattle.replay.proofs.Fronts.{part_nil, some_right}
 use Rattle.replay.proofs.Runs.{schedule_runs}
 
 pub bad_text_some : (b : BadLine) → bad_text b ≢ []
@@ -28,6 +29,14 @@ end_line_some = λ e. absurd cc
 pub final_text_some : (w : WorldState) → final_text w ≢ []
 unfolding final_text
 final_text_some w = some_right (replicas_text 0 w.replicas ++ history_text 1 (history w)) end_line end_line_some
+
+-- nothing of what is gathered and of an error line was written
+pub refused_unwritten : (a : Option (List ℕ)) (pending : List ℕ) (b : BadLine) → LeavesSome a a (pending ++ bad_text b)
+refused_unwritten a pending b = part_nil a (pending ++ bad_text b) (some_right pending (bad_text b) (bad_text_some b))
+
+-- and of the lines at the end of the input
+pub final_unwritten : (a : Option (List ℕ)) (pending : List ℕ) (w : WorldState) → LeavesSome a a (pending ++ final_text w)
+final_unwritten a pending w = part_nil a (pending ++ final_text w) (some_right pending (final_text w) (final_text_some w))
 
 ending_some : (w : WorldState) (bad : Option BadLine) → ending true w bad ≢ []
 ending_some w (Some b) = bad_text_some b

@@ -14,6 +14,7 @@ use std::alloc::Global;
 use world::World;
 
 /// Replays a schedule with a host of this type.
+#[tactic(auto, using(crate::proofs::Progressing::starved_first))]
 pub fn replay_with<H: Host, S: Source, K: Sink>(
     alloc: Global,
     source: &mut S,

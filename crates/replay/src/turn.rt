@@ -13,6 +13,7 @@ use schedule_text::{Event, NextError, Rule, error_line};
 use world::{StepError, World};
 
 /// Writes what was gathered and the error line, in which the rule has its number.
+#[tactic(auto, using(crate::proofs::Texts::refused_unwritten))]
 fn refuse<K: Sink>(
     line: u32,
     rule: u8,
@@ -53,6 +54,7 @@ pub fn stop<K: Sink>(error: NextError, pending: &mut Vec<u8>, sink: &mut K) -> R
 }
 
 /// One event; `line` is the number of its line.
+#[tactic(auto, using(crate::proofs::Fronts::misses_fails))]
 pub fn take_event<H: Host, K: Sink>(
     line: u32,
     event: &Event,
@@ -86,6 +88,7 @@ pub fn take_event<H: Host, K: Sink>(
 }
 
 /// The end of the input.
+#[tactic(auto, using(crate::proofs::Texts::final_unwritten))]
 pub fn finish<H: Host, K: Sink>(
     world: &World<H>,
     pending: &mut Vec<u8>,

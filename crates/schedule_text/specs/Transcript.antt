@@ -3,6 +3,7 @@ use Rattle.std.specs.Prelude.{ℕ, List, [], ◌∷◌, ◌++◌, length, Bool, 
 use Rattle.std.specs.Prelude.{if◌then◌else◌}
 use Rattle.std.specs.List.{flat_map}
 use Rattle.hex.specs.Hex.{encode_lower}
+use Rattle.nop_types.specs.declared.kinds.TheConstants as kinds
 use Rattle.nop_types.specs.Configuration.{Configuration}
 use Rattle.nop_types.specs.Lines.{Line, Dead, Submit, Accept, Busy, Send}
 use Rattle.nop_types.specs.declared.output.Actor.{Actor}
@@ -37,13 +38,13 @@ hex_text (b ∷ bs) = encode_lower (b ∷ bs)
 -- the name of a kind of datagrams
 unfoldable pub kind_text : ℕ → List ℕ
 kind_text kind =
-    if kind == 1 then codes "request"
-    else if kind == 2 then codes "stamped"
-    else if kind == 3 then codes "reply"
-    else if kind == 4 then codes "install"
-    else if kind == 5 then codes "installed"
-    else if kind == 6 then codes "ping"
-    else if kind == 7 then codes "pong"
+    if kind == kinds.REQUEST then codes "request"
+    else if kind == kinds.STAMPED then codes "stamped"
+    else if kind == kinds.REPLY then codes "reply"
+    else if kind == kinds.INSTALL then codes "install"
+    else if kind == kinds.INSTALLED then codes "installed"
+    else if kind == kinds.PING then codes "ping"
+    else if kind == kinds.PONG then codes "pong"
     else codes "fragment"
 
 abbrev pub phase_text : Phase → List ℕ

@@ -4,7 +4,7 @@ ghost use Rattle.nop_types.specs.Lists.{IsPrefixOf};
 ghost use Rattle.schedule_text.specs.LineText.{field_text, field_texts, line_of};
 ghost use Rattle.schedule_text.specs.Transcript.{actor_text, dest_text, hex_text, kind_text, phase_text, up_text};
 
-use nop_types::{Actor, Dest, NoMemory, Phase};
+use nop_types::{Actor, Dest, NoMemory, Phase, kinds};
 
 /// One field of a line of a transcript.
 #[derive(Clone, Copy)]
@@ -25,13 +25,13 @@ fn kind_word(datagram: &[u8]) -> &'static str
     ensures { result.now ≡ kind_text (slice_index datagram.now 3) }
 {
     match datagram.get(3) {
-        Some(1) => "request",
-        Some(2) => "stamped",
-        Some(3) => "reply",
-        Some(4) => "install",
-        Some(5) => "installed",
-        Some(6) => "ping",
-        Some(7) => "pong",
+        Some(&kinds::REQUEST) => "request",
+        Some(&kinds::STAMPED) => "stamped",
+        Some(&kinds::REPLY) => "reply",
+        Some(&kinds::INSTALL) => "install",
+        Some(&kinds::INSTALLED) => "installed",
+        Some(&kinds::PING) => "ping",
+        Some(&kinds::PONG) => "pong",
         _ => "fragment",
     }
 }
