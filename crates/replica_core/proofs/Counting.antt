@@ -44,10 +44,10 @@ use Rattle.replica_core.specs.Messages.{
   Ticked,
   from_leader,
   from_follower,
-  told_as,
-  told_in_view,
-  told_by,
-  told,
+  by_role,
+  in_view,
+  on_body,
+  on_message,
   ticked,
   arrive,
   is_from_leader,
@@ -226,7 +226,7 @@ open_if_few : {S : Type 0} (m : Meaning S) (o : Option Gathering) (s : ReplicaSt
 open_if_few m None s = still_few 2 s
 open_if_few m (Some g) s = when_few 2 (nat_lt g.f (length g.changes)) (open_view m g) s (open_with_few m s (start_of g.view g.changes).next (start_of g.view g.changes).log)
 
-enter_view_few : {S : Type 0} (m : Meaning S) (s : ReplicaState) (v : View) → Few 4 s (rows.enter_view m s v)
+enter_view_few : {S : Type 0} (m : Meaning S) (s : ReplicaState) (v : View) → Few 4 s (rows.enter_view m v s)
 unfolding rows.enter_view
 enter_view_few m s v = then_few (λ t. open_if_enough m t.changes t) 2 2 4 (omega arith) (enter_few s v) (open_if_few m (enter s v).0.changes (enter s v).0)
 
@@ -235,15 +235,15 @@ enter_and_drain_few m v s = and_drain m 4 (enter_view_few m s v)
 
 -- ---- rows
 
-stamped_if_few : {S : Type 0} (m : Meaning S) (b : Bool) (s : ReplicaState) (p : Stamped) → Few 5 s (rows.stamped_if m b s p)
+stamped_if_few : {S : Type 0} (m : Meaning S) (b : Bool) (s : ReplicaState) (p : Stamped) → Few 5 s (rows.stamped_if m b p s)
 stamped_if_few m true s p = same refl (enter_and_drain_few m (record { leader = s.view.leader; session = p.session }) (begin_session s p))
 stamped_if_few m false s p = more 1 5 (omega arith) (and_drain m 0 (changed_few 0 s (queue s p).0 refl))
 
-stamped_few : {S : Type 0} (m : Meaning S) (s : ReplicaState) (p : Stamped) → Few 5 s (rows.stamped m s p)
+stamped_few : {S : Type 0} (m : Meaning S) (s : ReplicaState) (p : Stamped) → Few 5 s (rows.stamped m p s)
 unfolding rows.stamped
 stamped_few m s p = stamped_if_few m (nat_lt s.view.session p.session) s p
 
-request_few : {S : Type 0} (m : Meaning S) (s : ReplicaState) (v : View) → Few 5 s (rows.view_change_request m s v)
+request_few : {S : Type 0} (m : Meaning S) (s : ReplicaState) (v : View) → Few 5 s (rows.view_change_request m v s)
 request_few m s v = when_few 5 (not (is_view (join_of s.view v) s.view)) _ s (enter_and_drain_few m (join_of s.view v) s)
 
 gather_few : {S : Type 0} (m : Meaning S) (o : Option Gathering) (c : peer.Change) (s : ReplicaState) → Few 2 s (rows.gather m o c s)
@@ -254,13 +254,13 @@ gather_by_few : {S : Type 0} (m : Meaning S) (status : Phase) (c : peer.Change) 
 gather_by_few m Change c s = gather_few m s.changes c s
 gather_by_few m Normal c s = record { few = omega arith; config = refl }
 
-view_change_few : {S : Type 0} (m : Meaning S) (s : ReplicaState) (v : View) (c : peer.Change) → Few 7 s (rows.view_change m s v c)
+view_change_few : {S : Type 0} (m : Meaning S) (s : ReplicaState) (v : View) (c : peer.Change) → Few 7 s (rows.view_change m v c s)
 unfolding rows.view_change
 view_change_few m s v c =
-    let t : ReplicaState = (rows.view_change_request m s v).0 in
+    let t : ReplicaState = (rows.view_change_request m v s).0 in
     then_few (rows.take_change m v c) 5 2 7 (omega arith) (request_few m s v) (when_few 2 (is_view v t.view && leads t) _ t (gather_by_few m t.status c t))
 
-start_view_few : {S : Type 0} (m : Meaning S) (s : ReplicaState) (q : ℕ) (v : View) (x : ℕ) (l : List Entry) → Few 1 s (rows.start_view m s q v x l)
+start_view_few : {S : Type 0} (m : Meaning S) (s : ReplicaState) (q : ℕ) (v : View) (x : ℕ) (l : List Entry) → Few 1 s (rows.start_view m q v x l s)
 unfolding rows.start_view
 start_view_few m s q v x l = when_few 1 (rows.may_adopt s q v l) _ s (adopt_few m s v x l)
 
@@ -350,29 +350,29 @@ from_follower_few m q bodies.ViewChangeReq s = still_few 2 s
 from_follower_few m q (bodies.ViewChange u x l) s = still_few 2 s
 from_follower_few m q (bodies.StartView x l) s = still_few 2 s
 
-told_as_few : {S : Type 0} (m : Meaning S) (a b : Bool) (q : ℕ) (body : Body) (s : ReplicaState) → Few 8 s (told_as m a b q body s)
-told_as_few m true b q body s = more 2 8 (omega arith) (from_leader_few m body s)
-told_as_few m false true q body s = more 2 8 (omega arith) (from_follower_few m q body s)
-told_as_few m false false q body s = still_few 8 s
+by_role_few : {S : Type 0} (m : Meaning S) (a b : Bool) (q : ℕ) (body : Body) (s : ReplicaState) → Few 8 s (by_role m a b q body s)
+by_role_few m true b q body s = more 2 8 (omega arith) (from_leader_few m body s)
+by_role_few m false true q body s = more 2 8 (omega arith) (from_follower_few m q body s)
+by_role_few m false false q body s = still_few 8 s
 
-in_view_few : {S : Type 0} (m : Meaning S) (q : ℕ) (v : View) (body : Body) (s : ReplicaState) → Few 8 s (told_in_view m q v body s)
-in_view_few m q v body s = told_as_few m (is_from_leader s v q) (is_to_leader s v) q body s
+in_view_few : {S : Type 0} (m : Meaning S) (q : ℕ) (v : View) (body : Body) (s : ReplicaState) → Few 8 s (in_view m q v body s)
+in_view_few m q v body s = by_role_few m (is_from_leader s v q) (is_to_leader s v) q body s
 
-told_by_few : {S : Type 0} (m : Meaning S) (p : Peer) (body : Body) (s : ReplicaState) → Few 8 s (told_by m p body s)
-told_by_few m p bodies.ViewChangeReq s = more 5 8 (omega arith) (request_few m s p.view)
-told_by_few m p (bodies.ViewChange u x l) s = more 7 8 (omega arith) (view_change_few m s p.view _)
-told_by_few m p (bodies.StartView x l) s = more 1 8 (omega arith) (start_view_few m s p.sender p.view x l)
-told_by_few m p (bodies.GapCommit k) s = in_view_few m p.sender p.view (bodies.GapCommit k) s
-told_by_few m p (bodies.Found k r) s = in_view_few m p.sender p.view (bodies.Found k r) s
-told_by_few m p (bodies.SyncPrepare l) s = in_view_few m p.sender p.view (bodies.SyncPrepare l) s
-told_by_few m p (bodies.SyncCommit k) s = in_view_few m p.sender p.view (bodies.SyncCommit k) s
-told_by_few m p (bodies.SlotLookup k) s = in_view_few m p.sender p.view (bodies.SlotLookup k) s
-told_by_few m p (bodies.GapRep k) s = in_view_few m p.sender p.view (bodies.GapRep k) s
-told_by_few m p (bodies.SyncRep k) s = in_view_few m p.sender p.view (bodies.SyncRep k) s
+on_body_few : {S : Type 0} (m : Meaning S) (p : Peer) (body : Body) (s : ReplicaState) → Few 8 s (on_body m p body s)
+on_body_few m p bodies.ViewChangeReq s = more 5 8 (omega arith) (request_few m s p.view)
+on_body_few m p (bodies.ViewChange u x l) s = more 7 8 (omega arith) (view_change_few m s p.view _)
+on_body_few m p (bodies.StartView x l) s = more 1 8 (omega arith) (start_view_few m s p.sender p.view x l)
+on_body_few m p (bodies.GapCommit k) s = in_view_few m p.sender p.view (bodies.GapCommit k) s
+on_body_few m p (bodies.Found k r) s = in_view_few m p.sender p.view (bodies.Found k r) s
+on_body_few m p (bodies.SyncPrepare l) s = in_view_few m p.sender p.view (bodies.SyncPrepare l) s
+on_body_few m p (bodies.SyncCommit k) s = in_view_few m p.sender p.view (bodies.SyncCommit k) s
+on_body_few m p (bodies.SlotLookup k) s = in_view_few m p.sender p.view (bodies.SlotLookup k) s
+on_body_few m p (bodies.GapRep k) s = in_view_few m p.sender p.view (bodies.GapRep k) s
+on_body_few m p (bodies.SyncRep k) s = in_view_few m p.sender p.view (bodies.SyncRep k) s
 
-tell_few : {S : Type 0} (m : Meaning S) (s : ReplicaState) (p : Peer) → Few 8 s (told m s p)
-unfolding told
-tell_few m s p = when_few 8 (is_other s p.sender) _ s (told_by_few m p p.body s)
+on_message_few : {S : Type 0} (m : Meaning S) (s : ReplicaState) (p : Peer) → Few 8 s (on_message m p s)
+unfolding on_message
+on_message_few m s p = when_few 8 (is_other s p.sender) _ s (on_body_few m p p.body s)
 
 -- ---- ticks
 
@@ -416,7 +416,7 @@ unfolding rows.sync
 sync_few s =
     when_few 1 (is_normal s.status && (leads s && not (waits s.gap))) (λ t. rows.sync_if (nat_lt t.sync.sync_point (length t.log)) t) s (sync_if_few (nat_lt s.sync.sync_point (length s.log)) s)
 
-tick_few : {S : Type 0} (m : Meaning S) (s : ReplicaState) (tick : Tick) → Few 8 s (ticked m s tick)
+tick_few : {S : Type 0} (m : Meaning S) (s : ReplicaState) (tick : Tick) → Few 8 s (ticked m tick s)
 tick_few m s ticks.Suspect = suspect_few m s
 tick_few m s ticks.Watch = watch_few m (is_normal s.status && leads s) s.heard s
 tick_few m s ticks.Resend = more 2 8 (omega arith) (resend_few s)
@@ -431,7 +431,7 @@ tick_few m s (ticks.Install j) = still_few 8 s
 arrive_few : {S : Type 0} (m : Meaning S) (s : ReplicaState) (a : Arrival) → Few 8 s (arrive m s a)
 unfolding arrive
 arrive_few m s (Packet p) = more 5 8 (omega arith) (stamped_few m s p)
-arrive_few m s (Told p) = tell_few m s p
+arrive_few m s (Told p) = on_message_few m s p
 arrive_few m s (Ticked tick) = tick_few m s tick
 
 pub arrive_sends_few : {S : Type 0} (m : Meaning S) (s : ReplicaState) (a : Arrival) → message_count (arrive m s a).1 ≤ 8

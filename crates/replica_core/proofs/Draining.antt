@@ -9,7 +9,7 @@ use Rattle.nop_types.specs.declared.request.Entry.{Entry}
 use Rattle.nop_types.specs.declared.request.Entry.TheVariants.{NoOp, Req}
 use Rattle.nop_types.specs.Lists.{slot_of}
 use Rattle.nop_types.specs.Meaning.{Meaning}
-use Rattle.oum_receiver.specs.Front.{Front, Nothing, Dropped}
+use Rattle.oum_receiver.specs.Front.{Front, Nothing, Message, Dropped}
 use Rattle.oum_receiver.specs.Receiving.{Receiving, IsSound, front_of}
 use Rattle.oum_receiver.proofs.Sound.{taken_sound}
 use Rattle.replica_core.specs.declared.sending.Sending.{Sending}
@@ -17,8 +17,8 @@ use Rattle.replica_core.specs.declared.state.ReplicaState.{ReplicaState}
 use Rattle.replica_core.specs.State.{is_normal, waits, drains, leads}
 use Rattle.replica_core.specs.Sends.{Effect, still, then_do}
 use Rattle.replica_core.specs.Replies.{reply_at, reply_for_any}
-use Rattle.replica_core.specs.Moves.{logged, take_front, appended, fill, open_gap, drain_drop, drain_at, drain_by, drain}
-use Rattle.replica_core.specs.Draining.{TookFront, TookNone, TakesFront, GoesOn, Stops, TakesOne}
+use Rattle.replica_core.specs.Moves.{logged, take_front, appended, fill, open_gap, ask, drain_drop, drain_at, drain_by, drain}
+use Rattle.replica_core.specs.Draining.{TookFront, TookNone, TakesFront, GoesOn, Stops, TakesOne, DrainsByFront}
 
 last_false : (a b c : Bool) → c ≡ false → (a && (b && c)) ≡ false
 last_false true true c e = e
@@ -153,3 +153,47 @@ module _ {S : Type 0} (m : Meaning S) where
   pub off : (s t : ReplicaState) (old new : List Sending) (b : Bool) → b ≡ false → TakesOne m s old t new b → Stops m s old t new
   off s t old new true e h = absurd cc
   off s t old new false e h = h
+
+  -- ---- by what stands in front
+
+  pub drains_nothing : (s : ReplicaState) → drains s ≡ false → drain m s ≡ still s
+  unfolding drain
+  drains_nothing s none = full_by (MAX_SLOTS - length s.log) s none
+
+  ends_by : (s : ReplicaState) → drains s ≡ true → front_of s.receiver ≡ Nothing → drain m s ≡ still s
+  ends_by s may front = stops s s [] [] (record {
+    more = [];
+    turn = λ again. ap (λ b. drain_at m again s b (front_of s.receiver)) may ∙ ap (drain_at m again s true) front;
+    sends = refl;
+  })
+
+  takes_by : (s : ReplicaState) (r : Request) → drains s ≡ true → front_of s.receiver ≡ Message r → drain m s ≡ then_do (take_front m s r) (drain m)
+  takes_by s r may front = turns s (logged s r) [] (take_front m s r).1 (record {
+    drains = may;
+    filled = length-append s.log (Req r ∷ []);
+    more = (take_front m s r).1;
+    turn = λ again. ap (drain_at m again s true) front;
+    sends = refl;
+  })
+
+  opens_by : (s : ReplicaState) → drains s ≡ true → front_of s.receiver ≡ Dropped → leads s ≡ true → drain m s ≡ then_do (open_gap s) (drain m)
+  opens_by s may drop leading = turns s (open_gap s).0 [] (open_gap s).1 (record {
+    drains = may;
+    filled = opened_len s;
+    more = (open_gap s).1;
+    turn = λ again. ap (drain_at m again s true) drop ∙ ap (λ b. drain_drop again b s) leading;
+    sends = refl;
+  })
+
+  asks_by : (s : ReplicaState) → drains s ≡ true → front_of s.receiver ≡ Dropped → leads s ≡ false → drain m s ≡ ask s
+  asks_by s may drop follows = stops s (ask s).0 [] (ask s).1 (record {
+    more = (ask s).1;
+    turn = λ again.
+        ap (λ b. drain_at m again s b (front_of s.receiver)) may
+        ∙ ap (drain_at m again s true) drop
+        ∙ ap (λ b. drain_drop again b s) follows;
+    sends = refl;
+  })
+
+  pub drains_by_front : (s : ReplicaState) → DrainsByFront m s
+  drains_by_front s = record { rests = drains_nothing s; ends = ends_by s; takes = takes_by s; opens = opens_by s; asks = asks_by s }

@@ -1,6 +1,6 @@
 -- What a view starts with, and entering one alone.
 use Rattle.std.proofs.Common.{◌≡◌, ◌<◌, ◌≤◌, Bool, true, false, List, [], ◌∷◌, ◌++◌, length, filter, refl, sym, ap, subst, ◌∙◌, arith, inl, inr, true≢false}
-use Rattle.std.specs.Prelude.{cond, ◌⊎◌, Option, Some, None, nat_lt, ◌==◌, ◌&&◌}
+use Rattle.std.specs.Prelude.{cond, ◌⊎◌, Option, Some, None, IfSome, nat_lt, ◌==◌, ◌&&◌}
 use Rattle.std.specs.List.{AllByRecursion}
 use Rattle.std.proofs.lemmas.Bool.{lt-ltb, ltb-true, le-ltb}
 use Rattle.std.proofs.lemmas.Bool.Decides.{nat_tests}
@@ -21,8 +21,9 @@ use Rattle.replica_core.specs.declared.sending.Sending.{Sending}
 use Rattle.replica_core.specs.declared.state.ReplicaState.{ReplicaState}
 use Rattle.replica_core.specs.State.{others, leads}
 use Rattle.replica_core.specs.Sends.{Effect, still, then_do, when}
-use Rattle.replica_core.specs.Moves.{entered, enter, enter_as, open_with, open_view, open_if_enough}
-use Rattle.replica_core.specs.Rows.{enter_view}
+use Rattle.replica_core.specs.Moves.{entered, enter, enter_as, open_with, open_view, open_if_enough, keep_change}
+use Rattle.replica_core.specs.Rows.{enter_view, gather, kept_by, step_by}
+use Rattle.replica_core.specs.Within.{IsWithin}
 
 -- ---- ranges
 
@@ -116,12 +117,12 @@ module _ {S : Type 0} (m : Meaning S) where
       ap (λ b. when b (open_view m g) t) (le-ltb _ _ many)
 
   -- with others the view does not start at once
-  pub enters_with_others : (s : ReplicaState) (v : View) → 0 < others (enter s v).0 → enter_view m s v ≡ enter s v
+  pub enters_with_others : (s : ReplicaState) (v : View) → 0 < others (enter s v).0 → enter_view m v s ≡ enter s v
   unfolding enter_view
   enters_with_others s v more = none_after (enter s v) (λ t. open_if_enough m t.changes t) (by_gathering (enter s v).0.changes (enter s v).0 refl (own s v) more)
 
   -- a replica that is alone starts it with what it has
-  pub enters_alone : (s : ReplicaState) (v : View) (g : Gathering) → (enter s v).0.changes ≡ Some g → g.f ≡ 0 → enter_view m s v ≡ then_do (enter s v) (open_view m g)
+  pub enters_alone : (s : ReplicaState) (v : View) (g : Gathering) → (enter s v).0.changes ≡ Some g → g.f ≡ 0 → enter_view m v s ≡ then_do (enter s v) (open_view m g)
   unfolding enter_view
   enters_alone s v g is none =
       let mine = own s v g is in
@@ -131,7 +132,7 @@ module _ {S : Type 0} (m : Meaning S) where
       ap (λ (x : Effect). (x.0, (enter s v).1 ++ x.1)) rest
 
   -- the same, with what the code has after each part
-  pub opens_alone : (s t p : ReplicaState) (v : View) (g : Gathering) (start : Start) → t ≡ (enter s v).0 → t.changes ≡ Some g → g.f ≡ 0 → p ≡ t → start ≡ started (start_of g.view g.changes) → enter_view m s v ≡ then_do (enter s v) (λ _. open_with m p start.next start.log)
+  pub opens_alone : (s t p : ReplicaState) (v : View) (g : Gathering) (start : Start) → t ≡ (enter s v).0 → t.changes ≡ Some g → g.f ≡ 0 → p ≡ t → start ≡ started (start_of g.view g.changes) → enter_view m v s ≡ then_do (enter s v) (λ _. open_with m p start.next start.log)
   opens_alone s t p v g start e is none same begins =
       enters_alone s v g (ap (λ (q : ReplicaState). q.changes) (sym e) ∙ is) none
       ∙ ap (λ (x : Effect). (x.0, (enter s v).1 ++ x.1))
@@ -166,3 +167,40 @@ begun_by false s start e = absurd cc
 -- a view starts where enough changes are there, with what they make
 pub begins : (g : Gathering) (start : Start) → step_of g ≡ Started start → (g.f < length g.changes) × (start ≡ started (start_of g.view g.changes))
 begins g start e = let r = begun_by (nat_lt g.f (length g.changes)) _ start e in (ltb-true _ _ r.0, r.1)
+
+waiting_by : (b : Bool) (s : Start) → cond b (Started s) Waiting ≡ Waiting → b ≡ false
+waiting_by true s e = absurd cc
+waiting_by false s e = refl
+
+-- what is gathered where a view starts with a change
+pub record Gathers {S : Type 0} (m : Meaning S) (s t : ReplicaState) (c : Change) (start : Start) : Type 0 where
+  pub next : NextFits start.next
+  pub log : LogFits start.log
+  pub row : gather m s.changes c s ≡ open_with m t start.next start.log
+
+module _ {S : Type 0} (m : Meaning S) where
+  pub gathers : (s t : ReplicaState) (o : Option Gathering) (c : Change) (start : Start) → o ≡ s.changes → IsWithin s → ChangeFits c → t ≡ kept_by s o c → step_by o c ≡ Started start → Gathers m s t c start
+  gathers s t None c start e w fits kept step = absurd cc
+  gathers s t (Some g) c start e w fits kept step =
+      let all = subst (λ o. IfSome o (λ x. AllByRecursion ChangeFits x.changes)) (sym e) w.changes in
+      let enough = begins (counted g c) start step in
+      let fit = start_fits (counted g c) start (counted_fits g c all fits) (omega (arith, enough.0)) enough.1 in
+      let k : ReplicaState = (keep_change s g c).0 in
+      record {
+        next = fit.0;
+        log = fit.1;
+        row =
+            ap (λ (o : Option Gathering). gather m o c s) (sym e)
+            ∙ ap (λ b. when b (open_view m (counted g c)) k) (lt-ltb _ _ enough.0)
+            ∙ ap (λ (b : Start). open_with m k b.next b.log) (sym enough.1)
+            ∙ ap (λ (p : ReplicaState). open_with m p start.next start.log) (sym kept);
+      }
+
+  -- and where it does not start yet
+  pub gathers_more : (s t : ReplicaState) (o : Option Gathering) (c : Change) → o ≡ s.changes → t ≡ kept_by s o c → step_by o c ≡ Waiting → gather m s.changes c s ≡ still t
+  gathers_more s t None c e kept step = ap (λ (o : Option Gathering). gather m o c s) (sym e) ∙ ap still (sym kept)
+  gathers_more s t (Some g) c e kept step =
+      let k : ReplicaState = (keep_change s g c).0 in
+      ap (λ (o : Option Gathering). gather m o c s) (sym e)
+      ∙ ap (λ b. when b (open_view m (counted g c)) k) (waiting_by (nat_lt g.f (length (counted g c).changes)) _ step)
+      ∙ ap still (sym kept)

@@ -2,6 +2,7 @@
 use Rattle.std.proofs.Common.{◌≡◌, ℕ, ◌<◌, ◌≤◌, Bool, true, false, cond, refl, sym, ap, subst, ◌∙◌, arith, List, [], length}
 use Rattle.std.specs.Prelude.{IsTrue}
 use Rattle.std.proofs.lemmas.List.{length-replicate}
+use Rattle.nop_types.specs.declared.host.Host.{Ghosts}
 use Rattle.nop_types.specs.declared.limits.TheConstants.{MAX_REPLICAS}
 use Rattle.nop_types.specs.declared.request.Entry.{Entry}
 use Rattle.nop_types.specs.Configuration.{Configuration, is_configuration}
@@ -9,6 +10,8 @@ use Rattle.nop_types.specs.Meaning.{Meaning}
 use Rattle.facts.proofs.Limits.{is_configuration-few_replicas}
 use Rattle.executor.specs.Undoing.{HasExecuted}
 use Rattle.fragments.specs.Joining as joining
+use Rattle.oum_receiver.specs.Receiving.{IsSound}
+use Rattle.oum_receiver.proofs.Sound.{opened_sound}
 use Rattle.replica_core.specs.declared.replica.Node.{Node}
 use Rattle.replica_core.specs.declared.state.ReplicaState.{ReplicaState}
 use Rattle.replica_core.specs.State.{opening, executed_to, leads}
@@ -32,12 +35,18 @@ opens_within config number there few = record {
   changes = tt;
 }
 
+pub opens_in_ranges : (config : Configuration) (number : ℕ) → IsTrue (is_configuration config) → number < config.replicas → IsWithin (opening config number) × IsSound (opening config number).receiver
+opens_in_ranges config number is there = (opens_within config number there (is_configuration-few_replicas config is), opened_sound 1 1 (omega arith))
+
 either_way : (b : Bool) (n : ℕ) → cond b n n ≡ n
 either_way true n = refl
 either_way false n = refl
 
-pub opens_ready : {H U S : Type 0} (host_state : H → S) (m : Meaning S) (undo_of : S → List ℕ → U) (config : Configuration) (number : ℕ) (n : Node H U) (k : ℕ) → n.member.state ≡ opening config number → number < config.replicas → IsTrue (is_configuration config) → ((log : List Entry) → HasExecuted host_state m undo_of log n.member.executor) → n.member.executor.undos ≡ [] → n.member.sends ≡ [] → n.reassembly ≡ joining.opening k → k ≡ config.replicas → IsReady host_state m undo_of n
-opens_ready host_state m undo_of config number n k is there limits run undos nothing all count = record {
+pub opens_ready : {H U : Type 0} (host : Ghosts H U) (config : Configuration) (number : ℕ) (n : Node H U) (k : ℕ)
+    → n.member.state ≡ opening config number → number < config.replicas → IsTrue (is_configuration config)
+    → ((log : List Entry) → HasExecuted host.state host.meaning host.undo_of log n.member.executor)
+    → n.member.executor.undos ≡ [] → n.member.sends ≡ [] → n.reassembly ≡ joining.opening k → k ≡ config.replicas → IsReady host n
+opens_ready host config number n k is there limits run undos nothing all count = record {
   runs = record { within = subst IsWithin (sym is) (opens_within config number there (is_configuration-few_replicas config limits)); run = run n.member.state.log };
   executed = ap length undos ∙ sym (either_way (leads (opening config number)) 0) ∙ ap executed_to (sym is);
   nothing = nothing;

@@ -1,17 +1,17 @@
 -- Moves keep a replica's state within its ranges, and what was executed.
-use Rattle.std.proofs.Common.{◌≡◌, ◌<◌, ◌≤◌, ◌+◌, ◌-◌, ℕ, zero, suc, Bool, true, false, List, [], ◌∷◌, ◌++◌, length, take, refl, sym, ap, ◌∙◌, arith, append_assoc, length-append, inl, inr}
-use Rattle.std.specs.Prelude.{cond, ◌&&◌, ◌⊎◌, slice_get, slice_set, not, nat_lt, IfSome, Some, Result, Ok, Err, OnOk}
+use Rattle.std.proofs.Common.{◌≡◌, ◌<◌, ◌≤◌, ◌+◌, ◌-◌, ℕ, zero, suc, Bool, true, false, List, [], ◌∷◌, ◌++◌, length, take, refl, sym, ap, subst, ◌∙◌, arith, append_assoc, length-append, inl, inr}
+use Rattle.std.specs.Prelude.{cond, ◌&&◌, ◌⊎◌, slice_get, slice_set, not, nat_lt, IfSome, Option, Some, None, Result, Ok, Err, OnOk}
 use Rattle.std.specs.List.{AllByRecursion}
 use Rattle.std.proofs.lemmas.Bool.{ltb-true, and_parts}
 use Rattle.std.proofs.lemmas.Option.{same_Some}
 use Rattle.std.proofs.lemmas.List.{length-set}
+use Rattle.nop_types.specs.declared.host.Host.{Ghosts}
 use Rattle.nop_types.specs.declared.limits.TheConstants.{MAX_SLOTS, NUMBER_END}
 use Rattle.nop_types.specs.declared.request.Request.{Request}
 use Rattle.nop_types.specs.declared.request.Entry.{Entry}
 use Rattle.nop_types.specs.declared.request.Entry.TheVariants.{NoOp, Req}
 use Rattle.nop_types.specs.Lists.{slot_of}
 use Rattle.nop_types.specs.Slots.{set_slot, laid}
-use Rattle.nop_types.specs.Meaning.{Meaning}
 use Rattle.nop_types.specs.Ranges.{EntryFits, RequestFits, LogFits, SlotFits, ViewFits, NextFits, ChangeFits}
 use Rattle.gap_agree.specs.Agreement.{Agreement, begun}
 use Rattle.gap_agree.specs.Votes.{vote_of}
@@ -19,16 +19,19 @@ use Rattle.nop_types.specs.declared.replica_state.Vote.{Vote}
 use Rattle.nop_types.specs.declared.replica_state.Vote.TheVariants.{Settled, Waiting}
 use Rattle.nop_types.specs.declared.view.View.{View}
 use Rattle.nop_types.specs.declared.datagram.Stamped.{Stamped}
+use Rattle.nop_types.specs.declared.peer.Change.{Change}
 use Rattle.facts.proofs.Slots.{length-set_slot, length-laid}
 use Rattle.oum_receiver.specs.Receiving.{Receiving}
-use Rattle.view_change.specs.Gathering.{Gathering}
+use Rattle.view_change.specs.Gathering.{Gathering, counted}
 use Rattle.executor.specs.Running.{Running}
 use Rattle.executor.proofs.FrontLemmas.{on_front, on_append, on_slot}
 use Rattle.replica_log.proofs.InRanges.{append_fits, slot_fits, laid_fits}
 use Rattle.replica_core.specs.declared.state.ReplicaState.{ReplicaState}
 use Rattle.replica_core.specs.State.{may_append, drains, others, waits, is_normal, unless_settled}
 use Rattle.replica_core.specs.Moves.{begin_session, appended, gap_opened, logged, entered, adopted, own_change, overlaid}
+use Rattle.replica_core.specs.Rows.{kept_by}
 use Rattle.replica_core.specs.Within.{IsWithin, Runs}
+use Rattle.replica_core.proofs.Opening.{counted_fits}
 
 -- ---- at Ok
 
@@ -44,7 +47,7 @@ always (Err e) P p = tt
 pub sent_on : {A : Type 0} (old a mid b new : List A) → mid ≡ old ++ a → new ≡ mid ++ b → new ≡ old ++ (a ++ b)
 sent_on old a mid b new first then = then ∙ ap (λ xs. xs ++ b) first ∙ append_assoc old a b
 
-waiting_fits : (g : Agreement) → SlotFits g.slot → (v : Vote) → IfSome (unless_settled g v) (λ g. SlotFits g.slot)
+pub waiting_fits : (g : Agreement) → SlotFits g.slot → (v : Vote) → IfSome (unless_settled g v) (λ g. SlotFits g.slot)
 waiting_fits g fits Settled = tt
 waiting_fits g fits Waiting = fits
 
@@ -76,7 +79,7 @@ append_within s e w fits may =
       changes = w.changes;
     }
 
-open_gap_within : (s : ReplicaState) → IsWithin s → may_append s ≡ true → IsWithin (gap_opened s)
+pub open_gap_within : (s : ReplicaState) → IsWithin s → may_append s ≡ true → IsWithin (gap_opened s)
 open_gap_within s w may =
     let a = append_within s NoOp w tt may in
     let room : length s.log < MAX_SLOTS = ltb-true _ _ (and_parts (nat_lt (length s.log) MAX_SLOTS) (nat_lt s.next NUMBER_END) may).0 in
@@ -97,7 +100,7 @@ open_gap_within s w may =
       changes = a.changes;
     }
 
-logged_within : (s : ReplicaState) (r : Request) → IsWithin s → RequestFits r → drains s ≡ true → s.next < NUMBER_END → IsWithin (logged s r)
+pub logged_within : (s : ReplicaState) (r : Request) → IsWithin s → RequestFits r → drains s ≡ true → s.next < NUMBER_END → IsWithin (logged s r)
 logged_within s r w fits d more =
     let normal = and_parts (is_normal s.status) _ d in
     let room : length s.log < MAX_SLOTS = ltb-true _ _ (and_parts (not (waits s.gap)) (nat_lt (length s.log) MAX_SLOTS) normal.1).1 in
@@ -133,7 +136,7 @@ slot_same : (l : List Entry) (k : ℕ) (e : Entry) → slot_of l k ≡ Some e �
 slot_same l zero e h = refl
 slot_same l (suc i) e h = set_same l i e h
 
-noop_within : (s : ReplicaState) (k : ℕ) → IsWithin s → IsWithin (record s { log = set_slot s.log k NoOp })
+pub noop_within : (s : ReplicaState) (k : ℕ) → IsWithin s → IsWithin (record s { log = set_slot s.log k NoOp })
 noop_within s k w =
     let same = length-set_slot s.log k NoOp in
     let base = w.base in
@@ -157,14 +160,14 @@ noop_within s k w =
 
 -- ---- views
 
-number_small : (s : ReplicaState) → IsWithin s → s.number ≤ 6
+pub number_small : (s : ReplicaState) → IsWithin s → s.number ≤ 6
 number_small s w = let less = w.number in let few = w.few in omega arith
 
 from_next : (b : Bool) (r q : Receiving) (x : ℕ) → r.next ≡ x → q.next ≡ x → (cond b r q).next ≡ x
 from_next true r q x e f = e
 from_next false r q x e f = f
 
-adopted_within : (s : ReplicaState) (v : View) (x : ℕ) (l : List Entry) → IsWithin s → ViewFits v → NextFits x → LogFits l → IsWithin (adopted s v x l)
+pub adopted_within : (s : ReplicaState) (v : View) (x : ℕ) (l : List Entry) → IsWithin s → ViewFits v → NextFits x → LogFits l → IsWithin (adopted s v x l)
 adopted_within s v x l w view next log =
     let low = next.low in
     record {
@@ -184,7 +187,7 @@ adopted_within s v x l w view next log =
       changes = tt;
     }
 
-entered_within : (s : ReplicaState) (v : View) → IsWithin s → ViewFits v → IsWithin (entered s v)
+pub entered_within : (s : ReplicaState) (v : View) → IsWithin s → ViewFits v → IsWithin (entered s v)
 entered_within s v w view = record {
   number = w.number;
   few = w.few;
@@ -202,7 +205,7 @@ entered_within s v w view = record {
   changes = tt;
 }
 
-begun_within : (s : ReplicaState) (p : Stamped) → IsWithin s → IsWithin (begin_session s p)
+pub begun_within : (s : ReplicaState) (p : Stamped) → IsWithin s → IsWithin (begin_session s p)
 begun_within s p w = record {
   number = w.number;
   few = w.few;
@@ -223,7 +226,7 @@ begun_within s p w = record {
 pub own_change_fits : (s : ReplicaState) → IsWithin s → ChangeFits (own_change s)
 own_change_fits s w = record { sender = number_small s w; rest = record { view = w.last_normal; number = w.next; entries = w.log } }
 
-gathers_within : (s : ReplicaState) (g : Gathering) → IsWithin s → AllByRecursion ChangeFits g.changes → IsWithin (record s { changes = Some g })
+pub gathers_within : (s : ReplicaState) (g : Gathering) → IsWithin s → AllByRecursion ChangeFits g.changes → IsWithin (record s { changes = Some g })
 gathers_within s g w fits = record {
   number = w.number;
   few = w.few;
@@ -253,7 +256,7 @@ laid_front (x ∷ l) (y ∷ k) (suc n) same le =
     let tails : take n l ≡ take n k = cc in
     ap (λ z. z ∷ take n (laid l k)) heads ∙ ap (λ t. y ∷ t) (laid_front l k n tails (omega (arith, le)))
 
-overlaid_within : (s : ReplicaState) (l : List Entry) → IsWithin s → LogFits l → s.next + (length l - length s.log) ≤ NUMBER_END → IsWithin (overlaid s l)
+pub overlaid_within : (s : ReplicaState) (l : List Entry) → IsWithin s → LogFits l → s.next + (length l - length s.log) ≤ NUMBER_END → IsWithin (overlaid s l)
 overlaid_within s l w fits high =
     let len = length-laid l s.log in
     let low = w.next.low in
@@ -278,35 +281,40 @@ overlaid_within s l w fits high =
       changes = w.changes;
     }
 
-module _ {H U S : Type 0} (host : H → S) (m : Meaning S) (undo_of : S → List ℕ → U) where
-  pub append_runs : (s t : ReplicaState) (x : Running H U) (e : Entry) → t ≡ appended s e → Runs host m undo_of s x → EntryFits e → may_append s ≡ true → Runs host m undo_of t x
-  append_runs s t x e is r fits may = rw is (record { within = append_within s e r.within fits may; run = on_append m undo_of s.log (e ∷ []) _ _ r.run })
+module _ {H U : Type 0} (host : Ghosts H U) where
+  pub append_runs : (s t : ReplicaState) (x : Running H U) (e : Entry) → t ≡ appended s e → Runs host s x → EntryFits e → may_append s ≡ true → Runs host t x
+  append_runs s t x e is r fits may = rw is (record { within = append_within s e r.within fits may; run = on_append host.meaning host.undo_of s.log (e ∷ []) _ _ r.run })
 
-  pub open_gap_runs : (s t : ReplicaState) (x : Running H U) → t ≡ gap_opened s → Runs host m undo_of s x → may_append s ≡ true → Runs host m undo_of t x
-  open_gap_runs s t x is r may = rw is (record { within = open_gap_within s r.within may; run = on_append m undo_of s.log (NoOp ∷ []) _ _ r.run })
+  pub open_gap_runs : (s t : ReplicaState) (x : Running H U) → t ≡ gap_opened s → Runs host s x → may_append s ≡ true → Runs host t x
+  open_gap_runs s t x is r may = rw is (record { within = open_gap_within s r.within may; run = on_append host.meaning host.undo_of s.log (NoOp ∷ []) _ _ r.run })
 
-  pub logged_runs : (s t : ReplicaState) (x : Running H U) (r : Request) → t ≡ logged s r → Runs host m undo_of s x → RequestFits r → drains s ≡ true → s.next < NUMBER_END → Runs host m undo_of t x
-  logged_runs s t x r is h fits d more = rw is (record { within = logged_within s r h.within fits d more; run = on_append m undo_of s.log (Req r ∷ []) _ _ h.run })
+  pub logged_runs : (s t : ReplicaState) (x : Running H U) (r : Request) → t ≡ logged s r → Runs host s x → RequestFits r → drains s ≡ true → s.next < NUMBER_END → Runs host t x
+  logged_runs s t x r is h fits d more = rw is (record { within = logged_within s r h.within fits d more; run = on_append host.meaning host.undo_of s.log (Req r ∷ []) _ _ h.run })
 
-  pub runs_same : (s t : ReplicaState) (x y : Running H U) → t ≡ s → y ≡ x → Runs host m undo_of s x → Runs host m undo_of t y
+  pub runs_same : (s t : ReplicaState) (x y : Running H U) → t ≡ s → y ≡ x → Runs host s x → Runs host t y
   runs_same s t x y same other r = rw same (rw other r)
 
-  pub noop_runs : (s t : ReplicaState) (x : Running H U) (k : ℕ) → t ≡ record s { log = set_slot s.log k NoOp } → Runs host m undo_of s x → (length x.undos < k) ⊎ (slot_of s.log k ≡ Some NoOp) → Runs host m undo_of t x
-  noop_runs s t x k is r (inl less) = rw is (record { within = noop_within s k r.within; run = on_slot m undo_of s.log k NoOp _ _ r.run less })
+  pub noop_runs : (s t : ReplicaState) (x : Running H U) (k : ℕ) → t ≡ record s { log = set_slot s.log k NoOp } → Runs host s x → (length x.undos < k) ⊎ (slot_of s.log k ≡ Some NoOp) → Runs host t x
+  noop_runs s t x k is r (inl less) = rw is (record { within = noop_within s k r.within; run = on_slot host.meaning host.undo_of s.log k NoOp _ _ r.run less })
   noop_runs s t x k is r (inr there) = rw is (record { within = noop_within s k r.within; run = rw (slot_same s.log k NoOp there) r.run })
 
-  pub entered_runs : (s t : ReplicaState) (x : Running H U) (v : View) → t ≡ entered s v → Runs host m undo_of s x → ViewFits v → Runs host m undo_of t x
+  pub entered_runs : (s t : ReplicaState) (x : Running H U) (v : View) → t ≡ entered s v → Runs host s x → ViewFits v → Runs host t x
   entered_runs s t x v is r view = rw is (record { within = entered_within s v r.within view; run = r.run })
 
-  pub gathers_runs : (s t : ReplicaState) (x : Running H U) (g : Gathering) → t ≡ record s { changes = Some g } → Runs host m undo_of s x → AllByRecursion ChangeFits g.changes → Runs host m undo_of t x
+  pub gathers_runs : (s t : ReplicaState) (x : Running H U) (g : Gathering) → t ≡ record s { changes = Some g } → Runs host s x → AllByRecursion ChangeFits g.changes → Runs host t x
   gathers_runs s t x g is r fits = rw is (record { within = gathers_within s g r.within fits; run = r.run })
 
-  pub adopted_runs : (s t : ReplicaState) (x : Running H U) (v : View) (n : ℕ) (l : List Entry) → t ≡ adopted s v n l → Runs host m undo_of s x → take (length x.undos) l ≡ take (length x.undos) s.log → ViewFits v → NextFits n → LogFits l → Runs host m undo_of t x
-  adopted_runs s t x v n l is r same view next log = rw is (record { within = adopted_within s v n l r.within view next log; run = on_front m undo_of s.log l _ _ r.run same })
+  pub adopted_runs : (s t : ReplicaState) (x : Running H U) (v : View) (n : ℕ) (l : List Entry) → t ≡ adopted s v n l → Runs host s x → take (length x.undos) l ≡ take (length x.undos) s.log → ViewFits v → NextFits n → LogFits l → Runs host t x
+  adopted_runs s t x v n l is r same view next log = rw is (record { within = adopted_within s v n l r.within view next log; run = on_front host.meaning host.undo_of s.log l _ _ r.run same })
 
-  pub overlaid_runs : (s t : ReplicaState) (x : Running H U) (l : List Entry) → t ≡ overlaid s l → Runs host m undo_of s x → take (length x.undos) l ≡ take (length x.undos) s.log → LogFits l → s.next + (length l - length s.log) ≤ NUMBER_END → Runs host m undo_of t x
+  pub overlaid_runs : (s t : ReplicaState) (x : Running H U) (l : List Entry) → t ≡ overlaid s l → Runs host s x → take (length x.undos) l ≡ take (length x.undos) s.log → LogFits l → s.next + (length l - length s.log) ≤ NUMBER_END → Runs host t x
   overlaid_runs s t x l is r same fits high =
-      rw is (record { within = overlaid_within s l r.within fits high; run = on_front m undo_of s.log (laid l s.log) _ _ r.run (laid_front l s.log (length x.undos) same r.run.within) })
+      rw is (record { within = overlaid_within s l r.within fits high; run = on_front host.meaning host.undo_of s.log (laid l s.log) _ _ r.run (laid_front l s.log (length x.undos) same r.run.within) })
 
-  pub begun_runs : (s t : ReplicaState) (x : Running H U) (p : Stamped) → t ≡ begin_session s p → Runs host m undo_of s x → Runs host m undo_of t x
+  pub begun_runs : (s t : ReplicaState) (x : Running H U) (p : Stamped) → t ≡ begin_session s p → Runs host s x → Runs host t x
   begun_runs s t x p is r = rw is (record { within = begun_within s p r.within; run = r.run })
+
+  pub kept_runs : (s t : ReplicaState) (x : Running H U) (o : Option Gathering) (c : Change) → o ≡ s.changes → t ≡ kept_by s o c → Runs host s x → ChangeFits c → Runs host t x
+  kept_runs s t x None c e is r fits = rw is r
+  kept_runs s t x (Some g) c e is r fits =
+      gathers_runs s t x (counted g c) is r (counted_fits g c (subst (λ (o : Option Gathering). IfSome o (λ g. AllByRecursion ChangeFits g.changes)) (sym e) r.within.changes) fits)

@@ -2,10 +2,10 @@ pub mod Code
 pub mod Draining
 pub mod Messages
 pub mod Moves
+pub mod PostedFragments
 pub mod Posting
 pub mod Replies
 pub mod ReplicaSteps
-pub mod Responses
 pub mod Rows
 pub mod Sends
 pub mod State

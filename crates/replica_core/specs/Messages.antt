@@ -57,46 +57,46 @@ from_follower m q bodies.ViewChangeReq s = still s
 from_follower m q (bodies.ViewChange u x l) s = still s
 from_follower m q (bodies.StartView x l) s = still s
 
-abbrev pub told_as : {S : Type 0} → Meaning S → Bool → Bool → ℕ → Body → ReplicaState → Effect
-told_as m true to_leader q body s = from_leader m body s
-told_as m false true q body s = from_follower m q body s
-told_as m false false q body s = still s
+abbrev pub by_role : {S : Type 0} → Meaning S → Bool → Bool → ℕ → Body → ReplicaState → Effect
+by_role m true to_leader q body s = from_leader m body s
+by_role m false true q body s = from_follower m q body s
+by_role m false false q body s = still s
 
-abbrev pub told_in_view : {S : Type 0} → Meaning S → ℕ → View → Body → ReplicaState → Effect
-told_in_view m q v body s = told_as m (is_from_leader s v q) (is_to_leader s v) q body s
+abbrev pub in_view : {S : Type 0} → Meaning S → ℕ → View → Body → ReplicaState → Effect
+in_view m q v body s = by_role m (is_from_leader s v q) (is_to_leader s v) q body s
 
 -- ---- all messages
 
-abbrev pub told_by : {S : Type 0} → Meaning S → Peer → Body → ReplicaState → Effect
-told_by m p bodies.ViewChangeReq s = rows.view_change_request m s p.view
-told_by m p (bodies.ViewChange u x l) s = rows.view_change m s p.view (record { sender = p.sender; last_normal = u; next = x; log = l })
-told_by m p (bodies.StartView x l) s = rows.start_view m s p.sender p.view x l
-told_by m p (bodies.GapCommit k) s = told_in_view m p.sender p.view (bodies.GapCommit k) s
-told_by m p (bodies.Found k r) s = told_in_view m p.sender p.view (bodies.Found k r) s
-told_by m p (bodies.SyncPrepare l) s = told_in_view m p.sender p.view (bodies.SyncPrepare l) s
-told_by m p (bodies.SyncCommit k) s = told_in_view m p.sender p.view (bodies.SyncCommit k) s
-told_by m p (bodies.SlotLookup k) s = told_in_view m p.sender p.view (bodies.SlotLookup k) s
-told_by m p (bodies.GapRep k) s = told_in_view m p.sender p.view (bodies.GapRep k) s
-told_by m p (bodies.SyncRep k) s = told_in_view m p.sender p.view (bodies.SyncRep k) s
+abbrev pub on_body : {S : Type 0} → Meaning S → Peer → Body → ReplicaState → Effect
+on_body m p bodies.ViewChangeReq s = rows.view_change_request m p.view s
+on_body m p (bodies.ViewChange u x l) s = rows.view_change m p.view (record { sender = p.sender; last_normal = u; next = x; log = l }) s
+on_body m p (bodies.StartView x l) s = rows.start_view m p.sender p.view x l s
+on_body m p (bodies.GapCommit k) s = in_view m p.sender p.view (bodies.GapCommit k) s
+on_body m p (bodies.Found k r) s = in_view m p.sender p.view (bodies.Found k r) s
+on_body m p (bodies.SyncPrepare l) s = in_view m p.sender p.view (bodies.SyncPrepare l) s
+on_body m p (bodies.SyncCommit k) s = in_view m p.sender p.view (bodies.SyncCommit k) s
+on_body m p (bodies.SlotLookup k) s = in_view m p.sender p.view (bodies.SlotLookup k) s
+on_body m p (bodies.GapRep k) s = in_view m p.sender p.view (bodies.GapRep k) s
+on_body m p (bodies.SyncRep k) s = in_view m p.sender p.view (bodies.SyncRep k) s
 
 -- a replica takes no message of its own
 abbrev pub is_other : ReplicaState → ℕ → Bool
 is_other s q = nat_lt q s.config.replicas && not (q == s.number)
 
-unfoldable pub told : {S : Type 0} → Meaning S → ReplicaState → Peer → Effect
-told m s p = when (is_other s p.sender) (told_by m p p.body) s
+unfoldable pub on_message : {S : Type 0} → Meaning S → Peer → ReplicaState → Effect
+on_message m p s = when (is_other s p.sender) (on_body m p p.body) s
 
-abbrev pub ticked : {S : Type 0} → Meaning S → ReplicaState → Tick → Effect
-ticked m s ticks.Suspect = rows.suspect m s
-ticked m s ticks.Watch = rows.watch m s
-ticked m s ticks.Resend = rows.resend s
-ticked m s ticks.Sync = rows.sync s
-ticked m s ticks.Retry = still s
-ticked m s ticks.Next = still s
-ticked m s ticks.Probe = still s
-ticked m s (ticks.Install j) = still s
+abbrev pub ticked : {S : Type 0} → Meaning S → Tick → ReplicaState → Effect
+ticked m ticks.Suspect s = rows.suspect m s
+ticked m ticks.Watch s = rows.watch m s
+ticked m ticks.Resend s = rows.resend s
+ticked m ticks.Sync s = rows.sync s
+ticked m ticks.Retry s = still s
+ticked m ticks.Next s = still s
+ticked m ticks.Probe s = still s
+ticked m (ticks.Install j) s = still s
 
 unfoldable pub arrive : {S : Type 0} → Meaning S → ReplicaState → Arrival → Effect
-arrive m s (Packet p) = rows.stamped m s p
-arrive m s (Told p) = told m s p
-arrive m s (Ticked tick) = ticked m s tick
+arrive m s (Packet p) = rows.stamped m p s
+arrive m s (Told p) = on_message m p s
+arrive m s (Ticked tick) = ticked m tick s

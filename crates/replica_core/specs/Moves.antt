@@ -39,6 +39,10 @@ queue s p = still (record s { receiver = offered s.receiver p })
 abbrev pub begin_session : ReplicaState → Stamped → ReplicaState
 begin_session s p = record s { status = Change; receiver = offered (receiving.opened p.session 1) p }
 
+-- the view that such a packet makes a replica enter
+abbrev pub session_view : ReplicaState → Stamped → View
+session_view s p = record { leader = s.view.leader; session = p.session }
+
 -- ---- the next slot
 
 -- the request in front is logged

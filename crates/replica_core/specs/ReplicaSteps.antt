@@ -64,12 +64,12 @@ row m s a = row_if m (nat_lt s.messages LAST_MESSAGE) s a
 -- ---- fragments
 
 -- the message that is joined has to be of the fragment's replica
-abbrev pub told_if : {S : Type 0} → Meaning S → Bool → Replica → Peer → Replica × List Out
-told_if m true s p = row m s (messages.Told p)
-told_if m false s p = (s, [])
+abbrev pub of_sender_if : {S : Type 0} → Meaning S → Bool → Replica → Peer → Replica × List Out
+of_sender_if m true s p = row m s (messages.Told p)
+of_sender_if m false s p = (s, [])
 
 abbrev pub read : {S : Type 0} → Meaning S → Replica → ℕ → Result Peer BadPeer → Replica × List Out
-read m s q (Ok p) = told_if m (p.sender == q) s p
+read m s q (Ok p) = of_sender_if m (p.sender == q) s p
 read m s q (Err e) = (s, [])
 
 abbrev pub joined : {S : Type 0} → Meaning S → Replica → ℕ → Option (List ℕ) → Replica × List Out

@@ -16,13 +16,16 @@ use Rattle.oum_receiver.specs.Front.{Front, Nothing, Message, Dropped}
 use Rattle.oum_receiver.specs.Receiving.{front_of}
 use Rattle.slot_lookup.specs.Answer.{Answer, Found, GapAgain, Begin, answer_of}
 use Rattle.slot_lookup.specs.Answer as answers
-use Rattle.view_change.specs.Gathering.{Gathering}
+use Rattle.view_change.specs.declared.starting.Step.{Step}
+use Rattle.view_change.specs.declared.starting.Step.TheVariants.{Waiting}
+use Rattle.view_change.specs.Gathering.{Gathering, counted, step_of}
 use Rattle.replica_core.specs.declared.state.ReplicaState.{ReplicaState}
 use Rattle.replica_core.specs.State.{leads, is_normal, waits, has_room, may_append}
 use Rattle.replica_core.specs.Sends.{Effect, still, then_do, when, to_replica, to_leader, to_all}
 use Rattle.replica_core.specs.Moves.{
   queue,
   begin_session,
+  session_view,
   drain,
   enter,
   change_told,
@@ -45,35 +48,44 @@ use Rattle.replica_core.specs.Moves.{
 -- ---- a greater view
 
 -- the view is entered; its leader opens it at once where it is alone
-unfoldable pub enter_view : {S : Type 0} → Meaning S → ReplicaState → View → Effect
-enter_view m s v = then_do (enter s v) (λ t. open_if_enough m t.changes t)
+unfoldable pub enter_view : {S : Type 0} → Meaning S → View → ReplicaState → Effect
+enter_view m v s = then_do (enter s v) (λ t. open_if_enough m t.changes t)
 
 -- a view is entered, and what waits is taken
 abbrev pub enter_and_drain : {S : Type 0} → Meaning S → View → ReplicaState → Effect
-enter_and_drain m v s = then_do (enter_view m s v) (drain m)
+enter_and_drain m v s = then_do (enter_view m v s) (drain m)
 
 -- ---- a stamped request comes
 
-abbrev pub new_session : {S : Type 0} → Meaning S → ReplicaState → Stamped → Effect
-new_session m s p = enter_and_drain m (record { leader = s.view.leader; session = p.session }) (begin_session s p)
+abbrev pub new_session : {S : Type 0} → Meaning S → Stamped → ReplicaState → Effect
+new_session m p s = enter_and_drain m (session_view s p) (begin_session s p)
 
-abbrev pub stamped_if : {S : Type 0} → Meaning S → Bool → ReplicaState → Stamped → Effect
-stamped_if m true s p = new_session m s p
-stamped_if m false s p = then_do (queue s p) (drain m)
+abbrev pub stamped_if : {S : Type 0} → Meaning S → Bool → Stamped → ReplicaState → Effect
+stamped_if m true p s = new_session m p s
+stamped_if m false p s = then_do (queue s p) (drain m)
 
 -- of a greater session than the view's, or not
-unfoldable pub stamped : {S : Type 0} → Meaning S → ReplicaState → Stamped → Effect
-stamped m s p = stamped_if m (nat_lt s.view.session p.session) s p
+unfoldable pub stamped : {S : Type 0} → Meaning S → Stamped → ReplicaState → Effect
+stamped m p s = stamped_if m (nat_lt s.view.session p.session) p s
 
 -- ---- messages of view changes
 
 -- the least view above both is entered, where it is another
-abbrev pub view_change_request : {S : Type 0} → Meaning S → ReplicaState → View → Effect
-view_change_request m s v = when (not (is_view (join_of s.view v) s.view)) (enter_and_drain m (join_of s.view v)) s
+abbrev pub view_change_request : {S : Type 0} → Meaning S → View → ReplicaState → Effect
+view_change_request m v s = when (not (is_view (join_of s.view v) s.view)) (enter_and_drain m (join_of s.view v)) s
 
 abbrev pub gather : {S : Type 0} → Meaning S → Option Gathering → peer.Change → ReplicaState → Effect
 gather m None c s = still s
 gather m (Some g) c s = then_do (keep_change s g c) (λ t. open_if_enough m t.changes t)
+
+-- what keeping a change leaves, and whether the view starts then
+abbrev pub kept_by : ReplicaState → Option Gathering → peer.Change → ReplicaState
+kept_by s None c = s
+kept_by s (Some g) c = (keep_change s g c).0
+
+abbrev pub step_by : Option Gathering → peer.Change → Step
+step_by None c = Waiting
+step_by (Some g) c = step_of (counted g c)
 
 -- while the view has not started, its leader gathers changes; then it answers a late one
 abbrev pub gather_by : {S : Type 0} → Meaning S → Phase → peer.Change → ReplicaState → Effect
@@ -83,8 +95,8 @@ gather_by m Normal c s = resend_start s c.sender
 abbrev pub take_change : {S : Type 0} → Meaning S → View → peer.Change → ReplicaState → Effect
 take_change m v c s = when (is_view v s.view && leads s) (gather_by m s.status c) s
 
-unfoldable pub view_change : {S : Type 0} → Meaning S → ReplicaState → View → peer.Change → Effect
-view_change m s v c = then_do (view_change_request m s v) (take_change m v c)
+unfoldable pub view_change : {S : Type 0} → Meaning S → View → peer.Change → ReplicaState → Effect
+view_change m v c s = then_do (view_change_request m v s) (take_change m v c)
 
 abbrev pub is_at_most : View → View → Bool
 is_at_most a b = nat_le a.leader b.leader && nat_le a.session b.session
@@ -97,8 +109,8 @@ may_adopt s q v l =
     && ((not (is_view v s.view) || not (is_normal s.status))
     && nat_le s.sync.sync_point (length l)))
 
-unfoldable pub start_view : {S : Type 0} → Meaning S → ReplicaState → ℕ → View → ℕ → List Entry → Effect
-start_view m s q v x l = when (may_adopt s q v l) (λ t. adopt m t v x l) s
+unfoldable pub start_view : {S : Type 0} → Meaning S → ℕ → View → ℕ → List Entry → ReplicaState → Effect
+start_view m q v x l s = when (may_adopt s q v l) (λ t. adopt m t v x l) s
 
 -- ---- messages of the leader to a follower
 

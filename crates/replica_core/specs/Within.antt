@@ -1,15 +1,21 @@
 -- What holds of each replica's state, beside what its parts hold.
-use Rattle.std.specs.Prelude.{◌≡◌, ◌≤◌, ◌<◌, ◌+◌, ℕ, List, [], length, IfSome, ⊤}
+use Rattle.std.specs.Prelude.{◌≡◌, ◌≤◌, ◌<◌, ◌+◌, ◌++◌, ℕ, List, [], length, Some, IfSome, ⊤}
 use Rattle.std.specs.List.{AllByRecursion}
-use Rattle.nop_types.specs.declared.limits.TheConstants.{MAX_SLOTS, MAX_REPLICAS}
+use Rattle.nop_types.specs.declared.host.Host.{Ghosts}
+use Rattle.nop_types.specs.declared.limits.TheConstants.{MAX_SLOTS, MAX_REPLICAS, MAX_RESULT_BYTES}
 use Rattle.nop_types.specs.declared.replica_state.Phase.TheVariants.{Normal}
+use Rattle.nop_types.specs.declared.request.Entry.{Entry}
+use Rattle.nop_types.specs.Execution.{result_at}
 use Rattle.nop_types.specs.Meaning.{Meaning}
 use Rattle.nop_types.specs.Ranges.{ViewFits, LogFits, NextFits, SlotFits, ChangeFits, StampedFits, PeerFits}
 use Rattle.executor.specs.Running.{Running}
 use Rattle.executor.specs.Undoing.{HasExecuted}
+use Rattle.oum_receiver.specs.Receiving.{IsSound}
+use Rattle.replica_core.specs.declared.member.Member.{Member}
 use Rattle.replica_core.specs.declared.replica.Node.{Node}
 use Rattle.replica_core.specs.declared.state.ReplicaState.{ReplicaState}
 use Rattle.replica_core.specs.State.{executed_to}
+use Rattle.replica_core.specs.Sends.{Effect, SendingFits}
 use Rattle.replica_core.specs.Messages.{Arrival, Packet, Told, Ticked}
 
 -- each field is in its range, and what is sent of it too
@@ -32,13 +38,24 @@ pub record IsWithin (s : ReplicaState) : Type 0 where
   pub changes : IfSome s.changes (λ g. AllByRecursion ChangeFits g.changes)
 
 -- and the executor has executed the first entries of the log
-pub record Runs {H U S : Type 0} (host_state : H → S) (m : Meaning S) (undo_of : S → List ℕ → U) (s : ReplicaState) (e : Running H U) : Type 0 where
+pub record Runs {H U : Type 0} (host : Ghosts H U) (s : ReplicaState) (e : Running H U) : Type 0 where
   pub within : IsWithin s
-  pub run : HasExecuted host_state m undo_of s.log e
+  pub run : HasExecuted host.state host.meaning host.undo_of s.log e
+
+-- so it is with a member
+abbrev pub IsRunning : {H U : Type 0} → Ghosts H U → Member H U → Type 0
+IsRunning host x = Runs host x.state x.executor
+
+-- a row was taken: the member runs on, its state is what the row makes of it, and what the row sends stands behind what was sent
+-- before
+pub record Does {H U : Type 0} (host : Ghosts H U) (old new : Member H U) (row : ReplicaState → Effect) : Type 0 where
+  pub runs : IsRunning host new
+  pub state : new.state ≡ (row old.state).0
+  pub sends : new.sends ≡ old.sends ++ (row old.state).1
 
 -- between two steps: the host stands where it is to stand, nothing is left to send, and each other replica has its reassembly
-pub record IsReady {H U S : Type 0} (host_state : H → S) (m : Meaning S) (undo_of : S → List ℕ → U) (n : Node H U) : Type 0 where
-  pub runs : Runs host_state m undo_of n.member.state n.member.executor
+pub record IsReady {H U : Type 0} (host : Ghosts H U) (n : Node H U) : Type 0 where
+  pub runs : IsRunning host n.member
   pub executed : length n.member.executor.undos ≡ executed_to n.member.state
   pub nothing : n.member.sends ≡ []
   pub senders : length n.reassembly ≡ n.member.state.config.replicas
@@ -48,3 +65,13 @@ abbrev pub ArrivalFits : Arrival → Type 0
 ArrivalFits (Packet p) = StampedFits p
 ArrivalFits (Told p) = PeerFits p
 ArrivalFits (Ticked tick) = ⊤
+
+-- the state is in its ranges, its receiver is sound, and what is sent is in its ranges
+pub record StaysInRanges (e : Effect) : Type 0 where
+  pub within : IsWithin e.0
+  pub receiver : IsSound e.0.receiver
+  pub sends : AllByRecursion SendingFits e.1
+
+-- each result of the service fits a reply
+abbrev pub ResultsShort : {S : Type 0} → Meaning S → Type 0
+ResultsShort m = (log : List Entry) (slot : ℕ) (result : List ℕ) → result_at m log slot ≡ Some result → length result ≤ MAX_RESULT_BYTES

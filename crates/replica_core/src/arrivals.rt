@@ -1,10 +1,21 @@
 ghost use Rattle.std.specs.Prelude.{◌≡◌, ◌<◌, ◌++◌, OnOk};
 ghost use Rattle.nop_types.specs.declared.limits.TheConstants.{MAX_REPLICAS};
 ghost use Rattle.nop_types.specs.Ranges.{StampedFits, PeerFits, BodyFits};
-ghost use Rattle.replica_core.specs.Moves.{begin_session};
+ghost use Rattle.replica_core.specs.Moves.{begin_session, queue};
 ghost use Rattle.replica_core.specs.Rows.{new_session, stamped};
-ghost use Rattle.replica_core.specs.Messages.{is_current, is_from_leader, is_to_leader, is_other, from_leader, from_follower, told_in_view, told_by, told, ticked};
-ghost use Rattle.replica_core.specs.Within.{Runs};
+ghost use Rattle.replica_core.specs.Messages.{
+  is_current,
+  is_from_leader,
+  is_to_leader,
+  is_other,
+  from_leader,
+  from_follower,
+  in_view,
+  on_body,
+  on_message,
+  ticked,
+};
+ghost use Rattle.replica_core.specs.Within.{IsRunning, Does};
 
 use crate::ReplicaState;
 use crate::member::Member;
@@ -26,6 +37,15 @@ impl ReplicaState {
     {
         self.status = Phase::Change;
         self.receiver.reset(packet.session, 1);
+        self.receiver.offer(packet)?;
+        Ok(())
+    }
+
+    /// A packet is offered to the receiver.
+    fn queue(&mut self, packet: &Stamped) -> Result<(), NoMemory>
+        requires { StampedFits packet.now }
+        ensures { OnOk result (self.new ≡ (queue self.old packet.now).0) }
+    {
         self.receiver.offer(packet)?;
         Ok(())
     }
@@ -53,11 +73,9 @@ impl ReplicaState {
 impl<H: Host> Member<H> {
     /// A packet of a greater session comes: the receiver begins that session, and the view of it is entered.
     fn new_session(&mut self, packet: &Stamped) -> Result<(), NoMemory>
-        requires runs { Runs H.state H.meaning H.undo_of self.old.state self.old.executor }
+        requires runs { IsRunning H.Host self.old }
         requires fits { StampedFits packet.now }
-        ensures runs { OnOk result (Runs H.state H.meaning H.undo_of self.new.state self.new.executor) }
-        ensures state { OnOk result (self.new.state ≡ (new_session H.meaning self.old.state packet.now).0) }
-        ensures sends { OnOk result (self.new.sends ≡ self.old.sends ++ (new_session H.meaning self.old.state packet.now).1) }
+        ensures { OnOk result (Does H.Host self.old self.new (new_session H.meaning packet.now)) }
     {
         self.state.begin_session(packet)?;
         let leader = self.state.view.leader;
@@ -70,26 +88,22 @@ impl<H: Host> Member<H> {
     /// A stamped request comes.
     #[tactic(auto, unfolding(crate::specs::Rows::stamped))]
     pub fn stamped(&mut self, packet: &Stamped) -> Result<(), NoMemory>
-        requires runs { Runs H.state H.meaning H.undo_of self.old.state self.old.executor }
+        requires runs { IsRunning H.Host self.old }
         requires fits { StampedFits packet.now }
-        ensures runs { OnOk result (Runs H.state H.meaning H.undo_of self.new.state self.new.executor) }
-        ensures state { OnOk result (self.new.state ≡ (stamped H.meaning self.old.state packet.now).0) }
-        ensures sends { OnOk result (self.new.sends ≡ self.old.sends ++ (stamped H.meaning self.old.state packet.now).1) }
+        ensures { OnOk result (Does H.Host self.old self.new (stamped H.meaning packet.now)) }
     {
         if self.state.view.session < packet.session {
             return self.new_session(packet);
         }
-        self.state.receiver.offer(packet)?;
+        self.state.queue(packet)?;
         self.drain()
     }
 
     /// A message of the leader to a follower comes.
     fn from_leader(&mut self, body: Body) -> Result<(), NoMemory>
-        requires runs { Runs H.state H.meaning H.undo_of self.old.state self.old.executor }
+        requires runs { IsRunning H.Host self.old }
         requires fits { BodyFits body }
-        ensures runs { OnOk result (Runs H.state H.meaning H.undo_of self.new.state self.new.executor) }
-        ensures state { OnOk result (self.new.state ≡ (from_leader H.meaning body self.old.state).0) }
-        ensures sends { OnOk result (self.new.sends ≡ self.old.sends ++ (from_leader H.meaning body self.old.state).1) }
+        ensures { OnOk result (Does H.Host self.old self.new (from_leader H.meaning body)) }
     {
         match body {
             Body::GapCommit(slot) => self.gap_commit(slot),
@@ -105,12 +119,10 @@ impl<H: Host> Member<H> {
 
     /// A message of a follower to the leader comes.
     fn from_follower(&mut self, sender: u8, body: Body) -> Result<(), NoMemory>
-        requires runs { Runs H.state H.meaning H.undo_of self.old.state self.old.executor }
+        requires runs { IsRunning H.Host self.old }
         requires sender { sender < MAX_REPLICAS }
         requires fits { BodyFits body }
-        ensures runs { OnOk result (Runs H.state H.meaning H.undo_of self.new.state self.new.executor) }
-        ensures state { OnOk result (self.new.state ≡ (from_follower H.meaning sender body self.old.state).0) }
-        ensures sends { OnOk result (self.new.sends ≡ self.old.sends ++ (from_follower H.meaning sender body self.old.state).1) }
+        ensures { OnOk result (Does H.Host self.old self.new (from_follower H.meaning sender body)) }
     {
         match body {
             Body::SlotLookup(slot) => self.slot_lookup(sender, slot),
@@ -120,14 +132,12 @@ impl<H: Host> Member<H> {
         }
     }
 
-    /// A message comes that speaks of the replica's view, or else is for nobody.
-    fn told_in_view(&mut self, sender: u8, view: View, body: Body) -> Result<(), NoMemory>
-        requires runs { Runs H.state H.meaning H.undo_of self.old.state self.old.executor }
+    /// A message that is taken in the view in which the replica is Normal.
+    fn in_view(&mut self, sender: u8, view: View, body: Body) -> Result<(), NoMemory>
+        requires runs { IsRunning H.Host self.old }
         requires sender { sender < MAX_REPLICAS }
         requires fits { BodyFits body }
-        ensures runs { OnOk result (Runs H.state H.meaning H.undo_of self.new.state self.new.executor) }
-        ensures state { OnOk result (self.new.state ≡ (told_in_view H.meaning sender view body self.old.state).0) }
-        ensures sends { OnOk result (self.new.sends ≡ self.old.sends ++ (told_in_view H.meaning sender view body self.old.state).1) }
+        ensures { OnOk result (Does H.Host self.old self.new (in_view H.meaning sender view body)) }
     {
         if self.state.is_from_leader(view, sender) {
             return self.from_leader(body);
@@ -138,12 +148,11 @@ impl<H: Host> Member<H> {
         Ok(())
     }
 
-    fn told_by(&mut self, message: Peer) -> Result<(), NoMemory>
-        requires runs { Runs H.state H.meaning H.undo_of self.old.state self.old.executor }
+    /// The row of a message, by its body.
+    fn on_body(&mut self, message: Peer) -> Result<(), NoMemory>
+        requires runs { IsRunning H.Host self.old }
         requires fits { PeerFits message }
-        ensures runs { OnOk result (Runs H.state H.meaning H.undo_of self.new.state self.new.executor) }
-        ensures state { OnOk result (self.new.state ≡ (told_by H.meaning message message.body self.old.state).0) }
-        ensures sends { OnOk result (self.new.sends ≡ self.old.sends ++ (told_by H.meaning message message.body self.old.state).1) }
+        ensures { OnOk result (Does H.Host self.old self.new (on_body H.meaning message message.body)) }
     {
         let Peer { sender, view, body } = message;
         match body {
@@ -162,30 +171,27 @@ impl<H: Host> Member<H> {
                 self.view_change(view, change)
             }
             Body::StartView { next, log } => self.start_view(sender, view, next, log),
-            body => self.told_in_view(sender, view, body),
+            body => self.in_view(sender, view, body),
         }
     }
 
     /// A message of another replica comes.
-    #[tactic(auto, unfolding(crate::specs::Messages::told))]
-    pub fn told(&mut self, message: Peer) -> Result<(), NoMemory>
-        requires runs { Runs H.state H.meaning H.undo_of self.old.state self.old.executor }
+    #[tactic(auto, unfolding(crate::specs::Messages::on_message))]
+    pub fn on_message(&mut self, message: Peer) -> Result<(), NoMemory>
+        requires runs { IsRunning H.Host self.old }
         requires fits { PeerFits message }
-        ensures runs { OnOk result (Runs H.state H.meaning H.undo_of self.new.state self.new.executor) }
-        ensures state { OnOk result (self.new.state ≡ (told H.meaning self.old.state message).0) }
-        ensures sends { OnOk result (self.new.sends ≡ self.old.sends ++ (told H.meaning self.old.state message).1) }
+        ensures { OnOk result (Does H.Host self.old self.new (on_message H.meaning message)) }
     {
         if !self.state.is_other(message.sender) {
             return Ok(());
         }
-        self.told_by(message)
+        self.on_body(message)
     }
 
+    /// A tick comes.
     pub fn ticked(&mut self, tick: Tick) -> Result<(), NoMemory>
-        requires runs { Runs H.state H.meaning H.undo_of self.old.state self.old.executor }
-        ensures runs { OnOk result (Runs H.state H.meaning H.undo_of self.new.state self.new.executor) }
-        ensures state { OnOk result (self.new.state ≡ (ticked H.meaning self.old.state tick).0) }
-        ensures sends { OnOk result (self.new.sends ≡ self.old.sends ++ (ticked H.meaning self.old.state tick).1) }
+        requires runs { IsRunning H.Host self.old }
+        ensures { OnOk result (Does H.Host self.old self.new (ticked H.meaning tick)) }
     {
         match tick {
             Tick::Suspect => self.suspect(),

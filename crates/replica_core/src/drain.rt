@@ -5,7 +5,7 @@ ghost use Rattle.oum_receiver.specs.Front.{Dropped};
 ghost use Rattle.oum_receiver.specs.Receiving.{front_of};
 ghost use Rattle.replica_core.specs.State.{drains, may_append, waiting_in, leads};
 ghost use Rattle.replica_core.specs.Moves.{appended, gap_opened, open_gap, ask, drain};
-ghost use Rattle.replica_core.specs.Within.{IsWithin, Runs};
+ghost use Rattle.replica_core.specs.Within.{IsWithin, IsRunning, Does};
 ghost use Rattle.replica_core.specs.Draining.{TakesFront, TakesOne};
 
 use crate::ReplicaState;
@@ -74,10 +74,10 @@ impl<H: Host> Member<H> {
     /// The same, with what was executed.
     #[tactic(auto, using(crate::proofs::Running::append_runs))]
     pub fn append(&mut self, entry: Entry) -> Result<(), NoMemory>
-        requires runs { Runs H.state H.meaning H.undo_of self.old.state self.old.executor }
+        requires runs { IsRunning H.Host self.old }
         requires room { may_append self.old.state ≡ true }
         requires fits { EntryFits entry }
-        ensures runs { OnOk result (Runs H.state H.meaning H.undo_of self.new.state self.new.executor) }
+        ensures runs { OnOk result (IsRunning H.Host self.new) }
         ensures executor { self.new.executor ≡ self.old.executor }
         ensures sends { self.new.sends ≡ self.old.sends }
         ensures state { OnOk result (self.new.state ≡ appended self.old.state entry) }
@@ -88,11 +88,9 @@ impl<H: Host> Member<H> {
     /// Puts a NO-OP into the next slot, and tells all others.
     #[tactic(auto, using(crate::proofs::Running::open_gap_runs), unfolding(crate::specs::Moves::open_gap))]
     pub fn open_gap(&mut self) -> Result<(), NoMemory>
-        requires runs { Runs H.state H.meaning H.undo_of self.old.state self.old.executor }
+        requires runs { IsRunning H.Host self.old }
         requires room { may_append self.old.state ≡ true }
-        ensures runs { OnOk result (Runs H.state H.meaning H.undo_of self.new.state self.new.executor) }
-        ensures state { OnOk result (self.new.state ≡ (open_gap self.old.state).0) }
-        ensures sends { OnOk result (self.new.sends ≡ self.old.sends ++ (open_gap self.old.state).1) }
+        ensures { OnOk result (Does H.Host self.old self.new open_gap) }
     {
         self.state.put_gap()?;
         let slot = self.state.log.len();
@@ -101,11 +99,9 @@ impl<H: Host> Member<H> {
 
     /// Asks the leader for the next slot, once.
     fn ask(&mut self) -> Result<(), NoMemory>
-        requires runs { Runs H.state H.meaning H.undo_of self.old.state self.old.executor }
+        requires runs { IsRunning H.Host self.old }
         requires room { length self.old.state.log < MAX_SLOTS }
-        ensures runs { OnOk result (Runs H.state H.meaning H.undo_of self.new.state self.new.executor) }
-        ensures state { OnOk result (self.new.state ≡ (ask self.old.state).0) }
-        ensures sends { OnOk result (self.new.sends ≡ self.old.sends ++ (ask self.old.state).1) }
+        ensures { OnOk result (Does H.Host self.old self.new ask) }
     {
         let slot = self.state.log.len() + 1;
         if self.state.asked == slot {
@@ -118,8 +114,8 @@ impl<H: Host> Member<H> {
     /// Takes what stands in front, where it may: a request is logged; at a drop a leader opens a gap, and a follower asks for
     /// the slot. Says whether it goes on.
     fn drain_one(&mut self) -> Result<bool, NoMemory>
-        requires runs { Runs H.state H.meaning H.undo_of self.old.state self.old.executor }
-        ensures runs { OnOk result (Runs H.state H.meaning H.undo_of self.new.state self.new.executor) }
+        requires runs { IsRunning H.Host self.old }
+        ensures runs { OnOk result (IsRunning H.Host self.new) }
         ensures taken { IfOk result (TakesOne H.meaning self.old.state self.old.sends self.new.state self.new.sends) }
     {
         if !self.state.drains() {
@@ -143,10 +139,8 @@ impl<H: Host> Member<H> {
 
     /// Takes what stands in front, one after the other.
     pub fn drain(&mut self) -> Result<(), NoMemory>
-        requires runs { Runs H.state H.meaning H.undo_of self.old.state self.old.executor }
-        ensures runs { OnOk result (Runs H.state H.meaning H.undo_of self.new.state self.new.executor) }
-        ensures state { OnOk result (self.new.state ≡ (drain H.meaning self.old.state).0) }
-        ensures sends { OnOk result (self.new.sends ≡ self.old.sends ++ (drain H.meaning self.old.state).1) }
+        requires runs { IsRunning H.Host self.old }
+        ensures { OnOk result (Does H.Host self.old self.new (drain H.meaning)) }
     {
         for _ in 0..MAX_SLOTS {
             if !self.drain_one()? {

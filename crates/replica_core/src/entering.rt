@@ -3,7 +3,7 @@ ghost use Rattle.nop_types.specs.Ranges.{ViewFits};
 ghost use Rattle.nop_types.specs.Views.{AtMost};
 ghost use Rattle.replica_core.specs.Moves.{left, entered, enter, own_change, change_told};
 ghost use Rattle.replica_core.specs.Rows.{enter_view, enter_and_drain};
-ghost use Rattle.replica_core.specs.Within.{IsWithin, Runs};
+ghost use Rattle.replica_core.specs.Within.{IsWithin, IsRunning, Does};
 
 use crate::ReplicaState;
 use crate::member::Member;
@@ -48,12 +48,12 @@ impl ReplicaState {
 }
 
 impl<H: Host> Member<H> {
-    /// Sends the own change to the leader of the view.
+    /// Sends its own change to the leader of the view.
     pub fn send_change(&mut self) -> Result<(), NoMemory>
-        requires within { IsWithin self.old.state }
+        requires runs { IsRunning H.Host self.old }
         ensures state { self.new.state ≡ self.old.state }
         ensures executor { self.new.executor ≡ self.old.executor }
-        ensures sends { OnOk result (self.new.sends ≡ self.old.sends ++ change_told self.old.state) }
+        ensures does { OnOk result (Does H.Host self.old self.new (λ s. (s, change_told s))) }
     {
         let own = self.state.own_change()?;
         self.to_leader(Body::ViewChange {
@@ -65,11 +65,9 @@ impl<H: Host> Member<H> {
 
     #[tactic(auto, unfolding(crate::specs::Moves::enter))]
     fn enter(&mut self, view: View) -> Result<(), NoMemory>
-        requires runs { Runs H.state H.meaning H.undo_of self.old.state self.old.executor }
+        requires runs { IsRunning H.Host self.old }
         requires fits { ViewFits view }
-        ensures runs { OnOk result (Runs H.state H.meaning H.undo_of self.new.state self.new.executor) }
-        ensures state { OnOk result (self.new.state ≡ (enter self.old.state view).0) }
-        ensures sends { OnOk result (self.new.sends ≡ self.old.sends ++ (enter self.old.state view).1) }
+        ensures { OnOk result (Does H.Host self.old self.new (λ s. enter s view)) }
     {
         self.state.go_to(view);
         self.to_all(Body::ViewChangeReq)?;
@@ -85,11 +83,9 @@ impl<H: Host> Member<H> {
     /// Enters a greater view; its leader starts it at once where it is alone.
     #[tactic(auto, unfolding(crate::specs::Rows::enter_view))]
     fn enter_view(&mut self, view: View) -> Result<(), NoMemory>
-        requires runs { Runs H.state H.meaning H.undo_of self.old.state self.old.executor }
+        requires runs { IsRunning H.Host self.old }
         requires fits { ViewFits view }
-        ensures runs { OnOk result (Runs H.state H.meaning H.undo_of self.new.state self.new.executor) }
-        ensures state { OnOk result (self.new.state ≡ (enter_view H.meaning self.old.state view).0) }
-        ensures sends { OnOk result (self.new.sends ≡ self.old.sends ++ (enter_view H.meaning self.old.state view).1) }
+        ensures { OnOk result (Does H.Host self.old self.new (enter_view H.meaning view)) }
     {
         self.enter(view)?;
         if self.state.others() > 0 {
@@ -99,15 +95,13 @@ impl<H: Host> Member<H> {
             return Ok(());
         };
         let start = changes.start_now()?;
-        self.open_with(start)
+        self.open_view(start)
     }
 
     pub fn enter_and_drain(&mut self, view: View) -> Result<(), NoMemory>
-        requires runs { Runs H.state H.meaning H.undo_of self.old.state self.old.executor }
+        requires runs { IsRunning H.Host self.old }
         requires fits { ViewFits view }
-        ensures runs { OnOk result (Runs H.state H.meaning H.undo_of self.new.state self.new.executor) }
-        ensures state { OnOk result (self.new.state ≡ (enter_and_drain H.meaning view self.old.state).0) }
-        ensures sends { OnOk result (self.new.sends ≡ self.old.sends ++ (enter_and_drain H.meaning view self.old.state).1) }
+        ensures { OnOk result (Does H.Host self.old self.new (enter_and_drain H.meaning view)) }
     {
         self.enter_view(view)?;
         self.drain()

@@ -1,6 +1,6 @@
 ghost use Rattle.std.specs.Prelude.{◌≡◌, ◌≤◌, IsTrue, length, min, take, OnOk, cond};
 ghost use Rattle.replica_core.specs.State.{executed_to};
-ghost use Rattle.replica_core.specs.Within.{Runs};
+ghost use Rattle.replica_core.specs.Within.{IsRunning};
 
 use crate::member::Member;
 use nop_types::{Entry, Host, NoMemory};
@@ -33,10 +33,10 @@ fn common_front(a: &[Entry], b: &[Entry], most: usize) -> usize
 impl<H: Host> Member<H> {
     /// Takes back what was executed above a slot.
     pub fn go_back(&mut self, slot: u32)
-        requires runs { Runs H.state H.meaning H.undo_of self.old.state self.old.executor }
+        requires runs { IsRunning H.Host self.old }
         ensures state { self.new.state ≡ self.old.state }
         ensures sends { self.new.sends ≡ self.old.sends }
-        ensures runs { Runs H.state H.meaning H.undo_of self.new.state self.new.executor }
+        ensures runs { IsRunning H.Host self.new }
         ensures behind { length self.new.executor.undos ≤ slot }
         ensures fewer { length self.new.executor.undos ≤ length self.old.executor.undos }
     {
@@ -47,10 +47,10 @@ impl<H: Host> Member<H> {
 
     /// Takes back what was executed of entries that are not those of this log.
     pub fn go_back_to(&mut self, log: &[Entry])
-        requires runs { Runs H.state H.meaning H.undo_of self.old.state self.old.executor }
+        requires runs { IsRunning H.Host self.old }
         ensures state { self.new.state ≡ self.old.state }
         ensures sends { self.new.sends ≡ self.old.sends }
-        ensures runs { Runs H.state H.meaning H.undo_of self.new.state self.new.executor }
+        ensures runs { IsRunning H.Host self.new }
         ensures fewer { length self.new.executor.undos ≤ length self.old.executor.undos }
         ensures same { take (length self.new.executor.undos) log.now ≡ take (length self.new.executor.undos) self.old.state.log }
     {
@@ -61,10 +61,10 @@ impl<H: Host> Member<H> {
 
     /// Executes as far as a replica does: a leader in Normal the whole log, another up to the sync point.
     pub fn settle(&mut self) -> Result<(), NoMemory>
-        requires runs { Runs H.state H.meaning H.undo_of self.old.state self.old.executor }
+        requires runs { IsRunning H.Host self.old }
         ensures state { self.new.state ≡ self.old.state }
         ensures sends { self.new.sends ≡ self.old.sends }
-        ensures runs { OnOk result (Runs H.state H.meaning H.undo_of self.new.state self.new.executor) }
+        ensures runs { OnOk result (IsRunning H.Host self.new) }
         ensures executed { OnOk result (length self.new.executor.undos ≡ executed_to self.new.state) }
     {
         let len = self.state.log.len();

@@ -1,49 +1,39 @@
-ghost use Rattle.std.specs.Prelude.{◌≡◌, ◌<◌, ◌++◌, length, OnOk, IfOk};
+ghost use Rattle.std.specs.Prelude.{◌≡◌, ◌<◌, ◌++◌, length, OnOk, IfSome, IfNone};
 ghost use Rattle.nop_types.specs.Ranges.{SlotFits, LogFits};
 ghost use Rattle.nop_types.specs.declared.limits.TheConstants.{MAX_REPLICAS, MAX_SLOTS};
 ghost use Rattle.slot_lookup.specs.Answer.{answer_of};
 ghost use Rattle.replica_core.specs.State.{waits};
-ghost use Rattle.replica_core.specs.Responses.{response_to, ResponseFits};
+ghost use Rattle.replica_core.specs.Moves.{count_gap_vote, count_sync_vote};
 ghost use Rattle.replica_core.specs.Rows.{begin_gap, slot_lookup, gap_reply, sync_reply};
-ghost use Rattle.replica_core.specs.Within.{Runs};
+ghost use Rattle.replica_core.specs.Within.{IsRunning, Does};
 
 use crate::ReplicaState;
 use crate::member::Member;
 use nop_types::{Body, Host, NUMBER_END, NoMemory, Vote};
 use slot_lookup::{Answer, answer};
 
-/// How a leader reacts to a lookup: with a message at once, by a gap agreement, or not at all.
-#[derive(Drop)]
-enum Response {
-    Tell(Body),
-    Begin,
-    Nothing,
-}
-
 impl ReplicaState {
-    fn response(&self, slot: u32) -> Result<Response, NoMemory>
-        requires log { LogFits self.now.log }
-        requires slot { SlotFits slot }
-        ensures response { IfOk result (λ r. r ≡ response_to slot (answer_of self.now.log (waits self.now.gap) slot)) }
-        ensures fits { IfOk result ResponseFits }
+    /// Counts a vote for the gap that waits, and closes it where enough voted.
+    fn count_gap_vote(&mut self, sender: u8)
+        requires { sender < MAX_REPLICAS }
+        ensures waits { IfSome self.old.gap (λ g. self.new ≡ (count_gap_vote self.old g sender).0) }
+        ensures none { IfNone self.old.gap (self.new ≡ self.old) }
     {
-        Ok(match answer(&self.log, self.waits(), slot) {
-            Answer::Found(request) => Response::Tell(Body::Found(slot, request.try_clone()?)),
-            Answer::GapAgain => Response::Tell(Body::GapCommit(slot)),
-            Answer::Begin => Response::Begin,
-            Answer::Nothing => Response::Nothing,
-        })
+        let Some(gap) = &mut self.gap else {
+            return;
+        };
+        if let Vote::Settled = gap.on_rep(sender) {
+            self.gap = None;
+        }
     }
 }
 
 impl<H: Host> Member<H> {
     /// Begins a gap agreement in the next slot, where there is a number after it.
     fn begin_gap(&mut self) -> Result<(), NoMemory>
-        requires runs { Runs H.state H.meaning H.undo_of self.old.state self.old.executor }
+        requires runs { IsRunning H.Host self.old }
         requires room { length self.old.state.log < MAX_SLOTS }
-        ensures runs { OnOk result (Runs H.state H.meaning H.undo_of self.new.state self.new.executor) }
-        ensures state { OnOk result (self.new.state ≡ (begin_gap H.meaning self.old.state).0) }
-        ensures sends { OnOk result (self.new.sends ≡ self.old.sends ++ (begin_gap H.meaning self.old.state).1) }
+        ensures { OnOk result (Does H.Host self.old self.new (begin_gap H.meaning)) }
     {
         if self.state.next >= NUMBER_END {
             return Ok(());
@@ -55,51 +45,54 @@ impl<H: Host> Member<H> {
     /// Another replica asks for a slot.
     #[tactic(auto, unfolding(crate::specs::Rows::slot_lookup))]
     pub fn slot_lookup(&mut self, sender: u8, slot: u32) -> Result<(), NoMemory>
-        requires runs { Runs H.state H.meaning H.undo_of self.old.state self.old.executor }
+        requires runs { IsRunning H.Host self.old }
         requires fits { SlotFits slot }
-        ensures runs { OnOk result (Runs H.state H.meaning H.undo_of self.new.state self.new.executor) }
-        ensures state { OnOk result (self.new.state ≡ (slot_lookup H.meaning sender slot self.old.state).0) }
-        ensures sends { OnOk result (self.new.sends ≡ self.old.sends ++ (slot_lookup H.meaning sender slot self.old.state).1) }
+        ensures { OnOk result (Does H.Host self.old self.new (slot_lookup H.meaning sender slot)) }
     {
-        match self.state.response(slot)? {
-            Response::Tell(body) => self.to_replica(sender, body),
-            Response::Begin => self.begin_gap(),
-            Response::Nothing => Ok(()),
+        let waits = self.state.waits();
+        match answer(&self.state.log, waits, slot) {
+            Answer::Found(request) => {
+                let request = request.try_clone()?;
+                self.to_replica(sender, Body::Found(slot, request))
+            }
+            Answer::GapAgain => self.to_replica(sender, Body::GapCommit(slot)),
+            Answer::Begin => self.begin_gap(),
+            Answer::Nothing => Ok(()),
         }
     }
 
     /// Another replica votes for the gap in a slot.
     #[tactic(auto, unfolding(crate::specs::Rows::gap_reply))]
     pub fn gap_reply(&mut self, sender: u8, slot: u32) -> Result<(), NoMemory>
-        requires runs { Runs H.state H.meaning H.undo_of self.old.state self.old.executor }
+        requires runs { IsRunning H.Host self.old }
         requires sender { sender < MAX_REPLICAS }
-        ensures runs { OnOk result (Runs H.state H.meaning H.undo_of self.new.state self.new.executor) }
-        ensures state { OnOk result (self.new.state ≡ (gap_reply H.meaning sender slot self.old.state).0) }
-        ensures sends { OnOk result (self.new.sends ≡ self.old.sends ++ (gap_reply H.meaning sender slot self.old.state).1) }
+        ensures { OnOk result (Does H.Host self.old self.new (gap_reply H.meaning sender slot)) }
     {
-        let Some(gap) = &mut self.state.gap else {
-            return Ok(());
-        };
-        if gap.slot() != slot {
+        if self.state.gap_slot() != Some(slot) {
             return Ok(());
         }
-        if let Vote::Settled = gap.on_rep(sender) {
-            self.state.gap = None;
-        }
+        self.state.count_gap_vote(sender);
         self.drain()
     }
 
-    /// Another replica votes for a length of the log.
-    pub fn sync_reply(&mut self, sender: u8, len: u32) -> Result<(), NoMemory>
-        requires runs { Runs H.state H.meaning H.undo_of self.old.state self.old.executor }
+    /// Counts a vote for the length of the log that was told; at enough of them the sync point rises, and all others are told.
+    fn count_sync_vote(&mut self, sender: u8, len: u32) -> Result<(), NoMemory>
+        requires runs { IsRunning H.Host self.old }
         requires sender { sender < MAX_REPLICAS }
-        ensures runs { OnOk result (Runs H.state H.meaning H.undo_of self.new.state self.new.executor) }
-        ensures state { OnOk result (self.new.state ≡ (sync_reply sender len self.old.state).0) }
-        ensures sends { OnOk result (self.new.sends ≡ self.old.sends ++ (sync_reply sender len self.old.state).1) }
+        ensures { OnOk result (Does H.Host self.old self.new (λ s. count_sync_vote s sender len)) }
     {
         match self.state.sync.on_rep(sender, len) {
             Vote::Settled => self.to_all(Body::SyncCommit(len)),
             Vote::Waiting => Ok(()),
         }
+    }
+
+    /// Another replica votes for a length of the log.
+    pub fn sync_reply(&mut self, sender: u8, len: u32) -> Result<(), NoMemory>
+        requires runs { IsRunning H.Host self.old }
+        requires sender { sender < MAX_REPLICAS }
+        ensures { OnOk result (Does H.Host self.old self.new (sync_reply sender len)) }
+    {
+        self.count_sync_vote(sender, len)
     }
 }

@@ -1,6 +1,7 @@
 //! The replica core: its rows over whole messages, and the way of those messages as fragments.
 #![tactic(auto)]
 
+mod adopting;
 mod arrivals;
 mod drain;
 mod entering;
@@ -13,12 +14,14 @@ mod posting;
 mod replica;
 mod reply;
 mod sending;
-mod starting;
 mod state;
 mod ticks;
 mod view_changes;
 
-pub use laws::{messages_are_cut, rows_send_few_messages};
+pub use laws::{
+    drains_by_front, enters_only, messages_are_cut, new_session_enters_then_queues,
+    posts_fragments, rows_send_few_messages, rows_stay_in_ranges,
+};
 pub use replica::Replica;
 pub use sending::{Sending, Sends};
 pub use state::{LAST_MESSAGE, RESEND_MILLIS, ReplicaState, SYNC_MILLIS, WATCH_MILLIS};

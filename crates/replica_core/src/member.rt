@@ -1,7 +1,7 @@
 ghost use Rattle.std.specs.Prelude.{◌≡◌, ◌≤◌, ◌<◌, ◌++◌, ◌+◌, OnOk};
 ghost use Rattle.nop_types.specs.Ranges.{BodyFits};
 ghost use Rattle.replica_core.specs.Sends.{message, to_replica, to_leader, to_all};
-ghost use Rattle.replica_core.specs.Within.{IsWithin};
+ghost use Rattle.replica_core.specs.Within.{IsWithin, IsRunning, Does};
 
 use crate::{ReplicaState, Sending, Sends};
 use executor::Executor;
@@ -53,33 +53,36 @@ impl ReplicaState {
 
 impl<H: Host> Member<H> {
     pub fn to_replica(&mut self, replica: u8, body: Body) -> Result<(), NoMemory>
-        requires within { IsWithin self.old.state }
+        requires runs { IsRunning H.Host self.old }
         requires fits { BodyFits body }
         ensures state { self.new.state ≡ self.old.state }
         ensures executor { self.new.executor ≡ self.old.executor }
-        ensures sends { OnOk result (self.new.sends ≡ self.old.sends ++ to_replica self.old.state replica body) }
+        ensures does { OnOk result (Does H.Host self.old self.new (λ s. (s, to_replica s replica body))) }
     {
-        self.state.send_to(replica, body, &mut self.sends)
+        self.state.send_to(replica, body, &mut self.sends)?;
+        Ok(())
     }
 
     pub fn to_leader(&mut self, body: Body) -> Result<(), NoMemory>
-        requires within { IsWithin self.old.state }
+        requires runs { IsRunning H.Host self.old }
         requires fits { BodyFits body }
         ensures state { self.new.state ≡ self.old.state }
         ensures executor { self.new.executor ≡ self.old.executor }
-        ensures sends { OnOk result (self.new.sends ≡ self.old.sends ++ to_leader self.old.state body) }
+        ensures does { OnOk result (Does H.Host self.old self.new (λ s. (s, to_leader s body))) }
     {
-        self.state
-            .send_to(self.state.leader(), body, &mut self.sends)
+        let leader = self.state.leader();
+        self.state.send_to(leader, body, &mut self.sends)?;
+        Ok(())
     }
 
     pub fn to_all(&mut self, body: Body) -> Result<(), NoMemory>
-        requires within { IsWithin self.old.state }
+        requires runs { IsRunning H.Host self.old }
         requires fits { BodyFits body }
         ensures state { self.new.state ≡ self.old.state }
         ensures executor { self.new.executor ≡ self.old.executor }
-        ensures sends { OnOk result (self.new.sends ≡ self.old.sends ++ to_all self.old.state body) }
+        ensures does { OnOk result (Does H.Host self.old self.new (λ s. (s, to_all s body))) }
     {
-        self.state.send_to_all(body, &mut self.sends)
+        self.state.send_to_all(body, &mut self.sends)?;
+        Ok(())
     }
 }

@@ -8,7 +8,7 @@ ghost use Rattle.replica_core.specs.State.{executed_to};
 ghost use Rattle.replica_core.specs.Messages.{arrive};
 ghost use Rattle.replica_core.specs.ReplicaSteps.{replica_of, arrival_of, row, read, next, opening};
 ghost use Rattle.replica_core.specs.ReplicaSteps as steps;
-ghost use Rattle.replica_core.specs.Within.{ArrivalFits, Runs, IsReady};
+ghost use Rattle.replica_core.specs.Within.{ArrivalFits, IsWithin, IsRunning, Does, IsReady};
 
 use crate::member::Member;
 use crate::posting::post;
@@ -58,7 +58,7 @@ impl<H: Host> Model for Replica<H> {
 
     ghost view = { λ r. record { failed = r.failed; state = steps.replica_of r.node } };
 
-    ghost invariant = { λ r. r.failed ≡ false → IsReady H.state H.meaning H.undo_of r.node };
+    ghost invariant = { λ r. r.failed ≡ false → IsReady H.Host r.node };
 }
 
 /// What a whole input is: a stamped request, a message of another replica, or a tick.
@@ -99,15 +99,14 @@ impl<H: Host> Member<H> {
     /// The row for what arrives.
     #[tactic(auto, unfolding(crate::specs::Messages::arrive))]
     fn arrive(&mut self, arrival: Arrival) -> Result<(), NoMemory>
-        requires runs { Runs H.state H.meaning H.undo_of self.old.state self.old.executor }
+        requires runs { IsRunning H.Host self.old }
         requires fits { ArrivalFits (arrival_of arrival) }
-        ensures runs { OnOk result (Runs H.state H.meaning H.undo_of self.new.state self.new.executor) }
-        ensures state { OnOk result (self.new.state ≡ (arrive H.meaning self.old.state (arrival_of arrival)).0) }
-        ensures sends { OnOk result (self.new.sends ≡ self.old.sends ++ (arrive H.meaning self.old.state (arrival_of arrival)).1) }
+        ensures { OnOk result
+            (Does H.Host self.old self.new (λ s. arrive H.meaning s (arrival_of arrival))) }
     {
         match arrival {
             Arrival::Stamped(packet) => self.stamped(&packet),
-            Arrival::Told(message) => self.told(message),
+            Arrival::Told(message) => self.on_message(message),
             Arrival::Ticked(tick) => self.ticked(tick),
         }
     }
@@ -116,10 +115,10 @@ impl<H: Host> Member<H> {
 impl<H: Host> Node<H> {
     /// The row for what arrives, while message numbers are left, and the datagrams of what it sends.
     #[tactic(auto, using(crate::proofs::Counting::arrive_sends_few, crate::proofs::Counting::arrive_keeps_config))]
-    fn arrive(&mut self, arrival: Arrival, out: &mut Outbox) -> Result<(), NoMemory>
-        requires ready { IsReady H.state H.meaning H.undo_of self.old }
+    fn row(&mut self, arrival: Arrival, out: &mut Outbox) -> Result<(), NoMemory>
+        requires ready { IsReady H.Host self.old }
         requires fits { ArrivalFits (arrival_of arrival) }
-        ensures ready { OnOk result (IsReady H.state H.meaning H.undo_of self.new) }
+        ensures ready { OnOk result (IsReady H.Host self.new) }
         ensures state { OnOk result (replica_of self.new ≡ (row H.meaning (replica_of self.old) (arrival_of arrival)).0) }
         ensures out { OnOk result (out.new ≡ out.old ++ (row H.meaning (replica_of self.old) (arrival_of arrival)).1) }
     {
@@ -136,8 +135,8 @@ impl<H: Host> Node<H> {
 
     /// Bytes that were joined of the fragments of a replica.
     fn joined(&mut self, replica: u8, bytes: &Bytes, out: &mut Outbox) -> Result<(), NoMemory>
-        requires { IsReady H.state H.meaning H.undo_of self.old }
-        ensures ready { OnOk result (IsReady H.state H.meaning H.undo_of self.new) }
+        requires { IsReady H.Host self.old }
+        ensures ready { OnOk result (IsReady H.Host self.new) }
         ensures state { OnOk result (replica_of self.new ≡ (read H.meaning (replica_of self.old) replica (peer.reading bytes.now)).0) }
         ensures out { OnOk result (out.new ≡ out.old ++ (read H.meaning (replica_of self.old) replica (peer.reading bytes.now)).1) }
     {
@@ -146,7 +145,7 @@ impl<H: Host> Node<H> {
                 if message.sender != replica {
                     return Ok(());
                 }
-                self.arrive(Arrival::Told(message), out)
+                self.row(Arrival::Told(message), out)
             }
             Err(BadPeer::NoMemory) => Err(NoMemory),
             Err(_) => Ok(()),
@@ -156,8 +155,8 @@ impl<H: Host> Node<H> {
     /// A fragment comes, of another replica or else for nobody.
     #[tactic(auto, unfolding(crate::specs::ReplicaSteps::fragment))]
     fn fragment(&mut self, fragment: &Fragment, out: &mut Outbox) -> Result<(), NoMemory>
-        requires { IsReady H.state H.meaning H.undo_of self.old }
-        ensures ready { OnOk result (IsReady H.state H.meaning H.undo_of self.new) }
+        requires { IsReady H.Host self.old }
+        ensures ready { OnOk result (IsReady H.Host self.new) }
         ensures state { OnOk result (replica_of self.new ≡ (steps.fragment H.meaning (replica_of self.old) fragment.now).0) }
         ensures out { OnOk result (out.new ≡ out.old ++ (steps.fragment H.meaning (replica_of self.old) fragment.now).1) }
     {
@@ -173,18 +172,18 @@ impl<H: Host> Node<H> {
     /// One step, which may leave anything where memory runs out.
     #[tactic(auto, unfolding(crate::specs::ReplicaSteps::next))]
     fn act(&mut self, input: Input<'_>, out: &mut Outbox) -> Result<(), NoMemory>
-        requires { IsReady H.state H.meaning H.undo_of self.old }
-        ensures ready { OnOk result (IsReady H.state H.meaning H.undo_of self.new) }
+        requires { IsReady H.Host self.old }
+        ensures ready { OnOk result (IsReady H.Host self.new) }
         ensures state { OnOk result (replica_of self.new ≡ (next H.meaning (replica_of self.old) (given input.entry)).0) }
         ensures out { OnOk result (out.new ≡ out.old ++ (next H.meaning (replica_of self.old) (given input.entry)).1) }
     {
         let bytes = match input {
-            Input::Tick(tick) => return self.arrive(Arrival::Ticked(tick), out),
+            Input::Tick(tick) => return self.row(Arrival::Ticked(tick), out),
             Input::Submit(_) => return Ok(()),
             Input::Packet(bytes) => bytes,
         };
         match decode(self.member.alloc, bytes) {
-            Ok(Datagram::Stamped(packet)) => self.arrive(Arrival::Stamped(packet), out),
+            Ok(Datagram::Stamped(packet)) => self.row(Arrival::Stamped(packet), out),
             Ok(Datagram::Fragment(fragment)) => self.fragment(&fragment, out),
             Ok(_) => Ok(()),
             Err(Bad::NoMemory) => Err(NoMemory),
@@ -214,9 +213,11 @@ impl<H: Host> Replica<H> {
         })
     }
 
+    /// The view that the replica is in. While it has not failed, its whole state is in its ranges.
     pub fn view(&self) -> View
         ensures value { result ≡ self.now.state.state.view }
         ensures fits { self.now.failed ≡ false → ViewFits result }
+        ensures within { self.now.failed ≡ false → IsWithin self.now.state.state }
     {
         self.node.member.state.view
     }

@@ -2,7 +2,7 @@ ghost use Rattle.std.specs.Prelude.{◌≡◌, ◌≤◌, ◌<◌, ◌++◌, ◌
 ghost use Rattle.nop_types.specs.declared.limits.TheConstants.{MAX_RESULT_BYTES};
 ghost use Rattle.nop_types.specs.Ranges.{SlotFits};
 ghost use Rattle.replica_core.specs.Replies.{reply_with, reply_at, replies_above};
-ghost use Rattle.replica_core.specs.Within.{IsWithin, Runs};
+ghost use Rattle.replica_core.specs.Within.{IsWithin, IsRunning};
 
 use crate::member::Member;
 use crate::{ReplicaState, Sending, Sends};
@@ -43,11 +43,11 @@ impl<H: Host> Member<H> {
     /// Replies for a slot, where a request stands there: a leader with its result, a follower without.
     #[tactic(auto, unfolding(crate::specs::Replies::reply_to))]
     pub fn reply_at(&mut self, slot: u32) -> Result<(), NoMemory>
-        requires runs { Runs H.state H.meaning H.undo_of self.old.state self.old.executor }
+        requires runs { IsRunning H.Host self.old }
         requires there { slot ≤ length self.old.state.log }
         requires ahead { length self.old.executor.undos < slot }
         ensures state { self.new.state ≡ self.old.state }
-        ensures runs { OnOk result (Runs H.state H.meaning H.undo_of self.new.state self.new.executor) }
+        ensures runs { OnOk result (IsRunning H.Host self.new) }
         ensures behind { OnOk result (length self.new.executor.undos ≤ slot) }
         ensures sends { OnOk result (self.new.sends ≡ self.old.sends ++ reply_at H.meaning self.old.state slot) }
     {
@@ -73,10 +73,10 @@ impl<H: Host> Member<H> {
 
     /// Replies for each request above a slot, in the order of their slots.
     pub fn replies_above(&mut self, slot: u32) -> Result<(), NoMemory>
-        requires runs { Runs H.state H.meaning H.undo_of self.old.state self.old.executor }
+        requires runs { IsRunning H.Host self.old }
         requires behind { length self.old.executor.undos ≤ slot }
         ensures state { self.new.state ≡ self.old.state }
-        ensures runs { OnOk result (Runs H.state H.meaning H.undo_of self.new.state self.new.executor) }
+        ensures runs { OnOk result (IsRunning H.Host self.new) }
         ensures sends { OnOk result (self.new.sends ≡ self.old.sends ++ replies_above H.meaning self.old.state slot) }
     {
         for at in slot..self.state.log.len() {

@@ -1,8 +1,9 @@
 ghost use Rattle.std.specs.Prelude.{◌≡◌, ◌≤◌, ◌++◌, OnOk, IfOk};
 ghost use Rattle.oum_receiver.specs.Receiving.{front_of};
-ghost use Rattle.replica_core.specs.Moves.{open_sync};
-ghost use Rattle.replica_core.specs.Rows.{suspect, watch, resend, sync, lookup_again};
-ghost use Rattle.replica_core.specs.Within.{Runs};
+ghost use Rattle.replica_core.specs.Moves.{open_sync, repeat_commit};
+ghost use Rattle.replica_core.specs.Rows.{suspect, watch, resend, sync, gap_again, lookup_again, change_again};
+ghost use Rattle.replica_core.specs.State.{leads};
+ghost use Rattle.replica_core.specs.Within.{IsRunning, Does};
 
 use crate::member::Member;
 use nop_types::{Body, Host, NoMemory, Phase, View};
@@ -10,10 +11,8 @@ use nop_types::{Body, Host, NoMemory, Phase, View};
 impl<H: Host> Member<H> {
     /// The view's leader is suspected: the next leader's view is entered.
     pub fn suspect(&mut self) -> Result<(), NoMemory>
-        requires runs { Runs H.state H.meaning H.undo_of self.old.state self.old.executor }
-        ensures runs { OnOk result (Runs H.state H.meaning H.undo_of self.new.state self.new.executor) }
-        ensures state { OnOk result (self.new.state ≡ (suspect H.meaning self.old.state).0) }
-        ensures sends { OnOk result (self.new.sends ≡ self.old.sends ++ (suspect H.meaning self.old.state).1) }
+        requires runs { IsRunning H.Host self.old }
+        ensures { OnOk result (Does H.Host self.old self.new (suspect H.meaning)) }
     {
         let view = self.state.view;
         if view.leader == u32::MAX {
@@ -27,10 +26,8 @@ impl<H: Host> Member<H> {
 
     /// A replica that is not the leader in Normal suspects a leader of which it heard nothing since the last tick.
     pub fn watch(&mut self) -> Result<(), NoMemory>
-        requires runs { Runs H.state H.meaning H.undo_of self.old.state self.old.executor }
-        ensures runs { OnOk result (Runs H.state H.meaning H.undo_of self.new.state self.new.executor) }
-        ensures state { OnOk result (self.new.state ≡ (watch H.meaning self.old.state).0) }
-        ensures sends { OnOk result (self.new.sends ≡ self.old.sends ++ (watch H.meaning self.old.state).1) }
+        requires runs { IsRunning H.Host self.old }
+        ensures { OnOk result (Does H.Host self.old self.new (watch H.meaning)) }
     {
         if self.state.is_normal() && self.state.leads() {
             return Ok(());
@@ -42,12 +39,23 @@ impl<H: Host> Member<H> {
         self.suspect()
     }
 
+    /// A leader tells once more of the gap that waits.
+    fn gap_again(&mut self) -> Result<(), NoMemory>
+        requires runs { IsRunning H.Host self.old }
+        ensures state { self.new.state ≡ self.old.state }
+        ensures does { OnOk result (Does H.Host self.old self.new (λ s. gap_again s.gap s)) }
+    {
+        match self.state.gap_slot() {
+            Some(slot) => self.to_all(Body::GapCommit(slot)),
+            None => Ok(()),
+        }
+    }
+
     /// A follower asks once more for the slot at which the receiver has a drop.
     fn lookup_again(&mut self) -> Result<(), NoMemory>
-        requires runs { Runs H.state H.meaning H.undo_of self.old.state self.old.executor }
+        requires runs { IsRunning H.Host self.old }
         ensures state { self.new.state ≡ self.old.state }
-        ensures executor { self.new.executor ≡ self.old.executor }
-        ensures sends { OnOk result (self.new.sends ≡ self.old.sends ++ (lookup_again (front_of self.old.state.receiver) self.old.state).1) }
+        ensures does { OnOk result (Does H.Host self.old self.new (λ s. lookup_again (front_of s.receiver) s)) }
     {
         if !self.state.has_drop() || !self.state.log.has_room() {
             return Ok(());
@@ -56,37 +64,39 @@ impl<H: Host> Member<H> {
         self.to_leader(Body::SlotLookup(slot))
     }
 
+    /// A replica that does not lead the view that it enters tells its change once more.
+    fn change_again(&mut self) -> Result<(), NoMemory>
+        requires runs { IsRunning H.Host self.old }
+        ensures state { self.new.state ≡ self.old.state }
+        ensures does { OnOk result (Does H.Host self.old self.new (λ s. change_again (leads s) s)) }
+    {
+        if self.state.leads() {
+            return Ok(());
+        }
+        self.send_change()
+    }
+
     /// Sends again what was not answered.
     #[tactic(auto, unfolding(crate::specs::Rows::resend))]
     pub fn resend(&mut self) -> Result<(), NoMemory>
-        requires runs { Runs H.state H.meaning H.undo_of self.old.state self.old.executor }
-        ensures runs { Runs H.state H.meaning H.undo_of self.new.state self.new.executor }
-        ensures state { self.new.state ≡ (resend self.old.state).0 }
-        ensures sends { OnOk result (self.new.sends ≡ self.old.sends ++ (resend self.old.state).1) }
+        requires runs { IsRunning H.Host self.old }
+        ensures state { self.new.state ≡ self.old.state }
+        ensures does { OnOk result (Does H.Host self.old self.new resend) }
     {
         if !self.state.is_normal() {
             self.to_all(Body::ViewChangeReq)?;
-            return if self.state.leads() {
-                Ok(())
-            } else {
-                self.send_change()
-            };
+            return self.change_again();
         }
-        if !self.state.leads() {
-            return self.lookup_again();
+        if self.state.leads() {
+            return self.gap_again();
         }
-        match self.state.gap_slot() {
-            Some(slot) => self.to_all(Body::GapCommit(slot)),
-            None => Ok(()),
-        }
+        self.lookup_again()
     }
 
     /// Tells the log, and waits for votes.
     fn open_sync(&mut self) -> Result<(), NoMemory>
-        requires runs { Runs H.state H.meaning H.undo_of self.old.state self.old.executor }
-        ensures runs { OnOk result (Runs H.state H.meaning H.undo_of self.new.state self.new.executor) }
-        ensures state { OnOk result (self.new.state ≡ (open_sync self.old.state).0) }
-        ensures sends { OnOk result (self.new.sends ≡ self.old.sends ++ (open_sync self.old.state).1) }
+        requires runs { IsRunning H.Host self.old }
+        ensures { OnOk result (Does H.Host self.old self.new open_sync) }
     {
         let len = self.state.log.len();
         let log = self.state.log.copy(len)?;
@@ -95,21 +105,27 @@ impl<H: Host> Member<H> {
         Ok(())
     }
 
+    /// Tells once more what is synchronised.
+    fn repeat_commit(&mut self) -> Result<(), NoMemory>
+        requires runs { IsRunning H.Host self.old }
+        ensures { OnOk result (Does H.Host self.old self.new repeat_commit) }
+    {
+        let sync_point = self.state.sync.sync_point();
+        self.to_all(Body::SyncCommit(sync_point))
+    }
+
     /// A leader without a gap has its log synchronised, or says again how far it is.
     #[tactic(auto, unfolding(crate::specs::Rows::sync))]
     pub fn sync(&mut self) -> Result<(), NoMemory>
-        requires runs { Runs H.state H.meaning H.undo_of self.old.state self.old.executor }
-        ensures runs { OnOk result (Runs H.state H.meaning H.undo_of self.new.state self.new.executor) }
-        ensures state { OnOk result (self.new.state ≡ (sync self.old.state).0) }
-        ensures sends { OnOk result (self.new.sends ≡ self.old.sends ++ (sync self.old.state).1) }
+        requires runs { IsRunning H.Host self.old }
+        ensures { OnOk result (Does H.Host self.old self.new sync) }
     {
         if !self.state.is_normal() || !self.state.leads() || self.state.waits() {
             return Ok(());
         }
-        let sync_point = self.state.sync.sync_point();
-        if sync_point < self.state.log.len() {
+        if self.state.sync.sync_point() < self.state.log.len() {
             return self.open_sync();
         }
-        self.to_all(Body::SyncCommit(sync_point))
+        self.repeat_commit()
     }
 }

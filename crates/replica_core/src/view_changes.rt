@@ -1,8 +1,17 @@
 ghost use Rattle.std.specs.Prelude.{◌≡◌, ◌≤◌, ◌<◌, ◌++◌, OnOk, IfOk};
 ghost use Rattle.nop_types.specs.Ranges.{ViewFits, NextFits, LogFits, ChangeFits};
 ghost use Rattle.replica_core.specs.Moves.{resend_start};
-ghost use Rattle.replica_core.specs.Rows.{view_change_request, take_change, gather, view_change, may_adopt, start_view};
-ghost use Rattle.replica_core.specs.Within.{Runs};
+ghost use Rattle.replica_core.specs.Rows.{
+  view_change_request,
+  kept_by,
+  step_by,
+  take_change,
+  gather,
+  view_change,
+  may_adopt,
+  start_view,
+};
+ghost use Rattle.replica_core.specs.Within.{IsRunning, Does};
 
 use crate::ReplicaState;
 use crate::member::Member;
@@ -20,16 +29,25 @@ impl ReplicaState {
             && (!same_view(view, self.view) || !self.is_normal())
             && self.sync.sync_point() as usize <= log.as_slice().len()
     }
+
+    /// Keeps a change, where changes are gathered. Says whether the view starts then, and with what.
+    fn keep_change(&mut self, change: Change) -> Result<Step, NoMemory>
+        ensures kept { OnOk result (self.new ≡ kept_by self.old self.old.changes change) }
+        ensures step { IfOk result (λ step. step ≡ step_by self.old.changes change) }
+    {
+        let Some(changes) = &mut self.changes else {
+            return Ok(Step::Waiting);
+        };
+        changes.on_change(change)
+    }
 }
 
 impl<H: Host> Member<H> {
     /// Another replica asks for a view.
     pub fn view_change_request(&mut self, view: View) -> Result<(), NoMemory>
-        requires runs { Runs H.state H.meaning H.undo_of self.old.state self.old.executor }
+        requires runs { IsRunning H.Host self.old }
         requires fits { ViewFits view }
-        ensures runs { OnOk result (Runs H.state H.meaning H.undo_of self.new.state self.new.executor) }
-        ensures state { OnOk result (self.new.state ≡ (view_change_request H.meaning self.old.state view).0) }
-        ensures sends { OnOk result (self.new.sends ≡ self.old.sends ++ (view_change_request H.meaning self.old.state view).1) }
+        ensures { OnOk result (Does H.Host self.old self.new (view_change_request H.meaning view)) }
     {
         let join = View::join(self.state.view, view);
         if same_view(join, self.state.view) {
@@ -40,10 +58,8 @@ impl<H: Host> Member<H> {
 
     /// Tells a late replica once more what the view started with.
     fn resend_start(&mut self, replica: u8) -> Result<(), NoMemory>
-        requires runs { Runs H.state H.meaning H.undo_of self.old.state self.old.executor }
-        ensures state { self.new.state ≡ self.old.state }
-        ensures runs { OnOk result (Runs H.state H.meaning H.undo_of self.new.state self.new.executor) }
-        ensures sends { OnOk result (self.new.sends ≡ self.old.sends ++ (resend_start self.old.state replica).1) }
+        requires runs { IsRunning H.Host self.old }
+        ensures { OnOk result (Does H.Host self.old self.new (λ s. resend_start s replica)) }
     {
         let next = self.state.start();
         let log = self.state.log.copy(self.state.base)?;
@@ -52,27 +68,20 @@ impl<H: Host> Member<H> {
 
     /// Keeps a change, and starts the view where enough are there.
     fn gather(&mut self, change: Change) -> Result<(), NoMemory>
-        requires runs { Runs H.state H.meaning H.undo_of self.old.state self.old.executor }
+        requires runs { IsRunning H.Host self.old }
         requires fits { ChangeFits change }
-        ensures runs { OnOk result (Runs H.state H.meaning H.undo_of self.new.state self.new.executor) }
-        ensures state { OnOk result (self.new.state ≡ (gather H.meaning self.old.state.changes change self.old.state).0) }
-        ensures sends { OnOk result (self.new.sends ≡ self.old.sends ++ (gather H.meaning self.old.state.changes change self.old.state).1) }
+        ensures { OnOk result (Does H.Host self.old self.new (λ s. gather H.meaning s.changes change s)) }
     {
-        let Some(changes) = &mut self.state.changes else {
-            return Ok(());
-        };
-        match changes.on_change(change)? {
-            Step::Started(start) => self.open_with(start),
+        match self.state.keep_change(change)? {
+            Step::Started(start) => self.open_view(start),
             Step::Waiting => Ok(()),
         }
     }
 
     fn take_change(&mut self, view: View, change: Change) -> Result<(), NoMemory>
-        requires runs { Runs H.state H.meaning H.undo_of self.old.state self.old.executor }
+        requires runs { IsRunning H.Host self.old }
         requires fits { ChangeFits change }
-        ensures runs { OnOk result (Runs H.state H.meaning H.undo_of self.new.state self.new.executor) }
-        ensures state { OnOk result (self.new.state ≡ (take_change H.meaning view change self.old.state).0) }
-        ensures sends { OnOk result (self.new.sends ≡ self.old.sends ++ (take_change H.meaning view change self.old.state).1) }
+        ensures { OnOk result (Does H.Host self.old self.new (take_change H.meaning view change)) }
     {
         if !same_view(view, self.state.view) || !self.state.leads() {
             return Ok(());
@@ -86,12 +95,10 @@ impl<H: Host> Member<H> {
     /// Another replica tells what it had when it entered a view.
     #[tactic(auto, unfolding(crate::specs::Rows::view_change))]
     pub fn view_change(&mut self, view: View, change: Change) -> Result<(), NoMemory>
-        requires runs { Runs H.state H.meaning H.undo_of self.old.state self.old.executor }
+        requires runs { IsRunning H.Host self.old }
         requires view { ViewFits view }
         requires change { ChangeFits change }
-        ensures runs { OnOk result (Runs H.state H.meaning H.undo_of self.new.state self.new.executor) }
-        ensures state { OnOk result (self.new.state ≡ (view_change H.meaning self.old.state view change).0) }
-        ensures sends { OnOk result (self.new.sends ≡ self.old.sends ++ (view_change H.meaning self.old.state view change).1) }
+        ensures { OnOk result (Does H.Host self.old self.new (view_change H.meaning view change)) }
     {
         self.view_change_request(view)?;
         self.take_change(view, change)
@@ -106,13 +113,11 @@ impl<H: Host> Member<H> {
         next: u64,
         log: Log,
     ) -> Result<(), NoMemory>
-        requires runs { Runs H.state H.meaning H.undo_of self.old.state self.old.executor }
+        requires runs { IsRunning H.Host self.old }
         requires view { ViewFits view }
         requires next { NextFits next }
         requires log { LogFits log }
-        ensures runs { OnOk result (Runs H.state H.meaning H.undo_of self.new.state self.new.executor) }
-        ensures state { OnOk result (self.new.state ≡ (start_view H.meaning self.old.state sender view next log).0) }
-        ensures sends { OnOk result (self.new.sends ≡ self.old.sends ++ (start_view H.meaning self.old.state sender view next log).1) }
+        ensures { OnOk result (Does H.Host self.old self.new (start_view H.meaning sender view next log)) }
     {
         if !self.state.may_adopt(sender, view, &log) {
             return Ok(());

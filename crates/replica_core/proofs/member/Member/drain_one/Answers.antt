@@ -6,7 +6,7 @@ use Rattle.replica_core.proofs.member.Member.drain_one.Goals as goal
 pub reply_at-requires-clause-runs : goal.reply_at-requires-clause-runs
 reply_at-requires-clause-runs g c =
     let front = took c.args.self.now.state c.take_front.new.self _ c.if-branch.true c.in_ok-take_front.ensures in
-    logged_runs g.H.Host.state g.H.Host.meaning g.H.Host.undo_of c.args.self.now.state _ _ front.request front.state c.requires.runs front.fits (sym c.drains.ensures ∙ c.if-not-drains.false) front.more
+    logged_runs g.H.Host c.args.self.now.state _ _ front.request front.state c.requires.runs front.fits (sym c.drains.ensures ∙ c.if-not-drains.false) front.more
 
 pub returns-then-branch-clause-taken : goal.returns-then-branch-clause-taken
 returns-then-branch-clause-taken g c =

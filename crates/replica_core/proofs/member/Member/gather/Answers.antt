@@ -1,23 +1,32 @@
-use Rattle.std.proofs.Common.{◌∙◌, sym, subst, arith}
-use Rattle.std.specs.Prelude.{IfSome}
-use Rattle.std.specs.List.{AllByRecursion}
-use Rattle.nop_types.specs.Ranges.{ChangeFits}
-use Rattle.view_change.specs.Gathering.{counted}
-use Rattle.replica_core.proofs.Opening.{counted_fits, begins, start_fits}
+use Rattle.std.proofs.Common.{ap, ◌∙◌, ◌++◌, refl, sym, append-nil}
+use Rattle.replica_core.proofs.Opening.{gathers, gathers_more}
+use Rattle.replica_core.proofs.Running.{on_ok, kept_runs}
 use Rattle.replica_core.proofs.member.Member.gather.Goals as goal
 
-pub open_with-requires-clause-next : goal.open_with-requires-clause-next
-open_with-requires-clause-next g c =
-    let all = subst (λ o. IfSome o (λ x. AllByRecursion ChangeFits x.changes)) c.in-Some.is c.requires.runs.within.changes in
-    let kept = counted c.in-Some.changes c.args.change in
-    let fits = counted_fits c.in-Some.changes c.args.change all c.requires.fits in
-    let start = begins kept c.in-Started.start (sym c.in_ok-start.ensures.step ∙ c.in-Started.is) in
-    (start_fits kept c.in-Started.start fits (omega (arith, start.0)) start.1).0
+pub open_view-requires-clause-runs : goal.open_view-requires-clause-runs
+open_view-requires-clause-runs g c =
+    kept_runs g.H.Host c.args.self.now.state c.keep_change.new.self _ c.args.self.now.state.changes c.args.change refl c.in_ok-keep_change.ensures.kept c.requires.runs c.requires.fits
 
-pub open_with-requires-clause-log : goal.open_with-requires-clause-log
-open_with-requires-clause-log g c =
-    let all = subst (λ o. IfSome o (λ x. AllByRecursion ChangeFits x.changes)) c.in-Some.is c.requires.runs.within.changes in
-    let kept = counted c.in-Some.changes c.args.change in
-    let fits = counted_fits c.in-Some.changes c.args.change all c.requires.fits in
-    let start = begins kept c.in-Started.start (sym c.in_ok-start.ensures.step ∙ c.in-Started.is) in
-    (start_fits kept c.in-Started.start fits (omega (arith, start.0)) start.1).1
+pub open_view-requires-clause-next : goal.open_view-requires-clause-next
+open_view-requires-clause-next g c =
+    (gathers g.H.Host.meaning c.args.self.now.state c.keep_change.new.self c.args.self.now.state.changes c.args.change c.in-Started.start refl c.requires.runs.within c.requires.fits c.in_ok-keep_change.ensures.kept (sym c.in_ok-keep_change.ensures.step ∙ c.in-Started.is)).next
+
+pub open_view-requires-clause-log : goal.open_view-requires-clause-log
+open_view-requires-clause-log g c =
+    (gathers g.H.Host.meaning c.args.self.now.state c.keep_change.new.self c.args.self.now.state.changes c.args.change c.in-Started.start refl c.requires.runs.within c.requires.fits c.in_ok-keep_change.ensures.kept (sym c.in_ok-keep_change.ensures.step ∙ c.in-Started.is)).log
+
+pub returns-in-Started : goal.returns-in-Started
+returns-in-Started g c =
+    let starts = gathers g.H.Host.meaning c.args.self.now.state c.keep_change.new.self c.args.self.now.state.changes c.args.change c.in-Started.start refl c.requires.runs.within c.requires.fits c.in_ok-keep_change.ensures.kept (sym c.in_ok-keep_change.ensures.step ∙ c.in-Started.is) in
+    on_ok c.open_view.result _ _
+    (λ does. record { runs = does.runs; state = does.state ∙ ap (λ x. x.0) (sym starts.row); sends = does.sends ∙ ap (λ x. c.args.self.now.sends ++ x.1) (sym starts.row) })
+    c.open_view.ensures
+
+pub returns-in-Waiting : goal.returns-in-Waiting
+returns-in-Waiting g c =
+    let waits = gathers_more g.H.Host.meaning c.args.self.now.state c.keep_change.new.self c.args.self.now.state.changes c.args.change refl c.in_ok-keep_change.ensures.kept (sym c.in_ok-keep_change.ensures.step ∙ c.in-Waiting.is) in
+    record {
+      runs = kept_runs g.H.Host c.args.self.now.state c.keep_change.new.self _ c.args.self.now.state.changes c.args.change refl c.in_ok-keep_change.ensures.kept c.requires.runs c.requires.fits;
+      state = ap (λ x. x.0) (sym waits);
+      sends = sym (append-nil c.args.self.now.sends) ∙ ap (λ x. c.args.self.now.sends ++ x.1) (sym waits);
+    }

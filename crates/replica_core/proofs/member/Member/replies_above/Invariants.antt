@@ -7,7 +7,7 @@ use Rattle.replica_core.proofs.member.Member.replies_above.Given as goal
 abbrev pub invariant-loop-at : goal.invariant-loop-at
 invariant-loop-at g l =
     record {
-      runs : Runs g.H.Host.state g.H.Host.meaning g.H.Host.undo_of l.self.state l.self.executor;
+      runs : Runs g.H.Host l.self.state l.self.executor;
       state : l.self.state ≡ l.initial.self.state;
       ends : l.at-end ≡ length l.self.state.log;
       behind : length l.self.executor.undos ≤ l.at;

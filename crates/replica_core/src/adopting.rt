@@ -2,7 +2,7 @@ ghost use Rattle.std.specs.Prelude.{◌≡◌, ◌≤◌, ◌++◌, OnOk, IfOk};
 ghost use Rattle.nop_types.specs.declared.limits.TheConstants.{NUMBER_END};
 ghost use Rattle.nop_types.specs.Ranges.{ViewFits, NextFits, LogFits};
 ghost use Rattle.replica_core.specs.Moves.{adopted, adopt, open_with};
-ghost use Rattle.replica_core.specs.Within.{Runs};
+ghost use Rattle.replica_core.specs.Within.{IsRunning, Does};
 
 use crate::ReplicaState;
 use crate::member::Member;
@@ -34,13 +34,11 @@ impl<H: Host> Member<H> {
     /// Takes part in a view from what it starts with, and replies again for each request above the sync point.
     #[tactic(auto, unfolding(crate::specs::Moves::adopt))]
     pub fn adopt(&mut self, view: View, next: u64, log: Log) -> Result<(), NoMemory>
-        requires runs { Runs H.state H.meaning H.undo_of self.old.state self.old.executor }
+        requires runs { IsRunning H.Host self.old }
         requires view { ViewFits view }
         requires next { NextFits next }
         requires log { LogFits log }
-        ensures runs { OnOk result (Runs H.state H.meaning H.undo_of self.new.state self.new.executor) }
-        ensures state { OnOk result (self.new.state ≡ (adopt H.meaning self.old.state view next log).0) }
-        ensures sends { OnOk result (self.new.sends ≡ self.old.sends ++ (adopt H.meaning self.old.state view next log).1) }
+        ensures { OnOk result (Does H.Host self.old self.new (λ s. adopt H.meaning s view next log)) }
     {
         let sync_point = self.state.sync.sync_point();
         self.go_back(sync_point);
@@ -50,14 +48,13 @@ impl<H: Host> Member<H> {
         self.drain()
     }
 
-    /// Tells all others what the view starts with, and takes part in it.
-    pub fn open_with(&mut self, start: Start) -> Result<(), NoMemory>
-        requires runs { Runs H.state H.meaning H.undo_of self.old.state self.old.executor }
+    /// Opens the view with what it starts with: all others are told, and the replica takes part in it.
+    pub fn open_view(&mut self, start: Start) -> Result<(), NoMemory>
+        requires runs { IsRunning H.Host self.old }
         requires next { NextFits start.next }
         requires log { LogFits start.log }
-        ensures runs { OnOk result (Runs H.state H.meaning H.undo_of self.new.state self.new.executor) }
-        ensures state { OnOk result (self.new.state ≡ (open_with H.meaning self.old.state start.next start.log).0) }
-        ensures sends { OnOk result (self.new.sends ≡ self.old.sends ++ (open_with H.meaning self.old.state start.next start.log).1) }
+        ensures { OnOk result
+            (Does H.Host self.old self.new (λ s. open_with H.meaning s start.next start.log)) }
     {
         let Start { next, log } = start;
         let told = log.try_clone()?;
