@@ -1,5 +1,6 @@
 -- How many messages a row sends to other replicas, and that it keeps the configuration.
-use Rattle.std.proofs.Common.{◌≡◌, ◌==◌, ◌≤◌, ℕ, zero, suc, ◌+◌, ◌-◌, Bool, true, false, Option, Some, None, refl, sym, ap, subst, ◌∙◌, arith, List, [], ◌∷◌, ◌++◌, length, drop, zero-add}
+use Rattle.std.proofs.Common.{◌≡◌, ◌==◌, ◌≤◌, ℕ, zero, suc, ◌+◌, ◌-◌, Bool, true, false, Option, Some, None, refl, sym, ap, subst, ◌∙◌}
+use Rattle.std.proofs.Common.{arith, List, [], ◌∷◌, ◌++◌, length, drop, zero-add}
 use Rattle.std.specs.Prelude.{not, nat_le, nat_lt, ◌&&◌}
 use Rattle.std.proofs.lemmas.Bool.Decides.{nat_tests}
 use Rattle.nop_types.specs.declared.limits.TheConstants.{NUMBER_END}
@@ -35,7 +36,10 @@ use Rattle.replica_core.specs.declared.state.ReplicaState.{ReplicaState}
 use Rattle.replica_core.specs.State.{others, leads, is_normal, drains, waits, has_room, may_append}
 use Rattle.replica_core.specs.Sends.{Effect, still, then_do, when, to_leader, to_all, to_all_if, message_count}
 use Rattle.replica_core.specs.Replies.{reply_to, reply_if, leader_reply, reply_for, replies_to, replies_above}
-use Rattle.replica_core.specs.Moves.{ask_if, gap_opened, open_gap, write_gap, add_gap, drain_drop, drain_at, drain_by, drain, entered, enter_as, enter, change_told, adopted, adopt, open_with, open_view, open_if_enough, overlaid, overlay, open_sync, commit_if, count_sync_vote, queue, keep_change, count_gap_vote, logged, appended, begin_session}
+use Rattle.replica_core.specs.Moves.{ask_if, gap_opened, open_gap, write_gap, add_gap, drain_drop, drain_at, drain_by, drain, entered}
+use Rattle.replica_core.specs.Moves.{enter_as, enter, change_told, adopted, adopt, open_with, open_view, open_if_enough, overlaid, overlay}
+use Rattle.replica_core.specs.Moves.{open_sync, commit_if, count_sync_vote, queue, keep_change, count_gap_vote, logged, appended}
+use Rattle.replica_core.specs.Moves.{begin_session}
 use Rattle.replica_core.specs.Rows as rows
 use Rattle.replica_core.specs.Messages.{
   Arrival,
@@ -82,7 +86,8 @@ still_few n s = record { few = omega arith; config = refl }
 changed_few : (n : ℕ) (s t : ReplicaState) → t.config ≡ s.config → Few n s (still t)
 changed_few n s t e = record { few = omega arith; config = e }
 
-then_few : {s : ReplicaState} {e : Effect} (f : ReplicaState → Effect) (i j n : ℕ) → i + j ≤ n → Few i s e → Few j e.0 (f e.0) → Few n s (then_do e f)
+then_few : {s : ReplicaState} {e : Effect} (f : ReplicaState → Effect) (i j n : ℕ) → i + j ≤ n → Few i s e → Few j e.0 (f e.0)
+    → Few n s (then_do e f)
 then_few {s} {e} f i j n h first second =
     let sum = count_append e.1 (f e.0).1 in
     let a = first.few in
@@ -99,7 +104,8 @@ leader_none : (s : ReplicaState) (slot : ℕ) (r : Request) (o : Option (List �
 leader_none s slot r None = refl
 leader_none s slot r (Some result) = refl
 
-reply_none_if : {S : Type 0} (m : Meaning S) (b : Bool) (s : ReplicaState) (slot : ℕ) (r : Request) → message_count (reply_if m b s slot r) ≡ 0
+reply_none_if : {S : Type 0} (m : Meaning S) (b : Bool) (s : ReplicaState) (slot : ℕ) (r : Request)
+    → message_count (reply_if m b s slot r) ≡ 0
 reply_none_if m true s slot r = leader_none s slot r (result_at m s.log slot)
 reply_none_if m false s slot r = refl
 
@@ -136,7 +142,8 @@ leader_few s t u body e = record { few = omega arith; config = e }
 
 -- ---- drains
 
-replied_few : {S : Type 0} (m : Meaning S) (s t : ReplicaState) (slot : ℕ) (r : Request) → t.config ≡ s.config → Few 0 s (t, reply_to m t slot r)
+replied_few : {S : Type 0} (m : Meaning S) (s t : ReplicaState) (slot : ℕ) (r : Request) → t.config ≡ s.config
+    → Few 0 s (t, reply_to m t slot r)
 replied_few m s t slot r e = let none = reply_none m t slot r in record { few = omega (arith, none); config = e }
 
 -- nobody has to vote, or the gap waits
@@ -158,14 +165,17 @@ gap_waits s e = let more = votes_wanted (others s) e in rw more
 record Rests (again : ReplicaState → Effect) : Type 0 where
   rests : (t : ReplicaState) → drains t ≡ false → again t ≡ still t
 
-gap_few_if : (b : Bool) (again : ReplicaState → Effect) (s : ReplicaState) → (others s == 0) ≡ b → AlwaysFew 1 again → Rests again → Few 1 s (then_do (open_gap s) again)
+gap_few_if : (b : Bool) (again : ReplicaState → Effect) (s : ReplicaState) → (others s == 0) ≡ b → AlwaysFew 1 again → Rests again
+    → Few 1 s (then_do (open_gap s) again)
 unfolding open_gap
 gap_few_if true again s e few rests =
-    let none : message_count (to_all s (bodies.GapCommit (length s.log + 1))) ≡ 0 = ap (λ (b : Bool). message_count (to_all_if b s (bodies.GapCommit (length s.log + 1)))) e in
+    let none : message_count (to_all s (bodies.GapCommit (length s.log + 1))) ≡ 0 =
+    ap (λ (b : Bool). message_count (to_all_if b s (bodies.GapCommit (length s.log + 1)))) e in
     then_few again 0 1 1 (omega arith) (record { few = omega (arith, none); config = refl }) (few.at (gap_opened s))
 gap_few_if false again s e few rests =
     then_few again 1 0 1 (omega arith) (all_few s (gap_opened s) (bodies.GapCommit (length s.log + 1)) refl)
-    (subst (λ (x : Effect). Few 0 (gap_opened s) x) (sym (rests.rests (gap_opened s) (no_drain (gap_opened s) (gap_waits s e)))) (still_few 0 (gap_opened s)))
+    (subst (λ (x : Effect). Few 0 (gap_opened s) x) (sym (rests.rests (gap_opened s) (no_drain (gap_opened s) (gap_waits s e))))
+    (still_few 0 (gap_opened s)))
 
 ask_few : (b : Bool) (s : ReplicaState) → Few 1 s (ask_if b s)
 ask_few true s = still_few 1 s
@@ -175,8 +185,10 @@ drop_few : (b : Bool) (again : ReplicaState → Effect) (s : ReplicaState) → A
 drop_few true again s few rests = gap_few_if (others s == 0) again s refl few rests
 drop_few false again s few rests = ask_few (s.asked == length s.log + 1) s
 
-drain_at_few : {S : Type 0} (m : Meaning S) (again : ReplicaState → Effect) (s : ReplicaState) (b : Bool) (front : Front) → AlwaysFew 1 again → Rests again → Few 1 s (drain_at m again s b front)
-drain_at_few m again s true (Message r) few rests = then_few again 0 1 1 (omega arith) (replied_few m s (logged s r) (length s.log + 1) r refl) (few.at (logged s r))
+drain_at_few : {S : Type 0} (m : Meaning S) (again : ReplicaState → Effect) (s : ReplicaState) (b : Bool) (front : Front)
+    → AlwaysFew 1 again → Rests again → Few 1 s (drain_at m again s b front)
+drain_at_few m again s true (Message r) few rests =
+    then_few again 0 1 1 (omega arith) (replied_few m s (logged s r) (length s.log + 1) r refl) (few.at (logged s r))
 drain_at_few m again s true Dropped few rests = drop_few (leads s) again s few rests
 drain_at_few m again s true Nothing few rests = still_few 1 s
 drain_at_few m again s false front few rests = still_few 1 s
@@ -187,7 +199,8 @@ drain_rests m (suc room) = record { rests = λ t e. ap (λ (b : Bool). drain_at 
 
 drain_by_few : {S : Type 0} (m : Meaning S) (room : ℕ) → AlwaysFew 1 (drain_by m room)
 drain_by_few m zero = record { at = still_few 1 }
-drain_by_few m (suc room) = record { at = λ s. drain_at_few m (drain_by m room) s (drains s) (front_of s.receiver) (drain_by_few m room) (drain_rests m room) }
+drain_by_few m (suc room) =
+    record { at = λ s. drain_at_few m (drain_by m room) s (drains s) (front_of s.receiver) (drain_by_few m room) (drain_rests m room) }
 
 drain_few : {S : Type 0} (m : Meaning S) (s : ReplicaState) → Few 1 s (drain m s)
 unfolding drain
@@ -220,15 +233,19 @@ adopt_few m s v x l =
     and_drain m 0 (record { few = omega (arith, none); config = refl })
 
 open_with_few : {S : Type 0} (m : Meaning S) (s : ReplicaState) (x : ℕ) (l : List Entry) → Few 2 s (open_with m s x l)
-open_with_few m s x l = then_few (λ t. adopt m t t.view x l) 1 1 2 (omega arith) (all_few s s (bodies.StartView x l) refl) (adopt_few m s s.view x l)
+open_with_few m s x l =
+    then_few (λ t. adopt m t t.view x l) 1 1 2 (omega arith) (all_few s s (bodies.StartView x l) refl) (adopt_few m s s.view x l)
 
 open_if_few : {S : Type 0} (m : Meaning S) (o : Option Gathering) (s : ReplicaState) → Few 2 s (open_if_enough m o s)
 open_if_few m None s = still_few 2 s
-open_if_few m (Some g) s = when_few 2 (nat_lt g.f (length g.changes)) (open_view m g) s (open_with_few m s (start_of g.view g.changes).next (start_of g.view g.changes).log)
+open_if_few m (Some g) s =
+    when_few 2 (nat_lt g.f (length g.changes)) (open_view m g) s
+    (open_with_few m s (start_of g.view g.changes).next (start_of g.view g.changes).log)
 
 enter_view_few : {S : Type 0} (m : Meaning S) (s : ReplicaState) (v : View) → Few 4 s (rows.enter_view m v s)
 unfolding rows.enter_view
-enter_view_few m s v = then_few (λ t. open_if_enough m t.changes t) 2 2 4 (omega arith) (enter_few s v) (open_if_few m (enter s v).0.changes (enter s v).0)
+enter_view_few m s v =
+    then_few (λ t. open_if_enough m t.changes t) 2 2 4 (omega arith) (enter_few s v) (open_if_few m (enter s v).0.changes (enter s v).0)
 
 enter_and_drain_few : {S : Type 0} (m : Meaning S) (v : View) (s : ReplicaState) → Few 5 s (rows.enter_and_drain m v s)
 enter_and_drain_few m v s = and_drain m 4 (enter_view_few m s v)
@@ -248,7 +265,9 @@ request_few m s v = when_few 5 (not (is_view (join_of s.view v) s.view)) _ s (en
 
 gather_few : {S : Type 0} (m : Meaning S) (o : Option Gathering) (c : peer.Change) (s : ReplicaState) → Few 2 s (rows.gather m o c s)
 gather_few m None c s = still_few 2 s
-gather_few m (Some g) c s = then_few (λ t. open_if_enough m t.changes t) 0 2 2 (omega arith) (changed_few 0 s (keep_change s g c).0 refl) (open_if_few m (keep_change s g c).0.changes (keep_change s g c).0)
+gather_few m (Some g) c s =
+    then_few (λ t. open_if_enough m t.changes t) 0 2 2 (omega arith) (changed_few 0 s (keep_change s g c).0 refl)
+    (open_if_few m (keep_change s g c).0.changes (keep_change s g c).0)
 
 gather_by_few : {S : Type 0} (m : Meaning S) (status : Phase) (c : peer.Change) (s : ReplicaState) → Few 2 s (rows.gather_by m status c s)
 gather_by_few m Change c s = gather_few m s.changes c s
@@ -258,15 +277,18 @@ view_change_few : {S : Type 0} (m : Meaning S) (s : ReplicaState) (v : View) (c 
 unfolding rows.view_change
 view_change_few m s v c =
     let t : ReplicaState = (rows.view_change_request m v s).0 in
-    then_few (rows.take_change m v c) 5 2 7 (omega arith) (request_few m s v) (when_few 2 (is_view v t.view && leads t) _ t (gather_by_few m t.status c t))
+    then_few (rows.take_change m v c) 5 2 7 (omega arith) (request_few m s v)
+    (when_few 2 (is_view v t.view && leads t) _ t (gather_by_few m t.status c t))
 
-start_view_few : {S : Type 0} (m : Meaning S) (s : ReplicaState) (q : ℕ) (v : View) (x : ℕ) (l : List Entry) → Few 1 s (rows.start_view m q v x l s)
+start_view_few : {S : Type 0} (m : Meaning S) (s : ReplicaState) (q : ℕ) (v : View) (x : ℕ) (l : List Entry)
+    → Few 1 s (rows.start_view m q v x l s)
 unfolding rows.start_view
 start_view_few m s q v x l = when_few 1 (rows.may_adopt s q v l) _ s (adopt_few m s v x l)
 
 gap_commit_if_few : {S : Type 0} (m : Meaning S) (a b : Bool) (k : ℕ) (s : ReplicaState) → Few 2 s (rows.gap_commit_if m a b k s)
 gap_commit_if_few m true b k s = and_drain m 1 (leader_few s (write_gap (rows.hear s) k).0 (rows.hear s) (bodies.GapRep k) refl)
-gap_commit_if_few m false true k s = and_drain m 1 (leader_few s (add_gap (rows.hear s)).0 (rows.hear s) (bodies.GapRep (length s.log + 1)) refl)
+gap_commit_if_few m false true k s =
+    and_drain m 1 (leader_few s (add_gap (rows.hear s)).0 (rows.hear s) (bodies.GapRep (length s.log + 1)) refl)
 gap_commit_if_few m false false k s = still_few 2 s
 
 gap_commit_few : {S : Type 0} (m : Meaning S) (k : ℕ) (s : ReplicaState) → Few 2 s (rows.gap_commit m k s)
@@ -289,7 +311,8 @@ overlay_few m s l =
 prepare_few : {S : Type 0} (m : Meaning S) (l : List Entry) (s : ReplicaState) → Few 2 s (rows.sync_prepare m l s)
 unfolding rows.sync_prepare
 prepare_few m l s =
-    when_few 2 (nat_le (s.next + (length l - length s.log)) NUMBER_END) (λ t. then_do (overlay m (rows.hear t) l) (drain m)) s (and_drain m 1 (same refl (overlay_few m (rows.hear s) l)))
+    when_few 2 (nat_le (s.next + (length l - length s.log)) NUMBER_END) (λ t. then_do (overlay m (rows.hear t) l) (drain m)) s
+    (and_drain m 1 (same refl (overlay_few m (rows.hear s) l)))
 
 commit_few : (k : ℕ) (s : ReplicaState) → Few 0 s (rows.sync_commit k s)
 unfolding rows.sync_commit
@@ -378,7 +401,8 @@ on_message_few m s p = when_few 8 (is_other s p.sender) _ s (on_body_few m p p.b
 
 suspect_few : {S : Type 0} (m : Meaning S) (s : ReplicaState) → Few 8 s (rows.suspect m s)
 suspect_few m s =
-    when_few 8 (nat_lt s.view.leader rows.last_leader) (rows.enter_and_drain m (rows.next_leader s.view)) s (more 5 8 (omega arith) (enter_and_drain_few m (rows.next_leader s.view) s))
+    when_few 8 (nat_lt s.view.leader rows.last_leader) (rows.enter_and_drain m (rows.next_leader s.view)) s
+    (more 5 8 (omega arith) (enter_and_drain_few m (rows.next_leader s.view) s))
 
 watch_few : {S : Type 0} (m : Meaning S) (a b : Bool) (s : ReplicaState) → Few 8 s (rows.watch_if m a b s)
 watch_few m true b s = still_few 8 s
@@ -414,7 +438,8 @@ sync_if_few false s = all_few s s (bodies.SyncCommit s.sync.sync_point) refl
 sync_few : (s : ReplicaState) → Few 1 s (rows.sync s)
 unfolding rows.sync
 sync_few s =
-    when_few 1 (is_normal s.status && (leads s && not (waits s.gap))) (λ t. rows.sync_if (nat_lt t.sync.sync_point (length t.log)) t) s (sync_if_few (nat_lt s.sync.sync_point (length s.log)) s)
+    when_few 1 (is_normal s.status && (leads s && not (waits s.gap))) (λ t. rows.sync_if (nat_lt t.sync.sync_point (length t.log)) t) s
+    (sync_if_few (nat_lt s.sync.sync_point (length s.log)) s)
 
 tick_few : {S : Type 0} (m : Meaning S) (s : ReplicaState) (tick : Tick) → Few 8 s (ticked m tick s)
 tick_few m s ticks.Suspect = suspect_few m s

@@ -1,5 +1,6 @@
 -- What stands in front is taken, one after the other.
-use Rattle.std.proofs.Common.{◌≡◌, ℕ, zero, suc, ◌+◌, ◌-◌, ◌<◌, ◌≤◌, Bool, true, false, List, [], ◌∷◌, ◌++◌, length, Some, refl, sym, ap, ◌∙◌, arith, append_assoc, length-append}
+use Rattle.std.proofs.Common.{◌≡◌, ℕ, zero, suc, ◌+◌, ◌-◌, ◌<◌, ◌≤◌, Bool, true, false, List, [], ◌∷◌, ◌++◌, length, Some, refl, sym, ap}
+use Rattle.std.proofs.Common.{◌∙◌, arith, append_assoc, length-append}
 use Rattle.std.specs.Prelude.{◌&&◌, not, nat_lt, slice_get}
 use Rattle.std.proofs.lemmas.Bool.{ltb-true, le-ltb, and_parts}
 use Rattle.std.proofs.lemmas.List.{append-nil}
@@ -61,18 +62,24 @@ module _ {S : Type 0} (m : Meaning S) where
   pub replies_filled : (s : ReplicaState) (r : Request) → reply_at m (appended s (Req r)) (length s.log + 1) ≡ (fill m s r).1
   replies_filled s r = ap (reply_for_any m (appended s (Req r)) (length s.log + 1)) (last_slot s.log (Req r))
 
-  pub took_goes_on : (s u t : ReplicaState) (k : ℕ) (old new : List Sending) → drains s ≡ true → TookFront s u → t ≡ u → k ≡ length u.log → new ≡ old ++ reply_at m u k → GoesOn m s old t new
+  pub took_goes_on : (s u t : ReplicaState) (k : ℕ) (old new : List Sending) → drains s ≡ true → TookFront s u → t ≡ u → k ≡ length u.log
+      → new ≡ old ++ reply_at m u k → GoesOn m s old t new
   took_goes_on s u t k old new may took same last sent =
       let state : t ≡ logged s took.request = same ∙ took.state in
       record {
         drains = may;
         filled = ap (λ (p : ReplicaState). length p.log) state ∙ length-append s.log (Req took.request ∷ []);
         more = (take_front m s took.request).1;
-        turn = λ again. ap (drain_at m again s true) took.front ∙ ap (λ (p : ReplicaState). then_do (p, (take_front m s took.request).1) again) (sym state);
-        sends = sent ∙ ap (λ (n : ℕ). old ++ reply_at m u n) last ∙ ap (λ (p : ReplicaState). old ++ reply_at m p (length p.log)) took.state ∙ ap (λ (xs : List Sending). old ++ xs) (replies_last s took.request);
+        turn =
+            λ again. ap (drain_at m again s true) took.front
+            ∙ ap (λ (p : ReplicaState). then_do (p, (take_front m s took.request).1) again) (sym state);
+        sends =
+            sent ∙ ap (λ (n : ℕ). old ++ reply_at m u n) last ∙ ap (λ (p : ReplicaState). old ++ reply_at m p (length p.log)) took.state
+            ∙ ap (λ (xs : List Sending). old ++ xs) (replies_last s took.request);
       }
 
-  opens : (s t : ReplicaState) (old new : List Sending) → drains s ≡ true → front_of s.receiver ≡ Dropped → leads s ≡ true → t ≡ (open_gap s).0 → new ≡ old ++ (open_gap s).1 → GoesOn m s old t new
+  opens : (s t : ReplicaState) (old new : List Sending) → drains s ≡ true → front_of s.receiver ≡ Dropped → leads s ≡ true
+      → t ≡ (open_gap s).0 → new ≡ old ++ (open_gap s).1 → GoesOn m s old t new
   opens s t old new may drop leading state sent = record {
     drains = may;
     filled = ap (λ (p : ReplicaState). length p.log) state ∙ opened_len s;
@@ -85,7 +92,8 @@ module _ {S : Type 0} (m : Meaning S) where
   }
 
   -- no request was there, and the leader opened a gap
-  pub opens_goes_on : (s u t : ReplicaState) (old new : List Sending) → drains s ≡ true → TookNone s u → front_of u.receiver ≡ Dropped → leads u ≡ true → t ≡ (open_gap u).0 → new ≡ old ++ (open_gap u).1 → GoesOn m s old t new
+  pub opens_goes_on : (s u t : ReplicaState) (old new : List Sending) → drains s ≡ true → TookNone s u → front_of u.receiver ≡ Dropped
+      → leads u ≡ true → t ≡ (open_gap u).0 → new ≡ old ++ (open_gap u).1 → GoesOn m s old t new
   opens_goes_on s u t old new may none drop leading state sent =
       opens s t old new may
       (ap (λ (p : ReplicaState). front_of p.receiver) (sym none.state) ∙ drop)
@@ -113,7 +121,8 @@ module _ {S : Type 0} (m : Meaning S) where
       ∙ h.turn (drain_by m n)
       ∙ ap (λ k. then_do (t, h.more) (λ p. drain_by m k p)) (sym rest)
 
-  stops_by : (n : ℕ) (s t : ReplicaState) (old new : List Sending) (h : Stops m s old t new) → n ≡ MAX_SLOTS - length s.log → drain_by m n s ≡ (t, h.more)
+  stops_by : (n : ℕ) (s t : ReplicaState) (old new : List Sending) (h : Stops m s old t new) → n ≡ MAX_SLOTS - length s.log
+      → drain_by m n s ≡ (t, h.more)
   stops_by zero s t old new h is =
       let full : drains s ≡ false = is_full s (omega arith) in
       ap (λ b. drain_at m (still) s b (front_of s.receiver)) (sym full) ∙ h.turn still
@@ -123,14 +132,16 @@ module _ {S : Type 0} (m : Meaning S) where
   unfolding drain
   stops s t old new h = stops_by (MAX_SLOTS - length s.log) s t old new h refl
 
-  pub goes_on : (s t : ReplicaState) (old new : List Sending) (total : Effect) → GoesOn m s old t new → then_do (s, old) (drain m) ≡ total → then_do (t, new) (drain m) ≡ total
+  pub goes_on : (s t : ReplicaState) (old new : List Sending) (total : Effect) → GoesOn m s old t new → then_do (s, old) (drain m) ≡ total
+      → then_do (t, new) (drain m) ≡ total
   goes_on s t old new total h so_far =
       ap (λ (xs : List Sending). then_do (t, xs) (drain m)) h.sends
       ∙ ap (λ (xs : List Sending). ((drain m t).0, xs)) (append_assoc old h.more (drain m t).1)
       ∙ ap (λ (e : Effect). (e.0, old ++ e.1)) (sym (turns s t old new h))
       ∙ so_far
 
-  pub ended : (s t : ReplicaState) (old new : List Sending) (total : Effect) → Stops m s old t new → then_do (s, old) (drain m) ≡ total → (t, new) ≡ total
+  pub ended : (s t : ReplicaState) (old new : List Sending) (total : Effect) → Stops m s old t new → then_do (s, old) (drain m) ≡ total
+      → (t, new) ≡ total
   ended s t old new total h so_far =
       ap (λ (xs : List Sending). (t, xs)) h.sends ∙ ap (λ (e : Effect). (e.0, old ++ e.1)) (sym (stops s t old new h)) ∙ so_far
 
@@ -142,7 +153,8 @@ module _ {S : Type 0} (m : Meaning S) where
   unfolding drain
   full s le = full_by (MAX_SLOTS - length s.log) s (is_full s le)
 
-  pub is_done : (s : ReplicaState) (old : List Sending) (total : Effect) → MAX_SLOTS ≤ length s.log → then_do (s, old) (drain m) ≡ total → (s, old) ≡ total
+  pub is_done : (s : ReplicaState) (old : List Sending) (total : Effect) → MAX_SLOTS ≤ length s.log → then_do (s, old) (drain m) ≡ total
+      → (s, old) ≡ total
   is_done s old total le so_far =
       ap (λ (xs : List Sending). (s, xs)) (sym (append-nil old)) ∙ ap (λ (e : Effect). (e.0, old ++ e.1)) (sym (full s le)) ∙ so_far
 
@@ -167,7 +179,8 @@ module _ {S : Type 0} (m : Meaning S) where
     sends = refl;
   })
 
-  takes_by : (s : ReplicaState) (r : Request) → drains s ≡ true → front_of s.receiver ≡ Message r → drain m s ≡ then_do (take_front m s r) (drain m)
+  takes_by : (s : ReplicaState) (r : Request) → drains s ≡ true → front_of s.receiver ≡ Message r
+      → drain m s ≡ then_do (take_front m s r) (drain m)
   takes_by s r may front = turns s (logged s r) [] (take_front m s r).1 (record {
     drains = may;
     filled = length-append s.log (Req r ∷ []);
@@ -176,7 +189,8 @@ module _ {S : Type 0} (m : Meaning S) where
     sends = refl;
   })
 
-  opens_by : (s : ReplicaState) → drains s ≡ true → front_of s.receiver ≡ Dropped → leads s ≡ true → drain m s ≡ then_do (open_gap s) (drain m)
+  opens_by : (s : ReplicaState) → drains s ≡ true → front_of s.receiver ≡ Dropped → leads s ≡ true
+      → drain m s ≡ then_do (open_gap s) (drain m)
   opens_by s may drop leading = turns s (open_gap s).0 [] (open_gap s).1 (record {
     drains = may;
     filled = opened_len s;

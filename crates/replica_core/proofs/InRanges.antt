@@ -1,5 +1,6 @@
 -- Rows stay in their ranges, and send only what is in its ranges.
-use Rattle.std.proofs.Common.{◌≡◌, ◌≢◌, ◌<◌, ◌≤◌, ◌+◌, ◌-◌, ℕ, zero, suc, Bool, true, false, cond, Option, Some, None, refl, sym, ap, subst, ◌∙◌, arith, List, [], ◌∷◌, ◌++◌, length, take, drop}
+use Rattle.std.proofs.Common.{◌≡◌, ◌≢◌, ◌<◌, ◌≤◌, ◌+◌, ◌-◌, ℕ, zero, suc, Bool, true, false, cond, Option, Some, None, refl, sym, ap, subst}
+use Rattle.std.proofs.Common.{◌∙◌, arith, List, [], ◌∷◌, ◌++◌, length, take, drop}
 use Rattle.std.specs.Prelude.{◌&&◌, ◌==◌, not, nat_lt, nat_le, max, IfSome, slice_get}
 use Rattle.std.specs.List.{AllByRecursion}
 use Rattle.std.specs.FinMap as finite
@@ -25,7 +26,8 @@ use Rattle.nop_types.specs.declared.peer.Body.TheVariants as bodies
 use Rattle.nop_types.specs.Execution.{result_at}
 use Rattle.nop_types.specs.Lists.{slot_of}
 use Rattle.nop_types.specs.Meaning.{Meaning}
-use Rattle.nop_types.specs.Ranges.{ViewFits, RequestFits, EntryFits, LogFits, NextFits, SlotFits, StampedFits, BodyFits, PeerFits, ReplyFits, ChangeFits}
+use Rattle.nop_types.specs.Ranges.{ViewFits, RequestFits, EntryFits, LogFits, NextFits, SlotFits, StampedFits, BodyFits, PeerFits}
+use Rattle.nop_types.specs.Ranges.{ReplyFits, ChangeFits}
 use Rattle.nop_types.specs.Views.{is_view, join_of}
 use Rattle.gap_agree.specs.Agreement.{Agreement, counted}
 use Rattle.gap_agree.specs.Votes.{vote_of}
@@ -33,7 +35,8 @@ use Rattle.log_merge.specs.Starting as starting
 use Rattle.oum_receiver.specs.declared.verdict.Verdict.{Verdict}
 use Rattle.oum_receiver.specs.declared.verdict.Verdict.TheVariants as verdicts
 use Rattle.oum_receiver.specs.Front.{Front, Nothing, Message, Dropped, front_at}
-use Rattle.oum_receiver.specs.Receiving.{Receiving, QueuedFits, IsSound, opened, judged, verdict_of, offered, front_of, front_taken, advanced}
+use Rattle.oum_receiver.specs.Receiving.{Receiving, QueuedFits, IsSound, opened, judged, verdict_of, offered, front_of, front_taken}
+use Rattle.oum_receiver.specs.Receiving.{advanced}
 use Rattle.oum_receiver.proofs.Sound.{opened_sound, offered_sound, taken_sound, advanced_sound}
 use Rattle.replica_log.proofs.InRanges.{front_fits}
 use Rattle.slot_lookup.specs.Answer.{Answer, Found, GapAgain, Begin, answer_by, may_begin, answer_of}
@@ -147,9 +150,11 @@ still_stays : (s : ReplicaState) → IsGood s → StaysInRanges (still s)
 still_stays s g = good (still s) g tt
 
 then_stays : (e : Effect) (f : ReplicaState → Effect) → StaysInRanges e → StaysInRanges (f e.0) → StaysInRanges (then_do e f)
-then_stays e f first then = record { within = then.within; receiver = then.receiver; sends = all_behind e.1 (f e.0).1 first.sends then.sends }
+then_stays e f first then =
+    record { within = then.within; receiver = then.receiver; sends = all_behind e.1 (f e.0).1 first.sends then.sends }
 
-when_stays : (b : Bool) (f : ReplicaState → Effect) (s : ReplicaState) → IsGood s → (b ≡ true → StaysInRanges (f s)) → StaysInRanges (when b f s)
+when_stays : (b : Bool) (f : ReplicaState → Effect) (s : ReplicaState) → IsGood s → (b ≡ true → StaysInRanges (f s))
+    → StaysInRanges (when b f s)
 when_stays true f s g h = h refl
 when_stays false f s g h = still_stays s g
 
@@ -193,7 +198,8 @@ not_nothing x r e none = absurd cc
 
 -- ---- changes of one field
 
-with_receiver : (s : ReplicaState) (x : Receiving) → IsWithin s → (s.status ≡ Normal → x.next ≡ s.next) → IsWithin (record s { receiver = x })
+with_receiver : (s : ReplicaState) (x : Receiving) → IsWithin s → (s.status ≡ Normal → x.next ≡ s.next)
+    → IsWithin (record s { receiver = x })
 with_receiver s x w next = record {
   number = w.number;
   few = w.few;
@@ -329,7 +335,8 @@ closed_fits : (s : Synchronisation) (x : Round) (v : Vote) → SyncFits s → x.
 closed_fits s x Settled fits le = record { sync_point = le; syncing = tt; prepared = fits.prepared }
 closed_fits s x Waiting fits le = record { sync_point = fits.sync_point; syncing = le; prepared = fits.prepared }
 
-counted_in_fits : (s : Synchronisation) (o : Option Round) (q len : ℕ) → SyncFits s → IfSome o (λ r. r.len ≤ MAX_SLOTS) → SyncFits (synchronisation.counted_in s o q len)
+counted_in_fits : (s : Synchronisation) (o : Option Round) (q len : ℕ) → SyncFits s → IfSome o (λ r. r.len ≤ MAX_SLOTS)
+    → SyncFits (synchronisation.counted_in s o q len)
 counted_in_fits s None q len fits le = fits
 counted_in_fits s (Some x) q len fits le =
     closed_fits s (synchronisation.with_vote_for x q len) (synchronisation.round_vote s.f x q len) fits (round_fits x q len le)
@@ -337,7 +344,8 @@ counted_in_fits s (Some x) q len fits le =
 module _ {S : Type 0} (m : Meaning S) (short : ResultsShort m) where
   -- ---- replies
 
-  leader_reply_fits : (s : ReplicaState) (slot : ℕ) (r : Request) (o : Option (List ℕ)) → IsWithin s → SlotFits slot → RequestFits r → ((result : List ℕ) → o ≡ Some result → length result ≤ Rattle.nop_types.specs.declared.limits.TheConstants.MAX_RESULT_BYTES)
+  leader_reply_fits : (s : ReplicaState) (slot : ℕ) (r : Request) (o : Option (List ℕ)) → IsWithin s → SlotFits slot → RequestFits r
+      → ((result : List ℕ) → o ≡ Some result → length result ≤ Rattle.nop_types.specs.declared.limits.TheConstants.MAX_RESULT_BYTES)
       → AllByRecursion SendingFits (leader_reply s slot r o)
   leader_reply_fits s slot r None w place fits few = tt
   leader_reply_fits s slot r (Some result) w place fits few = (
@@ -355,8 +363,10 @@ module _ {S : Type 0} (m : Meaning S) (short : ResultsShort m) where
     tt,
   )
 
-  reply_if_fits : (b : Bool) (s : ReplicaState) (slot : ℕ) (r : Request) → IsWithin s → SlotFits slot → RequestFits r → AllByRecursion SendingFits (reply_if m b s slot r)
-  reply_if_fits true s slot r w place fits = leader_reply_fits s slot r (result_at m s.log slot) w place fits (λ result e. short s.log slot result e)
+  reply_if_fits : (b : Bool) (s : ReplicaState) (slot : ℕ) (r : Request) → IsWithin s → SlotFits slot → RequestFits r
+      → AllByRecursion SendingFits (reply_if m b s slot r)
+  reply_if_fits true s slot r w place fits =
+      leader_reply_fits s slot r (result_at m s.log slot) w place fits (λ result e. short s.log slot result e)
   reply_if_fits false s slot r w place fits = (
     record {
       replica = number_small s w;
@@ -372,15 +382,18 @@ module _ {S : Type 0} (m : Meaning S) (short : ResultsShort m) where
     tt,
   )
 
-  reply_fits : (s : ReplicaState) (slot : ℕ) (r : Request) → IsWithin s → SlotFits slot → RequestFits r → AllByRecursion SendingFits (reply_to m s slot r)
+  reply_fits : (s : ReplicaState) (slot : ℕ) (r : Request) → IsWithin s → SlotFits slot → RequestFits r
+      → AllByRecursion SendingFits (reply_to m s slot r)
   unfolding reply_to
   reply_fits s slot r w place fits = reply_if_fits (leads s) s slot r w place fits
 
-  entry_reply_fits : (s : ReplicaState) (slot : ℕ) (e : Entry) → IsWithin s → SlotFits slot → EntryFits e → AllByRecursion SendingFits (reply_for m s slot e)
+  entry_reply_fits : (s : ReplicaState) (slot : ℕ) (e : Entry) → IsWithin s → SlotFits slot → EntryFits e
+      → AllByRecursion SendingFits (reply_for m s slot e)
   entry_reply_fits s slot NoOp w place fits = tt
   entry_reply_fits s slot (Req r) w place fits = reply_fits s slot r w place fits
 
-  replies_fit : (s : ReplicaState) (slot : ℕ) (l : List Entry) → IsWithin s → 1 ≤ slot → slot + length l ≤ MAX_SLOTS + 1 → AllByRecursion EntryFits l → AllByRecursion SendingFits (replies_to m s slot l)
+  replies_fit : (s : ReplicaState) (slot : ℕ) (l : List Entry) → IsWithin s → 1 ≤ slot → slot + length l ≤ MAX_SLOTS + 1
+      → AllByRecursion EntryFits l → AllByRecursion SendingFits (replies_to m s slot l)
   replies_fit s slot [] w low high fits = tt
   replies_fit s slot (e ∷ l) w low high fits =
       all_behind (reply_for m s slot e) (replies_to m s (slot + 1) l)
@@ -404,7 +417,9 @@ module _ {S : Type 0} (m : Meaning S) (short : ResultsShort m) where
   queue_stays s p g fits =
       still_stays (record s { receiver = offered s.receiver p })
       (record {
-        within = with_receiver s (offered s.receiver p) g.within (λ normal. judged_next (verdict_of s.receiver p) s.receiver p ∙ g.within.receiver normal);
+        within =
+            with_receiver s (offered s.receiver p) g.within
+            (λ normal. judged_next (verdict_of s.receiver p) s.receiver p ∙ g.within.receiver normal);
         sound = offered_sound s.receiver p g.sound fits;
       })
 
@@ -431,25 +446,33 @@ module _ {S : Type 0} (m : Meaning S) (short : ResultsShort m) where
   open_gap_stays : (s : ReplicaState) → IsGood s → may_append s ≡ true → StaysInRanges (open_gap s)
   unfolding open_gap
   open_gap_stays s g may =
-      good (gap_opened s, to_all s (bodies.GapCommit (length s.log + 1))) (gap_good s g may) (to_all_fits s (bodies.GapCommit (length s.log + 1)) g.within (next_slot s (room_of s may)))
+      good (gap_opened s, to_all s (bodies.GapCommit (length s.log + 1))) (gap_good s g may)
+      (to_all_fits s (bodies.GapCommit (length s.log + 1)) g.within (next_slot s (room_of s may)))
 
   add_gap_stays : (s : ReplicaState) → IsGood s → may_append s ≡ true → StaysInRanges (add_gap s)
   add_gap_stays s g may =
-      good (add_gap s) (append_good s NoOp g tt may) (to_replica_fits s _ (bodies.GapRep (length s.log + 1)) g.within (next_slot s (room_of s may)))
+      good (add_gap s) (append_good s NoOp g tt may)
+      (to_replica_fits s _ (bodies.GapRep (length s.log + 1)) g.within (next_slot s (room_of s may)))
 
   write_gap_stays : (s : ReplicaState) (k : ℕ) → IsGood s → SlotFits k → StaysInRanges (write_gap s k)
   write_gap_stays s k g fits =
-      good (write_gap s k) (record { within = noop_within s k g.within; sound = g.sound }) (to_replica_fits s _ (bodies.GapRep k) g.within fits)
+      good (write_gap s k) (record { within = noop_within s k g.within; sound = g.sound })
+      (to_replica_fits s _ (bodies.GapRep k) g.within fits)
 
   gap_vote_stays : (s : ReplicaState) (g : Agreement) (q : ℕ) → IsGood s → SlotFits g.slot → StaysInRanges (count_gap_vote s g q)
   gap_vote_stays s g q h fits =
       still_stays (record s { gap = waiting (counted g q) })
-      (record { within = with_gap s (waiting (counted g q)) h.within (waiting_fits (counted g q) fits (vote_of (counted g q).f (counted g q).votes)); sound = h.sound })
+      (record {
+        within = with_gap s (waiting (counted g q)) h.within
+            (waiting_fits (counted g q) fits (vote_of (counted g q).f (counted g q).votes));
+        sound = h.sound;
+      })
 
   ask_if_stays : (b : Bool) (s : ReplicaState) → IsGood s → length s.log < MAX_SLOTS → StaysInRanges (ask_if b s)
   ask_if_stays true s g less = still_stays s g
   ask_if_stays false s g less =
-      good (ask_if false s) (record { within = with_asked s (length s.log + 1) g.within; sound = g.sound }) (to_replica_fits s _ (bodies.SlotLookup (length s.log + 1)) g.within (next_slot s less))
+      good (ask_if false s) (record { within = with_asked s (length s.log + 1) g.within; sound = g.sound })
+      (to_replica_fits s _ (bodies.SlotLookup (length s.log + 1)) g.within (next_slot s less))
 
   -- ---- what stands in front is taken
 
@@ -477,13 +500,15 @@ module _ {S : Type 0} (m : Meaning S) (short : ResultsShort m) where
       let same = g.within.receiver d.normal in
       omega (arith, high, same)
 
-  take_stays : (s : ReplicaState) (r : Request) → IsGood s → drains s ≡ true → front_of s.receiver ≡ Message r → StaysInRanges (take_front m s r)
+  take_stays : (s : ReplicaState) (r : Request) → IsGood s → drains s ≡ true → front_of s.receiver ≡ Message r
+      → StaysInRanges (take_front m s r)
   take_stays s r g may front =
       let d = drains_of s may in
       let some = not_nothing s.receiver r front in
       let fits = message_fits s.receiver r g.sound front in
       let w = logged_within s r g.within fits may (more_of s g d some) in
-      good (take_front m s r) (record { within = w; sound = taken_sound s.receiver g.sound some }) (reply_fits (logged s r) (length s.log + 1) r w (next_slot s d.room) fits)
+      good (take_front m s r) (record { within = w; sound = taken_sound s.receiver g.sound some })
+      (reply_fits (logged s r) (length s.log + 1) r w (next_slot s d.room) fits)
 
   room_test : (s : ReplicaState) → length s.log < MAX_SLOTS → s.next < NUMBER_END → may_append s ≡ true
   room_test s room more = grind (arith, nat_tests, room, more)
@@ -491,14 +516,16 @@ module _ {S : Type 0} (m : Meaning S) (short : ResultsShort m) where
   drop_apart : (x : Receiving) → front_of x ≡ Dropped → front_of x ≢ Nothing
   drop_apart x e none = absurd cc
 
-  drain_drop_stays : (b : Bool) (again : ReplicaState → Effect) (s : ReplicaState) → AlwaysStays again → IsGood s → drains s ≡ true → front_of s.receiver ≡ Dropped → StaysInRanges (drain_drop again b s)
+  drain_drop_stays : (b : Bool) (again : ReplicaState → Effect) (s : ReplicaState) → AlwaysStays again → IsGood s → drains s ≡ true
+      → front_of s.receiver ≡ Dropped → StaysInRanges (drain_drop again b s)
   drain_drop_stays true again s rest g may drop =
       let d = drains_of s may in
       let opens = open_gap_stays s g (room_test s d.room (more_of s g d (drop_apart s.receiver drop))) in
       then_stays (open_gap s) again opens (rest.at (open_gap s).0 (after (open_gap s) opens))
   drain_drop_stays false again s rest g may drop = ask_if_stays (s.asked == length s.log + 1) s g (drains_of s may).room
 
-  drain_at_stays : (again : ReplicaState → Effect) (s : ReplicaState) (b : Bool) (front : Front) → AlwaysStays again → IsGood s → drains s ≡ b → front_of s.receiver ≡ front → StaysInRanges (drain_at m again s b front)
+  drain_at_stays : (again : ReplicaState → Effect) (s : ReplicaState) (b : Bool) (front : Front) → AlwaysStays again → IsGood s
+      → drains s ≡ b → front_of s.receiver ≡ front → StaysInRanges (drain_at m again s b front)
   drain_at_stays again s true (Message r) rest g may e =
       let takes = take_stays s r g may e in
       then_stays (take_front m s r) again takes (rest.at (take_front m s r).0 (after (take_front m s r) takes))
@@ -508,7 +535,8 @@ module _ {S : Type 0} (m : Meaning S) (short : ResultsShort m) where
 
   drain_by_stays : (room : ℕ) → AlwaysStays (drain_by m room)
   drain_by_stays zero = record { at = still_stays }
-  drain_by_stays (suc room) = record { at = λ s g. drain_at_stays (drain_by m room) s (drains s) (front_of s.receiver) (drain_by_stays room) g refl refl }
+  drain_by_stays (suc room) =
+      record { at = λ s g. drain_at_stays (drain_by m room) s (drains s) (front_of s.receiver) (drain_by_stays room) g refl refl }
 
   drain_stays : (s : ReplicaState) → IsGood s → StaysInRanges (drain m s)
   unfolding drain
@@ -521,7 +549,8 @@ module _ {S : Type 0} (m : Meaning S) (short : ResultsShort m) where
 
   listening_sound : (s : ReplicaState) (v : View) → IsSound s.receiver → IsSound (listening s v)
   listening_sound s v sound =
-      cond_sound (nat_lt s.view.session v.session && not (s.receiver.session == v.session)) (opened v.session 1) s.receiver (opened_sound v.session 1 (omega arith)) sound
+      cond_sound (nat_lt s.view.session v.session && not (s.receiver.session == v.session)) (opened v.session 1) s.receiver
+      (opened_sound v.session 1 (omega arith)) sound
 
   enter_as_stays : (b : Bool) (s : ReplicaState) → IsGood s → StaysInRanges (enter_as b s)
   enter_as_stays true s g =
@@ -537,27 +566,35 @@ module _ {S : Type 0} (m : Meaning S) (short : ResultsShort m) where
   enter_stays : (s : ReplicaState) (v : View) → IsGood s → ViewFits v → StaysInRanges (enter s v)
   unfolding enter
   enter_stays s v g fits =
-      enter_as_stays (leads (entered s v)) (entered s v) (record { within = entered_within s v g.within fits; sound = listening_sound s v g.sound })
+      enter_as_stays (leads (entered s v)) (entered s v)
+      (record { within = entered_within s v g.within fits; sound = listening_sound s v g.sound })
 
-  adopted_good : (s : ReplicaState) (v : View) (x : ℕ) (l : List Entry) → IsGood s → ViewFits v → NextFits x → LogFits l → IsGood (adopted s v x l)
+  adopted_good : (s : ReplicaState) (v : View) (x : ℕ) (l : List Entry) → IsGood s → ViewFits v → NextFits x → LogFits l
+      → IsGood (adopted s v x l)
   adopted_good s v x l g view next log = record {
     within = adopted_within s v x l g.within view next log;
-    sound = cond_sound (nat_lt s.receiver.session v.session) (opened v.session x) (advanced s.receiver x) (opened_sound v.session x next.high) (advanced_sound s.receiver x g.sound next.high);
+    sound =
+        cond_sound (nat_lt s.receiver.session v.session) (opened v.session x) (advanced s.receiver x) (opened_sound v.session x next.high)
+        (advanced_sound s.receiver x g.sound next.high);
   }
 
-  adopt_stays : (s : ReplicaState) (v : View) (x : ℕ) (l : List Entry) → IsGood s → ViewFits v → NextFits x → LogFits l → StaysInRanges (adopt m s v x l)
+  adopt_stays : (s : ReplicaState) (v : View) (x : ℕ) (l : List Entry) → IsGood s → ViewFits v → NextFits x → LogFits l
+      → StaysInRanges (adopt m s v x l)
   unfolding adopt
   adopt_stays s v x l g view next log =
       let a = adopted_good s v x l g view next log in
-      and_drain (adopted s v x l, replies_above m (adopted s v x l) s.sync.sync_point) (good _ a (above_fit (adopted s v x l) s.sync.sync_point a.within g.within.sync_point))
+      and_drain (adopted s v x l, replies_above m (adopted s v x l) s.sync.sync_point)
+      (good _ a (above_fit (adopted s v x l) s.sync.sync_point a.within g.within.sync_point))
 
   open_with_stays : (s : ReplicaState) (x : ℕ) (l : List Entry) → IsGood s → NextFits x → LogFits l → StaysInRanges (open_with m s x l)
   open_with_stays s x l g next log =
       then_stays (s, to_all s (bodies.StartView x l)) (λ t. adopt m t t.view x l)
-      (good (s, to_all s (bodies.StartView x l)) g (to_all_fits s (bodies.StartView x l) g.within (record { number = next; entries = log })))
+      (good (s, to_all s (bodies.StartView x l)) g
+      (to_all_fits s (bodies.StartView x l) g.within (record { number = next; entries = log })))
       (adopt_stays s s.view x l g g.within.view next log)
 
-  open_if_stays : (o : Option Gathering) (s : ReplicaState) → IsGood s → IfSome o (λ g. AllByRecursion ChangeFits g.changes) → StaysInRanges (open_if_enough m o s)
+  open_if_stays : (o : Option Gathering) (s : ReplicaState) → IsGood s → IfSome o (λ g. AllByRecursion ChangeFits g.changes)
+      → StaysInRanges (open_if_enough m o s)
   open_if_stays None s h fits = still_stays s h
   open_if_stays (Some g) s h fits =
       when_stays (nat_lt g.f (length g.changes)) (open_view m g) s h
@@ -570,12 +607,14 @@ module _ {S : Type 0} (m : Meaning S) (short : ResultsShort m) where
   unfolding rows.enter_view
   enter_view_stays s v g fits =
       let first = enter_stays s v g fits in
-      then_stays (enter s v) (λ t. open_if_enough m t.changes t) first (open_if_stays (enter s v).0.changes (enter s v).0 (after (enter s v) first) first.within.changes)
+      then_stays (enter s v) (λ t. open_if_enough m t.changes t) first
+      (open_if_stays (enter s v).0.changes (enter s v).0 (after (enter s v) first) first.within.changes)
 
   enter_and_drain_stays : (v : View) (s : ReplicaState) → IsGood s → ViewFits v → StaysInRanges (rows.enter_and_drain m v s)
   enter_and_drain_stays v s g fits = and_drain (rows.enter_view m v s) (enter_view_stays s v g fits)
 
-  keep_stays : (s : ReplicaState) (g : Gathering) (c : peer.Change) → IsGood s → AllByRecursion ChangeFits g.changes → ChangeFits c → StaysInRanges (keep_change s g c)
+  keep_stays : (s : ReplicaState) (g : Gathering) (c : peer.Change) → IsGood s → AllByRecursion ChangeFits g.changes → ChangeFits c
+      → StaysInRanges (keep_change s g c)
   keep_stays s g c h all fits =
       still_stays (record s { changes = Some (gathering.counted g c) })
       (record { within = gathers_within s (gathering.counted g c) h.within (counted_fits g c all fits); sound = h.sound })
@@ -588,17 +627,24 @@ module _ {S : Type 0} (m : Meaning S) (short : ResultsShort m) where
       let high = w.next.high in
       good (resend_start s q) g
       (to_replica_fits s q (bodies.StartView (s.next - (length s.log - s.base)) (take s.base s.log)) w
-      (record { number = record { low = omega (arith, start, base); high = omega (arith, high) }; entries = front_fits s.log s.base w.log }))
+      (record {
+        number = record { low = omega (arith, start, base); high = omega (arith, high) };
+        entries = front_fits s.log s.base w.log;
+      }))
 
   -- ---- rows of packets and view changes
 
-  session_fits : (s : ReplicaState) (p : Stamped) → IsWithin s → StampedFits p → ViewFits (record { leader = s.view.leader; session = p.session })
+  session_fits : (s : ReplicaState) (p : Stamped) → IsWithin s → StampedFits p
+      → ViewFits (record { leader = s.view.leader; session = p.session })
   session_fits s p w fits = record { leader = w.view.leader; session = fits.session }
 
   stamped_if_stays : (b : Bool) (s : ReplicaState) (p : Stamped) → IsGood s → StampedFits p → StaysInRanges (rows.stamped_if m b p s)
   stamped_if_stays true s p g fits =
       enter_and_drain_stays (record { leader = s.view.leader; session = p.session }) (begin_session s p)
-      (record { within = begun_within s p g.within; sound = offered_sound (opened p.session 1) p (opened_sound p.session 1 (omega arith)) fits })
+      (record {
+        within = begun_within s p g.within;
+        sound = offered_sound (opened p.session 1) p (opened_sound p.session 1 (omega arith)) fits;
+      })
       (session_fits s p g.within fits)
   stamped_if_stays false s p g fits = and_drain (queue s p) (queue_stays s p g fits)
 
@@ -621,17 +667,21 @@ module _ {S : Type 0} (m : Meaning S) (short : ResultsShort m) where
       when_stays (not (is_view (join_of s.view v) s.view)) (rows.enter_and_drain m (join_of s.view v)) s g
       (λ _. enter_and_drain_stays (join_of s.view v) s g (join_fits s.view v g.within.view fits))
 
-  gather_stays : (o : Option Gathering) (c : peer.Change) (s : ReplicaState) → IsGood s → IfSome o (λ g. AllByRecursion ChangeFits g.changes) → ChangeFits c → StaysInRanges (rows.gather m o c s)
+  gather_stays : (o : Option Gathering) (c : peer.Change) (s : ReplicaState) → IsGood s
+      → IfSome o (λ g. AllByRecursion ChangeFits g.changes) → ChangeFits c → StaysInRanges (rows.gather m o c s)
   gather_stays None c s h all fits = still_stays s h
   gather_stays (Some g) c s h all fits =
       let kept = keep_stays s g c h all fits in
-      then_stays (keep_change s g c) (λ t. open_if_enough m t.changes t) kept (open_if_stays (keep_change s g c).0.changes (keep_change s g c).0 (after (keep_change s g c) kept) kept.within.changes)
+      then_stays (keep_change s g c) (λ t. open_if_enough m t.changes t) kept
+      (open_if_stays (keep_change s g c).0.changes (keep_change s g c).0 (after (keep_change s g c) kept) kept.within.changes)
 
-  gather_by_stays : (status : Phase) (c : peer.Change) (s : ReplicaState) → IsGood s → ChangeFits c → StaysInRanges (rows.gather_by m status c s)
+  gather_by_stays : (status : Phase) (c : peer.Change) (s : ReplicaState) → IsGood s → ChangeFits c
+      → StaysInRanges (rows.gather_by m status c s)
   gather_by_stays Change c s g fits = gather_stays s.changes c s g g.within.changes fits
   gather_by_stays Normal c s g fits = resend_start_stays s c.sender g
 
-  view_change_stays : (s : ReplicaState) (v : View) (c : peer.Change) → IsGood s → ViewFits v → ChangeFits c → StaysInRanges (rows.view_change m v c s)
+  view_change_stays : (s : ReplicaState) (v : View) (c : peer.Change) → IsGood s → ViewFits v → ChangeFits c
+      → StaysInRanges (rows.view_change m v c s)
   unfolding rows.view_change
   view_change_stays s v c g view fits =
       let first = request_stays s v g view in
@@ -640,14 +690,16 @@ module _ {S : Type 0} (m : Meaning S) (short : ResultsShort m) where
       then_stays (rows.view_change_request m v s) (rows.take_change m v c) first
       (when_stays (is_view v t.view && leads t) (rows.gather_by m t.status c) t h (λ _. gather_by_stays t.status c t h fits))
 
-  start_view_stays : (s : ReplicaState) (q : ℕ) (v : View) (x : ℕ) (l : List Entry) → IsGood s → ViewFits v → NextFits x → LogFits l → StaysInRanges (rows.start_view m q v x l s)
+  start_view_stays : (s : ReplicaState) (q : ℕ) (v : View) (x : ℕ) (l : List Entry) → IsGood s → ViewFits v → NextFits x → LogFits l
+      → StaysInRanges (rows.start_view m q v x l s)
   unfolding rows.start_view
   start_view_stays s q v x l g view next log =
       when_stays (rows.may_adopt s q v l) (λ t. adopt m t v x l) s g (λ _. adopt_stays s v x l g view next log)
 
   -- ---- rows of the leader's messages
 
-  gap_commit_if_stays : (a b : Bool) (k : ℕ) (s : ReplicaState) → IsGood s → SlotFits k → (b ≡ true → may_append s ≡ true) → StaysInRanges (rows.gap_commit_if m a b k s)
+  gap_commit_if_stays : (a b : Bool) (k : ℕ) (s : ReplicaState) → IsGood s → SlotFits k → (b ≡ true → may_append s ≡ true)
+      → StaysInRanges (rows.gap_commit_if m a b k s)
   gap_commit_if_stays true b k s g fits may = and_drain (write_gap (rows.hear s) k) (write_gap_stays (rows.hear s) k (hears s g) fits)
   gap_commit_if_stays false true k s g fits may = and_drain (add_gap (rows.hear s)) (add_gap_stays (rows.hear s) (hears s g) (may refl))
   gap_commit_if_stays false false k s g fits may = still_stays s g
@@ -655,15 +707,18 @@ module _ {S : Type 0} (m : Meaning S) (short : ResultsShort m) where
   gap_commit_stays : (k : ℕ) (s : ReplicaState) → IsGood s → SlotFits k → StaysInRanges (rows.gap_commit m k s)
   unfolding rows.gap_commit
   gap_commit_stays k s g fits =
-      gap_commit_if_stays (nat_le k (length s.log)) ((k == length s.log + 1) && may_append s) k s g fits (λ e. (and_parts (k == length s.log + 1) (may_append s) e).1)
+      gap_commit_if_stays (nat_le k (length s.log)) ((k == length s.log + 1) && may_append s) k s g fits
+      (λ e. (and_parts (k == length s.log + 1) (may_append s) e).1)
 
   found_stays : (k : ℕ) (r : Request) (s : ReplicaState) → IsGood s → RequestFits r → StaysInRanges (rows.found m k r s)
   unfolding rows.found
   found_stays k r s g fits =
       when_stays ((k == length s.log + 1) && may_append s) (λ t. then_do (fill m (rows.hear t) r) (drain m)) s g
-      (λ e. and_drain (fill m (rows.hear s) r) (fill_stays (rows.hear s) r (hears s g) fits (and_parts (k == length s.log + 1) (may_append s) e).1))
+      (λ e. and_drain (fill m (rows.hear s) r)
+      (fill_stays (rows.hear s) r (hears s g) fits (and_parts (k == length s.log + 1) (may_append s) e).1))
 
-  overlay_stays : (s : ReplicaState) (l : List Entry) → IsGood s → LogFits l → s.next + (length l - length s.log) ≤ NUMBER_END → StaysInRanges (overlay m s l)
+  overlay_stays : (s : ReplicaState) (l : List Entry) → IsGood s → LogFits l → s.next + (length l - length s.log) ≤ NUMBER_END
+      → StaysInRanges (overlay m s l)
   unfolding overlay
   overlay_stays s l g fits high =
       let w = overlaid_within s l g.within fits high in
@@ -688,13 +743,17 @@ module _ {S : Type 0} (m : Meaning S) (short : ResultsShort m) where
       let h = hears s g in
       when_stays (nat_le k s.sync.prepared) (λ t. obey (rows.hear t) k) s g
       (λ _. still_stays (record (rows.hear s) { sync = synchronisation.committed s.sync k })
-      (record { within = with_sync (rows.hear s) (synchronisation.committed s.sync k) h.within (committed_fits s.sync k (sync_of s g.within)); sound = g.sound }))
+      (record {
+        within = with_sync (rows.hear s) (synchronisation.committed s.sync k) h.within (committed_fits s.sync k (sync_of s g.within));
+        sound = g.sound;
+      }))
 
   -- ---- rows of followers' messages
 
   begin_gap_stays : (s : ReplicaState) → IsGood s → length s.log < MAX_SLOTS → StaysInRanges (rows.begin_gap m s)
   begin_gap_stays s g room =
-      when_stays (nat_lt s.next NUMBER_END) (λ t. then_do (open_gap t) (drain m)) s g (λ e. and_drain (open_gap s) (open_gap_stays s g (room_test s room (below _ _ e))))
+      when_stays (nat_lt s.next NUMBER_END) (λ t. then_do (open_gap t) (drain m)) s g
+      (λ e. and_drain (open_gap s) (open_gap_stays s g (room_test s room (below _ _ e))))
 
   -- what the answer to a lookup says of the log
   record AnswerFits (s : ReplicaState) (r : Answer) : Type 0 where
@@ -710,8 +769,10 @@ module _ {S : Type 0} (m : Meaning S) (short : ResultsShort m) where
   slot_entry_at l zero e fits is = absurd cc
   slot_entry_at l (suc i) e fits is = slot_entry l i e fits is
 
-  answer_by_fits : (s : ReplicaState) (o : Option Entry) (b : Bool) → ((e : Entry) → o ≡ Some e → EntryFits e) → (b ≡ true → length s.log < MAX_SLOTS) → AnswerFits s (answer_by o b)
-  answer_by_fits s (Some (Req r)) b fits room = record { found = λ q e. (let same : r ≡ q = cc in subst RequestFits same (fits (Req r) refl)); room = λ e. absurd cc }
+  answer_by_fits : (s : ReplicaState) (o : Option Entry) (b : Bool) → ((e : Entry) → o ≡ Some e → EntryFits e)
+      → (b ≡ true → length s.log < MAX_SLOTS) → AnswerFits s (answer_by o b)
+  answer_by_fits s (Some (Req r)) b fits room =
+      record { found = λ q e. (let same : r ≡ q = cc in subst RequestFits same (fits (Req r) refl)); room = λ e. absurd cc }
   answer_by_fits s (Some NoOp) b fits room = record { found = λ q e. absurd cc; room = λ e. absurd cc }
   answer_by_fits s None true fits room = record { found = λ q e. absurd cc; room = λ e. room refl }
   answer_by_fits s None false fits room = record { found = λ q e. absurd cc; room = λ e. absurd cc }
@@ -721,10 +782,13 @@ module _ {S : Type 0} (m : Meaning S) (short : ResultsShort m) where
       answer_by_fits s (slot_of s.log k) (may_begin s.log (waits s.gap) k) (λ e is. slot_entry_at s.log k e w.log.each is)
       (λ e. below _ _ (and_parts (not (waits s.gap)) (nat_lt (length s.log) MAX_SLOTS) (and_parts (k == length s.log + 1) _ e).1).1)
 
-  lookup_by_stays : (r : Answer) (q k : ℕ) (s : ReplicaState) → IsGood s → SlotFits k → AnswerFits s r → StaysInRanges (rows.slot_lookup_by m r q k s)
+  lookup_by_stays : (r : Answer) (q k : ℕ) (s : ReplicaState) → IsGood s → SlotFits k → AnswerFits s r
+      → StaysInRanges (rows.slot_lookup_by m r q k s)
   lookup_by_stays (Found r) q k s g place fits =
-      good (rows.slot_lookup_by m (Found r) q k s) g (to_replica_fits s q (bodies.Found k r) g.within (record { place = place; request = fits.found r refl }))
-  lookup_by_stays GapAgain q k s g place fits = good (rows.slot_lookup_by m GapAgain q k s) g (to_replica_fits s q (bodies.GapCommit k) g.within place)
+      good (rows.slot_lookup_by m (Found r) q k s) g
+      (to_replica_fits s q (bodies.Found k r) g.within (record { place = place; request = fits.found r refl }))
+  lookup_by_stays GapAgain q k s g place fits =
+      good (rows.slot_lookup_by m GapAgain q k s) g (to_replica_fits s q (bodies.GapCommit k) g.within place)
   lookup_by_stays Begin q k s g place fits = begin_gap_stays s g (fits.room refl)
   lookup_by_stays answers.Nothing q k s g place fits = still_stays s g
 
@@ -732,10 +796,12 @@ module _ {S : Type 0} (m : Meaning S) (short : ResultsShort m) where
   unfolding rows.slot_lookup
   lookup_stays q k s g fits = lookup_by_stays (answer_of s.log (waits s.gap) k) q k s g fits (answer_fits s k g.within)
 
-  gap_reply_at_stays : (o : Option Agreement) (q k : ℕ) (s : ReplicaState) → IsGood s → IfSome o (λ g. SlotFits g.slot) → StaysInRanges (rows.gap_reply_at m o q k s)
+  gap_reply_at_stays : (o : Option Agreement) (q k : ℕ) (s : ReplicaState) → IsGood s → IfSome o (λ g. SlotFits g.slot)
+      → StaysInRanges (rows.gap_reply_at m o q k s)
   gap_reply_at_stays None q k s h fits = still_stays s h
   gap_reply_at_stays (Some g) q k s h fits =
-      when_stays (g.slot == k) (λ t. then_do (count_gap_vote t g q) (drain m)) s h (λ _. and_drain (count_gap_vote s g q) (gap_vote_stays s g q h fits))
+      when_stays (g.slot == k) (λ t. then_do (count_gap_vote t g q) (drain m)) s h
+      (λ _. and_drain (count_gap_vote s g q) (gap_vote_stays s g q h fits))
 
   gap_reply_stays : (q k : ℕ) (s : ReplicaState) → IsGood s → StaysInRanges (rows.gap_reply m q k s)
   unfolding rows.gap_reply
@@ -748,7 +814,11 @@ module _ {S : Type 0} (m : Meaning S) (short : ResultsShort m) where
   sync_reply_stays : (q k : ℕ) (s : ReplicaState) → IsGood s → k ≤ MAX_SLOTS → StaysInRanges (rows.sync_reply q k s)
   sync_reply_stays q k s g le =
       good (rows.sync_reply q k s)
-      (record { within = with_sync s (synchronisation.counted s.sync q k) g.within (counted_in_fits s.sync s.sync.syncing q k (sync_of s g.within) g.within.syncing); sound = g.sound })
+      (record {
+        within = with_sync s (synchronisation.counted s.sync q k) g.within
+            (counted_in_fits s.sync s.sync.syncing q k (sync_of s g.within) g.within.syncing);
+        sound = g.sound;
+      })
       (commit_if_fits s k (synchronisation.vote_for s.sync q k) g.within le)
 
   -- ---- all messages
@@ -788,7 +858,8 @@ module _ {S : Type 0} (m : Meaning S) (short : ResultsShort m) where
   on_body_stays : (p : Peer) (body : Body) (s : ReplicaState) → IsGood s → PeerFits p → BodyFits body → StaysInRanges (on_body m p body s)
   on_body_stays p bodies.ViewChangeReq s g p_fits fits = request_stays s p.view g p_fits.view
   on_body_stays p (bodies.ViewChange u x l) s g p_fits fits =
-      view_change_stays s p.view (record { sender = p.sender; last_normal = u; next = x; log = l }) g p_fits.view (record { sender = p_fits.sender; rest = fits })
+      view_change_stays s p.view (record { sender = p.sender; last_normal = u; next = x; log = l }) g p_fits.view
+      (record { sender = p_fits.sender; rest = fits })
   on_body_stays p (bodies.StartView x l) s g p_fits fits = start_view_stays s p.sender p.view x l g p_fits.view fits.number fits.entries
   on_body_stays p (bodies.GapCommit k) s g p_fits fits = in_view_stays p.sender p.view (bodies.GapCommit k) s g fits
   on_body_stays p (bodies.Found k r) s g p_fits fits = in_view_stays p.sender p.view (bodies.Found k r) s g fits
@@ -807,14 +878,16 @@ module _ {S : Type 0} (m : Meaning S) (short : ResultsShort m) where
   suspect_stays : (s : ReplicaState) → IsGood s → StaysInRanges (rows.suspect m s)
   suspect_stays s g =
       when_stays (nat_lt s.view.leader rows.last_leader) (rows.enter_and_drain m (rows.next_leader s.view)) s g
-      (λ e. let less = below _ _ e in enter_and_drain_stays (rows.next_leader s.view) s g (record { leader = omega (arith, less); session = g.within.view.session }))
+      (λ e. let less = below _ _ e in
+      enter_and_drain_stays (rows.next_leader s.view) s g (record { leader = omega (arith, less); session = g.within.view.session }))
 
   watch_stays : (a b : Bool) (s : ReplicaState) → IsGood s → StaysInRanges (rows.watch_if m a b s)
   watch_stays true b s g = still_stays s g
   watch_stays false true s g = still_stays (record s { heard = false }) (record { within = with_heard s false g.within; sound = g.sound })
   watch_stays false false s g = suspect_stays s g
 
-  gap_again_stays : (o : Option Agreement) (s : ReplicaState) → IsGood s → IfSome o (λ g. SlotFits g.slot) → StaysInRanges (rows.gap_again o s)
+  gap_again_stays : (o : Option Agreement) (s : ReplicaState) → IsGood s → IfSome o (λ g. SlotFits g.slot)
+      → StaysInRanges (rows.gap_again o s)
   gap_again_stays None s h fits = still_stays s h
   gap_again_stays (Some g) s h fits = good (rows.gap_again (Some g) s) h (to_all_fits s (bodies.GapCommit g.slot) h.within fits)
 
@@ -823,16 +896,19 @@ module _ {S : Type 0} (m : Meaning S) (short : ResultsShort m) where
   lookup_again_stays (Message r) s g = still_stays s g
   lookup_again_stays Dropped s g =
       when_stays (has_room s) (λ t. (t, to_leader t (bodies.SlotLookup (length t.log + 1)))) s g
-      (λ e. good (s, to_leader s (bodies.SlotLookup (length s.log + 1))) g (to_replica_fits s _ (bodies.SlotLookup (length s.log + 1)) g.within (next_slot s (below _ _ e))))
+      (λ e. good (s, to_leader s (bodies.SlotLookup (length s.log + 1))) g
+      (to_replica_fits s _ (bodies.SlotLookup (length s.log + 1)) g.within (next_slot s (below _ _ e))))
 
   change_again_stays : (b : Bool) (s : ReplicaState) → IsGood s → StaysInRanges (rows.change_again b s)
   change_again_stays true s g = still_stays s g
   change_again_stays false s g =
-      good (s, change_told s) g (to_replica_fits s _ (bodies.ViewChange s.last_normal s.next s.log) g.within (own_change_fits s g.within).rest)
+      good (s, change_told s) g
+      (to_replica_fits s _ (bodies.ViewChange s.last_normal s.next s.log) g.within (own_change_fits s g.within).rest)
 
   resend_by_stays : (status : Phase) (b : Bool) (s : ReplicaState) → IsGood s → StaysInRanges (rows.resend_by status b s)
   resend_by_stays Change b s g =
-      then_stays (s, to_all s bodies.ViewChangeReq) (rows.change_again b) (good (s, to_all s bodies.ViewChangeReq) g (to_all_fits s bodies.ViewChangeReq g.within tt)) (change_again_stays b s g)
+      then_stays (s, to_all s bodies.ViewChangeReq) (rows.change_again b)
+      (good (s, to_all s bodies.ViewChangeReq) g (to_all_fits s bodies.ViewChangeReq g.within tt)) (change_again_stays b s g)
   resend_by_stays Normal true s g = gap_again_stays s.gap s g g.within.gap
   resend_by_stays Normal false s g = lookup_again_stays (front_of s.receiver) s g
 
@@ -843,7 +919,11 @@ module _ {S : Type 0} (m : Meaning S) (short : ResultsShort m) where
   sync_if_stays : (b : Bool) (s : ReplicaState) → IsGood s → StaysInRanges (rows.sync_if b s)
   sync_if_stays true s g =
       good (open_sync s)
-      (record { within = with_sync s (synchronisation.with_round s.sync (length s.log)) g.within (with_round_fits s.sync (length s.log) (sync_of s g.within) g.within.log.len); sound = g.sound })
+      (record {
+        within = with_sync s (synchronisation.with_round s.sync (length s.log)) g.within
+            (with_round_fits s.sync (length s.log) (sync_of s g.within) g.within.log.len);
+        sound = g.sound;
+      })
       (to_all_fits s (bodies.SyncPrepare s.log) g.within g.within.log)
   sync_if_stays false s g = good (repeat_commit s) g (to_all_fits s (bodies.SyncCommit s.sync.sync_point) g.within g.within.sync_point)
 

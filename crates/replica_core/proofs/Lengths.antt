@@ -22,7 +22,8 @@ entry_most (Req r) fits =
     let short = fits.op in
     omega (arith, exact, short)
 
-entries_most : (log : List Entry) → AllByRecursion EntryFits log → sum_by (λ e. length (entry_bytes e)) log ≤ (15 + MAX_OP_BYTES) * length log
+entries_most : (log : List Entry) → AllByRecursion EntryFits log
+    → sum_by (λ e. length (entry_bytes e)) log ≤ (15 + MAX_OP_BYTES) * length log
 entries_most [] fits = omega arith
 entries_most (e ∷ log) fits =
     let first = entry_most e fits.0 in

@@ -36,38 +36,46 @@ abbrev entering : ReplicaState → View → Receiving → ReplicaState
 entering s v x = record (left s) { view = v; status = Change; receiver = x }
 
 -- the receiver that is entered with
-with_packet : (s : ReplicaState) (p : Stamped) → s.view.session < p.session → listening (begin_session s p) (session_view s p) ≡ offered (opened p.session 1) p
+with_packet : (s : ReplicaState) (p : Stamped) → s.view.session < p.session
+    → listening (begin_session s p) (session_view s p) ≡ offered (opened p.session 1) p
 with_packet s p less =
-    let here : (offered (opened p.session 1) p).session ≡ p.session = judged_session (verdict_of (opened p.session 1) p) (opened p.session 1) p in
+    let here : (offered (opened p.session 1) p).session ≡ p.session =
+    judged_session (verdict_of (opened p.session 1) p) (opened p.session 1) p in
     let same : ((offered (opened p.session 1) p).session == p.session) ≡ true = grind (arith, nat_tests, here) in
     let newer : nat_lt s.view.session p.session ≡ true = grind (arith, nat_tests, less) in
     rw (same, newer) refl
 
-without_packet : (s : ReplicaState) (p : Stamped) → s.receiver.session ≡ s.view.session → s.view.session < p.session → listening s (session_view s p) ≡ opened p.session 1
+without_packet : (s : ReplicaState) (p : Stamped) → s.receiver.session ≡ s.view.session → s.view.session < p.session
+    → listening s (session_view s p) ≡ opened p.session 1
 without_packet s p at less =
     let apart : (s.receiver.session == p.session) ≡ false = grind (arith, nat_tests, at, less) in
     let newer : nat_lt s.view.session p.session ≡ true = grind (arith, nat_tests, less) in
     rw (apart, newer) refl
 
 -- what is sent does not look at the receiver
-sent_alike : (b : Bool) (s : ReplicaState) (v : View) (x y : Receiving) → to_all_if b (entering s v x) bodies.ViewChangeReq ≡ to_all_if b (entering s v y) bodies.ViewChangeReq
+sent_alike : (b : Bool) (s : ReplicaState) (v : View) (x y : Receiving)
+    → to_all_if b (entering s v x) bodies.ViewChangeReq ≡ to_all_if b (entering s v y) bodies.ViewChangeReq
 sent_alike true s v x y = refl
 sent_alike false s v x y = refl
 
-by_leading : (b : Bool) (s : ReplicaState) (v : View) (x : Receiving) (p : Stamped) → enter_as b (entering s v (offered x p)) ≡ then_do (enter_as b (entering s v x)) (λ t. queue t p)
+by_leading : (b : Bool) (s : ReplicaState) (v : View) (x : Receiving) (p : Stamped)
+    → enter_as b (entering s v (offered x p)) ≡ then_do (enter_as b (entering s v x)) (λ t. queue t p)
 by_leading true s v x p =
     ap (λ (xs : List Sending). ((enter_as true (entering s v (offered x p))).0, xs))
     (sent_alike (others s == 0) s v (offered x p) x ∙ sym (append-nil (enter_as true (entering s v x)).1))
 by_leading false s v x p =
     let told : List Sending = change_told (entering s v x) in
     ap (λ (xs : List Sending). (entering s v (offered x p), xs))
-    (ap (λ (xs : List Sending). xs ++ told) (sent_alike (others s == 0) s v (offered x p) x) ∙ sym (append-nil (enter_as false (entering s v x)).1))
+    (ap (λ (xs : List Sending). xs ++ told) (sent_alike (others s == 0) s v (offered x p) x)
+    ∙ sym (append-nil (enter_as false (entering s v x)).1))
 
-pub enters_then_queues : (s : ReplicaState) (p : Stamped) → s.receiver.session ≡ s.view.session → s.view.session < p.session → enter (begin_session s p) (session_view s p) ≡ then_do (enter s (session_view s p)) (λ t. queue t p)
+pub enters_then_queues : (s : ReplicaState) (p : Stamped) → s.receiver.session ≡ s.view.session → s.view.session < p.session
+    → enter (begin_session s p) (session_view s p) ≡ then_do (enter s (session_view s p)) (λ t. queue t p)
 unfolding enter
 enters_then_queues s p at less =
     let v = session_view s p in
-    let one : entered (begin_session s p) v ≡ entering s v (offered (opened p.session 1) p) = ap (λ (x : Receiving). entering s v x) (with_packet s p less) in
+    let one : entered (begin_session s p) v ≡ entering s v (offered (opened p.session 1) p) =
+    ap (λ (x : Receiving). entering s v x) (with_packet s p less) in
     let two : entering s v (opened p.session 1) ≡ entered s v = ap (λ (x : Receiving). entering s v x) (sym (without_packet s p at less)) in
     ap (λ (t : ReplicaState). enter_as (leads t) t) one
     ∙ by_leading (leads (entering s v (opened p.session 1))) s v (opened p.session 1) p

@@ -1,5 +1,6 @@
 -- What a view starts with, and entering one alone.
-use Rattle.std.proofs.Common.{◌≡◌, ◌<◌, ◌≤◌, Bool, true, false, List, [], ◌∷◌, ◌++◌, length, filter, refl, sym, ap, subst, ◌∙◌, arith, inl, inr, true≢false}
+use Rattle.std.proofs.Common.{◌≡◌, ◌<◌, ◌≤◌, Bool, true, false, List, [], ◌∷◌, ◌++◌, length, filter, refl, sym, ap, subst, ◌∙◌, arith, inl}
+use Rattle.std.proofs.Common.{inr, true≢false}
 use Rattle.std.specs.Prelude.{cond, ◌⊎◌, Option, Some, None, IfSome, nat_lt, ◌==◌, ◌&&◌}
 use Rattle.std.specs.List.{AllByRecursion}
 use Rattle.std.proofs.lemmas.Bool.{lt-ltb, ltb-true, le-ltb}
@@ -44,14 +45,16 @@ abbrev HasView : View → List Change → Type 0
 HasView v [] = ⊥
 HasView v (c ∷ cs) = (is_view c.last_normal v ≡ true) ⊎ HasView v cs
 
-next_low : (v : View) (cs : List Change) → AllByRecursion ChangeFits cs → HasView v cs → 1 ≤ greatest_next (filter (λ c. is_view c.last_normal v) cs)
+next_low : (v : View) (cs : List Change) → AllByRecursion ChangeFits cs → HasView v cs
+    → 1 ≤ greatest_next (filter (λ c. is_view c.last_normal v) cs)
 next_low v [] h some = absurd some
 next_low v (c ∷ cs) h some = at (is_view c.last_normal v) (next_low v cs h.1) some
   where
     low : 1 ≤ c.next
     low = h.0.rest.number.low
 
-    at : (b : Bool) → (HasView v cs → 1 ≤ greatest_next (filter (λ c. is_view c.last_normal v) cs)) → (b ≡ true) ⊎ HasView v cs → 1 ≤ greatest_next (cond b (c ∷ filter (λ c. is_view c.last_normal v) cs) (filter (λ c. is_view c.last_normal v) cs))
+    at : (b : Bool) → (HasView v cs → 1 ≤ greatest_next (filter (λ c. is_view c.last_normal v) cs)) → (b ≡ true) ⊎ HasView v cs
+        → 1 ≤ greatest_next (cond b (c ∷ filter (λ c. is_view c.last_normal v) cs) (filter (λ c. is_view c.last_normal v) cs))
     at true rest some = grind (arith, low)
     at false rest (inl e) = absurd cc
     at false rest (inr r) = rest r
@@ -67,7 +70,8 @@ is_same_view v = both (v.leader == v.leader) (v.session == v.session) (grind (ar
 lowest : (v : View) → outranks (record { leader = 0; session = 0 }) v ≡ false
 lowest v = grind (arith, nat_tests)
 
-greatest_of : (c : Change) (cs : List Change) (b : Bool) → (b ≡ true → HasView (greatest cs) cs) → HasView (cond b (greatest cs) c.last_normal) (c ∷ cs)
+greatest_of : (c : Change) (cs : List Change) (b : Bool) → (b ≡ true → HasView (greatest cs) cs)
+    → HasView (cond b (greatest cs) c.last_normal) (c ∷ cs)
 greatest_of c cs true rest = inr (rest refl)
 greatest_of c cs false rest = inl (is_same_view c.last_normal)
 
@@ -101,7 +105,9 @@ pub record IsOwn (s : ReplicaState) (g : Gathering) : Type 0 where
   pub one : length g.changes ≡ 1
 
 own_as : (b : Bool) (s : ReplicaState) (g : Gathering) → (enter_as b s).0.changes ≡ Some g → s.changes ≡ None → IsOwn (enter_as b s).0 g
-own_as true s g is none = let same = same_Some _ _ is in record { f = ap (λ (h : Gathering). h.f) (sym same); one = ap (λ (h : Gathering). length h.changes) (sym same) }
+own_as true s g is none =
+    let same = same_Some _
+    _ is in record { f = ap (λ (h : Gathering). h.f) (sym same); one = ap (λ (h : Gathering). length h.changes) (sym same) }
 own_as false s g is none = absurd cc
 
 pub own : (s : ReplicaState) (v : View) (g : Gathering) → (enter s v).0.changes ≡ Some g → IsOwn (enter s v).0 g
@@ -109,7 +115,8 @@ unfolding enter
 own s v g is = own_as (leads (entered s v)) (entered s v) g is refl
 
 module _ {S : Type 0} (m : Meaning S) where
-  by_gathering : (o : Option Gathering) (t : ReplicaState) → o ≡ t.changes → ((g : Gathering) → t.changes ≡ Some g → IsOwn t g) → 0 < others t → open_if_enough m o t ≡ still t
+  by_gathering : (o : Option Gathering) (t : ReplicaState) → o ≡ t.changes → ((g : Gathering) → t.changes ≡ Some g → IsOwn t g)
+      → 0 < others t → open_if_enough m o t ≡ still t
   by_gathering None t is owns more = refl
   by_gathering (Some g) t is owns more =
       let mine = owns g (sym is) in
@@ -119,10 +126,12 @@ module _ {S : Type 0} (m : Meaning S) where
   -- with others the view does not start at once
   pub enters_with_others : (s : ReplicaState) (v : View) → 0 < others (enter s v).0 → enter_view m v s ≡ enter s v
   unfolding enter_view
-  enters_with_others s v more = none_after (enter s v) (λ t. open_if_enough m t.changes t) (by_gathering (enter s v).0.changes (enter s v).0 refl (own s v) more)
+  enters_with_others s v more =
+      none_after (enter s v) (λ t. open_if_enough m t.changes t) (by_gathering (enter s v).0.changes (enter s v).0 refl (own s v) more)
 
   -- a replica that is alone starts it with what it has
-  pub enters_alone : (s : ReplicaState) (v : View) (g : Gathering) → (enter s v).0.changes ≡ Some g → g.f ≡ 0 → enter_view m v s ≡ then_do (enter s v) (open_view m g)
+  pub enters_alone : (s : ReplicaState) (v : View) (g : Gathering) → (enter s v).0.changes ≡ Some g → g.f ≡ 0
+      → enter_view m v s ≡ then_do (enter s v) (open_view m g)
   unfolding enter_view
   enters_alone s v g is none =
       let mine = own s v g is in
@@ -132,15 +141,19 @@ module _ {S : Type 0} (m : Meaning S) where
       ap (λ (x : Effect). (x.0, (enter s v).1 ++ x.1)) rest
 
   -- the same, with what the code has after each part
-  pub opens_alone : (s t p : ReplicaState) (v : View) (g : Gathering) (start : Start) → t ≡ (enter s v).0 → t.changes ≡ Some g → g.f ≡ 0 → p ≡ t → start ≡ started (start_of g.view g.changes) → enter_view m v s ≡ then_do (enter s v) (λ _. open_with m p start.next start.log)
+  pub opens_alone : (s t p : ReplicaState) (v : View) (g : Gathering) (start : Start) → t ≡ (enter s v).0 → t.changes ≡ Some g → g.f ≡ 0
+      → p ≡ t → start ≡ started (start_of g.view g.changes)
+      → enter_view m v s ≡ then_do (enter s v) (λ _. open_with m p start.next start.log)
   opens_alone s t p v g start e is none same begins =
       enters_alone s v g (ap (λ (q : ReplicaState). q.changes) (sym e) ∙ is) none
       ∙ ap (λ (x : Effect). (x.0, (enter s v).1 ++ x.1))
       (ap (λ (q : ReplicaState). open_view m g q) (sym e ∙ sym same) ∙ ap (λ (b : Start). open_with m p b.next b.log) (sym begins))
 
-pub start_fits : (g : Gathering) (start : Start) → AllByRecursion ChangeFits g.changes → 0 < length g.changes → start ≡ started (start_of g.view g.changes) → NextFits start.next × LogFits start.log
+pub start_fits : (g : Gathering) (start : Start) → AllByRecursion ChangeFits g.changes → 0 < length g.changes
+    → start ≡ started (start_of g.view g.changes) → NextFits start.next × LogFits start.log
 start_fits g start all some begins =
-    let fits : NextFits (started (start_of g.view g.changes)).next × LogFits (started (start_of g.view g.changes)).log = (opened_next_fits g.view g.changes all some, opened_log_fits g.view g.changes all) in
+    let fits : NextFits (started (start_of g.view g.changes)).next × LogFits (started (start_of g.view g.changes)).log =
+    (opened_next_fits g.view g.changes all some, opened_log_fits g.view g.changes all) in
     subst (λ (b : Start). NextFits b.next × LogFits b.log) (sym begins) fits
 
 -- what is put back after a look
@@ -153,7 +166,8 @@ all_behind : (cs : List Change) (c : Change) → AllByRecursion ChangeFits cs �
 all_behind [] c h fits = (fits, tt)
 all_behind (d ∷ cs) c h fits = (h.0, all_behind cs c h.1 fits)
 
-pub counted_fits : (g : Gathering) (c : Change) → AllByRecursion ChangeFits g.changes → ChangeFits c → AllByRecursion ChangeFits (counted g c).changes
+pub counted_fits : (g : Gathering) (c : Change) → AllByRecursion ChangeFits g.changes → ChangeFits c
+    → AllByRecursion ChangeFits (counted g c).changes
 counted_fits g c h fits = at (has_sender g.changes c.sender)
   where
     at : (b : Bool) → AllByRecursion ChangeFits (cond b g.changes (g.changes ++ c ∷ []))
@@ -165,7 +179,8 @@ begun_by true s start e = (refl, cc)
 begun_by false s start e = absurd cc
 
 -- a view starts where enough changes are there, with what they make
-pub begins : (g : Gathering) (start : Start) → step_of g ≡ Started start → (g.f < length g.changes) × (start ≡ started (start_of g.view g.changes))
+pub begins : (g : Gathering) (start : Start) → step_of g ≡ Started start
+    → (g.f < length g.changes) × (start ≡ started (start_of g.view g.changes))
 begins g start e = let r = begun_by (nat_lt g.f (length g.changes)) _ start e in (ltb-true _ _ r.0, r.1)
 
 waiting_by : (b : Bool) (s : Start) → cond b (Started s) Waiting ≡ Waiting → b ≡ false
@@ -179,7 +194,8 @@ pub record Gathers {S : Type 0} (m : Meaning S) (s t : ReplicaState) (c : Change
   pub row : gather m s.changes c s ≡ open_with m t start.next start.log
 
 module _ {S : Type 0} (m : Meaning S) where
-  pub gathers : (s t : ReplicaState) (o : Option Gathering) (c : Change) (start : Start) → o ≡ s.changes → IsWithin s → ChangeFits c → t ≡ kept_by s o c → step_by o c ≡ Started start → Gathers m s t c start
+  pub gathers : (s t : ReplicaState) (o : Option Gathering) (c : Change) (start : Start) → o ≡ s.changes → IsWithin s → ChangeFits c
+      → t ≡ kept_by s o c → step_by o c ≡ Started start → Gathers m s t c start
   gathers s t None c start e w fits kept step = absurd cc
   gathers s t (Some g) c start e w fits kept step =
       let all = subst (λ o. IfSome o (λ x. AllByRecursion ChangeFits x.changes)) (sym e) w.changes in
@@ -197,7 +213,8 @@ module _ {S : Type 0} (m : Meaning S) where
       }
 
   -- and where it does not start yet
-  pub gathers_more : (s t : ReplicaState) (o : Option Gathering) (c : Change) → o ≡ s.changes → t ≡ kept_by s o c → step_by o c ≡ Waiting → gather m s.changes c s ≡ still t
+  pub gathers_more : (s t : ReplicaState) (o : Option Gathering) (c : Change) → o ≡ s.changes → t ≡ kept_by s o c → step_by o c ≡ Waiting
+      → gather m s.changes c s ≡ still t
   gathers_more s t None c e kept step = ap (λ (o : Option Gathering). gather m o c s) (sym e) ∙ ap still (sym kept)
   gathers_more s t (Some g) c e kept step =
       let k : ReplicaState = (keep_change s g c).0 in

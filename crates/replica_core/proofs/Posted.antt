@@ -22,7 +22,8 @@ pub posted_message : (number : ℕ) (dest : Dest) (p : Peer) → posted number (
 unfolding posted
 posted_message number dest p = append-nil (message_outs (number + 1) dest p)
 
-posted_first : (number : ℕ) (x : Sending) (rest : List Sending) → posted number (x ∷ rest) ≡ posted number (x ∷ []) ++ posted (number + message_count (x ∷ [])) rest
+posted_first : (number : ℕ) (x : Sending) (rest : List Sending)
+    → posted number (x ∷ rest) ≡ posted number (x ∷ []) ++ posted (number + message_count (x ∷ [])) rest
 unfolding posted
 posted_first number (ToClient r) rest = ap (λ (n : ℕ). reply_out r ∷ posted n rest) (omega arith)
 posted_first number (ToReplicas dest p) rest =
@@ -30,14 +31,16 @@ posted_first number (ToReplicas dest p) rest =
     ∙ ap (λ (n : ℕ). (message_outs (number + 1) dest p ++ []) ++ posted n rest) (omega arith)
 
 -- what is left is posted from where the first one ended
-pub posted_on : (out new : List Out) (number last : ℕ) (all rest : List Sending) (x : Sending) → all ≡ x ∷ rest → new ≡ out ++ posted number (x ∷ []) → last ≡ number + message_count (x ∷ []) → new ++ posted last rest ≡ out ++ posted number all
+pub posted_on : (out new : List Out) (number last : ℕ) (all rest : List Sending) (x : Sending) → all ≡ x ∷ rest
+    → new ≡ out ++ posted number (x ∷ []) → last ≡ number + message_count (x ∷ []) → new ++ posted last rest ≡ out ++ posted number all
 posted_on out new number last all rest x is made used =
     let there : new ++ posted last rest ≡ (out ++ posted number (x ∷ [])) ++ posted (number + message_count (x ∷ [])) rest = cc in
     let first = posted_first number x rest in
     let joined = append_assoc out (posted number (x ∷ [])) (posted (number + message_count (x ∷ [])) rest) in
     cc
 
-pub counted_on : (number last : ℕ) (all rest : List Sending) (x : Sending) → all ≡ x ∷ rest → last ≡ number + message_count (x ∷ []) → last + message_count rest ≡ number + message_count all
+pub counted_on : (number last : ℕ) (all rest : List Sending) (x : Sending) → all ≡ x ∷ rest → last ≡ number + message_count (x ∷ [])
+    → last + message_count rest ≡ number + message_count all
 counted_on number last all rest x is used =
     let same : message_count all ≡ message_count (x ∷ rest) = ap message_count is in
     let sum = count_append (x ∷ []) rest in

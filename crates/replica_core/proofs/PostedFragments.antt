@@ -24,7 +24,8 @@ use Rattle.replica_core.proofs.Lengths.{message_can_be_cut}
 
 in_append : (a b : List Out) → fragments_in (a ++ b) ≡ fragments_in a ++ fragments_in b
 in_append [] b = refl
-in_append (o ∷ a) b = ap (λ (fs : List Fragment). fragment_in o ++ fs) (in_append a b) ∙ sym (append_assoc (fragment_in o) (fragments_in a) (fragments_in b))
+in_append (o ∷ a) b =
+    ap (λ (fs : List Fragment). fragment_in o ++ fs) (in_append a b) ∙ sym (append_assoc (fragment_in o) (fragments_in a) (fragments_in b))
 
 reply_has_none : (r : Reply) → ReplyFits r → fragment_in (reply_out r) ≡ []
 reply_has_none r fits = ap fragment_read (reads_again (datagrams.Reply r) fits)
@@ -39,29 +40,40 @@ rest_fits f fs h = record { each = λ g here. h.each g (suc here.0, here.1) }
 sent_fragments : (dest : Dest) (fs : List Fragment) → EachFits fs → fragments_in (sends_of dest fs) ≡ fs
 sent_fragments dest [] h = refl
 sent_fragments dest (f ∷ fs) h =
-    let first : fragment_in (Rattle.fragments.specs.Cutting.send_of dest f) ≡ f ∷ [] = ap fragment_read (reads_again (datagrams.Fragment f) (h.each f (0, refl))) in
-    ap (λ (gs : List Fragment). gs ++ fragments_in (sends_of dest fs)) first ∙ ap (λ (gs : List Fragment). f ∷ gs) (sent_fragments dest fs (rest_fits f fs h))
+    let first : fragment_in (Rattle.fragments.specs.Cutting.send_of dest f) ≡ f ∷ [] =
+    ap fragment_read (reads_again (datagrams.Fragment f) (h.each f (0, refl))) in
+    ap (λ (gs : List Fragment). gs ++ fragments_in (sends_of dest fs)) first
+    ∙ ap (λ (gs : List Fragment). f ∷ gs) (sent_fragments dest fs (rest_fits f fs h))
 
-message_fragments : (number : ℕ) (dest : Dest) (p : Peer) → PeerFits p → 1 ≤ number → number < 2 ^ 64 → fragments_in (message_outs number dest p) ≡ fragments_of p.sender number (spelling p)
+message_fragments : (number : ℕ) (dest : Dest) (p : Peer) → PeerFits p → 1 ≤ number → number < 2 ^ 64
+    → fragments_in (message_outs number dest p) ≡ fragments_of p.sender number (spelling p)
 message_fragments number dest p fits low high =
-    sent_fragments dest (fragments_of p.sender number (spelling p)) (record { each = λ f here. cut_fragments_fit p.sender number (spelling p) f (message_can_be_cut p number fits low high) here })
+    sent_fragments dest (fragments_of p.sender number (spelling p))
+    (record { each = λ f here. cut_fragments_fit p.sender number (spelling p) f (message_can_be_cut p number fits low high) here })
 
-posted_fragments : (number : ℕ) (sends : List Sending) → AllByRecursion SendingFits sends → number + message_count sends < 2 ^ 64 → fragments_in (posted number sends) ≡ fragments_of_all (messages_from number sends)
+posted_fragments : (number : ℕ) (sends : List Sending) → AllByRecursion SendingFits sends → number + message_count sends < 2 ^ 64
+    → fragments_in (posted number sends) ≡ fragments_of_all (messages_from number sends)
 unfolding posted
 posted_fragments number [] fits high = refl
 posted_fragments number (ToClient r ∷ sends) fits high =
-    ap (λ (fs : List Fragment). fs ++ fragments_in (posted number sends)) (reply_has_none r fits.0) ∙ posted_fragments number sends fits.1 high
+    ap (λ (fs : List Fragment). fs ++ fragments_in (posted number sends)) (reply_has_none r fits.0)
+    ∙ posted_fragments number sends fits.1 high
 posted_fragments number (ToReplicas dest p ∷ sends) fits high =
     in_append (message_outs (number + 1) dest p) (posted (number + 1) sends)
-    ∙ ap (λ (fs : List Fragment). fs ++ fragments_in (posted (number + 1) sends)) (message_fragments (number + 1) dest p fits.0 (omega arith) (omega (arith, high)))
-    ∙ ap (λ (fs : List Fragment). fragments_of p.sender (number + 1) (spelling p) ++ fs) (posted_fragments (number + 1) sends fits.1 (omega (arith, high)))
+    ∙ ap (λ (fs : List Fragment). fs ++ fragments_in (posted (number + 1) sends))
+    (message_fragments (number + 1) dest p fits.0 (omega arith) (omega (arith, high)))
+    ∙ ap (λ (fs : List Fragment). fragments_of p.sender (number + 1) (spelling p) ++ fs)
+    (posted_fragments (number + 1) sends fits.1 (omega (arith, high)))
 
-message_numbers : (number : ℕ) (sends : List Sending) → map (λ (x : Sent). x.number) (messages_from number sends) ≡ range_with_len (number + 1) (message_count sends)
+message_numbers : (number : ℕ) (sends : List Sending)
+    → map (λ (x : Sent). x.number) (messages_from number sends) ≡ range_with_len (number + 1) (message_count sends)
 message_numbers number [] = refl
 message_numbers number (ToClient r ∷ sends) = message_numbers number sends
 message_numbers number (ToReplicas dest p ∷ sends) =
     let one : message_count sends + 1 ≡ suc (message_count sends) = omega arith in
     ap (λ (ns : List ℕ). (number + 1) ∷ ns) (message_numbers (number + 1) sends) ∙ ap (range_with_len (number + 1)) (sym one)
 
-pub posts_fragments : (number : ℕ) (sends : List Sending) → AllByRecursion SendingFits sends → number + message_count sends < 2 ^ 64 → PostsFragments number sends
-posts_fragments number sends fits high = record { fragments = posted_fragments number sends fits high; numbers = message_numbers number sends }
+pub posts_fragments : (number : ℕ) (sends : List Sending) → AllByRecursion SendingFits sends → number + message_count sends < 2 ^ 64
+    → PostsFragments number sends
+posts_fragments number sends fits high =
+    record { fragments = posted_fragments number sends fits high; numbers = message_numbers number sends }

@@ -17,7 +17,8 @@ use Rattle.replica_core.specs.declared.state.ReplicaState.{ReplicaState}
 use Rattle.replica_core.specs.State.{opening, executed_to, leads}
 use Rattle.replica_core.specs.Within.{IsWithin, IsReady}
 
-opens_within : (config : Configuration) (number : ℕ) → number < config.replicas → config.replicas ≤ MAX_REPLICAS → IsWithin (opening config number)
+opens_within : (config : Configuration) (number : ℕ) → number < config.replicas → config.replicas ≤ MAX_REPLICAS
+    → IsWithin (opening config number)
 opens_within config number there few = record {
   number = there;
   few = few;
@@ -35,8 +36,10 @@ opens_within config number there few = record {
   changes = tt;
 }
 
-pub opens_in_ranges : (config : Configuration) (number : ℕ) → IsTrue (is_configuration config) → number < config.replicas → IsWithin (opening config number) × IsSound (opening config number).receiver
-opens_in_ranges config number is there = (opens_within config number there (is_configuration-few_replicas config is), opened_sound 1 1 (omega arith))
+pub opens_in_ranges : (config : Configuration) (number : ℕ) → IsTrue (is_configuration config) → number < config.replicas
+    → IsWithin (opening config number) × IsSound (opening config number).receiver
+opens_in_ranges config number is there =
+    (opens_within config number there (is_configuration-few_replicas config is), opened_sound 1 1 (omega arith))
 
 either_way : (b : Bool) (n : ℕ) → cond b n n ≡ n
 either_way true n = refl
@@ -47,7 +50,11 @@ pub opens_ready : {H U : Type 0} (host : Ghosts H U) (config : Configuration) (n
     → ((log : List Entry) → HasExecuted host.state host.meaning host.undo_of log n.member.executor)
     → n.member.executor.undos ≡ [] → n.member.sends ≡ [] → n.reassembly ≡ joining.opening k → k ≡ config.replicas → IsReady host n
 opens_ready host config number n k is there limits run undos nothing all count = record {
-  runs = record { within = subst IsWithin (sym is) (opens_within config number there (is_configuration-few_replicas config limits)); run = run n.member.state.log };
+  runs =
+      record {
+        within = subst IsWithin (sym is) (opens_within config number there (is_configuration-few_replicas config limits));
+        run = run n.member.state.log;
+      };
   executed = ap length undos ∙ sym (either_way (leads (opening config number)) 0) ∙ ap executed_to (sym is);
   nothing = nothing;
   senders = ap length all ∙ length-replicate k [] ∙ count ∙ ap (λ (t : ReplicaState). t.config.replicas) (sym is);

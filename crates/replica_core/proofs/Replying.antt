@@ -1,5 +1,6 @@
 -- Replies for one slot after the other.
-use Rattle.std.proofs.Common.{◌≡◌, ℕ, zero, suc, ◌+◌, ◌<◌, ◌≤◌, List, [], ◌∷◌, ◌++◌, length, drop, Option, Some, refl, sym, ap, subst, ◌∙◌, arith, append_assoc}
+use Rattle.std.proofs.Common.{◌≡◌, ℕ, zero, suc, ◌+◌, ◌<◌, ◌≤◌, List, [], ◌∷◌, ◌++◌, length, drop, Option, Some, refl, sym, ap, subst, ◌∙◌}
+use Rattle.std.proofs.Common.{arith, append_assoc}
 use Rattle.std.specs.Prelude.{slice_get}
 use Rattle.std.proofs.lemmas.List.{append-nil, drop_all}
 use Rattle.nop_types.specs.declared.request.Entry.{Entry}
@@ -21,11 +22,13 @@ module _ {S : Type 0} (m : Meaning S) where
       let place = has_place s.log i less in
       let next : i + 1 ≡ suc i = omega arith in
       ap (replies_to m s (i + 1)) (Splits-at s.log i place.0 place.1).back
-      ∙ ap (λ (o : Option Entry). reply_for_any m s (i + 1) o ++ replies_to m s (i + 1 + 1) (drop (suc i) s.log)) (sym (ap (slot_of s.log) next ∙ place.1))
+      ∙ ap (λ (o : Option Entry). reply_for_any m s (i + 1) o ++ replies_to m s (i + 1 + 1) (drop (suc i) s.log))
+      (sym (ap (slot_of s.log) next ∙ place.1))
       ∙ ap (λ k. reply_at m s (i + 1) ++ replies_to m s (i + 1 + 1) (drop k s.log)) (sym next)
 
   -- replying for one slot more, of what is to be replied in all
-  pub replies_on : (s t : ReplicaState) (i : ℕ) (old new total : List Sending) → s ≡ t → i < length s.log → new ≡ old ++ reply_at m s (i + 1) → old ++ replies_above m t i ≡ total → new ++ replies_above m t (i + 1) ≡ total
+  pub replies_on : (s t : ReplicaState) (i : ℕ) (old new total : List Sending) → s ≡ t → i < length s.log
+      → new ≡ old ++ reply_at m s (i + 1) → old ++ replies_above m t i ≡ total → new ++ replies_above m t (i + 1) ≡ total
   replies_on s t i old new total same less sent so_far =
       let here : i < length t.log = subst (λ (p : ReplicaState). i < length p.log) same less in
       ap (λ (xs : List Sending). xs ++ replies_above m t (i + 1)) (sent ∙ ap (λ (p : ReplicaState). old ++ reply_at m p (i + 1)) same)
@@ -33,6 +36,7 @@ module _ {S : Type 0} (m : Meaning S) where
       ∙ ap (λ (xs : List Sending). old ++ xs) (sym (first t i here))
       ∙ so_far
 
-  pub replies_end : (t : ReplicaState) (i : ℕ) (old total : List Sending) → length t.log ≤ i → old ++ replies_above m t i ≡ total → old ≡ total
+  pub replies_end : (t : ReplicaState) (i : ℕ) (old total : List Sending) → length t.log ≤ i → old ++ replies_above m t i ≡ total
+      → old ≡ total
   replies_end t i old total le so_far =
       sym (append-nil old) ∙ ap (λ (es : List Entry). old ++ replies_to m t (i + 1) es) (sym (drop_all i t.log le)) ∙ so_far

@@ -10,7 +10,8 @@ use Rattle.replica_core.specs.Moves.{appended, fill}
 use Rattle.replica_core.proofs.Draining.{replies_filled}
 
 -- the request was appended, and replied for in its slot
-pub fill_sends : {S : Type 0} (m : Meaning S) (s t : ReplicaState) (slot : ℕ) (r : Request) (old mid new : List Sending) → t ≡ appended s (Req r) → slot ≡ length t.log → mid ≡ old → new ≡ mid ++ reply_at m t slot → new ≡ old ++ (fill m s r).1
+pub fill_sends : {S : Type 0} (m : Meaning S) (s t : ReplicaState) (slot : ℕ) (r : Request) (old mid new : List Sending)
+    → t ≡ appended s (Req r) → slot ≡ length t.log → mid ≡ old → new ≡ mid ++ reply_at m t slot → new ≡ old ++ (fill m s r).1
 fill_sends m s t slot r old mid new state last same sent =
     let next : slot ≡ length s.log + 1 = last ∙ ap (λ (p : ReplicaState). length p.log) state ∙ length-append s.log (Req r ∷ []) in
     sent

@@ -1,5 +1,6 @@
 -- Moves keep a replica's state within its ranges, and what was executed.
-use Rattle.std.proofs.Common.{◌≡◌, ◌<◌, ◌≤◌, ◌+◌, ◌-◌, ℕ, zero, suc, Bool, true, false, List, [], ◌∷◌, ◌++◌, length, take, refl, sym, ap, subst, ◌∙◌, arith, append_assoc, length-append, inl, inr}
+use Rattle.std.proofs.Common.{◌≡◌, ◌<◌, ◌≤◌, ◌+◌, ◌-◌, ℕ, zero, suc, Bool, true, false, List, [], ◌∷◌, ◌++◌, length, take, refl, sym, ap}
+use Rattle.std.proofs.Common.{subst, ◌∙◌, arith, append_assoc, length-append, inl, inr}
 use Rattle.std.specs.Prelude.{cond, ◌&&◌, ◌⊎◌, slice_get, slice_set, not, nat_lt, IfSome, Option, Some, None, Result, Ok, Err, OnOk}
 use Rattle.std.specs.List.{AllByRecursion}
 use Rattle.std.proofs.lemmas.Bool.{ltb-true, and_parts}
@@ -100,7 +101,8 @@ open_gap_within s w may =
       changes = a.changes;
     }
 
-pub logged_within : (s : ReplicaState) (r : Request) → IsWithin s → RequestFits r → drains s ≡ true → s.next < NUMBER_END → IsWithin (logged s r)
+pub logged_within : (s : ReplicaState) (r : Request) → IsWithin s → RequestFits r → drains s ≡ true → s.next < NUMBER_END
+    → IsWithin (logged s r)
 logged_within s r w fits d more =
     let normal = and_parts (is_normal s.status) _ d in
     let room : length s.log < MAX_SLOTS = ltb-true _ _ (and_parts (not (waits s.gap)) (nat_lt (length s.log) MAX_SLOTS) normal.1).1 in
@@ -167,7 +169,8 @@ from_next : (b : Bool) (r q : Receiving) (x : ℕ) → r.next ≡ x → q.next �
 from_next true r q x e f = e
 from_next false r q x e f = f
 
-pub adopted_within : (s : ReplicaState) (v : View) (x : ℕ) (l : List Entry) → IsWithin s → ViewFits v → NextFits x → LogFits l → IsWithin (adopted s v x l)
+pub adopted_within : (s : ReplicaState) (v : View) (x : ℕ) (l : List Entry) → IsWithin s → ViewFits v → NextFits x → LogFits l
+    → IsWithin (adopted s v x l)
 adopted_within s v x l w view next log =
     let low = next.low in
     record {
@@ -226,7 +229,8 @@ begun_within s p w = record {
 pub own_change_fits : (s : ReplicaState) → IsWithin s → ChangeFits (own_change s)
 own_change_fits s w = record { sender = number_small s w; rest = record { view = w.last_normal; number = w.next; entries = w.log } }
 
-pub gathers_within : (s : ReplicaState) (g : Gathering) → IsWithin s → AllByRecursion ChangeFits g.changes → IsWithin (record s { changes = Some g })
+pub gathers_within : (s : ReplicaState) (g : Gathering) → IsWithin s → AllByRecursion ChangeFits g.changes
+    → IsWithin (record s { changes = Some g })
 gathers_within s g w fits = record {
   number = w.number;
   few = w.few;
@@ -256,7 +260,8 @@ laid_front (x ∷ l) (y ∷ k) (suc n) same le =
     let tails : take n l ≡ take n k = cc in
     ap (λ z. z ∷ take n (laid l k)) heads ∙ ap (λ t. y ∷ t) (laid_front l k n tails (omega (arith, le)))
 
-pub overlaid_within : (s : ReplicaState) (l : List Entry) → IsWithin s → LogFits l → s.next + (length l - length s.log) ≤ NUMBER_END → IsWithin (overlaid s l)
+pub overlaid_within : (s : ReplicaState) (l : List Entry) → IsWithin s → LogFits l → s.next + (length l - length s.log) ≤ NUMBER_END
+    → IsWithin (overlaid s l)
 overlaid_within s l w fits high =
     let len = length-laid l s.log in
     let low = w.next.low in
@@ -282,39 +287,62 @@ overlaid_within s l w fits high =
     }
 
 module _ {H U : Type 0} (host : Ghosts H U) where
-  pub append_runs : (s t : ReplicaState) (x : Running H U) (e : Entry) → t ≡ appended s e → Runs host s x → EntryFits e → may_append s ≡ true → Runs host t x
-  append_runs s t x e is r fits may = rw is (record { within = append_within s e r.within fits may; run = on_append host.meaning host.undo_of s.log (e ∷ []) _ _ r.run })
+  pub append_runs : (s t : ReplicaState) (x : Running H U) (e : Entry) → t ≡ appended s e → Runs host s x → EntryFits e
+      → may_append s ≡ true → Runs host t x
+  append_runs s t x e is r fits may =
+      rw is (record { within = append_within s e r.within fits may; run = on_append host.meaning host.undo_of s.log (e ∷ []) _ _ r.run })
 
   pub open_gap_runs : (s t : ReplicaState) (x : Running H U) → t ≡ gap_opened s → Runs host s x → may_append s ≡ true → Runs host t x
-  open_gap_runs s t x is r may = rw is (record { within = open_gap_within s r.within may; run = on_append host.meaning host.undo_of s.log (NoOp ∷ []) _ _ r.run })
+  open_gap_runs s t x is r may =
+      rw is (record { within = open_gap_within s r.within may; run = on_append host.meaning host.undo_of s.log (NoOp ∷ []) _ _ r.run })
 
-  pub logged_runs : (s t : ReplicaState) (x : Running H U) (r : Request) → t ≡ logged s r → Runs host s x → RequestFits r → drains s ≡ true → s.next < NUMBER_END → Runs host t x
-  logged_runs s t x r is h fits d more = rw is (record { within = logged_within s r h.within fits d more; run = on_append host.meaning host.undo_of s.log (Req r ∷ []) _ _ h.run })
+  pub logged_runs : (s t : ReplicaState) (x : Running H U) (r : Request) → t ≡ logged s r → Runs host s x → RequestFits r → drains s ≡ true
+      → s.next < NUMBER_END → Runs host t x
+  logged_runs s t x r is h fits d more =
+      rw is (record {
+        within = logged_within s r h.within fits d more;
+        run = on_append host.meaning host.undo_of s.log (Req r ∷ []) _ _ h.run;
+      })
 
   pub runs_same : (s t : ReplicaState) (x y : Running H U) → t ≡ s → y ≡ x → Runs host s x → Runs host t y
   runs_same s t x y same other r = rw same (rw other r)
 
-  pub noop_runs : (s t : ReplicaState) (x : Running H U) (k : ℕ) → t ≡ record s { log = set_slot s.log k NoOp } → Runs host s x → (length x.undos < k) ⊎ (slot_of s.log k ≡ Some NoOp) → Runs host t x
-  noop_runs s t x k is r (inl less) = rw is (record { within = noop_within s k r.within; run = on_slot host.meaning host.undo_of s.log k NoOp _ _ r.run less })
+  pub noop_runs : (s t : ReplicaState) (x : Running H U) (k : ℕ) → t ≡ record s { log = set_slot s.log k NoOp } → Runs host s x
+      → (length x.undos < k) ⊎ (slot_of s.log k ≡ Some NoOp) → Runs host t x
+  noop_runs s t x k is r (inl less) =
+      rw is (record { within = noop_within s k r.within; run = on_slot host.meaning host.undo_of s.log k NoOp _ _ r.run less })
   noop_runs s t x k is r (inr there) = rw is (record { within = noop_within s k r.within; run = rw (slot_same s.log k NoOp there) r.run })
 
   pub entered_runs : (s t : ReplicaState) (x : Running H U) (v : View) → t ≡ entered s v → Runs host s x → ViewFits v → Runs host t x
   entered_runs s t x v is r view = rw is (record { within = entered_within s v r.within view; run = r.run })
 
-  pub gathers_runs : (s t : ReplicaState) (x : Running H U) (g : Gathering) → t ≡ record s { changes = Some g } → Runs host s x → AllByRecursion ChangeFits g.changes → Runs host t x
+  pub gathers_runs : (s t : ReplicaState) (x : Running H U) (g : Gathering) → t ≡ record s { changes = Some g } → Runs host s x
+      → AllByRecursion ChangeFits g.changes → Runs host t x
   gathers_runs s t x g is r fits = rw is (record { within = gathers_within s g r.within fits; run = r.run })
 
-  pub adopted_runs : (s t : ReplicaState) (x : Running H U) (v : View) (n : ℕ) (l : List Entry) → t ≡ adopted s v n l → Runs host s x → take (length x.undos) l ≡ take (length x.undos) s.log → ViewFits v → NextFits n → LogFits l → Runs host t x
-  adopted_runs s t x v n l is r same view next log = rw is (record { within = adopted_within s v n l r.within view next log; run = on_front host.meaning host.undo_of s.log l _ _ r.run same })
+  pub adopted_runs : (s t : ReplicaState) (x : Running H U) (v : View) (n : ℕ) (l : List Entry) → t ≡ adopted s v n l → Runs host s x
+      → take (length x.undos) l ≡ take (length x.undos) s.log → ViewFits v → NextFits n → LogFits l → Runs host t x
+  adopted_runs s t x v n l is r same view next log =
+      rw is (record {
+        within = adopted_within s v n l r.within view next log;
+        run = on_front host.meaning host.undo_of s.log l _ _ r.run same;
+      })
 
-  pub overlaid_runs : (s t : ReplicaState) (x : Running H U) (l : List Entry) → t ≡ overlaid s l → Runs host s x → take (length x.undos) l ≡ take (length x.undos) s.log → LogFits l → s.next + (length l - length s.log) ≤ NUMBER_END → Runs host t x
+  pub overlaid_runs : (s t : ReplicaState) (x : Running H U) (l : List Entry) → t ≡ overlaid s l → Runs host s x
+      → take (length x.undos) l ≡ take (length x.undos) s.log → LogFits l → s.next + (length l - length s.log) ≤ NUMBER_END → Runs host t x
   overlaid_runs s t x l is r same fits high =
-      rw is (record { within = overlaid_within s l r.within fits high; run = on_front host.meaning host.undo_of s.log (laid l s.log) _ _ r.run (laid_front l s.log (length x.undos) same r.run.within) })
+      rw is (record {
+        within = overlaid_within s l r.within fits high;
+        run = on_front host.meaning host.undo_of s.log (laid l s.log) _ _ r.run (laid_front l s.log (length x.undos) same r.run.within);
+      })
 
   pub begun_runs : (s t : ReplicaState) (x : Running H U) (p : Stamped) → t ≡ begin_session s p → Runs host s x → Runs host t x
   begun_runs s t x p is r = rw is (record { within = begun_within s p r.within; run = r.run })
 
-  pub kept_runs : (s t : ReplicaState) (x : Running H U) (o : Option Gathering) (c : Change) → o ≡ s.changes → t ≡ kept_by s o c → Runs host s x → ChangeFits c → Runs host t x
+  pub kept_runs : (s t : ReplicaState) (x : Running H U) (o : Option Gathering) (c : Change) → o ≡ s.changes → t ≡ kept_by s o c
+      → Runs host s x → ChangeFits c → Runs host t x
   kept_runs s t x None c e is r fits = rw is r
   kept_runs s t x (Some g) c e is r fits =
-      gathers_runs s t x (counted g c) is r (counted_fits g c (subst (λ (o : Option Gathering). IfSome o (λ g. AllByRecursion ChangeFits g.changes)) (sym e) r.within.changes) fits)
+      gathers_runs s t x (counted g c) is r
+      (counted_fits g c (subst (λ (o : Option Gathering). IfSome o (λ g. AllByRecursion ChangeFits g.changes)) (sym e) r.within.changes)
+      fits)

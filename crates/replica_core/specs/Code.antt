@@ -8,7 +8,9 @@ use Rattle.replica_core.specs.contracts.state.ReplicaState as state
 use Rattle.replica_core.specs.ReplicaSteps.{Replica}
 
 abbrev pub partial_code : Coded Partial
-partial_code = code_by (ℕ × List (Option (List ℕ))) (coded× coded_ℕ (coded_list (coded_option (coded_list coded_ℕ)))) (λ p. (p.number, p.parts)) (λ p. record { number = p.0; parts = p.1 }) (λ _. refl)
+partial_code =
+    code_by (ℕ × List (Option (List ℕ))) (coded× coded_ℕ (coded_list (coded_option (coded_list coded_ℕ)))) (λ p. (p.number, p.parts))
+    (λ p. record { number = p.0; parts = p.1 }) (λ _. refl)
 
 abbrev pub replica_code : Coded Replica
 replica_code =
@@ -18,4 +20,6 @@ replica_code =
     (λ _. refl)
 
 abbrev pub machine_code : Coded (Machine Replica)
-machine_code = code_by (Bool × Replica) (coded× coded_bool replica_code) (λ k. (k.failed, k.state)) (λ p. record { failed = p.0; state = p.1 }) (λ _. refl)
+machine_code =
+    code_by (Bool × Replica) (coded× coded_bool replica_code) (λ k. (k.failed, k.state)) (λ p. record { failed = p.0; state = p.1 })
+    (λ _. refl)

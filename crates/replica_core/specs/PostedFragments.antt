@@ -45,7 +45,8 @@ fragments_in (o ∷ os) = fragment_in o ++ fragments_in os
 abbrev pub messages_from : ℕ → List Sending → List Sent
 messages_from number [] = []
 messages_from number (ToClient r ∷ sends) = messages_from number sends
-messages_from number (ToReplicas dest p ∷ sends) = record { sender = p.sender; number = number + 1; bytes = spelling p } ∷ messages_from (number + 1) sends
+messages_from number (ToReplicas dest p ∷ sends) =
+    record { sender = p.sender; number = number + 1; bytes = spelling p } ∷ messages_from (number + 1) sends
 
 abbrev pub fragments_of_all : List Sent → List Fragment
 fragments_of_all [] = []

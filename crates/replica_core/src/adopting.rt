@@ -38,7 +38,8 @@ impl<H: Host> Member<H> {
         requires view { ViewFits view }
         requires next { NextFits next }
         requires log { LogFits log }
-        ensures { OnOk result (Does H.Host self.old self.new (λ s. adopt H.meaning s view next log)) }
+        ensures { OnOk result (Does H.Host self.old self.new
+            (λ s. adopt H.meaning s view next log)) }
     {
         let sync_point = self.state.sync.sync_point();
         self.go_back(sync_point);

@@ -19,7 +19,6 @@ ghost use Rattle.replica_core.specs.Within.{IsRunning, Does};
 
 use crate::ReplicaState;
 use crate::member::Member;
-use crate::state::same_view;
 use nop_types::{Body, Change, Host, NoMemory, Peer, Phase, Stamped, Tick, View};
 
 impl ReplicaState {
@@ -54,7 +53,7 @@ impl ReplicaState {
     fn is_current(&self, view: View) -> bool
         ensures { result ≡ is_current self.now view }
     {
-        same_view(view, self.view) && self.is_normal()
+        view.is(self.view) && self.is_normal()
     }
 
     fn is_from_leader(&self, view: View, sender: u8) -> bool
@@ -122,7 +121,8 @@ impl<H: Host> Member<H> {
         requires runs { IsRunning H.Host self.old }
         requires sender { sender < MAX_REPLICAS }
         requires fits { BodyFits body }
-        ensures { OnOk result (Does H.Host self.old self.new (from_follower H.meaning sender body)) }
+        ensures { OnOk result (Does H.Host self.old self.new
+            (from_follower H.meaning sender body)) }
     {
         match body {
             Body::SlotLookup(slot) => self.slot_lookup(sender, slot),
@@ -152,7 +152,8 @@ impl<H: Host> Member<H> {
     fn on_body(&mut self, message: Peer) -> Result<(), NoMemory>
         requires runs { IsRunning H.Host self.old }
         requires fits { PeerFits message }
-        ensures { OnOk result (Does H.Host self.old self.new (on_body H.meaning message message.body)) }
+        ensures { OnOk result (Does H.Host self.old self.new
+            (on_body H.meaning message message.body)) }
     {
         let Peer { sender, view, body } = message;
         match body {

@@ -116,7 +116,8 @@ impl<H: Host> Member<H> {
     fn drain_one(&mut self) -> Result<bool, NoMemory>
         requires runs { IsRunning H.Host self.old }
         ensures runs { OnOk result (IsRunning H.Host self.new) }
-        ensures taken { IfOk result (TakesOne H.meaning self.old.state self.old.sends self.new.state self.new.sends) }
+        ensures taken { IfOk result (TakesOne H.meaning
+            self.old.state self.old.sends self.new.state self.new.sends) }
     {
         if !self.state.drains() {
             return Ok(false);

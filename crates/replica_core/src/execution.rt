@@ -52,7 +52,8 @@ impl<H: Host> Member<H> {
         ensures sends { self.new.sends ≡ self.old.sends }
         ensures runs { IsRunning H.Host self.new }
         ensures fewer { length self.new.executor.undos ≤ length self.old.executor.undos }
-        ensures same { take (length self.new.executor.undos) log.now ≡ take (length self.new.executor.undos) self.old.state.log }
+        ensures same { take (length self.new.executor.undos) log.now
+            ≡ take (length self.new.executor.undos) self.old.state.log }
     {
         let executed = self.executor.executed() as usize;
         let common = common_front(self.state.log.as_slice(), log, executed);
@@ -65,7 +66,8 @@ impl<H: Host> Member<H> {
         ensures state { self.new.state ≡ self.old.state }
         ensures sends { self.new.sends ≡ self.old.sends }
         ensures runs { OnOk result (IsRunning H.Host self.new) }
-        ensures executed { OnOk result (length self.new.executor.undos ≡ executed_to self.new.state) }
+        ensures executed { OnOk result (length self.new.executor.undos
+            ≡ executed_to self.new.state) }
     {
         let len = self.state.log.len();
         let slot = if self.state.is_normal() && self.state.leads() {

@@ -43,7 +43,8 @@ impl<H: Host> Member<H> {
         ensures state { self.new.state ≡ self.old.state }
         ensures sends { self.new.sends ≡ self.old.sends }
         ensures runs { IsRunning H.Host self.new }
-        ensures way { (length self.new.executor.undos < slot) ⊎ (slot_of self.new.state.log slot ≡ Some NoOp) }
+        ensures way { (length self.new.executor.undos < slot)
+            ⊎ (slot_of self.new.state.log slot ≡ Some NoOp) }
     {
         if !matches!(self.state.log.at(slot), Some(Entry::NoOp)) {
             self.go_back(slot - 1);

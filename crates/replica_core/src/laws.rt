@@ -24,8 +24,10 @@ ghost use Rattle.replica_core.specs.Within.{IsWithin, ArrivalFits, ResultsShort,
 /// never pass their end.
 #[tactic(auto, using(crate::proofs::Counting::arrive_sends_few, crate::proofs::Counting::arrive_keeps_config))]
 pub fn rows_send_few_messages<S>()
-    ensures few { (m : Meaning S) (s : ReplicaState) (a : Arrival) → message_count (arrive m s a).1 ≤ 8 }
-    ensures config { (m : Meaning S) (s : ReplicaState) (a : Arrival) → (arrive m s a).0.config ≡ s.config }
+    ensures few { (m : Meaning S) (s : ReplicaState) (a : Arrival)
+        → message_count (arrive m s a).1 ≤ 8 }
+    ensures config { (m : Meaning S) (s : ReplicaState) (a : Arrival)
+        → (arrive m s a).0.config ≡ s.config }
 {}
 
 /// Each message in its ranges can be cut.
@@ -63,5 +65,6 @@ pub fn new_session_enters_then_queues()
 
 /// A replica with others that enters a view does nothing more.
 pub fn enters_only<S>()
-    ensures { (m : Meaning S) (s : ReplicaState) (v : View) → 0 < others s → enter_and_drain m v s ≡ enter s v }
+    ensures { (m : Meaning S) (s : ReplicaState) (v : View) → 0 < others s →
+        enter_and_drain m v s ≡ enter s v }
 {}

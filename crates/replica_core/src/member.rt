@@ -57,7 +57,8 @@ impl<H: Host> Member<H> {
         requires fits { BodyFits body }
         ensures state { self.new.state ≡ self.old.state }
         ensures executor { self.new.executor ≡ self.old.executor }
-        ensures does { OnOk result (Does H.Host self.old self.new (λ s. (s, to_replica s replica body))) }
+        ensures does { OnOk result (Does H.Host self.old self.new
+            (λ s. (s, to_replica s replica body))) }
     {
         self.state.send_to(replica, body, &mut self.sends)?;
         Ok(())

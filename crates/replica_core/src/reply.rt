@@ -25,7 +25,8 @@ impl ReplicaState {
         requires tag { tag ≤ 1 }
         requires short { length answer ≤ MAX_RESULT_BYTES }
         requires without { tag ≡ 0 → length answer ≡ 0 }
-        ensures { OnOk result (sends.new ≡ sends.old ++ reply_with self.now slot client id tag answer) }
+        ensures { OnOk result (sends.new
+            ≡ sends.old ++ reply_with self.now slot client id tag answer) }
     {
         sends.push(Sending::ToClient(Reply {
             replica: self.number,
@@ -49,7 +50,8 @@ impl<H: Host> Member<H> {
         ensures state { self.new.state ≡ self.old.state }
         ensures runs { OnOk result (IsRunning H.Host self.new) }
         ensures behind { OnOk result (length self.new.executor.undos ≤ slot) }
-        ensures sends { OnOk result (self.new.sends ≡ self.old.sends ++ reply_at H.meaning self.old.state slot) }
+        ensures sends { OnOk result (self.new.sends
+            ≡ self.old.sends ++ reply_at H.meaning self.old.state slot) }
     {
         let Some(Entry::Req(request)) = self.state.log.at(slot) else {
             return Ok(());
@@ -77,7 +79,8 @@ impl<H: Host> Member<H> {
         requires behind { length self.old.executor.undos ≤ slot }
         ensures state { self.new.state ≡ self.old.state }
         ensures runs { OnOk result (IsRunning H.Host self.new) }
-        ensures sends { OnOk result (self.new.sends ≡ self.old.sends ++ replies_above H.meaning self.old.state slot) }
+        ensures sends { OnOk result (self.new.sends
+            ≡ self.old.sends ++ replies_above H.meaning self.old.state slot) }
     {
         for at in slot..self.state.log.len() {
             self.reply_at(at + 1)?;

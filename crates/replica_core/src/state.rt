@@ -1,5 +1,4 @@
 ghost use Rattle.std.specs.Prelude.{◌≡◌, ◌≤◌, ◌<◌, ◌+◌, ◌-◌, length, option_map};
-ghost use Rattle.nop_types.specs.Views.{is_view};
 ghost use Rattle.replica_core.specs.State.{others, leader, leads, is_normal, has_room, may_append, drains};
 ghost use Rattle.replica_core.specs.State as words;
 ghost use Rattle.replica_core.specs.Within.{IsWithin};
@@ -45,13 +44,6 @@ pub struct ReplicaState {
     pub changes: Option<Changes>,
     pub asked: u32,
     pub heard: bool,
-}
-
-/// Whether two views are one.
-pub fn same_view(a: View, b: View) -> bool
-    ensures { result ≡ is_view a b }
-{
-    a.leader == b.leader && a.session == b.session
 }
 
 impl ReplicaState {

@@ -55,7 +55,8 @@ impl<H: Host> Member<H> {
     fn lookup_again(&mut self) -> Result<(), NoMemory>
         requires runs { IsRunning H.Host self.old }
         ensures state { self.new.state ≡ self.old.state }
-        ensures does { OnOk result (Does H.Host self.old self.new (λ s. lookup_again (front_of s.receiver) s)) }
+        ensures does { OnOk result (Does H.Host self.old self.new
+            (λ s. lookup_again (front_of s.receiver) s)) }
     {
         if !self.state.has_drop() || !self.state.log.has_room() {
             return Ok(());

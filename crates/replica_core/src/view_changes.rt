@@ -15,7 +15,6 @@ ghost use Rattle.replica_core.specs.Within.{IsRunning, Does};
 
 use crate::ReplicaState;
 use crate::member::Member;
-use crate::state::same_view;
 use nop_types::{Body, Change, Host, Log, NoMemory, Phase, View, leader_of};
 use view_change::Step;
 
@@ -26,7 +25,7 @@ impl ReplicaState {
     {
         sender == leader_of(view, self.config.replicas())
             && View::le(self.view, view)
-            && (!same_view(view, self.view) || !self.is_normal())
+            && (!view.is(self.view) || !self.is_normal())
             && self.sync.sync_point() as usize <= log.as_slice().len()
     }
 
@@ -50,7 +49,7 @@ impl<H: Host> Member<H> {
         ensures { OnOk result (Does H.Host self.old self.new (view_change_request H.meaning view)) }
     {
         let join = View::join(self.state.view, view);
-        if same_view(join, self.state.view) {
+        if join.is(self.state.view) {
             return Ok(());
         }
         self.enter_and_drain(join)
@@ -70,7 +69,8 @@ impl<H: Host> Member<H> {
     fn gather(&mut self, change: Change) -> Result<(), NoMemory>
         requires runs { IsRunning H.Host self.old }
         requires fits { ChangeFits change }
-        ensures { OnOk result (Does H.Host self.old self.new (λ s. gather H.meaning s.changes change s)) }
+        ensures { OnOk result (Does H.Host self.old self.new
+            (λ s. gather H.meaning s.changes change s)) }
     {
         match self.state.keep_change(change)? {
             Step::Started(start) => self.open_view(start),
@@ -83,7 +83,7 @@ impl<H: Host> Member<H> {
         requires fits { ChangeFits change }
         ensures { OnOk result (Does H.Host self.old self.new (take_change H.meaning view change)) }
     {
-        if !same_view(view, self.state.view) || !self.state.leads() {
+        if !view.is(self.state.view) || !self.state.leads() {
             return Ok(());
         }
         match self.state.status {
@@ -117,7 +117,8 @@ impl<H: Host> Member<H> {
         requires view { ViewFits view }
         requires next { NextFits next }
         requires log { LogFits log }
-        ensures { OnOk result (Does H.Host self.old self.new (start_view H.meaning sender view next log)) }
+        ensures { OnOk result (Does H.Host self.old self.new
+            (start_view H.meaning sender view next log)) }
     {
         if !self.state.may_adopt(sender, view, &log) {
             return Ok(());

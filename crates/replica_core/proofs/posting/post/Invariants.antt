@@ -9,8 +9,10 @@ use Rattle.replica_core.proofs.posting.post.Given as goal
 abbrev pub invariant-loop-sending : goal.invariant-loop-sending
 invariant-loop-sending l =
     record {
-      number : l.number + message_count (into_iter_items l.sending-iterator) ≡ l.messages + message_count (into_iter_items l.initial.sending-iterator);
-      out : l.out ++ posted l.number (into_iter_items l.sending-iterator) ≡ l.initial.out ++ posted l.messages (into_iter_items l.initial.sending-iterator);
+      number : l.number + message_count (into_iter_items l.sending-iterator) ≡ l.messages + message_count
+          (into_iter_items l.initial.sending-iterator);
+      out : l.out ++ posted l.number (into_iter_items l.sending-iterator) ≡ l.initial.out ++ posted l.messages
+          (into_iter_items l.initial.sending-iterator);
       fit : AllByRecursion SendingFits (into_iter_items l.sending-iterator);
       len : into_iter_len l.sending-iterator ≡ length (into_iter_items l.sending-iterator);
     }

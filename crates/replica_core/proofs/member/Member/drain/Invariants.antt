@@ -9,6 +9,7 @@ abbrev pub invariant-loop : goal.invariant-loop
 invariant-loop g l =
     record {
       runs : Runs g.H.Host l.self.state l.self.executor;
-      goes : then_do (l.self.state, l.self.sends) (drain g.H.Host.meaning) ≡ then_do (l.initial.self.state, l.initial.self.sends) (drain g.H.Host.meaning);
+      goes : then_do (l.self.state, l.self.sends) (drain g.H.Host.meaning) ≡ then_do (l.initial.self.state, l.initial.self.sends)
+          (drain g.H.Host.meaning);
       filled : l.counter ≤ length l.self.state.log;
     }

@@ -10,7 +10,9 @@ use Rattle.replica_core.proofs.member.Member.enter_view.Goals as goal
 pub returns-then-others-gt0 : goal.returns-then-others-gt0
 returns-then-others-gt0 g c =
     let e = c.in_ok-enter.ensures.state in
-    let same = enters_with_others g.H.Host.meaning c.args.self.now.state c.args.view (omega (arith, c.if-others-gt0.true, c.others.ensures, ap others e)) in
+    let same =
+    enters_with_others g.H.Host.meaning c.args.self.now.state c.args.view
+    (omega (arith, c.if-others-gt0.true, c.others.ensures, ap others e)) in
     record {
       runs = c.in_ok-enter.ensures.runs;
       state = e ∙ ap (λ x. x.0) (sym same);
@@ -43,12 +45,15 @@ returns g c =
     let back = put_back c.enter.new.self.state c.in-Some.changes c.start_now.new.self c.start_now.ensures.same c.in-Some.is in
     let mine = own c.args.self.now.state c.args.view c.in-Some.changes (ap (λ s. s.changes) (sym e) ∙ c.in-Some.is) in
     let none : c.in-Some.changes.f ≡ 0 = omega (arith, mine.f, c.if-others-gt0.false, c.others.ensures, ap others e) in
-    let both = opens_alone g.H.Host.meaning c.args.self.now.state c.enter.new.self.state _ c.args.view c.in-Some.changes c.in_ok-start.start e c.in-Some.is none back c.in_ok-start.ensures.start in
+    let both =
+    opens_alone g.H.Host.meaning c.args.self.now.state c.enter.new.self.state
+    _ c.args.view c.in-Some.changes c.in_ok-start.start e c.in-Some.is none back c.in_ok-start.ensures.start in
     let so_far = c.in_ok-enter.ensures.sends in
     on_ok c.open_view.result _ _
     (λ does. record {
       runs = does.runs;
       state = does.state ∙ ap (λ x. x.0) (sym both);
-      sends = sent_on c.args.self.now.sends _ c.enter.new.self.sends _ _ so_far does.sends ∙ ap (λ x. c.args.self.now.sends ++ x.1) (sym both);
+      sends =
+          sent_on c.args.self.now.sends _ c.enter.new.self.sends _ _ so_far does.sends ∙ ap (λ x. c.args.self.now.sends ++ x.1) (sym both);
     })
     c.open_view.ensures

@@ -10,5 +10,7 @@ loop-at-preserved g c =
       state = c.in_ok-reply_at.ensures.state ∙ i.state;
       ends = i.ends ∙ ap (λ s. length s.log) (sym c.in_ok-reply_at.ensures.state);
       behind = c.in_ok-reply_at.ensures.behind;
-      replied = replies_on g.H.Host.meaning c.loop-at.self.state _ c.loop-at.at _ _ _ i.state (omega (arith, c.loop-at-test.true, i.ends)) c.in_ok-reply_at.ensures.sends i.replied;
+      replied =
+          replies_on g.H.Host.meaning c.loop-at.self.state _ c.loop-at.at _ _ _ i.state
+          (omega (arith, c.loop-at-test.true, i.ends)) c.in_ok-reply_at.ensures.sends i.replied;
     }

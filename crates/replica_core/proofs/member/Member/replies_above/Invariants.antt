@@ -11,5 +11,7 @@ invariant-loop-at g l =
       state : l.self.state ≡ l.initial.self.state;
       ends : l.at-end ≡ length l.self.state.log;
       behind : length l.self.executor.undos ≤ l.at;
-      replied : l.self.sends ++ replies_above g.H.Host.meaning l.initial.self.state l.at ≡ l.initial.self.sends ++ replies_above g.H.Host.meaning l.initial.self.state l.slot;
+      replied :
+          l.self.sends ++ replies_above g.H.Host.meaning l.initial.self.state l.at
+          ≡ l.initial.self.sends ++ replies_above g.H.Host.meaning l.initial.self.state l.slot;
     }
