@@ -47,7 +47,7 @@ use Rattle.view_change.specs.Gathering.{Gathering}
 use Rattle.view_change.specs.Gathering as gathering
 use Rattle.replica_core.specs.declared.sending.Sending.{Sending}
 use Rattle.replica_core.specs.declared.state.ReplicaState.{ReplicaState}
-use Rattle.replica_core.specs.State.{others, leads, is_normal, drains, waits, waiting, has_room, may_append}
+use Rattle.replica_core.specs.State.{others, leader, leads, is_normal, drains, waits, waiting, has_room, may_append}
 use Rattle.replica_core.specs.Sends.{Effect, still, then_do, when, message, to_replica, to_leader, to_all, to_all_if, SendingFits}
 use Rattle.replica_core.specs.Replies.{reply_with, leader_reply, reply_if, reply_to, reply_for, replies_to, replies_above}
 use Rattle.replica_core.specs.Moves.{
@@ -452,12 +452,12 @@ module _ {S : Type 0} (m : Meaning S) (short : ResultsShort m) where
   add_gap_stays : (s : ReplicaState) → IsGood s → may_append s ≡ true → StaysInRanges (add_gap s)
   add_gap_stays s g may =
       good (add_gap s) (append_good s NoOp g tt may)
-      (to_replica_fits s _ (bodies.GapRep (length s.log + 1)) g.within (next_slot s (room_of s may)))
+      (to_replica_fits s (leader s) (bodies.GapRep (length s.log + 1)) g.within (next_slot s (room_of s may)))
 
   write_gap_stays : (s : ReplicaState) (k : ℕ) → IsGood s → SlotFits k → StaysInRanges (write_gap s k)
   write_gap_stays s k g fits =
       good (write_gap s k) (record { within = noop_within s k g.within; sound = g.sound })
-      (to_replica_fits s _ (bodies.GapRep k) g.within fits)
+      (to_replica_fits s (leader s) (bodies.GapRep k) g.within fits)
 
   gap_vote_stays : (s : ReplicaState) (g : Agreement) (q : ℕ) → IsGood s → SlotFits g.slot → StaysInRanges (count_gap_vote s g q)
   gap_vote_stays s g q h fits =
@@ -472,7 +472,7 @@ module _ {S : Type 0} (m : Meaning S) (short : ResultsShort m) where
   ask_if_stays true s g less = still_stays s g
   ask_if_stays false s g less =
       good (ask_if false s) (record { within = with_asked s (length s.log + 1) g.within; sound = g.sound })
-      (to_replica_fits s _ (bodies.SlotLookup (length s.log + 1)) g.within (next_slot s less))
+      (to_replica_fits s (leader s) (bodies.SlotLookup (length s.log + 1)) g.within (next_slot s less))
 
   -- ---- what stands in front is taken
 
@@ -561,7 +561,7 @@ module _ {S : Type 0} (m : Meaning S) (short : ResultsShort m) where
   enter_as_stays false s g =
       good (enter_as false s) g
       (all_behind (to_all s bodies.ViewChangeReq) (change_told s) (to_all_fits s bodies.ViewChangeReq g.within tt)
-      (to_replica_fits s _ (bodies.ViewChange s.last_normal s.next s.log) g.within (own_change_fits s g.within).rest))
+      (to_replica_fits s (leader s) (bodies.ViewChange s.last_normal s.next s.log) g.within (own_change_fits s g.within).rest))
 
   enter_stays : (s : ReplicaState) (v : View) → IsGood s → ViewFits v → StaysInRanges (enter s v)
   unfolding enter
@@ -726,7 +726,7 @@ module _ {S : Type 0} (m : Meaning S) (short : ResultsShort m) where
       (record { within = w; sound = advanced_sound s.receiver (s.next + (length l - length s.log)) g.sound high })
       (all_behind (replies_above m (overlaid s l) (length s.log)) (to_leader s (bodies.SyncRep (length l)))
       (above_fit (overlaid s l) (length s.log) w g.within.log.len)
-      (to_replica_fits s _ (bodies.SyncRep (length l)) g.within fits.len))
+      (to_replica_fits s (leader s) (bodies.SyncRep (length l)) g.within fits.len))
 
   at_most : (a b : ℕ) → nat_le a b ≡ true → a ≤ b
   at_most a b e = grind (arith, nat_tests, e)
@@ -897,13 +897,13 @@ module _ {S : Type 0} (m : Meaning S) (short : ResultsShort m) where
   lookup_again_stays Dropped s g =
       when_stays (has_room s) (λ t. (t, to_leader t (bodies.SlotLookup (length t.log + 1)))) s g
       (λ e. good (s, to_leader s (bodies.SlotLookup (length s.log + 1))) g
-      (to_replica_fits s _ (bodies.SlotLookup (length s.log + 1)) g.within (next_slot s (below _ _ e))))
+      (to_replica_fits s (leader s) (bodies.SlotLookup (length s.log + 1)) g.within (next_slot s (below _ _ e))))
 
   change_again_stays : (b : Bool) (s : ReplicaState) → IsGood s → StaysInRanges (rows.change_again b s)
   change_again_stays true s g = still_stays s g
   change_again_stays false s g =
       good (s, change_told s) g
-      (to_replica_fits s _ (bodies.ViewChange s.last_normal s.next s.log) g.within (own_change_fits s g.within).rest)
+      (to_replica_fits s (leader s) (bodies.ViewChange s.last_normal s.next s.log) g.within (own_change_fits s g.within).rest)
 
   resend_by_stays : (status : Phase) (b : Bool) (s : ReplicaState) → IsGood s → StaysInRanges (rows.resend_by status b s)
   resend_by_stays Change b s g =

@@ -6,25 +6,25 @@ use Rattle.replica_core.proofs.member.Member.gather.Goals as goal
 pub open_view-requires-clause-runs : goal.open_view-requires-clause-runs
 open_view-requires-clause-runs g c =
     kept_runs g.H.Host c.args.self.now.state c.keep_change.new.self
-    _ c.args.self.now.state.changes c.args.change refl c.in_ok-keep_change.ensures.kept c.requires.runs c.requires.fits
+    _ c.args.self.now.state.changes c.args.change refl c.in_ok-start.ensures.kept c.requires.runs c.requires.fits
 
 pub open_view-requires-clause-next : goal.open_view-requires-clause-next
 open_view-requires-clause-next g c =
     (gathers g.H.Host.meaning c.args.self.now.state c.keep_change.new.self c.args.self.now.state.changes c.args.change
-    c.in-Started.start refl c.requires.runs.within c.requires.fits c.in_ok-keep_change.ensures.kept
-    (sym c.in_ok-keep_change.ensures.step ∙ c.in-Started.is)).next
+    c.in-Started.start refl c.requires.runs.within c.requires.fits c.in_ok-start.ensures.kept
+    (sym c.in_ok-start.ensures.step ∙ c.in-Started.is)).next
 
 pub open_view-requires-clause-log : goal.open_view-requires-clause-log
 open_view-requires-clause-log g c =
     (gathers g.H.Host.meaning c.args.self.now.state c.keep_change.new.self c.args.self.now.state.changes c.args.change
-    c.in-Started.start refl c.requires.runs.within c.requires.fits c.in_ok-keep_change.ensures.kept
-    (sym c.in_ok-keep_change.ensures.step ∙ c.in-Started.is)).log
+    c.in-Started.start refl c.requires.runs.within c.requires.fits c.in_ok-start.ensures.kept
+    (sym c.in_ok-start.ensures.step ∙ c.in-Started.is)).log
 
 pub returns-in-Started : goal.returns-in-Started
 returns-in-Started g c =
     let starts =
     gathers g.H.Host.meaning c.args.self.now.state c.keep_change.new.self c.args.self.now.state.changes c.args.change c.in-Started.start
-    refl c.requires.runs.within c.requires.fits c.in_ok-keep_change.ensures.kept (sym c.in_ok-keep_change.ensures.step ∙ c.in-Started.is) in
+    refl c.requires.runs.within c.requires.fits c.in_ok-start.ensures.kept (sym c.in_ok-start.ensures.step ∙ c.in-Started.is) in
     on_ok c.open_view.result _ _
     (λ does. record {
       runs = does.runs;
@@ -37,11 +37,11 @@ pub returns-in-Waiting : goal.returns-in-Waiting
 returns-in-Waiting g c =
     let waits =
     gathers_more g.H.Host.meaning c.args.self.now.state c.keep_change.new.self c.args.self.now.state.changes c.args.change refl
-    c.in_ok-keep_change.ensures.kept (sym c.in_ok-keep_change.ensures.step ∙ c.in-Waiting.is) in
+    c.in_ok-start.ensures.kept (sym c.in_ok-start.ensures.step ∙ c.in-Waiting.is) in
     record {
       runs =
           kept_runs g.H.Host c.args.self.now.state c.keep_change.new.self
-          _ c.args.self.now.state.changes c.args.change refl c.in_ok-keep_change.ensures.kept c.requires.runs c.requires.fits;
+          _ c.args.self.now.state.changes c.args.change refl c.in_ok-start.ensures.kept c.requires.runs c.requires.fits;
       state = ap (λ x. x.0) (sym waits);
       sends = sym (append-nil c.args.self.now.sends) ∙ ap (λ x. c.args.self.now.sends ++ x.1) (sym waits);
     }
