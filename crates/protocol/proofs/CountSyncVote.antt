@@ -1,0 +1,30 @@
+-- The move `count_sync_vote`.
+use Rattle.std.proofs.Common.{ℕ, ◌+◌, ◌*◌, ◌<◌}
+use Rattle.std.specs.Prelude.{◌==◌}
+use Rattle.nop_types.specs.declared.replica_state.Vote.{Vote}
+use Rattle.nop_types.specs.declared.replica_state.Vote.TheVariants.{Settled, Waiting}
+use Rattle.nop_types.specs.Lists.{Has}
+use Rattle.nop_types.specs.Meaning.{Meaning}
+use Rattle.started_views.proofs.Lists.{has_none}
+use Rattle.protocol.specs.Conf.{Conf, after}
+use Rattle.protocol.specs.Invariant.{Own, Inv}
+use Rattle.protocol.specs.Member.{Member, others}
+use Rattle.protocol.specs.Moves.{commit_if, count_sync_vote}
+use Rattle.protocol.specs.Said.{Said, SyncCommit}
+use Rattle.protocol.specs.Truth.{TrueWord}
+use Rattle.protocol.proofs.Growing.{Kept}
+use Rattle.protocol.proofs.Saying.{said_unless, speaks}
+
+module _ {S : Type 0} (m : Meaning S) (f : ℕ) (c : Conf) (r : ℕ) (inv : Inv m f c) (within : r < 2 * f + 1) where
+  abbrev p : Member
+  p = c.replicas r
+
+  own : Own f c r p
+  own = inv.own r within
+
+  commits : (d : Conf) (k : ℕ) (v : Vote) (y : Said) → Has (commit_if p k v) y → TrueWord f d y.sender y.view y.word
+  commits d k Settled y i = said_unless f d p (SyncCommit k) tt (others p == 0) y i
+  commits d k Waiting y i = absurd (has_none y i)
+
+  pub count_sync_vote_keeps : (q k : ℕ) → Kept m f c (after f c r (count_sync_vote p q k))
+  count_sync_vote_keeps q k = speaks m f c r inv within (count_sync_vote p q k).state.sync (count_sync_vote p q k).said (λ d ev had. commits d k _)

@@ -1,0 +1,56 @@
+-- The move `overlay`.
+use Rattle.std.proofs.Common.{◌≡◌, ℕ, ◌+◌, ◌*◌, ◌<◌, false, refl, sym, subst, arith, inl, inr, length, List}
+use Rattle.std.specs.Prelude.{◌-◌}
+use Rattle.nop_types.specs.declared.view.View.{View}
+use Rattle.nop_types.specs.declared.request.Entry.{Entry}
+use Rattle.nop_types.specs.Meaning.{Meaning}
+use Rattle.nop_types.specs.Slots.{laid}
+use Rattle.oum_receiver.specs.Receiving.{advanced}
+use Rattle.oum_receiver.proofs.Stamps.{advanced_stamped}
+use Rattle.started_views.specs.Past.{LeaderHad}
+use Rattle.started_views.proofs.Logs.{toward_laid}
+use Rattle.started_views.proofs.Slots.{prefix_slot, laid_length, slot_laid_cases}
+use Rattle.sync_points.specs.Synchronisation.{taken}
+use Rattle.protocol.specs.Conf.{Conf, after}
+use Rattle.protocol.specs.Invariant.{Own, Inv}
+use Rattle.protocol.specs.Member.{Member, leader}
+use Rattle.protocol.specs.Moves.{say, overlaid, overlay, MayOverlay}
+use Rattle.protocol.specs.Replies.{replies_above}
+use Rattle.protocol.specs.Said.{SyncPrepare, SyncRep, says}
+use Rattle.protocol.specs.Truth.{Prepared}
+use Rattle.protocol.proofs.Growing.{Kept}
+use Rattle.protocol.proofs.Replying.{above_true}
+use Rattle.protocol.proofs.Turning.{turn_keeps}
+use Rattle.protocol.proofs.Places.{follows_last, by_number}
+use Rattle.protocol.proofs.Saying.{said_unless}
+
+module _ {S : Type 0} (m : Meaning S) (f : ℕ) (c : Conf) (r : ℕ) (inv : Inv m f c) (within : r < 2 * f + 1) where
+  abbrev p : Member
+  p = c.replicas r
+
+  own : Own f c r p
+  own = inv.own r within
+
+  pub overlay_keeps : (l : List Entry) → MayOverlay c p l → Kept m f c (after f c r (overlay m p l))
+  overlay_keeps l may =
+      turn_keeps m f c r inv within (laid l p.log) n (advanced p.receiver n) (taken p.sync (length l)) (say p (SyncRep (length l))) (replies_above m (overlaid p l) (length p.log)) (record {
+        normal = may.normal;
+        follows = follows_last m f c r inv within may;
+        lead = t.lead;
+        leads = subst (λ (w : View). LeaderHad f c.past w t.lead) (sym view) t.leads;
+        toward = toward_laid t.lead l p.log t.begins;
+        from = λ i x h. elim (slot_laid_cases l p.log i x h) [ inl new ↦ inr (prefix_slot l t.lead i x t.begins new) | inr old ↦ inl old ];
+        counted = omega (arith, laid_length l p.log);
+        session = refl;
+        number = refl;
+        queued = λ stamps h. advanced_stamped stamps p.receiver n h;
+      }) (λ d ev had. said_unless f d p (SyncRep (length l)) tt false) (λ d had. above_true m f d (overlaid p l) own.replicas (by_number m f c r inv within d (laid l p.log) view had) (length p.log))
+    where
+      n : ℕ
+      n = p.next + (length l - length p.log)
+
+      view : p.last_normal ≡ p.view
+      view = own.place.normal may.normal
+
+      t : Prepared f c (leader p) p.view l
+      t = inv.said (says (leader p) p.view (SyncPrepare l)) may.said

@@ -1,0 +1,10 @@
+pub mod Member
+pub mod Said
+pub mod Conf
+pub mod Replies
+pub mod Truth
+pub mod Moves
+pub mod Runs
+pub mod Invariant
+pub mod Evolves
+pub mod Laws
