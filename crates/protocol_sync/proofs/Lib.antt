@@ -1,0 +1,15 @@
+pub mod Agreeing
+pub mod Concluding
+pub mod Lasting
+pub mod Moves
+pub mod Opening
+pub mod Rising
+pub mod Rounds
+pub mod Runs
+pub mod Saying
+pub mod SoundLogs
+pub mod SoundReplies
+pub mod SoundStamps
+pub mod SoundViews
+pub mod SoundVotes
+pub mod Sounding

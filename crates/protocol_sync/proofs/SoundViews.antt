@@ -1,0 +1,72 @@
+-- Views and their starts are sound.
+use Rattle.std.proofs.Common.{◌≡◌, ℕ, ◌+◌, ◌*◌, Some, ap, subst, arith, List, []}
+use Rattle.nop_types.specs.declared.view.View.{View}
+use Rattle.nop_types.specs.declared.request.Entry.{Entry}
+use Rattle.nop_types.specs.Lists.{IsPrefixOf}
+use Rattle.nop_types.specs.Meaning.{Meaning}
+use Rattle.nop_types.specs.Views.{first_view, leader_of}
+use Rattle.log_merge.specs.Starting.{Start}
+use Rattle.started_views.specs.Past.{Entered, IsStart}
+use Rattle.started_views.proofs.Certificates.{started_are_comparable}
+use Rattle.started_views.proofs.Slots.{prefix_both}
+use Rattle.protocol.specs.Conf.{Conf, DidSay, last_normals}
+use Rattle.protocol.specs.Invariant.{Inv}
+use Rattle.protocol.specs.Said.{ViewChange, StartView, says}
+use Rattle.protocol.specs.Truth.{Begun}
+use Rattle.protocol.proofs.Grounding.{grounds_of}
+use Rattle.protocol.proofs.Stays.{some_same}
+use Rattle.protocol_sync.specs.Sound.{ChangeIsSound, ViewsAreSound, StartIsSound, TellsStart, StartsAreSound}
+
+module _ {S : Type 0} (m : Meaning S) (f : ℕ) (c : Conf) (inv : Inv m f c) where
+  change_sound : (r : ℕ) (v u : View) (x : ℕ) (l : List Entry) → DidSay c.said r v (ViewChange u x l) → ChangeIsSound c r v u x l
+  change_sound r v u x l h =
+      let e : c.past.entry r v ≡ Some (record { last_normal = u; next = x; log = l }) = inv.said (says r v (ViewChange u x l)) h in
+      let t = inv.entries r v (record { last_normal = u; next = x; log = l }) e in
+      record {
+        had = t.log;
+        start = t.start;
+        is_start = t.is_start;
+        next = omega (arith, t.counted);
+        one = λ w y k g.
+            let i : c.past.entry r v ≡ Some (record { last_normal = w; next = y; log = k }) = inv.said (says r v (ViewChange w y k)) g in
+            let same = some_same (c.past.entry r v) (record { last_normal = w; next = y; log = k }) (record { last_normal = u; next = x; log = l }) i e in
+            (ap (λ (z : Entered). z.last_normal) same, ap (λ (z : Entered). z.next) same, ap (λ (z : Entered). z.log) same);
+      }
+
+  pub views_sound : ViewsAreSound f c
+  views_sound = record {
+    started = λ r l. let own = inv.own r l in (own.place.start, own.place.is_start);
+    normal = λ r l. (inv.own r l).place.normal;
+    change = λ r l. (inv.own r l).place.change;
+    changes = change_sound;
+  }
+
+  start_sound : (w : View) (x : Start) → IsStart c.past w x → (w ≡ first_view → ⊥) → StartIsSound f c w x
+  start_sound w x is apart =
+      let t = (inv.starts w x is).by apart in
+      record { changes = t.changes; entered = t.certificate; leader = t.leader; opens = t.opens }
+
+  tells_start : (q : ℕ) (w : View) (x : ℕ) (l : List Entry) → DidSay c.said q w (StartView x l) → TellsStart f c q w x l
+  tells_start q w x l h =
+      let t : Begun f c q w x l = inv.said (says q w (StartView x l)) h in
+      let good = inv.logs (leader_of w (2 * f + 1)) w t.lead t.leads in
+      let same : good.start ≡ t.start = some_same (c.past.start w) good.start t.start good.is_start t.is_start in
+      let led : IsPrefixOf t.start.log t.lead = subst (λ (y : Start). IsPrefixOf y.log t.lead) same good.begins in
+      record {
+        sender = t.sender;
+        start = t.start;
+        is_start = t.is_start;
+        begins = prefix_both t.start.log l t.lead led t.begins t.within;
+        lead = t.lead;
+        leads = t.leads;
+        front = t.begins;
+        next = omega (arith, t.counted);
+      }
+
+  pub starts_sound : IsStart c.past first_view (record { next = 1; log = [] }) → StartsAreSound f c
+  starts_sound first = record {
+    first = first;
+    by = start_sound;
+    told = tells_start;
+    comparable = started_are_comparable f c.stamps (last_normals c) c.past (grounds_of m f c inv);
+  }

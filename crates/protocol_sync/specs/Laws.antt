@@ -1,0 +1,50 @@
+-- What is claimed of the protocol's runs.
+use Rattle.std.specs.Prelude.{◌≡◌, ◌≤◌, ◌<◌, ℕ, ◌+◌, ◌*◌, List, take}
+use Rattle.nop_types.specs.Configuration.{Configuration}
+use Rattle.nop_types.specs.declared.view.View.{View}
+use Rattle.nop_types.specs.declared.request.Entry.{Entry}
+use Rattle.nop_types.specs.Histories.{history_of}
+use Rattle.nop_types.specs.Legality.{Legal}
+use Rattle.nop_types.specs.Lists.{IsPrefixOf, slot_of}
+use Rattle.nop_types.specs.Meaning.{Meaning}
+use Rattle.started_views.specs.Settled.{MainLog}
+use Rattle.protocol.specs.Conf.{Conf, opening, last_normals}
+use Rattle.protocol.specs.Invariant.{Inv}
+use Rattle.protocol.specs.Runs.{Move, run, MayAll}
+use Rattle.protocol_sync.specs.Sound.{Sound}
+use Rattle.protocol_sync.specs.Synced.{Sync, SyncRises}
+
+-- a is the log from which the history is read, that of the leader of v
+abbrev pub IsMainLog : ℕ → Conf → View → List Entry → Type 0
+IsMainLog f c v a = MainLog f (last_normals c) c.past v a
+
+-- of 2 f + 1 replicas
+abbrev pub OpeningIsSynced : Type 0
+OpeningIsSynced = (f : ℕ) (config : Configuration) → config.replicas ≡ 2 * f + 1 → Sync f (opening config)
+
+-- whatever moves are made, each where it may be made
+abbrev pub SyncsKeep : {S : Type 0} → Meaning S → Type 0
+SyncsKeep m = (f : ℕ) (c : Conf) (xs : List Move) → Inv m f c → Sync f c → MayAll m f c xs → Sync f (run m f c xs)
+
+-- no sync point falls
+abbrev pub SyncPointsNeverFall : {S : Type 0} → Meaning S → Type 0
+SyncPointsNeverFall m = (f : ℕ) (c : Conf) (xs : List Move) → Inv m f c → Sync f c → MayAll m f c xs → SyncRises f c (run m f c xs)
+
+-- what a replica has up to its sync point begins the log from which the history is read
+abbrev pub SynchronisedBegin : {S : Type 0} → Meaning S → Type 0
+SynchronisedBegin m = (f : ℕ) (c : Conf) → Inv m f c → Sync f c → (r : ℕ) → r < 2 * f + 1
+    → (v : View) (a : List Entry) → IsMainLog f c v a → IsPrefixOf (take (c.replicas r).sync.sync_point (c.replicas r).log) a
+
+-- any two replicas have the same entry in each slot up to both sync points
+abbrev pub SynchronisedAgree : {S : Type 0} → Meaning S → Type 0
+SynchronisedAgree m = (f : ℕ) (c : Conf) → Inv m f c → Sync f c → (q r k : ℕ) → q < 2 * f + 1 → r < 2 * f + 1
+    → k ≤ (c.replicas q).sync.sync_point → k ≤ (c.replicas r).sync.sync_point → slot_of (c.replicas q).log k ≡ slot_of (c.replicas r).log k
+
+-- the lines are legal of the history
+abbrev pub LinesAreLegal : {S : Type 0} → Meaning S → Type 0
+LinesAreLegal m = (f : ℕ) (c : Conf) → Inv m f c → (v : View) (a : List Entry) → IsMainLog f c v a → Legal m c.lines (history_of a)
+
+-- whatever moves are made from the opening, each where it may be made
+abbrev pub RunsAreSound : {S : Type 0} → Meaning S → Type 0
+RunsAreSound m = (f : ℕ) (config : Configuration) (xs : List Move) → config.replicas ≡ 2 * f + 1
+    → MayAll m f (opening config) xs → Sound m f (run m f (opening config) xs)

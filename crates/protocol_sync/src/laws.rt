@@ -1,0 +1,45 @@
+ghost use Rattle.nop_types.specs.Meaning.{Meaning};
+ghost use Rattle.protocol_sync.specs.Laws.{
+  OpeningIsSynced,
+  SyncsKeep,
+  SyncPointsNeverFall,
+  SynchronisedBegin,
+  SynchronisedAgree,
+  LinesAreLegal,
+  RunsAreSound,
+};
+
+/// The opening meets what holds of sync points.
+pub fn opening_is_synced()
+    ensures { OpeningIsSynced }
+{}
+
+/// Whatever moves are made, what holds of sync points holds after them.
+pub fn syncs_keep<S>()
+    ensures { (m : Meaning S) → SyncsKeep m }
+{}
+
+/// No replica's sync point ever falls, and what it has up to there stays.
+pub fn sync_points_never_fall<S>()
+    ensures { (m : Meaning S) → SyncPointsNeverFall m }
+{}
+
+/// What a replica has up to its sync point begins the log from which the history is read.
+pub fn synchronised_prefixes_begin<S>()
+    ensures { (m : Meaning S) → SynchronisedBegin m }
+{}
+
+/// Any two replicas have the same entries up to both sync points.
+pub fn synchronised_prefixes_agree<S>()
+    ensures { (m : Meaning S) → SynchronisedAgree m }
+{}
+
+/// The lines are legal of the history that is read from the main log.
+pub fn lines_are_legal<S>()
+    ensures { (m : Meaning S) → LinesAreLegal m }
+{}
+
+/// All that was stamped, said, logged, replied and accepted in a run is sound.
+pub fn runs_are_sound<S>()
+    ensures { (m : Meaning S) → RunsAreSound m }
+{}
