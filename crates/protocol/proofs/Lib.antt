@@ -27,6 +27,7 @@ pub mod Overlay
 pub mod Places
 pub mod Puts
 pub mod Queue
+pub mod Receivers
 pub mod RepeatCommit
 pub mod Replying
 pub mod Runs
@@ -39,4 +40,5 @@ pub mod TakeFront
 pub mod Tell
 pub mod Turning
 pub mod Votes
+pub mod Worked
 pub mod WriteGap

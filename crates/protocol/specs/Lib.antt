@@ -8,3 +8,4 @@ pub mod Runs
 pub mod Invariant
 pub mod Evolves
 pub mod Laws
+pub mod Worked

@@ -1,0 +1,117 @@
+-- The worked runs: each move may be made, and they end where they should.
+use Rattle.std.proofs.Common.{◌≡◌, ℕ, ◌<◌, refl, ap, arith, [], ◌∷◌}
+use Rattle.nop_types.specs.declared.view.View.{View}
+use Rattle.nop_types.specs.Meaning.{Meaning}
+use Rattle.nop_types.specs.Views.{Below, first_view}
+use Rattle.gap_agree.specs.Votes.{with_vote}
+use Rattle.protocol.specs.Conf.{opening}
+use Rattle.protocol.specs.Runs.{run, MayAll}
+use Rattle.protocol.specs.Worked.{three, view, put_request, get_request, gap_run, GapRun, GapRunEnds, session_run, SessionRun, SessionRunEnds, sync_run, SyncRun, SyncRunEnds}
+use Rattle.protocol.proofs.Receivers.{front_first, front_second, front_passed, front_early, front_late}
+
+-- the replicas
+zero_of : 0 < 3
+zero_of = omega arith
+
+one_of : 1 < 3
+one_of = omega arith
+
+two_of : 2 < 3
+two_of = omega arith
+
+to_leader : Below first_view (view 1 1)
+to_leader = record { at_most = record { leader = omega arith; session = omega arith }; apart = λ e. let h = ap (λ (v : View). v.leader) e in omega (arith, h) }
+
+to_session : Below first_view (view 0 2)
+to_session = record { at_most = record { leader = omega arith; session = omega arith }; apart = λ e. let h = ap (λ (v : View). v.session) e in omega (arith, h) }
+
+leader_to_both : Below (view 1 1) (view 1 2)
+leader_to_both = record { at_most = record { leader = omega arith; session = omega arith }; apart = λ e. let h = ap (λ (v : View). v.session) e in omega (arith, h) }
+
+session_to_both : Below (view 0 2) (view 1 2)
+session_to_both = record { at_most = record { leader = omega arith; session = omega arith }; apart = λ e. let h = ap (λ (v : View). v.leader) e in omega (arith, h) }
+
+module _ {S : Type 0} (m : Meaning S) where
+  gap_allowed : MayAll m 1 (opening (three 1 2)) (gap_run m)
+  unfolding with_vote
+  gap_allowed =
+      (refl, (refl, (record { sent = (1, refl); session = omega arith }, (record { sent = (0, refl); session = omega arith },
+      ((two_of, (1, refl)), ((two_of, record { normal = refl; no_gap = refl; front = front_first 1 1 put_request }),
+      ((two_of, (0, refl)), ((two_of, record { normal = refl; no_gap = refl; front = front_second 1 1 put_request get_request }),
+      ((zero_of, (0, refl)), ((zero_of, record { may_lead = record { normal = refl; leads = refl }; no_gap = refl }),
+      ((one_of, record { normal = refl; follows = refl; said = (0, refl) }),
+      ((zero_of, record { waits = refl; vote = record { said = (0, refl); within = one_of; apart = λ e. omega (arith, e) } }),
+      ((zero_of, record { normal = refl; no_gap = refl; front = front_passed 1 1 get_request }),
+      (record { sent = (0, refl); expected = refl }, (record { sent = (1, refl); expected = refl },
+      (record { kept = (1, refl); enough = refl },
+      ((one_of, to_leader), ((two_of, to_leader),
+      ((one_of, record { gathers = refl; change = record { said = (1, refl); within = two_of; apart = λ e. omega (arith, e) } }),
+      ((one_of, record { gathers = refl; enough = omega arith }),
+      ((two_of, record { said = (0, refl); follows = λ e. omega (arith, e); at_most = record { leader = omega arith; session = omega arith }; change = λ e. refl }),
+      tt)))))))))))))))))))))
+
+  gap_ends : GapRun m (run m 1 (opening (three 1 2)) (gap_run m))
+  unfolding with_vote
+  gap_ends = record {
+    first = record { status = refl; view = refl; last_normal = refl; log = refl; sync_point = refl };
+    second = record { status = refl; view = refl; last_normal = refl; log = refl; sync_point = refl };
+    third = record { status = refl; view = refl; last_normal = refl; log = refl; sync_point = refl };
+    lines = refl;
+    history = refl;
+  }
+
+  pub gap_run_ends : GapRunEnds m
+  gap_run_ends = (gap_allowed, gap_ends)
+
+  session_allowed : MayAll m 1 (opening (three 2 1)) (session_run m)
+  session_allowed =
+      (record { own = refl; later = omega arith }, (record { sent = (0, refl); later = omega arith },
+      (refl, (record { sent = (0, refl); session = omega arith },
+      ((one_of, to_leader), ((two_of, to_session), ((two_of, (0, refl)), ((one_of, leader_to_both), ((two_of, session_to_both),
+      ((one_of, record { gathers = refl; change = record { said = (1, refl); within = two_of; apart = λ e. omega (arith, e) } }),
+      ((one_of, record { gathers = refl; enough = omega arith }),
+      ((two_of, record { said = (0, refl); follows = λ e. omega (arith, e); at_most = record { leader = omega arith; session = omega arith }; change = λ e. refl }),
+      ((two_of, record { normal = refl; no_gap = refl; front = front_early 2 1 put_request }),
+      ((one_of, (0, refl)), ((one_of, record { normal = refl; no_gap = refl; front = front_late 2 1 put_request }),
+      (record { sent = (1, refl); expected = refl }, (record { sent = (0, refl); expected = refl },
+      (record { kept = (1, refl); enough = refl },
+      tt))))))))))))))))))
+
+  session_ends : SessionRun m (run m 1 (opening (three 2 1)) (session_run m))
+  session_ends = record {
+    first = record { status = refl; view = refl; last_normal = refl; log = refl; sync_point = refl };
+    second = record { status = refl; view = refl; last_normal = refl; log = refl; sync_point = refl };
+    third = record { status = refl; view = refl; last_normal = refl; log = refl; sync_point = refl };
+    lines = refl;
+    history = refl;
+  }
+
+  pub session_run_ends : SessionRunEnds m
+  session_run_ends = (session_allowed, session_ends)
+
+  sync_allowed : MayAll m 1 (opening (three 1 1)) (sync_run m)
+  unfolding with_vote
+  sync_allowed =
+      (refl, (record { sent = (0, refl); session = omega arith },
+      ((zero_of, (0, refl)), ((zero_of, record { normal = refl; no_gap = refl; front = front_first 1 1 put_request }),
+      ((one_of, (0, refl)), ((one_of, record { normal = refl; no_gap = refl; front = front_first 1 1 put_request }),
+      ((two_of, (0, refl)), ((two_of, record { normal = refl; no_gap = refl; front = front_first 1 1 put_request }),
+      ((zero_of, record { may_lead = record { normal = refl; leads = refl }; no_gap = refl; longer = omega arith }),
+      ((one_of, record { normal = refl; follows = refl; said = (0, refl) }),
+      ((zero_of, record { may_lead = record { normal = refl; leads = refl }; vote = record { said = (0, refl); within = one_of; apart = λ e. omega (arith, e) } }),
+      ((two_of, record { normal = refl; follows = refl; said = (2, refl) }),
+      ((two_of, record { may_follow = record { normal = refl; follows = refl; said = (1, refl) }; within = omega arith }),
+      tt)))))))))))))
+
+  sync_ends : SyncRun m (run m 1 (opening (three 1 1)) (sync_run m))
+  unfolding with_vote
+  sync_ends = record {
+    first = record { status = refl; view = refl; last_normal = refl; log = refl; sync_point = refl };
+    second = record { status = refl; view = refl; last_normal = refl; log = refl; sync_point = refl };
+    third = record { status = refl; view = refl; last_normal = refl; log = refl; sync_point = refl };
+    lines = refl;
+    history = refl;
+  }
+
+  pub sync_run_ends : SyncRunEnds m
+  sync_run_ends = (sync_allowed, sync_ends)
