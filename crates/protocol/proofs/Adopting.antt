@@ -96,7 +96,7 @@ module _ {S : Type 0} (m : Meaning S) (f : ℕ) (c : Conf) (r : ℕ) (inv : Inv 
           changes = record { entered = λ n. absurd cc; gathers = λ g h. absurd cc; leads = λ n a. absurd cc };
         }
 
-    begun : r ≡ leader_of v (2 * f + 1) → IsStart d.past v (started_with (standing s))
+    pub begun : r ≡ leader_of v (2 * f + 1) → IsStart d.past v (started_with (standing s))
     begun mine =
         let apart : is_view v p.last_normal ≡ false = is_view_apart v p.last_normal (λ e. below.apart (sym e)) in
         let same : (r == leader_of v (2 * f + 1)) ≡ true = is_same_from r (leader_of v (2 * f + 1)) mine in

@@ -25,7 +25,7 @@ use Rattle.protocol.specs.Said.{StartView}
 use Rattle.protocol.proofs.Growing.{Kept}
 use Rattle.protocol.proofs.Stays.{own_lasts, submitted_lasts}
 use Rattle.protocol.proofs.Saying.{said_unless}
-use Rattle.protocol.proofs.Adopting.{adopted_keeps}
+use Rattle.protocol.proofs.Adopting.{begun, adopted_keeps}
 
 -- each entry of a merge is one of a log that is merged
 merge_from : (cs : List peer.Change) (k : ℕ) (x : Entry) → slot_of (merge cs) k ≡ Some x → (y : peer.Change) × Has cs y × (slot_of y.log k ≡ Some x)
@@ -44,68 +44,73 @@ module _ {S : Type 0} (m : Meaning S) (f : ℕ) (c : Conf) (r : ℕ) (inv : Inv 
   own : Own f c r p
   own = inv.own r within
 
-  pub open_view_keeps : (g : Gathering) → MayOpenView p g → Kept m f c (after f c r (open_view m p g))
-  open_view_keeps g may = adopted_keeps m f c r inv within p.view s.next s.log (say_all p (StartView s.next s.log)) (at_most_refl p.view) below (λ e here begun.
-      let d = after f c r (open_view m p g) in
-      let t : Gathers f d.past r p.view p.status g = (own_lasts m f c d e r p own).changes.gathers g may.gathers in
-      let is_start : IsStart d.past p.view s = subst (IsStart d.past p.view) same_start (begun t.leads) in
-      let led : LeaderHad f d.past p.view s.log = subst (λ (i : ℕ). d.past.log i p.view ≡ Some s.log) t.leads here in
-      record {
-        log = record {
-          start = s;
-          is_start = is_start;
-          lead = s.log;
-          leads = led;
-          begins = prefix_refl s.log;
-          by_number = λ k y a h. absurd (out k (Req y) a h);
-          noops = λ k a h. h;
-          submitted = λ y i. submitted_lasts m f c d e y (merged y i);
-          announced = λ a k b h. absurd (out k NoOp b h);
-          settled = λ a k b l h. absurd (out k NoOp b h);
-        };
-        counted = refl;
-        base = λ a. refl;
-        started = λ a. record {
-          session = omega (arith, session, below.at_most.session);
-          lead = s.log;
-          leads = led;
-          by = λ b. record {
-            changes = g.changes;
-            certificate = record { enough = omega (arith, may.enough, t.count); once = t.once; within = t.within; entries = t.entries };
-            leader = subst (IsOfSender g.changes) t.leads t.own;
-            opens = same_start ∙ ap (λ (w : View). opened w g.changes) t.view;
+  module _ (g : Gathering) (may : MayOpenView p g) where
+    abbrev s : Start
+    s = opened g.view g.changes
+
+    was : Gathers f c.past r p.view p.status g
+    was = own.changes.gathers g may.gathers
+
+    below : Below p.last_normal p.view
+    below = own.place.change was.change
+
+    session : 1 ≤ p.last_normal.session
+    session = (inv.starts p.last_normal own.place.start own.place.is_start).session
+
+    start_parts : (x : ℕ) (l : List Entry) → started_with (standing (adopted p p.view x l)) ≡ record { next = x; log = l }
+    start_parts x l =
+        let a : x - (length l - length l) ≡ x = omega arith in
+        let b : take (length l) l ≡ l = take_whole l in
+        cc
+
+    same_start : started_with (standing (adopted p p.view s.next s.log)) ≡ s
+    same_start = start_parts s.next s.log
+
+    out : (k : ℕ) (y : Entry) → length s.log < k → slot_of s.log k ≡ Some y → ⊥
+    out k y a e = omega (arith, a, (slot_within s.log k y e).1)
+
+    merged : (q : Request) → Has s.log (Req q) → WasSubmitted c.lines q
+    merged q (i, e) =
+        let x = merge_from (kept g.changes) (suc i) (Req q) e in
+        let y = (kept_from g.changes x.0 x.1).0 in
+        let entry = inv.entries x.0.sender p.view (record { last_normal = x.0.last_normal; next = x.0.next; log = x.0.log }) (was.entries x.0 y) in
+        (inv.logs x.0.sender x.0.last_normal x.0.log entry.log).submitted q (i, x.2)
+
+    -- the view starts with what is merged
+    pub view_starts : IsStart (after f c r (open_view m p g)).past p.view s
+    view_starts = subst (IsStart (after f c r (open_view m p g)).past p.view) same_start (begun m f c r inv within p.view s.next s.log (say_all p (StartView s.next s.log)) (at_most_refl p.view) below was.leads)
+
+    pub open_view_keeps : Kept m f c (after f c r (open_view m p g))
+    open_view_keeps = adopted_keeps m f c r inv within p.view s.next s.log (say_all p (StartView s.next s.log)) (at_most_refl p.view) below (λ e here starts.
+        let d = after f c r (open_view m p g) in
+        let t : Gathers f d.past r p.view p.status g = (own_lasts m f c d e r p own).changes.gathers g may.gathers in
+        let is_start : IsStart d.past p.view s = subst (IsStart d.past p.view) same_start (starts t.leads) in
+        let led : LeaderHad f d.past p.view s.log = subst (λ (i : ℕ). d.past.log i p.view ≡ Some s.log) t.leads here in
+        record {
+          log = record {
+            start = s;
+            is_start = is_start;
+            lead = s.log;
+            leads = led;
+            begins = prefix_refl s.log;
+            by_number = λ k y a h. absurd (out k (Req y) a h);
+            noops = λ k a h. h;
+            submitted = λ y i. submitted_lasts m f c d e y (merged y i);
+            announced = λ a k b h. absurd (out k NoOp b h);
+            settled = λ a k b l h. absurd (out k NoOp b h);
           };
-        };
-        words = said_unless f d p (StartView s.next s.log) (record { sender = own.number ∙ t.leads; start = s; is_start = is_start; lead = s.log; leads = led; within = omega arith; begins = prefix_refl s.log; counted = refl }) (others p == 0);
-      })
-    where
-      s : Start
-      s = opened g.view g.changes
-
-      was : Gathers f c.past r p.view p.status g
-      was = own.changes.gathers g may.gathers
-
-      below : Below p.last_normal p.view
-      below = own.place.change was.change
-
-      session : 1 ≤ p.last_normal.session
-      session = (inv.starts p.last_normal own.place.start own.place.is_start).session
-
-      start_parts : (x : ℕ) (l : List Entry) → started_with (standing (adopted p p.view x l)) ≡ record { next = x; log = l }
-      start_parts x l =
-          let a : x - (length l - length l) ≡ x = omega arith in
-          let b : take (length l) l ≡ l = take_whole l in
-          cc
-
-      same_start : started_with (standing (adopted p p.view s.next s.log)) ≡ s
-      same_start = start_parts s.next s.log
-
-      out : (k : ℕ) (y : Entry) → length s.log < k → slot_of s.log k ≡ Some y → ⊥
-      out k y a e = omega (arith, a, (slot_within s.log k y e).1)
-
-      merged : (q : Request) → Has s.log (Req q) → WasSubmitted c.lines q
-      merged q (i, e) =
-          let x = merge_from (kept g.changes) (suc i) (Req q) e in
-          let y = (kept_from g.changes x.0 x.1).0 in
-          let entry = inv.entries x.0.sender p.view (record { last_normal = x.0.last_normal; next = x.0.next; log = x.0.log }) (was.entries x.0 y) in
-          (inv.logs x.0.sender x.0.last_normal x.0.log entry.log).submitted q (i, x.2)
+          counted = refl;
+          base = λ a. refl;
+          started = λ a. record {
+            session = omega (arith, session, below.at_most.session);
+            lead = s.log;
+            leads = led;
+            by = λ b. record {
+              changes = g.changes;
+              certificate = record { enough = omega (arith, may.enough, t.count); once = t.once; within = t.within; entries = t.entries };
+              leader = subst (IsOfSender g.changes) t.leads t.own;
+              opens = same_start ∙ ap (λ (w : View). opened w g.changes) t.view;
+            };
+          };
+          words = said_unless f d p (StartView s.next s.log) (record { sender = own.number ∙ t.leads; start = s; is_start = is_start; lead = s.log; leads = led; within = omega arith; begins = prefix_refl s.log; counted = refl }) (others p == 0);
+        })

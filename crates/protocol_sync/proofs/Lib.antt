@@ -13,3 +13,4 @@ pub mod SoundStamps
 pub mod SoundViews
 pub mod SoundVotes
 pub mod Sounding
+pub mod Whole

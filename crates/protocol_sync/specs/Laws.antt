@@ -13,6 +13,7 @@ use Rattle.protocol.specs.Invariant.{Inv}
 use Rattle.protocol.specs.Runs.{Move, run, MayAll}
 use Rattle.protocol_sync.specs.Sound.{Sound}
 use Rattle.protocol_sync.specs.Synced.{Sync, SyncRises}
+use Rattle.protocol_sync.specs.Whole.{AllSayStarts, StartsAreWhole}
 
 -- a is the log from which the history is read, that of the leader of v
 abbrev pub IsMainLog : ℕ → Conf → View → List Entry → Type 0
@@ -48,3 +49,8 @@ LinesAreLegal m = (f : ℕ) (c : Conf) → Inv m f c → (v : View) (a : List En
 abbrev pub RunsAreSound : {S : Type 0} → Meaning S → Type 0
 RunsAreSound m = (f : ℕ) (config : Configuration) (xs : List Move) → config.replicas ≡ 2 * f + 1
     → MayAll m f (opening config) xs → Sound m f (run m f (opening config) xs)
+
+-- and where they say each StartView again as the start itself, each that was sent tells the start
+abbrev pub StartsStayWhole : {S : Type 0} → Meaning S → Type 0
+StartsStayWhole m = (f : ℕ) (config : Configuration) (xs : List Move) → config.replicas ≡ 2 * f + 1 → MayAll m f (opening config) xs
+    → AllSayStarts m f (opening config) xs → StartsAreWhole (run m f (opening config) xs)

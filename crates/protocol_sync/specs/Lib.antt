@@ -1,3 +1,4 @@
 pub mod Laws
 pub mod Sound
 pub mod Synced
+pub mod Whole

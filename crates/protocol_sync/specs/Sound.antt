@@ -111,10 +111,6 @@ pub record StartsAreSound (f : ℕ) (c : Conf) : Type 0 where
   pub told : (q : ℕ) (w : View) (x : ℕ) (l : List Entry) → DidSay c.said q w (StartView x l) → TellsStart f c q w x l
   pub comparable : (v w : View) → IsStarted c.past v → IsStarted c.past w → Comparable v w
 
--- each StartView tells the start itself
-abbrev pub StartsAreWhole : Conf → Type 0
-StartsAreWhole c = (q : ℕ) (w : View) (x : ℕ) (l : List Entry) → DidSay c.said q w (StartView x l) → IsStart c.past w (record { next = x; log = l })
-
 -- ---- (d) the logs of a view
 
 -- above the start a slot has the request that was stamped with its number, or a NO-OP that the leader announced

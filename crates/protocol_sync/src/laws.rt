@@ -7,6 +7,7 @@ ghost use Rattle.protocol_sync.specs.Laws.{
   SynchronisedAgree,
   LinesAreLegal,
   RunsAreSound,
+  StartsStayWhole,
 };
 
 /// The opening meets what holds of sync points.
@@ -42,4 +43,10 @@ pub fn lines_are_legal<S>()
 /// All that was stamped, said, logged, replied and accepted in a run is sound.
 pub fn runs_are_sound<S>()
     ensures { (m : Meaning S) → RunsAreSound m }
+{}
+
+/// Where replicas say a StartView again only as the start of their view, each StartView that was
+/// sent tells that start.
+pub fn starts_stay_whole<S>()
+    ensures { (m : Meaning S) → StartsStayWhole m }
 {}

@@ -5,6 +5,6 @@
 mod laws;
 
 pub use laws::{
-    lines_are_legal, opening_is_synced, runs_are_sound, sync_points_never_fall,
+    lines_are_legal, opening_is_synced, runs_are_sound, starts_stay_whole, sync_points_never_fall,
     synchronised_prefixes_agree, synchronised_prefixes_begin, syncs_keep,
 };
