@@ -11,7 +11,7 @@ use Rattle.started_views.specs.Settled.{MainLog}
 use Rattle.protocol.specs.Conf.{Conf, opening, last_normals}
 use Rattle.protocol.specs.Invariant.{Inv}
 use Rattle.protocol.specs.Runs.{Move, run, MayAll}
-use Rattle.protocol_sync.specs.Sound.{Sound}
+use Rattle.protocol_sync.specs.Sound.{Sound, GoesOn}
 use Rattle.protocol_sync.specs.Synced.{Sync, SyncRises}
 use Rattle.protocol_sync.specs.Whole.{AllSayStarts, StartsAreWhole}
 
@@ -45,10 +45,32 @@ SynchronisedAgree m = (f : ℕ) (c : Conf) → Inv m f c → Sync f c → (q r k
 abbrev pub LinesAreLegal : {S : Type 0} → Meaning S → Type 0
 LinesAreLegal m = (f : ℕ) (c : Conf) → Inv m f c → (v : View) (a : List Entry) → IsMainLog f c v a → Legal m c.lines (history_of a)
 
--- whatever moves are made from the opening, each where it may be made
+-- ---- of each configuration that moves lead to from the opening
+
+-- what two replicas have up to both sync points is the same; it begins the log from which the history is read, and the lines are legal of that history
+pub record Safe {S : Type 0} (m : Meaning S) (f : ℕ) (c : Conf) : Type 0 where
+  pub view : View
+  pub log : List Entry
+  pub main : IsMainLog f c view log
+  pub agreed : (q r k : ℕ) → q < 2 * f + 1 → r < 2 * f + 1
+      → k ≤ (c.replicas q).sync.sync_point → k ≤ (c.replicas r).sync.sync_point → slot_of (c.replicas q).log k ≡ slot_of (c.replicas r).log k
+  pub begins : (r : ℕ) → r < 2 * f + 1 → IsPrefixOf (take (c.replicas r).sync.sync_point (c.replicas r).log) log
+  pub legal : Legal m c.lines (history_of log)
+
+-- whatever moves are made, each where it may be made
+abbrev pub RunsAreSafe : {S : Type 0} → Meaning S → Type 0
+RunsAreSafe m = (f : ℕ) (config : Configuration) (xs : List Move) → config.replicas ≡ 2 * f + 1
+    → MayAll m f (opening config) xs → Safe m f (run m f (opening config) xs)
+
 abbrev pub RunsAreSound : {S : Type 0} → Meaning S → Type 0
 RunsAreSound m = (f : ℕ) (config : Configuration) (xs : List Move) → config.replicas ≡ 2 * f + 1
     → MayAll m f (opening config) xs → Sound m f (run m f (opening config) xs)
+
+-- and goes on soundly, whatever moves are made after it
+abbrev pub RunsGoOn : {S : Type 0} → Meaning S → Type 0
+RunsGoOn m = (f : ℕ) (config : Configuration) (xs ys : List Move) → config.replicas ≡ 2 * f + 1
+    → MayAll m f (opening config) xs → MayAll m f (run m f (opening config) xs) ys
+    → GoesOn f (run m f (opening config) xs) (run m f (run m f (opening config) xs) ys)
 
 -- and where they say each StartView again as the start itself, each that was sent tells the start
 abbrev pub StartsStayWhole : {S : Type 0} → Meaning S → Type 0

@@ -29,6 +29,7 @@ use Rattle.protocol.specs.Invariant.{Replied}
 use Rattle.protocol.specs.Member.{Member}
 use Rattle.protocol.specs.Said.{Found, GapCommit, GapRep, ViewChange, StartView, SyncPrepare, SyncRep, SyncCommit}
 use Rattle.protocol.specs.Truth.{LeaderHas}
+use Rattle.protocol_sync.specs.Synced.{SyncRises}
 
 -- ---- (a) what was stamped, submitted and kept
 
@@ -238,3 +239,16 @@ pub record Sound {S : Type 0} (m : Meaning S) (f : ℕ) (c : Conf) : Type 0 wher
   pub numbers : NumbersAreSound f c
   pub sync_points : SyncPointsAreSound f c
   pub accepts : AcceptsAreSound f c
+
+-- ---- from one configuration to a later one
+
+-- neither a sequencer's session falls, nor a replica's view, last normal view and sync point; the log of a leader only grows, and what is synchronised stays
+pub record GoesOn (f : ℕ) (c d : Conf) : Type 0 where
+  pub sessions : (j : ℕ) → (c.sequencers j).session ≤ (d.sequencers j).session
+  pub numbers : (j : ℕ) → (c.sequencers j).session ≡ (d.sequencers j).session → (c.sequencers j).next ≤ (d.sequencers j).next
+  pub views : (r : ℕ) → AtMost (c.replicas r).view (d.replicas r).view
+  pub last_normals : (r : ℕ) → AtMost (c.replicas r).last_normal (d.replicas r).last_normal
+  pub leaders : (w : View) (m n : List Entry) → LeaderHad f c.past w m → LeaderHad f d.past w n → IsPrefixOf m n
+  pub starts : (w : View) (x : Start) → IsStart c.past w x → IsStart d.past w x
+  pub lines : IsPrefixOf c.lines d.lines
+  pub synchronised : SyncRises f c d

@@ -6,7 +6,9 @@ ghost use Rattle.protocol_sync.specs.Laws.{
   SynchronisedBegin,
   SynchronisedAgree,
   LinesAreLegal,
+  RunsAreSafe,
   RunsAreSound,
+  RunsGoOn,
   StartsStayWhole,
 };
 
@@ -40,9 +42,21 @@ pub fn lines_are_legal<S>()
     ensures { (m : Meaning S) → LinesAreLegal m }
 {}
 
+/// Whatever moves are made from the opening, replicas agree as far as they are synchronised, and what
+/// was accepted is of one history.
+pub fn runs_are_safe<S>()
+    ensures { (m : Meaning S) → RunsAreSafe m }
+{}
+
 /// All that was stamped, said, logged, replied and accepted in a run is sound.
 pub fn runs_are_sound<S>()
     ensures { (m : Meaning S) → RunsAreSound m }
+{}
+
+/// What a run has reached, no later move takes back: sessions, views and sync points do not fall, and
+/// a leader's log only grows.
+pub fn runs_go_on<S>()
+    ensures { (m : Meaning S) → RunsGoOn m }
 {}
 
 /// Where replicas say a StartView again only as the start of their view, each StartView that was

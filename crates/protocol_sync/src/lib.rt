@@ -5,6 +5,7 @@
 mod laws;
 
 pub use laws::{
-    lines_are_legal, opening_is_synced, runs_are_sound, starts_stay_whole, sync_points_never_fall,
-    synchronised_prefixes_agree, synchronised_prefixes_begin, syncs_keep,
+    lines_are_legal, opening_is_synced, runs_are_safe, runs_are_sound, runs_go_on,
+    starts_stay_whole, sync_points_never_fall, synchronised_prefixes_agree,
+    synchronised_prefixes_begin, syncs_keep,
 };
