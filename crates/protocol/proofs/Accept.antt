@@ -53,7 +53,8 @@ matched v slot p e =
 pub chosen_from : (n : ℕ) (kept : List Reply) (v : View) (slot : ℕ) (p : Reply) → quorum_of n kept v slot ≡ Some p → Chosen n kept v slot p
 chosen_from n kept v slot p = at (nat_le (n / 2 + 1) (count_by (matches v slot) kept)) refl
   where
-    at : (b : _) → nat_le (n / 2 + 1) (count_by (matches v slot) kept) ≡ b → (if b then find (λ k. matches v slot k && is_leaders n k) kept else None) ≡ Some p → Chosen n kept v slot p
+    at : (b : _) → nat_le (n / 2 + 1) (count_by (matches v slot) kept) ≡ b
+        → (if b then find (λ k. matches v slot k && is_leaders n k) kept else None) ≡ Some p → Chosen n kept v slot p
     at false t e = absurd cc
     at true t e =
         let found = find_has (λ k. matches v slot k && is_leaders n k) kept p e in
@@ -92,23 +93,27 @@ module _ {S : Type 0} (m : Meaning S) (f : ℕ) (c : Conf) (inv : Inv m f c) (k 
   matching = filter (matches p.view p.slot) s.replies
 
   -- a kept reply of this view and slot is one for the client and id
-  replied : (y : Reply) (r : ℕ) → Has s.replies y → y.view ≡ p.view → y.slot ≡ p.slot → y.replica ≡ r → Replied c.replies p.view p.slot s.number p.id r
+  replied : (y : Reply) (r : ℕ) → Has s.replies y → y.view ≡ p.view → y.slot ≡ p.slot → y.replica ≡ r
+      → Replied c.replies p.view p.slot s.number p.id r
   replied y r i at_view at_slot by =
       let t = good.kept y i in
       let same : Some t.request ≡ Some its.request = sym t.pending ∙ its.pending in
       let id : t.request.id ≡ its.request.id = (let e : t.request ≡ its.request = cc in ap (λ (q : Request). q.id) e) in
-      record { reply = y; sent = t.sent; by = by; at_view = at_view; at_slot = at_slot; of_client = t.client; of_id = t.id ∙ id ∙ sym its.id }
+      record { reply = y; sent = t.sent; by = by; at_view = at_view; at_slot = at_slot; of_client = t.client;
+          of_id = t.id ∙ id ∙ sym its.id }
 
   quorum : Quorum f (Replied c.replies p.view p.slot s.number p.id)
   quorum = record {
     members = map (λ (y : Reply). y.replica) matching;
-    enough = omega (arith, chosen.enough, good.replicas, length-filter (matches p.view p.slot) s.replies, length-map matching (λ (y : Reply). y.replica));
+    enough = omega (arith, chosen.enough, good.replicas, length-filter (matches p.view p.slot) s.replies, length-map matching
+        (λ (y : Reply). y.replica));
     once = λ r. let a = counts_filter (λ (y : Reply). y.replica) (matches p.view p.slot) s.replies r in omega (arith, a, good.once r);
     within = λ r h. let y = member r h in subst (λ (i : ℕ). i < 2 * f + 1) y.2 (good.kept y.0 y.1.0).replica;
     holds = λ r h. let y = member r h in let e = matched p.view p.slot y.0 y.1.1 in replied y.0 r y.1.0 e.0 e.1 y.2;
   }
     where
-      member : (r : ℕ) → 1 ≤ counts r (map (λ (y : Reply). y.replica) matching) → (y : Reply) × (Has s.replies y × (matches p.view p.slot y ≡ true)) × (y.replica ≡ r)
+      member : (r : ℕ) → 1 ≤ counts r (map (λ (y : Reply). y.replica) matching)
+          → (y : Reply) × (Has s.replies y × (matches p.view p.slot y ≡ true)) × (y.replica ≡ r)
       member r h =
           let g = counts_member (λ (y : Reply). y.replica) matching r h in
           (g.0, has_from_filter (matches p.view p.slot) g.0 s.replies g.1, g.2)
@@ -120,7 +125,8 @@ module _ {S : Type 0} (m : Meaning S) (f : ℕ) (c : Conf) (inv : Inv m f c) (k 
   unfolding replied
   accepted_now =
       let t = inv.replies leaders (good.kept leaders chosen.member).sent in
-      let led : LeaderHad f c.past p.view t.log = subst (λ (i : ℕ). HadLog c.past i p.view t.log) leads (subst (λ (v : View). HadLog c.past leaders.replica v t.log) chosen.at_view t.had) in
+      let led : LeaderHad f c.past p.view t.log = subst (λ (i : ℕ). HadLog c.past i p.view t.log) leads
+          (subst (λ (v : View). HadLog c.past leaders.replica v t.log) chosen.at_view t.had) in
       let log = inv.logs (leader_of p.view (2 * f + 1)) p.view t.log led in
       record {
         view = p.view;
@@ -132,7 +138,8 @@ module _ {S : Type 0} (m : Meaning S) (f : ℕ) (c : Conf) (inv : Inv m f c) (k 
         leaders = replied leaders (leader_of p.view (2 * f + 1)) chosen.member chosen.at_view chosen.at_slot leads;
         tagged = chosen.tagged;
         gives = refl;
-        known = λ q i. submitted_so_far c.lines q (log.submitted q (Has-prefix (take p.slot t.log) t.log (Req q) (prefix_of_take p.slot t.log) i));
+        known = λ q i. submitted_so_far c.lines q
+            (log.submitted q (Has-prefix (take p.slot t.log) t.log (Req q) (prefix_of_take p.slot t.log) i));
       }
 
   accepted : Evolves f c d → Accepted f d (length c.lines) s.number p.id leaders.result
@@ -155,14 +162,16 @@ module _ {S : Type 0} (m : Meaning S) (f : ℕ) (c : Conf) (inv : Inv m f c) (k 
       subst (λ (i : ℕ). IsUsed (c.clients i) p.id) (sym good.number) e
 
   -- it was not accepted before
-  is_new : (client id : ℕ) (result : List ℕ) → the_line ≡ Accept client id result → (other : List ℕ) → Has c.lines (Accept client id other) → ⊥
+  is_new : (client id : ℕ) (result : List ℕ) → the_line ≡ Accept client id result → (other : List ℕ)
+      → Has c.lines (Accept client id other) → ⊥
   is_new client id result e other i =
       let same_client : s.number ≡ client = cc in
       let same_id : p.id ≡ id = cc in
       let at : Has c.lines (Accept k id other) = subst (λ (n : ℕ). Has c.lines (Accept n id other)) (sym same_client ∙ good.number) i in
       inv.lines.accepted_done k id other at its.request its.pending (sym its.id ∙ same_id)
 
-  line_from : (client id : ℕ) (result : List ℕ) → Has d.lines (Accept client id result) → Has c.lines (Accept client id result) ⊎ ((client ≡ k) × (id ≡ p.id))
+  line_from : (client id : ℕ) (result : List ℕ) → Has d.lines (Accept client id result)
+      → Has c.lines (Accept client id result) ⊎ ((client ≡ k) × (id ≡ p.id))
   line_from client id result i = elim (Has-append_cases c.lines (the_line ∷ []) (Accept client id result) i) [
     | inl old ↦ inl old
     | inr new ↦
@@ -186,11 +195,15 @@ module _ {S : Type 0} (m : Meaning S) (f : ℕ) (c : Conf) (inv : Inv m f c) (k 
   good_lines : Evolves f c d → GoodLines f d
   good_lines ev = record {
     submitted_once = submitted_once_stays c.lines the_line inv.lines.submitted_once (λ q e. absurd cc);
-    submitted_ids = λ q i. let low = inv.lines.submitted_ids q (old_submit q i) in record { low = low.low; high = omega (arith, low.high, last_ids q.client) };
+    submitted_ids = λ q i. let low = inv.lines.submitted_ids q (old_submit q i) in
+        record { low = low.low; high = omega (arith, low.high, last_ids q.client) };
     accepted_once = accepted_once_stays c.lines the_line inv.lines.accepted_once is_new;
     accepted_ids = λ client id result i. elim (line_from client id result i) [
-      | inl old ↦ (let low = inv.lines.accepted_ids client id result old in record { low = low.low; high = omega (arith, low.high, last_ids client) })
-      | inr (t, u) ↦ (let here : (c.clients s.number).last_id ≡ (c.clients client).last_id = ap (λ (n : ℕ). (c.clients n).last_id) (good.number ∙ sym t) in record { low = omega (arith, low_id.low, u); high = omega (arith, low_id.high, u, here, last_ids client) })
+      | inl old ↦ (let low = inv.lines.accepted_ids client id result old in
+          record { low = low.low; high = omega (arith, low.high, last_ids client) })
+      | inr (t, u) ↦ (let here : (c.clients s.number).last_id ≡ (c.clients client).last_id = ap (λ (n : ℕ). (c.clients n).last_id)
+          (good.number ∙ sym t) in record { low = omega (arith, low_id.low, u);
+          high = omega (arith, low_id.high, u, here, last_ids client) })
     ];
     accepted_done = done;
     grounds = λ at client id result e. elim (slice_get-push_cases c.lines the_line at (Accept client id result) e) [
@@ -216,7 +229,8 @@ module _ {S : Type 0} (m : Meaning S) (f : ℕ) (c : Conf) (inv : Inv m f c) (k 
   }
 
   pub accept_keeps : Kept m f c d
-  accept_keeps = outside_keeps m f c inv (record { sequencers = c.sequencers; clients = d.clients; controllers = c.controllers; requests = c.requests; stamps = c.stamps; installs = c.installs; lines = d.lines })
+  accept_keeps = outside_keeps m f c inv (record { sequencers = c.sequencers; clients = d.clients; controllers = c.controllers;
+      requests = c.requests; stamps = c.stamps; installs = c.installs; lines = d.lines })
       (record {
         requests = λ x i. i;
         stamps = λ x i. i;
@@ -235,5 +249,6 @@ module _ {S : Type 0} (m : Meaning S) (f : ℕ) (c : Conf) (inv : Inv m f c) (k 
         installed_once = inv.installed_once;
         controllers = inv.controllers;
         lines = good_lines ev;
-        clients = put_all (GoodClient f d) c.clients k (accepts s p.id leaders) good_client (λ i a. client_lasts m f c d ev i (c.clients i) (inv.clients i));
+        clients = put_all (GoodClient f d) c.clients k (accepts s p.id leaders) good_client
+            (λ i a. client_lasts m f c d ev i (c.clients i) (inv.clients i));
       })

@@ -30,13 +30,15 @@ module _ {S : Type 0} (m : Meaning S) (f : ℕ) (c : Conf) (r : ℕ) (inv : Inv 
   own = inv.own r within
 
   pub adopt_keeps : (v : View) (x : ℕ) (l : List Entry) → MayAdopt c p v x l → Kept m f c (after f c r (adopt m p v x l))
-  adopt_keeps v x l may = adopted_keeps m f c r inv within v x l [] may.at_most (below_of m f c r inv within v may.at_most may.change) (λ e here begun.
+  adopt_keeps v x l may = adopted_keeps m f c r inv within v x l [] may.at_most (below_of m f c r inv within v may.at_most may.change)
+      (λ e here begun.
       let d = after f c r (adopt m p v x l) in
       let n = e.leads v said.lead said.leads in
       let good = log_lasts m f c d e (leader_of v (2 * f + 1)) v said.lead (inv.logs (leader_of v (2 * f + 1)) v said.lead said.leads) in
       let is_start : IsStart d.past v said.start = e.starts v said.start said.is_start in
       let same : good.start ≡ said.start = some_same (d.past.start v) good.start said.start good.is_start is_start in
-      let begins : IsPrefixOf good.start.log l = prefix_both good.start.log l said.lead good.begins said.begins (omega (arith, ap (λ (y : Start). length y.log) same, said.within)) in
+      let begins : IsPrefixOf good.start.log l = prefix_both good.start.log l said.lead good.begins said.begins
+          (omega (arith, ap (λ (y : Start). length y.log) same, said.within)) in
       record {
         log = record {
           start = good.start;

@@ -34,7 +34,8 @@ use Rattle.protocol.proofs.Stays.{some_same, log_lasts, own_lasts, stamped_lasts
 use Rattle.protocol.proofs.Facts.{push_length}
 use Rattle.protocol.specs.Conf as conf
 
-module _ {S : Type 0} (m : Meaning S) (f : ℕ) (c : Conf) (r : ℕ) (inv : Inv m f c) (within : r < 2 * f + 1) (x : Entry) (rest : Receiving) (gap : Option Agreement) (said : List Said) (replies : List Reply) where
+module _ {S : Type 0} (m : Meaning S) (f : ℕ) (c : Conf) (r : ℕ) (inv : Inv m f c) (within : r < 2 * f + 1) (x : Entry) (rest : Receiving)
+    (gap : Option Agreement) (said : List Said) (replies : List Reply) where
   abbrev p : Member
   p = c.replicas r
 
@@ -52,8 +53,10 @@ module _ {S : Type 0} (m : Meaning S) (f : ℕ) (c : Conf) (r : ℕ) (inv : Inv 
     pub normal : p.status ≡ Normal
     pub closed : r ≡ leader_of p.last_normal (2 * f + 1) → p.gap ≡ None
     pub stamped : (q : Request) → x ≡ Req q → WasStamped c.stamps p.last_normal.session p.next q
-    pub noop : x ≡ NoOp → (r ≡ leader_of p.last_normal (2 * f + 1) → ⊥) → (k : List Entry) × LeaderHad f c.past p.last_normal k × (slot_of k (suc (length p.log)) ≡ Some NoOp)
-    pub announced : x ≡ NoOp → r ≡ leader_of p.last_normal (2 * f + 1) → (f ≡ 0) ⊎ Has said (says r p.last_normal (GapCommit (suc (length p.log))))
+    pub noop : x ≡ NoOp → (r ≡ leader_of p.last_normal (2 * f + 1) → ⊥) → (k : List Entry) × LeaderHad f c.past p.last_normal k
+        × (slot_of k (suc (length p.log)) ≡ Some NoOp)
+    pub announced : x ≡ NoOp → r ≡ leader_of p.last_normal (2 * f + 1)
+        → (f ≡ 0) ⊎ Has said (says r p.last_normal (GapCommit (suc (length p.log))))
     pub session : rest.session ≡ p.receiver.session
     pub number : rest.next ≡ p.next + 1
     pub queued : (stamps : List Stamped) → IsStampedBy stamps p.receiver → IsStampedBy stamps rest
@@ -80,11 +83,13 @@ module _ {S : Type 0} (m : Meaning S) (f : ℕ) (c : Conf) (r : ℕ) (inv : Inv 
       same_start : good.start ≡ own.place.start
       same_start = some_same (d.past.start p.last_normal) good.start own.place.start good.is_start own.place.is_start
 
-      numbered : (k : ℕ) (q : Request) → length good.start.log < k → slot_of l k ≡ Some (Req q) → WasStamped d.stamps p.last_normal.session (good.start.next + (k - length good.start.log - 1)) q
+      numbered : (k : ℕ) (q : Request) → length good.start.log < k → slot_of l k ≡ Some (Req q)
+          → WasStamped d.stamps p.last_normal.session (good.start.next + (k - length good.start.log - 1)) q
       numbered k q a h =
           elim (slot_push_cases p.log x k (Req q) h) [
             | inl (at, this) ↦
-                let counted : p.next + length good.start.log ≡ good.start.next + length p.log = subst (λ (y : Start). p.next + length y.log ≡ y.next + length p.log) (sym same_start) own.place.counted in
+                let counted : p.next + length good.start.log ≡ good.start.next + length p.log =
+                    subst (λ (y : Start). p.next + length y.log ≡ y.next + length p.log) (sym same_start) own.place.counted in
                 let number : good.start.next + (k - length good.start.log - 1) ≡ p.next = omega (arith, counted, at, a) in
                 rw number (stamped_lasts m f c d ev p.last_normal.session p.next q (may.stamped q (sym this)))
             | inr old ↦ good.by_number k q a old
@@ -97,22 +102,30 @@ module _ {S : Type 0} (m : Meaning S) (f : ℕ) (c : Conf) (r : ℕ) (inv : Inv 
             | inr last ↦ submitted_lasts m f c d ev q (known q (sym (Has-one (Req q) x last)))
           ]
 
-      announced : r ≡ leader_of p.last_normal (2 * f + 1) → (k : ℕ) → length good.start.log < k → slot_of l k ≡ Some NoOp → (f ≡ 0) ⊎ DidSay d.said r p.last_normal (GapCommit k)
+      announced : r ≡ leader_of p.last_normal (2 * f + 1) → (k : ℕ) → length good.start.log < k → slot_of l k ≡ Some NoOp
+          → (f ≡ 0) ⊎ DidSay d.said r p.last_normal (GapCommit k)
       announced a k b h =
           elim (slot_push_cases p.log x k NoOp h) [
-            | inl (at, this) ↦ elim (may.announced (sym this) a) [ inl none ↦ inl none | inr i ↦ inr (subst (λ (j : ℕ). DidSay d.said r p.last_normal (GapCommit j)) (sym at) (new (says r p.last_normal (GapCommit (suc (length p.log)))) i)) ]
+            | inl (at, this) ↦ elim (may.announced (sym this) a) [ inl none ↦ inl none | inr i ↦
+                inr (subst (λ (j : ℕ). DidSay d.said r p.last_normal (GapCommit j)) (sym at)
+                (new (says r p.last_normal (GapCommit (suc (length p.log)))) i)) ]
             | inr old ↦ good.announced a k b old
           ]
 
       -- what was the leader's last slot is settled
-      was_last : r ≡ leader_of p.last_normal (2 * f + 1) → (k : ℕ) → length good.start.log < k → k ≡ length p.log → slot_of p.log k ≡ Some NoOp → conf.Settled f d.said p.last_normal k
+      was_last : r ≡ leader_of p.last_normal (2 * f + 1) → (k : ℕ) → length good.start.log < k → k ≡ length p.log
+          → slot_of p.log k ≡ Some NoOp → conf.Settled f d.said p.last_normal k
       was_last a k b is h =
           let base : p.base ≡ length own.place.start.log = own.place.base a in
           let start : length good.start.log ≡ length own.place.start.log = ap (λ (y : Start). length y.log) same_start in
-          let there : conf.Settled f d.said p.view (length p.log) = own.gap.last (a ∙ ap (λ (w : View). leader_of w (2 * f + 1)) view) may.normal (may.closed a) (omega (arith, base, start, b, is)) (subst (λ (j : ℕ). slot_of p.log j ≡ Some NoOp) is h) in
-          subst (conf.Settled f d.said p.last_normal) (sym is) (subst (λ (w : View). conf.Settled f d.said w (length p.log)) (sym view) there)
+          let there : conf.Settled f d.said p.view (length p.log) =
+              own.gap.last (a ∙ ap (λ (w : View). leader_of w (2 * f + 1)) view) may.normal (may.closed a)
+              (omega (arith, base, start, b, is)) (subst (λ (j : ℕ). slot_of p.log j ≡ Some NoOp) is h) in
+          subst (conf.Settled f d.said p.last_normal) (sym is) (subst (λ (w : View). conf.Settled f d.said w (length p.log))
+              (sym view) there)
 
-      settled : r ≡ leader_of p.last_normal (2 * f + 1) → (k : ℕ) → length good.start.log < k → k < length l → slot_of l k ≡ Some NoOp → conf.Settled f d.said p.last_normal k
+      settled : r ≡ leader_of p.last_normal (2 * f + 1) → (k : ℕ) → length good.start.log < k → k < length l → slot_of l k ≡ Some NoOp
+          → conf.Settled f d.said p.last_normal k
       settled a k b low h =
           elim (slot_push_cases p.log x k NoOp h) [
             | inl (at, this) ↦ absurd (omega (arith, at, low, push_length p.log x))
@@ -122,7 +135,8 @@ module _ {S : Type 0} (m : Meaning S) (f : ℕ) (c : Conf) (r : ℕ) (inv : Inv 
             ]
           ]
 
-      with_lead : (k : List Entry) → LeaderHad f d.past p.last_normal k → ((i : ℕ) → length good.start.log < i → slot_of l i ≡ Some NoOp → slot_of k i ≡ Some NoOp) → GoodLog f d r p.last_normal l
+      with_lead : (k : List Entry) → LeaderHad f d.past p.last_normal k → ((i : ℕ) → length good.start.log < i → slot_of l i ≡ Some NoOp
+          → slot_of k i ≡ Some NoOp) → GoodLog f d r p.last_normal l
       with_lead k led noops = record {
         start = good.start;
         is_start = good.is_start;
@@ -136,14 +150,18 @@ module _ {S : Type 0} (m : Meaning S) (f : ℕ) (c : Conf) (r : ℕ) (inv : Inv 
         settled = settled;
       }
 
-      follower_noop : (r ≡ leader_of p.last_normal (2 * f + 1) → ⊥) → (i : ℕ) → length good.start.log < i → slot_of l i ≡ Some NoOp → slot_of good.lead i ≡ Some NoOp
+      follower_noop : (r ≡ leader_of p.last_normal (2 * f + 1) → ⊥) → (i : ℕ) → length good.start.log < i → slot_of l i ≡ Some NoOp
+          → slot_of good.lead i ≡ Some NoOp
       follower_noop other i a h =
           elim (slot_push_cases p.log x i NoOp h) [
             | inl (at, this) ↦
                 let k = may.noop (sym this) other in
                 let n = ev.leads p.last_normal k.0 k.1 in
-                let same : n.0 ≡ good.lead = some_same (d.past.log (leader_of p.last_normal (2 * f + 1)) p.last_normal) n.0 good.lead n.1 good.leads in
-                subst (λ (j : ℕ). slot_of good.lead j ≡ Some NoOp) (sym at) (subst (λ (y : List Entry). slot_of y (suc (length p.log)) ≡ Some NoOp) same (prefix_slot k.0 n.0 (suc (length p.log)) NoOp n.2 k.2))
+                let same : n.0 ≡ good.lead =
+                    some_same (d.past.log (leader_of p.last_normal (2 * f + 1)) p.last_normal) n.0 good.lead n.1 good.leads in
+                subst (λ (j : ℕ). slot_of good.lead j ≡ Some NoOp) (sym at)
+                    (subst (λ (y : List Entry). slot_of y (suc (length p.log)) ≡ Some NoOp) same
+                    (prefix_slot k.0 n.0 (suc (length p.log)) NoOp n.2 k.2))
             | inr old ↦ good.noops i a old
           ]
 
@@ -164,8 +182,10 @@ module _ {S : Type 0} (m : Meaning S) (f : ℕ) (c : Conf) (r : ℕ) (inv : Inv 
       own_after = record {
         number = own.number;
         replicas = own.replicas;
-        place = record { normal = own.place.normal; change = own.place.change; start = own.place.start; is_start = own.place.is_start; counted = omega (arith, own.place.counted, push_length p.log x); base = own.place.base };
-        queue = record { session = may.session ∙ own.queue.session; front = λ n. may.number; queued = may.queued d.stamps own.queue.queued };
+        place = record { normal = own.place.normal; change = own.place.change; start = own.place.start; is_start = own.place.is_start;
+            counted = omega (arith, own.place.counted, push_length p.log x); base = own.place.base };
+        queue = record { session = may.session ∙ own.queue.session; front = λ n. may.number;
+            queued = may.queued d.stamps own.queue.queued };
         gap = record { waits = λ g h. waits_last m f c d ev r p.view p.status l g (may.waits g h); last = λ a n none b h. last a none h };
         changes = record {
           entered = λ n. absurd (let now = may.normal in cc);
@@ -174,7 +194,9 @@ module _ {S : Type 0} (m : Meaning S) (f : ℕ) (c : Conf) (r : ℕ) (inv : Inv 
         };
       }
 
-    pub append_keeps : ((d : Conf) → Evolves f c d → HadLog d.past r p.last_normal l → (y : Said) → Has said y → TrueWord f d y.sender y.view y.word) → ((d : Conf) → HadLog d.past r p.last_normal l → (y : Reply) → Has replies y → TrueReply m f d y) → Kept m f c (after f c r e)
+    pub append_keeps : ((d : Conf) → Evolves f c d → HadLog d.past r p.last_normal l → (y : Said) → Has said y
+        → TrueWord f d y.sender y.view y.word) → ((d : Conf) → HadLog d.past r p.last_normal l → (y : Reply) → Has replies y
+        → TrueReply m f d y) → Kept m f c (after f c r e)
     append_keeps words answers = local_keeps_saying m f c r e inv within refl refl turns (λ d ev had new. record {
       log = log d ev had new;
       said = words d ev had;

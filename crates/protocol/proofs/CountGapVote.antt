@@ -50,10 +50,12 @@ module _ {S : Type 0} (m : Meaning S) (f : ℕ) (c : Conf) (r : ℕ) (inv : Inv 
     waits Settled h e = absurd cc
     waits Waiting h e = let same : counted g q ≡ h = cc in subst (Waits f c.said r p.view p.status p.log) same voted
 
-    settled : (v : Vote) → vote_of g.f (with_vote g.votes q) ≡ v → unless_settled (counted g q) v ≡ None → conf.Settled f c.said p.view (length p.log)
+    settled : (v : Vote) → vote_of g.f (with_vote g.votes q) ≡ v → unless_settled (counted g q) v ≡ None
+        → conf.Settled f c.said p.view (length p.log)
     settled Waiting is none = absurd cc
     settled Settled is none =
-        let enough : g.f ≤ length (with_vote g.votes q) = enough_from g.f (length (with_vote g.votes q)) (nat_le g.f (length (with_vote g.votes q))) refl is in
+        let enough : g.f ≤ length (with_vote g.votes q) =
+            enough_from g.f (length (with_vote g.votes q)) (nat_le g.f (length (with_vote g.votes q))) refl is in
         record {
           members = with_vote g.votes q;
           enough = omega (arith, enough, old.count);

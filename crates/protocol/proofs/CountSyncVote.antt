@@ -27,4 +27,5 @@ module _ {S : Type 0} (m : Meaning S) (f : ℕ) (c : Conf) (r : ℕ) (inv : Inv 
   commits d k Waiting y i = absurd (has_none y i)
 
   pub count_sync_vote_keeps : (q k : ℕ) → Kept m f c (after f c r (count_sync_vote p q k))
-  count_sync_vote_keeps q k = speaks m f c r inv within (count_sync_vote p q k).state.sync (count_sync_vote p q k).said (λ d ev had. commits d k _)
+  count_sync_vote_keeps q k = speaks m f c r inv within (count_sync_vote p q k).state.sync (count_sync_vote p q k).said
+      (λ d ev had. commits d k _)

@@ -34,7 +34,8 @@ use Rattle.protocol.proofs.Stays.{some_same, own_lasts}
 not_self : (w : View) (b : Bool) → (not (is_view w w) && b) ≡ true → ⊥
 not_self w b e = not_true (is_view w w) (both_true (not (is_view w w)) b e).0 (is_view_same w w refl)
 
-module _ {S : Type 0} (m : Meaning S) (f : ℕ) (c : Conf) (r : ℕ) (inv : Inv m f c) (within : r < 2 * f + 1) (v : View) (up : Below (c.replicas r).view v) where
+module _ {S : Type 0} (m : Meaning S) (f : ℕ) (c : Conf) (r : ℕ) (inv : Inv m f c) (within : r < 2 * f + 1) (v : View)
+    (up : Below (c.replicas r).view v) where
   abbrev p : Member
   p = c.replicas r
 
@@ -45,7 +46,8 @@ module _ {S : Type 0} (m : Meaning S) (f : ℕ) (c : Conf) (r : ℕ) (inv : Inv 
   own = inv.own r within
 
   below : Below p.last_normal v
-  below = record { at_most = at_most_trans p.last_normal p.view v (normal_low m f c r inv within) up.at_most; apart = λ e. up.apart (at_most_both p.view v up.at_most (subst (λ (w : View). AtMost w p.view) e (normal_low m f c r inv within))) }
+  below = record { at_most = at_most_trans p.last_normal p.view v (normal_low m f c r inv within) up.at_most;
+      apart = λ e. up.apart (at_most_both p.view v up.at_most (subst (λ (w : View). AtMost w p.view) e (normal_low m f c r inv within))) }
 
   -- whose change it keeps
   mine : leads t ≡ true → r ≡ leader_of v (2 * f + 1)
@@ -58,18 +60,26 @@ module _ {S : Type 0} (m : Meaning S) (f : ℕ) (c : Conf) (r : ℕ) (inv : Inv 
   starts = not (is_view p.last_normal p.last_normal) && (r == leader_of p.last_normal (2 * f + 1))
 
   same_log : (q : ℕ) (w : View) (l : List Entry) → q ≡ r → w ≡ p.last_normal → HadLog c.past q w l → l ≡ p.log
-  same_log q w l a b h = some_same (c.past.log r p.last_normal) l p.log (subst (λ (i : ℕ). c.past.log i p.last_normal ≡ Some l) a (subst (λ (x : View). c.past.log q x ≡ Some l) b h)) (inv.current r within)
+  same_log q w l a b h =
+      some_same (c.past.log r p.last_normal) l p.log (subst (λ (i : ℕ). c.past.log i p.last_normal ≡ Some l) a
+      (subst (λ (x : View). c.past.log q x ≡ Some l) b h)) (inv.current r within)
 
-  at_place : (past : Past) (q : ℕ) (w : View) (l : List Entry) → q ≡ r → w ≡ p.last_normal → l ≡ p.log → HadLog past r p.last_normal p.log → HadLog past q w l
-  at_place past q w l a b k h = subst (λ (i : ℕ). HadLog past i w l) (sym a) (subst (λ (x : View). HadLog past r x l) (sym b) (subst (HadLog past r p.last_normal) (sym k) h))
+  at_place : (past : Past) (q : ℕ) (w : View) (l : List Entry) → q ≡ r → w ≡ p.last_normal → l ≡ p.log → HadLog past r p.last_normal p.log
+      → HadLog past q w l
+  at_place past q w l a b k h =
+      subst (λ (i : ℕ). HadLog past i w l) (sym a)
+      (subst (λ (x : View). HadLog past r x l) (sym b) (subst (HadLog past r p.last_normal) (sym k) h))
 
   -- the receiver
-  listens : (d : Conf) → Own f d r p → (b : Bool) → (nat_lt p.view.session v.session && not (p.receiver.session == v.session)) ≡ b → GoodQueue d.stamps v.session Change p.next (cond b (receiving.opened v.session 1) p.receiver)
+  listens : (d : Conf) → Own f d r p → (b : Bool) → (nat_lt p.view.session v.session && not (p.receiver.session == v.session)) ≡ b
+      → GoodQueue d.stamps v.session Change p.next (cond b (receiving.opened v.session 1) p.receiver)
   listens d o true is = record { session = refl; front = λ n. absurd cc; queued = opened_stamped d.stamps v.session 1 }
-  listens d o false is = record { session = (let a = o.queue.session in let b = up.at_most.session in grind (arith, nat_tests, is, a, b)); front = λ n. absurd cc; queued = o.queue.queued }
+  listens d o false is = record { session = (let a = o.queue.session in let b = up.at_most.session in grind (arith, nat_tests, is, a, b));
+      front = λ n. absurd cc; queued = o.queue.queued }
 
   -- the changes of its leader, and of another
-  own_gathers : (past : Past) → past.entry r v ≡ Some (entered_with (standing p)) → leads t ≡ true → Gathers f past r v Change (gathering.entered v (others t) (own_change t))
+  own_gathers : (past : Past) → past.entry r v ≡ Some (entered_with (standing p)) → leads t ≡ true
+      → Gathers f past r v Change (gathering.entered v (others t) (own_change t))
   own_gathers past here is = record {
     view = refl;
     count = others_are;
@@ -77,14 +87,19 @@ module _ {S : Type 0} (m : Meaning S) (f : ℕ) (c : Conf) (r : ℕ) (inv : Inv 
     leads = mine is;
     own = (own_change t, has_first (own_change t) (own_change t) [] refl, own.number);
     once = λ q. grind (arith, nat_tests);
-    within = λ x i. subst (λ (y : peer.Change). y.sender < 2 * f + 1) (sym (Has-one x (own_change t) i)) (subst (λ (j : ℕ). j < 2 * f + 1) (sym own.number) within);
-    entries = λ x i. subst (λ (y : peer.Change). past.entry y.sender v ≡ Some (record { last_normal = y.last_normal; next = y.next; log = y.log })) (sym (Has-one x (own_change t) i)) (subst (λ (j : ℕ). past.entry j v ≡ Some (entered_with (standing p))) (sym own.number) here);
+    within = λ x i. subst (λ (y : peer.Change). y.sender < 2 * f + 1) (sym (Has-one x (own_change t) i))
+        (subst (λ (j : ℕ). j < 2 * f + 1) (sym own.number) within);
+    entries = λ x i. subst (λ (y : peer.Change). past.entry y.sender v
+        ≡ Some (record { last_normal = y.last_normal; next = y.next; log = y.log })) (sym (Has-one x (own_change t) i))
+        (subst (λ (j : ℕ). past.entry j v ≡ Some (entered_with (standing p))) (sym own.number) here);
   }
 
-  changes_good : (past : Past) → past.entry r v ≡ Some (entered_with (standing p)) → (b : Bool) → leads t ≡ b → GoodChanges f past r v Change (entered_with (standing p)) (enter_as b t).state.changes
+  changes_good : (past : Past) → past.entry r v ≡ Some (entered_with (standing p)) → (b : Bool) → leads t ≡ b
+      → GoodChanges f past r v Change (entered_with (standing p)) (enter_as b t).state.changes
   changes_good past here true is = record {
     entered = λ n. here;
-    gathers = λ g h. let same : gathering.entered v (others t) (own_change t) ≡ g = cc in subst (Gathers f past r v Change) same (own_gathers past here is);
+    gathers = λ g h. let same : gathering.entered v (others t) (own_change t) ≡ g = cc in
+        subst (Gathers f past r v Change) same (own_gathers past here is);
     leads = λ n a. (gathering.entered v (others t) (own_change t), refl);
   }
   changes_good past here false is = record {
@@ -93,11 +108,13 @@ module _ {S : Type 0} (m : Meaning S) (f : ℕ) (c : Conf) (r : ℕ) (inv : Inv 
     leads = λ n a. absurd (let yes = leads_from f t own.replicas (own.number ∙ a) in cc);
   }
 
-  words : (d : Conf) → d.past.entry r v ≡ Some (entered_with (standing p)) → (b : Bool) (y : Said) → Has (enter_as b t).said y → TrueWord f d y.sender y.view y.word
+  words : (d : Conf) → d.past.entry r v ≡ Some (entered_with (standing p)) → (b : Bool) (y : Said) → Has (enter_as b t).said y
+      → TrueWord f d y.sender y.view y.word
   words d here true y i = said_unless f d t Plain tt (others t == 0) y i
   words d here false y i = elim (Has-append_cases (say_all t Plain) (says p.number v (ViewChange p.last_normal p.next p.log) ∷ []) y i) [
     | inl g ↦ said_unless f d t Plain tt (others t == 0) y g
-    | inr g ↦ said_unless f d t (ViewChange p.last_normal p.next p.log) (subst (λ (j : ℕ). d.past.entry j v ≡ Some (entered_with (standing p))) (sym own.number) here) false y g
+    | inr g ↦ said_unless f d t (ViewChange p.last_normal p.next p.log)
+        (subst (λ (j : ℕ). d.past.entry j v ≡ Some (entered_with (standing p))) (sym own.number) here) false y g
   ]
 
   -- with these changes, saying this
@@ -119,7 +136,8 @@ module _ {S : Type 0} (m : Meaning S) (f : ℕ) (c : Conf) (r : ℕ) (inv : Inv 
       ];
       entries = λ q w o h. elim (entry_places rises r v (entered_with (standing p)) (with_log r p.last_normal p.log c.past) q w) [
         | inl (a, b, k) ↦
-            let reached : AtMost v p.view = subst (λ (x : View). AtMost x p.view) k (subst (λ (i : ℕ). AtMost w (c.replicas i).view) b (inv.entries q w o h).reached) in
+            let reached : AtMost v p.view =
+                subst (λ (x : View). AtMost x p.view) k (subst (λ (i : ℕ). AtMost w (c.replicas i).view) b (inv.entries q w o h).reached) in
             absurd (up.apart (at_most_both p.view v up.at_most reached))
         | inr g ↦ g ∙ h
       ];
@@ -130,10 +148,13 @@ module _ {S : Type 0} (m : Meaning S) (f : ℕ) (c : Conf) (r : ℕ) (inv : Inv 
     }
 
     here : d.past.entry r v ≡ Some (entered_with (standing p))
-    here = entry_here rises r v (entered_with (standing p)) (with_log r p.last_normal p.log c.past) (rw (is_view_apart v p.view (λ a. up.apart (sym a))) refl)
+    here = entry_here rises r v (entered_with (standing p)) (with_log r p.last_normal p.log c.past)
+        (rw (is_view_apart v p.view (λ a. up.apart (sym a))) refl)
 
-    enters_keeps : ((d : Conf) → d.past.entry r v ≡ Some (entered_with (standing p)) → GoodChanges f d.past r v Change (entered_with (standing p)) g)
-        → ((d : Conf) → d.past.entry r v ≡ Some (entered_with (standing p)) → (y : Said) → Has said y → TrueWord f d y.sender y.view y.word) → Kept m f c d
+    enters_keeps : ((d : Conf) → d.past.entry r v ≡ Some (entered_with (standing p))
+        → GoodChanges f d.past r v Change (entered_with (standing p)) g)
+        → ((d : Conf) → d.past.entry r v ≡ Some (entered_with (standing p)) → (y : Said) → Has said y
+            → TrueWord f d y.sender y.view y.word) → Kept m f c d
     enters_keeps changes words = grows_keeps m f c r e inv within forward up.at_most (at_most_refl p.last_normal) below (λ ev.
         let o : Own f d r p = own_lasts m f c d ev r p own in
         record {
@@ -155,7 +176,8 @@ module _ {S : Type 0} (m : Meaning S) (f : ℕ) (c : Conf) (r : ℕ) (inv : Inv 
           own = record {
             number = o.number;
             replicas = o.replicas;
-            place = record { normal = λ n. absurd cc; change = λ n. below; start = o.place.start; is_start = o.place.is_start; counted = o.place.counted; base = o.place.base };
+            place = record { normal = λ n. absurd cc; change = λ n. below; start = o.place.start; is_start = o.place.is_start;
+                counted = o.place.counted; base = o.place.base };
             queue = listens d o (nat_lt p.view.session v.session && not (p.receiver.session == v.session)) refl;
             gap = record { waits = λ g h. absurd cc; last = λ a n none b h. absurd cc };
             changes = changes d here;
@@ -163,7 +185,8 @@ module _ {S : Type 0} (m : Meaning S) (f : ℕ) (c : Conf) (r : ℕ) (inv : Inv 
         })
 
   enter_as_keeps : (b : Bool) → leads t ≡ b → Kept m f c (after f c r (enter_as b t))
-  enter_as_keeps true is = enters_keeps (enter_as true t).state.changes (enter_as true t).said (λ d h. changes_good d.past h true is) (λ d h. words d h true)
+  enter_as_keeps true is = enters_keeps (enter_as true t).state.changes (enter_as true t).said (λ d h. changes_good d.past h true is)
+      (λ d h. words d h true)
   enter_as_keeps false is = enters_keeps None (enter_as false t).said (λ d h. changes_good d.past h false is) (λ d h. words d h false)
 
   pub enter_keeps : Kept m f c (after f c r (enter p v))

@@ -39,7 +39,9 @@ counts_has (x ∷ xs) k h = elim (counts_cases k x xs h) [ inl e ↦ has_first k
 
 pub has_counts : (xs : List ℕ) (k : ℕ) → Has xs k → 1 ≤ counts k xs
 has_counts [] k h = absurd (has_none k h)
-has_counts (x ∷ xs) k h = elim (has_cases k x xs h) [ inl e ↦ subst (λ (j : ℕ). 1 ≤ counts j (x ∷ xs)) (sym e) (counts_first x xs) | inr i ↦ counts_rest k x xs (has_counts xs k i) ]
+has_counts (x ∷ xs) k h =
+    elim (has_cases k x xs h) [ inl e ↦ subst (λ (j : ℕ). 1 ≤ counts j (x ∷ xs)) (sym e) (counts_first x xs) | inr i ↦
+    counts_rest k x xs (has_counts xs k i) ]
 
 -- no number stands twice
 pub counts_once : (xs : List ℕ) → ((i j k : ℕ) → slice_get xs i ≡ Some k → slice_get xs j ≡ Some k → i ≡ j) → (k : ℕ) → counts k xs ≤ 1
@@ -52,7 +54,8 @@ counts_once (x ∷ xs) apart k = elim (cases_eq x k) [
       omega (arith, same)) in
       grind (arith, nat_tests, none)
   | inr n ↦
-      let rest : counts k xs ≤ 1 = counts_once xs (λ i j l h g. let e : suc i ≡ suc j = apart (suc i) (suc j) l h g in omega (arith, e)) k in
+      let rest : counts k xs ≤ 1 = counts_once xs (λ i j l h g. let e : suc i ≡ suc j = apart (suc i) (suc j) l h g in
+          omega (arith, e)) k in
       grind (arith, nat_tests, n, rest)
 ]
 
@@ -60,7 +63,8 @@ counts_once (x ∷ xs) apart k = elim (cases_eq x k) [
 
 module _ {A : Type 0} (number : A → ℕ) where
   -- fewer are asked
-  fewer : (g : A → Bool) (x : A) (xs : List A) (r : ℕ) (b : Bool) → counts r (map number (filter g xs)) ≤ counts r (map number xs) → counts r (map number (cond b (x ∷ filter g xs) (filter g xs))) ≤ counts r (map number (x ∷ xs))
+  fewer : (g : A → Bool) (x : A) (xs : List A) (r : ℕ) (b : Bool) → counts r (map number (filter g xs)) ≤ counts r (map number xs)
+      → counts r (map number (cond b (x ∷ filter g xs) (filter g xs))) ≤ counts r (map number (x ∷ xs))
   fewer g x xs r true h = omega (arith, h)
   fewer g x xs r false h = omega (arith, h)
 
@@ -68,12 +72,14 @@ module _ {A : Type 0} (number : A → ℕ) where
   counts_filter g [] r = omega arith
   counts_filter g (x ∷ xs) r = fewer g x xs r (g x) (counts_filter g xs r)
 
-  pub counts_push : (xs : List A) (x : A) (r : ℕ) → counts r (map number (xs ++ x ∷ [])) ≡ counts r (map number xs) + (if number x == r then 1 else 0)
+  pub counts_push : (xs : List A) (x : A) (r : ℕ)
+      → counts r (map number (xs ++ x ∷ [])) ≡ counts r (map number xs) + (if number x == r then 1 else 0)
   counts_push [] x r = omega arith
   counts_push (y ∷ xs) x r = omega (arith, counts_push xs x r)
 
   -- none is left of a number that is left out
-  left_out : (n : ℕ) (x : A) (xs : List A) (b : Bool) → (number x == n) ≡ b → counts n (map number (filter (λ y. not (number y == n)) xs)) ≡ 0 → counts n (map number (cond (not b) (x ∷ filter (λ y. not (number y == n)) xs) (filter (λ y. not (number y == n)) xs))) ≡ 0
+  left_out : (n : ℕ) (x : A) (xs : List A) (b : Bool) → (number x == n) ≡ b → counts n (map number (filter (λ y. not (number y == n)) xs))
+      ≡ 0 → counts n (map number (cond (not b) (x ∷ filter (λ y. not (number y == n)) xs) (filter (λ y. not (number y == n)) xs))) ≡ 0
   left_out n x xs true e h = h
   left_out n x xs false e h = rw e (omega (arith, h))
 
@@ -89,7 +95,8 @@ module _ {A : Type 0} (number : A → ℕ) where
   ]
 
 -- what is found is a member of which the test holds
-found_at : {A : Type 0} (g : A → Bool) (x y : A) (xs : List A) (b : Bool) → g x ≡ b → (find g xs ≡ Some y → Has xs y × (g y ≡ true)) → cond b (Some x) (find g xs) ≡ Some y → Has (x ∷ xs) y × (g y ≡ true)
+found_at : {A : Type 0} (g : A → Bool) (x y : A) (xs : List A) (b : Bool) → g x ≡ b → (find g xs ≡ Some y → Has xs y × (g y ≡ true))
+    → cond b (Some x) (find g xs) ≡ Some y → Has (x ∷ xs) y × (g y ≡ true)
 found_at g x y xs true t rest e = let same : x ≡ y = cc in (has_first y x xs (sym same), subst (λ z. g z ≡ true) same t)
 found_at g x y xs false t rest e = let h = rest e in (has_rest y x xs h.0, h.1)
 

@@ -25,13 +25,16 @@ grounds_of m f c inv = record {
   entries_chain = inv.chain;
   nothing_between = inv.between;
   certificate = λ w x h apart. let s = (inv.starts w x h).by apart in (s.changes, s.certificate, s.opens);
-  begins_with_start = λ r w l x h i. let g = inv.logs r w l h in subst (λ (y : Start). IsPrefixOf y.log l) (some_same (c.past.start w) g.start x g.is_start i) g.begins;
+  begins_with_start = λ r w l x h i. let g = inv.logs r w l h in
+      subst (λ (y : Start). IsPrefixOf y.log l) (some_same (c.past.start w) g.start x g.is_start i) g.begins;
   request_by_number = λ r w l x k q h i a e.
       let g = inv.logs r w l h in
       let same : g.start ≡ x = some_same (c.past.start w) g.start x g.is_start i in
-      subst (λ (y : Start). WasStamped c.stamps w.session (y.next + (k - length y.log - 1)) q) same (g.by_number k q (subst (λ (y : Start). length y.log < k) (sym same) a) e);
+      subst (λ (y : Start). WasStamped c.stamps w.session (y.next + (k - length y.log - 1)) q) same
+          (g.by_number k q (subst (λ (y : Start). length y.log < k) (sym same) a) e);
   noop_is_leaders = λ r w l n x k h led i a e.
       let g = inv.logs r w l h in
       let same : g.start ≡ x = some_same (c.past.start w) g.start x g.is_start i in
-      subst (λ (y : List Entry). slot_of y k ≡ Some NoOp) (some_same (c.past.log (leader_of w (2 * f + 1)) w) g.lead n g.leads led) (g.noops k (subst (λ (y : Start). length y.log < k) (sym same) a) e);
+      subst (λ (y : List Entry). slot_of y k ≡ Some NoOp) (some_same (c.past.log (leader_of w (2 * f + 1)) w) g.lead n g.leads led)
+          (g.noops k (subst (λ (y : Start). length y.log < k) (sym same) a) e);
 }

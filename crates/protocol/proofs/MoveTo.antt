@@ -24,7 +24,8 @@ module _ {S : Type 0} (m : Meaning S) (f : ℕ) (c : Conf) (inv : Inv m f c) (k 
 
   -- an older session of this controller is lower
   older : (x : Install) → Has c.installs x → home x.session ≡ k → x.session < s
-  older x i e = let t = inv.installs x i in let low : x.session ≤ (c.controllers k).session = subst (λ (n : ℕ). x.session ≤ (c.controllers n).session) e t.known in omega (arith, low, may.later)
+  older x i e = let t = inv.installs x i in let low : x.session ≤ (c.controllers k).session =
+      subst (λ (n : ℕ). x.session ≤ (c.controllers n).session) e t.known in omega (arith, low, may.later)
 
   no_older : (i : ℕ) → Has c.installs (record { sequencer = i; session = s }) → ⊥
   no_older i h = let low = older (record { sequencer = i; session = s }) h may.own in omega (arith, low)
@@ -33,7 +34,8 @@ module _ {S : Type 0} (m : Meaning S) (f : ℕ) (c : Conf) (inv : Inv m f c) (k 
   now_here = subst (λ (n : ℕ). d.controllers n ≡ now) (sym may.own) (put_same c.controllers k now)
 
   true_new : TrueInstall d new
-  true_new = record { low = omega (arith, may.later, (inv.controllers k).low); known = rw now_here (omega arith); current = λ e. rw now_here refl }
+  true_new = record { low = omega (arith, may.later, (inv.controllers k).low); known = rw now_here (omega arith);
+      current = λ e. rw now_here refl }
 
   -- what is said of an older one is of another controller, or it is no longer the last
   abbrev Known : Install → Control → Type 0
@@ -42,7 +44,8 @@ module _ {S : Type 0} (m : Meaning S) (f : ℕ) (c : Conf) (inv : Inv m f c) (k 
   known : (x : Install) → Has c.installs x → Known x (d.controllers (home x.session))
   known x i = put_all (λ n t. n ≡ home x.session → Known x t) c.controllers k now
       (λ e. let low = older x i (sym e) in (omega (arith, low), λ same. absurd (omega (arith, low, same))))
-      (λ n a e. subst (λ (n : ℕ). Known x (c.controllers n)) (sym e) (let t = inv.installs x i in (t.known, t.current))) (home x.session) refl
+      (λ n a e. subst (λ (n : ℕ). Known x (c.controllers n)) (sym e) (let t = inv.installs x i in (t.known, t.current)))
+          (home x.session) refl
 
   true_installs : (x : Install) → Has d.installs x → TrueInstall d x
   true_installs x i = elim (has_cases x new c.installs i) [
@@ -50,28 +53,33 @@ module _ {S : Type 0} (m : Meaning S) (f : ℕ) (c : Conf) (inv : Inv m f c) (k 
     | inr old ↦ record { low = (inv.installs x old).low; known = (known x old).0; current = (known x old).1 }
   ]
 
-  once : (a b n : ℕ) → Has d.installs (record { sequencer = a; session = n }) → Has d.installs (record { sequencer = b; session = n }) → a ≡ b
+  once : (a b n : ℕ) → Has d.installs (record { sequencer = a; session = n })
+      → Has d.installs (record { sequencer = b; session = n }) → a ≡ b
   once a b n h g =
       elim (has_cases (record { sequencer = a; session = n }) new c.installs h) [
         | inl e ↦ elim (has_cases (record { sequencer = b; session = n }) new c.installs g) [
           | inl i ↦ ap (λ (x : Install). x.sequencer) (e ∙ sym i)
-          | inr i ↦ absurd (no_older b (subst (λ (t : ℕ). Has c.installs (record { sequencer = b; session = t })) (ap (λ (x : Install). x.session) e) i))
+          | inr i ↦ absurd (no_older b (subst (λ (t : ℕ). Has c.installs (record { sequencer = b; session = t }))
+              (ap (λ (x : Install). x.session) e) i))
         ]
         | inr e ↦ elim (has_cases (record { sequencer = b; session = n }) new c.installs g) [
-          | inl i ↦ absurd (no_older a (subst (λ (t : ℕ). Has c.installs (record { sequencer = a; session = t })) (ap (λ (x : Install). x.session) i) e))
+          | inl i ↦ absurd (no_older a (subst (λ (t : ℕ). Has c.installs (record { sequencer = a; session = t }))
+              (ap (λ (x : Install). x.session) i) e))
           | inr i ↦ inv.installed_once a b n e i
         ]
       ]
 
   pub move_to_keeps : Kept m f c d
-  move_to_keeps = outside_keeps m f c inv (record { sequencers = c.sequencers; clients = c.clients; controllers = d.controllers; requests = c.requests; stamps = c.stamps; installs = d.installs; lines = c.lines })
+  move_to_keeps = outside_keeps m f c inv (record { sequencers = c.sequencers; clients = c.clients; controllers = d.controllers;
+      requests = c.requests; stamps = c.stamps; installs = d.installs; lines = c.lines })
       (record {
         requests = λ x i. i;
         stamps = λ p i. i;
         installs = λ x i. has_rest x new c.installs i;
         lines = prefix_refl c.lines;
         sequencers = λ i. onward_refl (c.sequencers i);
-        controllers = put_all (λ n t. (c.controllers n).session ≤ t.session) c.controllers k now (omega (arith, may.later)) (λ n a. omega arith);
+        controllers = put_all (λ n t. (c.controllers n).session ≤ t.session) c.controllers k now (omega (arith, may.later))
+            (λ n a. omega arith);
         last_ids = λ i. omega arith;
       })
       (λ ev. record {
@@ -81,7 +89,9 @@ module _ {S : Type 0} (m : Meaning S) (f : ℕ) (c : Conf) (inv : Inv m f c) (k 
         sequencers = λ i. sequencer_lasts m f c d ev i (c.sequencers i) (inv.sequencers i);
         installs = true_installs;
         installed_once = once;
-        controllers = put_all (λ n t. GoodControl d.installs t) c.controllers k now (record { low = omega (arith, may.later, (inv.controllers k).low); given = λ e. has_first new new c.installs refl }) (λ n a. control_lasts m f c d ev (c.controllers n) (inv.controllers n));
+        controllers = put_all (λ n t. GoodControl d.installs t) c.controllers k now
+            (record { low = omega (arith, may.later, (inv.controllers k).low); given = λ e. has_first new new c.installs refl })
+            (λ n a. control_lasts m f c d ev (c.controllers n) (inv.controllers n));
         lines = lines_last m f c d ev refl refl inv.lines;
         clients = λ i. client_lasts m f c d ev i (c.clients i) (inv.clients i);
       })

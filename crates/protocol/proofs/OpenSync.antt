@@ -26,7 +26,8 @@ module _ {S : Type 0} (m : Meaning S) (f : ℕ) (c : Conf) (r : ℕ) (inv : Inv 
   own = inv.own r within
 
   pub open_sync_keeps : MayOpenSync p → Kept m f c (after f c r (open_sync p))
-  open_sync_keeps may = speaks m f c r inv within (open_sync p).state.sync (open_sync p).said (λ d ev had. said_unless f d p (SyncPrepare p.log) (prepared d ev had) (others p == 0))
+  open_sync_keeps may = speaks m f c r inv within (open_sync p).state.sync (open_sync p).said
+      (λ d ev had. said_unless f d p (SyncPrepare p.log) (prepared d ev had) (others p == 0))
     where
       view : p.last_normal ≡ p.view
       view = own.place.normal may.may_lead.normal

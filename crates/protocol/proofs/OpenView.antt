@@ -28,7 +28,8 @@ use Rattle.protocol.proofs.Saying.{said_unless}
 use Rattle.protocol.proofs.Adopting.{begun, adopted_keeps}
 
 -- each entry of a merge is one of a log that is merged
-merge_from : (cs : List peer.Change) (k : ℕ) (x : Entry) → slot_of (merge cs) k ≡ Some x → (y : peer.Change) × Has cs y × (slot_of y.log k ≡ Some x)
+merge_from : (cs : List peer.Change) (k : ℕ) (x : Entry) → slot_of (merge cs) k ≡ Some x
+    → (y : peer.Change) × Has cs y × (slot_of y.log k ≡ Some x)
 merge_from cs k x e = at (winner cs k)
   where
     at : Winner cs k → (y : peer.Change) × Has cs y × (slot_of y.log k ≡ Some x)
@@ -73,15 +74,18 @@ module _ {S : Type 0} (m : Meaning S) (f : ℕ) (c : Conf) (r : ℕ) (inv : Inv 
     merged q (i, e) =
         let x = merge_from (kept g.changes) (suc i) (Req q) e in
         let y = (kept_from g.changes x.0 x.1).0 in
-        let entry = inv.entries x.0.sender p.view (record { last_normal = x.0.last_normal; next = x.0.next; log = x.0.log }) (was.entries x.0 y) in
+        let entry = inv.entries x.0.sender p.view (record { last_normal = x.0.last_normal; next = x.0.next; log = x.0.log })
+            (was.entries x.0 y) in
         (inv.logs x.0.sender x.0.last_normal x.0.log entry.log).submitted q (i, x.2)
 
     -- the view starts with what is merged
     pub view_starts : IsStart (after f c r (open_view m p g)).past p.view s
-    view_starts = subst (IsStart (after f c r (open_view m p g)).past p.view) same_start (begun m f c r inv within p.view s.next s.log (say_all p (StartView s.next s.log)) (at_most_refl p.view) below was.leads)
+    view_starts = subst (IsStart (after f c r (open_view m p g)).past p.view) same_start
+        (begun m f c r inv within p.view s.next s.log (say_all p (StartView s.next s.log)) (at_most_refl p.view) below was.leads)
 
     pub open_view_keeps : Kept m f c (after f c r (open_view m p g))
-    open_view_keeps = adopted_keeps m f c r inv within p.view s.next s.log (say_all p (StartView s.next s.log)) (at_most_refl p.view) below (λ e here starts.
+    open_view_keeps = adopted_keeps m f c r inv within p.view s.next s.log (say_all p (StartView s.next s.log))
+        (at_most_refl p.view) below (λ e here starts.
         let d = after f c r (open_view m p g) in
         let t : Gathers f d.past r p.view p.status g = (own_lasts m f c d e r p own).changes.gathers g may.gathers in
         let is_start : IsStart d.past p.view s = subst (IsStart d.past p.view) same_start (starts t.leads) in
@@ -112,5 +116,6 @@ module _ {S : Type 0} (m : Meaning S) (f : ℕ) (c : Conf) (r : ℕ) (inv : Inv 
               opens = same_start ∙ ap (λ (w : View). opened w g.changes) t.view;
             };
           };
-          words = said_unless f d p (StartView s.next s.log) (record { sender = own.number ∙ t.leads; start = s; is_start = is_start; lead = s.log; leads = led; within = omega arith; begins = prefix_refl s.log; counted = refl }) (others p == 0);
+          words = said_unless f d p (StartView s.next s.log) (record { sender = own.number ∙ t.leads; start = s; is_start = is_start;
+              lead = s.log; leads = led; within = omega arith; begins = prefix_refl s.log; counted = refl }) (others p == 0);
         })

@@ -27,7 +27,8 @@ kept_none : (n : ℕ) → finite.retain_keys nobody (is_from n) ≡ nobody
 kept_none n = same_requests _ _ (λ q. let kept = get_kept nobody n q in grind (arith, finite.gets, kept))
 
 kept_one : (n k : ℕ) (v : Request) → n ≤ k → finite.retain_keys (one k v) (is_from n) ≡ one k v
-kept_one n k v low = same_requests _ _ (λ q. let kept = get_kept (one k v) n q in grind (arith, finite.gets, unsigned_tied, nat_tests, low, kept))
+kept_one n k v low = same_requests _ _ (λ q. let kept = get_kept (one k v) n q in
+    grind (arith, finite.gets, unsigned_tied, nat_tests, low, kept))
 
 taken_one : (k : ℕ) (v : Request) → finite.remove (one k v) k ≡ nobody
 taken_one k v = same_requests _ _ (λ q. grind (arith, finite.gets, unsigned_tied, nat_tests))
@@ -68,7 +69,8 @@ pub front_first : (s n : ℕ) (q : Request) → front_of (offered (opened s n) (
 front_first s n q = ap front_of (offered_first s n n q (omega arith)) ∙ front_lone s n q
 
 -- the next one, after one was taken
-pub front_second : (s n : ℕ) (a b : Request) → front_of (offered (front_taken (offered (opened s n) (packet s n a))) (packet s (n + 1) b)) ≡ Message b
+pub front_second : (s n : ℕ) (a b : Request)
+    → front_of (offered (front_taken (offered (opened s n) (packet s n a))) (packet s (n + 1) b)) ≡ Message b
 front_second s n a b =
     ap (λ (r : Receiving). front_of (offered (front_taken r) (packet s (n + 1) b))) (offered_first s n n a (omega arith))
     ∙ ap (λ (r : Receiving). front_of (offered r (packet s (n + 1) b))) (taken_lone s n a) ∙ front_first s (n + 1) b
@@ -80,7 +82,9 @@ front_passed s n q =
     ∙ ap front_of (advanced_lone s n (n + 1) (n + 1) q (omega arith)) ∙ front_lone s (n + 1) q
 
 -- a packet that came before its view started
-pub front_early : (s n : ℕ) (q : Request) → front_of (cond (nat_lt (offered (opened s n) (packet s n q)).session s) (opened s n) (advanced (offered (opened s n) (packet s n q)) n)) ≡ Message q
+pub front_early : (s n : ℕ) (q : Request)
+    → front_of (cond (nat_lt (offered (opened s n) (packet s n q)).session s) (opened s n)
+    (advanced (offered (opened s n) (packet s n q)) n)) ≡ Message q
 front_early s n q =
     let here : nat_lt s s ≡ false = grind (arith, nat_tests) in
     ap (λ (r : Receiving). front_of (cond (nat_lt r.session s) (opened s n) (advanced r n))) (offered_first s n n q (omega arith))

@@ -23,7 +23,8 @@ use Rattle.protocol.proofs.Local.{turns_same, local_keeps}
 use Rattle.protocol.proofs.Places.{follows_it, by_number}
 
 -- what is said unless the replica is alone
-pub said_unless : (f : ℕ) (d : Conf) (p : Member) (x : Word) → TrueWord f d p.number p.view x → (b : Bool) (y : Said) → Has (say_unless b p x) y → TrueWord f d y.sender y.view y.word
+pub said_unless : (f : ℕ) (d : Conf) (p : Member) (x : Word) → TrueWord f d p.number p.view x → (b : Bool) (y : Said)
+    → Has (say_unless b p x) y → TrueWord f d y.sender y.view y.word
 said_unless f d p x t true y i = absurd (has_none y i)
 said_unless f d p x t false y i = subst (λ (z : Said). TrueWord f d z.sender z.view z.word) (sym (Has-one y (says p.number p.view x) i)) t
 
@@ -51,9 +52,11 @@ module _ {S : Type 0} (m : Meaning S) (f : ℕ) (c : Conf) (r : ℕ) (inv : Inv 
   log_same d ev = log_lasts m f c d ev r p.last_normal p.log (inv.logs r p.last_normal p.log (inv.current r within))
 
   -- something is said, and the sync point may change
-  pub speaks : (s : Synchronisation) (said : List Said) → ((d : Conf) → Evolves f c d → HadLog d.past r p.last_normal p.log → (y : Said) → Has said y → TrueWord f d y.sender y.view y.word)
+  pub speaks : (s : Synchronisation) (said : List Said) → ((d : Conf) → Evolves f c d → HadLog d.past r p.last_normal p.log → (y : Said)
+      → Has said y → TrueWord f d y.sender y.view y.word)
       → Kept m f c (after f c r (record { state = record p { sync = s }; said = said; replies = [] }))
-  speaks s said words = local_keeps m f c r (record { state = record p { sync = s }; said = said; replies = [] }) inv within refl refl (turns_same f c r) (λ d ev had.
+  speaks s said words = local_keeps m f c r (record { state = record p { sync = s }; said = said; replies = [] }) inv within refl refl
+      (turns_same f c r) (λ d ev had.
       let o : Own f d r p = own_lasts m f c d ev r p own in
       record {
         log = log_same d ev;
@@ -63,7 +66,8 @@ module _ {S : Type 0} (m : Meaning S) (f : ℕ) (c : Conf) (r : ℕ) (inv : Inv 
       })
 
   -- the answer, once the NO-OP stands in the log
-  pub answered : (d : Conf) → Evolves f c d → (l : List Entry) (k : ℕ) → MayFollow c p (GapCommit k) → HadLog d.past r p.last_normal l → slot_of l k ≡ Some NoOp → Answered f d p.number p.view k
+  pub answered : (d : Conf) → Evolves f c d → (l : List Entry) (k : ℕ) → MayFollow c p (GapCommit k) → HadLog d.past r p.last_normal l
+      → slot_of l k ≡ Some NoOp → Answered f d p.number p.view k
   answered d ev l k may had e =
       let t : LeaderHas f c (leader p) p.view k NoOp = inv.said (says (leader p) p.view (GapCommit k)) may.said in
       let n = ev.leads p.view t.lead t.leads in

@@ -23,7 +23,8 @@ pub vote_once : (votes : List ℕ) (q k : ℕ) → counts k (with_vote votes q) 
 vote_once votes q k = counts_once (with_vote votes q) (λ i j n h g. with_vote_apart votes q i j n h g) k
 
 -- what holds of the voter and of each that voted before
-pub vote_holds : (P : ℕ → Type 0) (votes : List ℕ) (q : ℕ) → P q → ((k : ℕ) → 1 ≤ counts k votes → P k) → (k : ℕ) → 1 ≤ counts k (with_vote votes q) → P k
+pub vote_holds : (P : ℕ → Type 0) (votes : List ℕ) (q : ℕ) → P q → ((k : ℕ) → 1 ≤ counts k votes → P k) → (k : ℕ)
+    → 1 ≤ counts k (with_vote votes q) → P k
 vote_holds P votes q here old k h =
     elim ((members_of_with_vote votes q k).0 (counts_has (with_vote votes q) k h)).1 [
       | inl e ↦ subst P (sym e) here

@@ -20,16 +20,20 @@ two_of : 2 < 3
 two_of = omega arith
 
 to_leader : Below first_view (view 1 1)
-to_leader = record { at_most = record { leader = omega arith; session = omega arith }; apart = λ e. let h = ap (λ (v : View). v.leader) e in omega (arith, h) }
+to_leader = record { at_most = record { leader = omega arith; session = omega arith };
+    apart = λ e. let h = ap (λ (v : View). v.leader) e in omega (arith, h) }
 
 to_session : Below first_view (view 0 2)
-to_session = record { at_most = record { leader = omega arith; session = omega arith }; apart = λ e. let h = ap (λ (v : View). v.session) e in omega (arith, h) }
+to_session = record { at_most = record { leader = omega arith; session = omega arith };
+    apart = λ e. let h = ap (λ (v : View). v.session) e in omega (arith, h) }
 
 leader_to_both : Below (view 1 1) (view 1 2)
-leader_to_both = record { at_most = record { leader = omega arith; session = omega arith }; apart = λ e. let h = ap (λ (v : View). v.session) e in omega (arith, h) }
+leader_to_both = record { at_most = record { leader = omega arith; session = omega arith };
+    apart = λ e. let h = ap (λ (v : View). v.session) e in omega (arith, h) }
 
 session_to_both : Below (view 0 2) (view 1 2)
-session_to_both = record { at_most = record { leader = omega arith; session = omega arith }; apart = λ e. let h = ap (λ (v : View). v.leader) e in omega (arith, h) }
+session_to_both = record { at_most = record { leader = omega arith; session = omega arith };
+    apart = λ e. let h = ap (λ (v : View). v.leader) e in omega (arith, h) }
 
 module _ {S : Type 0} (m : Meaning S) where
   gap_allowed : MayAll m 1 (opening (three 1 2)) (gap_run m)
@@ -47,7 +51,8 @@ module _ {S : Type 0} (m : Meaning S) where
       ((one_of, to_leader), ((two_of, to_leader),
       ((one_of, record { gathers = refl; change = record { said = (1, refl); within = two_of; apart = λ e. omega (arith, e) } }),
       ((one_of, record { gathers = refl; enough = omega arith }),
-      ((two_of, record { said = (0, refl); follows = λ e. omega (arith, e); at_most = record { leader = omega arith; session = omega arith }; change = λ e. refl }),
+      ((two_of, record { said = (0, refl); follows = λ e. omega (arith, e);
+          at_most = record { leader = omega arith; session = omega arith }; change = λ e. refl }),
       tt)))))))))))))))))))))
 
   gap_ends : GapRun m (run m 1 (opening (three 1 2)) (gap_run m))
@@ -70,7 +75,8 @@ module _ {S : Type 0} (m : Meaning S) where
       ((one_of, to_leader), ((two_of, to_session), ((two_of, (0, refl)), ((one_of, leader_to_both), ((two_of, session_to_both),
       ((one_of, record { gathers = refl; change = record { said = (1, refl); within = two_of; apart = λ e. omega (arith, e) } }),
       ((one_of, record { gathers = refl; enough = omega arith }),
-      ((two_of, record { said = (0, refl); follows = λ e. omega (arith, e); at_most = record { leader = omega arith; session = omega arith }; change = λ e. refl }),
+      ((two_of, record { said = (0, refl); follows = λ e. omega (arith, e);
+          at_most = record { leader = omega arith; session = omega arith }; change = λ e. refl }),
       ((two_of, record { normal = refl; no_gap = refl; front = front_early 2 1 put_request }),
       ((one_of, (0, refl)), ((one_of, record { normal = refl; no_gap = refl; front = front_late 2 1 put_request }),
       (record { sent = (1, refl); expected = refl }, (record { sent = (0, refl); expected = refl },
@@ -98,7 +104,8 @@ module _ {S : Type 0} (m : Meaning S) where
       ((two_of, (0, refl)), ((two_of, record { normal = refl; no_gap = refl; front = front_first 1 1 put_request }),
       ((zero_of, record { may_lead = record { normal = refl; leads = refl }; no_gap = refl; longer = omega arith }),
       ((one_of, record { normal = refl; follows = refl; said = (0, refl) }),
-      ((zero_of, record { may_lead = record { normal = refl; leads = refl }; vote = record { said = (0, refl); within = one_of; apart = λ e. omega (arith, e) } }),
+      ((zero_of, record { may_lead = record { normal = refl; leads = refl };
+          vote = record { said = (0, refl); within = one_of; apart = λ e. omega (arith, e) } }),
       ((two_of, record { normal = refl; follows = refl; said = (2, refl) }),
       ((two_of, record { may_follow = record { normal = refl; follows = refl; said = (1, refl) }; within = omega arith }),
       tt)))))))))))))

@@ -37,14 +37,16 @@ module _ {S : Type 0} (m : Meaning S) (f : ℕ) (c : Conf) (r : ℕ) (inv : Inv 
         leads = subst (λ (w : View). LeaderHad f c.past w t.lead) (sym (own.place.normal may.may_follow.normal)) t.leads;
         toward = toward_write t.lead p.log k NoOp t.entry;
         from = λ i x h. elim (slot_set_cases p.log k NoOp i x h) [
-          | inl (a, b) ↦ inr (subst (λ (j : ℕ). slot_of t.lead j ≡ Some x) (sym a) (subst (λ (y : Entry). slot_of t.lead k ≡ Some y) (sym b) t.entry))
+          | inl (a, b) ↦ inr (subst (λ (j : ℕ). slot_of t.lead j ≡ Some x) (sym a)
+              (subst (λ (y : Entry). slot_of t.lead k ≡ Some y) (sym b) t.entry))
           | inr old ↦ inl old
         ];
         counted = omega (arith, set_length p.log k NoOp);
         session = refl;
         number = own.queue.front may.may_follow.normal;
         queued = λ stamps h. h;
-      }) (λ d ev had. said_unless f d p (GapRep k) (answered m f c r inv within d ev (set_slot p.log k NoOp) k may.may_follow had (slot_of_set p.log k NoOp (slot_within t.lead k NoOp t.entry).0 may.within)) false) (λ d had y i. absurd (has_none y i))
+      }) (λ d ev had. said_unless f d p (GapRep k) (answered m f c r inv within d ev (set_slot p.log k NoOp) k may.may_follow had
+          (slot_of_set p.log k NoOp (slot_within t.lead k NoOp t.entry).0 may.within)) false) (λ d had y i. absurd (has_none y i))
     where
       t : LeaderHas f c (leader p) p.view k NoOp
       t = inv.said (says (leader p) p.view (GapCommit k)) may.may_follow.said

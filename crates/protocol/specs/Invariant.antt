@@ -42,7 +42,8 @@ pub record TrueInstall (c : Conf) (x : Install) : Type 0 where
 
 -- no session goes to two sequencers
 abbrev pub InstalledOnce : List Install → Type 0
-InstalledOnce installs = (i j session : ℕ) → Has installs (record { sequencer = i; session = session }) → Has installs (record { sequencer = j; session = session }) → i ≡ j
+InstalledOnce installs = (i j session : ℕ) → Has installs (record { sequencer = i; session = session })
+    → Has installs (record { sequencer = j; session = session }) → i ≡ j
 
 -- a session that is not confirmed was given out
 pub record GoodControl (installs : List Install) (x : Control) : Type 0 where
@@ -68,18 +69,21 @@ StampedOnce stamps = (session number : ℕ) (a b : Request) → WasStamped stamp
 
 -- ---- the logs of a view
 
--- each log that a replica had in a view: it begins with the view's start, and above that each slot has the request of its number, or a NO-OP that the leader has there too
+-- each log that a replica had in a view: it begins with the view's start, and above that each slot has the request of its number, or a
+-- NO-OP that the leader has there too
 pub record GoodLog (f : ℕ) (c : Conf) (r : ℕ) (w : View) (l : List Entry) : Type 0 where
   pub start : Start
   pub is_start : IsStart c.past w start
   pub lead : List Entry
   pub leads : LeaderHad f c.past w lead
   pub begins : IsPrefixOf start.log l
-  pub by_number : (k : ℕ) (q : Request) → length start.log < k → slot_of l k ≡ Some (Req q) → WasStamped c.stamps w.session (start.next + (k - length start.log - 1)) q
+  pub by_number : (k : ℕ) (q : Request) → length start.log < k → slot_of l k ≡ Some (Req q)
+      → WasStamped c.stamps w.session (start.next + (k - length start.log - 1)) q
   pub noops : (k : ℕ) → length start.log < k → slot_of l k ≡ Some NoOp → slot_of lead k ≡ Some NoOp
   pub submitted : (q : Request) → Has l (Req q) → WasSubmitted c.lines q
   -- each NO-OP of the leader is announced, and below its last slot settled
-  pub announced : r ≡ leader_of w (2 * f + 1) → (k : ℕ) → length start.log < k → slot_of l k ≡ Some NoOp → (f ≡ 0) ⊎ DidSay c.said r w (GapCommit k)
+  pub announced : r ≡ leader_of w (2 * f + 1) → (k : ℕ) → length start.log < k → slot_of l k ≡ Some NoOp
+      → (f ≡ 0) ⊎ DidSay c.said r w (GapCommit k)
   pub settled : r ≡ leader_of w (2 * f + 1) → (k : ℕ) → length start.log < k → k < length l → slot_of l k ≡ Some NoOp → Settled f c.said w k
 
 -- ---- starts and entries
@@ -149,9 +153,11 @@ pub record Waits (f : ℕ) (said : List Said) (r : ℕ) (view : View) (status : 
   pub voted : (q : ℕ) → 1 ≤ counts q g.votes → DidSay said q view (GapRep g.slot)
 
 -- while no gap waits, a NO-OP in the leader's last slot is settled, where that is above its base
-pub record GoodGap (f : ℕ) (said : List Said) (r : ℕ) (view : View) (status : Phase) (base : ℕ) (log : List Entry) (gap : Option Agreement) : Type 0 where
+pub record GoodGap (f : ℕ) (said : List Said) (r : ℕ) (view : View) (status : Phase) (base : ℕ) (log : List Entry)
+    (gap : Option Agreement) : Type 0 where
   pub waits : (g : Agreement) → gap ≡ Some g → Waits f said r view status log g
-  pub last : r ≡ leader_of view (2 * f + 1) → status ≡ Normal → gap ≡ None → base < length log → slot_of log (length log) ≡ Some NoOp → Settled f said view (length log)
+  pub last : r ≡ leader_of view (2 * f + 1) → status ≡ Normal → gap ≡ None → base < length log → slot_of log (length log) ≡ Some NoOp
+      → Settled f said view (length log)
 
 -- who gathers leads the view in Change, and each change is what its sender entered the view with
 pub record Gathers (f : ℕ) (past : Past) (r : ℕ) (w : View) (status : Phase) (g : Gathering) : Type 0 where
@@ -162,10 +168,12 @@ pub record Gathers (f : ℕ) (past : Past) (r : ℕ) (w : View) (status : Phase)
   pub own : IsOfSender g.changes r
   pub once : (q : ℕ) → counts q (map (λ x. x.sender) g.changes) ≤ 1
   pub within : (x : peer.Change) → Has g.changes x → x.sender < 2 * f + 1
-  pub entries : (x : peer.Change) → Has g.changes x → past.entry x.sender w ≡ Some (record { last_normal = x.last_normal; next = x.next; log = x.log })
+  pub entries : (x : peer.Change) → Has g.changes x
+      → past.entry x.sender w ≡ Some (record { last_normal = x.last_normal; next = x.next; log = x.log })
 
 -- what it has in Change is what it entered the view with
-pub record GoodChanges (f : ℕ) (past : Past) (r : ℕ) (view : View) (status : Phase) (e : Entered) (changes : Option Gathering) : Type 0 where
+pub record GoodChanges (f : ℕ) (past : Past) (r : ℕ) (view : View) (status : Phase) (e : Entered)
+    (changes : Option Gathering) : Type 0 where
   pub entered : status ≡ Change → past.entry r view ≡ Some e
   pub gathers : (g : Gathering) → changes ≡ Some g → Gathers f past r view status g
   pub leads : status ≡ Change → r ≡ leader_of view (2 * f + 1) → (g : Gathering) × (changes ≡ Some g)
@@ -190,7 +198,8 @@ pub record Replied (replies : List Reply) (w : View) (slot client id r : ℕ) : 
   pub of_client : reply.client ≡ client
   pub of_id : reply.id ≡ id
 
--- why the line at a place k may accept: f + 1 replicas replied at one view and slot, the leader among them, with this result; its log had the slot, and each request up to there was submitted before
+-- why the line at a place k may accept: f + 1 replicas replied at one view and slot, the leader among them, with this result; its log had
+-- the slot, and each request up to there was submitted before
 pub record Accepted (f : ℕ) (c : Conf) (k client id : ℕ) (result : List ℕ) : Type 0 where
   pub view : View
   pub slot : ℕ
@@ -214,7 +223,8 @@ pub record GoodLines (f : ℕ) (c : Conf) : Type 0 where
   pub submitted_ids : (q : Request) → WasSubmitted c.lines q → IsUsed (c.clients q.client) q.id
   pub accepted_once : AcceptedOnce c.lines
   pub accepted_ids : (client id : ℕ) (result : List ℕ) → Has c.lines (Accept client id result) → IsUsed (c.clients client) id
-  pub accepted_done : (client id : ℕ) (result : List ℕ) → Has c.lines (Accept client id result) → (q : Request) → IsOpen (c.clients client) q → q.id ≡ id → ⊥
+  pub accepted_done : (client id : ℕ) (result : List ℕ) → Has c.lines (Accept client id result) → (q : Request)
+      → IsOpen (c.clients client) q → q.id ≡ id → ⊥
   pub grounds : (k client id : ℕ) (result : List ℕ) → slice_get c.lines k ≡ Some (Accept client id result) → Accepted f c k client id result
 
 -- the open request was sent
@@ -256,7 +266,8 @@ pub record Inv {S : Type 0} (m : Meaning S) (f : ℕ) (c : Conf) : Type 0 where
   pub starts : (w : View) (x : Start) → IsStart c.past w x → GoodStart f c.past w x
   pub entries : (r : ℕ) (v : View) (e : Entered) → c.past.entry r v ≡ Some e → GoodEntry c.past r (c.replicas r).view v e
   pub chain : (r : ℕ) (v w : View) (d e : Entered) → c.past.entry r v ≡ Some d → c.past.entry r w ≡ Some e → Comparable v w
-  pub between : (r : ℕ) (v w : View) (e : Entered) (l : List Entry) → c.past.entry r v ≡ Some e → HadLog c.past r w l → AtMost w e.last_normal ⊎ AtMost v w
+  pub between : (r : ℕ) (v w : View) (e : Entered) (l : List Entry) → c.past.entry r v ≡ Some e → HadLog c.past r w l
+      → AtMost w e.last_normal ⊎ AtMost v w
   pub said : (x : Said) → Has c.said x → TrueWord f c x.sender x.view x.word
   pub replies : (p : Reply) → Has c.replies p → TrueReply m f c p
   pub current : (r : ℕ) → r < 2 * f + 1 → HadLog c.past r (c.replicas r).last_normal (c.replicas r).log

@@ -148,7 +148,8 @@ module _ {S : Type 0} (m : Meaning S) where
   -- The commit of the leader is obeyed by the follower that has taken its log, and not yet by the one that answered it.
   abbrev pub sync_run : List Move
   sync_run =
-      Submit 0 put_op ∷ Stamp 0 put_request ∷ logs 0 (stamp_of 1 1 put_request) ++ logs 1 (stamp_of 1 1 put_request) ++ logs 2 (stamp_of 1 1 put_request)
+      Submit 0 put_op ∷ Stamp 0 put_request ∷ logs 0 (stamp_of 1 1 put_request) ++ logs 1 (stamp_of 1 1 put_request)
+          ++ logs 2 (stamp_of 1 1 put_request)
       ++ Acts 0 OpenSync ∷ Acts 1 (Overlay (Req put_request ∷ [])) ∷ Acts 0 (CountSyncVote 1 1)
       ∷ Acts 2 (Overlay (Req put_request ∷ [])) ∷ Acts 2 (Obey 1) ∷ []
 

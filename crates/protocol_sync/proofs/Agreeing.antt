@@ -21,7 +21,8 @@ synchronised_begin m f c inv sync r within v a main =
     let p = c.replicas r in
     let o = sync.own r within in
     let fixed = fixed_from f c sync p.last_normal p.sync.sync_point o.anchored in
-    synchronised_agree f c.stamps (last_normals c) c.past (grounds_of m f c inv) v p.last_normal a o.agrees.lead p.log p.sync.sync_point main o.agrees.leads o.agrees.same fixed
+    synchronised_agree f c.stamps (last_normals c) c.past (grounds_of m f c inv) v p.last_normal a o.agrees.lead p.log p.sync.sync_point
+    main o.agrees.leads o.agrees.same fixed
 
 pub synchronised_prefixes_agree : {S : Type 0} (m : Meaning S) → SynchronisedAgree m
 synchronised_prefixes_agree m f c inv sync q r k ql rl qk rk =

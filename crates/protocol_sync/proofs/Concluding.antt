@@ -45,7 +45,8 @@ module _ {S : Type 0} (m : Meaning S) (f : ℕ) (c : Conf) (inv : Inv m f c) whe
         let led : LeaderHad f c.past a.view t.log = subst (λ (i : ℕ). HadLog c.past i a.view t.log) a.leaders.by
         (subst (λ (v : View). HadLog c.past p.replica v t.log) a.leaders.at_view t.had) in
         let same : t.log ≡ a.log = some_same (c.past.log leader a.view) t.log a.log led a.leads in
-        let leads : p.replica ≡ leader_of p.view (2 * f + 1) = a.leaders.by ∙ ap (λ (v : View). leader_of v (2 * f + 1)) (sym a.leaders.at_view) in
+        let leads : p.replica ≡ leader_of p.view (2 * f + 1) = a.leaders.by ∙ ap (λ (v : View). leader_of v (2 * f + 1))
+        (sym a.leaders.at_view) in
         let q = t.leads leads in
         record {
           request = q.0;
@@ -60,7 +61,8 @@ module _ {S : Type 0} (m : Meaning S) (f : ℕ) (c : Conf) (inv : Inv m f c) whe
     reached : (r : ℕ) → Replied c.replies a.view a.slot client id r → Reached c.past a.view a.slot r
     reached r h =
         let t = inv.replies h.reply h.sent in
-        let there : HadLog c.past h.reply.replica a.view t.log = subst (λ (v : View). HadLog c.past h.reply.replica v t.log) h.at_view t.had in
+        let there : HadLog c.past h.reply.replica a.view t.log =
+        subst (λ (v : View). HadLog c.past h.reply.replica v t.log) h.at_view t.had in
         (t.log, subst (λ (i : ℕ). HadLog c.past i a.view t.log) h.by there, omega (arith, t.within, h.at_slot))
 
     -- a replica that answered a gap had the NO-OP
@@ -73,7 +75,8 @@ module _ {S : Type 0} (m : Meaning S) (f : ℕ) (c : Conf) (inv : Inv m f c) whe
         let t = inv.logs leader a.view a.log a.leads in
         let same : t.start ≡ x = some_same (c.past.start a.view) t.start x t.is_start is in
         let there : length t.start.log < i = subst (λ (y : Start). length y.log < i) (sym same) above in
-        others_weaker f leader (λ q. DidSay c.said q a.view (GapRep i)) (HadNoOp c.past a.view i) (had_noop i) (t.settled refl i there low e)
+        others_weaker f leader (λ q. DidSay c.said q a.view (GapRep i)) (HadNoOp c.past a.view i) (had_noop i)
+        (t.settled refl i there low e)
 
     pub accepted_fixed : Fixed f c.past a.view a.log a.slot
     accepted_fixed = accept_fixes f c.past a.view a.log a.slot (record {
@@ -92,7 +95,8 @@ module _ {S : Type 0} (m : Meaning S) (f : ℕ) (c : Conf) (inv : Inv m f c) whe
 
     grounded_at : (v : View) (main : List Entry) → MainLog f (last_normals c) c.past v main → IsGrounded m c.lines main k client id result
     grounded_at v main is =
-        let begins = main_log_has_fixed f c.stamps (last_normals c) c.past (grounds_of m f c inv) v a.view main a.log a.slot is accepted_fixed in
+        let begins = main_log_has_fixed f c.stamps (last_normals c) c.past (grounds_of m f c inv) v a.view main a.log a.slot is
+        accepted_fixed in
         let here : IsGrounded m c.lines a.log k client id result = record {
           slot = a.slot;
           request = told.request;

@@ -38,33 +38,58 @@ synced_fixes f c sync u s x =
       leads = x.leads;
       within = x.within;
       others = others_weaker f (leader_of u (2 * f + 1)) (λ q. DidSay c.said q u (SyncRep s)) (HadSame c.past u s x.lead) (λ q h.
-          let t = sync.reps q u s h in
-          (t.log, t.had, subst (SameTo s t.log) (some_same (c.past.log (leader_of u (2 * f + 1)) u) t.agrees.lead x.lead t.agrees.leads x.leads) t.agrees.same)) x.others;
+          let t = sync.reps q u s h in (
+            t.log,
+            t.had,
+            subst (SameTo s t.log)
+                (some_same (c.past.log (leader_of u (2 * f + 1)) u) t.agrees.lead x.lead t.agrees.leads x.leads) t.agrees.same,
+          )) x.others;
     })
 
 module _ {S : Type 0} (m : Meaning S) (f : ℕ) (c d : Conf) (inv : Inv m f c) (ev : Evolves f c d) where
   pub synced_lasts : (u : View) (s : ℕ) → Synced f c u s → Synced f d u s
   synced_lasts u s x =
       let n = ev.leads u x.lead x.leads in
-      record { lead = n.0; leads = n.1; within = omega (arith, x.within, prefix_length x.lead n.0 n.2); others = others_weaker f (leader_of u (2 * f + 1)) (λ q. DidSay c.said q u (SyncRep s)) (λ q. DidSay d.said q u (SyncRep s)) (λ q h. said_lasts m f c d ev q u (SyncRep s) h) x.others }
+      record {
+        lead = n.0;
+        leads = n.1;
+        within = omega (arith, x.within, prefix_length x.lead n.0 n.2);
+        others = others_weaker f (leader_of u (2 * f + 1)) (λ q. DidSay c.said q u (SyncRep s)) (λ q. DidSay d.said q u (SyncRep s))
+            (λ q h. said_lasts m f c d ev q u (SyncRep s) h) x.others;
+      }
 
   pub anchored_lasts : (w v : View) (s : ℕ) → AtMost w v → Anchored f c w s → Anchored f d v s
   anchored_lasts w v s low (inl e) = inl e
   anchored_lasts w v s low (inr (u, a, x)) = inr (u, at_most_trans u w v a low, synced_lasts u s x)
 
-  pub agrees_lasts : (q : ℕ) (w : View) (l j : List Entry) (s : ℕ) → HadLog c.past q w l → HadLog d.past q w j → Agrees f c w l s → Agrees f d w j s
+  pub agrees_lasts : (q : ℕ) (w : View) (l j : List Entry) (s : ℕ) → HadLog c.past q w l → HadLog d.past q w j → Agrees f c w l s
+      → Agrees f d w j s
   agrees_lasts q w l j s a b t =
       let g = ev.logs q w l a in
       let n = ev.leads w t.lead t.leads in
       let same : g.0 ≡ j = some_same (d.past.log q w) g.0 j g.1 b in
       let lead : n.0 ≡ g.2 = some_same (d.past.log (leader_of w (2 * f + 1)) w) n.0 g.2 n.1 g.3 in
-      record { lead = g.2; leads = g.3; same = toward_keeps_same g.2 l j s (subst (λ (y : List Entry). Toward g.2 l y) same g.4) (subst (SameTo s l) lead (same_grown s l t.lead n.0 t.same n.2)) }
+      record {
+        lead = g.2;
+        leads = g.3;
+        same = toward_keeps_same g.2 l j s (subst (λ (y : List Entry). Toward g.2 l y) same g.4)
+            (subst (SameTo s l) lead (same_grown s l t.lead n.0 t.same n.2));
+      }
 
   pub rep_lasts : (q : ℕ) (w : View) (s : ℕ) → TrueSyncRep f c q w s → TrueSyncRep f d q w s
-  rep_lasts q w s t = let j = ev.logs q w t.log t.had in record { apart = t.apart; log = j.0; had = j.1; agrees = agrees_lasts q w t.log j.0 s t.had j.1 t.agrees }
+  rep_lasts q w s t = let j = ev.logs q w t.log t.had in record {
+    apart = t.apart;
+    log = j.0;
+    had = j.1;
+    agrees = agrees_lasts q w t.log j.0 s t.had j.1 t.agrees;
+  }
 
   pub commit_lasts : (q : ℕ) (w : View) (s : ℕ) → TrueSyncCommit f c q w s → TrueSyncCommit f d q w s
-  commit_lasts q w s t = record { sender = t.sender; started = (t.started.0, ev.starts w t.started.0 t.started.1); anchored = anchored_lasts w w s (at_most_refl w) t.anchored }
+  commit_lasts q w s t = record {
+    sender = t.sender;
+    started = (t.started.0, ev.starts w t.started.0 t.started.1);
+    anchored = anchored_lasts w w s (at_most_refl w) t.anchored;
+  }
 
   grows : Grows f c.past d.past
   grows = record {
@@ -85,7 +110,8 @@ module _ {S : Type 0} (m : Meaning S) (f : ℕ) (c d : Conf) (inv : Inv m f c) (
     pub inside : (l : List Entry) → HadLog d.past q old.last_normal l → GoodSync f d q (record old { log = l })
     inside l here =
         let g = ev.logs q old.last_normal old.log (inv.current q within) in
-        let longer : length old.log ≤ length l = subst (λ (k : List Entry). length old.log ≤ length k) (some_same (d.past.log q old.last_normal) g.0 l g.1 here) g.4.longer in
+        let longer : length old.log ≤ length l = subst (λ (k : List Entry). length old.log ≤ length k)
+        (some_same (d.past.log q old.last_normal) g.0 l g.1 here) g.4.longer in
         record {
           count = o.count;
           anchored = anchored_lasts old.last_normal old.last_normal old.sync.sync_point (at_most_refl old.last_normal) o.anchored;
@@ -96,7 +122,9 @@ module _ {S : Type 0} (m : Meaning S) (f : ℕ) (c d : Conf) (inv : Inv m f c) (
               record {
                 normal = h.normal;
                 follows = h.follows;
-                agrees = agrees_lasts q old.view old.log l old.sync.prepared (subst (λ (w : View). HadLog c.past q w old.log) view (inv.current q within)) (subst (λ (w : View). HadLog d.past q w l) view here) h.agrees;
+                agrees = agrees_lasts q old.view old.log l old.sync.prepared
+                    (subst (λ (w : View). HadLog c.past q w old.log) view (inv.current q within))
+                    (subst (λ (w : View). HadLog d.past q w l) view here) h.agrees;
                 said = said_lasts m f c d ev q old.view (SyncRep old.sync.prepared) h.said;
               };
           syncing = λ x e.
@@ -117,15 +145,26 @@ module _ {S : Type 0} (m : Meaning S) (f : ℕ) (c d : Conf) (inv : Inv m f c) (
     pub risen : Inv m f d → (v : View) (l : List Entry) → HadLog d.past q v l → Below old.last_normal v → Agrees f d v l old.sync.sync_point
     risen new v l here below =
         elim o.anchored [
-          | inl e ↦ (let good = new.logs q v l here in subst (Agrees f d v l) (sym e) (record { lead = good.lead; leads = good.leads; same = same_none l good.lead }))
+          | inl e ↦ (let good = new.logs q v l here in
+              subst (Agrees f d v l) (sym e) (record { lead = good.lead; leads = good.leads; same = same_none l good.lead }))
           | inr (u, low, x) ↦
               let before = inv.logs (leader_of u (2 * f + 1)) u x.lead x.leads in
-              let n = fixed_stays f c.past d.past u x.lead old.sync.sync_point grows (before.start, before.is_start) (synced_fixes f c sync u old.sync.sync_point x) in
+              let n = fixed_stays f c.past d.past u x.lead old.sync.sync_point grows (before.start, before.is_start)
+              (synced_fixes f c sync u old.sync.sync_point x) in
               let good = new.logs q v l here in
               let lead = new.logs (leader_of v (2 * f + 1)) v good.lead good.leads in
               let start : lead.start ≡ good.start = some_same (d.past.start v) lead.start good.start lead.is_start good.is_start in
               let led : IsPrefixOf good.start.log good.lead = subst (λ (y : Start). IsPrefixOf y.log good.lead) start lead.begins in
-              let kept : IsPrefixOf (take old.sync.sync_point n.0) good.start.log = fixed_prefixes_are_kept f d.stamps (last_normals d) d.past (grounds_of m f d new) u v n.0 old.sync.sync_point good.start n.2 (at_most_below u old.last_normal v low below) good.is_start in
-              let long : old.sync.sync_point ≤ length (take old.sync.sync_point n.0) = omega (arith, length-take-le old.sync.sync_point n.0 n.2.within) in
-              record { lead = good.lead; leads = good.leads; same = same_from_prefix old.sync.sync_point (take old.sync.sync_point n.0) l good.lead long (prefix_trans (take old.sync.sync_point n.0) good.start.log l kept good.begins) (prefix_trans (take old.sync.sync_point n.0) good.start.log good.lead kept led) }
+              let kept : IsPrefixOf (take old.sync.sync_point n.0) good.start.log =
+              fixed_prefixes_are_kept f d.stamps (last_normals d) d.past (grounds_of m f d new) u v n.0 old.sync.sync_point good.start
+              n.2 (at_most_below u old.last_normal v low below) good.is_start in
+              let long : old.sync.sync_point ≤ length (take old.sync.sync_point n.0) =
+              omega (arith, length-take-le old.sync.sync_point n.0 n.2.within) in
+              record {
+                lead = good.lead;
+                leads = good.leads;
+                same = same_from_prefix old.sync.sync_point (take old.sync.sync_point n.0) l good.lead long
+                    (prefix_trans (take old.sync.sync_point n.0) good.start.log l kept good.begins)
+                    (prefix_trans (take old.sync.sync_point n.0) good.start.log good.lead kept led);
+              }
         ]

@@ -36,7 +36,8 @@ said_one p x y q w h =
     let e = Has-one (says q w y) (says p.number p.view x) h in
     (ap (λ (z : Said). z.sender) e, ap (λ (z : Said). z.view) e, ap (λ (z : Said). z.word) e)
 
-pub said_all : (b : Bool) (p : Member) (x y : Word) (q : ℕ) (w : View) → DidSay (say_unless b p x) q w y → (q ≡ p.number) × (w ≡ p.view) × (y ≡ x)
+pub said_all : (b : Bool) (p : Member) (x y : Word) (q : ℕ) (w : View) → DidSay (say_unless b p x) q w y
+    → (q ≡ p.number) × (w ≡ p.view) × (y ≡ x)
 said_all true p x y q w h = absurd (has_none _ h)
 said_all false p x y q w h = said_one p x y q w h
 
@@ -48,24 +49,51 @@ module _ {S : Type 0} (m : Meaning S) (f : ℕ) (c : Conf) (r : ℕ) (inv : Inv 
   own = inv.own r within
 
   -- a move in the view that leaves the sync point
-  pub in_view : (l : List Entry) (n : ℕ) (x : Receiving) (g : Option Agreement) (h : Option Gathering) (said : List Said) (replies : List Reply)
-      → Kept m f c (after f c r (record { state = record p { log = l; next = n; receiver = x; gap = g; changes = h }; said = said; replies = replies })) → IsQuiet said
-      → Sync f (after f c r (record { state = record p { log = l; next = n; receiver = x; gap = g; changes = h }; said = said; replies = replies }))
+  pub in_view : (l : List Entry) (n : ℕ) (x : Receiving) (g : Option Agreement) (h : Option Gathering) (said : List Said)
+      (replies : List Reply)
+      → Kept m f c (after f c r (record {
+        state = record p { log = l; next = n; receiver = x; gap = g; changes = h };
+        said = said;
+        replies = replies;
+      })) → IsQuiet said
+      → Sync f (after f c r (record {
+        state = record p { log = l; next = n; receiver = x; gap = g; changes = h };
+        said = said;
+        replies = replies;
+      }))
   in_view l n x g h said replies kept quiet =
-      let e : Effect = record { state = record p { log = l; next = n; receiver = x; gap = g; changes = h }; said = said; replies = replies } in
+      let e : Effect = record {
+        state = record p { log = l; next = n; receiver = x; gap = g; changes = h };
+        said = said;
+        replies = replies;
+      } in
       let t = inside m f c (after f c r e) inv kept.1 sync r within l (now m f c r e inv sync within kept) in
-      quiet_after m f c r e inv sync within kept quiet (record { count = t.count; anchored = t.anchored; agrees = t.agrees; prepared = t.prepared; syncing = t.syncing })
+      quiet_after m f c r e inv sync within kept quiet (record {
+        count = t.count;
+        anchored = t.anchored;
+        agrees = t.agrees;
+        prepared = t.prepared;
+        syncing = t.syncing;
+      })
 
   -- a view is entered
-  pub entering : (v : View) (h : Option Gathering) (said : List Said) → Kept m f c (after f c r (record { state = record (entered p v) { changes = h }; said = said; replies = [] })) → IsQuiet said
+  pub entering : (v : View) (h : Option Gathering) (said : List Said)
+      → Kept m f c (after f c r (record { state = record (entered p v) { changes = h }; said = said; replies = [] })) → IsQuiet said
       → Sync f (after f c r (record { state = record (entered p v) { changes = h }; said = said; replies = [] }))
   entering v h said kept quiet =
       let e : Effect = record { state = record (entered p v) { changes = h }; said = said; replies = [] } in
       let t = inside m f c (after f c r e) inv kept.1 sync r within p.log (now m f c r e inv sync within kept) in
-      quiet_after m f c r e inv sync within kept quiet (record { count = t.count; anchored = t.anchored; agrees = t.agrees; prepared = λ one. absurd (omega (arith, one)); syncing = λ x i. absurd cc })
+      quiet_after m f c r e inv sync within kept quiet (record {
+        count = t.count;
+        anchored = t.anchored;
+        agrees = t.agrees;
+        prepared = λ one. absurd (omega (arith, one));
+        syncing = λ x i. absurd cc;
+      })
 
   -- a log is adopted
-  pub adopting : (v : View) (x : ℕ) (l : List Entry) (said : List Said) (replies : List Reply) → Below p.last_normal v → Kept m f c (after f c r (record { state = adopted p v x l; said = said; replies = replies })) → IsQuiet said
+  pub adopting : (v : View) (x : ℕ) (l : List Entry) (said : List Said) (replies : List Reply) → Below p.last_normal v
+      → Kept m f c (after f c r (record { state = adopted p v x l; said = said; replies = replies })) → IsQuiet said
       → Sync f (after f c r (record { state = adopted p v x l; said = said; replies = replies }))
   adopting v x l said replies below kept quiet =
       let e : Effect = record { state = adopted p v x l; said = said; replies = replies } in
@@ -88,10 +116,21 @@ module _ {S : Type 0} (m : Meaning S) (f : ℕ) (c : Conf) (r : ℕ) (inv : Inv 
       let other = follows_it m f c r inv within may.follows in
       let t : Prepared f c (leader p) p.view l = inv.said (says (leader p) p.view (SyncPrepare l)) may.said in
       let n = kept.1.leads p.view t.lead t.leads in
-      let agrees : Agrees f d p.view (laid l p.log) (length l) = record { lead = n.0; leads = n.1; same = same_from_prefix (length l) l (laid l p.log) n.0 (omega arith) (prefix_of_laid l p.log) (prefix_trans l t.lead n.0 t.begins n.2) } in
-      let told : DidSay d.said r p.view (SyncRep (length l)) = Has-append_left e.said c.said _ (has_first _ _ [] (λ i. says (sym own.number i) p.view (SyncRep (length l)))) in
+      let agrees : Agrees f d p.view (laid l p.log) (length l) = record {
+        lead = n.0;
+        leads = n.1;
+        same = same_from_prefix (length l) l (laid l p.log) n.0 (omega arith) (prefix_of_laid l p.log)
+            (prefix_trans l t.lead n.0 t.begins n.2);
+      } in
+      let told : DidSay d.said r p.view (SyncRep (length l)) =
+      Has-append_left e.said c.said _ (has_first _ _ [] (λ i. says (sym own.number i) p.view (SyncRep (length l)))) in
       let had : HadLog d.past r p.view (laid l p.log) = subst (λ (w : View). HadLog d.past r w (laid l p.log)) view here in
-      let new : HasPrepared f d r p.view p.status (laid l p.log) (length l) = record { normal = may.normal; follows = other; agrees = agrees; said = told } in
+      let new : HasPrepared f d r p.view p.status (laid l p.log) (length l) = record {
+        normal = may.normal;
+        follows = other;
+        agrees = agrees;
+        said = told;
+      } in
       let g = inside m f c d inv kept.1 sync r within (laid l p.log) here in
       sync_after m f c r e inv sync within kept
       (λ q w s h.
@@ -106,8 +145,10 @@ module _ {S : Type 0} (m : Meaning S) (f : ℕ) (c : Conf) (r : ℕ) (inv : Inv 
         anchored = g.anchored;
         agrees = g.agrees;
         prepared = λ one. elim (cases_lt p.sync.prepared (length l)) [
-          | inl low ↦ (let is : length l ≡ max p.sync.prepared (length l) = omega (arith, low) in subst (HasPrepared f d r p.view p.status (laid l p.log)) is new)
-          | inr high ↦ (let is : p.sync.prepared ≡ max p.sync.prepared (length l) = omega (arith, high) in subst (HasPrepared f d r p.view p.status (laid l p.log)) is (g.prepared (omega (arith, one, is))))
+          | inl low ↦ (let is : length l ≡ max p.sync.prepared (length l) = omega (arith, low) in
+              subst (HasPrepared f d r p.view p.status (laid l p.log)) is new)
+          | inr high ↦ (let is : p.sync.prepared ≡ max p.sync.prepared (length l) = omega (arith, high) in
+              subst (HasPrepared f d r p.view p.status (laid l p.log)) is (g.prepared (omega (arith, one, is))))
         ];
         syncing = g.syncing;
       })
@@ -120,32 +161,60 @@ module _ {S : Type 0} (m : Meaning S) (f : ℕ) (c : Conf) (r : ℕ) (inv : Inv 
       state b = cond b (record p.sync { sync_point = max p.sync.sync_point k }) p.sync
 
       at : (b : Bool) → nat_le k p.sync.prepared ≡ b
-          → Kept m f c (after f c r (record { state = record p { sync = cond b (record p.sync { sync_point = max p.sync.sync_point k }) p.sync }; said = []; replies = [] }))
-          → Sync f (after f c r (record { state = record p { sync = cond b (record p.sync { sync_point = max p.sync.sync_point k }) p.sync }; said = []; replies = [] }))
+          → Kept m f c (after f c r
+          (record {
+            state = record p { sync = cond b (record p.sync { sync_point = max p.sync.sync_point k }) p.sync };
+            said = [];
+            replies = [];
+          }))
+          → Sync f (after f c r
+          (record {
+            state = record p { sync = cond b (record p.sync { sync_point = max p.sync.sync_point k }) p.sync };
+            said = [];
+            replies = [];
+          }))
       at false is kept =
           let e : Effect = record { state = p; said = []; replies = [] } in
           let g = inside m f c (after f c r e) inv kept.1 sync r within p.log (now m f c r e inv sync within kept) in
-          quiet_after m f c r e inv sync within kept quiet_none (record { count = g.count; anchored = g.anchored; agrees = g.agrees; prepared = g.prepared; syncing = g.syncing })
+          quiet_after m f c r e inv sync within kept quiet_none (record {
+            count = g.count;
+            anchored = g.anchored;
+            agrees = g.agrees;
+            prepared = g.prepared;
+            syncing = g.syncing;
+          })
       at true is kept =
-          let e : Effect = record { state = record p { sync = record p.sync { sync_point = max p.sync.sync_point k } }; said = []; replies = [] } in
+          let e : Effect = record {
+            state = record p { sync = record p.sync { sync_point = max p.sync.sync_point k } };
+            said = [];
+            replies = [];
+          } in
           let d = after f c r e in
           let view : p.last_normal ≡ p.view = own.place.normal may.may_follow.normal in
           let g = inside m f c d inv kept.1 sync r within p.log (now m f c r e inv sync within kept) in
           let t = sync.commits (leader p) p.view k may.may_follow.said in
-          let fixed : Anchored f d p.last_normal k = anchored_lasts m f c d inv kept.1 p.view p.last_normal k (subst (λ (w : View). AtMost w p.last_normal) view (at_most_refl p.last_normal)) t.anchored in
+          let fixed : Anchored f d p.last_normal k = anchored_lasts m f c d inv kept.1 p.view p.last_normal k
+          (subst (λ (w : View). AtMost w p.last_normal) view (at_most_refl p.last_normal)) t.anchored in
           quiet_after m f c r e inv sync within kept quiet_none (record {
             count = g.count;
             anchored = elim (cases_lt p.sync.sync_point k) [
               | inl low ↦ (let is : k ≡ max p.sync.sync_point k = omega (arith, low) in subst (Anchored f d p.last_normal) is fixed)
-              | inr high ↦ (let is : p.sync.sync_point ≡ max p.sync.sync_point k = omega (arith, high) in subst (Anchored f d p.last_normal) is g.anchored)
+              | inr high ↦ (let is : p.sync.sync_point ≡ max p.sync.sync_point k = omega (arith, high) in
+                  subst (Anchored f d p.last_normal) is g.anchored)
             ];
             agrees = elim (cases_lt p.sync.sync_point k) [
               | inl low ↦
                   let is : k ≡ max p.sync.sync_point k = omega (arith, low) in
                   let h = g.prepared (omega (arith, low, may.within)) in
-                  let there : Agrees f d p.last_normal p.log k = subst (λ (w : View). Agrees f d w p.log k) (sym view) (record { lead = h.agrees.lead; leads = h.agrees.leads; same = same_less p.sync.prepared k p.log h.agrees.lead may.within h.agrees.same }) in
+                  let there : Agrees f d p.last_normal p.log k = subst (λ (w : View). Agrees f d w p.log k) (sym view)
+                  (record {
+                    lead = h.agrees.lead;
+                    leads = h.agrees.leads;
+                    same = same_less p.sync.prepared k p.log h.agrees.lead may.within h.agrees.same;
+                  }) in
                   subst (Agrees f d p.last_normal p.log) is there
-              | inr high ↦ (let is : p.sync.sync_point ≡ max p.sync.sync_point k = omega (arith, high) in subst (Agrees f d p.last_normal p.log) is g.agrees)
+              | inr high ↦ (let is : p.sync.sync_point ≡ max p.sync.sync_point k = omega (arith, high) in
+                  subst (Agrees f d p.last_normal p.log) is g.agrees)
             ];
             prepared = g.prepared;
             syncing = λ x i. absurd (follows_it m f c r inv within may.may_follow.follows (g.syncing x i).leads);
@@ -159,11 +228,17 @@ module _ {S : Type 0} (m : Meaning S) (f : ℕ) (c : Conf) (r : ℕ) (inv : Inv 
       let view : p.last_normal ≡ p.view = own.place.normal may.normal in
       let g = inside m f c d inv kept.1 sync r within p.log (now m f c r e inv sync within kept) in
       let start = kept.1.starts p.last_normal own.place.start own.place.is_start in
-      let true_here : TrueSyncCommit f d r p.view p.sync.sync_point = subst (λ (w : View). TrueSyncCommit f d r w p.sync.sync_point) view (record { sender = leads_it m f c r inv within may.leads ∙ ap (λ (w : View). leader_of w (2 * f + 1)) (sym view); started = (own.place.start, start); anchored = g.anchored }) in
+      let true_here : TrueSyncCommit f d r p.view p.sync.sync_point = subst (λ (w : View). TrueSyncCommit f d r w p.sync.sync_point) view
+      (record {
+        sender = leads_it m f c r inv within may.leads ∙ ap (λ (w : View). leader_of w (2 * f + 1)) (sym view);
+        started = (own.place.start, start);
+        anchored = g.anchored;
+      }) in
       sync_after m f c r e inv sync within kept
       (λ q w s h. absurd (let a = said_all (others p == 0) p (SyncCommit p.sync.sync_point) (SyncRep s) q w h in let b = a.2 in cc))
       (λ q w s h.
       let a = said_all (others p == 0) p (SyncCommit p.sync.sync_point) (SyncCommit s) q w h in
       let len : s ≡ p.sync.sync_point = (let b = a.2 in cc) in
-      subst (λ (i : ℕ). TrueSyncCommit f d i w s) (sym (a.0 ∙ own.number)) (subst (λ (v : View). TrueSyncCommit f d r v s) (sym a.1) (subst (TrueSyncCommit f d r p.view) (sym len) true_here)))
+      subst (λ (i : ℕ). TrueSyncCommit f d i w s) (sym (a.0 ∙ own.number)) (subst (λ (v : View). TrueSyncCommit f d r v s) (sym a.1)
+      (subst (TrueSyncCommit f d r p.view) (sym len) true_here)))
       (record { count = g.count; anchored = g.anchored; agrees = g.agrees; prepared = g.prepared; syncing = g.syncing })

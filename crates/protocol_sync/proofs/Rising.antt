@@ -44,27 +44,32 @@ commit_rises s k true = omega arith
 commit_rises s k false = omega arith
 
 round_rises : (s : Synchronisation) (k : ℕ) (b a : Bool) → nat_lt s.sync_point k ≡ b
-    → Rises s (cond b (cond a (record s { sync_point = k; syncing = None }) (record s { syncing = Some (record { len = k; votes = [] }) })) s)
+    → Rises s (cond b (cond a (record s { sync_point = k; syncing = None })
+    (record s { syncing = Some (record { len = k; votes = [] }) })) s)
 round_rises s k false a is = omega arith
 round_rises s k true true is = grind (arith, nat_tests, is)
 round_rises s k true false is = omega arith
 
 -- a round that is closed was above the sync point
-closed_rises : (s : Synchronisation) (x y : Round) (b : Bool) (v : Vote) → s.sync_point < x.len → y.len ≡ x.len → Rises s (closed s (cond b y x) (cond b v Waiting))
+closed_rises : (s : Synchronisation) (x y : Round) (b : Bool) (v : Vote) → s.sync_point < x.len → y.len ≡ x.len
+    → Rises s (closed s (cond b y x) (cond b v Waiting))
 closed_rises s x y false v low same = omega arith
 closed_rises s x y true Waiting low same = omega arith
 closed_rises s x y true Settled low same = omega (arith, low, same)
 
-vote_rises : (s : Synchronisation) (q k : ℕ) (o : Option Round) → ((x : Round) → o ≡ Some x → s.sync_point < x.len) → Rises s (counted_in s o q k)
+vote_rises : (s : Synchronisation) (q k : ℕ) (o : Option Round) → ((x : Round) → o ≡ Some x → s.sync_point < x.len)
+    → Rises s (counted_in s o q k)
 vote_rises s q k None low = omega arith
-vote_rises s q k (Some x) low = closed_rises s x (record x { votes = with_vote x.votes q }) (x.len == k) (vote_of s.f (with_vote x.votes q)) (low x refl) refl
+vote_rises s q k (Some x) low = closed_rises s x (record x { votes = with_vote x.votes q }) (x.len == k)
+    (vote_of s.f (with_vote x.votes q)) (low x refl) refl
 
 entered_rises : (p : Member) (v : View) (b : Bool) → Rises p.sync (enter_as b (entered p v)).state.sync
 entered_rises p v true = omega arith
 entered_rises p v false = omega arith
 
 module _ {S : Type 0} (m : Meaning S) (f : ℕ) where
-  act_rises : (c : Conf) (r : ℕ) → GoodSync f c r (c.replicas r) → (a : Act) → Rises (c.replicas r).sync (effect m (c.replicas r) a).state.sync
+  act_rises : (c : Conf) (r : ℕ) → GoodSync f c r (c.replicas r) → (a : Act)
+      → Rises (c.replicas r).sync (effect m (c.replicas r) a).state.sync
   act_rises c r own (Queue x) = omega arith
   act_rises c r own (TakeFront q) = omega arith
   act_rises c r own (Fill q) = omega arith
@@ -79,7 +84,8 @@ module _ {S : Type 0} (m : Meaning S) (f : ℕ) where
   act_rises c r own (Say x) = omega arith
   act_rises c r own (Overlay l) = omega arith
   act_rises c r own (Obey k) = commit_rises (c.replicas r).sync k (nat_le k (c.replicas r).sync.prepared)
-  act_rises c r own OpenSync = let s = (c.replicas r).sync in let k = length (c.replicas r).log in round_rises s k (nat_lt s.sync_point k) (s.f == 0) refl
+  act_rises c r own OpenSync = let s = (c.replicas r).sync in let k = length (c.replicas r).log in
+      round_rises s k (nat_lt s.sync_point k) (s.f == 0) refl
   act_rises c r own (CountSyncVote q k) = vote_rises (c.replicas r).sync q k (c.replicas r).sync.syncing (λ x e. (own.syncing x e).above)
   act_rises c r own RepeatCommit = omega arith
 
@@ -88,7 +94,8 @@ module _ {S : Type 0} (m : Meaning S) (f : ℕ) where
 
   happens_rises : (c : Conf) → Sync f c → (x : Move) → May f c x → AllRise c (happens m f c x)
   happens_rises c sync (Acts r a) may =
-      put_all (λ q t. Rises (c.replicas q).sync t.sync) c.replicas r (effect m (c.replicas r) a).state (act_rises c r (sync.own r may.0) a) (λ q n. omega arith)
+      put_all (λ q t. Rises (c.replicas q).sync t.sync) c.replicas r (effect m (c.replicas r) a).state
+      (act_rises c r (sync.own r may.0) a) (λ q n. omega arith)
   happens_rises c sync (MoveTo k j s) may = λ r. omega arith
   happens_rises c sync (Installed k) may = λ r. omega arith
   happens_rises c sync (Install j s) may = λ r. omega arith
@@ -108,7 +115,8 @@ module _ {S : Type 0} (m : Meaning S) (f : ℕ) where
 
   -- ---- what is synchronised stays
 
-  module _ (c d : Conf) (inv : Inv m f c) (sync : Sync f c) (ev : Evolves f c d) (new : Inv m f d) (news : Sync f d) (r : ℕ) (within : r < 2 * f + 1) where
+  module _ (c d : Conf) (inv : Inv m f c) (sync : Sync f c) (ev : Evolves f c d) (new : Inv m f d) (news : Sync f d) (r : ℕ)
+      (within : r < 2 * f + 1) where
     abbrev u : View
     u = (c.replicas r).last_normal
 
@@ -137,9 +145,11 @@ module _ {S : Type 0} (m : Meaning S) (f : ℕ) where
     in_view : u ≡ v → SameTo s l k
     in_view e =
         let g = ev.logs r u l (inv.current r within) in
-        let here : g.0 ≡ k = some_same (d.past.log r u) g.0 k g.1 (subst (λ (w : View). HadLog d.past r w k) (sym e) (new.current r within)) in
+        let here : g.0 ≡ k = some_same (d.past.log r u) g.0 k g.1
+        (subst (λ (w : View). HadLog d.past r w k) (sym e) (new.current r within)) in
         let led : g.2 ≡ lead.0 = some_same (d.past.log (leader_of u (2 * f + 1)) u) g.2 lead.0 g.3 lead.1 in
-        let moved : Toward lead.0 l k = subst (λ (x : List Entry). Toward x l k) led (subst (λ (x : List Entry). Toward g.2 l x) here g.4) in
+        let moved : Toward lead.0 l k =
+        subst (λ (x : List Entry). Toward x l k) led (subst (λ (x : List Entry). Toward g.2 l x) here g.4) in
         let now : SameTo s k lead.0 = toward_keeps_same lead.0 l k s moved same in
         record { left = same.left; right = now.left; same = same.same ∙ sym now.same }
 
@@ -147,8 +157,10 @@ module _ {S : Type 0} (m : Meaning S) (f : ℕ) where
     later below =
         let good = new.logs r v k (new.current r within) in
         let anchored = fixed_from f d news u s (anchored_lasts m f c d inv ev u u s (at_most_refl u) own.anchored) in
-        let begins : IsPrefixOf (take s l) good.start.log = start_synchronised f d.stamps (last_normals d) d.past (grounds_of m f d new) u v good.start lead.0 l s lead.1 same anchored good.is_start below in
-        same_from_prefix s (take s l) l k (omega (arith, length-take-le s l same.left)) (prefix_of_take s l) (prefix_trans (take s l) good.start.log k begins good.begins)
+        let begins : IsPrefixOf (take s l) good.start.log = start_synchronised f d.stamps (last_normals d) d.past
+        (grounds_of m f d new) u v good.start lead.0 l s lead.1 same anchored good.is_start below in
+        same_from_prefix s (take s l) l k (omega (arith, length-take-le s l same.left)) (prefix_of_take s l)
+        (prefix_trans (take s l) good.start.log k begins good.begins)
 
     pub synchronised_stays : SameTo s l k
     synchronised_stays = elim (cases_view u v) [ inl e ↦ in_view e | inr a ↦ later (record { at_most = ev.normals r; apart = a }) ]

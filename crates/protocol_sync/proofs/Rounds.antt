@@ -27,7 +27,8 @@ use Rattle.protocol_sync.proofs.Saying.{now, sync_after, quiet_after, quiet_none
 use Rattle.protocol_sync.proofs.Lasting.{inside}
 use Rattle.protocol.proofs.Votes.{vote_once, vote_holds, enough_from}
 
-module _ {S : Type 0} (m : Meaning S) (f : ℕ) (c : Conf) (r : ℕ) (inv : Inv m f c) (sync : Sync f c) (within : r < 2 * f + 1) (may : MayLead (c.replicas r)) where
+module _ {S : Type 0} (m : Meaning S) (f : ℕ) (c : Conf) (r : ℕ) (inv : Inv m f c) (sync : Sync f c) (within : r < 2 * f + 1)
+    (may : MayLead (c.replicas r)) where
   abbrev p : Member
   p = c.replicas r
 
@@ -56,27 +57,69 @@ module _ {S : Type 0} (m : Meaning S) (f : ℕ) (c : Conf) (r : ℕ) (inv : Inv 
   opening_round longer kept = at (nat_lt p.sync.sync_point (length p.log)) (p.sync.f == 0) refl refl kept
     where
       at : (b a : Bool) → nat_lt p.sync.sync_point (length p.log) ≡ b → (p.sync.f == 0) ≡ a
-          → Kept m f c (after f c r (record { state = record p { sync = cond b (cond a (record p.sync { sync_point = length p.log; syncing = None }) (record p.sync { syncing = Some (record { len = length p.log; votes = [] }) })) p.sync }; said = say_all p (SyncPrepare p.log); replies = [] }))
-          → Sync f (after f c r (record { state = record p { sync = cond b (cond a (record p.sync { sync_point = length p.log; syncing = None }) (record p.sync { syncing = Some (record { len = length p.log; votes = [] }) })) p.sync }; said = say_all p (SyncPrepare p.log); replies = [] }))
+          → Kept m f c (after f c r
+          (record {
+            state = record p {
+              sync = cond b (cond a (record p.sync { sync_point = length p.log; syncing = None })
+                  (record p.sync { syncing = Some (record { len = length p.log; votes = [] }) })) p.sync;
+            };
+            said = say_all p (SyncPrepare p.log);
+            replies = [];
+          }))
+          → Sync f (after f c r
+          (record {
+            state = record p {
+              sync = cond b (cond a (record p.sync { sync_point = length p.log; syncing = None })
+                  (record p.sync { syncing = Some (record { len = length p.log; votes = [] }) })) p.sync;
+            };
+            said = say_all p (SyncPrepare p.log);
+            replies = [];
+          }))
       at false a is alone kept = absurd (grind (arith, nat_tests, is, longer))
       at true true is alone kept =
-          let e : Effect = record { state = record p { sync = record p.sync { sync_point = length p.log; syncing = None } }; said = say_all p (SyncPrepare p.log); replies = [] } in
+          let e : Effect = record {
+            state = record p { sync = record p.sync { sync_point = length p.log; syncing = None } };
+            said = say_all p (SyncPrepare p.log);
+            replies = [];
+          } in
           let d = after f c r e in
           let had = now m f c r e inv sync within kept in
           let g = inside m f c d inv kept.1 sync r within p.log had in
           let none : p.sync.f ≡ 0 = is_same_true p.sync.f 0 alone in
-          quiet_after m f c r e inv sync within kept (quiet_unless (others p == 0) p (SyncPrepare p.log) (λ s. (λ i. cc, λ i. cc))) (record {
+          quiet_after m f c r e inv sync within kept
+          (quiet_unless (others p == 0) p (SyncPrepare p.log) (λ s. (λ i. cc, λ i. cc))) (record {
             count = g.count;
-            anchored = inr (p.last_normal, at_most_refl p.last_normal, record { lead = p.log; leads = led d had; within = omega arith; others = record { members = []; enough = omega (arith, none, g.count); once = λ q. omega arith; within = λ q i. absurd (omega (arith, i)); apart = λ q i a. omega (arith, i); holds = λ q i. absurd (omega (arith, i)) } });
+            anchored = inr (
+              p.last_normal,
+              at_most_refl p.last_normal,
+              record {
+                lead = p.log;
+                leads = led d had;
+                within = omega arith;
+                others = record {
+                  members = [];
+                  enough = omega (arith, none, g.count);
+                  once = λ q. omega arith;
+                  within = λ q i. absurd (omega (arith, i));
+                  apart = λ q i a. omega (arith, i);
+                  holds = λ q i. absurd (omega (arith, i));
+                };
+              },
+            );
             agrees = all_agree d (length p.log) had (omega arith);
             prepared = λ one. absurd ((g.prepared one).follows mine);
             syncing = λ x i. absurd cc;
           })
       at true false is alone kept =
-          let e : Effect = record { state = record p { sync = record p.sync { syncing = Some (record { len = length p.log; votes = [] }) } }; said = say_all p (SyncPrepare p.log); replies = [] } in
+          let e : Effect = record {
+            state = record p { sync = record p.sync { syncing = Some (record { len = length p.log; votes = [] }) } };
+            said = say_all p (SyncPrepare p.log);
+            replies = [];
+          } in
           let d = after f c r e in
           let g = inside m f c d inv kept.1 sync r within p.log (now m f c r e inv sync within kept) in
-          quiet_after m f c r e inv sync within kept (quiet_unless (others p == 0) p (SyncPrepare p.log) (λ s. (λ i. cc, λ i. cc))) (record {
+          quiet_after m f c r e inv sync within kept
+          (quiet_unless (others p == 0) p (SyncPrepare p.log) (λ s. (λ i. cc, λ i. cc))) (record {
             count = g.count;
             anchored = g.anchored;
             agrees = g.agrees;
@@ -99,16 +142,25 @@ module _ {S : Type 0} (m : Meaning S) (f : ℕ) (c : Conf) (r : ℕ) (inv : Inv 
 
   module _ (q k : ℕ) (vote : MayCountSyncVote f c p q k) where
     abbrev effect_of : Option Round → Effect
-    effect_of o = record { state = record p { sync = counted_in p.sync o q k }; said = commit_if p k (vote_in p.sync.f o q k); replies = [] }
+    effect_of o = record {
+      state = record p { sync = counted_in p.sync o q k };
+      said = commit_if p k (vote_in p.sync.f o q k);
+      replies = [];
+    }
 
     abbrev voted : Round → Round
     voted x = record x { votes = with_vote x.votes q }
 
     abbrev effect_by : Round → Bool → Vote → Effect
-    effect_by x b v = record { state = record p { sync = closed p.sync (cond b (voted x) x) (cond b v Waiting) }; said = commit_if p k (cond b v Waiting); replies = [] }
+    effect_by x b v = record {
+      state = record p { sync = closed p.sync (cond b (voted x) x) (cond b v Waiting) };
+      said = commit_if p k (cond b v Waiting);
+      replies = [];
+    }
 
     module _ (x : Round) (syncs : p.sync.syncing ≡ Some x) where
-      more : (d : Conf) → GoodSync f d r p → DidSay d.said q p.view (SyncRep k) → x.len ≡ k → Syncing f d r p.view p.status p.sync.sync_point (length p.log) (voted x)
+      more : (d : Conf) → GoodSync f d r p → DidSay d.said q p.view (SyncRep k) → x.len ≡ k
+          → Syncing f d r p.view p.status p.sync.sync_point (length p.log) (voted x)
       more d g said same =
           let h = g.syncing x syncs in
           record {
@@ -119,14 +171,22 @@ module _ {S : Type 0} (m : Meaning S) (f : ℕ) (c : Conf) (r : ℕ) (inv : Inv 
             once = vote_once x.votes q;
             members = vote_holds (λ i. i < 2 * f + 1) x.votes q vote.vote.within h.members;
             apart = vote_holds (λ i. i ≡ r → ⊥) x.votes q (λ e. vote.vote.apart (e ∙ sym own.number)) h.apart;
-            voted = vote_holds (λ i. DidSay d.said i p.view (SyncRep x.len)) x.votes q (subst (λ (n : ℕ). DidSay d.said q p.view (SyncRep n)) (sym same) said) h.voted;
+            voted = vote_holds (λ i. DidSay d.said i p.view (SyncRep x.len)) x.votes q
+                (subst (λ (n : ℕ). DidSay d.said q p.view (SyncRep n)) (sym same) said) h.voted;
           }
 
-      at : (b : Bool) (v : Vote) → (x.len == k) ≡ b → vote_of p.sync.f (with_vote x.votes q) ≡ v → Kept m f c (after f c r (effect_by x b v)) → Sync f (after f c r (effect_by x b v))
+      at : (b : Bool) (v : Vote) → (x.len == k) ≡ b → vote_of p.sync.f (with_vote x.votes q) ≡ v
+          → Kept m f c (after f c r (effect_by x b v)) → Sync f (after f c r (effect_by x b v))
       at false v is settles kept =
           let e = effect_by x false v in
           let g = inside m f c (after f c r e) inv kept.1 sync r within p.log (now m f c r e inv sync within kept) in
-          quiet_after m f c r e inv sync within kept quiet_none (record { count = g.count; anchored = g.anchored; agrees = g.agrees; prepared = g.prepared; syncing = λ y i. g.syncing y (syncs ∙ i) })
+          quiet_after m f c r e inv sync within kept quiet_none (record {
+            count = g.count;
+            anchored = g.anchored;
+            agrees = g.agrees;
+            prepared = g.prepared;
+            syncing = λ y i. g.syncing y (syncs ∙ i);
+          })
       at true Waiting is settles kept =
           let e = effect_by x true Waiting in
           let d = after f c r e in
@@ -137,7 +197,8 @@ module _ {S : Type 0} (m : Meaning S) (f : ℕ) (c : Conf) (r : ℕ) (inv : Inv 
             anchored = g.anchored;
             agrees = g.agrees;
             prepared = g.prepared;
-            syncing = λ y i. let same : voted x ≡ y = cc in subst (Syncing f d r p.view p.status p.sync.sync_point (length p.log)) same (more d g said (is_same_true x.len k is));
+            syncing = λ y i. let same : voted x ≡ y = cc in subst (Syncing f d r p.view p.status p.sync.sync_point (length p.log)) same
+                (more d g said (is_same_true x.len k is));
           })
       at true Settled is settles kept =
           let e = effect_by x true Settled in
@@ -147,22 +208,36 @@ module _ {S : Type 0} (m : Meaning S) (f : ℕ) (c : Conf) (r : ℕ) (inv : Inv 
           let same : x.len ≡ k = is_same_true x.len k is in
           let said = said_lasts m f c d kept.1 q p.view (SyncRep k) vote.vote.said in
           let h = more d g said same in
-          let enough : p.sync.f ≤ length (with_vote x.votes q) = enough_from p.sync.f (length (with_vote x.votes q)) (nat_le p.sync.f (length (with_vote x.votes q))) refl settles in
+          let enough : p.sync.f ≤ length (with_vote x.votes q) = enough_from p.sync.f (length (with_vote x.votes q))
+          (nat_le p.sync.f (length (with_vote x.votes q))) refl settles in
           let synced : Synced f d p.view x.len = record {
             lead = p.log;
             leads = subst (λ (w : View). LeaderHad f d.past w p.log) view (led d had);
             within = h.within;
-            others = record { members = with_vote x.votes q; enough = omega (arith, enough, g.count); once = h.once; within = h.members; apart = λ i j a. h.apart i j (a ∙ sym mine); holds = h.voted };
+            others = record {
+              members = with_vote x.votes q;
+              enough = omega (arith, enough, g.count);
+              once = h.once;
+              within = h.members;
+              apart = λ i j a. h.apart i j (a ∙ sym mine);
+              holds = h.voted;
+            };
           } in
           let anchored : Anchored f d p.view x.len = inr (p.view, at_most_refl p.view, synced) in
           let start = kept.1.starts p.last_normal own.place.start own.place.is_start in
-          let commit : TrueSyncCommit f d r p.view x.len = record { sender = mine; started = (own.place.start, subst (λ (w : View). d.past.start w ≡ Some own.place.start) view start); anchored = anchored } in
+          let commit : TrueSyncCommit f d r p.view x.len =
+          record {
+            sender = mine;
+            started = (own.place.start, subst (λ (w : View). d.past.start w ≡ Some own.place.start) view start);
+            anchored = anchored;
+          } in
           sync_after m f c r e inv sync within kept
           (λ i w s j. absurd (let a = said_all (others p == 0) p (SyncCommit k) (SyncRep s) i w j in let b = a.2 in cc))
           (λ i w s j.
           let a = said_all (others p == 0) p (SyncCommit k) (SyncCommit s) i w j in
           let len : s ≡ k = (let b = a.2 in cc) in
-          subst (λ (n : ℕ). TrueSyncCommit f d n w s) (sym (a.0 ∙ own.number)) (subst (λ (v : View). TrueSyncCommit f d r v s) (sym a.1) (subst (TrueSyncCommit f d r p.view) (same ∙ sym len) commit)))
+          subst (λ (n : ℕ). TrueSyncCommit f d n w s) (sym (a.0 ∙ own.number)) (subst (λ (v : View). TrueSyncCommit f d r v s) (sym a.1)
+          (subst (TrueSyncCommit f d r p.view) (same ∙ sym len) commit)))
           (record {
             count = g.count;
             anchored = subst (λ (w : View). Anchored f d w x.len) (sym view) anchored;
@@ -175,7 +250,13 @@ module _ {S : Type 0} (m : Meaning S) (f : ℕ) (c : Conf) (r : ℕ) (inv : Inv 
     by_round None is kept =
         let e = effect_of None in
         let g = inside m f c (after f c r e) inv kept.1 sync r within p.log (now m f c r e inv sync within kept) in
-        quiet_after m f c r e inv sync within kept quiet_none (record { count = g.count; anchored = g.anchored; agrees = g.agrees; prepared = g.prepared; syncing = g.syncing })
+        quiet_after m f c r e inv sync within kept quiet_none (record {
+          count = g.count;
+          anchored = g.anchored;
+          agrees = g.agrees;
+          prepared = g.prepared;
+          syncing = g.syncing;
+        })
     by_round (Some x) is kept = at x is (x.len == k) (vote_of p.sync.f (with_vote x.votes q)) refl refl kept
 
     pub voting_round : Kept m f c (after f c r (count_sync_vote p q k)) → Sync f (after f c r (count_sync_vote p q k))

@@ -44,41 +44,65 @@ quiet_word f c q w (SyncCommit k) t s = absurd t
 
 module _ {S : Type 0} (m : Meaning S) (f : ℕ) where
   -- a move that leaves the replicas, what they said and the past
-  outside : (c d : Conf) → Inv m f c → Evolves f c d → Sync f c → ((x : Said) → Has d.said x → Has c.said x) → ((q : ℕ) → d.replicas q ≡ c.replicas q) → ((q : ℕ) → q < 2 * f + 1 → HadLog d.past q (c.replicas q).last_normal (c.replicas q).log) → Sync f d
+  outside : (c d : Conf) → Inv m f c → Evolves f c d → Sync f c → ((x : Said) → Has d.said x → Has c.said x)
+      → ((q : ℕ) → d.replicas q ≡ c.replicas q)
+      → ((q : ℕ) → q < 2 * f + 1 → HadLog d.past q (c.replicas q).last_normal (c.replicas q).log) → Sync f d
   outside c d inv ev sync said same had = record {
     reps = λ q w s h. rep_lasts m f c d inv ev q w s (sync.reps q w s (said (says q w (SyncRep s)) h));
     commits = λ q w s h. commit_lasts m f c d inv ev q w s (sync.commits q w s (said (says q w (SyncCommit s)) h));
     own = λ q l.
         let g = inside m f c d inv ev sync q l (c.replicas q).log (had q l) in
-        subst (GoodSync f d q) (sym (same q)) (record { count = g.count; anchored = g.anchored; agrees = g.agrees; prepared = g.prepared; syncing = g.syncing });
+        subst (GoodSync f d q) (sym (same q)) (record {
+          count = g.count;
+          anchored = g.anchored;
+          agrees = g.agrees;
+          prepared = g.prepared;
+          syncing = g.syncing;
+        });
   }
 
   module _ (c : Conf) (r : ℕ) (inv : Inv m f c) (sync : Sync f c) where
     abbrev p : Member
     p = c.replicas r
 
-    entered_syncs : (v : View) (b : Bool) → r < 2 * f + 1 → Kept m f c (after f c r (enter_as b (entered p v))) → Sync f (after f c r (enter_as b (entered p v)))
-    entered_syncs v true l kept = entering m f c r inv sync l v (enter_as true (entered p v)).state.changes (enter_as true (entered p v)).said kept (quiet_unless (others p == 0) (entered p v) Plain (λ s. (λ e. cc, λ e. cc)))
+    entered_syncs : (v : View) (b : Bool) → r < 2 * f + 1 → Kept m f c (after f c r (enter_as b (entered p v)))
+        → Sync f (after f c r (enter_as b (entered p v)))
+    entered_syncs v true l kept = entering m f c r inv sync l v (enter_as true (entered p v)).state.changes
+        (enter_as true (entered p v)).said kept (quiet_unless (others p == 0) (entered p v) Plain (λ s. (λ e. cc, λ e. cc)))
     entered_syncs v false l kept =
         entering m f c r inv sync l v (enter_as false (entered p v)).state.changes (enter_as false (entered p v)).said kept
-        (quiet_both (say_all (entered p v) Plain) (say (entered p v) (ViewChange p.last_normal p.next p.log)) (quiet_unless (others p == 0) (entered p v) Plain (λ s. (λ e. cc, λ e. cc))) (quiet_one (entered p v) (ViewChange p.last_normal p.next p.log) (λ s. (λ e. cc, λ e. cc))))
+        (quiet_both (say_all (entered p v) Plain) (say (entered p v) (ViewChange p.last_normal p.next p.log))
+        (quiet_unless (others p == 0) (entered p v) Plain (λ s. (λ e. cc, λ e. cc)))
+        (quiet_one (entered p v) (ViewChange p.last_normal p.next p.log) (λ s. (λ e. cc, λ e. cc))))
 
     act_syncs : (a : Act) → May f c (Acts r a) → Kept m f c (happens m f c (Acts r a)) → Sync f (happens m f c (Acts r a))
     act_syncs (Queue x) (l, may) kept = in_view m f c r inv sync l p.log p.next (offered p.receiver x) p.gap p.changes [] [] kept quiet_none
-    act_syncs (TakeFront q) (l, may) kept = in_view m f c r inv sync l (logged p q).log (p.next + 1) (front_taken p.receiver) p.gap p.changes [] (reply_to m (logged p q) (length p.log + 1) q) kept quiet_none
-    act_syncs (Fill q) (l, may) kept = in_view m f c r inv sync l (appended p (Req q)).log (p.next + 1) (advanced p.receiver (p.next + 1)) p.gap p.changes [] (reply_to m (appended p (Req q)) (length p.log + 1) q) kept quiet_none
-    act_syncs OpenGap (l, may) kept = in_view m f c r inv sync l (appended p NoOp).log (p.next + 1) (advanced p.receiver (p.next + 1)) (waiting (begun (length p.log + 1) (others p))) p.changes (say_all p (GapCommit (length p.log + 1))) [] kept (quiet_unless (others p == 0) p (GapCommit (length p.log + 1)) (λ s. (λ e. cc, λ e. cc)))
-    act_syncs (CountGapVote g q) (l, may) kept = in_view m f c r inv sync l p.log p.next p.receiver (waiting (counted g q)) p.changes [] [] kept quiet_none
-    act_syncs (WriteGap k) (l, may) kept = in_view m f c r inv sync l (set_slot p.log k NoOp) p.next p.receiver p.gap p.changes (say p (GapRep k)) [] kept (quiet_one p (GapRep k) (λ s. (λ e. cc, λ e. cc)))
-    act_syncs AddGap (l, may) kept = in_view m f c r inv sync l (appended p NoOp).log (p.next + 1) (advanced p.receiver (p.next + 1)) p.gap p.changes (say p (GapRep (length p.log + 1))) [] kept (quiet_one p (GapRep (length p.log + 1)) (λ s. (λ e. cc, λ e. cc)))
+    act_syncs (TakeFront q) (l, may) kept = in_view m f c r inv sync l (logged p q).log (p.next + 1)
+        (front_taken p.receiver) p.gap p.changes [] (reply_to m (logged p q) (length p.log + 1) q) kept quiet_none
+    act_syncs (Fill q) (l, may) kept = in_view m f c r inv sync l (appended p (Req q)).log (p.next + 1)
+        (advanced p.receiver (p.next + 1)) p.gap p.changes [] (reply_to m (appended p (Req q)) (length p.log + 1) q) kept quiet_none
+    act_syncs OpenGap (l, may) kept = in_view m f c r inv sync l (appended p NoOp).log (p.next + 1) (advanced p.receiver (p.next + 1))
+        (waiting (begun (length p.log + 1) (others p))) p.changes (say_all p (GapCommit (length p.log + 1))) [] kept
+        (quiet_unless (others p == 0) p (GapCommit (length p.log + 1)) (λ s. (λ e. cc, λ e. cc)))
+    act_syncs (CountGapVote g q) (l, may) kept = in_view m f c r inv sync l p.log p.next p.receiver
+        (waiting (counted g q)) p.changes [] [] kept quiet_none
+    act_syncs (WriteGap k) (l, may) kept = in_view m f c r inv sync l (set_slot p.log k NoOp) p.next p.receiver p.gap p.changes
+        (say p (GapRep k)) [] kept (quiet_one p (GapRep k) (λ s. (λ e. cc, λ e. cc)))
+    act_syncs AddGap (l, may) kept = in_view m f c r inv sync l (appended p NoOp).log (p.next + 1)
+        (advanced p.receiver (p.next + 1)) p.gap p.changes (say p (GapRep (length p.log + 1))) [] kept
+        (quiet_one p (GapRep (length p.log + 1)) (λ s. (λ e. cc, λ e. cc)))
     act_syncs (Enter v) (l, may) kept = entered_syncs v (leads (entered p v)) l kept
-    act_syncs (KeepChange g x) (l, may) kept = in_view m f c r inv sync l p.log p.next p.receiver p.gap (moves.keep_change p g x).state.changes [] [] kept quiet_none
+    act_syncs (KeepChange g x) (l, may) kept = in_view m f c r inv sync l p.log p.next p.receiver p.gap
+        (moves.keep_change p g x).state.changes [] [] kept quiet_none
     act_syncs (OpenView g) (l, may) kept =
         let s = opened g.view g.changes in
         let was = (inv.own r l).changes.gathers g may.gathers in
-        adopting m f c r inv sync l p.view s.next s.log (say_all p (StartView s.next s.log)) (moves.open_view m p g).replies ((inv.own r l).place.change was.change) kept (quiet_unless (others p == 0) p (StartView s.next s.log) (λ s. (λ e. cc, λ e. cc)))
-    act_syncs (Adopt v x log) (l, may) kept = adopting m f c r inv sync l v x log [] (moves.adopt m p v x log).replies (below_of m f c r inv l v may.at_most may.change) kept quiet_none
-    act_syncs (Say x) (l, may) kept = in_view m f c r inv sync l p.log p.next p.receiver p.gap p.changes (say p x) [] kept (quiet_one p x (quiet_word f c p.number p.view x may))
+        adopting m f c r inv sync l p.view s.next s.log (say_all p (StartView s.next s.log)) (moves.open_view m p g).replies
+        ((inv.own r l).place.change was.change) kept (quiet_unless (others p == 0) p (StartView s.next s.log) (λ s. (λ e. cc, λ e. cc)))
+    act_syncs (Adopt v x log) (l, may) kept = adopting m f c r inv sync l v x log [] (moves.adopt m p v x log).replies
+        (below_of m f c r inv l v may.at_most may.change) kept quiet_none
+    act_syncs (Say x) (l, may) kept = in_view m f c r inv sync l p.log p.next p.receiver p.gap p.changes (say p x) [] kept
+        (quiet_one p x (quiet_word f c p.number p.view x may))
     act_syncs (Overlay log) (l, may) kept = overlaying m f c r inv sync l log may kept
     act_syncs (Obey k) (l, may) kept = obeying m f c r inv sync l k may kept
     act_syncs OpenSync (l, may) kept = opening_round m f c r inv sync l may.may_lead may.longer kept
@@ -87,18 +111,27 @@ module _ {S : Type 0} (m : Meaning S) (f : ℕ) where
 
   pub happens_syncs : (c : Conf) (x : Move) → Inv m f c → Sync f c → May f c x → Sync f (happens m f c x)
   happens_syncs c (Acts r a) inv sync may = act_syncs c r inv sync a may (happens_keeps m f c (Acts r a) inv may)
-  happens_syncs c (MoveTo k j s) inv sync may = outside c (happens m f c (MoveTo k j s)) inv (happens_keeps m f c (MoveTo k j s) inv may).1 sync (λ x i. i) (λ q. refl) inv.current
-  happens_syncs c (Installed k) inv sync may = outside c (happens m f c (Installed k)) inv (happens_keeps m f c (Installed k) inv may).1 sync (λ x i. i) (λ q. refl) inv.current
-  happens_syncs c (Install j s) inv sync may = outside c (happens m f c (Install j s)) inv (happens_keeps m f c (Install j s) inv may).1 sync (λ x i. i) (λ q. refl) inv.current
-  happens_syncs c (Stamp j r) inv sync may = outside c (happens m f c (Stamp j r)) inv (happens_keeps m f c (Stamp j r) inv may).1 sync (λ x i. i) (λ q. refl) inv.current
-  happens_syncs c (Submit k op) inv sync may = outside c (happens m f c (Submit k op)) inv (happens_keeps m f c (Submit k op) inv may).1 sync (λ x i. i) (λ q. refl) inv.current
-  happens_syncs c (Keep k p) inv sync may = outside c (happens m f c (Keep k p)) inv (happens_keeps m f c (Keep k p) inv may).1 sync (λ x i. i) (λ q. refl) inv.current
-  happens_syncs c (Accept k p leaders) inv sync may = outside c (happens m f c (Accept k p leaders)) inv (happens_keeps m f c (Accept k p leaders) inv may).1 sync (λ x i. i) (λ q. refl) inv.current
-  happens_syncs c (Tell more) inv sync may = outside c (happens m f c (Tell more)) inv (happens_keeps m f c (Tell more) inv may).1 sync (λ x i. i) (λ q. refl) inv.current
+  happens_syncs c (MoveTo k j s) inv sync may =
+      outside c (happens m f c (MoveTo k j s)) inv (happens_keeps m f c (MoveTo k j s) inv may).1 sync (λ x i. i) (λ q. refl) inv.current
+  happens_syncs c (Installed k) inv sync may =
+      outside c (happens m f c (Installed k)) inv (happens_keeps m f c (Installed k) inv may).1 sync (λ x i. i) (λ q. refl) inv.current
+  happens_syncs c (Install j s) inv sync may =
+      outside c (happens m f c (Install j s)) inv (happens_keeps m f c (Install j s) inv may).1 sync (λ x i. i) (λ q. refl) inv.current
+  happens_syncs c (Stamp j r) inv sync may = outside c (happens m f c (Stamp j r)) inv (happens_keeps m f c (Stamp j r) inv may).1 sync
+      (λ x i. i) (λ q. refl) inv.current
+  happens_syncs c (Submit k op) inv sync may =
+      outside c (happens m f c (Submit k op)) inv (happens_keeps m f c (Submit k op) inv may).1 sync (λ x i. i) (λ q. refl) inv.current
+  happens_syncs c (Keep k p) inv sync may = outside c (happens m f c (Keep k p)) inv (happens_keeps m f c (Keep k p) inv may).1 sync
+      (λ x i. i) (λ q. refl) inv.current
+  happens_syncs c (Accept k p leaders) inv sync may = outside c (happens m f c (Accept k p leaders)) inv
+      (happens_keeps m f c (Accept k p leaders) inv may).1 sync (λ x i. i) (λ q. refl) inv.current
+  happens_syncs c (Tell more) inv sync may = outside c (happens m f c (Tell more)) inv (happens_keeps m f c (Tell more) inv may).1 sync
+      (λ x i. i) (λ q. refl) inv.current
 
   pub run_syncs : (c : Conf) (xs : List Move) → Inv m f c → Sync f c → MayAll m f c xs → Sync f (run m f c xs)
   run_syncs c [] inv sync may = sync
-  run_syncs c (x ∷ xs) inv sync (may, rest) = run_syncs (happens m f c x) xs (happens_keeps m f c x inv may).0 (happens_syncs c x inv sync may) rest
+  run_syncs c (x ∷ xs) inv sync (may, rest) = run_syncs (happens m f c x) xs (happens_keeps m f c x inv may).0
+      (happens_syncs c x inv sync may) rest
 
 pub syncs_keep : {S : Type 0} (m : Meaning S) → SyncsKeep m
 syncs_keep m f c xs inv sync may = run_syncs m f c xs inv sync may

@@ -29,7 +29,8 @@ word_of p x y q w h = ap (λ (z : Said). z.word) (Has-one (says q w y) (says p.n
 pub quiet_one : (p : Member) (x : Word) → ((s : ℕ) → (SyncRep s ≡ x → ⊥) × (SyncCommit s ≡ x → ⊥)) → IsQuiet (say p x)
 quiet_one p x apart q w s = (λ h. (apart s).0 (word_of p x (SyncRep s) q w h), λ h. (apart s).1 (word_of p x (SyncCommit s) q w h))
 
-pub quiet_unless : (b : Bool) (p : Member) (x : Word) → ((s : ℕ) → (SyncRep s ≡ x → ⊥) × (SyncCommit s ≡ x → ⊥)) → IsQuiet (say_unless b p x)
+pub quiet_unless : (b : Bool) (p : Member) (x : Word) → ((s : ℕ) → (SyncRep s ≡ x → ⊥) × (SyncCommit s ≡ x → ⊥))
+    → IsQuiet (say_unless b p x)
 quiet_unless true p x apart = quiet_none
 quiet_unless false p x apart = quiet_one p x apart
 
@@ -39,7 +40,8 @@ quiet_both a b h g q w s = (
   λ i. elim (Has-append_cases a b _ i) [ inl x ↦ (h q w s).1 x | inr x ↦ (g q w s).1 x ],
 )
 
-module _ {S : Type 0} (m : Meaning S) (f : ℕ) (c : Conf) (r : ℕ) (e : Effect) (inv : Inv m f c) (sync : Sync f c) (within : r < 2 * f + 1) (kept : Kept m f c (after f c r e)) where
+module _ {S : Type 0} (m : Meaning S) (f : ℕ) (c : Conf) (r : ℕ) (e : Effect) (inv : Inv m f c) (sync : Sync f c) (within : r < 2 * f + 1)
+    (kept : Kept m f c (after f c r e)) where
   abbrev d : Conf
   d = after f c r e
 
@@ -57,10 +59,19 @@ module _ {S : Type 0} (m : Meaning S) (f : ℕ) (c : Conf) (r : ℕ) (e : Effect
 
   pub sync_after : Reps → Commits → GoodSync f d r e.state → Sync f d
   sync_after reps commits own = record {
-    reps = λ q w s h. elim (Has-append_cases e.said c.said (says q w (SyncRep s)) h) [ inl g ↦ reps q w s g | inr g ↦ rep_lasts m f c d inv kept.1 q w s (sync.reps q w s g) ];
-    commits = λ q w s h. elim (Has-append_cases e.said c.said (says q w (SyncCommit s)) h) [ inl g ↦ commits q w s g | inr g ↦ commit_lasts m f c d inv kept.1 q w s (sync.commits q w s g) ];
+    reps = λ q w s h. elim (Has-append_cases e.said c.said (says q w (SyncRep s)) h) [
+      | inl g ↦ reps q w s g
+      | inr g ↦
+          rep_lasts m f c d inv kept.1 q w s (sync.reps q w s g)
+    ];
+    commits = λ q w s h. elim (Has-append_cases e.said c.said (says q w (SyncCommit s)) h) [
+      | inl g ↦ commits q w s g
+      | inr g ↦
+          commit_lasts m f c d inv kept.1 q w s (sync.commits q w s g)
+    ];
     own = put_all (λ q p. q < 2 * f + 1 → GoodSync f d q p) c.replicas r e.state (λ l. own) (λ q a l.
-        let g = inside m f c d inv kept.1 sync q l (c.replicas q).log (subst (λ (p : Member). HadLog d.past q p.last_normal p.log) (put_apart c.replicas r e.state q a) (kept.0.current q l)) in
+        let g = inside m f c d inv kept.1 sync q l (c.replicas q).log (subst (λ (p : Member). HadLog d.past q p.last_normal p.log)
+        (put_apart c.replicas r e.state q a) (kept.0.current q l)) in
         record { count = g.count; anchored = g.anchored; agrees = g.agrees; prepared = g.prepared; syncing = g.syncing });
   }
 

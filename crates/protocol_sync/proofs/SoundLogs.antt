@@ -28,7 +28,8 @@ use Rattle.protocol.proofs.Stays.{some_same}
 use Rattle.protocol_sync.specs.Sound.{EntryIsSound, LogsAreSound, WaitsAt, IsUnsettled, LeadersAreSound, NumbersAreSound}
 
 -- a slot that a front of a log has
-front_slot : {A : Type 0} (l k : List A) (i : ℕ) (x : A) → IsPrefixOf l k → 0 < i → i ≤ length l → slot_of k i ≡ Some x → slot_of l i ≡ Some x
+front_slot : {A : Type 0} (l k : List A) (i : ℕ) (x : A) → IsPrefixOf l k → 0 < i → i ≤ length l → slot_of k i ≡ Some x
+    → slot_of l i ≡ Some x
 front_slot l k i x is low high e =
     let y = slot_some l i low high in
     y.1 ∙ ap Some (some_same (slot_of k i) y.0 x (prefix_slot l k i y.0 is y.1) e)
@@ -43,7 +44,8 @@ NonePrepared said w k = (q : ℕ) (l : List Entry) → DidSay said q w (SyncPrep
 
 -- this word is one, or not
 abbrev IsPrepare : ℕ → View → Word → View → ℕ → Type 0
-IsPrepare s v x w k = ((l : List Entry) × (says s v x ≡ says s w (SyncPrepare l)) × (length l ≡ k)) ⊎ ((q : ℕ) (l : List Entry) → says q w (SyncPrepare l) ≡ says s v x → length l ≡ k → ⊥)
+IsPrepare s v x w k = ((l : List Entry) × (says s v x ≡ says s w (SyncPrepare l)) × (length l ≡ k)) ⊎ ((q : ℕ) (l : List Entry)
+    → says q w (SyncPrepare l) ≡ says s v x → length l ≡ k → ⊥)
 
 is_prepare : (s : ℕ) (v : View) (x : Word) (w : View) (k : ℕ) → IsPrepare s v x w k
 is_prepare s v (SyncPrepare l) w k = elim (cases_view v w) [
@@ -79,7 +81,8 @@ module _ {S : Type 0} (m : Meaning S) (f : ℕ) (c : Conf) (inv : Inv m f c) whe
   good_at : (r : ℕ) (w : View) (l : List Entry) (x : Start) (h : HadLog c.past r w l) → IsStart c.past w x → (inv.logs r w l h).start ≡ x
   good_at r w l x h is = let t = inv.logs r w l h in some_same (c.past.start w) t.start x t.is_start is
 
-  entry_sound : (r : ℕ) (w : View) (l : List Entry) (x : Start) (k : ℕ) (e : Entry) → HadLog c.past r w l → IsStart c.past w x → length x.log < k → slot_of l k ≡ Some e
+  entry_sound : (r : ℕ) (w : View) (l : List Entry) (x : Start) (k : ℕ) (e : Entry) → HadLog c.past r w l → IsStart c.past w x
+      → length x.log < k → slot_of l k ≡ Some e
       → EntryIsSound f c w (x.next + (k - length x.log - 1)) k e
   entry_sound r w l x k (Req q) h is above e =
       let t = inv.logs r w l h in
@@ -90,7 +93,8 @@ module _ {S : Type 0} (m : Meaning S) (f : ℕ) (c : Conf) (inv : Inv m f c) whe
       let t = inv.logs r w l h in
       let low : length t.start.log < k = subst (λ (y : Start). length y.log < k) (sym (good_at r w l x h is)) above in
       let lead = inv.logs (leader_of w (2 * f + 1)) w t.lead t.leads in
-      let led : length lead.start.log < k = subst (λ (y : Start). length y.log < k) (sym (good_at (leader_of w (2 * f + 1)) w t.lead x t.leads is)) above in
+      let led : length lead.start.log < k =
+      subst (λ (y : Start). length y.log < k) (sym (good_at (leader_of w (2 * f + 1)) w t.lead x t.leads is)) above in
       lead.announced refl k led (t.noops k low e)
 
   pub logs_sound : LogsAreSound f c
@@ -104,12 +108,14 @@ module _ {S : Type 0} (m : Meaning S) (f : ℕ) (c : Conf) (inv : Inv m f c) whe
   numbers_sound r x l is =
       let place = (inv.own r l).place in
       let same : place.start ≡ x = some_same (c.past.start (c.replicas r).last_normal) place.start x place.is_start is in
-      let counted : (c.replicas r).next + length x.log ≡ x.next + length (c.replicas r).log = subst (λ (y : Start). (c.replicas r).next + length y.log ≡ y.next + length (c.replicas r).log) same place.counted in
+      let counted : (c.replicas r).next + length x.log ≡ x.next + length (c.replicas r).log =
+      subst (λ (y : Start). (c.replicas r).next + length y.log ≡ y.next + length (c.replicas r).log) same place.counted in
       omega (arith, counted)
 
   -- ---- the log of the leader
 
-  module _ (w : View) (l : List Entry) (x : Start) (k : ℕ) (led : LeaderHad f c.past w l) (is : IsStart c.past w x) (above : length x.log < k) (e : slot_of l k ≡ Some NoOp) where
+  module _ (w : View) (l : List Entry) (x : Start) (k : ℕ) (led : LeaderHad f c.past w l) (is : IsStart c.past w x)
+      (above : length x.log < k) (e : slot_of l k ≡ Some NoOp) where
     abbrev r : ℕ
     r = leader_of w (2 * f + 1)
 
@@ -144,18 +150,23 @@ module _ {S : Type 0} (m : Meaning S) (f : ℕ) (c : Conf) (inv : Inv m f c) whe
         at None gap view log =
             let leads : r ≡ leader_of p.view (2 * f + 1) = ap (λ (y : View). leader_of y (2 * f + 1)) (sym view) in
             let base : p.base ≡ length own.place.start.log = own.place.base (ap (λ (y : View). leader_of y (2 * f + 1)) same) in
-            let start : own.place.start ≡ x = some_same (c.past.start w) own.place.start x (subst (λ (y : View). IsStart c.past y own.place.start) (sym same) own.place.is_start) is in
+            let start : own.place.start ≡ x =
+            some_same (c.past.start w) own.place.start x (subst (λ (y : View). IsStart c.past y own.place.start)
+            (sym same) own.place.is_start) is in
             let lens : length own.place.start.log ≡ length x.log = ap (λ (y : Start). length y.log) start in
             let len : length p.log ≡ k = ap length log ∙ sym last in
-            let noop : slot_of p.log (length p.log) ≡ Some NoOp = subst (λ (i : ℕ). slot_of p.log i ≡ Some NoOp) (sym len) (subst (λ (y : List Entry). slot_of y k ≡ Some NoOp) (sym log) e) in
-            let there : Settled f c.said p.view (length p.log) = own.gap.last leads normal gap (omega (arith, base, lens, len, above)) noop in
+            let noop : slot_of p.log (length p.log) ≡ Some NoOp = subst (λ (i : ℕ). slot_of p.log i ≡ Some NoOp) (sym len)
+            (subst (λ (y : List Entry). slot_of y k ≡ Some NoOp) (sym log) e) in
+            let there : Settled f c.said p.view (length p.log) =
+            own.gap.last leads normal gap (omega (arith, base, lens, len, above)) noop in
             inl (subst (λ (y : View). Settled f c.said y k) view (subst (Settled f c.said p.view) len there))
 
     -- the leader is in the view or has left it
     at_last : k ≡ length l → Settled f c.said w k ⊎ Left
     at_last last = elim (cases_view w p.last_normal) [
       | inl same ↦ here p.status refl same
-      | inr apart ↦ inr (inr (below_at_most w p.last_normal p.view (record { at_most = inv.reached r w l led; apart = apart }) (normal_low m f c r inv (leader_within f w))))
+      | inr apart ↦ inr (inr (below_at_most w p.last_normal p.view (record { at_most = inv.reached r w l led; apart = apart })
+          (normal_low m f c r inv (leader_within f w))))
     ]
       where
         here : (s : Phase) → p.status ≡ s → w ≡ p.last_normal → Settled f c.said w k ⊎ Left
@@ -170,7 +181,8 @@ module _ {S : Type 0} (m : Meaning S) (f : ℕ) (c : Conf) (inv : Inv m f c) whe
         let start : t.start ≡ x = some_same (c.past.start w) t.start x t.is_start is in
         let lens : length t.start.log ≡ length x.log = ap (λ (y : Start). length y.log) start in
         let begins : IsPrefixOf j l = subst (IsPrefixOf j) lead t.begins in
-        let noop : slot_of j (length j) ≡ Some NoOp = front_slot j l (length j) NoOp begins (omega (arith, len, above)) (omega arith) (subst (λ (i : ℕ). slot_of l i ≡ Some NoOp) (sym len) e) in
+        let noop : slot_of j (length j) ≡ Some NoOp = front_slot j l (length j) NoOp begins (omega (arith, len, above)) (omega arith)
+        (subst (λ (i : ℕ). slot_of l i ≡ Some NoOp) (sym len) e) in
         subst (Settled f c.said w) len (t.settled (omega (arith, lens, len, above)) noop)
 
     noop_sound : Settled f c.said w k ⊎ IsUnsettled f c w l k

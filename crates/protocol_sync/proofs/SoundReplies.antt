@@ -52,7 +52,8 @@ module _ {S : Type 0} (m : Meaning S) (f : ℕ) (c : Conf) (inv : Inv m f c) whe
   pub accepts_sound : AcceptsAreSound f c
   accepts_sound k client id result e =
       let a = inv.lines.grounds k client id result e in
-      let q = quorum_with f (leader_of a.view (2 * f + 1)) (Replied c.replies a.view a.slot client id) (leader_within f a.view) a.leaders a.quorum in
+      let q = quorum_with f (leader_of a.view (2 * f + 1)) (Replied c.replies a.view a.slot client id)
+      (leader_within f a.view) a.leaders a.quorum in
       record {
         view = a.view;
         slot = a.slot;

@@ -23,8 +23,10 @@ module _ {S : Type 0} (m : Meaning S) (f : ℕ) (c : Conf) (inv : Inv m f c) whe
 
   one_owner : (i j session : ℕ) → Owns c.installs i session → Owns c.installs j session → i ≡ j
   one_owner i j session (inl (a, one)) (inl (b, two)) = a ∙ sym b
-  one_owner i j session (inl (a, one)) (inr y) = absurd (let t = inv.installs (record { sequencer = j; session = session }) y in omega (arith, t.low, one))
-  one_owner i j session (inr x) (inl (b, two)) = absurd (let t = inv.installs (record { sequencer = i; session = session }) x in omega (arith, t.low, two))
+  one_owner i j session (inl (a, one)) (inr y) = absurd (let t = inv.installs (record { sequencer = j; session = session }) y in
+      omega (arith, t.low, one))
+  one_owner i j session (inr x) (inl (b, two)) = absurd (let t = inv.installs (record { sequencer = i; session = session }) x in
+      omega (arith, t.low, two))
   one_owner i j session (inr x) (inr y) = inv.installed_once i j session x y
 
   low_session : (j session : ℕ) → Owns c.installs j session → 1 ≤ session

@@ -29,7 +29,11 @@ module _ {S : Type 0} (m : Meaning S) (f : ℕ) (c : Conf) (inv : Inv m f c) whe
         next = omega (arith, t.counted);
         one = λ w y k g.
             let i : c.past.entry r v ≡ Some (record { last_normal = w; next = y; log = k }) = inv.said (says r v (ViewChange w y k)) g in
-            let same = some_same (c.past.entry r v) (record { last_normal = w; next = y; log = k }) (record { last_normal = u; next = x; log = l }) i e in
+            let same = some_same (c.past.entry r v) (record { last_normal = w; next = y; log = k }) (record {
+              last_normal = u;
+              next = x;
+              log = l;
+            }) i e in
             (ap (λ (z : Entered). z.last_normal) same, ap (λ (z : Entered). z.next) same, ap (λ (z : Entered). z.log) same);
       }
 

@@ -32,12 +32,20 @@ module _ {S : Type 0} (m : Meaning S) (f : ℕ) (c : Conf) (inv : Inv m f c) (sy
   sync_replies_sound = record {
     replies = λ q w s h.
         let t = sync.reps q w s h in
-        record { log = t.log; had = t.had; lead = t.agrees.lead; leads = t.agrees.leads; within = t.agrees.same.right; same = t.agrees.same };
+        record {
+          log = t.log;
+          had = t.had;
+          lead = t.agrees.lead;
+          leads = t.agrees.leads;
+          within = t.agrees.same.right;
+          same = t.agrees.same;
+        };
     prepared = λ r l one. ((sync.own r l).prepared one).said;
   }
 
   -- what is synchronised begins each log that the leader of the view or of a later one has
-  led_synchronised : (w : View) (l : List Entry) (s : ℕ) → 1 ≤ s → LeaderHad f c.past w l → Anchored f c w s → PrefixIsSynchronised f c w l s
+  led_synchronised : (w : View) (l : List Entry) (s : ℕ) → 1 ≤ s → LeaderHad f c.past w l → Anchored f c w s
+      → PrefixIsSynchronised f c w l s
   led_synchronised w l s one led (inl zero) = absurd (omega (arith, one, zero))
   led_synchronised w l s one led (inr (u, low, x)) =
       let good = inv.logs (leader_of u (2 * f + 1)) u x.lead x.leads in
@@ -51,11 +59,13 @@ module _ {S : Type 0} (m : Meaning S) (f : ℕ) (c : Conf) (inv : Inv m f c) (sy
         leads = x.leads;
         within = x.within;
         begins = leader_begins f c.stamps (last_normals c) c.past (grounds_of m f c inv) u w x.lead l s fixed low led;
-        kept = λ v y below is. fixed_prefixes_are_kept f c.stamps (last_normals c) c.past (grounds_of m f c inv) u v x.lead s y fixed below is;
+        kept = λ v y below is. fixed_prefixes_are_kept f c.stamps (last_normals c) c.past
+            (grounds_of m f c inv) u v x.lead s y fixed below is;
       }
 
   -- and each log that agrees with it so far
-  agreed : (w : View) (l k : List Entry) (s : ℕ) → s ≤ length l → s ≤ length k → take s l ≡ take s k → PrefixIsSynchronised f c w k s → PrefixIsSynchronised f c w l s
+  agreed : (w : View) (l k : List Entry) (s : ℕ) → s ≤ length l → s ≤ length k → take s l ≡ take s k → PrefixIsSynchronised f c w k s
+      → PrefixIsSynchronised f c w l s
   agreed w l k s left right same t =
       let long : s ≤ length (take s t.lead) = omega (arith, length-take-le s t.lead t.within) in
       let front = same_from_prefix s (take s t.lead) t.lead k long (prefix_of_take s t.lead) t.begins in

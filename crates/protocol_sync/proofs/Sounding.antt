@@ -28,7 +28,8 @@ use Rattle.protocol_sync.proofs.SoundStamps.{stamps_sound, requests_submitted, k
 use Rattle.protocol_sync.proofs.SoundViews.{views_sound, starts_sound}
 use Rattle.protocol_sync.proofs.SoundVotes.{votes_sound, sync_replies_sound, sync_points_sound}
 
-sound : {S : Type 0} (m : Meaning S) (f : ℕ) (c : Conf) → Inv m f c → Sync f c → IsStart c.past first_view (record { next = 1; log = [] }) → Sound m f c
+sound : {S : Type 0} (m : Meaning S) (f : ℕ) (c : Conf) → Inv m f c → Sync f c → IsStart c.past first_view (record { next = 1; log = [] })
+    → Sound m f c
 sound m f c inv sync first = record {
   stamps = stamps_sound m f c inv;
   requests = requests_submitted m f c inv;
@@ -45,7 +46,8 @@ sound m f c inv sync first = record {
   accepts = accepts_sound m f c inv;
 }
 
-module _ {S : Type 0} (m : Meaning S) (f : ℕ) (config : Configuration) (count : config.replicas ≡ 2 * f + 1) (xs : List Move) (may : MayAll m f (opening config) xs) where
+module _ {S : Type 0} (m : Meaning S) (f : ℕ) (config : Configuration) (count : config.replicas ≡ 2 * f + 1) (xs : List Move)
+    (may : MayAll m f (opening config) xs) where
   abbrev c : Conf
   c = run m f (opening config) xs
 

@@ -1,5 +1,5 @@
 -- Each StartView tells the start of its view, where it is said again only as that.
-use Rattle.std.proofs.Common.{◌≡◌, ℕ, ◌+◌, ◌*◌, ◌<◌, Bool, true, false, refl, sym, ap, subst, inl, inr, length, List, [], ◌∷◌, ◌++◌}
+use Rattle.std.proofs.Common.{◌≡◌, ℕ, ◌+◌, Bool, true, false, sym, ap, subst, inl, inr, length, List, [], ◌∷◌, ◌++◌}
 use Rattle.std.specs.Prelude.{◌==◌}
 use Rattle.nop_types.specs.declared.view.View.{View}
 use Rattle.nop_types.specs.declared.replica_state.Vote.{Vote}
@@ -87,7 +87,8 @@ module _ {S : Type 0} (m : Meaning S) (f : ℕ) where
     act_starts (Say y) may ev again = λ q w x l h.
         let a = said_one p y (StartView x l) q w h in
         let start = again r x l (ap (λ (z : Word). Acts r (Say z)) (sym a.2)) in
-        subst (λ (v : View). IsStart (happens m f c (Acts r (Say y))).past v (record { next = x; log = l })) (sym a.1) (ev.starts p.view (record { next = x; log = l }) start)
+        subst (λ (v : View). IsStart (happens m f c (Acts r (Say y))).past v (record { next = x; log = l })) (sym a.1)
+        (ev.starts p.view (record { next = x; log = l }) start)
     act_starts (Overlay k) may ev again = no_starts (Overlay k) (none_one p (SyncRep (length k)) (λ x l e. cc))
     act_starts (Obey k) may ev again = no_starts (Obey k) none_nothing
     act_starts OpenSync may ev again = no_starts OpenSync (none_all p (SyncPrepare p.log) (λ x l e. cc))
@@ -111,10 +112,12 @@ module _ {S : Type 0} (m : Meaning S) (f : ℕ) where
   happens_whole c (Stamp j q) inv whole may start = silent c _ (happens_keeps m f c (Stamp j q) inv may).1 whole (λ x i. i)
   happens_whole c (Submit k op) inv whole may start = silent c _ (happens_keeps m f c (Submit k op) inv may).1 whole (λ x i. i)
   happens_whole c (Keep k y) inv whole may start = silent c _ (happens_keeps m f c (Keep k y) inv may).1 whole (λ x i. i)
-  happens_whole c (Accept k y leaders) inv whole may start = silent c _ (happens_keeps m f c (Accept k y leaders) inv may).1 whole (λ x i. i)
+  happens_whole c (Accept k y leaders) inv whole may start =
+      silent c _ (happens_keeps m f c (Accept k y leaders) inv may).1 whole (λ x i. i)
   happens_whole c (Tell more) inv whole may start = silent c _ (happens_keeps m f c (Tell more) inv may).1 whole (λ x i. i)
 
-  run_whole : (c : Conf) (xs : List Move) → Inv m f c → StartsAreWhole c → MayAll m f c xs → AllSayStarts m f c xs → StartsAreWhole (run m f c xs)
+  run_whole : (c : Conf) (xs : List Move) → Inv m f c → StartsAreWhole c → MayAll m f c xs → AllSayStarts m f c xs
+      → StartsAreWhole (run m f c xs)
   run_whole c [] inv whole may starts = whole
   run_whole c (x ∷ xs) inv whole (may, rest) (start, starts) =
       run_whole (happens m f c x) xs (happens_keeps m f c x inv may).0 (happens_whole c x inv whole may start) rest starts

@@ -47,13 +47,15 @@ LinesAreLegal m = (f : ℕ) (c : Conf) → Inv m f c → (v : View) (a : List En
 
 -- ---- of each configuration that moves lead to from the opening
 
--- what two replicas have up to both sync points is the same; it begins the log from which the history is read, and the lines are legal of that history
+-- what two replicas have up to both sync points is the same; it begins the log from which the history is read, and the lines are legal of
+-- that history
 pub record Safe {S : Type 0} (m : Meaning S) (f : ℕ) (c : Conf) : Type 0 where
   pub view : View
   pub log : List Entry
   pub main : IsMainLog f c view log
   pub agreed : (q r k : ℕ) → q < 2 * f + 1 → r < 2 * f + 1
-      → k ≤ (c.replicas q).sync.sync_point → k ≤ (c.replicas r).sync.sync_point → slot_of (c.replicas q).log k ≡ slot_of (c.replicas r).log k
+      → k ≤ (c.replicas q).sync.sync_point → k ≤ (c.replicas r).sync.sync_point
+      → slot_of (c.replicas q).log k ≡ slot_of (c.replicas r).log k
   pub begins : (r : ℕ) → r < 2 * f + 1 → IsPrefixOf (take (c.replicas r).sync.sync_point (c.replicas r).log) log
   pub legal : Legal m c.lines (history_of log)
 

@@ -33,7 +33,8 @@ use Rattle.protocol_sync.specs.Synced.{SyncRises}
 
 -- ---- (a) what was stamped, submitted and kept
 
--- one packet for each session and number; a session has one sequencer, and is at most its controller's; its sequencer has passed each number that it stamped there
+-- one packet for each session and number; a session has one sequencer, and is at most its controller's; its sequencer has passed each
+-- number that it stamped there
 pub record StampsAreSound (c : Conf) : Type 0 where
   pub once : (a b : Stamped) → Has c.stamps a → Has c.stamps b → a.session ≡ b.session → a.number ≡ b.number → a ≡ b
   pub stamped : (p : Stamped) → Has c.stamps p → (j : ℕ) × Owns c.installs j p.session
@@ -51,20 +52,24 @@ pub record RequestsAreSubmitted (f : ℕ) (c : Conf) : Type 0 where
   pub sent : (q : Request) → Has c.requests q → WasSubmitted c.lines q
   pub stamped : (p : Stamped) → Has c.stamps p → WasSubmitted c.lines p.request
   pub opened : (k : ℕ) (q : Request) → IsOpen (c.clients k) q → WasSubmitted c.lines q
-  pub queued : (r number : ℕ) (q : Request) → r < 2 * f + 1 → finite.get (c.replicas r).receiver.queued number ≡ Some q → WasSubmitted c.lines q
+  pub queued : (r number : ℕ) (q : Request) → r < 2 * f + 1 → finite.get (c.replicas r).receiver.queued number ≡ Some q
+      → WasSubmitted c.lines q
   pub logged : (r : ℕ) → r < 2 * f + 1 → AreSubmitted c (c.replicas r).log
   pub had : (r : ℕ) (w : View) (l : List Entry) → HadLog c.past r w l → AreSubmitted c l
   pub entered : (r : ℕ) (v : View) (e : Entered) → c.past.entry r v ≡ Some e → AreSubmitted c e.log
   pub started : (w : View) (x : Start) → IsStart c.past w x → AreSubmitted c x.log
-  pub gathered : (r : ℕ) (g : Gathering) (x : peer.Change) → r < 2 * f + 1 → (c.replicas r).changes ≡ Some g → Has g.changes x → AreSubmitted c x.log
+  pub gathered : (r : ℕ) (g : Gathering) (x : peer.Change) → r < 2 * f + 1 → (c.replicas r).changes ≡ Some g → Has g.changes x
+      → AreSubmitted c x.log
   pub found : (q : ℕ) (w : View) (k : ℕ) (r : Request) → DidSay c.said q w (Found k r) → WasSubmitted c.lines r
   pub changes : (q : ℕ) (w u : View) (x : ℕ) (l : List Entry) → DidSay c.said q w (ViewChange u x l) → AreSubmitted c l
   pub starts : (q : ℕ) (w : View) (x : ℕ) (l : List Entry) → DidSay c.said q w (StartView x l) → AreSubmitted c l
   pub prepares : (q : ℕ) (w : View) (l : List Entry) → DidSay c.said q w (SyncPrepare l) → AreSubmitted c l
 
--- each request that is queued was stamped with the session and its number, and each reply that is kept was sent by a replica for an open request
+-- each request that is queued was stamped with the session and its number, and each reply that is kept was sent by a replica for an open
+-- request
 pub record KeptWasSent (f : ℕ) (c : Conf) : Type 0 where
-  pub queued : (r number : ℕ) (q : Request) → r < 2 * f + 1 → finite.get (c.replicas r).receiver.queued number ≡ Some q → WasStamped c.stamps (c.replicas r).view.session number q
+  pub queued : (r number : ℕ) (q : Request) → r < 2 * f + 1 → finite.get (c.replicas r).receiver.queued number ≡ Some q
+      → WasStamped c.stamps (c.replicas r).view.session number q
   pub replies : (k : ℕ) (p : Reply) → Has (c.clients k).replies p → Has c.replies p
   pub expected : (k : ℕ) (p : Reply) → Has (c.clients k).replies p → (q : Request) × IsOpen (c.clients k) q × IsOf p.client p.id q
 
@@ -122,7 +127,8 @@ EntryIsSound f c w number k NoOp = (f ≡ 0) ⊎ DidSay c.said (leader_of w (2 *
 pub record LogsAreSound (f : ℕ) (c : Conf) : Type 0 where
   pub current : (r : ℕ) → r < 2 * f + 1 → HadLog c.past r (c.replicas r).last_normal (c.replicas r).log
   pub begins : (r : ℕ) (w : View) (l : List Entry) (x : Start) → HadLog c.past r w l → IsStart c.past w x → IsPrefixOf x.log l
-  pub slots : (r : ℕ) (w : View) (l : List Entry) (x : Start) (k : ℕ) (e : Entry) → HadLog c.past r w l → IsStart c.past w x → length x.log < k → slot_of l k ≡ Some e
+  pub slots : (r : ℕ) (w : View) (l : List Entry) (x : Start) (k : ℕ) (e : Entry) → HadLog c.past r w l → IsStart c.past w x
+      → length x.log < k → slot_of l k ≡ Some e
       → EntryIsSound f c w (x.next + (k - length x.log - 1)) k e
 
 -- ---- (e) the log of the leader
@@ -131,7 +137,8 @@ pub record LogsAreSound (f : ℕ) (c : Conf) : Type 0 where
 abbrev pub WaitsAt : Member → View → ℕ → Type 0
 WaitsAt p w k = (p.view ≡ w) × (g : Agreement) × (p.gap ≡ Some g) × (g.slot ≡ k)
 
--- a NO-OP that is not settled is in the last slot, no SyncPrepare of that length was sent, and the leader waits for votes or has left the view
+-- a NO-OP that is not settled is in the last slot, no SyncPrepare of that length was sent, and the leader waits for votes or has left the
+-- view
 pub record IsUnsettled (f : ℕ) (c : Conf) (w : View) (m : List Entry) (k : ℕ) : Type 0 where
   pub last : k ≡ length m
   pub unprepared : (q : ℕ) (l : List Entry) → DidSay c.said q w (SyncPrepare l) → length l ≡ k → ⊥
@@ -141,15 +148,19 @@ pub record LeadersAreSound (f : ℕ) (c : Conf) : Type 0 where
   pub found : (q : ℕ) (w : View) (k : ℕ) (r : Request) → DidSay c.said q w (Found k r) → LeaderHas f c q w k (Req r)
   pub gap_commits : (q : ℕ) (w : View) (k : ℕ) → DidSay c.said q w (GapCommit k) → LeaderHas f c q w k NoOp
   pub prepares : (q : ℕ) (w : View) (l m : List Entry) → DidSay c.said q w (SyncPrepare l) → LeaderHad f c.past w m → IsPrefixOf l m
-  pub noops : (w : View) (m : List Entry) (x : Start) (k : ℕ) → LeaderHad f c.past w m → IsStart c.past w x → length x.log < k → slot_of m k ≡ Some NoOp
+  pub noops : (w : View) (m : List Entry) (x : Start) (k : ℕ) → LeaderHad f c.past w m → IsStart c.past w x → length x.log < k
+      → slot_of m k ≡ Some NoOp
       → Settled f c.said w k ⊎ IsUnsettled f c w m k
 
 -- ---- (f) answers to gaps
 
 pub record VotesAreSound (f : ℕ) (c : Conf) : Type 0 where
-  pub replies : (q : ℕ) (w : View) (k : ℕ) → DidSay c.said q w (GapRep k) → (l : List Entry) × HadLog c.past q w l × (slot_of l k ≡ Some NoOp)
-  pub gap : (r : ℕ) (g : Agreement) (q : ℕ) → r < 2 * f + 1 → (c.replicas r).gap ≡ Some g → Has g.votes q → DidSay c.said q (c.replicas r).view (GapRep g.slot)
-  pub sync : (r : ℕ) (x : Round) (q : ℕ) → r < 2 * f + 1 → (c.replicas r).sync.syncing ≡ Some x → Has x.votes q → DidSay c.said q (c.replicas r).view (SyncRep x.len)
+  pub replies : (q : ℕ) (w : View) (k : ℕ) → DidSay c.said q w (GapRep k)
+      → (l : List Entry) × HadLog c.past q w l × (slot_of l k ≡ Some NoOp)
+  pub gap : (r : ℕ) (g : Agreement) (q : ℕ) → r < 2 * f + 1 → (c.replicas r).gap ≡ Some g → Has g.votes q
+      → DidSay c.said q (c.replicas r).view (GapRep g.slot)
+  pub sync : (r : ℕ) (x : Round) (q : ℕ) → r < 2 * f + 1 → (c.replicas r).sync.syncing ≡ Some x → Has x.votes q
+      → DidSay c.said q (c.replicas r).view (SyncRep x.len)
 
 -- ---- (g) replies
 
@@ -159,7 +170,8 @@ pub record ReplyIsSound {S : Type 0} (m : Meaning S) (f : ℕ) (c : Conf) (p : R
   pub log : List Entry
   pub had : HadLog c.past p.replica p.view log
   pub within : p.slot ≤ length log
-  pub leads : p.replica ≡ leader_of p.view (2 * f + 1) → (q : Request) × (slot_of log p.slot ≡ Some (Req q)) × IsOf p.client p.id q × (p.tag ≡ 1) × (result_at m log p.slot ≡ Some p.result)
+  pub leads : p.replica ≡ leader_of p.view (2 * f + 1) → (q : Request) × (slot_of log p.slot ≡ Some (Req q)) × IsOf p.client p.id q
+      × (p.tag ≡ 1) × (result_at m log p.slot ≡ Some p.result)
 
 abbrev pub RepliesAreSound : {S : Type 0} → Meaning S → ℕ → Conf → Type 0
 RepliesAreSound m f c = (p : Reply) → Has c.replies p → ReplyIsSound m f c p
@@ -178,13 +190,15 @@ pub record SyncReplyIsSound (f : ℕ) (c : Conf) (q : ℕ) (w : View) (s : ℕ) 
 -- and what a follower has prepared it has said
 pub record SyncRepliesAreSound (f : ℕ) (c : Conf) : Type 0 where
   pub replies : (q : ℕ) (w : View) (s : ℕ) → DidSay c.said q w (SyncRep s) → SyncReplyIsSound f c q w s
-  pub prepared : (r : ℕ) → r < 2 * f + 1 → 1 ≤ (c.replicas r).sync.prepared → DidSay c.said r (c.replicas r).view (SyncRep (c.replicas r).sync.prepared)
+  pub prepared : (r : ℕ) → r < 2 * f + 1 → 1 ≤ (c.replicas r).sync.prepared
+      → DidSay c.said r (c.replicas r).view (SyncRep (c.replicas r).sync.prepared)
 
 -- ---- (i) numbers
 
 -- a replica's next number is as far above that of its view's start as its log is longer
 abbrev pub NumbersAreSound : ℕ → Conf → Type 0
-NumbersAreSound f c = (r : ℕ) (x : Start) → r < 2 * f + 1 → IsStart c.past (c.replicas r).last_normal x → (c.replicas r).next ≡ x.next + length (c.replicas r).log - length x.log
+NumbersAreSound f c = (r : ℕ) (x : Start) → r < 2 * f + 1 → IsStart c.past (c.replicas r).last_normal x
+    → (c.replicas r).next ≡ x.next + length (c.replicas r).log - length x.log
 
 -- ---- (j) sync points
 
@@ -201,12 +215,15 @@ pub record PrefixIsSynchronised (f : ℕ) (c : Conf) (w : View) (l : List Entry)
   pub kept : (v : View) (x : Start) → Below view v → IsStart c.past v x → IsPrefixOf (take s lead) x.log
 
 pub record SyncPointsAreSound (f : ℕ) (c : Conf) : Type 0 where
-  pub points : (r : ℕ) → r < 2 * f + 1 → 1 ≤ (c.replicas r).sync.sync_point → PrefixIsSynchronised f c (c.replicas r).last_normal (c.replicas r).log (c.replicas r).sync.sync_point
-  pub commits : (q : ℕ) (w : View) (s : ℕ) (m : List Entry) → DidSay c.said q w (SyncCommit s) → 1 ≤ s → LeaderHad f c.past w m → PrefixIsSynchronised f c w m s
+  pub points : (r : ℕ) → r < 2 * f + 1 → 1 ≤ (c.replicas r).sync.sync_point
+      → PrefixIsSynchronised f c (c.replicas r).last_normal (c.replicas r).log (c.replicas r).sync.sync_point
+  pub commits : (q : ℕ) (w : View) (s : ℕ) (m : List Entry) → DidSay c.said q w (SyncCommit s) → 1 ≤ s → LeaderHad f c.past w m
+      → PrefixIsSynchronised f c w m s
 
 -- ---- (k) accepts
 
--- f + 1 replicas replied at one view and slot, the leader among them with this result; its log had the slot, and all requests up to there were submitted before. These slots begin each later start
+-- f + 1 replicas replied at one view and slot, the leader among them with this result; its log had the slot, and all requests up to there
+-- were submitted before. These slots begin each later start
 pub record AcceptIsSound (f : ℕ) (c : Conf) (k client id : ℕ) (result : List ℕ) : Type 0 where
   pub view : View
   pub slot : ℕ
@@ -221,7 +238,8 @@ pub record AcceptIsSound (f : ℕ) (c : Conf) (k client id : ℕ) (result : List
   pub kept : (v : View) (x : Start) → Below view v → IsStart c.past v x → IsPrefixOf (take slot lead) x.log
 
 abbrev pub AcceptsAreSound : ℕ → Conf → Type 0
-AcceptsAreSound f c = (k client id : ℕ) (result : List ℕ) → slice_get c.lines k ≡ Some (Accept client id result) → AcceptIsSound f c k client id result
+AcceptsAreSound f c = (k client id : ℕ) (result : List ℕ) → slice_get c.lines k ≡ Some (Accept client id result)
+    → AcceptIsSound f c k client id result
 
 -- ---- all of it
 
@@ -242,7 +260,8 @@ pub record Sound {S : Type 0} (m : Meaning S) (f : ℕ) (c : Conf) : Type 0 wher
 
 -- ---- from one configuration to a later one
 
--- neither a sequencer's session falls, nor a replica's view, last normal view and sync point; the log of a leader only grows, and what is synchronised stays
+-- neither a sequencer's session falls, nor a replica's view, last normal view and sync point; the log of a leader only grows, and what is
+-- synchronised stays
 pub record GoesOn (f : ℕ) (c d : Conf) : Type 0 where
   pub sessions : (j : ℕ) → (c.sequencers j).session ≤ (d.sequencers j).session
   pub numbers : (j : ℕ) → (c.sequencers j).session ≡ (d.sequencers j).session → (c.sequencers j).next ≤ (d.sequencers j).next
