@@ -99,14 +99,27 @@ module _ {S : Type 0} (m : Meaning S) (f : ℕ) (c : Conf) (inv : Inv m f c) (k 
       let t = good.kept y i in
       let same : Some t.request ≡ Some its.request = sym t.pending ∙ its.pending in
       let id : t.request.id ≡ its.request.id = (let e : t.request ≡ its.request = cc in ap (λ (q : Request). q.id) e) in
-      record { reply = y; sent = t.sent; by = by; at_view = at_view; at_slot = at_slot; of_client = t.client;
-          of_id = t.id ∙ id ∙ sym its.id }
+      record {
+        reply = y;
+        sent = t.sent;
+        by = by;
+        at_view = at_view;
+        at_slot = at_slot;
+        of_client = t.client;
+        of_id = t.id ∙ id ∙ sym its.id;
+      }
 
   quorum : Quorum f (Replied c.replies p.view p.slot s.number p.id)
   quorum = record {
     members = map (λ (y : Reply). y.replica) matching;
-    enough = omega (arith, chosen.enough, good.replicas, length-filter (matches p.view p.slot) s.replies, length-map matching
-        (λ (y : Reply). y.replica));
+    enough = omega (
+      arith,
+      chosen.enough,
+      good.replicas,
+      length-filter (matches p.view p.slot) s.replies,
+      length-map matching
+          (λ (y : Reply). y.replica),
+    );
     once = λ r. let a = counts_filter (λ (y : Reply). y.replica) (matches p.view p.slot) s.replies r in omega (arith, a, good.once r);
     within = λ r h. let y = member r h in subst (λ (i : ℕ). i < 2 * f + 1) y.2 (good.kept y.0 y.1.0).replica;
     holds = λ r h. let y = member r h in let e = matched p.view p.slot y.0 y.1.1 in replied y.0 r y.1.0 e.0 e.1 y.2;
@@ -126,7 +139,7 @@ module _ {S : Type 0} (m : Meaning S) (f : ℕ) (c : Conf) (inv : Inv m f c) (k 
   accepted_now =
       let t = inv.replies leaders (good.kept leaders chosen.member).sent in
       let led : LeaderHad f c.past p.view t.log = subst (λ (i : ℕ). HadLog c.past i p.view t.log) leads
-          (subst (λ (v : View). HadLog c.past leaders.replica v t.log) chosen.at_view t.had) in
+      (subst (λ (v : View). HadLog c.past leaders.replica v t.log) chosen.at_view t.had) in
       let log = inv.logs (leader_of p.view (2 * f + 1)) p.view t.log led in
       record {
         view = p.view;
@@ -202,8 +215,10 @@ module _ {S : Type 0} (m : Meaning S) (f : ℕ) (c : Conf) (inv : Inv m f c) (k 
       | inl old ↦ (let low = inv.lines.accepted_ids client id result old in
           record { low = low.low; high = omega (arith, low.high, last_ids client) })
       | inr (t, u) ↦ (let here : (c.clients s.number).last_id ≡ (c.clients client).last_id = ap (λ (n : ℕ). (c.clients n).last_id)
-          (good.number ∙ sym t) in record { low = omega (arith, low_id.low, u);
-          high = omega (arith, low_id.high, u, here, last_ids client) })
+          (good.number ∙ sym t) in record {
+            low = omega (arith, low_id.low, u);
+            high = omega (arith, low_id.high, u, here, last_ids client);
+          })
     ];
     accepted_done = done;
     grounds = λ at client id result e. elim (slice_get-push_cases c.lines the_line at (Accept client id result) e) [
@@ -229,8 +244,15 @@ module _ {S : Type 0} (m : Meaning S) (f : ℕ) (c : Conf) (inv : Inv m f c) (k 
   }
 
   pub accept_keeps : Kept m f c d
-  accept_keeps = outside_keeps m f c inv (record { sequencers = c.sequencers; clients = d.clients; controllers = c.controllers;
-      requests = c.requests; stamps = c.stamps; installs = c.installs; lines = d.lines })
+  accept_keeps = outside_keeps m f c inv (record {
+    sequencers = c.sequencers;
+    clients = d.clients;
+    controllers = c.controllers;
+    requests = c.requests;
+    stamps = c.stamps;
+    installs = c.installs;
+    lines = d.lines;
+  })
       (record {
         requests = λ x i. i;
         stamps = λ x i. i;

@@ -35,10 +35,13 @@ module _ {S : Type 0} (m : Meaning S) (f : ℕ) (c : Conf) (r : ℕ) (inv : Inv 
         stamped = λ y e. absurd cc;
         noop = λ e other.
             let t : LeaderHas f c (leader p) p.view (length p.log + 1) NoOp =
-                inv.said (says (leader p) p.view (GapCommit (length p.log + 1))) may.said in
-            let n : length p.log + 1 ≡ suc (length p.log) = omega arith in
-            (t.lead, subst (λ (w : View). LeaderHad f c.past w t.lead) (sym view) t.leads, subst
-                (λ (i : ℕ). slot_of t.lead i ≡ Some NoOp) n t.entry);
+            inv.said (says (leader p) p.view (GapCommit (length p.log + 1))) may.said in
+            let n : length p.log + 1 ≡ suc (length p.log) = omega arith in (
+              t.lead,
+              subst (λ (w : View). LeaderHad f c.past w t.lead) (sym view) t.leads,
+              subst
+                  (λ (i : ℕ). slot_of t.lead i ≡ Some NoOp) n t.entry,
+            );
         announced = λ e a. absurd (follows_last m f c r inv within may a);
         session = refl;
         number = refl;
@@ -46,8 +49,8 @@ module _ {S : Type 0} (m : Meaning S) (f : ℕ) (c : Conf) (r : ℕ) (inv : Inv 
         waits = λ g e. absurd (follows_it m f c r inv within may.follows (own.gap.waits g e).leads);
         last = λ a none e. absurd (follows_it m f c r inv within may.follows a);
       }) (λ d ev had. said_unless f d p (GapRep (length p.log + 1))
-          (answered m f c r inv within d ev (p.log ++ NoOp ∷ []) (length p.log + 1) may had (next_slot p.log NoOp)) false)
-          (λ d had y i. absurd (has_none y i))
+      (answered m f c r inv within d ev (p.log ++ NoOp ∷ []) (length p.log + 1) may had (next_slot p.log NoOp)) false)
+      (λ d had y i. absurd (has_none y i))
     where
       view : p.last_normal ≡ p.view
       view = own.place.normal may.normal

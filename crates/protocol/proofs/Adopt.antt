@@ -38,7 +38,7 @@ module _ {S : Type 0} (m : Meaning S) (f : ℕ) (c : Conf) (r : ℕ) (inv : Inv 
       let is_start : IsStart d.past v said.start = e.starts v said.start said.is_start in
       let same : good.start ≡ said.start = some_same (d.past.start v) good.start said.start good.is_start is_start in
       let begins : IsPrefixOf good.start.log l = prefix_both good.start.log l said.lead good.begins said.begins
-          (omega (arith, ap (λ (y : Start). length y.log) same, said.within)) in
+      (omega (arith, ap (λ (y : Start). length y.log) same, said.within)) in
       record {
         log = record {
           start = good.start;

@@ -58,8 +58,8 @@ module _ {S : Type 0} (m : Meaning S) (f : ℕ) (c : Conf) (r : ℕ) (inv : Inv 
     not_yet : (q : ℕ) (w : View) (k : List Entry) → q ≡ r → w ≡ v → HadLog c.past q w k → ⊥
     not_yet q w k a b h =
         let reached : AtMost v p.last_normal =
-            subst (λ (y : View). AtMost y p.last_normal) b (subst (λ (i : ℕ). AtMost w (c.replicas i).last_normal) a
-            (inv.reached q w k h)) in
+        subst (λ (y : View). AtMost y p.last_normal) b (subst (λ (i : ℕ). AtMost w (c.replicas i).last_normal) a
+        (inv.reached q w k h)) in
         below.apart (at_most_both p.last_normal v below.at_most reached)
 
     is_leader : starts ≡ true → r ≡ leader_of v (2 * f + 1)
@@ -71,7 +71,7 @@ module _ {S : Type 0} (m : Meaning S) (f : ℕ) (c : Conf) (r : ℕ) (inv : Inv 
       entries = λ q w o h. elim (entry_places rises r v (entered_with (standing p)) (with_log r v l c.past) q w) [
         | inl (a, b, t) ↦
             let reached : AtMost v p.view =
-                subst (λ (y : View). AtMost y p.view) t (subst (λ (i : ℕ). AtMost w (c.replicas i).view) b (inv.entries q w o h).reached) in
+            subst (λ (y : View). AtMost y p.view) t (subst (λ (i : ℕ). AtMost w (c.replicas i).view) b (inv.entries q w o h).reached) in
             absurd (not_true (is_view v p.view) a (is_view_same v p.view (at_most_both v p.view reached up)))
         | inr g ↦ g ∙ h
       ];
@@ -79,7 +79,7 @@ module _ {S : Type 0} (m : Meaning S) (f : ℕ) (c : Conf) (r : ℕ) (inv : Inv 
         | inl (a, t) ↦
             let good = inv.starts w y h in
             absurd (not_yet (leader_of w (2 * f + 1)) w good.lead (ap (λ (z : View). leader_of z (2 * f + 1)) t ∙ sym (is_leader a))
-                t good.leads)
+            t good.leads)
         | inr g ↦ g ∙ h
       ];
     }
@@ -87,8 +87,11 @@ module _ {S : Type 0} (m : Meaning S) (f : ℕ) (c : Conf) (r : ℕ) (inv : Inv 
     listens : (e : Evolves f c d) → Own f d r p → (b : Bool) → nat_lt p.receiver.session v.session ≡ b
         → GoodQueue d.stamps v.session Normal x (cond b (receiving.opened v.session x) (advanced p.receiver x))
     listens e o true t = record { session = refl; front = λ n. refl; queued = opened_stamped d.stamps v.session x }
-    listens e o false t = record { session = (let a = o.queue.session in let b = up.session in grind (arith, nat_tests, t, a, b));
-        front = λ n. refl; queued = advanced_stamped d.stamps p.receiver x o.queue.queued }
+    listens e o false t = record {
+      session = (let a = o.queue.session in let b = up.session in grind (arith, nat_tests, t, a, b));
+      front = λ n. refl;
+      queued = advanced_stamped d.stamps p.receiver x o.queue.queued;
+    }
 
     own_after : (e : Evolves f c d) → Adopts d v x l said → Own f d r s
     own_after e owed =
@@ -96,8 +99,14 @@ module _ {S : Type 0} (m : Meaning S) (f : ℕ) (c : Conf) (r : ℕ) (inv : Inv 
         record {
           number = o.number;
           replicas = o.replicas;
-          place = record { normal = λ n. refl; change = λ n. absurd cc; start = owed.log.start; is_start = owed.log.is_start;
-              counted = owed.counted; base = owed.base };
+          place = record {
+            normal = λ n. refl;
+            change = λ n. absurd cc;
+            start = owed.log.start;
+            is_start = owed.log.is_start;
+            counted = owed.counted;
+            base = owed.base;
+          };
           queue = listens e o (nat_lt p.receiver.session v.session) refl;
           gap = record { waits = λ g h. absurd cc; last = λ a n none b h. absurd (omega (arith, b)) };
           changes = record { entered = λ n. absurd cc; gathers = λ g h. absurd cc; leads = λ n a. absurd cc };
@@ -108,7 +117,7 @@ module _ {S : Type 0} (m : Meaning S) (f : ℕ) (c : Conf) (r : ℕ) (inv : Inv 
         let apart : is_view v p.last_normal ≡ false = is_view_apart v p.last_normal (λ e. below.apart (sym e)) in
         let same : (r == leader_of v (2 * f + 1)) ≡ true = is_same_from r (leader_of v (2 * f + 1)) mine in
         start_here starts v (started_with (standing s)) (with_entry rises r v (entered_with (standing p)) (with_log r v l c.past))
-            (rw (apart, same) refl)
+        (rw (apart, same) refl)
 
     pub adopted_keeps : ((e : Evolves f c d) → HadLog d.past r v l
         → (r ≡ leader_of v (2 * f + 1) → IsStart d.past v (started_with (standing s))) → Adopts d v x l said) → Kept m f c d
@@ -118,9 +127,13 @@ module _ {S : Type 0} (m : Meaning S) (f : ℕ) (c : Conf) (r : ℕ) (inv : Inv 
         let mine = own_after e owed in
         record {
           logs = λ q w k h. elim (log_cases c.past r v l q w k h) [
-            | inl (a, b, t) ↦ inr (record { by = a; at_view = b; normal = refl;
-                good = subst (λ (i : ℕ). GoodLog f d i w k) (sym a)
-                (subst (λ (y : View). GoodLog f d r y k) (sym b) (subst (GoodLog f d r v) (sym t) owed.log)) })
+            | inl (a, b, t) ↦ inr (record {
+              by = a;
+              at_view = b;
+              normal = refl;
+              good = subst (λ (i : ℕ). GoodLog f d i w k) (sym a)
+                  (subst (λ (y : View). GoodLog f d r y k) (sym b) (subst (GoodLog f d r v) (sym t) owed.log));
+            })
             | inr g ↦ inl g
           ];
           entries = λ q w k h. elim (entry_cases rises r v (entered_with (standing p)) (with_log r v l c.past) q w k h) [

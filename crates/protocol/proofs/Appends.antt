@@ -89,7 +89,7 @@ module _ {S : Type 0} (m : Meaning S) (f : ℕ) (c : Conf) (r : ℕ) (inv : Inv 
           elim (slot_push_cases p.log x k (Req q) h) [
             | inl (at, this) ↦
                 let counted : p.next + length good.start.log ≡ good.start.next + length p.log =
-                    subst (λ (y : Start). p.next + length y.log ≡ y.next + length p.log) (sym same_start) own.place.counted in
+                subst (λ (y : Start). p.next + length y.log ≡ y.next + length p.log) (sym same_start) own.place.counted in
                 let number : good.start.next + (k - length good.start.log - 1) ≡ p.next = omega (arith, counted, at, a) in
                 rw number (stamped_lasts m f c d ev p.last_normal.session p.next q (may.stamped q (sym this)))
             | inr old ↦ good.by_number k q a old
@@ -106,9 +106,12 @@ module _ {S : Type 0} (m : Meaning S) (f : ℕ) (c : Conf) (r : ℕ) (inv : Inv 
           → (f ≡ 0) ⊎ DidSay d.said r p.last_normal (GapCommit k)
       announced a k b h =
           elim (slot_push_cases p.log x k NoOp h) [
-            | inl (at, this) ↦ elim (may.announced (sym this) a) [ inl none ↦ inl none | inr i ↦
-                inr (subst (λ (j : ℕ). DidSay d.said r p.last_normal (GapCommit j)) (sym at)
-                (new (says r p.last_normal (GapCommit (suc (length p.log)))) i)) ]
+            | inl (at, this) ↦ elim (may.announced (sym this) a) [
+              | inl none ↦ inl none
+              | inr i ↦
+                  inr (subst (λ (j : ℕ). DidSay d.said r p.last_normal (GapCommit j)) (sym at)
+                  (new (says r p.last_normal (GapCommit (suc (length p.log)))) i))
+            ]
             | inr old ↦ good.announced a k b old
           ]
 
@@ -119,10 +122,10 @@ module _ {S : Type 0} (m : Meaning S) (f : ℕ) (c : Conf) (r : ℕ) (inv : Inv 
           let base : p.base ≡ length own.place.start.log = own.place.base a in
           let start : length good.start.log ≡ length own.place.start.log = ap (λ (y : Start). length y.log) same_start in
           let there : conf.Settled f d.said p.view (length p.log) =
-              own.gap.last (a ∙ ap (λ (w : View). leader_of w (2 * f + 1)) view) may.normal (may.closed a)
-              (omega (arith, base, start, b, is)) (subst (λ (j : ℕ). slot_of p.log j ≡ Some NoOp) is h) in
+          own.gap.last (a ∙ ap (λ (w : View). leader_of w (2 * f + 1)) view) may.normal (may.closed a)
+          (omega (arith, base, start, b, is)) (subst (λ (j : ℕ). slot_of p.log j ≡ Some NoOp) is h) in
           subst (conf.Settled f d.said p.last_normal) (sym is) (subst (λ (w : View). conf.Settled f d.said w (length p.log))
-              (sym view) there)
+          (sym view) there)
 
       settled : r ≡ leader_of p.last_normal (2 * f + 1) → (k : ℕ) → length good.start.log < k → k < length l → slot_of l k ≡ Some NoOp
           → conf.Settled f d.said p.last_normal k
@@ -158,10 +161,10 @@ module _ {S : Type 0} (m : Meaning S) (f : ℕ) (c : Conf) (r : ℕ) (inv : Inv 
                 let k = may.noop (sym this) other in
                 let n = ev.leads p.last_normal k.0 k.1 in
                 let same : n.0 ≡ good.lead =
-                    some_same (d.past.log (leader_of p.last_normal (2 * f + 1)) p.last_normal) n.0 good.lead n.1 good.leads in
+                some_same (d.past.log (leader_of p.last_normal (2 * f + 1)) p.last_normal) n.0 good.lead n.1 good.leads in
                 subst (λ (j : ℕ). slot_of good.lead j ≡ Some NoOp) (sym at)
-                    (subst (λ (y : List Entry). slot_of y (suc (length p.log)) ≡ Some NoOp) same
-                    (prefix_slot k.0 n.0 (suc (length p.log)) NoOp n.2 k.2))
+                (subst (λ (y : List Entry). slot_of y (suc (length p.log)) ≡ Some NoOp) same
+                (prefix_slot k.0 n.0 (suc (length p.log)) NoOp n.2 k.2))
             | inr old ↦ good.noops i a old
           ]
 
@@ -182,10 +185,19 @@ module _ {S : Type 0} (m : Meaning S) (f : ℕ) (c : Conf) (r : ℕ) (inv : Inv 
       own_after = record {
         number = own.number;
         replicas = own.replicas;
-        place = record { normal = own.place.normal; change = own.place.change; start = own.place.start; is_start = own.place.is_start;
-            counted = omega (arith, own.place.counted, push_length p.log x); base = own.place.base };
-        queue = record { session = may.session ∙ own.queue.session; front = λ n. may.number;
-            queued = may.queued d.stamps own.queue.queued };
+        place = record {
+          normal = own.place.normal;
+          change = own.place.change;
+          start = own.place.start;
+          is_start = own.place.is_start;
+          counted = omega (arith, own.place.counted, push_length p.log x);
+          base = own.place.base;
+        };
+        queue = record {
+          session = may.session ∙ own.queue.session;
+          front = λ n. may.number;
+          queued = may.queued d.stamps own.queue.queued;
+        };
         gap = record { waits = λ g h. waits_last m f c d ev r p.view p.status l g (may.waits g h); last = λ a n none b h. last a none h };
         changes = record {
           entered = λ n. absurd (let now = may.normal in cc);

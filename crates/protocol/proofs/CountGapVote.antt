@@ -55,7 +55,7 @@ module _ {S : Type 0} (m : Meaning S) (f : ℕ) (c : Conf) (r : ℕ) (inv : Inv 
     settled Waiting is none = absurd cc
     settled Settled is none =
         let enough : g.f ≤ length (with_vote g.votes q) =
-            enough_from g.f (length (with_vote g.votes q)) (nat_le g.f (length (with_vote g.votes q))) refl is in
+        enough_from g.f (length (with_vote g.votes q)) (nat_le g.f (length (with_vote g.votes q))) refl is in
         record {
           members = with_vote g.votes q;
           enough = omega (arith, enough, old.count);

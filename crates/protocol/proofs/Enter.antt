@@ -46,8 +46,10 @@ module _ {S : Type 0} (m : Meaning S) (f : ℕ) (c : Conf) (r : ℕ) (inv : Inv 
   own = inv.own r within
 
   below : Below p.last_normal v
-  below = record { at_most = at_most_trans p.last_normal p.view v (normal_low m f c r inv within) up.at_most;
-      apart = λ e. up.apart (at_most_both p.view v up.at_most (subst (λ (w : View). AtMost w p.view) e (normal_low m f c r inv within))) }
+  below = record {
+    at_most = at_most_trans p.last_normal p.view v (normal_low m f c r inv within) up.at_most;
+    apart = λ e. up.apart (at_most_both p.view v up.at_most (subst (λ (w : View). AtMost w p.view) e (normal_low m f c r inv within)));
+  }
 
   -- whose change it keeps
   mine : leads t ≡ true → r ≡ leader_of v (2 * f + 1)
@@ -74,8 +76,11 @@ module _ {S : Type 0} (m : Meaning S) (f : ℕ) (c : Conf) (r : ℕ) (inv : Inv 
   listens : (d : Conf) → Own f d r p → (b : Bool) → (nat_lt p.view.session v.session && not (p.receiver.session == v.session)) ≡ b
       → GoodQueue d.stamps v.session Change p.next (cond b (receiving.opened v.session 1) p.receiver)
   listens d o true is = record { session = refl; front = λ n. absurd cc; queued = opened_stamped d.stamps v.session 1 }
-  listens d o false is = record { session = (let a = o.queue.session in let b = up.at_most.session in grind (arith, nat_tests, is, a, b));
-      front = λ n. absurd cc; queued = o.queue.queued }
+  listens d o false is = record {
+    session = (let a = o.queue.session in let b = up.at_most.session in grind (arith, nat_tests, is, a, b));
+    front = λ n. absurd cc;
+    queued = o.queue.queued;
+  }
 
   -- the changes of its leader, and of another
   own_gathers : (past : Past) → past.entry r v ≡ Some (entered_with (standing p)) → leads t ≡ true
@@ -137,7 +142,7 @@ module _ {S : Type 0} (m : Meaning S) (f : ℕ) (c : Conf) (r : ℕ) (inv : Inv 
       entries = λ q w o h. elim (entry_places rises r v (entered_with (standing p)) (with_log r p.last_normal p.log c.past) q w) [
         | inl (a, b, k) ↦
             let reached : AtMost v p.view =
-                subst (λ (x : View). AtMost x p.view) k (subst (λ (i : ℕ). AtMost w (c.replicas i).view) b (inv.entries q w o h).reached) in
+            subst (λ (x : View). AtMost x p.view) k (subst (λ (i : ℕ). AtMost w (c.replicas i).view) b (inv.entries q w o h).reached) in
             absurd (up.apart (at_most_both p.view v up.at_most reached))
         | inr g ↦ g ∙ h
       ];
@@ -154,7 +159,7 @@ module _ {S : Type 0} (m : Meaning S) (f : ℕ) (c : Conf) (r : ℕ) (inv : Inv 
     enters_keeps : ((d : Conf) → d.past.entry r v ≡ Some (entered_with (standing p))
         → GoodChanges f d.past r v Change (entered_with (standing p)) g)
         → ((d : Conf) → d.past.entry r v ≡ Some (entered_with (standing p)) → (y : Said) → Has said y
-            → TrueWord f d y.sender y.view y.word) → Kept m f c d
+        → TrueWord f d y.sender y.view y.word) → Kept m f c d
     enters_keeps changes words = grows_keeps m f c r e inv within forward up.at_most (at_most_refl p.last_normal) below (λ ev.
         let o : Own f d r p = own_lasts m f c d ev r p own in
         record {
@@ -176,8 +181,14 @@ module _ {S : Type 0} (m : Meaning S) (f : ℕ) (c : Conf) (r : ℕ) (inv : Inv 
           own = record {
             number = o.number;
             replicas = o.replicas;
-            place = record { normal = λ n. absurd cc; change = λ n. below; start = o.place.start; is_start = o.place.is_start;
-                counted = o.place.counted; base = o.place.base };
+            place = record {
+              normal = λ n. absurd cc;
+              change = λ n. below;
+              start = o.place.start;
+              is_start = o.place.is_start;
+              counted = o.place.counted;
+              base = o.place.base;
+            };
             queue = listens d o (nat_lt p.view.session v.session && not (p.receiver.session == v.session)) refl;
             gap = record { waits = λ g h. absurd cc; last = λ a n none b h. absurd cc };
             changes = changes d here;

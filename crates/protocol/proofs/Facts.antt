@@ -40,8 +40,11 @@ counts_has (x ∷ xs) k h = elim (counts_cases k x xs h) [ inl e ↦ has_first k
 pub has_counts : (xs : List ℕ) (k : ℕ) → Has xs k → 1 ≤ counts k xs
 has_counts [] k h = absurd (has_none k h)
 has_counts (x ∷ xs) k h =
-    elim (has_cases k x xs h) [ inl e ↦ subst (λ (j : ℕ). 1 ≤ counts j (x ∷ xs)) (sym e) (counts_first x xs) | inr i ↦
-    counts_rest k x xs (has_counts xs k i) ]
+    elim (has_cases k x xs h) [
+      | inl e ↦ subst (λ (j : ℕ). 1 ≤ counts j (x ∷ xs)) (sym e) (counts_first x xs)
+      | inr i ↦
+          counts_rest k x xs (has_counts xs k i)
+    ]
 
 -- no number stands twice
 pub counts_once : (xs : List ℕ) → ((i j k : ℕ) → slice_get xs i ≡ Some k → slice_get xs j ≡ Some k → i ≡ j) → (k : ℕ) → counts k xs ≤ 1
@@ -55,7 +58,7 @@ counts_once (x ∷ xs) apart k = elim (cases_eq x k) [
       grind (arith, nat_tests, none)
   | inr n ↦
       let rest : counts k xs ≤ 1 = counts_once xs (λ i j l h g. let e : suc i ≡ suc j = apart (suc i) (suc j) l h g in
-          omega (arith, e)) k in
+      omega (arith, e)) k in
       grind (arith, nat_tests, n, rest)
 ]
 

@@ -36,7 +36,7 @@ module _ {S : Type 0} (m : Meaning S) (f : ℕ) (c : Conf) (r : ℕ) (inv : Inv 
   pub fill_keeps : (q : Request) → MayFill c p q → Kept m f c (after f c r (fill m p q))
   fill_keeps q may =
       append_keeps m f c r inv within (Req q) (advanced p.receiver (p.next + 1)) p.gap []
-          (reply_to m (appended p (Req q)) (length p.log + 1) q) (record {
+      (reply_to m (appended p (Req q)) (length p.log + 1) q) (record {
         normal = may.normal;
         closed = λ a. absurd (follows_last m f c r inv within may a);
         stamped = λ y e. let same : q ≡ y = cc in subst (WasStamped c.stamps p.last_normal.session p.next) same here;
@@ -48,8 +48,8 @@ module _ {S : Type 0} (m : Meaning S) (f : ℕ) (c : Conf) (r : ℕ) (inv : Inv 
         waits = λ g e. absurd (follows_it m f c r inv within may.follows (own.gap.waits g e).leads);
         last = λ a none e. absurd cc;
       }) (λ d ev had y i. absurd (has_none y i)) (λ d had. reply_true m f d (appended p (Req q)) own.replicas
-          (by_number m f c r inv within d (p.log ++ Req q ∷ []) view had) (length p.log + 1) q (next_slot p.log (Req q))
-          (leads (appended p (Req q))) refl)
+      (by_number m f c r inv within d (p.log ++ Req q ∷ []) view had) (length p.log + 1) q (next_slot p.log (Req q))
+      (leads (appended p (Req q))) refl)
     where
       view : p.last_normal ≡ p.view
       view = own.place.normal may.normal
@@ -62,15 +62,15 @@ module _ {S : Type 0} (m : Meaning S) (f : ℕ) (c : Conf) (r : ℕ) (inv : Inv 
           let good = inv.logs (leader_of p.view (2 * f + 1)) p.view said.lead said.leads in
           let mine = inv.logs r p.last_normal p.log (inv.current r within) in
           let is_start : c.past.start p.view ≡ Some own.place.start =
-              subst (λ (w : View). c.past.start w ≡ Some own.place.start) view own.place.is_start in
+          subst (λ (w : View). c.past.start w ≡ Some own.place.start) view own.place.is_start in
           let same : good.start ≡ own.place.start = some_same (c.past.start p.view) good.start own.place.start good.is_start is_start in
           let low : length own.place.start.log ≤ length p.log = subst (λ (y : Start). length y.log ≤ length p.log)
-              (some_same (c.past.start p.last_normal) mine.start own.place.start mine.is_start own.place.is_start)
-              (prefix_length mine.start.log p.log mine.begins) in
+          (some_same (c.past.start p.last_normal) mine.start own.place.start mine.is_start own.place.is_start)
+          (prefix_length mine.start.log p.log mine.begins) in
           let lens : length good.start.log ≡ length own.place.start.log = ap (λ (y : Start). length y.log) same in
           let counted : p.next + length good.start.log ≡ good.start.next + length p.log =
-              subst (λ (y : Start). p.next + length y.log ≡ y.next + length p.log) (sym same) own.place.counted in
+          subst (λ (y : Start). p.next + length y.log ≡ y.next + length p.log) (sym same) own.place.counted in
           let there = good.by_number (length p.log + 1) q (omega (arith, low, lens)) said.entry in
           let number : good.start.next + (length p.log + 1 - length good.start.log - 1) ≡ p.next = omega (arith, counted, low, lens) in
           subst (λ (w : View). WasStamped c.stamps w.session p.next q) (sym view)
-              (subst (λ (i : ℕ). WasStamped c.stamps p.view.session i q) number there)
+          (subst (λ (i : ℕ). WasStamped c.stamps p.view.session i q) number there)

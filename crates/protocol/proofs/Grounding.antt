@@ -31,10 +31,10 @@ grounds_of m f c inv = record {
       let g = inv.logs r w l h in
       let same : g.start ≡ x = some_same (c.past.start w) g.start x g.is_start i in
       subst (λ (y : Start). WasStamped c.stamps w.session (y.next + (k - length y.log - 1)) q) same
-          (g.by_number k q (subst (λ (y : Start). length y.log < k) (sym same) a) e);
+      (g.by_number k q (subst (λ (y : Start). length y.log < k) (sym same) a) e);
   noop_is_leaders = λ r w l n x k h led i a e.
       let g = inv.logs r w l h in
       let same : g.start ≡ x = some_same (c.past.start w) g.start x g.is_start i in
       subst (λ (y : List Entry). slot_of y k ≡ Some NoOp) (some_same (c.past.log (leader_of w (2 * f + 1)) w) g.lead n g.leads led)
-          (g.noops k (subst (λ (y : Start). length y.log < k) (sym same) a) e);
+      (g.noops k (subst (λ (y : Start). length y.log < k) (sym same) a) e);
 }

@@ -18,15 +18,24 @@ module _ {S : Type 0} (m : Meaning S) (f : ℕ) (c : Conf) (inv : Inv m f c) whe
   install_keeps j s may =
       let d = install c j s in
       let now : SequencerState = record (c.sequencers j) { session = s; next = 1 } in
-      outside_keeps m f c inv (record { sequencers = d.sequencers; clients = c.clients; controllers = c.controllers;
-          requests = c.requests; stamps = c.stamps; installs = c.installs; lines = c.lines })
+      outside_keeps m f c inv (record {
+        sequencers = d.sequencers;
+        clients = c.clients;
+        controllers = c.controllers;
+        requests = c.requests;
+        stamps = c.stamps;
+        installs = c.installs;
+        lines = c.lines;
+      })
       (record {
         requests = λ x i. i;
         stamps = λ p i. i;
         installs = λ x i. i;
         lines = prefix_refl c.lines;
-        sequencers = put_all (λ n t. Onward (c.sequencers n) t) c.sequencers j now (record { session = omega (arith, may.later);
-            next = λ e. absurd (omega (arith, may.later, e)) }) (λ n a. onward_refl (c.sequencers n));
+        sequencers = put_all (λ n t. Onward (c.sequencers n) t) c.sequencers j now (record {
+          session = omega (arith, may.later);
+          next = λ e. absurd (omega (arith, may.later, e));
+        }) (λ n a. onward_refl (c.sequencers n));
         controllers = λ n. omega arith;
         last_ids = λ i. omega arith;
       })
@@ -34,8 +43,11 @@ module _ {S : Type 0} (m : Meaning S) (f : ℕ) (c : Conf) (inv : Inv m f c) whe
         requests = λ x i. inl i;
         stamps = λ p i. inl i;
         stamped_once = inv.stamped_once;
-        sequencers = put_all (λ n t. GoodSequencer c.installs n t) c.sequencers j now (record { number = (inv.sequencers j).number;
-            owns = λ one. inr may.sent; low = omega arith }) (λ n a. inv.sequencers n);
+        sequencers = put_all (λ n t. GoodSequencer c.installs n t) c.sequencers j now (record {
+          number = (inv.sequencers j).number;
+          owns = λ one. inr may.sent;
+          low = omega arith;
+        }) (λ n a. inv.sequencers n);
         installs = λ x i. let t = inv.installs x i in record { low = t.low; known = t.known; current = t.current };
         installed_once = inv.installed_once;
         controllers = inv.controllers;

@@ -16,8 +16,15 @@ module _ {S : Type 0} (m : Meaning S) (f : ℕ) (c : Conf) (inv : Inv m f c) whe
   installed_keeps k =
       let d = installed c k in
       let now : Control = record (c.controllers k) { confirmed = true } in
-      outside_keeps m f c inv (record { sequencers = c.sequencers; clients = c.clients; controllers = d.controllers;
-          requests = c.requests; stamps = c.stamps; installs = c.installs; lines = c.lines })
+      outside_keeps m f c inv (record {
+        sequencers = c.sequencers;
+        clients = c.clients;
+        controllers = d.controllers;
+        requests = c.requests;
+        stamps = c.stamps;
+        installs = c.installs;
+        lines = c.lines;
+      })
       (record {
         requests = λ x i. i;
         stamps = λ p i. i;
@@ -35,11 +42,13 @@ module _ {S : Type 0} (m : Meaning S) (f : ℕ) (c : Conf) (inv : Inv m f c) whe
         installs = λ x i.
             let t = inv.installs x i in
             let same = put_all (λ n y. (y.session ≡ (c.controllers n).session) × (y.current ≡ (c.controllers n).current)) c.controllers k
-                now (refl, refl) (λ n a. (refl, refl)) (home x.session) in
+            now (refl, refl) (λ n a. (refl, refl)) (home x.session) in
             record { low = t.low; known = omega (arith, t.known, same.0); current = λ e. t.current (e ∙ same.0) ∙ sym same.1 };
         installed_once = inv.installed_once;
-        controllers = put_all (λ n t. GoodControl c.installs t) c.controllers k now (record { low = (inv.controllers k).low;
-            given = λ e. absurd cc }) (λ n a. inv.controllers n);
+        controllers = put_all (λ n t. GoodControl c.installs t) c.controllers k now (record {
+          low = (inv.controllers k).low;
+          given = λ e. absurd cc;
+        }) (λ n a. inv.controllers n);
         lines = lines_last m f c d ev refl refl inv.lines;
         clients = λ i. client_lasts m f c d ev i (c.clients i) (inv.clients i);
       })

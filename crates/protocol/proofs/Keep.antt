@@ -73,8 +73,8 @@ module _ {S : Type 0} (m : Meaning S) (f : ℕ) (c : Conf) (inv : Inv m f c) (k 
       elim (cases_eq p.replica r) [
         | inl e ↦
             let none : counts r (map (λ (x : Reply). x.replica) (filter (λ x. not (x.replica == p.replica)) s.replies)) ≡ 0 =
-                subst (λ (i : ℕ). counts i (map (λ (x : Reply). x.replica) (filter (λ x. not (x.replica == p.replica)) s.replies)) ≡ 0) e
-                (counts_left_out (λ (x : Reply). x.replica) s.replies p.replica) in
+            subst (λ (i : ℕ). counts i (map (λ (x : Reply). x.replica) (filter (λ x. not (x.replica == p.replica)) s.replies)) ≡ 0) e
+            (counts_left_out (λ (x : Reply). x.replica) s.replies p.replica) in
             grind (arith, nat_tests, pushed, none)
         | inr a ↦ grind (arith, nat_tests, pushed, less, most, a)
       ]
@@ -86,14 +86,27 @@ module _ {S : Type 0} (m : Meaning S) (f : ℕ) (c : Conf) (inv : Inv m f c) (k 
         number = g.number;
         replicas = g.replicas;
         pending = g.pending;
-        kept = λ y i. let t = all_kept y i in record { sent = ev.sent.replies y t.sent; replica = t.replica; client = t.client;
-            request = t.request; pending = t.pending; id = t.id };
+        kept = λ y i. let t = all_kept y i in record {
+          sent = ev.sent.replies y t.sent;
+          replica = t.replica;
+          client = t.client;
+          request = t.request;
+          pending = t.pending;
+          id = t.id;
+        };
         once = once;
       }
 
   pub keep_keeps : Kept m f c d
-  keep_keeps = outside_keeps m f c inv (record { sequencers = c.sequencers; clients = d.clients; controllers = c.controllers;
-      requests = c.requests; stamps = c.stamps; installs = c.installs; lines = c.lines })
+  keep_keeps = outside_keeps m f c inv (record {
+    sequencers = c.sequencers;
+    clients = d.clients;
+    controllers = c.controllers;
+    requests = c.requests;
+    stamps = c.stamps;
+    installs = c.installs;
+    lines = c.lines;
+  })
       (record {
         requests = λ x i. i;
         stamps = λ x i. i;
@@ -113,7 +126,7 @@ module _ {S : Type 0} (m : Meaning S) (f : ℕ) (c : Conf) (inv : Inv m f c) (k 
         controllers = inv.controllers;
         lines = lines_with_others m f c d [] ev
             (put_all (λ i t. (q : Request) → t.pending ≡ Some q → (c.clients i).pending ≡ Some q) c.clients k (kept s p) (λ q e. e)
-                (λ i a q e. e))
+            (λ i a q e. e))
             (λ line i. absurd (has_none line i)) (sym (append-nil c.lines)) inv.lines;
         clients = put_all (GoodClient f d) c.clients k (kept s p) (good_client ev)
             (λ i a. client_lasts m f c d ev i (c.clients i) (inv.clients i));

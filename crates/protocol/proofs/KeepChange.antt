@@ -39,8 +39,16 @@ module _ {S : Type 0} (m : Meaning S) (f : ℕ) (c : Conf) (r : ℕ) (inv : Inv 
     with_it : (past : Past) → past.entry x.sender p.view ≡ Some (record { last_normal = x.last_normal; next = x.next; log = x.log })
         → Gathers f past r p.view p.status g → (b : Bool) → has_sender g.changes x.sender ≡ b
         → Gathers f past r p.view p.status (record g { changes = cond b g.changes (g.changes ++ x ∷ []) })
-    with_it past here t true is = record { view = t.view; count = t.count; change = t.change; leads = t.leads; own = t.own; once = t.once;
-        within = t.within; entries = t.entries }
+    with_it past here t true is = record {
+      view = t.view;
+      count = t.count;
+      change = t.change;
+      leads = t.leads;
+      own = t.own;
+      once = t.once;
+      within = t.within;
+      entries = t.entries;
+    }
     with_it past here t false is = record {
       view = t.view;
       count = t.count;
@@ -59,8 +67,11 @@ module _ {S : Type 0} (m : Meaning S) (f : ℕ) (c : Conf) (r : ℕ) (inv : Inv 
             let one = t.once q in
             grind (arith, nat_tests, n, one, pushed)
       ];
-      within = λ y i. elim (Has-append_cases g.changes (x ∷ []) y i) [ inl old ↦ t.within y old | inr new ↦
-          subst (λ (z : peer.Change). z.sender < 2 * f + 1) (sym (Has-one y x new)) may.change.within ];
+      within = λ y i. elim (Has-append_cases g.changes (x ∷ []) y i) [
+        | inl old ↦ t.within y old
+        | inr new ↦
+            subst (λ (z : peer.Change). z.sender < 2 * f + 1) (sym (Has-one y x new)) may.change.within
+      ];
       entries = λ y i. elim (Has-append_cases g.changes (x ∷ []) y i) [
         | inl old ↦ t.entries y old
         | inr new ↦ subst (λ (z : peer.Change). past.entry z.sender p.view
@@ -72,8 +83,8 @@ module _ {S : Type 0} (m : Meaning S) (f : ℕ) (c : Conf) (r : ℕ) (inv : Inv 
     keep_change_keeps = local_keeps m f c r (keep_change p g x) inv within refl refl (turns_same f c r) (λ d ev had.
         let o : Own f d r p = own_lasts m f c d ev r p own in
         let more : Gathers f d.past r p.view p.status (gathering.counted g x) =
-            with_it d.past (ev.entries x.sender p.view (record { last_normal = x.last_normal; next = x.next; log = x.log }) is_entry)
-            (o.changes.gathers g may.gathers) (has_sender g.changes x.sender) refl in
+        with_it d.past (ev.entries x.sender p.view (record { last_normal = x.last_normal; next = x.next; log = x.log }) is_entry)
+        (o.changes.gathers g may.gathers) (has_sender g.changes x.sender) refl in
         record {
           log = log_same d ev;
           said = λ y i. absurd (has_none y i);

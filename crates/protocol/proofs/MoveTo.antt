@@ -34,8 +34,11 @@ module _ {S : Type 0} (m : Meaning S) (f : ℕ) (c : Conf) (inv : Inv m f c) (k 
   now_here = subst (λ (n : ℕ). d.controllers n ≡ now) (sym may.own) (put_same c.controllers k now)
 
   true_new : TrueInstall d new
-  true_new = record { low = omega (arith, may.later, (inv.controllers k).low); known = rw now_here (omega arith);
-      current = λ e. rw now_here refl }
+  true_new = record {
+    low = omega (arith, may.later, (inv.controllers k).low);
+    known = rw now_here (omega arith);
+    current = λ e. rw now_here refl;
+  }
 
   -- what is said of an older one is of another controller, or it is no longer the last
   abbrev Known : Install → Control → Type 0
@@ -45,7 +48,7 @@ module _ {S : Type 0} (m : Meaning S) (f : ℕ) (c : Conf) (inv : Inv m f c) (k 
   known x i = put_all (λ n t. n ≡ home x.session → Known x t) c.controllers k now
       (λ e. let low = older x i (sym e) in (omega (arith, low), λ same. absurd (omega (arith, low, same))))
       (λ n a e. subst (λ (n : ℕ). Known x (c.controllers n)) (sym e) (let t = inv.installs x i in (t.known, t.current)))
-          (home x.session) refl
+      (home x.session) refl
 
   true_installs : (x : Install) → Has d.installs x → TrueInstall d x
   true_installs x i = elim (has_cases x new c.installs i) [
@@ -70,8 +73,15 @@ module _ {S : Type 0} (m : Meaning S) (f : ℕ) (c : Conf) (inv : Inv m f c) (k 
       ]
 
   pub move_to_keeps : Kept m f c d
-  move_to_keeps = outside_keeps m f c inv (record { sequencers = c.sequencers; clients = c.clients; controllers = d.controllers;
-      requests = c.requests; stamps = c.stamps; installs = d.installs; lines = c.lines })
+  move_to_keeps = outside_keeps m f c inv (record {
+    sequencers = c.sequencers;
+    clients = c.clients;
+    controllers = d.controllers;
+    requests = c.requests;
+    stamps = c.stamps;
+    installs = d.installs;
+    lines = c.lines;
+  })
       (record {
         requests = λ x i. i;
         stamps = λ p i. i;

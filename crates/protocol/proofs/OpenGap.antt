@@ -38,7 +38,7 @@ module _ {S : Type 0} (m : Meaning S) (f : ℕ) (c : Conf) (r : ℕ) (inv : Inv 
   pub open_gap_keeps : MayOpenGap p → Kept m f c (after f c r (open_gap p))
   open_gap_keeps may =
       append_keeps m f c r inv within NoOp (advanced p.receiver (p.next + 1)) (waiting (begun (length p.log + 1) (others p)))
-          (say_all p (GapCommit (length p.log + 1))) [] (record {
+      (say_all p (GapCommit (length p.log + 1))) [] (record {
         normal = may.may_lead.normal;
         closed = λ a. may.no_gap;
         stamped = λ y e. absurd cc;
@@ -49,9 +49,12 @@ module _ {S : Type 0} (m : Meaning S) (f : ℕ) (c : Conf) (r : ℕ) (inv : Inv 
         queued = λ stamps h. advanced_stamped stamps p.receiver (p.next + 1) h;
         waits = waits (vote_of (others p) []);
         last = λ a none e. settled (is_settled (begun (length p.log + 1) (others p)) (vote_of (others p) []) none);
-      }) (λ d ev had. said_unless f d p (GapCommit (length p.log + 1)) (record { sender = own.number ∙ mine; lead = l;
-          leads = subst (λ (i : ℕ). d.past.log i p.view ≡ Some l) mine (subst (λ (w : View). d.past.log r w ≡ Some l) view had);
-          entry = next_slot p.log NoOp }) (others p == 0)) (λ d had y i. absurd (has_none y i))
+      }) (λ d ev had. said_unless f d p (GapCommit (length p.log + 1)) (record {
+        sender = own.number ∙ mine;
+        lead = l;
+        leads = subst (λ (i : ℕ). d.past.log i p.view ≡ Some l) mine (subst (λ (w : View). d.past.log r w ≡ Some l) view had);
+        entry = next_slot p.log NoOp;
+      }) (others p == 0)) (λ d had y i. absurd (has_none y i))
     where
       l : List Entry
       l = p.log ++ NoOp ∷ []
@@ -91,5 +94,11 @@ module _ {S : Type 0} (m : Meaning S) (f : ℕ) (c : Conf) (r : ℕ) (inv : Inv 
       settled : vote_of (others p) [] ≡ Settled → conf.Settled f c.said p.view (suc (length p.log))
       settled e =
           let none : others p ≡ 0 = none_needed (others p) (nat_le (others p) 0) refl e in
-          record { members = []; enough = omega (arith, none, count); once = λ q. omega arith; within = λ q i. absurd (omega (arith, i));
-              apart = λ q i a. omega (arith, i); holds = λ q i. absurd (omega (arith, i)) }
+          record {
+            members = [];
+            enough = omega (arith, none, count);
+            once = λ q. omega arith;
+            within = λ q i. absurd (omega (arith, i));
+            apart = λ q i a. omega (arith, i);
+            holds = λ q i. absurd (omega (arith, i));
+          }

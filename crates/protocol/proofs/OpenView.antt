@@ -75,7 +75,7 @@ module _ {S : Type 0} (m : Meaning S) (f : ℕ) (c : Conf) (r : ℕ) (inv : Inv 
         let x = merge_from (kept g.changes) (suc i) (Req q) e in
         let y = (kept_from g.changes x.0 x.1).0 in
         let entry = inv.entries x.0.sender p.view (record { last_normal = x.0.last_normal; next = x.0.next; log = x.0.log })
-            (was.entries x.0 y) in
+        (was.entries x.0 y) in
         (inv.logs x.0.sender x.0.last_normal x.0.log entry.log).submitted q (i, x.2)
 
     -- the view starts with what is merged
@@ -116,6 +116,14 @@ module _ {S : Type 0} (m : Meaning S) (f : ℕ) (c : Conf) (r : ℕ) (inv : Inv 
               opens = same_start ∙ ap (λ (w : View). opened w g.changes) t.view;
             };
           };
-          words = said_unless f d p (StartView s.next s.log) (record { sender = own.number ∙ t.leads; start = s; is_start = is_start;
-              lead = s.log; leads = led; within = omega arith; begins = prefix_refl s.log; counted = refl }) (others p == 0);
+          words = said_unless f d p (StartView s.next s.log) (record {
+            sender = own.number ∙ t.leads;
+            start = s;
+            is_start = is_start;
+            lead = s.log;
+            leads = led;
+            within = omega arith;
+            begins = prefix_refl s.log;
+            counted = refl;
+          }) (others p == 0);
         })

@@ -55,8 +55,14 @@ module _ {S : Type 0} (m : Meaning S) (f : ℕ) (config : Configuration) (count 
   own_good r = record {
     number = refl;
     replicas = count;
-    place = record { normal = λ n. refl; change = λ n. absurd cc; start = first_start_of; is_start = refl; counted = omega arith;
-        base = λ s. refl };
+    place = record {
+      normal = λ n. refl;
+      change = λ n. absurd cc;
+      start = first_start_of;
+      is_start = refl;
+      counted = omega arith;
+      base = λ s. refl;
+    };
     queue = record { session = refl; front = λ n. refl; queued = opened_stamped [] 1 1 };
     gap = record { waits = λ g e. absurd cc; last = λ s n none a e. absurd (omega (arith, a)) };
     changes = record { entered = λ n. absurd cc; gathers = λ g e. absurd cc; leads = λ n s. absurd cc };
@@ -76,9 +82,12 @@ module _ {S : Type 0} (m : Meaning S) (f : ℕ) (config : Configuration) (count 
     reached = λ r w l h. let g = first_log r w l h in subst (λ (x : View). AtMost x first_view) (sym g.0) (at_most_refl first_view);
     starts = λ w x h.
         let g = first_start w x h in
-        record { session = subst (λ (v : View). 1 ≤ v.session) (sym g.0) (omega arith); lead = [];
-            leads = subst (λ (v : View). LeaderHad f c.past v []) (sym g.0) (had_first (leader_of first_view (2 * f + 1)));
-            by = λ apart. absurd (apart g.0) };
+        record {
+          session = subst (λ (v : View). 1 ≤ v.session) (sym g.0) (omega arith);
+          lead = [];
+          leads = subst (λ (v : View). LeaderHad f c.past v []) (sym g.0) (had_first (leader_of first_view (2 * f + 1)));
+          by = λ apart. absurd (apart g.0);
+        };
     entries = λ r v e h. absurd cc;
     chain = λ r v w d e h g. absurd cc;
     between = λ r v w e l h g. absurd cc;
@@ -94,8 +103,13 @@ module _ {S : Type 0} (m : Meaning S) (f : ℕ) (config : Configuration) (count 
       accepted_done = λ client id result i. absurd (has_none _ i);
       grounds = λ k client id result e. absurd cc;
     };
-    clients = λ k. record { number = refl; replicas = count; pending = λ q e. absurd cc; kept = λ p i. absurd (has_none p i);
-        once = λ r. omega arith };
+    clients = λ k. record {
+      number = refl;
+      replicas = count;
+      pending = λ q e. absurd cc;
+      kept = λ p i. absurd (has_none p i);
+      once = λ r. omega arith;
+    };
   }
 
 pub opening_meets : {S : Type 0} (m : Meaning S) → OpeningMeets m

@@ -34,7 +34,7 @@ module _ {S : Type 0} (m : Meaning S) (f : ℕ) (c : Conf) (r : ℕ) (inv : Inv 
   pub overlay_keeps : (l : List Entry) → MayOverlay c p l → Kept m f c (after f c r (overlay m p l))
   overlay_keeps l may =
       turn_keeps m f c r inv within (laid l p.log) n (advanced p.receiver n) (taken p.sync (length l)) (say p (SyncRep (length l)))
-          (replies_above m (overlaid p l) (length p.log)) (record {
+      (replies_above m (overlaid p l) (length p.log)) (record {
         normal = may.normal;
         follows = follows_last m f c r inv within may;
         lead = t.lead;
@@ -46,7 +46,7 @@ module _ {S : Type 0} (m : Meaning S) (f : ℕ) (c : Conf) (r : ℕ) (inv : Inv 
         number = refl;
         queued = λ stamps h. advanced_stamped stamps p.receiver n h;
       }) (λ d ev had. said_unless f d p (SyncRep (length l)) tt false)
-          (λ d had. above_true m f d (overlaid p l) own.replicas (by_number m f c r inv within d (laid l p.log) view had) (length p.log))
+      (λ d had. above_true m f d (overlaid p l) own.replicas (by_number m f c r inv within d (laid l p.log) view had) (length p.log))
     where
       n : ℕ
       n = p.next + (length l - length p.log)

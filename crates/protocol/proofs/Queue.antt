@@ -47,8 +47,11 @@ module _ {S : Type 0} (m : Meaning S) (f : ℕ) (c : Conf) (r : ℕ) (inv : Inv 
           number = o.number;
           replicas = o.replicas;
           place = o.place;
-          queue = record { session = same.0 ∙ o.queue.session; front = λ n. same.1 ∙ o.queue.front n;
-              queued = offered_stamped d.stamps p.receiver x o.queue.queued (ev.sent.stamps x sent) };
+          queue = record {
+            session = same.0 ∙ o.queue.session;
+            front = λ n. same.1 ∙ o.queue.front n;
+            queued = offered_stamped d.stamps p.receiver x o.queue.queued (ev.sent.stamps x sent);
+          };
           gap = o.gap;
           changes = o.changes;
         };

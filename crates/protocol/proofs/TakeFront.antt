@@ -40,8 +40,8 @@ module _ {S : Type 0} (m : Meaning S) (f : ℕ) (c : Conf) (r : ℕ) (inv : Inv 
         waits = λ g e. absurd (let none = may.no_gap in cc);
         last = λ a none e. absurd cc;
       }) (λ d ev had y i. absurd (has_none y i))
-          (λ d had. reply_true m f d (logged p q) own.replicas (by_number m f c r inv within d (p.log ++ Req q ∷ []) view had)
-          (length p.log + 1) q (next_slot p.log (Req q)) (leads (logged p q)) refl)
+      (λ d had. reply_true m f d (logged p q) own.replicas (by_number m f c r inv within d (p.log ++ Req q ∷ []) view had)
+      (length p.log + 1) q (next_slot p.log (Req q)) (leads (logged p q)) refl)
     where
       view : p.last_normal ≡ p.view
       view = own.place.normal may.normal
@@ -50,6 +50,6 @@ module _ {S : Type 0} (m : Meaning S) (f : ℕ) (c : Conf) (r : ℕ) (inv : Inv 
       here =
           let session : p.receiver.session ≡ p.last_normal.session = own.queue.session ∙ ap (λ (v : View). v.session) (sym view) in
           let there : WasStamped c.stamps p.receiver.session p.receiver.next q =
-              front_stamped c.stamps p.receiver q own.queue.queued may.front in
+          front_stamped c.stamps p.receiver q own.queue.queued may.front in
           subst (λ (n : ℕ). WasStamped c.stamps n p.next q) session (subst (λ (i : ℕ). WasStamped c.stamps p.receiver.session i q)
-              (own.queue.front may.normal) there)
+          (own.queue.front may.normal) there)

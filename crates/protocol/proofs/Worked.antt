@@ -1,8 +1,8 @@
 -- The worked runs: each move may be made, and they end where they should.
-use Rattle.std.proofs.Common.{◌≡◌, ℕ, ◌<◌, refl, ap, arith, [], ◌∷◌}
+use Rattle.std.proofs.Common.{◌<◌, refl, ap, arith}
 use Rattle.nop_types.specs.declared.view.View.{View}
 use Rattle.nop_types.specs.Meaning.{Meaning}
-use Rattle.nop_types.specs.Views.{Below, first_view}
+use Rattle.nop_types.specs.Views.{AtMost, Below, first_view}
 use Rattle.gap_agree.specs.Votes.{with_vote}
 use Rattle.protocol.specs.Conf.{opening}
 use Rattle.protocol.specs.Runs.{run, MayAll}
@@ -20,40 +20,62 @@ two_of : 2 < 3
 two_of = omega arith
 
 to_leader : Below first_view (view 1 1)
-to_leader = record { at_most = record { leader = omega arith; session = omega arith };
-    apart = λ e. let h = ap (λ (v : View). v.leader) e in omega (arith, h) }
+to_leader = record {
+  at_most = record { leader = omega arith; session = omega arith };
+  apart = λ e. let h = ap (λ (v : View). v.leader) e in omega (arith, h);
+}
 
 to_session : Below first_view (view 0 2)
-to_session = record { at_most = record { leader = omega arith; session = omega arith };
-    apart = λ e. let h = ap (λ (v : View). v.session) e in omega (arith, h) }
+to_session = record {
+  at_most = record { leader = omega arith; session = omega arith };
+  apart = λ e. let h = ap (λ (v : View). v.session) e in omega (arith, h);
+}
 
 leader_to_both : Below (view 1 1) (view 1 2)
-leader_to_both = record { at_most = record { leader = omega arith; session = omega arith };
-    apart = λ e. let h = ap (λ (v : View). v.session) e in omega (arith, h) }
+leader_to_both = record {
+  at_most = record { leader = omega arith; session = omega arith };
+  apart = λ e. let h = ap (λ (v : View). v.session) e in omega (arith, h);
+}
 
 session_to_both : Below (view 0 2) (view 1 2)
-session_to_both = record { at_most = record { leader = omega arith; session = omega arith };
-    apart = λ e. let h = ap (λ (v : View). v.leader) e in omega (arith, h) }
+session_to_both = record {
+  at_most = record { leader = omega arith; session = omega arith };
+  apart = λ e. let h = ap (λ (v : View). v.leader) e in omega (arith, h);
+}
+
+-- the first move may be made, and then the others
+also : {A B : Type 0} → A → B → A × B
+also a b = (a, b)
+
+to_itself : (v : View) → AtMost v v
+to_itself v = record { leader = omega arith; session = omega arith }
 
 module _ {S : Type 0} (m : Meaning S) where
   gap_allowed : MayAll m 1 (opening (three 1 2)) (gap_run m)
   unfolding with_vote
   gap_allowed =
-      (refl, (refl, (record { sent = (1, refl); session = omega arith }, (record { sent = (0, refl); session = omega arith },
-      ((two_of, (1, refl)), ((two_of, record { normal = refl; no_gap = refl; front = front_first 1 1 put_request }),
-      ((two_of, (0, refl)), ((two_of, record { normal = refl; no_gap = refl; front = front_second 1 1 put_request get_request }),
-      ((zero_of, (0, refl)), ((zero_of, record { may_lead = record { normal = refl; leads = refl }; no_gap = refl }),
-      ((one_of, record { normal = refl; follows = refl; said = (0, refl) }),
-      ((zero_of, record { waits = refl; vote = record { said = (0, refl); within = one_of; apart = λ e. omega (arith, e) } }),
-      ((zero_of, record { normal = refl; no_gap = refl; front = front_passed 1 1 get_request }),
-      (record { sent = (0, refl); expected = refl }, (record { sent = (1, refl); expected = refl },
-      (record { kept = (1, refl); enough = refl },
-      ((one_of, to_leader), ((two_of, to_leader),
-      ((one_of, record { gathers = refl; change = record { said = (1, refl); within = two_of; apart = λ e. omega (arith, e) } }),
-      ((one_of, record { gathers = refl; enough = omega arith }),
-      ((two_of, record { said = (0, refl); follows = λ e. omega (arith, e);
-          at_most = record { leader = omega arith; session = omega arith }; change = λ e. refl }),
-      tt)))))))))))))))))))))
+      also refl
+      (also refl
+      (also (record { sent = (1, refl); session = omega arith })
+      (also (record { sent = (0, refl); session = omega arith })
+      (also (two_of, (1, refl))
+      (also (two_of, record { normal = refl; no_gap = refl; front = front_first 1 1 put_request })
+      (also (two_of, (0, refl))
+      (also (two_of, record { normal = refl; no_gap = refl; front = front_second 1 1 put_request get_request })
+      (also (zero_of, (0, refl))
+      (also (zero_of, record { may_lead = record { normal = refl; leads = refl }; no_gap = refl })
+      (also (one_of, record { normal = refl; follows = refl; said = (0, refl) })
+      (also (zero_of, record { waits = refl; vote = record { said = (0, refl); within = one_of; apart = λ e. omega (arith, e) } })
+      (also (zero_of, record { normal = refl; no_gap = refl; front = front_passed 1 1 get_request })
+      (also (record { sent = (0, refl); expected = refl })
+      (also (record { sent = (1, refl); expected = refl })
+      (also (record { kept = (1, refl); enough = refl })
+      (also (one_of, to_leader)
+      (also (two_of, to_leader)
+      (also (one_of, record { gathers = refl; change = record { said = (1, refl); within = two_of; apart = λ e. omega (arith, e) } })
+      (also (one_of, record { gathers = refl; enough = omega arith })
+      (also (two_of, record { said = (0, refl); follows = λ e. omega (arith, e); at_most = to_itself (view 1 1); change = λ e. refl })
+      tt))))))))))))))))))))
 
   gap_ends : GapRun m (run m 1 (opening (three 1 2)) (gap_run m))
   unfolding with_vote
@@ -70,18 +92,25 @@ module _ {S : Type 0} (m : Meaning S) where
 
   session_allowed : MayAll m 1 (opening (three 2 1)) (session_run m)
   session_allowed =
-      (record { own = refl; later = omega arith }, (record { sent = (0, refl); later = omega arith },
-      (refl, (record { sent = (0, refl); session = omega arith },
-      ((one_of, to_leader), ((two_of, to_session), ((two_of, (0, refl)), ((one_of, leader_to_both), ((two_of, session_to_both),
-      ((one_of, record { gathers = refl; change = record { said = (1, refl); within = two_of; apart = λ e. omega (arith, e) } }),
-      ((one_of, record { gathers = refl; enough = omega arith }),
-      ((two_of, record { said = (0, refl); follows = λ e. omega (arith, e);
-          at_most = record { leader = omega arith; session = omega arith }; change = λ e. refl }),
-      ((two_of, record { normal = refl; no_gap = refl; front = front_early 2 1 put_request }),
-      ((one_of, (0, refl)), ((one_of, record { normal = refl; no_gap = refl; front = front_late 2 1 put_request }),
-      (record { sent = (1, refl); expected = refl }, (record { sent = (0, refl); expected = refl },
-      (record { kept = (1, refl); enough = refl },
-      tt))))))))))))))))))
+      also (record { own = refl; later = omega arith })
+      (also (record { sent = (0, refl); later = omega arith })
+      (also refl
+      (also (record { sent = (0, refl); session = omega arith })
+      (also (one_of, to_leader)
+      (also (two_of, to_session)
+      (also (two_of, (0, refl))
+      (also (one_of, leader_to_both)
+      (also (two_of, session_to_both)
+      (also (one_of, record { gathers = refl; change = record { said = (1, refl); within = two_of; apart = λ e. omega (arith, e) } })
+      (also (one_of, record { gathers = refl; enough = omega arith })
+      (also (two_of, record { said = (0, refl); follows = λ e. omega (arith, e); at_most = to_itself (view 1 2); change = λ e. refl })
+      (also (two_of, record { normal = refl; no_gap = refl; front = front_early 2 1 put_request })
+      (also (one_of, (0, refl))
+      (also (one_of, record { normal = refl; no_gap = refl; front = front_late 2 1 put_request })
+      (also (record { sent = (1, refl); expected = refl })
+      (also (record { sent = (0, refl); expected = refl })
+      (also (record { kept = (1, refl); enough = refl })
+      tt)))))))))))))))))
 
   session_ends : SessionRun m (run m 1 (opening (three 2 1)) (session_run m))
   session_ends = record {
@@ -98,17 +127,20 @@ module _ {S : Type 0} (m : Meaning S) where
   sync_allowed : MayAll m 1 (opening (three 1 1)) (sync_run m)
   unfolding with_vote
   sync_allowed =
-      (refl, (record { sent = (0, refl); session = omega arith },
-      ((zero_of, (0, refl)), ((zero_of, record { normal = refl; no_gap = refl; front = front_first 1 1 put_request }),
-      ((one_of, (0, refl)), ((one_of, record { normal = refl; no_gap = refl; front = front_first 1 1 put_request }),
-      ((two_of, (0, refl)), ((two_of, record { normal = refl; no_gap = refl; front = front_first 1 1 put_request }),
-      ((zero_of, record { may_lead = record { normal = refl; leads = refl }; no_gap = refl; longer = omega arith }),
-      ((one_of, record { normal = refl; follows = refl; said = (0, refl) }),
-      ((zero_of, record { may_lead = record { normal = refl; leads = refl };
-          vote = record { said = (0, refl); within = one_of; apart = λ e. omega (arith, e) } }),
-      ((two_of, record { normal = refl; follows = refl; said = (2, refl) }),
-      ((two_of, record { may_follow = record { normal = refl; follows = refl; said = (1, refl) }; within = omega arith }),
-      tt)))))))))))))
+      also refl
+      (also (record { sent = (0, refl); session = omega arith })
+      (also (zero_of, (0, refl))
+      (also (zero_of, record { normal = refl; no_gap = refl; front = front_first 1 1 put_request })
+      (also (one_of, (0, refl))
+      (also (one_of, record { normal = refl; no_gap = refl; front = front_first 1 1 put_request })
+      (also (two_of, (0, refl))
+      (also (two_of, record { normal = refl; no_gap = refl; front = front_first 1 1 put_request })
+      (also (zero_of, record { may_lead = record { normal = refl; leads = refl }; no_gap = refl; longer = omega arith })
+      (also (one_of, record { normal = refl; follows = refl; said = (0, refl) })
+      (also (zero_of, record { may_lead = record { normal = refl; leads = refl }; vote = record { said = (0, refl); within = one_of; apart = λ e. omega (arith, e) } })
+      (also (two_of, record { normal = refl; follows = refl; said = (2, refl) })
+      (also (two_of, record { may_follow = record { normal = refl; follows = refl; said = (1, refl) }; within = omega arith })
+      tt))))))))))))
 
   sync_ends : SyncRun m (run m 1 (opening (three 1 1)) (sync_run m))
   unfolding with_vote

@@ -46,7 +46,7 @@ module _ {S : Type 0} (m : Meaning S) (f : ℕ) (c : Conf) (r : ℕ) (inv : Inv 
         number = own.queue.front may.may_follow.normal;
         queued = λ stamps h. h;
       }) (λ d ev had. said_unless f d p (GapRep k) (answered m f c r inv within d ev (set_slot p.log k NoOp) k may.may_follow had
-          (slot_of_set p.log k NoOp (slot_within t.lead k NoOp t.entry).0 may.within)) false) (λ d had y i. absurd (has_none y i))
+      (slot_of_set p.log k NoOp (slot_within t.lead k NoOp t.entry).0 may.within)) false) (λ d had y i. absurd (has_none y i))
     where
       t : LeaderHas f c (leader p) p.view k NoOp
       t = inv.said (says (leader p) p.view (GapCommit k)) may.may_follow.said

@@ -161,8 +161,11 @@ own_change p = record { sender = p.number; last_normal = p.last_normal; next = p
 
 -- the leader keeps its own change, another sends it
 abbrev pub enter_as : Bool → Member → Effect
-enter_as true p = record { state = record p { changes = Some (gathering.entered p.view (others p) (own_change p)) };
-    said = say_all p Plain; replies = [] }
+enter_as true p = record {
+  state = record p { changes = Some (gathering.entered p.view (others p) (own_change p)) };
+  said = say_all p Plain;
+  replies = [];
+}
 enter_as false p = record { state = p; said = say_all p Plain ++ say p (ViewChange p.last_normal p.next p.log); replies = [] }
 
 abbrev pub enter : Member → View → Effect
@@ -183,8 +186,15 @@ abbrev pub listening_from : Member → View → ℕ → Receiving
 listening_from p v x = cond (nat_lt p.receiver.session v.session) (receiving.opened v.session x) (advanced p.receiver x)
 
 abbrev pub adopted : Member → View → ℕ → List Entry → Member
-adopted p v x l = record (left p) { view = v; status = Normal; last_normal = v; log = l; next = x; base = length l;
-    receiver = listening_from p v x }
+adopted p v x l = record (left p) {
+  view = v;
+  status = Normal;
+  last_normal = v;
+  log = l;
+  next = x;
+  base = length l;
+  receiver = listening_from p v x;
+}
 
 -- a log is adopted, and each request above the sync point is answered once more
 abbrev pub adopt_saying : {S : Type 0} → Meaning S → List Said → Member → View → ℕ → List Entry → Effect
@@ -255,8 +265,11 @@ commit_if p k Waiting = []
 
 -- it counts the vote of the replica q; at enough of them its sync point rises, and it tells all
 abbrev pub count_sync_vote : Member → ℕ → ℕ → Effect
-count_sync_vote p q k = record { state = record p { sync = synchronisation.counted p.sync q k };
-    said = commit_if p k (vote_for p.sync q k); replies = [] }
+count_sync_vote p q k = record {
+  state = record p { sync = synchronisation.counted p.sync q k };
+  said = commit_if p k (vote_for p.sync q k);
+  replies = [];
+}
 
 pub record MayCountSyncVote (f : ℕ) (c : Conf) (p : Member) (q k : ℕ) : Type 0 where
   pub may_lead : MayLead p

@@ -1,5 +1,5 @@
 -- Runs of three replicas, worked by hand: the moves that are made, and where they end.
-use Rattle.std.specs.Prelude.{◌≡◌, ℕ, List, [], ◌∷◌, ◌++◌, Some}
+use Rattle.std.specs.Prelude.{◌≡◌, ℕ, List, [], ◌∷◌, ◌++◌}
 use Rattle.nop_types.specs.Configuration.{Configuration}
 use Rattle.nop_types.specs.declared.view.View.{View}
 use Rattle.nop_types.specs.declared.replica_state.Phase.TheVariants.{Normal}
@@ -149,7 +149,7 @@ module _ {S : Type 0} (m : Meaning S) where
   abbrev pub sync_run : List Move
   sync_run =
       Submit 0 put_op ∷ Stamp 0 put_request ∷ logs 0 (stamp_of 1 1 put_request) ++ logs 1 (stamp_of 1 1 put_request)
-          ++ logs 2 (stamp_of 1 1 put_request)
+      ++ logs 2 (stamp_of 1 1 put_request)
       ++ Acts 0 OpenSync ∷ Acts 1 (Overlay (Req put_request ∷ [])) ∷ Acts 0 (CountSyncVote 1 1)
       ∷ Acts 2 (Overlay (Req put_request ∷ [])) ∷ Acts 2 (Obey 1) ∷ []
 
