@@ -40,7 +40,7 @@ module _ {S : Type 0} (m : Meaning S) (f : ℕ) (c : Conf) (r : ℕ) (inv : Inv 
       append_keeps m f c r inv within NoOp (advanced p.receiver (p.next + 1)) (waiting (begun (length p.log + 1) (others p)))
       (say_all p (GapCommit (length p.log + 1))) [] (record {
         normal = may.may_lead.normal;
-        closed = λ a. may.no_gap;
+        closed = λ a. may.none_waits;
         stamped = λ y e. absurd cc;
         noop = λ e other. absurd (other (mine ∙ ap (λ (w : View). leader_of w (2 * f + 1)) (sym view)));
         announced = λ e a. told (others p == 0) refl;

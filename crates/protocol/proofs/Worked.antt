@@ -63,7 +63,7 @@ module _ {S : Type 0} (m : Meaning S) where
       (also (two_of, (0, refl))
       (also (two_of, record { normal = refl; no_gap = refl; front = front_second 1 1 put_request get_request })
       (also (zero_of, (0, refl))
-      (also (zero_of, record { may_lead = record { normal = refl; leads = refl }; no_gap = refl })
+      (also (zero_of, record { may_lead = record { normal = refl; leads = refl }; none_waits = refl })
       (also (one_of, record { normal = refl; follows = refl; said = (0, refl) })
       (also (zero_of, record { waits = refl; vote = record { said = (0, refl); within = one_of; apart = λ e. omega (arith, e) } })
       (also (zero_of, record { normal = refl; no_gap = refl; front = front_passed 1 1 get_request })

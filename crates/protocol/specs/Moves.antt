@@ -118,7 +118,7 @@ open_gap p =
 
 pub record MayOpenGap (p : Member) : Type 0 where
   pub may_lead : MayLead p
-  pub no_gap : p.gap ≡ None
+  pub none_waits : p.gap ≡ None
 
 -- it counts the vote of the replica q; the gap is closed at enough of them
 abbrev pub count_gap_vote : Member → Agreement → ℕ → Effect

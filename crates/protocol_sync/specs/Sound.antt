@@ -31,7 +31,7 @@ use Rattle.protocol.specs.Said.{Found, GapCommit, GapRep, ViewChange, StartView,
 use Rattle.protocol.specs.Truth.{LeaderHas}
 use Rattle.protocol_sync.specs.Synced.{SyncRises}
 
--- ---- (a) what was stamped, submitted and kept
+-- ---- what was stamped, submitted and kept
 
 -- one packet for each session and number; a session has one sequencer, and is at most its controller's; its sequencer has passed each
 -- number that it stamped there
@@ -73,7 +73,7 @@ pub record KeptWasSent (f : ℕ) (c : Conf) : Type 0 where
   pub replies : (k : ℕ) (p : Reply) → Has (c.clients k).replies p → Has c.replies p
   pub expected : (k : ℕ) (p : Reply) → Has (c.clients k).replies p → (q : Request) × IsOpen (c.clients k) q × IsOf p.client p.id q
 
--- ---- (b) views
+-- ---- views
 
 -- the content of a ViewChange: the log that its sender had in its last normal view, and its number
 pub record ChangeIsSound (c : Conf) (r : ℕ) (v u : View) (x : ℕ) (l : List Entry) : Type 0 where
@@ -90,7 +90,7 @@ pub record ViewsAreSound (f : ℕ) (c : Conf) : Type 0 where
   pub change : (r : ℕ) → r < 2 * f + 1 → (c.replicas r).status ≡ Change → Below (c.replicas r).last_normal (c.replicas r).view
   pub changes : (r : ℕ) (v u : View) (x : ℕ) (l : List Entry) → DidSay c.said r v (ViewChange u x l) → ChangeIsSound c r v u x l
 
--- ---- (c) starts
+-- ---- starts
 
 -- f + 1 replicas entered the view, the leader among them, and it was started by the rule from what they entered it with
 pub record StartIsSound (f : ℕ) (c : Conf) (w : View) (x : Start) : Type 0 where
@@ -117,7 +117,7 @@ pub record StartsAreSound (f : ℕ) (c : Conf) : Type 0 where
   pub told : (q : ℕ) (w : View) (x : ℕ) (l : List Entry) → DidSay c.said q w (StartView x l) → TellsStart f c q w x l
   pub comparable : (v w : View) → IsStarted c.past v → IsStarted c.past w → Comparable v w
 
--- ---- (d) the logs of a view
+-- ---- the logs of a view
 
 -- above the start a slot has the request that was stamped with its number, or a NO-OP that the leader announced
 abbrev pub EntryIsSound : ℕ → Conf → View → (number slot : ℕ) → Entry → Type 0
@@ -131,7 +131,7 @@ pub record LogsAreSound (f : ℕ) (c : Conf) : Type 0 where
       → length x.log < k → slot_of l k ≡ Some e
       → EntryIsSound f c w (x.next + (k - length x.log - 1)) k e
 
--- ---- (e) the log of the leader
+-- ---- the log of the leader
 
 -- the replica waits in the view for votes for a gap in the slot
 abbrev pub WaitsAt : Member → View → ℕ → Type 0
@@ -152,7 +152,7 @@ pub record LeadersAreSound (f : ℕ) (c : Conf) : Type 0 where
       → slot_of m k ≡ Some NoOp
       → Settled f c.said w k ⊎ IsUnsettled f c w m k
 
--- ---- (f) answers to gaps
+-- ---- answers to gaps
 
 pub record VotesAreSound (f : ℕ) (c : Conf) : Type 0 where
   pub replies : (q : ℕ) (w : View) (k : ℕ) → DidSay c.said q w (GapRep k)
@@ -162,7 +162,7 @@ pub record VotesAreSound (f : ℕ) (c : Conf) : Type 0 where
   pub sync : (r : ℕ) (x : Round) (q : ℕ) → r < 2 * f + 1 → (c.replicas r).sync.syncing ≡ Some x → Has x.votes q
       → DidSay c.said q (c.replicas r).view (SyncRep x.len)
 
--- ---- (g) replies
+-- ---- replies
 
 -- who replied had the slot; and the leader's reply is for the request there, with its result
 pub record ReplyIsSound {S : Type 0} (m : Meaning S) (f : ℕ) (c : Conf) (p : Reply) : Type 0 where
@@ -176,7 +176,7 @@ pub record ReplyIsSound {S : Type 0} (m : Meaning S) (f : ℕ) (c : Conf) (p : R
 abbrev pub RepliesAreSound : {S : Type 0} → Meaning S → ℕ → Conf → Type 0
 RepliesAreSound m f c = (p : Reply) → Has c.replies p → ReplyIsSound m f c p
 
--- ---- (h) answers to a SyncPrepare
+-- ---- answers to a SyncPrepare
 
 -- the sender agrees with its leader up to there
 pub record SyncReplyIsSound (f : ℕ) (c : Conf) (q : ℕ) (w : View) (s : ℕ) : Type 0 where
@@ -193,14 +193,14 @@ pub record SyncRepliesAreSound (f : ℕ) (c : Conf) : Type 0 where
   pub prepared : (r : ℕ) → r < 2 * f + 1 → 1 ≤ (c.replicas r).sync.prepared
       → DidSay c.said r (c.replicas r).view (SyncRep (c.replicas r).sync.prepared)
 
--- ---- (i) numbers
+-- ---- numbers
 
 -- a replica's next number is as far above that of its view's start as its log is longer
 abbrev pub NumbersAreSound : ℕ → Conf → Type 0
 NumbersAreSound f c = (r : ℕ) (x : Start) → r < 2 * f + 1 → IsStart c.past (c.replicas r).last_normal x
     → (c.replicas r).next ≡ x.next + length (c.replicas r).log - length x.log
 
--- ---- (j) sync points
+-- ---- sync points
 
 -- f others said in a started view that they have the first s slots of its leader; these begin the log, and the start of each later view
 pub record PrefixIsSynchronised (f : ℕ) (c : Conf) (w : View) (l : List Entry) (s : ℕ) : Type 0 where
@@ -220,7 +220,7 @@ pub record SyncPointsAreSound (f : ℕ) (c : Conf) : Type 0 where
   pub commits : (q : ℕ) (w : View) (s : ℕ) (m : List Entry) → DidSay c.said q w (SyncCommit s) → 1 ≤ s → LeaderHad f c.past w m
       → PrefixIsSynchronised f c w m s
 
--- ---- (k) accepts
+-- ---- accepts
 
 -- f + 1 replicas replied at one view and slot, the leader among them with this result; its log had the slot, and all requests up to there
 -- were submitted before. These slots begin each later start
