@@ -13,24 +13,24 @@ use Rattle.nop_types.specs.Lists.{Has}
 use Rattle.nop_types.specs.Meaning.{Meaning}
 use Rattle.nop_types.specs.Views.{is_view, leader_of}
 use Rattle.histories.proofs.Lines.{submitted_so_far, submitted_once_stays, accepted_once_stays}
-use Rattle.histories.proofs.Lists.{Has-append_cases, Has-one, Has-prefix, slice_get-push_cases}
+use Rattle.facts.proofs.Places.{slice_get-push_cases}
+use Rattle.facts.proofs.Members.{Has-append_cases, Has-one, Has-none, Has-from_filter, Has-from_find}
+use Rattle.facts.proofs.Prefixes.{Has-prefix, IsPrefixOf-take}
 use Rattle.started_views.specs.Past.{HadLog, LeaderHad}
 use Rattle.started_views.specs.Quorums.{counts, Quorum}
-use Rattle.started_views.proofs.Lists.{has_none, has_from_filter}
-use Rattle.started_views.proofs.Past.{both_true, is_same_true}
-use Rattle.started_views.proofs.Slots.{prefix_of_take}
-use Rattle.started_views.proofs.Views.{is_view_true}
-use Rattle.client_quorum.specs.declared.client_state.ClientState.{ClientState}
+use Rattle.std.proofs.lemmas.Bool.{eqb-true, and_parts}
+use Rattle.facts.proofs.Views.{is_view-true}
+use Rattle.client_quorum.specs.declared.state.ClientState.{ClientState}
 use Rattle.client_quorum.specs.ClientSteps.{accepts}
 use Rattle.client_quorum.specs.KeptReplies.{matches, is_leaders, quorum_of}
 use Rattle.protocol.specs.Conf.{Conf}
 use Rattle.protocol.specs.Evolves.{Evolves}
 use Rattle.protocol.specs.Moves.{accept, MayAccept}
 use Rattle.protocol.specs.Invariant.{IsUsed, Replied, Accepted, KeptReply, GoodLines, GoodClient, Inv}
-use Rattle.protocol.proofs.Facts.{counts_filter, counts_member, find_has}
+use Rattle.protocol.proofs.Facts.{counts_filter, counts_member}
 use Rattle.protocol.proofs.Growing.{Kept}
 use Rattle.protocol.proofs.Outside.{outside_keeps}
-use Rattle.protocol.proofs.Puts.{put_all}
+use Rattle.facts.proofs.Functions.{put-all}
 use Rattle.protocol.proofs.Stays.{onward_refl, accepted_lasts, client_lasts}
 
 at_least : (a b : ℕ) → nat_le a b ≡ true → a ≤ b
@@ -47,8 +47,8 @@ pub record Chosen (n : ℕ) (kept : List Reply) (v : View) (slot : ℕ) (p : Rep
 
 matched : (v : View) (slot : ℕ) (p : Reply) → matches v slot p ≡ true → (p.view ≡ v) × (p.slot ≡ slot)
 matched v slot p e =
-    let b = both_true (is_view p.view v) (p.slot == slot) e in
-    (is_view_true p.view v b.0, is_same_true p.slot slot b.1)
+    let b = and_parts (is_view p.view v) (p.slot == slot) e in
+    (is_view-true p.view v b.0, eqb-true p.slot slot b.1)
 
 pub chosen_from : (n : ℕ) (kept : List Reply) (v : View) (slot : ℕ) (p : Reply) → quorum_of n kept v slot ≡ Some p → Chosen n kept v slot p
 chosen_from n kept v slot p = at (nat_le (n / 2 + 1) (count_by (matches v slot) kept)) refl
@@ -57,17 +57,17 @@ chosen_from n kept v slot p = at (nat_le (n / 2 + 1) (count_by (matches v slot) 
         → (if b then find (λ k. matches v slot k && is_leaders n k) kept else None) ≡ Some p → Chosen n kept v slot p
     at false t e = absurd cc
     at true t e =
-        let found = find_has (λ k. matches v slot k && is_leaders n k) kept p e in
-        let tests = both_true (matches v slot p) (is_leaders n p) found.1 in
+        let found = Has-from_find (λ k. matches v slot k && is_leaders n k) kept p e in
+        let tests = and_parts (matches v slot p) (is_leaders n p) found.1 in
         let place = matched v slot p tests.0 in
-        let leading = both_true (p.replica == leader_of p.view n) (p.tag == 1) tests.1 in
+        let leading = and_parts (p.replica == leader_of p.view n) (p.tag == 1) tests.1 in
         record {
           enough = at_least (n / 2 + 1) (count_by (matches v slot) kept) t;
           member = found.0;
           at_view = place.0;
           at_slot = place.1;
-          leads = is_same_true p.replica (leader_of p.view n) leading.0;
-          tagged = is_same_true p.tag 1 leading.1;
+          leads = eqb-true p.replica (leader_of p.view n) leading.0;
+          tagged = eqb-true p.tag 1 leading.1;
         }
 
 module _ {S : Type 0} (m : Meaning S) (f : ℕ) (c : Conf) (inv : Inv m f c) (k : ℕ) (p leaders : Reply) (may : MayAccept c k p leaders) where
@@ -129,7 +129,7 @@ module _ {S : Type 0} (m : Meaning S) (f : ℕ) (c : Conf) (inv : Inv m f c) (k 
           → (y : Reply) × (Has s.replies y × (matches p.view p.slot y ≡ true)) × (y.replica ≡ r)
       member r h =
           let g = counts_member (λ (y : Reply). y.replica) matching r h in
-          (g.0, has_from_filter (matches p.view p.slot) g.0 s.replies g.1, g.2)
+          (g.0, Has-from_filter (matches p.view p.slot) g.0 s.replies g.1, g.2)
 
   leads : leaders.replica ≡ leader_of p.view (2 * f + 1)
   leads = chosen.leads ∙ ap (λ (v : View). leader_of v s.config.replicas) chosen.at_view ∙ ap (leader_of p.view) good.replicas
@@ -152,7 +152,7 @@ module _ {S : Type 0} (m : Meaning S) (f : ℕ) (c : Conf) (inv : Inv m f c) (k 
         tagged = chosen.tagged;
         gives = refl;
         known = λ q i. submitted_so_far c.lines q
-            (log.submitted q (Has-prefix (take p.slot t.log) t.log (Req q) (prefix_of_take p.slot t.log) i));
+            (log.submitted q (Has-prefix (take p.slot t.log) t.log (Req q) (IsPrefixOf-take p.slot t.log) i));
       }
 
   accepted : Evolves f c d → Accepted f d (length c.lines) s.number p.id leaders.result
@@ -165,7 +165,7 @@ module _ {S : Type 0} (m : Meaning S) (f : ℕ) (c : Conf) (inv : Inv m f c) (k 
   ]
 
   last_ids : (i : ℕ) → (c.clients i).last_id ≤ (d.clients i).last_id
-  last_ids = put_all (λ i t. (c.clients i).last_id ≤ t.last_id) c.clients k (accepts s p.id leaders) (omega arith) (λ i a. omega arith)
+  last_ids = put-all (λ i t. (c.clients i).last_id ≤ t.last_id) c.clients k (accepts s p.id leaders) (omega arith) (λ i a. omega arith)
 
   low_id : IsUsed (c.clients s.number) p.id
   low_id =
@@ -198,7 +198,7 @@ module _ {S : Type 0} (m : Meaning S) (f : ℕ) (c : Conf) (inv : Inv m f c) (k 
   Done i t = (id : ℕ) (result : List ℕ) → Has d.lines (Accept i id result) → (q : Request) → t.pending ≡ Some q → q.id ≡ id → ⊥
 
   done : (i : ℕ) → Done i (d.clients i)
-  done = put_all Done c.clients k (accepts s p.id leaders)
+  done = put-all Done c.clients k (accepts s p.id leaders)
       (λ id result h q e same. absurd cc)
       (λ i a id result h q e same. elim (line_from i id result h) [
         | inl old ↦ inv.lines.accepted_done i id result old q e same
@@ -239,7 +239,7 @@ module _ {S : Type 0} (m : Meaning S) (f : ℕ) (c : Conf) (inv : Inv m f c) (k 
     number = good.number;
     replicas = good.replicas;
     pending = λ q e. absurd cc;
-    kept = λ y i. absurd (has_none y i);
+    kept = λ y i. absurd (Has-none y i);
     once = λ i. omega arith;
   }
 
@@ -271,6 +271,6 @@ module _ {S : Type 0} (m : Meaning S) (f : ℕ) (c : Conf) (inv : Inv m f c) (k 
         installed_once = inv.installed_once;
         controllers = inv.controllers;
         lines = good_lines ev;
-        clients = put_all (GoodClient f d) c.clients k (accepts s p.id leaders) good_client
+        clients = put-all (GoodClient f d) c.clients k (accepts s p.id leaders) good_client
             (λ i a. client_lasts m f c d ev i (c.clients i) (inv.clients i));
       })

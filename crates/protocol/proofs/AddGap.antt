@@ -7,7 +7,7 @@ use Rattle.nop_types.specs.Meaning.{Meaning}
 use Rattle.oum_receiver.specs.Receiving.{advanced}
 use Rattle.oum_receiver.proofs.Stamps.{advanced_stamped}
 use Rattle.started_views.specs.Past.{LeaderHad}
-use Rattle.started_views.proofs.Lists.{has_none}
+use Rattle.facts.proofs.Members.{Has-none}
 use Rattle.protocol.specs.Conf.{Conf, after}
 use Rattle.protocol.specs.Invariant.{Own, Inv}
 use Rattle.protocol.specs.Member.{Member, leader}
@@ -50,7 +50,7 @@ module _ {S : Type 0} (m : Meaning S) (f : ℕ) (c : Conf) (r : ℕ) (inv : Inv 
         last = λ a none e. absurd (follows_it m f c r inv within may.follows a);
       }) (λ d ev had. said_unless f d p (GapRep (length p.log + 1))
       (answered m f c r inv within d ev (p.log ++ NoOp ∷ []) (length p.log + 1) may had (next_slot p.log NoOp)) false)
-      (λ d had y i. absurd (has_none y i))
+      (λ d had y i. absurd (Has-none y i))
     where
       view : p.last_normal ≡ p.view
       view = own.place.normal may.normal

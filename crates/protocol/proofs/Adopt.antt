@@ -6,11 +6,11 @@ use Rattle.nop_types.specs.declared.request.Entry.TheVariants.{NoOp, Req}
 use Rattle.nop_types.specs.Lists.{IsPrefixOf}
 use Rattle.nop_types.specs.Meaning.{Meaning}
 use Rattle.nop_types.specs.Views.{leader_of}
-use Rattle.histories.proofs.Lists.{Has-prefix}
+use Rattle.facts.proofs.Prefixes.{Has-prefix, IsPrefixOf-shorter}
 use Rattle.log_merge.specs.Starting.{Start}
 use Rattle.started_views.specs.Past.{IsStart}
-use Rattle.started_views.proofs.Lists.{has_none}
-use Rattle.started_views.proofs.Slots.{prefix_both, prefix_slot}
+use Rattle.facts.proofs.Members.{Has-none}
+use Rattle.facts.proofs.Slots.{slot_of-prefix}
 use Rattle.protocol.specs.Conf.{Conf, after}
 use Rattle.protocol.specs.Invariant.{Own, Inv}
 use Rattle.protocol.specs.Member.{Member}
@@ -18,7 +18,8 @@ use Rattle.protocol.specs.Moves.{adopt, MayAdopt}
 use Rattle.protocol.specs.Said.{StartView, says}
 use Rattle.protocol.specs.Truth.{Begun}
 use Rattle.protocol.proofs.Growing.{Kept}
-use Rattle.protocol.proofs.Stays.{some_same, log_lasts}
+use Rattle.facts.proofs.Options.{same_Some-at}
+use Rattle.protocol.proofs.Stays.{log_lasts}
 use Rattle.protocol.proofs.Places.{below_of}
 use Rattle.protocol.proofs.Adopting.{adopted_keeps}
 
@@ -36,8 +37,8 @@ module _ {S : Type 0} (m : Meaning S) (f : ℕ) (c : Conf) (r : ℕ) (inv : Inv 
       let n = e.leads v said.lead said.leads in
       let good = log_lasts m f c d e (leader_of v (2 * f + 1)) v said.lead (inv.logs (leader_of v (2 * f + 1)) v said.lead said.leads) in
       let is_start : IsStart d.past v said.start = e.starts v said.start said.is_start in
-      let same : good.start ≡ said.start = some_same (d.past.start v) good.start said.start good.is_start is_start in
-      let begins : IsPrefixOf good.start.log l = prefix_both good.start.log l said.lead good.begins said.begins
+      let same : good.start ≡ said.start = same_Some-at (d.past.start v) good.start said.start good.is_start is_start in
+      let begins : IsPrefixOf good.start.log l = IsPrefixOf-shorter good.start.log l said.lead good.begins said.begins
       (omega (arith, ap (λ (y : Start). length y.log) same, said.within)) in
       record {
         log = record {
@@ -46,8 +47,8 @@ module _ {S : Type 0} (m : Meaning S) (f : ℕ) (c : Conf) (r : ℕ) (inv : Inv 
           lead = n.0;
           leads = n.1;
           begins = begins;
-          by_number = λ k y a h. good.by_number k y a (prefix_slot l said.lead k (Req y) said.begins h);
-          noops = λ k a h. prefix_slot said.lead n.0 k NoOp n.2 (prefix_slot l said.lead k NoOp said.begins h);
+          by_number = λ k y a h. good.by_number k y a (slot_of-prefix l said.lead k (Req y) said.begins h);
+          noops = λ k a h. slot_of-prefix said.lead n.0 k NoOp n.2 (slot_of-prefix l said.lead k NoOp said.begins h);
           submitted = λ y i. good.submitted y (Has-prefix l said.lead (Req y) said.begins i);
           announced = λ a. absurd (follows a);
           settled = λ a. absurd (follows a);
@@ -55,7 +56,7 @@ module _ {S : Type 0} (m : Meaning S) (f : ℕ) (c : Conf) (r : ℕ) (inv : Inv 
         counted = subst (λ (y : Start). x + length y.log ≡ y.next + length l) (sym same) said.counted;
         base = λ a. absurd (follows a);
         started = λ a. absurd (follows a);
-        words = λ y i. absurd (has_none y i);
+        words = λ y i. absurd (Has-none y i);
       })
     where
       said : Begun f c (leader_of v p.replicas) v x l

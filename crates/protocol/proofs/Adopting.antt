@@ -11,8 +11,10 @@ use Rattle.nop_types.specs.Views.{AtMost, Below, is_view, leader_of}
 use Rattle.oum_receiver.specs.Receiving.{advanced}
 use Rattle.oum_receiver.proofs.Stamps.{opened_stamped, advanced_stamped}
 use Rattle.started_views.specs.Past.{HadLog, IsStart, with_log, with_entry, entered_with, started_with}
-use Rattle.started_views.proofs.Past.{is_same_from, is_same_true, both_true, not_true, log_here, log_places, log_cases, entry_places, entry_cases, start_here, start_places, start_cases}
-use Rattle.started_views.proofs.Views.{at_most_both, is_view_same, is_view_apart}
+use Rattle.std.proofs.lemmas.Bool.{eq-eqb, eqb-true, and_parts}
+use Rattle.facts.proofs.Bools.{not-both}
+use Rattle.started_views.proofs.Past.{log_here, log_places, log_cases, entry_places, entry_cases, start_here, start_places, start_cases}
+use Rattle.facts.proofs.Views.{is_view-same, is_view-apart, AtMost-antisym}
 use Rattle.oum_receiver.specs.Receiving as receiving
 use Rattle.protocol.specs.Conf.{Conf, after}
 use Rattle.protocol.specs.Evolves.{Evolves}
@@ -60,10 +62,10 @@ module _ {S : Type 0} (m : Meaning S) (f : ℕ) (c : Conf) (r : ℕ) (inv : Inv 
         let reached : AtMost v p.last_normal =
         subst (λ (y : View). AtMost y p.last_normal) b (subst (λ (i : ℕ). AtMost w (c.replicas i).last_normal) a
         (inv.reached q w k h)) in
-        below.apart (at_most_both p.last_normal v below.at_most reached)
+        below.apart (AtMost-antisym p.last_normal v below.at_most reached)
 
     is_leader : starts ≡ true → r ≡ leader_of v (2 * f + 1)
-    is_leader e = is_same_true r (leader_of v (2 * f + 1)) (both_true (not (is_view v p.last_normal)) (r == leader_of v (2 * f + 1)) e).1
+    is_leader e = eqb-true r (leader_of v (2 * f + 1)) (and_parts (not (is_view v p.last_normal)) (r == leader_of v (2 * f + 1)) e).1
 
     forward : Forward c d r
     forward = record {
@@ -72,7 +74,7 @@ module _ {S : Type 0} (m : Meaning S) (f : ℕ) (c : Conf) (r : ℕ) (inv : Inv 
         | inl (a, b, t) ↦
             let reached : AtMost v p.view =
             subst (λ (y : View). AtMost y p.view) t (subst (λ (i : ℕ). AtMost w (c.replicas i).view) b (inv.entries q w o h).reached) in
-            absurd (not_true (is_view v p.view) a (is_view_same v p.view (at_most_both v p.view reached up)))
+            absurd (not-both (is_view v p.view) a (is_view-same v p.view (AtMost-antisym v p.view reached up)))
         | inr g ↦ g ∙ h
       ];
       starts = λ w y h. elim (start_places starts v (started_with (standing s)) c.past w) [
@@ -114,8 +116,8 @@ module _ {S : Type 0} (m : Meaning S) (f : ℕ) (c : Conf) (r : ℕ) (inv : Inv 
 
     pub begun : r ≡ leader_of v (2 * f + 1) → IsStart d.past v (started_with (standing s))
     begun mine =
-        let apart : is_view v p.last_normal ≡ false = is_view_apart v p.last_normal (λ e. below.apart (sym e)) in
-        let same : (r == leader_of v (2 * f + 1)) ≡ true = is_same_from r (leader_of v (2 * f + 1)) mine in
+        let apart : is_view v p.last_normal ≡ false = is_view-apart v p.last_normal (λ e. below.apart (sym e)) in
+        let same : (r == leader_of v (2 * f + 1)) ≡ true = eq-eqb r (leader_of v (2 * f + 1)) mine in
         start_here starts v (started_with (standing s)) (with_entry rises r v (entered_with (standing p)) (with_log r v l c.past))
         (rw (apart, same) refl)
 

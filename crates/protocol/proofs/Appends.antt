@@ -15,13 +15,14 @@ use Rattle.nop_types.specs.Meaning.{Meaning}
 use Rattle.nop_types.specs.Stamps.{WasStamped}
 use Rattle.nop_types.specs.Views.{leader_of}
 use Rattle.gap_agree.specs.Agreement.{Agreement}
-use Rattle.histories.proofs.Lists.{Has-one, Has-append_cases}
+use Rattle.facts.proofs.Members.{Has-append_cases, Has-one}
 use Rattle.log_merge.specs.Starting.{Start}
 use Rattle.oum_receiver.specs.Receiving.{Receiving}
 use Rattle.oum_receiver.specs.Runs.{IsStampedBy}
 use Rattle.started_views.specs.Past.{HadLog, LeaderHad}
 use Rattle.started_views.proofs.Logs.{toward_append}
-use Rattle.started_views.proofs.Slots.{prefix_slot, prefix_trans, slot_last, slot_push_cases}
+use Rattle.facts.proofs.Slots.{slot_of-prefix, slot_of-last, slot_of-push_cases}
+use Rattle.facts.proofs.Prefixes.{IsPrefixOf-trans}
 use Rattle.protocol.specs.Conf.{Conf, Effect, DidSay, WasSubmitted, after}
 use Rattle.protocol.specs.Evolves.{Evolves}
 use Rattle.protocol.specs.Invariant.{GoodLog, TrueReply, Waits, Own, Inv}
@@ -30,7 +31,8 @@ use Rattle.protocol.specs.Said.{Said, GapCommit, says}
 use Rattle.protocol.specs.Truth.{TrueWord}
 use Rattle.protocol.proofs.Growing.{Kept}
 use Rattle.protocol.proofs.Local.{Turns, local_keeps_saying}
-use Rattle.protocol.proofs.Stays.{some_same, log_lasts, own_lasts, stamped_lasts, submitted_lasts, settled_lasts, waits_last}
+use Rattle.facts.proofs.Options.{same_Some-at}
+use Rattle.protocol.proofs.Stays.{log_lasts, own_lasts, stamped_lasts, submitted_lasts, settled_lasts, waits_last}
 use Rattle.protocol.proofs.Facts.{push_length}
 use Rattle.protocol.specs.Conf as conf
 
@@ -81,12 +83,12 @@ module _ {S : Type 0} (m : Meaning S) (f : ℕ) (c : Conf) (r : ℕ) (inv : Inv 
       own = own_lasts m f c d ev r p (inv.own r within)
 
       same_start : good.start ≡ own.place.start
-      same_start = some_same (d.past.start p.last_normal) good.start own.place.start good.is_start own.place.is_start
+      same_start = same_Some-at (d.past.start p.last_normal) good.start own.place.start good.is_start own.place.is_start
 
       numbered : (k : ℕ) (q : Request) → length good.start.log < k → slot_of l k ≡ Some (Req q)
           → WasStamped d.stamps p.last_normal.session (good.start.next + (k - length good.start.log - 1)) q
       numbered k q a h =
-          elim (slot_push_cases p.log x k (Req q) h) [
+          elim (slot_of-push_cases p.log x k (Req q) h) [
             | inl (at, this) ↦
                 let counted : p.next + length good.start.log ≡ good.start.next + length p.log =
                 subst (λ (y : Start). p.next + length y.log ≡ y.next + length p.log) (sym same_start) own.place.counted in
@@ -105,7 +107,7 @@ module _ {S : Type 0} (m : Meaning S) (f : ℕ) (c : Conf) (r : ℕ) (inv : Inv 
       announced : r ≡ leader_of p.last_normal (2 * f + 1) → (k : ℕ) → length good.start.log < k → slot_of l k ≡ Some NoOp
           → (f ≡ 0) ⊎ DidSay d.said r p.last_normal (GapCommit k)
       announced a k b h =
-          elim (slot_push_cases p.log x k NoOp h) [
+          elim (slot_of-push_cases p.log x k NoOp h) [
             | inl (at, this) ↦ elim (may.announced (sym this) a) [
               | inl none ↦ inl none
               | inr i ↦
@@ -130,7 +132,7 @@ module _ {S : Type 0} (m : Meaning S) (f : ℕ) (c : Conf) (r : ℕ) (inv : Inv 
       settled : r ≡ leader_of p.last_normal (2 * f + 1) → (k : ℕ) → length good.start.log < k → k < length l → slot_of l k ≡ Some NoOp
           → conf.Settled f d.said p.last_normal k
       settled a k b low h =
-          elim (slot_push_cases p.log x k NoOp h) [
+          elim (slot_of-push_cases p.log x k NoOp h) [
             | inl (at, this) ↦ absurd (omega (arith, at, low, push_length p.log x))
             | inr old ↦ elim (cases_eq k (length p.log)) [
               | inl is ↦ was_last a k b is old
@@ -145,7 +147,7 @@ module _ {S : Type 0} (m : Meaning S) (f : ℕ) (c : Conf) (r : ℕ) (inv : Inv 
         is_start = good.is_start;
         lead = k;
         leads = led;
-        begins = prefix_trans good.start.log p.log l good.begins (x ∷ [], refl);
+        begins = IsPrefixOf-trans good.start.log p.log l good.begins (x ∷ [], refl);
         by_number = numbered;
         noops = noops;
         submitted = submitted;
@@ -156,15 +158,15 @@ module _ {S : Type 0} (m : Meaning S) (f : ℕ) (c : Conf) (r : ℕ) (inv : Inv 
       follower_noop : (r ≡ leader_of p.last_normal (2 * f + 1) → ⊥) → (i : ℕ) → length good.start.log < i → slot_of l i ≡ Some NoOp
           → slot_of good.lead i ≡ Some NoOp
       follower_noop other i a h =
-          elim (slot_push_cases p.log x i NoOp h) [
+          elim (slot_of-push_cases p.log x i NoOp h) [
             | inl (at, this) ↦
                 let k = may.noop (sym this) other in
                 let n = ev.leads p.last_normal k.0 k.1 in
                 let same : n.0 ≡ good.lead =
-                some_same (d.past.log (leader_of p.last_normal (2 * f + 1)) p.last_normal) n.0 good.lead n.1 good.leads in
+                same_Some-at (d.past.log (leader_of p.last_normal (2 * f + 1)) p.last_normal) n.0 good.lead n.1 good.leads in
                 subst (λ (j : ℕ). slot_of good.lead j ≡ Some NoOp) (sym at)
                 (subst (λ (y : List Entry). slot_of y (suc (length p.log)) ≡ Some NoOp) same
-                (prefix_slot k.0 n.0 (suc (length p.log)) NoOp n.2 k.2))
+                (slot_of-prefix k.0 n.0 (suc (length p.log)) NoOp n.2 k.2))
             | inr old ↦ good.noops i a old
           ]
 
@@ -177,8 +179,8 @@ module _ {S : Type 0} (m : Meaning S) (f : ℕ) (c : Conf) (r : ℕ) (inv : Inv 
       last : r ≡ leader_of p.view (2 * f + 1) → gap ≡ None → slot_of l (length l) ≡ Some NoOp → conf.Settled f d.said p.view (length l)
       last a none h =
           let len = push_length p.log x in
-          let end : slot_of l (length l) ≡ Some x = subst (λ (j : ℕ). slot_of l j ≡ Some x) (sym len) (slot_last p.log x) in
-          let is : x ≡ NoOp = some_same (slot_of l (length l)) x NoOp end h in
+          let end : slot_of l (length l) ≡ Some x = subst (λ (j : ℕ). slot_of l j ≡ Some x) (sym len) (slot_of-last p.log x) in
+          let is : x ≡ NoOp = same_Some-at (slot_of l (length l)) x NoOp end h in
           subst (conf.Settled f d.said p.view) (sym len) (settled_lasts m f c d ev p.view (suc (length p.log)) (may.last a none is))
 
       own_after : Own f d r s

@@ -6,7 +6,7 @@ use Rattle.nop_types.specs.declared.replica_state.Vote.TheVariants.{Settled, Wai
 use Rattle.nop_types.specs.Meaning.{Meaning}
 use Rattle.gap_agree.specs.Agreement.{Agreement, counted}
 use Rattle.gap_agree.specs.Votes.{vote_of, with_vote}
-use Rattle.started_views.proofs.Lists.{has_none}
+use Rattle.facts.proofs.Members.{Has-none}
 use Rattle.protocol.specs.Conf.{Conf, DidSay, after}
 use Rattle.protocol.specs.Evolves.{Evolves}
 use Rattle.protocol.specs.Invariant.{GoodLog, Waits, Own, Inv}
@@ -70,8 +70,8 @@ module _ {S : Type 0} (m : Meaning S) (f : ℕ) (c : Conf) (r : ℕ) (inv : Inv 
         let o : Own f d r p = own_lasts m f c d ev r p own in
         record {
           log = log_same d ev;
-          said = λ y i. absurd (has_none y i);
-          replies = λ y i. absurd (has_none y i);
+          said = λ y i. absurd (Has-none y i);
+          replies = λ y i. absurd (Has-none y i);
           own = record {
             number = o.number;
             replicas = o.replicas;

@@ -5,7 +5,7 @@ use Rattle.nop_types.specs.declared.replica_state.Vote.{Vote}
 use Rattle.nop_types.specs.declared.replica_state.Vote.TheVariants.{Settled, Waiting}
 use Rattle.nop_types.specs.Lists.{Has}
 use Rattle.nop_types.specs.Meaning.{Meaning}
-use Rattle.started_views.proofs.Lists.{has_none}
+use Rattle.facts.proofs.Members.{Has-none}
 use Rattle.protocol.specs.Conf.{Conf, after}
 use Rattle.protocol.specs.Invariant.{Own, Inv}
 use Rattle.protocol.specs.Member.{Member, others}
@@ -24,7 +24,7 @@ module _ {S : Type 0} (m : Meaning S) (f : ℕ) (c : Conf) (r : ℕ) (inv : Inv 
 
   commits : (d : Conf) (k : ℕ) (v : Vote) (y : Said) → Has (commit_if p k v) y → TrueWord f d y.sender y.view y.word
   commits d k Settled y i = said_unless f d p (SyncCommit k) tt (others p == 0) y i
-  commits d k Waiting y i = absurd (has_none y i)
+  commits d k Waiting y i = absurd (Has-none y i)
 
   pub count_sync_vote_keeps : (q k : ℕ) → Kept m f c (after f c r (count_sync_vote p q k))
   count_sync_vote_keeps q k = speaks m f c r inv within (count_sync_vote p q k).state.sync (count_sync_vote p q k).said

@@ -8,12 +8,13 @@ use Rattle.nop_types.specs.declared.request.Entry.{Entry}
 use Rattle.nop_types.specs.Lists.{Has}
 use Rattle.nop_types.specs.Meaning.{Meaning}
 use Rattle.nop_types.specs.Views.{AtMost, Below, is_view, leader_of}
-use Rattle.histories.proofs.Lists.{Has-one, Has-append_cases}
+use Rattle.facts.proofs.Members.{Has-append_cases, Has-one, Has-first, Has-none}
 use Rattle.oum_receiver.proofs.Stamps.{opened_stamped}
 use Rattle.started_views.specs.Past.{Past, HadLog, with_log, entered_with, started_with}
-use Rattle.started_views.proofs.Lists.{has_first, has_none}
-use Rattle.started_views.proofs.Past.{is_same_true, both_true, not_true, log_here, log_places, log_cases, entry_here, entry_places, entry_cases, start_places, start_cases}
-use Rattle.started_views.proofs.Views.{at_most_refl, at_most_trans, at_most_both, is_view_same, is_view_apart}
+use Rattle.std.proofs.lemmas.Bool.{eqb-true, and_parts}
+use Rattle.facts.proofs.Bools.{not-both}
+use Rattle.started_views.proofs.Past.{log_here, log_places, log_cases, entry_here, entry_places, entry_cases, start_places, start_cases}
+use Rattle.facts.proofs.Views.{is_view-same, is_view-apart, AtMost-refl, AtMost-trans, AtMost-antisym}
 use Rattle.view_change.specs.Gathering.{Gathering}
 use Rattle.nop_types.specs.declared.peer.Change as peer
 use Rattle.oum_receiver.specs.Receiving as receiving
@@ -29,10 +30,11 @@ use Rattle.protocol.proofs.Saying.{said_unless}
 use Rattle.protocol.proofs.Growing.{Kept, Forward, grows_keeps}
 use Rattle.protocol.proofs.Facts.{half_of}
 use Rattle.protocol.proofs.Replying.{leads_from}
-use Rattle.protocol.proofs.Stays.{some_same, own_lasts}
+use Rattle.facts.proofs.Options.{same_Some-at}
+use Rattle.protocol.proofs.Stays.{own_lasts}
 
 not_self : (w : View) (b : Bool) → (not (is_view w w) && b) ≡ true → ⊥
-not_self w b e = not_true (is_view w w) (both_true (not (is_view w w)) b e).0 (is_view_same w w refl)
+not_self w b e = not-both (is_view w w) (and_parts (not (is_view w w)) b e).0 (is_view-same w w refl)
 
 module _ {S : Type 0} (m : Meaning S) (f : ℕ) (c : Conf) (r : ℕ) (inv : Inv m f c) (within : r < 2 * f + 1) (v : View)
     (up : Below (c.replicas r).view v) where
@@ -47,13 +49,13 @@ module _ {S : Type 0} (m : Meaning S) (f : ℕ) (c : Conf) (r : ℕ) (inv : Inv 
 
   below : Below p.last_normal v
   below = record {
-    at_most = at_most_trans p.last_normal p.view v (normal_low m f c r inv within) up.at_most;
-    apart = λ e. up.apart (at_most_both p.view v up.at_most (subst (λ (w : View). AtMost w p.view) e (normal_low m f c r inv within)));
+    at_most = AtMost-trans p.last_normal p.view v (normal_low m f c r inv within) up.at_most;
+    apart = λ e. up.apart (AtMost-antisym p.view v up.at_most (subst (λ (w : View). AtMost w p.view) e (normal_low m f c r inv within)));
   }
 
   -- whose change it keeps
   mine : leads t ≡ true → r ≡ leader_of v (2 * f + 1)
-  mine e = sym own.number ∙ sym (is_same_true (leader t) p.number e) ∙ ap (leader_of v) own.replicas
+  mine e = sym own.number ∙ sym (eqb-true (leader t) p.number e) ∙ ap (leader_of v) own.replicas
 
   others_are : others t ≡ f
   others_are = half_of f p.replicas own.replicas
@@ -63,7 +65,7 @@ module _ {S : Type 0} (m : Meaning S) (f : ℕ) (c : Conf) (r : ℕ) (inv : Inv 
 
   same_log : (q : ℕ) (w : View) (l : List Entry) → q ≡ r → w ≡ p.last_normal → HadLog c.past q w l → l ≡ p.log
   same_log q w l a b h =
-      some_same (c.past.log r p.last_normal) l p.log (subst (λ (i : ℕ). c.past.log i p.last_normal ≡ Some l) a
+      same_Some-at (c.past.log r p.last_normal) l p.log (subst (λ (i : ℕ). c.past.log i p.last_normal ≡ Some l) a
       (subst (λ (x : View). c.past.log q x ≡ Some l) b h)) (inv.current r within)
 
   at_place : (past : Past) (q : ℕ) (w : View) (l : List Entry) → q ≡ r → w ≡ p.last_normal → l ≡ p.log → HadLog past r p.last_normal p.log
@@ -90,7 +92,7 @@ module _ {S : Type 0} (m : Meaning S) (f : ℕ) (c : Conf) (r : ℕ) (inv : Inv 
     count = others_are;
     change = refl;
     leads = mine is;
-    own = (own_change t, has_first (own_change t) (own_change t) [] refl, own.number);
+    own = (own_change t, Has-first (own_change t) (own_change t) [] refl, own.number);
     once = λ q. grind (arith, nat_tests);
     within = λ x i. subst (λ (y : peer.Change). y.sender < 2 * f + 1) (sym (Has-one x (own_change t) i))
         (subst (λ (j : ℕ). j < 2 * f + 1) (sym own.number) within);
@@ -143,7 +145,7 @@ module _ {S : Type 0} (m : Meaning S) (f : ℕ) (c : Conf) (r : ℕ) (inv : Inv 
         | inl (a, b, k) ↦
             let reached : AtMost v p.view =
             subst (λ (x : View). AtMost x p.view) k (subst (λ (i : ℕ). AtMost w (c.replicas i).view) b (inv.entries q w o h).reached) in
-            absurd (up.apart (at_most_both p.view v up.at_most reached))
+            absurd (up.apart (AtMost-antisym p.view v up.at_most reached))
         | inr g ↦ g ∙ h
       ];
       starts = λ w x h. elim (start_places starts p.last_normal (started_with (standing e.state)) c.past w) [
@@ -154,13 +156,13 @@ module _ {S : Type 0} (m : Meaning S) (f : ℕ) (c : Conf) (r : ℕ) (inv : Inv 
 
     here : d.past.entry r v ≡ Some (entered_with (standing p))
     here = entry_here rises r v (entered_with (standing p)) (with_log r p.last_normal p.log c.past)
-        (rw (is_view_apart v p.view (λ a. up.apart (sym a))) refl)
+        (rw (is_view-apart v p.view (λ a. up.apart (sym a))) refl)
 
     enters_keeps : ((d : Conf) → d.past.entry r v ≡ Some (entered_with (standing p))
         → GoodChanges f d.past r v Change (entered_with (standing p)) g)
         → ((d : Conf) → d.past.entry r v ≡ Some (entered_with (standing p)) → (y : Said) → Has said y
         → TrueWord f d y.sender y.view y.word) → Kept m f c d
-    enters_keeps changes words = grows_keeps m f c r e inv within forward up.at_most (at_most_refl p.last_normal) below (λ ev.
+    enters_keeps changes words = grows_keeps m f c r e inv within forward up.at_most (AtMost-refl p.last_normal) below (λ ev.
         let o : Own f d r p = own_lasts m f c d ev r p own in
         record {
           logs = λ q w l h. elim (log_cases c.past r p.last_normal p.log q w l h) [
@@ -177,7 +179,7 @@ module _ {S : Type 0} (m : Meaning S) (f : ℕ) (c : Conf) (r : ℕ) (inv : Inv 
           ];
           current = log_here c.past r p.last_normal p.log;
           said = words d here;
-          replies = λ y i. absurd (has_none y i);
+          replies = λ y i. absurd (Has-none y i);
           own = record {
             number = o.number;
             replicas = o.replicas;

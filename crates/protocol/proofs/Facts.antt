@@ -5,10 +5,10 @@ use Rattle.std.proofs.lemmas.Bool.{cases_eq, cases_lt}
 use Rattle.std.proofs.lemmas.Bool.Decides.{nat_tests}
 use Rattle.nop_types.specs.Lists.{Has, slot_of}
 use Rattle.started_views.specs.Quorums.{counts}
-use Rattle.started_views.proofs.Lists.{has_first, has_rest, has_none, has_cases}
+use Rattle.facts.proofs.Members.{Has-first, Has-rest, Has-none, Has-cases}
 use Rattle.started_views.proofs.Quorums.{counts_cases, counts_first, counts_rest}
 use Rattle.nop_types.specs.declared.request.Entry.{Entry}
-use Rattle.started_views.proofs.Slots.{slot_last}
+use Rattle.facts.proofs.Slots.{slot_of-last}
 
 -- ---- numbers
 
@@ -24,7 +24,7 @@ pub push_length : (l : List Entry) (x : Entry) → length (l ++ x ∷ []) ≡ su
 push_length l x = omega (arith, length-append l (x ∷ []))
 
 pub next_slot : (l : List Entry) (x : Entry) → slot_of (l ++ x ∷ []) (length l + 1) ≡ Some x
-next_slot l x = let e : suc (length l) ≡ length l + 1 = omega arith in subst (λ (i : ℕ). slot_of (l ++ x ∷ []) i ≡ Some x) e (slot_last l x)
+next_slot l x = let e : suc (length l) ≡ length l + 1 = omega arith in subst (λ (i : ℕ). slot_of (l ++ x ∷ []) i ≡ Some x) e (slot_of-last l x)
 
 pub drop_get : {A : Type 0} (s : ℕ) (l : List A) (i : ℕ) → slice_get (drop s l) i ≡ slice_get l (s + i)
 drop_get zero l i = let e : i ≡ zero + i = omega arith in ap (slice_get l) e
@@ -35,12 +35,12 @@ drop_get (suc s) (x ∷ l) i = let e : suc (s + i) ≡ suc s + i = omega arith i
 
 pub counts_has : (xs : List ℕ) (k : ℕ) → 1 ≤ counts k xs → Has xs k
 counts_has [] k h = absurd (omega (arith, h))
-counts_has (x ∷ xs) k h = elim (counts_cases k x xs h) [ inl e ↦ has_first k x xs (sym e) | inr i ↦ has_rest k x xs (counts_has xs k i) ]
+counts_has (x ∷ xs) k h = elim (counts_cases k x xs h) [ inl e ↦ Has-first k x xs (sym e) | inr i ↦ Has-rest k x xs (counts_has xs k i) ]
 
 pub has_counts : (xs : List ℕ) (k : ℕ) → Has xs k → 1 ≤ counts k xs
-has_counts [] k h = absurd (has_none k h)
+has_counts [] k h = absurd (Has-none k h)
 has_counts (x ∷ xs) k h =
-    elim (has_cases k x xs h) [
+    elim (Has-cases k x xs h) [
       | inl e ↦ subst (λ (j : ℕ). 1 ≤ counts j (x ∷ xs)) (sym e) (counts_first x xs)
       | inr i ↦
           counts_rest k x xs (has_counts xs k i)
@@ -93,16 +93,6 @@ module _ {A : Type 0} (number : A → ℕ) where
   pub counts_member : (xs : List A) (r : ℕ) → 1 ≤ counts r (map number xs) → (x : A) × Has xs x × (number x ≡ r)
   counts_member [] r h = absurd (omega (arith, h))
   counts_member (x ∷ xs) r h = elim (counts_cases r (number x) (map number xs) h) [
-    | inl e ↦ (x, has_first x x xs refl, e)
-    | inr i ↦ let g = counts_member xs r i in (g.0, has_rest g.0 x xs g.1, g.2)
+    | inl e ↦ (x, Has-first x x xs refl, e)
+    | inr i ↦ let g = counts_member xs r i in (g.0, Has-rest g.0 x xs g.1, g.2)
   ]
-
--- what is found is a member of which the test holds
-found_at : {A : Type 0} (g : A → Bool) (x y : A) (xs : List A) (b : Bool) → g x ≡ b → (find g xs ≡ Some y → Has xs y × (g y ≡ true))
-    → cond b (Some x) (find g xs) ≡ Some y → Has (x ∷ xs) y × (g y ≡ true)
-found_at g x y xs true t rest e = let same : x ≡ y = cc in (has_first y x xs (sym same), subst (λ z. g z ≡ true) same t)
-found_at g x y xs false t rest e = let h = rest e in (has_rest y x xs h.0, h.1)
-
-pub find_has : {A : Type 0} (g : A → Bool) (xs : List A) (y : A) → find g xs ≡ Some y → Has xs y × (g y ≡ true)
-find_has g [] y e = absurd cc
-find_has g (x ∷ xs) y e = found_at g x y xs (g x) refl (find_has g xs y) e

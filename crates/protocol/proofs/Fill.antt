@@ -10,7 +10,8 @@ use Rattle.nop_types.specs.Views.{leader_of}
 use Rattle.log_merge.specs.Starting.{Start}
 use Rattle.oum_receiver.specs.Receiving.{advanced}
 use Rattle.oum_receiver.proofs.Stamps.{advanced_stamped}
-use Rattle.started_views.proofs.Lists.{has_none, prefix_length}
+use Rattle.facts.proofs.Members.{Has-none}
+use Rattle.facts.proofs.Prefixes.{length-prefix}
 use Rattle.protocol.specs.Conf.{Conf, after}
 use Rattle.protocol.specs.Invariant.{Own, Inv}
 use Rattle.protocol.specs.Member.{Member, leads, leader}
@@ -21,7 +22,7 @@ use Rattle.protocol.specs.Truth.{LeaderHas}
 use Rattle.protocol.proofs.Appends.{append_keeps}
 use Rattle.protocol.proofs.Growing.{Kept}
 use Rattle.protocol.proofs.Replying.{reply_true}
-use Rattle.protocol.proofs.Stays.{some_same}
+use Rattle.facts.proofs.Options.{same_Some-at}
 use Rattle.protocol.proofs.Places.{follows_it, follows_last, by_number}
 use Rattle.protocol.proofs.Facts.{next_slot}
 
@@ -47,7 +48,7 @@ module _ {S : Type 0} (m : Meaning S) (f : ℕ) (c : Conf) (r : ℕ) (inv : Inv 
         queued = λ stamps h. advanced_stamped stamps p.receiver (p.next + 1) h;
         waits = λ g e. absurd (follows_it m f c r inv within may.follows (own.gap.waits g e).leads);
         last = λ a none e. absurd cc;
-      }) (λ d ev had y i. absurd (has_none y i)) (λ d had. reply_true m f d (appended p (Req q)) own.replicas
+      }) (λ d ev had y i. absurd (Has-none y i)) (λ d had. reply_true m f d (appended p (Req q)) own.replicas
       (by_number m f c r inv within d (p.log ++ Req q ∷ []) view had) (length p.log + 1) q (next_slot p.log (Req q))
       (leads (appended p (Req q))) refl)
     where
@@ -63,10 +64,10 @@ module _ {S : Type 0} (m : Meaning S) (f : ℕ) (c : Conf) (r : ℕ) (inv : Inv 
           let mine = inv.logs r p.last_normal p.log (inv.current r within) in
           let is_start : c.past.start p.view ≡ Some own.place.start =
           subst (λ (w : View). c.past.start w ≡ Some own.place.start) view own.place.is_start in
-          let same : good.start ≡ own.place.start = some_same (c.past.start p.view) good.start own.place.start good.is_start is_start in
+          let same : good.start ≡ own.place.start = same_Some-at (c.past.start p.view) good.start own.place.start good.is_start is_start in
           let low : length own.place.start.log ≤ length p.log = subst (λ (y : Start). length y.log ≤ length p.log)
-          (some_same (c.past.start p.last_normal) mine.start own.place.start mine.is_start own.place.is_start)
-          (prefix_length mine.start.log p.log mine.begins) in
+          (same_Some-at (c.past.start p.last_normal) mine.start own.place.start mine.is_start own.place.is_start)
+          (length-prefix mine.start.log p.log mine.begins) in
           let lens : length good.start.log ≡ length own.place.start.log = ap (λ (y : Start). length y.log) same in
           let counted : p.next + length good.start.log ≡ good.start.next + length p.log =
           subst (λ (y : Start). p.next + length y.log ≡ y.next + length p.log) (sym same) own.place.counted in

@@ -1,7 +1,7 @@
 -- The move `install` of a sequencer.
 use Rattle.std.proofs.Common.{ℕ, refl, inl, inr, arith}
 use Rattle.nop_types.specs.Meaning.{Meaning}
-use Rattle.started_views.proofs.Slots.{prefix_refl}
+use Rattle.facts.proofs.Prefixes.{IsPrefixOf-refl}
 use Rattle.sequencer.specs.declared.state.SequencerState.{SequencerState}
 use Rattle.protocol.specs.Conf.{Conf}
 use Rattle.protocol.specs.Evolves.{Onward}
@@ -9,7 +9,7 @@ use Rattle.protocol.specs.Invariant.{GoodSequencer, Inv}
 use Rattle.protocol.specs.Moves.{install, MayInstall}
 use Rattle.protocol.proofs.Growing.{Kept, lines_last}
 use Rattle.protocol.proofs.Outside.{outside_keeps}
-use Rattle.protocol.proofs.Puts.{put_all}
+use Rattle.facts.proofs.Functions.{put-all}
 use Rattle.protocol.proofs.Stays.{onward_refl, client_lasts}
 
 module _ {S : Type 0} (m : Meaning S) (f : ℕ) (c : Conf) (inv : Inv m f c) where
@@ -31,8 +31,8 @@ module _ {S : Type 0} (m : Meaning S) (f : ℕ) (c : Conf) (inv : Inv m f c) whe
         requests = λ x i. i;
         stamps = λ p i. i;
         installs = λ x i. i;
-        lines = prefix_refl c.lines;
-        sequencers = put_all (λ n t. Onward (c.sequencers n) t) c.sequencers j now (record {
+        lines = IsPrefixOf-refl c.lines;
+        sequencers = put-all (λ n t. Onward (c.sequencers n) t) c.sequencers j now (record {
           session = omega (arith, may.later);
           next = λ e. absurd (omega (arith, may.later, e));
         }) (λ n a. onward_refl (c.sequencers n));
@@ -43,7 +43,7 @@ module _ {S : Type 0} (m : Meaning S) (f : ℕ) (c : Conf) (inv : Inv m f c) whe
         requests = λ x i. inl i;
         stamps = λ p i. inl i;
         stamped_once = inv.stamped_once;
-        sequencers = put_all (λ n t. GoodSequencer c.installs n t) c.sequencers j now (record {
+        sequencers = put-all (λ n t. GoodSequencer c.installs n t) c.sequencers j now (record {
           number = (inv.sequencers j).number;
           owns = λ one. inr may.sent;
           low = omega arith;

@@ -1,13 +1,13 @@
 -- The move `installed` of a controller.
 use Rattle.std.proofs.Common.{◌≡◌, ℕ, ◌≤◌, true, refl, sym, ◌∙◌, inl, arith}
 use Rattle.nop_types.specs.Meaning.{Meaning}
-use Rattle.started_views.proofs.Slots.{prefix_refl}
+use Rattle.facts.proofs.Prefixes.{IsPrefixOf-refl}
 use Rattle.protocol.specs.Conf.{Conf, Control, home}
 use Rattle.protocol.specs.Invariant.{GoodControl, Inv}
 use Rattle.protocol.specs.Moves.{installed}
 use Rattle.protocol.proofs.Growing.{Kept, lines_last}
 use Rattle.protocol.proofs.Outside.{outside_keeps}
-use Rattle.protocol.proofs.Puts.{put_all}
+use Rattle.facts.proofs.Functions.{put-all}
 use Rattle.protocol.proofs.Stays.{onward_refl, client_lasts}
 
 module _ {S : Type 0} (m : Meaning S) (f : ℕ) (c : Conf) (inv : Inv m f c) where
@@ -29,9 +29,9 @@ module _ {S : Type 0} (m : Meaning S) (f : ℕ) (c : Conf) (inv : Inv m f c) whe
         requests = λ x i. i;
         stamps = λ p i. i;
         installs = λ x i. i;
-        lines = prefix_refl c.lines;
+        lines = IsPrefixOf-refl c.lines;
         sequencers = λ i. onward_refl (c.sequencers i);
-        controllers = put_all (λ n t. (c.controllers n).session ≤ t.session) c.controllers k now (omega arith) (λ n a. omega arith);
+        controllers = put-all (λ n t. (c.controllers n).session ≤ t.session) c.controllers k now (omega arith) (λ n a. omega arith);
         last_ids = λ i. omega arith;
       })
       (λ ev. record {
@@ -41,11 +41,11 @@ module _ {S : Type 0} (m : Meaning S) (f : ℕ) (c : Conf) (inv : Inv m f c) whe
         sequencers = inv.sequencers;
         installs = λ x i.
             let t = inv.installs x i in
-            let same = put_all (λ n y. (y.session ≡ (c.controllers n).session) × (y.current ≡ (c.controllers n).current)) c.controllers k
+            let same = put-all (λ n y. (y.session ≡ (c.controllers n).session) × (y.current ≡ (c.controllers n).current)) c.controllers k
             now (refl, refl) (λ n a. (refl, refl)) (home x.session) in
             record { low = t.low; known = omega (arith, t.known, same.0); current = λ e. t.current (e ∙ same.0) ∙ sym same.1 };
         installed_once = inv.installed_once;
-        controllers = put_all (λ n t. GoodControl c.installs t) c.controllers k now (record {
+        controllers = put-all (λ n t. GoodControl c.installs t) c.controllers k now (record {
           low = (inv.controllers k).low;
           given = λ e. absurd cc;
         }) (λ n a. inv.controllers n);

@@ -1,19 +1,17 @@
 -- The move of a client that keeps a reply.
 use Rattle.std.proofs.Common.{◌≡◌, ℕ, ◌<◌, ◌≤◌, true, not, Option, Some, None, refl, sym, subst, inl, inr, arith, [], ◌∷◌, map}
 use Rattle.std.specs.Prelude.{◌==◌, ◌&&◌, nat_lt, filter}
-use Rattle.std.proofs.lemmas.Bool.{cases_eq}
+use Rattle.std.proofs.lemmas.Bool.{cases_eq, eqb-true, and_parts}
 use Rattle.std.proofs.lemmas.Bool.Decides.{nat_tests}
 use Rattle.std.proofs.lemmas.List.{append-nil}
 use Rattle.nop_types.specs.declared.request.Request.{Request}
 use Rattle.nop_types.specs.declared.datagram.Reply.{Reply}
 use Rattle.nop_types.specs.Lists.{Has}
 use Rattle.nop_types.specs.Meaning.{Meaning}
-use Rattle.histories.proofs.Lists.{Has-append_cases, Has-one}
+use Rattle.facts.proofs.Members.{Has-append_cases, Has-one, Has-none, Has-from_filter}
 use Rattle.started_views.specs.Quorums.{counts}
-use Rattle.started_views.proofs.Lists.{has_none, has_from_filter}
-use Rattle.started_views.proofs.Past.{both_true, is_same_true}
-use Rattle.started_views.proofs.Slots.{prefix_refl}
-use Rattle.client_quorum.specs.declared.client_state.ClientState.{ClientState}
+use Rattle.facts.proofs.Prefixes.{IsPrefixOf-refl}
+use Rattle.client_quorum.specs.declared.state.ClientState.{ClientState}
 use Rattle.client_quorum.specs.ClientSteps.{is_of, kept}
 use Rattle.client_quorum.specs.KeptReplies.{keep_reply}
 use Rattle.protocol.specs.Conf.{Conf}
@@ -24,7 +22,7 @@ use Rattle.protocol.proofs.Clients.{lines_with_others}
 use Rattle.protocol.proofs.Facts.{counts_filter, counts_push, counts_left_out}
 use Rattle.protocol.proofs.Growing.{Kept}
 use Rattle.protocol.proofs.Outside.{outside_keeps}
-use Rattle.protocol.proofs.Puts.{put_all}
+use Rattle.facts.proofs.Functions.{put-all}
 use Rattle.protocol.proofs.Stays.{onward_refl, client_lasts}
 
 less_from : (a b : ℕ) → nat_lt a b ≡ true → a < b
@@ -33,7 +31,7 @@ less_from a b e = grind (arith, nat_tests, e)
 -- a request with the id is pending
 pending_from : (id : ℕ) (o : Option Request) → is_of id o ≡ true → (q : Request) × (o ≡ Some q) × (id ≡ q.id)
 pending_from id None e = absurd cc
-pending_from id (Some q) e = (q, refl, sym (is_same_true q.id id e))
+pending_from id (Some q) e = (q, refl, sym (eqb-true q.id id e))
 
 module _ {S : Type 0} (m : Meaning S) (f : ℕ) (c : Conf) (inv : Inv m f c) (k : ℕ) (p : Reply) (may : MayKeep c k p) where
   abbrev s : ClientState
@@ -47,13 +45,13 @@ module _ {S : Type 0} (m : Meaning S) (f : ℕ) (c : Conf) (inv : Inv m f c) (k 
 
   new_kept : KeptReply f c.replies s p
   new_kept =
-      let a = both_true (p.client == s.number) (is_of p.id s.pending && nat_lt p.replica s.config.replicas) may.expected in
-      let b = both_true (is_of p.id s.pending) (nat_lt p.replica s.config.replicas) a.1 in
+      let a = and_parts (p.client == s.number) (is_of p.id s.pending && nat_lt p.replica s.config.replicas) may.expected in
+      let b = and_parts (is_of p.id s.pending) (nat_lt p.replica s.config.replicas) a.1 in
       let waits = pending_from p.id s.pending b.0 in
       record {
         sent = may.sent;
         replica = omega (arith, less_from p.replica s.config.replicas b.1, good.replicas);
-        client = is_same_true p.client s.number a.0;
+        client = eqb-true p.client s.number a.0;
         request = waits.0;
         pending = waits.1;
         id = waits.2;
@@ -61,7 +59,7 @@ module _ {S : Type 0} (m : Meaning S) (f : ℕ) (c : Conf) (inv : Inv m f c) (k 
 
   all_kept : (y : Reply) → Has (keep_reply s.replies p) y → KeptReply f c.replies s y
   all_kept y i = elim (Has-append_cases (filter (λ x. not (x.replica == p.replica)) s.replies) (p ∷ []) y i) [
-    | inl old ↦ good.kept y (has_from_filter (λ x. not (x.replica == p.replica)) y s.replies old).0
+    | inl old ↦ good.kept y (Has-from_filter (λ x. not (x.replica == p.replica)) y s.replies old).0
     | inr new ↦ subst (KeptReply f c.replies s) (sym (Has-one y p new)) new_kept
   ]
 
@@ -111,10 +109,10 @@ module _ {S : Type 0} (m : Meaning S) (f : ℕ) (c : Conf) (inv : Inv m f c) (k 
         requests = λ x i. i;
         stamps = λ x i. i;
         installs = λ x i. i;
-        lines = prefix_refl c.lines;
+        lines = IsPrefixOf-refl c.lines;
         sequencers = λ j. onward_refl (c.sequencers j);
         controllers = λ i. omega arith;
-        last_ids = put_all (λ i t. (c.clients i).last_id ≤ t.last_id) c.clients k (kept s p) (omega arith) (λ i a. omega arith);
+        last_ids = put-all (λ i t. (c.clients i).last_id ≤ t.last_id) c.clients k (kept s p) (omega arith) (λ i a. omega arith);
       })
       (λ ev. record {
         requests = λ x i. inl i;
@@ -125,9 +123,9 @@ module _ {S : Type 0} (m : Meaning S) (f : ℕ) (c : Conf) (inv : Inv m f c) (k 
         installed_once = inv.installed_once;
         controllers = inv.controllers;
         lines = lines_with_others m f c d [] ev
-            (put_all (λ i t. (q : Request) → t.pending ≡ Some q → (c.clients i).pending ≡ Some q) c.clients k (kept s p) (λ q e. e)
+            (put-all (λ i t. (q : Request) → t.pending ≡ Some q → (c.clients i).pending ≡ Some q) c.clients k (kept s p) (λ q e. e)
             (λ i a q e. e))
-            (λ line i. absurd (has_none line i)) (sym (append-nil c.lines)) inv.lines;
-        clients = put_all (GoodClient f d) c.clients k (kept s p) (good_client ev)
+            (λ line i. absurd (Has-none line i)) (sym (append-nil c.lines)) inv.lines;
+        clients = put-all (GoodClient f d) c.clients k (kept s p) (good_client ev)
             (λ i a. client_lasts m f c d ev i (c.clients i) (inv.clients i));
       })

@@ -3,10 +3,9 @@ use Rattle.std.proofs.Common.{◌≡◌, ℕ, ◌+◌, ◌*◌, ◌<◌, Bool, t
 use Rattle.std.proofs.lemmas.Bool.{cases_eq}
 use Rattle.std.proofs.lemmas.Bool.Decides.{nat_tests}
 use Rattle.nop_types.specs.Meaning.{Meaning}
-use Rattle.histories.proofs.Lists.{Has-one, Has-append_left, Has-append_cases}
+use Rattle.facts.proofs.Members.{Has-append_left, Has-append_cases, Has-one, Has-none}
 use Rattle.started_views.specs.Past.{Past}
 use Rattle.started_views.specs.Quorums.{counts}
-use Rattle.started_views.proofs.Lists.{has_none}
 use Rattle.view_change.specs.Gathering.{Gathering, has_sender}
 use Rattle.view_change.proofs.Senders.{none_there}
 use Rattle.nop_types.specs.declared.peer.Change as peer
@@ -87,8 +86,8 @@ module _ {S : Type 0} (m : Meaning S) (f : ℕ) (c : Conf) (r : ℕ) (inv : Inv 
         (o.changes.gathers g may.gathers) (has_sender g.changes x.sender) refl in
         record {
           log = log_same d ev;
-          said = λ y i. absurd (has_none y i);
-          replies = λ y i. absurd (has_none y i);
+          said = λ y i. absurd (Has-none y i);
+          replies = λ y i. absurd (Has-none y i);
           own = record {
             number = o.number;
             replicas = o.replicas;

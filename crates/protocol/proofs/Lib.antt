@@ -25,7 +25,6 @@ pub mod Opening
 pub mod Outside
 pub mod Overlay
 pub mod Places
-pub mod Puts
 pub mod Queue
 pub mod Receivers
 pub mod RepeatCommit

@@ -2,14 +2,14 @@
 use Rattle.std.proofs.Common.{◌≡◌, ℕ, ◌<◌, ◌≤◌, false, refl, sym, ap, subst, ◌∙◌, inl, inr, arith}
 use Rattle.nop_types.specs.Lists.{Has}
 use Rattle.nop_types.specs.Meaning.{Meaning}
-use Rattle.started_views.proofs.Lists.{has_first, has_rest, has_cases}
-use Rattle.started_views.proofs.Slots.{prefix_refl}
+use Rattle.facts.proofs.Members.{Has-first, Has-rest, Has-cases}
+use Rattle.facts.proofs.Prefixes.{IsPrefixOf-refl}
 use Rattle.protocol.specs.Conf.{Conf, Control, Install, home}
 use Rattle.protocol.specs.Invariant.{TrueInstall, GoodControl, Inv}
 use Rattle.protocol.specs.Moves.{move_to, MayMoveTo}
 use Rattle.protocol.proofs.Growing.{Kept, lines_last}
 use Rattle.protocol.proofs.Outside.{outside_keeps}
-use Rattle.protocol.proofs.Puts.{put_all, put_same}
+use Rattle.facts.proofs.Functions.{put-here, put-all}
 use Rattle.protocol.proofs.Stays.{onward_refl, sequencer_lasts, control_lasts, client_lasts}
 
 module _ {S : Type 0} (m : Meaning S) (f : ℕ) (c : Conf) (inv : Inv m f c) (k j s : ℕ) (may : MayMoveTo c k s) where
@@ -31,7 +31,7 @@ module _ {S : Type 0} (m : Meaning S) (f : ℕ) (c : Conf) (inv : Inv m f c) (k 
   no_older i h = let low = older (record { sequencer = i; session = s }) h may.own in omega (arith, low)
 
   now_here : d.controllers (home s) ≡ now
-  now_here = subst (λ (n : ℕ). d.controllers n ≡ now) (sym may.own) (put_same c.controllers k now)
+  now_here = subst (λ (n : ℕ). d.controllers n ≡ now) (sym may.own) (put-here c.controllers k now)
 
   true_new : TrueInstall d new
   true_new = record {
@@ -45,13 +45,13 @@ module _ {S : Type 0} (m : Meaning S) (f : ℕ) (c : Conf) (inv : Inv m f c) (k 
   Known x t = (x.session ≤ t.session) × (x.session ≡ t.session → x.sequencer ≡ t.current)
 
   known : (x : Install) → Has c.installs x → Known x (d.controllers (home x.session))
-  known x i = put_all (λ n t. n ≡ home x.session → Known x t) c.controllers k now
+  known x i = put-all (λ n t. n ≡ home x.session → Known x t) c.controllers k now
       (λ e. let low = older x i (sym e) in (omega (arith, low), λ same. absurd (omega (arith, low, same))))
       (λ n a e. subst (λ (n : ℕ). Known x (c.controllers n)) (sym e) (let t = inv.installs x i in (t.known, t.current)))
       (home x.session) refl
 
   true_installs : (x : Install) → Has d.installs x → TrueInstall d x
-  true_installs x i = elim (has_cases x new c.installs i) [
+  true_installs x i = elim (Has-cases x new c.installs i) [
     | inl e ↦ subst (TrueInstall d) (sym e) true_new
     | inr old ↦ record { low = (inv.installs x old).low; known = (known x old).0; current = (known x old).1 }
   ]
@@ -59,13 +59,13 @@ module _ {S : Type 0} (m : Meaning S) (f : ℕ) (c : Conf) (inv : Inv m f c) (k 
   once : (a b n : ℕ) → Has d.installs (record { sequencer = a; session = n })
       → Has d.installs (record { sequencer = b; session = n }) → a ≡ b
   once a b n h g =
-      elim (has_cases (record { sequencer = a; session = n }) new c.installs h) [
-        | inl e ↦ elim (has_cases (record { sequencer = b; session = n }) new c.installs g) [
+      elim (Has-cases (record { sequencer = a; session = n }) new c.installs h) [
+        | inl e ↦ elim (Has-cases (record { sequencer = b; session = n }) new c.installs g) [
           | inl i ↦ ap (λ (x : Install). x.sequencer) (e ∙ sym i)
           | inr i ↦ absurd (no_older b (subst (λ (t : ℕ). Has c.installs (record { sequencer = b; session = t }))
               (ap (λ (x : Install). x.session) e) i))
         ]
-        | inr e ↦ elim (has_cases (record { sequencer = b; session = n }) new c.installs g) [
+        | inr e ↦ elim (Has-cases (record { sequencer = b; session = n }) new c.installs g) [
           | inl i ↦ absurd (no_older a (subst (λ (t : ℕ). Has c.installs (record { sequencer = a; session = t }))
               (ap (λ (x : Install). x.session) i) e))
           | inr i ↦ inv.installed_once a b n e i
@@ -85,10 +85,10 @@ module _ {S : Type 0} (m : Meaning S) (f : ℕ) (c : Conf) (inv : Inv m f c) (k 
       (record {
         requests = λ x i. i;
         stamps = λ p i. i;
-        installs = λ x i. has_rest x new c.installs i;
-        lines = prefix_refl c.lines;
+        installs = λ x i. Has-rest x new c.installs i;
+        lines = IsPrefixOf-refl c.lines;
         sequencers = λ i. onward_refl (c.sequencers i);
-        controllers = put_all (λ n t. (c.controllers n).session ≤ t.session) c.controllers k now (omega (arith, may.later))
+        controllers = put-all (λ n t. (c.controllers n).session ≤ t.session) c.controllers k now (omega (arith, may.later))
             (λ n a. omega arith);
         last_ids = λ i. omega arith;
       })
@@ -99,8 +99,8 @@ module _ {S : Type 0} (m : Meaning S) (f : ℕ) (c : Conf) (inv : Inv m f c) (k 
         sequencers = λ i. sequencer_lasts m f c d ev i (c.sequencers i) (inv.sequencers i);
         installs = true_installs;
         installed_once = once;
-        controllers = put_all (λ n t. GoodControl d.installs t) c.controllers k now
-            (record { low = omega (arith, may.later, (inv.controllers k).low); given = λ e. has_first new new c.installs refl })
+        controllers = put-all (λ n t. GoodControl d.installs t) c.controllers k now
+            (record { low = omega (arith, may.later, (inv.controllers k).low); given = λ e. Has-first new new c.installs refl })
             (λ n a. control_lasts m f c d ev (c.controllers n) (inv.controllers n));
         lines = lines_last m f c d ev refl refl inv.lines;
         clients = λ i. client_lasts m f c d ev i (c.clients i) (inv.clients i);

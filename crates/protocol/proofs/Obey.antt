@@ -1,7 +1,7 @@
 -- The move `obey`.
 use Rattle.std.proofs.Common.{ℕ, ◌+◌, ◌*◌, ◌<◌, []}
 use Rattle.nop_types.specs.Meaning.{Meaning}
-use Rattle.started_views.proofs.Lists.{has_none}
+use Rattle.facts.proofs.Members.{Has-none}
 use Rattle.protocol.specs.Conf.{Conf, after}
 use Rattle.protocol.specs.Invariant.{Own, Inv}
 use Rattle.protocol.specs.Member.{Member}
@@ -17,4 +17,4 @@ module _ {S : Type 0} (m : Meaning S) (f : ℕ) (c : Conf) (r : ℕ) (inv : Inv 
   own = inv.own r within
 
   pub obey_keeps : (k : ℕ) → Kept m f c (after f c r (obey p k))
-  obey_keeps k = speaks m f c r inv within (obey p k).state.sync [] (λ d ev had y i. absurd (has_none y i))
+  obey_keeps k = speaks m f c r inv within (obey p k).state.sync [] (λ d ev had y i. absurd (Has-none y i))

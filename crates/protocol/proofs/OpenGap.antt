@@ -13,8 +13,8 @@ use Rattle.gap_agree.specs.Agreement.{Agreement, begun}
 use Rattle.gap_agree.specs.Votes.{vote_of}
 use Rattle.oum_receiver.specs.Receiving.{advanced}
 use Rattle.oum_receiver.proofs.Stamps.{advanced_stamped}
-use Rattle.started_views.proofs.Lists.{has_first, has_none}
-use Rattle.started_views.proofs.Past.{is_same_true}
+use Rattle.facts.proofs.Members.{Has-first, Has-none}
+use Rattle.std.proofs.lemmas.Bool.{eqb-true}
 use Rattle.protocol.specs.Conf.{Conf, after}
 use Rattle.protocol.specs.Invariant.{Waits, Own, Inv}
 use Rattle.protocol.specs.Member.{Member, others}
@@ -54,7 +54,7 @@ module _ {S : Type 0} (m : Meaning S) (f : ℕ) (c : Conf) (r : ℕ) (inv : Inv 
         lead = l;
         leads = subst (λ (i : ℕ). d.past.log i p.view ≡ Some l) mine (subst (λ (w : View). d.past.log r w ≡ Some l) view had);
         entry = next_slot p.log NoOp;
-      }) (others p == 0)) (λ d had y i. absurd (has_none y i))
+      }) (others p == 0)) (λ d had y i. absurd (Has-none y i))
     where
       l : List Entry
       l = p.log ++ NoOp ∷ []
@@ -70,8 +70,8 @@ module _ {S : Type 0} (m : Meaning S) (f : ℕ) (c : Conf) (r : ℕ) (inv : Inv 
 
       told : (b : Bool) → (others p == 0) ≡ b
           → (f ≡ 0) ⊎ Has (say_unless b p (GapCommit (length p.log + 1))) (says r p.last_normal (GapCommit (suc (length p.log))))
-      told true e = inl (sym count ∙ is_same_true (others p) 0 e)
-      told false e = inr (has_first _ _ [] (let n : suc (length p.log) ≡ length p.log + 1 = omega arith in
+      told true e = inl (sym count ∙ eqb-true (others p) 0 e)
+      told false e = inr (Has-first _ _ [] (let n : suc (length p.log) ≡ length p.log + 1 = omega arith in
           λ i. record { sender = sym own.number i; view = view i; word = GapCommit (n i) }))
 
       waits : (v : Vote) (g : Agreement) → unless_settled (begun (length p.log + 1) (others p)) v ≡ Some g

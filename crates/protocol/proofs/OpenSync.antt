@@ -5,7 +5,7 @@ use Rattle.nop_types.specs.declared.view.View.{View}
 use Rattle.nop_types.specs.Meaning.{Meaning}
 use Rattle.nop_types.specs.Views.{leader_of}
 use Rattle.started_views.specs.Past.{HadLog}
-use Rattle.started_views.proofs.Slots.{prefix_refl}
+use Rattle.facts.proofs.Prefixes.{IsPrefixOf-refl}
 use Rattle.protocol.specs.Conf.{Conf, after}
 use Rattle.protocol.specs.Evolves.{Evolves}
 use Rattle.protocol.specs.Invariant.{Own, Inv}
@@ -45,6 +45,6 @@ module _ {S : Type 0} (m : Meaning S) (f : ℕ) (c : Conf) (r : ℕ) (inv : Inv 
             is_start = subst (λ (w : View). d.past.start w ≡ Some o.place.start) view o.place.is_start;
             lead = p.log;
             leads = subst (λ (i : ℕ). d.past.log i p.view ≡ Some p.log) mine (subst (λ (w : View). d.past.log r w ≡ Some p.log) view had);
-            begins = prefix_refl p.log;
+            begins = IsPrefixOf-refl p.log;
             settled = λ a e. o.gap.last mine may.may_lead.normal may.no_gap (omega (arith, a, base)) e;
           }

@@ -9,12 +9,14 @@ use Rattle.nop_types.specs.Lists.{Has, slot_of}
 use Rattle.nop_types.specs.Meaning.{Meaning}
 use Rattle.nop_types.specs.Views.{Below}
 use Rattle.log_merge.specs.Merge.{merge}
-use Rattle.log_merge.specs.Starting.{Start, kept, opened}
+use Rattle.log_merge.specs.Starting.{Start, kept, start_of}
 use Rattle.log_merge.proofs.Winners.{Winner, Nobody, Somebody, winner}
 use Rattle.started_views.specs.Past.{LeaderHad, IsStart, started_with}
 use Rattle.started_views.proofs.Changes.{kept_from}
-use Rattle.started_views.proofs.Slots.{prefix_refl, slot_within, take_whole}
-use Rattle.started_views.proofs.Views.{at_most_refl}
+use Rattle.facts.proofs.Slots.{slot_of-within}
+use Rattle.facts.proofs.Prefixes.{IsPrefixOf-refl}
+use Rattle.std.proofs.Math.Seq.{take-length}
+use Rattle.facts.proofs.Views.{AtMost-refl}
 use Rattle.view_change.specs.Gathering.{Gathering, IsOfSender}
 use Rattle.nop_types.specs.declared.peer.Change as peer
 use Rattle.protocol.specs.Conf.{Conf, WasSubmitted, after}
@@ -47,7 +49,7 @@ module _ {S : Type 0} (m : Meaning S) (f : ℕ) (c : Conf) (r : ℕ) (inv : Inv 
 
   module _ (g : Gathering) (may : MayOpenView p g) where
     abbrev s : Start
-    s = opened g.view g.changes
+    s = start_of g.view g.changes
 
     was : Gathers f c.past r p.view p.status g
     was = own.changes.gathers g may.gathers
@@ -61,14 +63,14 @@ module _ {S : Type 0} (m : Meaning S) (f : ℕ) (c : Conf) (r : ℕ) (inv : Inv 
     start_parts : (x : ℕ) (l : List Entry) → started_with (standing (adopted p p.view x l)) ≡ record { next = x; log = l }
     start_parts x l =
         let a : x - (length l - length l) ≡ x = omega arith in
-        let b : take (length l) l ≡ l = take_whole l in
+        let b : take (length l) l ≡ l = take-length l in
         cc
 
     same_start : started_with (standing (adopted p p.view s.next s.log)) ≡ s
     same_start = start_parts s.next s.log
 
     out : (k : ℕ) (y : Entry) → length s.log < k → slot_of s.log k ≡ Some y → ⊥
-    out k y a e = omega (arith, a, (slot_within s.log k y e).1)
+    out k y a e = omega (arith, a, (slot_of-within s.log k y e).1)
 
     merged : (q : Request) → Has s.log (Req q) → WasSubmitted c.lines q
     merged q (i, e) =
@@ -81,11 +83,11 @@ module _ {S : Type 0} (m : Meaning S) (f : ℕ) (c : Conf) (r : ℕ) (inv : Inv 
     -- the view starts with what is merged
     pub view_starts : IsStart (after f c r (open_view m p g)).past p.view s
     view_starts = subst (IsStart (after f c r (open_view m p g)).past p.view) same_start
-        (begun m f c r inv within p.view s.next s.log (say_all p (StartView s.next s.log)) (at_most_refl p.view) below was.leads)
+        (begun m f c r inv within p.view s.next s.log (say_all p (StartView s.next s.log)) (AtMost-refl p.view) below was.leads)
 
     pub open_view_keeps : Kept m f c (after f c r (open_view m p g))
     open_view_keeps = adopted_keeps m f c r inv within p.view s.next s.log (say_all p (StartView s.next s.log))
-        (at_most_refl p.view) below (λ e here starts.
+        (AtMost-refl p.view) below (λ e here starts.
         let d = after f c r (open_view m p g) in
         let t : Gathers f d.past r p.view p.status g = (own_lasts m f c d e r p own).changes.gathers g may.gathers in
         let is_start : IsStart d.past p.view s = subst (IsStart d.past p.view) same_start (starts t.leads) in
@@ -96,7 +98,7 @@ module _ {S : Type 0} (m : Meaning S) (f : ℕ) (c : Conf) (r : ℕ) (inv : Inv 
             is_start = is_start;
             lead = s.log;
             leads = led;
-            begins = prefix_refl s.log;
+            begins = IsPrefixOf-refl s.log;
             by_number = λ k y a h. absurd (out k (Req y) a h);
             noops = λ k a h. h;
             submitted = λ y i. submitted_lasts m f c d e y (merged y i);
@@ -113,7 +115,7 @@ module _ {S : Type 0} (m : Meaning S) (f : ℕ) (c : Conf) (r : ℕ) (inv : Inv 
               changes = g.changes;
               certificate = record { enough = omega (arith, may.enough, t.count); once = t.once; within = t.within; entries = t.entries };
               leader = subst (IsOfSender g.changes) t.leads t.own;
-              opens = same_start ∙ ap (λ (w : View). opened w g.changes) t.view;
+              opens = same_start ∙ ap (λ (w : View). start_of w g.changes) t.view;
             };
           };
           words = said_unless f d p (StartView s.next s.log) (record {
@@ -123,7 +125,7 @@ module _ {S : Type 0} (m : Meaning S) (f : ℕ) (c : Conf) (r : ℕ) (inv : Inv 
             lead = s.log;
             leads = led;
             within = omega arith;
-            begins = prefix_refl s.log;
+            begins = IsPrefixOf-refl s.log;
             counted = refl;
           }) (others p == 0);
         })

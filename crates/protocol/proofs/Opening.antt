@@ -11,17 +11,19 @@ use Rattle.nop_types.specs.Views.{AtMost, first_view, leader_of}
 use Rattle.log_merge.specs.Starting.{Start}
 use Rattle.oum_receiver.proofs.Stamps.{opened_stamped}
 use Rattle.started_views.specs.Past.{HadLog, LeaderHad}
-use Rattle.started_views.proofs.Lists.{has_none}
-use Rattle.started_views.proofs.Past.{first_log, first_start, is_same_true}
-use Rattle.started_views.proofs.Slots.{prefix_refl, slot_within}
-use Rattle.started_views.proofs.Views.{at_most_refl}
+use Rattle.facts.proofs.Members.{Has-none}
+use Rattle.std.proofs.lemmas.Bool.{eqb-true}
+use Rattle.started_views.proofs.Past.{first_log, first_start}
+use Rattle.facts.proofs.Slots.{slot_of-within}
+use Rattle.facts.proofs.Prefixes.{IsPrefixOf-refl}
+use Rattle.facts.proofs.Views.{AtMost-refl}
 use Rattle.protocol.specs.Conf.{Conf, opening}
 use Rattle.protocol.specs.Invariant.{GoodSequencer, GoodLog, Own, Inv}
 use Rattle.protocol.specs.Laws.{OpeningMeets}
 use Rattle.protocol.specs.Member.{fresh}
 
 none_there : (x : Entry) (k : ℕ) → slot_of [] k ≡ Some x → ⊥
-none_there x k e = let h = slot_within [] k x e in omega (arith, h.0, h.1)
+none_there x k e = let h = slot_of-within [] k x e in omega (arith, h.0, h.1)
 
 abbrev first_start_of : Start
 first_start_of = record { next = 1; log = [] }
@@ -39,16 +41,16 @@ module _ {S : Type 0} (m : Meaning S) (f : ℕ) (config : Configuration) (count 
     is_start = refl;
     lead = [];
     leads = had_first (leader_of first_view (2 * f + 1));
-    begins = prefix_refl [];
+    begins = IsPrefixOf-refl [];
     by_number = λ k q a e. absurd (none_there (Req q) k e);
     noops = λ k a e. absurd (none_there NoOp k e);
-    submitted = λ q i. absurd (has_none _ i);
+    submitted = λ q i. absurd (Has-none _ i);
     announced = λ s k a e. absurd (none_there NoOp k e);
     settled = λ s k a b e. absurd (none_there NoOp k e);
   }
 
   sequencer_good : (j : ℕ) (b : Bool) → (j == 0) ≡ b → GoodSequencer [] j (record { number = j; session = if b then 1 else 0; next = 1 })
-  sequencer_good j true e = record { number = refl; owns = λ one. inl (is_same_true j 0 e, refl); low = omega arith }
+  sequencer_good j true e = record { number = refl; owns = λ one. inl (eqb-true j 0 e, refl); low = omega arith }
   sequencer_good j false e = record { number = refl; owns = λ one. absurd (omega (arith, one)); low = omega arith }
 
   own_good : (r : ℕ) → Own f c r (fresh config.replicas r)
@@ -70,16 +72,16 @@ module _ {S : Type 0} (m : Meaning S) (f : ℕ) (config : Configuration) (count 
 
   pub opening_holds : Inv m f c
   opening_holds = record {
-    requests = λ r i. absurd (has_none r i);
-    stamps = λ p i. absurd (has_none p i);
-    stamped_once = λ session number a b h g. absurd (has_none _ h);
+    requests = λ r i. absurd (Has-none r i);
+    stamps = λ p i. absurd (Has-none p i);
+    stamped_once = λ session number a b h g. absurd (Has-none _ h);
     sequencers = λ j. sequencer_good j (j == 0) refl;
-    installs = λ x i. absurd (has_none x i);
-    installed_once = λ i j s h g. absurd (has_none _ h);
+    installs = λ x i. absurd (Has-none x i);
+    installed_once = λ i j s h g. absurd (Has-none _ h);
     controllers = λ k. record { low = omega arith; given = λ e. absurd cc };
     logs = λ r w l h. let g = first_log r w l h in
         subst (λ (x : View). GoodLog f c r x l) (sym g.0) (subst (GoodLog f c r first_view) (sym g.1) (first_log_good r));
-    reached = λ r w l h. let g = first_log r w l h in subst (λ (x : View). AtMost x first_view) (sym g.0) (at_most_refl first_view);
+    reached = λ r w l h. let g = first_log r w l h in subst (λ (x : View). AtMost x first_view) (sym g.0) (AtMost-refl first_view);
     starts = λ w x h.
         let g = first_start w x h in
         record {
@@ -91,23 +93,23 @@ module _ {S : Type 0} (m : Meaning S) (f : ℕ) (config : Configuration) (count 
     entries = λ r v e h. absurd cc;
     chain = λ r v w d e h g. absurd cc;
     between = λ r v w e l h g. absurd cc;
-    said = λ x i. absurd (has_none x i);
-    replies = λ p i. absurd (has_none p i);
+    said = λ x i. absurd (Has-none x i);
+    replies = λ p i. absurd (Has-none p i);
     current = λ r l. had_first r;
     own = λ r l. own_good r;
     lines = record {
       submitted_once = λ k l p q h g same. absurd cc;
-      submitted_ids = λ q i. absurd (has_none _ i);
+      submitted_ids = λ q i. absurd (Has-none _ i);
       accepted_once = λ k l client id a b h g. absurd cc;
-      accepted_ids = λ client id result i. absurd (has_none _ i);
-      accepted_done = λ client id result i. absurd (has_none _ i);
+      accepted_ids = λ client id result i. absurd (Has-none _ i);
+      accepted_done = λ client id result i. absurd (Has-none _ i);
       grounds = λ k client id result e. absurd cc;
     };
     clients = λ k. record {
       number = refl;
       replicas = count;
       pending = λ q e. absurd cc;
-      kept = λ p i. absurd (has_none p i);
+      kept = λ p i. absurd (Has-none p i);
       once = λ r. omega arith;
     };
   }

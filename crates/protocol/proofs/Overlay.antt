@@ -9,7 +9,7 @@ use Rattle.oum_receiver.specs.Receiving.{advanced}
 use Rattle.oum_receiver.proofs.Stamps.{advanced_stamped}
 use Rattle.started_views.specs.Past.{LeaderHad}
 use Rattle.started_views.proofs.Logs.{toward_laid}
-use Rattle.started_views.proofs.Slots.{prefix_slot, laid_length, slot_laid_cases}
+use Rattle.facts.proofs.Slots.{slot_of-prefix, length-laid, slot_of-laid_cases}
 use Rattle.sync_points.specs.Synchronisation.{taken}
 use Rattle.protocol.specs.Conf.{Conf, after}
 use Rattle.protocol.specs.Invariant.{Own, Inv}
@@ -40,8 +40,8 @@ module _ {S : Type 0} (m : Meaning S) (f : ℕ) (c : Conf) (r : ℕ) (inv : Inv 
         lead = t.lead;
         leads = subst (λ (w : View). LeaderHad f c.past w t.lead) (sym view) t.leads;
         toward = toward_laid t.lead l p.log t.begins;
-        from = λ i x h. elim (slot_laid_cases l p.log i x h) [ inl new ↦ inr (prefix_slot l t.lead i x t.begins new) | inr old ↦ inl old ];
-        counted = omega (arith, laid_length l p.log);
+        from = λ i x h. elim (slot_of-laid_cases l p.log i x h) [ inl new ↦ inr (slot_of-prefix l t.lead i x t.begins new) | inr old ↦ inl old ];
+        counted = omega (arith, length-laid l p.log);
         session = refl;
         number = refl;
         queued = λ stamps h. advanced_stamped stamps p.receiver n h;

@@ -5,10 +5,10 @@ use Rattle.nop_types.specs.declared.request.Entry.{Entry}
 use Rattle.nop_types.specs.Meaning.{Meaning}
 use Rattle.nop_types.specs.Views.{leader_of, AtMost, Below}
 use Rattle.started_views.specs.Past.{HadLog}
-use Rattle.started_views.proofs.Past.{is_same_true}
+use Rattle.std.proofs.lemmas.Bool.{eqb-true}
 use Rattle.nop_types.specs.declared.replica_state.Phase.{Phase}
 use Rattle.nop_types.specs.declared.replica_state.Phase.TheVariants.{Normal, Change}
-use Rattle.started_views.proofs.Views.{at_most_refl, at_most_trans, at_most_both}
+use Rattle.facts.proofs.Views.{AtMost-refl, AtMost-trans, AtMost-antisym}
 use Rattle.protocol.specs.Conf.{Conf}
 use Rattle.protocol.specs.Invariant.{Own, Inv}
 use Rattle.protocol.specs.Member.{Member, leads, leader}
@@ -28,21 +28,21 @@ module _ {S : Type 0} (m : Meaning S) (f : ℕ) (c : Conf) (r : ℕ) (inv : Inv 
   normal_low = at p.status refl
     where
       at : (s : Phase) → p.status ≡ s → AtMost p.last_normal p.view
-      at Normal e = subst (AtMost p.last_normal) (own.place.normal e) (at_most_refl p.last_normal)
+      at Normal e = subst (AtMost p.last_normal) (own.place.normal e) (AtMost-refl p.last_normal)
       at Change e = (own.place.change e).at_most
 
   pub below_of : (v : View) → AtMost p.view v → (p.view ≡ v → p.status ≡ Change) → Below p.last_normal v
   below_of v up change = record {
-    at_most = at_most_trans p.last_normal p.view v normal_low up;
+    at_most = AtMost-trans p.last_normal p.view v normal_low up;
     apart = λ e.
-        let there : p.view ≡ v = at_most_both p.view v up (subst (λ (w : View). AtMost w p.view) e normal_low) in
+        let there : p.view ≡ v = AtMost-antisym p.view v up (subst (λ (w : View). AtMost w p.view) e normal_low) in
         (own.place.change (change there)).apart (e ∙ sym there);
   }
 
   -- who leads, and who follows
 
   pub leads_it : leads p ≡ true → r ≡ leader_of p.view (2 * f + 1)
-  leads_it e = sym own.number ∙ sym (is_same_true (leader p) p.number e) ∙ ap (leader_of p.view) own.replicas
+  leads_it e = sym own.number ∙ sym (eqb-true (leader p) p.number e) ∙ ap (leader_of p.view) own.replicas
 
   pub follows_it : leads p ≡ false → r ≡ leader_of p.view (2 * f + 1) → ⊥
   follows_it e a = let yes = leads_from f p own.replicas (own.number ∙ a) in cc

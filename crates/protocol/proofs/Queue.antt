@@ -7,7 +7,7 @@ use Rattle.oum_receiver.specs.declared.verdict.Verdict.{Verdict}
 use Rattle.oum_receiver.specs.declared.verdict.Verdict.TheVariants.{Queued, Old, Terminated, Full}
 use Rattle.oum_receiver.specs.Receiving.{Receiving, verdict_of, judged}
 use Rattle.oum_receiver.proofs.Stamps.{offered_stamped}
-use Rattle.started_views.proofs.Lists.{has_none}
+use Rattle.facts.proofs.Members.{Has-none}
 use Rattle.protocol.specs.Conf.{Conf, after}
 use Rattle.protocol.specs.Evolves.{Evolves}
 use Rattle.protocol.specs.Invariant.{GoodLog, Own, Inv}
@@ -41,8 +41,8 @@ module _ {S : Type 0} (m : Meaning S) (f : ℕ) (c : Conf) (r : ℕ) (inv : Inv 
       let same = offered_same p.receiver (verdict_of p.receiver x) x in
       record {
         log = log_same d ev;
-        said = λ y i. absurd (has_none y i);
-        replies = λ y i. absurd (has_none y i);
+        said = λ y i. absurd (Has-none y i);
+        replies = λ y i. absurd (Has-none y i);
         own = record {
           number = o.number;
           replicas = o.replicas;

@@ -6,10 +6,9 @@ use Rattle.nop_types.specs.declared.request.Entry.TheVariants.{NoOp}
 use Rattle.nop_types.specs.Lists.{Has, slot_of}
 use Rattle.nop_types.specs.Meaning.{Meaning}
 use Rattle.started_views.specs.Past.{HadLog}
-use Rattle.started_views.proofs.Lists.{has_none}
-use Rattle.started_views.proofs.Slots.{prefix_slot}
+use Rattle.facts.proofs.Members.{Has-none, Has-one}
+use Rattle.facts.proofs.Slots.{slot_of-prefix}
 use Rattle.sync_points.specs.Synchronisation.{Synchronisation}
-use Rattle.histories.proofs.Lists.{Has-one}
 use Rattle.protocol.specs.Conf.{Conf, after}
 use Rattle.protocol.specs.Evolves.{Evolves}
 use Rattle.protocol.specs.Invariant.{Own, Inv, GoodLog}
@@ -25,7 +24,7 @@ use Rattle.protocol.proofs.Places.{follows_it, by_number}
 -- what is said unless the replica is alone
 pub said_unless : (f : ℕ) (d : Conf) (p : Member) (x : Word) → TrueWord f d p.number p.view x → (b : Bool) (y : Said)
     → Has (say_unless b p x) y → TrueWord f d y.sender y.view y.word
-said_unless f d p x t true y i = absurd (has_none y i)
+said_unless f d p x t true y i = absurd (Has-none y i)
 said_unless f d p x t false y i = subst (λ (z : Said). TrueWord f d z.sender z.view z.word) (sym (Has-one y (says p.number p.view x) i)) t
 
 -- what may be said again is true
@@ -61,7 +60,7 @@ module _ {S : Type 0} (m : Meaning S) (f : ℕ) (c : Conf) (r : ℕ) (inv : Inv 
       record {
         log = log_same d ev;
         said = words d ev had;
-        replies = λ y i. absurd (has_none y i);
+        replies = λ y i. absurd (Has-none y i);
         own = record { number = o.number; replicas = o.replicas; place = o.place; queue = o.queue; gap = o.gap; changes = o.changes };
       })
 
@@ -78,5 +77,5 @@ module _ {S : Type 0} (m : Meaning S) (f : ℕ) (c : Conf) (r : ℕ) (inv : Inv 
         noop = e;
         lead = n.0;
         leads = n.1;
-        leads_noop = prefix_slot t.lead n.0 k NoOp n.2 t.entry;
+        leads_noop = slot_of-prefix t.lead n.0 k NoOp n.2 t.entry;
       }

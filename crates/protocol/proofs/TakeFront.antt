@@ -7,7 +7,7 @@ use Rattle.nop_types.specs.Meaning.{Meaning}
 use Rattle.nop_types.specs.Stamps.{WasStamped}
 use Rattle.oum_receiver.specs.Receiving.{front_taken}
 use Rattle.oum_receiver.proofs.Stamps.{front_stamped, taken_stamped}
-use Rattle.started_views.proofs.Lists.{has_none}
+use Rattle.facts.proofs.Members.{Has-none}
 use Rattle.protocol.specs.Conf.{Conf, after}
 use Rattle.protocol.specs.Invariant.{Own, Inv}
 use Rattle.protocol.specs.Member.{Member, leads}
@@ -39,7 +39,7 @@ module _ {S : Type 0} (m : Meaning S) (f : ℕ) (c : Conf) (r : ℕ) (inv : Inv 
         queued = λ stamps h. taken_stamped stamps p.receiver h;
         waits = λ g e. absurd (let none = may.no_gap in cc);
         last = λ a none e. absurd cc;
-      }) (λ d ev had y i. absurd (has_none y i))
+      }) (λ d ev had y i. absurd (Has-none y i))
       (λ d had. reply_true m f d (logged p q) own.replicas (by_number m f c r inv within d (p.log ++ Req q ∷ []) view had)
       (length p.log + 1) q (next_slot p.log (Req q)) (leads (logged p q)) refl)
     where

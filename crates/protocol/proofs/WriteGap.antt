@@ -7,9 +7,9 @@ use Rattle.nop_types.specs.Lists.{slot_of}
 use Rattle.nop_types.specs.Meaning.{Meaning}
 use Rattle.nop_types.specs.Slots.{set_slot}
 use Rattle.started_views.specs.Past.{LeaderHad}
-use Rattle.started_views.proofs.Lists.{has_none}
+use Rattle.facts.proofs.Members.{Has-none}
 use Rattle.started_views.proofs.Logs.{toward_write}
-use Rattle.started_views.proofs.Slots.{slot_within, set_length, slot_of_set, slot_set_cases}
+use Rattle.facts.proofs.Slots.{slot_of-within, length-set_slot, slot_of-set_here, slot_of-set_cases}
 use Rattle.protocol.specs.Conf.{Conf, after}
 use Rattle.protocol.specs.Invariant.{Own, Inv}
 use Rattle.protocol.specs.Member.{Member, leader}
@@ -36,17 +36,17 @@ module _ {S : Type 0} (m : Meaning S) (f : ℕ) (c : Conf) (r : ℕ) (inv : Inv 
         lead = t.lead;
         leads = subst (λ (w : View). LeaderHad f c.past w t.lead) (sym (own.place.normal may.may_follow.normal)) t.leads;
         toward = toward_write t.lead p.log k NoOp t.entry;
-        from = λ i x h. elim (slot_set_cases p.log k NoOp i x h) [
+        from = λ i x h. elim (slot_of-set_cases p.log k NoOp i x h) [
           | inl (a, b) ↦ inr (subst (λ (j : ℕ). slot_of t.lead j ≡ Some x) (sym a)
               (subst (λ (y : Entry). slot_of t.lead k ≡ Some y) (sym b) t.entry))
           | inr old ↦ inl old
         ];
-        counted = omega (arith, set_length p.log k NoOp);
+        counted = omega (arith, length-set_slot p.log k NoOp);
         session = refl;
         number = own.queue.front may.may_follow.normal;
         queued = λ stamps h. h;
       }) (λ d ev had. said_unless f d p (GapRep k) (answered m f c r inv within d ev (set_slot p.log k NoOp) k may.may_follow had
-      (slot_of_set p.log k NoOp (slot_within t.lead k NoOp t.entry).0 may.within)) false) (λ d had y i. absurd (has_none y i))
+      (slot_of-set_here p.log k NoOp (slot_of-within t.lead k NoOp t.entry).0 may.within)) false) (λ d had y i. absurd (Has-none y i))
     where
       t : LeaderHas f c (leader p) p.view k NoOp
       t = inv.said (says (leader p) p.view (GapCommit k)) may.may_follow.said

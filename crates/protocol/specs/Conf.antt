@@ -1,5 +1,6 @@
 -- The actors, what was sent, and the past beside them.
 use Rattle.std.specs.Prelude.{◌==◌, ◌⊎◌, ◌≡◌, ◌+◌, ◌*◌, ℕ, Bool, true, cond, List, [], ◌++◌, Some}
+use Rattle.facts.specs.Functions.{put}
 use Rattle.nop_types.specs.Configuration.{Configuration}
 use Rattle.nop_types.specs.declared.view.View.{View}
 use Rattle.nop_types.specs.declared.request.Request.{Request}
@@ -8,7 +9,7 @@ use Rattle.nop_types.specs.declared.datagram.Reply.{Reply}
 use Rattle.nop_types.specs.Lines.{Line, Submit}
 use Rattle.nop_types.specs.Lists.{Has}
 use Rattle.nop_types.specs.Views.{leader_of}
-use Rattle.client_quorum.specs.declared.client_state.ClientState.{ClientState}
+use Rattle.client_quorum.specs.declared.state.ClientState.{ClientState}
 use Rattle.client_quorum.specs.ClientSteps as client
 use Rattle.sequencer.specs.declared.state.SequencerState.{SequencerState}
 use Rattle.sequencer.specs.SequencerSteps as sequencer
@@ -72,10 +73,6 @@ opening config =
     }
 
 -- ---- changes
-
--- one place of a function changes
-abbrev pub put : {S : Type 0} → (ℕ → S) → ℕ → S → ℕ → S
-put states r p q = cond (q == r) p (states q)
 
 -- what a move makes of a replica, and what it sends
 pub record Effect : Type 0 where

@@ -17,9 +17,9 @@ use Rattle.nop_types.specs.Meaning.{Meaning}
 use Rattle.nop_types.specs.Stamps.{WasStamped}
 use Rattle.nop_types.specs.Views.{AtMost, Below, Comparable, first_view, leader_of}
 use Rattle.histories.specs.Legality.{SubmittedOnce}
-use Rattle.client_quorum.specs.declared.client_state.ClientState.{ClientState}
+use Rattle.client_quorum.specs.declared.state.ClientState.{ClientState}
 use Rattle.gap_agree.specs.Agreement.{Agreement}
-use Rattle.log_merge.specs.Starting.{Start, opened}
+use Rattle.log_merge.specs.Starting.{Start, start_of}
 use Rattle.oum_receiver.specs.Receiving.{Receiving}
 use Rattle.oum_receiver.specs.Runs.{IsStampedBy}
 use Rattle.sequencer.specs.declared.state.SequencerState.{SequencerState}
@@ -93,7 +93,7 @@ pub record StartedBy (f : ℕ) (past : Past) (w : View) (x : Start) : Type 0 whe
   pub changes : List peer.Change
   pub certificate : Certificate f past w changes
   pub leader : IsOfSender changes (leader_of w (2 * f + 1))
-  pub opens : x ≡ opened w changes
+  pub opens : x ≡ start_of w changes
 
 -- each view that is started: its leader had a log there, and unless it is the first view it was started by the rule
 pub record GoodStart (f : ℕ) (past : Past) (w : View) (x : Start) : Type 0 where

@@ -20,17 +20,18 @@ use Rattle.client_quorum.specs.ClientSteps.{has_none, request_of, submitted, is_
 use Rattle.client_quorum.specs.KeptReplies.{quorum_of}
 use Rattle.gap_agree.specs.Agreement.{Agreement, begun, counted}
 use Rattle.gap_agree.specs.Votes.{vote_of}
-use Rattle.log_merge.specs.Starting.{opened}
+use Rattle.log_merge.specs.Starting.{start_of}
 use Rattle.oum_receiver.specs.Front.{Message}
 use Rattle.oum_receiver.specs.Receiving as receiving
 use Rattle.oum_receiver.specs.Receiving.{Receiving, offered, front_of, front_taken, advanced}
 use Rattle.sequencer.specs.declared.state.SequencerState.{SequencerState}
 use Rattle.sequencer.specs.SequencerSteps.{stamped}
-use Rattle.sync_points.specs.Synchronisation.{cleared, told, taken, committed, vote_for}
+use Rattle.sync_points.specs.Synchronisation.{cleared, with_round, taken, committed, vote_for}
 use Rattle.sync_points.specs.Synchronisation as synchronisation
 use Rattle.view_change.specs.Gathering as gathering
 use Rattle.view_change.specs.Gathering.{Gathering}
-use Rattle.protocol.specs.Conf.{Conf, Effect, put, home, DidSay}
+use Rattle.protocol.specs.Conf.{Conf, Effect, home, DidSay}
+use Rattle.facts.specs.Functions.{put}
 use Rattle.protocol.specs.Member.{Member, leads, leader, others}
 use Rattle.protocol.specs.Replies.{reply_to, replies_above}
 use Rattle.protocol.specs.Said.{Said, Word, Plain, Found, GapCommit, GapRep, ViewChange, StartView, SyncPrepare, SyncRep, SyncCommit, says}
@@ -211,7 +212,7 @@ pub record MayAdopt (c : Conf) (p : Member) (v : View) (x : ℕ) (l : List Entry
 
 -- the leader tells all what its view starts with, and adopts it
 abbrev pub open_view : {S : Type 0} → Meaning S → Member → Gathering → Effect
-open_view m p g = let s = opened g.view g.changes in adopt_saying m (say_all p (StartView s.next s.log)) p p.view s.next s.log
+open_view m p g = let s = start_of g.view g.changes in adopt_saying m (say_all p (StartView s.next s.log)) p p.view s.next s.log
 
 pub record MayOpenView (p : Member) (g : Gathering) : Type 0 where
   pub gathers : p.changes ≡ Some g
@@ -252,7 +253,7 @@ pub record MayObey (c : Conf) (p : Member) (k : ℕ) : Type 0 where
 
 -- a leader tells its log, and waits for votes
 abbrev pub open_sync : Member → Effect
-open_sync p = record { state = record p { sync = told p.sync (length p.log) }; said = say_all p (SyncPrepare p.log); replies = [] }
+open_sync p = record { state = record p { sync = with_round p.sync (length p.log) }; said = say_all p (SyncPrepare p.log); replies = [] }
 
 pub record MayOpenSync (p : Member) : Type 0 where
   pub may_lead : MayLead p

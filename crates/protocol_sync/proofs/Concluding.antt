@@ -18,12 +18,13 @@ use Rattle.started_views.specs.Settled.{Reached, HadNoOp, Fixed, MainLog}
 use Rattle.started_views.proofs.Fixing.{accept_fixes}
 use Rattle.started_views.proofs.Keeping.{fixed_prefixes_are_kept, main_log_has_fixed}
 use Rattle.started_views.proofs.Quorums.{quorum_weaker}
-use Rattle.started_views.proofs.Slots.{prefix_refl}
+use Rattle.facts.proofs.Prefixes.{IsPrefixOf-refl}
 use Rattle.protocol.specs.Conf.{Conf, DidSay, last_normals}
 use Rattle.protocol.specs.Invariant.{Replied, Accepted, Inv}
 use Rattle.protocol.specs.Said.{GapRep, says}
 use Rattle.protocol.proofs.Grounding.{grounds_of}
-use Rattle.protocol.proofs.Stays.{some_same, others_weaker}
+use Rattle.facts.proofs.Options.{same_Some-at}
+use Rattle.protocol.proofs.Stays.{others_weaker}
 use Rattle.protocol_sync.specs.Laws.{LinesAreLegal}
 
 module _ {S : Type 0} (m : Meaning S) (f : ℕ) (c : Conf) (inv : Inv m f c) where
@@ -44,7 +45,7 @@ module _ {S : Type 0} (m : Meaning S) (f : ℕ) (c : Conf) (inv : Inv m f c) whe
         let t = inv.replies p a.leaders.sent in
         let led : LeaderHad f c.past a.view t.log = subst (λ (i : ℕ). HadLog c.past i a.view t.log) a.leaders.by
         (subst (λ (v : View). HadLog c.past p.replica v t.log) a.leaders.at_view t.had) in
-        let same : t.log ≡ a.log = some_same (c.past.log leader a.view) t.log a.log led a.leads in
+        let same : t.log ≡ a.log = same_Some-at (c.past.log leader a.view) t.log a.log led a.leads in
         let leads : p.replica ≡ leader_of p.view (2 * f + 1) = a.leaders.by ∙ ap (λ (v : View). leader_of v (2 * f + 1))
         (sym a.leaders.at_view) in
         let q = t.leads leads in
@@ -73,7 +74,7 @@ module _ {S : Type 0} (m : Meaning S) (f : ℕ) (c : Conf) (inv : Inv m f c) whe
         → Others f leader (HadNoOp c.past a.view i)
     noops i x is above low e =
         let t = inv.logs leader a.view a.log a.leads in
-        let same : t.start ≡ x = some_same (c.past.start a.view) t.start x t.is_start is in
+        let same : t.start ≡ x = same_Some-at (c.past.start a.view) t.start x t.is_start is in
         let there : length t.start.log < i = subst (λ (y : Start). length y.log < i) (sym same) above in
         others_weaker f leader (λ q. DidSay c.said q a.view (GapRep i)) (HadNoOp c.past a.view i) (had_noop i)
         (t.settled refl i there low e)
@@ -105,7 +106,7 @@ module _ {S : Type 0} (m : Meaning S) (f : ℕ) (c : Conf) (inv : Inv m f c) whe
           gives = told.gives;
           known = a.known;
         } in
-        grounds_carry m c.lines c.lines a.log main k client id result here (prefix_refl c.lines) begins
+        grounds_carry m c.lines c.lines a.log main k client id result here (IsPrefixOf-refl c.lines) begins
 
   grounded : (v : View) (main : List Entry) → MainLog f (last_normals c) c.past v main → Grounded m c.lines main
   grounded v main is = record {

@@ -15,10 +15,9 @@ use Rattle.started_views.proofs.Fixing.{sync_fixes}
 use Rattle.started_views.specs.Growing.{Grows}
 use Rattle.started_views.proofs.Growing.{fixed_stays}
 use Rattle.started_views.proofs.Keeping.{fixed_prefixes_are_kept}
-use Rattle.started_views.proofs.Lists.{prefix_length}
+use Rattle.facts.proofs.Prefixes.{length-prefix, IsPrefixOf-trans}
 use Rattle.started_views.proofs.Logs.{same_grown, same_from_prefix, toward_keeps_same}
-use Rattle.started_views.proofs.Slots.{prefix_trans}
-use Rattle.started_views.proofs.Views.{at_most_refl, at_most_trans, at_most_below}
+use Rattle.facts.proofs.Views.{AtMost-refl, AtMost-trans, Below-after_at_most}
 use Rattle.protocol.specs.Conf.{Conf, DidSay, last_normals}
 use Rattle.protocol.specs.Evolves.{Evolves}
 use Rattle.protocol.specs.Invariant.{Inv}
@@ -26,7 +25,8 @@ use Rattle.protocol.specs.Member.{Member}
 use Rattle.protocol.specs.Said.{SyncRep}
 use Rattle.protocol_sync.specs.Synced.{Synced, Anchored, Agrees, TrueSyncRep, TrueSyncCommit, GoodSync, Sync}
 use Rattle.protocol.proofs.Grounding.{grounds_of}
-use Rattle.protocol.proofs.Stays.{some_same, said_lasts, others_weaker}
+use Rattle.facts.proofs.Options.{same_Some-at}
+use Rattle.protocol.proofs.Stays.{said_lasts, others_weaker}
 
 pub same_none : (l k : List Entry) → SameTo 0 l k
 same_none l k = record { left = omega arith; right = omega arith; same = refl }
@@ -42,7 +42,7 @@ synced_fixes f c sync u s x =
             t.log,
             t.had,
             subst (SameTo s t.log)
-                (some_same (c.past.log (leader_of u (2 * f + 1)) u) t.agrees.lead x.lead t.agrees.leads x.leads) t.agrees.same,
+                (same_Some-at (c.past.log (leader_of u (2 * f + 1)) u) t.agrees.lead x.lead t.agrees.leads x.leads) t.agrees.same,
           )) x.others;
     })
 
@@ -53,22 +53,22 @@ module _ {S : Type 0} (m : Meaning S) (f : ℕ) (c d : Conf) (inv : Inv m f c) (
       record {
         lead = n.0;
         leads = n.1;
-        within = omega (arith, x.within, prefix_length x.lead n.0 n.2);
+        within = omega (arith, x.within, length-prefix x.lead n.0 n.2);
         others = others_weaker f (leader_of u (2 * f + 1)) (λ q. DidSay c.said q u (SyncRep s)) (λ q. DidSay d.said q u (SyncRep s))
             (λ q h. said_lasts m f c d ev q u (SyncRep s) h) x.others;
       }
 
   pub anchored_lasts : (w v : View) (s : ℕ) → AtMost w v → Anchored f c w s → Anchored f d v s
   anchored_lasts w v s low (inl e) = inl e
-  anchored_lasts w v s low (inr (u, a, x)) = inr (u, at_most_trans u w v a low, synced_lasts u s x)
+  anchored_lasts w v s low (inr (u, a, x)) = inr (u, AtMost-trans u w v a low, synced_lasts u s x)
 
   pub agrees_lasts : (q : ℕ) (w : View) (l j : List Entry) (s : ℕ) → HadLog c.past q w l → HadLog d.past q w j → Agrees f c w l s
       → Agrees f d w j s
   agrees_lasts q w l j s a b t =
       let g = ev.logs q w l a in
       let n = ev.leads w t.lead t.leads in
-      let same : g.0 ≡ j = some_same (d.past.log q w) g.0 j g.1 b in
-      let lead : n.0 ≡ g.2 = some_same (d.past.log (leader_of w (2 * f + 1)) w) n.0 g.2 n.1 g.3 in
+      let same : g.0 ≡ j = same_Some-at (d.past.log q w) g.0 j g.1 b in
+      let lead : n.0 ≡ g.2 = same_Some-at (d.past.log (leader_of w (2 * f + 1)) w) n.0 g.2 n.1 g.3 in
       record {
         lead = g.2;
         leads = g.3;
@@ -88,7 +88,7 @@ module _ {S : Type 0} (m : Meaning S) (f : ℕ) (c d : Conf) (inv : Inv m f c) (
   commit_lasts q w s t = record {
     sender = t.sender;
     started = (t.started.0, ev.starts w t.started.0 t.started.1);
-    anchored = anchored_lasts w w s (at_most_refl w) t.anchored;
+    anchored = anchored_lasts w w s (AtMost-refl w) t.anchored;
   }
 
   grows : Grows f c.past d.past
@@ -111,10 +111,10 @@ module _ {S : Type 0} (m : Meaning S) (f : ℕ) (c d : Conf) (inv : Inv m f c) (
     inside l here =
         let g = ev.logs q old.last_normal old.log (inv.current q within) in
         let longer : length old.log ≤ length l = subst (λ (k : List Entry). length old.log ≤ length k)
-        (some_same (d.past.log q old.last_normal) g.0 l g.1 here) g.4.longer in
+        (same_Some-at (d.past.log q old.last_normal) g.0 l g.1 here) g.4.longer in
         record {
           count = o.count;
-          anchored = anchored_lasts old.last_normal old.last_normal old.sync.sync_point (at_most_refl old.last_normal) o.anchored;
+          anchored = anchored_lasts old.last_normal old.last_normal old.sync.sync_point (AtMost-refl old.last_normal) o.anchored;
           agrees = agrees_lasts q old.last_normal old.log l old.sync.sync_point (inv.current q within) here o.agrees;
           prepared = λ one.
               let h = o.prepared one in
@@ -153,18 +153,18 @@ module _ {S : Type 0} (m : Meaning S) (f : ℕ) (c d : Conf) (inv : Inv m f c) (
               (synced_fixes f c sync u old.sync.sync_point x) in
               let good = new.logs q v l here in
               let lead = new.logs (leader_of v (2 * f + 1)) v good.lead good.leads in
-              let start : lead.start ≡ good.start = some_same (d.past.start v) lead.start good.start lead.is_start good.is_start in
+              let start : lead.start ≡ good.start = same_Some-at (d.past.start v) lead.start good.start lead.is_start good.is_start in
               let led : IsPrefixOf good.start.log good.lead = subst (λ (y : Start). IsPrefixOf y.log good.lead) start lead.begins in
               let kept : IsPrefixOf (take old.sync.sync_point n.0) good.start.log =
               fixed_prefixes_are_kept f d.stamps (last_normals d) d.past (grounds_of m f d new) u v n.0 old.sync.sync_point good.start
-              n.2 (at_most_below u old.last_normal v low below) good.is_start in
+              n.2 (Below-after_at_most u old.last_normal v low below) good.is_start in
               let long : old.sync.sync_point ≤ length (take old.sync.sync_point n.0) =
               omega (arith, length-take-le old.sync.sync_point n.0 n.2.within) in
               record {
                 lead = good.lead;
                 leads = good.leads;
                 same = same_from_prefix old.sync.sync_point (take old.sync.sync_point n.0) l good.lead long
-                    (prefix_trans (take old.sync.sync_point n.0) good.start.log l kept good.begins)
-                    (prefix_trans (take old.sync.sync_point n.0) good.start.log good.lead kept led);
+                    (IsPrefixOf-trans (take old.sync.sync_point n.0) good.start.log l kept good.begins)
+                    (IsPrefixOf-trans (take old.sync.sync_point n.0) good.start.log good.lead kept led);
               }
         ]

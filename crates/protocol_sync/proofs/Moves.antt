@@ -8,14 +8,14 @@ use Rattle.nop_types.specs.declared.datagram.Reply.{Reply}
 use Rattle.nop_types.specs.Meaning.{Meaning}
 use Rattle.nop_types.specs.Slots.{laid}
 use Rattle.nop_types.specs.Views.{AtMost, Below, leader_of}
-use Rattle.started_views.proofs.Views.{at_most_refl}
+use Rattle.facts.proofs.Views.{AtMost-refl}
 use Rattle.gap_agree.specs.Agreement.{Agreement}
-use Rattle.histories.proofs.Lists.{Has-one, Has-append_left}
+use Rattle.facts.proofs.Members.{Has-append_left, Has-one, Has-first, Has-none}
 use Rattle.oum_receiver.specs.Receiving.{Receiving}
 use Rattle.started_views.specs.Past.{HadLog}
-use Rattle.started_views.proofs.Lists.{has_first, has_none}
 use Rattle.started_views.proofs.Logs.{same_less, same_from_prefix}
-use Rattle.started_views.proofs.Slots.{prefix_trans, prefix_of_laid}
+use Rattle.facts.proofs.Slots.{IsPrefixOf-laid}
+use Rattle.facts.proofs.Prefixes.{IsPrefixOf-trans}
 use Rattle.sync_points.specs.Synchronisation.{Synchronisation}
 use Rattle.view_change.specs.Gathering.{Gathering}
 use Rattle.protocol.specs.Conf.{Conf, Effect, DidSay, after}
@@ -38,7 +38,7 @@ said_one p x y q w h =
 
 pub said_all : (b : Bool) (p : Member) (x y : Word) (q : ℕ) (w : View) → DidSay (say_unless b p x) q w y
     → (q ≡ p.number) × (w ≡ p.view) × (y ≡ x)
-said_all true p x y q w h = absurd (has_none _ h)
+said_all true p x y q w h = absurd (Has-none _ h)
 said_all false p x y q w h = said_one p x y q w h
 
 module _ {S : Type 0} (m : Meaning S) (f : ℕ) (c : Conf) (r : ℕ) (inv : Inv m f c) (sync : Sync f c) (within : r < 2 * f + 1) where
@@ -119,11 +119,11 @@ module _ {S : Type 0} (m : Meaning S) (f : ℕ) (c : Conf) (r : ℕ) (inv : Inv 
       let agrees : Agrees f d p.view (laid l p.log) (length l) = record {
         lead = n.0;
         leads = n.1;
-        same = same_from_prefix (length l) l (laid l p.log) n.0 (omega arith) (prefix_of_laid l p.log)
-            (prefix_trans l t.lead n.0 t.begins n.2);
+        same = same_from_prefix (length l) l (laid l p.log) n.0 (omega arith) (IsPrefixOf-laid l p.log)
+            (IsPrefixOf-trans l t.lead n.0 t.begins n.2);
       } in
       let told : DidSay d.said r p.view (SyncRep (length l)) =
-      Has-append_left e.said c.said _ (has_first _ _ [] (λ i. says (sym own.number i) p.view (SyncRep (length l)))) in
+      Has-append_left e.said c.said _ (Has-first _ _ [] (λ i. says (sym own.number i) p.view (SyncRep (length l)))) in
       let had : HadLog d.past r p.view (laid l p.log) = subst (λ (w : View). HadLog d.past r w (laid l p.log)) view here in
       let new : HasPrepared f d r p.view p.status (laid l p.log) (length l) = record {
         normal = may.normal;
@@ -194,7 +194,7 @@ module _ {S : Type 0} (m : Meaning S) (f : ℕ) (c : Conf) (r : ℕ) (inv : Inv 
           let g = inside m f c d inv kept.1 sync r within p.log (now m f c r e inv sync within kept) in
           let t = sync.commits (leader p) p.view k may.may_follow.said in
           let fixed : Anchored f d p.last_normal k = anchored_lasts m f c d inv kept.1 p.view p.last_normal k
-          (subst (λ (w : View). AtMost w p.last_normal) view (at_most_refl p.last_normal)) t.anchored in
+          (subst (λ (w : View). AtMost w p.last_normal) view (AtMost-refl p.last_normal)) t.anchored in
           quiet_after m f c r e inv sync within kept quiet_none (record {
             count = g.count;
             anchored = elim (cases_lt p.sync.sync_point k) [

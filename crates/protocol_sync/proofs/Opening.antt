@@ -1,14 +1,14 @@
 -- The opening meets what holds of sync points.
 use Rattle.std.proofs.Common.{refl, arith, inl, []}
-use Rattle.started_views.proofs.Lists.{has_none}
+use Rattle.facts.proofs.Members.{Has-none}
 use Rattle.started_views.proofs.Logs.{same_refl}
 use Rattle.protocol.proofs.Facts.{half_of}
 use Rattle.protocol_sync.specs.Laws.{OpeningIsSynced}
 
 pub opening_is_synced : OpeningIsSynced
 opening_is_synced f config count = record {
-  reps = λ q w s i. absurd (has_none _ i);
-  commits = λ q w s i. absurd (has_none _ i);
+  reps = λ q w s i. absurd (Has-none _ i);
+  commits = λ q w s i. absurd (Has-none _ i);
   own = λ r l. record {
     count = half_of f config.replicas count;
     anchored = inl refl;

@@ -15,8 +15,8 @@ use Rattle.started_views.specs.Logs.{SameTo, Toward}
 use Rattle.started_views.specs.Past.{HadLog, LeaderHad}
 use Rattle.started_views.proofs.Keeping.{start_synchronised}
 use Rattle.started_views.proofs.Logs.{same_from_prefix, same_grown, toward_keeps_same}
-use Rattle.started_views.proofs.Slots.{prefix_of_take, prefix_trans}
-use Rattle.started_views.proofs.Views.{at_most_refl, cases_view}
+use Rattle.facts.proofs.Prefixes.{IsPrefixOf-trans, IsPrefixOf-take}
+use Rattle.facts.proofs.Views.{cases_View, AtMost-refl}
 use Rattle.sync_points.specs.Synchronisation.{Round, Synchronisation, closed, counted_in}
 use Rattle.protocol.specs.Conf.{Conf, last_normals}
 use Rattle.protocol.specs.Evolves.{Evolves}
@@ -25,9 +25,9 @@ use Rattle.protocol.specs.Member.{Member, leads}
 use Rattle.protocol.specs.Moves.{entered, enter_as}
 use Rattle.protocol.specs.Runs.{Act, Queue, TakeFront, Fill, OpenGap, CountGapVote, WriteGap, AddGap, Enter, KeepChange, OpenView, Adopt, Say, Overlay, Obey, OpenSync, CountSyncVote, RepeatCommit, Move, Acts, MoveTo, Installed, Install, Stamp, Submit, Keep, Accept, Tell, effect, happens, May, run, MayAll}
 use Rattle.protocol.proofs.Grounding.{grounds_of}
-use Rattle.protocol.proofs.Puts.{put_all}
+use Rattle.facts.proofs.Functions.{put-all}
 use Rattle.protocol.proofs.Runs.{happens_keeps, run_keeps}
-use Rattle.protocol.proofs.Stays.{some_same}
+use Rattle.facts.proofs.Options.{same_Some-at}
 use Rattle.protocol_sync.specs.Laws.{SyncPointsNeverFall}
 use Rattle.protocol_sync.specs.Synced.{GoodSync, Sync}
 use Rattle.protocol_sync.proofs.Agreeing.{fixed_from}
@@ -94,7 +94,7 @@ module _ {S : Type 0} (m : Meaning S) (f : ℕ) where
 
   happens_rises : (c : Conf) → Sync f c → (x : Move) → May f c x → AllRise c (happens m f c x)
   happens_rises c sync (Acts r a) may =
-      put_all (λ q t. Rises (c.replicas q).sync t.sync) c.replicas r (effect m (c.replicas r) a).state
+      put-all (λ q t. Rises (c.replicas q).sync t.sync) c.replicas r (effect m (c.replicas r) a).state
       (act_rises c r (sync.own r may.0) a) (λ q n. omega arith)
   happens_rises c sync (MoveTo k j s) may = λ r. omega arith
   happens_rises c sync (Installed k) may = λ r. omega arith
@@ -145,9 +145,9 @@ module _ {S : Type 0} (m : Meaning S) (f : ℕ) where
     in_view : u ≡ v → SameTo s l k
     in_view e =
         let g = ev.logs r u l (inv.current r within) in
-        let here : g.0 ≡ k = some_same (d.past.log r u) g.0 k g.1
+        let here : g.0 ≡ k = same_Some-at (d.past.log r u) g.0 k g.1
         (subst (λ (w : View). HadLog d.past r w k) (sym e) (new.current r within)) in
-        let led : g.2 ≡ lead.0 = some_same (d.past.log (leader_of u (2 * f + 1)) u) g.2 lead.0 g.3 lead.1 in
+        let led : g.2 ≡ lead.0 = same_Some-at (d.past.log (leader_of u (2 * f + 1)) u) g.2 lead.0 g.3 lead.1 in
         let moved : Toward lead.0 l k =
         subst (λ (x : List Entry). Toward x l k) led (subst (λ (x : List Entry). Toward g.2 l x) here g.4) in
         let now : SameTo s k lead.0 = toward_keeps_same lead.0 l k s moved same in
@@ -156,14 +156,14 @@ module _ {S : Type 0} (m : Meaning S) (f : ℕ) where
     later : Below u v → SameTo s l k
     later below =
         let good = new.logs r v k (new.current r within) in
-        let anchored = fixed_from f d news u s (anchored_lasts m f c d inv ev u u s (at_most_refl u) own.anchored) in
+        let anchored = fixed_from f d news u s (anchored_lasts m f c d inv ev u u s (AtMost-refl u) own.anchored) in
         let begins : IsPrefixOf (take s l) good.start.log = start_synchronised f d.stamps (last_normals d) d.past
         (grounds_of m f d new) u v good.start lead.0 l s lead.1 same anchored good.is_start below in
-        same_from_prefix s (take s l) l k (omega (arith, length-take-le s l same.left)) (prefix_of_take s l)
-        (prefix_trans (take s l) good.start.log k begins good.begins)
+        same_from_prefix s (take s l) l k (omega (arith, length-take-le s l same.left)) (IsPrefixOf-take s l)
+        (IsPrefixOf-trans (take s l) good.start.log k begins good.begins)
 
     pub synchronised_stays : SameTo s l k
-    synchronised_stays = elim (cases_view u v) [ inl e ↦ in_view e | inr a ↦ later (record { at_most = ev.normals r; apart = a }) ]
+    synchronised_stays = elim (cases_View u v) [ inl e ↦ in_view e | inr a ↦ later (record { at_most = ev.normals r; apart = a }) ]
 
 pub sync_points_never_fall : {S : Type 0} (m : Meaning S) → SyncPointsNeverFall m
 sync_points_never_fall m f c xs inv sync may =

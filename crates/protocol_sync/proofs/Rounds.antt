@@ -10,8 +10,8 @@ use Rattle.nop_types.specs.Views.{leader_of}
 use Rattle.gap_agree.specs.Votes.{vote_of, with_vote}
 use Rattle.started_views.specs.Past.{HadLog, LeaderHad}
 use Rattle.started_views.proofs.Logs.{same_refl}
-use Rattle.started_views.proofs.Past.{is_same_true}
-use Rattle.started_views.proofs.Views.{at_most_refl}
+use Rattle.std.proofs.lemmas.Bool.{eqb-true}
+use Rattle.facts.proofs.Views.{AtMost-refl}
 use Rattle.sync_points.specs.Synchronisation.{Round, Synchronisation, closed, counted_in, vote_in}
 use Rattle.protocol.specs.Conf.{Conf, Effect, DidSay, after}
 use Rattle.protocol.specs.Invariant.{Own, Inv}
@@ -85,13 +85,13 @@ module _ {S : Type 0} (m : Meaning S) (f : ℕ) (c : Conf) (r : ℕ) (inv : Inv 
           let d = after f c r e in
           let had = now m f c r e inv sync within kept in
           let g = inside m f c d inv kept.1 sync r within p.log had in
-          let none : p.sync.f ≡ 0 = is_same_true p.sync.f 0 alone in
+          let none : p.sync.f ≡ 0 = eqb-true p.sync.f 0 alone in
           quiet_after m f c r e inv sync within kept
           (quiet_unless (others p == 0) p (SyncPrepare p.log) (λ s. (λ i. cc, λ i. cc))) (record {
             count = g.count;
             anchored = inr (
               p.last_normal,
-              at_most_refl p.last_normal,
+              AtMost-refl p.last_normal,
               record {
                 lead = p.log;
                 leads = led d had;
@@ -198,14 +198,14 @@ module _ {S : Type 0} (m : Meaning S) (f : ℕ) (c : Conf) (r : ℕ) (inv : Inv 
             agrees = g.agrees;
             prepared = g.prepared;
             syncing = λ y i. let same : voted x ≡ y = cc in subst (Syncing f d r p.view p.status p.sync.sync_point (length p.log)) same
-                (more d g said (is_same_true x.len k is));
+                (more d g said (eqb-true x.len k is));
           })
       at true Settled is settles kept =
           let e = effect_by x true Settled in
           let d = after f c r e in
           let had = now m f c r e inv sync within kept in
           let g = inside m f c d inv kept.1 sync r within p.log had in
-          let same : x.len ≡ k = is_same_true x.len k is in
+          let same : x.len ≡ k = eqb-true x.len k is in
           let said = said_lasts m f c d kept.1 q p.view (SyncRep k) vote.vote.said in
           let h = more d g said same in
           let enough : p.sync.f ≤ length (with_vote x.votes q) = enough_from p.sync.f (length (with_vote x.votes q))
@@ -223,7 +223,7 @@ module _ {S : Type 0} (m : Meaning S) (f : ℕ) (c : Conf) (r : ℕ) (inv : Inv 
               holds = h.voted;
             };
           } in
-          let anchored : Anchored f d p.view x.len = inr (p.view, at_most_refl p.view, synced) in
+          let anchored : Anchored f d p.view x.len = inr (p.view, AtMost-refl p.view, synced) in
           let start = kept.1.starts p.last_normal own.place.start own.place.is_start in
           let commit : TrueSyncCommit f d r p.view x.len =
           record {

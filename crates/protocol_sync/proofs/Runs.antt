@@ -6,7 +6,7 @@ use Rattle.nop_types.specs.declared.request.Entry.TheVariants.{NoOp, Req}
 use Rattle.nop_types.specs.Lists.{Has}
 use Rattle.nop_types.specs.Meaning.{Meaning}
 use Rattle.nop_types.specs.Slots.{set_slot}
-use Rattle.log_merge.specs.Starting.{opened}
+use Rattle.log_merge.specs.Starting.{start_of}
 use Rattle.oum_receiver.specs.Receiving.{offered, front_taken, advanced}
 use Rattle.gap_agree.specs.Agreement.{begun, counted}
 use Rattle.started_views.specs.Past.{HadLog}
@@ -95,7 +95,7 @@ module _ {S : Type 0} (m : Meaning S) (f : ℕ) where
     act_syncs (KeepChange g x) (l, may) kept = in_view m f c r inv sync l p.log p.next p.receiver p.gap
         (moves.keep_change p g x).state.changes [] [] kept quiet_none
     act_syncs (OpenView g) (l, may) kept =
-        let s = opened g.view g.changes in
+        let s = start_of g.view g.changes in
         let was = (inv.own r l).changes.gathers g may.gathers in
         adopting m f c r inv sync l p.view s.next s.log (say_all p (StartView s.next s.log)) (moves.open_view m p g).replies
         ((inv.own r l).place.change was.change) kept (quiet_unless (others p == 0) p (StartView s.next s.log) (λ s. (λ e. cc, λ e. cc)))

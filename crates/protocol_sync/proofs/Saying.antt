@@ -2,9 +2,8 @@
 use Rattle.std.proofs.Common.{◌≡◌, ℕ, ◌+◌, ◌*◌, ◌<◌, Bool, true, false, ap, subst, inl, inr, List, [], ◌++◌}
 use Rattle.nop_types.specs.declared.view.View.{View}
 use Rattle.nop_types.specs.Meaning.{Meaning}
-use Rattle.histories.proofs.Lists.{Has-one, Has-append_cases}
+use Rattle.facts.proofs.Members.{Has-append_cases, Has-one, Has-none}
 use Rattle.started_views.specs.Past.{HadLog}
-use Rattle.started_views.proofs.Lists.{has_none}
 use Rattle.protocol.specs.Conf.{Conf, Effect, DidSay, after}
 use Rattle.protocol.specs.Invariant.{Inv}
 use Rattle.protocol.specs.Member.{Member}
@@ -12,7 +11,7 @@ use Rattle.protocol.specs.Moves.{say, say_unless}
 use Rattle.protocol.specs.Said.{Said, Word, SyncRep, SyncCommit, says}
 use Rattle.protocol_sync.specs.Synced.{TrueSyncRep, TrueSyncCommit, GoodSync, Sync}
 use Rattle.protocol.proofs.Growing.{Kept}
-use Rattle.protocol.proofs.Puts.{put_all, put_same, put_apart}
+use Rattle.facts.proofs.Functions.{put-here, put-other, put-all}
 use Rattle.protocol_sync.proofs.Lasting.{rep_lasts, commit_lasts, inside}
 
 -- no answer and no commit of a sync point is among what is said
@@ -20,7 +19,7 @@ abbrev pub IsQuiet : List Said → Type 0
 IsQuiet said = (q : ℕ) (w : View) (s : ℕ) → (DidSay said q w (SyncRep s) → ⊥) × (DidSay said q w (SyncCommit s) → ⊥)
 
 pub quiet_none : IsQuiet []
-quiet_none q w s = (λ h. has_none _ h, λ h. has_none _ h)
+quiet_none q w s = (λ h. Has-none _ h, λ h. Has-none _ h)
 
 -- the only word
 word_of : (p : Member) (x y : Word) (q : ℕ) (w : View) → DidSay (say p x) q w y → y ≡ x
@@ -46,7 +45,7 @@ module _ {S : Type 0} (m : Meaning S) (f : ℕ) (c : Conf) (r : ℕ) (e : Effect
   d = after f c r e
 
   mine : d.replicas r ≡ e.state
-  mine = put_same c.replicas r e.state
+  mine = put-here c.replicas r e.state
 
   pub now : HadLog d.past r e.state.last_normal e.state.log
   now = subst (λ (p : Member). HadLog d.past r p.last_normal p.log) mine (kept.0.current r within)
@@ -69,9 +68,9 @@ module _ {S : Type 0} (m : Meaning S) (f : ℕ) (c : Conf) (r : ℕ) (e : Effect
       | inr g ↦
           commit_lasts m f c d inv kept.1 q w s (sync.commits q w s g)
     ];
-    own = put_all (λ q p. q < 2 * f + 1 → GoodSync f d q p) c.replicas r e.state (λ l. own) (λ q a l.
+    own = put-all (λ q p. q < 2 * f + 1 → GoodSync f d q p) c.replicas r e.state (λ l. own) (λ q a l.
         let g = inside m f c d inv kept.1 sync q l (c.replicas q).log (subst (λ (p : Member). HadLog d.past q p.last_normal p.log)
-        (put_apart c.replicas r e.state q a) (kept.0.current q l)) in
+        (put-other c.replicas r e.state q a) (kept.0.current q l)) in
         record { count = g.count; anchored = g.anchored; agrees = g.agrees; prepared = g.prepared; syncing = g.syncing });
   }
 

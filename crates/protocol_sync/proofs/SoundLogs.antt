@@ -14,25 +14,25 @@ use Rattle.nop_types.specs.Views.{Below, leader_of}
 use Rattle.gap_agree.specs.Agreement.{Agreement}
 use Rattle.log_merge.specs.Starting.{Start}
 use Rattle.started_views.specs.Past.{HadLog, LeaderHad, IsStart}
-use Rattle.started_views.proofs.Lists.{has_first, has_rest, has_none, has_cases}
+use Rattle.facts.proofs.Members.{Has-first, Has-rest, Has-none, Has-cases}
 use Rattle.started_views.proofs.Quorums.{leader_within}
-use Rattle.started_views.proofs.Slots.{prefix_slot, slot_some, slot_within}
-use Rattle.started_views.proofs.Views.{below_at_most, cases_view}
+use Rattle.facts.proofs.Slots.{slot_of-within, slot_of-some, slot_of-prefix}
+use Rattle.facts.proofs.Views.{cases_View, Below-then_at_most}
 use Rattle.protocol.specs.Conf.{Conf, DidSay, Settled}
 use Rattle.protocol.specs.Invariant.{GoodLog, Own, Inv}
 use Rattle.protocol.specs.Member.{Member}
 use Rattle.protocol.specs.Said.{Said, Word, Plain, Found, GapCommit, GapRep, ViewChange, StartView, SyncPrepare, SyncRep, SyncCommit, says}
 use Rattle.protocol.specs.Truth.{Prepared}
 use Rattle.protocol.proofs.Places.{normal_low}
-use Rattle.protocol.proofs.Stays.{some_same}
+use Rattle.facts.proofs.Options.{same_Some-at}
 use Rattle.protocol_sync.specs.Sound.{EntryIsSound, LogsAreSound, WaitsAt, IsUnsettled, LeadersAreSound, NumbersAreSound}
 
 -- a slot that a front of a log has
 front_slot : {A : Type 0} (l k : List A) (i : ℕ) (x : A) → IsPrefixOf l k → 0 < i → i ≤ length l → slot_of k i ≡ Some x
     → slot_of l i ≡ Some x
 front_slot l k i x is low high e =
-    let y = slot_some l i low high in
-    y.1 ∙ ap Some (some_same (slot_of k i) y.0 x (prefix_slot l k i y.0 is y.1) e)
+    let y = slot_of-some l i low high in
+    y.1 ∙ ap Some (same_Some-at (slot_of k i) y.0 x (slot_of-prefix l k i y.0 is y.1) e)
 
 -- ---- whether a SyncPrepare of a length was sent
 
@@ -48,7 +48,7 @@ IsPrepare s v x w k = ((l : List Entry) × (says s v x ≡ says s w (SyncPrepare
     → says q w (SyncPrepare l) ≡ says s v x → length l ≡ k → ⊥)
 
 is_prepare : (s : ℕ) (v : View) (x : Word) (w : View) (k : ℕ) → IsPrepare s v x w k
-is_prepare s v (SyncPrepare l) w k = elim (cases_view v w) [
+is_prepare s v (SyncPrepare l) w k = elim (cases_View v w) [
   | inl e ↦ elim (cases_eq (length l) k) [
     | inl n ↦ inl (l, ap (λ (y : View). says s y (SyncPrepare l)) e, n)
     | inr n ↦ inr (λ q j h g. let word = ap (λ (y : Said). y.word) h in let same : j ≡ l = cc in n (ap length (sym same) ∙ g))
@@ -65,12 +65,12 @@ is_prepare s v (SyncRep i) w k = inr (λ q l h g. let same = ap (λ (y : Said). 
 is_prepare s v (SyncCommit i) w k = inr (λ q l h g. let same = ap (λ (y : Said). y.word) h in cc)
 
 prepared_or_not : (said : List Said) (w : View) (k : ℕ) → WasPrepared said w k ⊎ NonePrepared said w k
-prepared_or_not [] w k = inr (λ q l h g. has_none _ h)
+prepared_or_not [] w k = inr (λ q l h g. Has-none _ h)
 prepared_or_not (x ∷ said) w k = elim (is_prepare x.sender x.view x.word w k) [
-  | inl y ↦ inl (x.sender, y.0, has_first (says x.sender w (SyncPrepare y.0)) x said (sym y.1), y.2)
+  | inl y ↦ inl (x.sender, y.0, Has-first (says x.sender w (SyncPrepare y.0)) x said (sym y.1), y.2)
   | inr other ↦ elim (prepared_or_not said w k) [
-    | inl y ↦ inl (y.0, y.1, has_rest (says y.0 w (SyncPrepare y.1)) x said y.2, y.3)
-    | inr none ↦ inr (λ q l h g. elim (has_cases (says q w (SyncPrepare l)) x said h) [ inl e ↦ other q l e g | inr i ↦ none q l i g ])
+    | inl y ↦ inl (y.0, y.1, Has-rest (says y.0 w (SyncPrepare y.1)) x said y.2, y.3)
+    | inr none ↦ inr (λ q l h g. elim (Has-cases (says q w (SyncPrepare l)) x said h) [ inl e ↦ other q l e g | inr i ↦ none q l i g ])
   ]
 ]
 
@@ -79,7 +79,7 @@ module _ {S : Type 0} (m : Meaning S) (f : ℕ) (c : Conf) (inv : Inv m f c) whe
 
   -- the start is the one that a log began with
   good_at : (r : ℕ) (w : View) (l : List Entry) (x : Start) (h : HadLog c.past r w l) → IsStart c.past w x → (inv.logs r w l h).start ≡ x
-  good_at r w l x h is = let t = inv.logs r w l h in some_same (c.past.start w) t.start x t.is_start is
+  good_at r w l x h is = let t = inv.logs r w l h in same_Some-at (c.past.start w) t.start x t.is_start is
 
   entry_sound : (r : ℕ) (w : View) (l : List Entry) (x : Start) (k : ℕ) (e : Entry) → HadLog c.past r w l → IsStart c.past w x
       → length x.log < k → slot_of l k ≡ Some e
@@ -107,7 +107,7 @@ module _ {S : Type 0} (m : Meaning S) (f : ℕ) (c : Conf) (inv : Inv m f c) whe
   pub numbers_sound : NumbersAreSound f c
   numbers_sound r x l is =
       let place = (inv.own r l).place in
-      let same : place.start ≡ x = some_same (c.past.start (c.replicas r).last_normal) place.start x place.is_start is in
+      let same : place.start ≡ x = same_Some-at (c.past.start (c.replicas r).last_normal) place.start x place.is_start is in
       let counted : (c.replicas r).next + length x.log ≡ x.next + length (c.replicas r).log =
       subst (λ (y : Start). (c.replicas r).next + length y.log ≡ y.next + length (c.replicas r).log) same place.counted in
       omega (arith, counted)
@@ -140,7 +140,7 @@ module _ {S : Type 0} (m : Meaning S) (f : ℕ) (c : Conf) (inv : Inv m f c) whe
     in_view last same normal g gap =
         let view : p.view ≡ w = sym (own.place.normal normal) ∙ sym same in
         let mine : HadLog c.past r w p.log = subst (λ (y : View). HadLog c.past r y p.log) (sym same) (inv.current r (leader_within f w)) in
-        let log : p.log ≡ l = some_same (c.past.log r w) p.log l mine led in
+        let log : p.log ≡ l = same_Some-at (c.past.log r w) p.log l mine led in
         at g gap view log
       where
         at : (g : Option Agreement) → p.gap ≡ g → p.view ≡ w → p.log ≡ l → Settled f c.said w k ⊎ Left
@@ -151,7 +151,7 @@ module _ {S : Type 0} (m : Meaning S) (f : ℕ) (c : Conf) (inv : Inv m f c) whe
             let leads : r ≡ leader_of p.view (2 * f + 1) = ap (λ (y : View). leader_of y (2 * f + 1)) (sym view) in
             let base : p.base ≡ length own.place.start.log = own.place.base (ap (λ (y : View). leader_of y (2 * f + 1)) same) in
             let start : own.place.start ≡ x =
-            some_same (c.past.start w) own.place.start x (subst (λ (y : View). IsStart c.past y own.place.start)
+            same_Some-at (c.past.start w) own.place.start x (subst (λ (y : View). IsStart c.past y own.place.start)
             (sym same) own.place.is_start) is in
             let lens : length own.place.start.log ≡ length x.log = ap (λ (y : Start). length y.log) start in
             let len : length p.log ≡ k = ap length log ∙ sym last in
@@ -163,9 +163,9 @@ module _ {S : Type 0} (m : Meaning S) (f : ℕ) (c : Conf) (inv : Inv m f c) whe
 
     -- the leader is in the view or has left it
     at_last : k ≡ length l → Settled f c.said w k ⊎ Left
-    at_last last = elim (cases_view w p.last_normal) [
+    at_last last = elim (cases_View w p.last_normal) [
       | inl same ↦ here p.status refl same
-      | inr apart ↦ inr (inr (below_at_most w p.last_normal p.view (record { at_most = inv.reached r w l led; apart = apart })
+      | inr apart ↦ inr (inr (Below-then_at_most w p.last_normal p.view (record { at_most = inv.reached r w l led; apart = apart })
           (normal_low m f c r inv (leader_within f w))))
     ]
       where
@@ -177,8 +177,8 @@ module _ {S : Type 0} (m : Meaning S) (f : ℕ) (c : Conf) (inv : Inv m f c) whe
     prepared_settled : WasPrepared c.said w k → Settled f c.said w k
     prepared_settled (q, j, h, len) =
         let t : Prepared f c q w j = inv.said (says q w (SyncPrepare j)) h in
-        let lead : t.lead ≡ l = some_same (c.past.log r w) t.lead l t.leads led in
-        let start : t.start ≡ x = some_same (c.past.start w) t.start x t.is_start is in
+        let lead : t.lead ≡ l = same_Some-at (c.past.log r w) t.lead l t.leads led in
+        let start : t.start ≡ x = same_Some-at (c.past.start w) t.start x t.is_start is in
         let lens : length t.start.log ≡ length x.log = ap (λ (y : Start). length y.log) start in
         let begins : IsPrefixOf j l = subst (IsPrefixOf j) lead t.begins in
         let noop : slot_of j (length j) ≡ Some NoOp = front_slot j l (length j) NoOp begins (omega (arith, len, above)) (omega arith)
@@ -189,7 +189,7 @@ module _ {S : Type 0} (m : Meaning S) (f : ℕ) (c : Conf) (inv : Inv m f c) whe
     noop_sound = elim (cases_lt k (length l)) [
       | inl under ↦ inl (good.settled refl k low under e)
       | inr not_under ↦
-          let last : k ≡ length l = (let h = slot_within l k NoOp e in omega (arith, h.1, not_under)) in
+          let last : k ≡ length l = (let h = slot_of-within l k NoOp e in omega (arith, h.1, not_under)) in
           elim (prepared_or_not c.said w k) [
             | inl there ↦ inl (prepared_settled there)
             | inr none ↦ elim (at_last last) [ inl s ↦ inl s | inr left ↦ inr (record { last = last; unprepared = none; waits = left }) ]
@@ -202,6 +202,6 @@ module _ {S : Type 0} (m : Meaning S) (f : ℕ) (c : Conf) (inv : Inv m f c) whe
     gap_commits = λ q w k h. inv.said (says q w (GapCommit k)) h;
     prepares = λ q w l n h led.
         let t : Prepared f c q w l = inv.said (says q w (SyncPrepare l)) h in
-        subst (IsPrefixOf l) (some_same (c.past.log (leader_of w (2 * f + 1)) w) t.lead n t.leads led) t.begins;
+        subst (IsPrefixOf l) (same_Some-at (c.past.log (leader_of w (2 * f + 1)) w) t.lead n t.leads led) t.begins;
     noops = noop_sound;
   }

@@ -6,7 +6,7 @@ use Rattle.nop_types.specs.Lists.{Has}
 use Rattle.nop_types.specs.Meaning.{Meaning}
 use Rattle.nop_types.specs.Views.{leader_of}
 use Rattle.started_views.specs.Quorums.{counts, Quorum}
-use Rattle.started_views.proofs.Lists.{has_first}
+use Rattle.facts.proofs.Members.{Has-first}
 use Rattle.started_views.proofs.Quorums.{counts_cases, leader_within}
 use Rattle.protocol.specs.Conf.{Conf}
 use Rattle.protocol.specs.Invariant.{Replied, Inv}
@@ -33,7 +33,7 @@ module _ (f r : ℕ) (P : ℕ → Type 0) (within : r < 2 * f + 1) (holds : P r)
         within = λ k h. elim (counts_cases k r q.members h) [ inl e ↦ subst (λ (i : ℕ). i < 2 * f + 1) e within | inr g ↦ q.within k g ];
         holds = λ k h. elim (counts_cases k r q.members h) [ inl e ↦ subst P e holds | inr g ↦ q.holds k g ];
       },
-      has_first r r q.members refl,
+      Has-first r r q.members refl,
     )
   ]
 

@@ -8,14 +8,15 @@ use Rattle.nop_types.specs.Lists.{IsPrefixOf}
 use Rattle.nop_types.specs.Meaning.{Meaning}
 use Rattle.nop_types.specs.Stamps.{WasStamped}
 use Rattle.nop_types.specs.Views.{leader_of}
-use Rattle.histories.proofs.Lists.{Has-prefix, Has-slot_of, IsPrefixOf-take}
+use Rattle.facts.proofs.Prefixes.{IsPrefixOf-take, Has-prefix}
+use Rattle.facts.proofs.Slots.{Has-slot_of}
 use Rattle.log_merge.specs.Starting.{Start}
 use Rattle.started_views.specs.Past.{Entered, HadLog, LeaderHad, IsStart}
 use Rattle.protocol.specs.Conf.{Conf, home, WasSubmitted, Owns}
 use Rattle.protocol.specs.Invariant.{Inv}
 use Rattle.protocol.specs.Said.{Found, ViewChange, StartView, SyncPrepare, says}
 use Rattle.protocol.specs.Truth.{LeaderHas, Begun, Prepared}
-use Rattle.protocol.proofs.Stays.{some_same}
+use Rattle.facts.proofs.Options.{same_Some-at}
 use Rattle.protocol_sync.specs.Sound.{StampsAreSound, AreSubmitted, RequestsAreSubmitted, KeptWasSent}
 
 module _ {S : Type 0} (m : Meaning S) (f : ℕ) (c : Conf) (inv : Inv m f c) where
@@ -73,7 +74,7 @@ module _ {S : Type 0} (m : Meaning S) (f : ℕ) (c : Conf) (inv : Inv m f c) whe
   started w x is =
       let t = inv.starts w x is in
       let good = inv.logs (leader_of w (2 * f + 1)) w t.lead t.leads in
-      let same : good.start ≡ x = some_same (c.past.start w) good.start x good.is_start is in
+      let same : good.start ≡ x = same_Some-at (c.past.start w) good.start x good.is_start is in
       front w x.log t.lead t.leads (subst (λ (y : Start). IsPrefixOf y.log t.lead) same good.begins)
 
   stamped : (session number : ℕ) (q : Request) → WasStamped c.stamps session number q → WasSubmitted c.lines q

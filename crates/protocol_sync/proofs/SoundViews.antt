@@ -8,13 +8,13 @@ use Rattle.nop_types.specs.Views.{first_view, leader_of}
 use Rattle.log_merge.specs.Starting.{Start}
 use Rattle.started_views.specs.Past.{Entered, IsStart}
 use Rattle.started_views.proofs.Certificates.{started_are_comparable}
-use Rattle.started_views.proofs.Slots.{prefix_both}
+use Rattle.facts.proofs.Prefixes.{IsPrefixOf-shorter}
 use Rattle.protocol.specs.Conf.{Conf, DidSay, last_normals}
 use Rattle.protocol.specs.Invariant.{Inv}
 use Rattle.protocol.specs.Said.{ViewChange, StartView, says}
 use Rattle.protocol.specs.Truth.{Begun}
 use Rattle.protocol.proofs.Grounding.{grounds_of}
-use Rattle.protocol.proofs.Stays.{some_same}
+use Rattle.facts.proofs.Options.{same_Some-at}
 use Rattle.protocol_sync.specs.Sound.{ChangeIsSound, ViewsAreSound, StartIsSound, TellsStart, StartsAreSound}
 
 module _ {S : Type 0} (m : Meaning S) (f : ℕ) (c : Conf) (inv : Inv m f c) where
@@ -29,7 +29,7 @@ module _ {S : Type 0} (m : Meaning S) (f : ℕ) (c : Conf) (inv : Inv m f c) whe
         next = omega (arith, t.counted);
         one = λ w y k g.
             let i : c.past.entry r v ≡ Some (record { last_normal = w; next = y; log = k }) = inv.said (says r v (ViewChange w y k)) g in
-            let same = some_same (c.past.entry r v) (record { last_normal = w; next = y; log = k }) (record {
+            let same = same_Some-at (c.past.entry r v) (record { last_normal = w; next = y; log = k }) (record {
               last_normal = u;
               next = x;
               log = l;
@@ -54,13 +54,13 @@ module _ {S : Type 0} (m : Meaning S) (f : ℕ) (c : Conf) (inv : Inv m f c) whe
   tells_start q w x l h =
       let t : Begun f c q w x l = inv.said (says q w (StartView x l)) h in
       let good = inv.logs (leader_of w (2 * f + 1)) w t.lead t.leads in
-      let same : good.start ≡ t.start = some_same (c.past.start w) good.start t.start good.is_start t.is_start in
+      let same : good.start ≡ t.start = same_Some-at (c.past.start w) good.start t.start good.is_start t.is_start in
       let led : IsPrefixOf t.start.log t.lead = subst (λ (y : Start). IsPrefixOf y.log t.lead) same good.begins in
       record {
         sender = t.sender;
         start = t.start;
         is_start = t.is_start;
-        begins = prefix_both t.start.log l t.lead led t.begins t.within;
+        begins = IsPrefixOf-shorter t.start.log l t.lead led t.begins t.within;
         lead = t.lead;
         leads = t.leads;
         front = t.begins;

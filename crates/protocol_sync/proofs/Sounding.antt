@@ -13,7 +13,7 @@ use Rattle.protocol.specs.Runs.{Move, run, MayAll}
 use Rattle.protocol.proofs.Opening.{opening_meets}
 use Rattle.protocol.proofs.Grounding.{grounds_of}
 use Rattle.protocol.proofs.Runs.{run_keeps}
-use Rattle.protocol.proofs.Stays.{some_same}
+use Rattle.facts.proofs.Options.{same_Some-at}
 use Rattle.protocol_sync.specs.Laws.{Safe, RunsAreSound, RunsAreSafe, RunsGoOn}
 use Rattle.protocol_sync.specs.Sound.{Sound, GoesOn}
 use Rattle.protocol_sync.specs.Synced.{Sync}
@@ -83,7 +83,7 @@ module _ {S : Type 0} (m : Meaning S) (f : ℕ) (config : Configuration) (count 
         last_normals = ev.normals;
         leaders = λ w l n h g.
             let k = ev.leads w l h in
-            subst (IsPrefixOf l) (some_same (d.past.log (leader_of w (2 * f + 1)) w) k.0 n k.1 g) k.2;
+            subst (IsPrefixOf l) (same_Some-at (d.past.log (leader_of w (2 * f + 1)) w) k.0 n k.1 g) k.2;
         starts = ev.starts;
         lines = ev.sent.lines;
         synchronised = sync_points_never_fall m f c ys kept.0 synced more;

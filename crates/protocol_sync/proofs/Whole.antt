@@ -7,10 +7,9 @@ use Rattle.nop_types.specs.declared.replica_state.Vote.TheVariants.{Settled, Wai
 use Rattle.nop_types.specs.declared.request.Entry.{Entry}
 use Rattle.nop_types.specs.Lists.{Has}
 use Rattle.nop_types.specs.Meaning.{Meaning}
-use Rattle.histories.proofs.Lists.{Has-append_cases}
-use Rattle.log_merge.specs.Starting.{Start, opened}
+use Rattle.facts.proofs.Members.{Has-append_cases, Has-none}
+use Rattle.log_merge.specs.Starting.{Start, start_of}
 use Rattle.started_views.specs.Past.{IsStart}
-use Rattle.started_views.proofs.Lists.{has_none}
 use Rattle.sync_points.specs.Synchronisation.{vote_for}
 use Rattle.protocol.specs.Conf.{Conf, DidSay, after, opening}
 use Rattle.protocol.specs.Evolves.{Evolves}
@@ -31,7 +30,7 @@ abbrev StartsNone : List Said → Type 0
 StartsNone said = (q : ℕ) (w : View) (x : ℕ) (l : List Entry) → DidSay said q w (StartView x l) → ⊥
 
 none_nothing : StartsNone []
-none_nothing q w x l h = has_none _ h
+none_nothing q w x l h = Has-none _ h
 
 none_one : (p : Member) (y : Word) → ((x : ℕ) (l : List Entry) → StartView x l ≡ y → ⊥) → StartsNone (say p y)
 none_one p y apart q w x l h = apart x l (said_one p y (StartView x l) q w h).2
@@ -75,7 +74,7 @@ module _ {S : Type 0} (m : Meaning S) (f : ℕ) where
     act_starts (Enter v) may ev again = no_starts (Enter v) (none_entered p v (leads (entered p v)))
     act_starts (KeepChange g x) may ev again = no_starts (KeepChange g x) none_nothing
     act_starts (OpenView g) (within, may) ev again = λ q w x l h.
-        let s : Start = opened g.view g.changes in
+        let s : Start = start_of g.view g.changes in
         let a = said_all (others p == 0) p (StartView s.next s.log) (StartView x l) q w h in
         let word = a.2 in
         let next : s.next ≡ x = cc in
@@ -124,4 +123,4 @@ module _ {S : Type 0} (m : Meaning S) (f : ℕ) where
 
 pub starts_stay_whole : {S : Type 0} (m : Meaning S) → StartsStayWhole m
 starts_stay_whole m f config xs count may starts =
-    run_whole m f (opening config) xs (opening_meets m f config count) (λ q w x l h. absurd (has_none _ h)) may starts
+    run_whole m f (opening config) xs (opening_meets m f config count) (λ q w x l h. absurd (Has-none _ h)) may starts

@@ -17,7 +17,7 @@ use Rattle.nop_types.specs.Meaning.{Meaning}
 use Rattle.nop_types.specs.Stamps.{WasStamped}
 use Rattle.nop_types.specs.Views.{AtMost, Below, Comparable, first_view, leader_of}
 use Rattle.gap_agree.specs.Agreement.{Agreement}
-use Rattle.log_merge.specs.Starting.{Start, opened}
+use Rattle.log_merge.specs.Starting.{Start, start_of}
 use Rattle.started_views.specs.Logs.{SameTo}
 use Rattle.started_views.specs.Past.{Entered, HadLog, LeaderHad, IsStart, IsStarted}
 use Rattle.started_views.specs.Quorums.{Quorum, Others}
@@ -97,7 +97,7 @@ pub record StartIsSound (f : ℕ) (c : Conf) (w : View) (x : Start) : Type 0 whe
   pub changes : List peer.Change
   pub entered : Certificate f c.past w changes
   pub leader : IsOfSender changes (leader_of w (2 * f + 1))
-  pub opens : x ≡ opened w changes
+  pub opens : x ≡ start_of w changes
 
 -- a StartView tells a front of its leader's log, no shorter than the start, and the number that belongs to its length
 pub record TellsStart (f : ℕ) (c : Conf) (q : ℕ) (w : View) (x : ℕ) (l : List Entry) : Type 0 where
