@@ -75,7 +75,7 @@ impl Log {
     pub fn try_clone(&self) -> Result<Log, NoMemory>
         ensures { IfOk result (λ l. l ≡ self.now) }
     {
-        let mut entries = Vec::new(*self.entries.allocator());
+        let mut entries = Vec::with_capacity(*self.entries.allocator(), self.entries.len())?;
         for entry in &self.entries {
             entries.push(entry.try_clone()?)?;
         }

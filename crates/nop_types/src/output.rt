@@ -1,4 +1,4 @@
-ghost use Rattle.std.specs.Prelude.{◌≡◌, ◌++◌, ◌∷◌, [], length, OnOk, OnErr};
+ghost use Rattle.std.specs.Prelude.{◌≡◌, ◌++◌, ◌∷◌, [], take, OnOk, OnErr};
 
 use crate::{Bytes, NoMemory, Request};
 use std::alloc::Global;
@@ -83,5 +83,11 @@ impl Outbox {
         let Outbox { mut outs } = other;
         self.outs.append(&mut outs)?;
         Ok(())
+    }
+    /// Keeps the first outputs, so many of them, and the room of the others.
+    pub fn truncate(&mut self, len: usize)
+        ensures { self.new ≡ take len self.old }
+    {
+        self.outs.truncate(len);
     }
 }

@@ -1,6 +1,6 @@
-ghost use Rattle.std.specs.Prelude.{◌≡◌, ◌++◌, ◌<◌, ◌≤◌, ◌^◌, ◌∷◌, [], length, OnOk, OnErr};
+ghost use Rattle.std.specs.Prelude.{◌≡◌, ◌++◌, ◌<◌, ◌≤◌, ◌^◌, ◌∷◌, [], length, OnOk, OnErr, IfOk};
 ghost use Rattle.std.specs.Int.{w16, w32, w64};
-ghost use Rattle.nop_types.specs.Ranges.{DatagramFits};
+ghost use Rattle.nop_types.specs.Ranges.{DatagramFits, ReplyFits};
 ghost use Rattle.oum_codec.specs.Numbers.{be_bytes};
 ghost use Rattle.oum_codec.specs.Spelling.{view_bytes, counted_bytes, request_bytes, stamped_bytes, reply_bytes, signal_bytes, header, spelling};
 
@@ -71,25 +71,58 @@ fn put_stamped(to: &mut Vec<u8>, stamped: &Stamped) -> Result<(), NoMemory>
     put_request(to, &stamped.request)
 }
 
-/// Who replies, and for which slot.
-fn put_place(to: &mut Vec<u8>, replica: u8, view: View, slot: u32) -> Result<(), NoMemory>
-    ensures { OnOk result (to.new.items ≡ to.old.items
-        ++ (replica ∷ [] ++ view_bytes view ++ be_bytes w32 slot)) }
+/// The header of a reply, and who replies for which slot.
+#[tactic(auto, unfolding(crate::specs::Numbers::be_bytes))]
+fn reply_head(replica: u8, view: View, slot: u32) -> [u8; 17]
+    ensures { result ≡ header 3 ++ (replica ∷ [] ++ view_bytes view ++ be_bytes w32 slot) }
 {
-    to.push(replica)?;
-    put_view(to, view)?;
-    put_u32(to, slot)
+    let [l0, l1, l2, l3] = view.leader.to_be_bytes();
+    let [s0, s1, s2, s3] = view.session.to_be_bytes();
+    let [n0, n1, n2, n3] = slot.to_be_bytes();
+    [
+        kinds::FIRST_MAGIC,
+        kinds::SECOND_MAGIC,
+        kinds::VERSION,
+        kinds::REPLY,
+        replica,
+        l0,
+        l1,
+        l2,
+        l3,
+        s0,
+        s1,
+        s2,
+        s3,
+        n0,
+        n1,
+        n2,
+        n3,
+    ]
 }
 
+/// To which request a reply is, its tag and the length of its result.
+#[tactic(auto, unfolding(crate::specs::Numbers::be_bytes))]
+fn reply_middle(client: u32, id: u64, tag: u8, result_len: u16) -> [u8; 15]
+    ensures { result ≡ be_bytes w32 client ++ be_bytes w64 id ++ tag ∷ [] ++ be_bytes w16 result_len }
+{
+    let [c0, c1, c2, c3] = client.to_be_bytes();
+    let [i0, i1, i2, i3, i4, i5, i6, i7] = id.to_be_bytes();
+    let [n0, n1] = result_len.to_be_bytes();
+    [c0, c1, c2, c3, i0, i1, i2, i3, i4, i5, i6, i7, tag, n0, n1]
+}
+
+/// Appends a reply in three pieces, since a step may give thousands.
 fn put_reply(to: &mut Vec<u8>, reply: &Reply) -> Result<(), NoMemory>
     requires { length reply.now.result ≤ MAX_RESULT_BYTES }
-    ensures { OnOk result (to.new.items ≡ to.old.items ++ reply_bytes reply.now) }
+    ensures { OnOk result (to.new.items ≡ to.old.items ++ (header 3 ++ reply_bytes reply.now)) }
 {
-    put_place(to, reply.replica, reply.view, reply.slot)?;
-    put_u32(to, reply.client)?;
-    put_u64(to, reply.id)?;
-    to.push(reply.tag)?;
-    put_counted(to, reply.result.as_slice())
+    let result = reply.result.as_slice();
+    let head = reply_head(reply.replica, reply.view, reply.slot);
+    let middle = reply_middle(reply.client, reply.id, reply.tag, result.len() as u16);
+    to.extend_from_slice(&head)?;
+    to.extend_from_slice(&middle)?;
+    to.extend_from_slice(result)?;
+    Ok(())
 }
 
 fn put_signal(to: &mut Vec<u8>, sequencer: u8, n: u32) -> Result<(), NoMemory>
@@ -151,10 +184,7 @@ fn put(to: &mut Vec<u8>, datagram: &Datagram) -> Result<(), NoMemory>
             put_header(to, kinds::STAMPED)?;
             put_stamped(to, stamped)
         }
-        Datagram::Reply(reply) => {
-            put_header(to, kinds::REPLY)?;
-            put_reply(to, reply)
-        }
+        Datagram::Reply(reply) => put_reply(to, reply),
         Datagram::Install { sequencer, session } => {
             put_header(to, kinds::INSTALL)?;
             put_signal(to, *sequencer, *session)
@@ -212,4 +242,14 @@ pub fn encode(alloc: Global, datagram: &Datagram, to: &mut Vec<u8>) -> Result<()
     }
     to.extend_from_slice(&bytes)?;
     Ok(())
+}
+
+/// A reply's one spelling, in a vector with room for just that.
+pub fn encode_reply(alloc: Global, reply: &Reply) -> Result<Vec<u8>, NoMemory>
+    requires { ReplyFits reply.now }
+    ensures { IfOk result (λ bytes. bytes.items ≡ spelling (Datagram.Reply reply.now)) }
+{
+    let mut bytes = Vec::with_capacity(alloc, 32 + reply.result.as_slice().len())?;
+    put_reply(&mut bytes, reply)?;
+    Ok(bytes)
 }

@@ -92,6 +92,20 @@ impl Receiver {
         Ok(verdict)
     }
 
+    /// The same with a packet that is given away: its request goes into the queue without a copy.
+    pub fn offer_owned(&mut self, packet: Stamped) -> Result<Verdict, NoMemory>
+        requires { StampedFits packet }
+        ensures verdict { IfOk result (λ verdict. verdict ≡ verdict_of self.old packet) }
+        ensures ok { OnOk result (self.new ≡ offered self.old packet) }
+        ensures err { OnErr result (self.new ≡ self.old) }
+    {
+        let verdict = self.judge(&packet);
+        if let Verdict::Queued = verdict {
+            self.queue.insert(packet.number, packet.request)?;
+        }
+        Ok(verdict)
+    }
+
     /// What stands at the next number: None where nothing is queued, else the request that is queued there or a drop.
     pub fn front(&self) -> Option<Upcall<'_>>
         ensures front { front_given result ≡ front_of self.now }

@@ -41,11 +41,11 @@ impl ReplicaState {
     }
 
     /// A packet is offered to the receiver.
-    fn queue(&mut self, packet: &Stamped) -> Result<(), NoMemory>
-        requires { StampedFits packet.now }
-        ensures { OnOk result (self.new ≡ (queue self.old packet.now).0) }
+    fn queue(&mut self, packet: Stamped) -> Result<(), NoMemory>
+        requires { StampedFits packet }
+        ensures { OnOk result (self.new ≡ (queue self.old packet).0) }
     {
-        self.receiver.offer(packet)?;
+        self.receiver.offer_owned(packet)?;
         Ok(())
     }
 
@@ -86,13 +86,13 @@ impl<H: Host> Member<H> {
 
     /// A stamped request comes.
     #[tactic(auto, unfolding(crate::specs::Rows::stamped))]
-    pub fn stamped(&mut self, packet: &Stamped) -> Result<(), NoMemory>
+    pub fn stamped(&mut self, packet: Stamped) -> Result<(), NoMemory>
         requires runs { IsRunning H.Host self.old }
-        requires fits { StampedFits packet.now }
-        ensures { OnOk result (Does H.Host self.old self.new (stamped H.meaning packet.now)) }
+        requires fits { StampedFits packet }
+        ensures { OnOk result (Does H.Host self.old self.new (stamped H.meaning packet)) }
     {
         if self.state.view.session < packet.session {
-            return self.new_session(packet);
+            return self.new_session(&packet);
         }
         self.state.queue(packet)?;
         self.drain()

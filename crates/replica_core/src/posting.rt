@@ -1,23 +1,23 @@
-ghost use Rattle.std.specs.Prelude.{◌≡◌, ◌≤◌, ◌<◌, ◌+◌, ◌^◌, ◌++◌, ◌∷◌, [], OnOk, IfOk};
+ghost use Rattle.std.specs.Prelude.{◌≡◌, ◌≤◌, ◌<◌, ◌+◌, ◌^◌, ◌++◌, ◌∷◌, [], length, take, OnOk, OnErr, IfOk};
+ghost use Rattle.std.specs.List.{AllByRecursion};
 ghost use Rattle.nop_types.specs.Ranges.{ReplyFits, PeerFits};
 ghost use Rattle.replica_core.specs.Sends.{SendingFits, message_count};
 ghost use Rattle.replica_core.specs.Posting.{reply_out, message_outs, posted};
 
 use crate::{Sending, Sends};
 use fragments::{CutError, cut};
-use nop_types::{Actor, Bytes, Datagram, Dest, NoMemory, Out, Outbox, Peer, Reply};
-use oum_codec::encode;
+use nop_types::{Actor, Bytes, Dest, NoMemory, Out, Outbox, Peer, Reply};
+use oum_codec::encode_reply;
 use peer_codec::encode_peer;
 use std::alloc::Global;
 
-fn post_reply(alloc: Global, reply: Reply, out: &mut Outbox) -> Result<(), NoMemory>
-    requires { ReplyFits reply }
-    ensures { OnOk result (out.new ≡ out.old ++ reply_out reply ∷ []) }
+fn post_reply(alloc: Global, reply: &Reply, out: &mut Outbox) -> Result<(), NoMemory>
+    requires { ReplyFits reply.now }
+    ensures ok { OnOk result (out.new ≡ out.old ++ reply_out reply.now ∷ []) }
+    ensures err { OnErr result (out.new ≡ out.old) }
 {
-    let client = reply.client;
-    let mut bytes = Vec::new(alloc);
-    encode(alloc, &Datagram::Reply(reply), &mut bytes)?;
-    let dest = Dest::One(Actor::Client(client));
+    let bytes = encode_reply(alloc, reply)?;
+    let dest = Dest::One(Actor::Client(reply.client));
     out.push(Out::Send(dest, Bytes::from_vec(bytes)))
 }
 
@@ -31,7 +31,8 @@ fn post_message(
 ) -> Result<(), NoMemory>
     requires fits { PeerFits message.now }
     requires from_1 { 1 ≤ number }
-    ensures { OnOk result (out.new ≡ out.old ++ message_outs number dest message.now) }
+    ensures ok { OnOk result (out.new ≡ out.old ++ message_outs number dest message.now) }
+    ensures err { OnErr result (out.new ≡ out.old) }
 {
     let mut bytes = Vec::new(alloc);
     encode_peer(alloc, message, &mut bytes)?;
@@ -43,11 +44,17 @@ fn post_message(
 
 /// Makes datagrams of one thing that is sent, and gives the message number that was used last.
 #[tactic(auto, using(crate::proofs::Posted::posted_client, crate::proofs::Posted::posted_message))]
-fn post_one(alloc: Global, number: u64, sending: Sending, out: &mut Outbox) -> Result<u64, NoMemory>
-    requires fits { SendingFits sending }
-    requires room { number + message_count (sending ∷ []) < 2 ^ 64 }
-    ensures number { IfOk result (λ last. last ≡ number + message_count (sending ∷ [])) }
-    ensures out { OnOk result (out.new ≡ out.old ++ posted number (sending ∷ [])) }
+fn post_one(
+    alloc: Global,
+    number: u64,
+    sending: &Sending,
+    out: &mut Outbox,
+) -> Result<u64, NoMemory>
+    requires fits { SendingFits sending.now }
+    requires room { number + message_count (sending.now ∷ []) < 2 ^ 64 }
+    ensures number { IfOk result (λ last. last ≡ number + message_count (sending.now ∷ [])) }
+    ensures ok { OnOk result (out.new ≡ out.old ++ posted number (sending.now ∷ [])) }
+    ensures err { OnErr result (out.new ≡ out.old) }
 {
     match sending {
         Sending::ToClient(reply) => {
@@ -55,22 +62,44 @@ fn post_one(alloc: Global, number: u64, sending: Sending, out: &mut Outbox) -> R
             Ok(number)
         }
         Sending::ToReplicas(dest, message) => {
-            post_message(alloc, number + 1, dest, &message, out)?;
+            post_message(alloc, number + 1, *dest, message, out)?;
             Ok(number + 1)
         }
     }
 }
 
-/// Makes datagrams of what is sent, in order, and gives the message number that was used last. Each message takes the number
-/// after the one before it.
-pub fn post(alloc: Global, messages: u64, sends: Sends, out: &mut Outbox) -> Result<u64, NoMemory>
-    requires { messages + message_count sends < 2 ^ 64 }
-    ensures number { IfOk result (λ number. number ≡ messages + message_count sends) }
-    ensures out { OnOk result (out.new ≡ out.old ++ posted messages sends) }
+/// Makes datagrams of what is sent, in order. After an error some of them stand behind what stood there before.
+fn post_each(
+    alloc: Global,
+    messages: u64,
+    sends: &[Sending],
+    out: &mut Outbox,
+) -> Result<u64, NoMemory>
+    requires fit { AllByRecursion SendingFits sends.now }
+    requires room { messages + message_count sends.now < 2 ^ 64 }
+    ensures number { IfOk result (λ number. number ≡ messages + message_count sends.now) }
+    ensures ok { OnOk result (out.new ≡ out.old ++ posted messages sends.now) }
+    ensures front { take (length out.old) out.new ≡ out.old }
 {
     let mut number = messages;
-    for sending in sends.into_vec() {
+    for sending in sends {
         number = post_one(alloc, number, sending, out)?;
     }
     Ok(number)
+}
+
+/// Makes datagrams of what is sent, in order, and gives the message number that was used last. Each message takes the number
+/// after the one before it.
+pub fn post(alloc: Global, messages: u64, sends: &Sends, out: &mut Outbox) -> Result<u64, NoMemory>
+    requires { messages + message_count sends.now < 2 ^ 64 }
+    ensures number { IfOk result (λ number. number ≡ messages + message_count sends.now) }
+    ensures ok { OnOk result (out.new ≡ out.old ++ posted messages sends.now) }
+    ensures err { OnErr result (out.new ≡ out.old) }
+{
+    let len = out.as_slice().len();
+    let posted = post_each(alloc, messages, sends.as_slice(), out);
+    if posted.is_err() {
+        out.truncate(len);
+    }
+    posted
 }

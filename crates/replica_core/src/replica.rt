@@ -1,4 +1,4 @@
-ghost use Rattle.std.specs.Prelude.{◌≡◌, ◌≤◌, ◌<◌, ◌++◌, false, OnOk, IfOk};
+ghost use Rattle.std.specs.Prelude.{◌≡◌, ◌≤◌, ◌<◌, ◌++◌, false, OnOk, OnErr, IfOk};
 ghost use Rattle.nop_types.specs.declared.limits.TheConstants.{MAX_SLOTS};
 ghost use Rattle.nop_types.specs.Given.{given};
 ghost use Rattle.nop_types.specs.Ranges.{ViewFits, LogFits};
@@ -25,7 +25,6 @@ use peer_codec::{BadPeer, decode_peer};
 use replica_log::ReplicaLog;
 use std::alloc::Global;
 use std::marker::Model;
-use std::mem;
 use sync_points::SyncPoints;
 
 /// A replica with what its messages need, while it has not failed.
@@ -105,7 +104,7 @@ impl<H: Host> Member<H> {
             (Does H.Host self.old self.new (λ s. arrive H.meaning s (arrival_of arrival))) }
     {
         match arrival {
-            Arrival::Stamped(packet) => self.stamped(&packet),
+            Arrival::Stamped(packet) => self.stamped(packet),
             Arrival::Told(message) => self.on_message(message),
             Arrival::Ticked(tick) => self.ticked(tick),
         }
@@ -121,15 +120,16 @@ impl<H: Host> Node<H> {
         ensures ready { OnOk result (IsReady H.Host self.new) }
         ensures state { OnOk result (replica_of self.new ≡ (row H.meaning (replica_of self.old) (arrival_of arrival)).0) }
         ensures out { OnOk result (out.new ≡ out.old ++ (row H.meaning (replica_of self.old) (arrival_of arrival)).1) }
+        ensures err { OnErr result (out.new ≡ out.old) }
     {
         if self.messages >= LAST_MESSAGE {
             return Ok(());
         }
         self.member.arrive(arrival)?;
         self.member.settle()?;
-        let alloc = self.member.alloc;
-        let sends = mem::replace(&mut self.member.sends, Sends::new(alloc));
-        self.messages = post(alloc, self.messages, sends, out)?;
+        let member = &mut self.member;
+        self.messages = post(member.alloc, self.messages, &member.sends, out)?;
+        member.sends.clear();
         Ok(())
     }
 
@@ -139,6 +139,7 @@ impl<H: Host> Node<H> {
         ensures ready { OnOk result (IsReady H.Host self.new) }
         ensures state { OnOk result (replica_of self.new ≡ (read H.meaning (replica_of self.old) replica (peer.reading bytes.now)).0) }
         ensures out { OnOk result (out.new ≡ out.old ++ (read H.meaning (replica_of self.old) replica (peer.reading bytes.now)).1) }
+        ensures err { OnErr result (out.new ≡ out.old) }
     {
         match decode_peer(self.member.alloc, bytes.as_slice()) {
             Ok(message) => {
@@ -159,6 +160,7 @@ impl<H: Host> Node<H> {
         ensures ready { OnOk result (IsReady H.Host self.new) }
         ensures state { OnOk result (replica_of self.new ≡ (steps.fragment H.meaning (replica_of self.old) fragment.now).0) }
         ensures out { OnOk result (out.new ≡ out.old ++ (steps.fragment H.meaning (replica_of self.old) fragment.now).1) }
+        ensures err { OnErr result (out.new ≡ out.old) }
     {
         if !self.member.state.is_other(fragment.replica) {
             return Ok(());
@@ -176,6 +178,7 @@ impl<H: Host> Node<H> {
         ensures ready { OnOk result (IsReady H.Host self.new) }
         ensures state { OnOk result (replica_of self.new ≡ (next H.meaning (replica_of self.old) (given input.entry)).0) }
         ensures out { OnOk result (out.new ≡ out.old ++ (next H.meaning (replica_of self.old) (given input.entry)).1) }
+        ensures err { OnErr result (out.new ≡ out.old) }
     {
         let bytes = match input {
             Input::Tick(tick) => return self.row(Arrival::Ticked(tick), out),
@@ -280,13 +283,11 @@ impl<H: Host> Core for Replica<H> {
         if self.failed {
             return Err(NoMemory);
         }
-        let mut made = Outbox::new(self.node.member.alloc);
-        let acted = self.node.act(input, &mut made);
-        if acted.is_err() || out.append(made).is_err() {
+        let acted = self.node.act(input, out);
+        if acted.is_err() {
             self.failed = true;
-            return Err(NoMemory);
         }
-        Ok(())
+        acted
     }
 
     fn timer(&self, i: u8) -> Option<(Tick, u64)> {

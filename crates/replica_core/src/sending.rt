@@ -50,11 +50,18 @@ impl Sends {
         Ok(())
     }
 
-    /// All of them as a vector, without a copy.
-    pub fn into_vec(self) -> Vec<Sending>
-        ensures sends { result.items ≡ self }
-        ensures fit { AllByRecursion SendingFits self }
+    /// All of them, in order.
+    pub fn as_slice(&self) -> &[Sending]
+        ensures sends { result.now ≡ self.now }
+        ensures fit { AllByRecursion SendingFits self.now }
     {
-        self.sends
+        &self.sends
+    }
+
+    /// None of them is left, but the room for them.
+    pub fn clear(&mut self)
+        ensures { self.new ≡ [] }
+    {
+        self.sends.clear();
     }
 }
