@@ -82,7 +82,7 @@ for scenario in ["leader", "follower", "client", "view-change", "start-view"]:
     for entries in sizes:
         measure("cores", folder + "/crates/cores_bench/out/cores_bench", scenario, entries)
 if os.path.exists(folder + "/plain"):
-    for scenario in ["leader", "follower", "start-view"]:
+    for scenario in ["leader", "follower", "view-change", "start-view"]:
         for entries in sizes:
             measure("plain-rust", folder + "/plain", scenario, entries)
 PYTHON

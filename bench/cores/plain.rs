@@ -1,6 +1,7 @@
-//! The same work in plain Rust, for the leader, a follower and a StartView. The log is a vector, and what was executed stands in
-//! hash maps, without what undoes it.
+//! The same work in plain Rust, for the leader, a follower, a ViewChange and a StartView. The log is a vector, and what was
+//! executed stands in hash maps, without what undoes it.
 
+use std::cmp::Ordering;
 use std::collections::{BTreeMap, HashMap};
 use std::env::args;
 use std::hint::black_box;
@@ -30,6 +31,19 @@ struct StartView {
     view: (u32, u32),
     next: u64,
     log: Vec<Entry>,
+}
+
+struct ViewChange {
+    sender: u8,
+    view: (u32, u32),
+    last_normal: (u32, u32),
+    next: u64,
+    log: Vec<Entry>,
+}
+
+enum Message {
+    Change(ViewChange),
+    Start(StartView),
 }
 
 struct Reply {
@@ -115,14 +129,9 @@ fn split_entry(bytes: &[u8]) -> Option<(Entry, &[u8])> {
     }
 }
 
-fn decode_start_view(bytes: &[u8]) -> Option<StartView> {
-    let ([22, sender], rest) = split(bytes)? else {
-        return None;
-    };
-    let (view, rest) = split_view(rest)?;
-    let (next, rest) = split_u64(rest)?;
-    let (count, mut rest) = split_u32(rest)?;
-    if sender > 6 || next == 0 || next > 1 << 48 || count > 4096 {
+fn split_log(bytes: &[u8]) -> Option<(Vec<Entry>, &[u8])> {
+    let (count, mut rest) = split_u32(bytes)?;
+    if count > 4096 {
         return None;
     }
     let mut log = Vec::with_capacity(rest.len().min(count as usize));
@@ -131,7 +140,68 @@ fn decode_start_view(bytes: &[u8]) -> Option<StartView> {
         log.push(entry);
         rest = after;
     }
-    rest.is_empty().then_some(StartView { sender, view, next, log })
+    Some((log, rest))
+}
+
+fn decode_message(bytes: &[u8]) -> Option<Message> {
+    let ([kind, sender], rest) = split(bytes)?;
+    let (view, rest) = split_view(rest)?;
+    let (last_normal, rest) = match kind {
+        21 => split_view(rest)?,
+        22 => (view, rest),
+        _ => return None,
+    };
+    let (next, rest) = split_u64(rest)?;
+    let (log, rest) = split_log(rest)?;
+    if sender > 6 || next == 0 || next > 1 << 48 || !rest.is_empty() {
+        return None;
+    }
+    Some(match kind {
+        21 => Message::Change(ViewChange { sender, view, last_normal, next, log }),
+        _ => Message::Start(StartView { sender, view, next, log }),
+    })
+}
+
+fn encode_start_view(message: &StartView) -> Vec<u8> {
+    let len = |entry: &Entry| match entry {
+        Entry::NoOp => 1,
+        Entry::Req(request) => 15 + request.op.len(),
+    };
+    let mut to = Vec::with_capacity(22 + message.log.iter().map(len).sum::<usize>());
+    to.push(22);
+    to.push(message.sender);
+    to.extend_from_slice(&message.view.0.to_be_bytes());
+    to.extend_from_slice(&message.view.1.to_be_bytes());
+    to.extend_from_slice(&message.next.to_be_bytes());
+    to.extend_from_slice(&(message.log.len() as u32).to_be_bytes());
+    for entry in &message.log {
+        let Entry::Req(request) = entry else {
+            to.push(0);
+            continue;
+        };
+        to.push(1);
+        to.extend_from_slice(&request.client.to_be_bytes());
+        to.extend_from_slice(&request.id.to_be_bytes());
+        to.extend_from_slice(&(request.op.len() as u16).to_be_bytes());
+        to.extend_from_slice(&request.op);
+    }
+    to
+}
+
+/// The datagrams of a message, one for each 1,400 bytes.
+fn cut(sender: u8, message: u64, bytes: &[u8], out: &mut Vec<Vec<u8>>) {
+    let parts = bytes.chunks(1400);
+    let count = parts.len() as u16;
+    for (index, part) in parts.enumerate() {
+        let mut to = Vec::with_capacity(17 + part.len());
+        to.extend_from_slice(b"NO\x01\x08");
+        to.push(sender);
+        to.extend_from_slice(&message.to_be_bytes());
+        to.extend_from_slice(&(index as u16).to_be_bytes());
+        to.extend_from_slice(&count.to_be_bytes());
+        to.extend_from_slice(part);
+        out.push(to);
+    }
 }
 
 fn encode(reply: &Reply) -> Vec<u8> {
@@ -152,6 +222,9 @@ fn encode(reply: &Reply) -> Vec<u8> {
 struct Replica {
     number: u8,
     view: (u32, u32),
+    is_normal: bool,
+    last_normal: (u32, u32),
+    messages: u64,
     next: u64,
     log: Vec<Entry>,
     queue: BTreeMap<u64, Request>,
@@ -177,6 +250,9 @@ impl Replica {
         Replica {
             number,
             view: (0, 1),
+            is_normal: true,
+            last_normal: (0, 1),
+            messages: 0,
             next: 1,
             log: Vec::new(),
             queue: BTreeMap::new(),
@@ -201,8 +277,8 @@ impl Replica {
         }
     }
 
-    fn execute(&mut self) {
-        while self.executed < self.log.len() {
+    fn execute(&mut self, slot: usize) {
+        while self.executed < slot {
             if let Entry::Req(request) = &self.log[self.executed] {
                 let (client, id, op) = (request.client, request.id, request.op.clone());
                 if self.answers.get(&client).is_none_or(|last| last.0 < id) {
@@ -217,7 +293,7 @@ impl Replica {
     fn reply_at(&mut self, slot: usize, out: &mut Vec<Vec<u8>>) {
         let leads = self.leads();
         if leads {
-            self.execute();
+            self.execute(slot);
         }
         let Entry::Req(request) = &self.log[slot - 1] else {
             return;
@@ -232,16 +308,48 @@ impl Replica {
         out.push(encode(&Reply { replica, view, slot, client, id, tag, result }));
     }
 
-    fn start_view(&mut self, message: StartView, out: &mut Vec<Vec<u8>>) {
-        if u32::from(message.sender) != message.view.0 % 3 || message.view <= self.view {
-            return;
-        }
+    fn adopt(&mut self, message: StartView, out: &mut Vec<Vec<u8>>) {
         self.view = message.view;
+        self.is_normal = true;
+        self.last_normal = message.view;
         self.next = message.next;
         self.log = message.log;
         for slot in 1..=self.log.len() {
             self.reply_at(slot, out);
         }
+    }
+
+    fn start_view(&mut self, message: StartView, out: &mut Vec<Vec<u8>>) {
+        if u32::from(message.sender) == message.view.0 % 3 && message.view > self.view {
+            self.adopt(message, out);
+        }
+    }
+
+    /// The leader of a view that waits for one change more than its own. Of both logs of one view the longer one is taken, with
+    /// the NO-OPs of the other.
+    fn view_change(&mut self, message: ViewChange, out: &mut Vec<Vec<u8>>) {
+        if message.view != self.view || !self.leads() || self.is_normal {
+            return;
+        }
+        let own = std::mem::take(&mut self.log);
+        let (next, log) = match message.last_normal.cmp(&self.last_normal) {
+            Ordering::Less => (self.next, own),
+            Ordering::Greater => (message.next, message.log),
+            Ordering::Equal => {
+                let own_is_longer = message.log.len() <= own.len();
+                let (mut log, other) = if own_is_longer { (own, message.log) } else { (message.log, own) };
+                for (entry, other) in log.iter_mut().zip(&other) {
+                    if let Entry::NoOp = other {
+                        *entry = Entry::NoOp;
+                    }
+                }
+                (self.next.max(message.next), log)
+            }
+        };
+        let start = StartView { sender: self.number, view: self.view, next, log };
+        self.messages += 1;
+        cut(self.number, self.messages, &encode_start_view(&start), out);
+        self.adopt(start, out);
     }
 
     fn step(&mut self, bytes: &[u8]) -> Vec<Vec<u8>> {
@@ -269,8 +377,14 @@ impl Replica {
                     let kept = self.unfinished.remove(&(replica, message)).unwrap();
                     let parts: Vec<Vec<u8>> = kept.parts.into_iter().flatten().collect();
                     let bytes = parts.concat();
-                    if let Some(message) = decode_start_view(&bytes) {
-                        self.start_view(message, &mut out);
+                    match decode_message(&bytes) {
+                        Some(Message::Change(message)) if message.sender == replica => {
+                            self.view_change(message, &mut out);
+                        }
+                        Some(Message::Start(message)) if message.sender == replica => {
+                            self.start_view(message, &mut out);
+                        }
+                        _ => {}
                     }
                 }
             }
@@ -294,25 +408,32 @@ fn stamped(number: u32) -> Vec<u8> {
     to
 }
 
+/// The fragments of replica 2's ViewChange to view (1, 1).
+fn view_change(entries: u32) -> Vec<Vec<u8>> {
+    let mut bytes = b"\x15\x02\0\0\0\x01\0\0\0\x01\0\0\0\0\0\0\0\x01".to_vec();
+    bytes.extend_from_slice(&u64::from(entries + 1).to_be_bytes());
+    log(entries, &mut bytes);
+    let mut fragments = Vec::new();
+    cut(2, 1, &bytes, &mut fragments);
+    fragments
+}
+
 /// The fragments of replica 1's StartView in view (1, 1).
 fn start_view(entries: u32) -> Vec<Vec<u8>> {
     let mut bytes = b"\x16\x01\0\0\0\x01\0\0\0\x01".to_vec();
     bytes.extend_from_slice(&u64::from(entries + 1).to_be_bytes());
-    bytes.extend_from_slice(&entries.to_be_bytes());
+    log(entries, &mut bytes);
+    let mut fragments = Vec::new();
+    cut(1, 1, &bytes, &mut fragments);
+    fragments
+}
+
+fn log(entries: u32, to: &mut Vec<u8>) {
+    to.extend_from_slice(&entries.to_be_bytes());
     for number in 1..=entries {
-        bytes.push(1);
-        request(number, &mut bytes);
+        to.push(1);
+        request(number, to);
     }
-    let parts = bytes.chunks(1400);
-    let count = parts.len() as u16;
-    let fragment = |(index, part): (usize, &[u8])| {
-        let mut to = b"NO\x01\x08\x01\0\0\0\0\0\0\0\x01".to_vec();
-        to.extend_from_slice(&(index as u16).to_be_bytes());
-        to.extend_from_slice(&count.to_be_bytes());
-        to.extend_from_slice(part);
-        to
-    };
-    parts.enumerate().map(fragment).collect()
 }
 
 /// The words are those of the proved program.
@@ -327,16 +448,21 @@ fn main() {
     let (number, datagrams) = match scenario.as_str() {
         "leader" => (0, packets.clone()),
         "follower" => (2, packets.clone()),
+        "view-change" => (1, view_change(entries)),
         _ => (2, start_view(entries)),
     };
     let given = if steps == "idle" { &[] } else { datagrams.as_slice() };
     let mut fastest = (u128::MAX, 0);
     for _ in 0..count {
         let mut replica = Replica::new(number);
-        if scenario == "start-view" {
+        if scenario == "start-view" || scenario == "view-change" {
             for packet in &packets {
                 black_box(replica.step(packet));
             }
+        }
+        if scenario == "view-change" {
+            replica.view = (1, 1);
+            replica.is_normal = false;
         }
         let began = Instant::now();
         let mut outs = 0;

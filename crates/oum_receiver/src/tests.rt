@@ -35,6 +35,7 @@ fn front(receiver: &Receiver) -> Option<Option<u64>> {
     }
 }
 
+/// A packet with an odd number is given away.
 fn offer(
     alloc: Global,
     receiver: &mut Receiver,
@@ -42,7 +43,11 @@ fn offer(
     number: u64,
 ) -> Result<Verdict, Fail> {
     let packet = packet(alloc, session, number)?;
-    let verdict = receiver.offer(&packet).ok().ok_or("memory")?;
+    let verdict = if number % 2 == 0 {
+        receiver.offer(&packet).ok().ok_or("memory")?
+    } else {
+        receiver.offer_owned(packet).ok().ok_or("memory")?
+    };
     Ok(verdict)
 }
 

@@ -1,4 +1,4 @@
-ghost use Rattle.std.specs.Prelude.{◌≡◌, ◌≤◌, IsTrue, length, min, take, OnOk, cond};
+ghost use Rattle.std.specs.Prelude.{◌≡◌, ◌≤◌, ◌↔◌, ℕ, IsTrue, length, min, take, OnOk, cond};
 ghost use Rattle.replica_core.specs.State.{executed_to};
 ghost use Rattle.replica_core.specs.Within.{IsRunning};
 
@@ -7,7 +7,7 @@ use nop_types::{Entry, Host, NoMemory};
 
 /// Whether two entries are one.
 fn same_entry(a: &Entry, b: &Entry) -> bool
-    ensures { IsTrue result → a.now ≡ b.now }
+    ensures { IsTrue result ↔ (a.now ≡ b.now) }
 {
     match (a, b) {
         (Entry::NoOp, Entry::NoOp) => true,
@@ -22,9 +22,15 @@ fn same_entry(a: &Entry, b: &Entry) -> bool
 fn common_front(a: &[Entry], b: &[Entry], most: usize) -> usize
     ensures most { result ≤ most }
     ensures common { take result a.now ≡ take result b.now }
+    ensures longest { (len : ℕ) → len ≤ most → len ≤ length a.now → len ≤ length b.now
+        → take len a.now ≡ take len b.now → len ≤ result }
 {
+    let end = most.min(a.len()).min(b.len());
     let mut len = 0;
-    while len < most && len < a.len() && len < b.len() && same_entry(&a[len], &b[len]) {
+    while len < end {
+        if !same_entry(&a[len], &b[len]) {
+            return len;
+        }
         len += 1;
     }
     len
@@ -39,6 +45,7 @@ impl<H: Host> Member<H> {
         ensures runs { IsRunning H.Host self.new }
         ensures behind { length self.new.executor.undos ≤ slot }
         ensures fewer { length self.new.executor.undos ≤ length self.old.executor.undos }
+        ensures kept { length self.new.executor.undos ≡ min slot (length self.old.executor.undos) }
     {
         if slot < self.executor.executed() {
             self.executor.rewind(&self.state.log, slot);
@@ -54,6 +61,8 @@ impl<H: Host> Member<H> {
         ensures fewer { length self.new.executor.undos ≤ length self.old.executor.undos }
         ensures same { take (length self.new.executor.undos) log.now
             ≡ take (length self.new.executor.undos) self.old.state.log }
+        ensures kept { (len : ℕ) → len ≤ length self.old.executor.undos → len ≤ length log.now
+            → take len self.old.state.log ≡ take len log.now → len ≤ length self.new.executor.undos }
     {
         let executed = self.executor.executed() as usize;
         let common = common_front(self.state.log.as_slice(), log, executed);
