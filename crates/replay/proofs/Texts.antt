@@ -13,9 +13,10 @@ use Rattle.world.specs.WorldSteps.{WorldState, Refusal, Happened, step, run_from
 use Rattle.replay.specs.Output.{BadLine, bad_text, refused_line, history_text, final_text, ending, text_after, schedule_from, rest, begun}
 use Rattle.replay.specs.Output.{output_of_lines, output}
 use Rattle.replay.specs.Progress.{after_step, after_next, after_turn}
-use Rattle.replay.specs.Steps.{bad_line}
+use Rattle.replay.specs.declared.error.ReplayError.TheVariants as errors
+use Rattle.replay.specs.Steps.{RefusesStep, bad_line}
 use Rattle.replay.specs.Outcome.{LeavesSome}
-use Rattle.replay.proofs.Fronts.{part_nil, some_right}
+use Rattle.replay.proofs.Fronts.{front_nil, part_nil, some_right}
 use Rattle.replay.proofs.Runs.{schedule_runs}
 
 pub bad_text_some : (b : BadLine) → bad_text b ≢ []
@@ -37,6 +38,12 @@ refused_unwritten a pending b = part_nil a (pending ++ bad_text b) (some_right p
 -- and of the lines at the end of the input
 pub final_unwritten : (a : Option (List ℕ)) (pending : List ℕ) (w : WorldState) → LeavesSome a a (pending ++ final_text w)
 final_unwritten a pending w = part_nil a (pending ++ final_text w) (some_right pending (final_text w) (final_text_some w))
+
+-- and of an event's lines, where it happened, or of its error line
+pub starved_step : (a : Option (List ℕ)) (pending : List ℕ) (line : ℕ) (r : Result Happened Refusal)
+    → RefusesStep a a pending line r errors.NoMemory
+starved_step a pending line (Ok h) = front_nil a (pending ++ lines_text h.lines)
+starved_step a pending line (Err refusal) = refused_unwritten a pending (refused_line line refusal)
 
 ending_some : (w : WorldState) (bad : Option BadLine) → ending true w bad ≢ []
 ending_some w (Some b) = bad_text_some b

@@ -13,7 +13,6 @@ use schedule_text::{Event, NextError, Rule, error_line};
 use world::{StepError, World};
 
 /// Writes what was gathered and the error line, in which the rule has its number.
-#[tactic(auto, using(crate::proofs::Texts::refused_unwritten))]
 fn refuse<K: Sink>(
     line: u32,
     rule: u8,

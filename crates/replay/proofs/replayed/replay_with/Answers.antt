@@ -1,4 +1,4 @@
-use Rattle.std.proofs.Common.{◌≡◌, ◌∙◌, ◌++◌, List, ℕ, ap, arith}
+use Rattle.std.proofs.Common.{◌≡◌, refl, ◌∙◌, ◌++◌, List, ℕ, ap, arith}
 use Rattle.std.proofs.lemmas.Result.{err_from_is_err_and}
 use Rattle.schedule_text.specs.Reading.{Reading}
 use Rattle.schedule_text.specs.Transcript.{transcript_line}
@@ -32,7 +32,7 @@ loop-turn-init g c =
     c.in_ok-transcript_line.ensures.ok ∙ ap (λ (t : List ℕ). t ++ transcript_line config) c.new-pending.ensures.items in
     record {
       going = (config, rw (text, c.in_ok-world.ensures) going);
-      opened = rw c.in-Ok.ensures.config tt;
+      opened = rw c.in-Ok.ensures.config refl;
       lines = omega (arith, c.in-Ok.ensures.line.0);
       most = c.in-Ok.ensures.line.1;
       read = c.in-Ok.ensures.cause.later;

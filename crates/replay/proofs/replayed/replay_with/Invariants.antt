@@ -11,7 +11,7 @@ invariant-loop-turn g l =
       going : (c : Configuration) × GoingOf g.H.Host.meaning (g.S.Source.left l.fn.source) (g.S.Source.left l.source)
           (g.K.Sink.held l.fn.sink) (g.K.Sink.held l.sink) l.pending.items l.reader c l.world.state;
       opened : IsSome l.reader.config;
-      lines : l.turn < l.reader.line;
+      lines : l._turn < l.reader.line;
       most : l.reader.line ≤ MAX_LINES;
       read : g.S.Source.fault_count l.fn.source ≤ g.S.Source.fault_count l.source;
       write : g.K.Sink.fault_count l.fn.sink ≤ g.K.Sink.fault_count l.sink;
