@@ -57,7 +57,7 @@ module _ {S : Type 0} (m : Meaning S) where
   scheduled w k (Err rule) f = stops_at (record { line = k + 1; rule = rule_number rule; index_sent = None })
   scheduled w k (Ok e) f = stepped k e (step m w e) f
 
-  -- the schedule of the lines from here on, where so many lines lead to this world
+  -- the schedule of the lines from here on, where `k` lines lead to this world
   abbrev pub schedule_from : Configuration → WorldState → ℕ → List (List ℕ) → Schedule
   schedule_from c w k [] = record { events = []; bad = None }
   schedule_from c w k (line ∷ lines) = scheduled w k (event_of c k line) (λ v. schedule_from c v (k + 1) lines)

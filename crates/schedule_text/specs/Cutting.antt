@@ -8,7 +8,7 @@ last_line ended [] = []
 last_line true (b ∷ bs) = (b ∷ bs) ∷ []
 last_line false (b ∷ bs) = []
 
--- The lines, where so many were cut before and this is the line so far. A line is decided by its end, by a byte more than
+-- The lines, where `before` lines were cut before and this is the line so far. A line is decided by its end, by a byte more than
 -- a line may have, or by the first byte of a line more than a schedule may have; after these two nothing is read.
 abbrev pub lines_on : Bool → ℕ → List ℕ → List ℕ → List (List ℕ)
 lines_on ended before line [] = last_line ended line
@@ -18,6 +18,6 @@ lines_on ended before line (b ∷ bs) =
     else if length line == MAX_LINE_BYTES then (line ++ b ∷ []) ∷ []
     else lines_on ended before (line ++ b ∷ []) bs
 
--- the lines of the bytes, where so many were cut before; whether the input ends with these bytes
+-- the lines of the bytes, where `before` lines were cut before; whether the input ends with these bytes
 unfoldable pub lines_of : Bool → ℕ → List ℕ → List (List ℕ)
 lines_of ended before bytes = lines_on ended before [] bytes

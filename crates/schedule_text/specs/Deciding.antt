@@ -4,11 +4,11 @@ use Rattle.nop_types.specs.declared.limits.TheConstants.{MAX_LINE_BYTES, MAX_LIN
 use Rattle.schedule_text.specs.declared.first_line.FirstLine.{FirstLine}
 use Rattle.schedule_text.specs.Cutting.{lines_of}
 
--- no line ends in the first bytes, so many of them
+-- no line ends in the first `count` bytes
 abbrev pub HasNoEnd : ℕ → List ℕ → Type 0
 HasNoEnd count bytes = (k : ℕ) → k < count → slice_index bytes k ≢ 10
 
--- so many of the bytes were searched for a line end
+-- the first `count` bytes were searched for a line end
 pub record IsSearched (count : ℕ) (bytes : List ℕ) : Type 0 where
   pub within : count ≤ length bytes
   pub short : count ≤ MAX_LINE_BYTES
@@ -30,7 +30,7 @@ pub record Follows (was_ended ended : Bool) (more : List ℕ) : Type 0 where
   pub nothing : was_ended ≡ true → more ≡ []
   pub end : was_ended ≡ true → ended ≡ true
 
--- The first line of the bytes behind so many lines, whatever follows them. Behind one that is not too long stand the lines of the bytes
+-- The first line of the bytes behind `before` lines, whatever follows them. Behind one that is not too long stand the lines of the bytes
 -- after it.
 pub record IsFirstLine (before : ℕ) (was_ended : Bool) (bytes : List ℕ) (first : FirstLine) : Type 0 where
   pub len : first.len ≤ first.end

@@ -4,7 +4,7 @@ use Rattle.schedule_text.specs.declared.next_error.NextError.{NextError}
 use Rattle.schedule_text.specs.declared.next_error.NextError.TheVariants.{BadLine, ReadFault, NoMemory}
 use Rattle.std.specs.Io.KnownBytes.{Consumes, Keeps, IsAtEnd}
 
--- so many bytes went from the source to the end of the buffer
+-- `count` bytes went from the source to the end of the buffer
 pub record Fills (before left : Option (List ℕ)) (old new : List ℕ) (count : ℕ) : Type 0 where
   pub piece : List ℕ
   pub counted : length piece ≡ count

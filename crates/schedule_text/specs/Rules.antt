@@ -131,7 +131,7 @@ plain_line line =
 unfoldable pub header_of : List ℕ → Result Configuration Rule
 header_of line = plain_line line >>= λ text. header_of_fields (fields text)
 
--- any other line, where so many lines stand before it
+-- any other line, where `before` lines stand before it
 unfoldable pub event_of : Configuration → ℕ → List ℕ → Result Event Rule
 event_of c before line =
     if nat_le MAX_LINES before then Err TooManyLines

@@ -47,7 +47,7 @@ impl Buffer {
         &self.bytes[self.start..self.end]
     }
 
-    /// Drops so many bytes from the front.
+    /// Drops the first `count` bytes.
     pub(crate) fn advance(&mut self, count: usize)
         requires { count ≤ length self.old }
         ensures { self.new ≡ drop count self.old }

@@ -185,7 +185,7 @@ fn crash(config: Config, rest: Option<&[u8]>) -> Result<Event, Rule>
     Ok(Event::Crash(one))
 }
 
-/// The event of any other line, before which so many lines stand, or the rule that it breaks.
+/// The event of any other line, or the rule that it breaks; `before` is the number of lines before it.
 #[tactic(auto, unfolding(crate::specs::Rules::event_of))]
 pub fn event(alloc: Global, config: Config, before: u32, line: &[u8]) -> Result<Event, LineError>
     ensures { IsAnswer result (event_of config before line.now) }

@@ -20,7 +20,7 @@ sends_of from (outs.Submitted r ∷ rest) = sends_of from rest
 sends_of from (outs.Accepted client id result ∷ rest) = sends_of from rest
 sends_of from (outs.Busy client ∷ rest) = sends_of from rest
 
--- a line for each output, where so many datagrams were sent before
+-- a line for each output, where `count` datagrams were sent before
 abbrev pub lines_from : Actor → ℕ → List Out → List Line
 lines_from from count [] = []
 lines_from from count (outs.Send dest bytes ∷ rest) = Send count from dest bytes ∷ lines_from from (count + 1) rest

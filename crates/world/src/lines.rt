@@ -25,7 +25,7 @@ pub struct Tally {
     pub accepts: u32,
 }
 
-/// One more; a count past its type answers want of memory, since no memory holds so many outputs.
+/// One more; a count past its type answers NoMemory, since no memory holds so many outputs.
 fn raised(count: u32) -> Result<u32, NoMemory>
     ensures { IfOk result (λ n. n ≡ count + 1) }
 {

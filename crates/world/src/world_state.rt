@@ -169,7 +169,7 @@ impl<H: Host> World<H> {
         })
     }
 
-    /// One event. A refused event changes nothing; after want of memory each later step answers it too.
+    /// One event. A refused event changes nothing; after NoMemory each later step answers it again.
     pub fn step(&mut self, event: &Event) -> Result<Lines, StepError>
         ensures ok { IfOk result (Happens (step H.meaning self.old.state event.now)
             self.new.state) }
