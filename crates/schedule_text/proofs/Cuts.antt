@@ -1,9 +1,9 @@
 -- Where lines are cut.
-use Rattle.std.proofs.Common.{◌≡◌, ◌≢◌, ℕ, zero, suc, ◌+◌, ◌<◌, ◌≤◌, Bool, true, false, eqb, ltb, leb, List, [], ◌∷◌, ◌++◌, length}
-use Rattle.std.proofs.Common.{get_or, take, drop, refl, sym, ap, ◌∙◌, arith, append_assoc}
-use Rattle.std.proofs.lemmas.List.{append-nil, length-append, length_push}
+use Rattle.std.proofs.Common.{◌≡◌, ◌≢◌, ℕ, suc, ◌+◌, ◌<◌, ◌≤◌, Bool, true, false, eqb, leb, List, [], ◌∷◌, ◌++◌, length}
+use Rattle.std.proofs.Common.{refl, ap, ◌∙◌, arith, append_assoc}
+use Rattle.std.proofs.lemmas.List.{append-nil, length_push}
 use Rattle.std.proofs.lemmas.Bool.Decides.{nat_tests}
-use Rattle.schedule_text.specs.Cutting.{lines_on, lines_of, last_line}
+use Rattle.schedule_text.specs.Cutting.{lines_on, last_line}
 use Rattle.schedule_text.specs.Deciding.{HasNoEnd}
 
 none_here : (b : ℕ) (line : List ℕ) → HasNoEnd (length (b ∷ line)) (b ∷ line) → b ≢ 10

@@ -1,11 +1,10 @@
 -- Which line is the first.
-use Rattle.std.proofs.Common.{◌≡◌, ◌≢◌, ℕ, zero, suc, ◌+◌, ◌-◌, ◌<◌, ◌≤◌, le_refl, min, Bool, true, false, eqb, ltb, leb, List, [], ◌∷◌}
+use Rattle.std.proofs.Common.{◌≡◌, ℕ, ◌+◌, ◌<◌, ◌≤◌, le_refl, Bool, true, false, List, [], ◌∷◌}
 use Rattle.std.proofs.Common.{◌++◌, length, get_or, take, drop, refl, sym, ap, ◌∙◌, arith, append_assoc}
-use Rattle.std.proofs.lemmas.List.{append-nil, length-append, length_push, take-append-drop, drop_more, length-take-le, get_or-take}
+use Rattle.std.proofs.lemmas.List.{append-nil, take-append-drop, drop_more, length-take-le, get_or-take}
 use Rattle.std.proofs.lemmas.List.{drop_all, take_all}
-use Rattle.schedule_text.specs.declared.first_line.FirstLine.{FirstLine}
 use Rattle.schedule_text.specs.Cutting.{lines_on, lines_of, last_line}
-use Rattle.schedule_text.specs.Deciding.{HasNoEnd, IsSearched, IsFirstEnd, IsFirstLine, IsUndecided, Follows, reach}
+use Rattle.schedule_text.specs.Deciding.{HasNoEnd, IsFirstEnd, IsFirstLine, IsUndecided}
 use Rattle.schedule_text.proofs.Cuts.{cut_end, cut_long, cut_last, cut_past}
 
 -- a front without a line end, as a list of its own

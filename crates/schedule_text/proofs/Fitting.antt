@@ -1,15 +1,13 @@
 -- What is read from lines is in its ranges.
-use Rattle.std.proofs.Common.{◌≡◌, ℕ, ◌+◌, ◌*◌, ◌≤◌, Bool, true, false, Option, Some, None, refl, sym, ap, subst, ◌∙◌, arith, length}
+use Rattle.std.proofs.Common.{◌≡◌, ℕ, ◌*◌, ◌≤◌, Bool, true, false, Option, Some, None, refl, ap, subst, arith, length}
 use Rattle.std.proofs.Common.{List, [], ◌∷◌}
 use Rattle.std.specs.Prelude.{codes, nat_le, Result, Ok, Err, if◌then◌else◌}
-use Rattle.std.proofs.lemmas.Bool.Decides.{nat_tests}
 use Rattle.std.proofs.lemmas.Bool.{leb-true}
 use Rattle.hex.specs.Hex.{decode_of}
 use Rattle.hex.specs.declared.error.FromHexError.{FromHexError}
 use Rattle.hex.proofs.HexLemmas.{decode_of-ok}
-use Rattle.nop_types.specs.declared.limits.TheConstants.{MAX_OP_BYTES, MAX_LINES}
+use Rattle.nop_types.specs.declared.limits.TheConstants.{MAX_LINES}
 use Rattle.nop_types.specs.Configuration.{Configuration, is_configuration}
-use Rattle.nop_types.specs.declared.output.Actor.{Actor}
 use Rattle.schedule_text.specs.declared.event.Event.{Event}
 use Rattle.schedule_text.specs.declared.event.Event.TheVariants.{Submit, Deliver, Crash}
 use Rattle.schedule_text.specs.Fields.{is_text, number_of, actor_of, client_number, as_option, bytes_of, fields}
@@ -17,7 +15,7 @@ use Rattle.schedule_text.specs.Fits.{EventFits}
 use Rattle.schedule_text.specs.declared.rule.Rule.{Rule}
 use Rattle.schedule_text.specs.declared.rule.Rule.TheVariants.{WrongWord, WrongField, WrongHex, WrongActor, TooManyLines}
 use Rattle.schedule_text.specs.Rules.{Read, ◌>>=◌, or_rule, keeps_rule, max_op_text, submit_event, deliver_event, crash_event, submit_of}
-use Rattle.schedule_text.specs.Rules.{deliver_of, crash_of, event_of_fields, configuration_of, count_of, header_counts, header_rest}
+use Rattle.schedule_text.specs.Rules.{deliver_of, crash_of, event_of_fields, configuration_of, count_of, header_rest}
 use Rattle.schedule_text.specs.Rules.{header_of_fields, plain_line, header_of, event_of}
 
 -- a step that gave a value, and what came of it

@@ -1,11 +1,11 @@
 -- Steps of a reader, one after the other.
-use Rattle.std.proofs.Common.{◌≡◌, ℕ, Bool, true, false, List, [], ◌∷◌, ◌++◌, Option, Some, None, Result, Ok, Err, refl, sym, ap, subst}
+use Rattle.std.proofs.Common.{◌≡◌, ℕ, Bool, true, false, List, [], ◌∷◌, ◌++◌, Option, Some, None, Result, Err, refl, sym, ap, subst}
 use Rattle.std.proofs.Common.{◌∙◌, append_assoc}
 use Rattle.std.proofs.lemmas.Bool.{false≢true}
 use Rattle.schedule_text.specs.declared.event.Event.{Event}
 use Rattle.schedule_text.specs.declared.next_error.NextError.{NextError}
 use Rattle.schedule_text.specs.declared.next_error.NextError.TheVariants.{NoMemory}
-use Rattle.schedule_text.specs.Reading.{Reading, MayFollow, IsTurn, turn_of, Turn, Takes, TakesOf}
+use Rattle.schedule_text.specs.Reading.{Reading, MayFollow, turn_of, Takes, TakesOf}
 use Rattle.schedule_text.specs.Stepping.{Answers}
 
 -- of two lists that make the empty one

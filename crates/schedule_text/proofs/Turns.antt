@@ -1,6 +1,6 @@
 -- A line that is taken.
-use Rattle.std.proofs.Common.{◌≡◌, ℕ, zero, ◌+◌, ◌<◌, ◌≤◌, Bool, true, false, leb, List, [], ◌∷◌, ◌++◌, length, take, drop, Option, Some}
-use Rattle.std.proofs.Common.{None, Result, Ok, Err, refl, sym, ap, ◌∙◌, inl, inr, arith, if◌then◌else◌}
+use Rattle.std.proofs.Common.{◌≡◌, ℕ, ◌+◌, ◌<◌, ◌≤◌, Bool, true, false, leb, List, [], ◌++◌, length, take, drop, Some}
+use Rattle.std.proofs.Common.{None, Ok, Err, refl, sym, ap, ◌∙◌, inl, inr, arith, if◌then◌else◌}
 use Rattle.std.proofs.lemmas.Bool.{false≢true}
 use Rattle.std.proofs.lemmas.Bool.Decides.{nat_tests}
 use Rattle.std.proofs.lemmas.List.{append-nil, length-take-le}
@@ -13,7 +13,7 @@ use Rattle.schedule_text.specs.Rules.{Read, rule_number, ◌>>=◌, plain_line, 
 use Rattle.schedule_text.specs.Fields.{fields}
 use Rattle.schedule_text.specs.Cutting.{lines_of}
 use Rattle.schedule_text.specs.Deciding.{IsFirstLine, IsUndecided, Follows}
-use Rattle.schedule_text.specs.Reading.{Reading, MayFollow, lines_before, turn, turn_of, turn_after, event_turn, header_turn}
+use Rattle.schedule_text.specs.Reading.{Reading, MayFollow, lines_before, turn, turn_after, event_turn, header_turn}
 use Rattle.schedule_text.proofs.Firsts.{no_lines}
 use Rattle.schedule_text.specs.Stepping.{IsReader, Answers, NeedsNoRead}
 

@@ -1,5 +1,5 @@
 -- What a buffer takes from a source.
-use Rattle.std.specs.Prelude.{◌≡◌, ℕ, List, [], ◌++◌, length, Option, Some, None, Result, Ok, Err, ⊤}
+use Rattle.std.specs.Prelude.{◌≡◌, ℕ, List, ◌++◌, length, Option, Result, Ok, Err}
 use Rattle.schedule_text.specs.declared.next_error.NextError.{NextError}
 use Rattle.schedule_text.specs.declared.next_error.NextError.TheVariants.{BadLine, ReadFault, NoMemory}
 use Rattle.std.specs.Io.KnownBytes.{Consumes, Keeps, IsAtEnd}

@@ -1,4 +1,4 @@
-use Rattle.std.proofs.Common.{◌≡◌, refl, ◌≤◌, ◌-◌, ◌++◌, ◌∙◌, ap, List, ℕ, length, take, replicate, arith, slice_range, vec_len}
+use Rattle.std.proofs.Common.{◌≡◌, refl, ◌≤◌, ◌-◌, ◌++◌, ◌∙◌, length, take, replicate, arith, slice_range, vec_len}
 use Rattle.schedule_text.proofs.Filled.{kept, within-kept, moved}
 use Rattle.schedule_text.proofs.buffer.move_to_front.Goals as goal
 use Rattle.schedule_text.proofs.buffer.move_to_front.Goals.{then-len-size+in_ok-resize, else-len-size}

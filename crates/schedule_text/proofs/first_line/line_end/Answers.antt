@@ -1,5 +1,4 @@
-use Rattle.std.proofs.Common.{◌≡◌, ◌≤◌, length, min, arith, ap, ◌∙◌}
-use Rattle.schedule_text.specs.Deciding.{HasNoEnd}
+use Rattle.std.proofs.Common.{arith}
 use Rattle.schedule_text.proofs.Searched.{none, found}
 use Rattle.schedule_text.proofs.first_line.line_end.Goals as goal
 

@@ -1,4 +1,4 @@
-use Rattle.std.proofs.Common.{◌≡◌, ◌≤◌, ◌<◌, ◌+◌, ◌-◌, ◌∙◌, ap, sym, List, ℕ, length, take, drop, arith, slice_range}
+use Rattle.std.proofs.Common.{◌≡◌, ◌≤◌, ◌+◌, ◌-◌, ◌∙◌, ap, sym, List, ℕ, length, take, drop, arith, slice_range}
 use Rattle.std.proofs.lemmas.List.{with_items_is, length-take-le, length-drop}
 use borrow.Rule.Slice.PartMut.{put_mid}
 use Rattle.schedule_text.proofs.Filled.{length-part, length-put, put}

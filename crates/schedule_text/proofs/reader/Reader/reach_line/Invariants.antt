@@ -1,4 +1,4 @@
-use Rattle.std.proofs.Common.{◌≡◌, ◌≤◌, ◌+◌, ◌-◌, ℕ, Bool, true, false, length, Err}
+use Rattle.std.proofs.Common.{◌≡◌, ◌≤◌, ◌-◌, ℕ, Bool, true, false, length, Err}
 use Rattle.schedule_text.specs.declared.next_error.NextError.TheVariants.{NoMemory}
 use Rattle.schedule_text.specs.Reading.{TakesOf}
 use Rattle.schedule_text.specs.Stepping.{NeedsNoRead}
