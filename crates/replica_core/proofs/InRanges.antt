@@ -1,5 +1,5 @@
 -- Rows stay in their ranges, and send only what is in its ranges.
-use Rattle.std.proofs.Common.{◌≡◌, ◌≢◌, ◌<◌, ◌≤◌, ◌+◌, ◌-◌, ℕ, zero, suc, Bool, true, false, cond, Option, Some, None, refl, sym, ap, subst}
+use Rattle.std.proofs.Common.{◌≡◌, ◌≢◌, ◌<◌, ◌≤◌, ◌+◌, ◌-◌, ℕ, zero, suc, Bool, true, false, cond, Option, Some, None, refl, ap, subst}
 use Rattle.std.proofs.Common.{◌∙◌, arith, List, [], ◌∷◌, ◌++◌, length, take, drop}
 use Rattle.std.specs.Prelude.{◌&&◌, ◌==◌, not, nat_lt, nat_le, max, IfSome, slice_get}
 use Rattle.std.specs.List.{AllByRecursion}
@@ -27,7 +27,7 @@ use Rattle.nop_types.specs.Execution.{result_at}
 use Rattle.nop_types.specs.Lists.{slot_of}
 use Rattle.nop_types.specs.Meaning.{Meaning}
 use Rattle.nop_types.specs.Ranges.{ViewFits, RequestFits, EntryFits, LogFits, NextFits, SlotFits, StampedFits, BodyFits, PeerFits}
-use Rattle.nop_types.specs.Ranges.{ReplyFits, ChangeFits}
+use Rattle.nop_types.specs.Ranges.{ChangeFits}
 use Rattle.nop_types.specs.Views.{is_view, join_of}
 use Rattle.gap_agree.specs.Agreement.{Agreement, counted}
 use Rattle.gap_agree.specs.Votes.{vote_of}
@@ -35,7 +35,7 @@ use Rattle.log_merge.specs.Starting as starting
 use Rattle.oum_receiver.specs.declared.verdict.Verdict.{Verdict}
 use Rattle.oum_receiver.specs.declared.verdict.Verdict.TheVariants as verdicts
 use Rattle.oum_receiver.specs.Front.{Front, Nothing, Message, Dropped, front_at}
-use Rattle.oum_receiver.specs.Receiving.{Receiving, QueuedFits, IsSound, opened, judged, verdict_of, offered, front_of, front_taken}
+use Rattle.oum_receiver.specs.Receiving.{Receiving, QueuedFits, IsSound, opened, judged, verdict_of, offered, front_of}
 use Rattle.oum_receiver.specs.Receiving.{advanced}
 use Rattle.oum_receiver.proofs.Sound.{opened_sound, offered_sound, taken_sound, advanced_sound}
 use Rattle.replica_log.proofs.InRanges.{front_fits}
@@ -48,48 +48,9 @@ use Rattle.view_change.specs.Gathering as gathering
 use Rattle.replica_core.specs.declared.sending.Sending.{Sending}
 use Rattle.replica_core.specs.declared.state.ReplicaState.{ReplicaState}
 use Rattle.replica_core.specs.State.{others, leader, leads, is_normal, drains, waits, waiting, has_room, may_append}
-use Rattle.replica_core.specs.Sends.{Effect, still, then_do, when, message, to_replica, to_leader, to_all, to_all_if, SendingFits}
-use Rattle.replica_core.specs.Replies.{reply_with, leader_reply, reply_if, reply_to, reply_for, replies_to, replies_above}
-use Rattle.replica_core.specs.Moves.{
-  queue,
-  begin_session,
-  logged,
-  take_front,
-  appended,
-  fill,
-  ask,
-  ask_if,
-  gap_opened,
-  open_gap,
-  write_gap,
-  add_gap,
-  count_gap_vote,
-  drain_drop,
-  drain_at,
-  drain_by,
-  drain,
-  listening,
-  entered,
-  own_change,
-  change_told,
-  enter_as,
-  enter,
-  listening_from,
-  adopted,
-  adopt,
-  open_with,
-  open_view,
-  open_if_enough,
-  keep_change,
-  resend_start,
-  overlaid,
-  overlay,
-  obey,
-  open_sync,
-  repeat_commit,
-  commit_if,
-  count_sync_vote,
-}
+use Rattle.replica_core.specs.Sends.{Effect, still, then_do, when, to_replica, to_leader, to_all, to_all_if, SendingFits}
+use Rattle.replica_core.specs.Replies.{leader_reply, reply_if, reply_to, reply_for, replies_to, replies_above}
+use Rattle.replica_core.specs.Moves.{queue, begin_session, logged, take_front, appended, fill, ask_if, gap_opened, open_gap, write_gap, add_gap, count_gap_vote, drain_drop, drain_at, drain_by, drain, listening, entered, own_change, change_told, enter_as, enter, adopted, adopt, open_with, open_view, open_if_enough, keep_change, resend_start, overlaid, overlay, obey, open_sync, repeat_commit, commit_if}
 use Rattle.replica_core.specs.Rows as rows
 use Rattle.replica_core.specs.Messages.{
   Arrival,

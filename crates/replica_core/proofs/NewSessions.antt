@@ -1,12 +1,11 @@
 -- A packet of a greater session, and entering a view where there are others.
-use Rattle.std.proofs.Common.{◌≡◌, ◌<◌, ℕ, zero, suc, Bool, true, false, cond, refl, sym, ap, subst, ◌∙◌, arith, List, [], ◌++◌, length}
-use Rattle.std.specs.Prelude.{◌-◌, ◌/◌, ◌==◌, ◌&&◌, not, nat_lt}
+use Rattle.std.proofs.Common.{◌≡◌, ◌<◌, Bool, true, false, refl, sym, ap, subst, ◌∙◌, arith, List, ◌++◌}
+use Rattle.std.specs.Prelude.{◌/◌, ◌==◌, ◌&&◌, not, nat_lt}
 use Rattle.std.proofs.lemmas.Bool.Decides.{nat_tests}
 use Rattle.std.proofs.lemmas.List.{append-nil}
-use Rattle.nop_types.specs.declared.limits.TheConstants.{MAX_SLOTS}
 use Rattle.nop_types.specs.declared.view.View.{View}
 use Rattle.nop_types.specs.declared.replica_state.Phase.{Phase}
-use Rattle.nop_types.specs.declared.replica_state.Phase.TheVariants.{Normal, Change}
+use Rattle.nop_types.specs.declared.replica_state.Phase.TheVariants.{Change}
 use Rattle.nop_types.specs.declared.datagram.Stamped.{Stamped}
 use Rattle.nop_types.specs.declared.peer.Body.TheVariants as bodies
 use Rattle.nop_types.specs.Configuration.{Configuration}
@@ -17,9 +16,9 @@ use Rattle.oum_receiver.specs.Receiving.{Receiving, verdict_of, judged, offered,
 use Rattle.replica_core.specs.declared.sending.Sending.{Sending}
 use Rattle.replica_core.specs.declared.state.ReplicaState.{ReplicaState}
 use Rattle.replica_core.specs.State.{others, leads, drains, is_normal, waits, has_room}
-use Rattle.replica_core.specs.Sends.{Effect, still, then_do, to_all_if}
+use Rattle.replica_core.specs.Sends.{Effect, then_do, to_all_if}
 use Rattle.replica_core.specs.Moves.{session_view, begin_session, queue, drain, left, listening, entered, enter_as, enter, change_told}
-use Rattle.replica_core.specs.Rows.{enter_view, enter_and_drain}
+use Rattle.replica_core.specs.Rows.{enter_and_drain}
 use Rattle.replica_core.proofs.Draining.{drains_nothing}
 use Rattle.replica_core.proofs.Opening.{enters_with_others}
 

@@ -6,7 +6,6 @@ use Rattle.nop_types.specs.declared.host.Host.{Ghosts}
 use Rattle.nop_types.specs.declared.limits.TheConstants.{MAX_REPLICAS}
 use Rattle.nop_types.specs.declared.request.Entry.{Entry}
 use Rattle.nop_types.specs.Configuration.{Configuration, is_configuration}
-use Rattle.nop_types.specs.Meaning.{Meaning}
 use Rattle.facts.proofs.Limits.{is_configuration-few_replicas}
 use Rattle.executor.specs.Undoing.{HasExecuted}
 use Rattle.fragments.specs.Joining as joining
