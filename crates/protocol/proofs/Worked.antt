@@ -1,10 +1,10 @@
 -- The worked runs: each move may be made, and they end where they should.
-use Rattle.std.proofs.Common.{◌<◌, refl, ap, arith}
+use Rattle.std.proofs.Common.{◌≡◌, ℕ, zero, suc, ◌<◌, false, refl, ap, arith}
 use Rattle.nop_types.specs.declared.view.View.{View}
 use Rattle.nop_types.specs.Meaning.{Meaning}
-use Rattle.nop_types.specs.Views.{AtMost, Below, first_view}
+use Rattle.nop_types.specs.Views.{AtMost, Below, first_view, outranks}
 use Rattle.gap_agree.specs.Votes.{with_vote}
-use Rattle.protocol.specs.Conf.{opening}
+use Rattle.protocol.specs.Conf.{opening, last_normals}
 use Rattle.protocol.specs.Runs.{run, MayAll}
 use Rattle.protocol.specs.Worked.{three, view, put_request, get_request, gap_run, GapRun, GapRunEnds, session_run, SessionRun, SessionRunEnds, sync_run, SyncRun, SyncRunEnds}
 use Rattle.protocol.proofs.Receivers.{front_first, front_second, front_passed, front_early, front_late}
@@ -84,8 +84,15 @@ module _ {S : Type 0} (m : Meaning S) where
     second = record { status = refl; view = refl; last_normal = refl; log = refl; sync_point = refl };
     third = record { status = refl; view = refl; last_normal = refl; log = refl; sync_point = refl };
     lines = refl;
+    main = record { held = (1, one_of, refl); greatest = greatest; current = refl };
     history = refl;
   }
+    where
+      greatest : (r : ℕ) → r < 3 → outranks (last_normals (run m 1 (opening (three 1 2)) (gap_run m)) r) (view 1 1) ≡ false
+      greatest zero low = refl
+      greatest (suc zero) low = refl
+      greatest (suc (suc zero)) low = refl
+      greatest (suc (suc (suc r))) low = absurd (omega (arith, low))
 
   pub gap_run_ends : GapRunEnds m
   gap_run_ends = (gap_allowed, gap_ends)
@@ -118,8 +125,15 @@ module _ {S : Type 0} (m : Meaning S) where
     second = record { status = refl; view = refl; last_normal = refl; log = refl; sync_point = refl };
     third = record { status = refl; view = refl; last_normal = refl; log = refl; sync_point = refl };
     lines = refl;
+    main = record { held = (1, one_of, refl); greatest = greatest; current = refl };
     history = refl;
   }
+    where
+      greatest : (r : ℕ) → r < 3 → outranks (last_normals (run m 1 (opening (three 2 1)) (session_run m)) r) (view 1 2) ≡ false
+      greatest zero low = refl
+      greatest (suc zero) low = refl
+      greatest (suc (suc zero)) low = refl
+      greatest (suc (suc (suc r))) low = absurd (omega (arith, low))
 
   pub session_run_ends : SessionRunEnds m
   session_run_ends = (session_allowed, session_ends)
@@ -149,8 +163,15 @@ module _ {S : Type 0} (m : Meaning S) where
     second = record { status = refl; view = refl; last_normal = refl; log = refl; sync_point = refl };
     third = record { status = refl; view = refl; last_normal = refl; log = refl; sync_point = refl };
     lines = refl;
+    main = record { held = (0, zero_of, refl); greatest = greatest; current = refl };
     history = refl;
   }
+    where
+      greatest : (r : ℕ) → r < 3 → outranks (last_normals (run m 1 (opening (three 1 1)) (sync_run m)) r) first_view ≡ false
+      greatest zero low = refl
+      greatest (suc zero) low = refl
+      greatest (suc (suc zero)) low = refl
+      greatest (suc (suc (suc r))) low = absurd (omega (arith, low))
 
   pub sync_run_ends : SyncRunEnds m
   sync_run_ends = (sync_allowed, sync_ends)

@@ -14,8 +14,9 @@ use Rattle.nop_types.specs.Lines as lines
 use Rattle.nop_types.specs.Lines.{Line}
 use Rattle.nop_types.specs.Meaning.{Meaning}
 use Rattle.nop_types.specs.Views.{first_view}
+use Rattle.started_views.specs.Settled.{MainLog}
 use Rattle.view_change.specs.Gathering.{Gathering}
-use Rattle.protocol.specs.Conf.{Conf, opening}
+use Rattle.protocol.specs.Conf.{Conf, opening, last_normals}
 use Rattle.protocol.specs.Member.{Member}
 use Rattle.protocol.specs.Runs.{Queue, TakeFront, OpenGap, CountGapVote, AddGap, Enter, KeepChange, OpenView, Adopt, Overlay, Obey, OpenSync, CountSyncVote, Move, Acts, MoveTo, Install, Stamp, Submit, Keep, Accept, run, MayAll}
 
@@ -106,7 +107,8 @@ module _ {S : Type 0} (m : Meaning S) where
     pub second : StandsAt (c.replicas 1) (view 1 1) gap_log 0
     pub third : StandsAt (c.replicas 2) (view 1 1) gap_log 0
     pub lines : c.lines ≡ lines.Submit put_request ∷ lines.Submit get_request ∷ lines.Accept 1 1 got ∷ []
-    pub history : history_of (c.replicas 1).log ≡ get_request ∷ []
+    pub main : MainLog 1 (last_normals c) c.past (view 1 1) gap_log
+    pub history : history_of gap_log ≡ get_request ∷ []
 
   abbrev pub GapRunEnds : Type 0
   GapRunEnds = MayAll m 1 (opening (three 1 2)) gap_run × GapRun (run m 1 (opening (three 1 2)) gap_run)
@@ -138,7 +140,8 @@ module _ {S : Type 0} (m : Meaning S) where
     pub second : StandsAt (c.replicas 1) (view 1 2) (Req put_request ∷ []) 0
     pub third : StandsAt (c.replicas 2) (view 1 2) (Req put_request ∷ []) 0
     pub lines : c.lines ≡ lines.Submit put_request ∷ lines.Accept 0 1 put_answer ∷ []
-    pub history : history_of (c.replicas 1).log ≡ put_request ∷ []
+    pub main : MainLog 1 (last_normals c) c.past (view 1 2) (Req put_request ∷ [])
+    pub history : history_of (Req put_request ∷ []) ≡ put_request ∷ []
 
   abbrev pub SessionRunEnds : Type 0
   SessionRunEnds = MayAll m 1 (opening (three 2 1)) session_run × SessionRun (run m 1 (opening (three 2 1)) session_run)
@@ -158,7 +161,8 @@ module _ {S : Type 0} (m : Meaning S) where
     pub second : StandsAt (c.replicas 1) first_view (Req put_request ∷ []) 0
     pub third : StandsAt (c.replicas 2) first_view (Req put_request ∷ []) 1
     pub lines : c.lines ≡ lines.Submit put_request ∷ []
-    pub history : history_of (c.replicas 0).log ≡ put_request ∷ []
+    pub main : MainLog 1 (last_normals c) c.past first_view (Req put_request ∷ [])
+    pub history : history_of (Req put_request ∷ []) ≡ put_request ∷ []
 
   abbrev pub SyncRunEnds : Type 0
   SyncRunEnds = MayAll m 1 (opening (three 1 1)) sync_run × SyncRun (run m 1 (opening (three 1 1)) sync_run)

@@ -64,17 +64,18 @@ abbrev pub RunsAreSafe : {S : Type 0} → Meaning S → Type 0
 RunsAreSafe m = (f : ℕ) (config : Configuration) (xs : List Move) → config.replicas ≡ 2 * f + 1
     → MayAll m f (opening config) xs → Safe m f (run m f (opening config) xs)
 
+-- all that was stamped, said, logged, replied and accepted in a run is sound
 abbrev pub RunsAreSound : {S : Type 0} → Meaning S → Type 0
 RunsAreSound m = (f : ℕ) (config : Configuration) (xs : List Move) → config.replicas ≡ 2 * f + 1
     → MayAll m f (opening config) xs → Sound m f (run m f (opening config) xs)
 
--- and goes on soundly, whatever moves are made after it
+-- what a run has reached, no later move takes back
 abbrev pub RunsGoOn : {S : Type 0} → Meaning S → Type 0
 RunsGoOn m = (f : ℕ) (config : Configuration) (xs ys : List Move) → config.replicas ≡ 2 * f + 1
     → MayAll m f (opening config) xs → MayAll m f (run m f (opening config) xs) ys
     → GoesOn f (run m f (opening config) xs) (run m f (run m f (opening config) xs) ys)
 
--- and where they say each StartView again as the start itself, each that was sent tells the start
+-- where each StartView that is said again tells the start of its view, each that was sent does
 abbrev pub StartsStayWhole : {S : Type 0} → Meaning S → Type 0
 StartsStayWhole m = (f : ℕ) (config : Configuration) (xs : List Move) → config.replicas ≡ 2 * f + 1 → MayAll m f (opening config) xs
     → AllSayStarts m f (opening config) xs → StartsAreWhole (run m f (opening config) xs)
