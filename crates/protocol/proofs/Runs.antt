@@ -59,7 +59,7 @@ module _ {S : Type 0} (m : Meaning S) (f : ℕ) where
   happens_keeps c (Installed k) inv may = installed_keeps m f c inv k
   happens_keeps c (Install j s) inv may = install_keeps m f c inv j s may
   happens_keeps c (Stamp j r) inv may = stamp_keeps m f c inv j r may
-  happens_keeps c (Submit k op) inv may = submit_keeps m f c inv k op may
+  happens_keeps c (Submit k op waiting) inv may = submit_keeps m f c inv k op waiting may
   happens_keeps c (Keep k p) inv may = keep_keeps m f c inv k p may
   happens_keeps c (Accept k p leaders) inv may = accept_keeps m f c inv k p leaders may
   happens_keeps c (Tell more) inv may = tell_keeps m f c inv more may

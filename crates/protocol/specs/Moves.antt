@@ -320,11 +320,11 @@ pub record MayStamp (c : Conf) (j : ℕ) (r : Request) : Type 0 where
 
 -- ---- a client
 
--- an op is submitted
-abbrev pub submit : Conf → ℕ → List ℕ → Conf
-submit c k op =
+-- an op is submitted, and these ops wait from now on
+abbrev pub submit : Conf → ℕ → List ℕ → List (List ℕ) → Conf
+submit c k op waiting =
     record c {
-      clients = put c.clients k (submitted (c.clients k) (request_of (c.clients k) op));
+      clients = put c.clients k (submitted (record (c.clients k) { waiting = waiting }) (request_of (c.clients k) op));
       requests = request_of (c.clients k) op ∷ c.requests;
       lines = c.lines ++ Submit (request_of (c.clients k) op) ∷ [];
     }

@@ -44,7 +44,7 @@ pub data Move : Type 0 where
   Installed : (controller : ℕ) → Move
   Install : (sequencer session : ℕ) → Move
   Stamp : (sequencer : ℕ) → Request → Move
-  Submit : (client : ℕ) → (op : List ℕ) → Move
+  Submit : (client : ℕ) → (op : List ℕ) → (waiting : List (List ℕ)) → Move
   Keep : (client : ℕ) → Reply → Move
   Accept : (client : ℕ) → (last leaders : Reply) → Move
   Tell : List Line → Move
@@ -93,7 +93,7 @@ happens m f c (MoveTo k j s) = moves.move_to c k j s
 happens m f c (Installed k) = moves.installed c k
 happens m f c (Install j s) = moves.install c j s
 happens m f c (Stamp j r) = moves.stamp c j r
-happens m f c (Submit k op) = moves.submit c k op
+happens m f c (Submit k op waiting) = moves.submit c k op waiting
 happens m f c (Keep k p) = moves.keep c k p
 happens m f c (Accept k p leaders) = moves.accept c k p leaders
 happens m f c (Tell more) = moves.tell c more
@@ -104,7 +104,7 @@ May f c (MoveTo k j s) = moves.MayMoveTo c k s
 May f c (Installed k) = ⊤
 May f c (Install j s) = moves.MayInstall c j s
 May f c (Stamp j r) = moves.MayStamp c j r
-May f c (Submit k op) = moves.MaySubmit c k
+May f c (Submit k op waiting) = moves.MaySubmit c k
 May f c (Keep k p) = moves.MayKeep c k p
 May f c (Accept k p leaders) = moves.MayAccept c k p leaders
 May f c (Tell more) = moves.MayTell more

@@ -92,7 +92,7 @@ module _ {S : Type 0} (m : Meaning S) where
 
   abbrev pub gap_run : List Move
   gap_run =
-      Submit 0 put_op ∷ Submit 1 get_op ∷ Stamp 0 put_request ∷ Stamp 0 get_request ∷ []
+      Submit 0 put_op [] ∷ Submit 1 get_op [] ∷ Stamp 0 put_request ∷ Stamp 0 get_request ∷ []
       ++ logs 2 (stamp_of 1 1 put_request) ++ logs 2 (stamp_of 1 2 get_request)
       ++ Acts 0 (Queue (stamp_of 1 2 get_request)) ∷ Acts 0 OpenGap ∷ Acts 1 AddGap
       ∷ Acts 0 (CountGapVote (record { slot = 1; f = 1; votes = [] }) 1) ∷ Acts 0 (TakeFront get_request)
@@ -127,7 +127,7 @@ module _ {S : Type 0} (m : Meaning S) where
 
   abbrev pub session_run : List Move
   session_run =
-      MoveTo 0 1 2 ∷ Install 1 2 ∷ Submit 0 put_op ∷ Stamp 1 put_request ∷ Acts 1 (Enter (view 1 1))
+      MoveTo 0 1 2 ∷ Install 1 2 ∷ Submit 0 put_op [] ∷ Stamp 1 put_request ∷ Acts 1 (Enter (view 1 1))
       ∷ Acts 2 (Enter (view 0 2)) ∷ Acts 2 (Queue (stamp_of 2 1 put_request)) ∷ Acts 1 (Enter (view 1 2)) ∷ Acts 2 (Enter (view 1 2))
       ∷ Acts 1 (KeepChange (gathered_later (empty_change 1 ∷ [])) (empty_change 2))
       ∷ Acts 1 (OpenView (gathered_later (empty_change 1 ∷ empty_change 2 ∷ [])))
@@ -151,7 +151,7 @@ module _ {S : Type 0} (m : Meaning S) where
   -- The commit of the leader is obeyed by the follower that has taken its log, and not yet by the one that answered it.
   abbrev pub sync_run : List Move
   sync_run =
-      Submit 0 put_op ∷ Stamp 0 put_request ∷ logs 0 (stamp_of 1 1 put_request) ++ logs 1 (stamp_of 1 1 put_request)
+      Submit 0 put_op [] ∷ Stamp 0 put_request ∷ logs 0 (stamp_of 1 1 put_request) ++ logs 1 (stamp_of 1 1 put_request)
       ++ logs 2 (stamp_of 1 1 put_request)
       ++ Acts 0 OpenSync ∷ Acts 1 (Overlay (Req put_request ∷ [])) ∷ Acts 0 (CountSyncVote 1 1)
       ∷ Acts 2 (Overlay (Req put_request ∷ [])) ∷ Acts 2 (Obey 1) ∷ []

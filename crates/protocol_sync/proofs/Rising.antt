@@ -100,7 +100,7 @@ module _ {S : Type 0} (m : Meaning S) (f : ℕ) where
   happens_rises c sync (Installed k) may = λ r. omega arith
   happens_rises c sync (Install j s) may = λ r. omega arith
   happens_rises c sync (Stamp j q) may = λ r. omega arith
-  happens_rises c sync (Submit k op) may = λ r. omega arith
+  happens_rises c sync (Submit k op waiting) may = λ r. omega arith
   happens_rises c sync (Keep k p) may = λ r. omega arith
   happens_rises c sync (Accept k p leaders) may = λ r. omega arith
   happens_rises c sync (Tell more) may = λ r. omega arith

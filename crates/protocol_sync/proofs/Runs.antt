@@ -119,8 +119,8 @@ module _ {S : Type 0} (m : Meaning S) (f : ℕ) where
       outside c (happens m f c (Install j s)) inv (happens_keeps m f c (Install j s) inv may).1 sync (λ x i. i) (λ q. refl) inv.current
   happens_syncs c (Stamp j r) inv sync may = outside c (happens m f c (Stamp j r)) inv (happens_keeps m f c (Stamp j r) inv may).1 sync
       (λ x i. i) (λ q. refl) inv.current
-  happens_syncs c (Submit k op) inv sync may =
-      outside c (happens m f c (Submit k op)) inv (happens_keeps m f c (Submit k op) inv may).1 sync (λ x i. i) (λ q. refl) inv.current
+  happens_syncs c (Submit k op waiting) inv sync may =
+      outside c (happens m f c (Submit k op waiting)) inv (happens_keeps m f c (Submit k op waiting) inv may).1 sync (λ x i. i) (λ q. refl) inv.current
   happens_syncs c (Keep k p) inv sync may = outside c (happens m f c (Keep k p)) inv (happens_keeps m f c (Keep k p) inv may).1 sync
       (λ x i. i) (λ q. refl) inv.current
   happens_syncs c (Accept k p leaders) inv sync may = outside c (happens m f c (Accept k p leaders)) inv

@@ -109,7 +109,7 @@ module _ {S : Type 0} (m : Meaning S) (f : ℕ) where
   happens_whole c (Installed k) inv whole may start = silent c _ (happens_keeps m f c (Installed k) inv may).1 whole (λ x i. i)
   happens_whole c (Install j s) inv whole may start = silent c _ (happens_keeps m f c (Install j s) inv may).1 whole (λ x i. i)
   happens_whole c (Stamp j q) inv whole may start = silent c _ (happens_keeps m f c (Stamp j q) inv may).1 whole (λ x i. i)
-  happens_whole c (Submit k op) inv whole may start = silent c _ (happens_keeps m f c (Submit k op) inv may).1 whole (λ x i. i)
+  happens_whole c (Submit k op waiting) inv whole may start = silent c _ (happens_keeps m f c (Submit k op waiting) inv may).1 whole (λ x i. i)
   happens_whole c (Keep k y) inv whole may start = silent c _ (happens_keeps m f c (Keep k y) inv may).1 whole (λ x i. i)
   happens_whole c (Accept k y leaders) inv whole may start =
       silent c _ (happens_keeps m f c (Accept k y leaders) inv may).1 whole (λ x i. i)
