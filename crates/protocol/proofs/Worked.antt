@@ -6,7 +6,8 @@ use Rattle.nop_types.specs.Views.{AtMost, Below, first_view, outranks}
 use Rattle.gap_agree.specs.Votes.{with_vote}
 use Rattle.protocol.specs.Conf.{opening, last_normals}
 use Rattle.protocol.specs.Runs.{run, MayAll}
-use Rattle.protocol.specs.Worked.{three, view, put_request, get_request, gap_run, GapRun, GapRunEnds, session_run, SessionRun, SessionRunEnds, sync_run, SyncRun, SyncRunEnds}
+use Rattle.protocol.specs.Worked.{three, view, put_request, get_request, gap_run, GapRun, GapRunEnds, session_run, SessionRun}
+use Rattle.protocol.specs.Worked.{SessionRunEnds, sync_run, SyncRun, SyncRunEnds}
 use Rattle.protocol.proofs.Receivers.{front_first, front_second, front_passed, front_early, front_late}
 
 -- the replicas
@@ -151,7 +152,14 @@ module _ {S : Type 0} (m : Meaning S) where
       (also (two_of, record { normal = refl; no_gap = refl; front = front_first 1 1 put_request })
       (also (zero_of, record { may_lead = record { normal = refl; leads = refl }; no_gap = refl; longer = omega arith })
       (also (one_of, record { normal = refl; follows = refl; said = (0, refl) })
-      (also (zero_of, record { may_lead = record { normal = refl; leads = refl }; vote = record { said = (0, refl); within = one_of; apart = λ e. omega (arith, e) } })
+      (also (
+        zero_of,
+        record {
+          may_lead = record { normal = refl; leads = refl };
+          vote = record
+              { said = (0, refl); within = one_of; apart = λ e. omega (arith, e) };
+        },
+      )
       (also (two_of, record { normal = refl; follows = refl; said = (2, refl) })
       (also (two_of, record { may_follow = record { normal = refl; follows = refl; said = (1, refl) }; within = omega arith })
       tt))))))))))))

@@ -17,7 +17,9 @@ use Rattle.protocol_sync.specs.Laws.{SyncsKeep}
 use Rattle.protocol.specs.Member.{Member, leads, others}
 use Rattle.protocol.specs.Moves.{say, say_all, waiting, logged, appended, entered, enter_as}
 use Rattle.protocol.specs.Replies.{reply_to}
-use Rattle.protocol.specs.Runs.{Act, Queue, TakeFront, Fill, OpenGap, CountGapVote, WriteGap, AddGap, Enter, KeepChange, OpenView, Adopt, Say, Overlay, Obey, OpenSync, CountSyncVote, RepeatCommit, Move, Acts, MoveTo, Installed, Install, Stamp, Submit, Keep, Accept, Tell, happens, May, run, MayAll}
+use Rattle.protocol.specs.Runs.{Act, Queue, TakeFront, Fill, OpenGap, CountGapVote, WriteGap, AddGap, Enter, KeepChange, OpenView, Adopt}
+use Rattle.protocol.specs.Runs.{Say, Overlay, Obey, OpenSync, CountSyncVote, RepeatCommit, Move, Acts, MoveTo, Installed, Install, Stamp}
+use Rattle.protocol.specs.Runs.{Submit, Keep, Accept, Tell, happens, May, run, MayAll}
 use Rattle.protocol.specs.Said.{Said, Word, Plain, Found, GapCommit, GapRep, ViewChange, StartView, SyncPrepare, SyncRep, SyncCommit, says}
 use Rattle.protocol_sync.specs.Synced.{GoodSync, Sync}
 use Rattle.protocol.specs.Truth.{MayRepeat}
@@ -120,7 +122,8 @@ module _ {S : Type 0} (m : Meaning S) (f : ℕ) where
   happens_syncs c (Stamp j r) inv sync may = outside c (happens m f c (Stamp j r)) inv (happens_keeps m f c (Stamp j r) inv may).1 sync
       (λ x i. i) (λ q. refl) inv.current
   happens_syncs c (Submit k op waiting) inv sync may =
-      outside c (happens m f c (Submit k op waiting)) inv (happens_keeps m f c (Submit k op waiting) inv may).1 sync (λ x i. i) (λ q. refl) inv.current
+      outside c (happens m f c (Submit k op waiting)) inv (happens_keeps m f c (Submit k op waiting) inv may).1 sync (λ x i. i)
+      (λ q. refl) inv.current
   happens_syncs c (Keep k p) inv sync may = outside c (happens m f c (Keep k p)) inv (happens_keeps m f c (Keep k p) inv may).1 sync
       (λ x i. i) (λ q. refl) inv.current
   happens_syncs c (Accept k p leaders) inv sync may = outside c (happens m f c (Accept k p leaders)) inv

@@ -16,7 +16,9 @@ use Rattle.protocol.specs.Evolves.{Evolves}
 use Rattle.protocol.specs.Invariant.{Inv}
 use Rattle.protocol.specs.Member.{Member, leads, others}
 use Rattle.protocol.specs.Moves.{say, say_all, entered, enter_as, commit_if}
-use Rattle.protocol.specs.Runs.{Act, Queue, TakeFront, Fill, OpenGap, CountGapVote, WriteGap, AddGap, Enter, KeepChange, OpenView, Adopt, Say, Overlay, Obey, OpenSync, CountSyncVote, RepeatCommit, Move, Acts, MoveTo, Installed, Install, Stamp, Submit, Keep, Accept, Tell, effect, happens, May, run, MayAll}
+use Rattle.protocol.specs.Runs.{Act, Queue, TakeFront, Fill, OpenGap, CountGapVote, WriteGap, AddGap, Enter, KeepChange, OpenView, Adopt}
+use Rattle.protocol.specs.Runs.{Say, Overlay, Obey, OpenSync, CountSyncVote, RepeatCommit, Move, Acts, MoveTo, Installed, Install, Stamp}
+use Rattle.protocol.specs.Runs.{Submit, Keep, Accept, Tell, effect, happens, May, run, MayAll}
 use Rattle.protocol.specs.Said.{Said, Word, Plain, GapCommit, GapRep, ViewChange, StartView, SyncPrepare, SyncRep, SyncCommit, says}
 use Rattle.protocol.proofs.Opening.{opening_meets}
 use Rattle.protocol.proofs.OpenView.{view_starts}
@@ -109,7 +111,8 @@ module _ {S : Type 0} (m : Meaning S) (f : ℕ) where
   happens_whole c (Installed k) inv whole may start = silent c _ (happens_keeps m f c (Installed k) inv may).1 whole (λ x i. i)
   happens_whole c (Install j s) inv whole may start = silent c _ (happens_keeps m f c (Install j s) inv may).1 whole (λ x i. i)
   happens_whole c (Stamp j q) inv whole may start = silent c _ (happens_keeps m f c (Stamp j q) inv may).1 whole (λ x i. i)
-  happens_whole c (Submit k op waiting) inv whole may start = silent c _ (happens_keeps m f c (Submit k op waiting) inv may).1 whole (λ x i. i)
+  happens_whole c (Submit k op waiting) inv whole may start =
+      silent c _ (happens_keeps m f c (Submit k op waiting) inv may).1 whole (λ x i. i)
   happens_whole c (Keep k y) inv whole may start = silent c _ (happens_keeps m f c (Keep k y) inv may).1 whole (λ x i. i)
   happens_whole c (Accept k y leaders) inv whole may start =
       silent c _ (happens_keeps m f c (Accept k y leaders) inv may).1 whole (λ x i. i)
