@@ -1,5 +1,5 @@
 -- What is said of sync points lasts.
-use Rattle.std.proofs.Common.{◌≡◌, ℕ, ◌+◌, ◌*◌, ◌<◌, ◌≤◌, refl, sym, subst, arith, inl, inr, length, List, take}
+use Rattle.std.proofs.Common.{◌≡◌, ℕ, ◌+◌, ◌*◌, ◌<◌, ◌≤◌, sym, subst, arith, inl, inr, length, List, take}
 use Rattle.std.proofs.lemmas.List.{length-take-le}
 use Rattle.nop_types.specs.declared.view.View.{View}
 use Rattle.nop_types.specs.declared.request.Entry.{Entry}
@@ -25,11 +25,8 @@ use Rattle.protocol.specs.Member.{Member}
 use Rattle.protocol.specs.Said.{SyncRep}
 use Rattle.protocol_sync.specs.Synced.{Synced, Anchored, Agrees, TrueSyncRep, TrueSyncCommit, GoodSync, Sync}
 use Rattle.protocol.proofs.Grounding.{grounds_of}
-use Rattle.facts.proofs.Options.{same_Some-at}
-use Rattle.protocol.proofs.Stays.{said_lasts, others_weaker}
-
-pub same_none : (l k : List Entry) → SameTo 0 l k
-same_none l k = record { left = omega arith; right = omega arith; same = refl }
+use Rattle.protocol.proofs.Stays.{some_same, said_lasts, others_weaker}
+use Rattle.protocol_sync.proofs.Facts.{same_none}
 
 -- what is synchronised is fixed
 pub synced_fixes : (f : ℕ) (c : Conf) → Sync f c → (u : View) (s : ℕ) (x : Synced f c u s) → Fixed f c.past u x.lead s

@@ -1,5 +1,6 @@
 pub mod Agreeing
 pub mod Concluding
+pub mod Facts
 pub mod Lasting
 pub mod Moves
 pub mod Opening

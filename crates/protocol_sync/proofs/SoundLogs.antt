@@ -1,5 +1,5 @@
 -- The logs of views are sound, and the leaders' among them.
-use Rattle.std.proofs.Common.{◌≡◌, ℕ, ◌+◌, ◌*◌, ◌<◌, ◌≤◌, Option, Some, None, refl, sym, ap, subst, ◌∙◌, inl, inr, arith, length, List, [], ◌∷◌}
+use Rattle.std.proofs.Common.{◌≡◌, ℕ, ◌+◌, ◌*◌, ◌<◌, Option, Some, None, refl, sym, ap, subst, ◌∙◌, inl, inr, arith, length, List, [], ◌∷◌}
 use Rattle.std.specs.Prelude.{◌⊎◌, ◌-◌}
 use Rattle.std.proofs.lemmas.Bool.{cases_eq, cases_lt}
 use Rattle.nop_types.specs.declared.view.View.{View}
@@ -16,23 +16,17 @@ use Rattle.log_merge.specs.Starting.{Start}
 use Rattle.started_views.specs.Past.{HadLog, LeaderHad, IsStart}
 use Rattle.facts.proofs.Members.{Has-first, Has-rest, Has-none, Has-cases}
 use Rattle.started_views.proofs.Quorums.{leader_within}
-use Rattle.facts.proofs.Slots.{slot_of-within, slot_of-some, slot_of-prefix}
-use Rattle.facts.proofs.Views.{cases_View, Below-then_at_most}
+use Rattle.started_views.proofs.Slots.{slot_within}
+use Rattle.started_views.proofs.Views.{below_at_most, cases_view}
 use Rattle.protocol.specs.Conf.{Conf, DidSay, Settled}
 use Rattle.protocol.specs.Invariant.{GoodLog, Own, Inv}
 use Rattle.protocol.specs.Member.{Member}
 use Rattle.protocol.specs.Said.{Said, Word, Plain, Found, GapCommit, GapRep, ViewChange, StartView, SyncPrepare, SyncRep, SyncCommit, says}
 use Rattle.protocol.specs.Truth.{Prepared}
 use Rattle.protocol.proofs.Places.{normal_low}
-use Rattle.facts.proofs.Options.{same_Some-at}
+use Rattle.protocol.proofs.Stays.{some_same}
+use Rattle.protocol_sync.proofs.Facts.{front_slot}
 use Rattle.protocol_sync.specs.Sound.{EntryIsSound, LogsAreSound, WaitsAt, IsUnsettled, LeadersAreSound, NumbersAreSound}
-
--- a slot that a front of a log has
-front_slot : {A : Type 0} (l k : List A) (i : ℕ) (x : A) → IsPrefixOf l k → 0 < i → i ≤ length l → slot_of k i ≡ Some x
-    → slot_of l i ≡ Some x
-front_slot l k i x is low high e =
-    let y = slot_of-some l i low high in
-    y.1 ∙ ap Some (same_Some-at (slot_of k i) y.0 x (slot_of-prefix l k i y.0 is y.1) e)
 
 -- ---- whether a SyncPrepare of a length was sent
 
