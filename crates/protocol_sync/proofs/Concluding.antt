@@ -29,7 +29,7 @@ use Rattle.protocol_sync.specs.Laws.{LinesAreLegal}
 
 module _ {S : Type 0} (m : Meaning S) (f : ℕ) (c : Conf) (inv : Inv m f c) where
   -- what the leader replied, in the log that it had then
-  record Told (w : View) (log : List Entry) (slot client id : ℕ) (result : List ℕ) : Type 0 where
+  pub record Told (w : View) (log : List Entry) (slot client id : ℕ) (result : List ℕ) : Type 0 where
     pub request : Request
     pub entry : slot_of log slot ≡ Some (Req request)
     pub same : IsOf client id request
@@ -39,7 +39,7 @@ module _ {S : Type 0} (m : Meaning S) (f : ℕ) (c : Conf) (inv : Inv m f c) whe
     abbrev leader : ℕ
     leader = leader_of a.view (2 * f + 1)
 
-    told : Told a.view a.log a.slot client id result
+    pub told : Told a.view a.log a.slot client id result
     told =
         let p = a.leaders.reply in
         let t = inv.replies p a.leaders.sent in

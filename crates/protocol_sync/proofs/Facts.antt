@@ -6,11 +6,11 @@ use Rattle.nop_types.specs.declared.request.Entry.{Entry}
 use Rattle.nop_types.specs.Lists.{Has, IsPrefixOf, slot_of}
 use Rattle.started_views.specs.Logs.{SameTo}
 use Rattle.started_views.specs.Quorums.{counts, Quorum}
-use Rattle.started_views.proofs.Lists.{has_first}
+use Rattle.facts.proofs.Members.{Has-first}
 use Rattle.started_views.proofs.Quorums.{counts_cases}
-use Rattle.started_views.proofs.Slots.{prefix_slot, slot_some}
+use Rattle.facts.proofs.Slots.{slot_of-some, slot_of-prefix}
 use Rattle.protocol.proofs.Facts.{counts_has}
-use Rattle.protocol.proofs.Stays.{some_same}
+use Rattle.facts.proofs.Options.{same_Some-at}
 
 -- ---- logs
 
@@ -18,12 +18,12 @@ use Rattle.protocol.proofs.Stays.{some_same}
 pub same_none : (l k : List Entry) → SameTo 0 l k
 same_none l k = record { left = omega arith; right = omega arith; same = refl }
 
--- a slot that a front of a log has
-pub front_slot : {A : Type 0} (l k : List A) (i : ℕ) (x : A) → IsPrefixOf l k → 0 < i → i ≤ length l → slot_of k i ≡ Some x
+-- a slot that a prefix of a log has
+pub slot_in_prefix : {A : Type 0} (l k : List A) (i : ℕ) (x : A) → IsPrefixOf l k → 0 < i → i ≤ length l → slot_of k i ≡ Some x
     → slot_of l i ≡ Some x
-front_slot l k i x is low high e =
-    let y = slot_some l i low high in
-    y.1 ∙ ap Some (some_same (slot_of k i) y.0 x (prefix_slot l k i y.0 is y.1) e)
+slot_in_prefix l k i x is low high e =
+    let y = slot_of-some l i low high in
+    y.1 ∙ ap Some (same_Some-at (slot_of k i) y.0 x (slot_of-prefix l k i y.0 is y.1) e)
 
 -- ---- quorums
 
@@ -46,6 +46,6 @@ module _ (f r : ℕ) (P : ℕ → Type 0) (within : r < 2 * f + 1) (holds : P r)
         within = λ k h. elim (counts_cases k r q.members h) [ inl e ↦ subst (λ (i : ℕ). i < 2 * f + 1) e within | inr g ↦ q.within k g ];
         holds = λ k h. elim (counts_cases k r q.members h) [ inl e ↦ subst P e holds | inr g ↦ q.holds k g ];
       },
-      has_first r r q.members refl,
+      Has-first r r q.members refl,
     )
   ]

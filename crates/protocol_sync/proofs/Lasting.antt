@@ -25,7 +25,8 @@ use Rattle.protocol.specs.Member.{Member}
 use Rattle.protocol.specs.Said.{SyncRep}
 use Rattle.protocol_sync.specs.Synced.{Synced, Anchored, Agrees, TrueSyncRep, TrueSyncCommit, GoodSync, Sync}
 use Rattle.protocol.proofs.Grounding.{grounds_of}
-use Rattle.protocol.proofs.Stays.{some_same, said_lasts, others_weaker}
+use Rattle.facts.proofs.Options.{same_Some-at}
+use Rattle.protocol.proofs.Stays.{said_lasts, others_weaker}
 use Rattle.protocol_sync.proofs.Facts.{same_none}
 
 -- what is synchronised is fixed

@@ -16,16 +16,16 @@ use Rattle.log_merge.specs.Starting.{Start}
 use Rattle.started_views.specs.Past.{HadLog, LeaderHad, IsStart}
 use Rattle.facts.proofs.Members.{Has-first, Has-rest, Has-none, Has-cases}
 use Rattle.started_views.proofs.Quorums.{leader_within}
-use Rattle.started_views.proofs.Slots.{slot_within}
-use Rattle.started_views.proofs.Views.{below_at_most, cases_view}
+use Rattle.facts.proofs.Slots.{slot_of-within}
+use Rattle.facts.proofs.Views.{cases_View, Below-then_at_most}
 use Rattle.protocol.specs.Conf.{Conf, DidSay, Settled}
 use Rattle.protocol.specs.Invariant.{GoodLog, Own, Inv}
 use Rattle.protocol.specs.Member.{Member}
 use Rattle.protocol.specs.Said.{Said, Word, Plain, Found, GapCommit, GapRep, ViewChange, StartView, SyncPrepare, SyncRep, SyncCommit, says}
 use Rattle.protocol.specs.Truth.{Prepared}
 use Rattle.protocol.proofs.Places.{normal_low}
-use Rattle.protocol.proofs.Stays.{some_same}
-use Rattle.protocol_sync.proofs.Facts.{front_slot}
+use Rattle.facts.proofs.Options.{same_Some-at}
+use Rattle.protocol_sync.proofs.Facts.{slot_in_prefix}
 use Rattle.protocol_sync.specs.Sound.{EntryIsSound, LogsAreSound, WaitsAt, IsUnsettled, LeadersAreSound, NumbersAreSound}
 
 -- ---- whether a SyncPrepare of a length was sent
@@ -175,7 +175,7 @@ module _ {S : Type 0} (m : Meaning S) (f : ℕ) (c : Conf) (inv : Inv m f c) whe
         let start : t.start ≡ x = same_Some-at (c.past.start w) t.start x t.is_start is in
         let lens : length t.start.log ≡ length x.log = ap (λ (y : Start). length y.log) start in
         let begins : IsPrefixOf j l = subst (IsPrefixOf j) lead t.begins in
-        let noop : slot_of j (length j) ≡ Some NoOp = front_slot j l (length j) NoOp begins (omega (arith, len, above)) (omega arith)
+        let noop : slot_of j (length j) ≡ Some NoOp = slot_in_prefix j l (length j) NoOp begins (omega (arith, len, above)) (omega arith)
         (subst (λ (i : ℕ). slot_of l i ≡ Some NoOp) (sym len) e) in
         subst (Settled f c.said w) len (t.settled (omega (arith, lens, len, above)) noop)
 

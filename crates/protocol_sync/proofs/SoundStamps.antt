@@ -66,16 +66,16 @@ module _ {S : Type 0} (m : Meaning S) (f : ℕ) (c : Conf) (inv : Inv m f c) whe
   entered : (r : ℕ) (v : View) (e : Entered) → c.past.entry r v ≡ Some e → AreSubmitted c e.log
   entered r v e h = had r e.last_normal e.log (inv.entries r v e h).log
 
-  -- a front of a leader's log
-  front : (w : View) (l m : List Entry) → LeaderHad f c.past w m → IsPrefixOf l m → AreSubmitted c l
-  front w l m led is q i = had (leader_of w (2 * f + 1)) w m led q (Has-prefix l m (Req q) is i)
+  -- a prefix of a leader's log
+  of_leader : (w : View) (l m : List Entry) → LeaderHad f c.past w m → IsPrefixOf l m → AreSubmitted c l
+  of_leader w l m led is q i = had (leader_of w (2 * f + 1)) w m led q (Has-prefix l m (Req q) is i)
 
   started : (w : View) (x : Start) → IsStart c.past w x → AreSubmitted c x.log
   started w x is =
       let t = inv.starts w x is in
       let good = inv.logs (leader_of w (2 * f + 1)) w t.lead t.leads in
       let same : good.start ≡ x = same_Some-at (c.past.start w) good.start x good.is_start is in
-      front w x.log t.lead t.leads (subst (λ (y : Start). IsPrefixOf y.log t.lead) same good.begins)
+      of_leader w x.log t.lead t.leads (subst (λ (y : Start). IsPrefixOf y.log t.lead) same good.begins)
 
   stamped : (session number : ℕ) (q : Request) → WasStamped c.stamps session number q → WasSubmitted c.lines q
   stamped session number q h = (inv.stamps (record { session = session; number = number; request = q }) h).submitted
@@ -98,8 +98,8 @@ module _ {S : Type 0} (m : Meaning S) (f : ℕ) (c : Conf) (inv : Inv m f c) whe
         let there = Has-prefix _ t.lead (Req r) (IsPrefixOf-take k t.lead) (Has-slot_of t.lead k (Req r) t.entry) in
         had (leader_of w (2 * f + 1)) w t.lead t.leads r there;
     changes = λ q w u x l h. entered q w (record { last_normal = u; next = x; log = l }) (inv.said (says q w (ViewChange u x l)) h);
-    starts = λ q w x l h. let t : Begun f c q w x l = inv.said (says q w (StartView x l)) h in front w l t.lead t.leads t.begins;
-    prepares = λ q w l h. let t : Prepared f c q w l = inv.said (says q w (SyncPrepare l)) h in front w l t.lead t.leads t.begins;
+    starts = λ q w x l h. let t : Begun f c q w x l = inv.said (says q w (StartView x l)) h in of_leader w l t.lead t.leads t.begins;
+    prepares = λ q w l h. let t : Prepared f c q w l = inv.said (says q w (SyncPrepare l)) h in of_leader w l t.lead t.leads t.begins;
   }
 
   -- ---- what is kept

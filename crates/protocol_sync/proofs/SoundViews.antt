@@ -63,7 +63,7 @@ module _ {S : Type 0} (m : Meaning S) (f : ℕ) (c : Conf) (inv : Inv m f c) whe
         begins = IsPrefixOf-shorter t.start.log l t.lead led t.begins t.within;
         lead = t.lead;
         leads = t.leads;
-        front = t.begins;
+        of_lead = t.begins;
         next = omega (arith, t.counted);
       }
 

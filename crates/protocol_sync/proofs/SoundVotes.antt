@@ -68,7 +68,7 @@ module _ {S : Type 0} (m : Meaning S) (f : ℕ) (c : Conf) (inv : Inv m f c) (sy
       → PrefixIsSynchronised f c w l s
   agreed w l k s left right same t =
       let long : s ≤ length (take s t.lead) = omega (arith, length-take-le s t.lead t.within) in
-      let front = same_from_prefix s (take s t.lead) t.lead k long (IsPrefixOf-take s t.lead) t.begins in
+      let so_far = same_from_prefix s (take s t.lead) t.lead k long (IsPrefixOf-take s t.lead) t.begins in
       record {
         view = t.view;
         started = t.started;
@@ -77,7 +77,7 @@ module _ {S : Type 0} (m : Meaning S) (f : ℕ) (c : Conf) (inv : Inv m f c) (sy
         lead = t.lead;
         leads = t.leads;
         within = t.within;
-        begins = subst (λ (y : List Entry). IsPrefixOf y l) (same ∙ sym front.same) (IsPrefixOf-take s l);
+        begins = subst (λ (y : List Entry). IsPrefixOf y l) (same ∙ sym so_far.same) (IsPrefixOf-take s l);
         kept = t.kept;
       }
 

@@ -99,7 +99,7 @@ pub record StartIsSound (f : ℕ) (c : Conf) (w : View) (x : Start) : Type 0 whe
   pub leader : IsOfSender changes (leader_of w (2 * f + 1))
   pub opens : x ≡ start_of w changes
 
--- a StartView tells a front of its leader's log, no shorter than the start, and the number that belongs to its length
+-- a StartView tells a prefix of its leader's log, no shorter than the start, and the number that belongs to its length
 pub record TellsStart (f : ℕ) (c : Conf) (q : ℕ) (w : View) (x : ℕ) (l : List Entry) : Type 0 where
   pub sender : q ≡ leader_of w (2 * f + 1)
   pub start : Start
@@ -107,7 +107,7 @@ pub record TellsStart (f : ℕ) (c : Conf) (q : ℕ) (w : View) (x : ℕ) (l : L
   pub begins : IsPrefixOf start.log l
   pub lead : List Entry
   pub leads : LeaderHad f c.past w lead
-  pub front : IsPrefixOf l lead
+  pub of_lead : IsPrefixOf l lead
   pub next : x ≡ start.next + length l - length start.log
 
 -- of any two started views one is at most the other
@@ -222,9 +222,9 @@ pub record SyncPointsAreSound (f : ℕ) (c : Conf) : Type 0 where
 
 -- ---- accepts
 
--- f + 1 replicas replied at one view and slot, the leader among them with this result; its log had the slot, and all requests up to there
--- were submitted before. These slots begin each later start
-pub record AcceptIsSound (f : ℕ) (c : Conf) (k client id : ℕ) (result : List ℕ) : Type 0 where
+-- f + 1 replicas replied at one view and slot, the leader among them with this result; its log had the slot, with a request of the pair
+-- there and this result, and all requests up to there were submitted before. These slots begin each later start
+pub record AcceptIsSound {S : Type 0} (m : Meaning S) (f : ℕ) (c : Conf) (k client id : ℕ) (result : List ℕ) : Type 0 where
   pub view : View
   pub slot : ℕ
   pub quorum : Quorum f (Replied c.replies view slot client id)
@@ -234,12 +234,16 @@ pub record AcceptIsSound (f : ℕ) (c : Conf) (k client id : ℕ) (result : List
   pub lead : List Entry
   pub leads : LeaderHad f c.past view lead
   pub within : slot ≤ length lead
+  pub request : Request
+  pub entry : slot_of lead slot ≡ Some (Req request)
+  pub same : IsOf client id request
+  pub answers : result_at m lead slot ≡ Some result
   pub known : (q : Request) → Has (take slot lead) (Req q) → IsSubmittedBefore c.lines k q.client q.id
   pub kept : (v : View) (x : Start) → Below view v → IsStart c.past v x → IsPrefixOf (take slot lead) x.log
 
-abbrev pub AcceptsAreSound : ℕ → Conf → Type 0
-AcceptsAreSound f c = (k client id : ℕ) (result : List ℕ) → slice_get c.lines k ≡ Some (Accept client id result)
-    → AcceptIsSound f c k client id result
+abbrev pub AcceptsAreSound : {S : Type 0} → Meaning S → ℕ → Conf → Type 0
+AcceptsAreSound m f c = (k client id : ℕ) (result : List ℕ) → slice_get c.lines k ≡ Some (Accept client id result)
+    → AcceptIsSound m f c k client id result
 
 -- ---- all of it
 
@@ -256,7 +260,7 @@ pub record Sound {S : Type 0} (m : Meaning S) (f : ℕ) (c : Conf) : Type 0 wher
   pub sync_replies : SyncRepliesAreSound f c
   pub numbers : NumbersAreSound f c
   pub sync_points : SyncPointsAreSound f c
-  pub accepts : AcceptsAreSound f c
+  pub accepts : AcceptsAreSound m f c
 
 -- ---- from one configuration to a later one
 
