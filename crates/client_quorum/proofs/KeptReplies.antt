@@ -63,13 +63,13 @@ kept_times r p ks one = at (p.replica == r) refl
         let same : p.replica ≡ r = eqb-true p.replica r e in
         let none : times r (filter (λ k. not (k.replica == p.replica)) ks) ≡ 0 = rw same (none_left r ks) in
         let push : times r (keep_reply ks p) ≡ times r (filter (λ k. not (k.replica == p.replica)) ks) + one_if (p.replica == r) =
-            times_push r (filter (λ k. not (k.replica == p.replica)) ks) p in
+        times_push r (filter (λ k. not (k.replica == p.replica)) ks) p in
         let one : one_if (p.replica == r) ≡ 1 = rw e refl in
         omega (arith, none, push, one)
     at false e =
         let some = fewer r (λ k. not (k.replica == p.replica)) ks in
         let push : times r (keep_reply ks p) ≡ times r (filter (λ k. not (k.replica == p.replica)) ks) + one_if (p.replica == r) =
-            times_push r (filter (λ k. not (k.replica == p.replica)) ks) p in
+        times_push r (filter (λ k. not (k.replica == p.replica)) ks) p in
         let none : one_if (p.replica == r) ≡ 0 = rw e refl in
         omega (arith, some, push, none, one)
 

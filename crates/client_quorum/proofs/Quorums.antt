@@ -106,8 +106,8 @@ module _ (n : ℕ) (ks : List Reply) (v : View) (slot : ℕ) where
       let counts = length-filter (matches v slot) ks in
       let many : n / 2 + 1 ≤ count_by (matches v slot) ks = omega (arith, q.enough, counts) in
       let test =
-          and_from (matches v slot q.leaders) (is_leaders n q.leaders) (is_matched v slot q.leaders q.at_view q.at_slot)
-          (leads_at q.leaders q.at_view q.leads q.tagged) in
+      and_from (matches v slot q.leaders) (is_leaders n q.leaders) (is_matched v slot q.leaders q.at_view q.at_slot)
+      (leads_at q.leaders q.at_view q.leads q.tagged) in
       let z = find-some (λ k. matches v slot k && is_leaders n k) ks q.leaders q.member test in
       let taken : quorum_of n ks v slot ≡ Some z.0 = rw (le-leb (n / 2 + 1) (count_by (matches v slot) ks) many) z.1 in
       let its = has_quorum z.0 taken in
@@ -116,7 +116,7 @@ module _ (n : ℕ) (ks : List Reply) (v : View) (slot : ℕ) where
       let place = matched v slot z.0 tests.0 in
       let leading = and_parts (z.0.replica == leader_of z.0.view n) (z.0.tag == 1) tests.1 in
       let leads : z.0.replica ≡ leader_of v n =
-          eqb-true z.0.replica (leader_of z.0.view n) leading.0 ∙ ap (λ (w : View). leader_of w n) place.0 in
+      eqb-true z.0.replica (leader_of z.0.view n) leading.0 ∙ ap (λ (w : View). leader_of w n) place.0 in
       (z.0, taken, ap (λ (k : Reply). k.result) (same_reply ks z.0 q.leaders one found.0 q.member (leads ∙ sym q.leads)) ∙ q.brings)
 
 -- ---- a reply accepts
@@ -131,7 +131,7 @@ module _ (s : ClientState) (p : Reply) (result : List ℕ) where
   accepted_at (Some z) e (zero, h) =
       let same : z.result ≡ result = cc in
       subst (λ (r : List ℕ). HasQuorum s.config.replicas (keep_reply s.replies p) p.view p.slot r) same
-          (has_quorum s.config.replicas (keep_reply s.replies p) p.view p.slot z e)
+      (has_quorum s.config.replicas (keep_reply s.replies p) p.view p.slot z e)
   accepted_at (Some z) e (suc i, h) = absurd (none-some (Accepted s.number p.id result) h)
 
   pub accepted_by : is_expected s p ≡ true → Has (reply s p).1 (Accepted s.number p.id result) → Quorate

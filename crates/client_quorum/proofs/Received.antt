@@ -43,8 +43,13 @@ module _ (n number : ℕ) (all : List Reply) (s : ClientState) (x : Given) (kept
   its_own p e has =
       let t = and_parts (p.client == s.number) (is_of p.id s.pending && nat_lt p.replica s.config.replicas) e in
       let u = and_parts (is_of p.id s.pending) (nat_lt p.replica s.config.replicas) t.1 in
-      record { came = covers p has; within = ltb-true p.replica s.config.replicas u.1; of_client = eqb-true p.client s.number t.0; of_id =
-          u.0 }
+      record {
+        came = covers p has;
+        within = ltb-true p.replica s.config.replicas u.1;
+        of_client = eqb-true p.client s.number t.0;
+        of_id =
+            u.0;
+      }
 
   each_kept : (p : Reply) → is_expected s p ≡ true → Has (reply_of x) p → (k : Reply) → Has (keep_reply s.replies p) k → KeptFits all s k
   each_kept p e has k h = elim (Has-push_cases (filter (λ k. not (k.replica == p.replica)) s.replies) p k h) [
@@ -69,8 +74,13 @@ module _ (n number : ℕ) (all : List Reply) (s : ClientState) (x : Given) (kept
   still_kept : IsKept n number all (next s x).0
   still_kept = row_does (λ y. IsKept n number all y.0) s x
       (λ outs q. kept_so)
-      (λ op waiting none from. record { replicas = kept_so.replicas; mine = kept_so.mine; one_each = none_each; each =
-          λ k h. absurd (Has-none k h) })
+      (λ op waiting none from. record {
+        replicas = kept_so.replicas;
+        mine = kept_so.mine;
+        one_each = none_each;
+        each =
+            λ k h. absurd (Has-none k h);
+      })
       (λ p e has o is. after_accept p e has o)
 
   -- ---- an output that accepts
@@ -117,8 +127,14 @@ module _ (n number : ℕ) (all : List Reply) (s : ClientState) (x : Given) (kept
             let m = Has-from_filter (matches p.view p.slot) k (keep_reply s.replies p) h in
             let f = now.each k m.0 in
             let place = matched p.view p.slot k m.1 in
-            record { within = subst (λ m. k.replica < m) kept_so.replicas f.within; of_client = f.of_client ∙ kept_so.mine; of_id =
-                same_id s.pending k.id p.id f.of_id (its_own p e has).of_id; at_view = place.0; at_slot = place.1 };
+            record {
+              within = subst (λ m. k.replica < m) kept_so.replicas f.within;
+              of_client = f.of_client ∙ kept_so.mine;
+              of_id =
+                  same_id s.pending k.id p.id f.of_id (its_own p e has).of_id;
+              at_view = place.0;
+              at_slot = place.1;
+            };
         leaders = q.leaders;
         member =
             Has-filter (matches p.view p.slot) q.leaders (keep_reply s.replies p) q.member
@@ -131,7 +147,7 @@ module _ (n number : ℕ) (all : List Reply) (s : ClientState) (x : Given) (kept
   reply_agreed : (p : Reply) → is_expected s p ≡ true → Has (reply_of x) p → (o : Option Reply)
       → quorum_of s.config.replicas (kept s p).replies p.view p.slot ≡ o
       → (client id : ℕ) (result : List ℕ) → Has (accept_if (kept s p) p.id o).1 (Accepted client id result)
-          → IsAgreed n all number id result
+      → IsAgreed n all number id result
   reply_agreed p e has None is client id result h = absurd (Has-none (Accepted client id result) h)
   reply_agreed p e has (Some z) is client id result (zero, h) =
       let same : p.id ≡ id = cc in
@@ -172,7 +188,7 @@ last_one (y ∷ past) x p h = Has-append_right (reply_of y) (replies_of (past ++
 pub accepts_replied : (config : Configuration) (number : ℕ) (ops : List (List ℕ)) (past : List Given) (x : Given) (client id : ℕ)
     (result : List ℕ)
     → Has (next (after (opening config number ops) past) x).1 (Accepted client id result)
-        → IsAgreed config.replicas (replies_of (past ++ x ∷ [])) number id result
+    → IsAgreed config.replicas (replies_of (past ++ x ∷ [])) number id result
 accepts_replied config number ops past x =
     accepted_agreed config.replicas number (replies_of (past ++ x ∷ [])) (after (opening config number ops) past) x
     (kept_after config.replicas number (replies_of (past ++ x ∷ [])) past (early past x) (opening config number ops)

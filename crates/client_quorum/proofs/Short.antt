@@ -43,7 +43,7 @@ module _ (n : ℕ) (ks : List Reply) (p : Reply) (v : View) (slot : ℕ) (result
   before : matches v slot p ≡ false → HasQuorum n (keep_reply ks p) v slot result → HasQuorum n ks v slot result
   before e q =
       let same : length (filter (matches v slot) (keep_reply ks p))
-          ≡ length (filter (matches v slot) (filter (λ k. not (k.replica == p.replica)) ks)) =
+      ≡ length (filter (matches v slot) (filter (λ k. not (k.replica == p.replica)) ks)) =
       ap (λ (l : List Reply). length l) (without_last (matches v slot) (filter (λ k. not (k.replica == p.replica)) ks) p e) in
       let fewer = fewer_match (matches v slot) (λ k. not (k.replica == p.replica)) ks in
       let enough = q.enough in
@@ -53,8 +53,16 @@ module _ (n : ℕ) (ks : List Reply) (p : Reply) (v : View) (slot : ℕ) (result
             let is = is_matched v slot p (ap (λ (k : Reply). k.view) h ∙ q.at_view) (ap (λ (k : Reply). k.slot) h ∙ q.at_slot) in
             absurd cc
       ] in
-      record { enough = omega (arith, same, fewer, enough); leaders = q.leaders; member = member; at_view = q.at_view; at_slot = q.at_slot;
-          leads = q.leads; tagged = q.tagged; brings = q.brings }
+      record {
+        enough = omega (arith, same, fewer, enough);
+        leaders = q.leaders;
+        member = member;
+        at_view = q.at_view;
+        at_slot = q.at_slot;
+        leads = q.leads;
+        tagged = q.tagged;
+        brings = q.brings;
+      }
 
 abbrev None_in : ℕ → List Reply → Type 0
 None_in n ks = (v : View) (slot : ℕ) (result : List ℕ) → HasQuorum n ks v slot result → ⊥

@@ -43,10 +43,16 @@ module _ (xs : List Given) (rest : (t : ClientState) → IsTidy t → TakesTurns
 
   begin_goes : (op : List ℕ) (waiting : List (List ℕ)) → has_none s.pending ≡ true
       → Goes (begin (record s { waiting = waiting }) (request_of s op))
-  begin_goes op waiting none =
-      (none, refl, refl,
-          (refl, rest (begin (record s { waiting = waiting }) (request_of s op)).0
-          (λ r e. ap (λ (q : Request). q.id) (sym (same_Some (request_of s op) r e)))))
+  begin_goes op waiting none = (
+    none,
+    refl,
+    refl,
+    (
+      refl,
+      rest (begin (record s { waiting = waiting }) (request_of s op)).0
+          (λ r e. ap (λ (q : Request). q.id) (sym (same_Some (request_of s op) r e))),
+    ),
+  )
 
   submit_goes : (op : List ℕ) (b : Bool) → can_submit s ≡ b → Goes (submit_if b s (request_of s op))
   submit_goes op true e = begin_goes op s.waiting (and_parts (has_none s.pending) _ e).0
@@ -201,7 +207,7 @@ accepted_from number held last (x ∷ outs) t (suc i) client id result e =
 
 accepted_once_at : (number : ℕ) (held : Option Request) (last : ℕ) (outs : List Out) → TakesTurns number held last outs
     → (i j client other id : ℕ) (a b : List ℕ) → slice_get outs i ≡ Some (Accepted client id a)
-        → slice_get outs j ≡ Some (Accepted other id b) → i ≡ j
+    → slice_get outs j ≡ Some (Accepted other id b) → i ≡ j
 accepted_once_at number held last [] t i j client other id a b e f = absurd (none-some (Accepted client id a) e)
 accepted_once_at number held last (x ∷ outs) t zero zero client other id a b e f = refl
 accepted_once_at number held last (x ∷ outs) t zero (suc j) client other id a b e f =
@@ -218,13 +224,13 @@ accepted_once_at number held last (x ∷ outs) t (suc i) (suc j) client other id
 
 pub submitted_once : (config : Configuration) (number : ℕ) (ops : List (List ℕ)) (inputs : List Given) (i j : ℕ) (p q : Request)
     → slice_get (gave (opening config number ops) inputs) i ≡ Some (Submitted p)
-        → slice_get (gave (opening config number ops) inputs) j ≡ Some (Submitted q) → p.id ≡ q.id → i ≡ j
+    → slice_get (gave (opening config number ops) inputs) j ≡ Some (Submitted q) → p.id ≡ q.id → i ≡ j
 submitted_once config number ops inputs =
     submitted_once_at number None 0 (gave (opening config number ops) inputs) (takes_turns config number ops inputs)
 
 pub accepted_once : (config : Configuration) (number : ℕ) (ops : List (List ℕ)) (inputs : List Given) (i j client other id : ℕ)
     (a b : List ℕ)
     → slice_get (gave (opening config number ops) inputs) i ≡ Some (Accepted client id a)
-        → slice_get (gave (opening config number ops) inputs) j ≡ Some (Accepted other id b) → i ≡ j
+    → slice_get (gave (opening config number ops) inputs) j ≡ Some (Accepted other id b) → i ≡ j
 accepted_once config number ops inputs =
     accepted_once_at number None 0 (gave (opening config number ops) inputs) (takes_turns config number ops inputs)

@@ -87,9 +87,11 @@ ends_from : (xs : List Given) (s : ClientState) → EndsWith s.waiting (after s 
 ends_from [] s = ([], refl)
 ends_from (x ∷ xs) s =
     let first = step_ends s x in
-    let rest = ends_from xs (next s x).0 in
-    (first.0 ++ rest.0, first.1 ∙ ap (λ (l : List (List ℕ)). first.0 ++ l) rest.1
-        ∙ sym (append_assoc first.0 rest.0 (after (next s x).0 xs).waiting))
+    let rest = ends_from xs (next s x).0 in (
+      first.0 ++ rest.0,
+      first.1 ∙ ap (λ (l : List (List ℕ)). first.0 ++ l) rest.1
+          ∙ sym (append_assoc first.0 rest.0 (after (next s x).0 xs).waiting),
+    )
 
 pub waiting_ends : (config : Configuration) (number : ℕ) (ops : List (List ℕ)) (inputs : List Given)
     → EndsWith ops (after (opening config number ops) inputs).waiting
@@ -119,7 +121,7 @@ counts_from (x ∷ xs) s =
     let rest = counts_from xs (next s x).0 in
     let both : length (ops_of (gave s (x ∷ xs))) ≡ length (ops_of (next s x).1) + length (ops_of (gave (next s x).0 xs)) =
     ap (λ (l : List (List ℕ)). length l) (ops_append (next s x).1 (gave (next s x).0 xs))
-        ∙ length-append (ops_of (next s x).1) (ops_of (gave (next s x).0 xs)) in
+    ∙ length-append (ops_of (next s x).1) (ops_of (gave (next s x).0 xs)) in
     omega (arith, first, rest, both)
 
 pub last_counts : (config : Configuration) (number : ℕ) (ops : List (List ℕ)) (inputs : List Given)
@@ -146,7 +148,7 @@ module _ (all : List Out) (s : ClientState) where
       let t = and_parts (p.client == s.number) (is_of p.id s.pending && nat_lt p.replica s.config.replicas) e in
       let u = and_parts (is_of p.id s.pending) (nat_lt p.replica s.config.replicas) t.1 in
       WasAccepted (record { id = p.id; result = z.result }) refl (open_of s p.id (tidy_of stands) u.0).1 refl
-          (covers (Accepted s.number p.id z.result) (zero, refl))
+      (covers (Accepted s.number p.id z.result) (zero, refl))
 
   step_stands : (x : Given) → Stands all s → ((y : Out) → Has (next s x).1 y → Has all y) → Stands all (next s x).0
   step_stands x stands = row_does (λ y. ((o : Out) → Has y.1 o → Has all o) → Stands all y.0) s x

@@ -31,9 +31,9 @@ pub data Quiet : List Out → Type 0 where
 module _ (P : ClientState × List Out → Type 0) (s : ClientState) (x : Given)
     (stays : (outs : List Out) → Quiet outs → P (s, outs))
     (begins : (op : List ℕ) (waiting : List (List ℕ)) → has_none s.pending ≡ true → ComesFrom s x op waiting
-        → P (begin (record s { waiting = waiting }) (request_of s op)))
+    → P (begin (record s { waiting = waiting }) (request_of s op)))
     (replies : (p : Reply) → is_expected s p ≡ true → Has (reply_of x) p → (o : Option Reply)
-        → quorum_of s.config.replicas (kept s p).replies p.view p.slot ≡ o → P (accept_if (kept s p) p.id o)) where
+    → quorum_of s.config.replicas (kept s p).replies p.view p.slot ≡ o → P (accept_if (kept s p) p.id o)) where
   submit_does : (op : List ℕ) → x ≡ Submit op → (b : Bool) → can_submit s ≡ b → P (submit_if b s (request_of s op))
   submit_does op is true e = begins op s.waiting (and_parts (has_none s.pending) _ e).0 (inr (is, refl))
   submit_does op is false e = stays (Busy s.number ∷ []) (IsBusy s.number)
@@ -76,9 +76,9 @@ module _ (P : ClientState × List Out → Type 0) (s : ClientState) (x : Given)
 pub row_does : (P : ClientState × List Out → Type 0) (s : ClientState) (x : Given)
     → ((outs : List Out) → Quiet outs → P (s, outs))
     → ((op : List ℕ) (waiting : List (List ℕ)) → has_none s.pending ≡ true → ComesFrom s x op waiting
-        → P (begin (record s { waiting = waiting }) (request_of s op)))
+    → P (begin (record s { waiting = waiting }) (request_of s op)))
     → ((p : Reply) → is_expected s p ≡ true → Has (reply_of x) p → (o : Option Reply)
-        → quorum_of s.config.replicas (kept s p).replies p.view p.slot ≡ o → P (accept_if (kept s p) p.id o))
+    → quorum_of s.config.replicas (kept s p).replies p.view p.slot ≡ o → P (accept_if (kept s p) p.id o))
     → P (next s x)
 unfolding next
 row_does P s (Packet bytes) stays begins replies = packet_does P s (Packet bytes) stays begins replies (reading bytes) (λ p h. h)

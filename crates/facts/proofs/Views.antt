@@ -159,4 +159,5 @@ same_View-from_ranks a b e g =
 
 -- for the attributes of functions
 pub ruleset order_of_views = (AtMost-trans, AtMost-antisym, Below-trans, Below-sum)
+
 pub ruleset rank_of_views = (same_View-from_ranks, outranks-from_at_most, AtMost-not_outranked)

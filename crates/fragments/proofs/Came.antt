@@ -27,14 +27,14 @@ Came-with net f m here h number count = record {
       let m' = with_part m f.index f.payload in
       let same : length m'.parts ≡ length m.parts = length-set m.parts f.index (Some f.payload) in
       let old : get_or m.parts i None ≡ Some p → Has net (part_of f.replica m' i p) =
-          λ (k : get_or m.parts i None ≡ Some p). rw same (h.each i p k) in
+      λ (k : get_or m.parts i None ≡ Some p). rw same (h.each i p k) in
       elim (cases_eq i f.index) [
         | inl is ↦ elim (cases_lt f.index (length m.parts)) [
           | inl lt ↦
               let q : Some f.payload ≡ Some p = sym (get_or-set_same m.parts f.index (Some f.payload) None lt) ∙ (rw is at e) in
               let payload : p ≡ f.payload = cc in
               let whole_f : part_of f.replica m' i p ≡ f =
-                  fragment_is f f.replica m.number i _ p refl number is (same ∙ sym count) payload in
+              fragment_is f f.replica m.number i _ p refl number is (same ∙ sym count) payload in
               rw whole_f here
           | inr le ↦ old (rw (set_past m.parts f.index (Some f.payload) le) at e)
         ]
@@ -85,8 +85,8 @@ only_part net f here one lt = record {
       let i0 : i ≡ 0 = omega arith in
       let f0 : f.index ≡ 0 = omega arith in
       rw i0 (subst
-          (λ (k : ℕ). Has net (record { replica = f.replica; message = f.message; index = k; count = f.count; payload = f.payload })) f0
-          here);
+      (λ (k : ℕ). Has net (record { replica = f.replica; message = f.message; index = k; count = f.count; payload = f.payload })) f0
+      here);
 }
 
 started_keeps : (net : List Fragment) (q : Waiting) (f : Fragment) (b : Bool) → Has net f → f.index < f.count → eqb f.count 1 ≡ b
@@ -140,16 +140,16 @@ placed_keeps net q f (Some at) here lt e all =
     let found_it = position-Some (λ (m : Partial). eqb m.number f.message) q at no_message e in
     let m = get_or q at no_message in
     rw (slice_get-get_or q at no_message found_it.0)
-        (continued_keeps net q f at m (refuses m f) (completes m f) here refl refl (eqb-true _ _ found_it.1)
-        (All-get_or (Came net f.replica) q at no_message found_it.0 all) all)
+    (continued_keeps net q f at m (refuses m f) (completes m f) here refl refl (eqb-true _ _ found_it.1)
+    (All-get_or (Came net f.replica) q at no_message found_it.0 all) all)
 
 sender_keeps : (net : List Fragment) (all : List Waiting) (f : Fragment) (o : Option Waiting) → Has net f → f.index < f.count
     → slice_get all f.replica ≡ o → AllCame net all → StepKeeps net f (at_sender all f o)
 sender_keeps net all f None here lt e h = record { kept = h; gave = λ bytes k. absurd cc }
 sender_keeps net all f (Some q) here lt e h =
     let one =
-        placed_keeps net q f (place q f.message) here lt refl
-        (subst (All (Came net f.replica)) (get_or_from_slice_get all f.replica q [] e) (h.of_sender f.replica)) in
+    placed_keeps net q f (place q f.message) here lt refl
+    (subst (All (Came net f.replica)) (get_or_from_slice_get all f.replica q [] e) (h.of_sender f.replica)) in
     record {
       kept = record {
         of_sender = λ s. elim (cases_eq s f.replica) [
@@ -173,7 +173,7 @@ pub stays_came : (net more : List Fragment) (all : List Waiting) → AllCame net
 stays_came net more all h = record {
   of_sender = λ s.
       All-weaker (Came net s) (Came (net ++ more) s)
-          (λ m k. record { each = λ i p e. Has-append_left net more (part_of s m i p) (k.each i p e) }) (get_or all s []) (h.of_sender s);
+      (λ m k. record { each = λ i p e. Has-append_left net more (part_of s m i p) (k.each i p e) }) (get_or all s []) (h.of_sender s);
 }
 
 after_keeps : (net : List Fragment) (all : List Waiting) (fs : List Fragment) → ((g : Fragment) → Has fs g → Has net g) → AllCame net all
@@ -196,4 +196,4 @@ pub answers_what_came : (n : ℕ) (past : List Fragment) (f : Fragment) (bytes :
 answers_what_came n past f bytes e =
     let net = past ++ f ∷ [] in
     (keeps_what_came net (after n past) f (Has-push past f)
-        (after_keeps net (opening n) past (λ g. Has-append_left past (f ∷ []) g) (opening_came net n))).gave bytes e
+    (after_keeps net (opening n) past (λ g. Has-append_left past (f ∷ []) g) (opening_came net n))).gave bytes e

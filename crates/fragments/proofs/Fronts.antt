@@ -22,7 +22,7 @@ piece_grows : (front p : List ℕ) (i : ℕ) → FRAGMENT_BYTES * suc i ≤ leng
 unfolding piece
 piece_grows front p i le =
     rw (drop-append-le (FRAGMENT_BYTES * i) front p (omega arith))
-        (take-append-le FRAGMENT_BYTES (drop (FRAGMENT_BYTES * i) front) p (omega (arith, length-drop (FRAGMENT_BYTES * i) front)))
+    (take-append-le FRAGMENT_BYTES (drop (FRAGMENT_BYTES * i) front) p (omega (arith, length-drop (FRAGMENT_BYTES * i) front)))
 
 front_grows : (front p : List ℕ) (k : ℕ) → FRAGMENT_BYTES * k ≤ length front → front_parts (front ++ p) k ≡ front_parts front k
 front_grows front p zero le = refl
@@ -40,10 +40,10 @@ put_next front p k later size len lt =
     let a = front_parts front k in
     let rest : drop k later ≡ get_or later k x ∷ drop (k + 1) later = drop_more later k x lt in
     let left : parts_of (front ++ p) (k + 1) later ≡ a ++ (x ∷ drop (k + 1) later) =
-        rw (add-one k, front_grows front p k (omega arith), last_piece front p k size len) (append_assoc a (x ∷ []) (drop (suc k) later)) in
+    rw (add-one k, front_grows front p k (omega arith), last_piece front p k size len) (append_assoc a (x ∷ []) (drop (suc k) later)) in
     let zero_is : k - k ≡ 0 = omega arith in
     let right : set (parts_of front k later) k x ≡ a ++ (x ∷ drop (k + 1) later) =
-        set-append_right a (drop k later) k k x (front_len front k) (omega arith) ∙ rw (zero_is, rest) refl in
+    set-append_right a (drop k later) k k x (front_len front k) (omega arith) ∙ rw (zero_is, rest) refl in
     left ∙ sym right
 
 -- a part that came early may be moved behind the front
@@ -53,9 +53,9 @@ gather_one front p k later size len lt here =
     let x : Option (List ℕ) = Some p in
     let a = front_parts front k in
     let rest : drop k later ≡ x ∷ drop (k + 1) later =
-        drop_more later k None lt ∙ ap (λ (y : Option (List ℕ)). y ∷ drop (k + 1) later) here in
+    drop_more later k None lt ∙ ap (λ (y : Option (List ℕ)). y ∷ drop (k + 1) later) here in
     let left : parts_of (front ++ p) (k + 1) later ≡ a ++ (x ∷ drop (k + 1) later) =
-        rw (add-one k, front_grows front p k (omega arith), last_piece front p k size len) (append_assoc a (x ∷ []) (drop (suc k) later)) in
+    rw (add-one k, front_grows front p k (omega arith), last_piece front p k size len) (append_assoc a (x ∷ []) (drop (suc k) later)) in
     left ∙ ap (λ (d : List (Option (List ℕ))). a ++ d) (sym rest)
 
 -- and its place is then empty
@@ -73,9 +73,9 @@ put_later front k i later x le =
     let j = i - k in
     let i_is : k + j ≡ i = omega arith in
     let moved : drop k (set later i x) ≡ set (drop k later) j x =
-        subst (λ (n : ℕ). drop k (set later n x) ≡ set (drop k later) j x) i_is (drop-set-add k later j x) in
+    subst (λ (n : ℕ). drop k (set later n x) ≡ set (drop k later) j x) i_is (drop-set-add k later j x) in
     ap (λ (d : List (Option (List ℕ))). front_parts front k ++ d) moved
-        ∙ sym (set-append_right (front_parts front k) (drop k later) k i x (front_len front k) le)
+    ∙ sym (set-append_right (front_parts front k) (drop k later) k i x (front_len front k) le)
 
 -- no part of the front is open
 front_closed : (front : List ℕ) (k i : ℕ) → is_open (front_parts front k) i ≡ false
@@ -113,8 +113,8 @@ whole_taken front zero = refl
 whole_taken front (suc k) =
     let size : FRAGMENT_BYTES * k + FRAGMENT_BYTES ≡ FRAGMENT_BYTES * suc k = omega arith in
     flat_map-append bytes_of (front_parts front k) (Some (piece front k) ∷ [])
-        ∙ rw (whole_taken front k) (ap (λ (t : List ℕ). take (FRAGMENT_BYTES * k) front ++ t) (append-nil (piece front k))
-        ∙ sym (take-add (FRAGMENT_BYTES * k) FRAGMENT_BYTES front) ∙ ap (λ (n : ℕ). take n front) size)
+    ∙ rw (whole_taken front k) (ap (λ (t : List ℕ). take (FRAGMENT_BYTES * k) front ++ t) (append-nil (piece front k))
+    ∙ sym (take-add (FRAGMENT_BYTES * k) FRAGMENT_BYTES front) ∙ ap (λ (n : ℕ). take n front) size)
 
 pub whole_front : (front : List ℕ) (k : ℕ) → length front ≡ FRAGMENT_BYTES * k → whole (front_parts front k) ≡ front
 whole_front front k size = whole_taken front k ∙ take_all (FRAGMENT_BYTES * k) front (omega arith)
@@ -124,8 +124,8 @@ pub whole_complete : (front : List ℕ) (k i : ℕ) (later : List (Option (List 
     → k ≤ i → whole (set (parts_of front k later) i x) ≡ front ++ whole (set (drop k later) (i - k) x)
 whole_complete front k i later x size le =
     rw (set-append_right (front_parts front k) (drop k later) k i x (front_len front k) le)
-        (flat_map-append bytes_of (front_parts front k) (set (drop k later) (i - k) x)
-        ∙ ap (λ (t : List ℕ). t ++ whole (set (drop k later) (i - k) x)) (whole_front front k size))
+    (flat_map-append bytes_of (front_parts front k) (set (drop k later) (i - k) x)
+    ∙ ap (λ (t : List ℕ). t ++ whole (set (drop k later) (i - k) x)) (whole_front front k size))
 
 pub split_missing : (front : List ℕ) (k i m : ℕ) (later : List (Option (List ℕ))) → IsSplit front k later m
     → is_open (parts_of front k later) i ≡ true → 1 ≤ m

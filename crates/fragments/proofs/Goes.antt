@@ -17,7 +17,7 @@ pub found_last : (q : Waiting) (f : Fragment) (at : ℕ) (b : Partial) → slice
 found_last q f at b here same is_free one =
     let count : eqb f.count (length b.parts) ≡ true = eq-eqb _ _ same in
     let none : eqb (missing (set b.parts f.index (Some f.payload))) 0 ≡ true =
-        eq-eqb _ _ (omega (arith, missing_set b.parts f.index f.payload is_free)) in
+    eq-eqb _ _ (omega (arith, missing_set b.parts f.index f.payload is_free)) in
     rw (here, count, is_free, none) refl
 
 pub found_more : (q : Waiting) (f : Fragment) (at : ℕ) (b : Partial) → slice_get q at ≡ Some b → f.count ≡ length b.parts
@@ -26,7 +26,7 @@ pub found_more : (q : Waiting) (f : Fragment) (at : ℕ) (b : Partial) → slice
 found_more q f at b here same is_free more =
     let count : eqb f.count (length b.parts) ≡ true = eq-eqb _ _ same in
     let some : eqb (missing (set b.parts f.index (Some f.payload))) 0 ≡ false =
-        ne_eqb _ _ (omega (arith, missing_set b.parts f.index f.payload is_free)) in
+    ne_eqb _ _ (omega (arith, missing_set b.parts f.index f.payload is_free)) in
     rw (here, count, is_free, some) refl
 
 -- what was read at an index is there

@@ -146,15 +146,15 @@ placed_fits q f (Some at) short e fits =
     let found_it = position-Some (λ (m : Partial). eqb m.number f.message) q at no_message e in
     let m = get_or q at no_message in
     rw (slice_get-get_or q at no_message found_it.0)
-        (continued_fits q f at m (refuses m f) (completes m f) short (All-get_or PartialFits q at no_message found_it.0 fits.each) fits)
+    (continued_fits q f at m (refuses m f) (completes m f) short (All-get_or PartialFits q at no_message found_it.0 fits.each) fits)
 
 sender_fits : (all : List Waiting) (f : Fragment) (o : Option Waiting) → IsShort f → slice_get all f.replica ≡ o → All WaitingFits all
     → All WaitingFits (at_sender all f o).0
 sender_fits all f None short e fits = fits
 sender_fits all f (Some q) short e fits =
     let own : WaitingFits q =
-        subst WaitingFits (get_or_from_slice_get all f.replica q [] e)
-        (All-get_or WaitingFits all f.replica [] (slice_get_within all f.replica q e) fits) in
+    subst WaitingFits (get_or_from_slice_get all f.replica q [] e)
+    (All-get_or WaitingFits all f.replica [] (slice_get_within all f.replica q e) fits) in
     All-set WaitingFits all f.replica (joined q f).0 (placed_fits q f (place q f.message) short refl own) fits
 
 range_fits : (all : List Waiting) (f : Fragment) (b : Bool) → is_in_range f ≡ b → All WaitingFits all → All WaitingFits (taken_if b all f).0

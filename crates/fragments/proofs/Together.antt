@@ -51,7 +51,7 @@ set_at bytes k j =
     let rest : List (Option (List ℕ)) = replicate j None in
     let none : k - k ≡ 0 = omega arith in
     let moved : set (a ++ (None ∷ rest)) k x ≡ a ++ set (None ∷ rest) (k - k) x =
-        set-append_right a (None ∷ rest) k k x (front_len bytes k) (omega arith) in
+    set-append_right a (None ∷ rest) k k x (front_len bytes k) (omega arith) in
     moved ∙ rw none (sym (append_assoc a (x ∷ []) rest))
 
 whole_at : (bytes : List ℕ) (k : ℕ) → piece_count bytes ≡ k → whole (parts_at bytes k 0) ≡ bytes
@@ -88,7 +88,7 @@ next_joined s number bytes k j e =
     let f = fragment_at s number bytes k in
     let more : missing m.parts ≢ 1 = λ one. absurd (omega (arith, missing_at bytes k (suc (suc j)), one)) in
     let left : joined (m ∷ []) f ≡ (set (m ∷ []) 0 (with_part m f.index f.payload), None) = ap (placed (m ∷ []) f) (place_own m number refl)
-        ∙ found_more (m ∷ []) f 0 m refl (e ∙ sym (len_at bytes k (suc (suc j)))) (open_at bytes k (suc j)) more in
+    ∙ found_more (m ∷ []) f 0 m refl (e ∙ sym (len_at bytes k (suc (suc j)))) (open_at bytes k (suc j)) more in
     left ∙ ap (λ (ps : List (Option (List ℕ))). (record { number = number; parts = ps } ∷ [], None)) (set_at bytes k (suc j))
 
 last_joined : (s number : ℕ) (bytes : List ℕ) (k : ℕ) → piece_count bytes ≡ k + 1
@@ -97,8 +97,8 @@ last_joined s number bytes k e =
     let m : Partial = record { number = number; parts = parts_at bytes k 1 } in
     let f = fragment_at s number bytes k in
     let left : joined (m ∷ []) f ≡ ([], Some (whole (with_part m f.index f.payload).parts)) =
-        ap (placed (m ∷ []) f) (place_own m number refl)
-        ∙ found_last (m ∷ []) f 0 m refl (e ∙ sym (len_at bytes k 1)) (open_at bytes k 0) (missing_at bytes k 1) in
+    ap (placed (m ∷ []) f) (place_own m number refl)
+    ∙ found_last (m ∷ []) f 0 m refl (e ∙ sym (len_at bytes k 1)) (open_at bytes k 0) (missing_at bytes k 1) in
     left ∙ ap (λ (b : List ℕ). ([], Some b)) (ap whole (set_at bytes k 0) ∙ whole_at bytes (suc k) (e ∙ add-one k))
 
 -- ---- a message that is joined, among the messages of all senders
@@ -118,8 +118,8 @@ taken_at n f q r lt range e =
     let all = only_of n f.replica q in
     let below : f.replica < length (opening n) = omega (arith, lt, length-replicate n none) in
     let here : slice_get all f.replica ≡ Some q =
-        slice_get-get_or all f.replica [] (omega (arith, below, length-set (opening n) f.replica q))
-        ∙ ap (λ (w : Waiting). Some w) (get_or-set_same (opening n) f.replica q [] below) in
+    slice_get-get_or all f.replica [] (omega (arith, below, length-set (opening n) f.replica q))
+    ∙ ap (λ (w : Waiting). Some w) (get_or-set_same (opening n) f.replica q [] below) in
     let left : taken all f ≡ (set all f.replica (joined q f).0, (joined q f).1) = rw range (ap (at_sender all f) here) in
     left ∙ rw e (ap (λ (w : List Waiting). (w, r.1)) (set-set (opening n) f.replica q r.0))
 
@@ -135,7 +135,7 @@ answered-push all [] f = append-nil (option_to_list (taken all f).1)
 answered-push all (g ∷ fs) f =
     let a = option_to_list (taken all g).1 in
     ap (λ (b : List (List ℕ)). a ++ b) (answered-push (taken all g).0 fs f)
-        ∙ sym (append_assoc a (answered (taken all g).0 fs) (option_to_list (taken (after_all (taken all g).0 fs) f).1))
+    ∙ sym (append_assoc a (answered (taken all g).0 fs) (option_to_list (taken (after_all (taken all g).0 fs) f).1))
 
 -- what some fragments leave and answer
 record Reaches (all : List Waiting) (fs : List Fragment) (r : List Waiting × List (List ℕ)) : Type 0 where
@@ -163,7 +163,7 @@ begins : (n s number : ℕ) (bytes : List ℕ) (r : Waiting × Option (List ℕ)
 begins n s number bytes r lt can some e =
     let f = fragment_at s number bytes 0 in
     let step : taken (opening n) f ≡ (only_of n s r.0, r.1) =
-        ap (λ (w : List Waiting). taken w f) (sym (only_none n s)) ∙ taken_at n f [] r lt (range_at s number bytes 0 can (omega arith)) e in
+    ap (λ (w : List Waiting). taken w f) (sym (only_none n s)) ∙ taken_at n f [] r lt (range_at s number bytes 0 can (omega arith)) e in
     reaches_more (opening n) [] f (opening n) (only_of n s r.0, r.1) (record { kept = refl; gave = refl }) step
 
 partway : (n s number : ℕ) (bytes : List ℕ) (k j : ℕ) → s < n → CanBeCut s number bytes → piece_count bytes ≡ suc k + suc j
@@ -175,10 +175,10 @@ partway n s number bytes (suc k) j lt can e =
     let f = fragment_at s number bytes (suc k) in
     let before = partway n s number bytes k (suc j) lt can (omega (arith, e)) in
     let step =
-        taken_at n f (kept_at number bytes (suc k) (suc (suc j))) (kept_at number bytes (suc (suc k)) (suc j), None) lt
-        (range_at s number bytes (suc k) can (omega (arith, e))) (next_joined s number bytes (suc k) j (omega (arith, e))) in
+    taken_at n f (kept_at number bytes (suc k) (suc (suc j))) (kept_at number bytes (suc (suc k)) (suc j), None) lt
+    (range_at s number bytes (suc k) can (omega (arith, e))) (next_joined s number bytes (suc k) j (omega (arith, e))) in
     reaches_more (opening n) (first_fragments s number bytes (suc k)) f (only_of n s (kept_at number bytes (suc k) (suc (suc j))))
-        (only_of n s (kept_at number bytes (suc (suc k)) (suc j)), None) before step
+    (only_of n s (kept_at number bytes (suc (suc k)) (suc j)), None) before step
 
 some_pieces : (bytes : List ℕ) → 1 ≤ length bytes → 1 ≤ piece_count bytes
 unfolding piece_count
@@ -193,10 +193,10 @@ all_joined n s number bytes (suc (suc k)) lt can e =
     let f = fragment_at s number bytes (suc k) in
     let before = partway n s number bytes k 0 lt can (omega (arith, e)) in
     let step =
-        taken_at n f (kept_at number bytes (suc k) 1) ([], Some bytes) lt (range_at s number bytes (suc k) can (omega (arith, e)))
-        (last_joined s number bytes (suc k) (omega (arith, e))) in
+    taken_at n f (kept_at number bytes (suc k) 1) ([], Some bytes) lt (range_at s number bytes (suc k) can (omega (arith, e)))
+    (last_joined s number bytes (suc k) (omega (arith, e))) in
     (reaches_more (opening n) (first_fragments s number bytes (suc k)) f (only_of n s (kept_at number bytes (suc k) 1))
-        (only_of n s [], Some bytes) before step).gave
+    (only_of n s [], Some bytes) before step).gave
 
 pub cut_is_joined : (n sender number : ℕ) (bytes : List ℕ) → sender < n → CanBeCut sender number bytes
     → answered (opening n) (fragments_of sender number bytes) ≡ bytes ∷ []

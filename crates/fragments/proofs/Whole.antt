@@ -46,10 +46,10 @@ concat-pieces [] bytes h = refl
 concat-pieces (x ∷ xs) bytes h =
     let first : x ≡ take FRAGMENT_BYTES bytes = h 0 (omega arith) ∙ first_piece bytes in
     let others : concat xs ≡ take (FRAGMENT_BYTES * length xs) (drop FRAGMENT_BYTES bytes) =
-        concat-pieces xs (drop FRAGMENT_BYTES bytes) (λ i lt. h (suc i) (omega arith) ∙ sym (piece-drop bytes i)) in
+    concat-pieces xs (drop FRAGMENT_BYTES bytes) (λ i lt. h (suc i) (omega arith) ∙ sym (piece-drop bytes i)) in
     let size : FRAGMENT_BYTES + FRAGMENT_BYTES * length xs ≡ FRAGMENT_BYTES * suc (length xs) = omega arith in
     flat_map-cons (λ (p : List ℕ). p) x xs
-        ∙ rw (first, others) (sym (take-add FRAGMENT_BYTES (FRAGMENT_BYTES * length xs) bytes) ∙ ap (λ (n : ℕ). take n bytes) size)
+    ∙ rw (first, others) (sym (take-add FRAGMENT_BYTES (FRAGMENT_BYTES * length xs) bytes) ∙ ap (λ (n : ℕ). take n bytes) size)
 
 pub enough : (bytes : List ℕ) → length bytes ≤ FRAGMENT_BYTES * piece_count bytes
 unfolding piece_count

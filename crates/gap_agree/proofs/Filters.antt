@@ -11,7 +11,7 @@ filter_same p q a zero h = refl
 filter_same p q a (suc n) h =
     let here : p a ≡ q a = h a (omega arith) (omega arith) in
     let rest : filter p (range_with_len (a + 1) n) ≡ filter q (range_with_len (a + 1) n) =
-        filter_same p q (a + 1) n (λ k low high. h k (omega arith) (omega arith)) in
+    filter_same p q (a + 1) n (λ k low high. h k (omega arith) (omega arith)) in
     rw (here, rest) refl
 
 -- what is left of a list has a number that is there and passes the test
@@ -77,7 +77,7 @@ filter_apart p a (suc n) i j k e f = at (p a) i j e f (λ s t g h. filter_apart 
         ≡ Some k
         → slice_get (cond b (a ∷ filter p (range_with_len (a + 1) n)) (filter p (range_with_len (a + 1) n))) j ≡ Some k
         → ((s t : ℕ) → slice_get (filter p (range_with_len (a + 1) n)) s ≡ Some k
-            → slice_get (filter p (range_with_len (a + 1) n)) t ≡ Some k → s ≡ t) → i ≡ j
+        → slice_get (filter p (range_with_len (a + 1) n)) t ≡ Some k → s ≡ t) → i ≡ j
     at true zero zero e f h = refl
     at true zero (suc j) e f h = absurd (later j f (let same : a ≡ k = cc in same))
     at true (suc i) zero e f h = absurd (later i e (let same : a ≡ k = cc in same))

@@ -83,8 +83,8 @@ length_filtered zero n a p small h = omega (arith, ones-le 0 n small)
 length_filtered (suc m) n a p small h =
     let half : n / 2 < 2 ^ m = omega (arith, pow-suc 2 m) in
     let rest =
-        length_filtered m (n / 2) (a + 1) p half
-        (λ i less. ap p (omega arith) ∙ h (suc i) (omega arith) ∙ ap (λ b. b == 1) (bit_at-suc n i)) in
+    length_filtered m (n / 2) (a + 1) p half
+    (λ i less. ap p (omega arith) ∙ h (suc i) (omega arith) ∙ ap (λ b. b == 1) (bit_at-suc n i)) in
     let first : p a ≡ ((n % 2) == 1) = ap p (omega arith) ∙ h 0 (omega arith) ∙ ap (λ b. b == 1) (bit_at_lowest n) in
     at (p a) first rest
   where

@@ -50,8 +50,8 @@ pub members_of_with_vote : (votes : List ℕ) (q k : ℕ) → Has (with_vote vot
 members_of_with_vote votes q k = (
   λ h.
       let parts =
-          and_parts ((k == q) || has_vote votes k) (has_vote (range_with_len 0 MAX_REPLICAS) k)
-          (sym (has_with votes q k) ∙ has_to (with_vote votes q) k h.0 h.1) in
+      and_parts ((k == q) || has_vote votes k) (has_vote (range_with_len 0 MAX_REPLICAS) k)
+      (sym (has_with votes q k) ∙ has_to (with_vote votes q) k h.0 h.1) in
       (range_has 0 MAX_REPLICAS k parts.1, one_of votes q k (k == q) refl parts.0),
   λ h. has_from (with_vote votes q) k (has_with votes q k
       ∙ ap (λ b. b && has_vote (range_with_len 0 MAX_REPLICAS) k) (from_one votes q k h.1) ∙ has_range 0 MAX_REPLICAS k (omega arith) h.0),

@@ -53,7 +53,7 @@ pub all_below_from_requests : (log : List Entry) (r : Request) → ((q : Request
     → all_below (ids_of r.client log) r.id ≡ true
 all_below_from_requests log r h =
     all_below-from (ids_of r.client log) r.id
-        (λ k g. let s = id_has log r.client k g in omega (arith, s.2.same_id, h s.0 s.1 s.2.same_client))
+    (λ k g. let s = id_has log r.client k g in omega (arith, s.2.same_id, h s.0 s.1 s.2.same_client))
 
 -- a request of the client with an id as great or greater stands before
 pub not_above : (log : List Entry) (q r : Request) → Has log (Req q) → q.client ≡ r.client → r.id ≤ q.id

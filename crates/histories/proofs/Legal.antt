@@ -50,9 +50,9 @@ module _ {S : Type 0} (m : Meaning S) (lines : List Line) (history : List Reques
     later =
         λ k client id result h. submitted_stays lines (lines ++ line ∷ []) k client id (line ∷ [], refl)
         (elim (slice_get-push_cases lines line k (Accept client id result) h) [
-      | inl a ↦ legal.later k client id result a.1
-      | inr a ↦ subst (λ (t : ℕ). IsSubmittedBefore lines t client id) (sym a.0) ((new_accept client id result a.1).submitted)
-    ]);
+          | inl a ↦ legal.later k client id result a.1
+          | inr a ↦ subst (λ (t : ℕ). IsSubmittedBefore lines t client id) (sym a.0) ((new_accept client id result a.1).submitted)
+        ]);
     once = accepted_once_stays lines line legal.once (λ client id result e. (new_accept client id result e).unaccepted);
     answered = λ k client id result h. elim (slice_get-push_cases lines line k (Accept client id result) h) [
       | inl a ↦ legal.answered k client id result a.1
@@ -101,7 +101,7 @@ module _ {S : Type 0} (m : Meaning S) (lines : List Line) (history : List Reques
         | inl b ↦ legal.apart i j p q a.1 b.1 same
         | inr b ↦
             absurd
-                (new p (i, a.1) (IsOf-both p.client p.id r p (subst (λ (t : Request). IsOf p.client p.id t) (sym b.1) same) (IsOf-refl p)))
+            (new p (i, a.1) (IsOf-both p.client p.id r p (subst (λ (t : Request). IsOf p.client p.id t) (sym b.1) same) (IsOf-refl p)))
       ]
       | inr a ↦ elim (slice_get-push_cases history r j q h) [
         | inl b ↦ absurd (new q (j, b.1) (subst (λ (t : Request). IsOf t.client t.id q) (sym a.1) same))
@@ -125,7 +125,7 @@ module _ {S : Type 0} (m : Meaning S) (lines : List Line) (history : List Reques
       | inr e ↦
           let old = legal.answered k client id result g in
           absurd (new old.request (old.place, old.member)
-              (IsOf-both client id r old.request (subst (λ (t : Request). IsOf client id t) (sym e.1) is_a) old.same))
+          (IsOf-both client id r old.request (subst (λ (t : Request). IsOf client id t) (sym e.1) is_a) old.same))
     ];
   }
 
@@ -135,8 +135,8 @@ pub legal_with_other_lines : {S : Type 0} (m : Meaning S) (lines more : List Lin
 legal_with_other_lines m lines [] history other legal = rw (append-nil lines) legal
 legal_with_other_lines m lines (line ∷ more) history other legal =
     rw append_assoc at
-        (legal_with_other_lines m (lines ++ line ∷ []) more history (λ l h. other l (suc h.0, h.1))
-        (legal_with_other_line m lines history line (other line (zero, refl)) legal))
+    (legal_with_other_lines m (lines ++ line ∷ []) more history (λ l h. other l (suc h.0, h.1))
+    (legal_with_other_line m lines history line (other line (zero, refl)) legal))
 
 -- grounds in one log are grounds in each log that begins with its entries up to the slot, and among more lines
 pub grounds_carry : {S : Type 0} (m : Meaning S) (lines more : List Line) (log other : List Entry) (k client id : ℕ) (result : List ℕ)
@@ -177,12 +177,12 @@ module _ {S : Type 0} (m : Meaning S) (lines : List Line) (log : List Entry) whe
     | inl early ↦
         let q = history_begins g.slot in
         let here : slice_get (history_of (take g.slot log)) j ≡ Some b =
-            sym (slice_get-append_within (history_of (take g.slot log)) q.0 j early)
-            ∙ (sym (ap (λ (t : List Request). slice_get t j) (q.1)) ∙ member) in
+        sym (slice_get-append_within (history_of (take g.slot log)) q.0 j early)
+        ∙ (sym (ap (λ (t : List Request). slice_get t j) (q.1)) ∙ member) in
         let s = g.known b (members_are_logged (take g.slot log) b (j, here)) in
         let one : s.place ≡ l =
-            all.submitted_once s.place l s.request p s.line line
-            (IsOf-both b.client b.id s.request p s.same (IsOf-both p.client p.id b p same (IsOf-refl p))) in
+        all.submitted_once s.place l s.request p s.line line
+        (IsOf-both b.client b.id s.request p s.same (IsOf-both p.client p.id b p same (IsOf-refl p))) in
         absurd (omega (arith, one, s.before, lt))
     | inr late ↦ late
   ]
@@ -194,21 +194,26 @@ module _ {S : Type 0} (m : Meaning S) (lines : List Line) (log : List Entry) whe
     later = λ k client id result line.
         let g = all.grounds k client id result line in
         let s = g.known g.request (Has-slot_of log g.slot (Req g.request) g.entry) in
-        record { place = s.place; before = s.before; request = s.request; line = s.line;
-            same = IsOf-trans client id g.request s.request g.same s.same };
+        record {
+          place = s.place;
+          before = s.before;
+          request = s.request;
+          line = s.line;
+          same = IsOf-trans client id g.request s.request g.same s.same;
+        };
     once = all.accepted_once;
     answered = λ k client id result line.
         let g = all.grounds k client id result line in
         answer_stays m (history_of (take g.slot log)) (history_of log) client id result (history_begins g.slot)
-            (answered_up_to_slot k client id result g);
+        (answered_up_to_slot k client id result g);
     ordered = λ k l client id result p lt accept submit i j a b at_i is_a at_j is_b.
         let g = all.grounds k client id result accept in
         let u = answered_up_to_slot k client id result g in
         let one : i ≡ u.place =
-            members_are_distinct log i u.place a u.request at_i (member_in_whole g.slot u.place u.request u.member)
-            (IsOf-both client id a u.request is_a u.same) in
+        members_are_distinct log i u.place a u.request at_i (member_in_whole g.slot u.place u.request u.member)
+        (IsOf-both client id a u.request is_a u.same) in
         let near : u.place < length (history_of (take g.slot log)) =
-            slice_get_within (history_of (take g.slot log)) u.place u.request u.member in
+        slice_get_within (history_of (take g.slot log)) u.place u.request u.member in
         let far : length (history_of (take g.slot log)) ≤ j = later_member_is_behind all k l client id result p b j lt g submit at_j is_b in
         omega (arith, one, near, far);
   }

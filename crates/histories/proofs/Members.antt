@@ -23,7 +23,7 @@ history_from-append b (e ∷ xs) ys =
     let h = history_from-append (b ++ e ∷ []) xs ys in
     let a : (b ++ e ∷ []) ++ xs ≡ b ++ e ∷ xs = append_assoc b (e ∷ []) xs in
     ap (λ t. new_in b e ++ t) (h ∙ rw a refl)
-        ∙ sym (append_assoc (new_in b e) (history_from (b ++ e ∷ []) xs) (history_from (b ++ e ∷ xs) ys))
+    ∙ sym (append_assoc (new_in b e) (history_from (b ++ e ∷ []) xs) (history_from (b ++ e ∷ xs) ys))
 
 pub history_of_append : (xs ys : List Entry) → history_of (xs ++ ys) ≡ history_of xs ++ history_from xs ys
 history_of_append xs ys = history_from-append [] xs ys
@@ -160,16 +160,21 @@ pub answers_are_equal : {S : Type 0} (m : Meaning S) (log : List Entry) (client 
     → IsAnswered m (history_of log) client id a → IsAnswered m (history_of log) client id b → a ≡ b
 answers_are_equal m log client id a b p q =
     let one : p.place ≡ q.place =
-        members_are_distinct log p.place q.place p.request q.request p.member q.member
-        (IsOf-both client id p.request q.request p.same q.same) in
+    members_are_distinct log p.place q.place p.request q.request p.member q.member
+    (IsOf-both client id p.request q.request p.same q.same) in
     let same : Some a ≡ Some b = sym p.answer ∙ (ap (λ (t : ℕ). answer_at m (history_of log) t) one ∙ q.answer) in
     cc
 
 pub answered_as : {S : Type 0} (m : Meaning S) (history : List Request) (client id : ℕ) (r : Request) (result : List ℕ) → IsOf client id r
     → IsAnswered m history r.client r.id result → IsAnswered m history client id result
 answered_as m history client id r result same a =
-    record { place = a.place; request = a.request; member = a.member; same = IsOf-trans client id r a.request same a.same;
-    answer = a.answer }
+    record {
+      place = a.place;
+      request = a.request;
+      member = a.member;
+      same = IsOf-trans client id r a.request same a.same;
+      answer = a.answer;
+    }
 
 -- an answer stays where members are added at the end
 pub answer_stays : {S : Type 0} (m : Meaning S) (xs ys : List Request) (client id : ℕ) (result : List ℕ) → IsPrefixOf xs ys

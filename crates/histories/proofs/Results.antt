@@ -42,7 +42,7 @@ module _ {S : Type 0} (m : Meaning S) where
       here true false p q = rw (q, append-nil (ids_of c b)) h
       here false true p q =
           old_greatest_stays (ids_of c b) r.id (x.kept c)
-              (subst (λ (d : ℕ). all_below (ids_of d b) r.id ≡ false) (eqb-true r.client c q) p) h
+          (subst (λ (d : ℕ). all_below (ids_of d b) r.id ≡ false) (eqb-true r.client c q) p) h
       here false false p q = rw (append-nil (ids_of c b)) h
 
   exec_keeps_greatest : (b : List Entry) (x : Executed S) (log : List Entry) (c : ℕ) → KeepsGreatest (ids_of c b) (x.kept c)
@@ -114,9 +114,9 @@ module _ {S : Type 0} (m : Meaning S) where
   result_is_kept log zero r h = absurd cc
   result_is_kept log (suc i) r h =
       let ids : ids_of r.client (take (suc i) log) ≡ ids_of r.client (take i log) ++ r.id ∷ [] =
-          rw ((Splits-at log i (Req r) h).front, ids_of-append r.client (take i log) (Req r ∷ []), eq-eqb r.client r.client refl) refl in
+      rw ((Splits-at log i (Req r) h).front, ids_of-append r.client (take i log) (Req r ∷ []), eq-eqb r.client r.client refl) refl in
       let keeps : KeepsGreatest (ids_of r.client (take i log) ++ r.id ∷ []) ((exec m (take (suc i) log)).kept r.client) =
-          rw (← ids) (kept_is_greatest (take (suc i) log) r.client) in
+      rw (← ids) (kept_is_greatest (take (suc i) log) r.client) in
       rw h (result_by_kept (ids_of r.client (take i log)) r.id ((exec m (take (suc i) log)).kept r.client) keeps)
 
   -- at the last slot, what is kept in the end
@@ -130,7 +130,7 @@ module _ {S : Type 0} (m : Meaning S) where
       → result_at m (log ++ Req r ∷ []) (length (log ++ Req r ∷ [])) ≡ result_kept ((enter_kept m (exec m log) (Req r)).kept r.client) r.id
   next_result_is_kept log r =
       last_result_is_kept (log ++ Req r ∷ []) r (slot_of-push log (Req r))
-          ∙ ap (λ (x : Executed S). result_kept (x.kept r.client) r.id) (next_entry_by_kept log (Req r))
+      ∙ ap (λ (x : Executed S). result_kept (x.kept r.client) r.id) (next_entry_by_kept log (Req r))
 
   -- only a request has a result
   pub result_is_of_request : (log : List Entry) (s : ℕ) (result : List ℕ) → result_at m log s ≡ Some result
@@ -158,7 +158,7 @@ module _ {S : Type 0} (m : Meaning S) where
   greatest_has_result log s r h =
       rw (result_is_kept log s r h)
       (kept_result_is_greatest (ids_of r.client (take s log)) r.id ((exec m (take s log)).kept r.client)
-          (kept_is_greatest (take s log) r.client))
+      (kept_is_greatest (take s log) r.client))
 
   kept_answered : (log : List Entry) (c n : ℕ) (k : Option Answered) (result : List ℕ) → (exec m log).kept c ≡ k
       → result_kept k n ≡ Some result → IsAnswered m (history_of log) c n result
@@ -188,7 +188,7 @@ module _ {S : Type 0} (m : Meaning S) where
       → result_at m log s ≡ Some result → IsAnswered m (history_of log) client id result
   answered_in_whole log s r client id result h same g =
       answer_stays m (history_of (take s log)) (history_of log) client id result
-          (history_of_prefix (take s log) log (IsPrefixOf-take s log))
+      (history_of_prefix (take s log) log (IsPrefixOf-take s log))
       (answered_as m (history_of (take s log)) client id r result same (result_is_answered log s r result h g))
 
   -- a request has one result, at each slot where it stands
@@ -196,7 +196,7 @@ module _ {S : Type 0} (m : Meaning S) where
       → slot_of log t ≡ Some (Req q) → IsOf p.client p.id q → result_at m log s ≡ Some a → result_at m log t ≡ Some b → a ≡ b
   results_are_equal log s t p q a b g h same e f =
       answers_are_equal m log p.client p.id a b (answered_in_whole log s p p.client p.id a g (IsOf-refl p) e)
-          (answered_in_whole log t q p.client p.id b h same f)
+      (answered_in_whole log t q p.client p.id b h same f)
 
   -- the result at a slot is known from the entries up to it
   pub result_needs_prefix : (xs ys : List Entry) (s : ℕ) → IsPrefixOf xs ys → s ≤ length xs → result_at m ys s ≡ result_at m xs s

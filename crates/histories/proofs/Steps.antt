@@ -67,7 +67,7 @@ module _ {S : Type 0} (m : Meaning S) where
   exec_is_of_rest b x [] = refl
   exec_is_of_rest b x (e ∷ log) =
       exec_is_of_rest (b ++ e ∷ []) (enter m b x e) log
-          ∙ (rw (enter_is_of_new b x e) refl ∙ sym (execute_all-append x (new_in b e) (history_from (b ++ e ∷ []) log)))
+      ∙ (rw (enter_is_of_new b x e) refl ∙ sym (execute_all-append x (new_in b e) (history_from (b ++ e ∷ []) log)))
 
   -- the execution of a log is that of its history's members
   pub exec_is_of_history : (log : List Entry) → exec m log ≡ execute_all m (opening m) (history_of log)
@@ -105,9 +105,14 @@ module _ {S : Type 0} (m : Meaning S) where
       here false e g = inl g
       here true e g =
           let same : record { id = r.id; result = m.answer x.host r.op } ≡ k = cc in
-          inr (record { place = 0; request = r; member = refl;
-              same = record { same_client = eqb-true r.client c e; same_id = ap (λ (t : Answered). t.id) same }; answer =
-              ap (λ (t : Answered). Some t.result) same })
+          inr (record {
+            place = 0;
+            request = r;
+            member = refl;
+            same = record { same_client = eqb-true r.client c e; same_id = ap (λ (t : Answered). t.id) same };
+            answer =
+                ap (λ (t : Answered). Some t.result) same;
+          })
 
   -- what is kept for a client is the answer to a member of the history
   pub kept_is_answered : (log : List Entry) (c : ℕ) (k : Answered) → (exec m log).kept c ≡ Some k

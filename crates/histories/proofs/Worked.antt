@@ -45,8 +45,13 @@ retried_accept (suc (suc (suc k))) c n a e = absurd cc
 
 retried_before : (r : Request) → r ≡ first_request → (k : ℕ) → k ≡ 2 → IsSubmittedBefore retried_lines k r.client r.id
 retried_before r e k f =
-    record { place = 0; before = omega (arith, f); request = first_request; line = refl;
-    same = is_of_same r first_request first_request e refl }
+    record {
+      place = 0;
+      before = omega (arith, f);
+      request = first_request;
+      line = refl;
+      same = is_of_same r first_request first_request e refl;
+    }
 
 pub retried : Grounded appending retried_lines retried_log
 retried = record {
@@ -105,11 +110,11 @@ concurrent =
     let four = legal_with_member appending both (second_request ∷ []) first_request (0, refl) not_first three in
     let members : List Request = second_request ∷ first_request ∷ [] in
     let five =
-        legal_with_accept appending both members 2 1 (20 ∷ [])
-        (record { place = 1; before = omega arith; request = second_request; line = refl; same = IsOf-refl second_request }) unaccepted_2
+    legal_with_accept appending both members 2 1 (20 ∷ [])
+    (record { place = 1; before = omega arith; request = second_request; line = refl; same = IsOf-refl second_request }) unaccepted_2
     (record { place = 0; request = second_request; member = refl; same = IsOf-refl second_request; answer = refl }) four in
     legal_with_accept appending (Submit first_request ∷ Submit second_request ∷ Accept 2 1 (20 ∷ []) ∷ []) members 1 1 (20 ∷ 10 ∷ [])
-        (record { place = 0; before = omega arith; request = first_request; line = refl; same = IsOf-refl first_request }) unaccepted_1
+    (record { place = 0; before = omega arith; request = first_request; line = refl; same = IsOf-refl first_request }) unaccepted_1
     (record { place = 1; request = first_request; member = refl; same = IsOf-refl first_request; answer = refl }) five
 
 -- ---- lines that no history makes legal
@@ -135,8 +140,8 @@ wrong history l = let a = l.answered 1 1 1 (11 ∷ []) refl in here history l a.
         cc in let o = ap (λ (t : Request). t.op) e in cc
     here (q ∷ rest) l (suc i) r h g =
         let e : 0 ≡ suc i =
-            l.apart 0 (suc i) q r refl h
-            (is_of_same q r first_request (wrong_submit q (l.submitted q (zero, refl))) (wrong_submit r (l.submitted r (suc i, h)))) in
+        l.apart 0 (suc i) q r refl h
+        (is_of_same q r first_request (wrong_submit q (l.submitted q (zero, refl))) (wrong_submit r (l.submitted r (suc i, h)))) in
         omega (arith, e)
 
 swapped_submit : (r : Request) → Has swapped_lines (Submit r) → (r ≡ first_request) ⊎ (r ≡ second_request)
@@ -158,8 +163,10 @@ swapped history l = let a = l.answered 1 1 1 (20 ∷ 10 ∷ []) refl in here his
     here (q ∷ rest) l (suc i) r h same g = elim (swapped_submit q (l.submitted q (zero, refl))) [
       | inl e ↦ let f : 0 ≡ suc i =
           l.apart 0 (suc i) q r refl h
-          (record { same_client = same.same_client ∙ sym (ap (λ (t : Request). t.client) e);
-          same_id = same.same_id ∙ sym (ap (λ (t : Request). t.id) e) }) in omega (arith, f)
+          (record {
+            same_client = same.same_client ∙ sym (ap (λ (t : Request). t.client) e);
+            same_id = same.same_id ∙ sym (ap (λ (t : Request). t.id) e);
+          }) in omega (arith, f)
       | inr e ↦ let lt =
           l.ordered 1 2 1 1 (20 ∷ 10 ∷ []) second_request (omega arith) refl refl (suc i) 0 r q h same refl
           (is_of_same second_request q second_request refl e) in omega (arith, lt)

@@ -43,8 +43,8 @@ lowest_is cs k r s has wins = record {
 same_entry : (cs : List Change) (k s t : ℕ) (x y : Entry) → HasDistinctSenders cs → HasInSlot cs k s x → HasInSlot cs k t y → s ≡ t → x ≡ y
 same_entry cs k s t x y distinct h g e =
     let place =
-        distinct h.told.member.0 g.told.member.0 h.told.change g.told.change h.told.member.1 g.told.member.1
-        (h.told.sender ∙ e ∙ sym g.told.sender) in
+    distinct h.told.member.0 g.told.member.0 h.told.change g.told.change h.told.member.1 g.told.member.1
+    (h.told.sender ∙ e ∙ sym g.told.sender) in
     let left = h.told.member.1 in
     let right = g.told.member.1 in
     let change : h.told.change ≡ g.told.change = cc in

@@ -123,8 +123,12 @@ told_is s (Some x) t e =
 has_from : (cs : List Change) (k : ℕ) (t : Told) → WasTold cs k t → HasInSlot cs k t.sender t.entry
 has_from cs k t h =
     let part = told_is h.change.sender (slot_of h.change.log k) t h.told in
-    record { log = h.change.log; told = record { change = h.change; member = (h.place, h.member); sender = part.1; log = refl }; entry =
-        part.0 }
+    record {
+      log = h.change.log;
+      told = record { change = h.change; member = (h.place, h.member); sender = part.1; log = refl };
+      entry =
+          part.0;
+    }
 
 has_to : (cs : List Change) (k s : ℕ) (x : Entry) → HasInSlot cs k s x → WasTold cs k (record { sender = s; entry = x })
 has_to cs k s x h = record {

@@ -11,5 +11,5 @@ pub record Configuration : Type 0 where
 abbrev pub is_configuration : Configuration → Bool
 is_configuration c =
     (c.replicas % 2 == 1) && (nat_le c.replicas
-        MAX_REPLICAS && (nat_lt 0 c.sequencers && (nat_le c.sequencers
-        MAX_SEQUENCERS && (nat_lt 0 c.clients && nat_le c.clients MAX_CLIENTS))))
+    MAX_REPLICAS && (nat_lt 0 c.sequencers && (nat_le c.sequencers
+    MAX_SEQUENCERS && (nat_lt 0 c.clients && nat_le c.clients MAX_CLIENTS))))

@@ -47,4 +47,4 @@ pub record Legal {S : Type 0} (m : Meaning S) (lines : List Line) (history : Lis
   pub ordered : (k l client id : ℕ) (result : List ℕ) (p : Request) → k < l → slice_get lines k ≡ Some (Accept client id result)
       → slice_get lines l ≡ Some (Submit p)
       → (i j : ℕ) (a b : Request) → slice_get history i ≡ Some a → IsOf client id a → slice_get history j ≡ Some b → IsOf p.client p.id b
-          → i < j
+      → i < j

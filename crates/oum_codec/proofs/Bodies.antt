@@ -48,18 +48,26 @@ pub record IsBody {F D : Type 0} (found : Option (F × List ℕ)) (test : F → 
 
 pub body_ok : {F D : Type 0} (found : Option (F × List ℕ)) (test : F → Bool) (least most : F → ℕ) (make : F → List ℕ → D) (d : D)
     → (fields_of found test >>= λ f. sized (least f.0) (most f.0) f.1 >>= λ out. Ok (make f.0 out)) ≡ Ok d
-        → IsBody found test least most make d
+    → IsBody found test least most make d
 body_ok found test least most make d e =
     let a = bind_ok (fields_of found test) (λ f. sized (least f.0) (most f.0) f.1 >>= λ out. Ok (make f.0 out)) d e in
     let b = bind_ok (sized (least a.0.0) (most a.0.0) a.0.1) (λ out. Ok (make a.0.0 out)) d a.2 in
     let g = fields_ok found test a.0 a.1 in
     let s = sized_ok (least a.0.0) (most a.0.0) a.0.1 b.0 b.1 in
-    record { f = a.0.0; out = a.0.1; there = g.0; ranges = g.1; enough = s.enough; no_more = s.no_more; is = ap (make a.0.0) s.same
-        ∙ ok_is (make a.0.0 b.0) d b.2 }
+    record {
+      f = a.0.0;
+      out = a.0.1;
+      there = g.0;
+      ranges = g.1;
+      enough = s.enough;
+      no_more = s.no_more;
+      is = ap (make a.0.0) s.same
+          ∙ ok_is (make a.0.0 b.0) d b.2;
+    }
 
 pub body_again : {F D : Type 0} (found : Option (F × List ℕ)) (test : F → Bool) (least most : F → ℕ) (make : F → List ℕ → D) (f : F)
     (out : List ℕ)
     → found ≡ Some (f, out) → test f ≡ true → least f ≤ length out → length out ≤ most f
-        → (fields_of found test >>= λ f. sized (least f.0) (most f.0) f.1 >>= λ out. Ok (make f.0 out)) ≡ Ok (make f out)
+    → (fields_of found test >>= λ f. sized (least f.0) (most f.0) f.1 >>= λ out. Ok (make f.0 out)) ≡ Ok (make f out)
 body_again found test least most make f out there ranges enough no_more =
     rw (there, ranges, sized_again (least f) (most f) out enough no_more) refl

@@ -34,21 +34,21 @@ body_takes kind rest d fits e =
                 rw (eqb-true _ _ here.0) (kind_takes 4 datagrams.Install rest d (λ sequencer n h. h) (λ sequencer n. refl) fits here.1)
             | inr next ↦
                 elim (chosen (eqb kind 5) (signal_of rest >>= λ f. Ok (datagrams.Installed f.sequencer f.number)) _ (Ok d) next.1) [
-              | inl here ↦
-                  rw (eqb-true _ _ here.0) (kind_takes 5 datagrams.Installed rest d (λ sequencer n h. h) (λ sequencer n. refl) fits here.1)
-              | inr next ↦ elim (chosen (eqb kind 6) (signal_of rest >>= λ f. Ok (datagrams.Ping f.sequencer f.number)) _ (Ok d) next.1) [
-                | inl here ↦
-                    rw (eqb-true _ _ here.0) (kind_takes 6 datagrams.Ping rest d (λ sequencer n h. h) (λ sequencer n. refl) fits here.1)
-                | inr next ↦ elim (chosen (eqb kind 7) (signal_of rest >>= λ f. Ok (datagrams.Pong f.sequencer f.number)) _ (Ok d) next.1) [
                   | inl here ↦
-                      rw (eqb-true _ _ here.0) (kind_takes 7 datagrams.Pong rest d (λ sequencer n h. h) (λ sequencer n. refl) fits here.1)
-                  | inr next ↦ elim (chosen (eqb kind 8) (fragment_of rest) _ (Ok d) next.1) [
-                    | inl here ↦ rw (eqb-true _ _ here.0) (fragment_takes rest d fits here.1)
-                    | inr none ↦ absurd (let h = none.1 in cc)
+                      rw (eqb-true _ _ here.0) (kind_takes 5 datagrams.Installed rest d (λ sequencer n h. h) (λ sequencer n. refl) fits here.1)
+                  | inr next ↦ elim (chosen (eqb kind 6) (signal_of rest >>= λ f. Ok (datagrams.Ping f.sequencer f.number)) _ (Ok d) next.1) [
+                    | inl here ↦
+                        rw (eqb-true _ _ here.0) (kind_takes 6 datagrams.Ping rest d (λ sequencer n h. h) (λ sequencer n. refl) fits here.1)
+                    | inr next ↦ elim (chosen (eqb kind 7) (signal_of rest >>= λ f. Ok (datagrams.Pong f.sequencer f.number)) _ (Ok d) next.1) [
+                      | inl here ↦
+                          rw (eqb-true _ _ here.0) (kind_takes 7 datagrams.Pong rest d (λ sequencer n h. h) (λ sequencer n. refl) fits here.1)
+                      | inr next ↦ elim (chosen (eqb kind 8) (fragment_of rest) _ (Ok d) next.1) [
+                        | inl here ↦ rw (eqb-true _ _ here.0) (fragment_takes rest d fits here.1)
+                        | inr none ↦ absurd (let h = none.1 in cc)
+                      ]
+                    ]
                   ]
                 ]
-              ]
-            ]
           ]
         ]
       ]
@@ -64,8 +64,8 @@ is_spelled (a ∷ b ∷ c ∷ kind ∷ rest) d fits e =
     let magic = guard_ok (not (eqb a 0x4e && eqb b 0x4f)) Magic _ d e in
     let version = guard_ok (not (eqb c 1)) Version _ d magic.1 in
     let t =
-        body_takes kind rest d (IsBytes-rest kind rest
-        (IsBytes-rest c (kind ∷ rest) (IsBytes-rest b (c ∷ kind ∷ rest) (IsBytes-rest a (b ∷ c ∷ kind ∷ rest) fits)))) version.1 in
+    body_takes kind rest d (IsBytes-rest kind rest
+    (IsBytes-rest c (kind ∷ rest) (IsBytes-rest b (c ∷ kind ∷ rest) (IsBytes-rest a (b ∷ c ∷ kind ∷ rest) fits)))) version.1 in
     let is_a : a ≡ 0x4e = grind (arith, nat_tests, magic.0) in
     let is_b : b ≡ 0x4f = grind (arith, nat_tests, magic.0) in
     let is_c : c ≡ 1 = grind (arith, nat_tests, version.0) in

@@ -38,26 +38,27 @@ pub request_takes : (rest : List ℕ) (d : Datagram) → IsBytes rest → reques
 unfolding request_of
 request_takes rest d fits e =
     let b =
-        body_ok (request_fields_at rest) request_in_range (λ f. f.op_len) (λ f. f.op_len)
-        (λ f op. datagrams.Request (record { client = f.client; id = f.id; op = op })) d e in
+    body_ok (request_fields_at rest) request_in_range (λ f. f.op_len) (λ f. f.op_len)
+    (λ f op. datagrams.Request (record { client = f.client; id = f.id; op = op })) d e in
     let t = request_fields_take rest (b.f, b.out) fits b.there in
     let len : b.f.op_len ≡ length b.out = omega (arith, b.enough, b.no_more) in
     let id_low : 1 ≤ b.f.id = grind (arith, nat_tests, b.ranges) in
     let op_high : b.f.op_len ≤ 640 = grind (arith, nat_tests, b.ranges) in
     let whole : rest ≡ request_bytes (record { client = b.f.client; id = b.f.id; op = b.out }) = t.0.parts ∙ request_whole b.f b.out len in
-    subst (λ (x : Datagram). DatagramFits x × (header 1 ++ rest ≡ spelling x)) b.is
-    (record { client = t.1.client; id_low = id_low; id = t.1.id; op = omega (arith, op_high, len) },
-        ap (λ (x : List ℕ). header 1 ++ x) whole)
+    subst (λ (x : Datagram). DatagramFits x × (header 1 ++ rest ≡ spelling x)) b.is (
+      record { client = t.1.client; id_low = id_low; id = t.1.id; op = omega (arith, op_high, len) },
+      ap (λ (x : List ℕ). header 1 ++ x) whole,
+    )
 
 pub request_again : (r : Request) → RequestFits r → request_of (request_bytes r) ≡ Ok (datagrams.Request r)
 unfolding request_of
 request_again r fits =
     let f : RequestFields = record { client = r.client; id = r.id; op_len = length r.op } in
     let there : request_fields_at (request_bytes r) ≡ Some (f, r.op) = ap request_fields_at (sym (request_whole f r.op refl))
-        ∙ request_fields_again f r.op (record { client = fits.client; id = fits.id; op_len = omega (arith, fits.op) }) in
+    ∙ request_fields_again f r.op (record { client = fits.client; id = fits.id; op_len = omega (arith, fits.op) }) in
     let ranges : request_in_range f ≡ true = grind (arith, nat_tests, fits.id_low, fits.op) in
     body_again (request_fields_at (request_bytes r)) request_in_range (λ f. f.op_len) (λ f. f.op_len)
-        (λ f op. datagrams.Request (record { client = f.client; id = f.id; op = op })) f r.op there ranges (omega arith) (omega arith)
+    (λ f op. datagrams.Request (record { client = f.client; id = f.id; op = op })) f r.op there ranges (omega arith) (omega arith)
 
 -- ---- a stamped request
 
@@ -75,8 +76,8 @@ pub stamped_takes : (rest : List ℕ) (d : Datagram) → IsBytes rest → stampe
 unfolding stamped_of
 stamped_takes rest d fits e =
     let b =
-        body_ok (stamped_fields_at rest) stamped_in_range (λ f. f.request.op_len) (λ f. f.request.op_len)
-        (λ f op. datagrams.Stamped (stamped_made f op)) d e in
+    body_ok (stamped_fields_at rest) stamped_in_range (λ f. f.request.op_len) (λ f. f.request.op_len)
+    (λ f op. datagrams.Stamped (stamped_made f op)) d e in
     let t = stamped_fields_take rest (b.f, b.out) fits b.there in
     let len : b.f.request.op_len ≡ length b.out = omega (arith, b.enough, b.no_more) in
     let whole : rest ≡ stamped_bytes (stamped_made b.f b.out) = t.0.parts ∙ stamped_whole b.f b.out len in
@@ -103,16 +104,20 @@ unfolding stamped_of
 stamped_again s fits =
     let r = s.request in
     let f : StampedFields =
-        record { session = s.session; number = s.number; request = record { client = r.client; id = r.id; op_len = length r.op } } in
+    record { session = s.session; number = s.number; request = record { client = r.client; id = r.id; op_len = length r.op } } in
     let widths : StampedWidths f =
-        record { session = fits.session.high; number = omega (arith, fits.number); request =
-        record { client = fits.request.client; id = fits.request.id; op_len = omega (arith, fits.request.op) } } in
+    record {
+      session = fits.session.high;
+      number = omega (arith, fits.number);
+      request =
+          record { client = fits.request.client; id = fits.request.id; op_len = omega (arith, fits.request.op) };
+    } in
     let there : stamped_fields_at (stamped_bytes s) ≡ Some (f, r.op) =
-        ap stamped_fields_at (sym (stamped_whole f r.op refl)) ∙ stamped_fields_again f r.op widths in
+    ap stamped_fields_at (sym (stamped_whole f r.op refl)) ∙ stamped_fields_again f r.op widths in
     let ranges : stamped_in_range f ≡ true =
-        grind (arith, nat_tests, fits.session.low, fits.number_low, fits.number, fits.request.id_low, fits.request.op) in
+    grind (arith, nat_tests, fits.session.low, fits.number_low, fits.number, fits.request.id_low, fits.request.op) in
     body_again (stamped_fields_at (stamped_bytes s)) stamped_in_range (λ f. f.request.op_len) (λ f. f.request.op_len)
-        (λ f op. datagrams.Stamped (stamped_made f op)) f r.op there ranges (omega arith) (omega arith)
+    (λ f op. datagrams.Stamped (stamped_made f op)) f r.op there ranges (omega arith) (omega arith)
 
 -- ---- a reply
 
@@ -124,7 +129,7 @@ reply_whole : (f : ReplyFields) (result : List ℕ) → f.result_len ≡ length 
     → reply_fields_bytes f ++ result ≡ reply_bytes (reply_made f result)
 reply_whole f result len =
     let front : List ℕ =
-        f.replica ∷ [] ++ view_bytes f.view ++ be_bytes w32 f.slot ++ be_bytes w32 f.client ++ be_bytes w64 f.id ++ f.tag ∷ [] in
+    f.replica ∷ [] ++ view_bytes f.view ++ be_bytes w32 f.slot ++ be_bytes w32 f.client ++ be_bytes w64 f.id ++ f.tag ∷ [] in
     append_assoc front (be_bytes w16 f.result_len) result ∙ ap (λ (n : ℕ). front ++ (be_bytes w16 n ++ result)) len
 
 reply_ranges : (f : ReplyFields) (result : List ℕ) → reply_in_range f ≡ true → ReplyWidths f → f.result_len ≡ length result
@@ -154,30 +159,43 @@ pub reply_takes : (rest : List ℕ) (d : Datagram) → IsBytes rest → reply_of
 unfolding reply_of
 reply_takes rest d fits e =
     let b =
-        body_ok (reply_fields_at rest) reply_in_range (λ f. f.result_len) (λ f. f.result_len)
-        (λ f result. datagrams.Reply (reply_made f result)) d e in
+    body_ok (reply_fields_at rest) reply_in_range (λ f. f.result_len) (λ f. f.result_len)
+    (λ f result. datagrams.Reply (reply_made f result)) d e in
     let t = reply_fields_take rest (b.f, b.out) fits b.there in
     let len : b.f.result_len ≡ length b.out = omega (arith, b.enough, b.no_more) in
     let whole : rest ≡ reply_bytes (reply_made b.f b.out) = t.0.parts ∙ reply_whole b.f b.out len in
     subst (λ (x : Datagram). DatagramFits x × (header 3 ++ rest ≡ spelling x)) b.is
-        (reply_ranges b.f b.out b.ranges t.1 len, ap (λ (x : List ℕ). header 3 ++ x) whole)
+    (reply_ranges b.f b.out b.ranges t.1 len, ap (λ (x : List ℕ). header 3 ++ x) whole)
 
 pub reply_again : (r : Reply) → ReplyFits r → reply_of (reply_bytes r) ≡ Ok (datagrams.Reply r)
 unfolding reply_of
 reply_again r fits =
     let f : ReplyFields =
-        record { replica = r.replica; view = r.view; slot = r.slot; client = r.client; id = r.id; tag = r.tag; result_len =
-        length r.result } in
+    record {
+      replica = r.replica;
+      view = r.view;
+      slot = r.slot;
+      client = r.client;
+      id = r.id;
+      tag = r.tag;
+      result_len =
+          length r.result;
+    } in
     let widths : ReplyWidths f =
-        record { view = record { leader = fits.view.leader; session = fits.view.session.high }; slot = omega (arith, fits.slot.high);
-        client = fits.client; id = fits.id; result_len = omega (arith, fits.result_length) } in
+    record {
+      view = record { leader = fits.view.leader; session = fits.view.session.high };
+      slot = omega (arith, fits.slot.high);
+      client = fits.client;
+      id = fits.id;
+      result_len = omega (arith, fits.result_length);
+    } in
     let there : reply_fields_at (reply_bytes r) ≡ Some (f, r.result) =
-        ap reply_fields_at (sym (reply_whole f r.result refl)) ∙ reply_fields_again f r.result widths in
+    ap reply_fields_at (sym (reply_whole f r.result refl)) ∙ reply_fields_again f r.result widths in
     let with_tag : tag_fits r.tag (length r.result) ≡ true = tag_again r.tag (length r.result) fits.tag fits.result_length fits.without in
     let ranges : reply_in_range f ≡ true =
-        grind (arith, nat_tests, with_tag, fits.replica, fits.view.session.low, fits.slot.low, fits.slot.high, fits.id_low) in
+    grind (arith, nat_tests, with_tag, fits.replica, fits.view.session.low, fits.slot.low, fits.slot.high, fits.id_low) in
     body_again (reply_fields_at (reply_bytes r)) reply_in_range (λ f. f.result_len) (λ f. f.result_len)
-        (λ f result. datagrams.Reply (reply_made f result)) f r.result there ranges (omega arith) (omega arith)
+    (λ f result. datagrams.Reply (reply_made f result)) f r.result there ranges (omega arith) (omega arith)
   where
     tag_again : (tag len : ℕ) → tag ≤ 1 → len ≤ MAX_RESULT_BYTES → (tag ≡ 0 → len ≡ 0) → tag_fits tag len ≡ true
     tag_again zero len low high none = let nothing : len ≡ 0 = none refl in rw nothing refl
@@ -195,9 +213,11 @@ signal_takes rest f fits e =
     let none : b.out ≡ [] = nil_from_length b.out (omega (arith, b.no_more)) in
     let low : 1 ≤ b.f.number = grind (arith, nat_tests, b.ranges) in
     let sequencer : b.f.sequencer ≤ 3 = grind (arith, nat_tests, b.ranges) in
-    subst (λ (x : SignalFields). SignalFits x.sequencer x.number × (rest ≡ signal_bytes x.sequencer x.number)) b.is
-    (record { number = sequencer; count = record { low = low; high = t.1 } }, t.0.parts
-        ∙ ap (λ (x : List ℕ). signal_bytes b.f.sequencer b.f.number ++ x) none ∙ append-nil (signal_bytes b.f.sequencer b.f.number))
+    subst (λ (x : SignalFields). SignalFits x.sequencer x.number × (rest ≡ signal_bytes x.sequencer x.number)) b.is (
+      record { number = sequencer; count = record { low = low; high = t.1 } },
+      t.0.parts
+          ∙ ap (λ (x : List ℕ). signal_bytes b.f.sequencer b.f.number ++ x) none ∙ append-nil (signal_bytes b.f.sequencer b.f.number),
+    )
 
 pub signal_again : (sequencer n : ℕ) → SignalFits sequencer n
     → signal_of (signal_bytes sequencer n) ≡ Ok (record { sequencer = sequencer; number = n })
@@ -205,10 +225,10 @@ unfolding signal_of
 signal_again sequencer n fits =
     let f : SignalFields = record { sequencer = sequencer; number = n } in
     let there : signal_fields_at (signal_bytes sequencer n) ≡ Some (f, []) =
-        ap signal_fields_at (sym (append-nil (signal_bytes sequencer n))) ∙ signal_fields_again f [] fits.count.high in
+    ap signal_fields_at (sym (append-nil (signal_bytes sequencer n))) ∙ signal_fields_again f [] fits.count.high in
     let ranges : signal_in_range f ≡ true = grind (arith, nat_tests, fits.number, fits.count.low) in
     body_again (signal_fields_at (signal_bytes sequencer n)) signal_in_range (λ f. 0) (λ f. 0) (λ f nothing. f) f [] there ranges
-        (omega arith) (omega arith)
+    (omega arith) (omega arith)
 
 -- a kind that is a signal
 pub kind_takes : (kind : ℕ) (make : ℕ → ℕ → Datagram) (rest : List ℕ) (d : Datagram)
@@ -250,8 +270,8 @@ pub fragment_takes : (rest : List ℕ) (d : Datagram) → IsBytes rest → fragm
 unfolding fragment_of
 fragment_takes rest d fits e =
     let b =
-        body_ok (fragment_fields_at rest) fragment_in_range least_payload (λ f. FRAGMENT_BYTES)
-        (λ f payload. datagrams.Fragment (fragment_made f payload)) d e in
+    body_ok (fragment_fields_at rest) fragment_in_range least_payload (λ f. FRAGMENT_BYTES)
+    (λ f payload. datagrams.Fragment (fragment_made f payload)) d e in
     let t = fragment_fields_take rest (b.f, b.out) fits b.there in
     let sizes = payload_sizes b.f (length b.out) b.enough in
     let replica : b.f.replica ≤ 6 = grind (arith, nat_tests, b.ranges) in
@@ -275,10 +295,10 @@ unfolding fragment_of
 fragment_again f fits =
     let g : FragmentFields = record { replica = f.replica; message = f.message; index = f.index; count = f.count } in
     let widths : FragmentWidths g =
-        record { message = fits.message; index = omega (arith, fits.index, fits.count); count = omega (arith, fits.count) } in
+    record { message = fits.message; index = omega (arith, fits.index, fits.count); count = omega (arith, fits.count) } in
     let there : fragment_fields_at (fragment_bytes f) ≡ Some (g, f.payload) = fragment_fields_again g f.payload widths in
     let ranges : fragment_in_range g ≡ true = grind (arith, nat_tests, fits.replica, fits.message_low, fits.index, fits.count) in
     let enough : least_payload g ≤ length f.payload =
-        payload_enough g (length f.payload) (record { some = fits.some; full = λ inner. omega (arith, fits.full inner) }) in
+    payload_enough g (length f.payload) (record { some = fits.some; full = λ inner. omega (arith, fits.full inner) }) in
     body_again (fragment_fields_at (fragment_bytes f)) fragment_in_range least_payload (λ f. FRAGMENT_BYTES)
-        (λ f payload. datagrams.Fragment (fragment_made f payload)) g f.payload there ranges enough fits.most
+    (λ f payload. datagrams.Fragment (fragment_made f payload)) g f.payload there ranges enough fits.most

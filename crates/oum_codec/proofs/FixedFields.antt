@@ -37,14 +37,14 @@ request_fields_take bytes x fits e =
     let e2 = Takes-then bytes _ _ _ _ e1 t2.0 in
     let made : RequestFields × List ℕ = (record { client = a.0.0; id = b.0.0; op_len = c.0.0 }, c.0.1) in
     subst (λ (y : RequestFields × List ℕ). Takes bytes (request_fields_bytes y.0) y.1 × RequestWidths y.0) (some_is made x c.2)
-        (e2, record { client = t0.1; id = t1.1; op_len = t2.1 })
+    (e2, record { client = t0.1; id = t1.1; op_len = t2.1 })
 
 pub request_fields_again : (f : RequestFields) (rest : List ℕ) → RequestWidths f
     → request_fields_at (request_fields_bytes f ++ rest) ≡ Some (f, rest)
 unfolding request_fields_at
 request_fields_again f rest fits =
     let regrouped : request_fields_bytes f ++ rest ≡ be_bytes w32 f.client ++ (be_bytes w64 f.id ++ (be_bytes w16 f.op_len ++ rest)) =
-        simp append_assoc in
+    simp append_assoc in
     rw (regrouped, u32_again f.client _ fits.client, u64_again f.id _ fits.id, u16_again f.op_len rest fits.op_len) refl
 
 -- ---- a stamped request
@@ -71,18 +71,18 @@ stamped_fields_take bytes x fits e =
     let e2 = Takes-then bytes _ _ _ _ e1 t2.0 in
     let made : StampedFields × List ℕ = (record { session = a.0.0; number = b.0.0; request = c.0.0 }, c.0.1) in
     subst (λ (y : StampedFields × List ℕ). Takes bytes (stamped_fields_bytes y.0) y.1 × StampedWidths y.0) (some_is made x c.2)
-        (e2, record { session = t0.1; number = t1.1; request = t2.1 })
+    (e2, record { session = t0.1; number = t1.1; request = t2.1 })
 
 pub stamped_fields_again : (f : StampedFields) (rest : List ℕ) → StampedWidths f
     → stamped_fields_at (stamped_fields_bytes f ++ rest) ≡ Some (f, rest)
 unfolding stamped_fields_at
 stamped_fields_again f rest fits =
     let regrouped : stamped_fields_bytes f ++ rest
-        ≡ be_bytes w32 f.session ++ (be_bytes w64 f.number ++ (request_fields_bytes f.request ++ rest)) =
-        append_assoc (be_bytes w32 f.session ++ be_bytes w64 f.number) (request_fields_bytes f.request) rest
-        ∙ append_assoc (be_bytes w32 f.session) (be_bytes w64 f.number) (request_fields_bytes f.request ++ rest) in
+    ≡ be_bytes w32 f.session ++ (be_bytes w64 f.number ++ (request_fields_bytes f.request ++ rest)) =
+    append_assoc (be_bytes w32 f.session ++ be_bytes w64 f.number) (request_fields_bytes f.request) rest
+    ∙ append_assoc (be_bytes w32 f.session) (be_bytes w64 f.number) (request_fields_bytes f.request ++ rest) in
     rw (regrouped, u32_again f.session _ fits.session, u64_again f.number _ fits.number, request_fields_again f.request rest fits.request)
-        refl
+    refl
 
 -- ---- a reply
 
@@ -122,19 +122,24 @@ reply_fields_take bytes x fits e =
     let e5 = Takes-then bytes _ _ _ _ e4 t5 in
     let e6 = Takes-then bytes _ _ _ _ e5 t6.0 in
     let made : ReplyFields × List ℕ =
-        (record { replica = a.0.0; view = b.0.0; slot = c.0.0; client = d.0.0; id = f.0.0; tag = g.0.0; result_len = h.0.0 }, h.0.1) in
+    (record { replica = a.0.0; view = b.0.0; slot = c.0.0; client = d.0.0; id = f.0.0; tag = g.0.0; result_len = h.0.0 }, h.0.1) in
     subst (λ (y : ReplyFields × List ℕ). Takes bytes (reply_fields_bytes y.0) y.1 × ReplyWidths y.0) (some_is made x h.2)
-        (e6, record { view = t1.1; slot = t2.1; client = t3.1; id = t4.1; result_len = t6.1 })
+    (e6, record { view = t1.1; slot = t2.1; client = t3.1; id = t4.1; result_len = t6.1 })
 
 pub reply_fields_again : (f : ReplyFields) (rest : List ℕ) → ReplyWidths f → reply_fields_at (reply_fields_bytes f ++ rest) ≡ Some (f, rest)
 unfolding reply_fields_at
 reply_fields_again f rest fits =
     let more : List ℕ =
-        be_bytes w32 f.slot ++ (be_bytes w32 f.client ++ (be_bytes w64 f.id ++ (f.tag ∷ (be_bytes w16 f.result_len ++ rest)))) in
+    be_bytes w32 f.slot ++ (be_bytes w32 f.client ++ (be_bytes w64 f.id ++ (f.tag ∷ (be_bytes w16 f.result_len ++ rest)))) in
     let regrouped : reply_fields_bytes f ++ rest ≡ f.replica ∷ (view_bytes f.view ++ more) = simp append_assoc in
     ap reply_fields_at regrouped
-        ∙ rw (view_again f.view more fits.view, u32_again f.slot _ fits.slot, u32_again f.client _ fits.client, u64_again f.id _ fits.id,
-        u16_again f.result_len rest fits.result_len) refl
+    ∙ rw (
+      view_again f.view more fits.view,
+      u32_again f.slot _ fits.slot,
+      u32_again f.client _ fits.client,
+      u64_again f.id _ fits.id,
+      u16_again f.result_len rest fits.result_len,
+    ) refl
 
 -- ---- a signal
 
@@ -149,7 +154,7 @@ signal_fields_take bytes x fits e =
     let e1 = Takes-then bytes _ _ _ _ t0 t1.0 in
     let made : SignalFields × List ℕ = (record { sequencer = a.0.0; number = b.0.0 }, b.0.1) in
     subst (λ (y : SignalFields × List ℕ). Takes bytes (signal_bytes y.0.sequencer y.0.number) y.1 × (y.0.number < 2 ^ 32))
-        (some_is made x b.2) (e1, t1.1)
+    (some_is made x b.2) (e1, t1.1)
 
 pub signal_fields_again : (f : SignalFields) (rest : List ℕ) → f.number < 2 ^ 32
     → signal_fields_at (signal_bytes f.sequencer f.number ++ rest) ≡ Some (f, rest)
@@ -183,13 +188,13 @@ fragment_fields_take bytes x fits e =
     let e3 = Takes-then bytes _ _ _ _ e2 t3.0 in
     let made : FragmentFields × List ℕ = (record { replica = a.0.0; message = b.0.0; index = c.0.0; count = d.0.0 }, d.0.1) in
     subst (λ (y : FragmentFields × List ℕ). Takes bytes (fragment_fields_bytes y.0) y.1 × FragmentWidths y.0) (some_is made x d.2)
-        (e3, record { message = t1.1; index = t2.1; count = t3.1 })
+    (e3, record { message = t1.1; index = t2.1; count = t3.1 })
 
 pub fragment_fields_again : (f : FragmentFields) (rest : List ℕ) → FragmentWidths f
     → fragment_fields_at (fragment_fields_bytes f ++ rest) ≡ Some (f, rest)
 unfolding fragment_fields_at
 fragment_fields_again f rest fits =
     let regrouped : fragment_fields_bytes f ++ rest
-        ≡ f.replica ∷ (be_bytes w64 f.message ++ (be_bytes w16 f.index ++ (be_bytes w16 f.count ++ rest))) = simp append_assoc in
+    ≡ f.replica ∷ (be_bytes w64 f.message ++ (be_bytes w16 f.index ++ (be_bytes w16 f.count ++ rest))) = simp append_assoc in
     ap fragment_fields_at regrouped
-        ∙ rw (u64_again f.message _ fits.message, u16_again f.index _ fits.index, u16_again f.count rest fits.count) refl
+    ∙ rw (u64_again f.message _ fits.message, u16_again f.index _ fits.index, u16_again f.count rest fits.count) refl

@@ -73,10 +73,11 @@ number_takes w limit wide bytes x fits e =
     let g = guard_some (ltb (length bytes) (byte_len w)) (Some made) x e in
     let long : byte_len w ≤ length bytes = ltb-false _ _ g.0 in
     let front : be_bytes w (from_be_bytes w (take (byte_len w) bytes)) ≡ take (byte_len w) bytes =
-        wide.back (take (byte_len w) bytes) (omega (arith, length-take (byte_len w) bytes)) (IsBytes-take (byte_len w) bytes fits) in
-    subst (λ (y : ℕ × List ℕ). Takes bytes (be_bytes w y.0) y.1 × (y.0 < limit)) (some_is made x g.1)
-    (record { parts = rw front (sym (take-append-drop (byte_len w) bytes)); rest_fits = IsBytes-drop (byte_len w) bytes fits },
-        wide.below (take (byte_len w) bytes) (IsBytes-take (byte_len w) bytes fits))
+    wide.back (take (byte_len w) bytes) (omega (arith, length-take (byte_len w) bytes)) (IsBytes-take (byte_len w) bytes fits) in
+    subst (λ (y : ℕ × List ℕ). Takes bytes (be_bytes w y.0) y.1 × (y.0 < limit)) (some_is made x g.1) (
+      record { parts = rw front (sym (take-append-drop (byte_len w) bytes)); rest_fits = IsBytes-drop (byte_len w) bytes fits },
+      wide.below (take (byte_len w) bytes) (IsBytes-take (byte_len w) bytes fits),
+    )
 
 pub number_again : (w : Width) (limit : ℕ) (wide : IsWide w limit) (n : ℕ) (rest : List ℕ) → n < limit
     → number_at w (be_bytes w n ++ rest) ≡ Some (n, rest)
@@ -137,11 +138,11 @@ view_takes bytes x fits e =
     let both = Takes-then bytes _ _ _ _ t0.0 t1.0 in
     let made : View × List ℕ = (record { leader = a.0.0; session = b.0.0 }, b.0.1) in
     subst (λ (y : View × List ℕ). Takes bytes (view_bytes y.0) y.1 × ViewWidths y.0) (some_is made x b.2)
-        (both, record { leader = t0.1; session = t1.1 })
+    (both, record { leader = t0.1; session = t1.1 })
 
 pub view_again : (v : View) (rest : List ℕ) → ViewWidths v → view_at (view_bytes v ++ rest) ≡ Some (v, rest)
 unfolding view_at
 view_again v rest fits =
     let regrouped : view_bytes v ++ rest ≡ be_bytes w32 v.leader ++ (be_bytes w32 v.session ++ rest) =
-        append_assoc (be_bytes w32 v.leader) (be_bytes w32 v.session) rest in
+    append_assoc (be_bytes w32 v.leader) (be_bytes w32 v.session) rest in
     rw (regrouped, u32_again v.leader (be_bytes w32 v.session ++ rest) fits.leader, u32_again v.session rest fits.session) refl

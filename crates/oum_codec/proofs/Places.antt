@@ -27,9 +27,9 @@ number_found w limit wide at n bytes lt s =
     let text : List ℕ = be_bytes w n ++ s.rest in
     let whole : List ℕ = s.front ++ text in
     let long : ltb (length whole) (at + byte_len w) ≡ false =
-        le-ltb _ _ (omega (arith, length-append s.front text, length-append (be_bytes w n) s.rest, wide.len n, s.place)) in
+    le-ltb _ _ (omega (arith, length-append s.front text, length-append (be_bytes w n) s.rest, wide.len n, s.place)) in
     let here : number_in w at whole ≡ Some n =
-        rw (long, drop_at s.front text at s.place, take_at (be_bytes w n) s.rest (byte_len w) (wide.len n), wide.again n lt) refl in
+    rw (long, drop_at s.front text at s.place, take_at (be_bytes w n) s.rest (byte_len w) (wide.len n), wide.again n lt) refl in
     ap (number_in w at) s.parts ∙ here
 
 pub u16_found : (at n : ℕ) (bytes : List ℕ) → n < 2 ^ 16 → StandsAt at (be_bytes w16 n) bytes → number_in w16 at bytes ≡ Some n
@@ -44,8 +44,13 @@ u64_found = number_found w64 (2 ^ 64) wide64
 -- a text in two parts stands where its first part does, and the second after it
 first_stands : (at : ℕ) (a b bytes : List ℕ) → StandsAt at (a ++ b) bytes → StandsAt at a bytes
 first_stands at a b bytes s =
-    record { front = s.front; rest = b ++ s.rest; place = s.place; parts = s.parts
-    ∙ ap (λ (x : List ℕ). s.front ++ x) (append_assoc a b s.rest) }
+    record {
+      front = s.front;
+      rest = b ++ s.rest;
+      place = s.place;
+      parts = s.parts
+          ∙ ap (λ (x : List ℕ). s.front ++ x) (append_assoc a b s.rest);
+    }
 
 second_stands : (at : ℕ) (a b bytes : List ℕ) → StandsAt at (a ++ b) bytes → StandsAt (at + length a) b bytes
 second_stands at a b bytes s = record {
@@ -58,11 +63,11 @@ second_stands at a b bytes s = record {
 pub view_found : (at : ℕ) (v : View) (bytes : List ℕ) → ViewWidths v → StandsAt at (view_bytes v) bytes → view_in at bytes ≡ Some v
 view_found at v bytes fits s =
     let a : number_in w32 at bytes ≡ Some v.leader =
-        u32_found at v.leader bytes fits.leader (first_stands at _ (be_bytes w32 v.session) bytes s) in
+    u32_found at v.leader bytes fits.leader (first_stands at _ (be_bytes w32 v.session) bytes s) in
     let place : at + length (be_bytes w32 v.leader) ≡ at + 4 = ap (λ n. at + n) (wide32.len v.leader) in
     let b : number_in w32 (at + 4) bytes ≡ Some v.session =
-        u32_found (at + 4) v.session bytes fits.session
-        (subst (λ (k : ℕ). StandsAt k (be_bytes w32 v.session) bytes) place (second_stands at (be_bytes w32 v.leader) _ bytes s)) in
+    u32_found (at + 4) v.session bytes fits.session
+    (subst (λ (k : ℕ). StandsAt k (be_bytes w32 v.session) bytes) place (second_stands at (be_bytes w32 v.leader) _ bytes s)) in
     rw (a, b) refl
 
 request_again : (r : Request) (rest : List ℕ) → RequestFits r → request_at (request_bytes r ++ rest) ≡ Some (r, rest)
@@ -70,9 +75,9 @@ unfolding request_at
 request_again r rest fits =
     let f : RequestFields = record { client = r.client; id = r.id; op_len = length r.op } in
     let regrouped : request_bytes r ++ rest ≡ request_fields_bytes f ++ (r.op ++ rest) =
-        ap (λ (x : List ℕ). x ++ rest) (sym (request_whole f r.op refl)) ∙ append_assoc (request_fields_bytes f) r.op rest in
+    ap (λ (x : List ℕ). x ++ rest) (sym (request_whole f r.op refl)) ∙ append_assoc (request_fields_bytes f) r.op rest in
     let there : request_fields_at (request_bytes r ++ rest) ≡ Some (f, r.op ++ rest) = ap request_fields_at regrouped
-        ∙ request_fields_again f (r.op ++ rest) (record { client = fits.client; id = fits.id; op_len = omega (arith, fits.op) }) in
+    ∙ request_fields_again f (r.op ++ rest) (record { client = fits.client; id = fits.id; op_len = omega (arith, fits.op) }) in
     let ranges : request_in_range f ≡ true = grind (arith, nat_tests, fits.id_low, fits.op) in
     rw (there, ranges, bytes_again (length r.op) r.op rest refl) refl
 
@@ -89,8 +94,13 @@ request_found at r bytes fits s =
 
 stands : (at : ℕ) (text rest bytes : List ℕ) → at ≤ length bytes → drop at bytes ≡ text ++ rest → StandsAt at text bytes
 stands at text rest bytes long e =
-    record { front = take at bytes; rest = rest; place = omega (arith, length-take at bytes); parts = sym (take-append-drop at bytes)
-    ∙ ap (λ (x : List ℕ). take at bytes ++ x) e }
+    record {
+      front = take at bytes;
+      rest = rest;
+      place = omega (arith, length-take at bytes);
+      parts = sym (take-append-drop at bytes)
+          ∙ ap (λ (x : List ℕ). take at bytes ++ x) e;
+    }
 
 -- a number that is read is in range, and stands there
 number_stands : (w : Width) (limit : ℕ) → IsWide w limit → (at n : ℕ) (bytes : List ℕ) → IsBytes bytes → number_in w at bytes ≡ Some n
@@ -124,12 +134,17 @@ both_stand at a b bytes first second =
     let len : length front ≡ at + length a = omega (arith, length-append first.front a, first.place) in
     let regrouped : bytes ≡ front ++ first.rest = first.parts ∙ sym (append_assoc first.front a first.rest) in
     let one : drop (at + length a) bytes ≡ first.rest =
-        ap (drop (at + length a)) regrouped ∙ drop_at front first.rest (at + length a) len in
+    ap (drop (at + length a)) regrouped ∙ drop_at front first.rest (at + length a) len in
     let two : drop (at + length a) bytes ≡ b ++ second.rest =
-        ap (drop (at + length a)) second.parts ∙ drop_at second.front (b ++ second.rest) (at + length a) second.place in
-    record { front = first.front; rest = second.rest; place = first.place; parts = first.parts
-        ∙ ap (λ (x : List ℕ). first.front ++ (a ++ x)) (sym one ∙ two)
-        ∙ ap (λ (x : List ℕ). first.front ++ x) (sym (append_assoc a b second.rest)) }
+    ap (drop (at + length a)) second.parts ∙ drop_at second.front (b ++ second.rest) (at + length a) second.place in
+    record {
+      front = first.front;
+      rest = second.rest;
+      place = first.place;
+      parts = first.parts
+          ∙ ap (λ (x : List ℕ). first.front ++ (a ++ x)) (sym one ∙ two)
+          ∙ ap (λ (x : List ℕ). first.front ++ x) (sym (append_assoc a b second.rest));
+    }
 
 pub view_stands : (at : ℕ) (v : View) (bytes : List ℕ) → IsBytes bytes → view_in at bytes ≡ Some v
     → ViewWidths v × StandsAt at (view_bytes v) bytes
@@ -140,11 +155,11 @@ view_stands at v bytes fits e =
     let t1 = u32_stands (at + 4) b.0 bytes fits b.1 in
     let place : at + 4 ≡ at + length (be_bytes w32 a.0) = ap (λ n. at + n) (sym (wide32.len a.0)) in
     let both =
-        both_stand at (be_bytes w32 a.0) (be_bytes w32 b.0) bytes t0.1
-        (subst (λ (k : ℕ). StandsAt k (be_bytes w32 b.0) bytes) place t1.1) in
+    both_stand at (be_bytes w32 a.0) (be_bytes w32 b.0) bytes t0.1
+    (subst (λ (k : ℕ). StandsAt k (be_bytes w32 b.0) bytes) place t1.1) in
     let made : View = record { leader = a.0; session = b.0 } in
     subst (λ (x : View). ViewWidths x × StandsAt at (view_bytes x) bytes) (some_is made v b.2)
-        (record { leader = t0.0; session = t1.0 }, both)
+    (record { leader = t0.0; session = t1.0 }, both)
 
 request_takes : (bytes : List ℕ) (x : Request × List ℕ) → IsBytes bytes → request_at bytes ≡ Some x
     → Takes bytes (request_bytes x.0) x.1 × RequestFits x.0
@@ -161,7 +176,7 @@ request_takes bytes x fits e =
     let op_high : f.op_len ≤ MAX_OP_BYTES = grind (arith, nat_tests, g.0) in
     let made : Request = record { client = f.client; id = f.id; op = b.0.0 } in
     let text : Takes bytes (request_bytes made) b.0.1 =
-        subst (λ (t : List ℕ). Takes bytes t b.0.1) (request_whole f b.0.0 (sym t1.1)) both in
+    subst (λ (t : List ℕ). Takes bytes t b.0.1) (request_whole f b.0.0 (sym t1.1)) both in
     subst (λ (y : Request × List ℕ). Takes bytes (request_bytes y.0) y.1 × RequestFits y.0) (some_is (made, b.0.1) x b.2)
     (text, record { client = t0.1.client; id_low = id_low; id = t0.1.id; op = omega (arith, op_high, t1.1) })
 

@@ -44,8 +44,10 @@ reply_fields_at bytes = do
   id ← number_at w64 client.1
   tag ← byte_at id.1
   result_len ← number_at w16 tag.1
-  Some (record { replica = replica.0; view = view.0; slot = slot.0; client = client.0; id = id.0; tag = tag.0; result_len = result_len.0 },
-      result_len.1)
+  Some (
+    record { replica = replica.0; view = view.0; slot = slot.0; client = client.0; id = id.0; tag = tag.0; result_len = result_len.0 },
+    result_len.1,
+  )
 
 -- with tag 0 there is no result
 abbrev pub tag_fits : ℕ → ℕ → Bool

@@ -55,8 +55,12 @@ stamped_of bytes = do
   f ← fields_of (stamped_fields_at bytes) stamped_in_range
   op ← sized f.0.request.op_len f.0.request.op_len f.1
   Ok (datagrams.Stamped
-      (record { session = f.0.session; number = f.0.number; request =
-      record { client = f.0.request.client; id = f.0.request.id; op = op } }))
+      (record {
+        session = f.0.session;
+        number = f.0.number;
+        request =
+            record { client = f.0.request.client; id = f.0.request.id; op = op };
+      }))
 
 -- of a reply
 unfoldable pub reply_of : List ℕ → Result Datagram Bad

@@ -153,8 +153,12 @@ unfolding op_at
 op_again op rest le =
     let regrouped : counted_bytes op ++ rest ≡ be_bytes w16 (length op) ++ (op ++ rest) = append_assoc (be_bytes w16 (length op)) op rest in
     let passes : nat_le (length op) MAX_OP_BYTES ≡ true = grind (arith, nat_tests, le) in
-    rw (regrouped, number_again w16 (2 ^ 16) wide16 (length op) (op ++ rest) (omega (arith, le)), passes,
-        bytes_again (length op) op rest refl) refl
+    rw (
+      regrouped,
+      number_again w16 (2 ^ 16) wide16 (length op) (op ++ rest) (omega (arith, le)),
+      passes,
+      bytes_again (length op) op rest refl,
+    ) refl
 
 pub request_takes : (bytes : List ℕ) (x : Request × List ℕ) → IsBytes bytes → request_at bytes ≡ Ok x
     → Takes bytes (request_bytes x.0) x.1 × RequestFits x.0
@@ -170,13 +174,17 @@ request_takes bytes x fits e =
     let e2 = Takes-then bytes _ _ _ _ e1 t2.0 in
     let made : Request × List ℕ = (record { client = a.0.0; id = b.0.0; op = c.0.0 }, c.0.1) in
     subst (λ (y : Request × List ℕ). Takes bytes (request_bytes y.0) y.1 × RequestFits y.0) (ok_is made x c.2)
-        (e2, record { client = t0.1; id_low = t1.1.low; id = t1.1.high; op = t2.1 })
+    (e2, record { client = t0.1; id_low = t1.1.low; id = t1.1.high; op = t2.1 })
 
 pub request_again : (r : Request) (rest : List ℕ) → RequestFits r → request_at (request_bytes r ++ rest) ≡ Ok (r, rest)
 unfolding request_at
 request_again r rest fits =
     let regrouped : request_bytes r ++ rest ≡ be_bytes w32 r.client ++ (be_bytes w64 r.id ++ (counted_bytes r.op ++ rest)) =
-        append_assoc (be_bytes w32 r.client ++ be_bytes w64 r.id) (counted_bytes r.op) rest
-        ∙ append_assoc (be_bytes w32 r.client) (be_bytes w64 r.id) (counted_bytes r.op ++ rest) in
-    rw (regrouped, u32_again r.client (be_bytes w64 r.id ++ (counted_bytes r.op ++ rest)) fits.client,
-        id_again r.id (counted_bytes r.op ++ rest) fits.id_low fits.id, op_again r.op rest fits.op) refl
+    append_assoc (be_bytes w32 r.client ++ be_bytes w64 r.id) (counted_bytes r.op) rest
+    ∙ append_assoc (be_bytes w32 r.client) (be_bytes w64 r.id) (counted_bytes r.op ++ rest) in
+    rw (
+      regrouped,
+      u32_again r.client (be_bytes w64 r.id ++ (counted_bytes r.op ++ rest)) fits.client,
+      id_again r.id (counted_bytes r.op ++ rest) fits.id_low fits.id,
+      op_again r.op rest fits.op,
+    ) refl

@@ -99,7 +99,7 @@ view_change_takes bytes x fits e =
     let e2 = Takes-then bytes _ _ _ _ e1 t2.0 in
     let made : Body × List ℕ = (ViewChange a.0.0 b.0.0 c.0.0, c.0.1) in
     subst (TakesBody 21 bytes) (ok_is made x c.2)
-        (record { is_kind = refl; takes = e2; fits = record { view = t0.1; number = t1.1; entries = t2.1 } })
+    (record { is_kind = refl; takes = e2; fits = record { view = t0.1; number = t1.1; entries = t2.1 } })
 
 start_view_takes : (bytes : List ℕ) (x : Body × List ℕ) → IsBytes bytes → start_view_at bytes ≡ Ok x → TakesBody 22 bytes x
 unfolding start_view_at
@@ -171,7 +171,7 @@ found_again : (slot : ℕ) (r : Request) (rest : List ℕ) → SlotFits slot →
 unfolding found_at
 found_again slot r rest slot_fits fits =
     let regrouped : be_bytes w32 slot ++ request_bytes r ++ rest ≡ be_bytes w32 slot ++ (request_bytes r ++ rest) =
-        append_assoc (be_bytes w32 slot) (request_bytes r) rest in
+    append_assoc (be_bytes w32 slot) (request_bytes r) rest in
     rw (regrouped, slot_again slot (request_bytes r ++ rest) slot_fits, request_again r rest fits) refl
 
 start_view_again : (next : ℕ) (log : List Entry) (rest : List ℕ) → NextFits next → LogFits log
@@ -179,7 +179,7 @@ start_view_again : (next : ℕ) (log : List Entry) (rest : List ℕ) → NextFit
 unfolding start_view_at
 start_view_again next log rest next_fits fits =
     let regrouped : be_bytes w64 next ++ log_bytes log ++ rest ≡ be_bytes w64 next ++ (log_bytes log ++ rest) =
-        append_assoc (be_bytes w64 next) (log_bytes log) rest in
+    append_assoc (be_bytes w64 next) (log_bytes log) rest in
     rw (regrouped, next_again next (log_bytes log ++ rest) next_fits, log_again log rest fits) refl
 
 view_change_again : (v : View) (next : ℕ) (log : List Entry) (rest : List ℕ) → LogChangeFits v next log
@@ -188,10 +188,10 @@ unfolding view_change_at
 view_change_again v next log rest fits =
     let more : List ℕ = be_bytes w64 next ++ (log_bytes log ++ rest) in
     let regrouped : view_bytes v ++ be_bytes w64 next ++ log_bytes log ++ rest ≡ view_bytes v ++ more =
-        append_assoc (view_bytes v ++ be_bytes w64 next) (log_bytes log) rest
-        ∙ append_assoc (view_bytes v) (be_bytes w64 next) (log_bytes log ++ rest) in
+    append_assoc (view_bytes v ++ be_bytes w64 next) (log_bytes log) rest
+    ∙ append_assoc (view_bytes v) (be_bytes w64 next) (log_bytes log ++ rest) in
     ap view_change_at regrouped
-        ∙ rw (started_again v more fits.view, next_again next (log_bytes log ++ rest) fits.number, log_again log rest fits.entries) refl
+    ∙ rw (started_again v more fits.view, next_again next (log_bytes log ++ rest) fits.number, log_again log rest fits.entries) refl
 
 sync_prepare_again : (log : List Entry) (rest : List ℕ) → LogFits log → sync_prepare_at (log_bytes log ++ rest) ≡ Ok (SyncPrepare log, rest)
 unfolding sync_prepare_at

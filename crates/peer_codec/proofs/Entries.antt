@@ -20,13 +20,13 @@ unfolding entry_at
 entry_takes [] x fits e = absurd cc
 entry_takes (zero ∷ bytes) x fits e =
     subst (λ (y : Entry × List ℕ). Takes (0 ∷ bytes) (entry_bytes y.0) y.1 × EntryFits y.0) (ok_is (NoOp, bytes) x e)
-        (record { parts = refl; rest_fits = IsBytes-rest 0 bytes fits }, tt)
+    (record { parts = refl; rest_fits = IsBytes-rest 0 bytes fits }, tt)
 entry_takes (suc zero ∷ bytes) x fits e =
     let b = bind_ok (request_at bytes) (λ r. Ok (Req r.0, r.1)) x e in
     let t = request_takes bytes b.0 (IsBytes-rest 1 bytes fits) b.1 in
     let made : Entry × List ℕ = (Req b.0.0, b.0.1) in
     subst (λ (y : Entry × List ℕ). Takes (1 ∷ bytes) (entry_bytes y.0) y.1 × EntryFits y.0) (ok_is made x b.2)
-        (record { parts = ap (λ (t : List ℕ). 1 ∷ t) t.0.parts; rest_fits = t.0.rest_fits }, t.1)
+    (record { parts = ap (λ (t : List ℕ). 1 ∷ t) t.0.parts; rest_fits = t.0.rest_fits }, t.1)
 entry_takes (suc (suc tag) ∷ bytes) x fits e = absurd cc
 
 entry_again : (n : Entry) (rest : List ℕ) → EntryFits n → entry_at (entry_bytes n ++ rest) ≡ Ok (n, rest)
@@ -52,7 +52,7 @@ entries_take (suc n) bytes x fits e =
     let both = Takes-then bytes (entry_bytes a.0.0) a.0.1 (flat_map entry_bytes b.0.0) b.0.1 first.0 second.takes in
     let made : List Entry × List ℕ = (a.0.0 ∷ b.0.0, b.0.1) in
     subst (TakesEntries (suc n) bytes) (ok_is made x b.2)
-        (record { takes = rw flat_map-cons both; count = ap suc second.count; each = (first.1, second.each) })
+    (record { takes = rw flat_map-cons both; count = ap suc second.count; each = (first.1, second.each) })
 
 entries_again : (ns : List Entry) (rest : List ℕ) → AllByRecursion EntryFits ns
     → entries_at (length ns) (flat_map entry_bytes ns ++ rest) ≡ Ok (ns, rest)
@@ -60,9 +60,9 @@ unfolding entries_at
 entries_again [] rest fits = refl
 entries_again (n ∷ ns) rest fits =
     let regrouped : flat_map entry_bytes (n ∷ ns) ++ rest ≡ entry_bytes n ++ (flat_map entry_bytes ns ++ rest) =
-        ap (λ (x : List ℕ). x ++ rest) (flat_map-cons entry_bytes n ns) ∙ append_assoc (entry_bytes n) (flat_map entry_bytes ns) rest in
+    ap (λ (x : List ℕ). x ++ rest) (flat_map-cons entry_bytes n ns) ∙ append_assoc (entry_bytes n) (flat_map entry_bytes ns) rest in
     ap (entries_at (suc (length ns))) regrouped
-        ∙ rw (entry_again n (flat_map entry_bytes ns ++ rest) fits.0, entries_again ns rest fits.1) refl
+    ∙ rw (entry_again n (flat_map entry_bytes ns ++ rest) fits.0, entries_again ns rest fits.1) refl
 
 pub log_takes : (bytes : List ℕ) (x : List Entry × List ℕ) → IsBytes bytes → log_at bytes ≡ Ok x
     → Takes bytes (log_bytes x.0) x.1 × LogFits x.0
@@ -71,13 +71,14 @@ log_takes bytes x fits e =
     let a = bind_ok (length_at bytes) (λ count. entries_at count.0 count.1) x e in
     let t = length_takes bytes a.0 fits a.1 in
     let s = entries_take a.0.0 a.0.1 x t.0.rest_fits a.2 in
-    let both = Takes-then bytes (be_bytes w32 a.0.0) a.0.1 (flat_map entry_bytes x.0) x.1 t.0 s.takes in
-    (subst (λ (n : ℕ). Takes bytes (be_bytes w32 n ++ flat_map entry_bytes x.0) x.1) (sym s.count) both,
-        record { len = rw s.count t.1; each = s.each })
+    let both = Takes-then bytes (be_bytes w32 a.0.0) a.0.1 (flat_map entry_bytes x.0) x.1 t.0 s.takes in (
+      subst (λ (n : ℕ). Takes bytes (be_bytes w32 n ++ flat_map entry_bytes x.0) x.1) (sym s.count) both,
+      record { len = rw s.count t.1; each = s.each },
+    )
 
 pub log_again : (log : List Entry) (rest : List ℕ) → LogFits log → log_at (log_bytes log ++ rest) ≡ Ok (log, rest)
 unfolding log_at
 log_again log rest fits =
     let regrouped : log_bytes log ++ rest ≡ be_bytes w32 (length log) ++ (flat_map entry_bytes log ++ rest) =
-        append_assoc (be_bytes w32 (length log)) (flat_map entry_bytes log) rest in
+    append_assoc (be_bytes w32 (length log)) (flat_map entry_bytes log) rest in
     rw (regrouped, length_again (length log) (flat_map entry_bytes log ++ rest) fits.len) (entries_again log rest fits.each)

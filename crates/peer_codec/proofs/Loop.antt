@@ -27,7 +27,7 @@ unfolding entries_at
 goes_on front count i bytes n after total lt h so_far =
     let k : count - i ≡ suc (count - (i + 1)) = omega arith in
     let one : with_front front (entries_at (count - i) bytes) ≡ with_front (front ++ n ∷ []) (entries_at (count - (i + 1)) after) =
-        rw (k, h) (regroup front n (entries_at (count - (i + 1)) after)) in
+    rw (k, h) (regroup front n (entries_at (count - (i + 1)) after)) in
     sym one ∙ so_far
 
 failed : (e : BadPeer) (front : List Entry) (count i : ℕ) (bytes : List ℕ) (total : Read) → i < count → entry_at bytes ≡ Err e
@@ -52,5 +52,5 @@ unfolding entries_at
 is_done front count i bytes total le so_far =
     let k : count - i ≡ 0 = omega arith in
     let one : with_front front (entries_at (count - i) bytes) ≡ Ok (front, bytes) =
-        rw k (ap (λ (ns : List Entry). Ok (ns, bytes)) (append-nil front)) in
+    rw k (ap (λ (ns : List Entry). Ok (ns, bytes)) (append-nil front)) in
     sym so_far ∙ one

@@ -66,9 +66,12 @@ message_again : (p : Peer) → PeerFits p → message_of (kind_of p.body) (p.sen
 unfolding message_of
 message_again p fits =
     let body : body_at (kind_of p.body) (body_bytes p.body) ≡ Ok (p.body, []) =
-        ap (body_at (kind_of p.body)) (sym (append-nil (body_bytes p.body))) ∙ body_again p.body [] fits.body in
-    rw (sender_again p.sender (view_bytes p.view ++ body_bytes p.body) fits.sender, started_again p.view (body_bytes p.body) fits.view,
-        body) refl
+    ap (body_at (kind_of p.body)) (sym (append-nil (body_bytes p.body))) ∙ body_again p.body [] fits.body in
+    rw (
+      sender_again p.sender (view_bytes p.view ++ body_bytes p.body) fits.sender,
+      started_again p.view (body_bytes p.body) fits.view,
+      body,
+    ) refl
 
 pub reads_again : (p : Peer) → PeerFits p → reading (spelling p) ≡ Ok p
 unfolding reading

@@ -19,15 +19,19 @@ view_len v = omega (arith, length-append (be_bytes w32 v.leader) (be_bytes w32 v
 pub request_len : (r : Request) → length (request_bytes r) ≡ 14 + length r.op
 request_len r =
     let counted : length (be_bytes w16 (length r.op) ++ r.op) ≡ 2 + length r.op =
-        omega (arith, length-append (be_bytes w16 (length r.op)) r.op, wide16.len (length r.op)) in
+    omega (arith, length-append (be_bytes w16 (length r.op)) r.op, wide16.len (length r.op)) in
     let front : length (be_bytes w32 r.client ++ be_bytes w64 r.id) ≡ 12 =
-        omega (arith, length-append (be_bytes w32 r.client) (be_bytes w64 r.id), wide32.len r.client, wide64.len r.id) in
+    omega (arith, length-append (be_bytes w32 r.client) (be_bytes w64 r.id), wide32.len r.client, wide64.len r.id) in
     omega (arith, length-append (be_bytes w32 r.client ++ be_bytes w64 r.id) (be_bytes w16 (length r.op) ++ r.op), counted, front)
 
 pub log_len : (log : List Entry) → length (log_bytes log) ≡ 4 + sum_by (λ e. length (entry_bytes e)) log
 log_len log =
-    omega (arith, length-append (be_bytes w32 (length log)) (flat_map entry_bytes log), wide32.len (length log),
-    length-flat_map entry_bytes log)
+    omega (
+      arith,
+      length-append (be_bytes w32 (length log)) (flat_map entry_bytes log),
+      wide32.len (length log),
+      length-flat_map entry_bytes log,
+    )
 
 pub number_len : (n : ℕ) → length (be_bytes w32 n) ≡ 4
 number_len n = wide32.len n
@@ -41,7 +45,7 @@ start_view_len next log = omega (arith, length-append (be_bytes w64 next) (log_b
 pub view_change_len : (v : View) (next : ℕ) (log : List Entry) → length (body_bytes (ViewChange v next log)) ≡ 16 + length (log_bytes log)
 view_change_len v next log =
     let front : length (view_bytes v ++ be_bytes w64 next) ≡ 16 =
-        omega (arith, length-append (view_bytes v) (be_bytes w64 next), view_len v, wide64.len next) in
+    omega (arith, length-append (view_bytes v) (be_bytes w64 next), view_len v, wide64.len next) in
     omega (arith, length-append (view_bytes v ++ be_bytes w64 next) (log_bytes log), front)
 
 pub spelling_len : (p : Peer) → length (spelling p) ≡ 10 + length (body_bytes p.body)

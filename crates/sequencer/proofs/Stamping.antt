@@ -125,4 +125,4 @@ pub stamps_once : (s : SequencerState) (calls : List Call) → AreOnce (stamps s
 stamps_once s [] i j p q e f session number = absurd (none-some p e)
 stamps_once s (c ∷ cs) i j p q e f session number =
     call_once s c (stamps (after_call s c) cs) (stamps_ahead (after_call s c) cs) (stamps_once (after_call s c) cs) i j p q e f session
-        number
+    number

@@ -76,15 +76,15 @@ install_sent : (s : ControllerState) → IsWithin s → AreOf (move_of s) (insta
 install_sent s w dest bytes j x (zero, e) read =
     install_parts s dest j x (sent_dest _ dest _ bytes e)
     (install_is _ _ j x (read_sent (datagrams.Install s.current s.session) (record { number = current_small s w; count = w.session }) bytes
-        (sent_bytes _ dest _ bytes e) (datagrams.Install j x) read))
+    (sent_bytes _ dest _ bytes e) (datagrams.Install j x) read))
 install_sent s w dest bytes j x (suc i, e) read = absurd (none-some (Send dest bytes) e)
 
 ping_sent : (s : ControllerState) → IsWithin s → nat_lt s.round last_number ≡ true → (m : Move)
     → AreOf m (Send (One (Sequencer s.current)) (spelling (datagrams.Ping s.current (s.round + 1))) ∷ [])
 ping_sent s w test m dest bytes j x (zero, e) read =
     absurd (ping_is_none _ _ j x (read_sent (datagrams.Ping s.current (s.round + 1))
-        (record { number = current_small s w; count = record { low = omega arith; high = grind (arith, test) } }) bytes
-        (sent_bytes _ dest _ bytes e) (datagrams.Install j x) read))
+    (record { number = current_small s w; count = record { low = omega arith; high = grind (arith, test) } }) bytes
+    (sent_bytes _ dest _ bytes e) (datagrams.Install j x) read))
 ping_sent s w test m dest bytes j x (suc i, e) read = absurd (none-some (Send dest bytes) e)
 
 -- ---- each row
@@ -106,8 +106,11 @@ order_row false s j test w = quiet s w
 
 ask_row : (b : Bool) (s : ControllerState) → nat_lt s.round last_number ≡ b → IsWithin s → IsRow (ask_if b s)
 ask_row true s test w =
-    record { within = record { config = w.config; session = w.session; current = w.current; missed = w.missed }; installs =
-    ping_sent s w test (move_of (asked s)) }
+    record {
+      within = record { config = w.config; session = w.session; current = w.current; missed = w.missed };
+      installs =
+          ping_sent s w test (move_of (asked s));
+    }
 ask_row false s test w = quiet s w
 
 following_there : (s : ControllerState) → IsWithin s → following s < s.config.sequencers
@@ -117,7 +120,7 @@ miss_row : (b : Bool) (s : ControllerState) → nat_le MISSED_END (s.missed + 1)
 miss_row true s test w = move_row (nat_lt s.session last_number) s (following s) refl w (following_there s w)
 miss_row false s test w =
     let v : IsWithin (record s { missed = s.missed + 1 }) =
-        record { config = w.config; session = w.session; current = w.current; missed = grind (arith, test) } in
+    record { config = w.config; session = w.session; current = w.current; missed = grind (arith, test) } in
     ask_row (nat_lt s.round last_number) (record s { missed = s.missed + 1 }) refl v
 
 probe_row : (b : Bool) (s : ControllerState) → IsWithin s → IsRow (probe_if b s)
@@ -184,5 +187,5 @@ installs_of_last config session inputs input dest bytes j x is count has read =
     let s : ControllerState = opening config session in
     let w : IsWithin (after s inputs) = stays_within s inputs (opens_within config session is count) in
     let found : (dest ≡ One (Sequencer j)) × (record { sequencer = j; session = x } ≡ move_of (next (after s inputs) input).0) =
-        (row (after s inputs) input w).installs dest bytes j x has read in
+    (row (after s inputs) input w).installs dest bytes j x has read in
     (found.0, found.1 ∙ ap move_of (sym (one_more s inputs input)) ∙ last_of_state s (inputs ++ input ∷ []))

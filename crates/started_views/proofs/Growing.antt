@@ -176,7 +176,7 @@ fixed_stays f past later w m s g started fixed =
             let one : x ≡ started.0 = same_Some x started.0 (sym is ∙ g.starts w started.0 started.1) in
             let was : IsStart past w x = subst (λ t. IsStart past w t) (sym one) started.1 in
             quorum_weaker f (HadNoOp past w k) (HadNoOp later w k) (λ r h. noop_stays f past later g w k n.0 n.1 e r h)
-                (fixed.noops k x was above le (back n.0 n.2 k le e));
+            (fixed.noops k x was above le (back n.0 n.2 k le e));
       },
     )
   where

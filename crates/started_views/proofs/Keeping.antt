@@ -38,14 +38,14 @@ module _ (f : ℕ) (stamps : List Stamped) (last_normal : ℕ → View) (past : 
   certificate_has_fixed : (w v : View) (cs : List Change) (m : List Entry) (s : ℕ) → Certificate f past v cs → Fixed f past w m s
       → Below w v
       → ((u : View) (y : Start) → Below u v → Below w u → IsStart past u y → IsPrefixOf (take s m) y.log)
-          → IsPrefixOf (take s m) (merge (kept cs))
+      → IsPrefixOf (take s m) (merge (kept cs))
   certificate_has_fixed w v cs m s c fixed below earlier =
       elim (cases_View w (greatest cs)) [
         | inl same ↦ passes_same f stamps last_normal past h v w cs c m s fixed below same
         | inr apart ↦
             let g = greatest_started f stamps last_normal past h v cs c in
             let low : AtMost w (greatest cs) =
-                greatest_not_below f stamps last_normal past h v cs c w (λ l. s ≤ length l) fixed.reached below in
+            greatest_not_below f stamps last_normal past h v cs c w (λ l. s ≤ length l) fixed.reached below in
             passes_later f stamps last_normal past h v w cs c m s fixed below g.0 g.1
             (earlier (greatest cs) g.0 (greatest_below f stamps last_normal past h v cs c) (record { at_most = low; apart = apart }) g.1)
       ]
@@ -59,7 +59,7 @@ module _ (f : ℕ) (stamps : List Stamped) (last_normal : ℕ → View) (past : 
       step v earlier below x is =
           let c = h.certificate v x is (not_first w v (fixed_started w m s fixed) below) in
           subst (λ (t : Start). IsPrefixOf (take s m) t.log) (sym c.2)
-              (certificate_has_fixed w v c.0 m s c.1 fixed below (λ u y lower upper started. earlier u lower upper y started))
+          (certificate_has_fixed w v c.0 m s c.1 fixed below (λ u y lower upper started. earlier u lower upper y started))
 
   -- whatever certificate a view gets, its start begins with each prefix that is fixed below it
   pub certificate_begins_start : (w v : View) (cs : List Change) (m : List Entry) (s : ℕ) → Certificate f past v cs → Fixed f past w m s
@@ -101,7 +101,7 @@ module _ (f : ℕ) (stamps : List Stamped) (last_normal : ℕ → View) (past : 
             subst (λ t. IsPrefixOf (take s m) t) one (IsPrefixOf-take s m)
         | inr apart ↦
             IsPrefixOf-trans (take s m) started.0.log a
-                (fixed_begins_start w m s fixed v (record { at_most = low; apart = apart }) started.0 started.1)
+            (fixed_begins_start w m s fixed v (record { at_most = low; apart = apart }) started.0 started.1)
             (h.begins_with_start (leader_of v (2 * f + 1)) v a started.0 lead started.1)
       ]
 
@@ -129,13 +129,13 @@ module _ (f : ℕ) (stamps : List Stamped) (last_normal : ℕ → View) (past : 
       → Anchored f past u s → Certificate f past v cs → Below u v → IsPrefixOf (take s l) (start_of v cs).log
   certificate_synchronised u v cs b l s lead same at c below =
       synchronised_begins u b l (start_of v cs).log s lead same at
-          (λ w low m fixed. certificate_begins_start w v cs m s c fixed (Below-after_at_most w u v low below))
+      (λ w low m fixed. certificate_begins_start w v cs m s c fixed (Below-after_at_most w u v low below))
 
   pub start_synchronised : (u v : View) (x : Start) (b l : List Entry) (s : ℕ) → LeaderHad f past u b → SameTo s l b → Anchored f past u s
       → IsStart past v x → Below u v → IsPrefixOf (take s l) x.log
   start_synchronised u v x b l s lead same at is below =
       synchronised_begins u b l x.log s lead same at
-          (λ w low m fixed. fixed_begins_start w m s fixed v (Below-after_at_most w u v low below) x is)
+      (λ w low m fixed. fixed_begins_start w m s fixed v (Below-after_at_most w u v low below) x is)
 
   pub leader_synchronised : (u v : View) (a b l : List Entry) (s : ℕ) → LeaderHad f past u b → SameTo s l b → Anchored f past u s
       → LeaderHad f past v a → AtMost u v → IsPrefixOf (take s l) a
@@ -162,7 +162,7 @@ main_log_is_one f last_normal past v w a b h g =
     let same : v ≡ w = same_View-from_ranks v w low high in
     let q = leader_of w (2 * f + 1) in
     let had : HadLog past q (last_normal q) a =
-        subst (λ t. HadLog past (leader_of t (2 * f + 1)) (last_normal (leader_of t (2 * f + 1))) a) same h.current in
+    subst (λ t. HadLog past (leader_of t (2 * f + 1)) (last_normal (leader_of t (2 * f + 1))) a) same h.current in
     (same, same_Some a b (sym had ∙ g.current))
 
 -- of the first n + 1 views one is outranked by none
@@ -173,26 +173,37 @@ greatest_of views (suc n) = pick (greatest_of views n) (RanksAtMost-cases (views
     pick : (g : (q : ℕ) × (q < suc n) × ((r : ℕ) → r < suc n → RanksAtMost (views r) (views q)))
         → RanksAtMost (views (suc n)) (views g.0) ⊎ RanksAtMost (views g.0) (views (suc n))
         → (q : ℕ) × (q < suc (suc n)) × ((r : ℕ) → r < suc (suc n) → RanksAtMost (views r) (views q))
-    pick g (inl low) = (g.0, omega (arith, g.1), λ r l. elim (cases_lt r (suc n)) [
-      | inl k ↦ g.2 r k
-      | inr k ↦ let e : r ≡ suc n = omega (arith, l, k) in rw e low
-    ])
-    pick g (inr high) = (suc n, omega arith, λ r l. elim (cases_lt r (suc n)) [
-      | inl k ↦ RanksAtMost-trans (views r) (views g.0) (views (suc n)) (g.2 r k) high
-      | inr k ↦ let e : r ≡ suc n = omega (arith, l, k) in rw e (RanksAtMost-refl (views (suc n)))
-    ])
+    pick g (inl low) = (
+      g.0,
+      omega (arith, g.1),
+      λ r l. elim (cases_lt r (suc n)) [
+        | inl k ↦ g.2 r k
+        | inr k ↦ let e : r ≡ suc n = omega (arith, l, k) in rw e low
+      ],
+    )
+    pick g (inr high) = (
+      suc n,
+      omega arith,
+      λ r l. elim (cases_lt r (suc n)) [
+        | inl k ↦ RanksAtMost-trans (views r) (views g.0) (views (suc n)) (g.2 r k) high
+        | inr k ↦ let e : r ≡ suc n = omega (arith, l, k) in rw e (RanksAtMost-refl (views (suc n)))
+      ],
+    )
 
 pub main_log_exists : (f : ℕ) (stamps : List Stamped) (last_normal : ℕ → View) (past : Past) → Grounds f stamps last_normal past
     → (v : View) × (a : List Entry) × MainLog f last_normal past v a
 main_log_exists f stamps last_normal past h =
     let g = greatest_of last_normal (2 * f) in
     let v = last_normal g.0 in
-    let l = h.current_log (leader_of v (2 * f + 1)) (leader_within f v) in
-    (v, l.0, record {
-      held = (g.0, omega (arith, g.1), refl);
-      greatest = λ r k. outranks-from_ranks (last_normal r) v (g.2 r (omega (arith, k)));
-      current = l.1;
-    })
+    let l = h.current_log (leader_of v (2 * f + 1)) (leader_within f v) in (
+      v,
+      l.0,
+      record {
+        held = (g.0, omega (arith, g.1), refl);
+        greatest = λ r k. outranks-from_ranks (last_normal r) v (g.2 r (omega (arith, k)));
+        current = l.1;
+      },
+    )
 
 pub fixed_prefixes_are_kept : FixedPrefixesAreKept
 fixed_prefixes_are_kept f stamps last_normal past h w v m s x fixed below is =

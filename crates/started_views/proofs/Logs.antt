@@ -36,8 +36,8 @@ pub same_from_slots : (s : ℕ) (l m : List Entry) → s ≤ length l → s ≤ 
     → ((k : ℕ) (x : Entry) → k ≤ s → slot_of l k ≡ Some x → slot_of m k ≡ Some x) → SameTo s l m
 same_from_slots s l m a b h =
     let part : IsPrefixOf (take s l) (take s m) =
-        IsPrefixOf-from_slots (take s l) (take s m) (λ k x e. let r = slot_of-from_take s l k x e in
-        slot_of-take s m k x r.0 (h k x r.0 r.1)) in
+    IsPrefixOf-from_slots (take s l) (take s m) (λ k x e. let r = slot_of-from_take s l k x e in
+    slot_of-take s m k x r.0 (h k x r.0 r.1)) in
     record { left = a; right = b; same = prefix_same_length (take s l) (take s m) (length-take-le s l a ∙ sym (length-take-le s m b)) part }
 
 -- both begin with the same s slots
@@ -60,7 +60,7 @@ same_less s t l m le h =
 pub same_grown : (s : ℕ) (l m n : List Entry) → SameTo s l m → IsPrefixOf m n → SameTo s l n
 same_grown s l m n h g =
     same_from_slots s l n h.left (omega (arith, h.right, length-prefix m n g))
-        (λ k x below e. slot_of-prefix m n k x g (same_slot s m l k x (same_sym s l m h) below e))
+    (λ k x below e. slot_of-prefix m n k x g (same_slot s m l k x (same_sym s l m h) below e))
 
 -- where both begin one log, their slots are the same
 pub prefixes_agree : (s t i : ℕ) (l k a : List Entry) → s ≤ length l → t ≤ length k → IsPrefixOf (take s l) a → IsPrefixOf (take t k) a
@@ -119,4 +119,4 @@ pub toward_keeps_same : (m l k : List Entry) (s : ℕ) → Toward m l k → Same
 toward_keeps_same m l k s t h =
     same_sym s m k
     (same_from_slots s m k h.right (omega (arith, h.left, t.longer))
-        (λ i x below e. toward_keeps_slot m l k i x t e (same_slot s l m i x h below e)))
+    (λ i x below e. toward_keeps_slot m l k i x t e (same_slot s l m i x h below e)))

@@ -52,8 +52,8 @@ module _ (f : ℕ) (p : Past) (r : ℕ) (a b c : Standing) (h : InParts f p r a 
     entry_first q w enters e d =
         same_place middle.entry (Some (entered_with a)) q r w b.view e d (note_entry_here f p r a b enters)
         ∙ sym
-            (same_place whole.entry (Some (entered_with a)) q r w c.view e (d
-            ∙ sym same) (note_entry_here f p r a c (λ t. enters (sym same ∙ t))))
+        (same_place whole.entry (Some (entered_with a)) q r w c.view e (d
+        ∙ sym same) (note_entry_here f p r a c (λ t. enters (sym same ∙ t))))
 
     entries_first : (q : ℕ) (w : View) → parts.entry q w ≡ whole.entry q w
     entries_first q w =
@@ -113,12 +113,12 @@ module _ (f : ℕ) (p : Past) (r : ℕ) (a b c : Standing) (h : InParts f p r a 
     start_first w s d =
         let leads : r ≡ leader_of c.last_normal (2 * f + 1) = s.leads ∙ ap (λ (u : View). leader_of u (2 * f + 1)) (sym same) in
         let mid : middle.start w ≡ Some (started_with b) =
-            subst (λ u. middle.start u ≡ Some (started_with b)) (sym d) (note_start_here f p r a b s) in
+        subst (λ u. middle.start u ≡ Some (started_with b)) (sym d) (note_start_here f p r a b s) in
         let all : whole.start w ≡ Some (started_with c) =
-            subst (λ u. whole.start u ≡ Some (started_with c)) (same ∙ sym d) (note_start_here f p r a c (record {
-              adopts = λ t. s.adopts (sym same ∙ t);
-              leads = leads;
-            })) in
+        subst (λ u. whole.start u ≡ Some (started_with c)) (same ∙ sym d) (note_start_here f p r a c (record {
+          adopts = λ t. s.adopts (sym same ∙ t);
+          leads = leads;
+        })) in
         mid ∙ ap (λ (t : Start). Some t) (sym (keeps leads)) ∙ sym all
 
     starts_first : (w : View) → parts.start w ≡ whole.start w

@@ -26,7 +26,7 @@ module _ (f : ℕ) (stamps : List Stamped) (last_normal : ℕ → View) (past : 
       → HadLog past q w l → HadLog past r w m → slot_of l k ≡ Some (Req a) → slot_of m k ≡ Some (Req b) → a ≡ b
   same_request w x k q r l m a b is above had too e g =
       h.stamped_once w.session (x.next + (k - length x.log - 1)) a b (h.request_by_number q w l x k a had is above e)
-          (h.request_by_number r w m x k b too is above g)
+      (h.request_by_number r w m x k b too is above g)
 
   module _ (v w : View) (cs : List Change) (c : Certificate f past v cs) (m : List Entry) (s : ℕ) (fixed : Fixed f past w m s)
       (below : Below w v) where
@@ -66,8 +66,8 @@ module _ (f : ℕ) (stamps : List Stamped) (last_normal : ℕ → View) (past : 
             let same : y.0 ≡ e = same_Some y.0 e (sym there ∙ stands) in
             let d = some_kept f stamps last_normal past h v cs c in
             let all : (b : Change) → Has (kept cs) b → slot_of b.log k ≡ Some e =
-                λ b here. slot_of-prefix start b.log k y.0 (h.begins_with_start b.sender w b.log x.0 (had b here) x.1) y.1
-                ∙ ap (λ (t : Entry). Some t) same in
+            λ b here. slot_of-prefix start b.log k y.0 (h.begins_with_start b.sender w b.log x.0 (had b here) x.1) y.1
+            ∙ ap (λ (t : Entry). Some t) same in
             inr ((e, (d.0, d.1, all d.0 d.1)), λ b z here g. same_Some z e (sym g ∙ all b here))
 
         -- above it, what a kept log has in place of a request
@@ -81,9 +81,11 @@ module _ (f : ℕ) (stamps : List Stamped) (last_normal : ℕ → View) (past : 
 
         high : (k : ℕ) (e : Entry) → 0 < k → k ≤ s → length start < k → slot_of m k ≡ Some e → AgreeOn (kept cs) k e
         high k NoOp pos l above stands =
-            inl (refl,
-                kept_shows f stamps last_normal past h v cs c w (λ t. slot_of t k ≡ Some NoOp) is
-                (fixed.noops k x.0 x.1 above l stands) below)
+            inl (
+              refl,
+              kept_shows f stamps last_normal past h v cs c w (λ t. slot_of t k ≡ Some NoOp) is
+                  (fixed.noops k x.0 x.1 above l stands) below,
+            )
         high k (Req q) pos l above stands =
             let d = kept_shows f stamps last_normal past h v cs c w (λ t. s ≤ length t) is fixed.reached below in
             let y = slot_of-some d.0.log k pos (omega (arith, d.2)) in

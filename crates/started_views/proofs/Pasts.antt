@@ -75,8 +75,11 @@ third_lost h = let e = slot_of-prefix (take 3 leader_log) (follower_log NoOp) 3 
 
 pub unsettled_reached : Quorum 1 (Reached unsettled_past first_view 2)
 unsettled_reached =
-    both_are_quorum (Reached unsettled_past first_view 2) (leader_log, refl, omega arith) (follower_log (Req (request_of 2)), refl,
-        omega arith)
+    both_are_quorum (Reached unsettled_past first_view 2) (leader_log, refl, omega arith) (
+      follower_log (Req (request_of 2)),
+      refl,
+      omega arith,
+    )
 
 pub noop_alone : (r : ℕ) → HadNoOp unsettled_past first_view 2 r → r ≡ 0
 noop_alone r (l, had, e) = at (logged (Req (request_of 2)) r first_view l had)
@@ -106,5 +109,5 @@ overrun_fixed =
 pub overrun_entry : ((r : ℕ) (v : View) (e : Entered) → overrun_past.entry r v ≡ Some e → HadLog overrun_past r e.last_normal e.log) → ⊥
 overrun_entry h =
     let e : Some leader_log ≡ Some (follower_log NoOp) =
-        h 1 second_view (record { last_normal = first_view; next = 3; log = follower_log NoOp }) refl in
+    h 1 second_view (record { last_normal = first_view; next = 3; log = follower_log NoOp }) refl in
     absurd cc

@@ -16,7 +16,7 @@ counted_more : (n x : ℕ) (xs : List ℕ) → counted n (x ∷ xs) ≡ cond (lt
 counted_more zero x xs = grind (arith, nat_tests)
 counted_more (suc n) x xs =
     step (eqb x n) (ltb x n) (ltb x (suc n)) (grind (arith, nat_tests)) (counts n xs) (counted n xs) (counted n (x ∷ xs))
-        (counted_more n x xs)
+    (counted_more n x xs)
   where
     step : (a b c : Bool) → cond a 1 0 + cond b 1 0 ≡ cond c 1 0 → (m n k : ℕ) → k ≡ cond b 1 0 + n
         → cond a 1 0 + m + k ≡ cond c 1 0 + (m + n)

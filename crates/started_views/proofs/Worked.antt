@@ -222,8 +222,10 @@ module _ (x : Entry) (c : Second x) where
 
   in_second : (r : ℕ) (w : View) → w ≡ second_view → r ≡ 1 → IsStarted past w × AtMost w (worked_last_normal r)
   in_second r w e q =
-      subst (λ u. IsStarted past u × AtMost u (worked_last_normal r)) (sym e) ((second_start x, refl),
-      AtMost-same second_view (worked_last_normal r) (ap worked_last_normal (sym q)))
+      subst (λ u. IsStarted past u × AtMost u (worked_last_normal r)) (sym e) (
+        (second_start x, refl),
+        AtMost-same second_view (worked_last_normal r) (ap worked_last_normal (sym q)),
+      )
 
   log_in_started : (r : ℕ) (w : View) (l : List Entry) → HadLog past r w l → IsStarted past w × AtMost w (worked_last_normal r)
   log_in_started r w l had = at (logged x r w l had)
@@ -274,9 +276,12 @@ module _ (x : Entry) (c : Second x) where
     where
       at : Begun x w s → (cs : List Change) × Certificate 1 past w cs × (s ≡ start_of w cs)
       at (First e g) = absurd (not e)
-      at (Later e g) =
-          (changes x, subst (λ u. Certificate 1 past u (changes x)) (sym e) (certified x), g ∙ opened_is x c
-          ∙ ap (λ (u : View). start_of u (changes x)) (sym e))
+      at (Later e g) = (
+        changes x,
+        subst (λ u. Certificate 1 past u (changes x)) (sym e) (certified x),
+        g ∙ opened_is x c
+            ∙ ap (λ (u : View). start_of u (changes x)) (sym e),
+      )
 
   second_begins : (r : ℕ) (w : View) (l : List Entry) → w ≡ second_view → Logged x r w l → IsPrefixOf (follower_log x) l
   second_begins r w l e (Leader u q g) = absurd (views_apart (sym u ∙ e))

@@ -71,6 +71,6 @@ started_with s = record { next = s.next - (length s.log - s.base); log = take s.
 abbrev pub note : ℕ → Past → ℕ → Standing → Standing → Past
 note f past r old new =
     with_start (not (is_view new.last_normal old.last_normal) && (r == leader_of new.last_normal (2 * f + 1))) new.last_normal
-        (started_with new)
+    (started_with new)
     (with_entry (not (is_view new.view old.view)) r new.view (entered_with old)
     (with_log r new.last_normal new.log past))

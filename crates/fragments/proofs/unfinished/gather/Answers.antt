@@ -11,10 +11,10 @@ loop-at-preserved c =
     let later = c.loop-at.later.items in
     let lt : c.loop-at.at < length later = omega arith in
     let here : get_or later c.loop-at.at None ≡ Some p =
-        sym (get_or_read later c.loop-at.at c.index.result.now lt c.index.ensures None) ∙ c.in-Some.is in
+    sym (get_or_read later c.loop-at.at c.index.result.now lt c.index.ensures None) ∙ c.in-Some.is in
     let len : length p ≡ FRAGMENT_BYTES = rw (← c.as_slice.ensures) c.if-as_slice-eq-FRAGMENT_BYTES.true in
     let made : c.extend_from_slice.new.self.items ≡ front ++ p =
-        grind (arith, c.extend_from_slice.ensures.items, c.is_err.ensures.value, c.if-is_err.false, c.as_slice-in-Some.ensures) in
+    grind (arith, c.extend_from_slice.ensures.items, c.is_err.ensures.value, c.if-is_err.false, c.as_slice-in-Some.ensures) in
     rw made (record {
       same = gather_step front p c.loop-at.at later c.loop-at.invariant.size len lt here ∙ c.loop-at.invariant.same;
       size = omega (arith, length-append front p, c.loop-at.invariant.size, len);

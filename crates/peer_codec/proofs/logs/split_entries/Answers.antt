@@ -9,7 +9,7 @@ pub returns-in_err-entry : goal.returns-in_err-entry
 returns-in_err-entry c =
     let p = err_from_is_err_and c.from_residual-in_err-entry.result c.from_residual-in_err-entry.ensures.1 in
     rw (p.1, p.2) (ends c.in_err-entry.field-0.0 c.loop.log c.args.count c.loop.counter c.loop.rest.now
-        (entries_at c.args.count c.args.bytes.now) c.loop-test.true c.in_err-entry.ensures c.loop.invariant.so_far)
+    (entries_at c.args.count c.args.bytes.now) c.loop-test.true c.in_err-entry.ensures c.loop.invariant.so_far)
 
 pub loop-preserved : goal.loop-preserved
 loop-preserved c = record {

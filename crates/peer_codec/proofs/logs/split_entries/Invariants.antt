@@ -5,5 +5,7 @@ use Rattle.peer_codec.proofs.logs.split_entries.Given as goal
 
 abbrev pub invariant-loop : goal.invariant-loop
 invariant-loop l =
-    record { so_far : with_front l.log (entries_at (l.count - l.counter) l.rest) ≡ entries_at l.count l.bytes;
-    len : length l.log ≡ l.counter }
+    record {
+      so_far : with_front l.log (entries_at (l.count - l.counter) l.rest) ≡ entries_at l.count l.bytes;
+      len : length l.log ≡ l.counter;
+    }

@@ -23,7 +23,7 @@ returns-then-missing-eq1-clause-kept c =
     let same : c.index_mut-message.result.now ≡ b = cc (here, again) in
     let e = found_last q c.args.fragment.now c.args.at b here (cc) (cc) (cc) in
     rw e (c.remove.ensures.items ∙ remove-set _ c.args.at c.complete.new.self
-        ∙ ap (λ (p : List Partial). remove p c.args.at) c.self.view_is)
+    ∙ ap (λ (p : List Partial). remove p c.args.at) c.self.view_is)
 
 pub returns-clause-gives : goal.returns-clause-gives
 returns-clause-gives c =

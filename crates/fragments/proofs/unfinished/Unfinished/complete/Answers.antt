@@ -9,13 +9,13 @@ pub overflow_sub-index : goal.overflow_sub-index
 overflow_sub-index c =
     let u = c.self.inside in
     open_past u.front.items u.filled c.args.index u.later.items
-        (subst (λ (b : Partial). is_open b.parts c.args.index ≡ true) (sym c.self.view_is) c.requires)
+    (subst (λ (b : Partial). is_open b.parts c.args.index ≡ true) (sym c.self.view_is) c.requires)
 
 pub append_whole-requires : goal.append_whole-requires
 append_whole-requires c =
     let u = c.self.inside in
     let free : is_open (parts_of u.front.items u.filled u.later.items) c.args.index ≡ true =
-        subst (λ (b : Partial). is_open b.parts c.args.index ≡ true) (sym c.self.view_is) c.requires in
+    subst (λ (b : Partial). is_open b.parts c.args.index ≡ true) (sym c.self.view_is) c.requires in
     let past = open_past u.front.items u.filled c.args.index u.later.items free in
     let lt = split_within u.front.items u.filled c.args.index u.missing u.later.items c.self.invariant free in
     rw (c.split_at.ensures.back, c.deref.ensures.value) (omega (arith, length-drop u.filled u.later.items, past, lt))
@@ -25,9 +25,9 @@ returns-clause-ok c =
     let u = c.self.inside in
     let p = c.args.payload.now in
     let free : is_open (parts_of u.front.items u.filled u.later.items) c.args.index ≡ true =
-        subst (λ (b : Partial). is_open b.parts c.args.index ≡ true) (sym c.self.view_is) c.requires in
+    subst (λ (b : Partial). is_open b.parts c.args.index ≡ true) (sym c.self.view_is) c.requires in
     let past = open_past u.front.items u.filled c.args.index u.later.items free in
     let end : c.from_vec.result ≡ u.front.items ++ whole (set (drop u.filled u.later.items) (c.args.index - u.filled) (Some p)) =
     rw (c.from_vec.ensures, c.replace-bytes.ensures.value, c.in_ok-append_whole.ensures.ok, c.split_at.ensures.back, c.deref.ensures.value)
-        refl in
+    refl in
     rw (← c.self.view_is) (end ∙ sym (whole_complete u.front.items u.filled c.args.index u.later.items (Some p) c.self.invariant.size past))
