@@ -1,5 +1,5 @@
 -- A schedule without a bad line runs safely.
-use Rattle.std.proofs.Common.{◌≡◌, ℕ, suc, ◌+◌, Bool, true, false, Option, Some, None, refl, sym, ap, subst, ◌∙◌, List, [], ◌∷◌, ◌++◌}
+use Rattle.std.proofs.Common.{◌≡◌, ℕ, ◌+◌, true, Option, Some, None, refl, ap, ◌∙◌, List, [], ◌∷◌, ◌++◌}
 use Rattle.std.specs.Prelude.{Result, Ok, Err, OnOk}
 use Rattle.nop_types.specs.Configuration.{Configuration}
 use Rattle.nop_types.specs.Lines.{Line}
@@ -9,15 +9,15 @@ use Rattle.schedule_text.specs.Cutting.{lines_of}
 use Rattle.schedule_text.specs.Fits.{EventsFit}
 use Rattle.schedule_text.specs.declared.rule.Rule.{Rule}
 use Rattle.schedule_text.specs.Rules.{header_of, event_of}
-use Rattle.schedule_text.specs.Transcript.{transcript_line, lines_text}
+use Rattle.schedule_text.specs.Transcript.{transcript_line}
 use Rattle.schedule_text.proofs.Fitting.{events_fit, headers_fit}
-use Rattle.world.specs.WorldSteps.{WorldState, Refusal, Happened, step, go_on, run_from, opening, run}
+use Rattle.world.specs.WorldSteps.{WorldState, Refusal, Happened, step, go_on, run_from, opening}
 use Rattle.safety.specs.Answers.{ResultsShort}
 use Rattle.safety.proofs.Whole.{runs_are_safe}
 use Rattle.replay.specs.declared.error.ReplayError.{ReplayError}
-use Rattle.replay.specs.Output.{BadLine, Schedule, stepped, scheduled, schedule_from, final_text, text_after, Output, output}
+use Rattle.replay.specs.Output.{BadLine, Schedule, stepped, scheduled, schedule_from, text_after, output}
 use Rattle.replay.specs.Output.{output_of_lines, begun}
-use Rattle.replay.specs.Outcome.{Done, EndsWith}
+use Rattle.replay.specs.Outcome.{EndsWith}
 use Rattle.replay.specs.Safety.{RunsSafely, RunsSafelyOf}
 
 -- a schedule of which no line is bad runs to its end

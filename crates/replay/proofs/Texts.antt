@@ -1,5 +1,5 @@
 -- What is written for a whole input always has a last line.
-use Rattle.std.proofs.Common.{◌≡◌, ◌≢◌, ℕ, ◌+◌, List, [], ◌∷◌, ◌++◌, true, Option, Some, None, Result, Ok, Err, subst, sym}
+use Rattle.std.proofs.Common.{◌≢◌, ℕ, ◌+◌, List, [], ◌∷◌, ◌++◌, true, Option, Some, None, Result, Ok, Err, subst, sym}
 use Rattle.nop_types.specs.Configuration.{Configuration}
 use Rattle.nop_types.specs.Meaning.{Meaning}
 use Rattle.schedule_text.specs.declared.rule.Rule.{Rule}
@@ -9,7 +9,7 @@ use Rattle.schedule_text.specs.Rules.{rule_number, header_of}
 use Rattle.schedule_text.specs.Reading.{Turn, Next, Gives, Refuses, Ends}
 use Rattle.schedule_text.specs.Transcript.{error_line, end_line, lines_text, transcript_line}
 use Rattle.world.specs.StateLines.{replicas_text}
-use Rattle.world.specs.WorldSteps.{WorldState, Refusal, Happened, step, run_from, opening, history}
+use Rattle.world.specs.WorldSteps.{WorldState, Refusal, Happened, step, opening, history}
 use Rattle.replay.specs.Output.{BadLine, bad_text, refused_line, history_text, final_text, ending, text_after, schedule_from, rest, begun}
 use Rattle.replay.specs.Output.{output_of_lines, output}
 use Rattle.replay.specs.Progress.{after_step, after_next, after_turn}

@@ -2,7 +2,6 @@
 use Rattle.std.proofs.Common.{◌≡◌, ℕ, zero, suc, ◌+◌, ◌*◌, ◌≤◌, true, Some, refl, ap, subst, ◌∙◌, arith, inl, inr, length, length-append}
 use Rattle.std.proofs.Common.{List, [], ◌∷◌}
 use Rattle.std.specs.Prelude.{◌==◌, ◌%◌, ◌/◌, ◌&&◌, nat_lt, nat_le, Result, Ok, Err, slice_get}
-use Rattle.std.proofs.lemmas.Bool.Decides.{nat_tests}
 use Rattle.std.proofs.lemmas.Bool.{leb-true, and_parts, eqb-true}
 use Rattle.nop_types.specs.declared.limits.TheConstants.{MAX_REPLICAS, MAX_SEQUENCERS, MAX_CLIENTS}
 use Rattle.nop_types.specs.Configuration.{Configuration, is_configuration}

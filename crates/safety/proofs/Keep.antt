@@ -1,5 +1,5 @@
 -- The move of a client that keeps a reply.
-use Rattle.std.proofs.Common.{◌≡◌, ℕ, ◌<◌, ◌≤◌, true, not, Option, Some, None, refl, sym, subst, inl, inr, arith, [], ◌∷◌, map}
+use Rattle.std.proofs.Common.{◌≡◌, ℕ, ◌≤◌, true, not, Option, Some, None, refl, sym, subst, inl, inr, arith, [], ◌∷◌, map}
 use Rattle.std.specs.Prelude.{◌==◌, ◌&&◌, nat_lt, filter}
 use Rattle.std.proofs.lemmas.Bool.{cases_eq, ltb-true, and_parts, eqb-true}
 use Rattle.std.proofs.lemmas.Bool.Decides.{nat_tests}

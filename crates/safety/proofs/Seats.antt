@@ -1,6 +1,6 @@
 -- What a step at one seat leaves, and where a step of the world comes from.
-use Rattle.std.proofs.Common.{◌≡◌, ℕ, zero, suc, Option, Some, None, refl, sym, ap, ◌∙◌, arith, inl, inr, List, [], ◌∷◌, length}
-use Rattle.std.specs.Prelude.{◌⊎◌, Ok, slice_get, slice_set}
+use Rattle.std.proofs.Common.{◌≡◌, ℕ, Option, Some, None, refl, sym, ap, ◌∙◌, inl, inr, List, length}
+use Rattle.std.specs.Prelude.{Ok, slice_get, slice_set}
 use Rattle.nop_types.specs.Given.{Given, Packet}
 use Rattle.nop_types.specs.declared.output.Out.{Out}
 use Rattle.facts.proofs.Places.{slice_get-set_cases}

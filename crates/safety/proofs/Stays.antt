@@ -1,5 +1,5 @@
 -- What is said of old things lasts.
-use Rattle.std.proofs.Common.{◌≡◌, ℕ, ◌+◌, ◌*◌, ◌≤◌, Option, Some, sym, ap, subst, ◌∙◌, arith, length, List, take}
+use Rattle.std.proofs.Common.{◌≡◌, ℕ, ◌+◌, ◌*◌, ◌≤◌, Some, sym, ap, subst, ◌∙◌, arith, length, List, take}
 use Rattle.std.specs.Prelude.{◌-◌}
 use Rattle.std.proofs.lemmas.List.{take-append-le}
 use Rattle.nop_types.specs.declared.view.View.{View}

@@ -1,7 +1,6 @@
 -- The move of a client that submits an op.
-use Rattle.std.proofs.Common.{◌≡◌, ℕ, ◌+◌, ◌<◌, ◌≤◌, true, Some, refl, sym, ap, subst, ◌∙◌, inl, inr, arith, List, [], ◌∷◌}
+use Rattle.std.proofs.Common.{◌≡◌, ℕ, ◌+◌, ◌<◌, ◌≤◌, Some, refl, sym, ap, subst, ◌∙◌, inl, inr, arith, List, [], ◌∷◌}
 use Rattle.std.specs.Prelude.{◌-◌, ◌^◌, nat_lt}
-use Rattle.std.proofs.lemmas.Bool.Decides.{nat_tests}
 use Rattle.std.proofs.lemmas.Bool.{ltb-true, and_parts}
 use Rattle.nop_types.specs.declared.request.Request.{Request}
 use Rattle.nop_types.specs.Legality.{IsOf}

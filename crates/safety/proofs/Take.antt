@@ -2,7 +2,6 @@
 use Rattle.std.proofs.Common.{◌≡◌, ℕ, suc, ◌+◌, ◌*◌, ◌<◌, ◌≤◌, Bool, true, false, Option, Some, None, refl, sym, ap, subst, ◌∙◌, arith}
 use Rattle.std.proofs.Common.{inl, inr, length, length-append, List, [], ◌∷◌, ◌++◌}
 use Rattle.std.specs.Prelude.{◌-◌, ◌&&◌, nat_lt}
-use Rattle.std.proofs.lemmas.Bool.Decides.{nat_tests}
 use Rattle.std.proofs.lemmas.Bool.{ltb-true, and_parts, eq-eqb}
 use Rattle.nop_types.specs.declared.limits.TheConstants.{MAX_SLOTS, MAX_RESULT_BYTES, NUMBER_END}
 use Rattle.nop_types.specs.declared.view.View.{View}

@@ -1,5 +1,5 @@
 -- Each run is safe.
-use Rattle.std.proofs.Common.{◌≡◌, ℕ, zero, suc, ◌+◌, ◌≤◌, true, Some, refl, sym, ap, subst, ◌∙◌, arith, length, List, [], ◌∷◌, ◌++◌}
+use Rattle.std.proofs.Common.{◌≡◌, ℕ, zero, suc, ◌+◌, ◌≤◌, true, Some, sym, ap, subst, ◌∙◌, arith, length, List, [], ◌∷◌, ◌++◌}
 use Rattle.std.proofs.Common.{take, drop}
 use Rattle.std.specs.Prelude.{Result, Ok, slice_get}
 use Rattle.std.proofs.lemmas.List.{drop_all}
