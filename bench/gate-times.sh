@@ -8,9 +8,10 @@
 # temporary folder, with one command at a time; for figures that mean something nothing else runs on the machine. The
 # libraries below a crate are built before it is measured.
 #
-# The seconds are those of all processors together. Proof: `rt verdict` of the crate without its tests. Tests: what `rt verdict`
-# takes more with them. Edits: `rt must-fail --anew`, which proves the crate once more before it tries its edits. Lines of code have
-# the contracts and no tests.
+# The seconds are those of all processors together. Proof: `rt check` of the crate. Tests: `rt test`, which proves the crate once
+# more with its tests, and runs them. Edits: `rt must-fail --anew`, which proves the crate once more before it tries them. All three
+# begin with nothing: the crate gets a comment of its own and an empty folder of kept work, so that no other copy's proofs serve.
+# Lines of code have the contracts and no tests.
 set -eu
 
 exec python3 - "$(cd "$(dirname "$0")/.." && pwd)" "$@" <<'PYTHON'
@@ -20,6 +21,7 @@ import shutil
 import subprocess
 import sys
 import tempfile
+import uuid
 
 root, names = sys.argv[1], sys.argv[2:]
 folder = tempfile.mkdtemp()
@@ -45,16 +47,16 @@ def measured(where, *words):
     return used.ru_utime + used.ru_stime, used.ru_maxrss
 
 
-def without_tests(crate):
-    """Takes the tests out of a crate's files, and says whether there were any."""
-    tests = [it for it in glob.glob(f"{tree}/crates/{crate}/src/**/*.rt", recursive=True) if is_test(it)]
-    for path in tests:
-        os.remove(path)
-    for path in glob.glob(f"{tree}/crates/{crate}/src/**/*.rt", recursive=True):
-        text = open(path, encoding="utf-8").read()
-        with open(path, "w", encoding="utf-8") as file:
-            file.write(text.replace("#[cfg(test)]\nmod tests;\n", ""))
-    return bool(tests)
+def from_nothing(crate):
+    """Empties the folder of kept work."""
+    kept = f"{tree}/crates/{crate}/out/incremental"
+    shutil.rmtree(kept, ignore_errors=True)
+    os.makedirs(kept)
+
+
+def has_tests(crate):
+    files = glob.glob(f"{tree}/crates/{crate}/src/**/*.rt", recursive=True)
+    return any("#[test]" in open(it, encoding="utf-8").read() for it in files)
 
 
 def row(crate, code, specs, proofs, check, memory, edits, tests):
@@ -85,15 +87,20 @@ try:
         counts = [lines_of(crate, "src", "rt"), lines_of(crate, "specs", "antt"), lines_of(crate, "proofs", "antt")]
         has_edits = bool(glob.glob(where + "/must-fail/*.edit"))
         edits = measured(tree, "rt", "must-fail", "--anew", crate)[0] if has_edits else 0
-        whole, memory = measured(where, "rt", "verdict")
-        if without_tests(crate):
-            check, least = measured(where, "rt", "verdict")
-            subprocess.run(["git", "checkout", "-q", "--", where], cwd=tree, check=True)
-        else:
-            check, least = whole, memory
-        told = [*counts, check, edits, whole - check]
+        first = next(it for it in ("lib.rt", "main.rt") if os.path.exists(f"{where}/src/{it}"))
+        with open(f"{where}/src/{first}", "a", encoding="utf-8") as file:
+            file.write(f"\n// {uuid.uuid4()}\n")
+        from_nothing(crate)
+        check, memory = measured(where, "rt", "check")
+        tests = 0
+        if has_tests(crate):
+            from_nothing(crate)
+            tests, with_tests = measured(where, "rt", "test")
+            memory = max(memory, with_tests)
+        subprocess.run(["git", "checkout", "-q", "--", where], cwd=tree, check=True)
+        told = [*counts, check, edits, tests]
         sums = [a + b for a, b in zip(sums, told)]
-        rows.append(row(f"`{crate}`", *counts, check, f"{max(memory, least) / 2**20:.1f} GB", edits, whole - check))
+        rows.append(row(f"`{crate}`", *counts, check, f"{memory / 2**20:.1f} GB", edits, tests))
         print(rows[-1], file=sys.stderr, flush=True)
     table = ["| crate | code | specs | proofs | proof, s | peak memory | edits, s | tests, s |", "|---|---|---|---|---|---|---|---|"]
     table += [*rows, row("all", *sums[:4], "", *sums[4:])]
@@ -103,8 +110,8 @@ try:
         said = """# Times of the gate
 
 Lines, and what the gate takes for each crate from nothing, in seconds of all processors together, as `bench/gate-times.sh`
-measured it on an idle machine: the proof of the crate, its must-fail edits with the check that they begin with, and the proof of
-its tests. Lines of code have the contracts and no tests.
+measured it on an idle machine: the proof of the crate; its must-fail edits, with the check that they begin with; its tests, with the
+crate proved once more. Lines of code have the contracts and no tests.
 
 """
         minutes = sum(sums[3:]) / 60
