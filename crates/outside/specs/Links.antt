@@ -1,12 +1,12 @@
 -- What the polls of a link answer.
 use Rattle.std.specs.Prelude.{◌≡◌, ℕ, List, [], ◌∷◌, drop, Option, Some, None, Result, Ok, Err, ⊤}
-use Rattle.outside.specs.declared.errors.LinkError.{LinkError}
-use Rattle.outside.specs.declared.errors.LinkError.TheVariants.{Failed, NoMemory}
+use Rattle.outside.specs.declared.errors.DeviceError.{DeviceError}
+use Rattle.outside.specs.declared.errors.DeviceError.TheVariants.{Failed, NoMemory}
 use Rattle.outside.specs.declared.link.PollAnswer.{PollAnswer}
 use Rattle.outside.specs.declared.link.PollAnswer.TheVariants.{Received, Nothing, Failure}
 
 -- what a poll with this answer gives its caller
-abbrev pub poll_result : PollAnswer → Result (Option (List ℕ)) LinkError
+abbrev pub poll_result : PollAnswer → Result (Option (List ℕ)) DeviceError
 poll_result (Received datagram) = Ok (Some datagram)
 poll_result Nothing = Ok None
 poll_result Failure = Err Failed
@@ -17,11 +17,11 @@ next_poll [] = Nothing
 next_poll (a ∷ answers) = a
 
 -- the poll takes its answer; where memory runs out the answers stay
-abbrev pub TakesAnswer : List PollAnswer → Option (List PollAnswer) → Result (Option (List ℕ)) LinkError → Type 0
+abbrev pub TakesAnswer : List PollAnswer → Option (List PollAnswer) → Result (Option (List ℕ)) DeviceError → Type 0
 TakesAnswer answers new (Err NoMemory) = new ≡ Some answers
 TakesAnswer answers new result = (result ≡ poll_result (next_poll answers)) × (new ≡ Some (drop 1 answers))
 
 -- a poll gives and takes the next answer, where the answers are told
-abbrev pub Polls : Option (List PollAnswer) → Option (List PollAnswer) → Result (Option (List ℕ)) LinkError → Type 0
+abbrev pub Polls : Option (List PollAnswer) → Option (List PollAnswer) → Result (Option (List ℕ)) DeviceError → Type 0
 Polls None new result = ⊤
 Polls (Some answers) new result = TakesAnswer answers new result

@@ -2,8 +2,8 @@
 use Rattle.std.specs.Prelude.{◌≡◌, ℕ, ◌+◌, ◌-◌, ◌^◌, ◌==◌, ◌&&◌, ◌||◌, min, nat_lt, Bool, if◌then◌else◌, List, Result, Ok, Err, ⊤}
 use Rattle.std.specs.List.{list_any}
 use Rattle.outside.specs.declared.errors.Failed.{Failed}
-use Rattle.outside.specs.declared.errors.WriteError.{WriteError}
-use Rattle.outside.specs.declared.errors.WriteError.TheVariants as errors
+use Rattle.outside.specs.declared.errors.DeviceError.{DeviceError}
+use Rattle.outside.specs.declared.errors.DeviceError.TheVariants as errors
 
 -- the most bytes of a call, the numbers of the calls that fail, how many calls were made, and how many of them failed
 pub record FailingPlan : Type 0 where
@@ -33,12 +33,12 @@ abbrev pub plan_after : FailingPlan → ℕ → FailingPlan
 plan_after p count = record p { made = next_count p.made; faults = if fails p count then next_count p.faults else p.faults }
 
 -- a write answers what was planned, or that memory ran out
-abbrev pub IsPlanned : Result ℕ Failed → Result ℕ WriteError → Type 0
+abbrev pub IsPlanned : Result ℕ Failed → Result ℕ DeviceError → Type 0
 IsPlanned planned (Ok n) = planned ≡ Ok n
 IsPlanned planned (Err errors.Failed) = planned ≡ Err (record {})
 IsPlanned planned (Err errors.NoMemory) = ⊤
 
 -- where memory ran out the write does not count
-abbrev pub plan_after_write : {P : Type 0} → Result ℕ WriteError → P → P → P
+abbrev pub plan_after_write : {P : Type 0} → Result ℕ DeviceError → P → P → P
 plan_after_write (Err errors.NoMemory) old next = old
 plan_after_write result old next = next

@@ -1,7 +1,5 @@
 ghost use Rattle.std.specs.Prelude.{◌≡◌};
-ghost use Rattle.outside.specs.declared.errors.WriteError.TheVariants as write_errors;
-ghost use Rattle.outside.specs.declared.errors.LinkError.TheVariants as link_errors;
-ghost use Rattle.outside.specs.declared.errors.AttachError.TheVariants as attach_errors;
+ghost use Rattle.outside.specs.declared.errors.DeviceError.TheVariants as errors;
 
 use nop_types::NoMemory;
 use std::alloc::{AllocError, AllocFailed};
@@ -10,119 +8,50 @@ use std::alloc::{AllocError, AllocFailed};
 #[derive(Clone, Copy, Debug, PartialEq, Eq)]
 pub struct Failed;
 
-/// Why a write added nothing.
+/// Why a call on a device did nothing.
 #[derive(Clone, Copy, Debug, PartialEq, Eq)]
-pub enum WriteError {
+pub enum DeviceError {
     Failed,
     NoMemory,
 }
+
+/// Why a write added nothing.
+pub type WriteError = DeviceError;
 
 /// Why a link gave or sent nothing.
-#[derive(Clone, Copy, Debug, PartialEq, Eq)]
-pub enum LinkError {
-    Failed,
-    NoMemory,
-}
+pub type LinkError = DeviceError;
 
 /// Why a port has no link.
-#[derive(Clone, Copy, Debug, PartialEq, Eq)]
-pub enum AttachError {
-    Failed,
-    NoMemory,
-}
+pub type AttachError = DeviceError;
 
-impl From<Failed> for WriteError {
-    ghost from_gives = { λ _ e. e ≡ write_errors.Failed };
+impl From<Failed> for DeviceError {
+    ghost from_gives = { λ _ e. e ≡ errors.Failed };
 
-    fn from(_e: Failed) -> WriteError {
-        WriteError::Failed
+    fn from(_e: Failed) -> DeviceError {
+        DeviceError::Failed
     }
 }
 
-impl From<NoMemory> for WriteError {
-    ghost from_gives = { λ _ e. e ≡ write_errors.NoMemory };
+impl From<NoMemory> for DeviceError {
+    ghost from_gives = { λ _ e. e ≡ errors.NoMemory };
 
-    fn from(_e: NoMemory) -> WriteError {
-        WriteError::NoMemory
+    fn from(_e: NoMemory) -> DeviceError {
+        DeviceError::NoMemory
     }
 }
 
-impl From<AllocError> for WriteError {
-    ghost from_gives = { λ _ e. e ≡ write_errors.NoMemory };
+impl From<AllocError> for DeviceError {
+    ghost from_gives = { λ _ e. e ≡ errors.NoMemory };
 
-    fn from(_e: AllocError) -> WriteError {
-        WriteError::NoMemory
+    fn from(_e: AllocError) -> DeviceError {
+        DeviceError::NoMemory
     }
 }
 
-impl<T: Drop> From<AllocFailed<T>> for WriteError {
-    ghost from_gives = { λ _ e. e ≡ write_errors.NoMemory };
+impl<T: Drop> From<AllocFailed<T>> for DeviceError {
+    ghost from_gives = { λ _ e. e ≡ errors.NoMemory };
 
-    fn from(_e: AllocFailed<T>) -> WriteError {
-        WriteError::NoMemory
-    }
-}
-
-impl From<Failed> for LinkError {
-    ghost from_gives = { λ _ e. e ≡ link_errors.Failed };
-
-    fn from(_e: Failed) -> LinkError {
-        LinkError::Failed
-    }
-}
-
-impl From<NoMemory> for LinkError {
-    ghost from_gives = { λ _ e. e ≡ link_errors.NoMemory };
-
-    fn from(_e: NoMemory) -> LinkError {
-        LinkError::NoMemory
-    }
-}
-
-impl From<AllocError> for LinkError {
-    ghost from_gives = { λ _ e. e ≡ link_errors.NoMemory };
-
-    fn from(_e: AllocError) -> LinkError {
-        LinkError::NoMemory
-    }
-}
-
-impl<T: Drop> From<AllocFailed<T>> for LinkError {
-    ghost from_gives = { λ _ e. e ≡ link_errors.NoMemory };
-
-    fn from(_e: AllocFailed<T>) -> LinkError {
-        LinkError::NoMemory
-    }
-}
-
-impl From<Failed> for AttachError {
-    ghost from_gives = { λ _ e. e ≡ attach_errors.Failed };
-
-    fn from(_e: Failed) -> AttachError {
-        AttachError::Failed
-    }
-}
-
-impl From<NoMemory> for AttachError {
-    ghost from_gives = { λ _ e. e ≡ attach_errors.NoMemory };
-
-    fn from(_e: NoMemory) -> AttachError {
-        AttachError::NoMemory
-    }
-}
-
-impl From<AllocError> for AttachError {
-    ghost from_gives = { λ _ e. e ≡ attach_errors.NoMemory };
-
-    fn from(_e: AllocError) -> AttachError {
-        AttachError::NoMemory
-    }
-}
-
-impl<T: Drop> From<AllocFailed<T>> for AttachError {
-    ghost from_gives = { λ _ e. e ≡ attach_errors.NoMemory };
-
-    fn from(_e: AllocFailed<T>) -> AttachError {
-        AttachError::NoMemory
+    fn from(_e: AllocFailed<T>) -> DeviceError {
+        DeviceError::NoMemory
     }
 }

@@ -18,7 +18,7 @@ mod write_mem;
 
 pub use clock::Clock;
 pub use clock_mem::ClockMem;
-pub use errors::{AttachError, Failed, LinkError, WriteError};
+pub use errors::{AttachError, DeviceError, Failed, LinkError, WriteError};
 pub use link::{Link, PollAnswer, Sent};
 pub use link_mem::LinkMem;
 pub use plan::{CallPlan, Failing, Unfailing, unfailing_has_no_faults};

@@ -3,7 +3,7 @@ ghost use Rattle.nop_types.specs.declared.limits.TheConstants.{MAX_DATAGRAM_BYTE
 ghost use Rattle.outside.specs.Causes.{HasCauseFor};
 ghost use Rattle.outside.specs.Links.{Polls};
 ghost use Rattle.outside.specs.Told.{Stays, Adds};
-ghost use Rattle.outside.specs.declared.errors.LinkError.TheVariants as errors;
+ghost use Rattle.outside.specs.declared.errors.DeviceError.TheVariants as errors;
 ghost use Rattle.outside.specs.declared.link.PollAnswer.{PollAnswer};
 ghost use Rattle.outside.specs.declared.link.Sent.{Sent};
 

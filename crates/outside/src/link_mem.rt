@@ -1,35 +1,90 @@
-ghost use Rattle.std.specs.Prelude.{◌≡◌, []};
+ghost use Rattle.std.specs.Prelude.{◌≡◌, [], All, IfOk};
+ghost use Rattle.outside.specs.Memory.{IsShort};
+ghost use Rattle.outside.specs.Plans.{new_plan};
 
-use crate::{Link, LinkError, Sent};
-use nop_types::Bytes;
+use crate::{CallPlan, Failed, Failing, Link, LinkError, PollAnswer, Sent, Unfailing};
+use nop_types::{Bytes, NoMemory};
 use std::alloc::Global;
 use std::marker::Model;
 
-/// A link in memory: it keeps what is sent, and no datagram comes.
+/// A link in memory. Its polls answer what they were given, and after that there is no datagram; it keeps what is sent. Its
+/// plan says which sends fail.
 #[derive(Debug, Drop)]
-pub struct LinkMem {
+pub struct LinkMem<P: CallPlan = Unfailing> {
     alloc: Global,
     port: u16,
+    answers: Vec<PollAnswer>,
+    at: usize,
+    faults: u64,
     sent: Vec<Sent>,
+    sends: P,
 }
 
-impl Model for LinkMem {
-    ghost use Rattle.outside.specs.Memory.{LinkMemory};
+impl<P: CallPlan> Model for LinkMem<P> {
+    ghost use Rattle.std.specs.Prelude.{drop, length, ◌≤◌, All};
+    ghost use Rattle.outside.specs.Memory.{LinkMemory, IsShort};
 
-    ghost Value = { LinkMemory };
+    ghost Value = { LinkMemory P };
 
-    ghost view = { λ s. record { port = s.port; sent = s.sent.items } };
+    ghost view = { λ s. record { port = s.port; answers = drop s.at s.answers.items; faults = s.faults; sent = s.sent.items; sends = s.sends } };
+
+    ghost invariant = { λ s. (s.at ≤ length s.answers.items) × All IsShort s.answers.items };
 }
 
-impl LinkMem {
-    pub fn new(alloc: Global, port: u16) -> LinkMem
-        ensures { result ≡ record { port = port; sent = [] } }
+impl LinkMem<Unfailing> {
+    /// No datagram comes, and no send fails.
+    pub fn new(alloc: Global, port: u16) -> LinkMem<Unfailing>
+        ensures { result ≡ record { port = port; answers = []; faults = 0; sent = []; sends = usize.MAX } }
+    {
+        LinkMem::with_answers(alloc, port, Vec::new(alloc))
+    }
+
+    /// The polls answer these in order, and no send fails.
+    pub fn with_answers(alloc: Global, port: u16, answers: Vec<PollAnswer>) -> LinkMem<Unfailing>
+        requires { All IsShort answers.items }
+        ensures { result ≡ record { port = port; answers = answers.items; faults = 0; sent = []; sends = usize.MAX } }
     {
         LinkMem {
             alloc,
             port,
+            answers,
+            at: 0,
+            faults: 0,
             sent: Vec::new(alloc),
+            sends: Unfailing::new(usize::MAX),
         }
+    }
+}
+
+impl LinkMem<Failing> {
+    /// The polls answer these in order, and the sends with these numbers fail. Sends count from 1.
+    pub fn with_faults(
+        alloc: Global,
+        port: u16,
+        answers: Vec<PollAnswer>,
+        failing: &[u64],
+    ) -> Result<LinkMem<Failing>, NoMemory>
+        requires { All IsShort answers.items }
+        ensures { IfOk result (λ l. l ≡ record { port = port; answers = answers.items; faults = 0; sent = []; sends = new_plan usize.MAX failing.now }) }
+    {
+        Ok(LinkMem {
+            alloc,
+            port,
+            answers,
+            at: 0,
+            faults: 0,
+            sent: Vec::new(alloc),
+            sends: Failing::new(alloc, usize::MAX, failing)?,
+        })
+    }
+}
+
+impl<P: CallPlan> LinkMem<P> {
+    /// The same link at another port.
+    pub(crate) fn at_port(self, port: u16) -> LinkMem<P>
+        ensures { result ≡ record self { port = port } }
+    {
+        LinkMem { port, ..self }
     }
 
     /// What was sent, in order.
@@ -40,27 +95,50 @@ impl LinkMem {
     }
 }
 
-impl Link for LinkMem {
-    ghost use Rattle.std.specs.Prelude.{Some, []};
+impl<P: CallPlan> Link for LinkMem<P> {
+    ghost use Rattle.std.specs.Prelude.{Some};
 
-    ghost answers = { λ _. Some [] };
+    ghost answers = { λ s. Some s.answers };
 
     ghost sent = { λ s. Some s.sent };
 
     ghost own_port = { λ s. s.port };
 
-    ghost fault_count = { λ _. 0 };
+    ghost fault_count = { λ s. s.faults };
 
-    ghost loss_count = { λ _. 0 };
+    ghost loss_count = { λ s. P.fault_count s.sends };
 
     fn poll(&mut self) -> Result<Option<Bytes>, LinkError> {
-        Ok(None)
+        match self.answers.get(self.at) {
+            None => Ok(None),
+            Some(PollAnswer::Nothing) => {
+                self.at += 1;
+                Ok(None)
+            }
+            Some(PollAnswer::Failure) => {
+                self.at += 1;
+                self.faults = self.faults.saturating_add(1);
+                Err(LinkError::Failed)
+            }
+            Some(PollAnswer::Received(datagram)) => {
+                let datagram = datagram.try_clone()?;
+                self.at += 1;
+                Ok(Some(datagram))
+            }
+        }
     }
 
     fn send(&mut self, port: u16, bytes: &[u8]) -> Result<(), LinkError> {
-        let bytes = Bytes::new(self.alloc, bytes)?;
-        self.sent.push(Sent { port, bytes })?;
-        Ok(())
+        let answer = self.sends.answer(0);
+        if answer.is_ok() {
+            let bytes = Bytes::new(self.alloc, bytes)?;
+            self.sent.push(Sent { port, bytes })?;
+        }
+        self.sends.advance(0);
+        match answer {
+            Ok(_) => Ok(()),
+            Err(Failed) => Err(LinkError::Failed),
+        }
     }
 
     fn port(&self) -> u16 {
@@ -68,10 +146,10 @@ impl Link for LinkMem {
     }
 
     fn faults(&self) -> u64 {
-        0
+        self.faults
     }
 
     fn losses(&self) -> u64 {
-        0
+        self.sends.faults()
     }
 }

@@ -2,7 +2,7 @@ ghost use Rattle.std.specs.Prelude.{◌≡◌, ◌+◌, ◌++◌, ◌∷◌, ◌
 ghost use Rattle.outside.specs.Causes.{HasCauseFor};
 ghost use Rattle.outside.specs.Ports.{GivesNext};
 ghost use Rattle.outside.specs.Told.{Stays};
-ghost use Rattle.outside.specs.declared.errors.AttachError.TheVariants as errors;
+ghost use Rattle.outside.specs.declared.errors.DeviceError.TheVariants as errors;
 ghost use Rattle.outside.specs.declared.link.PollAnswer.{PollAnswer};
 
 use crate::{AttachError, Link};

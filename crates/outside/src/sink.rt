@@ -2,7 +2,7 @@ ghost use Rattle.std.specs.Prelude.{◌≡◌, ◌≤◌, ◌<◌, List, ℕ, Op
 ghost use Rattle.std.specs.Io.KnownBytes.{WriteAppends, Appends};
 ghost use Rattle.outside.specs.Causes.{Rose, HasCauseFor};
 ghost use Rattle.outside.specs.Fronts.{AppendsFront};
-ghost use Rattle.outside.specs.declared.errors.WriteError.TheVariants as errors;
+ghost use Rattle.outside.specs.declared.errors.DeviceError.TheVariants as errors;
 
 use crate::WriteError;
 
@@ -32,9 +32,9 @@ pub trait Sink {
 pub fn write_all<K: Sink>(sink: &mut K, bytes: &[u8]) -> Result<(), WriteError>
     ensures ok { OnOk result (Appends (K.held sink.old) (K.held sink.new) bytes.now) }
     ensures err { OnErr result (AppendsFront (K.held sink.old) (K.held sink.new) bytes.now) }
-    ensures cause { HasCauseFor (K.fault_count sink.old) (K.fault_count sink.new) WriteError.Failed result }
+    ensures cause { HasCauseFor (K.fault_count sink.old) (K.fault_count sink.new) errors.Failed result }
     ensures succeeds { ¬ Rose (K.fault_count sink.old) (K.fault_count sink.new)
-        → IsOkUnless result WriteError.NoMemory }
+        → IsOkUnless result errors.NoMemory }
 {
     let mut at = 0;
     while at < bytes.len() {

@@ -1,8 +1,11 @@
+ghost use Rattle.std.specs.Prelude.{IfOk};
+ghost use Rattle.outside.specs.Memory.{IsFresh};
+
 use crate::{
-    AttachError, Clock, ClockMem, Failed, Link, LinkMem, Ports, PortsMem, ReadMem, Sink, Source,
-    WriteError, WriteMem, write_all,
+    AttachError, Clock, ClockMem, Failed, Failing, Link, LinkError, LinkMem, PollAnswer, Ports,
+    PortsMem, ReadMem, Sink, Source, WriteError, WriteMem, write_all,
 };
-use nop_types::NoMemory;
+use nop_types::{Bytes, NoMemory};
 use std::alloc::Global;
 use std::test::Fail;
 
@@ -111,22 +114,54 @@ fn links_in_memory(rt: HostRuntime) -> Result<(), Fail> {
     Ok(())
 }
 
+// A link that fails once, gives a datagram, and loses what is sent first.
+fn short_link(alloc: Global) -> Result<LinkMem<Failing>, NoMemory>
+    ensures { IfOk result IsFresh }
+{
+    let mut answers = Vec::new(alloc);
+    answers.push(PollAnswer::Failure)?;
+    answers.push(PollAnswer::Received(Bytes::new(alloc, b"NO")?))?;
+    LinkMem::with_faults(alloc, 0, answers, &[1])
+}
+
 #[test]
 fn a_link_in_memory(rt: HostRuntime) -> Result<(), Fail> {
-    let mut link = LinkMem::new(rt.alloc(), 41008);
+    let mut link = short_link(rt.alloc())?;
+    assert!(rt; link.poll().is_err());
+    let datagram = link.poll()?.ok_or("a datagram")?;
+    assert_eq!(rt; datagram.as_slice(), b"NO".as_slice());
     assert!(rt; link.poll()?.is_none());
-    link.send(41000, b"NO")?;
-    assert_eq!(rt; (link.faults(), link.losses()), (0, 0));
+    assert_eq!(rt; link.send(41000, b"NO"), Err(LinkError::Failed));
+    link.send(41001, b"01")?;
+    assert_eq!(rt; (link.faults(), link.losses()), (1, 1));
     let [sent] = link.sent() else {
         return Err("one send".into());
     };
-    assert_eq!(rt; sent.port, 41000);
-    assert_eq!(rt; sent.bytes.as_slice(), b"NO".as_slice());
+    assert_eq!(rt;
+        (sent.port, sent.bytes.as_slice()),
+        (41001, b"01".as_slice())
+    );
     Ok(())
 }
 
 #[test]
-fn a_clock_in_memory(rt: HostRuntime) {
+fn ports_that_fail(rt: HostRuntime) -> Result<(), Fail> {
+    let links = vec![in rt.alloc(); short_link(rt.alloc())?]?;
+    let mut ports = PortsMem::with_faults(rt.alloc(), links, &[1])?;
+    assert!(rt; ports.attach(41000).is_err());
+    assert_eq!(rt; ports.faults(), 1);
+    let mut link = ports.attach(41000)?;
+    assert_eq!(rt; link.port(), 41000);
+    assert!(rt; link.poll().is_err());
+    ports.detach(link);
+    Ok(())
+}
+
+#[test]
+fn a_clock_in_memory(rt: HostRuntime) -> Result<(), Fail> {
     let mut clock = ClockMem::new(rt.alloc());
     assert_eq!(rt; clock.now(), 0);
+    let mut clock = ClockMem::with_values(rt.alloc(), &[5, 3])?;
+    assert_eq!(rt; (clock.now(), clock.now(), clock.now()), (5, 3, 3));
+    Ok(())
 }

@@ -2,7 +2,7 @@ ghost use Rattle.std.specs.Prelude.{◌≡◌, ◌≤◌, ◌<◌, [], length, I
 ghost use Rattle.std.specs.Io.KnownBytes.{WriteAppends};
 ghost use Rattle.outside.specs.Causes.{HasCauseFor};
 ghost use Rattle.outside.specs.Plans.{new_plan, IsPlanned, plan_after_write};
-ghost use Rattle.outside.specs.declared.errors.WriteError.TheVariants as errors;
+ghost use Rattle.outside.specs.declared.errors.DeviceError.TheVariants as errors;
 
 use crate::{CallPlan, Failing, Sink, Unfailing, WriteError};
 use nop_types::NoMemory;
