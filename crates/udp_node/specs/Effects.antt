@@ -1,0 +1,85 @@
+-- What a node does outside, in order: datagrams that it sends, and lines that it writes.
+use Rattle.std.specs.Prelude.{◌≡◌, ℕ, ◌<◌, List, [], ◌∷◌, ◌++◌, length, map, take, Option, Result, Ok, Err}
+use Rattle.std.specs.List.{flat_map}
+use Rattle.std.specs.Io.KnownBytes.{Appends}
+use Rattle.nop_types.specs.declared.output.Out.{Out}
+use Rattle.nop_types.specs.declared.output.Out.TheVariants as outs
+use Rattle.outside.specs.Fronts.{AppendsFront}
+use Rattle.outside.specs.declared.errors.DeviceError.{DeviceError}
+use Rattle.outside.specs.declared.errors.DeviceError.TheVariants.{Failed, NoMemory}
+use Rattle.outside.specs.declared.link.Sent.{Sent}
+use Rattle.schedule_text.specs.Transcript.{submit_line, accept_line}
+use Rattle.udp_node.specs.declared.address.Address.{Address}
+use Rattle.udp_node.specs.Ports.{datagrams_to}
+use Rattle.udp_node.specs.Sends.{LinkSide, Sends}
+
+-- some bytes of a line were written
+pub record WroteFront (line : List ℕ) (before now : Option (List ℕ)) : Type 0 where
+  pub count : ℕ
+  pub appended : Appends before now (take count line)
+
+-- a line was written, or not all of it
+abbrev pub Writes : {T : Type 0} → List ℕ → Result T DeviceError → Option (List ℕ) → Option (List ℕ) → Type 0
+Writes line (Ok t) before now = Appends before now line
+Writes line (Err Failed) before now = AppendsFront before now line
+Writes line (Err NoMemory) before now = WroteFront line before now
+
+pub data Effect : Type 0 where
+  Post : Sent → Effect
+  Line : List ℕ → Effect
+
+-- what an output asks of the outside
+abbrev pub effects_of : Address → Out → List Effect
+effects_of at (outs.Send dest bytes) = map Post (datagrams_to at dest bytes)
+effects_of at (outs.Submitted r) = Line (submit_line r) ∷ []
+effects_of at (outs.Accepted client id result) = Line (accept_line client id result) ∷ []
+effects_of at (outs.Busy client) = []
+
+abbrev pub effects : Address → List Out → List Effect
+effects at os = flat_map (effects_of at) os
+
+-- the datagrams, in order
+abbrev pub posts : List Effect → List Sent
+posts [] = []
+posts (Post d ∷ es) = d ∷ posts es
+posts (Line l ∷ es) = posts es
+
+-- the lines, one after another
+abbrev pub lines : List Effect → List ℕ
+lines [] = []
+lines (Post d ∷ es) = lines es
+lines (Line l ∷ es) = l ++ lines es
+
+-- the line that comes first, if one does
+abbrev pub first_line : List Effect → List ℕ
+first_line [] = []
+first_line (Post d ∷ es) = []
+first_line (Line l ∷ es) = l
+
+-- all of it was done, from what the sink held before to what it holds now
+pub record Done (es : List Effect) (a b : LinkSide) (before now : Option (List ℕ)) : Type 0 where
+  pub sends : Sends (posts es) a b
+  pub lines : Appends before now (lines es)
+
+-- only a front of it was done, and of the line that comes next some bytes were written
+pub record Stopped (es : List Effect) (a b : LinkSide) (before now : Option (List ℕ)) : Type 0 where
+  pub front : List Effect
+  pub rest : List Effect
+  pub split : es ≡ front ++ rest
+  pub count : ℕ
+  pub sends : Sends (posts front) a b
+  pub lines : Appends before now (lines front ++ take count (first_line rest))
+
+-- a line comes next, and not all of it was written
+pub record StoppedInLine (es : List Effect) (a b : LinkSide) (before now : Option (List ℕ)) : Type 0 where
+  pub stopped : Stopped es a b before now
+  pub below : stopped.count < length (first_line stopped.rest)
+
+-- an error ended it
+abbrev pub Stops : List Effect → DeviceError → LinkSide → LinkSide → Option (List ℕ) → Option (List ℕ) → Type 0
+Stops es Failed a b before now = StoppedInLine es a b before now
+Stops es NoMemory a b before now = Stopped es a b before now
+
+abbrev pub Carries : {T : Type 0} → List Effect → Result T DeviceError → LinkSide → LinkSide → Option (List ℕ) → Option (List ℕ) → Type 0
+Carries es (Ok t) a b before now = Done es a b before now
+Carries es (Err e) a b before now = Stops es e a b before now

@@ -1,0 +1,23 @@
+-- A core over several inputs.
+use Rattle.std.specs.Prelude.{◌≡◌, ℕ, List, [], ◌∷◌, ◌++◌, Option, Result, Ok, Err}
+use Rattle.nop_types.specs.Given.{Given}
+use Rattle.nop_types.specs.declared.output.Out.{Out}
+use Rattle.outside.specs.declared.errors.DeviceError.{DeviceError}
+use Rattle.udp_node.specs.declared.address.Address.{Address}
+use Rattle.udp_node.specs.Effects.{effects, Done, Stops}
+use Rattle.udp_node.specs.Sends.{LinkSide}
+
+module _ {S : Type 0} (next : S → Given → S × List Out) where
+  -- the state after some inputs, and all outputs in order
+  abbrev pub folded : S → List Given → S × List Out
+  folded s [] = (s, [])
+  folded s (i ∷ is) = ((folded (next s i).0 is).0, (next s i).1 ++ (folded (next s i).0 is).1)
+
+  -- the inputs were taken, and what they gave was done
+  pub record Ran (at : Address) (s t : S) (inputs : List Given) (a b : LinkSide) (before now : Option (List ℕ)) : Type 0 where
+    pub state : t ≡ (folded s inputs).0
+    pub done : Done (effects at (folded s inputs).1) a b before now
+
+  abbrev pub Runs : {T : Type 0} → Address → S → S → List Given → Result T DeviceError → LinkSide → LinkSide → Option (List ℕ) → Option (List ℕ) → Type 0
+  Runs at s t inputs (Ok r) a b before now = Ran at s t inputs a b before now
+  Runs at s t inputs (Err e) a b before now = Stops (effects at (folded s inputs).1) e a b before now

@@ -1,0 +1,94 @@
+-- The run of a node, over what its clock and its link tell.
+use Rattle.std.specs.Prelude.{◌≡◌, ℕ, zero, suc, ◌+◌, max, List, [], ◌∷◌, ◌++◌, Bool, true, false, map, drop, Option, Some, None, Result, Ok, Err, ⊤}
+use Rattle.nop_types.specs.Given.{Given, Ticked}
+use Rattle.nop_types.specs.declared.input.Tick.{Tick}
+use Rattle.nop_types.specs.declared.output.Out.{Out}
+use Rattle.outside.specs.Clocks.{next_value, later_values}
+use Rattle.outside.specs.Links.{next_poll}
+use Rattle.outside.specs.declared.link.PollAnswer.{PollAnswer}
+use Rattle.udp_node.specs.declared.address.Address.{Address}
+use Rattle.udp_node.specs.declared.errors.ServeError.{ServeError}
+use Rattle.udp_node.specs.declared.errors.ServeError.TheVariants.{LinkFault, WriteFault, NoMemory}
+use Rattle.udp_node.specs.declared.firing.Timer.{Timer}
+use Rattle.udp_node.specs.declared.serving.Served.{Served}
+use Rattle.udp_node.specs.Effects.{effects, Done, Stopped, StoppedInLine}
+use Rattle.udp_node.specs.Folding.{folded}
+use Rattle.udp_node.specs.Sends.{LinkSide}
+use Rattle.udp_node.specs.Timing.{armed, rearmed, turn_inputs, is_failure}
+
+-- what the core gave, in order; the turns taken; whether the core was done; whether a poll failed
+pub record NodeRun : Type 0 where
+  pub outs : List Out
+  pub turns : ℕ
+  pub done : Bool
+  pub broken : Bool
+
+-- outputs before a run
+abbrev pub with_outs : List Out → NodeRun → NodeRun
+with_outs os r = record r { outs = os ++ r.outs }
+
+-- one turn more before a run
+abbrev pub after_turn : List Out → NodeRun → NodeRun
+after_turn os r = record r { outs = os ++ r.outs; turns = 1 + r.turns }
+
+-- the run after the inputs of a turn: did its poll fail, and is the core done
+abbrev pub turn_then : (failed done : Bool) → List Out → NodeRun → NodeRun
+turn_then true done os r = record { outs = os; turns = 0; done = done; broken = true }
+turn_then false true os r = record { outs = os; turns = 1; done = true; broken = false }
+turn_then false false os r = after_turn os r
+
+module _ {S : Type 0} (next : S → Given → S × List Out) (is_done : S → Bool) where
+  -- at most so many turns, of which the first is now
+  abbrev pub turns_from : ℕ → S → List Timer → ℕ → List PollAnswer → List ℕ → NodeRun
+  turns_from zero s ts now answers values = record { outs = []; turns = 0; done = is_done s; broken = false }
+  turns_from (suc k) s ts now answers values =
+      turn_then (is_failure (next_poll answers)) (is_done (folded next s (turn_inputs now ts (next_poll answers))).0) (folded next s (turn_inputs now ts (next_poll answers))).1
+      (turns_from k (folded next s (turn_inputs now ts (next_poll answers))).0 (map (rearmed now) ts) (max now (next_value values)) (drop 1 answers) (later_values values))
+
+  -- the timers are first due a period after the first value
+  abbrev pub node_run : List (Tick × ℕ) → ℕ → S → List PollAnswer → List ℕ → NodeRun
+  node_run timers turns s answers values =
+      turns_from turns s (map (armed (next_value values)) timers) (next_value values) answers (later_values values)
+
+  -- a run after some inputs, whose outputs come first
+  abbrev pub run_after : List Given → List (Tick × ℕ) → ℕ → S → List PollAnswer → List ℕ → NodeRun
+  run_after first timers turns s answers values =
+      with_outs (folded next s first).1 (node_run timers turns (folded next s first).0 answers values)
+
+-- the inputs before the first turn
+abbrev pub first_inputs : Option Tick → List Given
+first_inputs None = []
+first_inputs (Some tick) = Ticked tick ∷ []
+
+-- how the run was served
+pub record ServedRun (at : Address) (r : NodeRun) (served : Served) (a b : LinkSide) (h i : Option (List ℕ)) : Type 0 where
+  pub turns : served.turns ≡ r.turns
+  pub done : served.done ≡ r.done
+  pub works : r.broken ≡ false
+  pub effects : Done (effects at r.outs) a b h i
+
+pub record Broke (at : Address) (r : NodeRun) (a b : LinkSide) (h i : Option (List ℕ)) : Type 0 where
+  pub broken : r.broken ≡ true
+  pub effects : Done (effects at r.outs) a b h i
+
+-- by how the call ended; the node counted so many losses
+abbrev pub ServesRun : Address → NodeRun → Result Served ServeError → LinkSide → LinkSide → Option (List ℕ) → Option (List ℕ) → Type 0
+ServesRun at r (Ok served) a b h i = ServedRun at r served a (record b { lost = served.lost }) h i
+ServesRun at r (Err LinkFault) a b h i = (lost : ℕ) × Broke at r a (record b { lost = lost }) h i
+ServesRun at r (Err WriteFault) a b h i = (lost : ℕ) × StoppedInLine (effects at r.outs) a (record b { lost = lost }) h i
+ServesRun at r (Err NoMemory) a b h i = (lost : ℕ) × Stopped (effects at r.outs) a (record b { lost = lost }) h i
+
+-- where the link and the clock tell their content, it is the run over it
+abbrev pub ServesTold : {S : Type 0} → (S → Given → S × List Out) → (S → Bool) → List (Tick × ℕ) → Address → ℕ → S → Option (List PollAnswer) → Option (List ℕ) → Result Served ServeError → LinkSide → LinkSide → Option (List ℕ) → Option (List ℕ) → Type 0
+ServesTold next is_done timers at turns s None values result a b h i = ⊤
+ServesTold next is_done timers at turns s (Some answers) None result a b h i = ⊤
+ServesTold next is_done timers at turns s (Some answers) (Some values) result a b h i =
+    ServesRun at (node_run next is_done timers turns s answers values) result a b h i
+
+-- the same, after some inputs
+abbrev pub ServesAfter : {S : Type 0} → (S → Given → S × List Out) → (S → Bool) → List Given → List (Tick × ℕ) → Address → ℕ → S
+    → Option (List PollAnswer) → Option (List ℕ) → Result Served ServeError → LinkSide → LinkSide → Option (List ℕ) → Option (List ℕ) → Type 0
+ServesAfter next is_done first timers at turns s None values result a b h i = ⊤
+ServesAfter next is_done first timers at turns s (Some answers) None result a b h i = ⊤
+ServesAfter next is_done first timers at turns s (Some answers) (Some values) result a b h i =
+    ServesRun at (run_after next is_done first timers turns s answers values) result a b h i
