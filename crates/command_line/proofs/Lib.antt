@@ -1,0 +1,4 @@
+pub mod Digits
+pub mod FoundLemmas
+pub mod OpLemmas
+pub mod WordLemmas

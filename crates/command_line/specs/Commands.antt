@@ -1,0 +1,173 @@
+-- The command that the words ask for.
+use Rattle.std.specs.Prelude.{◌≡◌, ℕ, ◌+◌, ◌-◌, ◌*◌, ◌^◌, ◌<◌, ◌≤◌, ⊤, List, [], ◌∷◌, ◌++◌, Bool, true, false, Option, Some, None, Result, Ok, Err, length, map, codes, nat_lt, nat_le, option_map, if◌then◌else◌, String}
+use Rattle.std.specs.Str.{bytes_eq}
+use Rattle.std.specs.String.{string_bytes}
+use Rattle.clap.specs.Words.{Kinds, Row, Text, all_of, fault_of, first_of, subcommand_of}
+use Rattle.clap.specs.declared.error.kind.ErrorKind.{ErrorKind}
+use Rattle.hex.specs.Hex.{decode_of}
+use Rattle.hex.specs.declared.error.FromHexError.{FromHexError}
+use Rattle.nop_types.specs.Configuration.{Configuration, is_configuration}
+use Rattle.nop_types.specs.declared.limits.TheConstants.{MAX_OP_BYTES, MAX_SEQUENCERS}
+use Rattle.command_line.specs.Numbers.{number_of}
+use Rattle.command_line.specs.Program.{program_app}
+use Rattle.command_line.specs.declared.command.Command.{Command}
+use Rattle.command_line.specs.declared.command.Command.TheVariants.{Replay, Node, Sequencer, Controller, Client}
+use Rattle.command_line.specs.declared.command.Site.{Site}
+
+-- ---- values
+
+-- a number that may be left out
+abbrev pub number_or : Option ℕ → ℕ → ℕ → Option Text → Option ℕ
+number_or default least most None = default
+number_or default least most (Some text) = number_of least most text
+
+-- the number that an option has
+abbrev pub value_of : List Row → Text → Option ℕ → ℕ → ℕ → Option ℕ
+value_of rows name default least most = number_or default least most (first_of name rows)
+
+-- left out, or a number of 8 bits
+abbrev pub choice_of : Option Text → Option (Option ℕ)
+choice_of None = Some None
+choice_of (Some text) = option_map Some (number_of 0 255 text)
+
+-- ---- where a node is
+
+-- the product has one client in a node's configuration: no core reads that number
+abbrev pub config_of : ℕ → ℕ → Configuration
+config_of replicas sequencers = record { replicas = replicas; sequencers = sequencers; clients = 1 }
+
+abbrev pub site_if : Bool → Configuration → ℕ → ℕ → Option Site
+site_if true config base turns = Some (record { config = config; base = base; turns = turns })
+site_if false config base turns = None
+
+abbrev pub site_by : Option ℕ → Option ℕ → Option ℕ → Option ℕ → Option Site
+site_by None sequencers base turns = None
+site_by (Some r) None base turns = None
+site_by (Some r) (Some s) None turns = None
+site_by (Some r) (Some s) (Some b) None = None
+site_by (Some r) (Some s) (Some b) (Some t) = site_if (is_configuration (config_of r s)) (config_of r s) b t
+
+abbrev pub last_turns : ℕ
+last_turns = 2 ^ 64 - 1
+
+abbrev pub site_of : List Row → Option Site
+site_of rows =
+    site_by (value_of rows (codes "replicas") None 0 255) (value_of rows (codes "sequencers") None 0 255)
+    (value_of rows (codes "base") (Some 41000) 1024 65000) (value_of rows (codes "turns") (Some last_turns) 1 last_turns)
+
+-- ---- ops
+
+abbrev pub short_op : Result (List ℕ) FromHexError → Option (List ℕ)
+short_op (Ok bytes) = if nat_le (length bytes) MAX_OP_BYTES then Some bytes else None
+short_op (Err e) = None
+
+-- an op in hexadecimal
+abbrev pub op_of : Text → Option (List ℕ)
+op_of text = short_op (decode_of text)
+
+abbrev pub with_op : List (List ℕ) → Option (List ℕ) → Option (List (List ℕ))
+with_op ops None = None
+with_op ops (Some op) = Some (ops ++ op ∷ [])
+
+abbrev pub ops_on : Option (List (List ℕ)) → List Text → Option (List (List ℕ))
+ops_on ops [] = ops
+ops_on None (text ∷ texts) = None
+ops_on (Some ops) (text ∷ texts) = ops_on (with_op ops (op_of text)) texts
+
+-- each text as an op
+abbrev pub ops_of : Option (List Text) → Option (List (List ℕ))
+ops_of None = None
+ops_of (Some texts) = ops_on (Some []) texts
+
+-- ---- commands
+
+abbrev pub node_by : Option ℕ → Option Site → Option Command
+node_by None site = None
+node_by (Some id) None = None
+node_by (Some id) (Some site) = if nat_lt id site.config.replicas then Some (Node id site) else None
+
+abbrev pub sequencer_by : Option ℕ → Option Site → Option Command
+sequencer_by None site = None
+sequencer_by (Some id) None = None
+sequencer_by (Some id) (Some site) = if nat_lt id site.config.sequencers then Some (Sequencer id site) else None
+
+abbrev pub install_by : Site → ℕ → Option ℕ → Option Command
+install_by site session None = Some (Controller site session None)
+install_by site session (Some j) = if nat_lt j site.config.sequencers then Some (Controller site session (Some j)) else None
+
+abbrev pub controller_by : Option Site → Option ℕ → Option (Option ℕ) → Option Command
+controller_by None session install = None
+controller_by (Some site) None install = None
+controller_by (Some site) (Some session) None = None
+controller_by (Some site) (Some session) (Some install) = install_by site session install
+
+abbrev pub client_by : Option ℕ → Option Site → Option (List (List ℕ)) → Option Command
+client_by None site ops = None
+client_by (Some id) None ops = None
+client_by (Some id) (Some site) None = None
+client_by (Some id) (Some site) (Some ops) = Some (Client id site ops)
+
+abbrev pub node_in : List Row → Option Command
+node_in rows = node_by (value_of rows (codes "id") None 0 255) (site_of rows)
+
+abbrev pub sequencer_in : List Row → Option Command
+sequencer_in rows = sequencer_by (value_of rows (codes "id") None 0 255) (site_of rows)
+
+abbrev pub controller_in : List Row → Option Command
+controller_in rows =
+    controller_by (site_of rows) (value_of rows (codes "session") (Some 1) 1 (2 ^ 32 - 1)) (choice_of (first_of (codes "install") rows))
+
+abbrev pub client_in : List Row → Option Command
+client_in rows = client_by (value_of rows (codes "id") None 0 (2 ^ 32 - 1)) (site_of rows) (ops_of (all_of (codes "ops") rows))
+
+-- by the name of a subcommand and its matches
+abbrev pub command_by : Text → List Row → Option Command
+command_by name rows =
+    if bytes_eq name (codes "replay") then Some Replay
+    else if bytes_eq name (codes "node") then node_in rows
+    else if bytes_eq name (codes "sequencer") then sequencer_in rows
+    else if bytes_eq name (codes "controller") then controller_in rows
+    else if bytes_eq name (codes "client") then client_in rows
+    else None
+
+abbrev pub command_from : Option (Text × List Row) → Option Command
+command_from None = None
+command_from (Some found) = command_by found.0 found.1
+
+-- what clap finds wrong with the words
+unfoldable pub faults_of : List Text → Kinds
+faults_of texts = fault_of program_app texts
+
+-- the subcommand that clap finds in them, with its matches
+unfoldable pub subcommand_in : List Text → Option (Text × List Row)
+subcommand_in texts = subcommand_of program_app texts
+
+abbrev pub command_if : Kinds → Option (Text × List Row) → Option Command
+command_if [] found = command_from found
+command_if (k ∷ ks) found = None
+
+-- clap refuses the words
+pub record IsRefused (texts : List Text) : Type 0 where
+  pub first : ErrorKind
+  pub others : Kinds
+  pub faults : faults_of texts ≡ first ∷ others
+
+-- clap takes the words, and finds this subcommand
+pub record HasFound (texts : List Text) (found : Option (Text × List Row)) : Type 0 where
+  pub faultless : faults_of texts ≡ []
+  pub is : found ≡ subcommand_in texts
+
+-- the command of words that have matches and whose numbers are in their ranges
+abbrev pub command_of : List Text → Option Command
+command_of texts = command_if (faults_of texts) (subcommand_in texts)
+
+-- its numbers are in their ranges
+abbrev pub IsFit : Command → Type 0
+IsFit Replay = ⊤
+IsFit (Node id site) = (id < site.config.replicas) × (site.base ≤ 65000)
+IsFit (Sequencer id site) = (id < MAX_SEQUENCERS) × (site.base ≤ 65000)
+IsFit (Controller site session install) = (1 ≤ session) × (site.base ≤ 65000)
+IsFit (Client id site ops) = site.base ≤ 65000
+
+abbrev pub texts_of : {Z : Type 0} → List (String Z) → List Text
+texts_of words = map string_bytes words

@@ -1,0 +1,48 @@
+-- The program's command line, as clap takes it.
+use Rattle.std.specs.Prelude.{Bool, true, false, Some, codes}
+use Rattle.clap.specs.Words.{App, Rule, Text, new_app, new_rule, with_rule, with_subcommand}
+
+-- an option with a value
+abbrev pub option_rule : Text → Bool → Rule
+option_rule name required = record (new_rule name) { long = Some name; required = required }
+
+-- from 1 to 64 ops as the last words
+abbrev pub ops_rule : Rule
+ops_rule = record (new_rule (codes "ops")) { required = true; range = Some (record { start_inclusive = 1; end_inclusive = 64 }) }
+
+-- what each node is told
+unfoldable pub site_app : Text → App
+site_app name =
+    with_rule (with_rule (with_rule (with_rule (new_app name)
+    (option_rule (codes "replicas") true))
+    (option_rule (codes "sequencers") true))
+    (option_rule (codes "base") false))
+    (option_rule (codes "turns") false)
+
+unfoldable pub member_app : Text → App
+member_app name = with_rule (site_app name) (option_rule (codes "id") true)
+
+unfoldable pub controller_app : App
+controller_app =
+    with_rule (with_rule (site_app (codes "controller"))
+    (option_rule (codes "session") false))
+    (option_rule (codes "install") false)
+
+unfoldable pub client_app : App
+client_app = with_rule (member_app (codes "client")) ops_rule
+
+-- the program with its subcommands, one after another
+unfoldable pub with_replay : App
+with_replay = with_subcommand (new_app (codes "nopaxos")) (new_app (codes "replay")).top
+
+unfoldable pub with_node : App
+with_node = with_subcommand with_replay (member_app (codes "node")).top
+
+unfoldable pub with_sequencer : App
+with_sequencer = with_subcommand with_node (member_app (codes "sequencer")).top
+
+unfoldable pub with_controller : App
+with_controller = with_subcommand with_sequencer controller_app.top
+
+unfoldable pub program_app : App
+program_app = with_subcommand with_controller client_app.top

@@ -1,0 +1,24 @@
+use crate::ops::Ops;
+use nop_types::Config;
+
+/// Where a node is: how many actors there are, the port of replica 0, and the most turns that it takes.
+#[derive(Clone, Copy, Debug, PartialEq, Eq)]
+pub struct Site {
+    pub config: Config,
+    pub base: u16,
+    pub turns: u64,
+}
+
+/// What the program is asked to do.
+#[derive(Debug, Drop)]
+pub enum Command {
+    Replay,
+    /// A replica with this number.
+    Node(u8, Site),
+    /// A sequencer with this number.
+    Sequencer(u8, Site),
+    /// The controller, its first session, and the sequencer that it installs at once.
+    Controller(Site, u32, Option<u8>),
+    /// A client with this number, and the ops that it submits.
+    Client(u32, Site, Ops),
+}

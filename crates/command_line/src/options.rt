@@ -1,0 +1,118 @@
+//! The values of options.
+
+ghost use Rattle.std.specs.Prelude.{◌≡◌, ◌≤◌, IfSome, codes};
+ghost use Rattle.clap.specs.Words.{found_of, rows_of, first_of};
+ghost use Rattle.command_line.specs.Commands.{value_of, choice_of, site_by, site_of};
+
+use crate::command::Site;
+use crate::number::number;
+use clap::ArgMatches;
+use nop_types::Config;
+
+/// The number that an option has, from a least to a greatest one. Where it is left out, what stands for it.
+fn value(
+    matches: &ArgMatches<'_>,
+    name: &str,
+    default: Option<u64>,
+    least: u64,
+    most: u64,
+) -> Option<u64>
+    requires least { IfSome default (λ n. least ≤ n) }
+    requires limit { IfSome default (λ n. n ≤ most) }
+    ensures value { result ≡ value_of (rows_of (found_of matches.now)) name.now default least most }
+    ensures least { IfSome result (λ n. least ≤ n) }
+    ensures limit { IfSome result (λ n. n ≤ most) }
+{
+    match matches.get_str(name) {
+        Some(text) => number(text, least, most),
+        None => default,
+    }
+}
+
+/// A number of 8 bits.
+pub(crate) fn small(matches: &ArgMatches<'_>, name: &str) -> Option<u8>
+    ensures { result ≡ value_of (rows_of (found_of matches.now)) name.now None 0 255 }
+{
+    let n = value(matches, name, None, 0, 255)?;
+    Some(n as u8)
+}
+
+/// A number of 32 bits.
+pub(crate) fn medium(
+    matches: &ArgMatches<'_>,
+    name: &str,
+    default: Option<u64>,
+    least: u64,
+) -> Option<u32>
+    requires least { IfSome default (λ n. least ≤ n) }
+    requires limit { IfSome default (λ n. n ≤ 4294967295) }
+    ensures value { result ≡ value_of (rows_of (found_of matches.now)) name.now default least 4294967295 }
+    ensures least { IfSome result (λ n. least ≤ n) }
+{
+    let n = value(matches, name, default, least, 4_294_967_295)?;
+    Some(n as u32)
+}
+
+fn base(matches: &ArgMatches<'_>) -> Option<u16>
+    ensures value { result ≡ value_of (rows_of (found_of matches.now)) (codes "base") (Some 41000) 1024 65000 }
+    ensures limit { IfSome result (λ n. n ≤ 65000) }
+{
+    let n = value(matches, "base", Some(41000), 1024, 65000)?;
+    Some(n as u16)
+}
+
+fn turns(matches: &ArgMatches<'_>) -> Option<u64>
+    ensures { result ≡ value_of (rows_of (found_of matches.now)) (codes "turns") (Some 18446744073709551615) 1 18446744073709551615 }
+{
+    value(matches, "turns", Some(u64::MAX), 1, u64::MAX)
+}
+
+/// A number of 8 bits that may be left out. None where it is no such number.
+pub(crate) fn choice(matches: &ArgMatches<'_>, name: &str) -> Option<Option<u8>>
+    ensures { result ≡ choice_of (first_of name.now (rows_of (found_of matches.now))) }
+{
+    match matches.get_str(name) {
+        Some(text) => {
+            let n = number(text, 0, 255)?;
+            Some(Some(n as u8))
+        }
+        None => Some(None),
+    }
+}
+
+fn site_by(
+    replicas: Option<u8>,
+    sequencers: Option<u8>,
+    base: Option<u16>,
+    turns: Option<u64>,
+) -> Option<Site>
+    requires { IfSome base (λ n. n ≤ 65000) }
+    ensures value { result ≡ site_by replicas sequencers base turns }
+    ensures base { IfSome result (λ s. s.base ≤ 65000) }
+{
+    let replicas = replicas?;
+    let sequencers = sequencers?;
+    let base = base?;
+    let turns = turns?;
+    match Config::new(replicas, sequencers, 1) {
+        Some(config) => Some(Site {
+            config,
+            base,
+            turns,
+        }),
+        None => None,
+    }
+}
+
+/// Where the node is.
+pub(crate) fn site(matches: &ArgMatches<'_>) -> Option<Site>
+    ensures value { result ≡ site_of (rows_of (found_of matches.now)) }
+    ensures base { IfSome result (λ s. s.base ≤ 65000) }
+{
+    site_by(
+        small(matches, "replicas"),
+        small(matches, "sequencers"),
+        base(matches),
+        turns(matches),
+    )
+}
