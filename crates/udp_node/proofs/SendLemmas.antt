@@ -6,7 +6,7 @@ use Rattle.outside.specs.Causes.{Rose}
 use Rattle.outside.specs.Plans.{next_count}
 use Rattle.outside.specs.Told.{Stays, Adds}
 use Rattle.std.proofs.lemmas.Grind.{common_steps}
-use Rattle.udp_node.specs.Ports.{datagrams_from}
+use Rattle.udp_node.specs.Ports.{is_skipped, unless, datagrams_from}
 use Rattle.udp_node.specs.Sends.{LinkSide, Grows, tried, kept, kept_if, failures, counted, count_if, last_count, Sends, SendsFront, SendsAll}
 
 pub tried_append : (xs ys : List (Sent × Bool)) → tried (xs ++ ys) ≡ tried xs ++ tried ys
@@ -63,15 +63,22 @@ front_more xs ys a b one = record {
   sends = one.sends;
 }
 
-pub datagrams_add : (bytes : List ℕ) (first m n : ℕ) → datagrams_from bytes first (m + n) ≡ datagrams_from bytes first m ++ datagrams_from bytes (first + m) n
-datagrams_add bytes first zero n =
+unless_append : (b : Bool) (d : Sent) (xs ys : List Sent) → unless b d (xs ++ ys) ≡ unless b d xs ++ ys
+unless_append true d xs ys = refl
+unless_append false d xs ys = refl
+
+pub datagrams_add : (bytes : List ℕ) (skipped : Option ℕ) (first m n : ℕ) → datagrams_from bytes skipped first (m + n)
+    ≡ datagrams_from bytes skipped first m ++ datagrams_from bytes skipped (first + m) n
+datagrams_add bytes skipped first zero n =
     let a : zero + n ≡ n = omega arith in
     let b : first + zero ≡ first = omega arith in
     rw (a, b) refl
-datagrams_add bytes first (suc m) n =
+datagrams_add bytes skipped first (suc m) n =
     let a : suc m + n ≡ suc (m + n) = omega arith in
     let b : first + suc m ≡ (first + 1) + m = omega arith in
-    rw (a, b) (ap (λ ds. record { port = first; bytes = bytes } ∷ ds) (datagrams_add bytes (first + 1) m n))
+    rw (a, b) (ap (unless (is_skipped skipped first) (record { port = first; bytes = bytes })) (datagrams_add bytes skipped (first + 1) m n)
+    ∙ unless_append (is_skipped skipped first) (record { port = first; bytes = bytes })
+    (datagrams_from bytes skipped (first + 1) m) (datagrams_from bytes skipped ((first + 1) + m) n))
 
 pub Grows_none : {A : Type 0} (s : Option (List A)) → Grows s s []
 Grows_none None = tt
@@ -119,17 +126,28 @@ then_all xs ys (Ok t) a b c one two = sends_then xs ys a b c one two
 then_all xs ys (Err e) a b c one two = front_then xs ys a b c one two
 
 -- one more of so many datagrams
-pub one_more : (bytes : List ℕ) (first i : ℕ) (a b c : LinkSide) → Sends (datagrams_from bytes first i) a b → Sends (record { port = first + i; bytes = bytes } ∷ []) b c → Sends (datagrams_from bytes first (i + 1)) a c
-one_more bytes first i a b c one two =
-    rw (datagrams_add bytes first i 1) (sends_then (datagrams_from bytes first i) (record { port = first + i; bytes = bytes } ∷ []) a b c one two)
+pub one_more : (bytes : List ℕ) (skipped : Option ℕ) (first i : ℕ) (a b c : LinkSide) → Sends (datagrams_from bytes skipped first i) a b
+    → Sends (unless (is_skipped skipped (first + i)) (record { port = first + i; bytes = bytes }) []) b c
+    → Sends (datagrams_from bytes skipped first (i + 1)) a c
+one_more bytes skipped first i a b c one two =
+    rw (datagrams_add bytes skipped first i 1) (sends_then (datagrams_from bytes skipped first i)
+    (unless (is_skipped skipped (first + i)) (record { port = first + i; bytes = bytes }) []) a b c one two)
 
 -- the next of so many datagrams was not tried
-one_less_of : (bytes : List ℕ) (first i rest : ℕ) (a b c : LinkSide) → Sends (datagrams_from bytes first i) a b → SendsFront (record { port = first + i; bytes = bytes } ∷ []) b c → SendsFront (datagrams_from bytes first (i + (1 + rest))) a c
-one_less_of bytes first i rest a b c one two =
-    rw (datagrams_add bytes first i (1 + rest), datagrams_add bytes (first + i) 1 rest) (front_then (datagrams_from bytes first i) (datagrams_from bytes (first + i) 1 ++ datagrams_from bytes (first + i + 1) rest) a b c one
-    (front_more (record { port = first + i; bytes = bytes } ∷ []) (datagrams_from bytes (first + i + 1) rest) b c two))
+one_less_of : (bytes : List ℕ) (skipped : Option ℕ) (first i rest : ℕ) (a b c : LinkSide) → Sends (datagrams_from bytes skipped first i) a b
+    → SendsFront (unless (is_skipped skipped (first + i)) (record { port = first + i; bytes = bytes }) []) b c
+    → SendsFront (datagrams_from bytes skipped first (i + (1 + rest))) a c
+one_less_of bytes skipped first i rest a b c one two =
+    rw (datagrams_add bytes skipped first i (1 + rest), datagrams_add bytes skipped (first + i) 1 rest)
+    (front_then (datagrams_from bytes skipped first i)
+    (datagrams_from bytes skipped (first + i) 1 ++ datagrams_from bytes skipped (first + i + 1) rest) a b c one
+    (front_more (unless (is_skipped skipped (first + i)) (record { port = first + i; bytes = bytes }) [])
+    (datagrams_from bytes skipped (first + i + 1) rest) b c two))
 
-pub one_less : (bytes : List ℕ) (first count i : ℕ) (a b c : LinkSide) → i < count → Sends (datagrams_from bytes first i) a b → SendsFront (record { port = first + i; bytes = bytes } ∷ []) b c → SendsFront (datagrams_from bytes first count) a c
-one_less bytes first count i a b c within one two =
+pub one_less : (bytes : List ℕ) (skipped : Option ℕ) (first count i : ℕ) (a b c : LinkSide) → i < count
+    → Sends (datagrams_from bytes skipped first i) a b
+    → SendsFront (unless (is_skipped skipped (first + i)) (record { port = first + i; bytes = bytes }) []) b c
+    → SendsFront (datagrams_from bytes skipped first count) a c
+one_less bytes skipped first count i a b c within one two =
     let total : i + (1 + (count - (i + 1))) ≡ count = omega (arith, within) in
-    rw total at (one_less_of bytes first i (count - (i + 1)) a b c one two)
+    rw total at (one_less_of bytes skipped first i (count - (i + 1)) a b c one two)

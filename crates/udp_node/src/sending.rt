@@ -1,9 +1,10 @@
 ghost use Rattle.std.specs.Prelude.{◌≡◌, ◌≤◌, ◌+◌, ◌∷◌, []};
 ghost use Rattle.outside.specs.Told.{Stays};
-ghost use Rattle.udp_node.specs.Ports.{datagrams_to, datagrams_from};
+ghost use Rattle.udp_node.specs.Ports.{is_skipped, unless, datagrams_to, datagrams_from};
 ghost use Rattle.udp_node.specs.Sends.{side, SendsAll};
 
 use crate::Address;
+use crate::address::Targets;
 use nop_types::{Dest, NoMemory};
 use outside::{Link, LinkError};
 
@@ -31,28 +32,55 @@ pub(crate) fn send_one<L: Link>(
     }
 }
 
-fn send_each<L: Link>(
-    first: u16,
-    count: u16,
+/// Sends a datagram, unless its port is left out.
+#[tactic(auto, using(crate::proofs::SendLemmas::no_sends))]
+fn send_unless_skipped<L: Link>(
+    port: u16,
+    skipped: Option<u16>,
     bytes: &[u8],
     link: &mut L,
     lost: &mut u64,
 ) -> Result<(), NoMemory>
-    requires { first + count ≤ 65535 }
-    ensures sends { SendsAll (datagrams_from bytes.now first count) result
+    ensures sends { SendsAll (unless (is_skipped skipped port) (record { port = port; bytes = bytes.now }) []) result
         (side (L.sent link.old) lost.old (L.loss_count link.old))
         (side (L.sent link.new) lost.new (L.loss_count link.new)) }
     ensures answers { Stays (L.answers link.old) (L.answers link.new) }
     ensures faults { L.fault_count link.new ≡ L.fault_count link.old }
     ensures port { L.own_port link.new ≡ L.own_port link.old }
 {
-    for i in 0..count {
-        send_one(first + i, bytes, link, lost)?;
+    match skipped {
+        Some(other) => {
+            if port == other {
+                Ok(())
+            } else {
+                send_one(port, bytes, link, lost)
+            }
+        }
+        None => send_one(port, bytes, link, lost),
+    }
+}
+
+fn send_each<L: Link>(
+    targets: Targets,
+    bytes: &[u8],
+    link: &mut L,
+    lost: &mut u64,
+) -> Result<(), NoMemory>
+    requires { targets.first + targets.count ≤ 65535 }
+    ensures sends { SendsAll (datagrams_from bytes.now targets.skipped targets.first targets.count) result
+        (side (L.sent link.old) lost.old (L.loss_count link.old))
+        (side (L.sent link.new) lost.new (L.loss_count link.new)) }
+    ensures answers { Stays (L.answers link.old) (L.answers link.new) }
+    ensures faults { L.fault_count link.new ≡ L.fault_count link.old }
+    ensures port { L.own_port link.new ≡ L.own_port link.old }
+{
+    for i in 0..targets.count {
+        send_unless_skipped(targets.first + i, targets.skipped, bytes, link, lost)?;
     }
     Ok(())
 }
 
-/// Sends a datagram to each port of its destination, in ascending order.
+/// Sends a datagram to each port of its destination, in ascending order; one to all replicas not to the own port.
 pub(crate) fn send_to<L: Link>(
     at: &Address,
     dest: Dest,
@@ -68,6 +96,5 @@ pub(crate) fn send_to<L: Link>(
     ensures faults { L.fault_count link.new ≡ L.fault_count link.old }
     ensures port { L.own_port link.new ≡ L.own_port link.old }
 {
-    let targets = at.targets(dest);
-    send_each(targets.first, targets.count, bytes, link, lost)
+    send_each(at.targets(dest), bytes, link, lost)
 }
