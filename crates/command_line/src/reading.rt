@@ -114,19 +114,11 @@ fn client(alloc: Global, matches: &ArgMatches<'_>) -> Result<Option<Command>, No
     ensures fits { IfOk result (λ c. IfSome c IsFit) }
 {
     let ops = read_ops(alloc, matches.get_strs("ops"))?;
-    Ok(client_by(
-        medium(matches, "id", None, 0),
-        site(matches),
-        ops,
-    ))
+    Ok(client_by(medium(matches, "id", None, 0), site(matches), ops))
 }
 
 /// The command of a subcommand's name and its matches.
-fn command(
-    alloc: Global,
-    name: &str,
-    matches: &ArgMatches<'_>,
-) -> Result<Option<Command>, NoMemory>
+fn command(alloc: Global, name: &str, matches: &ArgMatches<'_>) -> Result<Option<Command>, NoMemory>
     ensures value { IfOk result (λ c. c ≡ command_by name.now (rows_of (found_of matches.now))) }
     ensures fits { IfOk result (λ c. IfSome c IsFit) }
 {
@@ -149,10 +141,7 @@ fn command(
 }
 
 /// What clap finds in the words. None where it finds something wrong.
-fn matches_of<'a>(
-    alloc: Global,
-    words: &'a [String],
-) -> Result<Option<ArgMatches<'a>>, NoMemory>
+fn matches_of<'a>(alloc: Global, words: &'a [String]) -> Result<Option<ArgMatches<'a>>, NoMemory>
     ensures { IfOk result (λ o. MatchOption o (IsRefused (texts_of words.entry.now))
         (λ m. HasFound (texts_of words.entry.now) (subcommand_rows_of m))) }
 {

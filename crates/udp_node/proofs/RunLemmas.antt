@@ -240,16 +240,23 @@ module _ {S : Type 0} (next : S → Given → S × List Out) (is_done : S → Bo
     works = two.works;
     effects = done_more os r.outs a b (record d { lost = served.lost }) h i j one two.effects;
   }
-  after_run os r (Err LinkFault) a b d h i j one two = (two.0, record {
-    broken = two.1.broken;
-    effects = done_more os r.outs a b (record d { lost = two.0 }) h i j one two.1.effects;
-  })
-  after_run os r (Err WriteFault) a b d h i j one two =
-      (two.0, rw (effects_append at os r.outs) (stops_then (effects at os) (effects at r.outs) writes.Failed
-      a b (record d { lost = two.0 }) h i j one two.1))
-  after_run os r (Err NoMemory) a b d h i j one two =
-      (two.0, rw (effects_append at os r.outs) (stops_then (effects at os) (effects at r.outs) writes.NoMemory
-      a b (record d { lost = two.0 }) h i j one two.1))
+  after_run os r (Err LinkFault) a b d h i j one two = (
+    two.0,
+    record {
+      broken = two.1.broken;
+      effects = done_more os r.outs a b (record d { lost = two.0 }) h i j one two.1.effects;
+    },
+  )
+  after_run os r (Err WriteFault) a b d h i j one two = (
+    two.0,
+    rw (effects_append at os r.outs) (stops_then (effects at os) (effects at r.outs) writes.Failed
+        a b (record d { lost = two.0 }) h i j one two.1),
+  )
+  after_run os r (Err NoMemory) a b d h i j one two = (
+    two.0,
+    rw (effects_append at os r.outs) (stops_then (effects at os) (effects at r.outs) writes.NoMemory
+        a b (record d { lost = two.0 }) h i j one two.1),
+  )
 
   pub serves_after : (first : List Given) (timers : List (Tick × ℕ)) (turns : ℕ) (s t : S)
       (o p : Option (List PollAnswer)) (v : Option (List ℕ)) (result : Result Served ServeError)

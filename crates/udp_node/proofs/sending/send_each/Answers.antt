@@ -11,9 +11,9 @@ returns-in_err-send_unless_skipped-clause-sends g c =
     let a = side (g.L.Link.sent c.args.link.now) c.args.lost.now (g.L.Link.loss_count c.args.link.now) in
     let b = side (g.L.Link.sent c.loop-i.link) c.loop-i.lost (g.L.Link.loss_count c.loop-i.link) in
     let d = side (g.L.Link.sent c.send_unless_skipped.new.link) c.send_unless_skipped.new.lost
-        (g.L.Link.loss_count c.send_unless_skipped.new.link) in
+    (g.L.Link.loss_count c.send_unless_skipped.new.link) in
     let h = one_less c.args.bytes.now c.args.targets.skipped c.args.targets.first c.args.targets.count c.loop-i.i a b d
-        c.loop-i-test.true c.loop-i.invariant.sends c.in_err-send_unless_skipped.ensures.sends in
+    c.loop-i-test.true c.loop-i.invariant.sends c.in_err-send_unless_skipped.ensures.sends in
     search (rules, h)
 
 pub loop-i-preserved : goal.loop-i-preserved
@@ -21,7 +21,7 @@ loop-i-preserved g c =
     let a = side (g.L.Link.sent c.args.link.now) c.args.lost.now (g.L.Link.loss_count c.args.link.now) in
     let b = side (g.L.Link.sent c.loop-i.link) c.loop-i.lost (g.L.Link.loss_count c.loop-i.link) in
     let d = side (g.L.Link.sent c.send_unless_skipped.new.link) c.send_unless_skipped.new.lost
-        (g.L.Link.loss_count c.send_unless_skipped.new.link) in
+    (g.L.Link.loss_count c.send_unless_skipped.new.link) in
     record {
       sends = one_more c.args.bytes.now c.args.targets.skipped c.args.targets.first c.loop-i.i a b d
           c.loop-i.invariant.sends c.in_ok-send_unless_skipped.ensures.sends;
