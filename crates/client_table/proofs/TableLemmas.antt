@@ -14,10 +14,12 @@ map-cond : (b : Bool) (w o : Option Answer) → option_map answered (cond b w o)
 map-cond true w o = refl
 map-cond false w o = refl
 
-find-answered : (es : List (ℕ × Answer)) (q : ℕ) → finite.find nat_cmp q (map (λ e. (e.0, answered e.1)) es) ≡ option_map answered (lookup (is_at (nat_cmp q)) es)
+find-answered : (es : List (ℕ × Answer)) (q : ℕ)
+    → finite.find nat_cmp q (map (λ e. (e.0, answered e.1)) es) ≡ option_map answered (lookup (is_at (nat_cmp q)) es)
 find-answered [] q = refl
 find-answered (e ∷ es) q =
-    ap (cond (eq_by_cmp nat_cmp q e.0) (Some (answered e.1))) (find-answered es q) ∙ sym (map-cond (eq_by_cmp nat_cmp q e.0) (Some e.1) (lookup (is_at (nat_cmp q)) es))
+    ap (cond (eq_by_cmp nat_cmp q e.0) (Some (answered e.1))) (find-answered es q)
+    ∙ sym (map-cond (eq_by_cmp nat_cmp q e.0) (Some e.1) (lookup (is_at (nat_cmp q)) es))
 
 -- what is kept for a client is what the code's map has
 pub kept-table_of : (m : BTreeMap ℕ Answer) (q : ℕ) → kept_for (table_of m) q ≡ option_map answered (get nat_cmp m q)
@@ -35,7 +37,8 @@ pub is_some-copied : {A B : Type 0} (f : A → B) (o : Option A) (p : Option B) 
 is_some-copied f o p e h = sym (some-map f o) ∙ ap is_some e ∙ h
 
 module _ (m n : BTreeMap ℕ Answer) (client : ℕ) where
-  kept-updated : (w : Option Answer) → Updates nat_cmp m n client w → (q : ℕ) → kept_for (table_of n) q ≡ cond (eq_by_cmp nat_cmp q client) (option_map answered w) (kept_for (table_of m) q)
+  kept-updated : (w : Option Answer) → Updates nat_cmp m n client w → (q : ℕ)
+      → kept_for (table_of n) q ≡ cond (eq_by_cmp nat_cmp q client) (option_map answered w) (kept_for (table_of m) q)
   kept-updated w h q =
       kept-table_of n q
       ∙ ap (option_map answered) (h.0 q)
@@ -45,8 +48,12 @@ module _ (m n : BTreeMap ℕ Answer) (client : ℕ) where
 
   -- the table after an answer was written
   pub table-written : (a : Answer) → Updates nat_cmp m n client (Some a) → table_of n ≡ finite.insert (table_of m) client (answered a)
-  table-written a h = finite.same_map nat_cmp_total finite.nat_cmp-IsAntisymmetric _ _ (λ q. kept-updated (Some a) h q ∙ sym (finite.get-insert nat_cmp_total (table_of m) client (answered a) q))
+  table-written a h =
+      finite.same_map nat_cmp_total finite.nat_cmp-IsAntisymmetric _ _ (λ q. kept-updated (Some a) h q
+      ∙ sym (finite.get-insert nat_cmp_total (table_of m) client (answered a) q))
 
   -- the table after an answer was taken out
   pub table-without : Updates nat_cmp m n client None → table_of n ≡ finite.remove (table_of m) client
-  table-without h = finite.same_map nat_cmp_total finite.nat_cmp-IsAntisymmetric _ _ (λ q. kept-updated None h q ∙ sym (finite.get-remove nat_cmp_total (table_of m) client q))
+  table-without h =
+      finite.same_map nat_cmp_total finite.nat_cmp-IsAntisymmetric _ _ (λ q. kept-updated None h q
+      ∙ sym (finite.get-remove nat_cmp_total (table_of m) client q))

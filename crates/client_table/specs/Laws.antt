@@ -12,14 +12,17 @@ use Rattle.client_table.specs.Table.{Table, Fresh, Same, Stale, is_fresh, result
 tie : (client q : ℕ) → eq_by_cmp nat_cmp q client ≡ eqb client q
 tie client q = (eq_by_cmp_equiv nat_cmp_total).symm q client ∙ unsigned_tied client q
 
-pub kept_of_insert : (table : Table) (client : ℕ) (answer : Answered) (q : ℕ) → kept_for (finite.insert table client answer) q ≡ cond (eqb client q) (Some answer) (kept_for table q)
+pub kept_of_insert : (table : Table) (client : ℕ) (answer : Answered) (q : ℕ)
+    → kept_for (finite.insert table client answer) q ≡ cond (eqb client q) (Some answer) (kept_for table q)
 kept_of_insert table client answer q =
     finite.get-insert nat_cmp_total table client answer q ∙ ap (λ (b : Bool). cond b (Some answer) (kept_for table q)) (tie client q)
 
-pub kept_of_with_answer : (table : Table) (client id : ℕ) (result : List ℕ) (q : ℕ) → kept_for (with_answer table client id result) q ≡ cond (eqb client q) (Some (record { id = id; result = result })) (kept_for table q)
+pub kept_of_with_answer : (table : Table) (client id : ℕ) (result : List ℕ) (q : ℕ)
+    → kept_for (with_answer table client id result) q ≡ cond (eqb client q) (Some (record { id = id; result = result })) (kept_for table q)
 kept_of_with_answer table client id result q = kept_of_insert table client (record { id = id; result = result }) q
 
-pub kept_of_put_back : (table : Table) (client : ℕ) (answer : Option Answered) (q : ℕ) → kept_for (put_back table client answer) q ≡ cond (eqb client q) answer (kept_for table q)
+pub kept_of_put_back : (table : Table) (client : ℕ) (answer : Option Answered) (q : ℕ)
+    → kept_for (put_back table client answer) q ≡ cond (eqb client q) answer (kept_for table q)
 kept_of_put_back table client None q =
     finite.get-remove nat_cmp_total table client q ∙ ap (λ (b : Bool). cond b None (kept_for table q)) (tie client q)
 kept_of_put_back table client (Some answer) q = kept_of_insert table client answer q
@@ -33,25 +36,31 @@ twice true v w o h = h refl
 twice false v w o h = refl
 
 -- what was kept is taken out again
-pub unkept_is_before : (table : Table) (client id : ℕ) (result : List ℕ) → unkept (with_answer table client id result) (former_of table client) ≡ table
+pub unkept_is_before : (table : Table) (client id : ℕ) (result : List ℕ)
+    → unkept (with_answer table client id result) (former_of table client) ≡ table
 unkept_is_before table client id result =
     same_table _ table (λ q.
     kept_of_put_back (with_answer table client id result) client (kept_for table client) q
     ∙ ap (cond (eqb client q) (kept_for table client)) (kept_of_insert table client (record { id = id; result = result }) q)
-    ∙ twice (eqb client q) (kept_for table client) (Some (record { id = id; result = result })) (kept_for table q) (λ e. ap (kept_for table) (eqb-true client q e)))
+    ∙ twice (eqb client q) (kept_for table client) (Some (record { id = id; result = result })) (kept_for table q)
+    (λ e. ap (kept_for table) (eqb-true client q e)))
 
 -- and what was taken out is kept again
-pub kept_is_again : (table : Table) (former : Former) (id : ℕ) (result : List ℕ) → kept_for table former.client ≡ Some (record { id = id; result = result }) → with_answer (unkept table former) former.client id result ≡ table
+pub kept_is_again : (table : Table) (former : Former) (id : ℕ) (result : List ℕ)
+    → kept_for table former.client ≡ Some (record { id = id; result = result })
+    → with_answer (unkept table former) former.client id result ≡ table
 kept_is_again table former id result h =
     same_table _ table (λ q.
     kept_of_insert (unkept table former) former.client (record { id = id; result = result }) q
     ∙ ap (cond (eqb former.client q) (Some (record { id = id; result = result }))) (kept_of_put_back table former.client former.answer q)
-    ∙ twice (eqb former.client q) (Some (record { id = id; result = result })) former.answer (kept_for table q) (λ e. sym h ∙ ap (kept_for table) (eqb-true former.client q e)))
+    ∙ twice (eqb former.client q) (Some (record { id = id; result = result })) former.answer (kept_for table q) (λ e. sym h
+    ∙ ap (kept_for table) (eqb-true former.client q e)))
 
 -- the client of an answer that was kept has one
 pub has_answer : (table : Table) (client id : ℕ) (result : List ℕ) → IsSome (kept_for (with_answer table client id result) client)
 has_answer table client id result =
-    ap is_some (kept_of_insert table client (record { id = id; result = result }) client ∙ ap (λ (b : Bool). cond b (Some (record { id = id; result = result })) (kept_for table client)) (eq-eqb client client refl))
+    ap is_some (kept_of_insert table client (record { id = id; result = result }) client
+    ∙ ap (λ (b : Bool). cond b (Some (record { id = id; result = result })) (kept_for table client)) (eq-eqb client client refl))
 
 -- ---- verdicts
 
@@ -70,7 +79,8 @@ pub result_by_verdict : (kept : Option Answered) (id : ℕ) → result_kept kept
 result_by_verdict None id = refl
 result_by_verdict (Some last) id = here (nat_lt last.id id) (last.id == id) refl refl
   where
-    here : (b c : Bool) → nat_lt last.id id ≡ b → (last.id == id) ≡ c → cond c (Some last.result) None ≡ result_in (cond b Fresh (cond c (Same last.result) Stale))
+    here : (b c : Bool) → nat_lt last.id id ≡ b → (last.id == id) ≡ c
+        → cond c (Some last.result) None ≡ result_in (cond b Fresh (cond c (Same last.result) Stale))
     here true true e f = absurd (let less = ltb-true last.id id e in let same = eqb-true last.id id f in omega arith)
     here true false e f = refl
     here false true e f = refl

@@ -17,7 +17,8 @@ kept_after table (given ∷ later) = kept_after (finite.insert table given.0 giv
 -- each id was greater than the one that its client had
 abbrev pub EachIsFresh : Table → List Given → Type 0
 EachIsFresh table [] = ⊤
-EachIsFresh table (given ∷ later) = (verdict_on (kept_for table given.0) given.1.id ≡ Fresh) × EachIsFresh (finite.insert table given.0 given.1) later
+EachIsFresh table (given ∷ later) =
+    (verdict_on (kept_for table given.0) given.1.id ≡ Fresh) × EachIsFresh (finite.insert table given.0 given.1) later
 
 abbrev pub id_for : ℕ → Given → List ℕ
 id_for client given = if given.0 == client then given.1.id ∷ [] else []

@@ -10,7 +10,8 @@ abbrev pub Table : Type 0
 Table = finite.FinMap nat_cmp Answered
 
 abbrev pub answered_code : Coded Answered
-answered_code = code_by (ℕ × List ℕ) (coded× coded_ℕ (coded_list coded_ℕ)) (λ a. (a.id, a.result)) (λ p. record { id = p.0; result = p.1 }) (λ _. refl)
+answered_code =
+    code_by (ℕ × List ℕ) (coded× coded_ℕ (coded_list coded_ℕ)) (λ a. (a.id, a.result)) (λ p. record { id = p.0; result = p.1 }) (λ _. refl)
 
 abbrev pub kept_for : Table → ℕ → Option Answered
 kept_for table client = finite.get table client

@@ -19,7 +19,8 @@ module _ {S U : Type 0} (m : Meaning S) (undo_of : S → List ℕ → U) where
   executed_nothing log x e = record { within = omega arith; execution = e; undoing = λ i e less. absurd (omega (arith, less)) }
 
   -- one more slot
-  pub executed_next : (log : List Entry) (x x' : Executed S) (undos : List (Option (SlotUndo U))) (e : Entry) (s : Option (SlotUndo U)) → IsExecuted m undo_of log x undos → slice_get log (length undos) ≡ Some e
+  pub executed_next : (log : List Entry) (x x' : Executed S) (undos : List (Option (SlotUndo U))) (e : Entry) (s : Option (SlotUndo U))
+      → IsExecuted m undo_of log x undos → slice_get log (length undos) ≡ Some e
       → x' ≡ enter_kept m x e → s ≡ slot_undo_of undo_of x e → IsExecuted m undo_of log x' (undos ++ s ∷ [])
   executed_next log x x' undos e s h at next slot_undo =
       let more : length (undos ++ s ∷ []) ≡ length undos + 1 = length_push undos s in
@@ -30,7 +31,8 @@ module _ {S U : Type 0} (m : Meaning S) (undo_of : S → List ℕ → U) where
           | inl l ↦ slice_get-append_within undos (s ∷ []) i l ∙ h.undoing i d l is
           | inr same ↦
               let here : e ≡ d = let a = rw same at is in cc in
-              rw (same, slot_undo, h.execution, here) (slice_get-append_at undos (slot_undo_of undo_of (exec m (take (length undos) log)) d) [])
+              rw (same, slot_undo, h.execution, here)
+              (slice_get-append_at undos (slot_undo_of undo_of (exec m (take (length undos) log)) d) [])
         ];
       }
     where
@@ -45,7 +47,8 @@ module _ {S U : Type 0} (m : Meaning S) (undo_of : S → List ℕ → U) where
     here : x ≡ enter_kept m (exec m (take (length undos) log)) entry
     before : IsExecuted m undo_of log (exec m (take (length undos) log)) undos
 
-  last : (log : List Entry) (x : Executed S) (undos : List (Option (SlotUndo U))) (s : Option (SlotUndo U)) → IsExecuted m undo_of log x (undos ++ s ∷ []) → Last log x undos s
+  last : (log : List Entry) (x : Executed S) (undos : List (Option (SlotUndo U))) (s : Option (SlotUndo U))
+      → IsExecuted m undo_of log x (undos ++ s ∷ []) → Last log x undos s
   last log x undos s h =
       let more : length (undos ++ s ∷ []) ≡ length undos + 1 = length_push undos s in
       let within : length (undos ++ s ∷ []) ≤ length log = h.within in
@@ -63,31 +66,38 @@ module _ {S U : Type 0} (m : Meaning S) (undo_of : S → List ℕ → U) where
       }
 
   -- the client of the last slot has an answer
-  pub last_is_kept : (log : List Entry) (x : Executed S) (undos : List (Option (SlotUndo U))) (s : Option (SlotUndo U)) → IsExecuted m undo_of log x (undos ++ s ∷ []) → IfSome s (λ t. IsSome (x.kept t.kept.client))
+  pub last_is_kept : (log : List Entry) (x : Executed S) (undos : List (Option (SlotUndo U))) (s : Option (SlotUndo U))
+      → IsExecuted m undo_of log x (undos ++ s ∷ []) → IfSome s (λ t. IsSome (x.kept t.kept.client))
   last_is_kept log x undos s h =
       let l = last log x undos s h in
       kept_along x _ s _ l.here l.slot_undo (has_kept m undo_of (exec m (take (length undos) log)) l.entry)
     where
-      kept_along : (x y : Executed S) (s t : Option (SlotUndo U)) → x ≡ y → s ≡ t → IfSome t (λ u. IsSome (y.kept u.kept.client)) → IfSome s (λ u. IsSome (x.kept u.kept.client))
+      kept_along : (x y : Executed S) (s t : Option (SlotUndo U)) → x ≡ y → s ≡ t → IfSome t (λ u. IsSome (y.kept u.kept.client))
+          → IfSome s (λ u. IsSome (x.kept u.kept.client))
       kept_along x y s t e f h = rw (e, f) h
 
   -- one slot back
-  pub executed_before : (undone : S → U → S) → ((s : S) (op : List ℕ) → undone (m.after s op) (undo_of s op) ≡ s) → (log : List Entry) (x x' : Executed S) (undos : List (Option (SlotUndo U))) (s : Option (SlotUndo U))
+  pub executed_before : (undone : S → U → S) → ((s : S) (op : List ℕ) → undone (m.after s op) (undo_of s op) ≡ s)
+      → (log : List Entry) (x x' : Executed S) (undos : List (Option (SlotUndo U))) (s : Option (SlotUndo U))
       → IsExecuted m undo_of log x (undos ++ s ∷ []) → x' ≡ undone_by undone x s → IsExecuted m undo_of log x' undos
   executed_before undone undoes log x x' undos s h e =
       let l = last log x undos s h in
-      let along : undone_by undone x s ≡ undone_by undone (enter_kept m (exec m (take (length undos) log)) l.entry) (slot_undo_of undo_of (exec m (take (length undos) log)) l.entry) = λ i. undone_by undone (l.here i) (l.slot_undo i) in
-      let same : x' ≡ exec m (take (length undos) log) = e ∙ along ∙ goes_back m undo_of (exec m (take (length undos) log)) undone undoes l.entry in
+      let along : undone_by undone x s ≡ undone_by undone (enter_kept m (exec m (take (length undos) log)) l.entry)
+      (slot_undo_of undo_of (exec m (take (length undos) log)) l.entry) = λ i. undone_by undone (l.here i) (l.slot_undo i) in
+      let same : x' ≡ exec m (take (length undos) log) =
+      e ∙ along ∙ goes_back m undo_of (exec m (take (length undos) log)) undone undoes l.entry in
       subst (λ (y : Executed S). IsExecuted m undo_of log y undos) (sym same) l.before
 
 -- ---- what the host has the room to undo
 
 module _ {U : Type 0} where
-  pub fit_push : (fits : U → Type 0) (undos : List (Option (SlotUndo U))) (s : Option (SlotUndo U)) → UndosFit fits undos → UndoFits fits s → UndosFit fits (undos ++ s ∷ [])
+  pub fit_push : (fits : U → Type 0) (undos : List (Option (SlotUndo U))) (s : Option (SlotUndo U)) → UndosFit fits undos → UndoFits fits s
+      → UndosFit fits (undos ++ s ∷ [])
   fit_push fits [] s h k = (k, tt)
   fit_push fits (t ∷ undos) s h k = (h.0, fit_push fits undos s h.1 k)
 
-  pub fit_front : (fits : U → Type 0) (undos : List (Option (SlotUndo U))) (s : Option (SlotUndo U)) → UndosFit fits (undos ++ s ∷ []) → UndosFit fits undos × UndoFits fits s
+  pub fit_front : (fits : U → Type 0) (undos : List (Option (SlotUndo U))) (s : Option (SlotUndo U)) → UndosFit fits (undos ++ s ∷ [])
+      → UndosFit fits undos × UndoFits fits s
   fit_front fits [] s h = (tt, h.0)
   fit_front fits (t ∷ undos) s h = let k = fit_front fits undos s h.1 in ((h.0, k.0), k.1)
 
@@ -95,6 +105,7 @@ module _ {U : Type 0} where
   one_stays fits still f None h = tt
   one_stays fits still f (Some s) h = f s.undo h
 
-  pub fit_still : (fits still : U → Type 0) → ((u : U) → fits u → still u) → (undos : List (Option (SlotUndo U))) → UndosFit fits undos → UndosFit still undos
+  pub fit_still : (fits still : U → Type 0) → ((u : U) → fits u → still u) → (undos : List (Option (SlotUndo U))) → UndosFit fits undos
+      → UndosFit still undos
   fit_still fits still f [] h = tt
   fit_still fits still f (s ∷ undos) h = (one_stays fits still f s h.0, fit_still fits still f undos h.1)

@@ -12,4 +12,5 @@ use Rattle.nop_types.specs.Legality.{IsOf}
 -- there; and where there is one, it is the result at each slot up to it where the request stands
 pub record IsResult {S : Type 0} (m : Meaning S) (log : List Entry) (executed client id : ℕ) (answer : Option (List ℕ)) : Type 0 where
   pub last : (r : Request) → slot_of log executed ≡ Some (Req r) → IsOf client id r → answer ≡ result_at m log executed
-  pub each : (slot : ℕ) (r : Request) → slot ≤ executed → slot_of log slot ≡ Some (Req r) → IsOf client id r → IfSome answer (λ bytes. result_at m log slot ≡ Some bytes)
+  pub each : (slot : ℕ) (r : Request) → slot ≤ executed → slot_of log slot ≡ Some (Req r) → IsOf client id r
+      → IfSome answer (λ bytes. result_at m log slot ≡ Some bytes)

@@ -14,14 +14,20 @@ pub record Running (H U : Type 0) : Type 0 where
   pub failed : Bool
 
 abbrev pub former_code : Coded Former
-former_code = code_by (ℕ × Option Answered) (coded× coded_ℕ (coded_option answered_code)) (λ f. (f.client, f.answer)) (λ p. record { client = p.0; answer = p.1 }) (λ _. refl)
+former_code =
+    code_by (ℕ × Option Answered) (coded× coded_ℕ (coded_option answered_code)) (λ f. (f.client, f.answer)) (λ p. record {
+      client = p.0;
+      answer = p.1;
+    }) (λ _. refl)
 
 abbrev pub slot_undo_code : {U : Type 0} → Coded U → Coded (SlotUndo U)
-slot_undo_code {U} u = code_by (U × Former) (coded× u former_code) (λ s. (s.undo, s.kept)) (λ p. record { undo = p.0; kept = p.1 }) (λ _. refl)
+slot_undo_code {U} u =
+    code_by (U × Former) (coded× u former_code) (λ s. (s.undo, s.kept)) (λ p. record { undo = p.0; kept = p.1 }) (λ _. refl)
 
 abbrev pub running_code : {H U : Type 0} → Coded H → Coded U → Coded (Running H U)
 running_code {H} {U} h u =
-    code_by (H × (Table × (List (Option (SlotUndo U)) × Bool))) (coded× h (coded× (finite.code coded_ℕ answered_code) (coded× (coded_list (coded_option (slot_undo_code u))) coded_bool)))
+    code_by (H × (Table × (List (Option (SlotUndo U)) × Bool)))
+    (coded× h (coded× (finite.code coded_ℕ answered_code) (coded× (coded_list (coded_option (slot_undo_code u))) coded_bool)))
     (λ r. (r.host, (r.table, (r.undos, r.failed))))
     (λ p. record { host = p.0; table = p.1.0; undos = p.1.1.0; failed = p.1.1.1 })
     (λ _. refl)

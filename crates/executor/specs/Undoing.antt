@@ -13,7 +13,10 @@ use Rattle.executor.specs.Running.{Running, execution}
 abbrev pub slot_undo_of : {S U : Type 0} → (S → List ℕ → U) → Executed S → Entry → Option (SlotUndo U)
 slot_undo_of undo_of x NoOp = None
 slot_undo_of undo_of x (Req r) =
-    if is_above_kept (x.kept r.client) r.id then Some (record { undo = undo_of x.host r.op; kept = record { client = r.client; answer = x.kept r.client } }) else None
+    if is_above_kept (x.kept r.client) r.id then Some (record {
+      undo = undo_of x.host r.op;
+      kept = record { client = r.client; answer = x.kept r.client };
+    }) else None
 
 -- the execution before a slot, by what undoes it
 abbrev pub undone_by : {S U : Type 0} → (S → U → S) → Executed S → Option (SlotUndo U) → Executed S
@@ -24,10 +27,12 @@ undone_by undone x (Some slot_undo) = record {
 }
 
 -- as many first entries of the log as there are undos were executed: x is their execution, and each slot has what undoes its entry
-pub record IsExecuted {S U : Type 0} (m : Meaning S) (undo_of : S → List ℕ → U) (log : List Entry) (x : Executed S) (undos : List (Option (SlotUndo U))) : Type 0 where
+pub record IsExecuted {S U : Type 0} (m : Meaning S) (undo_of : S → List ℕ
+    → U) (log : List Entry) (x : Executed S) (undos : List (Option (SlotUndo U))) : Type 0 where
   pub within : length undos ≤ length log
   pub execution : x ≡ exec m (take (length undos) log)
-  pub undoing : (i : ℕ) (e : Entry) → i < length undos → slice_get log i ≡ Some e → slice_get undos i ≡ Some (slot_undo_of undo_of (exec m (take i log)) e)
+  pub undoing : (i : ℕ) (e : Entry) → i < length undos → slice_get log i ≡ Some e
+      → slice_get undos i ≡ Some (slot_undo_of undo_of (exec m (take i log)) e)
 
 -- the executor has executed the first entries of the log
 abbrev pub HasExecuted : {H U S : Type 0} → (H → S) → Meaning S → (S → List ℕ → U) → List Entry → Running H U → Type 0

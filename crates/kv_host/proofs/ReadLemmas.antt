@@ -17,7 +17,8 @@ pub read_fits : (op : Op) (bytes : List ℕ) → op ≡ read_op bytes → OpFits
 read_fits op bytes e = subst OpFits (sym e) (reading.read_fits bytes)
 
 split : (low high len : ℕ) (f rest : List ℕ) → len ≡ length f → FieldFits low high f → let both = f ++ rest in
-    cond {A = Option Field} (nat_le low len && (nat_le len high && nat_le len (length both))) (Some (take len both, drop len both)) None ≡ Some (f, rest)
+    cond {A = Option Field} (nat_le low len && (nat_le len high && nat_le len (length both)))
+    (Some (take len both, drop len both)) None ≡ Some (f, rest)
 split low high len f rest e fits =
     let l = length-append f rest in
     let small = fits.least in
@@ -25,10 +26,12 @@ split low high len f rest e fits =
     let test : nat_le low len && (nat_le len high && nat_le len (length (f ++ rest))) ≡ true = grind (arith, nat_tests) in
     rw (test, e, take-append_seam f rest, drop-append_seam f rest) refl
 
-field_at-field : (low high : ℕ) (f rest : List ℕ) → FieldFits low high f → high < 2 ^ 16 → field_at low high (field f ++ rest) ≡ Some (f, rest)
+field_at-field : (low high : ℕ) (f rest : List ℕ) → FieldFits low high f → high < 2 ^ 16
+    → field_at low high (field f ++ rest) ≡ Some (f, rest)
 unfolding field_at field
 field_at-field low high f rest fits small =
-    split low high (from_be_bytes w16 (to_be_bytes w16 (length f))) f rest (from_be_bytes-to_be_bytes_2 (length f) (omega (arith, fits.most))) fits
+    split low high (from_be_bytes w16 (to_be_bytes w16 (length f))) f rest
+    (from_be_bytes-to_be_bytes_2 (length f) (omega (arith, fits.most))) fits
 
 -- a key and what follows it, or with nothing after it; the same of a value
 first_key : (key rest : List ℕ) → KeyFits key → key_at (field key ++ rest) ≡ Some (key, rest)
@@ -55,7 +58,8 @@ spelled_delete : (key : List ℕ) → KeyFits key → read_op (DELETE ∷ field 
 unfolding read_op read_delete
 spelled_delete key k = rw (last_key key k) refl
 
-spelled_swap : (key old new : List ℕ) → KeyFits key → ValueFits old → ValueFits new → read_op (SWAP ∷ (field key ++ (field old ++ field new))) ≡ Swap key old new
+spelled_swap : (key old new : List ℕ) → KeyFits key → ValueFits old → ValueFits new
+    → read_op (SWAP ∷ (field key ++ (field old ++ field new))) ≡ Swap key old new
 unfolding read_op read_swap
 spelled_swap key old new k o n = rw (first_key key (field old ++ field new) k, first_value old (field new) o, last_value new n) refl
 

@@ -27,7 +27,8 @@ find-plain : (es : List (Vec ℕ × Option (List ℕ))) (q : List ℕ) → finit
 find-plain [] q = refl
 find-plain (e ∷ es) q = rw (is_eq-slice_cmp q e.0.items, find-plain es q) refl
 
-other_keys : {X : Type 0} (test : Vec ℕ → Bool) (old new : List (Vec ℕ × X)) → KeepsOthers same_key test old new → (other : Vec ℕ → Bool) → IsKeyTest same_key other → AreApart test other → lookup other new ≡ lookup other old
+other_keys : {X : Type 0} (test : Vec ℕ → Bool) (old new : List (Vec ℕ × X)) → KeepsOthers same_key test old new → (other : Vec ℕ → Bool)
+    → IsKeyTest same_key other → AreApart test other → lookup other new ≡ lookup other old
 unfolding KeepsOthers
 other_keys test old new h = h
 
@@ -36,18 +37,23 @@ module _ {S : Type 0} where
   pub get-places : (m : IndexMap (Vec ℕ) (Option (List ℕ)) S) (q : List ℕ) → finite.get (places m) q ≡ lookup (sees q) m.entries
   get-places m q = finite.get-from_entries nat_list_cmp_total _ q ∙ find-plain m.entries q
 
-  module _ (m n : IndexMap (Vec ℕ) (Option (List ℕ)) S) (key : List ℕ) (w : Option (List ℕ)) (h : UpdatesBy same_key (sees key) m n (Some w)) where
-    lookup_updated : (q : List ℕ) (b : Bool) → pointwise nat_eq q key ≡ b → lookup (sees q) n.entries ≡ cond b (Some w) (lookup (sees q) m.entries)
+  module _ (m n : IndexMap (Vec ℕ) (Option (List ℕ)) S) (key : List ℕ) (w : Option (List ℕ))
+      (h : UpdatesBy same_key (sees key) m n (Some w)) where
+    lookup_updated : (q : List ℕ) (b : Bool) → pointwise nat_eq q key ≡ b
+        → lookup (sees q) n.entries ≡ cond b (Some w) (lookup (sees q) m.entries)
     lookup_updated q true e = ap (λ (k : List ℕ). lookup (sees k) n.entries) ((bytes_decides q key).0 e) ∙ h.1
     lookup_updated q false e =
-        other_keys (sees key) m.entries n.entries h.3 (sees q) (λ x y. nat_list_eq_equiv.congr q x.items y.items) (λ k t. apart k t (sees q k) refl)
+        other_keys (sees key) m.entries n.entries h.3 (sees q) (λ x y. nat_list_eq_equiv.congr q x.items y.items)
+        (λ k t. apart k t (sees q k) refl)
       where
         apart : (k : Vec ℕ) → sees key k ≡ true → (c : Bool) → sees q k ≡ c → sees q k ≡ false
         apart k t false f = f
-        apart k t true f = absurd (true≢false (sym ((bytes_decides q key).1 ((bytes_decides q k.items).0 f ∙ sym ((bytes_decides key k.items).0 t))) ∙ e))
+        apart k t true f =
+            absurd (true≢false (sym ((bytes_decides q key).1 ((bytes_decides q k.items).0 f ∙ sym ((bytes_decides key k.items).0 t))) ∙ e))
 
     get_updated : (q : List ℕ) → finite.get (places n) q ≡ cond (pointwise nat_eq q key) (Some w) (finite.get (places m) q)
-    get_updated q = get-places n q ∙ lookup_updated q (pointwise nat_eq q key) refl ∙ ap (cond (pointwise nat_eq q key) (Some w)) (sym (get-places m q))
+    get_updated q =
+        get-places n q ∙ lookup_updated q (pointwise nat_eq q key) refl ∙ ap (cond (pointwise nat_eq q key) (Some w)) (sym (get-places m q))
 
     -- the places after a write
     pub places-updated : places n ≡ finite.insert (places m) key w
@@ -57,7 +63,8 @@ module _ {S : Type 0} where
         ∙ ap (λ (b : Bool). cond b (Some w) (finite.get (places m) q)) (sym (is_eq-slice_cmp q key))
         ∙ sym (finite.get-insert nat_list_cmp_total (places m) key w q))
 
-  module _ (m : IndexMap (Vec ℕ) (Option (List ℕ)) S) (i : ℕ) (k : Vec ℕ) (v : Option (List ℕ)) (at : slice_get m.entries i ≡ Some (k, v)) where
+  module _ (m : IndexMap (Vec ℕ) (Option (List ℕ)) S) (i : ℕ) (k : Vec ℕ) (v : Option (List ℕ))
+      (at : slice_get m.entries i ≡ Some (k, v)) where
     key_of-place : key_of m i ≡ k.items
     key_of-place = ap (λ (o : Option (Vec ℕ × Option (List ℕ))). option_map_or (λ e. e.0.items) o []) at
 
@@ -76,13 +83,16 @@ module _ {S : Type 0} where
       -- the places after a write to it
       pub places-with_value_at : (w : Option (List ℕ)) → places (with_value_at m i w) ≡ finite.insert (places m) (key_of m i) w
       places-with_value_at w =
-          places-updated m (with_value_at m i w) k.items w (updates-with_value_at m i w (on_equiv (λ (x : Vec ℕ). x.items) nat_list_eq_equiv) unique k v at)
+          places-updated m (with_value_at m i w) k.items w
+          (updates-with_value_at m i w (on_equiv (λ (x : Vec ℕ). x.items) nat_list_eq_equiv) unique k v at)
           ∙ ap (λ (key : List ℕ). finite.insert (places m) key w) (sym key_of-place)
 
   -- where a clone of a key has the key's bytes, and a clone of a value is the value, a clone of the table has the same places
-  pub places-clone : (C : Vec ℕ → Vec ℕ → Type 0) (D : Option (List ℕ) → Option (List ℕ) → Type 0) → ((k l : Vec ℕ) → C k l → l.items ≡ k.items) → ((v w : Option (List ℕ)) → D v w → w ≡ v)
+  pub places-clone : (C : Vec ℕ → Vec ℕ → Type 0) (D : Option (List ℕ) → Option (List ℕ) → Type 0)
+      → ((k l : Vec ℕ) → C k l → l.items ≡ k.items) → ((v w : Option (List ℕ)) → D v w → w ≡ v)
       → (m n : IndexMap (Vec ℕ) (Option (List ℕ)) S) → IsClone C D m n → places n ≡ places m
-  places-clone C D same_bytes same_value m n clones = ap (finite.from_entries {R = slice_cmp nat_cmp}) (plain-clone m.entries n.entries clones)
+  places-clone C D same_bytes same_value m n clones =
+      ap (finite.from_entries {R = slice_cmp nat_cmp}) (plain-clone m.entries n.entries clones)
     where
       plain-clone : (es fs : List (Vec ℕ × Option (List ℕ))) → AllZip (λ p q. C p.0 q.0 × D p.1 q.1) es fs → plain fs ≡ plain es
       plain-clone [] [] h = refl

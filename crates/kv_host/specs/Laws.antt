@@ -37,15 +37,18 @@ pub answers_short : (kv : Kv) (op : List ℕ) → IsSound kv → length (kv_mean
 answers_short kv op sound = answer_short kv (read_op op) sound
 
 -- what a key has after it was written
-pub get-with_value : (kv : Kv) (key : List ℕ) (w : Option (List ℕ)) (q : List ℕ) → finite.get (with_value kv key w) q ≡ cond (eq_by_cmp (slice_cmp nat_cmp) q key) w (finite.get kv q)
+pub get-with_value : (kv : Kv) (key : List ℕ) (w : Option (List ℕ)) (q : List ℕ)
+    → finite.get (with_value kv key w) q ≡ cond (eq_by_cmp (slice_cmp nat_cmp) q key) w (finite.get kv q)
 get-with_value kv key None q = finite.get-remove nat_list_cmp_total kv key q
 get-with_value kv key (Some v) q = finite.get-insert nat_list_cmp_total kv key v q
 
-either_short : (b : Bool) (o p : Option (List ℕ)) → IfSome o (λ v. length v ≤ MAX_VALUE_BYTES) → IfSome p (λ v. length v ≤ MAX_VALUE_BYTES) → IfSome (cond b o p) (λ v. length v ≤ MAX_VALUE_BYTES)
+either_short : (b : Bool) (o p : Option (List ℕ)) → IfSome o (λ v. length v ≤ MAX_VALUE_BYTES) → IfSome p (λ v. length v ≤ MAX_VALUE_BYTES)
+    → IfSome (cond b o p) (λ v. length v ≤ MAX_VALUE_BYTES)
 either_short true o p h k = h
 either_short false o p h k = k
 
-write_sound : (kv : Kv) (key : List ℕ) (w : Option (List ℕ)) → IfSome w (λ v. length v ≤ MAX_VALUE_BYTES) → IsSound kv → IsSound (with_value kv key w)
+write_sound : (kv : Kv) (key : List ℕ) (w : Option (List ℕ)) → IfSome w (λ v. length v ≤ MAX_VALUE_BYTES) → IsSound kv
+    → IsSound (with_value kv key w)
 write_sound kv key w short sound q =
     rw (get-with_value kv key w q) (either_short (eq_by_cmp (slice_cmp nat_cmp) q key) w (finite.get kv q) short (sound q))
 
@@ -88,17 +91,20 @@ write_undone kv key w =
 -- a key is given the value that it has
 pub write_same : (kv : Kv) (key : List ℕ) → with_value kv key (finite.get kv key) ≡ kv
 write_same kv key =
-    same _ kv (λ q. get-with_value kv key (finite.get kv key) q ∙ once (eq_by_cmp (slice_cmp nat_cmp) q key) (finite.get kv key) (finite.get kv q) (tied kv key q))
+    same _ kv (λ q. get-with_value kv key (finite.get kv key) q
+    ∙ once (eq_by_cmp (slice_cmp nat_cmp) q key) (finite.get kv key) (finite.get kv q) (tied kv key q))
   where
     once : (b : Bool) (v o : Option (List ℕ)) → (b ≡ true → v ≡ o) → cond b v o ≡ o
     once true v o h = h refl
     once false v o h = refl
 
-delete_undone : (kv : Kv) (key : List ℕ) (o : Option (List ℕ)) → finite.get kv key ≡ o → undone (finite.remove kv key) (option_map (λ value. record { key = key; value = Some value }) o) ≡ kv
+delete_undone : (kv : Kv) (key : List ℕ) (o : Option (List ℕ)) → finite.get kv key ≡ o
+    → undone (finite.remove kv key) (option_map (λ value. record { key = key; value = Some value }) o) ≡ kv
 delete_undone kv key None e = ap (with_value kv key) (sym e) ∙ write_same kv key
 delete_undone kv key (Some v) e = ap (with_value (finite.remove kv key) key) (sym e) ∙ write_undone kv key None
 
-swap_undone : (kv : Kv) (key new : List ℕ) (b : Bool) → undone (cond b (finite.insert kv key new) kv) (cond b (Some (record { key = key; value = finite.get kv key })) None) ≡ kv
+swap_undone : (kv : Kv) (key new : List ℕ) (b : Bool)
+    → undone (cond b (finite.insert kv key new) kv) (cond b (Some (record { key = key; value = finite.get kv key })) None) ≡ kv
 swap_undone kv key new true = write_undone kv key (Some new)
 swap_undone kv key new false = refl
 

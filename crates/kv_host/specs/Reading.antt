@@ -29,7 +29,8 @@ each_byte high low h l (suc zero) = l
 each_byte high low h l (suc (suc i)) = omega arith
 
 first_field : (b : Bool) (least most high low : ℕ) (rest : List ℕ) → let len = from_be_bytes w16 (high ∷ low ∷ []) in
-    nat_le least len && (nat_le len most && nat_le len (length rest)) ≡ b → IfSome (cond b (Some (take len rest, drop len rest)) None) (Begins least most (high ∷ low ∷ rest))
+    nat_le least len && (nat_le len most && nat_le len (length rest)) ≡ b
+    → IfSome (cond b (Some (take len rest, drop len rest)) None) (Begins least most (high ∷ low ∷ rest))
 unfolding field
 first_field true least most high low rest e =
     let len = from_be_bytes w16 (high ∷ low ∷ []) in
@@ -39,7 +40,8 @@ first_field true least most high low rest e =
       fits = record { least = grind (arith, nat_tests); most = grind (arith, nat_tests) };
       spelled = λ h.
           sym
-          (ap (λ (front : List ℕ). front ++ (take len rest ++ drop len rest)) (be_bytes_2 (high ∷ low ∷ []) (length (take len rest)) refl (each_byte high low h.0 h.1.0) whole)
+          (ap (λ (front : List ℕ). front ++ (take len rest ++ drop len rest))
+          (be_bytes_2 (high ∷ low ∷ []) (length (take len rest)) refl (each_byte high low h.0 h.1.0) whole)
           ∙ ap (λ (tail : List ℕ). high ∷ low ∷ tail) (take-append-drop len rest));
       rest = λ h. IsBytes-drop len rest h.1.1;
     }
@@ -51,7 +53,8 @@ field_at-begins least most [] = tt
 field_at-begins least most (high ∷ []) = tt
 field_at-begins least most (high ∷ low ∷ rest) = first_field _ least most high low rest refl
 
-then_holds : {A B : Type 0} (P : A → Type 0) (Q : B → Type 0) (o : Option A) (f : A → Option B) → IfSome o P → ((x : A) → P x → IfSome (f x) Q) → IfSome (option_and_then f o) Q
+then_holds : {A B : Type 0} (P : A → Type 0) (Q : B → Type 0) (o : Option A) (f : A → Option B) → IfSome o P
+    → ((x : A) → P x → IfSome (f x) Q) → IfSome (option_and_then f o) Q
 then_holds P Q None f h k = tt
 then_holds P Q (Some x) f h k = k x h
 
@@ -61,11 +64,16 @@ record IsRead (kind : ℕ) (bytes : List ℕ) (op : Op) : Type 0 where
   spelled : IsBytes bytes → Spells op (kind ∷ bytes)
 
 module _ (kind : ℕ) (all : List ℕ) where
-  after_key : (bytes : List ℕ) (f : Field → Option Op) → ((key : Field) → Begins 1 MAX_KEY_BYTES bytes key → IfSome (f key) (IsRead kind all)) → IfSome (option_and_then f (key_at bytes)) (IsRead kind all)
+  after_key : (bytes : List ℕ) (f : Field → Option Op)
+      → ((key : Field) → Begins 1 MAX_KEY_BYTES bytes key → IfSome (f key) (IsRead kind all))
+      → IfSome (option_and_then f (key_at bytes)) (IsRead kind all)
   after_key bytes f = then_holds (Begins 1 MAX_KEY_BYTES bytes) (IsRead kind all) (key_at bytes) f (field_at-begins 1 MAX_KEY_BYTES bytes)
 
-  after_value : (bytes : List ℕ) (f : Field → Option Op) → ((value : Field) → Begins 0 MAX_VALUE_BYTES bytes value → IfSome (f value) (IsRead kind all)) → IfSome (option_and_then f (value_at bytes)) (IsRead kind all)
-  after_value bytes f = then_holds (Begins 0 MAX_VALUE_BYTES bytes) (IsRead kind all) (value_at bytes) f (field_at-begins 0 MAX_VALUE_BYTES bytes)
+  after_value : (bytes : List ℕ) (f : Field → Option Op)
+      → ((value : Field) → Begins 0 MAX_VALUE_BYTES bytes value → IfSome (f value) (IsRead kind all))
+      → IfSome (option_and_then f (value_at bytes)) (IsRead kind all)
+  after_value bytes f =
+      then_holds (Begins 0 MAX_VALUE_BYTES bytes) (IsRead kind all) (value_at bytes) f (field_at-begins 0 MAX_VALUE_BYTES bytes)
 
   ends : (rest : List ℕ) (op : Op) → (rest ≡ [] → IsRead kind all op) → IfSome (at_end rest op) (IsRead kind all)
   ends [] op h = h refl
@@ -97,24 +105,35 @@ read_put-is bytes =
     after_key PUT bytes bytes _ (λ key k. after_value PUT bytes key.1 _ (λ value v. ends PUT bytes value.1 (Put key.0 value.0) (λ none.
     record {
       fits = (k.fits, v.fits);
-      spelled = λ h. (k.fits, v.fits, ap (λ (b : List ℕ). PUT ∷ b) (more bytes key.0 key.1 _ (k.spelled h) (last key.1 value.0 value.1 (v.spelled (k.rest h)) none)));
+      spelled =
+          λ h. (
+            k.fits,
+            v.fits,
+            ap (λ (b : List ℕ). PUT ∷ b) (more bytes key.0 key.1 _ (k.spelled h) (last key.1 value.0 value.1 (v.spelled (k.rest h)) none)),
+          );
     })))
 
 read_swap-is : (bytes : List ℕ) → IfSome (read_swap bytes) (IsRead SWAP bytes)
 unfolding read_swap
 read_swap-is bytes =
-    after_key SWAP bytes bytes _ (λ key k. after_value SWAP bytes key.1 _ (λ old o. after_value SWAP bytes old.1 _ (λ new n. ends SWAP bytes new.1 (Swap key.0 old.0 new.0) (λ none.
+    after_key SWAP bytes bytes _
+    (λ key k.
+    after_value SWAP bytes key.1 _
+    (λ old o. after_value SWAP bytes old.1 _ (λ new n. ends SWAP bytes new.1 (Swap key.0 old.0 new.0) (λ none.
     record {
       fits = (k.fits, o.fits, n.fits);
       spelled = λ h. (
         k.fits,
         o.fits,
         n.fits,
-        ap (λ (b : List ℕ). SWAP ∷ b) (more bytes key.0 key.1 _ (k.spelled h) (more key.1 old.0 old.1 _ (o.spelled (k.rest h)) (last old.1 new.0 new.1 (n.spelled (o.rest (k.rest h))) none))),
+        ap (λ (b : List ℕ). SWAP ∷ b)
+            (more bytes key.0 key.1 _ (k.spelled h)
+            (more key.1 old.0 old.1 _ (o.spelled (k.rest h)) (last old.1 new.0 new.1 (n.spelled (o.rest (k.rest h))) none))),
       );
     }))))
 
-one_of : (kind this : ℕ) (bytes : List ℕ) (b : Bool) (x y : Option Op) → eqb kind this ≡ b → IfSome x (IsRead this bytes) → IfSome y (IsRead kind bytes) → IfSome (cond b x y) (IsRead kind bytes)
+one_of : (kind this : ℕ) (bytes : List ℕ) (b : Bool) (x y : Option Op) → eqb kind this ≡ b → IfSome x (IsRead this bytes)
+    → IfSome y (IsRead kind bytes) → IfSome (cond b x y) (IsRead kind bytes)
 one_of kind this bytes true x y e h k = subst (λ (n : ℕ). IfSome x (IsRead n bytes)) (sym (eqb-true kind this e)) h
 one_of kind this bytes false x y e h k = k
 
@@ -134,7 +153,8 @@ unfolding read_op
 read_fits [] = tt
 read_fits (kind ∷ bytes) = or_bad (read_fields kind bytes) kind bytes (read_fields-is kind bytes)
 
-or_spelled : (o : Option Op) (kind : ℕ) (bytes : List ℕ) → IfSome o (IsRead kind bytes) → IsBytes bytes → (unwrap_or o Bad ≡ Bad) ⊎ Spells (unwrap_or o Bad) (kind ∷ bytes)
+or_spelled : (o : Option Op) (kind : ℕ) (bytes : List ℕ) → IfSome o (IsRead kind bytes) → IsBytes bytes
+    → (unwrap_or o Bad ≡ Bad) ⊎ Spells (unwrap_or o Bad) (kind ∷ bytes)
 or_spelled None kind bytes h all = inl refl
 or_spelled (Some op) kind bytes h all = inr (h.spelled all)
 

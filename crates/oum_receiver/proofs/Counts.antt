@@ -11,18 +11,23 @@ pub len_some : (m : Requests) (k : ℕ) → is_some (finite.get m k) ≡ true �
 len_some m k some = at (finite.len m) refl
   where
     at : (n : ℕ) → finite.len m ≡ n → 0 < finite.len m
-    at zero none = absurd (true≢false (sym some ∙ ap (λ (w : Requests). is_some (finite.get w k)) (finite.empty_of_len m none) ∙ ap is_some (finite.get-empty nat_cmp k)))
+    at zero none =
+        absurd
+        (true≢false (sym some ∙ ap (λ (w : Requests). is_some (finite.get w k)) (finite.empty_of_len m none)
+        ∙ ap is_some (finite.get-empty nat_cmp k)))
     at (suc n) is = omega (arith, is)
 
 -- a removal of a request that is there
 pub len_without : (m : Requests) (k : ℕ) → is_some (finite.get m k) ≡ true → finite.len (finite.remove m k) + 1 ≡ finite.len m
 len_without m k some =
-    let less : finite.len (finite.remove m k) ≡ finite.len m - 1 = finite.len-remove nat_cmp_total m k ∙ ap (λ (b : Bool). cond b (finite.len m - 1) (finite.len m)) some in
+    let less : finite.len (finite.remove m k) ≡ finite.len m - 1 =
+    finite.len-remove nat_cmp_total m k ∙ ap (λ (b : Bool). cond b (finite.len m - 1) (finite.len m)) some in
     omega (arith, less, len_some m k some)
 
 first_is : (m : Requests) (e : ℕ × Request) (es : List (ℕ × Request)) → finite.entries m ≡ e ∷ es → finite.get m e.0 ≡ Some e.1
 first_is m e es is =
-    finite.get-entries m e.0 ∙ ap (finite.find nat_cmp e.0) is ∙ ap (λ (b : Bool). cond b (Some e.1) (finite.find nat_cmp e.0 es)) ((eq_by_cmp_equiv nat_cmp_total).refl e.0)
+    finite.get-entries m e.0 ∙ ap (finite.find nat_cmp e.0) is
+    ∙ ap (λ (b : Bool). cond b (Some e.1) (finite.find nat_cmp e.0 es)) ((eq_by_cmp_equiv nat_cmp_total).refl e.0)
 
 -- a map that is not empty has a request
 pub some_key : (m : Requests) → (finite.len m ≡ 0 → ⊥) → (number : ℕ) × (request : Request) × (finite.get m number ≡ Some request)
@@ -41,7 +46,8 @@ Within m n = (q : ℕ) → is_some (finite.get m q) ≡ true → is_some (finite
 
 within_rest : (m n : Requests) (k : ℕ) → Within m n → Within (finite.remove m k) (finite.remove n k)
 within_rest m n k within q has =
-    let part : (eq_by_cmp nat_cmp q k ≡ false) × (is_some (finite.get m q) ≡ true) = passes (eq_by_cmp nat_cmp q k) (finite.get m q) (ap is_some (sym (finite.get-remove nat_cmp_total m k q)) ∙ has) in
+    let part : (eq_by_cmp nat_cmp q k ≡ false) × (is_some (finite.get m q) ≡ true) =
+    passes (eq_by_cmp nat_cmp q k) (finite.get m q) (ap is_some (sym (finite.get-remove nat_cmp_total m k q)) ∙ has) in
     ap is_some (finite.get-remove nat_cmp_total n k q ∙ ap (λ (b : Bool). cond b None (finite.get n q)) part.0) ∙ within q part.1
 
 -- a map that has no other numbers has no more requests
@@ -49,7 +55,9 @@ len_within : (bound : ℕ) (m n : Requests) → finite.len m ≤ bound → Withi
 len_within zero m n few within = omega (arith, few)
 len_within (suc bound) m n few within = at (finite.entries m) refl (λ k. len_within bound (finite.remove m k) (finite.remove n k))
   where
-    at : (es : List (ℕ × Request)) → finite.entries m ≡ es → ((k : ℕ) → finite.len (finite.remove m k) ≤ bound → Within (finite.remove m k) (finite.remove n k) → finite.len (finite.remove m k) ≤ finite.len (finite.remove n k))
+    at : (es : List (ℕ × Request)) → finite.entries m ≡ es
+        → ((k : ℕ) → finite.len (finite.remove m k) ≤ bound → Within (finite.remove m k) (finite.remove n k)
+        → finite.len (finite.remove m k) ≤ finite.len (finite.remove n k))
         → finite.len m ≤ finite.len n
     at [] is less = omega (arith, finite.len-entries m ∙ ap length is)
     at (e ∷ es) is less =

@@ -19,7 +19,8 @@ use Rattle.oum_receiver.proofs.Entries.{get_kept}
 use Rattle.oum_receiver.specs.Receiving.{Receiving, QueuedFits, IsSound, opened, is_old, verdict_of, judged, offered, front_of, front_taken, advanced}
 
 -- what holds of both choices holds of the one taken
-chosen : {A : Type 0} (P : A → Type 0) (b : Bool) (o p : Option A) → (b ≡ true → IfSome o P) → (b ≡ false → IfSome p P) → IfSome (cond b o p) P
+chosen : {A : Type 0} (P : A → Type 0) (b : Bool) (o p : Option A) → (b ≡ true → IfSome o P) → (b ≡ false → IfSome p P)
+    → IfSome (cond b o p) P
 chosen P b o p first second = elim b as (λ v. b ≡ v → IfSome (cond v o p) P) [ true ↦ first | false ↦ second ] refl
 
 -- what follows of a value follows of the one that is there
@@ -35,7 +36,9 @@ opened_sound session next high = record {
 }
 
 -- what the verdict says of its tests
-pub queued_tests : (later old full : Bool) (session : ℕ) → (if later then Terminated session else (if old then Old else (if full then Full else Queued))) ≡ Queued → (later ≡ false) × (old ≡ false) × (full ≡ false)
+pub queued_tests : (later old full : Bool) (session : ℕ)
+    → (if later then Terminated session else (if old then Old else (if full then Full else Queued))) ≡ Queued
+    → (later ≡ false) × (old ≡ false) × (full ≡ false)
 queued_tests true old full session e = cc
 queued_tests false true full session e = cc
 queued_tests false false true session e = cc
@@ -47,17 +50,20 @@ same_number a b tied = let test : (a == b) ≡ true = sym (unsigned_tied a b) �
 other_number : (a b : ℕ) → eq_by_cmp nat_cmp a b ≡ false → a ≡ b → ⊥
 other_number a b tied same = let test : (a == b) ≡ false = sym (unsigned_tied a b) ∙ tied in grind (arith, nat_tests, test)
 
-pub queued_sound : (r : Receiving) (packet : Stamped) → IsSound r → StampedFits packet → verdict_of r packet ≡ Queued → IsSound (judged Queued r packet)
+pub queued_sound : (r : Receiving) (packet : Stamped) → IsSound r → StampedFits packet → verdict_of r packet ≡ Queued
+    → IsSound (judged Queued r packet)
 unfolding verdict_of
 queued_sound r packet sound fits verdict =
-    let tests = queued_tests (nat_lt r.session packet.session) (is_old r packet) (nat_le MAX_QUEUED (finite.len r.queued)) packet.session verdict in
+    let tests =
+    queued_tests (nat_lt r.session packet.session) (is_old r packet) (nat_le MAX_QUEUED (finite.len r.queued)) packet.session verdict in
     let old = or_parts (nat_lt packet.session r.session) _ tests.1 in
     let passed = or_parts (nat_lt packet.number r.next) (finite.contains_key r.queued packet.number) old.1 in
     record {
       next = sound.next;
       few = rw (finite.len-insert nat_cmp_total r.queued packet.number packet.request) (rw passed.1 (grind (arith, nat_tests, tests.2)));
       each = λ number.
-          rw (finite.get-insert nat_cmp_total r.queued packet.number packet.request number) (chosen (QueuedFits r.next number) (eq_by_cmp nat_cmp number packet.number) (Some packet.request) (finite.get r.queued number)
+          rw (finite.get-insert nat_cmp_total r.queued packet.number packet.request number)
+          (chosen (QueuedFits r.next number) (eq_by_cmp nat_cmp number packet.number) (Some packet.request) (finite.get r.queued number)
           (λ tied. let same : number ≡ packet.number = same_number number packet.number tied in record {
             low = grind (arith, nat_tests, passed.0, same);
             high = omega (arith, fits.number, same);
@@ -70,7 +76,8 @@ queued_sound r packet sound fits verdict =
 pub queued_absent : (r : Receiving) (packet : Stamped) → verdict_of r packet ≡ Queued → finite.get r.queued packet.number ≡ None
 unfolding verdict_of
 queued_absent r packet verdict =
-    let tests = queued_tests (nat_lt r.session packet.session) (is_old r packet) (nat_le MAX_QUEUED (finite.len r.queued)) packet.session verdict in
+    let tests =
+    queued_tests (nat_lt r.session packet.session) (is_old r packet) (nat_le MAX_QUEUED (finite.len r.queued)) packet.session verdict in
     let old = or_parts (nat_lt packet.session r.session) _ tests.1 in
     at (finite.get r.queued packet.number) (or_parts (nat_lt packet.number r.next) (finite.contains_key r.queued packet.number) old.1).1
   where
@@ -81,8 +88,11 @@ queued_absent r packet verdict =
 -- where something is in front, the next number is not the end
 in_front : (r : Receiving) → IsSound r → front_of r ≢ Nothing → r.next < NUMBER_END
 in_front r sound some =
-    let key = some_key r.queued (λ none. some (ap (λ (b : Bool). front_at b (finite.get r.queued r.next)) (eq-eqb (finite.len r.queued) 0 none))) in
-    let fits : QueuedFits r.next key.0 key.1 = subst (λ (o : Option Request). IfSome o (QueuedFits r.next key.0)) key.2 (sound.each key.0) in
+    let key =
+    some_key r.queued
+    (λ none. some (ap (λ (b : Bool). front_at b (finite.get r.queued r.next)) (eq-eqb (finite.len r.queued) 0 none))) in
+    let fits : QueuedFits r.next key.0 key.1 =
+    subst (λ (o : Option Request). IfSome o (QueuedFits r.next key.0)) key.2 (sound.each key.0) in
     omega (arith, fits.low, fits.high)
 
 pub taken_sound : (r : Receiving) → IsSound r → front_of r ≢ Nothing → IsSound (front_taken r)
@@ -90,10 +100,15 @@ taken_sound r sound some = record {
   next = omega (arith, in_front r sound some);
   few = omega (arith, len_removed r.queued r.next, sound.few);
   each = λ number.
-      rw (finite.get-remove nat_cmp_total r.queued r.next number) (chosen (QueuedFits (r.next + 1) number) (eq_by_cmp nat_cmp number r.next) None (finite.get r.queued number)
+      rw (finite.get-remove nat_cmp_total r.queued r.next number)
+      (chosen (QueuedFits (r.next + 1) number) (eq_by_cmp nat_cmp number r.next) None (finite.get r.queued number)
       (λ _. tt)
       (λ tied. turned (QueuedFits r.next number) (QueuedFits (r.next + 1) number) (finite.get r.queued number)
-      (λ request fits. record { low = omega (arith, fits.low, other_number number r.next tied); high = fits.high; fits = fits.fits }) (sound.each number)));
+      (λ request fits. record {
+        low = omega (arith, fits.low, other_number number r.next tied);
+        high = fits.high;
+        fits = fits.fits;
+      }) (sound.each number)));
 }
 
 pub advanced_sound : (r : Receiving) (next : ℕ) → IsSound r → next ≤ NUMBER_END → IsSound (advanced r next)

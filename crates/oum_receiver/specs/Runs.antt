@@ -91,7 +91,8 @@ IsConsecutive session number (h ∷ hs) = (h.session ≡ session) × (h.number �
 
 -- each queued request was stamped with the receiver's session and its number
 abbrev pub IsStampedBy : List Stamped → Receiving → Type 0
-IsStampedBy packets r = (number : ℕ) (request : Request) → finite.get r.queued number ≡ Some request → WasStamped packets r.session number request
+IsStampedBy packets r =
+    (number : ℕ) (request : Request) → finite.get r.queued number ≡ Some request → WasStamped packets r.session number request
 
 -- packets of one session and number in the two lists have one request
 abbrev pub HaveOneRequest : List Stamped → List Stamped → Type 0

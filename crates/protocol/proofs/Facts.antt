@@ -24,7 +24,9 @@ pub push_length : (l : List Entry) (x : Entry) → length (l ++ x ∷ []) ≡ su
 push_length l x = omega (arith, length-append l (x ∷ []))
 
 pub next_slot : (l : List Entry) (x : Entry) → slot_of (l ++ x ∷ []) (length l + 1) ≡ Some x
-next_slot l x = let e : suc (length l) ≡ length l + 1 = omega arith in subst (λ (i : ℕ). slot_of (l ++ x ∷ []) i ≡ Some x) e (slot_of-last l x)
+next_slot l x =
+    let e : suc (length l) ≡ length l + 1 = omega arith in
+    subst (λ (i : ℕ). slot_of (l ++ x ∷ []) i ≡ Some x) e (slot_of-last l x)
 
 pub drop_get : {A : Type 0} (s : ℕ) (l : List A) (i : ℕ) → slice_get (drop s l) i ≡ slice_get l (s + i)
 drop_get zero l i = let e : i ≡ zero + i = omega arith in ap (slice_get l) e

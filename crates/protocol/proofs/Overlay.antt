@@ -40,7 +40,10 @@ module _ {S : Type 0} (m : Meaning S) (f : ℕ) (c : Conf) (r : ℕ) (inv : Inv 
         lead = t.lead;
         leads = subst (λ (w : View). LeaderHad f c.past w t.lead) (sym view) t.leads;
         toward = toward_laid t.lead l p.log t.begins;
-        from = λ i x h. elim (slot_of-laid_cases l p.log i x h) [ inl new ↦ inr (slot_of-prefix l t.lead i x t.begins new) | inr old ↦ inl old ];
+        from = λ i x h. elim (slot_of-laid_cases l p.log i x h) [
+          | inl new ↦ inr (slot_of-prefix l t.lead i x t.begins new)
+          | inr old ↦ inl old
+        ];
         counted = omega (arith, length-laid l p.log);
         session = refl;
         number = refl;

@@ -19,7 +19,11 @@ loop-undos-preserved g c =
     record {
       stays = search rules;
       within = search rules;
-      run = rw pushed (executed_next m g.H.Host.undo_of log x y old c.index-log-len.result c.in_ok-slot_undo.slot_undo c.loop-undos.invariant.run at c.in_ok-slot_undo.ensures.execution c.in_ok-slot_undo.ensures.slot_undo);
+      run =
+          rw pushed
+          (executed_next m g.H.Host.undo_of log x y old c.index-log-len.result c.in_ok-slot_undo.slot_undo
+          c.loop-undos.invariant.run at c.in_ok-slot_undo.ensures.execution c.in_ok-slot_undo.ensures.slot_undo);
       fits = rw pushed (fit_push (g.H.Host.fits c.enter.new.host) old c.in_ok-slot_undo.slot_undo
-          (fit_still (g.H.Host.fits c.loop-undos.host) (g.H.Host.fits c.enter.new.host) c.in_ok-slot_undo.ensures.still_fits old c.loop-undos.invariant.fits) c.in_ok-slot_undo.ensures.fits);
+          (fit_still (g.H.Host.fits c.loop-undos.host)
+          (g.H.Host.fits c.enter.new.host) c.in_ok-slot_undo.ensures.still_fits old c.loop-undos.invariant.fits) c.in_ok-slot_undo.ensures.fits);
     }

@@ -6,7 +6,8 @@ use Rattle.executor.proofs.moves.go_back.Goals as goal
 pub leave-requires-clause-kept : goal.leave-requires-clause-kept
 leave-requires-clause-kept g c =
     let x = execution (g.H.Host.state c.loop-undos.host) c.loop-undos.table in
-    last_is_kept g.H.Host.meaning g.H.Host.undo_of c.args.log.now x c.pop.new.self.items c.in-Some.slot_undo (rw c.in-Some.ensures.items at c.loop-undos.invariant.run)
+    last_is_kept g.H.Host.meaning g.H.Host.undo_of c.args.log.now x c.pop.new.self.items c.in-Some.slot_undo
+    (rw c.in-Some.ensures.items at c.loop-undos.invariant.run)
 
 pub loop-undos-preserved-in-Some : goal.loop-undos-preserved-in-Some
 loop-undos-preserved-in-Some g c =
@@ -14,6 +15,11 @@ loop-undos-preserved-in-Some g c =
     let y = execution (g.H.Host.state c.leave.new.host) c.leave.new.table in
     record {
       back = search rules;
-      run = executed_before g.H.Host.meaning g.H.Host.undo_of g.H.Host.undone g.met.H.Host.undoes c.args.log.now x y c.pop.new.self.items c.in-Some.slot_undo (rw c.in-Some.ensures.items at c.loop-undos.invariant.run) c.leave.ensures.execution;
-      fits = fit_still (g.H.Host.fits c.loop-undos.host) (g.H.Host.fits c.leave.new.host) c.leave.ensures.still_fits c.pop.new.self.items (fit_front (g.H.Host.fits c.loop-undos.host) c.pop.new.self.items c.in-Some.slot_undo (rw c.in-Some.ensures.items at c.loop-undos.invariant.fits)).0;
+      run =
+          executed_before g.H.Host.meaning g.H.Host.undo_of g.H.Host.undone g.met.H.Host.undoes c.args.log.now x y
+          c.pop.new.self.items c.in-Some.slot_undo (rw c.in-Some.ensures.items at c.loop-undos.invariant.run) c.leave.ensures.execution;
+      fits =
+          fit_still (g.H.Host.fits c.loop-undos.host) (g.H.Host.fits c.leave.new.host) c.leave.ensures.still_fits c.pop.new.self.items
+          (fit_front (g.H.Host.fits c.loop-undos.host) c.pop.new.self.items c.in-Some.slot_undo
+          (rw c.in-Some.ensures.items at c.loop-undos.invariant.fits)).0;
     }

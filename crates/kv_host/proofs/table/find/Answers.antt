@@ -9,7 +9,8 @@ returns-in_err-index-clause-value c =
 pub returns-clause-key : goal.returns-clause-key
 returns-clause-key c =
     let found = c.in_ok-index.ensures in
-    key_of-found c.args.table.now c.in_ok-index.index c.in_ok-index._key.now c.in_ok-index.value.now found.entry c.args.key.now (sym found.key)
+    key_of-found c.args.table.now c.in_ok-index.index c.in_ok-index._key.now c.in_ok-index.value.now found.entry c.args.key.now
+    (sym found.key)
 
 pub returns-clause-value : goal.returns-clause-value
 returns-clause-value c =

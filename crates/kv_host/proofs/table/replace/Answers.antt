@@ -11,4 +11,5 @@ returns-clause-former c =
 pub returns-clause-after : goal.returns-clause-after
 returns-clause-after c =
     let place = c.pair_mut-place in
-    rw (c.replace.ensures.after) (places-with_value_at c.args.table.now c.args.index place.result.0.now place.result.1.now place.ensures.value place.ensures.unique c.args.value)
+    rw (c.replace.ensures.after)
+    (places-with_value_at c.args.table.now c.args.index place.result.0.now place.result.1.now place.ensures.value place.ensures.unique c.args.value)

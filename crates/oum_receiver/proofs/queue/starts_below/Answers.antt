@@ -9,4 +9,5 @@ returns-in-Some-clause-none_below c = λ high.
     drop_none_least c.args.next c.in-Some.number.now c.args.requests.now c.in-Some.ensures.least from
 
 pub returns-in-None-clause-none_below : goal.returns-in-None-clause-none_below
-returns-in-None-clause-none_below c = λ _. drop_none_empty c.args.next c.args.requests.now.entries (λ some. true≢false (sym (c.in-None.ensures.variant.1 some)))
+returns-in-None-clause-none_below c =
+    λ _. drop_none_empty c.args.next c.args.requests.now.entries (λ some. true≢false (sym (c.in-None.ensures.variant.1 some)))

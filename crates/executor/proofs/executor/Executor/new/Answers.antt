@@ -5,4 +5,6 @@ use Rattle.executor.proofs.executor.Executor.new.Goals as goal
 pub returns-clause-run : goal.returns-clause-run
 returns-clause-run g c log =
     let m = g.H.Host.meaning in
-    rw c.new-2.ensures.items (executed_nothing m g.H.Host.undo_of log _ (opens m (g.H.Host.state c.in_ok-fresh.field-0) c.new.result c.in_ok-fresh.ensures c.new.ensures))
+    rw c.new-2.ensures.items
+    (executed_nothing m g.H.Host.undo_of log _
+    (opens m (g.H.Host.state c.in_ok-fresh.field-0) c.new.result c.in_ok-fresh.ensures c.new.ensures))

@@ -8,9 +8,11 @@ use Rattle.oum_receiver.proofs.queue.Queue.get.Goals as goal
 
 pub returns-in-Some : goal.returns-in-Some
 returns-in-Some c =
-    get_found c.self.inside.apart (map_of c.self.inside.table.entries) c.args.number c.in-Some.request.now c.in-Some.ensures ∙ ap (λ (m : Requests). finite.get m c.args.number) c.self.view_is
+    get_found c.self.inside.apart (map_of c.self.inside.table.entries) c.args.number c.in-Some.request.now c.in-Some.ensures
+    ∙ ap (λ (m : Requests). finite.get m c.args.number) c.self.view_is
 
 pub returns-in-None : goal.returns-in-None
 returns-in-None c =
     c.get.ensures.value ∙ sym (get_is c.self.inside.table.entries c.args.number)
-    ∙ get_missed c.self.inside.apart (map_of c.self.inside.table.entries) c.args.number c.in-None.ensures ∙ ap (λ (m : Requests). finite.get m c.args.number) c.self.view_is
+    ∙ get_missed c.self.inside.apart (map_of c.self.inside.table.entries) c.args.number c.in-None.ensures
+    ∙ ap (λ (m : Requests). finite.get m c.args.number) c.self.view_is

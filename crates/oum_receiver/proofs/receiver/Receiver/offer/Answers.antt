@@ -7,7 +7,8 @@ use Rattle.oum_receiver.proofs.receiver.Receiver.offer.Goals as goal
 pub invariant_of-self : goal.invariant_of-self
 invariant_of-self c =
     let r : Receiving = record { session = c.self.inside.session; next = c.self.inside.next; queued = c.self.inside.queue } in
-    let verdict : verdict_of r c.args.packet.now ≡ Queued = ap (λ (s : Receiving). verdict_of s c.args.packet.now) c.self.view_is ∙ sym c.in-Queued.ensures in
+    let verdict : verdict_of r c.args.packet.now ≡ Queued =
+    ap (λ (s : Receiving). verdict_of s c.args.packet.now) c.self.view_is ∙ sym c.in-Queued.ensures in
     rw (c.in_ok-insert.ensures.ok, c.in_ok-request.ensures) (queued_sound r c.args.packet.now c.self.invariant c.requires verdict)
 
 pub insert-requires : goal.insert-requires
