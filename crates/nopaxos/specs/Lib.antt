@@ -1,2 +1,4 @@
 pub mod Ending
+pub mod Nodes
+pub mod Tasks
 pub mod Words

@@ -1,24 +1,40 @@
-//! The program: `nopaxos replay` reads a schedule and writes its transcript.
+//! The program: `nopaxos replay` reads a schedule and writes its transcript; the other commands run a part of the protocol
+//! over datagram sockets.
 #![tactic(auto)]
 
 mod adapters;
+mod commands;
+mod node;
 mod run;
+mod sockets;
 mod status;
+mod system_clock;
 #[cfg(test)]
 mod tests;
-mod words;
 
 use adapters::{StandardIn, StandardOut};
-use outside::{ClockMem, PortsMem};
 use run::run;
+use sockets::UdpPorts;
+use status::Status;
+use std::io::ErrorKind;
 use std::process::ExitCode;
+use system_clock::SystemClock;
 
-fn main(rt: HostRuntime) -> std::io::Result<ExitCode> {
-    let words: Vec<String> = std::env::args(&rt)?.collect(rt.alloc())?;
+fn main(rt: HostRuntime) -> ExitCode {
+    let words = match std::env::args(&rt) {
+        Ok(args) => args.collect(rt.alloc()),
+        // A word that is no text: no words are taken.
+        Err(e) if e.kind() == ErrorKind::InvalidData => Ok(Vec::new(rt.alloc())),
+        Err(_) => return ExitCode::from(Status::NoMemory as u8),
+    };
+    let Ok(words) = words else {
+        return ExitCode::from(Status::NoMemory as u8);
+    };
+    let words: Vec<String> = words;
     let mut source = StandardIn::new(rt.reader());
     let mut sink = StandardOut::new(std::io::writer(&rt));
-    let mut ports = PortsMem::new(rt.alloc());
-    let mut clock = ClockMem::new(rt.alloc());
+    let mut ports = UdpPorts::new(&rt, rt.alloc());
+    let mut clock = SystemClock::new(&rt);
     let status = run(
         rt.alloc(),
         &words,
@@ -27,5 +43,5 @@ fn main(rt: HostRuntime) -> std::io::Result<ExitCode> {
         &mut ports,
         &mut clock,
     );
-    Ok(ExitCode::from(status as u8))
+    ExitCode::from(status as u8)
 }

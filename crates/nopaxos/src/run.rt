@@ -1,15 +1,24 @@
-ghost use Rattle.std.specs.Prelude.{◌≡◌};
+ghost use Rattle.std.specs.Prelude.{◌≡◌, ◌≢◌, ◌++◌, ◌∷◌, [], true, false};
 ghost use Rattle.outside.specs.Causes.{Rose};
 ghost use Rattle.kv_host.specs.Kv.{kv_meaning};
 ghost use Rattle.replay.specs.Safety.{RunsSafelyOf};
-ghost use Rattle.nopaxos.specs.Words.{Taken};
+ghost use Rattle.command_line.specs.Commands.{IsFit};
+ghost use Rattle.nopaxos.specs.Words.{asked, Taken};
 ghost use Rattle.nopaxos.specs.Ending.{ReplayEnds, UsageEnds, EndsWithoutFault, RefusesWithoutFault};
+ghost use Rattle.nopaxos.specs.Nodes.{EndsNodeWithoutFault, link_view, ports_view};
+ghost use Rattle.nopaxos.specs.Tasks.{CommandEnds, runs_node, waits_for_ops};
 
+use crate::commands::{run_client, run_controller, run_replica, run_sequencer};
 use crate::status::Status;
-use crate::words::{USAGE_LINE, takes};
+use command_line::{Command, read_words};
+use nop_types::NoMemory;
 use outside::{Clock, Ports, Sink, Source, WriteError, write_all};
 use replay::{ReplayError, replay};
 use std::alloc::Global;
+
+/// The line that is written where the words are not taken.
+pub const USAGE_LINE: &str =
+    "usage: nopaxos replay | gen | node | sequencer | controller | client\n";
 
 fn run_replay<S: Source, K: Sink>(alloc: Global, source: &mut S, sink: &mut K) -> Status
     ensures ends { ReplayEnds kv_meaning (S.left source.old) (S.left source.new) (K.held sink.old) (K.held sink.new) result }
@@ -38,6 +47,40 @@ fn write_usage<K: Sink>(sink: &mut K) -> Status
     }
 }
 
+/// Carries out a command.
+fn carry_out<S: Source, K: Sink, P: Ports, C: Clock>(
+    alloc: Global,
+    command: Command,
+    source: &mut S,
+    sink: &mut K,
+    ports: &mut P,
+    clock: &mut C,
+) -> Status
+    requires { IsFit command }
+    ensures replay { command ≡ Command.Replay → ReplayEnds kv_meaning (S.left source.old) (S.left source.new) (K.held sink.old) (K.held sink.new) result }
+    ensures safe { command ≡ Command.Replay → result ≡ Status.Done → RunsSafelyOf kv_meaning (S.left source.old) }
+    ensures node { CommandEnds (Some command)
+        (link_view P.L.own_port P.L.sent P.L.loss_count P.L.fault_count)
+        (ports_view (P.to_come ports.old) (P.detached ports.old) (P.detached ports.new)
+        (P.fault_count ports.old) (P.fault_count ports.new))
+        (C.values clock.old) result (K.held sink.old) (K.held sink.new) }
+    ensures read { result ≡ Status.ReadFault → Rose (S.fault_count source.old) (S.fault_count source.new) }
+    ensures write { result ≡ Status.WriteFault → Rose (K.fault_count sink.old) (K.fault_count sink.new) }
+    ensures unread { runs_node (Some command) ≡ true → source.new ≡ source.old }
+    ensures ports { runs_node (Some command) ≡ false → ports.new ≡ ports.old }
+    ensures clock { runs_node (Some command) ≡ false → clock.new ≡ clock.old }
+{
+    match command {
+        Command::Replay => run_replay(alloc, source, sink),
+        Command::Node(id, site) => run_replica(alloc, id, &site, ports, clock, sink),
+        Command::Sequencer(id, site) => run_sequencer(alloc, id, &site, ports, clock, sink),
+        Command::Controller(site, session, install) => {
+            run_controller(alloc, &site, session, install, ports, clock, sink)
+        }
+        Command::Client(id, site, ops) => run_client(alloc, id, &site, ops, ports, clock, sink),
+    }
+}
+
 /// Carries out the command that the words name; the first word is the program's name. Words that are not taken are
 /// answered by the usage line.
 pub fn run<S: Source, K: Sink, P: Ports, C: Clock>(
@@ -48,22 +91,35 @@ pub fn run<S: Source, K: Sink, P: Ports, C: Clock>(
     ports: &mut P,
     clock: &mut C,
 ) -> Status
-    ensures replay { Taken words.now → ReplayEnds kv_meaning (S.left source.old) (S.left source.new) (K.held sink.old) (K.held sink.new) result }
-    ensures safe { Taken words.now → result ≡ Status.Done → RunsSafelyOf kv_meaning (S.left source.old) }
+    ensures replay { asked words.now ≡ Some Command.Replay → ReplayEnds kv_meaning (S.left source.old) (S.left source.new) (K.held sink.old) (K.held sink.new) result }
+    ensures safe { asked words.now ≡ Some Command.Replay → result ≡ Status.Done → RunsSafelyOf kv_meaning (S.left source.old) }
     ensures usage { ¬ Taken words.now → UsageEnds (K.held sink.old) (K.held sink.new) result }
+    ensures node { CommandEnds (asked words.now)
+        (link_view P.L.own_port P.L.sent P.L.loss_count P.L.fault_count)
+        (ports_view (P.to_come ports.old) (P.detached ports.old) (P.detached ports.new)
+        (P.fault_count ports.old) (P.fault_count ports.new))
+        (C.values clock.old) result (K.held sink.old) (K.held sink.new) }
     ensures read { result ≡ Status.ReadFault → Rose (S.fault_count source.old) (S.fault_count source.new) }
     ensures write { result ≡ Status.WriteFault → Rose (K.fault_count sink.old) (K.fault_count sink.new) }
-    ensures replay_complete { Taken words.now → ¬ Rose (S.fault_count source.old) (S.fault_count source.new)
+    ensures replay_complete { asked words.now ≡ Some Command.Replay
+        → ¬ Rose (S.fault_count source.old) (S.fault_count source.new)
         → ¬ Rose (K.fault_count sink.old) (K.fault_count sink.new) → EndsWithoutFault result }
     ensures usage_complete { ¬ Taken words.now → ¬ Rose (K.fault_count sink.old) (K.fault_count sink.new)
         → RefusesWithoutFault result }
-    ensures unread { ¬ Taken words.now → source.new ≡ source.old }
-    ensures ports { ports.new ≡ ports.old }
-    ensures clock { clock.new ≡ clock.old }
+
+    // Where no attach failed, no poll of the link and no write.
+    ensures node_complete { runs_node (asked words.now) ≡ true
+        → ¬ Rose (P.fault_count ports.old) (P.fault_count ports.new)
+        → ¬ Rose (K.fault_count sink.old) (K.fault_count sink.new)
+        → ((link : P.L) → P.detached ports.new ≡ P.detached ports.old ++ link ∷ [] → ¬ Rose 0 (P.L.fault_count link))
+        → EndsNodeWithoutFault (waits_for_ops (asked words.now)) result }
+    ensures unread { asked words.now ≢ Some Command.Replay → source.new ≡ source.old }
+    ensures ports { runs_node (asked words.now) ≡ false → ports.new ≡ ports.old }
+    ensures clock { runs_node (asked words.now) ≡ false → clock.new ≡ clock.old }
 {
-    if takes(words) {
-        run_replay(alloc, source, sink)
-    } else {
-        write_usage(sink)
+    match read_words(alloc, words) {
+        Ok(Some(command)) => carry_out(alloc, command, source, sink, ports, clock),
+        Ok(None) => write_usage(sink),
+        Err(NoMemory) => Status::NoMemory,
     }
 }

@@ -1,3 +1,6 @@
+mod devices;
+mod nodes;
+
 use crate::adapters::{StandardIn, StandardOut};
 use crate::run::run;
 use crate::status::Status;
@@ -246,6 +249,24 @@ fn words_that_are_not_taken(rt: HostRuntime) -> Result<(), Fail> {
         "nopaxos Replay",
         "nopaxos replays",
         "replay nopaxos",
+        "nopaxos help",
+        "nopaxos node --help",
+        "nopaxos node --id 3 --replicas 3 --sequencers 1",
+        "nopaxos node --id 0 --replicas 4 --sequencers 1",
+        "nopaxos node --id 0 --replicas 3 --sequencers 5",
+        "nopaxos node --id +0 --replicas 3 --sequencers 1",
+        "nopaxos node --id 0 --replicas 3",
+        "nopaxos node --id 0 --replicas 3 --sequencers 1 --base 1023",
+        "nopaxos node --id 0 --replicas 3 --sequencers 1 --base 65001",
+        "nopaxos node --id 0 --replicas 3 --sequencers 1 --turns 0",
+        "nopaxos node --id 0 --replicas 3 --sequencers 1 --turns 18446744073709551616",
+        "nopaxos sequencer --id 1 --replicas 3 --sequencers 1",
+        "nopaxos controller --replicas 3 --sequencers 1 --session 0",
+        "nopaxos controller --replicas 3 --sequencers 1 --install 1",
+        "nopaxos controller --id 0 --replicas 3 --sequencers 1",
+        "nopaxos client --id 0 --replicas 3 --sequencers 1",
+        "nopaxos client --id 0 --replicas 3 --sequencers 1 5",
+        "nopaxos client --id 4294967296 --replicas 3 --sequencers 1 50",
     ] {
         let mut source = ReadMem::new(joined(alloc, &[ONE_PUT])?);
         let mut sink = WriteMem::new(alloc);

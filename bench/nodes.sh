@@ -1,0 +1,118 @@
+#!/bin/bash
+# Times a cluster of real processes on the loopback address, with the program's own clients.
+#
+#   bench/nodes.sh [REPLICAS]     NOPAXOS  the program file;  LANES  clients at once (16);  BASE  the port of replica 0 (46000)
+#
+# 62 clients, each with 63 puts at a key of its own and then a get of it: 3,906 puts in one cluster, whose log has 4,096 slots. Each
+# client has to be answered, and to read its own last value. The rate counts all ops and includes the starts of the client
+# processes; then one client of 64 ops less one of 1 op, in a fresh cluster, gives the time of an op without a start.
+# EVENT names what happens in the middle: kill (the leader), install (a controller that installs sequencer 1 in session 10) or stop
+# (a follower stands still for two seconds).
+set -u
+cd "$(dirname "$0")/.." || exit 2
+program=$(realpath "${NOPAXOS:-crates/nopaxos/out/nopaxos}") || exit 2
+[ -x "$program" ] || { echo "no program file $program"; exit 2; }
+replicas=${1:-3}
+lanes=${LANES:-16}
+base=${BASE:-46000}
+event=${EVENT:-none}
+site="--replicas $replicas --sequencers 2 --base $base"
+folder=$(mktemp -d) || exit 2
+pids=()
+stop() {
+    for pid in "${pids[@]}"; do kill "$pid" 2> /dev/null; done
+    for pid in "${pids[@]}"; do wait "$pid" 2> /dev/null; done
+    pids=()
+}
+trap 'stop; rm -rf "$folder"' EXIT
+
+start() {
+    local name=$1
+    shift
+    "$program" "$@" > "$folder/$name" 2>&1 &
+    pids+=($!)
+}
+
+# shellcheck disable=SC2086
+cluster() {
+    for ((i = 0; i < 2; i++)); do start "s$i" sequencer --id $i $site; done
+    for ((i = 0; i < replicas; i++)); do start "r$i" node --id $i $site; done
+    start ctl controller $site
+    sleep 0.5
+}
+
+now() { echo "${EPOCHREALTIME/[.,]/}"; }
+
+# ops NUMBER: 63 puts at the client's own key, and a get.
+ops() {
+    local key
+    key=$(printf '0002%04x' "$1")
+    for ((j = 1; j <= 63; j++)); do printf '50%s0002%04x ' "$key" "$j"; done
+    printf '47%s' "$key"
+}
+
+# lane NUMBER: its clients, one after the other.
+lane() {
+    for ((c = $1; c < 62; c += lanes)); do
+        # shellcheck disable=SC2046,SC2086
+        timeout 100 "$program" client --id "$c" $site $(ops "$c") > "$folder/c$c" 2>&1
+        echo "$?" > "$folder/status$c"
+    done
+}
+
+# shellcheck disable=SC2086
+happen() {
+    case $event in
+        kill) kill -9 "${pids[2]}" ;;
+        install)
+            kill "${pids[$((2 + replicas))]}"
+            sleep 0.2
+            start ctl2 controller $site --session 10 --install 1
+            ;;
+        stop)
+            kill -STOP "${pids[3]}"
+            sleep 2
+            kill -CONT "${pids[3]}"
+            ;;
+    esac
+}
+
+cluster
+began=$(now)
+running=()
+for ((k = 0; k < lanes; k++)); do
+    lane "$k" &
+    running+=($!)
+done
+if [ "$event" != none ]; then
+    sleep "${AFTER:-0.3}"
+    happen
+fi
+for pid in "${running[@]}"; do wait "$pid"; done
+ended=$(now)
+stop
+
+answered=0
+own=0
+for ((c = 0; c < 62; c++)); do
+    if [ "$(cat "$folder/status$c")" = 0 ]; then answered=$((answered + 1)); fi
+    if grep -q "^accept c$c 64 3d003f$" "$folder/c$c"; then own=$((own + 1)); fi
+done
+accepted=$(cat "$folder"/c[0-9]* | grep -c '^accept')
+echo "replicas $replicas event $event clients 62 answered $answered own_last_value $own accepted $accepted" \
+    "ops_per_second $((accepted * 1000000 / (ended - began)))"
+
+if [ "$event" = none ]; then
+    cluster
+    # shellcheck disable=SC2046,SC2086
+    for ((c = 0; c < 9; c++)); do
+        a=$(now)
+        "$program" client --id "$c" $site 4700016b > /dev/null
+        b=$(now)
+        "$program" client --id "$((c + 16))" $site $(ops "$c") > /dev/null
+        d=$(now)
+        echo "$(((d - b - (b - a)) / 63))"
+    done | sort -n | sed -n '5s/^/one client, microseconds an op, median of 9: /p'
+    stop
+fi
+[ "$answered" = 62 ] && [ "$own" = 62 ]
