@@ -64,7 +64,8 @@ module _ {S : Type 0} (k : NodeTask S) where
     rw (last_is (run_of k x y) served.turns served.lost serves.works serves.turns)
         (stops_then (effects k.at (run_of k x y).outs) (Line (served_line served.turns served.lost) ∷ []) devices.Failed a
         (record b { lost = served.lost }) (record b { lost = served.lost }) h i j serves.effects
-        (wrote_line {T = Unit {0}} (served_line served.turns served.lost) (Err devices.Failed) (record b { lost = served.lost }) i j wrote)),
+        (wrote_line {T = Unit {0}} (served_line served.turns served.lost) (Err devices.Failed)
+        (record b { lost = served.lost }) i j wrote)),
   )
 
   pub ends_short : (o : Option (List PollAnswer)) (v : Option (List ℕ)) (served : Served) (a b : LinkSide)
@@ -77,7 +78,8 @@ module _ {S : Type 0} (k : NodeTask S) where
     rw (last_is (run_of k x y) served.turns served.lost serves.works serves.turns)
         (stops_then (effects k.at (run_of k x y).outs) (Line (served_line served.turns served.lost) ∷ []) devices.NoMemory a
         (record b { lost = served.lost }) (record b { lost = served.lost }) h i j serves.effects
-        (wrote_line {T = Unit {0}} (served_line served.turns served.lost) (Err devices.NoMemory) (record b { lost = served.lost }) i j wrote)),
+        (wrote_line {T = Unit {0}} (served_line served.turns served.lost) (Err devices.NoMemory)
+        (record b { lost = served.lost }) i j wrote)),
   )
 
   pub ends_broken : (o : Option (List PollAnswer)) (v : Option (List ℕ)) (a b : LinkSide) (h i : Option (List ℕ))

@@ -104,7 +104,8 @@ pub record NodeTask (S : Type 0) : Type 0 where
   pub turns : ℕ
   pub waits : Bool
 
-abbrev pub task_of : {S : Type 0} → (S → Given → S × List Out) → (S → Bool) → List (Tick × ℕ) → S → Address → List Given → ℕ → Bool → NodeTask S
+abbrev pub task_of : {S : Type 0} → (S → Given → S × List Out) → (S → Bool) → List (Tick × ℕ) → S → Address → List Given → ℕ → Bool
+    → NodeTask S
 task_of next is_done timers opening at first turns waits =
     record { next = next; is_done = is_done; timers = timers; opening = opening; at = at; first = first; turns = turns; waits = waits }
 
@@ -150,7 +151,8 @@ pub record Unattached {L : Type 0} (p : PortsView L) (s : Status) (h i : Option 
   pub written : i ≡ h
 
 -- the node ran over a link at its own port, which the ports hold at the end
-pub record Attached {S L : Type 0} (k : NodeTask S) (w : LinkView L) (p : PortsView L) (values : Option (List ℕ)) (s : Status) (h i : Option (List ℕ)) : Type 0 where
+pub record Attached {S L : Type 0} (k : NodeTask S) (w : LinkView L) (p : PortsView L) (values : Option (List ℕ)) (s : Status)
+    (h i : Option (List ℕ)) : Type 0 where
   pub link : L
   pub given_back : p.after ≡ p.before ++ link ∷ []
   pub port : w.port link ≡ port_of k.at.base k.at.own
@@ -158,5 +160,6 @@ pub record Attached {S L : Type 0} (k : NodeTask S) (w : LinkView L) (p : PortsV
   pub cause : s ≡ statuses.LinkFault → Rose 0 (w.faults link)
   pub run : RunTold k (option_map next_link p.to_come) values s (side (Some []) 0 0) (side (w.sent link) 0 (w.losses link)) h i
 
-abbrev pub NodeEnds : {S L : Type 0} → NodeTask S → LinkView L → PortsView L → Option (List ℕ) → Status → Option (List ℕ) → Option (List ℕ) → Type 0
+abbrev pub NodeEnds : {S L : Type 0} → NodeTask S → LinkView L → PortsView L → Option (List ℕ) → Status → Option (List ℕ) → Option (List ℕ)
+    → Type 0
 NodeEnds k w p values s h i = Unattached p s h i ⊎ Attached k w p values s h i

@@ -1,7 +1,7 @@
 -- What the commands of nodes run, and how each of them ends.
 use Rattle.std.specs.Prelude.{ℕ, List, [], Bool, true, false, Option, Some, None, ⊤}
 use Rattle.client_quorum.specs.ClientSteps as client
-use Rattle.client_quorum.specs.declared.client_state.ClientState.{ClientState}
+use Rattle.client_quorum.specs.declared.state.ClientState.{ClientState}
 use Rattle.command_line.specs.declared.command.Command.{Command}
 use Rattle.command_line.specs.declared.command.Command.TheVariants.{Replay, Node, Sequencer, Controller, Client}
 use Rattle.command_line.specs.declared.command.Site.{Site}

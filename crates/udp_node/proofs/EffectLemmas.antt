@@ -48,25 +48,31 @@ Appends_none (Some xs) = grind (arith, common_steps)
 
 pub effects_append : (at : Address) (xs ys : List Out) → effects at (xs ++ ys) ≡ effects at xs ++ effects at ys
 effects_append at [] ys = refl
-effects_append at (x ∷ xs) ys = ap (λ es. effects_of at x ++ es) (effects_append at xs ys) ∙ sym (append_assoc (effects_of at x) (effects at xs) (effects at ys))
+effects_append at (x ∷ xs) ys =
+    ap (λ es. effects_of at x ++ es) (effects_append at xs ys) ∙ sym (append_assoc (effects_of at x) (effects at xs) (effects at ys))
 
-pub done_then : (xs ys : List Effect) (a b c : LinkSide) (h i j : Option (List ℕ)) → Done xs a b h i → Done ys b c i j → Done (xs ++ ys) a c h j
+pub done_then : (xs ys : List Effect) (a b c : LinkSide) (h i j : Option (List ℕ)) → Done xs a b h i → Done ys b c i j
+    → Done (xs ++ ys) a c h j
 done_then xs ys a b c h i j one two = record {
   sends = rw (posts_append xs ys) (sends_then (posts xs) (posts ys) a b c one.sends two.sends);
   lines = rw (lines_append xs ys) (Appends-trans h i j (lines xs) (lines ys) one.lines two.lines);
 }
 
-pub stopped_then : (xs ys : List Effect) (a b c : LinkSide) (h i j : Option (List ℕ)) → Done xs a b h i → Stopped ys b c i j → Stopped (xs ++ ys) a c h j
+pub stopped_then : (xs ys : List Effect) (a b c : LinkSide) (h i j : Option (List ℕ)) → Done xs a b h i → Stopped ys b c i j
+    → Stopped (xs ++ ys) a c h j
 stopped_then xs ys a b c h i j one two = record {
   front = xs ++ two.front;
   rest = two.rest;
   split = ap (λ zs. xs ++ zs) two.split ∙ sym (append_assoc xs two.front two.rest);
   count = two.count;
   sends = rw (posts_append xs two.front) (sends_then (posts xs) (posts two.front) a b c one.sends two.sends);
-  lines = rw (lines_append xs two.front, append_assoc (lines xs)) (Appends-trans h i j (lines xs) (lines two.front ++ take two.count (first_line two.rest)) one.lines two.lines);
+  lines =
+      rw (lines_append xs two.front, append_assoc (lines xs))
+      (Appends-trans h i j (lines xs) (lines two.front ++ take two.count (first_line two.rest)) one.lines two.lines);
 }
 
-pub stops_then : (xs ys : List Effect) (e : DeviceError) (a b c : LinkSide) (h i j : Option (List ℕ)) → Done xs a b h i → Stops ys e b c i j → Stops (xs ++ ys) e a c h j
+pub stops_then : (xs ys : List Effect) (e : DeviceError) (a b c : LinkSide) (h i j : Option (List ℕ)) → Done xs a b h i
+    → Stops ys e b c i j → Stops (xs ++ ys) e a c h j
 unfolding stopped_then
 stops_then xs ys Failed a b c h i j one two = record { stopped = stopped_then xs ys a b c h i j one two.stopped; below = two.below }
 stops_then xs ys NoMemory a b c h i j one two = stopped_then xs ys a b c h i j one two
@@ -78,7 +84,8 @@ no_line h i xs l count one =
     rw e at one
 
 -- the line that comes next stays, where there is one
-stopped_by : (xs ys front rest : List Effect) (count : ℕ) (a b : LinkSide) (h i : Option (List ℕ)) → xs ≡ front ++ rest → Sends (posts front) a b → Appends h i (lines front ++ take count (first_line rest)) → Stopped (xs ++ ys) a b h i
+stopped_by : (xs ys front rest : List Effect) (count : ℕ) (a b : LinkSide) (h i : Option (List ℕ)) → xs ≡ front ++ rest
+    → Sends (posts front) a b → Appends h i (lines front ++ take count (first_line rest)) → Stopped (xs ++ ys) a b h i
 stopped_by xs ys front [] count a b h i split sends wrote = record {
   front = front;
   rest = ys;
@@ -107,7 +114,9 @@ stopped_by xs ys front (Line l ∷ rest) count a b h i split sends wrote = recor
 pub stopped_more : (xs ys : List Effect) (a b : LinkSide) (h i : Option (List ℕ)) → Stopped xs a b h i → Stopped (xs ++ ys) a b h i
 stopped_more xs ys a b h i one = stopped_by xs ys one.front one.rest one.count a b h i one.split one.sends one.lines
 
-in_line_by : (xs ys front rest : List Effect) (count : ℕ) (a b : LinkSide) (h i : Option (List ℕ)) → xs ≡ front ++ rest → Sends (posts front) a b → Appends h i (lines front ++ take count (first_line rest)) → count < length (first_line rest) → StoppedInLine (xs ++ ys) a b h i
+in_line_by : (xs ys front rest : List Effect) (count : ℕ) (a b : LinkSide) (h i : Option (List ℕ)) → xs ≡ front ++ rest
+    → Sends (posts front) a b → Appends h i (lines front ++ take count (first_line rest)) → count < length (first_line rest)
+    → StoppedInLine (xs ++ ys) a b h i
 in_line_by xs ys front [] count a b h i split sends wrote below = absurd (omega (arith, below))
 in_line_by xs ys front (Post d ∷ rest) count a b h i split sends wrote below = absurd (omega (arith, below))
 in_line_by xs ys front (Line l ∷ rest) count a b h i split sends wrote below = record {
@@ -122,8 +131,10 @@ in_line_by xs ys front (Line l ∷ rest) count a b h i split sends wrote below =
   below = below;
 }
 
-pub stops_more : (xs ys : List Effect) (e : DeviceError) (a b : LinkSide) (h i : Option (List ℕ)) → Stops xs e a b h i → Stops (xs ++ ys) e a b h i
-stops_more xs ys Failed a b h i one = in_line_by xs ys one.stopped.front one.stopped.rest one.stopped.count a b h i one.stopped.split one.stopped.sends one.stopped.lines one.below
+pub stops_more : (xs ys : List Effect) (e : DeviceError) (a b : LinkSide) (h i : Option (List ℕ)) → Stops xs e a b h i
+    → Stops (xs ++ ys) e a b h i
+stops_more xs ys Failed a b h i one =
+    in_line_by xs ys one.stopped.front one.stopped.rest one.stopped.count a b h i one.stopped.split one.stopped.sends one.stopped.lines one.below
 stops_more xs ys NoMemory a b h i one = stopped_more xs ys a b h i one
 
 -- ---- one output
@@ -144,7 +155,8 @@ posted_front ds a b h one = record {
   lines = rw (lines_map one.before) (Appends_none h);
 }
 
-pub wrote_line : {T : Type 0} (line : List ℕ) (r : Result T DeviceError) (a : LinkSide) (h i : Option (List ℕ)) → Writes line r h i → Carries (Line line ∷ []) r a a h i
+pub wrote_line : {T : Type 0} (line : List ℕ) (r : Result T DeviceError) (a : LinkSide) (h i : Option (List ℕ)) → Writes line r h i
+    → Carries (Line line ∷ []) r a a h i
 wrote_line line (Ok t) a h i one = record { sends = no_sends a; lines = rw (append_nil line) one }
   where
     append_nil : (xs : List ℕ) → xs ++ [] ≡ xs
@@ -153,12 +165,14 @@ wrote_line line (Err Failed) a h i one = record {
   stopped = record { front = []; rest = Line line ∷ []; split = refl; count = one.count; sends = no_sends a; lines = one.appended };
   below = one.below;
 }
-wrote_line line (Err NoMemory) a h i one = record { front = []; rest = Line line ∷ []; split = refl; count = one.count; sends = no_sends a; lines = one.appended }
+wrote_line line (Err NoMemory) a h i one =
+    record { front = []; rest = Line line ∷ []; split = refl; count = one.count; sends = no_sends a; lines = one.appended }
 
 pub nothing_done : (es : List Effect) (a : LinkSide) (h : Option (List ℕ)) → Stopped es a a h h
 nothing_done es a h = record { front = []; rest = es; split = refl; count = 0; sends = no_sends a; lines = Appends_none h }
 
-pub posted_as : (at : Address) (out : Out) (dest : Dest) (shown bytes : List ℕ) (a b : LinkSide) (h : Option (List ℕ)) → out ≡ outs.Send dest bytes → shown ≡ bytes → Sends (datagrams_to at dest shown) a b → Done (effects_of at out) a b h h
+pub posted_as : (at : Address) (out : Out) (dest : Dest) (shown bytes : List ℕ) (a b : LinkSide) (h : Option (List ℕ))
+    → out ≡ outs.Send dest bytes → shown ≡ bytes → Sends (datagrams_to at dest shown) a b → Done (effects_of at out) a b h h
 posted_as at out dest shown bytes a b h is same sends =
     let here : Sends (datagrams_to at dest bytes) a b = rw same at sends in
     rw is (posted (datagrams_to at dest bytes) a b h here)
@@ -170,18 +184,24 @@ effects_more at os o =
     let one : effects_of at o ++ [] ≡ effects_of at o = grind (arith, common_steps) in
     effects_append at os (o ∷ []) ∙ rw one refl
 
-effects_next : (at : Address) (os : List Out) (i : ℕ) (o : Out) → i < length os → o ≡ get_or os i o → effects at (take (i + 1) os) ≡ effects at (take i os) ++ effects_of at o
+effects_next : (at : Address) (os : List Out) (i : ℕ) (o : Out) → i < length os → o ≡ get_or os i o
+    → effects at (take (i + 1) os) ≡ effects at (take i os) ++ effects_of at o
 effects_next at os i o within is =
     let e : take (i + 1) os ≡ take i os ++ o ∷ [] = rw (← is) at (take_more os i o within) in
     rw e (effects_more at (take i os) o)
 
-pub out_done : (at : Address) (os : List Out) (i : ℕ) (o : Out) (a b c : LinkSide) (h j k : Option (List ℕ)) → i < length os → o ≡ get_or os i o → Done (effects at (take i os)) a b h j → Done (effects_of at o) b c j k → Done (effects at (take (i + 1) os)) a c h k
+pub out_done : (at : Address) (os : List Out) (i : ℕ) (o : Out) (a b c : LinkSide) (h j k : Option (List ℕ)) → i < length os
+    → o ≡ get_or os i o → Done (effects at (take i os)) a b h j → Done (effects_of at o) b c j k
+    → Done (effects at (take (i + 1) os)) a c h k
 out_done at os i o a b c h j k within is one two =
     rw (effects_next at os i o within is) (done_then (effects at (take i os)) (effects_of at o) a b c h j k one two)
 
-pub out_stopped : (e : DeviceError) (at : Address) (os : List Out) (i : ℕ) (o : Out) (a b c : LinkSide) (h j k : Option (List ℕ)) → i < length os → o ≡ get_or os i o → Done (effects at (take i os)) a b h j → Stops (effects_of at o) e b c j k → Stops (effects at os) e a c h k
+pub out_stopped : (e : DeviceError) (at : Address) (os : List Out) (i : ℕ) (o : Out) (a b c : LinkSide) (h j k : Option (List ℕ))
+    → i < length os → o ≡ get_or os i o → Done (effects at (take i os)) a b h j → Stops (effects_of at o) e b c j k
+    → Stops (effects at os) e a c h k
 out_stopped e at os i o a b c h j k within is one two =
     let all : effects at os ≡ (effects at (take i os) ++ effects_of at o) ++ effects at (drop (i + 1) os) =
-    ap (effects at) (sym (take-append-drop (i + 1) os)) ∙ effects_append at (take (i + 1) os) (drop (i + 1) os) ∙ ap (λ es. es ++ effects at (drop (i + 1) os)) (effects_next at os i o within is) in
+    ap (effects at) (sym (take-append-drop (i + 1) os)) ∙ effects_append at (take (i + 1) os) (drop (i + 1) os)
+    ∙ ap (λ es. es ++ effects at (drop (i + 1) os)) (effects_next at os i o within is) in
     rw all (stops_more (effects at (take i os) ++ effects_of at o) (effects at (drop (i + 1) os)) e a c h k
     (stops_then (effects at (take i os)) (effects_of at o) e a b c h j k one two))

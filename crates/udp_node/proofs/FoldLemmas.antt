@@ -18,62 +18,96 @@ use Rattle.udp_node.specs.Timing.{due_ticks, tick_if, armed}
 use Rattle.udp_node.proofs.EffectLemmas.{effects_append, done_then, stops_then, stops_more as effects_stop, Appends_none}
 use Rattle.udp_node.proofs.SendLemmas.{no_sends}
 
-pub state_append : {S : Type 0} (next : S → Given → S × List Out) (s : S) (xs ys : List Given) → (folded next s (xs ++ ys)).0 ≡ (folded next (folded next s xs).0 ys).0
+pub state_append : {S : Type 0} (next : S → Given → S × List Out) (s : S) (xs ys : List Given)
+    → (folded next s (xs ++ ys)).0 ≡ (folded next (folded next s xs).0 ys).0
 state_append next s [] ys = refl
 state_append next s (x ∷ xs) ys = state_append next (next s x).0 xs ys
 
-pub outs_append : {S : Type 0} (next : S → Given → S × List Out) (s : S) (xs ys : List Given) → (folded next s (xs ++ ys)).1 ≡ (folded next s xs).1 ++ (folded next (folded next s xs).0 ys).1
+pub outs_append : {S : Type 0} (next : S → Given → S × List Out) (s : S) (xs ys : List Given)
+    → (folded next s (xs ++ ys)).1 ≡ (folded next s xs).1 ++ (folded next (folded next s xs).0 ys).1
 outs_append next s [] ys = refl
-outs_append next s (x ∷ xs) ys = ap (λ os. (next s x).1 ++ os) (outs_append next (next s x).0 xs ys) ∙ sym (append_assoc (next s x).1 (folded next (next s x).0 xs).1 (folded next (folded next (next s x).0 xs).0 ys).1)
+outs_append next s (x ∷ xs) ys =
+    ap (λ os. (next s x).1 ++ os) (outs_append next (next s x).0 xs ys)
+    ∙ sym (append_assoc (next s x).1 (folded next (next s x).0 xs).1 (folded next (folded next (next s x).0 xs).0 ys).1)
 
-pub effects_then : {S : Type 0} (next : S → Given → S × List Out) (at : Address) (s : S) (xs ys : List Given) → effects at (folded next s (xs ++ ys)).1 ≡ effects at (folded next s xs).1 ++ effects at (folded next (folded next s xs).0 ys).1
-effects_then next at s xs ys = ap (effects at) (outs_append next s xs ys) ∙ effects_append at (folded next s xs).1 (folded next (folded next s xs).0 ys).1
+pub effects_then : {S : Type 0} (next : S → Given → S × List Out) (at : Address) (s : S) (xs ys : List Given)
+    → effects at (folded next s (xs ++ ys)).1 ≡ effects at (folded next s xs).1 ++ effects at (folded next (folded next s xs).0 ys).1
+effects_then next at s xs ys =
+    ap (effects at) (outs_append next s xs ys) ∙ effects_append at (folded next s xs).1 (folded next (folded next s xs).0 ys).1
 
-pub none_ran : {S : Type 0} (next : S → Given → S × List Out) (at : Address) (s : S) (a : LinkSide) (h : Option (List ℕ)) → Ran next at s s [] a a h h
+pub none_ran : {S : Type 0} (next : S → Given → S × List Out) (at : Address) (s : S) (a : LinkSide) (h : Option (List ℕ))
+    → Ran next at s s [] a a h h
 none_ran next at s a h = record { state = refl; done = record { sends = no_sends a; lines = Appends_none h } }
 
-pub ran_then : {S : Type 0} (next : S → Given → S × List Out) (at : Address) (s t u : S) (xs ys : List Given) (a b c : LinkSide) (h i j : Option (List ℕ)) → Ran next at s t xs a b h i → Ran next at t u ys b c i j → Ran next at s u (xs ++ ys) a c h j
+pub ran_then : {S : Type 0} (next : S → Given
+    → S × List Out) (at : Address) (s t u : S) (xs ys : List Given) (a b c : LinkSide) (h i j : Option (List ℕ))
+    → Ran next at s t xs a b h i → Ran next at t u ys b c i j → Ran next at s u (xs ++ ys) a c h j
 ran_then next at s t u xs ys a b c h i j one two =
     let state : u ≡ (folded next (folded next s xs).0 ys).0 = rw one.state at two.state in
     let done : Done (effects at (folded next (folded next s xs).0 ys).1) b c i j = rw one.state at two.done in
     record {
       state = rw (state_append next s xs ys) state;
-      done = rw (effects_then next at s xs ys) (done_then (effects at (folded next s xs).1) (effects at (folded next (folded next s xs).0 ys).1) a b c h i j one.done done);
+      done =
+          rw (effects_then next at s xs ys)
+          (done_then (effects at (folded next s xs).1) (effects at (folded next (folded next s xs).0 ys).1) a b c h i j one.done done);
     }
 
-pub ran_stops : {S : Type 0} (next : S → Given → S × List Out) (at : Address) (s t : S) (e : DeviceError) (xs ys : List Given) (a b c : LinkSide) (h i j : Option (List ℕ)) → Ran next at s t xs a b h i → Stops (effects at (folded next t ys).1) e b c i j → Stops (effects at (folded next s (xs ++ ys)).1) e a c h j
+pub ran_stops : {S : Type 0} (next : S → Given
+    → S × List Out) (at : Address) (s t : S) (e : DeviceError) (xs ys : List Given) (a b c : LinkSide) (h i j : Option (List ℕ))
+    → Ran next at s t xs a b h i → Stops (effects at (folded next t ys).1) e b c i j
+    → Stops (effects at (folded next s (xs ++ ys)).1) e a c h j
 ran_stops next at s t e xs ys a b c h i j one two =
     let stops : Stops (effects at (folded next (folded next s xs).0 ys).1) e b c i j = rw one.state at two in
-    rw (effects_then next at s xs ys) (stops_then (effects at (folded next s xs).1) (effects at (folded next (folded next s xs).0 ys).1) e a b c h i j one.done stops)
+    rw (effects_then next at s xs ys)
+    (stops_then (effects at (folded next s xs).1) (effects at (folded next (folded next s xs).0 ys).1) e a b c h i j one.done stops)
 
-pub stops_more : {S : Type 0} (next : S → Given → S × List Out) (at : Address) (s : S) (e : DeviceError) (xs ys : List Given) (a b : LinkSide) (h i : Option (List ℕ)) → Stops (effects at (folded next s xs).1) e a b h i → Stops (effects at (folded next s (xs ++ ys)).1) e a b h i
+pub stops_more : {S : Type 0} (next : S → Given
+    → S × List Out) (at : Address) (s : S) (e : DeviceError) (xs ys : List Given) (a b : LinkSide) (h i : Option (List ℕ))
+    → Stops (effects at (folded next s xs).1) e a b h i → Stops (effects at (folded next s (xs ++ ys)).1) e a b h i
 stops_more next at s e xs ys a b h i one =
-    rw (effects_then next at s xs ys) (effects_stop (effects at (folded next s xs).1) (effects at (folded next (folded next s xs).0 ys).1) e a b h i one)
+    rw (effects_then next at s xs ys)
+    (effects_stop (effects at (folded next s xs).1) (effects at (folded next (folded next s xs).0 ys).1) e a b h i one)
 
 -- ---- timers
 
 pub due_append : (now : ℕ) (xs ys : List Timer) → due_ticks now (xs ++ ys) ≡ due_ticks now xs ++ due_ticks now ys
 due_append now [] ys = refl
-due_append now (x ∷ xs) ys = ap (λ is. tick_if (nat_le x.due now) x.tick ++ is) (due_append now xs ys) ∙ sym (append_assoc (tick_if (nat_le x.due now) x.tick) (due_ticks now xs) (due_ticks now ys))
+due_append now (x ∷ xs) ys =
+    ap (λ is. tick_if (nat_le x.due now) x.tick ++ is) (due_append now xs ys)
+    ∙ sym (append_assoc (tick_if (nat_le x.due now) x.tick) (due_ticks now xs) (due_ticks now ys))
 
 abbrev pub no_timer : Timer
 no_timer = record { tick = Suspect; period = 0; due = 0 }
 
-due_next : (now : ℕ) (ts : List Timer) (k : ℕ) → k < length ts → due_ticks now (take (k + 1) ts) ≡ due_ticks now (take k ts) ++ due_ticks now (get_or ts k no_timer ∷ [])
+due_next : (now : ℕ) (ts : List Timer) (k : ℕ) → k < length ts
+    → due_ticks now (take (k + 1) ts) ≡ due_ticks now (take k ts) ++ due_ticks now (get_or ts k no_timer ∷ [])
 due_next now ts k within = rw (take_more ts k no_timer within) (due_append now (take k ts) (get_or ts k no_timer ∷ []))
 
-pub timer_ran : {S : Type 0} (next : S → Given → S × List Out) (at : Address) (now : ℕ) (ts : List Timer) (k : ℕ) (s t u : S) (a b c : LinkSide) (h i j : Option (List ℕ)) → k < length ts → Ran next at s t (due_ticks now (take k ts)) a b h i → Ran next at t u (due_ticks now (get_or ts k no_timer ∷ [])) b c i j → Ran next at s u (due_ticks now (take (k + 1) ts)) a c h j
+pub timer_ran : {S : Type 0} (next : S → Given
+    → S × List Out) (at : Address) (now : ℕ) (ts : List Timer) (k : ℕ) (s t u : S) (a b c : LinkSide) (h i j : Option (List ℕ))
+    → k < length ts → Ran next at s t (due_ticks now (take k ts)) a b h i
+    → Ran next at t u (due_ticks now (get_or ts k no_timer ∷ [])) b c i j → Ran next at s u (due_ticks now (take (k + 1) ts)) a c h j
 timer_ran next at now ts k s t u a b c h i j within one two =
-    rw (due_next now ts k within) (ran_then next at s t u (due_ticks now (take k ts)) (due_ticks now (get_or ts k no_timer ∷ [])) a b c h i j one two)
+    rw (due_next now ts k within)
+    (ran_then next at s t u (due_ticks now (take k ts)) (due_ticks now (get_or ts k no_timer ∷ [])) a b c h i j one two)
 
-pub timer_stops : {S : Type 0} (next : S → Given → S × List Out) (at : Address) (e : DeviceError) (now : ℕ) (ts : List Timer) (k : ℕ) (s t : S) (a b c : LinkSide) (h i j : Option (List ℕ)) → k < length ts → Ran next at s t (due_ticks now (take k ts)) a b h i → Stops (effects at (folded next t (due_ticks now (get_or ts k no_timer ∷ []))).1) e b c i j → Stops (effects at (folded next s (due_ticks now ts)).1) e a c h j
+pub timer_stops : {S : Type 0} (next : S → Given
+    → S × List Out) (at : Address) (e : DeviceError) (now : ℕ) (ts : List Timer) (k : ℕ) (s t : S) (a b c : LinkSide)
+    (h i j : Option (List ℕ)) → k < length ts → Ran next at s t (due_ticks now (take k ts)) a b h i
+    → Stops (effects at (folded next t (due_ticks now (get_or ts k no_timer ∷ []))).1) e b c i j
+    → Stops (effects at (folded next s (due_ticks now ts)).1) e a c h j
 timer_stops next at e now ts k s t a b c h i j within one two =
-    let all : due_ticks now ts ≡ (due_ticks now (take k ts) ++ due_ticks now (get_or ts k no_timer ∷ [])) ++ due_ticks now (drop (k + 1) ts) =
-    ap (due_ticks now) (sym (take-append-drop (k + 1) ts)) ∙ due_append now (take (k + 1) ts) (drop (k + 1) ts) ∙ ap (λ is. is ++ due_ticks now (drop (k + 1) ts)) (due_next now ts k within) in
-    rw all (stops_more next at s e (due_ticks now (take k ts) ++ due_ticks now (get_or ts k no_timer ∷ [])) (due_ticks now (drop (k + 1) ts)) a c h j
+    let all : due_ticks now ts ≡ (due_ticks now (take k ts) ++ due_ticks now (get_or ts k no_timer ∷ [])) ++ due_ticks now
+    (drop (k + 1) ts) =
+    ap (due_ticks now) (sym (take-append-drop (k + 1) ts)) ∙ due_append now (take (k + 1) ts) (drop (k + 1) ts)
+    ∙ ap (λ is. is ++ due_ticks now (drop (k + 1) ts)) (due_next now ts k within) in
+    rw all
+    (stops_more next at s e (due_ticks now (take k ts) ++ due_ticks now (get_or ts k no_timer ∷ []))
+    (due_ticks now (drop (k + 1) ts)) a c h j
     (ran_stops next at s t e (due_ticks now (take k ts)) (due_ticks now (get_or ts k no_timer ∷ [])) a b c h i j one two))
 
-pub armed_more : (now : ℕ) (xs : List (Tick × ℕ)) (i : ℕ) (x : Tick × ℕ) → slice_get xs i ≡ Some x → map (armed now) (take (i + 1) xs) ≡ map (armed now) (take i xs) ++ armed now x ∷ []
+pub armed_more : (now : ℕ) (xs : List (Tick × ℕ)) (i : ℕ) (x : Tick × ℕ) → slice_get xs i ≡ Some x
+    → map (armed now) (take (i + 1) xs) ≡ map (armed now) (take i xs) ++ armed now x ∷ []
 armed_more now xs i x is =
     let within : i < length xs = slice_get_within xs i x is in
     let same : get_or xs i x ≡ x = get_or_from_slice_get xs i x x is in
@@ -84,4 +118,5 @@ all_taken [] i is = grind (arith, common_steps)
 all_taken (x ∷ xs) i is = grind (arith, common_steps, is, slice_get_cases (x ∷ xs) i)
 
 pub same_read : (ts : List Timer) (i : ℕ) → i < length ts → get_or ts i no_timer ≡ get_or ts i (get_or ts i no_timer)
-same_read ts i within = sym (get_or_from_slice_get ts i (get_or ts i no_timer) (get_or ts i no_timer) (slice_get-get_or ts i no_timer within))
+same_read ts i within =
+    sym (get_or_from_slice_get ts i (get_or ts i no_timer) (get_or ts i no_timer) (slice_get-get_or ts i no_timer within))

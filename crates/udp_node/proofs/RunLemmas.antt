@@ -66,15 +66,21 @@ module _ {S : Type 0} (next : S → Given → S × List Out) (is_done : S → Bo
   after s now ts answer = folded next s (turn_inputs now ts answer)
 
   abbrev rest_of : ℕ → S → List Timer → ℕ → List PollAnswer → List ℕ → NodeRun
-  rest_of k s ts now answers values = turns_from next is_done k (after s now ts (next_poll answers)).0 (map (rearmed now) ts) (max now (next_value values)) (drop 1 answers) (later_values values)
+  rest_of k s ts now answers values =
+      turns_from next is_done k (after s now ts (next_poll answers)).0 (map (rearmed now) ts) (max now (next_value values))
+      (drop 1 answers) (later_values values)
 
-  one_turn : (left : ℕ) (s : S) (ts : List Timer) (now : ℕ) (answers : List PollAnswer) (values : List ℕ) → 0 < left → turns_from next is_done left s ts now answers values ≡ turn_then (is_failure (next_poll answers)) (is_done (after s now ts (next_poll answers)).0) (after s now ts (next_poll answers)).1 (rest_of (left - 1) s ts now answers values)
+  one_turn : (left : ℕ) (s : S) (ts : List Timer) (now : ℕ) (answers : List PollAnswer) (values : List ℕ) → 0 < left
+      → turns_from next is_done left s ts now answers values ≡ turn_then (is_failure (next_poll answers))
+      (is_done (after s now ts (next_poll answers)).0) (after s now ts (next_poll answers)).1 (rest_of (left - 1) s ts now answers values)
   one_turn zero s ts now answers values some = absurd (omega (arith, some))
   one_turn (suc k) s ts now answers values some =
       let e : suc k - 1 ≡ k = omega arith in
       rw e refl
 
-  pub going_start : (timers : List (Tick × ℕ)) (turns : ℕ) (s : S) (o : Option (List PollAnswer)) (v w : Option (List ℕ)) (ts : List Timer) (now : ℕ) (a : LinkSide) (h : Option (List ℕ)) → TellsTime v w now → ts ≡ map (armed now) timers → Going next is_done at timers turns s o v 0 s ts now o w a a h h
+  pub going_start : (timers : List (Tick × ℕ)) (turns : ℕ) (s : S) (o : Option (List PollAnswer)) (v w : Option (List ℕ)) (ts : List Timer)
+      (now : ℕ) (a : LinkSide) (h : Option (List ℕ)) → TellsTime v w now → ts ≡ map (armed now) timers
+      → Going next is_done at timers turns s o v 0 s ts now o w a a h h
   going_start timers turns s None v w ts now a h time first = tt
   going_start timers turns s (Some answers) None w ts now a h time first = tt
   going_start timers turns s (Some answers) (Some values) w ts now a h time first =
@@ -97,16 +103,32 @@ module _ {S : Type 0} (next : S → Given → S × List Out) (is_done : S → Bo
       let e : k + (1 + r.turns) ≡ (k + 1) + r.turns = omega arith in
       rw (append_assoc outs os r.outs, e) refl
 
-  this_turn : (r : NodeRun) (outs : List Out) (taken left : ℕ) (s : S) (ts : List Timer) (now : ℕ) (answers : List PollAnswer) (values : List ℕ) → 0 < left → r ≡ after_turns outs taken (turns_from next is_done left s ts now answers values) → r ≡ after_turns outs taken (turn_then (is_failure (next_poll answers)) (is_done (after s now ts (next_poll answers)).0) (after s now ts (next_poll answers)).1 (rest_of (left - 1) s ts now answers values))
-  this_turn r outs taken left s ts now answers values some is = is ∙ ap (after_turns outs taken) (one_turn left s ts now answers values some)
+  this_turn : (r : NodeRun) (outs : List Out) (taken left : ℕ) (s : S) (ts : List Timer) (now : ℕ) (answers : List PollAnswer)
+      (values : List ℕ) → 0 < left → r ≡ after_turns outs taken (turns_from next is_done left s ts now answers values)
+      → r ≡ after_turns outs taken
+      (turn_then (is_failure (next_poll answers)) (is_done (after s now ts (next_poll answers)).0) (after s now ts (next_poll answers)).1
+      (rest_of (left - 1) s ts now answers values))
+  this_turn r outs taken left s ts now answers values some is =
+      is ∙ ap (after_turns outs taken) (one_turn left s ts now answers values some)
 
-  turn_step : (r : NodeRun) (outs : List Out) (taken left : ℕ) (s : S) (ts : List Timer) (now : ℕ) (answers : List PollAnswer) (values : List ℕ) → 0 < left → r ≡ after_turns outs taken (turns_from next is_done left s ts now answers values) → is_failure (next_poll answers) ≡ false → is_done (after s now ts (next_poll answers)).0 ≡ false → r ≡ after_turns (outs ++ (after s now ts (next_poll answers)).1) (taken + 1) (rest_of (left - 1) s ts now answers values)
+  turn_step : (r : NodeRun) (outs : List Out) (taken left : ℕ) (s : S) (ts : List Timer) (now : ℕ) (answers : List PollAnswer)
+      (values : List ℕ) → 0 < left → r ≡ after_turns outs taken (turns_from next is_done left s ts now answers values)
+      → is_failure (next_poll answers) ≡ false → is_done (after s now ts (next_poll answers)).0 ≡ false
+      → r ≡ after_turns (outs ++ (after s now ts (next_poll answers)).1) (taken + 1) (rest_of (left - 1) s ts now answers values)
   turn_step r outs taken left s ts now answers values some is works goes =
       let one = rw (works, goes) at (this_turn r outs taken left s ts now answers values some is) in
       one ∙ combine outs (after s now ts (next_poll answers)).1 taken (rest_of (left - 1) s ts now answers values)
 
-  turn_last : (r : NodeRun) (outs : List Out) (taken left : ℕ) (s : S) (ts : List Timer) (now : ℕ) (answers : List PollAnswer) (values : List ℕ) → 0 < left → r ≡ after_turns outs taken (turns_from next is_done left s ts now answers values) → is_failure (next_poll answers) ≡ false → is_done (after s now ts (next_poll answers)).0 ≡ true → r ≡ record { outs = outs ++ (after s now ts (next_poll answers)).1; turns = taken + 1; done = true; broken = false }
-  turn_last r outs taken left s ts now answers values some is works ends = rw (works, ends) at (this_turn r outs taken left s ts now answers values some is)
+  turn_last : (r : NodeRun) (outs : List Out) (taken left : ℕ) (s : S) (ts : List Timer) (now : ℕ) (answers : List PollAnswer)
+      (values : List ℕ) → 0 < left → r ≡ after_turns outs taken (turns_from next is_done left s ts now answers values)
+      → is_failure (next_poll answers) ≡ false → is_done (after s now ts (next_poll answers)).0 ≡ true → r ≡ record {
+        outs = outs ++ (after s now ts (next_poll answers)).1;
+        turns = taken + 1;
+        done = true;
+        broken = false;
+      }
+  turn_last r outs taken left s ts now answers values some is works ends =
+      rw (works, ends) at (this_turn r outs taken left s ts now answers values some is)
 
   -- what is done of a turn stands in the run
   outs_front : (failed done : Bool) (os : List Out) (r : NodeRun) → (more : List Out) × ((turn_then failed done os r).outs ≡ os ++ more)
@@ -114,10 +136,15 @@ module _ {S : Type 0} (next : S → Given → S × List Out) (is_done : S → Bo
   outs_front false true os r = ([], grind (arith, common_steps))
   outs_front false false os r = (r.outs, refl)
 
-  done_more : (outs os : List Out) (a b c : LinkSide) (h i j : Option (List ℕ)) → Done (effects at outs) a b h i → Done (effects at os) b c i j → Done (effects at (outs ++ os)) a c h j
+  done_more : (outs os : List Out) (a b c : LinkSide) (h i j : Option (List ℕ)) → Done (effects at outs) a b h i
+      → Done (effects at os) b c i j → Done (effects at (outs ++ os)) a c h j
   done_more outs os a b c h i j one two = rw (effects_append at outs os) (done_then (effects at outs) (effects at os) a b c h i j one two)
 
-  going_on : (r : NodeRun) (turns taken : ℕ) (s t : S) (ts us : List Timer) (now then time : ℕ) (o later : Option (List PollAnswer)) (v w : Option (List ℕ)) (a b c : LinkSide) (h i j : Option (List ℕ)) → GoingOn next is_done at r taken (turns - taken) s ts now o v a b h i → taken < turns → Turned next at s t now ts us o later b c i j → is_done t ≡ false → TellsTime v w time → then ≡ max now time → GoingOn next is_done at r (taken + 1) (turns - (taken + 1)) t us then later w a c h j
+  going_on : (r : NodeRun) (turns taken : ℕ) (s t : S) (ts us : List Timer) (now then time : ℕ) (o later : Option (List PollAnswer))
+      (v w : Option (List ℕ)) (a b c : LinkSide) (h i j : Option (List ℕ))
+      → GoingOn next is_done at r taken (turns - taken) s ts now o v a b h i → taken < turns → Turned next at s t now ts us o later b c i j
+      → is_done t ≡ false → TellsTime v w time → then ≡ max now time
+      → GoingOn next is_done at r (taken + 1) (turns - (taken + 1)) t us then later w a c h j
   going_on r turns taken s t ts us now then time o later v w a b c h i j g within turned goes clock greatest =
       let some : 0 < turns - taken = omega (arith, within) in
       let left : turns - (taken + 1) ≡ turns - taken - 1 = omega (arith, within) in
@@ -132,19 +159,35 @@ module _ {S : Type 0} (next : S → Given → S × List Out) (is_done : S → Bo
         answers_told = took.1;
         values_told = told.1;
         outs = g.outs ++ (after s now ts (next_poll g.answers)).1;
-        is = rw (ran.state, turned.timers, greatest, told.0, left) (turn_step r g.outs taken (turns - taken) s ts now g.answers g.values some g.is works open_);
+        is =
+            rw (ran.state, turned.timers, greatest, told.0, left)
+            (turn_step r g.outs taken (turns - taken) s ts now g.answers g.values some g.is works open_);
         done = done_more g.outs (after s now ts (next_poll g.answers)).1 a b c h i j g.done ran.done;
       }
 
-  pub going_turn : (timers : List (Tick × ℕ)) (turns : ℕ) (s0 : S) (o0 : Option (List PollAnswer)) (v0 : Option (List ℕ)) (taken : ℕ) (s t : S) (ts us : List Timer) (now then time : ℕ) (o later : Option (List PollAnswer)) (v w : Option (List ℕ)) (a b c : LinkSide) (h i j : Option (List ℕ)) → Going next is_done at timers turns s0 o0 v0 taken s ts now o v a b h i → taken < turns → Turned next at s t now ts us o later b c i j → is_done t ≡ false → TellsTime v w time → then ≡ max now time → Going next is_done at timers turns s0 o0 v0 (taken + 1) t us then later w a c h j
+  pub going_turn : (timers : List (Tick × ℕ)) (turns : ℕ) (s0 : S) (o0 : Option (List PollAnswer)) (v0 : Option (List ℕ)) (taken : ℕ)
+      (s t : S) (ts us : List Timer) (now then time : ℕ) (o later : Option (List PollAnswer)) (v w : Option (List ℕ)) (a b c : LinkSide)
+      (h i j : Option (List ℕ)) → Going next is_done at timers turns s0 o0 v0 taken s ts now o v a b h i → taken < turns
+      → Turned next at s t now ts us o later b c i j → is_done t ≡ false → TellsTime v w time → then ≡ max now time
+      → Going next is_done at timers turns s0 o0 v0 (taken + 1) t us then later w a c h j
   going_turn timers turns s0 None v0 taken s t ts us now then time o later v w a b c h i j g within turned goes clock greatest = tt
   going_turn timers turns s0 (Some x) None taken s t ts us now then time o later v w a b c h i j g within turned goes clock greatest = tt
   going_turn timers turns s0 (Some x) (Some y) taken s t ts us now then time o later v w a b c h i j g within turned goes clock greatest =
-      going_on (node_run next is_done timers turns s0 x y) turns taken s t ts us now then time o later v w a b c h i j g within turned goes clock greatest
+      going_on
+      (node_run next is_done timers turns s0 x y) turns taken s t ts us now then time o later v w a b c h i j g within turned goes clock greatest
 
   -- ---- ends
 
-  served_run : (r : NodeRun) (outs : List Out) (n : ℕ) (d : Bool) (a b c : LinkSide) (h i : Option (List ℕ)) → r ≡ record { outs = outs; turns = n; done = d; broken = false } → Done (effects at outs) a c h i → record b { lost = c.lost } ≡ c → ServedRun at r (record { turns = n; lost = c.lost; done = d }) a (record b { lost = c.lost }) h i
+  served_run : (r : NodeRun) (outs : List Out) (n : ℕ) (d : Bool) (a b c : LinkSide) (h i : Option (List ℕ))
+      → r ≡ record {
+        outs = outs;
+        turns = n;
+        done = d;
+        broken = false;
+      } → Done (effects at outs) a c h i → record b {
+        lost =
+            c.lost;
+      } ≡ c → ServedRun at r (record { turns = n; lost = c.lost; done = d }) a (record b { lost = c.lost }) h i
   served_run r outs n d a b c h i e done same = record {
     turns = sym (ap (λ x. x.turns) e);
     done = sym (ap (λ x. x.done) e);
@@ -152,7 +195,11 @@ module _ {S : Type 0} (next : S → Given → S × List Out) (is_done : S → Bo
     effects = rw (e, same) done;
   }
 
-  served_done : (r : NodeRun) (turns taken : ℕ) (s t : S) (ts us : List Timer) (now : ℕ) (o later : Option (List PollAnswer)) (v : Option (List ℕ)) (a b c d : LinkSide) (h i j : Option (List ℕ)) → GoingOn next is_done at r taken (turns - taken) s ts now o v a b h i → taken < turns → Turned next at s t now ts us o later b c i j → is_done t ≡ true → record d { lost = c.lost } ≡ c → ServedRun at r (record { turns = taken + 1; lost = c.lost; done = true }) a (record d { lost = c.lost }) h j
+  served_done : (r : NodeRun) (turns taken : ℕ) (s t : S) (ts us : List Timer) (now : ℕ) (o later : Option (List PollAnswer))
+      (v : Option (List ℕ)) (a b c d : LinkSide) (h i j : Option (List ℕ))
+      → GoingOn next is_done at r taken (turns - taken) s ts now o v a b h i → taken < turns → Turned next at s t now ts us o later b c i j
+      → is_done t ≡ true → record d { lost = c.lost } ≡ c
+      → ServedRun at r (record { turns = taken + 1; lost = c.lost; done = true }) a (record d { lost = c.lost }) h j
   served_done r turns taken s t ts us now o later v a b c d h i j g within turned ends same =
       let some : 0 < turns - taken = omega (arith, within) in
       let took : Takes (Some g.answers) later turned.answer = rw g.answers_told at turned.taken in
@@ -163,20 +210,30 @@ module _ {S : Type 0} (next : S → Given → S × List Out) (is_done : S → Bo
       (turn_last r g.outs taken (turns - taken) s ts now g.answers g.values some g.is works closed)
       (done_more g.outs (after s now ts (next_poll g.answers)).1 a b c h i j g.done ran.done) same
 
-  pub serves_done : (timers : List (Tick × ℕ)) (turns : ℕ) (s0 : S) (o0 : Option (List PollAnswer)) (v0 : Option (List ℕ)) (taken : ℕ) (s t : S) (ts us : List Timer) (now : ℕ) (o later : Option (List PollAnswer)) (v : Option (List ℕ)) (a b c d : LinkSide) (h i j : Option (List ℕ)) → Going next is_done at timers turns s0 o0 v0 taken s ts now o v a b h i → taken < turns → Turned next at s t now ts us o later b c i j → is_done t ≡ true → record d { lost = c.lost } ≡ c → ServesTold next is_done timers at turns s0 o0 v0 (Ok (record { turns = taken + 1; lost = c.lost; done = true })) a d h j
+  pub serves_done : (timers : List (Tick × ℕ)) (turns : ℕ) (s0 : S) (o0 : Option (List PollAnswer)) (v0 : Option (List ℕ)) (taken : ℕ)
+      (s t : S) (ts us : List Timer) (now : ℕ) (o later : Option (List PollAnswer)) (v : Option (List ℕ)) (a b c d : LinkSide)
+      (h i j : Option (List ℕ)) → Going next is_done at timers turns s0 o0 v0 taken s ts now o v a b h i → taken < turns
+      → Turned next at s t now ts us o later b c i j → is_done t ≡ true → record d { lost = c.lost } ≡ c
+      → ServesTold next is_done timers at turns s0 o0 v0 (Ok (record { turns = taken + 1; lost = c.lost; done = true })) a d h j
   serves_done timers turns s0 None v0 taken s t ts us now o later v a b c d h i j g within turned ends same = tt
   serves_done timers turns s0 (Some x) None taken s t ts us now o later v a b c d h i j g within turned ends same = tt
   serves_done timers turns s0 (Some x) (Some y) taken s t ts us now o later v a b c d h i j g within turned ends same =
       served_done (node_run next is_done timers turns s0 x y) turns taken s t ts us now o later v a b c d h i j g within turned ends same
 
-  no_turn : (r : NodeRun) (outs : List Out) (taken left : ℕ) (s : S) (ts : List Timer) (now : ℕ) (answers : List PollAnswer) (values : List ℕ) → left ≡ 0 → r ≡ after_turns outs taken (turns_from next is_done left s ts now answers values) → r ≡ record { outs = outs; turns = taken; done = is_done s; broken = false }
+  no_turn : (r : NodeRun) (outs : List Out) (taken left : ℕ) (s : S) (ts : List Timer) (now : ℕ) (answers : List PollAnswer)
+      (values : List ℕ) → left ≡ 0 → r ≡ after_turns outs taken (turns_from next is_done left s ts now answers values)
+      → r ≡ record { outs = outs; turns = taken; done = is_done s; broken = false }
   no_turn r outs taken left s ts now answers values none is =
       let one : r ≡ after_turns outs taken (record { outs = []; turns = 0; done = is_done s; broken = false }) = rw none at is in
       let e : taken + 0 ≡ taken = omega arith in
       let f : outs ++ [] ≡ outs = grind (arith, common_steps) in
       rw (e, f) at one
 
-  pub serves_last : (timers : List (Tick × ℕ)) (turns : ℕ) (s0 : S) (o0 : Option (List PollAnswer)) (v0 : Option (List ℕ)) (taken : ℕ) (s : S) (ts : List Timer) (now : ℕ) (o : Option (List PollAnswer)) (v : Option (List ℕ)) (a b d : LinkSide) (h i : Option (List ℕ)) (done : Bool) → Going next is_done at timers turns s0 o0 v0 taken s ts now o v a b h i → turns ≤ taken → done ≡ is_done s → record d { lost = b.lost } ≡ b → ServesTold next is_done timers at turns s0 o0 v0 (Ok (record { turns = taken; lost = b.lost; done = done })) a d h i
+  pub serves_last : (timers : List (Tick × ℕ)) (turns : ℕ) (s0 : S) (o0 : Option (List PollAnswer)) (v0 : Option (List ℕ)) (taken : ℕ)
+      (s : S) (ts : List Timer) (now : ℕ) (o : Option (List PollAnswer)) (v : Option (List ℕ)) (a b d : LinkSide) (h i : Option (List ℕ))
+      (done : Bool) → Going next is_done at timers turns s0 o0 v0 taken s ts now o v a b h i → turns ≤ taken → done ≡ is_done s
+      → record d { lost = b.lost } ≡ b
+      → ServesTold next is_done timers at turns s0 o0 v0 (Ok (record { turns = taken; lost = b.lost; done = done })) a d h i
   serves_last timers turns s0 None v0 taken s ts now o v a b d h i done g all is same = tt
   serves_last timers turns s0 (Some x) None taken s ts now o v a b d h i done g all is same = tt
   serves_last timers turns s0 (Some x) (Some y) taken s ts now o v a b d h i done g all is same =
@@ -185,42 +242,65 @@ module _ {S : Type 0} (next : S → Given → S × List Out) (is_done : S → Bo
       (no_turn (node_run next is_done timers turns s0 x y) g.outs taken (turns - taken) s ts now g.answers g.values none g.is) g.done same)
 
   -- what stops a turn stops the run
-  stops_run : (r : NodeRun) (turns taken : ℕ) (s : S) (ts : List Timer) (now : ℕ) (o : Option (List PollAnswer)) (v : Option (List ℕ)) (e : DeviceError) (a b c : LinkSide) (h i j : Option (List ℕ)) (answer : PollAnswer) → GoingOn next is_done at r taken (turns - taken) s ts now o v a b h i → taken < turns → Gives o answer → Stops (effects at (after s now ts answer).1) e b c i j → Stops (effects at r.outs) e a c h j
+  stops_run : (r : NodeRun) (turns taken : ℕ) (s : S) (ts : List Timer) (now : ℕ) (o : Option (List PollAnswer)) (v : Option (List ℕ))
+      (e : DeviceError) (a b c : LinkSide) (h i j : Option (List ℕ)) (answer : PollAnswer)
+      → GoingOn next is_done at r taken (turns - taken) s ts now o v a b h i → taken < turns → Gives o answer
+      → Stops (effects at (after s now ts answer).1) e b c i j → Stops (effects at r.outs) e a c h j
   stops_run r turns taken s ts now o v e a b c h i j answer g within gives stops =
       let some : 0 < turns - taken = omega (arith, within) in
       let gave : Gives (Some g.answers) answer = rw g.answers_told at gives in
       let here : Stops (effects at (after s now ts (next_poll g.answers)).1) e b c i j = rw gave at stops in
-      let front = outs_front (is_failure (next_poll g.answers)) (is_done (after s now ts (next_poll g.answers)).0) (after s now ts (next_poll g.answers)).1 (rest_of (turns - taken - 1) s ts now g.answers g.values) in
+      let front =
+      outs_front (is_failure (next_poll g.answers)) (is_done (after s now ts (next_poll g.answers)).0)
+      (after s now ts (next_poll g.answers)).1 (rest_of (turns - taken - 1) s ts now g.answers g.values) in
       let is : r.outs ≡ g.outs ++ ((after s now ts (next_poll g.answers)).1 ++ front.0) =
       ap (λ x. x.outs) (this_turn r g.outs taken (turns - taken) s ts now g.answers g.values some g.is) ∙ ap (λ os. g.outs ++ os) front.1 in
       let all : effects at r.outs ≡ effects at g.outs ++ (effects at (after s now ts (next_poll g.answers)).1 ++ effects at front.0) =
-      ap (effects at) is ∙ effects_append at g.outs ((after s now ts (next_poll g.answers)).1 ++ front.0) ∙ ap (λ es. effects at g.outs ++ es) (effects_append at (after s now ts (next_poll g.answers)).1 front.0) in
-      rw all (stops_then (effects at g.outs) (effects at (after s now ts (next_poll g.answers)).1 ++ effects at front.0) e a b c h i j g.done
+      ap (effects at) is ∙ effects_append at g.outs ((after s now ts (next_poll g.answers)).1 ++ front.0)
+      ∙ ap (λ es. effects at g.outs ++ es) (effects_append at (after s now ts (next_poll g.answers)).1 front.0) in
+      rw all
+      (stops_then (effects at g.outs) (effects at (after s now ts (next_poll g.answers)).1 ++ effects at front.0) e a b c h i j g.done
       (stops_more (effects at (after s now ts (next_poll g.answers)).1) (effects at front.0) e b c i j here))
 
   -- a poll that failed ends the run
-  breaks_run : (r : NodeRun) (turns taken : ℕ) (s : S) (ts : List Timer) (now : ℕ) (o : Option (List PollAnswer)) (v : Option (List ℕ)) (a b c : LinkSide) (h i j : Option (List ℕ)) → GoingOn next is_done at r taken (turns - taken) s ts now o v a b h i → taken < turns → PollFailed next at s now ts o b c i j → Broke at r a c h j
+  breaks_run : (r : NodeRun) (turns taken : ℕ) (s : S) (ts : List Timer) (now : ℕ) (o : Option (List PollAnswer)) (v : Option (List ℕ))
+      (a b c : LinkSide) (h i j : Option (List ℕ)) → GoingOn next is_done at r taken (turns - taken) s ts now o v a b h i → taken < turns
+      → PollFailed next at s now ts o b c i j → Broke at r a c h j
   breaks_run r turns taken s ts now o v a b c h i j g within failed =
       let some : 0 < turns - taken = omega (arith, within) in
       let gave : Failure ≡ next_poll g.answers = rw g.answers_told at failed.gives in
       let none : turn_inputs now ts Failure ≡ due_ticks now ts = grind (arith, common_steps) in
       let one = this_turn r g.outs taken (turns - taken) s ts now g.answers g.values some g.is in
-      let is : r ≡ after_turns g.outs taken (turn_then true (is_done (after s now ts Failure).0) (after s now ts Failure).1 (rest_of (turns - taken - 1) s ts now g.answers g.values)) = rw (← gave) at one in
+      let is : r ≡ after_turns g.outs taken
+      (turn_then true (is_done (after s now ts Failure).0) (after s now ts Failure).1
+      (rest_of (turns - taken - 1) s ts now g.answers g.values)) = rw (← gave) at one in
       let done : Done (effects at (after s now ts Failure).1) b c i j = rw none failed.done in
       record {
         broken = ap (λ x. x.broken) is;
         effects = rw is (done_more g.outs (after s now ts Failure).1 a b c h i j g.done done);
       }
 
-  pub serves_err : (timers : List (Tick × ℕ)) (turns : ℕ) (s0 : S) (o0 : Option (List PollAnswer)) (v0 : Option (List ℕ)) (taken : ℕ) (s t : S) (ts us : List Timer) (now : ℕ) (o later : Option (List PollAnswer)) (v : Option (List ℕ)) (e : ServeError) (a b c d : LinkSide) (h i j : Option (List ℕ)) → Going next is_done at timers turns s0 o0 v0 taken s ts now o v a b h i → taken < turns → TurnEnds next at {T = Unit {0}} s t now ts us o later (Err e) b c i j → record d { lost = c.lost } ≡ c → ServesTold next is_done timers at turns s0 o0 v0 (Err e) a d h j
+  pub serves_err : (timers : List (Tick × ℕ)) (turns : ℕ) (s0 : S) (o0 : Option (List PollAnswer)) (v0 : Option (List ℕ)) (taken : ℕ)
+      (s t : S) (ts us : List Timer) (now : ℕ) (o later : Option (List PollAnswer)) (v : Option (List ℕ)) (e : ServeError)
+      (a b c d : LinkSide) (h i j : Option (List ℕ)) → Going next is_done at timers turns s0 o0 v0 taken s ts now o v a b h i
+      → taken < turns → TurnEnds next at {T = Unit {0}} s t now ts us o later (Err e) b c i j → record d { lost = c.lost } ≡ c
+      → ServesTold next is_done timers at turns s0 o0 v0 (Err e) a d h j
   serves_err timers turns s0 None v0 taken s t ts us now o later v e a b c d h i j g within ends same = tt
   serves_err timers turns s0 (Some x) None taken s t ts us now o later v e a b c d h i j g within ends same = tt
   serves_err timers turns s0 (Some x) (Some y) taken s t ts us now o later v LinkFault a b c d h i j g within ends same =
       (c.lost, rw same (breaks_run (node_run next is_done timers turns s0 x y) turns taken s ts now o v a b c h i j g within ends))
-  serves_err timers turns s0 (Some x) (Some y) taken s t ts us now o later v WriteFault a b c d h i j g within ends same =
-      (c.lost, rw same (stops_run (node_run next is_done timers turns s0 x y) turns taken s ts now o v writes.Failed a b c h i j ends.answer g within ends.gives ends.stopped))
-  serves_err timers turns s0 (Some x) (Some y) taken s t ts us now o later v NoMemory a b c d h i j g within ends same =
-      (c.lost, rw same (stops_run (node_run next is_done timers turns s0 x y) turns taken s ts now o v writes.NoMemory a b c h i j ends.answer g within ends.gives ends.stopped))
+  serves_err timers turns s0 (Some x) (Some y) taken s t ts us now o later v WriteFault a b c d h i j g within ends same = (
+    c.lost,
+    rw same
+        (stops_run
+        (node_run next is_done timers turns s0 x y) turns taken s ts now o v writes.Failed a b c h i j ends.answer g within ends.gives ends.stopped),
+  )
+  serves_err timers turns s0 (Some x) (Some y) taken s t ts us now o later v NoMemory a b c d h i j g within ends same = (
+    c.lost,
+    rw same
+        (stops_run
+        (node_run next is_done timers turns s0 x y) turns taken s ts now o v writes.NoMemory a b c h i j ends.answer g within ends.gives ends.stopped),
+  )
 
   pub serves_none : (timers : List (Tick × ℕ)) (turns : ℕ) (s0 : S) (o0 : Option (List PollAnswer)) (v0 : Option (List ℕ))
       (a d : LinkSide) (h : Option (List ℕ)) → record d { lost = a.lost } ≡ a

@@ -44,7 +44,9 @@ sends_then xs ys a b c one two = record {
   all = rw (tried_append one.tries two.tries, one.all, two.all) refl;
   sent = rw (kept_append one.tries two.tries) (Grows_trans a.sent b.sent c.sent (kept one.tries) (kept two.tries) one.sent two.sent);
   lost = rw (counted_append a.lost one.tries two.tries, ← one.lost) two.lost;
-  losses = rw (failures_append one.tries two.tries) (losses_then a.losses b.losses c.losses (failures one.tries) (failures two.tries) one.losses two.losses);
+  losses =
+      rw (failures_append one.tries two.tries)
+      (losses_then a.losses b.losses c.losses (failures one.tries) (failures two.tries) one.losses two.losses);
 }
 
 pub front_then : (xs ys : List Sent) (a b c : LinkSide) → Sends xs a b → SendsFront ys b c → SendsFront (xs ++ ys) a c
@@ -121,7 +123,8 @@ untried ds a b sent lost losses = record {
   sends = record { tries = []; all = refl; sent = Stays_Grows a.sent b.sent sent; lost = lost; losses = omega (arith, losses) };
 }
 
-pub then_all : {T : Type 0} (xs ys : List Sent) (r : Result T NoMemory) (a b c : LinkSide) → Sends xs a b → SendsAll ys r b c → SendsAll (xs ++ ys) r a c
+pub then_all : {T : Type 0} (xs ys : List Sent) (r : Result T NoMemory) (a b c : LinkSide) → Sends xs a b → SendsAll ys r b c
+    → SendsAll (xs ++ ys) r a c
 then_all xs ys (Ok t) a b c one two = sends_then xs ys a b c one two
 then_all xs ys (Err e) a b c one two = front_then xs ys a b c one two
 

@@ -18,6 +18,7 @@ module _ {S : Type 0} (next : S → Given → S × List Out) where
     pub state : t ≡ (folded s inputs).0
     pub done : Done (effects at (folded s inputs).1) a b before now
 
-  abbrev pub Runs : {T : Type 0} → Address → S → S → List Given → Result T DeviceError → LinkSide → LinkSide → Option (List ℕ) → Option (List ℕ) → Type 0
+  abbrev pub Runs : {T : Type 0} → Address → S → S → List Given → Result T DeviceError → LinkSide → LinkSide → Option (List ℕ)
+      → Option (List ℕ) → Type 0
   Runs at s t inputs (Ok r) a b before now = Ran at s t inputs a b before now
   Runs at s t inputs (Err e) a b before now = Stops (effects at (folded s inputs).1) e a b before now

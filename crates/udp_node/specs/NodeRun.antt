@@ -42,8 +42,10 @@ module _ {S : Type 0} (next : S → Given → S × List Out) (is_done : S → Bo
   abbrev pub turns_from : ℕ → S → List Timer → ℕ → List PollAnswer → List ℕ → NodeRun
   turns_from zero s ts now answers values = record { outs = []; turns = 0; done = is_done s; broken = false }
   turns_from (suc k) s ts now answers values =
-      turn_then (is_failure (next_poll answers)) (is_done (folded next s (turn_inputs now ts (next_poll answers))).0) (folded next s (turn_inputs now ts (next_poll answers))).1
-      (turns_from k (folded next s (turn_inputs now ts (next_poll answers))).0 (map (rearmed now) ts) (max now (next_value values)) (drop 1 answers) (later_values values))
+      turn_then (is_failure (next_poll answers)) (is_done (folded next s (turn_inputs now ts (next_poll answers))).0)
+      (folded next s (turn_inputs now ts (next_poll answers))).1
+      (turns_from k (folded next s (turn_inputs now ts (next_poll answers))).0 (map (rearmed now) ts) (max now (next_value values))
+      (drop 1 answers) (later_values values))
 
   -- the timers are first due a period after the first value
   abbrev pub node_run : List (Tick × ℕ) → ℕ → S → List PollAnswer → List ℕ → NodeRun
@@ -79,7 +81,9 @@ ServesRun at r (Err WriteFault) a b h i = (lost : ℕ) × StoppedInLine (effects
 ServesRun at r (Err NoMemory) a b h i = (lost : ℕ) × Stopped (effects at r.outs) a (record b { lost = lost }) h i
 
 -- where the link and the clock tell their content, it is the run over it
-abbrev pub ServesTold : {S : Type 0} → (S → Given → S × List Out) → (S → Bool) → List (Tick × ℕ) → Address → ℕ → S → Option (List PollAnswer) → Option (List ℕ) → Result Served ServeError → LinkSide → LinkSide → Option (List ℕ) → Option (List ℕ) → Type 0
+abbrev pub ServesTold : {S : Type 0} → (S → Given → S × List Out) → (S → Bool) → List (Tick × ℕ) → Address → ℕ → S
+    → Option (List PollAnswer) → Option (List ℕ) → Result Served ServeError → LinkSide → LinkSide → Option (List ℕ) → Option (List ℕ)
+    → Type 0
 ServesTold next is_done timers at turns s None values result a b h i = ⊤
 ServesTold next is_done timers at turns s (Some answers) None result a b h i = ⊤
 ServesTold next is_done timers at turns s (Some answers) (Some values) result a b h i =
@@ -87,7 +91,8 @@ ServesTold next is_done timers at turns s (Some answers) (Some values) result a 
 
 -- the same, after some inputs
 abbrev pub ServesAfter : {S : Type 0} → (S → Given → S × List Out) → (S → Bool) → List Given → List (Tick × ℕ) → Address → ℕ → S
-    → Option (List PollAnswer) → Option (List ℕ) → Result Served ServeError → LinkSide → LinkSide → Option (List ℕ) → Option (List ℕ) → Type 0
+    → Option (List PollAnswer) → Option (List ℕ) → Result Served ServeError → LinkSide → LinkSide → Option (List ℕ) → Option (List ℕ)
+    → Type 0
 ServesAfter next is_done first timers at turns s None values result a b h i = ⊤
 ServesAfter next is_done first timers at turns s (Some answers) None result a b h i = ⊤
 ServesAfter next is_done first timers at turns s (Some answers) (Some values) result a b h i =

@@ -21,7 +21,8 @@ error_of writes.NoMemory = NoMemory
 
 module _ {S : Type 0} (next : S → Given → S × List Out) (at : Address) where
   -- the core took the ticks that were due and the packet, and what it gave was done
-  pub record Turned (s t : S) (now : ℕ) (ts us : List Timer) (answers later : Option (List PollAnswer)) (a b : LinkSide) (h i : Option (List ℕ)) : Type 0 where
+  pub record Turned (s t : S) (now : ℕ) (ts us : List Timer) (answers later : Option (List PollAnswer)) (a b : LinkSide)
+      (h i : Option (List ℕ)) : Type 0 where
     pub answer : PollAnswer
     pub taken : Takes answers later answer
     pub works : is_failure answer ≡ false
@@ -29,23 +30,27 @@ module _ {S : Type 0} (next : S → Given → S × List Out) (at : Address) wher
     pub ran : Ran next at s t (turn_inputs now ts answer) a b h i
 
   -- the poll failed; what the ticks gave was done
-  pub record PollFailed (s : S) (now : ℕ) (ts : List Timer) (answers : Option (List PollAnswer)) (a b : LinkSide) (h i : Option (List ℕ)) : Type 0 where
+  pub record PollFailed (s : S) (now : ℕ) (ts : List Timer) (answers : Option (List PollAnswer)) (a b : LinkSide)
+      (h i : Option (List ℕ)) : Type 0 where
     pub gives : Gives answers Failure
     pub done : Done (effects at (folded next s (due_ticks now ts)).1) a b h i
 
   -- a line was not written whole
-  pub record TurnInLine (s : S) (now : ℕ) (ts : List Timer) (answers : Option (List PollAnswer)) (a b : LinkSide) (h i : Option (List ℕ)) : Type 0 where
+  pub record TurnInLine (s : S) (now : ℕ) (ts : List Timer) (answers : Option (List PollAnswer)) (a b : LinkSide)
+      (h i : Option (List ℕ)) : Type 0 where
     pub answer : PollAnswer
     pub gives : Gives answers answer
     pub stopped : StoppedInLine (effects at (folded next s (turn_inputs now ts answer)).1) a b h i
 
   -- memory ran out
-  pub record TurnStopped (s : S) (now : ℕ) (ts : List Timer) (answers : Option (List PollAnswer)) (a b : LinkSide) (h i : Option (List ℕ)) : Type 0 where
+  pub record TurnStopped (s : S) (now : ℕ) (ts : List Timer) (answers : Option (List PollAnswer)) (a b : LinkSide)
+      (h i : Option (List ℕ)) : Type 0 where
     pub answer : PollAnswer
     pub gives : Gives answers answer
     pub stopped : Stopped (effects at (folded next s (turn_inputs now ts answer)).1) a b h i
 
-  abbrev pub TurnEnds : {T : Type 0} → S → S → ℕ → List Timer → List Timer → Option (List PollAnswer) → Option (List PollAnswer) → Result T ServeError → LinkSide → LinkSide → Option (List ℕ) → Option (List ℕ) → Type 0
+  abbrev pub TurnEnds : {T : Type 0} → S → S → ℕ → List Timer → List Timer → Option (List PollAnswer) → Option (List PollAnswer)
+      → Result T ServeError → LinkSide → LinkSide → Option (List ℕ) → Option (List ℕ) → Type 0
   TurnEnds s t now ts us answers later (Ok r) a b h i = Turned s t now ts us answers later a b h i
   TurnEnds s t now ts us answers later (Err LinkFault) a b h i = PollFailed s now ts answers a b h i
   TurnEnds s t now ts us answers later (Err WriteFault) a b h i = TurnInLine s now ts answers a b h i

@@ -33,7 +33,8 @@ returns-in-Err-NoMemory-write_served-clause-run g c =
     (side (g.L.Link.sent c.args.link.now) 0 (g.L.Link.loss_count c.args.link.now))
     (side (g.L.Link.sent c.serve_after.new.link) 0 (g.L.Link.loss_count c.serve_after.new.link))
     (g.K.Sink.held c.args.sink.now) (g.K.Sink.held c.serve_after.new.sink) (g.K.Sink.held c.write_served.new.sink)
-    (rw c.copied-place.ensures at c.in-Ok.ensures.run) (rw c.in-Err-NoMemory-write_served.field-0-is at c.in-Err-NoMemory-write_served.ensures.line)
+    (rw c.copied-place.ensures at c.in-Ok.ensures.run)
+    (rw c.in-Err-NoMemory-write_served.field-0-is at c.in-Err-NoMemory-write_served.ensures.line)
 
 pub returns-in-Err-LinkFault-clause-run : goal.returns-in-Err-LinkFault-clause-run
 returns-in-Err-LinkFault-clause-run g c =
