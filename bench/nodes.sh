@@ -25,6 +25,7 @@ stop() {
     pids=()
 }
 trap 'stop; rm -rf "$folder"' EXIT
+trap 'exit 130' INT TERM
 
 start() {
     local name=$1
@@ -55,7 +56,7 @@ ops() {
 lane() {
     for ((c = $1; c < 62; c += lanes)); do
         # shellcheck disable=SC2046,SC2086
-        timeout 100 "$program" client --id "$c" $site $(ops "$c") > "$folder/c$c" 2>&1
+        timeout 20 "$program" client --id "$c" $site $(ops "$c") > "$folder/c$c" 2>&1
         echo "$?" > "$folder/status$c"
     done
 }

@@ -23,6 +23,7 @@ stop() {
     rm -rf "$folder"
 }
 trap stop EXIT
+trap 'exit 130' INT TERM
 
 # start NAME WORDS..: a node whose lines go to a file of its name.
 start() {
@@ -61,6 +62,7 @@ client 1 4700016b
 if [ "$replicas" -gt 1 ]; then
     echo "== the leader is killed, and another client goes on"
     kill -9 "${pids[2]}"
+    wait "${pids[2]}" 2> /dev/null
     client 2 5000016b000178 4700016b
 fi
 [ "$failed" = 0 ] || exit 1

@@ -20,6 +20,7 @@ const REPLY: &str = "4e4f010300000000000000000100000001000000000000000000000001 
 const OTHER_REPLY: &str = "4e4f010301000000000000000100000001000000000000000000000001000000";
 
 /// A run of a node: its words, what its polls answer, the sends that fail, and what comes of it.
+#[derive(Clone, Copy)]
 struct Case<'a> {
     words: &'a str,
     polls: [&'a str; 2],
