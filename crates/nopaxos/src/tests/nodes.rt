@@ -23,7 +23,8 @@ const OTHER_REPLY: &str = "4e4f0103010000000000000001000000010000000000000000000
 #[derive(Clone, Copy)]
 struct Case<'a> {
     words: &'a str,
-    polls: [&'a str; 2],
+    first: &'a str,
+    second: &'a str,
     failing: &'a [u64],
     status: Status,
     lines: &'a str,
@@ -91,11 +92,10 @@ fn same_sends(alloc: Global, sent: &[Sent], want: &[(u16, &str)]) -> Result<bool
 
 fn runs(rt: &impl Abort, alloc: Global, case: &Case<'_>) -> Result<(), Fail> {
     let words = words_of(alloc, case.words)?;
-    let [first, second] = case.polls;
     let link = link_of(
         alloc,
-        answer(alloc, first)?,
-        answer(alloc, second)?,
+        answer(alloc, case.first)?,
+        answer(alloc, case.second)?,
         case.failing,
     )?;
     let mut source = ReadMem::new(Vec::new(alloc));
@@ -131,7 +131,8 @@ fn clients(rt: HostRuntime) -> Result<(), Fail> {
     for case in [
         Case {
             words: "nopaxos client --id 0 --replicas 3 --sequencers 1 --turns 3 5000016b000176",
-            polls: [REPLY, OTHER_REPLY],
+            first: REPLY,
+            second: OTHER_REPLY,
             failing: &[],
             status: Status::Done,
             lines,
@@ -139,7 +140,8 @@ fn clients(rt: HostRuntime) -> Result<(), Fail> {
         },
         Case {
             words: "nopaxos client --id 0 --replicas 3 --sequencers 1 --turns 3 5000016b000176",
-            polls: [REPLY, OTHER_REPLY],
+            first: REPLY,
+            second: OTHER_REPLY,
             failing: &[1],
             status: Status::Done,
             lines: with_loss,
@@ -147,7 +149,8 @@ fn clients(rt: HostRuntime) -> Result<(), Fail> {
         },
         Case {
             words: "nopaxos client --id 0 --replicas 3 --sequencers 1 --turns 2 5000016B000176",
-            polls: ["nothing", "nothing"],
+            first: "nothing",
+            second: "nothing",
             failing: &[],
             status: Status::Unanswered,
             lines: unanswered,
@@ -164,7 +167,8 @@ fn other_nodes(rt: HostRuntime) -> Result<(), Fail> {
     for case in [
         Case {
             words: "nopaxos node --id 0 --replicas 3 --sequencers 1",
-            polls: ["nothing", "failure"],
+            first: "nothing",
+            second: "failure",
             failing: &[],
             status: Status::LinkFault,
             lines: "",
@@ -172,7 +176,8 @@ fn other_nodes(rt: HostRuntime) -> Result<(), Fail> {
         },
         Case {
             words: "nopaxos sequencer --id 0 --replicas 3 --sequencers 1 --turns 1",
-            polls: [REQUEST, "nothing"],
+            first: REQUEST,
+            second: "nothing",
             failing: &[],
             status: Status::Done,
             lines: "served 1 lost 0\n",
@@ -180,7 +185,8 @@ fn other_nodes(rt: HostRuntime) -> Result<(), Fail> {
         },
         Case {
             words: "nopaxos sequencer --id 0 --replicas 3 --sequencers 1 --turns 1",
-            polls: [REQUEST, "nothing"],
+            first: REQUEST,
+            second: "nothing",
             failing: &[2],
             status: Status::Done,
             lines: "served 1 lost 1\n",
@@ -188,7 +194,8 @@ fn other_nodes(rt: HostRuntime) -> Result<(), Fail> {
         },
         Case {
             words: "nopaxos controller --replicas 3 --sequencers 1 --install 0 --turns 1",
-            polls: ["nothing", "nothing"],
+            first: "nothing",
+            second: "nothing",
             failing: &[],
             status: Status::Done,
             lines: "served 1 lost 0\n",
@@ -196,7 +203,8 @@ fn other_nodes(rt: HostRuntime) -> Result<(), Fail> {
         },
         Case {
             words: "nopaxos node --id 0 --replicas 3 --sequencers 1 --turns 1",
-            polls: [STAMPED, "nothing"],
+            first: STAMPED,
+            second: "nothing",
             failing: &[],
             status: Status::Done,
             lines: "served 1 lost 0\n",
