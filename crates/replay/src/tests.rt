@@ -52,7 +52,7 @@ fn schedules_of_few_lines(rt: HostRuntime) -> Result<(), Fail> {
         let mut want = start.as_bytes().to_vec(alloc)?;
         want.extend_from_slice(lines.as_bytes())?;
         for most in [1, 7, 4096] {
-            let mut source = ReadMem::with_limit(text.clone()?, most);
+            let mut source = ReadMem::with_limit(text.clone()?, most.max(1));
             let mut sink = WriteMem::new(alloc);
             let end = replay(alloc, &mut source, &mut sink);
             assert_eq!(rt; end, ended, "{body}");

@@ -23,10 +23,8 @@ fn letter(answer: &Result<Option<Event>, NextError>) -> u8 {
 }
 
 // A letter for each of the first answers, for a rule its digit.
-fn letters(alloc: Global, text: Vec<u8>, most: usize, calls: usize) -> Result<Vec<u8>, Fail>
-    requires { 1 ≤ most }
-{
-    let mut source = ReadMem::with_limit(text, most);
+fn letters(alloc: Global, text: Vec<u8>, most: usize, calls: usize) -> Result<Vec<u8>, Fail> {
+    let mut source = ReadMem::with_limit(text, most.max(1));
     let mut reader = Reader::new(alloc);
     let mut letters = Vec::new(alloc);
     for _ in 0..calls {
