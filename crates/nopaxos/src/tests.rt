@@ -20,8 +20,33 @@ const ONE_PUT: &str =
 const ONE_PUT_SENT: &str =
     "transcript 1 replicas 3 sequencers 1 clients 1\nsubmit c0 1 5000016b000176\nsend 0 c0 s* request 25\nsend 1 s0 r* stamped 37\nsend 2 r0 c0 reply 36\nsend 3 r1 c0 reply 32\naccept c0 1 6e6f6e65\n";
 
-const ONE_PUT_END: &str =
-    "replica r0 up normal 0 1 1 0\nreplica r1 up normal 0 1 1 0\nreplica r2 up normal 0 1 0 0\nhistory 1 c0 1 5000016b000176\nend\n";
+// A line of words each.
+const NOT_TAKEN: &str = "nopaxos
+replay
+nopaxos stop
+nopaxos gen 1 1
+nopaxos replay replay
+nopaxos Replay
+nopaxos replays
+replay nopaxos
+nopaxos help
+nopaxos node --help
+nopaxos node --id 3 --replicas 3 --sequencers 1
+nopaxos node --id 0 --replicas 4 --sequencers 1
+nopaxos node --id 0 --replicas 3 --sequencers 5
+nopaxos node --id +0 --replicas 3 --sequencers 1
+nopaxos node --id 0 --replicas 3
+nopaxos node --id 0 --replicas 3 --sequencers 1 --base 1023
+nopaxos node --id 0 --replicas 3 --sequencers 1 --base 65001
+nopaxos node --id 0 --replicas 3 --sequencers 1 --turns 0
+nopaxos node --id 0 --replicas 3 --sequencers 1 --turns 18446744073709551616
+nopaxos sequencer --id 1 --replicas 3 --sequencers 1
+nopaxos controller --replicas 3 --sequencers 1 --session 0
+nopaxos controller --replicas 3 --sequencers 1 --install 1
+nopaxos controller --id 0 --replicas 3 --sequencers 1
+nopaxos client --id 0 --replicas 3 --sequencers 1
+nopaxos client --id 0 --replicas 3 --sequencers 1 5
+nopaxos client --id 4294967296 --replicas 3 --sequencers 1 50";
 
 const USAGE: &str = "usage: nopaxos replay | gen | node | sequencer | controller | client\n";
 
@@ -74,27 +99,20 @@ fn replays(
 }
 
 #[test]
-fn one_put(rt: HostRuntime) -> Result<(), Fail> {
-    replays(
-        &rt,
-        rt.alloc(),
-        &[ONE_PUT],
-        Status::Done,
-        &[ONE_PUT_SENT, ONE_PUT_END],
-    )
-}
-
-#[test]
-fn schedules_without_events(rt: HostRuntime) -> Result<(), Fail> {
+fn schedules_of_few_events(rt: HostRuntime) -> Result<(), Fail> {
     let end =
         "replica r0 up normal 0 1 0 0\nreplica r1 up normal 0 1 0 0\nreplica r2 up normal 0 1 0 0\nend\n";
     replays(&rt, rt.alloc(), &[HEADER], Status::Done, &[OPENING, end])?;
+    let events = "submit c0 5000016b000176\nsubmit c0 5000016b000176\ncrash r0\ndeliver 0 r0\n";
+    let lines = "submit c0 1 5000016b000176\nsend 0 c0 s* request 25\nbusy c0\ndead r0\n";
+    let end =
+        "replica r0 crashed normal 0 1 0 0\nreplica r1 up normal 0 1 0 0\nreplica r2 up normal 0 1 0 0\nend\n";
     replays(
         &rt,
         rt.alloc(),
-        &[],
-        Status::Malformed,
-        &["error line 1 rule 3\n"],
+        &[HEADER, events],
+        Status::Done,
+        &[OPENING, lines, end],
     )
 }
 
@@ -140,53 +158,22 @@ fn an_old_request_after_the_next(rt: HostRuntime) -> Result<(), Fail> {
 }
 
 #[test]
-fn a_busy_client_and_a_crashed_replica(rt: HostRuntime) -> Result<(), Fail> {
-    let events = "submit c0 5000016b000176\nsubmit c0 5000016b000176\ncrash r0\ndeliver 0 r0\n";
-    let lines = "submit c0 1 5000016b000176\nsend 0 c0 s* request 25\nbusy c0\ndead r0\n";
-    let end =
-        "replica r0 crashed normal 0 1 0 0\nreplica r1 up normal 0 1 0 0\nreplica r2 up normal 0 1 0 0\nend\n";
-    replays(
-        &rt,
-        rt.alloc(),
-        &[HEADER, events],
-        Status::Done,
-        &[OPENING, lines, end],
-    )
-}
-
-#[test]
 fn bad_lines(rt: HostRuntime) -> Result<(), Fail> {
-    replays(
-        &rt,
-        rt.alloc(),
-        &[HEADER, "submit c0 5000016b000176\ndeliver 1 r0\n"],
-        Status::Malformed,
-        &[
-            OPENING,
-            "submit c0 1 5000016b000176\nsend 0 c0 s* request 25\nerror line 3 rule 8 index 1 sent 1\n",
-        ],
-    )?;
     let alloc = rt.alloc();
+    let bad = Status::Malformed;
+    replays(&rt, alloc, &[], bad, &["error line 1 rule 3\n"])?;
+    let events = "submit c0 5000016b000176\ndeliver 1 r0\n";
+    let lines =
+        "submit c0 1 5000016b000176\nsend 0 c0 s* request 25\nerror line 3 rule 8 index 1 sent 1\n";
+    replays(&rt, alloc, &[HEADER, events], bad, &[OPENING, lines])?;
     let mut x = String::new(alloc);
     for _ in 0..4096usize {
         x.push('x')?;
     }
     let rule_1 = &[OPENING, "error line 2 rule 1\n"];
     let rule_3 = &[OPENING, "error line 2 rule 3\n"];
-    replays(
-        &rt,
-        rt.alloc(),
-        &[HEADER, x.as_str(), "x"],
-        Status::Malformed,
-        rule_1,
-    )?;
-    replays(
-        &rt,
-        rt.alloc(),
-        &[HEADER, x.as_str(), "\n"],
-        Status::Malformed,
-        rule_3,
-    )
+    replays(&rt, alloc, &[HEADER, x.as_str(), "x"], bad, rule_1)?;
+    replays(&rt, alloc, &[HEADER, x.as_str(), "\n"], bad, rule_3)
 }
 
 #[test]
@@ -240,34 +227,7 @@ fn a_sink_that_fails(rt: HostRuntime) -> Result<(), Fail> {
 #[test]
 fn words_that_are_not_taken(rt: HostRuntime) -> Result<(), Fail> {
     let alloc = rt.alloc();
-    for words in [
-        "nopaxos",
-        "replay",
-        "nopaxos stop",
-        "nopaxos gen 1 1",
-        "nopaxos replay replay",
-        "nopaxos Replay",
-        "nopaxos replays",
-        "replay nopaxos",
-        "nopaxos help",
-        "nopaxos node --help",
-        "nopaxos node --id 3 --replicas 3 --sequencers 1",
-        "nopaxos node --id 0 --replicas 4 --sequencers 1",
-        "nopaxos node --id 0 --replicas 3 --sequencers 5",
-        "nopaxos node --id +0 --replicas 3 --sequencers 1",
-        "nopaxos node --id 0 --replicas 3",
-        "nopaxos node --id 0 --replicas 3 --sequencers 1 --base 1023",
-        "nopaxos node --id 0 --replicas 3 --sequencers 1 --base 65001",
-        "nopaxos node --id 0 --replicas 3 --sequencers 1 --turns 0",
-        "nopaxos node --id 0 --replicas 3 --sequencers 1 --turns 18446744073709551616",
-        "nopaxos sequencer --id 1 --replicas 3 --sequencers 1",
-        "nopaxos controller --replicas 3 --sequencers 1 --session 0",
-        "nopaxos controller --replicas 3 --sequencers 1 --install 1",
-        "nopaxos controller --id 0 --replicas 3 --sequencers 1",
-        "nopaxos client --id 0 --replicas 3 --sequencers 1",
-        "nopaxos client --id 0 --replicas 3 --sequencers 1 5",
-        "nopaxos client --id 4294967296 --replicas 3 --sequencers 1 50",
-    ] {
+    for words in NOT_TAKEN.split('\n') {
         let mut source = ReadMem::new(joined(alloc, &[ONE_PUT])?);
         let mut sink = WriteMem::new(alloc);
         assert_eq!(rt;
@@ -279,23 +239,6 @@ fn words_that_are_not_taken(rt: HostRuntime) -> Result<(), Fail> {
         assert_eq!(rt; source.as_slice(), ONE_PUT.as_bytes());
     }
     Ok(())
-}
-
-#[test]
-fn numbers_of_the_statuses(rt: HostRuntime) {
-    let statuses = [
-        Status::Done,
-        Status::Malformed,
-        Status::Usage,
-        Status::ReadFault,
-        Status::WriteFault,
-        Status::LinkFault,
-        Status::NoMemory,
-        Status::Unanswered,
-    ];
-    for (i, status) in statuses.iter().enumerate() {
-        assert_eq!(rt; *status as usize, i);
-    }
 }
 
 #[test]
