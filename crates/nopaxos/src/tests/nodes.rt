@@ -163,17 +163,8 @@ fn clients(rt: HostRuntime) -> Result<(), Fail> {
 }
 
 #[test]
-fn other_nodes(rt: HostRuntime) -> Result<(), Fail> {
+fn sequencers(rt: HostRuntime) -> Result<(), Fail> {
     for case in [
-        Case {
-            words: "nopaxos node --id 0 --replicas 3 --sequencers 1",
-            first: "nothing",
-            second: "failure",
-            failing: &[],
-            status: Status::LinkFault,
-            lines: "",
-            sent: &[],
-        },
         Case {
             words: "nopaxos sequencer --id 0 --replicas 3 --sequencers 1 --turns 1",
             first: REQUEST,
@@ -191,6 +182,24 @@ fn other_nodes(rt: HostRuntime) -> Result<(), Fail> {
             status: Status::Done,
             lines: "served 1 lost 1\n",
             sent: &[(41000, STAMPED), (41002, STAMPED)],
+        },
+    ] {
+        runs(&rt, rt.alloc(), &case)?;
+    }
+    Ok(())
+}
+
+#[test]
+fn replicas_and_the_controller(rt: HostRuntime) -> Result<(), Fail> {
+    for case in [
+        Case {
+            words: "nopaxos node --id 0 --replicas 3 --sequencers 1",
+            first: "nothing",
+            second: "failure",
+            failing: &[],
+            status: Status::LinkFault,
+            lines: "",
+            sent: &[],
         },
         Case {
             words: "nopaxos controller --replicas 3 --sequencers 1 --install 0 --turns 1",
