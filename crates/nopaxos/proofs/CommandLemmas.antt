@@ -5,6 +5,8 @@ use Rattle.outside.specs.Causes.{Rose}
 use Rattle.outside.specs.Fronts.{AppendsFront}
 use Rattle.replay.specs.Outcome.{WroteFront}
 use Rattle.replay.specs.Output.{output}
+use Rattle.replay.proofs.Fronts.{part_nil}
+use Rattle.replay.proofs.Texts.{output_some}
 use Rattle.udp_node.proofs.EffectLemmas.{Appends_none}
 use Rattle.command_line.specs.declared.command.Command.{Command}
 use Rattle.command_line.specs.declared.command.Command.TheVariants.{Replay, Node, Sequencer, Controller, Client}
@@ -51,7 +53,7 @@ module _ {L : Type 0} (w : LinkView L) (p : PortsView L) (values : Option (List 
 
 pub no_front : {S : Type 0} (m : Meaning S) (bytes h : Option (List ℕ)) → WroteFront m bytes h h
 no_front m None h = tt
-no_front m (Some bytes) h = record { front = []; behind = (output m true bytes).text; split = refl; wrote = Appends_none h }
+no_front m (Some bytes) h = part_nil h (output m true bytes).text (output_some m bytes)
 
 pub no_usage : (h : Option (List ℕ)) → AppendsFront h h usage_line
 unfolding usage_line
