@@ -1,17 +1,16 @@
 #!/bin/sh
-# Measures what each crate costs the gate, from nothing: its proof, that of its tests, and its must-fail edits. It writes the table
-# docs/GATE-TIMES.md.
+# Measures what the gate takes from nothing: one `rt ci --anew` over a clone of what is committed, in a temporary folder, whose
+# processes are watched while it runs. It writes the table docs/GATE-TIMES.md.
 #
 #   bench/gate-times.sh [CRATE..]
 #
-# With names it measures these crates alone, and the table goes to standard output. It works on a clone of what is committed, in a
-# temporary folder, with one command at a time; for figures that mean something nothing else runs on the machine. The
-# libraries below a crate are built before it is measured.
+# With names it measures these crates and those below them, and the table goes to standard output. For figures that mean something
+# nothing else runs on the machine.
 #
-# The seconds are those of all processors together. Proof: `rt check` of the crate. Tests: `rt test`, which proves the crate once
-# more with its tests, and runs them. Edits: `rt must-fail --anew`, which proves the crate once more before it tries them. All three
-# begin with nothing: the crate gets a comment of its own and an empty folder of kept work, so that no other copy's proofs serve.
-# Lines of code have the contracts and no tests.
+# A crate has the seconds of all its processes together, each with the last figures that were seen of it, five times a second, and the
+# memory of its largest process. Proof: the crate itself. Tests: the crate proved once more with its tests. Edits: each
+# must-fail edit. What `rt` does beside them, and runs of tests and programs, are in the last line alone. Lines of code have the
+# contracts and no tests.
 set -eu
 
 exec python3 - "$(cd "$(dirname "$0")/.." && pwd)" "$@" <<'PYTHON'
@@ -21,11 +20,13 @@ import shutil
 import subprocess
 import sys
 import tempfile
-import uuid
+import time
 
 root, names = sys.argv[1], sys.argv[2:]
 folder = tempfile.mkdtemp()
 tree = folder + "/tree"
+ticks = os.sysconf("SC_CLK_TCK")
+page = os.sysconf("SC_PAGE_SIZE")
 
 
 def lines_of(crate, part, ending):
@@ -37,86 +38,88 @@ def is_test(path):
     return path.endswith("/tests.rt") or "/tests/" in path
 
 
-def measured(where, *words):
-    """Runs a command, and gives its processor seconds and its greatest memory in KiB."""
-    with open(folder + "/log", "w", encoding="utf-8") as log:
-        child = subprocess.Popen(words, cwd=where, stdin=subprocess.DEVNULL, stdout=log, stderr=log)
-        _, status, used = os.wait4(child.pid, 0)
-    if status:
-        sys.exit(f"{' '.join(words)} in {where}:\n" + open(folder + "/log", encoding="utf-8").read()[-2000:])
-    return used.ru_utime + used.ru_stime, used.ru_maxrss
+def kind_of(words, where):
+    """What a process of the prover works on: a crate, and whether it is its proof, its tests or an edit."""
+    crate = words[words.index("--crate-name") + 1]
+    if "/rt-edit-" in where:
+        return crate, "edits"
+    return crate, "tests" if "--test" in words else "proof"
 
 
-def from_nothing(crate):
-    """Empties the folder of kept work."""
-    kept = f"{tree}/crates/{crate}/out/incremental"
-    shutil.rmtree(kept, ignore_errors=True)
-    os.makedirs(kept)
+def watched(seen, top):
+    """Notes the processor seconds and the memory of each process of the prover below this one."""
+    parents, used = {}, {}
+    for name in filter(str.isdigit, os.listdir("/proc")):
+        try:
+            fields = open(f"/proc/{name}/stat", encoding="utf-8").read().rpartition(")")[2].split()
+        except OSError:
+            continue
+        parents[name] = fields[1]
+        used[name] = (int(fields[11]) + int(fields[12])) / ticks, int(fields[21]) * page, fields[19]
+    for name, (seconds, memory, began) in used.items():
+        above = name
+        while above in parents and above != top:
+            above = parents[above]
+        try:
+            words = open(f"/proc/{name}/cmdline", encoding="utf-8").read().split("\0")
+            where = os.readlink(f"/proc/{name}/cwd")
+        except OSError:
+            continue
+        if above == top and "--crate-name" in words:
+            before = seen.get((name, began), (None, 0, 0))
+            seen[name, began] = kind_of(words, where), seconds, max(memory, before[2])
 
 
-def has_tests(crate):
-    files = glob.glob(f"{tree}/crates/{crate}/src/**/*.rt", recursive=True)
-    return any("#[test]" in open(it, encoding="utf-8").read() for it in files)
+def table_of(seen, crates):
+    rows, sums = [], [0] * 6
+    for crate in crates:
+        counts = [lines_of(crate, "src", "rt"), lines_of(crate, "specs", "antt"), lines_of(crate, "proofs", "antt")]
+        seconds = [sum(s for key, s, _ in seen.values() if key == (crate, kind)) for kind in ("proof", "edits", "tests")]
+        memory = max((m for key, _, m in seen.values() if key[0] == crate), default=0)
+        sums = [a + b for a, b in zip(sums, [*counts, *seconds])]
+        rows.append(row(f"`{crate}`", *counts, seconds[0], f"{memory / 2**30:.1f} GB", *seconds[1:]))
+    head = ["| crate | code | specs | proofs | proof, s | peak memory | edits, s | tests, s |", "|---|---|---|---|---|---|---|---|"]
+    return "\n".join([*head, *rows, row("all", *sums[:4], "", *sums[4:])])
 
 
-def row(crate, code, specs, proofs, check, memory, edits, tests):
-    return f"| {crate} | {code} | {specs} | {proofs} | {check:.0f} | {memory} | {edits:.0f} | {tests:.0f} |"
+def row(crate, code, specs, proofs, proof, memory, edits, tests):
+    return f"| {crate} | {code} | {specs} | {proofs} | {proof:.0f} | {memory} | {edits:.0f} | {tests:.0f} |"
 
 
 try:
     subprocess.run(["git", "clone", "-q", root, tree], check=True)
-    uses = {}
-    for line in open(tree + "/crates.txt", encoding="utf-8"):
-        name, colon, below = line.split("#")[0].partition(":")
-        if colon:
-            uses[name.strip()] = below.split()
-    unknown = [it for it in names if it not in uses]
-    if unknown:
-        sys.exit(f"no crate {unknown[0]}")
-    rows, sums, built = [], [0] * 6, set()
-
-    def build(crate):
-        for below in [it for it in uses[crate] if it in uses and it not in built]:
-            build(below)
-            measured(f"{tree}/crates/{below}", "rt", "lib")
-            built.add(below)
-
-    for crate in names or uses:
-        build(crate)
-        where = f"{tree}/crates/{crate}"
-        counts = [lines_of(crate, "src", "rt"), lines_of(crate, "specs", "antt"), lines_of(crate, "proofs", "antt")]
-        has_edits = bool(glob.glob(where + "/must-fail/*.edit"))
-        edits = measured(tree, "rt", "must-fail", "--anew", crate)[0] if has_edits else 0
-        first = next(it for it in ("lib.rt", "main.rt") if os.path.exists(f"{where}/src/{it}"))
-        with open(f"{where}/src/{first}", "a", encoding="utf-8") as file:
-            file.write(f"\n// {uuid.uuid4()}\n")
-        from_nothing(crate)
-        check, memory = measured(where, "rt", "check")
-        tests = 0
-        if has_tests(crate):
-            from_nothing(crate)
-            tests, with_tests = measured(where, "rt", "test")
-            memory = max(memory, with_tests)
-        subprocess.run(["git", "checkout", "-q", "--", where], cwd=tree, check=True)
-        told = [*counts, check, edits, tests]
-        sums = [a + b for a, b in zip(sums, told)]
-        rows.append(row(f"`{crate}`", *counts, check, f"{memory / 2**20:.1f} GB", edits, tests))
-        print(rows[-1], file=sys.stderr, flush=True)
-    table = ["| crate | code | specs | proofs | proof, s | peak memory | edits, s | tests, s |", "|---|---|---|---|---|---|---|---|"]
-    table += [*rows, row("all", *sums[:4], "", *sums[4:])]
+    lines = [it.split("#")[0].partition(":") for it in open(tree + "/crates.txt", encoding="utf-8")]
+    crates = [name.strip() for name, colon, _ in lines if colon]
+    seen, began = {}, time.time()
+    with open(folder + "/log", "w", encoding="utf-8") as log:
+        gate = subprocess.Popen(["rt", "ci", "--anew", *names], cwd=tree, stdin=subprocess.DEVNULL, stdout=log, stderr=log)
+        while gate.returncode is None:
+            watched(seen, str(gate.pid))
+            done, status, used = os.wait4(gate.pid, os.WNOHANG)
+            if done:
+                gate.returncode = os.waitstatus_to_exitcode(status)
+            else:
+                time.sleep(0.2)
+    said = open(folder + "/log", encoding="utf-8").read().rstrip().split("\n")
+    if gate.returncode:
+        sys.exit("\n".join(said[-40:]))
+    whole = f"""The whole run: {(time.time() - began) / 60:.0f} minutes by the clock, {(used.ru_utime + used.ru_stime) / 60:.0f} processor minutes on
+{os.cpu_count()} processors; `{said[-1]}`."""
     if names:
-        print("\n".join(table))
+        print(table_of(seen, [it for it in crates if any(key[0] == it for key, _, _ in seen.values())]))
+        print("\n" + whole)
     else:
-        said = """# Times of the gate
+        with open(root + "/docs/GATE-TIMES.md", "w", encoding="utf-8") as file:
+            file.write(f"""# Times of the gate
 
 Lines, and what the gate takes for each crate from nothing, in seconds of all processors together, as `bench/gate-times.sh`
-measured it on an idle machine: the proof of the crate; its must-fail edits, with the check that they begin with; its tests, with the
-crate proved once more. Lines of code have the contracts and no tests.
+saw it: the proof of the crate; its must-fail edits; its tests, with the crate proved once more. Lines of code have
+the contracts and no tests.
 
-"""
-        minutes = sum(sums[3:]) / 60
-        with open(root + "/docs/GATE-TIMES.md", "w", encoding="utf-8") as file:
-            file.write(said + "\n".join(table) + f"\n\nAll three together: {minutes:.0f} processor minutes.\n")
+{table_of(seen, crates)}
+
+{whole}
+""")
 finally:
     shutil.rmtree(folder, ignore_errors=True)
 PYTHON
