@@ -1,5 +1,6 @@
 -- What is kept came in replies to the open request, so f + 1 replicas replied where a client accepts.
-use Rattle.std.proofs.Common.{◌≡◌, ℕ, zero, suc, ◌+◌, ◌<◌, ◌≤◌, true, Option, Some, None, refl, sym, subst, ◌∙◌, inl, inr, arith, List, [], ◌∷◌, ◌++◌}
+use Rattle.std.proofs.Common.{◌≡◌, ℕ, zero, suc, ◌+◌, ◌<◌, ◌≤◌, true, Option, Some, None, refl, sym, subst, ◌∙◌, inl, inr, arith, List, []}
+use Rattle.std.proofs.Common.{◌∷◌, ◌++◌}
 use Rattle.std.specs.Prelude.{◌==◌, ◌&&◌, ◌/◌, length, nat_lt, not, filter}
 use Rattle.nop_types.specs.Views.{leader_of}
 use Rattle.std.proofs.lemmas.Bool.Decides.{nat_tests}

@@ -1,5 +1,6 @@
 -- What a client keeps is no quorum.
-use Rattle.std.proofs.Common.{◌≡◌, ℕ, ◌≤◌, Bool, true, false, cond, Option, Some, None, refl, sym, ap, subst, ◌∙◌, inl, inr, arith, List, [], ◌∷◌, ◌++◌, length}
+use Rattle.std.proofs.Common.{◌≡◌, ℕ, ◌≤◌, Bool, true, false, cond, Option, Some, None, refl, sym, ap, subst, ◌∙◌, inl, inr, arith, List}
+use Rattle.std.proofs.Common.{[], ◌∷◌, ◌++◌, length}
 use Rattle.std.specs.Prelude.{◌==◌, not, filter}
 use Rattle.std.proofs.lemmas.Option.{none-some}
 use Rattle.nop_types.specs.Configuration.{Configuration}

@@ -1,5 +1,6 @@
 -- A client takes turns, and uses each id once.
-use Rattle.std.proofs.Common.{◌≡◌, ℕ, zero, suc, ◌+◌, ◌<◌, ◌≤◌, Bool, true, false, cond, Option, Some, None, refl, sym, ap, subst, ◌∙◌, arith, List, [], ◌∷◌, ◌++◌}
+use Rattle.std.proofs.Common.{◌≡◌, ℕ, zero, suc, ◌+◌, ◌<◌, ◌≤◌, Bool, true, false, cond, Option, Some, None, refl, sym, ap, subst, ◌∙◌}
+use Rattle.std.proofs.Common.{arith, List, [], ◌∷◌, ◌++◌}
 use Rattle.std.specs.Prelude.{Result, Ok, Err, slice_get, ◌&&◌, ◌==◌, nat_lt}
 use Rattle.std.proofs.lemmas.Bool.Decides.{nat_tests}
 use Rattle.std.proofs.lemmas.Bool.{and_parts, eqb-true}
@@ -17,7 +18,9 @@ use Rattle.nop_types.specs.declared.datagram.Datagram.TheVariants as datagrams
 use Rattle.oum_codec.specs.declared.bad.Bad.{Bad}
 use Rattle.oum_codec.specs.Reading.{reading}
 use Rattle.client_quorum.specs.declared.state.ClientState.{ClientState}
-use Rattle.client_quorum.specs.ClientSteps.{opening, next, on_tick, on_datagram, has_none, can_submit, request_of, begin, submit_if, first_of, after_first, submit_first, submit_waiting_if, is_of, is_expected, kept, accepts, accept_if, reply_if, retry_of}
+use Rattle.client_quorum.specs.ClientSteps.{opening, next, on_tick, on_datagram, has_none, can_submit, request_of, begin, submit_if}
+use Rattle.client_quorum.specs.ClientSteps.{first_of, after_first, submit_first, submit_waiting_if, is_of, is_expected, kept, accepts}
+use Rattle.client_quorum.specs.ClientSteps.{accept_if, reply_if, retry_of}
 use Rattle.client_quorum.specs.KeptReplies.{quorum_of}
 use Rattle.client_quorum.specs.Runs.{gave, TakesTurns}
 

@@ -14,7 +14,8 @@ use Rattle.nop_types.specs.declared.datagram.Datagram.TheVariants as datagrams
 use Rattle.oum_codec.specs.declared.bad.Bad.{Bad}
 use Rattle.oum_codec.specs.Reading.{reading}
 use Rattle.client_quorum.specs.declared.state.ClientState.{ClientState}
-use Rattle.client_quorum.specs.ClientSteps.{next, on_tick, on_datagram, has_none, can_submit, request_of, begin, submit_if, first_of, after_first, submit_first, submit_waiting_if, is_expected, kept, accept_if, reply_if, retry_of}
+use Rattle.client_quorum.specs.ClientSteps.{next, on_tick, on_datagram, has_none, can_submit, request_of, begin, submit_if, first_of}
+use Rattle.client_quorum.specs.ClientSteps.{after_first, submit_first, submit_waiting_if, is_expected, kept, accept_if, reply_if, retry_of}
 use Rattle.client_quorum.specs.KeptReplies.{quorum_of}
 use Rattle.client_quorum.specs.Runs.{reply_in, reply_of}
 

@@ -1,5 +1,6 @@
 -- Runs of a client over any inputs, and what they give.
-use Rattle.std.specs.Prelude.{◌≡◌, ℕ, ◌+◌, ⊤, List, [], ◌∷◌, ◌++◌, true, false, Option, Some, None, Result, Ok, Err, filter, length, ◌/◌, ◌≤◌, ◌<◌}
+use Rattle.std.specs.Prelude.{◌≡◌, ℕ, ◌+◌, ⊤, List, [], ◌∷◌, ◌++◌, true, false, Option, Some, None, Result, Ok, Err, filter, length, ◌/◌}
+use Rattle.std.specs.Prelude.{◌≤◌, ◌<◌}
 use Rattle.nop_types.specs.Given.{Given, Packet, Ticked, Submit}
 use Rattle.nop_types.specs.Lists.{Has}
 use Rattle.nop_types.specs.Views.{leader_of}

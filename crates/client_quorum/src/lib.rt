@@ -18,6 +18,3 @@ pub use pending::Pending;
 pub use replies::Replies;
 pub use state::ClientState;
 pub use waiting::Waiting;
-
-#[cfg(test)]
-mod tests;

@@ -7,7 +7,8 @@ use Rattle.std.specs.Cmp.{unsigned_tied}
 use Rattle.std.proofs.lemmas.Cmp.{nat_cmp_total, eq_by_cmp_equiv}
 use Rattle.std.specs.FinMap as finite
 use Rattle.nop_types.specs.Execution.{Answered, is_above_kept, result_kept}
-use Rattle.client_table.specs.Table.{Table, Fresh, Same, Stale, is_fresh, result_in, Former, kept_for, verdict_on, with_answer, former_of, put_back, unkept}
+use Rattle.client_table.specs.Table.{Table, Fresh, Same, Stale, is_fresh, result_in, Former, kept_for, verdict_on, with_answer, former_of}
+use Rattle.client_table.specs.Table.{put_back, unkept}
 
 tie : (client q : ℕ) → eq_by_cmp nat_cmp q client ≡ eqb client q
 tie client q = (eq_by_cmp_equiv nat_cmp_total).symm q client ∙ unsigned_tied client q

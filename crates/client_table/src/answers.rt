@@ -12,7 +12,8 @@ pub type Answers = BTreeMap<u32, Answer>;
 
 /// What is kept for a client.
 pub fn find(answers: &Answers, client: u32) -> Option<&Answer>
-    ensures { option_map answered (option_copied result) ≡ kept_for (table_of answers.now) client }
+    ensures { option_map answered (option_copied result)
+        ≡ kept_for (table_of answers.now) client }
 {
     answers.get(&client)
 }
@@ -23,8 +24,10 @@ pub fn insert(
     client: u32,
     answer: Answer,
 ) -> Result<Option<Answer>, NoMemory>
-    ensures ok { OnOk result (table_of answers.new ≡ finite.insert (table_of answers.old) client (answered answer)) }
-    ensures former { IfOk result (λ former. option_map answered former ≡ kept_for (table_of answers.old) client) }
+    ensures ok { OnOk result (table_of answers.new ≡ finite.insert (table_of answers.old) client
+        (answered answer)) }
+    ensures former { IfOk result (λ former. option_map answered former
+        ≡ kept_for (table_of answers.old) client) }
     ensures err { OnErr result (table_of answers.new ≡ table_of answers.old) }
 {
     Ok(answers.insert(client, answer)?)
@@ -33,7 +36,8 @@ pub fn insert(
 /// Puts an answer in the place of the one that a client has.
 pub fn replace(answers: &mut Answers, client: u32, answer: Answer)
     requires { IsSome (kept_for (table_of answers.old) client) }
-    ensures { table_of answers.new ≡ finite.insert (table_of answers.old) client (answered answer) }
+    ensures { table_of answers.new ≡ finite.insert (table_of answers.old) client
+        (answered answer) }
 {
     *answers.get_mut(&client).unwrap() = answer;
 }

@@ -7,7 +7,8 @@ ghost use Rattle.client_table.specs.Runs.{Given, kept_after, EachIsFresh, IsVerd
 /// A table is what it keeps for each client.
 #[tactic(auto, using(crate::specs::Laws::same_table))]
 pub fn table_is_by_client()
-    ensures { (t u : Table) → ((client : ℕ) → kept_for t client ≡ kept_for u client) → t ≡ u }
+    ensures { (t u : Table) → ((client : ℕ) → kept_for t client
+        ≡ kept_for u client) → t ≡ u }
 {}
 
 /// An answer is kept for its client, and all other clients have what they had; so when it is taken out again.
@@ -47,5 +48,6 @@ pub fn verdict_is_of_execution()
 #[tactic(auto, using(crate::proofs::RunLemmas::verdict_is_by_ids))]
 pub fn verdict_is_by_ids()
     ensures { (givens : List Given) (client id : ℕ) → EachIsFresh finite.empty givens
-        → IsVerdict givens client id (verdict_on (kept_for (kept_after finite.empty givens) client) id) }
+        → IsVerdict givens client id (verdict_on (kept_for (kept_after finite.empty givens)
+        client) id) }
 {}

@@ -15,6 +15,3 @@ pub use laws::{
     verdict_is_of_execution,
 };
 pub use table::ClientTable;
-
-#[cfg(test)]
-mod tests;

@@ -3,13 +3,15 @@ use Rattle.std.proofs.Common.{◌≡◌, ℕ, List, [], ◌∷◌, Bool, true, O
 use Rattle.std.specs.Borrow.{Bor}
 use Rattle.clap.proofs.OnLiterals.{clap_on_literals}
 use Rattle.clap.specs.Kinds.{IsAmong, HasKind}
-use Rattle.clap.specs.Words.{App, HasMatchesOf, Kinds, Row, Text, fault_of, is_simple, is_simple_and_free, kind_of, subcommand_of, subcommand_rows_of}
+use Rattle.clap.specs.Words.{App, HasMatchesOf, Kinds, Row, Text, fault_of, is_simple, is_simple_and_free, kind_of, subcommand_of}
+use Rattle.clap.specs.Words.{subcommand_rows_of}
 use Rattle.clap.specs.declared.error.Error.{Error}
 use Rattle.clap.specs.declared.error.kind.ErrorKind.{ErrorKind}
 use Rattle.clap.specs.declared.error.kind.ErrorKind.TheVariants as kinds
 use Rattle.clap.specs.declared.parser.matches.ArgMatches.{ArgMatches}
 use Rattle.command_line.specs.Commands.{command_from, command_if, command_of, faults_of, subcommand_in, IsRefused, HasFound}
-use Rattle.command_line.specs.Program.{program_app, with_replay, with_node, with_sequencer, with_controller, site_app, member_app, controller_app, client_app}
+use Rattle.command_line.specs.Program.{program_app, with_replay, with_node, with_sequencer, with_controller, site_app, member_app}
+use Rattle.command_line.specs.Program.{controller_app, client_app}
 
 pub program_is_simple : is_simple program_app ≡ true
 unfolding clap_on_literals program_app with_replay with_node with_sequencer with_controller site_app member_app controller_app client_app

@@ -62,7 +62,8 @@ fn each_op(alloc: Global, texts: &[&str]) -> Result<Option<Ops>, NoMemory>
 
 /// Each text as an op. None where there are no texts, or one is no op.
 pub(crate) fn read_ops(alloc: Global, texts: Option<&[&str]>) -> Result<Option<Ops>, NoMemory>
-    ensures { IfOk result (λ ops. ops ≡ ops_of (option_map (λ s. map (λ t. t.now) s.now) texts.entry)) }
+    ensures { IfOk result (λ ops. ops ≡ ops_of (option_map (λ s. map (λ t. t.now) s.now)
+        texts.entry)) }
 {
     match texts {
         Some(texts) => each_op(alloc, texts),

@@ -19,7 +19,8 @@ fn value(
 ) -> Option<u64>
     requires least { IfSome default (λ n. least ≤ n) }
     requires limit { IfSome default (λ n. n ≤ most) }
-    ensures value { result ≡ value_of (rows_of (found_of matches.now)) name.now default least most }
+    ensures value { result ≡ value_of (rows_of (found_of matches.now)) name.now
+        default least most }
     ensures least { IfSome result (λ n. least ≤ n) }
     ensures limit { IfSome result (λ n. n ≤ most) }
 {
@@ -46,7 +47,8 @@ pub(crate) fn medium(
 ) -> Option<u32>
     requires least { IfSome default (λ n. least ≤ n) }
     requires limit { IfSome default (λ n. n ≤ 4294967295) }
-    ensures value { result ≡ value_of (rows_of (found_of matches.now)) name.now default least 4294967295 }
+    ensures value { result ≡ value_of (rows_of (found_of matches.now)) name.now default
+        least 4294967295 }
     ensures least { IfSome result (λ n. least ≤ n) }
 {
     let n = value(matches, name, default, least, 4_294_967_295)?;
@@ -54,7 +56,8 @@ pub(crate) fn medium(
 }
 
 fn base(matches: &ArgMatches<'_>) -> Option<u16>
-    ensures value { result ≡ value_of (rows_of (found_of matches.now)) (codes "base") (Some 41000) 1024 65000 }
+    ensures value { result ≡ value_of (rows_of (found_of matches.now)) (codes "base")
+        (Some 41000) 1024 65000 }
     ensures limit { IfSome result (λ n. n ≤ 65000) }
 {
     let n = value(matches, "base", Some(41000), 1024, 65000)?;
@@ -62,7 +65,8 @@ fn base(matches: &ArgMatches<'_>) -> Option<u16>
 }
 
 fn turns(matches: &ArgMatches<'_>) -> Option<u64>
-    ensures { result ≡ value_of (rows_of (found_of matches.now)) (codes "turns") (Some 18446744073709551615) 1 18446744073709551615 }
+    ensures { result ≡ value_of (rows_of (found_of matches.now)) (codes "turns")
+        (Some 18446744073709551615) 1 18446744073709551615 }
 {
     value(matches, "turns", Some(u64::MAX), 1, u64::MAX)
 }

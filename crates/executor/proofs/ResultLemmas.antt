@@ -1,5 +1,6 @@
 -- What is kept after an execution, and the results at its slots.
-use Rattle.std.proofs.Common.{◌≡◌, ℕ, ◌≤◌, Bool, true, false, cond, eqb, List, [], ◌∷◌, length, take, Option, Some, None, refl, sym, ap, subst, ◌∙◌, take-take}
+use Rattle.std.proofs.Common.{◌≡◌, ℕ, ◌≤◌, Bool, true, false, cond, eqb, List, [], ◌∷◌, length, take, Option, Some, None, refl, sym, ap}
+use Rattle.std.proofs.Common.{subst, ◌∙◌, take-take}
 use Rattle.std.specs.Prelude.{IfSome, IsSome}
 use Rattle.std.proofs.lemmas.Bool.{eqb-true}
 use Rattle.nop_types.specs.declared.limits.TheConstants.{MAX_RESULT_BYTES}
@@ -8,7 +9,8 @@ use Rattle.nop_types.specs.declared.request.Entry.{Entry}
 use Rattle.nop_types.specs.declared.request.Entry.TheVariants.{NoOp, Req}
 use Rattle.nop_types.specs.Meaning.{Meaning}
 use Rattle.nop_types.specs.Lists.{IsPrefixOf, IsGreatest, slot_of}
-use Rattle.nop_types.specs.Execution.{Answered, Executed, opening, ids_of, execute, exec, enter_kept, exec_kept, is_above_kept, result_kept, result_at}
+use Rattle.nop_types.specs.Execution.{Answered, Executed, opening, ids_of, execute, exec, enter_kept, exec_kept, is_above_kept, result_kept}
+use Rattle.nop_types.specs.Execution.{result_at}
 use Rattle.nop_types.specs.Histories.{history_of}
 use Rattle.nop_types.specs.Legality.{IsAnswered}
 use Rattle.facts.proofs.Prefixes.{IsPrefixOf-take, Has-prefix}

@@ -54,7 +54,8 @@ impl<H: Host> Executor<H> {
     /// Nothing is executed yet.
     pub fn new(alloc: Global) -> Result<Executor<H>, NoMemory>
         ensures executed { IfOk result (λ e. e.undos ≡ []) }
-        ensures run { IfOk result (λ e. (log : List Entry) → HasExecuted H.state H.meaning H.undo_of log e) }
+        ensures run { IfOk result (λ e. (log : List Entry) → HasExecuted H.state H.meaning
+            H.undo_of log e) }
         ensures failed { IfOk result (λ e. e.failed ≡ false) }
     {
         Ok(Executor {

@@ -17,19 +17,23 @@ pub fn entry_is_undone<H: Host>()
 
 /// What was executed rests on the executed slots alone: it stays so where the log changes above them.
 pub fn executed_slots_are_enough<S, U>()
-    ensures front { (m : Meaning S) (undo_of : S → List ℕ → U) (log other : List Entry) (x : Executed S) (undos : List (Option (SlotUndo U)))
+    ensures front { (m : Meaning S) (undo_of : S → List ℕ → U) (log other : List Entry)
+        (x : Executed S) (undos : List (Option (SlotUndo U)))
         → IsExecuted m undo_of log x undos → take (length undos) other ≡ take (length undos) log
         → IsExecuted m undo_of other x undos }
-    ensures append { (m : Meaning S) (undo_of : S → List ℕ → U) (log more : List Entry) (x : Executed S) (undos : List (Option (SlotUndo U)))
+    ensures append { (m : Meaning S) (undo_of : S → List ℕ → U) (log more : List Entry)
+        (x : Executed S) (undos : List (Option (SlotUndo U)))
         → IsExecuted m undo_of log x undos → IsExecuted m undo_of (log ++ more) x undos }
-    ensures slot { (m : Meaning S) (undo_of : S → List ℕ → U) (log : List Entry) (slot : ℕ) (e : Entry) (x : Executed S) (undos : List (Option (SlotUndo U)))
+    ensures slot { (m : Meaning S) (undo_of : S → List ℕ → U) (log : List Entry) (slot : ℕ)
+        (e : Entry) (x : Executed S) (undos : List (Option (SlotUndo U)))
         → IsExecuted m undo_of log x undos → length undos < slot
         → IsExecuted m undo_of (set_slot log slot e) x undos }
 {}
 
 /// Two executions of a log up to one slot are equal, whatever was executed and undone on the way.
 pub fn executions_are_equal<S, U>()
-    ensures { (m : Meaning S) (undo_of : S → List ℕ → U) (log : List Entry) (x y : Executed S) (undos others : List (Option (SlotUndo U)))
+    ensures { (m : Meaning S) (undo_of : S → List ℕ → U) (log : List Entry) (x y : Executed S)
+        (undos others : List (Option (SlotUndo U)))
         → IsExecuted m undo_of log x undos → IsExecuted m undo_of log y others
         → length undos ≡ length others → x ≡ y }
 {}

@@ -8,6 +8,3 @@ mod slot_undo;
 
 pub use crate::executor::Executor;
 pub use laws::{entry_is_undone, executed_slots_are_enough, executions_are_equal};
-
-#[cfg(test)]
-mod tests;

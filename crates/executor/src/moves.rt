@@ -14,9 +14,12 @@ fn enter<H: Host>(
     table: &mut ClientTable,
     entry: &Entry,
 ) -> Result<Option<SlotUndo<H::Undo>>, NoMemory>
-    ensures execution { OnOk result (execution (H.state host.new) table.new ≡ enter_kept H.meaning (execution (H.state host.old) table.old) entry.now) }
-    ensures slot_undo { IfOk result (λ s. s ≡ slot_undo_of H.undo_of (execution (H.state host.old) table.old) entry.now) }
-    ensures err { OnErr result (execution (H.state host.new) table.new ≡ execution (H.state host.old) table.old) }
+    ensures execution { OnOk result (execution (H.state host.new) table.new
+        ≡ enter_kept H.meaning (execution (H.state host.old) table.old) entry.now) }
+    ensures slot_undo { IfOk result (λ s. s
+        ≡ slot_undo_of H.undo_of (execution (H.state host.old) table.old) entry.now) }
+    ensures err { OnErr result (execution (H.state host.new) table.new
+        ≡ execution (H.state host.old) table.old) }
     ensures fits { IfOk result (λ s. UndoFits (H.fits host.new) s) }
     ensures still_fits { (u : H.Undo) → H.fits host.old u → H.fits host.new u }
 {
@@ -41,7 +44,8 @@ fn enter<H: Host>(
 fn leave<H: Host>(host: &mut H, table: &mut ClientTable, slot_undo: Option<SlotUndo<H::Undo>>)
     requires fits { UndoFits (H.fits host.old) slot_undo }
     requires kept { ClientIsKept table.old slot_undo }
-    ensures execution { execution (H.state host.new) table.new ≡ undone_by H.undone (execution (H.state host.old) table.old) slot_undo }
+    ensures execution { execution (H.state host.new) table.new
+        ≡ undone_by H.undone (execution (H.state host.old) table.old) slot_undo }
     ensures still_fits { (u : H.Undo) → H.fits host.old u → H.fits host.new u }
 {
     if let Some(slot_undo) = slot_undo {
@@ -60,10 +64,12 @@ pub fn advance<H: Host>(
 ) -> Result<(), NoMemory>
     requires from { length undos.old.items ≤ slot }
     requires there { slot ≤ length log.now }
-    requires run { IsExecuted H.meaning H.undo_of log.now (execution (H.state host.old) table.old) undos.old.items }
+    requires run { IsExecuted H.meaning H.undo_of log.now (execution (H.state host.old) table.old)
+        undos.old.items }
     requires fits { UndosFit (H.fits host.old) undos.old.items }
     ensures ok { OnOk result (length undos.new.items ≡ slot) }
-    ensures run { IsExecuted H.meaning H.undo_of log.now (execution (H.state host.new) table.new) undos.new.items }
+    ensures run { IsExecuted H.meaning H.undo_of log.now (execution (H.state host.new) table.new)
+        undos.new.items }
     ensures stays { length undos.old.items ≤ length undos.new.items }
     ensures within { length undos.new.items ≤ slot }
     ensures fits { UndosFit (H.fits host.new) undos.new.items }
@@ -85,10 +91,12 @@ pub fn go_back<H: Host>(
     slot: usize,
 )
     requires back { slot ≤ length undos.old.items }
-    requires run { IsExecuted H.meaning H.undo_of log.now (execution (H.state host.old) table.old) undos.old.items }
+    requires run { IsExecuted H.meaning H.undo_of log.now (execution (H.state host.old) table.old)
+        undos.old.items }
     requires fits { UndosFit (H.fits host.old) undos.old.items }
     ensures len { length undos.new.items ≡ slot }
-    ensures run { IsExecuted H.meaning H.undo_of log.now (execution (H.state host.new) table.new) undos.new.items }
+    ensures run { IsExecuted H.meaning H.undo_of log.now (execution (H.state host.new) table.new)
+        undos.new.items }
     ensures fits { UndosFit (H.fits host.new) undos.new.items }
 {
     while undos.len() > slot {

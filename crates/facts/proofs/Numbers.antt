@@ -1,5 +1,6 @@
 -- Numbers below, above and greatest of a list.
-use Rattle.std.proofs.Common.{◌≡◌, ℕ, zero, suc, ◌<◌, ◌≤◌, Bool, true, false, ltb, List, [], ◌∷◌, ◌++◌, ◌&&◌, ◌||◌, refl, sym, arith, inl, inr}
+use Rattle.std.proofs.Common.{◌≡◌, ℕ, zero, suc, ◌<◌, ◌≤◌, Bool, true, false, ltb, List, [], ◌∷◌, ◌++◌, ◌&&◌, ◌||◌, refl, sym, arith, inl}
+use Rattle.std.proofs.Common.{inr}
 use Rattle.std.proofs.lemmas.Bool.{ltb-true, ltb-false, lt-ltb, le-ltb, or_right}
 use Rattle.nop_types.specs.Lists.{Has, IsGreatest, all_below, any_above}
 use Rattle.facts.proofs.Members.{Has-append_left, Has-append_right, Has-append_cases, Has-one, Has-none}

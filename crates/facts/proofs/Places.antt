@@ -1,5 +1,6 @@
 -- Places of lists: of two lists joined, of a list with one more element, of a part, and where one is written.
-use Rattle.std.proofs.Common.{◌≡◌, ℕ, zero, suc, ◌+◌, ◌<◌, List, [], ◌∷◌, ◌++◌, length, take, drop, Some, refl, ap, ◌∙◌, arith, inl, inr, map}
+use Rattle.std.proofs.Common.{◌≡◌, ℕ, zero, suc, ◌+◌, ◌<◌, List, [], ◌∷◌, ◌++◌, length, take, drop, Some, refl, ap, ◌∙◌, arith, inl, inr}
+use Rattle.std.proofs.Common.{map}
 use Rattle.std.specs.Prelude.{◌⊎◌, slice_get, slice_set}
 use Rattle.std.specs.List.{range_with_len}
 
@@ -78,7 +79,8 @@ slice_get-take [] (suc n) i l = refl
 slice_get-take (x ∷ xs) (suc n) zero l = refl
 slice_get-take (x ∷ xs) (suc n) (suc i) l = slice_get-take xs n i (omega (arith, l))
 
-pub slice_get-from_take : {A : Type 0} (n : ℕ) (xs : List A) (i : ℕ) (x : A) → slice_get (take n xs) i ≡ Some x → (i < n) × (slice_get xs i ≡ Some x)
+pub slice_get-from_take : {A : Type 0} (n : ℕ) (xs : List A) (i : ℕ) (x : A) → slice_get (take n xs) i ≡ Some x
+    → (i < n) × (slice_get xs i ≡ Some x)
 slice_get-from_take zero xs i x e = absurd cc
 slice_get-from_take (suc n) [] i x e = absurd cc
 slice_get-from_take (suc n) (y ∷ ys) zero x e = (omega arith, e)

@@ -1,5 +1,6 @@
 -- Lists that begin another one.
-use Rattle.std.proofs.Common.{◌≡◌, ℕ, zero, suc, ◌≤◌, List, [], ◌∷◌, ◌++◌, length, take, drop, Some, refl, sym, ap, ◌∙◌, arith, length-append, take-append-drop, append_assoc}
+use Rattle.std.proofs.Common.{◌≡◌, ℕ, zero, suc, ◌≤◌, List, [], ◌∷◌, ◌++◌, length, take, drop, Some, refl, sym, ap, ◌∙◌, arith}
+use Rattle.std.proofs.Common.{length-append, take-append-drop, append_assoc}
 use Rattle.std.specs.Prelude.{slice_get}
 use Rattle.std.proofs.lemmas.List.{append-nil}
 use Rattle.std.proofs.lemmas.Option.{slice_get_within}
@@ -28,7 +29,8 @@ pub Has-prefix : {A : Type 0} (xs ys : List A) (x : A) → IsPrefixOf xs ys → 
 Has-prefix xs ys x p h = (h.0, slice_get-prefix xs ys h.0 x p h.1)
 
 -- a list begins another one if each place has there what it has here
-pub IsPrefixOf-from_places : {A : Type 0} (xs ys : List A) → ((i : ℕ) (x : A) → slice_get xs i ≡ Some x → slice_get ys i ≡ Some x) → IsPrefixOf xs ys
+pub IsPrefixOf-from_places : {A : Type 0} (xs ys : List A) → ((i : ℕ) (x : A) → slice_get xs i ≡ Some x → slice_get ys i ≡ Some x)
+    → IsPrefixOf xs ys
 IsPrefixOf-from_places [] ys h = (ys, refl)
 IsPrefixOf-from_places (x ∷ xs) [] h = absurd (let e = h 0 x refl in cc)
 IsPrefixOf-from_places (x ∷ xs) (y ∷ ys) h =

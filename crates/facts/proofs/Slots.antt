@@ -1,5 +1,6 @@
 -- Slots of logs: of prefixes, of longer logs, of logs in which slots are written, and of a log that is laid over another one.
-use Rattle.std.proofs.Common.{◌≡◌, ℕ, zero, suc, ◌+◌, ◌<◌, ◌≤◌, List, [], ◌∷◌, ◌++◌, length, take, drop, max, Some, refl, sym, ap, ◌∙◌, arith, inl, inr, map, take_at, length-take-le}
+use Rattle.std.proofs.Common.{◌≡◌, ℕ, zero, suc, ◌+◌, ◌<◌, ◌≤◌, List, [], ◌∷◌, ◌++◌, length, take, drop, max, Some, refl, sym, ap, ◌∙◌}
+use Rattle.std.proofs.Common.{arith, inl, inr, map, take_at, length-take-le}
 use Rattle.std.specs.Prelude.{slice_get, ◌⊎◌}
 use Rattle.std.specs.List.{range_with_len}
 use Rattle.std.proofs.lemmas.List.{append-nil, length-set, length_push}
@@ -7,7 +8,9 @@ use Rattle.std.proofs.lemmas.Option.{slice_get_within, slice_get_past}
 use Rattle.nop_types.specs.declared.request.Entry.{Entry}
 use Rattle.nop_types.specs.Lists.{Has, IsPrefixOf, slot_of}
 use Rattle.nop_types.specs.Slots.{set_slot, laid}
-use Rattle.facts.proofs.Places.{slice_get-some, Splits-at, slice_get-append_left, slice_get-append_at, slice_get-push_cases, slice_get-take, slice_get-from_take, slice_get-table, slice_get-set_here, slice_get-set_other, slice_get-set_cases, slice_get-set_after}
+use Rattle.facts.proofs.Places.{slice_get-some, Splits-at, slice_get-append_left, slice_get-append_at, slice_get-push_cases, slice_get-take}
+use Rattle.facts.proofs.Places.{slice_get-from_take, slice_get-table, slice_get-set_here, slice_get-set_other, slice_get-set_cases}
+use Rattle.facts.proofs.Places.{slice_get-set_after}
 use Rattle.facts.proofs.Members.{Has-append_right}
 use Rattle.facts.proofs.Prefixes.{slice_get-prefix, IsPrefixOf-from_places, IsPrefixOf-refl}
 
@@ -161,7 +164,8 @@ place_cases (y ∷ ys) (z ∷ zs) zero x e = inl e
 place_cases (y ∷ ys) (z ∷ zs) (suc i) x e = place_cases ys zs i x e
 
 -- what stands in a slot afterwards, one of the two logs has there
-pub slot_of-laid_cases : (l k : List Entry) (i : ℕ) (x : Entry) → slot_of (laid l k) i ≡ Some x → (slot_of l i ≡ Some x) ⊎ (slot_of k i ≡ Some x)
+pub slot_of-laid_cases : (l k : List Entry) (i : ℕ) (x : Entry) → slot_of (laid l k) i ≡ Some x → (slot_of l i ≡ Some x)
+    ⊎ (slot_of k i ≡ Some x)
 slot_of-laid_cases l k zero x e = absurd cc
 slot_of-laid_cases l k (suc i) x e = place_cases l k i x e
 

@@ -86,7 +86,9 @@ pub Below-sum : (a b : View) → Below a b → a.leader + a.session < b.leader +
 Below-sum a b h =
     elim (cases_lt (a.leader + a.session) (b.leader + b.session)) [
       | inl l ↦ l
-      | inr g ↦ absurd (h.apart (same_View a b (omega (arith, g, h.at_most.leader, h.at_most.session)) (omega (arith, g, h.at_most.leader, h.at_most.session))))
+      | inr g ↦ absurd
+          (h.apart (same_View a b (omega (arith, g, h.at_most.leader, h.at_most.session))
+          (omega (arith, g, h.at_most.leader, h.at_most.session))))
     ]
 
 -- what follows at a view from each view below it holds at every view
@@ -111,7 +113,10 @@ pub outranks-false : (a b : View) → outranks a b ≡ false → RanksAtMost a b
 outranks-false a b e = record { session = grind (arith, nat_tests, e); leader = λ s. grind (arith, nat_tests, e, s) }
 
 pub RanksAtMost-trans : (a b c : View) → RanksAtMost a b → RanksAtMost b c → RanksAtMost a c
-RanksAtMost-trans a b c h g = record { session = omega (arith, h.session, g.session); leader = λ s. omega (arith, s, h.session, g.session, h.leader, g.leader) }
+RanksAtMost-trans a b c h g = record {
+  session = omega (arith, h.session, g.session);
+  leader = λ s. omega (arith, s, h.session, g.session, h.leader, g.leader);
+}
 
 pub RanksAtMost-refl : (a : View) → RanksAtMost a a
 RanksAtMost-refl a = record { session = omega arith; leader = λ s. omega arith }

@@ -1,5 +1,6 @@
 -- What is kept came in fragments, and so did what is answered.
-use Rattle.std.proofs.Common.{◌≡◌, ℕ, zero, suc, ◌<◌, Bool, true, false, cond, eqb, List, [], ◌∷◌, ◌++◌, length, get_or, map, take, drop, replicate, All, Option, Some, None, refl, sym, subst, ◌∙◌, arith, inl, inr}
+use Rattle.std.proofs.Common.{◌≡◌, ℕ, zero, suc, ◌<◌, Bool, true, false, cond, eqb, List, [], ◌∷◌, ◌++◌, length, get_or, map, take, drop}
+use Rattle.std.proofs.Common.{replicate, All, Option, Some, None, refl, sym, subst, ◌∙◌, arith, inl, inr}
 use Rattle.std.specs.Prelude.{slice_get, not, ◌||◌, ◌&&◌}
 use Rattle.std.proofs.lemmas.Bool.{cases_lt, cases_eq, eqb-true, ltb-true, not-false, or_parts, and_parts}
 use Rattle.std.proofs.lemmas.List.{append-nil, get_or-set_same, get_or-set_other, set_past, length-set, length-map, length-replicate}
@@ -12,7 +13,8 @@ use Rattle.nop_types.specs.declared.datagram.Fragment.{Fragment}
 use Rattle.nop_types.specs.Lists.{Has}
 use Rattle.facts.proofs.Members.{Has-append_left, Has-push, Has-rest, Has-first}
 use Rattle.fragments.specs.Parts.{Partial, missing, whole, bytes_of, with_part}
-use Rattle.fragments.specs.Joining.{Waiting, begun, started, refuses, completes, continued, placed, place, joined, at_sender, taken, taken_if, is_in_range, opening}
+use Rattle.fragments.specs.Joining.{Waiting, begun, started, refuses, completes, continued, placed, place, joined, at_sender, taken}
+use Rattle.fragments.specs.Joining.{taken_if, is_in_range, opening}
 use Rattle.fragments.specs.Runs.{part_of, Came, AllCame, StepKeeps, after_all, after, CameInParts}
 
 fragment_is : (f : Fragment) (s n i c : ℕ) (p : List ℕ) → s ≡ f.replica → n ≡ f.message → i ≡ f.index → c ≡ f.count → p ≡ f.payload

@@ -1,5 +1,6 @@
 -- Parts that come, one after the other.
-use Rattle.std.proofs.Common.{◌≡◌, ℕ, zero, suc, ◌+◌, ◌<◌, ◌≤◌, true, List, [], ◌∷◌, ◌++◌, length, set, take, drop, replicate, Option, Some, None, refl, sym, ap, append_assoc, arith, add-one}
+use Rattle.std.proofs.Common.{◌≡◌, ℕ, zero, suc, ◌+◌, ◌<◌, ◌≤◌, true, List, [], ◌∷◌, ◌++◌, length, set, take, drop, replicate, Option, Some}
+use Rattle.std.proofs.Common.{None, refl, sym, ap, append_assoc, arith, add-one}
 use Rattle.std.proofs.lemmas.Grind.{flat_map-append}
 use Rattle.std.proofs.lemmas.List.{set_split}
 use Rattle.fragments.specs.Parts.{missing, is_open, whole}

@@ -1,5 +1,6 @@
 -- What is cut is in its ranges, and what is kept stays within the limits.
-use Rattle.std.proofs.Common.{◌≡◌, ℕ, suc, ◌+◌, ◌*◌, ◌<◌, ◌≤◌, Bool, true, false, cond, eqb, ltb, List, [], ◌∷◌, ◌++◌, length, get_or, take, drop, replicate, All, Option, Some, None, refl, sym, subst, arith, inl, inr}
+use Rattle.std.proofs.Common.{◌≡◌, ℕ, suc, ◌+◌, ◌*◌, ◌<◌, ◌≤◌, Bool, true, false, cond, eqb, ltb, List, [], ◌∷◌, ◌++◌, length, get_or, take}
+use Rattle.std.proofs.Common.{drop, replicate, All, Option, Some, None, refl, sym, subst, arith, inl, inr}
 use Rattle.std.specs.Prelude.{slice_get, nat_lt, nat_le, ◌&&◌, ◌||◌}
 use Rattle.std.proofs.lemmas.Bool.Decides.{nat_tests}
 use Rattle.std.proofs.lemmas.Bool.{ltb-false}
@@ -13,7 +14,8 @@ use Rattle.nop_types.specs.Lists.{Has}
 use Rattle.nop_types.specs.Ranges.{FragmentFits}
 use Rattle.fragments.specs.Cutting.{piece, piece_count, fragment_at, fragments_of, HasNoCut}
 use Rattle.fragments.specs.Parts.{Partial, bytes_of, with_part}
-use Rattle.fragments.specs.Joining.{Waiting, is_in_range, begun, started, refuses, completes, continued, placed, place, joined, at_sender, taken, taken_if}
+use Rattle.fragments.specs.Joining.{Waiting, is_in_range, begun, started, refuses, completes, continued, placed, place, joined, at_sender}
+use Rattle.fragments.specs.Joining.{taken, taken_if}
 use Rattle.fragments.specs.Runs.{PartialFits, WaitingFits, CanBeCut}
 use Rattle.fragments.proofs.Whole.{is_at}
 

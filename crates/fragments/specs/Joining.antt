@@ -1,5 +1,6 @@
 -- Joining: what a fragment changes, and the message that it completes.
-use Rattle.std.specs.Prelude.{ℕ, ◌+◌, Bool, true, false, List, [], ◌∷◌, ◌++◌, Option, Some, None, length, drop, remove, replicate, set, slice_get, position, nat_lt, nat_le, ◌==◌, ◌&&◌, ◌||◌, not, if◌then◌else◌}
+use Rattle.std.specs.Prelude.{ℕ, ◌+◌, Bool, true, false, List, [], ◌∷◌, ◌++◌, Option, Some, None, length, drop, remove, replicate, set}
+use Rattle.std.specs.Prelude.{slice_get, position, nat_lt, nat_le, ◌==◌, ◌&&◌, ◌||◌, not, if◌then◌else◌}
 use Rattle.nop_types.specs.declared.limits.TheConstants.{FRAGMENT_BYTES, MAX_FRAGMENTS, MAX_UNFINISHED}
 use Rattle.nop_types.specs.declared.datagram.Fragment.{Fragment}
 use Rattle.fragments.specs.Parts.{Partial, missing, is_open, whole, with_part}

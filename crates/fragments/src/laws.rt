@@ -46,7 +46,8 @@ pub fn joins_what_was_sent()
 /// Where each fragment that was taken was cut by its sender, and no sender used a number twice, what is answered is one
 /// message, which its sender sent.
 pub fn answers_what_was_sent()
-    ensures { (sent : List Sent) (n : ℕ) (past : List Fragment) (f : Fragment) (bytes : List ℕ) →
+    ensures { (sent : List Sent) (n : ℕ) (past : List Fragment) (f : Fragment)
+        (bytes : List ℕ) →
         AreDistinct sent → AreCutFrom sent (past ++ f ∷ []) →
         (taken (after n past) f).1 ≡ Some bytes →
         WasSent sent f bytes }
@@ -62,13 +63,15 @@ pub fn message_within_limit_is_cut()
 
 /// What is cut is in the ranges of fragments.
 pub fn cut_fragments_fit()
-    ensures { (sender number : ℕ) (bytes : List ℕ) (f : Fragment) → CanBeCut sender number bytes →
+    ensures { (sender number : ℕ) (bytes : List ℕ) (f : Fragment) →
+        CanBeCut sender number bytes →
         Has (fragments_of sender number bytes) f → FragmentFits f }
 {}
 
 /// What is cut, and comes in order where nothing was kept, is joined at its last fragment.
 pub fn cut_is_joined()
-    ensures { (n sender number : ℕ) (bytes : List ℕ) → sender < n → CanBeCut sender number bytes →
+    ensures { (n sender number : ℕ) (bytes : List ℕ) → sender < n →
+        CanBeCut sender number bytes →
         answered (opening n) (fragments_of sender number bytes) ≡ bytes ∷ [] }
 {}
 

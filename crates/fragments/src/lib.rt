@@ -16,6 +16,3 @@ pub use laws::{
     opening_came, stays_came, stays_within_limits,
 };
 pub use reassembly::Reassembly;
-
-#[cfg(test)]
-mod tests;

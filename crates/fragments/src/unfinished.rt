@@ -137,7 +137,8 @@ fn gather(front: &mut Vec<u8>, filled: usize, later: &mut Vec<Option<Bytes>>) ->
 impl Unfinished {
     #[tactic(auto, using(crate::proofs::Counting::missing_replicate))]
     pub(crate) fn new(alloc: Global, number: u64, count: u16) -> Result<Unfinished, NoMemory>
-        ensures { IfOk result (λ u. u ≡ record { number = number; parts = replicate count None }) }
+        ensures { IfOk result (λ u. u
+            ≡ record { number = number; parts = replicate count None }) }
     {
         let later = empty_parts(alloc, count)?;
         let front = Vec::with_capacity(alloc, FRAGMENT_BYTES * PARTS_AHEAD.min(count as usize))?;

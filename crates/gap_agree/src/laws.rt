@@ -8,7 +8,8 @@ use nop_types::MAX_REPLICAS;
 pub fn with_vote_by_member()
     ensures members { (votes : List ℕ) (q k : ℕ)
         → (Has (with_vote votes q) k ↔ ((k < MAX_REPLICAS) × ((k ≡ q) ⊎ Has votes k))) }
-    ensures distinct { (votes : List ℕ) (q i j k : ℕ) → slice_get (with_vote votes q) i ≡ Some k
+    ensures distinct { (votes : List ℕ) (q i j k : ℕ) →
+        slice_get (with_vote votes q) i ≡ Some k
         → slice_get (with_vote votes q) j ≡ Some k → i ≡ j }
     ensures again { (votes : List ℕ) (q r : ℕ) → Has (with_vote votes q) r
         → with_vote (with_vote votes q) r ≡ with_vote votes q }

@@ -8,6 +8,3 @@ mod voters;
 pub use agreement::Gap;
 pub use laws::with_vote_by_member;
 pub use voters::Votes;
-
-#[cfg(test)]
-mod tests;

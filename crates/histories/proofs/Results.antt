@@ -1,5 +1,6 @@
 -- What is kept for a client, and the result at a slot.
-use Rattle.std.proofs.Common.{◌≡◌, ℕ, zero, suc, ◌+◌, ◌≤◌, Bool, true, false, cond, eqb, List, [], ◌∷◌, ◌++◌, length, take, Option, Some, None, refl, sym, ap, subst, ◌∙◌, append_assoc, add-one, arith, inl, inr}
+use Rattle.std.proofs.Common.{◌≡◌, ℕ, zero, suc, ◌+◌, ◌≤◌, Bool, true, false, cond, eqb, List, [], ◌∷◌, ◌++◌, length, take, Option, Some}
+use Rattle.std.proofs.Common.{None, refl, sym, ap, subst, ◌∙◌, append_assoc, add-one, arith, inl, inr}
 use Rattle.std.specs.Prelude.{◌↔◌, IsSome, slice_get, option_map}
 use Rattle.std.proofs.lemmas.Bool.{eq-eqb, eqb-true, ne_eqb}
 use Rattle.std.proofs.lemmas.List.{append-nil, take-append-le, take_all}
@@ -8,14 +9,16 @@ use Rattle.nop_types.specs.declared.request.Entry.{Entry}
 use Rattle.nop_types.specs.declared.request.Entry.TheVariants.{NoOp, Req}
 use Rattle.nop_types.specs.Meaning.{Meaning}
 use Rattle.nop_types.specs.Lists.{IsPrefixOf, IsGreatest, slot_of, all_below, any_above}
-use Rattle.nop_types.specs.Execution.{Answered, Executed, opening, id_in, ids_of, execute, enter, exec_from, exec, is_above_kept, result_kept, enter_kept, exec_kept, result_at}
+use Rattle.nop_types.specs.Execution.{Answered, Executed, opening, id_in, ids_of, execute, enter, exec_from, exec, is_above_kept}
+use Rattle.nop_types.specs.Execution.{result_kept, enter_kept, exec_kept, result_at}
 use Rattle.nop_types.specs.Histories.{history_of}
 use Rattle.nop_types.specs.Legality.{IsOf, IsAnswered}
 use Rattle.facts.proofs.Places.{slice_get-append_within, Splits-at}
 use Rattle.facts.proofs.Members.{Has-append_left, Has-append_right, Has-append_cases, Has-one}
 use Rattle.facts.proofs.Prefixes.{IsPrefixOf-take}
 use Rattle.facts.proofs.Slots.{slot_of-push}
-use Rattle.facts.proofs.Numbers.{any_above-false, any_above-true, IsGreatest-push, IsGreatest-push_old, all_below-greatest, IsGreatest-unique}
+use Rattle.facts.proofs.Numbers.{any_above-false, any_above-true, IsGreatest-push, IsGreatest-push_old, all_below-greatest}
+use Rattle.facts.proofs.Numbers.{IsGreatest-unique}
 use Rattle.histories.specs.Execution.{KeepsGreatest, execute_all}
 use Rattle.histories.specs.Histories.{IsExecutedAt}
 use Rattle.histories.proofs.Ids.{IsOf-refl, ids_of-append}

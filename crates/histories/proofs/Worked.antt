@@ -8,7 +8,8 @@ use Rattle.nop_types.specs.Lines.{Line, Submit, Accept}
 use Rattle.nop_types.specs.Histories.{answer_at}
 use Rattle.nop_types.specs.Legality.{IsOf, IsSubmittedBefore, Legal}
 use Rattle.histories.specs.Legality.{IsUnsubmitted, IsUnaccepted, IsNoMember, Grounded}
-use Rattle.histories.specs.Worked.{appending, first_request, second_request, retried_log, retried_lines, concurrent_lines, early_lines, wrong_lines, repeated_lines, swapped_lines}
+use Rattle.histories.specs.Worked.{appending, first_request, second_request, retried_log, retried_lines, concurrent_lines, early_lines}
+use Rattle.histories.specs.Worked.{wrong_lines, repeated_lines, swapped_lines}
 use Rattle.histories.proofs.Ids.{IsOf-refl}
 use Rattle.histories.proofs.Legal.{legal_at_first, legal_with_submit, legal_with_accept, legal_with_member, legal_from_grounds}
 

@@ -23,7 +23,8 @@ pub record StandsBefore (log : List Entry) (p q : Request) : Type 0 where
   pub entry : slot_of log slot ≡ Some (Req p)
   pub later_entry : slot_of log later ≡ Some (Req q)
 
--- the member at a place of the history is executed right after a part of the log whose history is the members before it, and the host's answer then is the one at its place
+-- the member at a place of the history is executed right after a part of the log whose history is the members before it, and the host's
+-- answer then is the one at its place
 pub record IsExecutedAt {S : Type 0} (m : Meaning S) (log : List Entry) (i : ℕ) (r : Request) : Type 0 where
   pub before : List Entry
   pub rest : List Entry

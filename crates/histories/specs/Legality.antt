@@ -34,7 +34,8 @@ abbrev pub SubmittedOnce : List Line → Type 0
 SubmittedOnce lines =
     (k l : ℕ) (p q : Request) → slice_get lines k ≡ Some (Submit p) → slice_get lines l ≡ Some (Submit q) → IsOf p.client p.id q → k ≡ l
 
--- why the line at a place k may accept: the log has the request at a slot with this result, and lines before k submit each request up to there
+-- why the line at a place k may accept: the log has the request at a slot with this result, and lines before k submit each request up to
+-- there
 pub record IsGrounded {S : Type 0} (m : Meaning S) (lines : List Line) (log : List Entry) (k client id : ℕ) (result : List ℕ) : Type 0 where
   pub slot : ℕ
   pub request : Request

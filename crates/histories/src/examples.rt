@@ -42,7 +42,8 @@ pub fn worked_log()
 
     ensures answer_0 { answer_at appending (history_of worked_log) 0 ≡ Some (10 ∷ []) }
     ensures answer_1 { answer_at appending (history_of worked_log) 1 ≡ Some (10 ∷ 20 ∷ []) }
-    ensures answer_2 { answer_at appending (history_of worked_log) 2 ≡ Some (10 ∷ 20 ∷ 30 ∷ []) }
+    ensures answer_2 { answer_at appending (history_of worked_log) 2
+        ≡ Some (10 ∷ 20 ∷ 30 ∷ []) }
     ensures answer_3 { answer_at appending (history_of worked_log) 3 ≡ None }
 {}
 
@@ -51,7 +52,8 @@ pub fn worked_log()
 pub fn legal_lines()
     ensures grounds { Grounded appending retried_lines retried_log }
     ensures retried { Legal appending retried_lines (first_request ∷ []) }
-    ensures concurrent { Legal appending concurrent_lines (second_request ∷ first_request ∷ []) }
+    ensures concurrent { Legal appending concurrent_lines (second_request
+        ∷ first_request ∷ []) }
 {}
 
 /// Lines that no history makes legal.
@@ -68,5 +70,6 @@ pub fn illegal_histories()
     ensures unsubmitted { Legal appending [] (first_request ∷ []) → ⊥ }
     ensures doubled { Legal appending (Submit first_request ∷ [])
         (first_request ∷ first_request ∷ []) → ⊥ }
-    ensures missing { Legal appending (Submit first_request ∷ Accept 1 1 (10 ∷ []) ∷ []) [] → ⊥ }
+    ensures missing { Legal appending (Submit first_request ∷ Accept 1 1 (10 ∷ [])
+        ∷ []) [] → ⊥ }
 {}

@@ -64,7 +64,8 @@ pub fn exec_of_next_entry<S>()
 /// One more slot of a log is one more step.
 #[tactic(auto, using(crate::proofs::Results::exec_of_next_slot))]
 pub fn exec_of_next_slot<S>()
-    ensures { (m : Meaning S) (log : List Entry) (i : ℕ) (e : Entry) → slice_get log i ≡ Some e
+    ensures { (m : Meaning S) (log : List Entry) (i : ℕ) (e : Entry) →
+        slice_get log i ≡ Some e
         → exec m (take (i + 1) log) ≡ enter_kept m (exec m (take i log)) e }
 {}
 

@@ -13,7 +13,8 @@ ghost use Rattle.histories.specs.Histories.{IsNewIn, StandsBefore, IsExecutedAt}
 /// The history of a longer log goes on from that of the shorter one.
 #[tactic(auto, using(crate::proofs::Members::history_of_append))]
 pub fn history_of_append()
-    ensures { (xs ys : List Entry) → history_of (xs ++ ys) ≡ history_of xs ++ history_from xs ys }
+    ensures { (xs ys : List Entry) → history_of (xs ++ ys) ≡ history_of xs
+        ++ history_from xs ys }
 {}
 
 /// One more entry adds its request, where that is new.
@@ -32,7 +33,8 @@ pub fn repeat_is_no_member()
 /// The history of a prefix begins that of the whole log.
 #[tactic(auto, using(crate::proofs::Members::history_of_prefix))]
 pub fn history_of_prefix()
-    ensures { (xs ys : List Entry) → IsPrefixOf xs ys → IsPrefixOf (history_of xs) (history_of ys) }
+    ensures { (xs ys : List Entry) → IsPrefixOf xs ys → IsPrefixOf (history_of xs)
+        (history_of ys) }
 {}
 
 /// The members of a history are requests of the log.
@@ -49,21 +51,24 @@ pub fn members_are_new()
 /// Later members stand in later slots.
 #[tactic(auto, using(crate::proofs::Members::members_keep_order))]
 pub fn members_keep_order()
-    ensures { (log : List Entry) (i j : ℕ) (p q : Request) → slice_get (history_of log) i ≡ Some p
+    ensures { (log : List Entry) (i j : ℕ) (p q : Request) →
+        slice_get (history_of log) i ≡ Some p
         → slice_get (history_of log) j ≡ Some q → i < j → StandsBefore log p q }
 {}
 
 /// A client's later members have greater ids.
 #[tactic(auto, using(crate::proofs::Members::ids_rise))]
 pub fn ids_rise()
-    ensures { (log : List Entry) (i j : ℕ) (p q : Request) → slice_get (history_of log) i ≡ Some p
+    ensures { (log : List Entry) (i j : ℕ) (p q : Request) →
+        slice_get (history_of log) i ≡ Some p
         → slice_get (history_of log) j ≡ Some q → p.client ≡ q.client → i < j → p.id < q.id }
 {}
 
 /// No client and id stands twice in a history.
 #[tactic(auto, using(crate::proofs::Members::members_are_distinct))]
 pub fn members_are_distinct()
-    ensures { (log : List Entry) (i j : ℕ) (p q : Request) → slice_get (history_of log) i ≡ Some p
+    ensures { (log : List Entry) (i j : ℕ) (p q : Request) →
+        slice_get (history_of log) i ≡ Some p
         → slice_get (history_of log) j ≡ Some q → IsOf p.client p.id q → i ≡ j }
 {}
 
@@ -85,7 +90,8 @@ pub fn answer_of_member<S>()
 /// An answer rests on the members up to it alone.
 #[tactic(auto, using(crate::proofs::Members::answer_needs_prefix))]
 pub fn answer_needs_prefix<S>()
-    ensures { (m : Meaning S) (xs ys : List Request) (i : ℕ) → IsPrefixOf xs ys → i < length xs
+    ensures { (m : Meaning S) (xs ys : List Request) (i : ℕ) → IsPrefixOf xs ys →
+        i < length xs
         → answer_at m ys i ≡ answer_at m xs i }
 {}
 

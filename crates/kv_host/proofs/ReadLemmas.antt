@@ -1,5 +1,6 @@
 -- An op that is spelled is read.
-use Rattle.std.proofs.Common.{◌≡◌, ℕ, ◌<◌, ◌^◌, true, cond, List, [], ◌∷◌, ◌++◌, length, take, drop, Option, Some, None, refl, sym, ap, subst, ◌∙◌, arith}
+use Rattle.std.proofs.Common.{◌≡◌, ℕ, ◌<◌, ◌^◌, true, cond, List, [], ◌∷◌, ◌++◌, length, take, drop, Option, Some, None, refl, sym, ap}
+use Rattle.std.proofs.Common.{subst, ◌∙◌, arith}
 use Rattle.std.specs.Prelude.{nat_le, ◌&&◌}
 use Rattle.std.specs.Int.{w16, from_be_bytes, to_be_bytes}
 use Rattle.std.proofs.lemmas.Bool.Decides.{nat_tests}
@@ -8,7 +9,8 @@ use Rattle.std.proofs.lemmas.Nat.{from_be_bytes-to_be_bytes_2}
 use Rattle.std.proofs.Math.Seq.{take-append_seam, drop-append_seam}
 use Rattle.nop_types.specs.declared.limits.TheConstants.{MAX_KEY_BYTES, MAX_VALUE_BYTES}
 use Rattle.kv_host.specs.declared.op.TheConstants.{GET, PUT, DELETE, SWAP}
-use Rattle.kv_host.specs.Op.{Op, Get, Put, Delete, Swap, Bad, Field, field_at, key_at, value_at, read_get, read_put, read_delete, read_swap, read_op}
+use Rattle.kv_host.specs.Op.{Op, Get, Put, Delete, Swap, Bad, Field, field_at, key_at, value_at, read_get, read_put, read_delete, read_swap}
+use Rattle.kv_host.specs.Op.{read_op}
 use Rattle.kv_host.specs.Spelling.{FieldFits, KeyFits, ValueFits, OpFits, field, Spells}
 use Rattle.kv_host.specs.Reading as reading
 

@@ -1,5 +1,6 @@
 -- An op that is read has its fields within their limits, and is spelled by the bytes.
-use Rattle.std.proofs.Common.{◌≡◌, ℕ, ◌<◌, ◌⊎◌, inl, inr, Bool, true, false, cond, List, [], ◌∷◌, ◌++◌, length, take, drop, get_or, zero, suc, Option, Some, None, refl, sym, ap, subst, ◌∙◌, arith, eqb}
+use Rattle.std.proofs.Common.{◌≡◌, ℕ, ◌<◌, ◌⊎◌, inl, inr, Bool, true, false, cond, List, [], ◌∷◌, ◌++◌, length, take, drop, get_or, zero}
+use Rattle.std.proofs.Common.{suc, Option, Some, None, refl, sym, ap, subst, ◌∙◌, arith, eqb}
 use Rattle.std.specs.Prelude.{IfSome, nat_le, ◌&&◌}
 use Rattle.std.specs.Option.{unwrap_or, option_and_then}
 use Rattle.std.specs.Int.{w16, from_be_bytes}
@@ -9,7 +10,8 @@ use Rattle.std.proofs.lemmas.Nat.{be_bytes_2}
 use borrow.Author.Tests.{eqb-true}
 use Rattle.nop_types.specs.declared.limits.TheConstants.{MAX_KEY_BYTES, MAX_VALUE_BYTES}
 use Rattle.kv_host.specs.declared.op.TheConstants.{GET, PUT, DELETE, SWAP}
-use Rattle.kv_host.specs.Op.{Op, Get, Put, Delete, Swap, Bad, Field, field_at, key_at, value_at, at_end, read_get, read_put, read_delete, read_swap, read_fields, read_op}
+use Rattle.kv_host.specs.Op.{Op, Get, Put, Delete, Swap, Bad, Field, field_at, key_at, value_at, at_end, read_get, read_put, read_delete}
+use Rattle.kv_host.specs.Op.{read_swap, read_fields, read_op}
 use Rattle.kv_host.specs.Spelling.{FieldFits, OpFits, IsBytes, field, Spells}
 
 -- the bytes begin with the field, which has a length from low to high

@@ -38,10 +38,14 @@ fn write(table: &mut Table, index: usize, key: &[u8], value: Option<KvValue>) ->
     requires within { index < index_map_len table.old }
     requires key { key_of table.old index ≡ key.now }
     requires short { length key.now ≤ MAX_KEY_BYTES }
-    ensures after { values_of (places table.new) ≡ with_value (values_of (places table.old)) key.now value }
-    ensures undo { result ≡ Some (record { key = key.now; value = finite.get (values_of (places table.old)) key.now }) }
+    ensures after { values_of (places table.new) ≡ with_value (values_of (places table.old))
+        key.now value }
+    ensures undo { result
+        ≡ Some
+        (record { key = key.now; value = finite.get (values_of (places table.old)) key.now }) }
     ensures fits { HasPlace (places table.new) result }
-    ensures still_fits { (u : _) → HasPlace (places table.old) u → HasPlace (places table.new) u }
+    ensures still_fits { (u : _) → HasPlace (places table.old) u →
+        HasPlace (places table.new) u }
 {
     Some(KvUndo {
         key: KvKey::new(key),
@@ -59,10 +63,16 @@ fn add(
 ) -> Result<Option<KvUndo>, NoMemory>
     requires absent { finite.get (places table.old) key.now ≡ None }
     requires short { length key.now ≤ MAX_KEY_BYTES }
-    ensures after { OnOk result (values_of (places table.new) ≡ finite.insert (values_of (places table.old)) key.now value) }
-    ensures undo { IfOk result (λ u. u ≡ Some (record { key = key.now; value = finite.get (values_of (places table.old)) key.now })) }
+    ensures after { OnOk result (values_of (places table.new)
+        ≡ finite.insert (values_of (places table.old)) key.now value) }
+    ensures undo { IfOk result (λ u. u
+        ≡ Some (record {
+          key = key.now;
+          value = finite.get (values_of (places table.old)) key.now;
+        })) }
     ensures fits { IfOk result (HasPlace (places table.new)) }
-    ensures still_fits { (u : _) → HasPlace (places table.old) u → HasPlace (places table.new) u }
+    ensures still_fits { (u : _) → HasPlace (places table.old) u →
+        HasPlace (places table.new) u }
     ensures err { OnErr result (places table.new ≡ places table.old) }
 {
     insert(alloc, table, key, value)?;
@@ -75,7 +85,8 @@ fn add(
 /// Answers with the value of a key.
 #[tactic(auto, using(crate::proofs::PlacesLemmas::place_writes))]
 pub fn get(alloc: Global, table: &Table, key: &[u8]) -> Result<Bytes, NoMemory>
-    ensures answer { IfOk result (λ b. b ≡ answer_to (values_of (places table.now)) (Get key.now)) }
+    ensures answer { IfOk result (λ b. b ≡ answer_to (values_of (places table.now))
+        (Get key.now)) }
     ensures short { IfOk result (λ b. length b ≤ 257) }
 {
     match find(table, key) {
@@ -94,8 +105,10 @@ pub fn put(
 ) -> Result<(Bytes, Option<KvUndo>), NoMemory>
     requires key { length key.now ≤ MAX_KEY_BYTES }
     requires value { length value.now ≤ MAX_VALUE_BYTES }
-    ensures done { IfOk result (λ r. IsDone (Put key.now value.now) (places table.old) (places table.new) r.0 r.1) }
-    ensures still_fits { (u : _) → HasPlace (places table.old) u → HasPlace (places table.new) u }
+    ensures done { IfOk result (λ r. IsDone (Put key.now value.now) (places table.old)
+        (places table.new) r.0 r.1) }
+    ensures still_fits { (u : _) → HasPlace (places table.old) u →
+        HasPlace (places table.new) u }
     ensures err { OnErr result (places table.new ≡ places table.old) }
 {
     let value = KvValue::new(alloc, value)?;
@@ -119,8 +132,10 @@ pub fn delete(
     key: &[u8],
 ) -> Result<(Bytes, Option<KvUndo>), NoMemory>
     requires { length key.now ≤ MAX_KEY_BYTES }
-    ensures done { IfOk result (λ r. IsDone (Delete key.now) (places table.old) (places table.new) r.0 r.1) }
-    ensures still_fits { (u : _) → HasPlace (places table.old) u → HasPlace (places table.new) u }
+    ensures done { IfOk result (λ r. IsDone (Delete key.now) (places table.old)
+        (places table.new) r.0 r.1) }
+    ensures still_fits { (u : _) → HasPlace (places table.old) u →
+        HasPlace (places table.new) u }
     ensures err { OnErr result (places table.new ≡ places table.old) }
 {
     match find(table, key) {
@@ -143,8 +158,10 @@ pub fn swap(
 ) -> Result<(Bytes, Option<KvUndo>), NoMemory>
     requires key { length key.now ≤ MAX_KEY_BYTES }
     requires value { length new.now ≤ MAX_VALUE_BYTES }
-    ensures done { IfOk result (λ r. IsDone (Swap key.now old.now new.now) (places table.old) (places table.new) r.0 r.1) }
-    ensures still_fits { (u : _) → HasPlace (places table.old) u → HasPlace (places table.new) u }
+    ensures done { IfOk result (λ r. IsDone (Swap key.now old.now new.now) (places table.old)
+        (places table.new) r.0 r.1) }
+    ensures still_fits { (u : _) → HasPlace (places table.old) u →
+        HasPlace (places table.new) u }
     ensures err { OnErr result (places table.new ≡ places table.old) }
 {
     match find(table, key) {

@@ -6,8 +6,6 @@ mod host;
 mod key;
 mod op;
 mod table;
-#[cfg(test)]
-mod tests;
 mod undo;
 mod value;
 

@@ -119,5 +119,6 @@ pub fn read(op: &[u8]) -> KvOp<'_>
 /// An op is read from the bytes that spell it, and from no others.
 pub fn ops_are_read_as_spelled()
     ensures read { (op : _) (bytes : _) → Spells op bytes → read_op bytes ≡ op }
-    ensures spelled { (bytes : _) → IsBytes bytes → (read_op bytes ≡ Bad) ⊎ Spells (read_op bytes) bytes }
+    ensures spelled { (bytes : _) → IsBytes bytes → (read_op bytes ≡ Bad)
+        ⊎ Spells (read_op bytes) bytes }
 {}

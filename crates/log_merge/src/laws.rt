@@ -22,7 +22,8 @@ pub fn merge_by_slot()
 /// A merge depends on who told which log, and not on the order of the changes, nor on anything else in them.
 #[tactic(auto, using(crate::proofs::Merged::merge_of_same))]
 pub fn merge_is_of_pairs()
-    ensures { (cs ds : List Change) → HasDistinctSenders cs → TellSame cs ds → merge cs ≡ merge ds }
+    ensures { (cs ds : List Change) → HasDistinctSenders cs → TellSame cs ds →
+        merge cs ≡ merge ds }
 {}
 
 /// The entries of a merge are in their ranges where those of all logs are.

@@ -6,6 +6,3 @@ mod merging;
 
 pub use laws::{merge_by_slot, merge_is_in_ranges, merge_is_of_pairs};
 pub use merging::{merge, merge_of_view};
-
-#[cfg(test)]
-mod tests;

@@ -1,7 +1,8 @@
 -- The ranges of the fields of messages.
 use Rattle.std.specs.Prelude.{◌≡◌, ℕ, ◌+◌, ◌<◌, ◌≤◌, ◌^◌, length, List, ⊤}
 use Rattle.std.specs.List.{AllByRecursion}
-use Rattle.nop_types.specs.declared.limits.TheConstants.{MAX_OP_BYTES, MAX_RESULT_BYTES, MAX_SLOTS, MAX_FRAGMENTS, FRAGMENT_BYTES, NUMBER_END}
+use Rattle.nop_types.specs.declared.limits.TheConstants.{MAX_OP_BYTES, MAX_RESULT_BYTES, MAX_SLOTS, MAX_FRAGMENTS, FRAGMENT_BYTES}
+use Rattle.nop_types.specs.declared.limits.TheConstants.{NUMBER_END}
 use Rattle.nop_types.specs.declared.view.View.{View}
 use Rattle.nop_types.specs.declared.request.Request.{Request}
 use Rattle.nop_types.specs.declared.request.Entry.{Entry}

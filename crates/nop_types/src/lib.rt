@@ -39,6 +39,3 @@ pub use peer::{Body, Change, Peer};
 pub use replica_state::{Phase, Vote};
 pub use request::{Entry, Request};
 pub use view::{View, join_is_least, leader_of};
-
-#[cfg(test)]
-mod tests;

@@ -1,5 +1,6 @@
 -- Whole datagrams: what was spelled is read, and what is read is spelled.
-use Rattle.std.proofs.Common.{◌≡◌, ℕ, Bool, true, false, cond, eqb, List, [], ◌∷◌, ◌++◌, Result, Ok, Err, refl, sym, ap, ◌∙◌, arith, inl, inr, ◌⊎◌}
+use Rattle.std.proofs.Common.{◌≡◌, ℕ, Bool, true, false, cond, eqb, List, [], ◌∷◌, ◌++◌, Result, Ok, Err, refl, sym, ap, ◌∙◌, arith, inl}
+use Rattle.std.proofs.Common.{inr, ◌⊎◌}
 use Rattle.std.specs.Prelude.{IfOk, not, ◌&&◌}
 use Rattle.std.proofs.lemmas.Bool.{eqb-true}
 use Rattle.std.proofs.lemmas.Bool.Decides.{nat_tests}
@@ -13,7 +14,8 @@ use Rattle.oum_codec.specs.Spelling.{header, spelling, Spells}
 use Rattle.oum_codec.specs.Reading.{Gives, ◌>>=◌, request_of, stamped_of, reply_of, signal_of, fragment_of, body_of, reading}
 use Rattle.oum_codec.proofs.Steps.{ok_is, guard_ok}
 use Rattle.oum_codec.proofs.Numbers.{IsBytes-rest}
-use Rattle.oum_codec.proofs.EachKind.{request_takes, request_again, stamped_takes, stamped_again, reply_takes, reply_again, signal_again, kind_takes, fragment_takes, fragment_again}
+use Rattle.oum_codec.proofs.EachKind.{request_takes, request_again, stamped_takes, stamped_again, reply_takes, reply_again, signal_again}
+use Rattle.oum_codec.proofs.EachKind.{kind_takes, fragment_takes, fragment_again}
 
 -- the first of two readings, where its test holds, else the second
 chosen : (b : Bool) (x y z : Result Datagram Bad) → cond b x y ≡ z → ((b ≡ true) × (x ≡ z)) ⊎ ((b ≡ false) × (y ≡ z))
@@ -35,19 +37,24 @@ body_takes kind rest d fits e =
             | inr next ↦
                 elim (chosen (eqb kind 5) (signal_of rest >>= λ f. Ok (datagrams.Installed f.sequencer f.number)) _ (Ok d) next.1) [
                   | inl here ↦
-                      rw (eqb-true _ _ here.0) (kind_takes 5 datagrams.Installed rest d (λ sequencer n h. h) (λ sequencer n. refl) fits here.1)
-                  | inr next ↦ elim (chosen (eqb kind 6) (signal_of rest >>= λ f. Ok (datagrams.Ping f.sequencer f.number)) _ (Ok d) next.1) [
-                    | inl here ↦
-                        rw (eqb-true _ _ here.0) (kind_takes 6 datagrams.Ping rest d (λ sequencer n h. h) (λ sequencer n. refl) fits here.1)
-                    | inr next ↦ elim (chosen (eqb kind 7) (signal_of rest >>= λ f. Ok (datagrams.Pong f.sequencer f.number)) _ (Ok d) next.1) [
-                      | inl here ↦
-                          rw (eqb-true _ _ here.0) (kind_takes 7 datagrams.Pong rest d (λ sequencer n h. h) (λ sequencer n. refl) fits here.1)
-                      | inr next ↦ elim (chosen (eqb kind 8) (fragment_of rest) _ (Ok d) next.1) [
-                        | inl here ↦ rw (eqb-true _ _ here.0) (fragment_takes rest d fits here.1)
-                        | inr none ↦ absurd (let h = none.1 in cc)
+                      rw (eqb-true _ _ here.0) (kind_takes 5 datagrams.Installed rest d (λ sequencer n h. h) (λ sequencer n. refl)
+                      fits here.1)
+                  | inr next ↦ elim (chosen (eqb kind 6) (signal_of rest >>= λ f. Ok (datagrams.Ping f.sequencer f.number)) _
+                      (Ok d) next.1) [
+                        | inl here ↦
+                            rw (eqb-true _ _ here.0) (kind_takes 6 datagrams.Ping rest d (λ sequencer n h. h) (λ sequencer n. refl)
+                            fits here.1)
+                        | inr next ↦ elim (chosen (eqb kind 7) (signal_of rest >>= λ f. Ok (datagrams.Pong f.sequencer f.number)) _
+                            (Ok d) next.1) [
+                              | inl here ↦
+                                  rw (eqb-true _ _ here.0) (kind_takes 7 datagrams.Pong rest d (λ sequencer n h. h) (λ sequencer n. refl)
+                                  fits here.1)
+                              | inr next ↦ elim (chosen (eqb kind 8) (fragment_of rest) _ (Ok d) next.1) [
+                                | inl here ↦ rw (eqb-true _ _ here.0) (fragment_takes rest d fits here.1)
+                                | inr none ↦ absurd (let h = none.1 in cc)
+                              ]
+                            ]
                       ]
-                    ]
-                  ]
                 ]
           ]
         ]

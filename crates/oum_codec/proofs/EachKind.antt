@@ -1,5 +1,6 @@
 -- Each kind after its four bytes: what was spelled is read, and what is read is spelled.
-use Rattle.std.proofs.Common.{◌≡◌, ℕ, ◌<◌, ◌≤◌, Bool, true, false, cond, ltb, List, [], ◌∷◌, ◌++◌, length, Some, Ok, refl, sym, ap, subst, ◌∙◌, append_assoc, arith}
+use Rattle.std.proofs.Common.{◌≡◌, ℕ, ◌<◌, ◌≤◌, Bool, true, false, cond, ltb, List, [], ◌∷◌, ◌++◌, length, Some, Ok, refl, sym, ap, subst}
+use Rattle.std.proofs.Common.{◌∙◌, append_assoc, arith}
 use Rattle.std.specs.Prelude.{zero, suc, ◌+◌}
 use Rattle.std.specs.Int.{w16, w32, w64}
 use Rattle.std.proofs.lemmas.Bool.{ltb-false, ltb-true}
@@ -19,11 +20,16 @@ use Rattle.oum_codec.specs.declared.fixed.SignalFields.{SignalFields}
 use Rattle.oum_codec.specs.declared.fixed.FragmentFields.{FragmentFields}
 use Rattle.oum_codec.specs.Numbers.{IsBytes, be_bytes}
 use Rattle.oum_codec.specs.Spelling.{view_bytes, header, request_bytes, stamped_bytes, reply_bytes, signal_bytes, fragment_bytes, spelling}
-use Rattle.nop_types.specs.declared.limits.TheConstants.{FRAGMENT_BYTES, MAX_FRAGMENTS, MAX_OP_BYTES, MAX_RESULT_BYTES, MAX_SLOTS, NUMBER_END}
-use Rattle.oum_codec.specs.Fixed.{tag_fits, request_fields_at, request_in_range, stamped_fields_at, stamped_in_range, reply_fields_at, reply_in_range, signal_fields_at, signal_in_range, fragment_fields_at, fragment_in_range, least_payload}
+use Rattle.nop_types.specs.declared.limits.TheConstants.{FRAGMENT_BYTES, MAX_FRAGMENTS, MAX_OP_BYTES, MAX_RESULT_BYTES, MAX_SLOTS}
+use Rattle.nop_types.specs.declared.limits.TheConstants.{NUMBER_END}
+use Rattle.oum_codec.specs.Fixed.{tag_fits, request_fields_at, request_in_range, stamped_fields_at, stamped_in_range, reply_fields_at}
+use Rattle.oum_codec.specs.Fixed.{reply_in_range, signal_fields_at, signal_in_range, fragment_fields_at, fragment_in_range, least_payload}
 use Rattle.oum_codec.specs.Reading.{◌>>=◌, request_of, stamped_of, reply_of, signal_of, fragment_of}
 use Rattle.oum_codec.proofs.Steps.{bind_ok, ok_is}
-use Rattle.oum_codec.proofs.FixedFields.{StampedWidths, ReplyWidths, request_fields_bytes, request_fields_take, request_fields_again, stamped_fields_bytes, stamped_fields_take, stamped_fields_again, reply_fields_bytes, reply_fields_take, reply_fields_again, signal_fields_take, signal_fields_again, FragmentWidths, fragment_fields_take, fragment_fields_again}
+use Rattle.oum_codec.proofs.FixedFields.{StampedWidths, ReplyWidths, request_fields_bytes, request_fields_take, request_fields_again}
+use Rattle.oum_codec.proofs.FixedFields.{stamped_fields_bytes, stamped_fields_take, stamped_fields_again, reply_fields_bytes}
+use Rattle.oum_codec.proofs.FixedFields.{reply_fields_take, reply_fields_again, signal_fields_take, signal_fields_again, FragmentWidths}
+use Rattle.oum_codec.proofs.FixedFields.{fragment_fields_take, fragment_fields_again}
 use Rattle.oum_codec.proofs.Bodies.{body_ok, body_again}
 
 -- ---- a request

@@ -11,7 +11,8 @@ use Rattle.oum_codec.specs.Spelling.{view_bytes, signal_bytes}
 use Rattle.oum_codec.specs.Places.{ViewWidths}
 use Rattle.oum_codec.specs.Fixed.{request_fields_at, stamped_fields_at, reply_fields_at, signal_fields_at, fragment_fields_at}
 use Rattle.oum_codec.proofs.Steps.{bind_some, some_is}
-use Rattle.oum_codec.proofs.Numbers.{Takes, Takes-then, u16_takes, u32_takes, u64_takes, u16_again, u32_again, u64_again, byte_takes, view_takes, view_again}
+use Rattle.oum_codec.proofs.Numbers.{Takes, Takes-then, u16_takes, u32_takes, u64_takes, u16_again, u32_again, u64_again, byte_takes}
+use Rattle.oum_codec.proofs.Numbers.{view_takes, view_again}
 
 -- ---- a request
 

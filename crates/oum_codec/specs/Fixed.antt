@@ -2,7 +2,8 @@
 -- whether all of them are in range.
 use Rattle.std.specs.Prelude.{ℕ, ◌+◌, Bool, List, Option, Some, nat_lt, nat_le, ◌&&◌, ◌||◌, if◌then◌else◌}
 use Rattle.std.specs.Int.{w16, w32, w64}
-use Rattle.nop_types.specs.declared.limits.TheConstants.{FRAGMENT_BYTES, MAX_FRAGMENTS, MAX_OP_BYTES, MAX_REPLICAS, MAX_RESULT_BYTES, MAX_SEQUENCERS, MAX_SLOTS, NUMBER_END}
+use Rattle.nop_types.specs.declared.limits.TheConstants.{FRAGMENT_BYTES, MAX_FRAGMENTS, MAX_OP_BYTES, MAX_REPLICAS, MAX_RESULT_BYTES}
+use Rattle.nop_types.specs.declared.limits.TheConstants.{MAX_SEQUENCERS, MAX_SLOTS, NUMBER_END}
 use Rattle.oum_codec.specs.declared.fixed.RequestFields.{RequestFields}
 use Rattle.oum_codec.specs.declared.fixed.StampedFields.{StampedFields}
 use Rattle.oum_codec.specs.declared.fixed.ReplyFields.{ReplyFields}

@@ -1,5 +1,6 @@
 -- Numbers as bytes, the highest byte first.
-use Rattle.std.specs.Prelude.{ℕ, ◌<◌, List, [], ◌∷◌, length, slice_index, take, drop, Option, Some, None, option_and_then, nat_lt, if◌then◌else◌}
+use Rattle.std.specs.Prelude.{ℕ, ◌<◌, List, [], ◌∷◌, length, slice_index, take, drop, Option, Some, None, option_and_then, nat_lt}
+use Rattle.std.specs.Prelude.{if◌then◌else◌}
 use Rattle.std.specs.Int.{Width, w32, byte_len, from_be_bytes, to_be_bytes}
 use Rattle.nop_types.specs.declared.view.View.{View}
 

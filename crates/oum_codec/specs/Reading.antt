@@ -1,5 +1,6 @@
 -- Reading a datagram from left to right, with the first test that fails.
-use Rattle.std.specs.Prelude.{◌≡◌, ℕ, Bool, List, ◌∷◌, length, Option, Some, None, ok_or, Result, Ok, Err, nat_lt, ◌==◌, ◌&&◌, not, ⊤, if◌then◌else◌}
+use Rattle.std.specs.Prelude.{◌≡◌, ℕ, Bool, List, ◌∷◌, length, Option, Some, None, ok_or, Result, Ok, Err, nat_lt, ◌==◌, ◌&&◌, not, ⊤}
+use Rattle.std.specs.Prelude.{if◌then◌else◌}
 use Rattle.nop_types.specs.declared.datagram.Datagram.{Datagram}
 use Rattle.nop_types.specs.declared.datagram.Datagram.TheVariants as datagrams
 use Rattle.oum_codec.specs.declared.bad.Bad.{Bad}
@@ -7,7 +8,8 @@ use Rattle.oum_codec.specs.declared.bad.Bad.TheVariants.{Short, Magic, Version, 
 use Rattle.oum_codec.specs.declared.fixed.SignalFields.{SignalFields}
 use Rattle.nop_types.specs.declared.kinds.TheConstants as kinds
 use Rattle.nop_types.specs.declared.limits.TheConstants.{FRAGMENT_BYTES}
-use Rattle.oum_codec.specs.Fixed.{request_fields_at, request_in_range, stamped_fields_at, stamped_in_range, reply_fields_at, reply_in_range, signal_fields_at, signal_in_range, fragment_fields_at, fragment_in_range, least_payload}
+use Rattle.oum_codec.specs.Fixed.{request_fields_at, request_in_range, stamped_fields_at, stamped_in_range, reply_fields_at, reply_in_range}
+use Rattle.oum_codec.specs.Fixed.{signal_fields_at, signal_in_range, fragment_fields_at, fragment_in_range, least_payload}
 
 -- reading fails with this error; being out of memory says nothing of it
 abbrev pub Fails : {A : Type 0} → Bad → Result A Bad → Type 0

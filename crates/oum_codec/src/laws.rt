@@ -26,7 +26,8 @@ pub fn read_is_spelled()
 /// Different values have different spellings.
 #[tactic(auto, using(crate::proofs::Datagrams::spelling_is_injective))]
 pub fn spelling_is_injective()
-    ensures { (c d : Datagram) → DatagramFits c → DatagramFits d → spelling c ≡ spelling d → c ≡ d }
+    ensures { (c d : Datagram) → DatagramFits c → DatagramFits d → spelling c
+        ≡ spelling d → c ≡ d }
 {}
 
 /// A field that stands at a place, in its range, is read there.
@@ -45,13 +46,17 @@ pub fn fields_are_read()
 
 /// A field that is read from bytes is in its range, and stands at its place.
 pub fn read_fields_stand()
-    ensures two { (at n : ℕ) (bytes : List ℕ) → IsBytes bytes → number_in w16 at bytes ≡ Some n
+    ensures two { (at n : ℕ) (bytes : List ℕ) → IsBytes bytes →
+        number_in w16 at bytes ≡ Some n
         → (n < 2 ^ 16) × StandsAt at (be_bytes w16 n) bytes }
-    ensures four { (at n : ℕ) (bytes : List ℕ) → IsBytes bytes → number_in w32 at bytes ≡ Some n
+    ensures four { (at n : ℕ) (bytes : List ℕ) → IsBytes bytes →
+        number_in w32 at bytes ≡ Some n
         → (n < 2 ^ 32) × StandsAt at (be_bytes w32 n) bytes }
-    ensures eight { (at n : ℕ) (bytes : List ℕ) → IsBytes bytes → number_in w64 at bytes ≡ Some n
+    ensures eight { (at n : ℕ) (bytes : List ℕ) → IsBytes bytes →
+        number_in w64 at bytes ≡ Some n
         → (n < 2 ^ 64) × StandsAt at (be_bytes w64 n) bytes }
-    ensures view { (at : ℕ) (v : View) (bytes : List ℕ) → IsBytes bytes → view_in at bytes ≡ Some v
+    ensures view { (at : ℕ) (v : View) (bytes : List ℕ) → IsBytes bytes →
+        view_in at bytes ≡ Some v
         → ViewWidths v × StandsAt at (view_bytes v) bytes }
     ensures request { (at : ℕ) (r : Request) (bytes : List ℕ) → IsBytes bytes
         → request_in at bytes ≡ Some r

@@ -22,6 +22,3 @@ pub use send::send_datagram;
 pub use write::{
     encode, encode_reply, put_fragment, put_request, put_u16, put_u32, put_u64, put_view,
 };
-
-#[cfg(test)]
-mod tests;

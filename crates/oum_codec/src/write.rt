@@ -71,20 +71,25 @@ fn put_stamped(to: &mut Vec<u8>, stamped: &Stamped) -> Result<(), NoMemory>
     put_request(to, &stamped.request)
 }
 
-/// The header of a reply, and who replies for which slot.
+/// All of a reply but its result: the header, who replies for which slot, to which request, the tag and the length of the result.
 #[tactic(auto, unfolding(crate::specs::Numbers::be_bytes))]
-fn reply_head(replica: u8, view: View, slot: u32) -> [u8; 17]
-    ensures { result ≡ header 3 ++ (replica ∷ [] ++ view_bytes view ++ be_bytes w32 slot) }
+fn reply_front(reply: &Reply, result_len: u16) -> [u8; 32]
+    ensures { result ≡ header 3 ++ (reply.now.replica ∷ [] ++ view_bytes reply.now.view
+        ++ be_bytes w32 reply.now.slot ++ be_bytes w32 reply.now.client
+        ++ be_bytes w64 reply.now.id ++ reply.now.tag ∷ [] ++ be_bytes w16 result_len) }
 {
-    let [l0, l1, l2, l3] = view.leader.to_be_bytes();
-    let [s0, s1, s2, s3] = view.session.to_be_bytes();
-    let [n0, n1, n2, n3] = slot.to_be_bytes();
+    let [l0, l1, l2, l3] = reply.view.leader.to_be_bytes();
+    let [s0, s1, s2, s3] = reply.view.session.to_be_bytes();
+    let [n0, n1, n2, n3] = reply.slot.to_be_bytes();
+    let [c0, c1, c2, c3] = reply.client.to_be_bytes();
+    let [i0, i1, i2, i3, i4, i5, i6, i7] = reply.id.to_be_bytes();
+    let [r0, r1] = result_len.to_be_bytes();
     [
         kinds::FIRST_MAGIC,
         kinds::SECOND_MAGIC,
         kinds::VERSION,
         kinds::REPLY,
-        replica,
+        reply.replica,
         l0,
         l1,
         l2,
@@ -97,30 +102,32 @@ fn reply_head(replica: u8, view: View, slot: u32) -> [u8; 17]
         n1,
         n2,
         n3,
+        c0,
+        c1,
+        c2,
+        c3,
+        i0,
+        i1,
+        i2,
+        i3,
+        i4,
+        i5,
+        i6,
+        i7,
+        reply.tag,
+        r0,
+        r1,
     ]
 }
 
-/// To which request a reply is, its tag and the length of its result.
-#[tactic(auto, unfolding(crate::specs::Numbers::be_bytes))]
-fn reply_middle(client: u32, id: u64, tag: u8, result_len: u16) -> [u8; 15]
-    ensures { result ≡ be_bytes w32 client ++ be_bytes w64 id ++ tag ∷ [] ++ be_bytes w16 result_len }
-{
-    let [c0, c1, c2, c3] = client.to_be_bytes();
-    let [i0, i1, i2, i3, i4, i5, i6, i7] = id.to_be_bytes();
-    let [n0, n1] = result_len.to_be_bytes();
-    [c0, c1, c2, c3, i0, i1, i2, i3, i4, i5, i6, i7, tag, n0, n1]
-}
-
-/// Appends a reply in three pieces, since a step may give thousands.
+/// Appends a reply in two pieces, since a step may give thousands.
 fn put_reply(to: &mut Vec<u8>, reply: &Reply) -> Result<(), NoMemory>
     requires { length reply.now.result ≤ MAX_RESULT_BYTES }
     ensures { OnOk result (to.new.items ≡ to.old.items ++ (header 3 ++ reply_bytes reply.now)) }
 {
     let result = reply.result.as_slice();
-    let head = reply_head(reply.replica, reply.view, reply.slot);
-    let middle = reply_middle(reply.client, reply.id, reply.tag, result.len() as u16);
-    to.extend_from_slice(&head)?;
-    to.extend_from_slice(&middle)?;
+    let front = reply_front(reply, result.len() as u16);
+    to.extend_from_slice(&front)?;
     to.extend_from_slice(result)?;
     Ok(())
 }

@@ -9,7 +9,8 @@ use Rattle.oum_receiver.specs.declared.verdict.Verdict.TheVariants.{Queued, Old,
 use Rattle.oum_receiver.specs.Front.{Front, Nothing, Message, Dropped}
 use Rattle.oum_receiver.specs.Receiving.{Receiving, opened, verdict_of, judged, offered, front_of, front_taken, advanced}
 use Rattle.nop_types.specs.Stamps.{WasStamped}
-use Rattle.oum_receiver.specs.Runs.{Call, Offer, TakeFront, TakeMessage, Advance, Reset, HandedUp, past_front, past_message, handed_front, handed_message, handed_up, packets_of, IsUninterrupted, IsConsecutive, IsStampedBy, HaveOneRequest}
+use Rattle.oum_receiver.specs.Runs.{Call, Offer, TakeFront, TakeMessage, Advance, Reset, HandedUp, past_front, past_message, handed_front}
+use Rattle.oum_receiver.specs.Runs.{handed_message, handed_up, packets_of, IsUninterrupted, IsConsecutive, IsStampedBy, HaveOneRequest}
 use Rattle.oum_receiver.proofs.Stamps.{opened_stamped, offered_stamped, taken_stamped, advanced_stamped, front_stamped}
 
 -- an offer changes neither session nor next number

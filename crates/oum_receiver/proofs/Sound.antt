@@ -1,5 +1,6 @@
 -- Each call keeps a receiver sound.
-use Rattle.std.proofs.Common.{◌≡◌, ◌≢◌, ℕ, ◌+◌, ◌<◌, ◌≤◌, Bool, true, false, cond, Option, Some, None, is_some, IfSome, true≢false, refl, sym, ap, subst, ◌∙◌, arith, eq-eqb}
+use Rattle.std.proofs.Common.{◌≡◌, ◌≢◌, ℕ, ◌+◌, ◌<◌, ◌≤◌, Bool, true, false, cond, Option, Some, None, is_some, IfSome, true≢false, refl}
+use Rattle.std.proofs.Common.{sym, ap, subst, ◌∙◌, arith, eq-eqb}
 use Rattle.std.specs.Prelude.{◌==◌, ◌||◌, nat_lt, nat_le, if◌then◌else◌}
 use Rattle.std.specs.Ordering.{nat_cmp, eq_by_cmp}
 use Rattle.std.specs.Cmp.{nat_cmp_total, unsigned_tied}
@@ -16,7 +17,8 @@ use Rattle.oum_receiver.specs.Front.{Nothing, Message, front_at}
 use Rattle.oum_receiver.specs.Requests.{is_from}
 use Rattle.oum_receiver.proofs.Counts.{some_key, len_some, len_kept, len_removed}
 use Rattle.oum_receiver.proofs.Entries.{get_kept}
-use Rattle.oum_receiver.specs.Receiving.{Receiving, QueuedFits, IsSound, opened, is_old, verdict_of, judged, offered, front_of, front_taken, advanced}
+use Rattle.oum_receiver.specs.Receiving.{Receiving, QueuedFits, IsSound, opened, is_old, verdict_of, judged, offered, front_of, front_taken}
+use Rattle.oum_receiver.specs.Receiving.{advanced}
 
 -- what holds of both choices holds of the one taken
 chosen : {A : Type 0} (P : A → Type 0) (b : Bool) (o p : Option A) → (b ≡ true → IfSome o P) → (b ≡ false → IfSome p P)

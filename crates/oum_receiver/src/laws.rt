@@ -29,7 +29,8 @@ pub fn hands_up_what_was_offered()
 pub fn receivers_agree()
     ensures { (s n t m : ℕ) (calls others : List Call) →
         HaveOneRequest (packets_of calls) (packets_of others) →
-        (g h : HandedUp) → Has (handed_up (opened s n) calls) g → Has (handed_up (opened t m) others) h →
+        (g h : HandedUp) → Has (handed_up (opened s n) calls) g →
+        Has (handed_up (opened t m) others) h →
         g.session ≡ h.session → g.number ≡ h.number →
         (a b : _) → g.request ≡ Some a → h.request ≡ Some b → a ≡ b }
 {}
@@ -37,7 +38,8 @@ pub fn receivers_agree()
 /// Where each queued request is that of a packet with the receiver's session and its number, so it is after each call, and so
 /// is the request in front.
 pub fn queues_what_was_stamped()
-    ensures opened { (packets : List Stamped) (session next : ℕ) → IsStampedBy packets (opened session next) }
+    ensures opened { (packets : List Stamped) (session next : ℕ) →
+        IsStampedBy packets (opened session next) }
     ensures offered { (packets : List Stamped) (r : Receiving) (packet : Stamped) →
         IsStampedBy packets r → Has packets packet → IsStampedBy packets (offered r packet) }
     ensures taken { (packets : List Stamped) (r : Receiving) →
@@ -45,16 +47,20 @@ pub fn queues_what_was_stamped()
     ensures advanced { (packets : List Stamped) (r : Receiving) (next : ℕ) →
         IsStampedBy packets r → IsStampedBy packets (advanced r next) }
     ensures front { (packets : List Stamped) (r : Receiving) (request : _) →
-        IsStampedBy packets r → front_of r ≡ Message request → WasStamped packets r.session r.next request }
+        IsStampedBy packets r → front_of r ≡ Message request → WasStamped packets r.session
+        r.next request }
 {}
 
 /// Each call keeps a receiver sound.
 pub fn stays_sound()
-    ensures opened { (session next : ℕ) → next ≤ NUMBER_END → IsSound (opened session next) }
+    ensures opened { (session next : ℕ) → next ≤ NUMBER_END →
+        IsSound (opened session next) }
     ensures offered { (r : Receiving) (packet : Stamped) →
         IsSound r → StampedFits packet → IsSound (offered r packet) }
-    ensures taken { (r : Receiving) → IsSound r → front_of r ≢ Nothing → IsSound (front_taken r) }
-    ensures advanced { (r : Receiving) (next : ℕ) → IsSound r → next ≤ NUMBER_END → IsSound (advanced r next) }
+    ensures taken { (r : Receiving) → IsSound r → front_of r ≢ Nothing →
+        IsSound (front_taken r) }
+    ensures advanced { (r : Receiving) (next : ℕ) → IsSound r → next ≤ NUMBER_END →
+        IsSound (advanced r next) }
 {}
 
 /// A request that is taken leaves the queue.

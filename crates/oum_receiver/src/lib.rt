@@ -4,8 +4,6 @@
 mod laws;
 mod queue;
 mod receiver;
-#[cfg(test)]
-mod tests;
 mod upcall;
 mod verdict;
 

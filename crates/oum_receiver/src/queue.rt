@@ -65,7 +65,8 @@ fn drop_apart_below(apart: &mut Option<(u64, Request)>, next: u64)
 fn starts_below(requests: &BTreeMap<u64, Request>, next: u64) -> bool
     ensures value { result ≡ starts_below next requests.now.entries }
     ensures none_below { result ≡ false →
-        finite.retain_keys (map_of requests.now.entries) (is_from next) ≡ map_of requests.now.entries }
+        finite.retain_keys (map_of requests.now.entries) (is_from next)
+        ≡ map_of requests.now.entries }
 {
     match requests.first_key_value() {
         Some((number, _)) => *number < next,

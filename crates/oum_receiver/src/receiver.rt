@@ -133,7 +133,8 @@ impl Receiver {
     pub fn take_message(&mut self) -> Option<Request>
         ensures request { result ≡ request_in (front_of self.old) }
         ensures taken { OnSome result (self.new ≡ front_taken self.old) }
-        ensures fewer { OnSome result (finite.len self.new.queued + 1 ≡ finite.len self.old.queued) }
+        ensures fewer { OnSome result (finite.len self.new.queued + 1
+            ≡ finite.len self.old.queued) }
         ensures fits { IfSome result RequestFits }
         ensures stays { IfNone result (self.new ≡ self.old) }
     {

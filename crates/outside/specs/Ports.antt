@@ -9,6 +9,7 @@ next_link [] = []
 next_link (answers ∷ links) = answers
 
 -- the link that was given is the next one, where the ports tell which, and it has sent nothing
-abbrev pub GivesNext : Option (List (List PollAnswer)) → Option (List (List PollAnswer)) → Option (List PollAnswer) → Option (List Sent) → Type 0
+abbrev pub GivesNext : Option (List (List PollAnswer)) → Option (List (List PollAnswer)) → Option (List PollAnswer)
+    → Option (List Sent) → Type 0
 GivesNext None new answers sent = ⊤
 GivesNext (Some links) new answers sent = (new ≡ Some (drop 1 links)) × (answers ≡ Some (next_link links)) × (sent ≡ Some [])

@@ -12,8 +12,6 @@ mod ports_mem;
 mod read_mem;
 mod sink;
 mod source;
-#[cfg(test)]
-mod tests;
 mod write_mem;
 
 pub use clock::Clock;

@@ -44,10 +44,13 @@ pub trait Link {
 
     /// The next datagram, of at most `MAX_DATAGRAM_BYTES` bytes. None where this poll has none.
     fn poll(&mut self) -> Result<Option<Bytes>, LinkError>
-        ensures short { IfOk result (λ r. IfSome r (λ datagram. length datagram ≤ MAX_DATAGRAM_BYTES)) }
+        ensures short { IfOk result (λ r. IfSome r (λ datagram. length datagram
+            ≤ MAX_DATAGRAM_BYTES)) }
         ensures answer { Polls (answers self.old) (answers self.new) result }
-        ensures cause { HasCauseFor (fault_count self.old) (fault_count self.new) errors.Failed result }
-        ensures no_memory { IsErrOf result errors.NoMemory → fault_count self.new ≡ fault_count self.old }
+        ensures cause { HasCauseFor (fault_count self.old) (fault_count self.new)
+            errors.Failed result }
+        ensures no_memory { IsErrOf result errors.NoMemory → fault_count self.new
+            ≡ fault_count self.old }
         ensures losses { loss_count self.new ≡ loss_count self.old }
         ensures sent { Stays (sent self.old) (sent self.new) }
         ensures port { own_port self.new ≡ own_port self.old };
@@ -57,8 +60,10 @@ pub trait Link {
         ensures ok { OnOk result
             (Adds (sent self.old) (sent self.new) (record { port = port; bytes = bytes.now })) }
         ensures err { OnErr result (Stays (sent self.old) (sent self.new)) }
-        ensures cause { HasCauseFor (loss_count self.old) (loss_count self.new) errors.Failed result }
-        ensures no_memory { IsErrOf result errors.NoMemory → loss_count self.new ≡ loss_count self.old }
+        ensures cause { HasCauseFor (loss_count self.old) (loss_count self.new)
+            errors.Failed result }
+        ensures no_memory { IsErrOf result errors.NoMemory → loss_count self.new
+            ≡ loss_count self.old }
         ensures faults { fault_count self.new ≡ fault_count self.old }
         ensures answers { Stays (answers self.old) (answers self.new) }
         ensures port { own_port self.new ≡ own_port self.old };

@@ -34,7 +34,13 @@ impl<P: CallPlan> Model for LinkMem<P> {
 impl LinkMem<Unfailing> {
     /// No datagram comes, and no send fails.
     pub fn new(alloc: Global, port: u16) -> LinkMem<Unfailing>
-        ensures { result ≡ record { port = port; answers = []; faults = 0; sent = []; sends = usize.MAX } }
+        ensures { result ≡ record {
+          port = port;
+          answers = [];
+          faults = 0;
+          sent = [];
+          sends = usize.MAX;
+        } }
     {
         LinkMem::with_answers(alloc, port, Vec::new(alloc))
     }
@@ -42,7 +48,13 @@ impl LinkMem<Unfailing> {
     /// The polls answer these in order, and no send fails.
     pub fn with_answers(alloc: Global, port: u16, answers: Vec<PollAnswer>) -> LinkMem<Unfailing>
         requires { All IsShort answers.items }
-        ensures { result ≡ record { port = port; answers = answers.items; faults = 0; sent = []; sends = usize.MAX } }
+        ensures { result ≡ record {
+          port = port;
+          answers = answers.items;
+          faults = 0;
+          sent = [];
+          sends = usize.MAX;
+        } }
     {
         LinkMem {
             alloc,
@@ -65,7 +77,15 @@ impl LinkMem<Failing> {
         failing: &[u64],
     ) -> Result<LinkMem<Failing>, NoMemory>
         requires { All IsShort answers.items }
-        ensures { IfOk result (λ l. l ≡ record { port = port; answers = answers.items; faults = 0; sent = []; sends = new_plan usize.MAX failing.now }) }
+        ensures { IfOk result (λ l. l
+            ≡ record {
+              port = port;
+              answers = answers.items;
+              faults = 0;
+              sent = [];
+              sends = new_plan
+                  usize.MAX failing.now;
+            }) }
     {
         Ok(LinkMem {
             alloc,

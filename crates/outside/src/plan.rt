@@ -28,7 +28,8 @@ pub trait CallPlan: Drop {
     /// Counts that call as made.
     fn advance(&mut self, count: usize)
         ensures after { self.new ≡ after_call self.old count }
-        ensures cause { HasCause (fault_count self.old) (fault_count self.new) (next_answer self.old count) };
+        ensures cause { HasCause (fault_count self.old) (fault_count self.new)
+            (next_answer self.old count) };
 
     /// How many calls failed so far.
     fn faults(&self) -> u64

@@ -30,14 +30,17 @@ pub trait Ports {
         ensures faults { IfOk result (λ link. Self.L.fault_count link ≡ 0) }
         ensures losses { IfOk result (λ link. Self.L.loss_count link ≡ 0) }
         ensures content { IfOk result (λ link.
-            GivesNext (to_come self.old) (to_come self.new) (Self.L.answers link) (Self.L.sent link)) }
+            GivesNext (to_come self.old) (to_come self.new) (Self.L.answers link)
+            (Self.L.sent link)) }
         ensures attached { OnOk result (attached self.new ≡ attached self.old + 1) }
         ensures room { OnOk result (length (detached self.new) < attached self.new) }
         ensures err { OnErr result (attached self.new ≡ attached self.old) }
         ensures kept { OnErr result (Stays (to_come self.old) (to_come self.new)) }
         ensures detached { detached self.new ≡ detached self.old }
-        ensures cause { HasCauseFor (fault_count self.old) (fault_count self.new) errors.Failed result }
-        ensures no_memory { IsErrOf result errors.NoMemory → fault_count self.new ≡ fault_count self.old };
+        ensures cause { HasCauseFor (fault_count self.old) (fault_count self.new)
+            errors.Failed result }
+        ensures no_memory { IsErrOf result errors.NoMemory → fault_count self.new
+            ≡ fault_count self.old };
 
     /// Gives a link back, which the ports then hold. It takes no memory.
     fn detach(&mut self, link: Self::L)

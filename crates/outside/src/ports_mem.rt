@@ -34,7 +34,12 @@ impl<P: CallPlan> Model for PortsMem<P> {
 impl PortsMem<Unfailing> {
     /// Links without datagrams, and no attach fails.
     pub fn new(alloc: Global) -> PortsMem<Unfailing>
-        ensures { result ≡ record { links = []; attached = 0; detached = []; attaches = usize.MAX } }
+        ensures { result ≡ record {
+          links = [];
+          attached = 0;
+          detached = [];
+          attaches = usize.MAX;
+        } }
     {
         PortsMem::with_links(alloc, Vec::new(alloc))
     }
@@ -42,7 +47,12 @@ impl PortsMem<Unfailing> {
     /// These links in order, and no attach fails.
     pub fn with_links(alloc: Global, links: Vec<LinkMem<Failing>>) -> PortsMem<Unfailing>
         requires { All IsFresh links.items }
-        ensures { result ≡ record { links = links.items; attached = 0; detached = []; attaches = usize.MAX } }
+        ensures { result ≡ record {
+          links = links.items;
+          attached = 0;
+          detached = [];
+          attaches = usize.MAX;
+        } }
     {
         PortsMem {
             alloc,
@@ -62,7 +72,14 @@ impl PortsMem<Failing> {
         failing: &[u64],
     ) -> Result<PortsMem<Failing>, NoMemory>
         requires { All IsFresh links.items }
-        ensures { IfOk result (λ p. p ≡ record { links = links.items; attached = 0; detached = []; attaches = new_plan usize.MAX failing.now }) }
+        ensures { IfOk result (λ p. p
+            ≡ record {
+              links = links.items;
+              attached = 0;
+              detached = [];
+              attaches = new_plan
+                  usize.MAX failing.now;
+            }) }
     {
         Ok(PortsMem {
             alloc,

@@ -59,7 +59,11 @@ impl ReadMem<Failing> {
         failing: &[u64],
     ) -> Result<ReadMem<Failing>, NoMemory>
         requires { 1 ≤ most }
-        ensures { IfOk result (λ s. s ≡ record { left = bytes.items; plan = new_plan most failing.now }) }
+        ensures { IfOk result (λ s. s ≡ record {
+          left = bytes.items;
+          plan = new_plan most
+              failing.now;
+        }) }
     {
         Ok(ReadMem {
             bytes,
@@ -89,7 +93,8 @@ impl<P: CallPlan> Source for ReadMem<P> {
     fn read(&mut self, buf: &mut [u8]) -> Result<usize, Failed>
         ensures most { IfOk result (λ n. n ≤ length buf.old) }
         ensures bytes { ReadConsumes (Some self.old.left) (Some self.new.left) result buf.new }
-        ensures cause { HasCause (P.fault_count self.old.plan) (P.fault_count self.new.plan) result }
+        ensures cause { HasCause (P.fault_count self.old.plan)
+            (P.fault_count self.new.plan) result }
 
         // Exactly what the plan says.
         ensures answer { result ≡ P.next_answer self.old.plan (fitting self.old.left buf.old) }
@@ -98,7 +103,8 @@ impl<P: CallPlan> Source for ReadMem<P> {
           plan = P.after_call self.old.plan (fitting self.old.left buf.old);
         } }
         ensures buffer { buf.new
-            ≡ take (result_unwrap_or result 0) self.old.left ++ drop (result_unwrap_or result 0) buf.old }
+            ≡ take (result_unwrap_or result 0) self.old.left
+            ++ drop (result_unwrap_or result 0) buf.old }
     {
         let count = buf.len().min(self.bytes.len() - self.at);
         let answer = self.plan.answer(count);

@@ -19,8 +19,10 @@ pub trait Sink {
         ensures most { IfOk result (λ n. n ≤ length piece.now) }
         ensures some { IfOk result (λ n. 0 < length piece.now → 0 < n) }
         ensures bytes { WriteAppends (held self.old) (held self.new) result piece.now }
-        ensures cause { HasCauseFor (fault_count self.old) (fault_count self.new) errors.Failed result }
-        ensures no_memory { IsErrOf result errors.NoMemory → fault_count self.new ≡ fault_count self.old };
+        ensures cause { HasCauseFor (fault_count self.old) (fault_count self.new)
+            errors.Failed result }
+        ensures no_memory { IsErrOf result errors.NoMemory → fault_count self.new
+            ≡ fault_count self.old };
 
     /// How often it failed, up to the greatest number of 64 bits.
     fn faults(&self) -> u64
@@ -32,7 +34,8 @@ pub trait Sink {
 pub fn write_all<K: Sink>(sink: &mut K, bytes: &[u8]) -> Result<(), WriteError>
     ensures ok { OnOk result (Appends (K.held sink.old) (K.held sink.new) bytes.now) }
     ensures err { OnErr result (AppendsFront (K.held sink.old) (K.held sink.new) bytes.now) }
-    ensures cause { HasCauseFor (K.fault_count sink.old) (K.fault_count sink.new) errors.Failed result }
+    ensures cause { HasCauseFor (K.fault_count sink.old) (K.fault_count sink.new)
+        errors.Failed result }
     ensures succeeds { ¬ Rose (K.fault_count sink.old) (K.fault_count sink.new)
         → IsOkUnless result errors.NoMemory }
 {

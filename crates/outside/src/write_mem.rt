@@ -96,7 +96,8 @@ impl<P: CallPlan> Sink for WriteMem<P> {
         // What the plan says, or that memory ran out: then nothing changed.
         ensures answer { IsPlanned (P.next_answer self.old.plan (length piece.now)) result }
         ensures after { self.new.plan
-            ≡ plan_after_write result self.old.plan (P.after_call self.old.plan (length piece.now)) }
+            ≡ plan_after_write result self.old.plan (P.after_call self.old.plan
+            (length piece.now)) }
     {
         let answer = self.plan.answer(piece.len());
         if let Ok(count) = answer {

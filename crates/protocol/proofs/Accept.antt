@@ -1,5 +1,6 @@
 -- The move of a client that accepts a result.
-use Rattle.std.proofs.Common.{◌≡◌, ℕ, ◌+◌, ◌*◌, ◌<◌, ◌≤◌, true, false, Some, None, refl, sym, ap, subst, ◌∙◌, inl, inr, arith, List, [], ◌∷◌, length, map, take}
+use Rattle.std.proofs.Common.{◌≡◌, ℕ, ◌+◌, ◌*◌, ◌<◌, ◌≤◌, true, false, Some, None, refl, sym, ap, subst, ◌∙◌, inl, inr, arith, List, []}
+use Rattle.std.proofs.Common.{◌∷◌, length, map, take}
 use Rattle.std.specs.Prelude.{◌⊎◌, ◌==◌, ◌&&◌, ◌/◌, nat_le, filter, find, count_by, if◌then◌else◌}
 use Rattle.std.proofs.lemmas.Bool.Decides.{nat_tests}
 use Rattle.std.proofs.lemmas.List.{length-map}

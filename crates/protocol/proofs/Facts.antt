@@ -1,5 +1,6 @@
 -- General facts on numbers and lists.
-use Rattle.std.proofs.Common.{◌≡◌, ℕ, ◌+◌, ◌≤◌, Bool, true, false, cond, not, List, [], ◌∷◌, ◌++◌, Some, map, refl, sym, subst, arith, inl, inr, suc, ◌*◌, ap, ◌∙◌, length, length-append, ◌/◌, zero}
+use Rattle.std.proofs.Common.{◌≡◌, ℕ, ◌+◌, ◌≤◌, Bool, true, false, cond, not, List, [], ◌∷◌, ◌++◌, Some, map, refl, sym, subst, arith, inl}
+use Rattle.std.proofs.Common.{inr, suc, ◌*◌, ap, ◌∙◌, length, length-append, ◌/◌, zero}
 use Rattle.std.specs.Prelude.{◌==◌, if◌then◌else◌, filter, find, slice_get, drop}
 use Rattle.std.proofs.lemmas.Bool.{cases_eq, cases_lt}
 use Rattle.std.proofs.lemmas.Bool.Decides.{nat_tests}

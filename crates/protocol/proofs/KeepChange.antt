@@ -1,5 +1,6 @@
 -- The move `keep_change`.
-use Rattle.std.proofs.Common.{◌≡◌, ℕ, ◌+◌, ◌*◌, ◌<◌, Bool, true, false, cond, Some, refl, sym, subst, ◌∙◌, arith, inl, inr, [], ◌∷◌, ◌++◌, map}
+use Rattle.std.proofs.Common.{◌≡◌, ℕ, ◌+◌, ◌*◌, ◌<◌, Bool, true, false, cond, Some, refl, sym, subst, ◌∙◌, arith, inl, inr, [], ◌∷◌, ◌++◌}
+use Rattle.std.proofs.Common.{map}
 use Rattle.std.proofs.lemmas.Bool.{cases_eq}
 use Rattle.std.proofs.lemmas.Bool.Decides.{nat_tests}
 use Rattle.nop_types.specs.Meaning.{Meaning}

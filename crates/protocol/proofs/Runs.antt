@@ -4,7 +4,9 @@ use Rattle.nop_types.specs.Meaning.{Meaning}
 use Rattle.protocol.specs.Conf.{Conf}
 use Rattle.protocol.specs.Invariant.{Inv}
 use Rattle.protocol.specs.Laws.{MovesKeep, ViewsNeverFall}
-use Rattle.protocol.specs.Runs.{Act, Queue, TakeFront, Fill, OpenGap, CountGapVote, WriteGap, AddGap, Enter, KeepChange, OpenView, Adopt, Say, Overlay, Obey, OpenSync, CountSyncVote, RepeatCommit, Move, Acts, MoveTo, Installed, Install, Stamp, Submit, Keep, Accept, Tell, happens, May, run, MayAll}
+use Rattle.protocol.specs.Runs.{Act, Queue, TakeFront, Fill, OpenGap, CountGapVote, WriteGap, AddGap, Enter, KeepChange, OpenView, Adopt}
+use Rattle.protocol.specs.Runs.{Say, Overlay, Obey, OpenSync, CountSyncVote, RepeatCommit, Move, Acts, MoveTo, Installed, Install, Stamp}
+use Rattle.protocol.specs.Runs.{Submit, Keep, Accept, Tell, happens, May, run, MayAll}
 use Rattle.protocol.proofs.Accept.{accept_keeps}
 use Rattle.protocol.proofs.Adopt.{adopt_keeps}
 use Rattle.protocol.proofs.OpenView.{open_view_keeps}

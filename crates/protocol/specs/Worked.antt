@@ -18,7 +18,8 @@ use Rattle.started_views.specs.Settled.{MainLog}
 use Rattle.view_change.specs.Gathering.{Gathering}
 use Rattle.protocol.specs.Conf.{Conf, opening, last_normals}
 use Rattle.protocol.specs.Member.{Member}
-use Rattle.protocol.specs.Runs.{Queue, TakeFront, OpenGap, CountGapVote, AddGap, Enter, KeepChange, OpenView, Adopt, Overlay, Obey, OpenSync, CountSyncVote, Move, Acts, MoveTo, Install, Stamp, Submit, Keep, Accept, run, MayAll}
+use Rattle.protocol.specs.Runs.{Queue, TakeFront, OpenGap, CountGapVote, AddGap, Enter, KeepChange, OpenView, Adopt, Overlay, Obey}
+use Rattle.protocol.specs.Runs.{OpenSync, CountSyncVote, Move, Acts, MoveTo, Install, Stamp, Submit, Keep, Accept, run, MayAll}
 
 -- ---- the actors, and what they say
 

@@ -1,5 +1,6 @@
 -- What each move of a replica does to sync points.
-use Rattle.std.proofs.Common.{◌≡◌, ℕ, ◌+◌, ◌*◌, ◌<◌, Bool, true, false, cond, Option, refl, sym, ap, subst, ◌∙◌, arith, inl, inr, length, List, []}
+use Rattle.std.proofs.Common.{◌≡◌, ℕ, ◌+◌, ◌*◌, ◌<◌, Bool, true, false, cond, Option, refl, sym, ap, subst, ◌∙◌, arith, inl, inr, length}
+use Rattle.std.proofs.Common.{List, []}
 use Rattle.std.specs.Prelude.{◌==◌, nat_le, max}
 use Rattle.std.proofs.lemmas.Bool.{cases_lt}
 use Rattle.nop_types.specs.declared.view.View.{View}

@@ -1,5 +1,6 @@
 -- No sync point falls, and what is synchronised stays.
-use Rattle.std.proofs.Common.{◌≡◌, ℕ, ◌+◌, ◌*◌, ◌<◌, ◌≤◌, Bool, true, false, cond, Option, Some, None, refl, sym, subst, ◌∙◌, arith, inl, inr, length, List, [], ◌∷◌, take}
+use Rattle.std.proofs.Common.{◌≡◌, ℕ, ◌+◌, ◌*◌, ◌<◌, ◌≤◌, Bool, true, false, cond, Option, Some, None, refl, sym, subst, ◌∙◌, arith, inl}
+use Rattle.std.proofs.Common.{inr, length, List, [], ◌∷◌, take}
 use Rattle.std.specs.Prelude.{◌==◌, max, nat_le, nat_lt}
 use Rattle.std.proofs.lemmas.Bool.Decides.{nat_tests}
 use Rattle.std.proofs.lemmas.List.{length-take-le}
@@ -23,7 +24,9 @@ use Rattle.protocol.specs.Evolves.{Evolves}
 use Rattle.protocol.specs.Invariant.{Inv}
 use Rattle.protocol.specs.Member.{Member, leads}
 use Rattle.protocol.specs.Moves.{entered, enter_as}
-use Rattle.protocol.specs.Runs.{Act, Queue, TakeFront, Fill, OpenGap, CountGapVote, WriteGap, AddGap, Enter, KeepChange, OpenView, Adopt, Say, Overlay, Obey, OpenSync, CountSyncVote, RepeatCommit, Move, Acts, MoveTo, Installed, Install, Stamp, Submit, Keep, Accept, Tell, effect, happens, May, run, MayAll}
+use Rattle.protocol.specs.Runs.{Act, Queue, TakeFront, Fill, OpenGap, CountGapVote, WriteGap, AddGap, Enter, KeepChange, OpenView, Adopt}
+use Rattle.protocol.specs.Runs.{Say, Overlay, Obey, OpenSync, CountSyncVote, RepeatCommit, Move, Acts, MoveTo, Installed, Install, Stamp}
+use Rattle.protocol.specs.Runs.{Submit, Keep, Accept, Tell, effect, happens, May, run, MayAll}
 use Rattle.protocol.proofs.Grounding.{grounds_of}
 use Rattle.facts.proofs.Functions.{put-all}
 use Rattle.protocol.proofs.Runs.{happens_keeps, run_keeps}

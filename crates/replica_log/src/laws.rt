@@ -10,20 +10,25 @@ use nop_types::MAX_SLOTS;
 /// One slot becomes the entry, and all others stay.
 pub fn set_slot_by_slot()
     ensures len { (l : List Entry) (k : ℕ) (x : Entry) → length (set_slot l k x) ≡ length l }
-    ensures here { (l : List Entry) (k : ℕ) (x : Entry) → 1 ≤ k → k ≤ length l → slot_of (set_slot l k x) k ≡ Some x }
-    ensures others { (l : List Entry) (k : ℕ) (x : Entry) (i : ℕ) → i ≢ k → slot_of (set_slot l k x) i ≡ slot_of l i }
+    ensures here { (l : List Entry) (k : ℕ) (x : Entry) → 1 ≤ k → k ≤ length l →
+        slot_of (set_slot l k x) k ≡ Some x }
+    ensures others { (l : List Entry) (k : ℕ) (x : Entry) (i : ℕ) → i ≢ k →
+        slot_of (set_slot l k x) i ≡ slot_of l i }
 {}
 
 /// The slots of the one log, and above them those of the other.
 pub fn laid_by_slot()
     ensures len { (l k : List Entry) → length (laid l k) ≡ max (length l) (length k) }
-    ensures front { (l k : List Entry) (i : ℕ) → i ≤ length l → slot_of (laid l k) i ≡ slot_of l i }
-    ensures above { (l k : List Entry) (i : ℕ) → length l < i → slot_of (laid l k) i ≡ slot_of k i }
+    ensures front { (l k : List Entry) (i : ℕ) → i ≤ length l → slot_of (laid l k) i
+        ≡ slot_of l i }
+    ensures above { (l k : List Entry) (i : ℕ) → length l < i → slot_of (laid l k) i
+        ≡ slot_of k i }
 {}
 
 /// A log whose entries are in their ranges stays so, whatever entries in their ranges come in.
 pub fn log_stays_in_ranges()
-    ensures append { (l : List Entry) (e : Entry) → LogFits l → EntryFits e → length l < MAX_SLOTS → LogFits (l ++ e ∷ []) }
+    ensures append { (l : List Entry) (e : Entry) → LogFits l → EntryFits e → length l
+        < MAX_SLOTS → LogFits (l ++ e ∷ []) }
     ensures noop { (l : List Entry) (k : ℕ) → LogFits l → LogFits (set_slot l k NoOp) }
     ensures overlay { (l k : List Entry) → LogFits l → LogFits k → LogFits (laid l k) }
     ensures copy { (l : List Entry) (n : ℕ) → LogFits l → LogFits (take n l) }

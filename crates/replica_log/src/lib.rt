@@ -6,6 +6,3 @@ mod log;
 
 pub use laws::{laid_by_slot, log_stays_in_ranges, set_slot_by_slot};
 pub use log::ReplicaLog;
-
-#[cfg(test)]
-mod tests;

@@ -9,6 +9,3 @@ mod state;
 pub use laws::{outputs_are_stamps, stamps_once};
 pub use sequencer::Sequencer;
 pub use state::SequencerState;
-
-#[cfg(test)]
-mod tests;

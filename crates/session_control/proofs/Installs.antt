@@ -1,5 +1,6 @@
 -- Each Install that is sent is of the last move.
-use Rattle.std.proofs.Common.{◌≡◌, ◌≤◌, ◌<◌, ◌+◌, ℕ, zero, suc, List, [], ◌∷◌, ◌++◌, refl, ap, sym, subst, ◌∙◌, Some, Bool, true, false, Result, Ok, Err, IsTrue, arith}
+use Rattle.std.proofs.Common.{◌≡◌, ◌≤◌, ◌<◌, ◌+◌, ℕ, zero, suc, List, [], ◌∷◌, ◌++◌, refl, ap, sym, subst, ◌∙◌, Some, Bool, true, false}
+use Rattle.std.proofs.Common.{Result, Ok, Err, IsTrue, arith}
 use Rattle.std.specs.Prelude.{◌==◌, ◌&&◌, nat_lt, nat_le}
 use Rattle.std.proofs.lemmas.Option.{none-some}
 use Rattle.std.proofs.lemmas.Grind.{common_steps}
@@ -22,7 +23,9 @@ use Rattle.oum_codec.specs.Spelling.{spelling}
 use Rattle.oum_codec.proofs.Datagrams.{reads_again}
 use Rattle.session_control.specs.declared.state.ControllerState.{ControllerState}
 use Rattle.session_control.specs.declared.state.TheConstants.{MISSED_END}
-use Rattle.session_control.specs.ControllerSteps.{IsWithin, opening, install_of, moved, last_number, move_if, order_if, asked, ask_if, following, miss_if, probe_if, heard_if, resend_if, confirmed_if, on_tick, on_datagram, next}
+use Rattle.session_control.specs.ControllerSteps.{IsWithin, opening, install_of, moved, last_number, move_if, order_if, asked, ask_if}
+use Rattle.session_control.specs.ControllerSteps.{following, miss_if, probe_if, heard_if, resend_if, confirmed_if, on_tick, on_datagram}
+use Rattle.session_control.specs.ControllerSteps.{next}
 use Rattle.session_control.specs.Moves.{Move, after, move_of, last_move}
 use Rattle.session_control.proofs.Rising.{last_of_state, one_more}
 

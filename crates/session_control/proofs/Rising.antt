@@ -1,5 +1,6 @@
 -- The sessions of the moves rise, and the last move is what the state has.
-use Rattle.std.proofs.Common.{◌≡◌, ◌≤◌, ◌<◌, ◌+◌, ℕ, zero, suc, List, [], ◌∷◌, ◌++◌, refl, ap, sym, subst, ◌∙◌, Some, Bool, true, false, cond, Result, Ok, Err, arith}
+use Rattle.std.proofs.Common.{◌≡◌, ◌≤◌, ◌<◌, ◌+◌, ℕ, zero, suc, List, [], ◌∷◌, ◌++◌, refl, ap, sym, subst, ◌∙◌, Some, Bool, true, false}
+use Rattle.std.proofs.Common.{cond, Result, Ok, Err, arith}
 use Rattle.std.specs.Prelude.{◌==◌, ◌&&◌, slice_get, nat_lt, nat_le}
 use Rattle.std.proofs.lemmas.Option.{none-some, same_Some}
 use Rattle.nop_types.specs.Given.{Given, Packet, Ticked, Submit}
@@ -11,7 +12,8 @@ use Rattle.oum_codec.specs.declared.bad.Bad.{Bad}
 use Rattle.oum_codec.specs.Reading.{reading}
 use Rattle.session_control.specs.declared.state.ControllerState.{ControllerState}
 use Rattle.session_control.specs.declared.state.TheConstants.{MISSED_END}
-use Rattle.session_control.specs.ControllerSteps.{last_number, move_if, order_if, ask_if, following, miss_if, probe_if, heard_if, resend_if, confirmed_if, on_tick, on_datagram, next}
+use Rattle.session_control.specs.ControllerSteps.{last_number, move_if, order_if, ask_if, following, miss_if, probe_if, heard_if, resend_if}
+use Rattle.session_control.specs.ControllerSteps.{confirmed_if, on_tick, on_datagram, next}
 use Rattle.session_control.specs.Moves.{Move, after, move_of, moves, last_of, last_move, AreRising}
 
 -- the session does not fall, and while it stays the current sequencer does

@@ -1,5 +1,6 @@
 -- The step table of the controller.
-use Rattle.std.specs.Prelude.{ℕ, ◌+◌, ◌-◌, ◌^◌, ◌%◌, ◌<◌, List, [], ◌∷◌, Bool, true, false, Result, Ok, Err, IsTrue, nat_lt, nat_le, ◌==◌, ◌&&◌}
+use Rattle.std.specs.Prelude.{ℕ, ◌+◌, ◌-◌, ◌^◌, ◌%◌, ◌<◌, List, [], ◌∷◌, Bool, true, false, Result, Ok, Err, IsTrue, nat_lt, nat_le, ◌==◌}
+use Rattle.std.specs.Prelude.{◌&&◌}
 use Rattle.nop_types.specs.Configuration.{Configuration, is_configuration}
 use Rattle.nop_types.specs.Ranges.{IsCount}
 use Rattle.nop_types.specs.Given.{Given, Packet, Ticked, Submit}

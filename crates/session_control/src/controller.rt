@@ -32,7 +32,8 @@ impl Controller {
     /// before, or 1 at the first start.
     pub fn new(alloc: Global, config: Config, session: u32) -> Result<Controller, NoMemory>
         requires { 1 ≤ session }
-        ensures { IfOk result (λ c. c ≡ record { failed = false; state = opening config session }) }
+        ensures { IfOk result (λ c. c
+            ≡ record { failed = false; state = opening config session }) }
     {
         Ok(Controller {
             alloc,

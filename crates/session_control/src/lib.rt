@@ -9,6 +9,3 @@ mod state;
 pub use controller::Controller;
 pub use laws::{installs_are_of_last_move, moves_rise};
 pub use state::{ControllerState, MISSED_END, PROBE_MILLIS, RESEND_MILLIS};
-
-#[cfg(test)]
-mod tests;

@@ -6,6 +6,3 @@ mod lookup;
 
 pub use answers::Answer;
 pub use lookup::answer;
-
-#[cfg(test)]
-mod tests;

@@ -1,5 +1,6 @@
 -- Fixed prefixes are kept: by later starts, by the logs of later leaders, and by the log from which the history is read.
-use Rattle.std.proofs.Common.{◌≡◌, ℕ, ◌+◌, ◌*◌, ◌<◌, ◌≤◌, List, length, take, refl, sym, ap, subst, ◌∙◌, arith, zero, suc, false, inl, inr, length-take-le}
+use Rattle.std.proofs.Common.{◌≡◌, ℕ, ◌+◌, ◌*◌, ◌<◌, ◌≤◌, List, length, take, refl, sym, ap, subst, ◌∙◌, arith, zero, suc, false, inl, inr}
+use Rattle.std.proofs.Common.{length-take-le}
 use Rattle.std.specs.Prelude.{◌⊎◌}
 use Rattle.std.proofs.lemmas.Bool.{cases_lt}
 use Rattle.std.proofs.lemmas.Option.{same_Some}
@@ -10,7 +11,9 @@ use Rattle.nop_types.specs.declared.datagram.Stamped.{Stamped}
 use Rattle.nop_types.specs.Lists.{IsPrefixOf}
 use Rattle.nop_types.specs.Views.{AtMost, Below, first_view, leader_of, outranks}
 use Rattle.facts.proofs.Prefixes.{IsPrefixOf-take, IsPrefixOf-trans}
-use Rattle.facts.proofs.Views.{cases_View, same_View, AtMost-antisym, AtMost-trans, Below-after_at_most, AtMost-not_outranked, Below-induction, same_View-from_ranks, RanksAtMost, RanksAtMost-refl, RanksAtMost-trans, RanksAtMost-cases, outranks-from_ranks}
+use Rattle.facts.proofs.Views.{cases_View, same_View, AtMost-antisym, AtMost-trans, Below-after_at_most, AtMost-not_outranked}
+use Rattle.facts.proofs.Views.{Below-induction, same_View-from_ranks, RanksAtMost, RanksAtMost-refl, RanksAtMost-trans, RanksAtMost-cases}
+use Rattle.facts.proofs.Views.{outranks-from_ranks}
 use Rattle.log_merge.specs.Merge.{merge}
 use Rattle.log_merge.specs.Starting.{Start, greatest, kept, start_of}
 use Rattle.started_views.specs.Logs.{SameTo}

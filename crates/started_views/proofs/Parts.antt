@@ -6,7 +6,8 @@ use Rattle.nop_types.specs.Views.{leader_of}
 use Rattle.log_merge.specs.Starting.{Start}
 use Rattle.started_views.specs.Past.{Entered, Past, Standing, HadLog, entered_with, started_with, note}
 use Rattle.started_views.specs.Parts.{SamePast, InParts}
-use Rattle.started_views.proofs.Past.{Enters, Starts, note_log_here, note_log_places, note_entry_here, note_entry_places, note_entry_same, note_start_here, note_start_places, note_start_same}
+use Rattle.started_views.proofs.Past.{Enters, Starts, note_log_here, note_log_places, note_entry_here, note_entry_places, note_entry_same}
+use Rattle.started_views.proofs.Past.{note_start_here, note_start_places, note_start_same}
 
 -- what stands at one place stands at an equal one
 same_place : {A : Type 0} (g : ℕ → View → A) (x : A) (q r : ℕ) (w v : View) → q ≡ r → w ≡ v → g r v ≡ x → g q w ≡ x

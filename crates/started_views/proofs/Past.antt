@@ -9,7 +9,8 @@ use Rattle.nop_types.specs.Views.{first_view, is_view, leader_of}
 use Rattle.facts.proofs.Bools.{not-both}
 use Rattle.facts.proofs.Views.{is_view-true, is_view-same, is_view-apart}
 use Rattle.log_merge.specs.Starting.{Start}
-use Rattle.started_views.specs.Past.{Entered, Past, Standing, HadLog, IsStart, first_past, is_of, with_log, with_entry, with_start, entered_with, started_with, note}
+use Rattle.started_views.specs.Past.{Entered, Past, Standing, HadLog, IsStart, first_past, is_of, with_log, with_entry, with_start}
+use Rattle.started_views.specs.Past.{entered_with, started_with, note}
 
 -- ---- tests
 

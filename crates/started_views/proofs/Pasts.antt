@@ -9,7 +9,8 @@ use Rattle.facts.proofs.Slots.{slot_of-prefix}
 use Rattle.started_views.specs.Past.{Entered, HadLog}
 use Rattle.started_views.specs.Quorums.{counts, Quorum}
 use Rattle.started_views.specs.Settled.{Reached, HadNoOp, Fixed, MainLog}
-use Rattle.started_views.specs.Worked.{second_view, request_of, leader_log, follower_log, worked_last_normal, settled_past, unsettled_past, overrun_past}
+use Rattle.started_views.specs.Worked.{second_view, request_of, leader_log, follower_log, worked_last_normal, settled_past, unsettled_past}
+use Rattle.started_views.specs.Worked.{overrun_past}
 use Rattle.started_views.proofs.Worked.{Logged, Leader, Follower, Other, Next, logged, views_apart}
 
 -- ---- quorums of the replicas 0 and 1

@@ -1,5 +1,6 @@
 -- The worked pasts: what they have, and that they meet the grounds.
-use Rattle.std.proofs.Common.{◌≡◌, ℕ, zero, suc, ◌+◌, ◌-◌, ◌*◌, ◌<◌, ◌≤◌, Bool, true, false, List, [], ◌∷◌, ◌++◌, length, Some, refl, sym, ap, subst, ◌∙◌, arith, inl, inr}
+use Rattle.std.proofs.Common.{◌≡◌, ℕ, zero, suc, ◌+◌, ◌-◌, ◌*◌, ◌<◌, ◌≤◌, Bool, true, false, List, [], ◌∷◌, ◌++◌, length, Some, refl, sym}
+use Rattle.std.proofs.Common.{ap, subst, ◌∙◌, arith, inl, inr}
 use Rattle.std.specs.Prelude.{◌⊎◌}
 use Rattle.std.proofs.lemmas.Bool.Decides.{nat_tests}
 use Rattle.nop_types.specs.declared.view.View.{View}
@@ -17,7 +18,8 @@ use Rattle.log_merge.specs.Starting.{Start, start_of}
 use Rattle.started_views.specs.Past.{Entered, Past, HadLog, LeaderHad, IsStart, IsStarted}
 use Rattle.started_views.specs.Settled.{Certificate}
 use Rattle.started_views.specs.Started.{Grounds}
-use Rattle.started_views.specs.Worked.{second_view, request_of, stamp_of, worked_stamps, leader_log, follower_log, second_start, worked_logs, worked_starts, worked_entries, worked_past, worked_last_normal}
+use Rattle.started_views.specs.Worked.{second_view, request_of, stamp_of, worked_stamps, leader_log, follower_log, second_start}
+use Rattle.started_views.specs.Worked.{worked_logs, worked_starts, worked_entries, worked_past, worked_last_normal}
 
 -- what stands in slot 2 of replica 1: a NO-OP, or the request of that number
 abbrev pub Second : Entry → Type 0

@@ -22,7 +22,8 @@ pub record Synchronised (f : ℕ) (past : Past) (w : View) (m : List Entry) (s :
   pub within : s ≤ length m
   pub others : Others f (leader_of w (2 * f + 1)) (HadSame past w s m)
 
--- the leader has a request in the slot s, a quorum had as many slots, and each NO-OP above the start of w, the last slot apart, was in the logs of f others
+-- the leader has a request in the slot s, a quorum had as many slots, and each NO-OP above the start of w, the last slot apart, was in the
+-- logs of f others
 pub record Accepted (f : ℕ) (past : Past) (w : View) (m : List Entry) (s : ℕ) : Type 0 where
   pub leads : LeaderHad f past w m
   pub within : s ≤ length m

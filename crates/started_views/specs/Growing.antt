@@ -19,7 +19,8 @@ pub record Grows (f : ℕ) (past later : Past) : Type 0 where
   pub leaders : (w : View) (m : List Entry) → LeaderHad f past w m → (n : List Entry) × LeaderHad f later w n × IsPrefixOf m n
   pub logs : (r : ℕ) (w : View) (l : List Entry) → HadLog past r w l → (k : List Entry) × HadLog later r w k × WentOn f later w l k
 
--- the log of the replica r in the view w becomes k: its first log there, a longer log of the leader, or a log of another replica that goes toward that of the leader
+-- the log of the replica r in the view w becomes k: its first log there, a longer log of the leader, or a log of another replica that goes
+-- toward that of the leader
 pub data LogGoesOn (f : ℕ) (past : Past) (r : ℕ) (w : View) (k : List Entry) : Type 0 where
   First : past.log r w ≡ None → LogGoesOn f past r w k
   Leading : (l : List Entry) → r ≡ leader_of w (2 * f + 1) → HadLog past r w l → IsPrefixOf l k → LogGoesOn f past r w k

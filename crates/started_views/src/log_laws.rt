@@ -22,9 +22,11 @@ pub fn logs_go_toward()
 /// shares with m, and loses no slot.
 #[tactic(auto, using(crate::proofs::Logs::toward_keeps_slot, crate::proofs::Logs::toward_keeps_same))]
 pub fn toward_keeps()
-    ensures slot { (m l k : List Entry) (i : ℕ) (x : Entry) → Toward m l k → slot_of m i ≡ Some x
+    ensures slot { (m l k : List Entry) (i : ℕ) (x : Entry) → Toward m l k →
+        slot_of m i ≡ Some x
         → slot_of l i ≡ Some x → slot_of k i ≡ Some x }
-    ensures same { (m l k : List Entry) (s : ℕ) → Toward m l k → SameTo s l m → SameTo s k m }
+    ensures same { (m l k : List Entry) (s : ℕ) → Toward m l k → SameTo s l m →
+        SameTo s k m }
     ensures length { (m l k : List Entry) → Toward m l k → length l ≤ length k }
 {}
 
@@ -32,7 +34,8 @@ pub fn toward_keeps()
 /// what it had.
 #[tactic(auto, using(facts::proofs::Slots::written_slots))]
 pub fn written_log()
-    ensures length { (l : List Entry) (k : ℕ) (x : Entry) → length (set_slot l k x) ≡ length l }
+    ensures length { (l : List Entry) (k : ℕ) (x : Entry) →
+        length (set_slot l k x) ≡ length l }
     ensures here { (l : List Entry) (k : ℕ) (x : Entry) → 0 < k → k ≤ length l
         → slot_of (set_slot l k x) k ≡ Some x }
     ensures elsewhere { (l : List Entry) (k i : ℕ) (x : Entry) → (i ≡ k → ⊥)
@@ -45,7 +48,8 @@ pub fn written_log()
 pub fn laid_log()
     ensures length { (l k : List Entry) → length (laid l k) ≡ max (length l) (length k) }
     ensures begins { (l k : List Entry) → IsPrefixOf l (laid l k) }
-    ensures above { (l k : List Entry) (i : ℕ) → length l < i → slot_of (laid l k) i ≡ slot_of k i }
+    ensures above { (l k : List Entry) (i : ℕ) → length l < i → slot_of (laid l k) i
+        ≡ slot_of k i }
 {}
 
 /// Two logs that begin one log, each up to a slot, have the same in each slot up to both.

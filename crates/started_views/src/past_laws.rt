@@ -27,7 +27,8 @@ pub fn noted_log()
 /// A step of a replica notes what it had where its view changes, under the view that it enters, and
 /// no other entry.
 pub fn noted_entry()
-    ensures here { (f r : ℕ) (past : Past) (old new : Standing) → (new.view ≡ old.view → ⊥)
+    ensures here { (f r : ℕ) (past : Past) (old new : Standing) →
+        (new.view ≡ old.view → ⊥)
         → (note f past r old new).entry r new.view ≡ Some (entered_with old) }
     ensures elsewhere { (f r q : ℕ) (past : Past) (old new : Standing) (w : View)
         → ((new.view ≡ old.view → ⊥) × (q ≡ r) × (w ≡ new.view))
@@ -36,7 +37,8 @@ pub fn noted_entry()
 
 /// A step of a replica notes a start where it adopts the view that it leads, and no other start.
 pub fn noted_start()
-    ensures here { (f r : ℕ) (past : Past) (old new : Standing) → (new.last_normal ≡ old.last_normal
+    ensures here { (f r : ℕ) (past : Past) (old new : Standing) →
+        (new.last_normal ≡ old.last_normal
         → ⊥) → r ≡ leader_of new.last_normal (2 * f + 1)
         → IsStart (note f past r old new) new.last_normal (started_with new) }
     ensures elsewhere { (f r : ℕ) (past : Past) (old new : Standing) (w : View)
@@ -66,7 +68,8 @@ pub fn past_of_parts()
         → middle.last_normal ≡ old.last_normal → middle.next ≡ old.next → middle.log ≡ old.log
         → HadLog past r old.last_normal old.log → new.view ≡ middle.view
         → InParts f past r old middle new }
-    ensures staying { (f r : ℕ) (past : Past) (old middle new : Standing) → new.view ≡ middle.view
+    ensures staying { (f r : ℕ) (past : Past) (old middle new : Standing) → new.view
+        ≡ middle.view
         → new.last_normal ≡ middle.last_normal → (r ≡ leader_of new.last_normal (2 * f + 1)
         → started_with new ≡ started_with middle) → InParts f past r old middle new }
 {}

@@ -12,7 +12,8 @@ pub fn quorums_share()
 
 /// What holds wherever something holds of a quorum, holds of a quorum.
 pub fn quorum_of_more()
-    ensures { (f : ℕ) (a b : List ℕ) → ((r : ℕ) → Has a r → Has b r) → Quorum f (Has a)
+    ensures { (f : ℕ) (a b : List ℕ) → ((r : ℕ) → Has a r → Has b r) →
+        Quorum f (Has a)
         → Quorum f (Has b) }
 {}
 

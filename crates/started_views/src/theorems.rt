@@ -27,14 +27,16 @@ ghost use Rattle.started_views.specs.Started.{
 /// the slot.
 #[tactic(auto, using(crate::proofs::Merges::merge_agrees))]
 pub fn merge_agrees()
-    ensures { (log : List Entry) (cs : List Change) → ((k : ℕ) (x : Entry) → slot_of log k ≡ Some x
+    ensures { (log : List Entry) (cs : List Change) →
+        ((k : ℕ) (x : Entry) → slot_of log k ≡ Some x
         → AgreeOn cs k x) → IsPrefixOf log (merge cs) }
 {}
 
 /// The past that a run begins with meets the grounds.
 #[tactic(auto, using(crate::proofs::Opening::grounds_at_first))]
 pub fn grounds_at_first()
-    ensures { (f : ℕ) (stamps : List Stamped) → ((n k : ℕ) (a b : Request) → WasStamped stamps n k a
+    ensures { (f : ℕ) (stamps : List Stamped) → ((n k : ℕ) (a b : Request) →
+        WasStamped stamps n k a
         → WasStamped stamps n k b → a ≡ b) → Grounds f stamps (λ r. first_view) first_past }
 {}
 
@@ -54,7 +56,8 @@ pub fn prefixes_are_fixed()
 /// certificate, and each log that a leader has in that view or a later one.
 pub fn fixed_prefixes_are_kept()
     ensures starts { FixedPrefixesAreKept }
-    ensures certificates { (f : ℕ) (stamps : List Stamped) (last_normal : ℕ → View) (past : Past)
+    ensures certificates { (f : ℕ) (stamps : List Stamped) (last_normal : ℕ → View)
+        (past : Past)
         → Grounds f stamps last_normal past
         → (w v : View) (cs : List Change) (m : List Entry) (s : ℕ) → Certificate f past v cs
         → Fixed f past w m s → Below w v → IsPrefixOf (take s m) (start_of v cs).log }
@@ -71,7 +74,8 @@ pub fn synchronised_prefixes_are_kept()
         → Grounds f stamps last_normal past → (u v : View) (x : Start) (b l : List Entry) (s : ℕ)
         → LeaderHad f past u b → SameTo s l b → Anchored f past u s → IsStart past v x → Below u v
         → IsPrefixOf (take s l) x.log }
-    ensures certificates { (f : ℕ) (stamps : List Stamped) (last_normal : ℕ → View) (past : Past)
+    ensures certificates { (f : ℕ) (stamps : List Stamped) (last_normal : ℕ → View)
+        (past : Past)
         → Grounds f stamps last_normal past
         → (u v : View) (cs : List Change) (b l : List Entry) (s : ℕ) → LeaderHad f past u b
         → SameTo s l b → Anchored f past u s → Certificate f past v cs → Below u v
@@ -80,7 +84,8 @@ pub fn synchronised_prefixes_are_kept()
         → Grounds f stamps last_normal past → (u v : View) (a b l : List Entry) (s : ℕ)
         → LeaderHad f past u b → SameTo s l b → Anchored f past u s → LeaderHad f past v a
         → AtMost u v → IsPrefixOf (take s l) a }
-    ensures later { (f : ℕ) (past : Past) (u v : View) (s : ℕ) → AtMost u v → Anchored f past u s
+    ensures later { (f : ℕ) (past : Past) (u v : View) (s : ℕ) → AtMost u v →
+        Anchored f past u s
         → Anchored f past v s }
 {}
 
@@ -89,7 +94,8 @@ pub fn main_log_is_one()
     ensures some { (f : ℕ) (stamps : List Stamped) (last_normal : ℕ → View) (past : Past)
         → Grounds f stamps last_normal past
         → (v : View) × (a : List Entry) × MainLog f last_normal past v a }
-    ensures one { (f : ℕ) (last_normal : ℕ → View) (past : Past) (v w : View) (a b : List Entry)
+    ensures one { (f : ℕ) (last_normal : ℕ → View) (past : Past) (v w : View)
+        (a b : List Entry)
         → MainLog f last_normal past v a → MainLog f last_normal past w b → (v ≡ w) × (a ≡ b) }
     ensures leads { (f : ℕ) (stamps : List Stamped) (last_normal : ℕ → View) (past : Past)
         → Grounds f stamps last_normal past → (v : View) (a : List Entry)

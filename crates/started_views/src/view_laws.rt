@@ -16,7 +16,8 @@ pub fn views_are_ordered()
 /// one that does not outrank the other is at most it.
 #[tactic(auto, using(facts::proofs::Views::rank_of_views))]
 pub fn ranks_follow_order()
-    ensures decides { (a b : View) → outranks a b ≡ false → outranks b a ≡ false → a ≡ b }
+    ensures decides { (a b : View) → outranks a b ≡ false → outranks b a
+        ≡ false → a ≡ b }
     ensures at_most { (a b : View) → AtMost a b → outranks a b ≡ false }
     ensures comparable { (a b : View) → Comparable a b → outranks a b ≡ false → AtMost a b }
 {}

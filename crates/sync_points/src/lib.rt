@@ -4,6 +4,3 @@
 mod synchronisation;
 
 pub use synchronisation::SyncPoints;
-
-#[cfg(test)]
-mod tests;

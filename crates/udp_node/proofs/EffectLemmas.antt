@@ -1,5 +1,6 @@
 -- Effects one after another.
-use Rattle.std.proofs.Common.{◌≡◌, ℕ, ◌+◌, ◌<◌, List, [], ◌∷◌, ◌++◌, map, length, get_or, take, drop, Option, Some, None, Result, Ok, Err, refl, ap, sym, ◌∙◌, append_assoc, arith}
+use Rattle.std.proofs.Common.{◌≡◌, ℕ, ◌+◌, ◌<◌, List, [], ◌∷◌, ◌++◌, map, length, get_or, take, drop, Option, Some, None, Result, Ok, Err}
+use Rattle.std.proofs.Common.{refl, ap, sym, ◌∙◌, append_assoc, arith}
 use Rattle.std.proofs.lemmas.Grind.{common_steps}
 use Rattle.std.proofs.KnownBytes.{Appends-trans}
 use Rattle.std.specs.Io.KnownBytes.{Appends}
@@ -12,7 +13,8 @@ use Rattle.outside.specs.declared.errors.DeviceError.{DeviceError}
 use Rattle.outside.specs.declared.errors.DeviceError.TheVariants.{Failed, NoMemory}
 use Rattle.outside.specs.declared.link.Sent.{Sent}
 use Rattle.udp_node.specs.declared.address.Address.{Address}
-use Rattle.udp_node.specs.Effects.{Effect, Post, Line, effects, effects_of, posts, lines, first_line, Done, Stopped, StoppedInLine, Stops, Carries, Writes}
+use Rattle.udp_node.specs.Effects.{Effect, Post, Line, effects, effects_of, posts, lines, first_line, Done, Stopped, StoppedInLine, Stops}
+use Rattle.udp_node.specs.Effects.{Carries, Writes}
 use Rattle.udp_node.specs.Sends.{LinkSide, Sends, SendsFront}
 use Rattle.udp_node.proofs.SendLemmas.{sends_then, no_sends}
 
@@ -134,7 +136,8 @@ in_line_by xs ys front (Line l ∷ rest) count a b h i split sends wrote below =
 pub stops_more : (xs ys : List Effect) (e : DeviceError) (a b : LinkSide) (h i : Option (List ℕ)) → Stops xs e a b h i
     → Stops (xs ++ ys) e a b h i
 stops_more xs ys Failed a b h i one =
-    in_line_by xs ys one.stopped.front one.stopped.rest one.stopped.count a b h i one.stopped.split one.stopped.sends one.stopped.lines one.below
+    in_line_by xs ys one.stopped.front one.stopped.rest one.stopped.count a b h i one.stopped.split one.stopped.sends
+    one.stopped.lines one.below
 stops_more xs ys NoMemory a b h i one = stopped_more xs ys a b h i one
 
 -- ---- one output

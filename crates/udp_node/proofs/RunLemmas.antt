@@ -1,5 +1,6 @@
 -- Turns of a run, one after another.
-use Rattle.std.proofs.Common.{◌≡◌, ℕ, zero, suc, ◌+◌, ◌-◌, ◌≤◌, ◌<◌, min, max, List, [], ◌∷◌, ◌++◌, map, drop, Bool, true, false, Option, Some, None, Result, Ok, Err, refl, ap, sym, ◌∙◌, append_assoc, arith}
+use Rattle.std.proofs.Common.{◌≡◌, ℕ, zero, suc, ◌+◌, ◌-◌, ◌≤◌, ◌<◌, min, max, List, [], ◌∷◌, ◌++◌, map, drop, Bool, true, false, Option}
+use Rattle.std.proofs.Common.{Some, None, Result, Ok, Err, refl, ap, sym, ◌∙◌, append_assoc, arith}
 use Rattle.std.proofs.lemmas.Grind.{common_steps}
 use Rattle.nop_types.specs.Given.{Given}
 use Rattle.nop_types.specs.declared.input.Tick.{Tick}
@@ -17,7 +18,8 @@ use Rattle.udp_node.specs.declared.errors.ServeError.TheVariants.{LinkFault, Wri
 use Rattle.udp_node.specs.declared.firing.Timer.{Timer}
 use Rattle.udp_node.specs.Effects.{effects, Done, Stops}
 use Rattle.udp_node.specs.Folding.{folded, Ran}
-use Rattle.udp_node.specs.NodeRun.{NodeRun, turns_from, node_run, turn_then, after_turn, with_outs, ServesRun, ServesTold, ServesAfter, ServedRun, Broke}
+use Rattle.udp_node.specs.NodeRun.{NodeRun, turns_from, node_run, turn_then, after_turn, with_outs, ServesRun, ServesTold, ServesAfter}
+use Rattle.udp_node.specs.NodeRun.{ServedRun, Broke}
 use Rattle.udp_node.specs.Progress.{after_turns, Going, GoingOn}
 use Rattle.udp_node.specs.Sends.{LinkSide, Sends, counted, count_if, failures, last_count}
 use Rattle.udp_node.specs.Timing.{armed, rearmed, turn_inputs, due_ticks, is_failure, Takes, Gives}
@@ -174,7 +176,8 @@ module _ {S : Type 0} (next : S → Given → S × List Out) (is_done : S → Bo
   going_turn timers turns s0 (Some x) None taken s t ts us now then time o later v w a b c h i j g within turned goes clock greatest = tt
   going_turn timers turns s0 (Some x) (Some y) taken s t ts us now then time o later v w a b c h i j g within turned goes clock greatest =
       going_on
-      (node_run next is_done timers turns s0 x y) turns taken s t ts us now then time o later v w a b c h i j g within turned goes clock greatest
+      (node_run next is_done timers turns s0 x y) turns taken s t ts us now then time o later v w a b c h i j g within turned goes
+      clock greatest
 
   -- ---- ends
 
@@ -293,13 +296,15 @@ module _ {S : Type 0} (next : S → Given → S × List Out) (is_done : S → Bo
     c.lost,
     rw same
         (stops_run
-        (node_run next is_done timers turns s0 x y) turns taken s ts now o v writes.Failed a b c h i j ends.answer g within ends.gives ends.stopped),
+        (node_run next is_done timers turns s0 x y) turns taken s ts now o v writes.Failed a b c h i j ends.answer g within ends.gives
+        ends.stopped),
   )
   serves_err timers turns s0 (Some x) (Some y) taken s t ts us now o later v NoMemory a b c d h i j g within ends same = (
     c.lost,
     rw same
         (stops_run
-        (node_run next is_done timers turns s0 x y) turns taken s ts now o v writes.NoMemory a b c h i j ends.answer g within ends.gives ends.stopped),
+        (node_run next is_done timers turns s0 x y) turns taken s ts now o v writes.NoMemory a b c h i j ends.answer g within ends.gives
+        ends.stopped),
   )
 
   pub serves_none : (timers : List (Tick × ℕ)) (turns : ℕ) (s0 : S) (o0 : Option (List PollAnswer)) (v0 : Option (List ℕ))

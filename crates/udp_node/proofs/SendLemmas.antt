@@ -1,5 +1,6 @@
 -- Sends one after another.
-use Rattle.std.proofs.Common.{◌≡◌, ℕ, zero, suc, ◌+◌, ◌-◌, ◌≤◌, ◌<◌, min, List, [], ◌∷◌, ◌++◌, Bool, true, false, Option, Some, None, Result, Ok, Err, refl, ap, sym, ◌∙◌, append_assoc, arith}
+use Rattle.std.proofs.Common.{◌≡◌, ℕ, zero, suc, ◌+◌, ◌-◌, ◌≤◌, ◌<◌, min, List, [], ◌∷◌, ◌++◌, Bool, true, false, Option, Some, None}
+use Rattle.std.proofs.Common.{Result, Ok, Err, refl, ap, sym, ◌∙◌, append_assoc, arith}
 use Rattle.nop_types.specs.declared.memory.NoMemory.{NoMemory}
 use Rattle.outside.specs.declared.link.Sent.{Sent}
 use Rattle.outside.specs.Causes.{Rose}
@@ -7,7 +8,8 @@ use Rattle.outside.specs.Plans.{next_count}
 use Rattle.outside.specs.Told.{Stays, Adds}
 use Rattle.std.proofs.lemmas.Grind.{common_steps}
 use Rattle.udp_node.specs.Ports.{is_skipped, unless, datagrams_from}
-use Rattle.udp_node.specs.Sends.{LinkSide, Grows, tried, kept, kept_if, failures, counted, count_if, last_count, Sends, SendsFront, SendsAll}
+use Rattle.udp_node.specs.Sends.{LinkSide, Grows, tried, kept, kept_if, failures, counted, count_if, last_count, Sends, SendsFront}
+use Rattle.udp_node.specs.Sends.{SendsAll}
 
 pub tried_append : (xs ys : List (Sent × Bool)) → tried (xs ++ ys) ≡ tried xs ++ tried ys
 tried_append [] ys = refl

@@ -1,5 +1,6 @@
 -- What a link took of the datagrams that were to be sent.
-use Rattle.std.specs.Prelude.{◌≡◌, ℕ, ◌+◌, ◌-◌, ◌^◌, ◌≤◌, min, List, [], ◌∷◌, ◌++◌, Bool, true, false, Option, Some, None, Result, Ok, Err, ⊤}
+use Rattle.std.specs.Prelude.{◌≡◌, ℕ, ◌+◌, ◌-◌, ◌^◌, ◌≤◌, min, List, [], ◌∷◌, ◌++◌, Bool, true, false, Option, Some, None, Result, Ok, Err}
+use Rattle.std.specs.Prelude.{⊤}
 use Rattle.nop_types.specs.declared.memory.NoMemory.{NoMemory}
 use Rattle.outside.specs.Plans.{next_count}
 use Rattle.outside.specs.declared.link.Sent.{Sent}

@@ -16,8 +16,10 @@ use schedule_text::{accept_line, submit_line};
 use std::alloc::Global;
 
 fn write_submit<W: Sink>(alloc: Global, request: &Request, sink: &mut W) -> Result<(), WriteError>
-    ensures line { Writes (texts.submit_line request.now) result (W.held sink.old) (W.held sink.new) }
-    ensures cause { HasCauseFor (W.fault_count sink.old) (W.fault_count sink.new) errors.Failed result }
+    ensures line { Writes (texts.submit_line request.now) result (W.held sink.old)
+        (W.held sink.new) }
+    ensures cause { HasCauseFor (W.fault_count sink.old) (W.fault_count sink.new)
+        errors.Failed result }
 {
     let mut line = Vec::new(alloc);
     submit_line(request, &mut line)?;
@@ -31,8 +33,10 @@ fn write_accept<W: Sink>(
     answer: &Bytes,
     sink: &mut W,
 ) -> Result<(), WriteError>
-    ensures line { Writes (texts.accept_line client id answer.now) result (W.held sink.old) (W.held sink.new) }
-    ensures cause { HasCauseFor (W.fault_count sink.old) (W.fault_count sink.new) errors.Failed result }
+    ensures line { Writes (texts.accept_line client id answer.now) result (W.held sink.old)
+        (W.held sink.new) }
+    ensures cause { HasCauseFor (W.fault_count sink.old) (W.fault_count sink.new)
+        errors.Failed result }
 {
     let mut line = Vec::new(alloc);
     accept_line(client, id, answer, &mut line)?;
@@ -54,7 +58,8 @@ fn carry_out<L: Link, W: Sink>(
         (side (L.sent link.old) lost.old (L.loss_count link.old))
         (side (L.sent link.new) lost.new (L.loss_count link.new))
         (W.held sink.old) (W.held sink.new) }
-    ensures cause { HasCauseFor (W.fault_count sink.old) (W.fault_count sink.new) errors.Failed result }
+    ensures cause { HasCauseFor (W.fault_count sink.old) (W.fault_count sink.new)
+        errors.Failed result }
     ensures answers { Stays (L.answers link.old) (L.answers link.new) }
     ensures faults { L.fault_count link.new ≡ L.fault_count link.old }
     ensures port { L.own_port link.new ≡ L.own_port link.old }
@@ -84,7 +89,8 @@ fn carry_out_all<L: Link, W: Sink>(
         (side (L.sent link.old) lost.old (L.loss_count link.old))
         (side (L.sent link.new) lost.new (L.loss_count link.new))
         (W.held sink.old) (W.held sink.new) }
-    ensures cause { HasCauseFor (W.fault_count sink.old) (W.fault_count sink.new) errors.Failed result }
+    ensures cause { HasCauseFor (W.fault_count sink.old) (W.fault_count sink.new)
+        errors.Failed result }
     ensures answers { Stays (L.answers link.old) (L.answers link.new) }
     ensures faults { L.fault_count link.new ≡ L.fault_count link.old }
     ensures port { L.own_port link.new ≡ L.own_port link.old }
@@ -107,11 +113,13 @@ pub(crate) fn take_step<C: Core, L: Link, W: Sink>(
     lost: &mut u64,
 ) -> Result<(), WriteError>
     requires { at.now.base ≤ 65000 }
-    ensures runs { Runs C.next at.now (C.state core.old) (C.state core.new) (given input.entry ∷ []) result
+    ensures runs { Runs C.next at.now (C.state core.old) (C.state core.new)
+        (given input.entry ∷ []) result
         (side (L.sent link.old) lost.old (L.loss_count link.old))
         (side (L.sent link.new) lost.new (L.loss_count link.new))
         (W.held sink.old) (W.held sink.new) }
-    ensures cause { HasCauseFor (W.fault_count sink.old) (W.fault_count sink.new) errors.Failed result }
+    ensures cause { HasCauseFor (W.fault_count sink.old) (W.fault_count sink.new)
+        errors.Failed result }
     ensures answers { Stays (L.answers link.old) (L.answers link.new) }
     ensures faults { L.fault_count link.new ≡ L.fault_count link.old }
     ensures port { L.own_port link.new ≡ L.own_port link.old }

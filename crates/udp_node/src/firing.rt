@@ -54,11 +54,13 @@ fn fire<C: Core, L: Link, W: Sink>(
     lost: &mut u64,
 ) -> Result<(), WriteError>
     requires { at.now.base ≤ 65000 }
-    ensures runs { Runs C.next at.now (C.state core.old) (C.state core.new) (due_ticks now (timer ∷ [])) result
+    ensures runs { Runs C.next at.now (C.state core.old) (C.state core.new) (due_ticks now (timer
+        ∷ [])) result
         (side (L.sent link.old) lost.old (L.loss_count link.old))
         (side (L.sent link.new) lost.new (L.loss_count link.new))
         (W.held sink.old) (W.held sink.new) }
-    ensures cause { HasCauseFor (W.fault_count sink.old) (W.fault_count sink.new) errors.Failed result }
+    ensures cause { HasCauseFor (W.fault_count sink.old) (W.fault_count sink.new)
+        errors.Failed result }
     ensures answers { Stays (L.answers link.old) (L.answers link.new) }
     ensures faults { L.fault_count link.new ≡ L.fault_count link.old }
     ensures port { L.own_port link.new ≡ L.own_port link.old }
@@ -82,11 +84,13 @@ pub(crate) fn fire_due<C: Core, L: Link, W: Sink>(
     lost: &mut u64,
 ) -> Result<(), WriteError>
     requires { at.now.base ≤ 65000 }
-    ensures runs { Runs C.next at.now (C.state core.old) (C.state core.new) (due_ticks now timers.now) result
+    ensures runs { Runs C.next at.now (C.state core.old) (C.state core.new)
+        (due_ticks now timers.now) result
         (side (L.sent link.old) lost.old (L.loss_count link.old))
         (side (L.sent link.new) lost.new (L.loss_count link.new))
         (W.held sink.old) (W.held sink.new) }
-    ensures cause { HasCauseFor (W.fault_count sink.old) (W.fault_count sink.new) errors.Failed result }
+    ensures cause { HasCauseFor (W.fault_count sink.old) (W.fault_count sink.new)
+        errors.Failed result }
     ensures answers { Stays (L.answers link.old) (L.answers link.new) }
     ensures faults { L.fault_count link.new ≡ L.fault_count link.old }
     ensures port { L.own_port link.new ≡ L.own_port link.old }

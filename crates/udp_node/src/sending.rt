@@ -41,7 +41,8 @@ fn send_unless_skipped<L: Link>(
     link: &mut L,
     lost: &mut u64,
 ) -> Result<(), NoMemory>
-    ensures sends { SendsAll (unless (is_skipped skipped port) (record { port = port; bytes = bytes.now }) []) result
+    ensures sends { SendsAll (unless (is_skipped skipped port)
+        (record { port = port; bytes = bytes.now }) []) result
         (side (L.sent link.old) lost.old (L.loss_count link.old))
         (side (L.sent link.new) lost.new (L.loss_count link.new)) }
     ensures answers { Stays (L.answers link.old) (L.answers link.new) }
@@ -67,7 +68,8 @@ fn send_each<L: Link>(
     lost: &mut u64,
 ) -> Result<(), NoMemory>
     requires { targets.first + targets.count ≤ 65535 }
-    ensures sends { SendsAll (datagrams_from bytes.now targets.skipped targets.first targets.count) result
+    ensures sends { SendsAll (datagrams_from bytes.now targets.skipped targets.first
+        targets.count) result
         (side (L.sent link.old) lost.old (L.loss_count link.old))
         (side (L.sent link.new) lost.new (L.loss_count link.new)) }
     ensures answers { Stays (L.answers link.old) (L.answers link.new) }

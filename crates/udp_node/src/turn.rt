@@ -37,11 +37,13 @@ fn take_packet<C: Core, L: Link, W: Sink>(
     lost: &mut u64,
 ) -> Result<(), WriteError>
     requires { at.now.base ≤ 65000 }
-    ensures runs { Runs C.next at.now (C.state core.old) (C.state core.new) (Packet datagram ∷ []) result
+    ensures runs { Runs C.next at.now (C.state core.old) (C.state core.new)
+        (Packet datagram ∷ []) result
         (side (L.sent link.old) lost.old (L.loss_count link.old))
         (side (L.sent link.new) lost.new (L.loss_count link.new))
         (W.held sink.old) (W.held sink.new) }
-    ensures cause { HasCauseFor (W.fault_count sink.old) (W.fault_count sink.new) writes.Failed result }
+    ensures cause { HasCauseFor (W.fault_count sink.old) (W.fault_count sink.new)
+        writes.Failed result }
     ensures answers { Stays (L.answers link.old) (L.answers link.new) }
     ensures faults { L.fault_count link.new ≡ L.fault_count link.old }
     ensures port { L.own_port link.new ≡ L.own_port link.old }
@@ -68,11 +70,13 @@ pub(crate) fn take_first<C: Core, L: Link, W: Sink>(
     lost: &mut u64,
 ) -> Result<(), WriteError>
     requires { at.now.base ≤ 65000 }
-    ensures runs { Runs C.next at.now (C.state core.old) (C.state core.new) (first_inputs first) result
+    ensures runs { Runs C.next at.now (C.state core.old) (C.state core.new)
+        (first_inputs first) result
         (side (L.sent link.old) lost.old (L.loss_count link.old))
         (side (L.sent link.new) lost.new (L.loss_count link.new))
         (W.held sink.old) (W.held sink.new) }
-    ensures cause { HasCauseFor (W.fault_count sink.old) (W.fault_count sink.new) writes.Failed result }
+    ensures cause { HasCauseFor (W.fault_count sink.old) (W.fault_count sink.new)
+        writes.Failed result }
     ensures answers { Stays (L.answers link.old) (L.answers link.new) }
     ensures faults { L.fault_count link.new ≡ L.fault_count link.old }
     ensures port { L.own_port link.new ≡ L.own_port link.old }
@@ -95,13 +99,16 @@ pub(crate) fn take_turn<C: Core, L: Link, W: Sink>(
     lost: &mut u64,
 ) -> Result<(), ServeError>
     requires { at.now.base ≤ 65000 }
-    ensures turn { TurnEnds C.next at.now (C.state core.old) (C.state core.new) now timers.old.items timers.new.items
+    ensures turn { TurnEnds C.next at.now (C.state core.old) (C.state core.new) now timers.old.items
+        timers.new.items
         (L.answers link.old) (L.answers link.new) result
         (side (L.sent link.old) lost.old (L.loss_count link.old))
         (side (L.sent link.new) lost.new (L.loss_count link.new))
         (W.held sink.old) (W.held sink.new) }
-    ensures write { HasCauseFor (W.fault_count sink.old) (W.fault_count sink.new) errors.WriteFault result }
-    ensures poll { HasCauseFor (L.fault_count link.old) (L.fault_count link.new) errors.LinkFault result }
+    ensures write { HasCauseFor (W.fault_count sink.old) (W.fault_count sink.new)
+        errors.WriteFault result }
+    ensures poll { HasCauseFor (L.fault_count link.old) (L.fault_count link.new)
+        errors.LinkFault result }
     ensures port { L.own_port link.new ≡ L.own_port link.old }
 {
     match fire_due(alloc, core, at, timers, now, link, sink, lost) {

@@ -104,7 +104,8 @@ impl Changes {
     /// What a leader without others starts its view with.
     pub fn start_now(&mut self) -> Result<Start, NoMemory>
         requires { self.old.f ≡ 0 }
-        ensures start { IfOk result (λ s. s ≡ started (start_of self.old.view self.old.changes)) }
+        ensures start { IfOk result (λ s. s
+            ≡ started (start_of self.old.view self.old.changes)) }
         ensures same { self.new ≡ self.old }
     {
         start_of(self.alloc, self.view, &self.changes)

@@ -8,6 +8,3 @@ mod starting;
 pub use changes::Changes;
 pub use laws::senders_count_once;
 pub use starting::{Start, Step};
-
-#[cfg(test)]
-mod tests;

@@ -25,5 +25,6 @@ loop-undos-preserved g c =
           c.loop-undos.invariant.run at c.in_ok-slot_undo.ensures.execution c.in_ok-slot_undo.ensures.slot_undo);
       fits = rw pushed (fit_push (g.H.Host.fits c.enter.new.host) old c.in_ok-slot_undo.slot_undo
           (fit_still (g.H.Host.fits c.loop-undos.host)
-          (g.H.Host.fits c.enter.new.host) c.in_ok-slot_undo.ensures.still_fits old c.loop-undos.invariant.fits) c.in_ok-slot_undo.ensures.fits);
+          (g.H.Host.fits c.enter.new.host) c.in_ok-slot_undo.ensures.still_fits old c.loop-undos.invariant.fits)
+          c.in_ok-slot_undo.ensures.fits);
     }

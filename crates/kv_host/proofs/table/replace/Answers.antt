@@ -12,4 +12,5 @@ pub returns-clause-after : goal.returns-clause-after
 returns-clause-after c =
     let place = c.pair_mut-place in
     rw (c.replace.ensures.after)
-    (places-with_value_at c.args.table.now c.args.index place.result.0.now place.result.1.now place.ensures.value place.ensures.unique c.args.value)
+    (places-with_value_at c.args.table.now c.args.index place.result.0.now place.result.1.now place.ensures.value place.ensures.unique
+    c.args.value)

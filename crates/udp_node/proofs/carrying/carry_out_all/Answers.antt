@@ -6,13 +6,15 @@ use Rattle.udp_node.proofs.carrying.carry_out_all.Goals as goal
 pub returns-in_err-carry_out-clause-carries : goal.returns-in_err-carry_out-clause-carries
 returns-in_err-carry_out-clause-carries g c =
     let h =
-    out_stopped _ c.args.at.now _ _ _ _ _ _ _ _ _ c.loop-out-test.true c.out-item.is c.loop-out.invariant.done c.in_err-carry_out.ensures.carries in
+    out_stopped _ c.args.at.now _ _ _ _ _ _ _ _ _ c.loop-out-test.true c.out-item.is c.loop-out.invariant.done
+    c.in_err-carry_out.ensures.carries in
     search (rules, h)
 
 pub loop-out-preserved : goal.loop-out-preserved
 loop-out-preserved g c = record {
   done =
-      out_done c.args.at.now _ _ _ _ _ _ _ _ _ c.loop-out-test.true c.out-item.is c.loop-out.invariant.done c.in_ok-carry_out.ensures.carries;
+      out_done c.args.at.now _ _ _ _ _ _ _ _ _ c.loop-out-test.true c.out-item.is c.loop-out.invariant.done
+      c.in_ok-carry_out.ensures.carries;
   later = omega (arith, c.loop-out.invariant.later, c.carry_out.ensures.cause.later);
   answers = Stays_trans _ _ _ c.loop-out.invariant.answers c.carry_out.ensures.answers;
   faults = search rules;
