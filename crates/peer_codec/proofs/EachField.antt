@@ -1,5 +1,6 @@
 -- A field that is read is the field that was written, and what was written is read again.
-use Rattle.std.proofs.Common.{◌≡◌, ℕ, ◌^◌, ◌<◌, ◌≤◌, Bool, true, List, [], ◌∷◌, ◌++◌, length, Option, Some, None, Result, Ok, refl, sym, ap, subst, ◌∙◌, append_assoc, arith}
+use Rattle.std.proofs.Common.{◌≡◌, ℕ, ◌^◌, ◌<◌, ◌≤◌, Bool, true, List, [], ◌∷◌, ◌++◌, length, Option, Some, None, Result, Ok, refl, sym, ap}
+use Rattle.std.proofs.Common.{subst, ◌∙◌, append_assoc, arith}
 use Rattle.std.specs.Prelude.{nat_lt, nat_le, ◌&&◌}
 use Rattle.std.specs.Int.{Width, w16, w32, w64}
 use Rattle.std.proofs.lemmas.Bool.Decides.{nat_tests}
@@ -11,7 +12,8 @@ use Rattle.oum_codec.specs.Numbers.{IsBytes, be_bytes, number_at, byte_at, bytes
 use Rattle.oum_codec.specs.Numbers as numbers
 use Rattle.oum_codec.specs.Spelling.{view_bytes, counted_bytes, request_bytes}
 use Rattle.oum_codec.proofs.Steps.{bind_ok, ok_is, ok_or_ok, passed_ok}
-use Rattle.oum_codec.proofs.Numbers.{Takes, Takes-then, IsWide, wide16, wide32, wide64, number_takes, number_again, u32_takes, u32_again, byte_takes, bytes_take, bytes_again, view_takes, view_again}
+use Rattle.oum_codec.proofs.Numbers.{Takes, Takes-then, IsWide, wide16, wide32, wide64, number_takes, number_again, u32_takes, u32_again}
+use Rattle.oum_codec.proofs.Numbers.{byte_takes, bytes_take, bytes_again, view_takes, view_again}
 use Rattle.peer_codec.specs.declared.bad_peer.BadPeer.{BadPeer}
 use Rattle.peer_codec.specs.declared.bad_peer.BadPeer.TheVariants.{Short, Field}
 use Rattle.peer_codec.specs.Fields.{there, in_range, sender_at, view_at, slot_at, next_at, length_at, id_at, op_at, request_at}

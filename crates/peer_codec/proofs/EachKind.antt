@@ -1,5 +1,6 @@
 -- The fields of each kind: what was spelled is read, and what is read is spelled.
-use Rattle.std.proofs.Common.{◌≡◌, ℕ, Bool, true, false, cond, eqb, List, ◌++◌, Result, Ok, refl, sym, ap, subst, ◌∙◌, append_assoc, inl, inr, ◌⊎◌}
+use Rattle.std.proofs.Common.{◌≡◌, ℕ, Bool, true, false, cond, eqb, List, ◌++◌, Result, Ok, refl, sym, ap, subst, ◌∙◌, append_assoc, inl}
+use Rattle.std.proofs.Common.{inr, ◌⊎◌}
 use Rattle.std.specs.Prelude.{◌≤◌}
 use Rattle.std.specs.Int.{w32, w64}
 use Rattle.std.proofs.lemmas.Bool.{eqb-true}
@@ -9,7 +10,8 @@ use Rattle.nop_types.specs.declared.view.View.{View}
 use Rattle.nop_types.specs.declared.request.Request.{Request}
 use Rattle.nop_types.specs.declared.request.Entry.{Entry}
 use Rattle.nop_types.specs.declared.peer.Body.{Body}
-use Rattle.nop_types.specs.declared.peer.Body.TheVariants.{SlotLookup, Found, GapCommit, GapRep, ViewChangeReq, ViewChange, StartView, SyncPrepare, SyncRep, SyncCommit}
+use Rattle.nop_types.specs.declared.peer.Body.TheVariants.{SlotLookup, Found, GapCommit, GapRep, ViewChangeReq, ViewChange, StartView}
+use Rattle.nop_types.specs.declared.peer.Body.TheVariants.{SyncPrepare, SyncRep, SyncCommit}
 use Rattle.oum_codec.specs.Numbers.{IsBytes, be_bytes}
 use Rattle.oum_codec.specs.Spelling.{view_bytes, request_bytes}
 use Rattle.oum_codec.specs.Reading.{◌>>=◌}
@@ -20,7 +22,8 @@ use Rattle.peer_codec.specs.Spelling.{log_bytes, kind_of, body_bytes}
 use Rattle.peer_codec.specs.Fields.{view_at, slot_at, next_at, length_at, request_at}
 use Rattle.peer_codec.specs.Logs.{log_at}
 use Rattle.peer_codec.specs.Reading.{found_at, view_change_at, start_view_at, sync_prepare_at, body_at}
-use Rattle.peer_codec.proofs.EachField.{slot_takes, slot_again, next_takes, next_again, length_takes, length_again, started_takes, started_again, request_takes, request_again}
+use Rattle.peer_codec.proofs.EachField.{slot_takes, slot_again, next_takes, next_again, length_takes, length_again, started_takes}
+use Rattle.peer_codec.proofs.EachField.{started_again, request_takes, request_again}
 use Rattle.peer_codec.proofs.Entries.{log_takes, log_again}
 
 abbrev pub ReadBody : Type 0

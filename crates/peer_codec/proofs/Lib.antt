@@ -4,3 +4,4 @@ pub mod Entries
 pub mod Loop
 pub mod Peers
 pub mod SpelledLengths
+pub mod SpelledMessages

@@ -15,7 +15,8 @@ pub fn spelled_is_read()
 
 /// What is read from bytes is spelled so.
 pub fn read_is_spelled()
-    ensures { (bytes : List ℕ) (p : Peer) → IsBytes bytes → reading bytes ≡ Ok p → Spells p bytes }
+    ensures { (bytes : List ℕ) (p : Peer) → IsBytes bytes → reading bytes ≡ Ok p →
+        Spells p bytes }
 {}
 
 /// Different values have different spellings.

@@ -3,9 +3,14 @@
 ghost use Rattle.std.specs.Prelude.{◌≡◌, ◌≤◌, ◌+◌, ◌*◌, length};
 ghost use Rattle.nop_types.specs.declared.limits.TheConstants.{MAX_OP_BYTES, MAX_SLOTS};
 ghost use Rattle.oum_codec.specs.Spelling.{request_bytes};
+ghost use Rattle.peer_codec.specs.LogBodies.{log_of, with_log};
 ghost use Rattle.peer_codec.specs.Spelling.{entry_bytes, log_bytes, body_bytes, spelling};
 
-use nop_types::{Body, Entry, Log, Peer, Request};
+use crate::LogBody;
+use nop_types::{Body, Entry, Peer, Request};
+
+/// The bytes of a spelling before the fields of its kind: kind, sender and view.
+pub const HEAD_BYTES: usize = 10;
 
 #[tactic(auto, using(crate::proofs::SpelledLengths::request_len))]
 fn request_len(request: &Request) -> usize
@@ -25,12 +30,13 @@ fn entry_len(entry: &Entry) -> usize
     }
 }
 
-fn log_len(log: &Log) -> usize
+fn log_len(log: &[Entry]) -> usize
+    requires { length log.now ≤ MAX_SLOTS }
     ensures exact { result ≡ length (log_bytes log.now) }
     ensures small { result ≤ 4 + MAX_SLOTS * (15 + MAX_OP_BYTES) }
 {
     let mut len: usize = 4;
-    for entry in log.as_slice() {
+    for entry in log {
         len += entry_len(entry);
     }
     len
@@ -49,9 +55,9 @@ fn body_len(body: &Body) -> usize
         | Body::SyncCommit(_) => 4,
         Body::Found(_, request) => 4 + request_len(request),
         Body::ViewChangeReq => 0,
-        Body::ViewChange { log, .. } => 16 + log_len(log),
-        Body::StartView { log, .. } => 8 + log_len(log),
-        Body::SyncPrepare(log) => log_len(log),
+        Body::ViewChange { log, .. } => 16 + log_len(log.as_slice()),
+        Body::StartView { log, .. } => 8 + log_len(log.as_slice()),
+        Body::SyncPrepare(log) => log_len(log.as_slice()),
     }
 }
 
@@ -59,5 +65,18 @@ fn body_len(body: &Body) -> usize
 pub fn spelled_len(message: &Peer) -> usize
     ensures { result ≡ length (spelling message.now) }
 {
-    10 + body_len(&message.body)
+    HEAD_BYTES + body_len(&message.body)
+}
+
+#[tactic(auto, using(crate::proofs::SpelledLengths::body_lens))]
+pub fn log_body_len(body: LogBody<'_>) -> usize
+    requires { length (log_of body) ≤ MAX_SLOTS }
+    ensures exact { result ≡ length (body_bytes (with_log body.entry)) }
+    ensures small { result ≤ 20 + MAX_SLOTS * (15 + MAX_OP_BYTES) }
+{
+    match body {
+        LogBody::ViewChange { log, .. } => 16 + log_len(log),
+        LogBody::StartView { log, .. } => 8 + log_len(log),
+        LogBody::SyncPrepare(log) => log_len(log),
+    }
 }

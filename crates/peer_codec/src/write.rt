@@ -1,12 +1,15 @@
-ghost use Rattle.std.specs.Prelude.{◌≡◌, ◌++◌, ◌∷◌, [], OnOk, OnErr};
+ghost use Rattle.std.specs.Prelude.{◌≡◌, ◌≤◌, ◌++◌, ◌∷◌, [], length, OnOk, OnErr};
 ghost use Rattle.std.specs.Int.{w16, w32, w64};
+ghost use Rattle.nop_types.specs.declared.limits.TheConstants.{MAX_SLOTS};
 ghost use Rattle.nop_types.specs.Ranges.{PeerFits};
 ghost use Rattle.oum_codec.specs.Numbers.{be_bytes};
 ghost use Rattle.oum_codec.specs.Spelling.{view_bytes};
+ghost use Rattle.peer_codec.specs.LogBodies.{log_of, with_log, log_message};
 ghost use Rattle.peer_codec.specs.Spelling.{entry_bytes, log_bytes, kind_of, head_bytes, body_bytes, spelling};
 
-use crate::lengths::spelled_len;
-use nop_types::{Body, Entry, Log, NoMemory, Peer, View, kinds};
+use crate::LogBody;
+use crate::lengths::{HEAD_BYTES, log_body_len, spelled_len};
+use nop_types::{Body, Entry, NoMemory, Peer, View, kinds};
 use oum_codec::{put_request, put_u32, put_u64, put_view};
 use std::alloc::Global;
 
@@ -37,12 +40,12 @@ fn put_entry(to: &mut Vec<u8>, entry: &Entry) -> Result<(), NoMemory>
     Ok(())
 }
 
-fn put_log(to: &mut Vec<u8>, log: &Log) -> Result<(), NoMemory>
+fn put_log(to: &mut Vec<u8>, log: &[Entry]) -> Result<(), NoMemory>
+    requires { length log.now ≤ MAX_SLOTS }
     ensures { OnOk result (to.new.items ≡ to.old.items ++ log_bytes log.now) }
 {
-    let entries = log.as_slice();
-    put_u32(to, entries.len() as u32)?;
-    for entry in entries {
+    put_u32(to, log.len() as u32)?;
+    for entry in log {
         put_entry(to, entry)?;
     }
     Ok(())
@@ -65,12 +68,44 @@ fn kind_of(body: &Body) -> u8
     }
 }
 
+fn kind_of_log(body: LogBody<'_>) -> u8
+    ensures { result ≡ kind_of (with_log body.entry) }
+{
+    match body {
+        LogBody::ViewChange { .. } => kinds::VIEW_CHANGE,
+        LogBody::StartView { .. } => kinds::START_VIEW,
+        LogBody::SyncPrepare(_) => kinds::SYNC_PREPARE,
+    }
+}
+
 fn put_head(to: &mut Vec<u8>, kind: u8, sender: u8, view: View) -> Result<(), NoMemory>
     ensures { OnOk result (to.new.items ≡ to.old.items ++ head_bytes kind sender view) }
 {
     to.push(kind)?;
     to.push(sender)?;
     put_view(to, view)
+}
+
+fn put_log_body(to: &mut Vec<u8>, body: LogBody<'_>) -> Result<(), NoMemory>
+    requires { length (log_of body) ≤ MAX_SLOTS }
+    ensures { OnOk result (to.new.items ≡ to.old.items ++ body_bytes (with_log body.entry)) }
+{
+    match body {
+        LogBody::ViewChange {
+            last_normal,
+            next,
+            log,
+        } => {
+            put_view(to, last_normal)?;
+            put_u64(to, next)?;
+            put_log(to, log)
+        }
+        LogBody::StartView { next, log } => {
+            put_u64(to, next)?;
+            put_log(to, log)
+        }
+        LogBody::SyncPrepare(log) => put_log(to, log),
+    }
 }
 
 fn put_body(to: &mut Vec<u8>, body: &Body) -> Result<(), NoMemory>
@@ -88,17 +123,36 @@ fn put_body(to: &mut Vec<u8>, body: &Body) -> Result<(), NoMemory>
             next,
             log,
         } => {
-            put_view(to, *last_normal)?;
-            put_u64(to, *next)?;
-            put_log(to, log)
+            let body = LogBody::ViewChange {
+                last_normal: *last_normal,
+                next: *next,
+                log: log.as_slice(),
+            };
+            put_log_body(to, body)
         }
         Body::StartView { next, log } => {
-            put_u64(to, *next)?;
-            put_log(to, log)
+            let body = LogBody::StartView {
+                next: *next,
+                log: log.as_slice(),
+            };
+            put_log_body(to, body)
         }
-        Body::SyncPrepare(log) => put_log(to, log),
+        Body::SyncPrepare(log) => put_log_body(to, LogBody::SyncPrepare(log.as_slice())),
         Body::SyncRep(length) | Body::SyncCommit(length) => put_u32(to, *length),
     }
+}
+
+/// Appends bytes. An empty `to` becomes their vector.
+fn append(to: &mut Vec<u8>, bytes: Vec<u8>) -> Result<(), NoMemory>
+    ensures ok { OnOk result (to.new.items ≡ to.old.items ++ bytes.items) }
+    ensures err { OnErr result (to.new.items ≡ to.old.items) }
+{
+    if to.is_empty() {
+        *to = bytes;
+        return Ok(());
+    }
+    to.extend_from_slice(&bytes)?;
+    Ok(())
 }
 
 /// Appends the message's one spelling. An empty `to` becomes a vector with room for just that.
@@ -115,10 +169,24 @@ pub fn encode_peer(alloc: Global, message: &Peer, to: &mut Vec<u8>) -> Result<()
         message.view,
     )?;
     put_body(&mut bytes, &message.body)?;
-    if to.is_empty() {
-        *to = bytes;
-        return Ok(());
-    }
-    to.extend_from_slice(&bytes)?;
-    Ok(())
+    append(to, bytes)
+}
+
+/// Appends the one spelling of a message with a log, which is borrowed. An empty `to` becomes a vector with room for just that.
+pub fn encode_with_log(
+    alloc: Global,
+    sender: u8,
+    view: View,
+    body: LogBody<'_>,
+    to: &mut Vec<u8>,
+) -> Result<(), NoMemory>
+    requires { PeerFits (log_message sender view body) }
+    ensures ok { OnOk result (to.new.items
+        ≡ to.old.items ++ spelling (log_message sender view body.entry)) }
+    ensures err { OnErr result (to.new.items ≡ to.old.items) }
+{
+    let mut bytes = Vec::with_capacity(alloc, HEAD_BYTES + log_body_len(body))?;
+    put_head(&mut bytes, kind_of_log(body), sender, view)?;
+    put_log_body(&mut bytes, body)?;
+    append(to, bytes)
 }

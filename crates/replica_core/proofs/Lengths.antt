@@ -1,5 +1,5 @@
 -- How many bytes the spelling of a message has: some, and no more than the most fragments hold.
-use Rattle.std.proofs.Common.{◌≡◌, ℕ, ◌+◌, ◌*◌, ◌<◌, ◌≤◌, ◌^◌, arith, List, [], ◌∷◌, length}
+use Rattle.std.proofs.Common.{◌≡◌, ℕ, ◌+◌, ◌*◌, ◌≤◌, arith, List, [], ◌∷◌, length}
 use Rattle.std.specs.List.{AllByRecursion, sum_by}
 use Rattle.std.proofs.lemmas.List.Sums.{sum_by-cons}
 use Rattle.nop_types.specs.declared.limits.TheConstants.{MAX_SLOTS, MAX_OP_BYTES}
@@ -9,9 +9,8 @@ use Rattle.nop_types.specs.declared.request.Entry.TheVariants.{NoOp, Req}
 use Rattle.nop_types.specs.declared.peer.Peer.{Peer}
 use Rattle.nop_types.specs.declared.peer.Body.{Body}
 use Rattle.nop_types.specs.declared.peer.Body.TheVariants as bodies
-use Rattle.fragments.proofs.Limits.{has_cut, few_pieces}
+use Rattle.fragments.proofs.Limits.{has_cut}
 use Rattle.fragments.specs.Cutting.{HasNoCut}
-use Rattle.fragments.specs.Runs.{CanBeCut}
 use Rattle.peer_codec.specs.Spelling.{entry_bytes, log_bytes, body_bytes, spelling}
 use Rattle.peer_codec.proofs.SpelledLengths.{request_len, log_len, number_len, found_len, start_view_len, view_change_len, spelling_len}
 
@@ -68,15 +67,3 @@ message_is_cut p fits =
     let exact = spelling_len p in
     let most = body_most p.body fits.body in
     has_cut (spelling p) (omega (arith, exact)) (omega (arith, exact, most))
-
-pub message_can_be_cut : (p : Peer) (number : ℕ) → PeerFits p → 1 ≤ number → number < 2 ^ 64 → CanBeCut p.sender number (spelling p)
-message_can_be_cut p number fits low high =
-    let exact = spelling_len p in
-    let most = body_most p.body fits.body in
-    record {
-      replica = fits.sender;
-      low = low;
-      high = high;
-      some = omega (arith, exact);
-      few = few_pieces (spelling p) (omega (arith, exact, most));
-    }

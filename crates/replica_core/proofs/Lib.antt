@@ -1,11 +1,8 @@
 pub mod Counting
 pub mod Draining
-pub mod InRanges
 pub mod Lengths
-pub mod NewSessions
 pub mod Opening
 pub mod Posted
-pub mod PostedFragments
 pub mod Ready
 pub mod Replying
 pub mod Rows

@@ -9,14 +9,12 @@ use Rattle.nop_types.specs.Configuration.{Configuration, is_configuration}
 use Rattle.facts.proofs.Limits.{is_configuration-few_replicas}
 use Rattle.executor.specs.Undoing.{HasExecuted}
 use Rattle.fragments.specs.Joining as joining
-use Rattle.oum_receiver.specs.Receiving.{IsSound}
-use Rattle.oum_receiver.proofs.Sound.{opened_sound}
 use Rattle.replica_core.specs.declared.replica.Node.{Node}
 use Rattle.replica_core.specs.declared.state.ReplicaState.{ReplicaState}
 use Rattle.replica_core.specs.State.{opening, executed_to, leads}
 use Rattle.replica_core.specs.Within.{IsWithin, IsReady}
 
-opens_within : (config : Configuration) (number : ℕ) → number < config.replicas → config.replicas ≤ MAX_REPLICAS
+pub opens_within : (config : Configuration) (number : ℕ) → number < config.replicas → config.replicas ≤ MAX_REPLICAS
     → IsWithin (opening config number)
 opens_within config number there few = record {
   number = there;
@@ -34,11 +32,6 @@ opens_within config number there few = record {
   prepared = omega arith;
   changes = tt;
 }
-
-pub opens_in_ranges : (config : Configuration) (number : ℕ) → IsTrue (is_configuration config) → number < config.replicas
-    → IsWithin (opening config number) × IsSound (opening config number).receiver
-opens_in_ranges config number is there =
-    (opens_within config number there (is_configuration-few_replicas config is), opened_sound 1 1 (omega arith))
 
 either_way : (b : Bool) (n : ℕ) → cond b n n ≡ n
 either_way true n = refl

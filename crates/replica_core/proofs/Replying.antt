@@ -1,8 +1,7 @@
 -- Replies for one slot after the other.
-use Rattle.std.proofs.Common.{◌≡◌, ℕ, zero, suc, ◌+◌, ◌<◌, ◌≤◌, List, [], ◌∷◌, ◌++◌, length, drop, Option, Some, refl, sym, ap, subst, ◌∙◌}
+use Rattle.std.proofs.Common.{◌≡◌, ℕ, zero, suc, ◌+◌, ◌<◌, List, [], ◌∷◌, ◌++◌, length, drop, Option, Some, refl, sym, ap, subst, ◌∙◌}
 use Rattle.std.proofs.Common.{arith, append_assoc}
 use Rattle.std.specs.Prelude.{slice_get}
-use Rattle.std.proofs.lemmas.List.{append-nil, drop_all}
 use Rattle.nop_types.specs.declared.request.Entry.{Entry}
 use Rattle.nop_types.specs.Lists.{slot_of}
 use Rattle.nop_types.specs.Meaning.{Meaning}
@@ -35,8 +34,3 @@ module _ {S : Type 0} (m : Meaning S) where
       ∙ append_assoc old (reply_at m t (i + 1)) (replies_above m t (i + 1))
       ∙ ap (λ (xs : List Sending). old ++ xs) (sym (first t i here))
       ∙ so_far
-
-  pub replies_end : (t : ReplicaState) (i : ℕ) (old total : List Sending) → length t.log ≤ i → old ++ replies_above m t i ≡ total
-      → old ≡ total
-  replies_end t i old total le so_far =
-      sym (append-nil old) ∙ ap (λ (es : List Entry). old ++ replies_to m t (i + 1) es) (sym (drop_all i t.log le)) ∙ so_far

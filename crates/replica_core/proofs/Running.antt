@@ -28,7 +28,7 @@ use Rattle.executor.proofs.FrontLemmas.{on_front, on_append, on_slot}
 use Rattle.replica_log.proofs.InRanges.{append_fits, slot_fits, laid_fits}
 use Rattle.replica_core.specs.declared.state.ReplicaState.{ReplicaState}
 use Rattle.replica_core.specs.State.{may_append, drains, others, waits, is_normal, unless_settled}
-use Rattle.replica_core.specs.Moves.{begin_session, appended, gap_opened, logged, entered, adopted, own_change, overlaid}
+use Rattle.replica_core.specs.Moves.{begin_session, appended, gap_opened, logged, adopted, overlaid}
 use Rattle.replica_core.specs.Rows.{kept_by}
 use Rattle.replica_core.specs.Within.{IsWithin, Runs}
 use Rattle.replica_core.proofs.Opening.{counted_fits}
@@ -39,11 +39,6 @@ pub on_ok : {A E : Type 0} (r : Result A E) (P Q : Type 0) → (P → Q) → OnO
 on_ok (Ok a) P Q f p = f p
 on_ok (Err e) P Q f p = p
 
-pub always : {A E : Type 0} (r : Result A E) (P : Type 0) → P → OnOk r P
-always (Ok a) P p = p
-always (Err e) P p = tt
-
--- what is sent behind what was sent before
 pub sent_on : {A : Type 0} (old a mid b new : List A) → mid ≡ old ++ a → new ≡ mid ++ b → new ≡ old ++ (a ++ b)
 sent_on old a mid b new first then = then ∙ ap (λ xs. xs ++ b) first ∙ append_assoc old a b
 
@@ -161,9 +156,6 @@ noop_within s k w =
 
 -- ---- views
 
-pub number_small : (s : ReplicaState) → IsWithin s → s.number ≤ 6
-number_small s w = let less = w.number in let few = w.few in omega arith
-
 from_next : (b : Bool) (r q : Receiving) (x : ℕ) → r.next ≡ x → q.next ≡ x → (cond b r q).next ≡ x
 from_next true r q x e f = e
 from_next false r q x e f = f
@@ -189,24 +181,6 @@ adopted_within s v x l w view next log =
       changes = tt;
     }
 
-pub entered_within : (s : ReplicaState) (v : View) → IsWithin s → ViewFits v → IsWithin (entered s v)
-entered_within s v w view = record {
-  number = w.number;
-  few = w.few;
-  view = view;
-  last_normal = w.last_normal;
-  log = w.log;
-  next = w.next;
-  base = w.base;
-  start = w.start;
-  receiver = λ e. absurd cc;
-  gap = tt;
-  sync_point = w.sync_point;
-  syncing = tt;
-  prepared = omega arith;
-  changes = tt;
-}
-
 pub begun_within : (s : ReplicaState) (p : Stamped) → IsWithin s → IsWithin (begin_session s p)
 begun_within s p w = record {
   number = w.number;
@@ -224,9 +198,6 @@ begun_within s p w = record {
   prepared = w.prepared;
   changes = w.changes;
 }
-
-pub own_change_fits : (s : ReplicaState) → IsWithin s → ChangeFits (own_change s)
-own_change_fits s w = record { sender = number_small s w; rest = record { view = w.last_normal; number = w.next; entries = w.log } }
 
 pub gathers_within : (s : ReplicaState) (g : Gathering) → IsWithin s → AllByRecursion ChangeFits g.changes
     → IsWithin (record s { changes = Some g })
@@ -303,17 +274,11 @@ module _ {H U : Type 0} (host : Ghosts H U) where
         run = on_append host.meaning host.undo_of s.log (Req r ∷ []) _ _ h.run;
       })
 
-  pub runs_same : (s t : ReplicaState) (x y : Running H U) → t ≡ s → y ≡ x → Runs host s x → Runs host t y
-  runs_same s t x y same other r = rw same (rw other r)
-
   pub noop_runs : (s t : ReplicaState) (x : Running H U) (k : ℕ) → t ≡ record s { log = set_slot s.log k NoOp } → Runs host s x
       → (length x.undos < k) ⊎ (slot_of s.log k ≡ Some NoOp) → Runs host t x
   noop_runs s t x k is r (inl less) =
       rw is (record { within = noop_within s k r.within; run = on_slot host.meaning host.undo_of s.log k NoOp _ _ r.run less })
   noop_runs s t x k is r (inr there) = rw is (record { within = noop_within s k r.within; run = rw (slot_same s.log k NoOp there) r.run })
-
-  pub entered_runs : (s t : ReplicaState) (x : Running H U) (v : View) → t ≡ entered s v → Runs host s x → ViewFits v → Runs host t x
-  entered_runs s t x v is r view = rw is (record { within = entered_within s v r.within view; run = r.run })
 
   pub gathers_runs : (s t : ReplicaState) (x : Running H U) (g : Gathering) → t ≡ record s { changes = Some g } → Runs host s x
       → AllByRecursion ChangeFits g.changes → Runs host t x

@@ -29,7 +29,8 @@ TakesFront s t true = TookFront s t
 TakesFront s t false = TookNone s t
 
 -- whatever comes after it, a turn that goes on is the first of a drain
-pub record GoesOn {S : Type 0} (m : Meaning S) (s : ReplicaState) (old : List Sending) (t : ReplicaState) (new : List Sending) : Type 0 where
+pub record GoesOn {S : Type 0} (m : Meaning S) (s : ReplicaState) (old : List Sending) (t : ReplicaState)
+    (new : List Sending) : Type 0 where
   pub drains : drains s ≡ true
   pub filled : length t.log ≡ length s.log + 1
   pub more : List Sending

@@ -2,7 +2,6 @@ pub mod Code
 pub mod Draining
 pub mod Messages
 pub mod Moves
-pub mod PostedFragments
 pub mod Posting
 pub mod Replies
 pub mod ReplicaSteps

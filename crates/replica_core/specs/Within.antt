@@ -10,12 +10,11 @@ use Rattle.nop_types.specs.Meaning.{Meaning}
 use Rattle.nop_types.specs.Ranges.{ViewFits, LogFits, NextFits, SlotFits, ChangeFits, StampedFits, PeerFits}
 use Rattle.executor.specs.Running.{Running}
 use Rattle.executor.specs.Undoing.{HasExecuted}
-use Rattle.oum_receiver.specs.Receiving.{IsSound}
 use Rattle.replica_core.specs.declared.member.Member.{Member}
 use Rattle.replica_core.specs.declared.replica.Node.{Node}
 use Rattle.replica_core.specs.declared.state.ReplicaState.{ReplicaState}
 use Rattle.replica_core.specs.State.{executed_to}
-use Rattle.replica_core.specs.Sends.{Effect, SendingFits}
+use Rattle.replica_core.specs.Sends.{Effect}
 use Rattle.replica_core.specs.Messages.{Arrival, Packet, Told, Ticked}
 
 -- each field is in its range, and what is sent of it too
@@ -65,12 +64,6 @@ abbrev pub ArrivalFits : Arrival → Type 0
 ArrivalFits (Packet p) = StampedFits p
 ArrivalFits (Told p) = PeerFits p
 ArrivalFits (Ticked tick) = ⊤
-
--- the state is in its ranges, its receiver is sound, and what is sent is in its ranges
-pub record StaysInRanges (e : Effect) : Type 0 where
-  pub within : IsWithin e.0
-  pub receiver : IsSound e.0.receiver
-  pub sends : AllByRecursion SendingFits e.1
 
 -- each result of the service fits a reply
 abbrev pub ResultsShort : {S : Type 0} → Meaning S → Type 0

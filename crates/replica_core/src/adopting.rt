@@ -6,7 +6,8 @@ ghost use Rattle.replica_core.specs.Within.{IsRunning, Does};
 
 use crate::ReplicaState;
 use crate::member::Member;
-use nop_types::{Body, Host, Log, NoMemory, Phase, View};
+use nop_types::{Host, Log, NoMemory, Phase, View};
+use peer_codec::LogBody;
 use view_change::Start;
 
 impl ReplicaState {
@@ -58,8 +59,11 @@ impl<H: Host> Member<H> {
             (Does H.Host self.old self.new (λ s. open_with H.meaning s start.next start.log)) }
     {
         let Start { next, log } = start;
-        let told = log.try_clone()?;
-        self.to_all(Body::StartView { next, log: told })?;
+        let body = LogBody::StartView {
+            next,
+            log: log.as_slice(),
+        };
+        self.state.send_log_to_all(body, &mut self.sends)?;
         let view = self.state.view;
         self.adopt(view, next, log)
     }

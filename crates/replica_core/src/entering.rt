@@ -5,9 +5,10 @@ ghost use Rattle.replica_core.specs.Moves.{left, entered, enter, own_change, cha
 ghost use Rattle.replica_core.specs.Rows.{enter_view, enter_and_drain};
 ghost use Rattle.replica_core.specs.Within.{IsWithin, IsRunning, Does};
 
-use crate::ReplicaState;
 use crate::member::Member;
+use crate::{ReplicaState, Sends};
 use nop_types::{Body, Change, Host, NoMemory, Phase, View};
+use peer_codec::LogBody;
 use view_change::Changes;
 
 impl ReplicaState {
@@ -34,7 +35,7 @@ impl ReplicaState {
         self.status = Phase::Change;
     }
 
-    /// What a replica tells the leader of the view that it enters.
+    /// The replica's own change, which it keeps where it leads the view that it enters.
     fn own_change(&self) -> Result<Change, NoMemory>
         ensures { IfOk result (λ c. c ≡ own_change self.now) }
     {
@@ -44,6 +45,19 @@ impl ReplicaState {
             next: self.next,
             log: self.log.copy(self.log.len())?,
         })
+    }
+
+    /// Tells the leader of the view what the replica had when it entered it.
+    fn tell_change(&self, sends: &mut Sends) -> Result<(), NoMemory>
+        requires { IsWithin self.now }
+        ensures { OnOk result (sends.new ≡ sends.old ++ change_told self.now) }
+    {
+        let body = LogBody::ViewChange {
+            last_normal: self.last_normal,
+            next: self.next,
+            log: self.log.as_slice(),
+        };
+        self.send_log_to(self.leader(), body, sends)
     }
 }
 
@@ -55,12 +69,8 @@ impl<H: Host> Member<H> {
         ensures executor { self.new.executor ≡ self.old.executor }
         ensures does { OnOk result (Does H.Host self.old self.new (λ s. (s, change_told s))) }
     {
-        let own = self.state.own_change()?;
-        self.to_leader(Body::ViewChange {
-            last_normal: own.last_normal,
-            next: own.next,
-            log: own.log,
-        })
+        self.state.tell_change(&mut self.sends)?;
+        Ok(())
     }
 
     #[tactic(auto, unfolding(crate::specs::Moves::enter))]

@@ -45,7 +45,8 @@ impl<H: Host> Member<H> {
         ensures runs { IsRunning H.Host self.new }
         ensures behind { length self.new.executor.undos ≤ slot }
         ensures fewer { length self.new.executor.undos ≤ length self.old.executor.undos }
-        ensures kept { length self.new.executor.undos ≡ min slot (length self.old.executor.undos) }
+        ensures kept { length self.new.executor.undos
+            ≡ min slot (length self.old.executor.undos) }
     {
         if slot < self.executor.executed() {
             self.executor.rewind(&self.state.log, slot);
@@ -61,8 +62,10 @@ impl<H: Host> Member<H> {
         ensures fewer { length self.new.executor.undos ≤ length self.old.executor.undos }
         ensures same { take (length self.new.executor.undos) log.now
             ≡ take (length self.new.executor.undos) self.old.state.log }
-        ensures kept { (len : ℕ) → len ≤ length self.old.executor.undos → len ≤ length log.now
-            → take len self.old.state.log ≡ take len log.now → len ≤ length self.new.executor.undos }
+        ensures kept { (len : ℕ) → len ≤ length self.old.executor.undos → len
+            ≤ length log.now
+            → take len self.old.state.log ≡ take len log.now → len
+            ≤ length self.new.executor.undos }
     {
         let executed = self.executor.executed() as usize;
         let common = common_front(self.state.log.as_slice(), log, executed);

@@ -16,7 +16,8 @@ impl ReplicaState {
     /// Counts a vote for the gap that waits, and closes it where enough voted.
     fn count_gap_vote(&mut self, sender: u8)
         requires { sender < MAX_REPLICAS }
-        ensures waits { IfSome self.old.gap (λ g. self.new ≡ (count_gap_vote self.old g sender).0) }
+        ensures waits { IfSome self.old.gap (λ g. self.new
+            ≡ (count_gap_vote self.old g sender).0) }
         ensures none { IfNone self.old.gap (self.new ≡ self.old) }
     {
         let Some(gap) = &mut self.gap else {

@@ -18,13 +18,7 @@ mod state;
 mod ticks;
 mod view_changes;
 
-pub use laws::{
-    drains_by_front, enters_only, messages_are_cut, new_session_enters_then_queues,
-    posts_fragments, rows_send_few_messages, rows_stay_in_ranges,
-};
+pub use laws::{drains_by_front, messages_are_cut, rows_send_few_messages};
 pub use replica::Replica;
 pub use sending::{Sending, Sends};
 pub use state::{LAST_MESSAGE, RESEND_MILLIS, ReplicaState, SYNC_MILLIS, WATCH_MILLIS};
-
-#[cfg(test)]
-mod tests;

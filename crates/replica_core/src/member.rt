@@ -1,11 +1,13 @@
 ghost use Rattle.std.specs.Prelude.{◌≡◌, ◌≤◌, ◌<◌, ◌++◌, ◌+◌, OnOk};
 ghost use Rattle.nop_types.specs.Ranges.{BodyFits};
+ghost use Rattle.peer_codec.specs.LogBodies.{with_log};
 ghost use Rattle.replica_core.specs.Sends.{message, to_replica, to_leader, to_all};
 ghost use Rattle.replica_core.specs.Within.{IsWithin, IsRunning, Does};
 
-use crate::{ReplicaState, Sending, Sends};
+use crate::{ReplicaState, Sends};
 use executor::Executor;
 use nop_types::{Actor, Body, Dest, Host, NoMemory, Peer};
+use peer_codec::LogBody;
 use std::alloc::Global;
 
 /// A replica over whole messages: its state, the execution of its log, and what it sends in this step.
@@ -35,7 +37,23 @@ impl ReplicaState {
         ensures { OnOk result (sends.new ≡ sends.old ++ to_replica self.now replica body) }
     {
         let dest = Dest::One(Actor::Replica(replica));
-        sends.push(Sending::ToReplicas(dest, self.message(body)))
+        sends.push_message(dest, &self.message(body))
+    }
+
+    /// Sends a message with a borrowed log to a replica.
+    pub fn send_log_to(
+        &self,
+        replica: u8,
+        body: LogBody<'_>,
+        sends: &mut Sends,
+    ) -> Result<(), NoMemory>
+        requires within { IsWithin self.now }
+        requires fits { BodyFits (with_log body) }
+        ensures { OnOk result (sends.new
+            ≡ sends.old ++ to_replica self.now replica (with_log body.entry)) }
+    {
+        let dest = Dest::One(Actor::Replica(replica));
+        sends.push_with_log(dest, self.number, self.view, body)
     }
 
     /// Sends a message to all others, where there are others.
@@ -47,7 +65,19 @@ impl ReplicaState {
         if self.others() == 0 {
             return Ok(());
         }
-        sends.push(Sending::ToReplicas(Dest::Replicas, self.message(body)))
+        sends.push_message(Dest::Replicas, &self.message(body))
+    }
+
+    /// Sends a message with a borrowed log to all others, where there are others.
+    pub fn send_log_to_all(&self, body: LogBody<'_>, sends: &mut Sends) -> Result<(), NoMemory>
+        requires within { IsWithin self.now }
+        requires fits { BodyFits (with_log body) }
+        ensures { OnOk result (sends.new ≡ sends.old ++ to_all self.now (with_log body.entry)) }
+    {
+        if self.others() == 0 {
+            return Ok(());
+        }
+        sends.push_with_log(Dest::Replicas, self.number, self.view, body)
     }
 }
 

@@ -1,14 +1,14 @@
 ghost use Rattle.std.specs.Prelude.{◌≡◌, ◌≤◌, ◌<◌, ◌+◌, ◌^◌, ◌++◌, ◌∷◌, [], length, take, OnOk, OnErr, IfOk};
 ghost use Rattle.std.specs.List.{AllByRecursion};
-ghost use Rattle.nop_types.specs.Ranges.{ReplyFits, PeerFits};
+ghost use Rattle.nop_types.specs.Ranges.{ReplyFits};
 ghost use Rattle.replica_core.specs.Sends.{SendingFits, message_count};
 ghost use Rattle.replica_core.specs.Posting.{reply_out, message_outs, posted};
 
 use crate::{Sending, Sends};
 use fragments::{CutError, cut};
-use nop_types::{Actor, Bytes, Dest, NoMemory, Out, Outbox, Peer, Reply};
+use nop_types::{Actor, Bytes, Dest, NoMemory, Out, Outbox, Reply};
 use oum_codec::encode_reply;
-use peer_codec::encode_peer;
+use peer_codec::EncodedPeer;
 use std::alloc::Global;
 
 fn post_reply(alloc: Global, reply: &Reply, out: &mut Outbox) -> Result<(), NoMemory>
@@ -26,17 +26,15 @@ fn post_message(
     alloc: Global,
     number: u64,
     dest: Dest,
-    message: &Peer,
+    message: &EncodedPeer,
     out: &mut Outbox,
 ) -> Result<(), NoMemory>
-    requires fits { PeerFits message.now }
     requires from_1 { 1 ≤ number }
     ensures ok { OnOk result (out.new ≡ out.old ++ message_outs number dest message.now) }
     ensures err { OnErr result (out.new ≡ out.old) }
 {
-    let mut bytes = Vec::new(alloc);
-    encode_peer(alloc, message, &mut bytes)?;
-    match cut(alloc, message.sender, number, &bytes, out, dest) {
+    let bytes = message.as_slice();
+    match cut(alloc, message.sender(), number, bytes, out, dest) {
         Err(CutError::NoMemory) => Err(NoMemory),
         _ => Ok(()),
     }

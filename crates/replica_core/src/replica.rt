@@ -118,8 +118,10 @@ impl<H: Host> Node<H> {
         requires ready { IsReady H.Host self.old }
         requires fits { ArrivalFits (arrival_of arrival) }
         ensures ready { OnOk result (IsReady H.Host self.new) }
-        ensures state { OnOk result (replica_of self.new ≡ (row H.meaning (replica_of self.old) (arrival_of arrival)).0) }
-        ensures out { OnOk result (out.new ≡ out.old ++ (row H.meaning (replica_of self.old) (arrival_of arrival)).1) }
+        ensures state { OnOk result (replica_of self.new
+            ≡ (row H.meaning (replica_of self.old) (arrival_of arrival)).0) }
+        ensures out { OnOk result (out.new ≡ out.old
+            ++ (row H.meaning (replica_of self.old) (arrival_of arrival)).1) }
         ensures err { OnErr result (out.new ≡ out.old) }
     {
         if self.messages >= LAST_MESSAGE {
@@ -137,8 +139,10 @@ impl<H: Host> Node<H> {
     fn joined(&mut self, replica: u8, bytes: &Bytes, out: &mut Outbox) -> Result<(), NoMemory>
         requires { IsReady H.Host self.old }
         ensures ready { OnOk result (IsReady H.Host self.new) }
-        ensures state { OnOk result (replica_of self.new ≡ (read H.meaning (replica_of self.old) replica (peer.reading bytes.now)).0) }
-        ensures out { OnOk result (out.new ≡ out.old ++ (read H.meaning (replica_of self.old) replica (peer.reading bytes.now)).1) }
+        ensures state { OnOk result (replica_of self.new
+            ≡ (read H.meaning (replica_of self.old) replica (peer.reading bytes.now)).0) }
+        ensures out { OnOk result (out.new ≡ out.old
+            ++ (read H.meaning (replica_of self.old) replica (peer.reading bytes.now)).1) }
         ensures err { OnErr result (out.new ≡ out.old) }
     {
         match decode_peer(self.member.alloc, bytes.as_slice()) {
@@ -158,8 +162,10 @@ impl<H: Host> Node<H> {
     fn fragment(&mut self, fragment: &Fragment, out: &mut Outbox) -> Result<(), NoMemory>
         requires { IsReady H.Host self.old }
         ensures ready { OnOk result (IsReady H.Host self.new) }
-        ensures state { OnOk result (replica_of self.new ≡ (steps.fragment H.meaning (replica_of self.old) fragment.now).0) }
-        ensures out { OnOk result (out.new ≡ out.old ++ (steps.fragment H.meaning (replica_of self.old) fragment.now).1) }
+        ensures state { OnOk result (replica_of self.new
+            ≡ (steps.fragment H.meaning (replica_of self.old) fragment.now).0) }
+        ensures out { OnOk result (out.new ≡ out.old
+            ++ (steps.fragment H.meaning (replica_of self.old) fragment.now).1) }
         ensures err { OnErr result (out.new ≡ out.old) }
     {
         if !self.member.state.is_other(fragment.replica) {
@@ -176,8 +182,10 @@ impl<H: Host> Node<H> {
     fn act(&mut self, input: Input<'_>, out: &mut Outbox) -> Result<(), NoMemory>
         requires { IsReady H.Host self.old }
         ensures ready { OnOk result (IsReady H.Host self.new) }
-        ensures state { OnOk result (replica_of self.new ≡ (next H.meaning (replica_of self.old) (given input.entry)).0) }
-        ensures out { OnOk result (out.new ≡ out.old ++ (next H.meaning (replica_of self.old) (given input.entry)).1) }
+        ensures state { OnOk result (replica_of self.new
+            ≡ (next H.meaning (replica_of self.old) (given input.entry)).0) }
+        ensures out { OnOk result (out.new ≡ out.old
+            ++ (next H.meaning (replica_of self.old) (given input.entry)).1) }
         ensures err { OnErr result (out.new ≡ out.old) }
     {
         let bytes = match input {
@@ -198,7 +206,8 @@ impl<H: Host> Node<H> {
 impl<H: Host> Replica<H> {
     pub fn new(alloc: Global, config: Config, number: u8) -> Result<Replica<H>, NoMemory>
         requires { number < config.replicas }
-        ensures { IfOk result (λ r. r ≡ record { failed = false; state = opening config number }) }
+        ensures { IfOk result (λ r. r
+            ≡ record { failed = false; state = opening config number }) }
     {
         let state = opening_state(alloc, config, number)?;
         Ok(Replica {

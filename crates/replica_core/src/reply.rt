@@ -5,7 +5,7 @@ ghost use Rattle.replica_core.specs.Replies.{reply_with, reply_at, replies_above
 ghost use Rattle.replica_core.specs.Within.{IsWithin, IsRunning};
 
 use crate::member::Member;
-use crate::{ReplicaState, Sending, Sends};
+use crate::{ReplicaState, Sends};
 use nop_types::{Bytes, Entry, Host, NoMemory, Reply};
 
 impl ReplicaState {
@@ -28,7 +28,7 @@ impl ReplicaState {
         ensures { OnOk result (sends.new
             ≡ sends.old ++ reply_with self.now slot client id tag answer) }
     {
-        sends.push(Sending::ToClient(Reply {
+        sends.push_reply(Reply {
             replica: self.number,
             view: self.view,
             slot,
@@ -36,7 +36,7 @@ impl ReplicaState {
             id,
             tag,
             result: answer,
-        }))
+        })
     }
 }
 

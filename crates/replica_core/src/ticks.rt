@@ -1,12 +1,27 @@
 ghost use Rattle.std.specs.Prelude.{◌≡◌, ◌≤◌, ◌++◌, OnOk, IfOk};
+ghost use Rattle.nop_types.specs.declared.peer.Body.TheVariants.{SyncPrepare};
 ghost use Rattle.oum_receiver.specs.Receiving.{front_of};
 ghost use Rattle.replica_core.specs.Moves.{open_sync, repeat_commit};
 ghost use Rattle.replica_core.specs.Rows.{suspect, watch, resend, sync, gap_again, lookup_again, change_again};
+ghost use Rattle.replica_core.specs.Sends.{to_all};
 ghost use Rattle.replica_core.specs.State.{leads};
-ghost use Rattle.replica_core.specs.Within.{IsRunning, Does};
+ghost use Rattle.replica_core.specs.Within.{IsWithin, IsRunning, Does};
 
 use crate::member::Member;
+use crate::{ReplicaState, Sends};
 use nop_types::{Body, Host, NoMemory, Phase, View};
+use peer_codec::LogBody;
+
+impl ReplicaState {
+    /// Tells all others the log.
+    fn tell_log(&self, sends: &mut Sends) -> Result<(), NoMemory>
+        requires { IsWithin self.now }
+        ensures { OnOk result (sends.new ≡ sends.old
+            ++ to_all self.now (SyncPrepare self.now.log)) }
+    {
+        self.send_log_to_all(LogBody::SyncPrepare(self.log.as_slice()), sends)
+    }
+}
 
 impl<H: Host> Member<H> {
     /// The view's leader is suspected: the next leader's view is entered.
@@ -69,7 +84,8 @@ impl<H: Host> Member<H> {
     fn change_again(&mut self) -> Result<(), NoMemory>
         requires runs { IsRunning H.Host self.old }
         ensures state { self.new.state ≡ self.old.state }
-        ensures does { OnOk result (Does H.Host self.old self.new (λ s. change_again (leads s) s)) }
+        ensures does { OnOk result (Does H.Host self.old self.new (λ s.
+            change_again (leads s) s)) }
     {
         if self.state.leads() {
             return Ok(());
@@ -99,9 +115,8 @@ impl<H: Host> Member<H> {
         requires runs { IsRunning H.Host self.old }
         ensures { OnOk result (Does H.Host self.old self.new open_sync) }
     {
+        self.state.tell_log(&mut self.sends)?;
         let len = self.state.log.len();
-        let log = self.state.log.copy(len)?;
-        self.to_all(Body::SyncPrepare(log))?;
         self.state.sync.prepare(len);
         Ok(())
     }

@@ -11,11 +11,12 @@ ghost use Rattle.replica_core.specs.Rows.{
   may_adopt,
   start_view,
 };
-ghost use Rattle.replica_core.specs.Within.{IsRunning, Does};
+ghost use Rattle.replica_core.specs.Within.{IsWithin, IsRunning, Does};
 
-use crate::ReplicaState;
 use crate::member::Member;
-use nop_types::{Body, Change, Host, Log, NoMemory, Phase, View, leader_of};
+use crate::{ReplicaState, Sends};
+use nop_types::{Change, Host, Log, NoMemory, Phase, View, leader_of};
+use peer_codec::LogBody;
 use view_change::Step;
 
 impl ReplicaState {
@@ -39,6 +40,18 @@ impl ReplicaState {
         };
         changes.on_change(change)
     }
+
+    /// Tells a replica what the view started with.
+    fn tell_start(&self, replica: u8, sends: &mut Sends) -> Result<(), NoMemory>
+        requires { IsWithin self.now }
+        ensures { OnOk result (sends.new ≡ sends.old ++ (resend_start self.now replica).1) }
+    {
+        let body = LogBody::StartView {
+            next: self.start(),
+            log: &self.log.as_slice()[..self.base as usize],
+        };
+        self.send_log_to(replica, body, sends)
+    }
 }
 
 impl<H: Host> Member<H> {
@@ -60,9 +73,8 @@ impl<H: Host> Member<H> {
         requires runs { IsRunning H.Host self.old }
         ensures { OnOk result (Does H.Host self.old self.new (λ s. resend_start s replica)) }
     {
-        let next = self.state.start();
-        let log = self.state.log.copy(self.state.base)?;
-        self.to_replica(replica, Body::StartView { next, log })
+        self.state.tell_start(replica, &mut self.sends)?;
+        Ok(())
     }
 
     /// Keeps a change, and starts the view where enough are there.

@@ -10,6 +10,5 @@ pub returns-clause-exact : goal.returns-clause-exact
 returns-clause-exact c =
     c.loop-entry.invariant.exact
     ∙ ap (λ (log : List Entry). 4 + sum_by (λ e. length (entry_bytes e)) log)
-    (take_all c.loop-entry.entry-index c.as_slice-entry-items.result.now c.loop-entry-test.false
-    ∙ c.as_slice-entry-items.ensures.entries)
+    (take_all c.loop-entry.entry-index c.args.log.now c.loop-entry-test.false)
     ∙ sym (log_len c.args.log.now)

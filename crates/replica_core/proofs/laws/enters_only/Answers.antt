@@ -1,5 +1,0 @@
-use Rattle.replica_core.proofs.NewSessions.{enters_only}
-use Rattle.replica_core.proofs.laws.enters_only.Goals as goal
-
-pub returns : goal.returns
-returns g c = λ m. enters_only m

@@ -1,5 +1,0 @@
-use Rattle.replica_core.proofs.NewSessions.{enters_then_queues}
-use Rattle.replica_core.proofs.laws.new_session_enters_then_queues.Goals as goal
-
-pub returns : goal.returns
-returns c = enters_then_queues
