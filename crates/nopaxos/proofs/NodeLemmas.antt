@@ -1,5 +1,6 @@
 -- A run of a node, its last line, and the ports that it ran over.
-use Rattle.std.proofs.Common.{◌≡◌, ℕ, List, [], ◌∷◌, ◌++◌, Bool, true, false, Option, Some, None, Result, Ok, Err, option_map, refl, ap, sym, ◌∙◌, inl, inr}
+use Rattle.std.proofs.Common.{◌≡◌, ℕ, List, [], ◌∷◌, ◌++◌, Bool, true, false, Option, Some, None, Result, Ok, Err, option_map, refl, ap}
+use Rattle.std.proofs.Common.{sym, ◌∙◌, inl, inr}
 use Rattle.std.specs.Io.KnownBytes.{Appends}
 use Rattle.outside.specs.Causes.{Rose}
 use Rattle.outside.specs.Fronts.{AppendsFront}
@@ -14,7 +15,8 @@ use Rattle.udp_node.specs.Sends.{LinkSide, side}
 use Rattle.udp_node.specs.declared.errors.ServeError.TheVariants as serve_errors
 use Rattle.udp_node.specs.declared.serving.Served.{Served}
 use Rattle.udp_node.proofs.EffectLemmas.{done_then, stops_then, stops_more, wrote_line}
-use Rattle.nopaxos.specs.Nodes.{served_line, last_effects, all_effects, end_status, IsNodeStatus, IsUnattachedStatus, EndsNodeWithoutFault, Finished, RunEnds, NodeTask, run_of, RunTold, LinkView, PortsView, NodeEnds}
+use Rattle.nopaxos.specs.Nodes.{served_line, last_effects, all_effects, end_status, IsNodeStatus, IsUnattachedStatus, EndsNodeWithoutFault}
+use Rattle.nopaxos.specs.Nodes.{Finished, RunEnds, NodeTask, run_of, RunTold, LinkView, PortsView, NodeEnds}
 use Rattle.nopaxos.specs.declared.status.Status.{Status}
 use Rattle.nopaxos.specs.declared.status.Status.TheVariants as statuses
 

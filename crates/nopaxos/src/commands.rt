@@ -57,7 +57,8 @@ pub(crate) fn run_replica<P: Ports, T: Clock, K: Sink>(
         (P.fault_count ports.old) (P.fault_count ports.new))
         (T.values clock.old) result (K.held sink.old) (K.held sink.new) }
     ensures status { IsNodeStatus false result }
-    ensures write { result ≡ Status.WriteFault → Rose (K.fault_count sink.old) (K.fault_count sink.new) }
+    ensures write { result ≡ Status.WriteFault → Rose (K.fault_count sink.old)
+        (K.fault_count sink.new) }
 {
     match Replica::<KvHost>::new(alloc, site.config, id) {
         Ok(core) => {
@@ -86,7 +87,8 @@ pub(crate) fn run_sequencer<P: Ports, T: Clock, K: Sink>(
         (P.fault_count ports.old) (P.fault_count ports.new))
         (T.values clock.old) result (K.held sink.old) (K.held sink.new) }
     ensures status { IsNodeStatus false result }
-    ensures write { result ≡ Status.WriteFault → Rose (K.fault_count sink.old) (K.fault_count sink.new) }
+    ensures write { result ≡ Status.WriteFault → Rose (K.fault_count sink.old)
+        (K.fault_count sink.new) }
 {
     match Sequencer::new(alloc, id) {
         Ok(core) => {
@@ -126,7 +128,8 @@ pub(crate) fn run_controller<P: Ports, T: Clock, K: Sink>(
         (P.fault_count ports.old) (P.fault_count ports.new))
         (T.values clock.old) result (K.held sink.old) (K.held sink.new) }
     ensures status { IsNodeStatus false result }
-    ensures write { result ≡ Status.WriteFault → Rose (K.fault_count sink.old) (K.fault_count sink.new) }
+    ensures write { result ≡ Status.WriteFault → Rose (K.fault_count sink.old)
+        (K.fault_count sink.new) }
 {
     match Controller::new(alloc, site.config, session) {
         Ok(core) => {
@@ -155,7 +158,8 @@ pub(crate) fn run_client<P: Ports, T: Clock, K: Sink>(
         (P.fault_count ports.old) (P.fault_count ports.new))
         (T.values clock.old) result (K.held sink.old) (K.held sink.new) }
     ensures status { IsNodeStatus true result }
-    ensures write { result ≡ Status.WriteFault → Rose (K.fault_count sink.old) (K.fault_count sink.new) }
+    ensures write { result ≡ Status.WriteFault → Rose (K.fault_count sink.old)
+        (K.fault_count sink.new) }
 {
     match Client::new(alloc, site.config, id, ops.into_vec()) {
         Ok(core) => {

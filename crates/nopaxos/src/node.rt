@@ -42,8 +42,10 @@ fn put_served(served: Served, to: &mut Vec<u8>) -> Result<(), NoMemory>
 }
 
 fn write_served<K: Sink>(alloc: Global, served: Served, sink: &mut K) -> Result<(), WriteError>
-    ensures line { Writes (served_line served.turns served.lost) result (K.held sink.old) (K.held sink.new) }
-    ensures cause { HasCauseFor (K.fault_count sink.old) (K.fault_count sink.new) devices.Failed result }
+    ensures line { Writes (served_line served.turns served.lost) result (K.held sink.old)
+        (K.held sink.new) }
+    ensures cause { HasCauseFor (K.fault_count sink.old) (K.fault_count sink.new)
+        devices.Failed result }
 {
     let mut line = Vec::new(alloc);
     put_served(served, &mut line)?;
@@ -89,8 +91,10 @@ fn run_link<C: Core, L: Link, T: Clock, K: Sink>(
         (side (L.sent link.new) 0 (L.loss_count link.new)) (K.held sink.old) (K.held sink.new) }
     ensures status { IsNodeStatus task.now.waits result }
     ensures port { L.own_port link.new ≡ L.own_port link.old }
-    ensures poll { result ≡ Status.LinkFault → Rose (L.fault_count link.old) (L.fault_count link.new) }
-    ensures write { result ≡ Status.WriteFault → Rose (K.fault_count sink.old) (K.fault_count sink.new) }
+    ensures poll { result ≡ Status.LinkFault → Rose (L.fault_count link.old)
+        (L.fault_count link.new) }
+    ensures write { result ≡ Status.WriteFault → Rose (K.fault_count sink.old)
+        (K.fault_count sink.new) }
 {
     let place = copied(at);
     let first = task.first;
@@ -126,7 +130,8 @@ pub(crate) fn run_core<C: Core, P: Ports, T: Clock, K: Sink>(
         (P.fault_count ports.old) (P.fault_count ports.new))
         (T.values clock.old) result (K.held sink.old) (K.held sink.new) }
     ensures status { IsNodeStatus task.now.waits result }
-    ensures write { result ≡ Status.WriteFault → Rose (K.fault_count sink.old) (K.fault_count sink.new) }
+    ensures write { result ≡ Status.WriteFault → Rose (K.fault_count sink.old)
+        (K.fault_count sink.new) }
 {
     match ports.attach(at.port_of(at.own)) {
         Ok(link) => {

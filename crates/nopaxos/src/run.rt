@@ -21,10 +21,13 @@ pub const USAGE_LINE: &str =
     "usage: nopaxos replay | gen | node | sequencer | controller | client\n";
 
 fn run_replay<S: Source, K: Sink>(alloc: Global, source: &mut S, sink: &mut K) -> Status
-    ensures ends { ReplayEnds kv_meaning (S.left source.old) (S.left source.new) (K.held sink.old) (K.held sink.new) result }
+    ensures ends { ReplayEnds kv_meaning (S.left source.old) (S.left source.new) (K.held sink.old)
+        (K.held sink.new) result }
     ensures safe { result ≡ Status.Done → RunsSafelyOf kv_meaning (S.left source.old) }
-    ensures read { result ≡ Status.ReadFault → Rose (S.fault_count source.old) (S.fault_count source.new) }
-    ensures write { result ≡ Status.WriteFault → Rose (K.fault_count sink.old) (K.fault_count sink.new) }
+    ensures read { result ≡ Status.ReadFault → Rose (S.fault_count source.old)
+        (S.fault_count source.new) }
+    ensures write { result ≡ Status.WriteFault → Rose (K.fault_count sink.old)
+        (K.fault_count sink.new) }
 {
     match replay(alloc, source, sink) {
         Ok(()) => Status::Done,
@@ -38,7 +41,8 @@ fn run_replay<S: Source, K: Sink>(alloc: Global, source: &mut S, sink: &mut K) -
 #[tactic(auto, unfolding(crate::specs::Words::usage_line))]
 fn write_usage<K: Sink>(sink: &mut K) -> Status
     ensures ends { UsageEnds (K.held sink.old) (K.held sink.new) result }
-    ensures write { result ≡ Status.WriteFault → Rose (K.fault_count sink.old) (K.fault_count sink.new) }
+    ensures write { result ≡ Status.WriteFault → Rose (K.fault_count sink.old)
+        (K.fault_count sink.new) }
 {
     match write_all(sink, USAGE_LINE.as_bytes()) {
         Ok(()) => Status::Usage,
@@ -57,15 +61,19 @@ fn carry_out<S: Source, K: Sink, P: Ports, C: Clock>(
     clock: &mut C,
 ) -> Status
     requires { IsFit command }
-    ensures replay { command ≡ Command.Replay → ReplayEnds kv_meaning (S.left source.old) (S.left source.new) (K.held sink.old) (K.held sink.new) result }
-    ensures safe { command ≡ Command.Replay → result ≡ Status.Done → RunsSafelyOf kv_meaning (S.left source.old) }
+    ensures replay { command ≡ Command.Replay → ReplayEnds kv_meaning (S.left source.old)
+        (S.left source.new) (K.held sink.old) (K.held sink.new) result }
+    ensures safe { command ≡ Command.Replay → result ≡ Status.Done →
+        RunsSafelyOf kv_meaning (S.left source.old) }
     ensures node { CommandEnds (Some command)
         (link_view P.L.own_port P.L.sent P.L.loss_count P.L.fault_count)
         (ports_view (P.to_come ports.old) (P.detached ports.old) (P.detached ports.new)
         (P.fault_count ports.old) (P.fault_count ports.new))
         (C.values clock.old) result (K.held sink.old) (K.held sink.new) }
-    ensures read { result ≡ Status.ReadFault → Rose (S.fault_count source.old) (S.fault_count source.new) }
-    ensures write { result ≡ Status.WriteFault → Rose (K.fault_count sink.old) (K.fault_count sink.new) }
+    ensures read { result ≡ Status.ReadFault → Rose (S.fault_count source.old)
+        (S.fault_count source.new) }
+    ensures write { result ≡ Status.WriteFault → Rose (K.fault_count sink.old)
+        (K.fault_count sink.new) }
     ensures unread { runs_node (Some command) ≡ true → source.new ≡ source.old }
     ensures ports { runs_node (Some command) ≡ false → ports.new ≡ ports.old }
     ensures clock { runs_node (Some command) ≡ false → clock.new ≡ clock.old }
@@ -91,27 +99,34 @@ pub fn run<S: Source, K: Sink, P: Ports, C: Clock>(
     ports: &mut P,
     clock: &mut C,
 ) -> Status
-    ensures replay { asked words.now ≡ Some Command.Replay → ReplayEnds kv_meaning (S.left source.old) (S.left source.new) (K.held sink.old) (K.held sink.new) result }
-    ensures safe { asked words.now ≡ Some Command.Replay → result ≡ Status.Done → RunsSafelyOf kv_meaning (S.left source.old) }
+    ensures replay { asked words.now ≡ Some Command.Replay →
+        ReplayEnds kv_meaning (S.left source.old) (S.left source.new) (K.held sink.old)
+        (K.held sink.new) result }
+    ensures safe { asked words.now ≡ Some Command.Replay → result ≡ Status.Done →
+        RunsSafelyOf kv_meaning (S.left source.old) }
     ensures usage { ¬ Taken words.now → UsageEnds (K.held sink.old) (K.held sink.new) result }
     ensures node { CommandEnds (asked words.now)
         (link_view P.L.own_port P.L.sent P.L.loss_count P.L.fault_count)
         (ports_view (P.to_come ports.old) (P.detached ports.old) (P.detached ports.new)
         (P.fault_count ports.old) (P.fault_count ports.new))
         (C.values clock.old) result (K.held sink.old) (K.held sink.new) }
-    ensures read { result ≡ Status.ReadFault → Rose (S.fault_count source.old) (S.fault_count source.new) }
-    ensures write { result ≡ Status.WriteFault → Rose (K.fault_count sink.old) (K.fault_count sink.new) }
+    ensures read { result ≡ Status.ReadFault → Rose (S.fault_count source.old)
+        (S.fault_count source.new) }
+    ensures write { result ≡ Status.WriteFault → Rose (K.fault_count sink.old)
+        (K.fault_count sink.new) }
     ensures replay_complete { asked words.now ≡ Some Command.Replay
         → ¬ Rose (S.fault_count source.old) (S.fault_count source.new)
         → ¬ Rose (K.fault_count sink.old) (K.fault_count sink.new) → EndsWithoutFault result }
-    ensures usage_complete { ¬ Taken words.now → ¬ Rose (K.fault_count sink.old) (K.fault_count sink.new)
+    ensures usage_complete { ¬ Taken words.now → ¬ Rose (K.fault_count sink.old)
+        (K.fault_count sink.new)
         → RefusesWithoutFault result }
 
     // Where no attach failed, no poll of the link and no write.
     ensures node_complete { runs_node (asked words.now) ≡ true
         → ¬ Rose (P.fault_count ports.old) (P.fault_count ports.new)
         → ¬ Rose (K.fault_count sink.old) (K.fault_count sink.new)
-        → ((link : P.L) → P.detached ports.new ≡ P.detached ports.old ++ link ∷ [] → ¬ Rose 0 (P.L.fault_count link))
+        → ((link : P.L) → P.detached ports.new ≡ P.detached ports.old ++ link ∷ [] →
+        ¬ Rose 0 (P.L.fault_count link))
         → EndsNodeWithoutFault (waits_for_ops (asked words.now)) result }
     ensures unread { asked words.now ≢ Some Command.Replay → source.new ≡ source.old }
     ensures ports { runs_node (asked words.now) ≡ false → ports.new ≡ ports.old }

@@ -1,4 +1,5 @@
 pub mod Beginning
+pub mod Causes
 pub mod Fronts
 pub mod Progressing
 pub mod Runs

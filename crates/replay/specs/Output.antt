@@ -10,7 +10,7 @@ use Rattle.schedule_text.specs.declared.rule.Rule.TheVariants as rules
 use Rattle.schedule_text.specs.Rules.{rule_number, header_of, event_of}
 use Rattle.schedule_text.specs.Transcript.{transcript_line, lines_text, history_line, error_line, end_line}
 use Rattle.world.specs.StateLines.{replicas_text}
-use Rattle.world.specs.WorldSteps.{WorldState, Refusal, NoSuchActor, NoSuchDatagram, Happened, step, run_from, opening, history}
+use Rattle.world.specs.WorldSteps.{WorldState, Refusal, NoSuchActor, NoSuchDatagram, Forged, Happened, step, run_from, opening, history}
 
 -- ---- the lines at the end of the input
 
@@ -33,6 +33,7 @@ abbrev pub refused_line : ℕ → Refusal → BadLine
 refused_line line NoSuchActor = record { line = line; rule = rule_number rules.WrongActor; index_sent = None }
 refused_line line (NoSuchDatagram index sent) =
     record { line = line; rule = rule_number rules.NoSuchDatagram; index_sent = Some (index, sent) }
+refused_line line Forged = record { line = line; rule = rule_number rules.Forged; index_sent = None }
 
 abbrev pub bad_text : BadLine → List ℕ
 bad_text b = error_line b.line b.rule b.index_sent

@@ -4,8 +4,6 @@
 mod error;
 mod final_lines;
 mod replayed;
-#[cfg(test)]
-mod tests;
 mod turn;
 mod writing;
 

@@ -82,6 +82,10 @@ pub fn take_event<H: Host, K: Sink>(
             let rule = Rule::NoSuchDatagram.number();
             Err(refuse(line, rule, Some((index, sent)), pending, sink))
         }
+        Err(StepError::Forged) => {
+            let rule = Rule::Forged.number();
+            Err(refuse(line, rule, None, pending, sink))
+        }
         Err(StepError::NoMemory) => Err(ReplayError::NoMemory),
     }
 }

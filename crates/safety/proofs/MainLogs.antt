@@ -12,15 +12,16 @@ use Rattle.facts.proofs.Members.{Has-none, Has-first, Has-rest, Has-cases}
 use Rattle.facts.proofs.Places.{slice_get-some}
 use Rattle.facts.proofs.Views.{RanksAtMost, RanksAtMost-refl, RanksAtMost-trans, outranks-true, outranks-false, outranks-from_ranks}
 use Rattle.started_views.specs.Past.{HadLog}
-use Rattle.started_views.specs.Settled.{MainLog}
 use Rattle.started_views.proofs.Quorums.{leader_within}
-use Rattle.world.specs.declared.replica_state.ReplicaState.{ReplicaState}
+use Rattle.replica_core.specs.ReplicaSteps.{Replica}
+use Rattle.protocol.specs.Conf.{Conf, last_normals}
+use Rattle.protocol.specs.Invariant.{Inv}
+use Rattle.protocol.specs.Member.{Member}
+use Rattle.protocol_sync.specs.Laws.{IsMainLog}
 use Rattle.world.specs.Seats.{Seated}
 use Rattle.world.specs.WorldSteps.{WorldState, greatest_view, greatest_of, main_view, log_of, main_log}
-use Rattle.safety.specs.Conf.{Conf}
-use Rattle.safety.specs.Invariant.{Inv}
-use Rattle.safety.specs.Worlds.{ShowsWorld}
-use Rattle.safety.proofs.Concluding.{last_normals}
+use Rattle.safety.specs.Shows.{ShowsActors}
+use Rattle.safety.proofs.Mapped.{slice_get-into_map, slice_get-from_map}
 
 -- the greatest of a first view and others is one of them, and none outranks it
 pub record Greatest (v : View) (ws : List View) (g : View) : Type 0 where
@@ -54,49 +55,40 @@ greatest_is : (v : View) (ws : List View) → Greatest v ws (greatest_view v ws)
 greatest_is v [] = record { is = inl refl; first = RanksAtMost-refl v; rest = λ w i. absurd (Has-none w i) }
 greatest_is v (w ∷ ws) = greatest_by v w ws (λ u. greatest_is u ws) (outranks w v) refl
 
+abbrev view_of : Seated Replica → View
+view_of p = p.state.state.last_normal
+
 -- the last normal view of one of the replicas, which none outranks
-pub record GreatestOf (ps : List (Seated ReplicaState)) (g : View) : Type 0 where
+pub record GreatestOf (ps : List (Seated Replica)) (g : View) : Type 0 where
   pub place : ℕ
-  pub seat : Seated ReplicaState
+  pub seat : Seated Replica
   pub there : slice_get ps place ≡ Some seat
-  pub is : seat.state.last_normal ≡ g
-  pub most : (i : ℕ) (p : Seated ReplicaState) → slice_get ps i ≡ Some p → RanksAtMost p.state.last_normal g
+  pub is : view_of seat ≡ g
+  pub most : (i : ℕ) (p : Seated Replica) → slice_get ps i ≡ Some p → RanksAtMost (view_of p) g
 
-abbrev view_of : Seated ReplicaState → View
-view_of p = p.state.last_normal
-
-get_of_map : (ps : List (Seated ReplicaState)) (i : ℕ) (w : View) → slice_get (map view_of ps) i ≡ Some w → (p : Seated ReplicaState)
-    × (slice_get ps i ≡ Some p) × (view_of p ≡ w)
-get_of_map [] i w e = absurd cc
-get_of_map (p ∷ ps) zero w e = (p, refl, cc)
-get_of_map (p ∷ ps) (suc i) w e = get_of_map ps i w e
-
-get_in_map : (ps : List (Seated ReplicaState)) (i : ℕ) (p : Seated ReplicaState) → slice_get ps i ≡ Some p
-    → slice_get (map view_of ps) i ≡ Some (view_of p)
-get_in_map [] i p e = absurd cc
-get_in_map (q ∷ ps) zero p e = let s : q ≡ p = cc in ap (λ (x : Seated ReplicaState). Some (view_of x)) s
-get_in_map (q ∷ ps) (suc i) p e = get_in_map ps i p e
-
-greatest_of_is : (ps : List (Seated ReplicaState)) → 0 < length ps → GreatestOf ps (greatest_of (map view_of ps))
+greatest_of_is : (ps : List (Seated Replica)) → 0 < length ps → GreatestOf ps (greatest_of (map view_of ps))
 greatest_of_is [] l = absurd (omega (arith, l))
 greatest_of_is (p ∷ ps) l =
     let g = greatest_is (view_of p) (map view_of ps) in
     elim g.is [
       | inl s ↦ record { place = 0; seat = p; there = refl; is = sym s; most = most g }
-      | inr i ↦ (let q = get_of_map ps i.0 (greatest_view (view_of p) (map view_of ps)) i.1 in
-          record { place = suc i.0; seat = q.0; there = q.1; is = q.2; most = most g })
+      | inr i ↦ (let q = slice_get-from_map view_of ps i.0 (greatest_view (view_of p) (map view_of ps)) i.1 in
+          record { place = suc i.0; seat = q.from; there = q.there; is = q.is; most = most g })
     ]
   where
-    most : Greatest (view_of p) (map view_of ps) (greatest_view (view_of p) (map view_of ps)) → (i : ℕ) (q : Seated ReplicaState)
+    most : Greatest (view_of p) (map view_of ps) (greatest_view (view_of p) (map view_of ps)) → (i : ℕ) (q : Seated Replica)
         → slice_get (p ∷ ps) i ≡ Some q → RanksAtMost (view_of q) (greatest_view (view_of p) (map view_of ps))
     most g zero q e = let s : p ≡ q = cc in
-        subst (λ (x : Seated ReplicaState). RanksAtMost (view_of x) (greatest_view (view_of p) (map view_of ps))) s g.first
-    most g (suc i) q e = g.rest (view_of q) (i, get_in_map ps i q e)
+        subst (λ (x : Seated Replica). RanksAtMost (view_of x) (greatest_view (view_of p) (map view_of ps))) s g.first
+    most g (suc i) q e = g.rest (view_of q) (i, slice_get-into_map view_of ps i q e)
 
-module _ {S : Type 0} (m : Meaning S) (f : ℕ) (w : WorldState) (c : Conf) (inv : Inv m f c) (shown : ShowsWorld f w c) where
+module _ {S : Type 0} (m : Meaning S) (f : ℕ) (w : WorldState) (c : Conf) (inv : Inv m f c) (shown : ShowsActors f w c) where
+  count : length w.replicas ≡ 2 * f + 1
+  count = shown.replica_count ∙ shown.config
+
   found : GreatestOf w.replicas (main_view w)
   unfolding main_view
-  found = greatest_of_is w.replicas (omega (arith, shown.replica_count))
+  found = greatest_of_is w.replicas (omega (arith, count))
 
   abbrev leader : ℕ
   leader = leader_of (main_view w) (2 * f + 1)
@@ -105,27 +97,26 @@ module _ {S : Type 0} (m : Meaning S) (f : ℕ) (w : WorldState) (c : Conf) (inv
   within = leader_within f (main_view w)
 
   -- the leader's seat
-  its_seat : (p : Seated ReplicaState) × (slice_get w.replicas leader ≡ Some p)
-  its_seat = slice_get-some w.replicas leader (omega (arith, within, shown.replica_count))
+  its_seat : (p : Seated Replica) × (slice_get w.replicas leader ≡ Some p)
+  its_seat = slice_get-some w.replicas leader (omega (arith, within, count))
 
   log_is : main_log w ≡ (c.replicas leader).log
   unfolding main_log
   log_is =
       ap (λ (n : ℕ). log_of (slice_get w.replicas (leader_of (main_view w) n))) shown.config
       ∙ ap log_of its_seat.1
-      ∙ ap (λ (s : ReplicaState). s.log) (sym (shown.replicas leader its_seat.0 its_seat.1))
+      ∙ ap (λ (s : Member). s.log) (sym (shown.replicas leader its_seat.0 its_seat.1))
 
-  pub is_main_log : MainLog f (last_normals m f c inv) c.past (main_view w) (main_log w)
+  pub is_main_log : IsMainLog f c (main_view w) (main_log w)
   is_main_log = record {
     held = (
       found.place,
-      omega (arith, slice_get_within w.replicas found.place found.seat found.there, shown.replica_count),
-      ap
-          (λ (s : ReplicaState). s.last_normal) (shown.replicas found.place found.seat found.there) ∙ found.is,
+      omega (arith, slice_get_within w.replicas found.place found.seat found.there, count),
+      ap (λ (s : Member). s.last_normal) (shown.replicas found.place found.seat found.there) ∙ found.is,
     );
     greatest = λ r l.
-        let p = slice_get-some w.replicas r (omega (arith, l, shown.replica_count)) in
-        outranks-from_ranks (last_normals m f c inv r) (main_view w)
-        (subst (λ (s : ReplicaState). RanksAtMost s.last_normal (main_view w)) (sym (shown.replicas r p.0 p.1)) (found.most r p.0 p.1));
-    current = subst (λ (t : List Entry). HadLog c.past leader (last_normals m f c inv leader) t) (sym log_is) (inv.current leader within);
+        let p = slice_get-some w.replicas r (omega (arith, l, count)) in
+        outranks-from_ranks (last_normals c r) (main_view w)
+        (subst (λ (s : Member). RanksAtMost s.last_normal (main_view w)) (sym (shown.replicas r p.0 p.1)) (found.most r p.0 p.1));
+    current = subst (λ (t : List Entry). HadLog c.past leader (last_normals c leader) t) (sym log_is) (inv.current leader within);
   }

@@ -5,10 +5,9 @@ use Rattle.nop_types.specs.declared.view.View.{View}
 use Rattle.started_views.specs.Past.{Past, Standing, HadLog, note}
 use Rattle.started_views.proofs.Past.{note_log_here, note_log_places, note_log_other, note_entry_same, note_start_same}
 use Rattle.started_views.proofs.Parts.{same_past}
-use Rattle.world.specs.declared.replica_state.ReplicaState.{ReplicaState}
+use Rattle.replica_core.specs.ReplicaSteps.{Replica}
 use Rattle.world.specs.Seats.{Seated}
-use Rattle.safety.specs.Conf.{standing}
-use Rattle.safety.specs.Passed.{noted}
+use Rattle.safety.specs.Passed.{noted, standing}
 
 -- nothing new is noted of a replica that made no step
 pub note_idle : (f : ℕ) (past : Past) (r : ℕ) (s : Standing) → HadLog past r s.last_normal s.log → note f past r s s ≡ past
@@ -31,43 +30,43 @@ note_idle f past r s had = same_past (note f past r s s) past (record {
     note_here q w a b = noted_log q w a b ∙ sym (there q w a b)
 
 -- the past has the log of each replica from the number k on
-abbrev pub HasLogs : Past → ℕ → List (Seated ReplicaState) → Type 0
-HasLogs past k ps = (i : ℕ) (p : Seated ReplicaState) → slice_get ps i ≡ Some p → HadLog past (k + i) p.state.last_normal p.state.log
+abbrev pub HasLogs : Past → ℕ → List (Seated Replica) → Type 0
+HasLogs past k ps = (i : ℕ) (p : Seated Replica) → slice_get ps i ≡ Some p → HadLog past (k + i) p.state.state.last_normal p.state.state.log
 
-rest_has : (past : Past) (k : ℕ) (p : Seated ReplicaState) (ps : List (Seated ReplicaState)) → HasLogs past k (p ∷ ps)
+rest_has : (past : Past) (k : ℕ) (p : Seated Replica) (ps : List (Seated Replica)) → HasLogs past k (p ∷ ps)
     → HasLogs past (suc k) ps
 rest_has past k p ps h i q e = let same : k + suc i ≡ suc k + i = omega arith in
-    subst (λ (j : ℕ). HadLog past j q.state.last_normal q.state.log) same (h (suc i) q e)
+    subst (λ (j : ℕ). HadLog past j q.state.state.last_normal q.state.state.log) same (h (suc i) q e)
 
-first_has : (past : Past) (k : ℕ) (p : Seated ReplicaState) (ps : List (Seated ReplicaState)) → HasLogs past k (p ∷ ps)
-    → HadLog past k p.state.last_normal p.state.log
+first_has : (past : Past) (k : ℕ) (p : Seated Replica) (ps : List (Seated Replica)) → HasLogs past k (p ∷ ps)
+    → HadLog past k p.state.state.last_normal p.state.state.log
 first_has past k p ps h = let same : k + 0 ≡ k = omega arith in
-    subst (λ (j : ℕ). HadLog past j p.state.last_normal p.state.log) same (h 0 p refl)
+    subst (λ (j : ℕ). HadLog past j p.state.state.last_normal p.state.state.log) same (h 0 p refl)
 
-pub noted_idle : (f : ℕ) (past : Past) (k : ℕ) (ps : List (Seated ReplicaState)) → HasLogs past k ps → noted f past k ps ps ≡ past
+pub noted_idle : (f : ℕ) (past : Past) (k : ℕ) (ps : List (Seated Replica)) → HasLogs past k ps → noted f past k ps ps ≡ past
 noted_idle f past k [] h = refl
 noted_idle f past k (p ∷ ps) h =
-    ap (λ (t : Past). noted f t (suc k) ps ps) (note_idle f past k (standing p.state) (first_has past k p ps h))
+    ap (λ (t : Past). noted f t (suc k) ps ps) (note_idle f past k (standing p) (first_has past k p ps h))
     ∙ noted_idle f past (suc k) ps (rest_has past k p ps h)
 
 -- what was noted of a replica tells nothing new of those with greater numbers
-after_has : (f : ℕ) (past : Past) (k : ℕ) (a b : Standing) (ps : List (Seated ReplicaState)) → HasLogs past (suc k) ps
+after_has : (f : ℕ) (past : Past) (k : ℕ) (a b : Standing) (ps : List (Seated Replica)) → HasLogs past (suc k) ps
     → HasLogs (note f past k a b) (suc k) ps
-after_has f past k a b ps h i p e = note_log_other f past k a b (suc k + i) p.state.last_normal (λ s. omega (arith, s)) ∙ h i p e
+after_has f past k a b ps h i p e = note_log_other f past k a b (suc k + i) p.state.state.last_normal (λ s. omega (arith, s)) ∙ h i p e
 
-pub noted_one : (f : ℕ) (past : Past) (k : ℕ) (ps : List (Seated ReplicaState)) (i : ℕ) (old new : Seated ReplicaState)
+pub noted_one : (f : ℕ) (past : Past) (k : ℕ) (ps : List (Seated Replica)) (i : ℕ) (old new : Seated Replica)
     → HasLogs past k ps → slice_get ps i ≡ Some old
-    → noted f past k ps (slice_set ps i new) ≡ note f past (k + i) (standing old.state) (standing new.state)
+    → noted f past k ps (slice_set ps i new) ≡ note f past (k + i) (standing old) (standing new)
 noted_one f past k [] i old new h e = absurd cc
 noted_one f past k (p ∷ ps) zero old new h e =
     let same : p ≡ old = cc in
     let here : k + 0 ≡ k = omega arith in
-    noted_idle f (note f past k (standing p.state) (standing new.state)) (suc k) ps
-    (after_has f past k (standing p.state) (standing new.state) ps (rest_has past k p ps h))
-    ∙ ap (λ (t : Seated ReplicaState). note f past k (standing t.state) (standing new.state)) same
-    ∙ ap (λ (j : ℕ). note f past j (standing old.state) (standing new.state)) (sym here)
+    noted_idle f (note f past k (standing p) (standing new)) (suc k) ps
+    (after_has f past k (standing p) (standing new) ps (rest_has past k p ps h))
+    ∙ ap (λ (t : Seated Replica). note f past k (standing t) (standing new)) same
+    ∙ ap (λ (j : ℕ). note f past j (standing old) (standing new)) (sym here)
 noted_one f past k (p ∷ ps) (suc i) old new h e =
     let next : suc k + i ≡ k + suc i = omega arith in
-    ap (λ (t : Past). noted f t (suc k) ps (slice_set ps i new)) (note_idle f past k (standing p.state) (first_has past k p ps h))
+    ap (λ (t : Past). noted f t (suc k) ps (slice_set ps i new)) (note_idle f past k (standing p) (first_has past k p ps h))
     ∙ noted_one f past (suc k) ps i old new (rest_has past k p ps h) e
-    ∙ ap (λ (j : ℕ). note f past j (standing old.state) (standing new.state)) next
+    ∙ ap (λ (j : ℕ). note f past j (standing old) (standing new)) next

@@ -1,60 +1,37 @@
--- What a step at one seat leaves, and where a step of the world comes from.
-use Rattle.std.proofs.Common.{◌≡◌, ℕ, Option, Some, None, refl, sym, ap, ◌∙◌, inl, inr, List, length}
-use Rattle.std.specs.Prelude.{Ok, slice_get, slice_set}
-use Rattle.nop_types.specs.Given.{Given, Packet}
-use Rattle.nop_types.specs.declared.output.Out.{Out}
+-- What a step at one seat leaves.
+use Rattle.std.proofs.Common.{◌≡◌, ℕ, Some, sym, subst, ◌∙◌, inl, inr, List}
+use Rattle.std.specs.Prelude.{slice_get, slice_set}
+use Rattle.facts.specs.Functions.{put}
+use Rattle.facts.proofs.Functions.{put-here, put-other}
 use Rattle.facts.proofs.Places.{slice_get-set_cases}
-use Rattle.world.specs.Network.{Sent}
-use Rattle.world.specs.Seats.{Seated, Did, seat_step, crash_step}
-use Rattle.world.specs.WorldSteps.{Happened, then_at, input_at, bytes_at, delivery_at, crash_at}
+use Rattle.world.specs.Seats.{Seated}
 
--- the changed seat has its new state, and each other its old one
-pub seats_shown : {S : Type 0} (xs : List (Seated S)) (old new : ℕ → S) (i : ℕ) (q : Seated S)
-    → ((j : ℕ) (p : Seated S) → slice_get xs j ≡ Some p → old j ≡ p.state) → new i ≡ q.state → ((j : ℕ) → (j ≡ i → ⊥) → new j ≡ old j)
-    → (j : ℕ) (p : Seated S) → slice_get (slice_set xs i q) j ≡ Some p → new j ≡ p.state
-seats_shown xs old new i q shown here others j p e = elim (slice_get-set_cases xs i q j p e) [
-  | inl (a, b) ↦ ap new a ∙ here ∙ ap (λ t. t.state) (sym b)
-  | inr (a, b) ↦ others j a ∙ shown j p b
+-- what holds of each seat leads to what holds where one has a new state
+pub seats_become : {S : Type 0} (P Q : ℕ → S → Type 0) (xs : List (Seated S)) (i : ℕ) (new : Seated S) → Q i new.state
+    → ((j : ℕ) (s : S) → (j ≡ i → ⊥) → P j s → Q j s) → ((j : ℕ) (p : Seated S) → slice_get xs j ≡ Some p → P j p.state)
+    → (j : ℕ) (p : Seated S) → slice_get (slice_set xs i new) j ≡ Some p → Q j p.state
+seats_become P Q xs i new here others all j p e = elim (slice_get-set_cases xs i new j p e) [
+  | inl (a, b) ↦ subst (λ (k : ℕ). Q k p.state) (sym a) (subst (λ (t : Seated _). Q i t.state) (sym b) here)
+  | inr (a, b) ↦ others j p.state a (all j p b)
 ]
 
--- ---- where a step comes from
+-- the changed seat has its new state, and each other its old one
+pub seats_shown : {S : Type 0} (xs : List (Seated S)) (old : ℕ → S) (i : ℕ) (new : Seated S)
+    → ((j : ℕ) (p : Seated S) → slice_get xs j ≡ Some p → old j ≡ p.state)
+    → (j : ℕ) (p : Seated S) → slice_get (slice_set xs i new) j ≡ Some p → put old i new.state j ≡ p.state
+seats_shown xs old i new all =
+    seats_become (λ j s. old j ≡ s) (λ j s. put old i new.state j ≡ s) xs i new (put-here old i new.state)
+    (λ j s other h. put-other old i new.state j other ∙ h) all
 
--- an actor took the input
-pub record Took {S : Type 0} (act : Seated S × Did → Happened) (next : S → Given → S × List Out) (i : Given) (o : Option (Seated S))
-    (h : Happened) : Type 0 where
-  pub seat : Seated S
-  pub there : o ≡ Some seat
-  pub gives : act (seat_step next seat i) ≡ h
+-- what holds of the state of the changed seat, and of all before, holds of all
+pub seats_hold : {S : Type 0} (P : S → Type 0) (xs : List (Seated S)) (i : ℕ) (new : Seated S) → P new.state
+    → ((j : ℕ) (p : Seated S) → slice_get xs j ≡ Some p → P p.state)
+    → (j : ℕ) (p : Seated S) → slice_get (slice_set xs i new) j ≡ Some p → P p.state
+seats_hold P xs i new here all = seats_become (λ j s. P s) (λ j s. P s) xs i new here (λ j s other h. h) all
 
-pub input_took : {S : Type 0} (act : Seated S × Did → Happened) (next : S → Given → S × List Out) (i : Given) (o : Option (Seated S))
-    (h : Happened) → then_at act (input_at next i o) ≡ Ok h → Took act next i o h
-input_took act next i None h e = absurd cc
-input_took act next i (Some p) h e = record { seat = p; there = refl; gives = cc }
-
-pub record TookDatagram {S : Type 0} (act : Seated S × Did → Happened) (next : S → Given → S × List Out) (sent : List Sent) (index : ℕ)
-    (o : Option (Seated S)) (h : Happened) : Type 0 where
-  pub datagram : Sent
-  pub was_sent : slice_get sent index ≡ Some datagram
-  pub took : Took act next (Packet datagram.bytes) o h
-
-bytes_took : {S : Type 0} (act : Seated S × Did → Happened) (next : S → Given → S × List Out) (sent : List Sent) (index : ℕ)
-    (p : Seated S) (s : Option Sent) (h : Happened) → slice_get sent index ≡ s
-    → then_at act (bytes_at next p index (length sent) s) ≡ Ok h → TookDatagram act next sent index (Some p) h
-bytes_took act next sent index p None h is e = absurd cc
-bytes_took act next sent index p (Some s) h is e =
-    record { datagram = s; was_sent = is; took = record { seat = p; there = refl; gives = cc } }
-
-pub delivery_took : {S : Type 0} (act : Seated S × Did → Happened) (next : S → Given → S × List Out) (sent : List Sent) (index : ℕ)
-    (o : Option (Seated S)) (h : Happened) → then_at act (delivery_at next sent index o) ≡ Ok h → TookDatagram act next sent index o h
-delivery_took act next sent index None h e = absurd cc
-delivery_took act next sent index (Some p) h e = bytes_took act next sent index p (slice_get sent index) h refl e
-
-pub record Crashed {S : Type 0} (act : Seated S × Did → Happened) (o : Option (Seated S)) (h : Happened) : Type 0 where
-  pub seat : Seated S
-  pub there : o ≡ Some seat
-  pub gives : act (crash_step seat) ≡ h
-
-pub crash_took : {S : Type 0} (act : Seated S × Did → Happened) (o : Option (Seated S)) (h : Happened) → then_at act (crash_at o) ≡ Ok h
-    → Crashed act o h
-crash_took act None h e = absurd cc
-crash_took act (Some p) h e = record { seat = p; there = refl; gives = cc }
+-- what holds of the state of each seat holds on where a seat keeps its state
+pub seats_same : {S : Type 0} (P : ℕ → S → Type 0) (xs : List (Seated S)) (i : ℕ) (old new : Seated S) → slice_get xs i ≡ Some old
+    → new.state ≡ old.state → ((j : ℕ) (p : Seated S) → slice_get xs j ≡ Some p → P j p.state)
+    → (j : ℕ) (p : Seated S) → slice_get (slice_set xs i new) j ≡ Some p → P j p.state
+seats_same P xs i old new there same all =
+    seats_become P P xs i new (subst (P i) (sym same) (all i old there)) (λ j s other h. h) all

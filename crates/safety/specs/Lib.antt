@@ -1,10 +1,3 @@
-pub mod Answers
-pub mod Conf
-pub mod Evolves
-pub mod Invariant
-pub mod Moves
 pub mod Passed
-pub mod Runs
+pub mod Shows
 pub mod Safe
-pub mod Sound
-pub mod Worlds

@@ -3,12 +3,17 @@ use Rattle.std.specs.Prelude.{◌++◌, ◌/◌, ℕ, suc, List, [], ◌∷◌, 
 use Rattle.nop_types.specs.Configuration.{Configuration}
 use Rattle.nop_types.specs.Lines.{Line}
 use Rattle.nop_types.specs.Meaning.{Meaning}
+use Rattle.replica_core.specs.ReplicaSteps.{Replica}
 use Rattle.schedule_text.specs.declared.event.Event.{Event}
-use Rattle.started_views.specs.Past.{Past, first_past, note}
-use Rattle.world.specs.declared.replica_state.ReplicaState.{ReplicaState}
+use Rattle.started_views.specs.Past.{Past, Standing, first_past, note}
+use Rattle.protocol.specs.Member as member
 use Rattle.world.specs.Seats.{Seated}
 use Rattle.world.specs.WorldSteps.{WorldState, Refusal, Happened, step, opening}
-use Rattle.safety.specs.Conf.{standing}
+use Rattle.refinement.specs.Projection.{member_of}
+
+-- what is noted of a replica
+abbrev pub standing : Seated Replica → Standing
+standing p = member.standing (member_of p.state.state)
 
 -- the last world, the lines of all events, and the past
 pub record Passed : Type 0 where
@@ -21,16 +26,15 @@ abbrev pub faults : WorldState → ℕ
 faults w = w.config.replicas / 2
 
 -- each replica from the number i on, before an event and after it
-abbrev pub noted : ℕ → Past → ℕ → List (Seated ReplicaState) → List (Seated ReplicaState) → Past
+abbrev pub noted : ℕ → Past → ℕ → List (Seated Replica) → List (Seated Replica) → Past
 noted f past i [] new = past
 noted f past i (a ∷ old) [] = past
-noted f past i (a ∷ old) (b ∷ new) = noted f (note f past i (standing a.state) (standing b.state)) (suc i) old new
+noted f past i (a ∷ old) (b ∷ new) = noted f (note f past i (standing a) (standing b)) (suc i) old new
 
 abbrev pub passes : Passed → Happened → Passed
 passes p h = record {
   world = h.world;
-  lines = p.lines
-      ++ h.lines;
+  lines = p.lines ++ h.lines;
   past = noted (faults p.world) p.past 0 p.world.replicas h.world.replicas;
 }
 

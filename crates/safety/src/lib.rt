@@ -1,8 +1,6 @@
-//! Safety over all schedules: replicas agree as far as they are synchronised, and what clients accepted is of one history.
+//! The safety of each run over the whole cores, as the contract of the call that runs a list of events.
 #![tactic(auto)]
 
 mod run;
-#[cfg(test)]
-mod tests;
 
 pub use run::{run_events, runs_are_safe};

@@ -1,22 +1,22 @@
 -- What is read from lines is in its ranges.
-use Rattle.std.proofs.Common.{◌≡◌, ℕ, ◌*◌, ◌≤◌, Bool, true, false, Option, Some, None, refl, ap, subst, arith, length}
-use Rattle.std.proofs.Common.{List, [], ◌∷◌}
-use Rattle.std.specs.Prelude.{codes, nat_le, Result, Ok, Err, if◌then◌else◌}
+use Rattle.std.proofs.Common.{◌≡◌, ℕ, ◌≤◌, Bool, true, false, Option, Some, None, refl, ap, subst, arith, length, List, [], ◌∷◌}
+use Rattle.std.specs.Prelude.{codes, nat_le, Ok, Err, if◌then◌else◌}
 use Rattle.std.proofs.lemmas.Bool.{leb-true}
-use Rattle.hex.specs.Hex.{decode_of}
-use Rattle.hex.specs.declared.error.FromHexError.{FromHexError}
-use Rattle.hex.proofs.HexLemmas.{decode_of-ok}
-use Rattle.nop_types.specs.declared.limits.TheConstants.{MAX_LINES}
+use Rattle.nop_types.specs.declared.limits.TheConstants.{MAX_LINES, MAX_DATAGRAM_BYTES}
+use Rattle.nop_types.specs.declared.output.Actor.{Actor}
 use Rattle.nop_types.specs.Configuration.{Configuration, is_configuration}
 use Rattle.schedule_text.specs.declared.event.Event.{Event}
-use Rattle.schedule_text.specs.declared.event.Event.TheVariants.{Submit, Deliver, Crash}
-use Rattle.schedule_text.specs.Fields.{is_text, number_of, actor_of, client_number, as_option, bytes_of, fields}
+use Rattle.schedule_text.specs.declared.event.Event.TheVariants.{Submit, Deliver, Tick, Install, Crash, Junk}
+use Rattle.schedule_text.specs.Fields.{is_text, number_of, actor_of, client_number, sequencer_number, bytes_of, fields}
 use Rattle.schedule_text.specs.Fits.{EventFits}
+use Rattle.schedule_text.specs.Ticks.{tick_named, takes_tick}
 use Rattle.schedule_text.specs.declared.rule.Rule.{Rule}
 use Rattle.schedule_text.specs.declared.rule.Rule.TheVariants.{WrongWord, WrongField, WrongHex, WrongActor, TooManyLines}
-use Rattle.schedule_text.specs.Rules.{Read, ◌>>=◌, or_rule, keeps_rule, max_op_text, submit_event, deliver_event, crash_event, submit_of}
-use Rattle.schedule_text.specs.Rules.{deliver_of, crash_of, event_of_fields, configuration_of, count_of, header_rest}
-use Rattle.schedule_text.specs.Rules.{header_of_fields, plain_line, header_of, event_of}
+use Rattle.schedule_text.specs.Rules.{Read, ◌>>=◌, or_rule, keeps_rule, max_op_text, max_junk_text, one_field, two_fields, submit_event}
+use Rattle.schedule_text.specs.Rules.{submit_of, deliver_event, deliver_of, tick_event, tick_of, install_of, crash_of, junk_event, junk_of}
+use Rattle.schedule_text.specs.Rules.{event_of_fields}
+use Rattle.schedule_text.specs.Rules.{configuration_of, count_of, header_rest, header_of_fields, plain_line, header_of, event_of}
+use Rattle.schedule_text.proofs.HexLengths.{bytes_short}
 
 -- a step that gave a value, and what came of it
 then_ok : {A B : Type 0} (r : Read A) (f : A → Read B) (y : B) → (r >>= f) ≡ Ok y → (x : A) × (r ≡ Ok x) × (f x ≡ Ok y)
@@ -31,21 +31,7 @@ test_ok : (rule : Rule) (b c : Bool) → keeps_rule rule b ≡ Ok c → b ≡ tr
 test_ok rule true c e = refl
 test_ok rule false c e = absurd cc
 
--- ---- ops
-
-decoded : (r : Result (List ℕ) FromHexError) (bytes : List ℕ) → as_option r ≡ Some bytes → r ≡ Ok bytes
-decoded (Ok xs) bytes e = let same : xs ≡ bytes = cc in ap Ok same
-decoded (Err x) bytes e = absurd cc
-
-digits_short : (d : ℕ) (ds bytes : List ℕ) (b : Bool) → (if b then Some [] else as_option (decode_of (d ∷ ds))) ≡ Some bytes
-    → 2 * length bytes ≤ length (d ∷ ds)
-digits_short d ds bytes true e = let same : [] ≡ bytes = cc in subst (λ (t : List ℕ). 2 * length t ≤ length (d ∷ ds)) same (omega arith)
-digits_short d ds bytes false e = let h = decode_of-ok (d ∷ ds) bytes (decoded (decode_of (d ∷ ds)) bytes e) in omega (arith, h.2)
-
-bytes_short : (field bytes : List ℕ) → bytes_of field ≡ Some bytes → 2 * length bytes ≤ length field
-unfolding bytes_of
-bytes_short [] bytes e = absurd cc
-bytes_short (d ∷ ds) bytes e = digits_short d ds bytes (is_text (codes "-") (d ∷ ds)) e
+-- ---- events
 
 submit_fits : (c : Configuration) (client op : List ℕ) (e : Event) → submit_event c client op ≡ Ok e → EventFits e
 submit_fits c client op e h =
@@ -64,40 +50,65 @@ deliver_fits c index actor e h =
     let is : Deliver a.0 b.0 ≡ e = (let g = b.2 in cc) in
     subst EventFits is tt
 
-crash_fits : (c : Configuration) (actor : List ℕ) (e : Event) → crash_event c actor ≡ Ok e → EventFits e
-crash_fits c actor e h =
-    let a = then_ok (or_rule WrongActor (actor_of c actor)) _ e h in
-    let is : Crash a.0 ≡ e = (let g = a.2 in cc) in
+submit_of_fits : (c : Configuration) (rest : List (List ℕ)) (e : Event) → submit_of c rest ≡ Ok e → EventFits e
+submit_of_fits c rest e h =
+    let a = then_ok (two_fields rest) (λ p. submit_event c p.0 p.1) e h in
+    submit_fits c a.0.0 a.0.1 e a.2
+
+deliver_of_fits : (c : Configuration) (rest : List (List ℕ)) (e : Event) → deliver_of c rest ≡ Ok e → EventFits e
+deliver_of_fits c rest e h =
+    let a = then_ok (two_fields rest) (λ p. deliver_event c p.0 p.1) e h in
+    deliver_fits c a.0.0 a.0.1 e a.2
+
+crash_of_fits : (c : Configuration) (rest : List (List ℕ)) (e : Event) → crash_of c rest ≡ Ok e → EventFits e
+crash_of_fits c rest e h =
+    let a = then_ok (one_field rest) _ e h in
+    let b = then_ok (or_rule WrongActor (actor_of c a.0)) _ e a.2 in
+    let is : Crash b.0 ≡ e = (let g = b.2 in cc) in
     subst EventFits is tt
 
-submit_of_fits : (c : Configuration) (xs : List (List ℕ)) (e : Event) → submit_of c xs ≡ Ok e → EventFits e
-submit_of_fits c [] e h = absurd cc
-submit_of_fits c (a ∷ []) e h = absurd cc
-submit_of_fits c (a ∷ b ∷ []) e h = submit_fits c a b e h
-submit_of_fits c (a ∷ b ∷ d ∷ xs) e h = absurd cc
+tick_of_fits : (c : Configuration) (rest : List (List ℕ)) (e : Event) → tick_of c rest ≡ Ok e → EventFits e
+tick_of_fits c rest e h =
+    let a = then_ok (two_fields rest) (λ p. tick_event c p.0 p.1) e h in
+    let b = then_ok (or_rule WrongActor (actor_of c a.0.0)) _ e a.2 in
+    let d = then_ok (or_rule WrongActor (tick_named a.0.1)) _ e b.2 in
+    let g = then_ok (keeps_rule WrongActor (takes_tick b.0 d.0)) _ e d.2 in
+    let is : Tick b.0 d.0 ≡ e = (let g = g.2 in cc) in
+    subst EventFits is tt
 
-deliver_of_fits : (c : Configuration) (xs : List (List ℕ)) (e : Event) → deliver_of c xs ≡ Ok e → EventFits e
-deliver_of_fits c [] e h = absurd cc
-deliver_of_fits c (a ∷ []) e h = absurd cc
-deliver_of_fits c (a ∷ b ∷ []) e h = deliver_fits c a b e h
-deliver_of_fits c (a ∷ b ∷ d ∷ xs) e h = absurd cc
+install_of_fits : (c : Configuration) (rest : List (List ℕ)) (e : Event) → install_of c rest ≡ Ok e → EventFits e
+install_of_fits c rest e h =
+    let a = then_ok (one_field rest) _ e h in
+    let b = then_ok (or_rule WrongActor (sequencer_number (actor_of c a.0))) _ e a.2 in
+    let is : Install b.0 ≡ e = (let g = b.2 in cc) in
+    subst EventFits is tt
 
-crash_of_fits : (c : Configuration) (xs : List (List ℕ)) (e : Event) → crash_of c xs ≡ Ok e → EventFits e
-crash_of_fits c [] e h = absurd cc
-crash_of_fits c (a ∷ []) e h = crash_fits c a e h
-crash_of_fits c (a ∷ b ∷ xs) e h = absurd cc
+junk_of_fits : (c : Configuration) (rest : List (List ℕ)) (e : Event) → junk_of c rest ≡ Ok e → EventFits e
+junk_of_fits c rest e h =
+    let a = then_ok (two_fields rest) (λ p. junk_event c p.0 p.1) e h in
+    let b = then_ok (keeps_rule WrongField (nat_le (length a.0.1) max_junk_text)) _ e a.2 in
+    let d = then_ok (or_rule WrongHex (bytes_of a.0.1)) _ e b.2 in
+    let g = then_ok (or_rule WrongActor (actor_of c a.0.0)) _ e d.2 in
+    let is : Junk g.0 d.0 ≡ e = (let h = g.2 in cc) in
+    subst EventFits is tt
 
-by_word : (c : Configuration) (rest : List (List ℕ)) (e : Event) (s d k : Bool)
-    → (if s then submit_of c rest else if d then deliver_of c rest else if k then crash_of c rest else Err WrongWord) ≡ Ok e → EventFits e
-by_word c rest e true d k h = submit_of_fits c rest e h
-by_word c rest e false true k h = deliver_of_fits c rest e h
-by_word c rest e false false true h = crash_of_fits c rest e h
-by_word c rest e false false false h = absurd cc
+-- the tests of the words in their order
+by_word : (c : Configuration) (rest : List (List ℕ)) (e : Event) (s d t i k j : Bool)
+    → (if s then submit_of c rest else if d then deliver_of c rest else if t then tick_of c rest else if i then install_of c rest
+    else if k then crash_of c rest else if j then junk_of c rest else Err WrongWord) ≡ Ok e → EventFits e
+by_word c rest e true d t i k j h = submit_of_fits c rest e h
+by_word c rest e false true t i k j h = deliver_of_fits c rest e h
+by_word c rest e false false true i k j h = tick_of_fits c rest e h
+by_word c rest e false false false true k j h = install_of_fits c rest e h
+by_word c rest e false false false false true j h = crash_of_fits c rest e h
+by_word c rest e false false false false false true h = junk_of_fits c rest e h
+by_word c rest e false false false false false false h = absurd cc
 
 of_fields_fits : (c : Configuration) (xs : List (List ℕ)) (e : Event) → event_of_fields c xs ≡ Ok e → EventFits e
 of_fields_fits c [] e h = absurd cc
 of_fields_fits c (word ∷ rest) e h =
-    by_word c rest e (is_text (codes "submit") word) (is_text (codes "deliver") word) (is_text (codes "crash") word) h
+    by_word c rest e (is_text (codes "submit") word) (is_text (codes "deliver") word) (is_text (codes "tick") word)
+    (is_text (codes "install") word) (is_text (codes "crash") word) (is_text (codes "junk") word) h
 
 limited : (c : Configuration) (line : List ℕ) (e : Event) (b : Bool)
     → (if b then Err TooManyLines else plain_line line >>= λ text. event_of_fields c (fields text)) ≡ Ok e → EventFits e
@@ -108,6 +119,25 @@ limited c line e false h = let a =
 pub events_fit : (c : Configuration) (before : ℕ) (line : List ℕ) (e : Event) → event_of c before line ≡ Ok e → EventFits e
 unfolding event_of
 events_fit c before line e h = limited c line e (nat_le MAX_LINES before) h
+
+-- ---- junk
+
+junk_short : (c : Configuration) (actor text : List ℕ) (to : Actor) (bytes : List ℕ) → junk_event c actor text ≡ Ok (Junk to bytes)
+    → length bytes ≤ MAX_DATAGRAM_BYTES
+junk_short c actor text to bytes h =
+    let a = then_ok (keeps_rule WrongField (nat_le (length text) max_junk_text)) _ _ h in
+    let b = then_ok (or_rule WrongHex (bytes_of text)) _ _ a.2 in
+    let d = then_ok (or_rule WrongActor (actor_of c actor)) _ _ b.2 in
+    let low = leb-true (length text) max_junk_text (test_ok WrongField (nat_le (length text) max_junk_text) a.0 a.1) in
+    let small = bytes_short text b.0 (value_ok WrongHex (bytes_of text) b.0 b.1) in
+    let same : b.0 ≡ bytes = (let g = d.2 in cc) in
+    subst (λ (xs : List ℕ). length xs ≤ MAX_DATAGRAM_BYTES) same (omega (arith, low, small))
+
+pub junk_fits : (c : Configuration) (rest : List (List ℕ)) (to : Actor) (bytes : List ℕ) → junk_of c rest ≡ Ok (Junk to bytes)
+    → length bytes ≤ MAX_DATAGRAM_BYTES
+junk_fits c rest to bytes h =
+    let a = then_ok (two_fields rest) (λ p. junk_event c p.0 p.1) _ h in
+    junk_short c a.0.0 a.0.1 to bytes a.2
 
 -- ---- headers
 

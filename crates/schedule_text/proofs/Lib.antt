@@ -3,6 +3,7 @@ pub mod Digits
 pub mod Filled
 pub mod Firsts
 pub mod Fitting
+pub mod HexLengths
 pub mod LineLemmas
 pub mod Searched
 pub mod SplitLemmas

@@ -1,12 +1,15 @@
 -- The first field ends at the first space.
-use Rattle.std.proofs.Common.{◌≡◌, ℕ, Bool, true, false, not, nat_lt, ◌==◌, ◌+◌, Option, Some, None, cond, position, take, drop, length}
+use Rattle.std.proofs.Common.{◌≡◌, ℕ, Bool, true, false, not, nat_lt, ◌==◌, ◌+◌, Option, Some, None, Err, cond, position, take, drop}
+use Rattle.std.proofs.Common.{length}
 use Rattle.std.proofs.Common.{List, [], ◌∷◌, ◌++◌, refl, arith, append_assoc, append-nil}
 use Rattle.std.specs.List.{position_or_len, before_first, after_first}
 use Rattle.std.proofs.Math.Seq.{take-length}
 use Rattle.std.proofs.lemmas.List.Sums.{prefix_len-le-length}
 use Rattle.std.proofs.lemmas.Bool.Decides.{nat_tests}
 use Rattle.std.proofs.lemmas.Grind.{common_steps}
+use Rattle.schedule_text.specs.declared.rule.Rule.TheVariants.{WrongFieldCount}
 use Rattle.schedule_text.specs.Fields.{fields, fields_on}
+use Rattle.schedule_text.specs.Rules.{one_field, two_fields}
 
 abbrev first_space : List ℕ → ℕ
 first_space line = position_or_len (λ b. b == 32) line
@@ -47,3 +50,12 @@ fields_cut line = by_place (nat_lt (first_space line) (length line)) line refl
 pub fields_are_some : (line : List ℕ) → (first : List ℕ) × (more : List (List ℕ)) × (fields line ≡ first ∷ more)
 unfolding fields
 fields_are_some line = (_, _, first_field [] line)
+
+-- ---- too many fields
+
+module _ (line : List ℕ) where
+  pub more_than_one : (first : List ℕ) → one_field (first ∷ fields line) ≡ Err WrongFieldCount
+  more_than_one first = rw (fields_are_some line).2 refl
+
+  pub more_than_two : (first second : List ℕ) → two_fields (first ∷ second ∷ fields line) ≡ Err WrongFieldCount
+  more_than_two first second = rw (fields_are_some line).2 refl

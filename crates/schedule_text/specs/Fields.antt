@@ -72,6 +72,13 @@ client_number (Some (Sequencer i)) = None
 client_number (Some (Client i)) = Some i
 client_number (Some Controller) = None
 
+abbrev pub sequencer_number : Option Actor → Option ℕ
+sequencer_number None = None
+sequencer_number (Some (Replica i)) = None
+sequencer_number (Some (Sequencer i)) = Some i
+sequencer_number (Some (Client i)) = None
+sequencer_number (Some Controller) = None
+
 -- ---- bytes in hexadecimal
 
 abbrev pub as_option : Result (List ℕ) FromHexError → Option (List ℕ)

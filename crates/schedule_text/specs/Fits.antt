@@ -2,13 +2,16 @@
 use Rattle.std.specs.Prelude.{◌≤◌, ⊤, length, List, [], ◌∷◌}
 use Rattle.nop_types.specs.declared.limits.TheConstants.{MAX_OP_BYTES}
 use Rattle.schedule_text.specs.declared.event.Event.{Event}
-use Rattle.schedule_text.specs.declared.event.Event.TheVariants.{Submit, Deliver, Crash}
+use Rattle.schedule_text.specs.declared.event.Event.TheVariants.{Submit, Deliver, Tick, Install, Crash, Junk}
 
 -- an op that is submitted has at most 640 bytes
 abbrev pub EventFits : Event → Type 0
 EventFits (Submit client op) = length op ≤ MAX_OP_BYTES
 EventFits (Deliver index actor) = ⊤
+EventFits (Tick actor tick) = ⊤
+EventFits (Install sequencer) = ⊤
 EventFits (Crash actor) = ⊤
+EventFits (Junk actor bytes) = ⊤
 
 abbrev pub EventsFit : List Event → Type 0
 EventsFit [] = ⊤

@@ -9,4 +9,5 @@ pub mod Reading
 pub mod Rules
 pub mod Split
 pub mod Stepping
+pub mod Ticks
 pub mod Transcript

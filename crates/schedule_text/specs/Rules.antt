@@ -5,11 +5,12 @@ use Rattle.std.specs.List.{list_all}
 use Rattle.nop_types.specs.declared.limits.TheConstants.{MAX_LINE_BYTES, MAX_LINES}
 use Rattle.nop_types.specs.Configuration.{Configuration, is_configuration}
 use Rattle.schedule_text.specs.declared.event.Event.{Event}
-use Rattle.schedule_text.specs.declared.event.Event.TheVariants.{Submit, Deliver, Crash}
+use Rattle.schedule_text.specs.declared.event.Event.TheVariants.{Submit, Deliver, Tick, Install, Crash, Junk}
 use Rattle.schedule_text.specs.declared.rule.Rule.{Rule}
 use Rattle.schedule_text.specs.declared.rule.Rule.TheVariants.{LineTooLong, WrongByte, WrongWord, WrongFieldCount, WrongField, WrongHex}
-use Rattle.schedule_text.specs.declared.rule.Rule.TheVariants.{WrongActor, NoSuchDatagram, TooManyLines}
-use Rattle.schedule_text.specs.Fields.{fields, is_text, number_of, number_below, actor_of, client_number, bytes_of}
+use Rattle.schedule_text.specs.declared.rule.Rule.TheVariants.{WrongActor, NoSuchDatagram, Forged, TooManyLines}
+use Rattle.schedule_text.specs.Fields.{fields, is_text, number_of, number_below, actor_of, client_number, sequencer_number, bytes_of}
+use Rattle.schedule_text.specs.Ticks.{tick_named, takes_tick}
 
 -- the number of a rule, as an error line has it
 abbrev pub rule_number : Rule → ℕ
@@ -21,6 +22,7 @@ rule_number WrongField = 5
 rule_number WrongHex = 6
 rule_number WrongActor = 7
 rule_number NoSuchDatagram = 8
+rule_number Forged = 9
 rule_number TooManyLines = 10
 
 -- the value, or the rule that is broken
@@ -49,8 +51,23 @@ is_plain b = nat_le 32 b && nat_le b 126
 abbrev pub max_op_text : ℕ
 max_op_text = 1280
 
--- ---- events
+-- the characters of junk in hexadecimal
+abbrev pub max_junk_text : ℕ
+max_junk_text = 3000
 
+-- ---- the fields after a word
+
+abbrev pub one_field : List (List ℕ) → Result (List ℕ) Rule
+one_field (field ∷ []) = Ok field
+one_field _ = Err WrongFieldCount
+
+abbrev pub two_fields : List (List ℕ) → Result (List ℕ × List ℕ) Rule
+two_fields (first ∷ second ∷ []) = Ok (first, second)
+two_fields _ = Err WrongFieldCount
+
+-- ---- events, from the fields after the word
+
+-- `submit cN HEX`
 abbrev pub submit_event : Configuration → List ℕ → List ℕ → Result Event Rule
 submit_event c client op = do
   short ← keeps_rule WrongField (nat_le (length op) max_op_text)
@@ -58,36 +75,65 @@ submit_event c client op = do
   number ← or_rule WrongActor (client_number (actor_of c client))
   Ok (Submit number bytes)
 
+abbrev pub submit_of : Configuration → List (List ℕ) → Result Event Rule
+submit_of c rest = two_fields rest >>= λ p. submit_event c p.0 p.1
+
+-- `deliver I ACTOR`
 abbrev pub deliver_event : Configuration → List ℕ → List ℕ → Result Event Rule
 deliver_event c index actor = do
   number ← or_rule WrongField (number_of index)
   to ← or_rule WrongActor (actor_of c actor)
   Ok (Deliver number to)
 
-abbrev pub crash_event : Configuration → List ℕ → Result Event Rule
-crash_event c actor = do
+abbrev pub deliver_of : Configuration → List (List ℕ) → Result Event Rule
+deliver_of c rest = two_fields rest >>= λ p. deliver_event c p.0 p.1
+
+-- `tick ACTOR KIND`
+abbrev pub tick_event : Configuration → List ℕ → List ℕ → Result Event Rule
+tick_event c actor kind = do
   one ← or_rule WrongActor (actor_of c actor)
+  tick ← or_rule WrongActor (tick_named kind)
+  takes ← keeps_rule WrongActor (takes_tick one tick)
+  Ok (Tick one tick)
+
+abbrev pub tick_of : Configuration → List (List ℕ) → Result Event Rule
+tick_of c rest = two_fields rest >>= λ p. tick_event c p.0 p.1
+
+-- `install sN`
+abbrev pub install_of : Configuration → List (List ℕ) → Result Event Rule
+install_of c rest = do
+  name ← one_field rest
+  number ← or_rule WrongActor (sequencer_number (actor_of c name))
+  Ok (Install number)
+
+-- `crash ACTOR`
+abbrev pub crash_of : Configuration → List (List ℕ) → Result Event Rule
+crash_of c rest = do
+  name ← one_field rest
+  one ← or_rule WrongActor (actor_of c name)
   Ok (Crash one)
 
--- the fields after the word
-abbrev pub submit_of : Configuration → List (List ℕ) → Result Event Rule
-submit_of c (client ∷ op ∷ []) = submit_event c client op
-submit_of c _ = Err WrongFieldCount
+-- `junk ACTOR HEX`
+abbrev pub junk_event : Configuration → List ℕ → List ℕ → Result Event Rule
+junk_event c actor text = do
+  short ← keeps_rule WrongField (nat_le (length text) max_junk_text)
+  bytes ← or_rule WrongHex (bytes_of text)
+  to ← or_rule WrongActor (actor_of c actor)
+  Ok (Junk to bytes)
 
-abbrev pub deliver_of : Configuration → List (List ℕ) → Result Event Rule
-deliver_of c (index ∷ actor ∷ []) = deliver_event c index actor
-deliver_of c _ = Err WrongFieldCount
+abbrev pub junk_of : Configuration → List (List ℕ) → Result Event Rule
+junk_of c rest = two_fields rest >>= λ p. junk_event c p.0 p.1
 
-abbrev pub crash_of : Configuration → List (List ℕ) → Result Event Rule
-crash_of c (actor ∷ []) = crash_event c actor
-crash_of c _ = Err WrongFieldCount
-
+-- by the word that comes first
 abbrev pub event_of_fields : Configuration → List (List ℕ) → Result Event Rule
 event_of_fields c [] = Err WrongWord
 event_of_fields c (word ∷ rest) =
     if is_text (codes "submit") word then submit_of c rest
     else if is_text (codes "deliver") word then deliver_of c rest
+    else if is_text (codes "tick") word then tick_of c rest
+    else if is_text (codes "install") word then install_of c rest
     else if is_text (codes "crash") word then crash_of c rest
+    else if is_text (codes "junk") word then junk_of c rest
     else Err WrongWord
 
 -- ---- the header

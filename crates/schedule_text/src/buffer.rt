@@ -1,4 +1,16 @@
-ghost use Rattle.std.specs.Prelude.{◌≡◌, ◌+◌, ◌-◌, ◌≤◌, [], length, take, drop, slice_range, OnOk, OnErr};
+ghost use Rattle.std.specs.Prelude.{
+  ◌≡◌,
+  ◌+◌,
+  ◌-◌,
+  ◌≤◌,
+  [],
+  length,
+  take,
+  drop,
+  slice_range,
+  OnOk,
+  OnErr,
+};
 ghost use Rattle.nop_types.specs.declared.limits.TheConstants.{MAX_LINE_BYTES};
 ghost use Rattle.outside.specs.Causes.{HasCauseFor};
 ghost use Rattle.schedule_text.specs.Filling.{FillsFrom};
@@ -12,7 +24,8 @@ use std::marker::Model;
 /// The most bytes of one read.
 const PIECE_BYTES: usize = 4096;
 
-/// Bytes that were taken from a source and not yet used, seen as their list. They lie in a vector from `start` to `end`.
+/// Bytes that were taken from a source and not yet used, seen as their list. They lie in a vector
+/// from `start` to `end`.
 #[derive(Debug, Drop)]
 pub(crate) struct Buffer {
     bytes: Vec<u8>,

@@ -1,12 +1,20 @@
-use nop_types::{Actor, Op};
+use nop_types::{Actor, Bytes, Op, Tick};
 
 /// One step of one actor, as a line of a schedule names it.
 #[derive(Debug, Drop)]
 pub enum Event {
     /// A client is given an op.
     Submit(u32, Op),
-    /// The datagram with this number, counted from 0 over all that were ever sent, comes to an actor.
+    /// The datagram with this number, counted from 0 over all that were ever sent, comes to an
+    /// actor.
     Deliver(u64, Actor),
+    /// An actor is given a tick, one that a schedule may give it.
+    Tick(Actor, Tick),
+    /// The controller is ordered to move to the sequencer with this number.
+    Install(u8),
     /// An actor takes no further step.
     Crash(Actor),
+    /// Bytes that nobody sent come to an actor. They spell no datagram; a line of a schedule gives
+    /// at most `MAX_DATAGRAM_BYTES` of them.
+    Junk(Actor, Bytes),
 }

@@ -2,7 +2,14 @@ ghost use Rattle.std.specs.Prelude.{◌≡◌, ◌++◌, ◌∷◌, decimal, sli
 ghost use Rattle.hex.specs.Hex.{encode_lower};
 ghost use Rattle.nop_types.specs.Lists.{IsPrefixOf};
 ghost use Rattle.schedule_text.specs.LineText.{field_text, field_texts, line_of};
-ghost use Rattle.schedule_text.specs.Transcript.{actor_text, dest_text, hex_text, kind_text, phase_text, up_text};
+ghost use Rattle.schedule_text.specs.Transcript.{
+  actor_text,
+  dest_text,
+  hex_text,
+  kind_text,
+  phase_text,
+  up_text,
+};
 
 use nop_types::{Actor, Dest, NoMemory, Phase, kinds};
 

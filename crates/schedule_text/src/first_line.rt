@@ -1,17 +1,26 @@
 ghost use Rattle.std.specs.Prelude.{MatchOption};
-ghost use Rattle.schedule_text.specs.Deciding.{HasNoEnd, IsSearched, IsFirstEnd, IsFirstLine, IsUndecided, reach};
+ghost use Rattle.schedule_text.specs.Deciding.{
+  HasNoEnd,
+  IsSearched,
+  IsFirstEnd,
+  IsFirstLine,
+  IsUndecided,
+  reach,
+};
 
 use memchr::memchr;
 use nop_types::{MAX_LINE_BYTES, MAX_LINES};
 
-/// Where the first line of some bytes lies: how long it is, and where the bytes after it and its end begin.
+/// Where the first line of some bytes lies: how long it is, and where the bytes after it and its
+/// end begin.
 #[derive(Clone, Copy, Debug, PartialEq, Eq)]
 pub(crate) struct FirstLine {
     pub(crate) len: usize,
     pub(crate) end: usize,
 }
 
-/// Where the first line ends, unless it is too long or has no end yet. The first `searched` bytes have no line end.
+/// Where the first line ends, unless it is too long or has no end yet. The first `searched` bytes
+/// have no line end.
 fn line_end(searched: usize, bytes: &[u8]) -> Option<usize>
     requires { IsSearched searched bytes.now }
     ensures { MatchOption result (HasNoEnd (reach bytes.now) bytes.now) (IsFirstEnd bytes.now) }
@@ -21,7 +30,8 @@ fn line_end(searched: usize, bytes: &[u8]) -> Option<usize>
     Some(searched + at)
 }
 
-/// The first line, if it is decided. `before` lines stand before it, and the first `searched` bytes have no line end.
+/// The first line, if it is decided. `before` lines stand before it, and the first `searched` bytes
+/// have no line end.
 pub(crate) fn first_line(
     before: u32,
     ended: bool,

@@ -13,15 +13,16 @@ mod rule;
 mod rules;
 mod spelling;
 mod split;
-#[cfg(test)]
-mod tests;
+mod ticks;
 mod transcript;
+mod words;
 
 pub use event::Event;
-pub use laws::{read_events_fit, read_headers_fit};
+pub use laws::{read_events_fit, read_headers_fit, read_junk_fits};
 pub use next_error::NextError;
 pub use reader::Reader;
 pub use rule::Rule;
+pub use ticks::takes_tick;
 pub use transcript::{
     accept_line, busy_line, dead_line, end_line, entry_line, error_line, history_line,
     replica_line, send_line, submit_line, transcript_line,

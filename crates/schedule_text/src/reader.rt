@@ -1,10 +1,44 @@
-ghost use Rattle.std.specs.Prelude.{◌≡◌, ◌≢◌, ◌+◌, ◌≤◌, ◌<◌, ◌↔◌, ◌⊎◌, false, true, [], length, Some, None, Err, IsNone, IsSome, IfOk, OnOk, OnErr, MatchOption};
+ghost use Rattle.std.specs.Prelude.{
+  ◌≡◌,
+  ◌≢◌,
+  ◌+◌,
+  ◌≤◌,
+  ◌<◌,
+  ◌↔◌,
+  ◌⊎◌,
+  false,
+  true,
+  [],
+  length,
+  Some,
+  None,
+  Err,
+  IsNone,
+  IsSome,
+  IfOk,
+  OnOk,
+  OnErr,
+  MatchOption,
+};
 ghost use Rattle.nop_types.specs.declared.limits.TheConstants.{MAX_LINES};
 ghost use Rattle.outside.specs.Causes.{HasCauseFor};
 ghost use Rattle.schedule_text.specs.Deciding.{IsUndecided};
-ghost use Rattle.schedule_text.specs.Reading.{opening, lines_before, lines_taken, TakesOf, LeavesNone};
+ghost use Rattle.schedule_text.specs.Reading.{
+  opening,
+  lines_before,
+  lines_taken,
+  TakesOf,
+  LeavesNone,
+};
 ghost use Rattle.schedule_text.specs.Rules.{rule_number};
-ghost use Rattle.schedule_text.specs.Stepping.{after_step, answer_with, Answers, IsFirst, NeedsNoRead, Reaches};
+ghost use Rattle.schedule_text.specs.Stepping.{
+  after_step,
+  answer_with,
+  Answers,
+  IsFirst,
+  NeedsNoRead,
+  Reaches,
+};
 
 use crate::buffer::Buffer;
 use crate::first_line::{FirstLine, first_line};
@@ -17,9 +51,9 @@ use outside::Source;
 use std::alloc::Global;
 use std::marker::Model;
 
-/// Reads the events of a schedule, line by line. It asks a source for pieces of at most 4,096 bytes, and only while no further
-/// line is decided: a line is decided by its end, by a byte more than a line or a line more than a schedule may have, or by
-/// the end of the source.
+/// Reads the events of a schedule, line by line. It asks a source for pieces of at most 4,096
+/// bytes, and only while no further line is decided: a line is decided by its end, by a byte more
+/// than a line or a line more than a schedule may have, or by the end of the source.
 #[derive(Debug, Drop)]
 pub struct Reader {
     alloc: Global,
@@ -37,7 +71,12 @@ impl Model for Reader {
 
     ghost Value = { Reading };
 
-    ghost view = { λ r. record { config = r.config; line = r.line; pending = r.buffer; ended = r.ended } };
+    ghost view = { λ r. record {
+      config = r.config;
+      line = r.line;
+      pending = r.buffer;
+      ended = r.ended;
+    } };
 
     ghost invariant = { λ r. IsReader r.searched r.line r.buffer r.config };
 }
@@ -73,19 +112,22 @@ impl Reader {
         self.line
     }
 
-    /// The event of the next line, None at the end of the source. A line that breaks a rule is not taken. After ReadFault and
-    /// NoMemory nothing that was taken is lost, and the next call goes on.
+    /// The event of the next line, None at the end of the source. A line that breaks a rule is not
+    /// taken. After ReadFault and NoMemory nothing that was taken is lost, and the next call goes
+    /// on.
     pub fn next<S: Source>(&mut self, source: &mut S) -> Result<Option<Event>, NextError>
         ensures takes { TakesOf self.old self.new (S.left source.old) (S.left source.new) result }
         ensures none_left { LeavesNone self.new result }
         ensures cause { HasCauseFor (S.fault_count source.old) (S.fault_count source.new)
             NextError.ReadFault result }
         ensures config { IsSome self.old.config → self.new.config ≡ self.old.config }
-        ensures line { IsSome self.old.config → self.new.line ≡ self.old.line + lines_taken result }
+        ensures line { IsSome self.old.config → self.new.line
+            ≡ self.old.line + lines_taken result }
 
         // The source is not asked after its end, nor where a line behind line 1 is decided.
         ensures after_end { self.old.ended ≡ true → source.new ≡ source.old }
-        ensures unread { IsSome self.old.config → lines_before self.old false [] ≢ [] → source.new
+        ensures unread { IsSome self.old.config → lines_before self.old false [] ≢
+            [] → source.new
             ≡ source.old }
     {
         let config = self.open(source)?;
@@ -130,7 +172,8 @@ impl Reader {
         ensures none_left { LeavesNone self.new (after_step result) }
         ensures cause { HasCauseFor (S.fault_count source.old) (S.fault_count source.new)
             NextError.ReadFault result }
-        ensures unread { NeedsNoRead self.old → (source.new ≡ source.old) × (self.new ≡ self.old) }
+        ensures unread { NeedsNoRead self.old → (source.new ≡ source.old)
+            × (self.new ≡ self.old) }
     {
         loop {
             if let Some(first) = self.first_line() {

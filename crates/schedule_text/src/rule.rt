@@ -1,8 +1,9 @@
 ghost use Rattle.std.specs.Prelude.{◌≡◌};
 ghost use Rattle.schedule_text.specs.Rules.{rule_number};
 
-/// A rule of a schedule's lines. `LineTooLong` to `WrongActor` and `TooManyLines` are tested as a line is read, the last one
-/// first; whether an actor or a datagram is there is also tested when the event is carried out.
+/// A rule of a schedule's lines. `LineTooLong` to `WrongActor` and `TooManyLines` are tested as a
+/// line is read, the last one first. When the event is carried out, `WrongActor` is tested again,
+/// and then `NoSuchDatagram` and `Forged`.
 #[derive(Clone, Copy, Debug, PartialEq, Eq)]
 pub enum Rule {
     /// More than 4,096 bytes.
@@ -12,14 +13,16 @@ pub enum Rule {
     /// The first field is no word of a line in this place.
     WrongWord,
     WrongFieldCount,
-    /// A field of the header, an index or the length of an op.
+    /// A field of the header, an index, or the length of an op or of junk.
     WrongField,
-    /// An op is empty, odd or has another character.
+    /// An op or junk is empty, odd or has another character.
     WrongHex,
-    /// The actor is not there, or takes no such word.
+    /// The actor is not there, or takes no such word or tick.
     WrongActor,
     /// No datagram with this index was sent.
     NoSuchDatagram,
+    /// Junk spells a datagram.
+    Forged,
     /// More than 1,000,000 lines.
     TooManyLines,
 }
@@ -38,6 +41,7 @@ impl Rule {
             Rule::WrongHex => 6,
             Rule::WrongActor => 7,
             Rule::NoSuchDatagram => 8,
+            Rule::Forged => 9,
             Rule::TooManyLines => 10,
         }
     }

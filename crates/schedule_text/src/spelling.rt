@@ -1,10 +1,17 @@
 //! What single fields spell.
 
 ghost use Rattle.std.specs.Prelude.{◌≡◌, ◌*◌, ◌≤◌, length, IfOk};
-ghost use Rattle.schedule_text.specs.Fields.{actor_of, bytes_of, digit_on, number_of, number_on, number_below};
+ghost use Rattle.schedule_text.specs.Fields.{
+  actor_of,
+  bytes_of,
+  digit_on,
+  number_of,
+  number_on,
+  number_below,
+};
 
 use crate::split::is_word;
-use nop_types::{Actor, Config, MAX_OP_BYTES, NoMemory, Op};
+use nop_types::{Actor, Bytes, Config, MAX_OP_BYTES, NoMemory, Op};
 use std::alloc::Global;
 
 fn digit(n: u64, d: u8) -> Option<u64>
@@ -75,21 +82,31 @@ pub fn actor(config: Config, field: &[u8]) -> Option<Actor>
     }
 }
 
-/// An op in hexadecimal, `-` for no bytes.
+/// Bytes in hexadecimal, `-` for none.
 #[tactic(auto, unfolding(crate::specs::Fields::bytes_of))]
-pub fn op(alloc: Global, field: &[u8]) -> Result<Option<Op>, NoMemory>
-    requires { length field.now ≤ 2 * MAX_OP_BYTES }
-    ensures { IfOk result (λ op. op ≡ bytes_of field.now) }
+pub fn bytes(alloc: Global, field: &[u8]) -> Result<Option<Bytes>, NoMemory>
+    ensures { IfOk result (λ bytes. bytes ≡ bytes_of field.now) }
 {
     if field.is_empty() {
         return Ok(None);
     }
     if is_word(field, "-") {
-        return Ok(Some(Op::from_vec(Vec::new(alloc))));
+        return Ok(Some(Bytes::from_vec(Vec::new(alloc))));
     }
     match hex::decode(alloc, field) {
-        Ok(bytes) => Ok(Some(Op::from_vec(bytes))),
+        Ok(bytes) => Ok(Some(Bytes::from_vec(bytes))),
         Err(hex::FromHexError::OutOfMemory) => Err(NoMemory),
         Err(_) => Ok(None),
+    }
+}
+
+/// An op in hexadecimal.
+pub fn op(alloc: Global, field: &[u8]) -> Result<Option<Op>, NoMemory>
+    requires { length field.now ≤ 2 * MAX_OP_BYTES }
+    ensures { IfOk result (λ op. op ≡ bytes_of field.now) }
+{
+    match bytes(alloc, field)? {
+        Some(bytes) => Ok(Some(Op::from_vec(bytes.into_vec()))),
+        None => Ok(None),
     }
 }

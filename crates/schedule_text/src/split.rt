@@ -1,7 +1,12 @@
-ghost use Rattle.std.specs.Prelude.{◌≡◌, ◌∷◌, ◌==◌, position};
+//! The fields of a line.
+
+ghost use Rattle.std.specs.Prelude.{◌≡◌, ◌∷◌, [], ◌==◌, ℕ, List, Ok, Err, position, MatchResult};
 ghost use Rattle.std.specs.Option.{option_copied};
 ghost use Rattle.schedule_text.specs.Fields.{fields, is_text};
+ghost use Rattle.schedule_text.specs.Rules.{one_field, two_fields};
 ghost use Rattle.schedule_text.specs.Split.{other_fields};
+
+use crate::rule::Rule;
 
 /// Whether the field is this word.
 pub fn is_word(field: &[u8], word: &str) -> bool
@@ -24,5 +29,63 @@ pub fn cut(line: &[u8]) -> (&[u8], Option<&[u8]>)
     match space(line) {
         Some(i) => (&line[..i], Some(&line[i + 1..])),
         None => (line, None),
+    }
+}
+
+/// The next field of those that follow, and what follows it.
+pub fn next_field(rest: Option<&[u8]>) -> Result<(&[u8], Option<&[u8]>), Rule>
+    ensures { let fields = other_fields (option_copied rest.entry) in
+        MatchResult result (λ p. fields ≡ p.0.now ∷ other_fields (option_copied p.1))
+        (λ rule. (rule ≡ Rule.WrongFieldCount) × (fields ≡ [])) }
+{
+    match rest {
+        Some(rest) => Ok(cut(rest)),
+        None => Err(Rule::WrongFieldCount),
+    }
+}
+
+/// No field follows.
+pub fn no_field(rest: Option<&[u8]>) -> Result<(), Rule>
+    ensures { let fields = other_fields (option_copied rest.entry) in
+        MatchResult result (λ _. fields ≡ [])
+        (λ rule. (rule ≡ Rule.WrongFieldCount) × (first : List ℕ) × (more : List (List ℕ))
+        × (fields ≡ first ∷ more)) }
+{
+    match rest {
+        Some(_) => Err(Rule::WrongFieldCount),
+        None => Ok(()),
+    }
+}
+
+/// The only field of those that follow.
+#[tactic(auto, using(crate::proofs::SplitLemmas::more_than_one))]
+pub fn one_field(rest: Option<&[u8]>) -> Result<&[u8], Rule>
+    ensures { let read = one_field (other_fields (option_copied rest.entry)) in
+        MatchResult result (λ field. read ≡ Ok field.now) (λ rule. read ≡ Err rule) }
+{
+    let Some(rest) = rest else {
+        return Err(Rule::WrongFieldCount);
+    };
+    match cut(rest) {
+        (field, None) => Ok(field),
+        (_, Some(_)) => Err(Rule::WrongFieldCount),
+    }
+}
+
+/// The fields that follow, if they are two.
+#[tactic(auto, using(crate::proofs::SplitLemmas::more_than_two))]
+pub fn two_fields(rest: Option<&[u8]>) -> Result<(&[u8], &[u8]), Rule>
+    ensures { let read = two_fields (other_fields (option_copied rest.entry)) in
+        MatchResult result (λ p. read ≡ Ok (p.0.now, p.1.now)) (λ rule. read ≡ Err rule) }
+{
+    let Some(rest) = rest else {
+        return Err(Rule::WrongFieldCount);
+    };
+    let (first, Some(rest)) = cut(rest) else {
+        return Err(Rule::WrongFieldCount);
+    };
+    match cut(rest) {
+        (second, None) => Ok((first, second)),
+        (_, Some(_)) => Err(Rule::WrongFieldCount),
     }
 }

@@ -153,7 +153,8 @@ pub fn entry_line(replica: u8, slot: u32, entry: &Entry, to: &mut Vec<u8>) -> Re
 /// A request of the history, with its place there, counted from 1.
 #[tactic(auto, unfolding(crate::specs::Transcript::history_line))]
 pub fn history_line(index: u32, request: &Request, to: &mut Vec<u8>) -> Result<(), NoMemory>
-    ensures ok { OnOk result (to.new.items ≡ to.old.items ++ texts.history_line index request.now) }
+    ensures ok { OnOk result (to.new.items ≡ to.old.items ++ texts.history_line index
+        request.now) }
     ensures err { OnErr result (to.new.items ≡ to.old.items) }
 {
     let fields = [
@@ -165,8 +166,8 @@ pub fn history_line(index: u32, request: &Request, to: &mut Vec<u8>) -> Result<(
     write_line("history", &fields, to)
 }
 
-/// A bad line, counted from 1, and the rule that it breaks. Where it delivers a datagram that was not sent, also the
-/// datagram's index and how many were sent.
+/// A bad line, counted from 1, and the rule that it breaks. Where it delivers a datagram that was
+/// not sent, also the datagram's index and how many were sent.
 #[tactic(auto, unfolding(crate::specs::Transcript::error_line))]
 pub fn error_line(
     line: u32,

@@ -1,7 +1,9 @@
-pub mod Draining
-pub mod Executions
+pub mod Idle
 pub mod IdLemmas
 pub mod LineLemmas
 pub mod MainLog
 pub mod MarkLemmas
+pub mod Opening
+pub mod Places
+pub mod Refusals
 pub mod SeatLemmas

@@ -6,24 +6,24 @@ use Rattle.nop_types.specs.Machine.{Machine}
 use Rattle.nop_types.specs.Views.{leader_of}
 use Rattle.nop_types.specs.declared.view.View.{View}
 use Rattle.nop_types.specs.declared.request.Entry.{Entry}
+use Rattle.replica_core.specs.ReplicaSteps.{Replica}
 use Rattle.world.specs.declared.actors.Actors.{Actors}
 use Rattle.world.specs.declared.seat.Seat.{Seat}
-use Rattle.world.specs.declared.replica_state.ReplicaState.{ReplicaState}
 use Rattle.world.specs.Actors.{world_of}
 use Rattle.world.specs.Seats.{Seated}
 use Rattle.world.specs.SeatOutcomes.{seated_of}
 use Rattle.world.specs.WorldSteps.{greatest_of, main_view, main_log, log_of}
 
-abbrev place : Seat (Machine ReplicaState) → Seated ReplicaState
+abbrev place : Seat (Machine Replica) → Seated Replica
 place p = seated_of (λ r. r.state) p
 
-normals : (seats : List (Seat (Machine ReplicaState)))
-    → map (λ p. p.core.state.last_normal) seats ≡ map (λ p. p.state.last_normal) (map place seats)
+normals : (seats : List (Seat (Machine Replica)))
+    → map (λ p. p.core.state.state.last_normal) seats ≡ map (λ p. p.state.state.last_normal) (map place seats)
 normals [] = refl
-normals (p ∷ seats) = ap (λ (vs : List View). p.core.state.last_normal ∷ vs) (normals seats)
+normals (p ∷ seats) = ap (λ (vs : List View). p.core.state.state.last_normal ∷ vs) (normals seats)
 
-pub main_log_is : {H : Type 0} (a : Actors H) (view : View) (n i : ℕ) (log : List Entry)
-    → view ≡ greatest_of (map (λ p. p.core.state.last_normal) a.replicas.items) → n ≡ a.config.replicas → i ≡ leader_of view n
+pub main_log_is : {H U : Type 0} (a : Actors H U) (view : View) (n i : ℕ) (log : List Entry)
+    → view ≡ greatest_of (map (λ p. p.core.state.state.last_normal) a.replicas.items) → n ≡ a.config.replicas → i ≡ leader_of view n
     → log ≡ log_of (option_map (seated_of (λ r. r.state)) (slice_get a.replicas.items i)) → log ≡ main_log (world_of a)
 unfolding main_view main_log
 main_log_is a view n i log view_is n_is i_is log_is =

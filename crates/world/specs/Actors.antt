@@ -7,7 +7,7 @@ use Rattle.world.specs.LineCounts.{Shows}
 use Rattle.world.specs.SeatOutcomes.{seated_of}
 use Rattle.world.specs.WorldSteps.{WorldState, Refusal, Happened}
 
-abbrev pub world_of : {H : Type 0} → Actors H → WorldState
+abbrev pub world_of : {H U : Type 0} → Actors H U → WorldState
 world_of a =
     record {
       config = a.config;

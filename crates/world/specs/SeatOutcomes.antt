@@ -1,14 +1,22 @@
 -- What a call on a seat of the code did.
 use Rattle.std.specs.Prelude.{◌≡◌, ℕ, List, map, Option, Some, None, Result, Ok, Err, slice_set}
+use Rattle.nop_types.specs.Given.{given}
 use Rattle.nop_types.specs.declared.output.Out.{Out}
 use Rattle.world.specs.declared.seat.Seat.{Seat}
 use Rattle.world.specs.declared.step_error.StepError.{StepError}
 use Rattle.world.specs.declared.step_error.StepError.TheVariants as errors
-use Rattle.world.specs.Seats.{Seated, Did, Nothing, Outputs}
-use Rattle.world.specs.WorldSteps.{Refusal, NoSuchActor, NoSuchDatagram}
+use Rattle.world.specs.declared.stimulus.Stimulus as declared
+use Rattle.world.specs.declared.stimulus.Stimulus.TheVariants as stimuli
+use Rattle.world.specs.Seats.{Seated, Stimulus, Takes, Crashes, Did, Nothing, Outputs}
+use Rattle.world.specs.WorldSteps.{Refusal, NoSuchActor, NoSuchDatagram, Forged}
 
 abbrev pub seated_of : {C S : Type 0} → (C → S) → Seat C → Seated S
 seated_of state p = record { state = state p.core; crashed = p.crashed }
+
+-- a stimulus without where its input lies in memory
+abbrev pub owned : declared.Stimulus → Stimulus
+owned (stimuli.Input input) = Takes (given input)
+owned stimuli.Crash = Crashes
 
 abbrev pub did_of : Option (List Out) → Did
 did_of None = Nothing
@@ -29,4 +37,5 @@ pub record MovesAt {C S : Type 0} (state : C → S) (r : Result (Seated S × Did
 abbrev pub Refuses : {A : Type 0} → StepError → Result A Refusal → Type 0 → Type 0
 Refuses (errors.NoSuchDatagram index sent) r same = (r ≡ Err (NoSuchDatagram index sent)) × same
 Refuses errors.NoSuchActor r same = (r ≡ Err NoSuchActor) × same
+Refuses errors.Forged r same = (r ≡ Err Forged) × same
 Refuses errors.NoMemory r same = Unit {0}

@@ -10,23 +10,26 @@ pub record Seated (S : Type 0) : Type 0 where
 abbrev pub seated : {S : Type 0} → S → Seated S
 seated s = record { state = s; crashed = false }
 
+-- what an event brings to its actor: an input, or a crash
+pub data Stimulus : Type 0 where
+  Takes : Given → Stimulus
+  Crashes : Stimulus
+
 -- what an actor did, or that it crashed before
 pub data Did : Type 0 where
   Nothing : Did
   Outputs : List Out → Did
 
--- a step of an actor, which takes no step once it crashed
-abbrev pub stepped : {S : Type 0} → (S → Given → S × List Out) → S → Given → Bool → Seated S × Did
-stepped next s i true = (record { state = s; crashed = true }, Nothing)
-stepped next s i false = (record { state = (next s i).0; crashed = false }, Outputs (next s i).1)
+-- an actor that has not crashed: after a crash its last state stays
+abbrev pub moved : {S : Type 0} → (S → Given → S × List Out) → S → Stimulus → Seated S × Did
+moved next s (Takes i) = (seated (next s i).0, Outputs (next s i).1)
+moved next s Crashes = (record { state = s; crashed = true }, Outputs [])
 
-abbrev pub seat_step : {S : Type 0} → (S → Given → S × List Out) → Seated S → Given → Seated S × Did
-seat_step next p i = stepped next p.state i p.crashed
+-- a crashed actor takes no step
+abbrev pub moved_if : {S : Type 0} → (S → Given → S × List Out) → Bool → Seated S → Stimulus → Seated S × Did
+moved_if next true p what = (p, Nothing)
+moved_if next false p what = moved next p.state what
 
--- a crash, after which the last state stays
-abbrev pub crashed_by : {S : Type 0} → S → Bool → Seated S × Did
-crashed_by s true = (record { state = s; crashed = true }, Nothing)
-crashed_by s false = (record { state = s; crashed = true }, Outputs [])
-
-abbrev pub crash_step : {S : Type 0} → Seated S → Seated S × Did
-crash_step p = crashed_by p.state p.crashed
+-- one step of an actor
+abbrev pub seat_step : {S : Type 0} → (S → Given → S × List Out) → Seated S → Stimulus → Seated S × Did
+seat_step next p what = moved_if next p.crashed p what

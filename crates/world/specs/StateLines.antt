@@ -2,7 +2,8 @@
 use Rattle.std.specs.Prelude.{ℕ, ◌+◌, List, [], ◌∷◌, ◌++◌, length, take}
 use Rattle.nop_types.specs.declared.request.Entry.{Entry}
 use Rattle.schedule_text.specs.Transcript.{replica_line, entry_line}
-use Rattle.world.specs.declared.replica_state.ReplicaState.{ReplicaState}
+use Rattle.replica_core.specs.declared.state.ReplicaState.{ReplicaState}
+use Rattle.replica_core.specs.ReplicaSteps.{Replica}
 use Rattle.world.specs.Seats.{Seated}
 
 abbrev pub entries_text : ℕ → ℕ → List Entry → List ℕ
@@ -10,11 +11,12 @@ entries_text replica slot [] = []
 entries_text replica slot (e ∷ es) = entry_line replica slot e ++ entries_text replica (slot + 1) es
 
 -- a replica, and then each slot up to its sync point
-abbrev pub replica_text : ℕ → Seated ReplicaState → List ℕ
+abbrev pub replica_text : ℕ → Seated Replica → List ℕ
 replica_text i p =
-    replica_line i p.crashed p.state.status p.state.view (length p.state.log) p.state.sync_point
-    ++ entries_text i 1 (take p.state.sync_point p.state.log)
+    let s : ReplicaState = p.state.state in
+    replica_line i p.crashed s.status s.view (length s.log) s.sync.sync_point
+    ++ entries_text i 1 (take s.sync.sync_point s.log)
 
-abbrev pub replicas_text : ℕ → List (Seated ReplicaState) → List ℕ
+abbrev pub replicas_text : ℕ → List (Seated Replica) → List ℕ
 replicas_text i [] = []
 replicas_text i (p ∷ ps) = replica_text i p ++ replicas_text (i + 1) ps

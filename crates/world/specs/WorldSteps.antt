@@ -1,48 +1,88 @@
 -- The world: all actors and the network, and one event as one step of one actor.
-use Rattle.std.specs.Prelude.{ℕ, zero, suc, List, [], ◌∷◌, ◌++◌, length, map, Bool, false, Option, Some, None, Result, Ok, Err, slice_get}
-use Rattle.std.specs.Prelude.{slice_set, if◌then◌else◌}
+use Rattle.std.specs.Prelude.{ℕ, zero, suc, List, [], ◌∷◌, ◌++◌, length, map, Bool, true, false, Option, Some, None, Result, Ok, Err}
+use Rattle.std.specs.Prelude.{slice_get, slice_set, nat_lt, if◌then◌else◌}
 use Rattle.nop_types.specs.Configuration.{Configuration}
 use Rattle.nop_types.specs.Meaning.{Meaning}
-use Rattle.nop_types.specs.Given.{Given, Packet, Submit}
+use Rattle.nop_types.specs.Given.{Given, Packet, Ticked, Submit}
 use Rattle.nop_types.specs.Lines.{Line}
 use Rattle.nop_types.specs.Views.{leader_of, outranks, first_view}
 use Rattle.nop_types.specs.Histories.{history_of}
+use Rattle.nop_types.specs.declared.datagram.Datagram.{Datagram}
+use Rattle.nop_types.specs.declared.input.Tick.{Tick}
+use Rattle.nop_types.specs.declared.input.Tick.TheVariants as ticks
 use Rattle.nop_types.specs.declared.view.View.{View}
 use Rattle.nop_types.specs.declared.request.Request.{Request}
 use Rattle.nop_types.specs.declared.request.Entry.{Entry}
 use Rattle.nop_types.specs.declared.output.Actor.{Actor}
 use Rattle.nop_types.specs.declared.output.Actor.TheVariants as actors
 use Rattle.nop_types.specs.declared.output.Out.{Out}
+use Rattle.oum_codec.specs.declared.bad.Bad.{Bad}
+use Rattle.oum_codec.specs.Reading.{reading}
+use Rattle.replica_core.specs.ReplicaSteps as replica
+use Rattle.replica_core.specs.ReplicaSteps.{Replica}
+use Rattle.sequencer.specs.declared.state.SequencerState.{SequencerState}
+use Rattle.sequencer.specs.SequencerSteps as sequencer
+use Rattle.client_quorum.specs.declared.state.ClientState.{ClientState}
+use Rattle.client_quorum.specs.ClientSteps as client
+use Rattle.session_control.specs.declared.state.ControllerState.{ControllerState}
+use Rattle.session_control.specs.ControllerSteps as controller
 use Rattle.schedule_text.specs.declared.event.Event.{Event}
 use Rattle.schedule_text.specs.declared.event.Event.TheVariants as events
-use Rattle.world.specs.declared.client.ClientState.{ClientState}
-use Rattle.world.specs.declared.controller.ControllerState.{ControllerState}
-use Rattle.world.specs.declared.replica_state.ReplicaState.{ReplicaState}
-use Rattle.world.specs.declared.sequencer.SequencerState.{SequencerState}
-use Rattle.world.specs.ClientSteps as client
-use Rattle.world.specs.ControllerSteps as controller
-use Rattle.world.specs.ReplicaSteps as replica
-use Rattle.world.specs.SequencerSteps as sequencer
-use Rattle.world.specs.Seats.{Seated, Did, seated, seat_step, crash_step}
+use Rattle.schedule_text.specs.Ticks.{takes_tick}
+use Rattle.world.specs.Seats.{Seated, Stimulus, Takes, Crashes, Did, seated, seat_step}
 use Rattle.world.specs.Network.{Sent, sends_by, lines_by}
 
 pub record WorldState : Type 0 where
   pub config : Configuration
-  pub replicas : List (Seated ReplicaState)
+  pub replicas : List (Seated Replica)
   pub sequencers : List (Seated SequencerState)
   pub clients : List (Seated ClientState)
   pub controller : Seated ControllerState
   pub sent : List Sent
 
--- the actor is not of the configuration, or has no such input; or no datagram has this number
+-- the actor is not of the configuration, or has no such input; no datagram has this number; or the junk spells a datagram
 pub data Refusal : Type 0 where
   NoSuchActor : Refusal
   NoSuchDatagram : (index sent : ℕ) → Refusal
+  Forged : Refusal
 
 -- the world after an event, and the event's lines
 pub record Happened : Type 0 where
   pub world : WorldState
   pub lines : List Line
+
+-- ---- what an event brings to its actor
+
+abbrev pub actor_of : Event → Actor
+actor_of (events.Submit client op) = actors.Client client
+actor_of (events.Deliver index actor) = actor
+actor_of (events.Tick actor tick) = actor
+actor_of (events.Install number) = actors.Controller
+actor_of (events.Crash actor) = actor
+actor_of (events.Junk actor bytes) = actor
+
+abbrev pub tick_if : Bool → Tick → Result Stimulus Refusal
+tick_if true tick = Ok (Takes (Ticked tick))
+tick_if false tick = Err NoSuchActor
+
+-- a datagram that was sent, where so many were
+abbrev pub datagram_at : ℕ → ℕ → Option Sent → Result Stimulus Refusal
+datagram_at index count None = Err (NoSuchDatagram index count)
+datagram_at index count (Some s) = Ok (Takes (Packet s.bytes))
+
+-- bytes that spell no datagram
+abbrev pub junk_of : List ℕ → Result Datagram Bad → Result Stimulus Refusal
+junk_of bytes (Ok d) = Err Forged
+junk_of bytes (Err e) = Ok (Takes (Packet bytes))
+
+-- what an event brings, in a configuration and where these datagrams were sent
+unfoldable pub stimulus_of : Configuration → List Sent → Event → Result Stimulus Refusal
+stimulus_of c sent (events.Submit number op) = Ok (Takes (Submit op))
+stimulus_of c sent (events.Deliver index actor) = datagram_at index (length sent) (slice_get sent index)
+stimulus_of c sent (events.Tick actor tick) = tick_if (takes_tick actor tick) tick
+stimulus_of c sent (events.Install number) = tick_if (nat_lt number c.sequencers) (ticks.Install number)
+stimulus_of c sent (events.Crash actor) = Ok Crashes
+stimulus_of c sent (events.Junk actor bytes) = junk_of bytes (reading bytes)
 
 -- ---- what an actor did
 
@@ -50,7 +90,7 @@ abbrev pub carried : WorldState → Actor → Did → WorldState → Happened
 carried old from did new = record
     { world = record new { sent = old.sent ++ sends_by from did }; lines = lines_by from (length old.sent) did }
 
-abbrev pub at_replica : WorldState → ℕ → Seated ReplicaState × Did → Happened
+abbrev pub at_replica : WorldState → ℕ → Seated Replica × Did → Happened
 at_replica w i p = carried w (actors.Replica i) p.1 (record w { replicas = slice_set w.replicas i p.0 })
 
 abbrev pub at_sequencer : WorldState → ℕ → Seated SequencerState × Did → Happened
@@ -67,49 +107,29 @@ abbrev pub then_at : {S : Type 0} → (Seated S × Did → Happened) → Result 
 then_at f (Err refusal) = Err refusal
 then_at f (Ok p) = Ok (f p)
 
--- ---- the inputs of an actor, where there is one
+abbrev pub step_with : {S : Type 0} → (S → Given → S × List Out) → Seated S → Result Stimulus Refusal → Result (Seated S × Did) Refusal
+step_with next p (Err refusal) = Err refusal
+step_with next p (Ok what) = Ok (seat_step next p what)
 
--- an input of its own
-abbrev pub input_at : {S : Type 0} → (S → Given → S × List Out) → Given → Option (Seated S) → Result (Seated S × Did) Refusal
-input_at next i None = Err NoSuchActor
-input_at next i (Some p) = Ok (seat_step next p i)
-
-abbrev pub bytes_at : {S : Type 0} → (S → Given → S × List Out) → Seated S → ℕ → ℕ → Option Sent → Result (Seated S × Did) Refusal
-bytes_at next p index count None = Err (NoSuchDatagram index count)
-bytes_at next p index count (Some s) = Ok (seat_step next p (Packet s.bytes))
-
--- a datagram; the actor is looked up first
-abbrev pub delivery_at : {S : Type 0} → (S → Given → S × List Out) → List Sent → ℕ → Option (Seated S) → Result (Seated S × Did) Refusal
-delivery_at next sent index None = Err NoSuchActor
-delivery_at next sent index (Some p) = bytes_at next p index (length sent) (slice_get sent index)
-
-abbrev pub crash_at : {S : Type 0} → Option (Seated S) → Result (Seated S × Did) Refusal
-crash_at None = Err NoSuchActor
-crash_at (Some p) = Ok (crash_step p)
+-- the actor is looked up first
+abbrev pub step_at : {S : Type 0} → (S → Given → S × List Out) → Option (Seated S) → Result Stimulus Refusal
+    → Result (Seated S × Did) Refusal
+step_at next None what = Err NoSuchActor
+step_at next (Some p) what = step_with next p what
 
 -- ---- events
 
-abbrev pub submit : WorldState → ℕ → List ℕ → Result Happened Refusal
-submit w i op = then_at (at_client w i) (input_at client.next (Submit op) (slice_get w.clients i))
-
-abbrev pub crash : WorldState → Actor → Result Happened Refusal
-crash w (actors.Replica i) = then_at (at_replica w i) (crash_at (slice_get w.replicas i))
-crash w (actors.Sequencer i) = then_at (at_sequencer w i) (crash_at (slice_get w.sequencers i))
-crash w (actors.Client i) = then_at (at_client w i) (crash_at (slice_get w.clients i))
-crash w actors.Controller = then_at (at_controller w) (crash_at (Some w.controller))
-
 module _ {S : Type 0} (m : Meaning S) where
-  abbrev pub deliver : WorldState → ℕ → Actor → Result Happened Refusal
-  deliver w index (actors.Replica i) = then_at (at_replica w i) (delivery_at (replica.next m) w.sent index (slice_get w.replicas i))
-  deliver w index (actors.Sequencer i) = then_at (at_sequencer w i) (delivery_at sequencer.next w.sent index (slice_get w.sequencers i))
-  deliver w index (actors.Client i) = then_at (at_client w i) (delivery_at client.next w.sent index (slice_get w.clients i))
-  deliver w index actors.Controller = then_at (at_controller w) (delivery_at controller.next w.sent index (Some w.controller))
+  -- the step of an actor
+  abbrev pub step_of : WorldState → Actor → Result Stimulus Refusal → Result Happened Refusal
+  step_of w (actors.Replica i) what = then_at (at_replica w i) (step_at (replica.next m) (slice_get w.replicas i) what)
+  step_of w (actors.Sequencer i) what = then_at (at_sequencer w i) (step_at sequencer.next (slice_get w.sequencers i) what)
+  step_of w (actors.Client i) what = then_at (at_client w i) (step_at client.next (slice_get w.clients i) what)
+  step_of w actors.Controller what = then_at (at_controller w) (step_at controller.next (Some w.controller) what)
 
   -- one event is one step of one actor, unless it is refused
   unfoldable pub step : WorldState → Event → Result Happened Refusal
-  step w (events.Submit client op) = submit w client op
-  step w (events.Deliver index actor) = deliver w index actor
-  step w (events.Crash actor) = crash w actor
+  step w e = step_of w (actor_of e) (stimulus_of w.config w.sent e)
 
   -- the worlds and lines of a list of events, up to the first that is refused
   abbrev pub go_on : List Line → Result Happened Refusal → (List Line → WorldState → Result Happened Refusal) → Result Happened Refusal
@@ -126,14 +146,18 @@ abbrev pub counted : {S : Type 0} → (ℕ → S) → ℕ → List (Seated S)
 counted make zero = []
 counted make (suc n) = counted make n ++ seated (make n) ∷ []
 
+-- no client has ops of its own
+abbrev pub opening_client : Configuration → ℕ → ClientState
+opening_client c number = client.opening c number []
+
 abbrev pub opening : Configuration → WorldState
 opening c =
     record {
       config = c;
       replicas = counted (replica.opening c) c.replicas;
       sequencers = counted sequencer.opening c.sequencers;
-      clients = counted (client.opening c) c.clients;
-      controller = seated (controller.opening 1);
+      clients = counted (opening_client c) c.clients;
+      controller = seated (controller.opening c 1);
       sent = [];
     }
 
@@ -154,11 +178,11 @@ greatest_of (v ∷ vs) = greatest_view v vs
 
 -- the greatest last normal view among all replicas, crashed ones too
 unfoldable pub main_view : WorldState → View
-main_view w = greatest_of (map (λ p. p.state.last_normal) w.replicas)
+main_view w = greatest_of (map (λ p. p.state.state.last_normal) w.replicas)
 
-abbrev pub log_of : Option (Seated ReplicaState) → List Entry
+abbrev pub log_of : Option (Seated Replica) → List Entry
 log_of None = []
-log_of (Some p) = p.state.log
+log_of (Some p) = p.state.state.log
 
 -- the log of that view's leader
 unfoldable pub main_log : WorldState → List Entry

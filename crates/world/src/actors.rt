@@ -1,24 +1,35 @@
-ghost use Rattle.std.specs.Prelude.{◌≡◌, ◌≤◌, IfOk, IfErr, OnOk, length};
-ghost use Rattle.schedule_text.specs.Fits.{EventFits};
+ghost use Rattle.std.specs.Prelude.{◌≡◌, IfOk, IfErr, Ok, length, map};
+ghost use Rattle.replica_core.specs.ReplicaSteps as replica;
+ghost use Rattle.sequencer.specs.SequencerSteps as sequencer;
 ghost use Rattle.world.specs.Actors.{world_of, Happens};
-ghost use Rattle.world.specs.SeatOutcomes.{Refuses};
-ghost use Rattle.world.specs.WorldSteps.{submit, deliver, crash, step};
+ghost use Rattle.world.specs.SeatOutcomes.{seated_of, did_of, Refuses};
+ghost use Rattle.world.specs.WorldSteps.{
+  carried,
+  counted,
+  has_crashed,
+  opening,
+  opening_client,
+  step,
+  step_of,
+  stimulus_of,
+};
 
-use crate::client::Client;
-use crate::controller::Controller;
 use crate::lines::{Lines, carry_out};
 use crate::network::Network;
-use crate::replica::Replica;
-use crate::seat::{Seat, crash_one, crash_seat, deliver, deliver_to, input_to};
-use crate::sequencer::Sequencer;
+use crate::seat::{Seat, is_crashed, take_at};
 use crate::step_error::StepError;
-use nop_types::{Actor, Config, Host, Input, MAX_OP_BYTES, Op};
+use crate::stimulus::actor_of;
+use client_quorum::Client;
+use nop_types::{Actor, Config, Host, NoMemory, Outbox};
+use replica_core::Replica;
 use schedule_text::Event;
+use sequencer::Sequencer;
+use session_control::Controller;
 use std::alloc::Global;
 
 /// All actors, and the network between them.
 #[derive(Drop)]
-pub struct Actors<H> {
+pub struct Actors<H: Host> {
     pub config: Config,
     pub replicas: Vec<Seat<Replica<H>>>,
     pub sequencers: Vec<Seat<Sequencer>>,
@@ -27,81 +38,102 @@ pub struct Actors<H> {
     pub network: Network,
 }
 
+fn replicas<H: Host>(alloc: Global, config: Config) -> Result<Vec<Seat<Replica<H>>>, NoMemory>
+    ensures seats { IfOk result (λ v. map (seated_of (λ r. r.state)) v.items
+        ≡ counted (replica.opening config) config.replicas) }
+    ensures count { IfOk result (λ v. length v.items ≡ config.replicas) }
+{
+    let mut seats = Vec::new(alloc);
+    for number in 0..config.replicas() {
+        seats.push(Seat::new(Replica::new(alloc, config, number)?))?;
+    }
+    Ok(seats)
+}
+
+fn sequencers(alloc: Global, config: Config) -> Result<Vec<Seat<Sequencer>>, NoMemory>
+    ensures { IfOk result (λ v. map (seated_of (λ s. s.state)) v.items
+        ≡ counted sequencer.opening config.sequencers) }
+{
+    let mut seats = Vec::new(alloc);
+    for number in 0..config.sequencers() {
+        seats.push(Seat::new(Sequencer::new(alloc, number)?))?;
+    }
+    Ok(seats)
+}
+
+/// Clients without ops of their own: events submit theirs.
+fn clients(alloc: Global, config: Config) -> Result<Vec<Seat<Client>>, NoMemory>
+    ensures { IfOk result (λ v. map (seated_of (λ c. c.state)) v.items
+        ≡ counted (opening_client config) config.clients) }
+{
+    let mut seats = Vec::new(alloc);
+    for number in 0..config.clients() {
+        let ops = Vec::new(alloc);
+        seats.push(Seat::new(Client::new(alloc, config, u32::from(number), ops)?))?;
+    }
+    Ok(seats)
+}
+
 impl<H: Host> Actors<H> {
-    fn submit(&mut self, alloc: Global, client: u32, op: &Op) -> Result<Lines, StepError>
-        ensures config { self.new.config ≡ self.old.config }
-        ensures count { length self.new.replicas.items ≡ length self.old.replicas.items }
-        ensures ok { IfOk result (Happens (submit (world_of self.old) client op.now)
-            (world_of self.new)) }
-        ensures fits { length op.now ≤ MAX_OP_BYTES }
-        ensures err { IfErr result (λ e. Refuses e (submit (world_of self.old) client op.now)
-            (world_of self.new ≡ world_of self.old)) }
+    /// All actors in their opening states, and nothing sent.
+    pub fn new(alloc: Global, config: Config) -> Result<Actors<H>, NoMemory>
+        ensures opening { IfOk result (λ a. world_of a ≡ opening config) }
+        ensures count { IfOk result (λ a. length a.replicas.items ≡ a.config.replicas) }
     {
-        // for the limit of an op
-        let _ = op.as_slice();
-        let did = input_to(alloc, &mut self.clients, client as usize, Input::Submit(op))?;
-        Ok(carry_out(alloc, &mut self.network, Actor::Client(client), did)?)
+        Ok(Actors {
+            config,
+            replicas: replicas(alloc, config)?,
+            sequencers: sequencers(alloc, config)?,
+            clients: clients(alloc, config)?,
+            controller: Seat::new(Controller::new(alloc, config, 1)?),
+            network: Network::new(alloc),
+        })
     }
 
-    fn deliver(&mut self, alloc: Global, index: u64, actor: Actor) -> Result<Lines, StepError>
+    /// The step that an event of this actor is, before what the actor did is carried out.
+    fn take(
+        &mut self,
+        alloc: Global,
+        actor: Actor,
+        event: &Event,
+    ) -> Result<Option<Outbox>, StepError>
         ensures config { self.new.config ≡ self.old.config }
         ensures count { length self.new.replicas.items ≡ length self.old.replicas.items }
-        ensures ok { IfOk result (Happens (deliver H.meaning (world_of self.old) index actor)
-            (world_of self.new)) }
-        ensures err { IfErr result (λ e. Refuses e
-            (deliver H.meaning (world_of self.old) index actor)
+        ensures network { self.new.network ≡ self.old.network }
+        ensures ok { IfOk result (λ outs. step_of H.meaning (world_of self.old) actor
+            (stimulus_of self.old.config self.old.network event.now)
+            ≡ Ok (carried (world_of self.old) actor (did_of outs) (world_of self.new))) }
+        ensures err { IfErr result (λ e. Refuses e (step_of H.meaning (world_of self.old) actor
+            (stimulus_of self.old.config self.old.network event.now))
             (world_of self.new ≡ world_of self.old)) }
     {
+        let config = self.config;
+        let network = &self.network;
         match actor {
             Actor::Replica(i) => {
-                let did = deliver_to(alloc, &mut self.replicas, i as usize, index, &self.network)?;
-                Ok(carry_out(alloc, &mut self.network, actor, did)?)
+                take_at(
+                    alloc,
+                    config,
+                    network,
+                    &mut self.replicas,
+                    i as usize,
+                    event,
+                )
             }
             Actor::Sequencer(i) => {
-                let did = deliver_to(
+                take_at(
                     alloc,
+                    config,
+                    network,
                     &mut self.sequencers,
                     i as usize,
-                    index,
-                    &self.network,
-                )?;
-                Ok(carry_out(alloc, &mut self.network, actor, did)?)
+                    event,
+                )
             }
             Actor::Client(i) => {
-                let did = deliver_to(alloc, &mut self.clients, i as usize, index, &self.network)?;
-                Ok(carry_out(alloc, &mut self.network, actor, did)?)
+                take_at(alloc, config, network, &mut self.clients, i as usize, event)
             }
-            Actor::Controller => {
-                let did = deliver(alloc, &mut self.controller, index, &self.network)?;
-                Ok(carry_out(alloc, &mut self.network, actor, did)?)
-            }
-        }
-    }
-
-    fn crash(&mut self, alloc: Global, actor: Actor) -> Result<Lines, StepError>
-        ensures config { self.new.config ≡ self.old.config }
-        ensures count { length self.new.replicas.items ≡ length self.old.replicas.items }
-        ensures ok { IfOk result (Happens (crash (world_of self.old) actor) (world_of self.new)) }
-        ensures err { IfErr result (λ e. Refuses e (crash (world_of self.old) actor)
-            (world_of self.new ≡ world_of self.old)) }
-    {
-        match actor {
-            Actor::Replica(i) => {
-                let did = crash_one(alloc, &mut self.replicas, i as usize)?;
-                Ok(carry_out(alloc, &mut self.network, actor, did)?)
-            }
-            Actor::Sequencer(i) => {
-                let did = crash_one(alloc, &mut self.sequencers, i as usize)?;
-                Ok(carry_out(alloc, &mut self.network, actor, did)?)
-            }
-            Actor::Client(i) => {
-                let did = crash_one(alloc, &mut self.clients, i as usize)?;
-                Ok(carry_out(alloc, &mut self.network, actor, did)?)
-            }
-            Actor::Controller => {
-                let did = crash_seat(alloc, &mut self.controller);
-                Ok(carry_out(alloc, &mut self.network, actor, did)?)
-            }
+            Actor::Controller => self.controller.take(alloc, config, network, event),
         }
     }
 
@@ -112,14 +144,23 @@ impl<H: Host> Actors<H> {
         ensures count { length self.new.replicas.items ≡ length self.old.replicas.items }
         ensures ok { IfOk result (Happens (step H.meaning (world_of self.old) event.now)
             (world_of self.new)) }
-        ensures fits { OnOk result (EventFits event.now) }
         ensures err { IfErr result (λ e. Refuses e (step H.meaning (world_of self.old) event.now)
             (world_of self.new ≡ world_of self.old)) }
     {
-        match event {
-            Event::Submit(client, op) => self.submit(alloc, *client, op),
-            Event::Deliver(index, actor) => self.deliver(alloc, *index, *actor),
-            Event::Crash(actor) => self.crash(alloc, *actor),
+        let actor = actor_of(event);
+        let did = self.take(alloc, actor, event)?;
+        Ok(carry_out(alloc, &mut self.network, actor, did)?)
+    }
+
+    /// Whether an actor crashed, false for an actor that is not of the configuration.
+    pub fn crashed(&self, actor: Actor) -> bool
+        ensures { result ≡ has_crashed (world_of self.now) actor }
+    {
+        match actor {
+            Actor::Replica(i) => is_crashed(&self.replicas, i as usize),
+            Actor::Sequencer(i) => is_crashed(&self.sequencers, i as usize),
+            Actor::Client(i) => is_crashed(&self.clients, i as usize),
+            Actor::Controller => self.controller.crashed,
         }
     }
 }

@@ -2,30 +2,18 @@
 #![tactic(auto)]
 
 mod actors;
-mod client;
-mod controller;
-mod executor;
 mod history;
-mod kept_answer;
+mod laws;
 mod lines;
+mod main_log;
 mod network;
-mod replica;
-mod replica_drain;
-mod replica_reply;
-mod replica_state;
-mod replies;
 mod seat;
-mod sequencer;
 mod state_lines;
 mod step_error;
+mod stimulus;
 mod world_state;
 
-pub use client::{Client, ClientState};
-pub use controller::{Controller, ControllerState};
+pub use laws::{crashed_actors_take_no_step, junk_changes_nothing, refuses_by_first_cause};
 pub use lines::Lines;
-pub use replica::Replica;
-pub use replica_state::ReplicaState;
-pub use replies::Replies;
-pub use sequencer::{Sequencer, SequencerState};
 pub use step_error::StepError;
 pub use world_state::World;

@@ -1,5 +1,4 @@
-ghost use Rattle.std.specs.Prelude.{◌≡◌, ◌+◌, ◌++◌, ◌∷◌, [], OnOk, IfOk, length, count_by};
-ghost use Rattle.schedule_text.specs.Transcript.{lines_text};
+ghost use Rattle.std.specs.Prelude.{◌≡◌, ◌+◌, ◌++◌, ◌∷◌, [], OnOk, IfOk, length};
 ghost use Rattle.world.specs.LineCounts.{Shows, Grows};
 ghost use Rattle.world.specs.Network.{sends_of, lines_from, sends_by, lines_by};
 ghost use Rattle.world.specs.SeatOutcomes.{did_of};
@@ -85,7 +84,8 @@ fn carry_out_all(
     Ok(())
 }
 
-/// Carries out what an actor did, in order: its datagrams go into the network, and its lines are written.
+/// Carries out what an actor did, in order: its datagrams go into the network, and its lines are
+/// written.
 pub fn carry_out(
     alloc: Global,
     network: &mut Network,

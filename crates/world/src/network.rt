@@ -1,4 +1,17 @@
-ghost use Rattle.std.specs.Prelude.{◌≡◌, ◌<◌, ◌≤◌, ◌++◌, ◌∷◌, [], length, slice_get, slice_range, option_map, OnOk, OnErr};
+ghost use Rattle.std.specs.Prelude.{
+  ◌≡◌,
+  ◌<◌,
+  ◌≤◌,
+  ◌++◌,
+  ◌∷◌,
+  [],
+  length,
+  slice_get,
+  slice_range,
+  option_map,
+  OnOk,
+  OnErr,
+};
 ghost use Rattle.world.specs.Network.{Sent};
 ghost use Rattle.world.specs.Marks.{start_of, cut_from, EndsAt};
 

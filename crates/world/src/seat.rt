@@ -1,12 +1,13 @@
-ghost use Rattle.std.specs.Prelude.{◌≡◌, OnOk, IfOk, IfErr, Some, length, slice_get, map};
-ghost use Rattle.nop_types.specs.Given.{given};
-ghost use Rattle.world.specs.Seats.{seat_step, crash_step};
-ghost use Rattle.world.specs.SeatOutcomes.{seated_of, did_of, Moves, MovesAt, Refuses};
-ghost use Rattle.world.specs.WorldSteps.{input_at, delivery_at, crash_at, crashed_in};
+ghost use Rattle.std.specs.Prelude.{◌≡◌, OnOk, IfOk, IfErr, false, length, slice_get, map};
+ghost use Rattle.world.specs.Seats.{seat_step};
+ghost use Rattle.world.specs.SeatOutcomes.{seated_of, did_of, owned, Moves, MovesAt, Refuses};
+ghost use Rattle.world.specs.WorldSteps.{crashed_in, step_at, step_with, stimulus_of};
 
 use crate::network::Network;
 use crate::step_error::StepError;
-use nop_types::{Core, Input, NoMemory, Outbox};
+use crate::stimulus::{Stimulus, stimulus_of};
+use nop_types::{Config, Core, NoMemory, Outbox};
+use schedule_text::Event;
 use std::alloc::Global;
 
 /// An actor: its core, and whether it crashed.
@@ -16,132 +17,76 @@ pub struct Seat<C> {
     pub crashed: bool,
 }
 
-/// One step of an actor, None where it crashed before.
-pub fn step_seat<C: Core>(
-    alloc: Global,
-    seat: &mut Seat<C>,
-    input: Input<'_>,
-) -> Result<Option<Outbox>, NoMemory>
-    ensures state { OnOk result (seated_of C.state seat.new
-        ≡ (seat_step C.next (seated_of C.state seat.old) (given input.entry)).0) }
-    ensures did { IfOk result (λ outs. did_of outs
-        ≡ (seat_step C.next (seated_of C.state seat.old) (given input.entry)).1) }
-{
-    if seat.crashed {
-        return Ok(None);
+impl<C: Core> Seat<C> {
+    pub fn new(core: C) -> Seat<C>
+        ensures { result ≡ record { core = core; crashed = false } }
+    {
+        Seat {
+            core,
+            crashed: false,
+        }
     }
-    let mut out = Outbox::new(alloc);
-    seat.core.step(input, &mut out)?;
-    Ok(Some(out))
+
+    /// One step of an actor, None where it crashed before.
+    fn step(&mut self, alloc: Global, stimulus: Stimulus<'_>) -> Result<Option<Outbox>, NoMemory>
+        ensures state { OnOk result (seated_of C.state self.new
+            ≡ (seat_step C.next (seated_of C.state self.old) (owned stimulus.entry)).0) }
+        ensures did { IfOk result (λ outs. did_of outs
+            ≡ (seat_step C.next (seated_of C.state self.old) (owned stimulus.entry)).1) }
+    {
+        if self.crashed {
+            return Ok(None);
+        }
+        let mut out = Outbox::new(alloc);
+        match stimulus {
+            Stimulus::Input(input) => self.core.step(input, &mut out)?,
+            Stimulus::Crash => self.crashed = true,
+        }
+        Ok(Some(out))
+    }
+
+    /// The step that an event of this actor is.
+    pub fn take(
+        &mut self,
+        alloc: Global,
+        config: Config,
+        network: &Network,
+        event: &Event,
+    ) -> Result<Option<Outbox>, StepError>
+        ensures ok { IfOk result (λ outs. Moves C.state
+            (step_with C.next (seated_of C.state self.old)
+            (stimulus_of config network.now event.now)) self.new outs) }
+        ensures err { IfErr result (λ e. Refuses e
+            (step_with C.next (seated_of C.state self.old)
+            (stimulus_of config network.now event.now)) (self.new ≡ self.old)) }
+    {
+        let what = stimulus_of(alloc, config, network, event)?;
+        Ok(self.step(alloc, what)?)
+    }
 }
 
-/// A crash, None where the actor crashed before.
-pub fn crash_seat<C: Core>(alloc: Global, seat: &mut Seat<C>) -> Option<Outbox>
-    ensures state { seated_of C.state seat.new ≡ (crash_step (seated_of C.state seat.old)).0 }
-    ensures did { did_of result ≡ (crash_step (seated_of C.state seat.old)).1 }
-{
-    if seat.crashed {
-        return None;
-    }
-    seat.crashed = true;
-    Some(Outbox::new(alloc))
-}
-
-/// An input of an actor's own.
-pub fn input_to<C: Core>(
+/// The step that an event is of the actor with this number.
+pub fn take_at<C: Core>(
     alloc: Global,
-    seats: &mut Vec<Seat<C>>,
-    i: usize,
-    input: Input<'_>,
-) -> Result<Option<Outbox>, StepError>
-    ensures count { length seats.new.items ≡ length seats.old.items }
-    ensures ok { IfOk result (λ outs. MovesAt C.state
-        (input_at C.next (given input.entry)
-        (slice_get (map (seated_of C.state) seats.old.items) i)) seats.old.items i seats.new.items
-        outs) }
-    ensures err { IfErr result (λ e. Refuses e
-        (input_at C.next (given input.entry)
-        (slice_get (map (seated_of C.state) seats.old.items) i))
-        (seats.new.items ≡ seats.old.items)) }
-{
-    if i >= seats.len() {
-        return Err(StepError::NoSuchActor);
-    }
-    let seat = &mut seats[i];
-    Ok(step_seat(alloc, seat, input)?)
-}
-
-/// A datagram comes to an actor.
-pub fn deliver<C: Core>(
-    alloc: Global,
-    seat: &mut Seat<C>,
-    index: u64,
+    config: Config,
     network: &Network,
-) -> Result<Option<Outbox>, StepError>
-    ensures ok { IfOk result (λ outs. Moves C.state
-        (delivery_at C.next network.now index (Some (seated_of C.state seat.old))) seat.new outs) }
-    ensures err { IfErr result (λ e. Refuses e
-        (delivery_at C.next network.now index (Some (seated_of C.state seat.old)))
-        (seat.new ≡ seat.old)) }
-{
-    let Some(bytes) = network.get(index) else {
-        return Err(StepError::NoSuchDatagram {
-            index,
-            sent: network.len(),
-        });
-    };
-    Ok(step_seat(alloc, seat, Input::Packet(bytes))?)
-}
-
-pub fn deliver_to<C: Core>(
-    alloc: Global,
     seats: &mut Vec<Seat<C>>,
     i: usize,
-    index: u64,
-    network: &Network,
+    event: &Event,
 ) -> Result<Option<Outbox>, StepError>
     ensures count { length seats.new.items ≡ length seats.old.items }
     ensures ok { IfOk result (λ outs. MovesAt C.state
-        (delivery_at C.next network.now index
-        (slice_get (map (seated_of C.state) seats.old.items) i)) seats.old.items i seats.new.items
-        outs) }
+        (step_at C.next (slice_get (map (seated_of C.state) seats.old.items) i)
+        (stimulus_of config network.now event.now)) seats.old.items i seats.new.items outs) }
     ensures err { IfErr result (λ e. Refuses e
-        (delivery_at C.next network.now index
-        (slice_get (map (seated_of C.state) seats.old.items) i))
-        (seats.new.items ≡ seats.old.items)) }
-{
-    if i >= seats.len() {
-        return Err(StepError::NoSuchActor);
-    }
-    let Some(bytes) = network.get(index) else {
-        return Err(StepError::NoSuchDatagram {
-            index,
-            sent: network.len(),
-        });
-    };
-    let seat = &mut seats[i];
-    Ok(step_seat(alloc, seat, Input::Packet(bytes))?)
-}
-
-/// An actor crashes.
-pub fn crash_one<C: Core>(
-    alloc: Global,
-    seats: &mut Vec<Seat<C>>,
-    i: usize,
-) -> Result<Option<Outbox>, StepError>
-    ensures count { length seats.new.items ≡ length seats.old.items }
-    ensures ok { IfOk result (λ outs. MovesAt C.state
-        (crash_at (slice_get (map (seated_of C.state) seats.old.items) i)) seats.old.items i
-        seats.new.items outs) }
-    ensures err { IfErr result (λ e. Refuses e
-        (crash_at (slice_get (map (seated_of C.state) seats.old.items) i))
-        (seats.new.items ≡ seats.old.items)) }
+        (step_at C.next (slice_get (map (seated_of C.state) seats.old.items) i)
+        (stimulus_of config network.now event.now)) (seats.new.items ≡ seats.old.items)) }
 {
     if i >= seats.len() {
         return Err(StepError::NoSuchActor);
     }
     let seat = &mut seats[i];
-    Ok(crash_seat(alloc, seat))
+    seat.take(alloc, config, network, event)
 }
 
 /// Whether the actor with this number crashed, false where there is none.

@@ -2,9 +2,9 @@ ghost use Rattle.std.specs.Prelude.{◌≡◌, ◌≤◌, ◌++◌, OnOk, length
 ghost use Rattle.world.specs.SeatOutcomes.{seated_of};
 ghost use Rattle.world.specs.StateLines.{entries_text, replica_text, replicas_text};
 
-use crate::replica::Replica;
 use crate::seat::Seat;
 use nop_types::{Entry, Host, MAX_SLOTS, NoMemory};
+use replica_core::Replica;
 use schedule_text::{entry_line, replica_line};
 
 fn put_entries(replica: u8, entries: &[Entry], to: &mut Vec<u8>) -> Result<(), NoMemory>

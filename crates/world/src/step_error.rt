@@ -1,12 +1,15 @@
 use nop_types::NoMemory as OutOfMemory;
 
-/// Why an event is refused. A refused event changes nothing.
+/// Why an event is refused. A refused event changes nothing. Where several causes hold, the first
+/// of them is told.
 #[derive(Clone, Copy, Debug, PartialEq, Eq)]
 pub enum StepError {
-    /// No datagram with this index was sent yet.
-    NoSuchDatagram { index: u64, sent: u64 },
     /// The actor is not of the configuration, or has no such input.
     NoSuchActor,
+    /// No datagram with this index was sent yet.
+    NoSuchDatagram { index: u64, sent: u64 },
+    /// The junk spells a datagram.
+    Forged,
     NoMemory,
 }
 

@@ -1,47 +1,66 @@
-ghost use Rattle.std.specs.Prelude.{◌≡◌, ◌↔◌, ◌<◌, ◌++◌, ◌∷◌, [], IsSome, IfOk, IfErr, IsErrOf, OnOk, OnErr, false, true, length, map, option_map, slice_get};
+ghost use Rattle.std.specs.Prelude.{
+  ◌≡◌,
+  ◌↔◌,
+  ◌<◌,
+  ◌++◌,
+  IsSome,
+  IfOk,
+  IfErr,
+  IsErrOf,
+  OnOk,
+  OnErr,
+  false,
+  true,
+  length,
+  option_map,
+  slice_get,
+};
 ghost use Rattle.schedule_text.specs.Fits.{EventFits};
 ghost use Rattle.world.specs.Actors.{world_of, Happens};
-ghost use Rattle.world.specs.SeatOutcomes.{seated_of, Refuses};
-ghost use Rattle.world.specs.ClientSteps as client;
-ghost use Rattle.world.specs.ReplicaSteps as replica;
-ghost use Rattle.world.specs.SequencerSteps as sequencer;
-ghost use Rattle.world.specs.WorldSteps.{step, opening, counted, history, greatest_view, greatest_of, main_log, log_of, has_crashed};
+ghost use Rattle.world.specs.SeatOutcomes.{Refuses};
+ghost use Rattle.world.specs.WorldSteps.{step, opening, history, has_crashed};
 ghost use Rattle.world.specs.StateLines.{replicas_text};
 
 use crate::actors::Actors;
-use crate::client::Client;
-use crate::controller::Controller;
 use crate::history::history_of;
 use crate::lines::Lines;
-use crate::network::Network;
-use crate::replica::Replica;
-use crate::seat::{Seat, is_crashed};
-use crate::sequencer::Sequencer;
+use crate::main_log::main_log;
 use crate::state_lines::put_replicas;
 use crate::step_error::StepError;
-use nop_types::{Actor, Config, Entry, Host, NoMemory, Request, View, leader_of};
+use nop_types::{Actor, Config, Host, NoMemory, Request};
+use replica_core::Replica;
 use schedule_text::Event;
 use std::alloc::Global;
 use std::marker::Model;
 
+/// The limits of what an event holds, which its types keep.
+fn limits(event: &Event)
+    ensures { EventFits event.now }
+{
+    if let Event::Submit(_, op) = event {
+        let _limit = op.as_slice();
+    }
+}
+
 /// All actors and the network. One event is one step of one actor.
 #[derive(Drop)]
-pub struct World<H> {
+pub struct World<H: Host> {
     alloc: Global,
     failed: bool,
     actors: Actors<H>,
 }
 
-impl<H> Model for World<H> {
+impl<H: Host> Model for World<H> {
     ghost use Rattle.std.specs.Coded.{codes};
     ghost use Rattle.nop_types.specs.Machine.{Machine};
-    ghost use Rattle.world.specs.contracts.replica_state.ReplicaState as state;
+    ghost use Rattle.client_quorum.specs.contracts.state.ClientState as client;
+    ghost use Rattle.replica_core.specs.Code.{replica_code};
     ghost use Rattle.world.specs.WorldSteps.{WorldState};
     ghost use Rattle.world.specs.Actors.{world_of};
 
     ghost Value = { Machine WorldState };
 
-    ghost coded = { Prim.hlevel (codes, state.the_row.coded) };
+    ghost coded = { Prim.hlevel (codes, replica_code, client.the_row.coded) };
 
     ghost view = { λ w. record { failed = w.failed; state = world_of w.actors } };
 
@@ -50,118 +69,12 @@ impl<H> Model for World<H> {
     ghost invariant = { λ w. length w.actors.replicas.items ≡ w.actors.config.replicas };
 }
 
-fn replicas<H: Host>(alloc: Global, config: Config) -> Result<Vec<Seat<Replica<H>>>, NoMemory>
-    ensures seats { IfOk result (λ v. map (seated_of (λ r. r.state)) v.items
-        ≡ counted (replica.opening config) config.replicas) }
-    ensures count { IfOk result (λ v. length v.items ≡ config.replicas) }
-{
-    let mut seats = Vec::new(alloc);
-    for number in 0..config.replicas() {
-        let core = Replica::new(alloc, config, number)?;
-        seats.push(Seat {
-            core,
-            crashed: false,
-        })?;
-    }
-    Ok(seats)
-}
-
-fn sequencers(alloc: Global, config: Config) -> Result<Vec<Seat<Sequencer>>, NoMemory>
-    ensures { IfOk result (λ v. map (seated_of (λ s. s.state)) v.items
-        ≡ counted sequencer.opening config.sequencers) }
-{
-    let mut seats = Vec::new(alloc);
-    for number in 0..config.sequencers() {
-        seats.push(Seat {
-            core: Sequencer::new(alloc, number),
-            crashed: false,
-        })?;
-    }
-    Ok(seats)
-}
-
-fn clients(alloc: Global, config: Config) -> Result<Vec<Seat<Client>>, NoMemory>
-    ensures { IfOk result (λ v. map (seated_of (λ c. c.state)) v.items
-        ≡ counted (client.opening config) config.clients) }
-{
-    let mut seats = Vec::new(alloc);
-    for number in 0..config.clients() {
-        seats.push(Seat {
-            core: Client::new(alloc, config, u32::from(number)),
-            crashed: false,
-        })?;
-    }
-    Ok(seats)
-}
-
-/// The greater view by session, then by leader number.
-fn greater(a: View, b: View) -> View
-    ensures { result ≡ greatest_view a (b ∷ []) }
-{
-    if b.session > a.session || b.session == a.session && b.leader > a.leader {
-        b
-    } else {
-        a
-    }
-}
-
-fn greatest_after<H: Host>(first: View, seats: &[Seat<Replica<H>>]) -> View
-    ensures { result ≡ greatest_view first (map (λ p. p.core.state.last_normal) seats.now) }
-{
-    let mut view = first;
-    for seat in seats {
-        view = greater(view, seat.core.last_normal());
-    }
-    view
-}
-
-/// The greatest last normal view among the replicas.
-fn greatest_last_normal<H: Host>(seats: &[Seat<Replica<H>>]) -> View
-    ensures { result ≡ greatest_of (map (λ p. p.core.state.last_normal) seats.now) }
-{
-    match seats {
-        [first, rest @ ..] => greatest_after(first.core.last_normal(), rest),
-        [] => View {
-            leader: 0,
-            session: 1,
-        },
-    }
-}
-
-/// The log of a replica, empty where there is none.
-fn log_at<H: Host>(seats: &[Seat<Replica<H>>], i: u8) -> &[Entry]
-    ensures { result.now ≡ log_of (option_map (seated_of (λ r. r.state)) (slice_get seats.now i)) }
-{
-    match seats.get(i as usize) {
-        Some(seat) => seat.core.log().as_slice(),
-        None => &[],
-    }
-}
-
-#[tactic(auto, unfolding(crate::specs::WorldSteps::main_view, crate::specs::WorldSteps::main_log))]
-fn main_log<H: Host>(actors: &Actors<H>) -> &[Entry]
-    ensures { result.now ≡ main_log (world_of actors.now) }
-{
-    let view = greatest_last_normal(&actors.replicas);
-    log_at(&actors.replicas, leader_of(view, actors.config.replicas()))
-}
-
 impl<H: Host> World<H> {
     /// All actors in their opening states, and nothing sent.
     pub fn new(alloc: Global, config: Config) -> Result<World<H>, NoMemory>
         ensures { IfOk result (λ w. w ≡ record { failed = false; state = opening config }) }
     {
-        let actors = Actors {
-            config,
-            replicas: replicas(alloc, config)?,
-            sequencers: sequencers(alloc, config)?,
-            clients: clients(alloc, config)?,
-            controller: Seat {
-                core: Controller::new(1),
-                crashed: false,
-            },
-            network: Network::new(alloc),
-        };
+        let actors = Actors::new(alloc, config)?;
         Ok(World {
             alloc,
             failed: false,
@@ -175,11 +88,12 @@ impl<H: Host> World<H> {
             self.new.state) }
         ensures err { IfErr result (λ e. Refuses e (step H.meaning self.old.state event.now)
             (self.new ≡ self.old)) }
-        ensures fits { OnOk result (EventFits event.now) }
+        ensures fits { EventFits event.now }
         ensures well { OnOk result ((self.old.failed ≡ false) × (self.new.failed ≡ false)) }
         ensures failed { IsErrOf result StepError.NoMemory → self.new.failed ≡ true }
         ensures for_good { self.old.failed ≡ true → IsErrOf result StepError.NoMemory }
     {
+        limits(event);
         if self.failed {
             return Err(StepError::NoMemory);
         }
@@ -226,12 +140,7 @@ impl<H: Host> World<H> {
     pub fn crashed(&self, actor: Actor) -> bool
         ensures { result ≡ has_crashed self.now.state actor }
     {
-        match actor {
-            Actor::Replica(i) => is_crashed(&self.actors.replicas, i as usize),
-            Actor::Sequencer(i) => is_crashed(&self.actors.sequencers, i as usize),
-            Actor::Client(i) => is_crashed(&self.actors.clients, i as usize),
-            Actor::Controller => self.actors.controller.crashed,
-        }
+        self.actors.crashed(actor)
     }
 
     /// Appends a line for each replica, and one for each slot of it up to its sync point.
@@ -248,8 +157,9 @@ impl<H: Host> World<H> {
         Ok(())
     }
 
-    /// The requests of the log of the greatest last normal view's leader whose id exceeds each earlier id of the same client
-    /// there.
+    /// The history: the requests of one log whose id exceeds each earlier id of the same client
+    /// there. It is the log of the leader of the greatest last normal view, by session and then by
+    /// leader number, among all replicas, crashed ones too.
     pub fn history(&self) -> Result<Vec<Request>, NoMemory>
         ensures { IfOk result (λ v. v.items ≡ history self.now.state) }
     {

@@ -2,8 +2,9 @@ use Rattle.std.proofs.Common.{◌≡◌, refl, ◌∙◌, ◌++◌, List, ℕ, a
 use Rattle.std.proofs.lemmas.Result.{err_from_is_err_and}
 use Rattle.schedule_text.specs.Reading.{Reading}
 use Rattle.schedule_text.specs.Transcript.{transcript_line}
-use Rattle.safety.proofs.Answers.{results_short}
+use Rattle.safety.proofs.Results.{results_short}
 use Rattle.replay.proofs.Beginning.{opened, unopened}
+use Rattle.replay.proofs.Causes.{cause_since, no_cause, event_reads_none, end_reads_none, stop_reads, stop_writes}
 use Rattle.replay.proofs.Progressing.{stopped, finished, advanced, refused_event}
 use Rattle.replay.proofs.Safely.{done_is_safe}
 use Rattle.replay.proofs.replayed.replay_with.Goals as goal
@@ -112,3 +113,40 @@ returns-in-Err-next-clause-ends g c =
     c.loop-turn.pending.items c.loop-turn.reader c.next.new.self kept.going.0 c.loop-turn.world.state c.in-Err-next.e
     c.stop-in-Err-next.result
     kept.going.1 c.in-Err-next.ensures.takes c.in-Err-next.ensures.none_left c.stop-in-Err-next.ensures.stops
+
+pub returns-in_err-take_event-in-Ok-Some-clause-read : goal.returns-in_err-take_event-in-Ok-Some-clause-read
+returns-in_err-take_event-in-Ok-Some-clause-read g c =
+    let held = g.K.Sink.held in
+    let kept = c.loop-turn.invariant in
+    let e = c.in_err-take_event-in-Ok-Some.field-0 in
+    let p = err_from_is_err_and c.from_residual-in_err-take_event-in-Ok-Some.result c.from_residual-in_err-take_event-in-Ok-Some.ensures.1
+    in
+    rw (p.1, p.2)
+    (no_cause _ _ _ _ (omega (arith, kept.read, c.in-Ok-Some.ensures.cause.later))
+    (λ told. event_reads_none (held c.loop-turn.sink) (held c.take_event.new.sink) c.loop-turn.pending.items c.line.result _ e.0
+    c.in_err-take_event-in-Ok-Some.ensures.takes (let is = told in cc)))
+
+pub returns-in_err-take_event-in-Ok-Some-clause-write : goal.returns-in_err-take_event-in-Ok-Some-clause-write
+returns-in_err-take_event-in-Ok-Some-clause-write g c =
+    let kept = c.loop-turn.invariant in
+    let p = err_from_is_err_and c.from_residual-in_err-take_event-in-Ok-Some.result c.from_residual-in_err-take_event-in-Ok-Some.ensures.1
+    in
+    rw (p.1, p.2) (cause_since _ _ _ _ _ kept.write c.in_err-take_event-in-Ok-Some.ensures.cause)
+
+pub returns-in-Ok-None-clause-read : goal.returns-in-Ok-None-clause-read
+returns-in-Ok-None-clause-read g c =
+    no_cause _ _ _ _ (omega (arith, c.loop-turn.invariant.read, c.in-Ok-None.ensures.cause.later))
+    (end_reads_none _ _ _ c.finish.result c.finish.ensures.writes)
+
+pub returns-in-Ok-None-clause-write : goal.returns-in-Ok-None-clause-write
+returns-in-Ok-None-clause-write g c = cause_since _ _ _ _ _ c.loop-turn.invariant.write c.finish.ensures.cause
+
+pub returns-in-Err-next-clause-read : goal.returns-in-Err-next-clause-read
+returns-in-Err-next-clause-read g c =
+    stop_reads _ _ _ c.in-Err-next.e c.stop-in-Err-next.result _ _ _ c.stop-in-Err-next.ensures.stops c.loop-turn.invariant.read
+    c.in-Err-next.ensures.cause
+
+pub returns-in-Err-next-clause-write : goal.returns-in-Err-next-clause-write
+returns-in-Err-next-clause-write g c =
+    stop_writes c.stop-in-Err-next.result _ _ _ c.loop-turn.invariant.write c.stop-in-Err-next.ensures.later
+    c.stop-in-Err-next.ensures.cause

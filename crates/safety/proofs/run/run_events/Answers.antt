@@ -1,8 +1,9 @@
-use Rattle.std.proofs.Common.{length, refl}
+use Rattle.std.proofs.Common.{◌≡◌, length, refl}
 use Rattle.std.proofs.lemmas.Option.{slice_get_read}
-use Rattle.safety.specs.Answers.{ResultsShort}
-use Rattle.safety.proofs.Answers.{results_short}
-use Rattle.safety.proofs.Whole.{running_on, run_led}
+use Rattle.std.proofs.lemmas.Result.{err_from_is_err_and}
+use Rattle.replica_core.specs.Within.{ResultsShort}
+use Rattle.safety.proofs.Results.{results_short}
+use Rattle.safety.proofs.Whole.{running_on, run_led, run_refused}
 use Rattle.safety.proofs.run.run_events.Goals as goal
 
 pub loop-event-preserved : goal.loop-event-preserved
@@ -22,3 +23,11 @@ returns-clause-ok g c =
     results_short g.H.Host.meaning g.H.Host.is_sound g.met.H.Host.opens_sound g.met.H.Host.stays_sound g.met.H.Host.answers_short in
     run_led g.H.Host.meaning short c.args.config c.replicas.ensures.limits c.args.events.now c.loop-event.world.state
     c.loop-event.event-index c.loop-event-test.false c.loop-event.invariant.runs
+
+pub returns-in_err-step-clause-err : goal.returns-in_err-step-clause-err
+returns-in_err-step-clause-err g c =
+    let p = err_from_is_err_and c.from_residual-in_err-step.result c.from_residual-in_err-step.ensures.1 in
+    rw (p.1, p.2) (run_refused g.H.Host.meaning c.args.config c.args.events.now c.loop-event.world.state c.loop-event.event-index
+    c.event-item.result c.in_err-step.field-0.0 (c.step.new.self ≡ c.loop-event.world)
+    (slice_get_read c.args.events.now (length c.args.events.now) c.loop-event.event-index c.event-item.result refl c.loop-event-test.true
+    c.event-item.is) c.in_err-step.ensures.err c.loop-event.invariant.runs)

@@ -1,6 +1,8 @@
-use Rattle.std.proofs.Common.{arith}
-use Rattle.hex.proofs.HexLemmas.{decode_of-ok}
+use Rattle.std.proofs.Common.{◌∙◌, sym, ap, arith, length}
+use Rattle.schedule_text.proofs.HexLengths.{bytes_short}
 use Rattle.schedule_text.proofs.spelling.op.Goals as goal
 
-pub from_vec-requires-in-Ok : goal.from_vec-requires-in-Ok
-from_vec-requires-in-Ok c = omega (arith, (decode_of-ok _ _ c.in-Ok.ensures.ok).2)
+pub from_vec-requires : goal.from_vec-requires
+from_vec-requires c =
+    let short = bytes_short c.args.field.now c.in-Some.bytes (sym c.in_ok-bytes.ensures ∙ c.in-Some.is) in
+    omega (arith, ap length c.into_vec.ensures, short, c.requires)

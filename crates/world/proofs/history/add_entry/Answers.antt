@@ -1,6 +1,6 @@
 use Rattle.std.proofs.Common.{◌++◌, ◌∷◌, [], sym, ap, ◌∙◌}
 use Rattle.nop_types.specs.declared.request.Request.{Request}
-use Rattle.world.proofs.IdLemmas.{adds_old, adds_new_if}
+use Rattle.world.proofs.IdLemmas.{adds_noop, adds_old, adds_new}
 use Rattle.world.proofs.history.add_entry.Goals as goal
 
 pub returns-then-not-is_new : goal.returns-then-not-is_new
@@ -11,5 +11,5 @@ pub returns : goal.returns
 returns c =
     let old = c.args.requests.now.items in
     let pushed = c.in_ok-push.ensures.items ∙ ap (λ (r : Request). old ++ r ∷ []) c.in_ok-try_clone.ensures in
-    rw c.in-Req.is (adds_new_if c.set_greatest.result c.args.greatest.now c.set_greatest.new.greatest old c.push.new.self.items
+    rw c.in-Req.is (adds_new c.args.greatest.now c.set_greatest.result c.set_greatest.new.greatest old c.push.new.self.items
     c.in-Req.request (sym c.is_new.ensures ∙ c.if-not-is_new.false) pushed c.set_greatest.ensures)

@@ -2,7 +2,7 @@ use Rattle.std.proofs.Common.{◌≡◌, ◌+◌, ◌++◌, ◌∷◌, [], List,
 use Rattle.nop_types.specs.declared.request.Request.{Request}
 use Rattle.nop_types.specs.Histories.{history_of, new_in}
 use Rattle.histories.proofs.Members.{history_of_next_entry}
-use Rattle.world.specs.Ids.{TellsNew}
+use Rattle.world.specs.Ids.{HasGreatest}
 use Rattle.world.proofs.IdLemmas.{take_next}
 use Rattle.world.proofs.history.history_of.Goals as goal
 
@@ -16,7 +16,7 @@ loop-entry-preserved c =
     take_next log c.loop-entry.entry-index e c.loop-entry-test.true c.entry-item.is in
     let added = c.in_ok-add_entry.ensures in
     record {
-      requests = added.members before i.tells
+      requests = added.members before i.greatest
           ∙ ap (λ (rs : List Request). rs ++ new_in before e) i.requests ∙ sym (ap history_of next ∙ history_of_next_entry before e);
-      tells = subst (TellsNew c.add_entry.new.greatest) (sym next) (added.tells before i.tells);
+      greatest = subst (HasGreatest c.add_entry.new.greatest) (sym next) (added.greatest before i.greatest);
     }

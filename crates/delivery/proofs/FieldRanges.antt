@@ -1,0 +1,273 @@
+-- A state whose fields change stays in its ranges, and so do messages and rounds.
+use Rattle.std.proofs.Common.{◌≡◌, ◌≢◌, ◌<◌, ◌≤◌, ◌+◌, ◌-◌, ℕ, Bool, true, false, cond, Option, Some, None, refl, ap, subst}
+use Rattle.std.proofs.Common.{arith, List, [], ◌∷◌, ◌++◌}
+use Rattle.std.specs.Prelude.{◌==◌, nat_lt, nat_le, max, IfSome}
+use Rattle.std.specs.List.{AllByRecursion}
+use Rattle.std.specs.FinMap as finite
+use Rattle.std.proofs.lemmas.Bool.{ltb-true}
+use Rattle.std.proofs.lemmas.Bool.Decides.{nat_tests}
+use Rattle.nop_types.specs.declared.limits.TheConstants.{MAX_SLOTS}
+use Rattle.nop_types.specs.declared.view.View.{View}
+use Rattle.nop_types.specs.declared.replica_state.Phase.TheVariants.{Normal}
+use Rattle.nop_types.specs.declared.replica_state.Vote.{Vote}
+use Rattle.nop_types.specs.declared.replica_state.Vote.TheVariants.{Settled, Waiting}
+use Rattle.nop_types.specs.declared.request.Request.{Request}
+use Rattle.nop_types.specs.declared.datagram.Stamped.{Stamped}
+use Rattle.nop_types.specs.declared.peer.Body.{Body}
+use Rattle.nop_types.specs.Ranges.{RequestFits, SlotFits, BodyFits, ViewFits, ChangeFits}
+use Rattle.gap_agree.specs.Agreement.{Agreement}
+use Rattle.oum_receiver.specs.declared.verdict.Verdict.{Verdict}
+use Rattle.oum_receiver.specs.declared.verdict.Verdict.TheVariants as verdicts
+use Rattle.oum_receiver.specs.Front.{Nothing, Message, front_at}
+use Rattle.oum_receiver.specs.Receiving.{Receiving, QueuedFits, IsSound, judged, front_of}
+use Rattle.sync_points.specs.Synchronisation.{Synchronisation, Round}
+use Rattle.sync_points.specs.Synchronisation as synchronisation
+use Rattle.replica_core.specs.declared.sending.Sending.{Sending}
+use Rattle.replica_core.specs.declared.state.ReplicaState.{ReplicaState}
+use Rattle.replica_core.specs.State.{others}
+use Rattle.replica_core.specs.Sends.{Effect, still, then_do, when, to_replica, to_all, to_all_if, SendingFits}
+use Rattle.replica_core.specs.Moves.{entered, own_change}
+use Rattle.replica_core.specs.Rows as rows
+use Rattle.replica_core.specs.Within.{IsWithin}
+use Rattle.delivery.specs.Ranges.{StaysInRanges}
+
+-- ---- tests
+
+pub below : (a b : ℕ) → nat_lt a b ≡ true → a < b
+below a b e = ltb-true _ _ e
+
+-- ---- a state and what is sent
+
+pub record IsGood (s : ReplicaState) : Type 0 where
+  pub within : IsWithin s
+  pub sound : IsSound s.receiver
+
+pub good : (e : Effect) → IsGood e.0 → AllByRecursion SendingFits e.1 → StaysInRanges e
+good e g fits = record { within = g.within; receiver = g.sound; sends = fits }
+
+pub after : (e : Effect) → StaysInRanges e → IsGood e.0
+after e h = record { within = h.within; sound = h.receiver }
+
+pub all_behind : (a b : List Sending) → AllByRecursion SendingFits a → AllByRecursion SendingFits b → AllByRecursion SendingFits (a ++ b)
+all_behind [] b f g = g
+all_behind (x ∷ a) b f g = (f.0, all_behind a b f.1 g)
+
+pub still_stays : (s : ReplicaState) → IsGood s → StaysInRanges (still s)
+still_stays s g = good (still s) g tt
+
+pub then_stays : (e : Effect) (f : ReplicaState → Effect) → StaysInRanges e → StaysInRanges (f e.0) → StaysInRanges (then_do e f)
+then_stays e f first then =
+    record { within = then.within; receiver = then.receiver; sends = all_behind e.1 (f e.0).1 first.sends then.sends }
+
+pub when_stays : (b : Bool) (f : ReplicaState → Effect) (s : ReplicaState) → IsGood s → (b ≡ true → StaysInRanges (f s))
+    → StaysInRanges (when b f s)
+when_stays true f s g h = h refl
+when_stays false f s g h = still_stays s g
+
+-- ---- messages
+
+pub number_small : (s : ReplicaState) → IsWithin s → s.number ≤ 6
+number_small s w = let less = w.number in let few = w.few in omega arith
+
+pub own_change_fits : (s : ReplicaState) → IsWithin s → ChangeFits (own_change s)
+own_change_fits s w = record { sender = number_small s w; rest = record { view = w.last_normal; number = w.next; entries = w.log } }
+
+pub to_replica_fits : (s : ReplicaState) (q : ℕ) (body : Body) → IsWithin s → BodyFits body
+    → AllByRecursion SendingFits (to_replica s q body)
+to_replica_fits s q body w fits = (record { sender = number_small s w; view = w.view; body = fits }, tt)
+
+all_if_fits : (b : Bool) (s : ReplicaState) (body : Body) → IsWithin s → BodyFits body → AllByRecursion SendingFits (to_all_if b s body)
+all_if_fits true s body w fits = tt
+all_if_fits false s body w fits = (record { sender = number_small s w; view = w.view; body = fits }, tt)
+
+pub to_all_fits : (s : ReplicaState) (body : Body) → IsWithin s → BodyFits body → AllByRecursion SendingFits (to_all s body)
+to_all_fits s body w fits = all_if_fits (others s == 0) s body w fits
+
+-- ---- the receiver
+
+pub judged_next : (v : Verdict) (r : Receiving) (p : Stamped) → (judged v r p).next ≡ r.next
+judged_next verdicts.Queued r p = refl
+judged_next verdicts.Old r p = refl
+judged_next (verdicts.Terminated session) r p = refl
+judged_next verdicts.Full r p = refl
+
+pub cond_sound : (b : Bool) (x y : Receiving) → IsSound x → IsSound y → IsSound (cond b x y)
+cond_sound true x y f g = f
+cond_sound false x y f g = g
+
+found_in_front : (b : Bool) (o : Option Request) (r : Request) → front_at b o ≡ Message r → o ≡ Some r
+found_in_front true o r e = absurd cc
+found_in_front false (Some q) r e = let same : q ≡ r = cc in ap Some same
+found_in_front false None r e = absurd cc
+
+pub message_fits : (x : Receiving) (r : Request) → IsSound x → front_of x ≡ Message r → RequestFits r
+message_fits x r sound e =
+    let found = found_in_front (finite.len x.queued == 0) (finite.get x.queued x.next) r e in
+    let fits : QueuedFits x.next x.next r = subst (λ (o : Option Request). IfSome o (QueuedFits x.next x.next)) found (sound.each x.next) in
+    fits.fits
+
+pub not_nothing : (x : Receiving) (r : Request) → front_of x ≡ Message r → front_of x ≢ Nothing
+not_nothing x r e none = absurd cc
+
+-- ---- changes of one field
+
+pub with_receiver : (s : ReplicaState) (x : Receiving) → IsWithin s → (s.status ≡ Normal → x.next ≡ s.next)
+    → IsWithin (record s { receiver = x })
+with_receiver s x w next = record {
+  number = w.number;
+  few = w.few;
+  view = w.view;
+  last_normal = w.last_normal;
+  log = w.log;
+  next = w.next;
+  base = w.base;
+  start = w.start;
+  receiver = next;
+  gap = w.gap;
+  sync_point = w.sync_point;
+  syncing = w.syncing;
+  prepared = w.prepared;
+  changes = w.changes;
+}
+
+pub with_gap : (s : ReplicaState) (o : Option Agreement) → IsWithin s → IfSome o (λ g. SlotFits g.slot) → IsWithin (record s { gap = o })
+with_gap s o w fits = record {
+  number = w.number;
+  few = w.few;
+  view = w.view;
+  last_normal = w.last_normal;
+  log = w.log;
+  next = w.next;
+  base = w.base;
+  start = w.start;
+  receiver = w.receiver;
+  gap = fits;
+  sync_point = w.sync_point;
+  syncing = w.syncing;
+  prepared = w.prepared;
+  changes = w.changes;
+}
+
+pub with_asked : (s : ReplicaState) (n : ℕ) → IsWithin s → IsWithin (record s { asked = n })
+with_asked s n w = record {
+  number = w.number;
+  few = w.few;
+  view = w.view;
+  last_normal = w.last_normal;
+  log = w.log;
+  next = w.next;
+  base = w.base;
+  start = w.start;
+  receiver = w.receiver;
+  gap = w.gap;
+  sync_point = w.sync_point;
+  syncing = w.syncing;
+  prepared = w.prepared;
+  changes = w.changes;
+}
+
+pub with_heard : (s : ReplicaState) (b : Bool) → IsWithin s → IsWithin (record s { heard = b })
+with_heard s b w = record {
+  number = w.number;
+  few = w.few;
+  view = w.view;
+  last_normal = w.last_normal;
+  log = w.log;
+  next = w.next;
+  base = w.base;
+  start = w.start;
+  receiver = w.receiver;
+  gap = w.gap;
+  sync_point = w.sync_point;
+  syncing = w.syncing;
+  prepared = w.prepared;
+  changes = w.changes;
+}
+
+pub entered_within : (s : ReplicaState) (v : View) → IsWithin s → ViewFits v → IsWithin (entered s v)
+entered_within s v w view = record {
+  number = w.number;
+  few = w.few;
+  view = view;
+  last_normal = w.last_normal;
+  log = w.log;
+  next = w.next;
+  base = w.base;
+  start = w.start;
+  receiver = λ e. absurd cc;
+  gap = tt;
+  sync_point = w.sync_point;
+  syncing = tt;
+  prepared = omega arith;
+  changes = tt;
+}
+
+-- the fields of a synchronisation
+pub record SyncFits (x : Synchronisation) : Type 0 where
+  pub sync_point : x.sync_point ≤ MAX_SLOTS
+  pub syncing : IfSome x.syncing (λ r. r.len ≤ MAX_SLOTS)
+  pub prepared : x.prepared ≤ MAX_SLOTS
+
+pub sync_of : (s : ReplicaState) → IsWithin s → SyncFits s.sync
+sync_of s w = record { sync_point = w.sync_point; syncing = w.syncing; prepared = w.prepared }
+
+pub with_sync : (s : ReplicaState) (x : Synchronisation) → IsWithin s → SyncFits x → IsWithin (record s { sync = x })
+with_sync s x w fits = record {
+  number = w.number;
+  few = w.few;
+  view = w.view;
+  last_normal = w.last_normal;
+  log = w.log;
+  next = w.next;
+  base = w.base;
+  start = w.start;
+  receiver = w.receiver;
+  gap = w.gap;
+  sync_point = fits.sync_point;
+  syncing = fits.syncing;
+  prepared = fits.prepared;
+  changes = w.changes;
+}
+
+pub hears : (s : ReplicaState) → IsGood s → IsGood (rows.hear s)
+hears s g = record { within = with_heard s true g.within; sound = g.sound }
+
+-- ---- rounds
+
+pub with_round_fits : (s : Synchronisation) (len : ℕ) → SyncFits s → len ≤ MAX_SLOTS → SyncFits (synchronisation.with_round s len)
+with_round_fits s len fits le = at (nat_lt s.sync_point len)
+  where
+    alone : (b : Bool) → SyncFits (synchronisation.begun b s len)
+    alone true = record { sync_point = le; syncing = tt; prepared = fits.prepared }
+    alone false = record { sync_point = fits.sync_point; syncing = le; prepared = fits.prepared }
+
+    at : (b : Bool) → SyncFits (cond b (synchronisation.begun (s.f == 0) s len) s)
+    at true = alone (s.f == 0)
+    at false = fits
+
+pub committed_fits : (s : Synchronisation) (len : ℕ) → SyncFits s → SyncFits (synchronisation.committed s len)
+committed_fits s len fits = at (nat_le len s.prepared) refl
+  where
+    at : (b : Bool) → nat_le len s.prepared ≡ b → SyncFits (cond b (record s { sync_point = max s.sync_point len }) s)
+    at true e =
+        let low = fits.sync_point in
+        let high = fits.prepared in
+        record { sync_point = grind (arith, nat_tests, e, low, high); syncing = fits.syncing; prepared = fits.prepared }
+    at false e = fits
+
+round_fits : (x : Round) (q len : ℕ) → x.len ≤ MAX_SLOTS → (synchronisation.with_vote_for x q len).len ≤ MAX_SLOTS
+round_fits x q len le = at (x.len == len)
+  where
+    at : (b : Bool) → (cond b (record x { votes = Rattle.gap_agree.specs.Votes.with_vote x.votes q }) x).len ≤ MAX_SLOTS
+    at true = le
+    at false = le
+
+closed_fits : (s : Synchronisation) (x : Round) (v : Vote) → SyncFits s → x.len ≤ MAX_SLOTS → SyncFits (synchronisation.closed s x v)
+closed_fits s x Settled fits le = record { sync_point = le; syncing = tt; prepared = fits.prepared }
+closed_fits s x Waiting fits le = record { sync_point = fits.sync_point; syncing = le; prepared = fits.prepared }
+
+pub counted_in_fits : (s : Synchronisation) (o : Option Round) (q len : ℕ) → SyncFits s → IfSome o (λ r. r.len ≤ MAX_SLOTS)
+    → SyncFits (synchronisation.counted_in s o q len)
+counted_in_fits s None q len fits le = fits
+counted_in_fits s (Some x) q len fits le =
+    closed_fits s (synchronisation.with_vote_for x q len) (synchronisation.round_vote s.f x q len) fits (round_fits x q len le)

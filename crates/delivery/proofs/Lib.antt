@@ -1,0 +1,11 @@
+pub mod Carrying
+pub mod FieldRanges
+pub mod Fragments
+pub mod InRanges
+pub mod Messages
+pub mod Networks
+pub mod Own
+pub mod Posted
+pub mod PostedFragments
+pub mod Replicas
+pub mod Steps

@@ -1,0 +1,734 @@
+use super::check_run;
+use crate::status::Status;
+use std::test::Fail;
+
+/// The schedules of `examples/` with the status that they end with, and their transcripts.
+const ROWS: [(&str, Status, &str); 24] = [
+    (
+        "\
+nopaxos 1 replicas 3 sequencers 1 clients 1
+submit c0 5000016b000176
+deliver 0 s0
+deliver 1 r0
+deliver 1 r1
+deliver 2 c0
+deliver 3 c0
+",
+        Status::Done,
+        "\
+transcript 1 replicas 3 sequencers 1 clients 1
+submit c0 1 5000016b000176
+send 0 c0 s* request 25
+send 1 s0 r* stamped 37
+send 2 r0 c0 reply 36
+send 3 r1 c0 reply 32
+accept c0 1 6e6f6e65
+replica r0 up normal 0 1 1 0
+replica r1 up normal 0 1 1 0
+replica r2 up normal 0 1 0 0
+history 1 c0 1 5000016b000176
+end
+",
+    ),
+    (
+        "\
+nopaxos 1 replicas 3 sequencers 1 clients 1
+",
+        Status::Done,
+        "\
+transcript 1 replicas 3 sequencers 1 clients 1
+replica r0 up normal 0 1 0 0
+replica r1 up normal 0 1 0 0
+replica r2 up normal 0 1 0 0
+end
+",
+    ),
+    (
+        "",
+        Status::Malformed,
+        "\
+error line 1 rule 3
+",
+    ),
+    (
+        "\
+nopaxos 1 replicas 3 sequencers 1 clients 1
+submit c0 5000016b000176
+deliver 0 s0
+deliver 1 r0
+deliver 1 r1
+deliver 1 r2
+deliver 3 c0
+deliver 4 c0
+deliver 2 c0
+",
+        Status::Done,
+        "\
+transcript 1 replicas 3 sequencers 1 clients 1
+submit c0 1 5000016b000176
+send 0 c0 s* request 25
+send 1 s0 r* stamped 37
+send 2 r0 c0 reply 36
+send 3 r1 c0 reply 32
+send 4 r2 c0 reply 32
+accept c0 1 6e6f6e65
+replica r0 up normal 0 1 1 0
+replica r1 up normal 0 1 1 0
+replica r2 up normal 0 1 1 0
+history 1 c0 1 5000016b000176
+end
+",
+    ),
+    (
+        "\
+nopaxos 1 replicas 3 sequencers 1 clients 2
+submit c0 5000016b000176
+submit c1 4700016b
+deliver 0 s0
+deliver 1 s0
+deliver 2 r0
+deliver 3 r0
+deliver 3 r1
+deliver 6 r0
+deliver 7 r1
+deliver 4 c0
+deliver 8 c0
+deliver 5 c1
+deliver 9 c1
+",
+        Status::Done,
+        "\
+transcript 1 replicas 3 sequencers 1 clients 2
+submit c0 1 5000016b000176
+send 0 c0 s* request 25
+submit c1 1 4700016b
+send 1 c1 s* request 22
+send 2 s0 r* stamped 37
+send 3 s0 r* stamped 34
+send 4 r0 c0 reply 36
+send 5 r0 c1 reply 34
+send 6 r1 r0 fragment 31
+send 7 r0 r1 fragment 52
+send 8 r1 c0 reply 32
+send 9 r1 c1 reply 32
+accept c0 1 6e6f6e65
+accept c1 1 3d76
+replica r0 up normal 0 1 2 0
+replica r1 up normal 0 1 2 0
+replica r2 up normal 0 1 0 0
+history 1 c0 1 5000016b000176
+history 2 c1 1 4700016b
+end
+",
+    ),
+    (
+        "\
+nopaxos 1 replicas 3 sequencers 1 clients 2
+submit c0 5000016b000176
+submit c1 4700016b
+deliver 0 s0
+deliver 1 s0
+deliver 2 r2
+deliver 3 r2
+deliver 3 r0
+deliver 6 r1
+deliver 7 r0
+deliver 8 c1
+deliver 5 c1
+crash r0
+tick r1 suspect
+deliver 9 r2
+deliver 11 r1
+deliver 12 r2
+",
+        Status::Done,
+        "\
+transcript 1 replicas 3 sequencers 1 clients 2
+submit c0 1 5000016b000176
+send 0 c0 s* request 25
+submit c1 1 4700016b
+send 1 c1 s* request 22
+send 2 s0 r* stamped 37
+send 3 s0 r* stamped 34
+send 4 r2 c0 reply 32
+send 5 r2 c1 reply 32
+send 6 r0 r* fragment 31
+send 7 r1 r0 fragment 31
+send 8 r0 c1 reply 36
+accept c1 1 6e6f6e65
+send 9 r1 r* fragment 27
+send 10 r2 r* fragment 27
+send 11 r2 r1 fragment 88
+send 12 r1 r* fragment 59
+send 13 r1 c1 reply 36
+send 14 r2 c1 reply 32
+replica r0 crashed normal 0 1 2 0
+replica r1 up normal 1 1 2 0
+replica r2 up normal 1 1 2 0
+history 1 c1 1 4700016b
+end
+",
+    ),
+    (
+        "\
+nopaxos 1 replicas 3 sequencers 1 clients 2
+submit c0 5000016b000176
+submit c1 4700016b
+deliver 0 s0
+deliver 1 s0
+deliver 2 r2
+deliver 3 r2
+deliver 3 r0
+deliver 6 r1
+deliver 7 r0
+crash r0
+tick r1 suspect
+deliver 9 r2
+deliver 11 r1
+deliver 12 r2
+deliver 8 c1
+deliver 5 c1
+",
+        Status::Done,
+        "\
+transcript 1 replicas 3 sequencers 1 clients 2
+submit c0 1 5000016b000176
+send 0 c0 s* request 25
+submit c1 1 4700016b
+send 1 c1 s* request 22
+send 2 s0 r* stamped 37
+send 3 s0 r* stamped 34
+send 4 r2 c0 reply 32
+send 5 r2 c1 reply 32
+send 6 r0 r* fragment 31
+send 7 r1 r0 fragment 31
+send 8 r0 c1 reply 36
+send 9 r1 r* fragment 27
+send 10 r2 r* fragment 27
+send 11 r2 r1 fragment 88
+send 12 r1 r* fragment 59
+send 13 r1 c1 reply 36
+send 14 r2 c1 reply 32
+accept c1 1 6e6f6e65
+replica r0 crashed normal 0 1 2 0
+replica r1 up normal 1 1 2 0
+replica r2 up normal 1 1 2 0
+history 1 c1 1 4700016b
+end
+",
+    ),
+    (
+        "\
+nopaxos 1 replicas 5 sequencers 1 clients 2
+submit c0 5000016b000176
+submit c1 4700016b
+deliver 0 s0
+deliver 1 s0
+deliver 2 r2
+deliver 2 r3
+deliver 2 r4
+deliver 3 r0
+deliver 7 r4
+crash r0
+tick r1 suspect
+deliver 9 r2
+deliver 9 r3
+deliver 11 r1
+deliver 13 r1
+",
+        Status::Done,
+        "\
+transcript 1 replicas 5 sequencers 1 clients 2
+submit c0 1 5000016b000176
+send 0 c0 s* request 25
+submit c1 1 4700016b
+send 1 c1 s* request 22
+send 2 s0 r* stamped 37
+send 3 s0 r* stamped 34
+send 4 r2 c0 reply 32
+send 5 r3 c0 reply 32
+send 6 r4 c0 reply 32
+send 7 r0 r* fragment 31
+send 8 r4 r0 fragment 31
+send 9 r1 r* fragment 27
+send 10 r2 r* fragment 27
+send 11 r2 r1 fragment 69
+send 12 r3 r* fragment 27
+send 13 r3 r1 fragment 69
+send 14 r1 r* fragment 61
+send 15 r1 c0 reply 36
+replica r0 crashed normal 0 1 1 0
+replica r1 up normal 1 1 1 0
+replica r2 up change 1 1 1 0
+replica r3 up change 1 1 1 0
+replica r4 up normal 0 1 1 0
+history 1 c0 1 5000016b000176
+end
+",
+    ),
+    (
+        "\
+nopaxos 1 replicas 5 sequencers 1 clients 2
+submit c0 5000016b000176
+submit c1 4700016b
+deliver 0 s0
+deliver 1 s0
+deliver 2 r2
+deliver 2 r3
+deliver 2 r4
+deliver 3 r0
+deliver 7 r4
+crash r0
+tick r1 suspect
+deliver 9 r2
+deliver 9 r4
+deliver 11 r1
+deliver 13 r1
+",
+        Status::Done,
+        "\
+transcript 1 replicas 5 sequencers 1 clients 2
+submit c0 1 5000016b000176
+send 0 c0 s* request 25
+submit c1 1 4700016b
+send 1 c1 s* request 22
+send 2 s0 r* stamped 37
+send 3 s0 r* stamped 34
+send 4 r2 c0 reply 32
+send 5 r3 c0 reply 32
+send 6 r4 c0 reply 32
+send 7 r0 r* fragment 31
+send 8 r4 r0 fragment 31
+send 9 r1 r* fragment 27
+send 10 r2 r* fragment 27
+send 11 r2 r1 fragment 69
+send 12 r4 r* fragment 27
+send 13 r4 r1 fragment 48
+send 14 r1 r* fragment 40
+replica r0 crashed normal 0 1 1 0
+replica r1 up normal 1 1 1 0
+replica r2 up change 1 1 1 0
+replica r3 up normal 0 1 1 0
+replica r4 up change 1 1 1 0
+end
+",
+    ),
+    (
+        "\
+nopaxos 1 replicas 3 sequencers 2 clients 1
+install s1
+deliver 0 s1
+submit c0 5000016b000176
+deliver 2 s1
+tick r1 suspect
+deliver 3 r2
+deliver 5 r1
+deliver 7 r2
+deliver 9 r1
+deliver 10 r2
+deliver 3 r1
+deliver 11 c0
+deliver 12 c0
+",
+        Status::Done,
+        "\
+transcript 1 replicas 3 sequencers 2 clients 1
+send 0 ctl s1 install 9
+send 1 s1 ctl installed 9
+submit c0 1 5000016b000176
+send 2 c0 s* request 25
+send 3 s1 r* stamped 37
+send 4 r1 r* fragment 27
+send 5 r2 r* fragment 27
+send 6 r2 r0 fragment 47
+send 7 r1 r* fragment 27
+send 8 r2 r* fragment 27
+send 9 r2 r1 fragment 47
+send 10 r1 r* fragment 39
+send 11 r2 c0 reply 32
+send 12 r1 c0 reply 36
+accept c0 1 6e6f6e65
+replica r0 up normal 0 1 0 0
+replica r1 up normal 1 2 1 0
+replica r2 up normal 1 2 1 0
+history 1 c0 1 5000016b000176
+end
+",
+    ),
+    (
+        "\
+nopaxos 1 replicas 3 sequencers 2 clients 1
+submit c0 5000016b000176
+deliver 0 s0
+deliver 1 r0
+deliver 1 r1
+install s1
+deliver 4 s1
+tick c0 retry
+deliver 6 s1
+deliver 7 r0
+deliver 7 r1
+deliver 10 r0
+deliver 11 r1
+deliver 13 c0
+deliver 15 c0
+",
+        Status::Done,
+        "\
+transcript 1 replicas 3 sequencers 2 clients 1
+submit c0 1 5000016b000176
+send 0 c0 s* request 25
+send 1 s0 r* stamped 37
+send 2 r0 c0 reply 36
+send 3 r1 c0 reply 32
+send 4 ctl s1 install 9
+send 5 s1 ctl installed 9
+send 6 c0 s* request 25
+send 7 s1 r* stamped 37
+send 8 r0 r* fragment 27
+send 9 r1 r* fragment 27
+send 10 r1 r0 fragment 69
+send 11 r0 r* fragment 61
+send 12 r0 c0 reply 36
+send 13 r0 c0 reply 36
+send 14 r1 c0 reply 32
+send 15 r1 c0 reply 32
+accept c0 1 6e6f6e65
+replica r0 up normal 0 2 2 0
+replica r1 up normal 0 2 2 0
+replica r2 up normal 0 1 0 0
+history 1 c0 1 5000016b000176
+end
+",
+    ),
+    (
+        "\
+nopaxos 1 replicas 3 sequencers 1 clients 1
+submit c0 5000016b000176
+deliver 0 s0
+deliver 1 r0
+deliver 1 r1
+deliver 2 c0
+deliver 3 c0
+submit c0 4700016b
+deliver 4 s0
+deliver 5 r0
+deliver 5 r1
+deliver 0 s0
+deliver 8 r0
+deliver 8 r1
+",
+        Status::Done,
+        "\
+transcript 1 replicas 3 sequencers 1 clients 1
+submit c0 1 5000016b000176
+send 0 c0 s* request 25
+send 1 s0 r* stamped 37
+send 2 r0 c0 reply 36
+send 3 r1 c0 reply 32
+accept c0 1 6e6f6e65
+submit c0 2 4700016b
+send 4 c0 s* request 22
+send 5 s0 r* stamped 34
+send 6 r0 c0 reply 34
+send 7 r1 c0 reply 32
+send 8 s0 r* stamped 37
+send 9 r1 c0 reply 32
+replica r0 up normal 0 1 3 0
+replica r1 up normal 0 1 3 0
+replica r2 up normal 0 1 0 0
+history 1 c0 1 5000016b000176
+history 2 c0 2 4700016b
+end
+",
+    ),
+    (
+        "\
+nopaxos 1 replicas 3 sequencers 1 clients 2
+submit c0 5000016b000176
+deliver 0 s0
+deliver 1 r0
+tick r1 suspect
+deliver 3 r2
+deliver 5 r1
+deliver 6 r0
+deliver 6 r2
+submit c1 4700016b
+deliver 7 s0
+deliver 8 r1
+deliver 9 r0
+deliver 10 r1
+deliver 8 r0
+deliver 11 c1
+deliver 12 c1
+",
+        Status::Done,
+        "\
+transcript 1 replicas 3 sequencers 1 clients 2
+submit c0 1 5000016b000176
+send 0 c0 s* request 25
+send 1 s0 r* stamped 37
+send 2 r0 c0 reply 36
+send 3 r1 r* fragment 27
+send 4 r2 r* fragment 27
+send 5 r2 r1 fragment 47
+send 6 r1 r* fragment 39
+submit c1 1 4700016b
+send 7 c1 s* request 22
+send 8 s0 r* stamped 34
+send 9 r1 r* fragment 31
+send 10 r0 r1 fragment 31
+send 11 r1 c1 reply 36
+send 12 r0 c1 reply 32
+accept c1 1 6e6f6e65
+replica r0 up normal 1 1 2 0
+replica r1 up normal 1 1 2 0
+replica r2 up normal 1 1 0 0
+history 1 c1 1 4700016b
+end
+",
+    ),
+    (
+        "\
+nopaxos 1 replicas 3 sequencers 1 clients 1
+submit c0 5000016b000176
+deliver 0 s0
+deliver 1 r0
+deliver 1 r1
+deliver 1 r2
+tick r0 sync
+deliver 5 r1
+deliver 6 r0
+deliver 7 r2
+deliver 5 r2
+deliver 7 r2
+",
+        Status::Done,
+        "\
+transcript 1 replicas 3 sequencers 1 clients 1
+submit c0 1 5000016b000176
+send 0 c0 s* request 25
+send 1 s0 r* stamped 37
+send 2 r0 c0 reply 36
+send 3 r1 c0 reply 32
+send 4 r2 c0 reply 32
+send 5 r0 r* fragment 53
+send 6 r1 r0 fragment 31
+send 7 r0 r* fragment 31
+send 8 r2 r0 fragment 31
+replica r0 up normal 0 1 1 1
+entry r0 1 c0 1 5000016b000176
+replica r1 up normal 0 1 1 0
+replica r2 up normal 0 1 1 1
+entry r2 1 c0 1 5000016b000176
+history 1 c0 1 5000016b000176
+end
+",
+    ),
+    (
+        "\
+nopaxos 1 replicas 3 sequencers 1 clients 1
+submit c0 5000016b000176
+deliver 0 s0
+deliver 1 r0
+deliver 1 r1
+deliver 1 r2
+tick r0 sync
+deliver 5 r1
+deliver 6 r0
+deliver 7 r2
+",
+        Status::Done,
+        "\
+transcript 1 replicas 3 sequencers 1 clients 1
+submit c0 1 5000016b000176
+send 0 c0 s* request 25
+send 1 s0 r* stamped 37
+send 2 r0 c0 reply 36
+send 3 r1 c0 reply 32
+send 4 r2 c0 reply 32
+send 5 r0 r* fragment 53
+send 6 r1 r0 fragment 31
+send 7 r0 r* fragment 31
+replica r0 up normal 0 1 1 1
+entry r0 1 c0 1 5000016b000176
+replica r1 up normal 0 1 1 0
+replica r2 up normal 0 1 1 0
+history 1 c0 1 5000016b000176
+end
+",
+    ),
+    (
+        "\
+nopaxos 1 replicas 3 sequencers 2 clients 1
+install s1
+deliver 0 s1
+submit c0 5000016b000176
+deliver 2 s1
+deliver 0 s1
+deliver 2 s1
+",
+        Status::Done,
+        "\
+transcript 1 replicas 3 sequencers 2 clients 1
+send 0 ctl s1 install 9
+send 1 s1 ctl installed 9
+submit c0 1 5000016b000176
+send 2 c0 s* request 25
+send 3 s1 r* stamped 37
+send 4 s1 ctl installed 9
+send 5 s1 r* stamped 37
+replica r0 up normal 0 1 0 0
+replica r1 up normal 0 1 0 0
+replica r2 up normal 0 1 0 0
+end
+",
+    ),
+    (
+        "\
+nopaxos 1 replicas 3 sequencers 1 clients 1
+submit c0 5000016b000176
+deliver 1 r0
+",
+        Status::Malformed,
+        "\
+transcript 1 replicas 3 sequencers 1 clients 1
+submit c0 1 5000016b000176
+send 0 c0 s* request 25
+error line 3 rule 8 index 1 sent 1
+",
+    ),
+    (
+        "\
+nopaxos 1 replicas 1 sequencers 1 clients 2
+submit c0 5000016b000176
+submit c1 4700016b
+deliver 0 s0
+deliver 1 s0
+deliver 3 r0
+deliver 4 c1
+tick r0 suspect
+",
+        Status::Done,
+        "\
+transcript 1 replicas 1 sequencers 1 clients 2
+submit c0 1 5000016b000176
+send 0 c0 s* request 25
+submit c1 1 4700016b
+send 1 c1 s* request 22
+send 2 s0 r* stamped 37
+send 3 s0 r* stamped 34
+send 4 r0 c1 reply 36
+accept c1 1 6e6f6e65
+send 5 r0 c1 reply 36
+replica r0 up normal 1 1 2 0
+history 1 c1 1 4700016b
+end
+",
+    ),
+    (
+        "\
+nopaxos 1 replicas 3 sequencers 1 clients 1
+submit c0 5000016b000176
+submit c0 5000016b000176
+",
+        Status::Done,
+        "\
+transcript 1 replicas 3 sequencers 1 clients 1
+submit c0 1 5000016b000176
+send 0 c0 s* request 25
+busy c0
+replica r0 up normal 0 1 0 0
+replica r1 up normal 0 1 0 0
+replica r2 up normal 0 1 0 0
+end
+",
+    ),
+    (
+        "\
+nopaxos 1 replicas 3 sequencers 1 clients 1
+crash r0
+tick r0 resend
+",
+        Status::Done,
+        "\
+transcript 1 replicas 3 sequencers 1 clients 1
+dead r0
+replica r0 crashed normal 0 1 0 0
+replica r1 up normal 0 1 0 0
+replica r2 up normal 0 1 0 0
+end
+",
+    ),
+    (
+        "\
+nopaxos 1 replicas 3 sequencers 1 clients 1
+junk r0 4e4f
+",
+        Status::Done,
+        "\
+transcript 1 replicas 3 sequencers 1 clients 1
+replica r0 up normal 0 1 0 0
+replica r1 up normal 0 1 0 0
+replica r2 up normal 0 1 0 0
+end
+",
+    ),
+    (
+        "\
+nopaxos 1 replicas 3 sequencers 1 clients 1
+junk r0 4e4f01040000000002
+",
+        Status::Malformed,
+        "\
+transcript 1 replicas 3 sequencers 1 clients 1
+error line 2 rule 9
+",
+    ),
+    (
+        "\
+nopaxos 1 replicas 3 sequencers 1 clients 1
+tick s0 resend
+",
+        Status::Malformed,
+        "\
+transcript 1 replicas 3 sequencers 1 clients 1
+error line 2 rule 7
+",
+    ),
+    (
+        "\
+nopaxos 1 replicas 3 sequencers 2 clients 1
+tick ctl probe
+tick ctl probe
+tick ctl probe
+tick ctl probe
+tick ctl resend
+",
+        Status::Done,
+        "\
+transcript 1 replicas 3 sequencers 2 clients 1
+send 0 ctl s0 ping 9
+send 1 ctl s0 ping 9
+send 2 ctl s0 ping 9
+send 3 ctl s1 install 9
+send 4 ctl s1 install 9
+replica r0 up normal 0 1 0 0
+replica r1 up normal 0 1 0 0
+replica r2 up normal 0 1 0 0
+end
+",
+    ),
+];
+
+#[test]
+fn rows(rt: HostRuntime) -> Result<(), Fail> {
+    for (schedule, status, transcript) in ROWS {
+        check_run(
+            &rt,
+            rt.alloc(),
+            ("nopaxos replay", schedule, &[], &[], status, transcript),
+        )?;
+    }
+    Ok(())
+}

@@ -1,0 +1,72 @@
+-- What a view starts with is adopted by moves.
+use Rattle.std.proofs.Common.{◌≡◌, ℕ, Bool, true, false, refl, sym, subst, ◌∙◌, List}
+use Rattle.std.specs.Prelude.{◌==◌, ◌||◌, not, nat_le}
+use Rattle.std.proofs.lemmas.Bool.{and_parts, eqb-true, leb-true}
+use Rattle.nop_types.specs.Meaning.{Meaning}
+use Rattle.nop_types.specs.Views.{AtMost, is_view, leader_of}
+use Rattle.nop_types.specs.declared.view.View.{View}
+use Rattle.nop_types.specs.declared.replica_state.Phase.{Phase}
+use Rattle.nop_types.specs.declared.replica_state.Phase.TheVariants.{Normal, Change}
+use Rattle.nop_types.specs.declared.request.Entry.{Entry}
+use Rattle.facts.proofs.Views.{is_view-same}
+use Rattle.replica_core.specs.declared.state.ReplicaState.{ReplicaState}
+use Rattle.replica_core.specs.Messages.{is_other}
+use Rattle.replica_core.specs.Moves.{adopted, adopt, drain}
+use Rattle.replica_core.specs.Replies.{replies_above}
+use Rattle.replica_core.specs.Rows.{is_at_most, may_adopt, start_view}
+use Rattle.replica_core.specs.State.{is_normal}
+use Rattle.protocol.specs.Conf.{Conf, DidSay}
+use Rattle.protocol.specs.Moves.{MayAdopt}
+use Rattle.protocol.specs.Runs.{Adopt}
+use Rattle.protocol.specs.Said.{StartView}
+use Rattle.refinement.specs.Projection.{member_of}
+use Rattle.refinement.specs.Replicas.{Matches, ReplicaReaches}
+use Rattle.refinement.proofs.Composing.{move_reaches, reaches_then_in_view, when_reaches}
+use Rattle.refinement.proofs.Draining.{drain_in_view}
+use Rattle.refinement.proofs.RoleRows.{IsOther, other_from}
+use Rattle.refinement.proofs.Same.{said_above, replied_above}
+
+at_most_from : (a b : View) → is_at_most a b ≡ true → AtMost a b
+at_most_from a b e =
+    let parts = and_parts (nat_le a.leader b.leader) (nat_le a.session b.session) e in
+    record { leader = leb-true a.leader b.leader parts.0; session = leb-true a.session b.session parts.1 }
+
+change_from : (same : Bool) (p : Phase) → (not same || not (is_normal p)) ≡ true → same ≡ true → p ≡ Change
+change_from same Change e t = refl
+change_from true Normal e t = absurd cc
+change_from false Normal e t = absurd cc
+
+module _ {S : Type 0} (m : Meaning S) (f : ℕ) (r : ℕ) where
+  pub adopt_reaches : (c : Conf) (s : ReplicaState) (v : View) (x : ℕ) (l : List Entry) → Matches m f c r s
+      → MayAdopt c (member_of s) v x l → ReplicaReaches m f c r s (adopt m s v x l)
+  unfolding adopt
+  adopt_reaches c s v x l h may =
+      let t : ReplicaState = adopted s v x l in
+      reaches_then_in_view m f r c s (t, replies_above m t s.sync.sync_point) (drain m) h
+      (move_reaches m f r c s (t, replies_above m t s.sync.sync_point) (Adopt v x l) h may (record {
+        state = refl;
+        said = said_above m t s.sync.sync_point;
+        replies = replied_above m t s.sync.sync_point;
+      }))
+      (λ d g. drain_in_view m f r d t g)
+
+  may_adopt_from : (c : Conf) (s : ReplicaState) (q : ℕ) (v : View) (x : ℕ) (l : List Entry) → IsOther f s q
+      → DidSay c.said q v (StartView x l) → may_adopt s q v l ≡ true → MayAdopt c (member_of s) v x l
+  may_adopt_from c s q v x l other said e =
+      let leader = and_parts (q == leader_of v s.config.replicas) _ e in
+      let order = and_parts (is_at_most s.view v) _ leader.1 in
+      let later = and_parts (not (is_view v s.view) || not (is_normal s.status)) _ order.1 in
+      let by : q ≡ leader_of v s.config.replicas = eqb-true q (leader_of v s.config.replicas) leader.0 in
+      record {
+        said = subst (λ (n : ℕ). DidSay c.said n v (StartView x l)) by said;
+        follows = λ same. other.apart (by ∙ sym same);
+        at_most = at_most_from s.view v order.0;
+        change = λ same. change_from (is_view v s.view) s.status later.0 (is_view-same v s.view (sym same));
+      }
+
+  -- told by another replica
+  pub start_view_reaches : (c : Conf) (s : ReplicaState) (q : ℕ) (v : View) (x : ℕ) (l : List Entry) → Matches m f c r s
+      → is_other s q ≡ true → DidSay c.said q v (StartView x l) → ReplicaReaches m f c r s (start_view m q v x l s)
+  unfolding start_view
+  start_view_reaches c s q v x l h other said = when_reaches m f r c s (may_adopt s q v l) (λ t. adopt m t v x l) h (λ e.
+      adopt_reaches c s v x l h (may_adopt_from c s q v x l (other_from m f c r s q h other) said e))

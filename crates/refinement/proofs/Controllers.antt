@@ -1,0 +1,218 @@
+-- Each row of a controller's step table is a list of moves.
+use Rattle.std.proofs.Common.{◌≡◌, ℕ, ◌≤◌, ◌<◌, ◌+◌, Bool, true, false, refl, sym, ap, subst, ◌∙◌, inl, inr, arith, List, [], ◌∷◌, ◌++◌}
+use Rattle.std.specs.Prelude.{IsTrue, Result, Ok, Err, ◌==◌, ◌&&◌, nat_lt, nat_le}
+use Rattle.std.proofs.lemmas.Bool.{eq-eqb, ne_eqb, cond-true, cond-false}
+use Rattle.std.proofs.lemmas.Bool.Decides.{nat_tests}
+use Rattle.nop_types.specs.Configuration.{Configuration, is_configuration}
+use Rattle.nop_types.specs.Given.{Given, Packet, Ticked, Submit}
+use Rattle.nop_types.specs.Lists.{Has}
+use Rattle.nop_types.specs.Meaning.{Meaning}
+use Rattle.nop_types.specs.Ranges.{SignalFits}
+use Rattle.nop_types.specs.declared.input.Tick.{Tick}
+use Rattle.nop_types.specs.declared.input.Tick.TheVariants as ticks
+use Rattle.nop_types.specs.declared.output.Actor.TheVariants.{Sequencer}
+use Rattle.nop_types.specs.declared.output.Dest.TheVariants.{One}
+use Rattle.nop_types.specs.declared.output.Out.{Out}
+use Rattle.nop_types.specs.declared.output.Out.TheVariants.{Send}
+use Rattle.nop_types.specs.declared.datagram.Datagram.{Datagram}
+use Rattle.nop_types.specs.declared.datagram.Datagram.TheVariants as datagrams
+use Rattle.facts.specs.Functions.{put}
+use Rattle.facts.proofs.Members.{Has-first, Has-cases}
+use Rattle.oum_codec.specs.declared.bad.Bad.{Bad}
+use Rattle.oum_codec.specs.Reading.{reading}
+use Rattle.oum_codec.specs.Spelling.{spelling}
+use Rattle.session_control.specs.declared.state.ControllerState.{ControllerState}
+use Rattle.session_control.specs.declared.state.TheConstants.{MISSED_END}
+use Rattle.session_control.specs.ControllerSteps.{IsWithin, last_number, install_of, moved, move_if, move_to, order_if, order_move, asked}
+use Rattle.session_control.specs.ControllerSteps.{ask_if, ask, following, miss_if, probe_if, probe, heard_if, pong, resend_if}
+use Rattle.session_control.specs.ControllerSteps.{resend_install, confirmed_if, installed, on_tick, on_datagram, next}
+use Rattle.protocol.specs.Conf.{Conf, Control, Install, home}
+use Rattle.protocol.specs.Invariant.{Inv}
+use Rattle.protocol.specs.Runs as moves
+use Rattle.refinement.specs.Controllers.{control_of, given_out, with_controller, ControllerReaches, ControllersReach}
+use Rattle.refinement.specs.Datagrams.{AllCarry}
+use Rattle.refinement.specs.Lines.{lines_in}
+use Rattle.refinement.specs.Steps.{LeadsTo}
+use Rattle.refinement.proofs.Outputs.{none_carry, one_carries, only_new, says_none, no_moves}
+use Rattle.refinement.proofs.Puts.{put-same}
+
+pub few_sequencers : (config : Configuration) (n : ℕ) → IsTrue (is_configuration config) → n < config.sequencers → n ≤ 3
+few_sequencers config n is less = grind (arith, is, less)
+
+-- where the session stays, none is given out
+none_given : (s t : ControllerState) → t.session ≡ s.session → given_out s t ≡ []
+none_given s t e = cond-true (t.session == s.session) [] _ (eq-eqb t.session s.session e)
+
+-- and where it is another, it is
+one_given : (s t : ControllerState) → (t.session ≡ s.session → ⊥)
+    → given_out s t ≡ record { sequencer = t.current; session = t.session } ∷ []
+one_given s t d = cond-false (t.session == s.session) [] _ (ne_eqb t.session s.session d)
+
+module _ {S : Type 0} (m : Meaning S) (f : ℕ) (c : Conf) (k : ℕ) (s : ControllerState) (inv : Inv m f c)
+    (all : (session : ℕ) → home session ≡ k) (shows : c.controllers k ≡ control_of s) (within : IsWithin s) where
+  -- no move is made: session, current sequencer and confirmation stay
+  rests : (t : ControllerState) (outs : List Out) → control_of t ≡ control_of s → lines_in outs ≡ [] → AllCarry c outs
+      → ControllerReaches m f c k s (t, outs)
+  rests t outs e quiet carry = no_moves m f c (with_controller c k t (given_out s t)) outs same quiet carry
+    where
+      none : given_out s t ++ c.installs ≡ c.installs
+      none = ap (λ (x : List Install). x ++ c.installs) (none_given s t (ap (λ (x : Control). x.session) e))
+
+      stays : put c.controllers k (control_of t) ≡ c.controllers
+      stays = ap (λ (x : Control). put c.controllers k x) (e ∙ sym shows) ∙ put-same c.controllers k
+
+      same : with_controller c k t (given_out s t) ≡ c
+      same = λ i. record c { controllers = stays i; installs = none i }
+
+  silent : (t : ControllerState) → control_of t ≡ control_of s → ControllerReaches m f c k s (t, [])
+  silent t e = rests t [] e refl (none_carry c)
+
+  still : ControllerReaches m f c k s (s, [])
+  still = silent s refl
+
+  -- ---- a move
+
+  move_by : (j : ℕ) (b : Bool) → ControllerReaches m f c k s (move_if b s j)
+  move_by j true =
+      let t = moved s j in
+      let new : Install = record { sequencer = j; session = s.session + 1 } in
+      let d = with_controller c k t (new ∷ []) in
+      subst (λ (xs : List Install). LeadsTo m f c (with_controller c k t xs) (install_of t)) (sym (one_given s t later)) (record {
+        moves = moves.MoveTo k j (s.session + 1) ∷ [];
+        may = (
+          record {
+            own = all (s.session + 1);
+            later = subst (λ (x : Control). x.session < s.session + 1) (sym shows) (omega arith);
+          },
+          tt,
+        );
+        ends = refl;
+        sends = one_carries d (One (Sequencer j)) (datagrams.Install j (s.session + 1)) tt (Has-first new new c.installs refl);
+        only = only_new c d (install_of t) (λ r h. inl h) (λ p h. inl h) refl (λ x h. elim (Has-cases x new c.installs h) [
+          | inl e ↦ inr (One (Sequencer j), Has-first _ _ [] (ap install_out e))
+          | inr old ↦ inl old
+        ]);
+        lines = says_none c.lines (install_of t) refl;
+        first = refl;
+      })
+    where
+      later : s.session + 1 ≡ s.session → ⊥
+      later e = omega (arith, e)
+
+      install_out : Install → Out
+      install_out x = Send (One (Sequencer j)) (spelling (datagrams.Install x.sequencer x.session))
+  move_by j false = still
+
+  moves_to : (j : ℕ) → ControllerReaches m f c k s (move_to s j)
+  moves_to j = move_by j (nat_lt s.session last_number)
+
+  order_by : (j : ℕ) (b : Bool) → ControllerReaches m f c k s (order_if b s j)
+  order_by j true = moves_to j
+  order_by j false = still
+
+  order_move_reaches : (j : ℕ) → ControllerReaches m f c k s (order_move s j)
+  order_move_reaches j = order_by j (nat_lt j s.config.sequencers)
+
+  -- ---- a probe
+
+  ping_fits : (round : ℕ) → nat_lt round last_number ≡ true → SignalFits s.current (round + 1)
+  ping_fits round e = record {
+    number = few_sequencers s.config s.current within.config within.current;
+    count = record { low = omega arith; high = grind (arith, nat_tests, e) };
+  }
+
+  ask_by : (t : ControllerState) → control_of t ≡ control_of s → (b : Bool) → nat_lt t.round last_number ≡ b
+      → ControllerReaches m f c k s (ask_if b t)
+  ask_by t e true less =
+      let current : t.current ≡ s.current = ap (λ (x : Control). x.current) e in
+      rests (asked t) (ask_if true t).1 e refl
+      (one_carries c (One (Sequencer t.current)) (datagrams.Ping t.current (t.round + 1)) tt
+      (subst (λ (n : ℕ). SignalFits n (t.round + 1)) (sym current) (ping_fits t.round less)))
+  ask_by t e false less = silent t e
+
+  asks : (t : ControllerState) → control_of t ≡ control_of s → ControllerReaches m f c k s (ask t)
+  asks t e = ask_by t e (nat_lt t.round last_number) refl
+
+  miss_by : (b : Bool) → ControllerReaches m f c k s (miss_if b s)
+  miss_by true = moves_to (following s)
+  miss_by false = asks (record s { missed = s.missed + 1 }) refl
+
+  probe_by : (b : Bool) → ControllerReaches m f c k s (probe_if b s)
+  probe_by true = asks s refl
+  probe_by false = miss_by (nat_le MISSED_END (s.missed + 1))
+
+  probe_reaches : ControllerReaches m f c k s (probe s)
+  probe_reaches = probe_by s.heard
+
+  pong_by : (b : Bool) → ControllerReaches m f c k s (heard_if b s, [])
+  pong_by true = silent (record s { heard = true; missed = 0 }) refl
+  pong_by false = still
+
+  pong_reaches : (sequencer round : ℕ) → ControllerReaches m f c k s (pong s sequencer round)
+  pong_reaches sequencer round = pong_by ((sequencer == s.current) && (round == s.round))
+
+  -- ---- a session is confirmed
+
+  resend_by : (b : Bool) → s.confirmed ≡ b → ControllerReaches m f c k s (resend_if b s)
+  resend_by true e = still
+  resend_by false e =
+      rests s (install_of s) refl refl
+      (one_carries c (One (Sequencer s.current)) (datagrams.Install s.current s.session) tt
+      (subst (λ (x : Control). Has c.installs (record { sequencer = x.current; session = x.session })) shows
+      ((inv.controllers k).given (ap (λ (x : Control). x.confirmed) shows ∙ e))))
+
+  resend_install_reaches : ControllerReaches m f c k s (resend_install s)
+  resend_install_reaches = resend_by s.confirmed refl
+
+  confirms : ControllerReaches m f c k s (record s { confirmed = true }, [])
+  confirms =
+      let t : ControllerState = record s { confirmed = true } in
+      let d = with_controller c k t [] in
+      subst (λ (xs : List Install). LeadsTo m f c (with_controller c k t xs) []) (sym (none_given s t refl)) (record {
+        moves = moves.Installed k ∷ [];
+        may = (tt, tt);
+        ends = ap (λ (x : Control). record c { controllers = put c.controllers k (record x { confirmed = true }) }) shows;
+        sends = none_carry d;
+        only = only_new c d [] (λ r h. inl h) (λ p h. inl h) refl (λ x h. inl h);
+        lines = says_none c.lines [] refl;
+        first = tt;
+      })
+
+  installed_by : (b : Bool) → ControllerReaches m f c k s (confirmed_if b s, [])
+  installed_by true = confirms
+  installed_by false = still
+
+  installed_reaches : (sequencer session : ℕ) → ControllerReaches m f c k s (installed s sequencer session)
+  installed_reaches sequencer session = installed_by ((sequencer == s.current) && (session == s.session))
+
+  -- ---- all rows
+
+  tick_reaches : (tick : Tick) → ControllerReaches m f c k s (on_tick s tick)
+  tick_reaches ticks.Probe = probe_reaches
+  tick_reaches ticks.Resend = resend_install_reaches
+  tick_reaches (ticks.Install j) = order_move_reaches j
+  tick_reaches ticks.Suspect = still
+  tick_reaches ticks.Watch = still
+  tick_reaches ticks.Sync = still
+  tick_reaches ticks.Retry = still
+  tick_reaches ticks.Next = still
+
+  datagram_reaches : (x : Result Datagram Bad) → ControllerReaches m f c k s (on_datagram s x)
+  datagram_reaches (Ok (datagrams.Pong sequencer round)) = pong_reaches sequencer round
+  datagram_reaches (Ok (datagrams.Installed sequencer session)) = installed_reaches sequencer session
+  datagram_reaches (Ok (datagrams.Request r)) = still
+  datagram_reaches (Ok (datagrams.Stamped p)) = still
+  datagram_reaches (Ok (datagrams.Reply p)) = still
+  datagram_reaches (Ok (datagrams.Install sequencer session)) = still
+  datagram_reaches (Ok (datagrams.Ping sequencer round)) = still
+  datagram_reaches (Ok (datagrams.Fragment p)) = still
+  datagram_reaches (Err e) = still
+
+  input_reaches : (i : Given) → ControllerReaches m f c k s (next s i)
+  unfolding next
+  input_reaches (Packet bytes) = datagram_reaches (reading bytes)
+  input_reaches (Ticked tick) = tick_reaches tick
+  input_reaches (Submit op) = still
+
+pub controllers_reach : {S : Type 0} (m : Meaning S) → ControllersReach m
+controllers_reach m f c k s i inv all shows within came = input_reaches m f c k s inv all shows within i

@@ -1,0 +1,38 @@
+-- A view is entered.
+use Rattle.std.proofs.Common.{◌≡◌, ℕ, Bool, true, false, refl}
+use Rattle.nop_types.specs.declared.view.View.{View}
+use Rattle.nop_types.specs.Meaning.{Meaning}
+use Rattle.nop_types.specs.Views.{Below}
+use Rattle.replica_core.specs.declared.state.ReplicaState.{ReplicaState}
+use Rattle.replica_core.specs.State.{leads}
+use Rattle.replica_core.specs.Moves.{entered, enter_as, enter}
+use Rattle.protocol.specs.Conf.{Conf}
+use Rattle.protocol.specs.Member.{standing}
+use Rattle.protocol.specs.Runs.{Enter}
+use Rattle.refinement.specs.Projection.{member_of}
+use Rattle.refinement.specs.Replicas.{Matches, ReplicaReaches}
+use Rattle.refinement.proofs.Parts.{Keeps}
+use Rattle.refinement.proofs.Composing.{move_reaches}
+use Rattle.refinement.proofs.Same.{enter_same}
+
+pub enter_reaches : {S : Type 0} (m : Meaning S) (f : ℕ) (c : Conf) (r : ℕ) (s : ReplicaState) (v : View) → Matches m f c r s
+    → Below s.view v → ReplicaReaches m f c r s (enter s v)
+enter_reaches m f c r s v h below = move_reaches m f r c s (enter s v) (Enter v) h below (enter_same s v)
+
+-- what it changes
+
+keeps_as : (b : Bool) (s : ReplicaState) (v : View) → Keeps (standing (member_of s)) (standing (member_of (enter_as b (entered s v)).0))
+keeps_as true s v = record { last_normal = refl; next = refl; log = refl }
+keeps_as false s v = record { last_normal = refl; next = refl; log = refl }
+
+pub enter_keeps : (s : ReplicaState) (v : View) → Keeps (standing (member_of s)) (standing (member_of (enter s v).0))
+unfolding enter
+enter_keeps s v = keeps_as (leads (entered s v)) s v
+
+view_as : (b : Bool) (s : ReplicaState) → (enter_as b s).0.view ≡ s.view
+view_as true s = refl
+view_as false s = refl
+
+pub entered_view : (s : ReplicaState) (v : View) → (enter s v).0.view ≡ v
+unfolding enter
+entered_view s v = view_as (leads (entered s v)) (entered s v)

@@ -1,0 +1,80 @@
+-- The rows of a leader that its followers speak to.
+use Rattle.std.proofs.Common.{◌≡◌, ℕ, ◌+◌, Bool, true, false, Option, None, Some, refl, sym, subst, length}
+use Rattle.std.specs.Prelude.{◌&&◌, ◌==◌, not, nat_lt}
+use Rattle.std.proofs.lemmas.Bool.{and_parts, eqb-true}
+use Rattle.nop_types.specs.declared.limits.TheConstants.{MAX_SLOTS, NUMBER_END}
+use Rattle.nop_types.specs.declared.peer.Body.TheVariants as bodies
+use Rattle.nop_types.specs.declared.request.Entry.{Entry}
+use Rattle.nop_types.specs.declared.request.Entry.TheVariants.{NoOp, Req}
+use Rattle.nop_types.specs.Lists.{slot_of}
+use Rattle.nop_types.specs.Meaning.{Meaning}
+use Rattle.gap_agree.specs.Agreement.{Agreement}
+use Rattle.slot_lookup.specs.Answer.{answer_by, may_begin}
+use Rattle.replica_core.specs.declared.state.ReplicaState.{ReplicaState}
+use Rattle.replica_core.specs.State.{waits}
+use Rattle.replica_core.specs.Sends.{to_replica}
+use Rattle.replica_core.specs.Moves.{open_gap, count_gap_vote, count_sync_vote, drain}
+use Rattle.replica_core.specs.Rows.{begin_gap, slot_lookup_by, slot_lookup, gap_reply_at, gap_reply, sync_reply}
+use Rattle.protocol.specs.Conf.{Conf}
+use Rattle.protocol.specs.Member.{standing}
+use Rattle.protocol.specs.Moves.{MayLead, DidAnother}
+use Rattle.protocol.specs.Runs.{Say, CountGapVote, CountSyncVote}
+use Rattle.protocol.specs.Said.{Found, GapCommit, GapRep, SyncRep}
+use Rattle.refinement.specs.Projection.{member_of}
+use Rattle.refinement.specs.Replicas.{Matches}
+use Rattle.refinement.proofs.Composing.{InView, in_view_then, nothing_in_view, move_in_view, when_in_view}
+use Rattle.refinement.proofs.Draining.{open_gap_in_view, drain_in_view}
+use Rattle.refinement.proofs.Matching.{leader_has}
+use Rattle.refinement.proofs.Parts.{stays_still}
+use Rattle.refinement.proofs.Same.{count_sync_vote_same}
+use Rattle.refinement.proofs.Staying.{no_gap_from}
+
+module _ {S : Type 0} (m : Meaning S) (f : ℕ) (c : Conf) (r : ℕ) (s : ReplicaState) (h : Matches m f c r s) where
+  -- ---- a follower asks for a slot
+
+  begin_gap_in_view : MayLead (member_of s) → s.gap ≡ None → InView m f c r s (begin_gap m s)
+  begin_gap_in_view may none = when_in_view m f r c s (nat_lt s.next NUMBER_END) _ h (λ e.
+      in_view_then m f r c s (open_gap s) (drain m) h
+      (open_gap_in_view m f r c s h (record { normal = may.normal; no_gap = none }) may.leads)
+      (λ d g. drain_in_view m f r d (open_gap s).0 g))
+
+  answer_in_view : (o : Option Entry) (b : Bool) (q k : ℕ) → MayLead (member_of s) → slot_of s.log k ≡ o
+      → may_begin s.log (waits s.gap) k ≡ b → InView m f c r s (slot_lookup_by m (answer_by o b) q k s)
+  answer_in_view (Some (Req x)) b q k may at begins =
+      move_in_view m f r c s (s, to_replica s q (bodies.Found k x)) (Say (Found k x)) h (leader_has m f c r s h k (Req x) may at)
+      (record { state = refl; said = refl; replies = refl }) (stays_still f r (standing (member_of s)))
+  answer_in_view (Some NoOp) b q k may at begins =
+      move_in_view m f r c s (s, to_replica s q (bodies.GapCommit k)) (Say (GapCommit k)) h (leader_has m f c r s h k NoOp may at)
+      (record { state = refl; said = refl; replies = refl }) (stays_still f r (standing (member_of s)))
+  answer_in_view None true q k may at begins =
+      let room = and_parts (k == length s.log + 1) (not (waits s.gap) && nat_lt (length s.log) MAX_SLOTS) begins in
+      let free = and_parts (not (waits s.gap)) (nat_lt (length s.log) MAX_SLOTS) room.1 in
+      begin_gap_in_view may (no_gap_from s.gap free.0)
+  answer_in_view None false q k may at begins = nothing_in_view m f r c s s h refl
+
+  pub slot_lookup_in_view : (q k : ℕ) → MayLead (member_of s) → InView m f c r s (slot_lookup m q k s)
+  unfolding slot_lookup
+  slot_lookup_in_view q k may = answer_in_view (slot_of s.log k) (may_begin s.log (waits s.gap) k) q k may refl refl
+
+  -- ---- a follower votes
+
+  gap_reply_at_in_view : (g : Option Agreement) (q k : ℕ) → s.gap ≡ g → DidAnother f c (member_of s) q (GapRep k)
+      → InView m f c r s (gap_reply_at m g q k s)
+  gap_reply_at_in_view None q k waits vote = nothing_in_view m f r c s s h refl
+  gap_reply_at_in_view (Some g) q k waits vote = when_in_view m f r c s (g.slot == k) _ h (λ e.
+      let same : k ≡ g.slot = sym (eqb-true g.slot k e) in
+      in_view_then m f r c s (count_gap_vote s g q) (drain m) h
+      (move_in_view m f r c s (count_gap_vote s g q) (CountGapVote g q) h
+      (record { waits = waits; vote = subst (λ (i : ℕ). DidAnother f c (member_of s) q (GapRep i)) same vote })
+      (record { state = refl; said = refl; replies = refl }) (stays_still f r (standing (member_of s))))
+      (λ d t. drain_in_view m f r d (count_gap_vote s g q).0 t))
+
+  pub gap_reply_in_view : (q k : ℕ) → DidAnother f c (member_of s) q (GapRep k) → InView m f c r s (gap_reply m q k s)
+  unfolding gap_reply
+  gap_reply_in_view q k vote = gap_reply_at_in_view s.gap q k refl vote
+
+  pub sync_reply_in_view : (q k : ℕ) → MayLead (member_of s) → DidAnother f c (member_of s) q (SyncRep k)
+      → InView m f c r s (sync_reply q k s)
+  sync_reply_in_view q k may vote =
+      move_in_view m f r c s (count_sync_vote s q k) (CountSyncVote q k) h (record { may_lead = may; vote = vote })
+      (count_sync_vote_same s q k) (stays_still f r (standing (member_of s)))

@@ -1,0 +1,102 @@
+-- What the invariant says of the state of a replica.
+use Rattle.std.proofs.Common.{◌≡◌, ℕ, ◌+◌, ◌*◌, ◌≤◌, true, false, Some, sym, ap, subst, ◌∙◌, arith, length}
+use Rattle.std.specs.Prelude.{◌-◌, take}
+use Rattle.std.proofs.lemmas.Bool.{eqb-true}
+use Rattle.std.proofs.lemmas.List.{length-take}
+use Rattle.nop_types.specs.declared.view.View.{View}
+use Rattle.nop_types.specs.declared.replica_state.Phase.TheVariants.{Normal, Change}
+use Rattle.nop_types.specs.declared.request.Entry.{Entry}
+use Rattle.nop_types.specs.Lists.{slot_of}
+use Rattle.nop_types.specs.Meaning.{Meaning}
+use Rattle.nop_types.specs.Views.{leader_of}
+use Rattle.facts.proofs.Options.{same_Some-at}
+use Rattle.facts.proofs.Prefixes.{IsPrefixOf-take, length-prefix}
+use Rattle.log_merge.specs.Starting.{Start}
+use Rattle.started_views.specs.Past.{HadLog, LeaderHad, IsStart, entered_with}
+use Rattle.replica_core.specs.declared.state.ReplicaState.{ReplicaState}
+use Rattle.replica_core.specs.State.{leads, leader}
+use Rattle.protocol.specs.Conf.{Conf}
+use Rattle.protocol.specs.Invariant.{GoodLog, Own}
+use Rattle.protocol.specs.Member.{Member, standing}
+use Rattle.protocol.specs.Moves.{MayLead}
+use Rattle.protocol.specs.Truth.{LeaderHas, Begun}
+use Rattle.protocol.proofs.Replying.{leads_from}
+use Rattle.refinement.specs.Projection.{member_of}
+use Rattle.refinement.specs.Replicas.{Matches}
+
+module _ {S : Type 0} (m : Meaning S) (f : ℕ) (c : Conf) (r : ℕ) (s : ReplicaState) (h : Matches m f c r s) where
+  pub own : Own f c r (member_of s)
+  own = subst (λ (p : Member). Own f c r p) h.state (h.inv.own r h.within)
+
+  -- the log is noted
+  pub current : HadLog c.past r s.last_normal s.log
+  current = subst (λ (p : Member). HadLog c.past r p.last_normal p.log) h.state (h.inv.current r h.within)
+
+  log : GoodLog f c r s.last_normal s.log
+  log = h.inv.logs r s.last_normal s.log current
+
+  -- who leads, and who follows
+
+  leads_it : leads s ≡ true → r ≡ leader_of s.view (2 * f + 1)
+  leads_it e = sym own.number ∙ sym (eqb-true (leader s) s.number e) ∙ ap (leader_of s.view) own.replicas
+
+  follows_it : leads s ≡ false → r ≡ leader_of s.view (2 * f + 1) → ⊥
+  follows_it e a = let yes : leads s ≡ true = leads_from f (member_of s) own.replicas (own.number ∙ a) in cc
+
+  pub follows_last : s.status ≡ Normal → leads s ≡ false → r ≡ leader_of s.last_normal (2 * f + 1) → ⊥
+  follows_last normal e a = follows_it e (a ∙ ap (λ (w : View). leader_of w (2 * f + 1)) (own.place.normal normal))
+
+  -- ---- what its last normal view started with
+
+  same_start : own.place.start ≡ log.start
+  same_start = same_Some-at (c.past.start s.last_normal) own.place.start log.start own.place.is_start log.is_start
+
+  counted : s.next + length log.start.log ≡ log.start.next + length s.log
+  counted = subst (λ (x : Start). s.next + length x.log ≡ x.next + length s.log) same_start own.place.counted
+
+  base_is : r ≡ leader_of s.last_normal (2 * f + 1) → s.base ≡ length log.start.log
+  base_is a = own.place.base a ∙ ap (λ (x : Start). length x.log) same_start
+
+  -- no more than the replica has
+  pub base_within : r ≡ leader_of s.last_normal (2 * f + 1) → s.base ≤ length s.log
+  base_within a =
+      let base = base_is a in
+      let low = length-prefix log.start.log s.log log.begins in
+      omega (arith, base, low)
+
+  -- ---- what may be said again
+
+  -- the log of a leader in its view
+  leader_log : MayLead (member_of s) → LeaderHad f c.past s.view s.log
+  leader_log may =
+      subst (λ (q : ℕ). HadLog c.past q s.view s.log) (leads_it may.leads)
+      (subst (λ (w : View). HadLog c.past r w s.log) (own.place.normal may.normal) current)
+
+  -- a leader has the entry in the slot
+  pub leader_has : (k : ℕ) (x : Entry) → MayLead (member_of s) → slot_of s.log k ≡ Some x → LeaderHas f c s.number s.view k x
+  leader_has k x may at = record { sender = own.number ∙ leads_it may.leads; lead = s.log; leads = leader_log may; entry = at }
+
+  -- what its view started with
+  pub begun : MayLead (member_of s) → Begun f c s.number s.view (s.next - (length s.log - s.base)) (take s.base s.log)
+  begun may =
+      let leader : r ≡ leader_of s.view (2 * f + 1) = leads_it may.leads in
+      let at : s.last_normal ≡ s.view = own.place.normal may.normal in
+      let base = base_is (leader ∙ ap (λ (w : View). leader_of w (2 * f + 1)) (sym at)) in
+      let low = length-prefix log.start.log s.log log.begins in
+      let taken = length-take s.base s.log in
+      let count = counted in
+      record {
+        sender = own.number ∙ leader;
+        start = log.start;
+        is_start = subst (λ (w : View). IsStart c.past w log.start) at log.is_start;
+        lead = s.log;
+        leads = leader_log may;
+        within = omega (arith, base, low, taken);
+        begins = IsPrefixOf-take s.base s.log;
+        counted = omega (arith, base, low, taken, count);
+      }
+
+  -- what a replica entered its view with
+  pub entered_with_it : s.status ≡ Change → c.past.entry s.number s.view ≡ Some (entered_with (standing (member_of s)))
+  entered_with_it change =
+      subst (λ (q : ℕ). c.past.entry q s.view ≡ Some (entered_with (standing (member_of s)))) (sym own.number) (own.changes.entered change)

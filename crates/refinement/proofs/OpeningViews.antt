@@ -1,0 +1,99 @@
+-- A leader opens its view by one move, and takes what stands in front.
+use Rattle.std.proofs.Common.{◌≡◌, ℕ, Bool, true, false, Option, Some, None, refl, sym, ap, subst, ◌∙◌, length, List, ◌++◌}
+use Rattle.std.specs.Prelude.{◌==◌, nat_lt}
+use Rattle.std.proofs.lemmas.List.{append-nil, append_assoc}
+use Rattle.std.proofs.lemmas.Bool.{ltb-true}
+use Rattle.nop_types.specs.Meaning.{Meaning}
+use Rattle.nop_types.specs.declared.datagram.Reply.{Reply}
+use Rattle.nop_types.specs.declared.request.Entry.{Entry}
+use Rattle.nop_types.specs.declared.peer.Body.TheVariants as bodies
+use Rattle.log_merge.specs.Starting.{start_of}
+use Rattle.view_change.specs.Gathering.{Gathering}
+use Rattle.replica_core.specs.declared.sending.Sending.{Sending}
+use Rattle.replica_core.specs.declared.state.ReplicaState.{ReplicaState}
+use Rattle.replica_core.specs.Moves.{adopted, adopt, open_view, open_if_enough, drain}
+use Rattle.replica_core.specs.Replies.{replies_above}
+use Rattle.replica_core.specs.Sends.{Effect, then_do, when, to_all}
+use Rattle.replica_core.specs.State.{others}
+use Rattle.protocol.specs.Conf.{Conf}
+use Rattle.protocol.specs.Moves as moves
+use Rattle.protocol.specs.Moves.{MayOpenView, say_all}
+use Rattle.protocol.specs.Runs.{OpenView, run}
+use Rattle.protocol.specs.Said.{Said, StartView}
+use Rattle.refinement.specs.Projection.{member_of, said_in, replied_in}
+use Rattle.refinement.specs.Replicas.{Matches, ReplicaReaches}
+use Rattle.refinement.proofs.Composing.{matches_end, move_reaches, nothing_reaches, reaches_then_in_view}
+use Rattle.refinement.proofs.Draining.{drain_in_view}
+use Rattle.refinement.proofs.Same.{Same, said_above, replied_above}
+use Rattle.refinement.proofs.Sends.{said_in-append, replied_in-append, said_in-to_all, replied_in-to_all}
+
+-- moves do the step, and it enters no view
+pub record EntersNone {S : Type 0} (m : Meaning S) (f : ℕ) (c : Conf) (r : ℕ) (s : ReplicaState) (e : Effect) : Type 0 where
+  pub reaches : ReplicaReaches m f c r s e
+  pub view : e.0.view ≡ s.view
+
+module _ {S : Type 0} (m : Meaning S) where
+  module _ (s : ReplicaState) (g : Gathering) where
+    abbrev next : ℕ
+    next = (start_of g.view g.changes).next
+
+    abbrev log : List Entry
+    log = (start_of g.view g.changes).log
+
+    -- the view is adopted
+    abbrev start : ReplicaState
+    start = adopted s s.view next log
+
+    abbrev told : List Sending
+    told = to_all s (bodies.StartView next log)
+
+    abbrev replies : List Sending
+    replies = replies_above m start s.sync.sync_point
+
+    -- before what stands in front is taken
+    abbrev pub opened : Effect
+    opened = (start, told ++ replies)
+
+    pub opened_same : Same opened (moves.open_view m (member_of s) g)
+    opened_same = record {
+      state = refl;
+      said =
+          said_in-append told replies
+          ∙ ap (λ (xs : List Said). xs ++ said_in replies) (said_in-to_all (others s == 0) s (bodies.StartView next log))
+          ∙ ap (λ (xs : List Said). say_all (member_of s) (StartView next log) ++ xs) (said_above m start s.sync.sync_point)
+          ∙ append-nil (say_all (member_of s) (StartView next log));
+      replies =
+          replied_in-append told replies
+          ∙ ap (λ (xs : List Reply). xs ++ replied_in replies) (replied_in-to_all (others s == 0) s (bodies.StartView next log))
+          ∙ replied_above m start s.sync.sync_point;
+    }
+
+    pub open_view_is : open_view m g s ≡ then_do opened (drain m)
+    unfolding adopt
+    open_view_is = ap (λ (xs : List Sending). ((drain m start).0, xs)) (sym (append_assoc told replies (drain m start).1))
+
+module _ {S : Type 0} (m : Meaning S) (f : ℕ) (r : ℕ) where
+  pub open_view_reaches : (c : Conf) (s : ReplicaState) (g : Gathering) → Matches m f c r s → MayOpenView (member_of s) g
+      → EntersNone m f c r s (open_view m g s)
+  open_view_reaches c s g h may =
+      let one = move_reaches m f r c s (opened m s g) (OpenView g) h may (opened_same m s g) in
+      let two = drain_in_view m f r (run m f c one.moves) (opened m s g).0 (matches_end m f r c s (opened m s g) h one) in
+      subst (EntersNone m f c r s) (sym (open_view_is m s g)) (record {
+        reaches = reaches_then_in_view m f r c s (opened m s g) (drain m) h one (λ d i. drain_in_view m f r d (opened m s g).0 i);
+        view = two.stays.view;
+      })
+
+  open_when : (b : Bool) (c : Conf) (s : ReplicaState) (g : Gathering) → Matches m f c r s → s.changes ≡ Some g
+      → nat_lt g.f (length g.changes) ≡ b → EntersNone m f c r s (when b (open_view m g) s)
+  open_when true c s g h gathers e =
+      open_view_reaches c s g h (record { gathers = gathers; enough = ltb-true g.f (length g.changes) e })
+  open_when false c s g h gathers e = record { reaches = nothing_reaches m f r c s s h refl; view = refl }
+
+  open_by : (o : Option Gathering) (c : Conf) (s : ReplicaState) → Matches m f c r s → s.changes ≡ o
+      → EntersNone m f c r s (open_if_enough m o s)
+  open_by None c s h e = record { reaches = nothing_reaches m f r c s s h refl; view = refl }
+  open_by (Some g) c s h e = open_when (nat_lt g.f (length g.changes)) c s g h e refl
+
+  -- where enough changes are there
+  pub open_if_enough_reaches : (c : Conf) (s : ReplicaState) → Matches m f c r s → EntersNone m f c r s (open_if_enough m s.changes s)
+  open_if_enough_reaches c s h = open_by s.changes c s h refl

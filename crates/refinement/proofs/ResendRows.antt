@@ -1,0 +1,93 @@
+-- The rows of the ticks Resend and Sync.
+use Rattle.std.proofs.Common.{◌≡◌, ℕ, ◌+◌, Bool, true, false, Option, None, Some, refl, length}
+use Rattle.std.specs.Prelude.{◌&&◌, ◌==◌, not, nat_lt}
+use Rattle.std.proofs.lemmas.Bool.{and_parts, ltb-true}
+use Rattle.nop_types.specs.declared.peer.Body.{Body}
+use Rattle.nop_types.specs.declared.peer.Body.TheVariants as bodies
+use Rattle.nop_types.specs.declared.replica_state.Phase.{Phase}
+use Rattle.nop_types.specs.declared.replica_state.Phase.TheVariants.{Normal, Change}
+use Rattle.nop_types.specs.declared.request.Entry.TheVariants.{NoOp}
+use Rattle.nop_types.specs.Meaning.{Meaning}
+use Rattle.gap_agree.specs.Agreement.{Agreement}
+use Rattle.oum_receiver.specs.Front.{Front, Nothing, Message, Dropped}
+use Rattle.oum_receiver.specs.Receiving.{front_of}
+use Rattle.replica_core.specs.declared.state.ReplicaState.{ReplicaState}
+use Rattle.replica_core.specs.State.{others, leads, is_normal, waits, has_room}
+use Rattle.replica_core.specs.Sends.{to_all_if, to_all, to_leader}
+use Rattle.replica_core.specs.Moves.{change_told, open_sync, repeat_commit}
+use Rattle.replica_core.specs.Rows.{gap_again, lookup_again, change_again, resend_by, resend, sync_if, sync}
+use Rattle.protocol.specs.Conf.{Conf}
+use Rattle.protocol.specs.Member.{standing}
+use Rattle.protocol.specs.Moves.{MaySay, MayLead}
+use Rattle.protocol.specs.Runs.{Say, OpenSync, RepeatCommit}
+use Rattle.protocol.specs.Said.{Plain, ViewChange}
+use Rattle.refinement.specs.Projection.{member_of, word_of}
+use Rattle.refinement.specs.Replicas.{Matches}
+use Rattle.refinement.proofs.Composing.{InView, in_view_then, nothing_in_view, move_in_view, when_in_view}
+use Rattle.refinement.proofs.Matching.{own, leader_has, entered_with_it}
+use Rattle.refinement.proofs.Parts.{stays_still}
+use Rattle.refinement.proofs.Same.{open_sync_same, repeat_commit_same}
+use Rattle.refinement.proofs.Staying.{normal_from, no_gap_from}
+
+module _ {S : Type 0} (m : Meaning S) (f : ℕ) (c : Conf) (r : ℕ) (s : ReplicaState) (h : Matches m f c r s) where
+  -- a true word is said to all
+  to_all_in_view : (b : Bool) (body : Body) → MaySay f c (member_of s) (word_of body) → InView m f c r s (s, to_all_if b s body)
+  to_all_in_view true body may = nothing_in_view m f r c s s h refl
+  to_all_in_view false body may =
+      move_in_view m f r c s (s, to_all_if false s body) (Say (word_of body)) h may (record { state = refl; said = refl; replies = refl })
+      (stays_still f r (standing (member_of s)))
+
+  -- what waits is said again
+
+  gap_again_in_view : (g : Option Agreement) → s.gap ≡ g → MayLead (member_of s) → InView m f c r s (gap_again g s)
+  gap_again_in_view None e may = nothing_in_view m f r c s s h refl
+  gap_again_in_view (Some g) e may =
+      to_all_in_view (others s == 0) (bodies.GapCommit g.slot)
+      (leader_has m f c r s h g.slot NoOp may ((own m f c r s h).gap.waits g e).noop)
+
+  lookup_again_in_view : (front : Front) → InView m f c r s (lookup_again front s)
+  lookup_again_in_view Nothing = nothing_in_view m f r c s s h refl
+  lookup_again_in_view (Message q) = nothing_in_view m f r c s s h refl
+  lookup_again_in_view Dropped = when_in_view m f r c s (has_room s) _ h (λ e.
+      move_in_view m f r c s (s, to_leader s (bodies.SlotLookup (length s.log + 1))) (Say Plain) h tt
+      (record { state = refl; said = refl; replies = refl }) (stays_still f r (standing (member_of s))))
+
+  change_again_in_view : (b : Bool) → s.status ≡ Change → InView m f c r s (change_again b s)
+  change_again_in_view true change = nothing_in_view m f r c s s h refl
+  change_again_in_view false change =
+      move_in_view m f r c s (s, change_told s) (Say (ViewChange s.last_normal s.next s.log)) h (entered_with_it m f c r s h change)
+      (record { state = refl; said = refl; replies = refl }) (stays_still f r (standing (member_of s)))
+
+  -- ---- sync points
+
+  sync_if_in_view : (b : Bool) → nat_lt s.sync.sync_point (length s.log) ≡ b → MayLead (member_of s) → s.gap ≡ None
+      → InView m f c r s (sync_if b s)
+  sync_if_in_view true longer may none =
+      move_in_view m f r c s (open_sync s) OpenSync h
+      (record { may_lead = may; no_gap = none; longer = ltb-true s.sync.sync_point (length s.log) longer })
+      (open_sync_same s) (stays_still f r (standing (member_of s)))
+  sync_if_in_view false longer may none =
+      move_in_view m f r c s (repeat_commit s) RepeatCommit h may (repeat_commit_same s) (stays_still f r (standing (member_of s)))
+
+  pub sync_in_view : InView m f c r s (sync s)
+  unfolding sync
+  sync_in_view = when_in_view m f r c s (is_normal s.status && (leads s && not (waits s.gap))) _ h (λ e.
+      let one = and_parts (is_normal s.status) (leads s && not (waits s.gap)) e in
+      let two = and_parts (leads s) (not (waits s.gap)) one.1 in
+      sync_if_in_view (nat_lt s.sync.sync_point (length s.log)) refl
+      (record { normal = normal_from s.status one.0; leads = two.0 }) (no_gap_from s.gap two.1))
+
+-- ---- what was not answered
+
+module _ {S : Type 0} (m : Meaning S) (f : ℕ) (c : Conf) (r : ℕ) (s : ReplicaState) (h : Matches m f c r s) where
+  resend_by_in_view : (p : Phase) (b : Bool) → s.status ≡ p → leads s ≡ b → InView m f c r s (resend_by p b s)
+  resend_by_in_view Change b status leading =
+      in_view_then m f r c s (s, to_all s bodies.ViewChangeReq) (change_again b) h
+      (to_all_in_view m f c r s h (others s == 0) bodies.ViewChangeReq tt)
+      (λ d g. change_again_in_view m f d r s g b status)
+  resend_by_in_view Normal true status leading = gap_again_in_view m f c r s h s.gap refl (record { normal = status; leads = leading })
+  resend_by_in_view Normal false status leading = lookup_again_in_view m f c r s h (front_of s.receiver)
+
+  pub resend_in_view : InView m f c r s (resend s)
+  unfolding resend
+  resend_in_view = resend_by_in_view s.status (leads s) refl refl

@@ -1,0 +1,192 @@
+-- Each move of the core is that of the protocol.
+use Rattle.std.proofs.Common.{◌≡◌, ℕ, Bool, true, false, Option, Some, None, refl, ap, ◌∙◌, List, [], ◌∷◌, ◌++◌, length}
+use Rattle.std.specs.Prelude.{◌==◌, ◌+◌, drop}
+use Rattle.std.proofs.lemmas.List.{append-nil}
+use Rattle.nop_types.specs.Meaning.{Meaning}
+use Rattle.nop_types.specs.Execution.{result_at}
+use Rattle.nop_types.specs.declared.datagram.Reply.{Reply}
+use Rattle.nop_types.specs.declared.request.Request.{Request}
+use Rattle.nop_types.specs.declared.request.Entry.{Entry}
+use Rattle.nop_types.specs.declared.request.Entry.TheVariants.{NoOp, Req}
+use Rattle.nop_types.specs.declared.replica_state.Vote.{Vote}
+use Rattle.nop_types.specs.declared.replica_state.Vote.TheVariants.{Settled, Waiting}
+use Rattle.nop_types.specs.declared.peer.Body.TheVariants as bodies
+use Rattle.nop_types.specs.declared.view.View.{View}
+use Rattle.sync_points.specs.Synchronisation.{vote_for}
+use Rattle.replica_core.specs.declared.sending.Sending.{Sending}
+use Rattle.replica_core.specs.declared.state.ReplicaState.{ReplicaState}
+use Rattle.replica_core.specs.State as core_state
+use Rattle.replica_core.specs.Sends as core_sends
+use Rattle.replica_core.specs.Sends.{to_all_if, to_leader}
+use Rattle.replica_core.specs.Replies as core_replies
+use Rattle.replica_core.specs.Replies.{reply_to}
+use Rattle.replica_core.specs.Moves as core
+use Rattle.replica_core.specs.Moves.{open_gap, enter, overlay}
+use Rattle.protocol.specs.Conf.{Effect}
+use Rattle.protocol.specs.Said.{Said}
+use Rattle.protocol.specs.Replies as replies
+use Rattle.protocol.specs.Moves as moves
+use Rattle.refinement.specs.Projection.{member_of, said_in, replied_in}
+use Rattle.refinement.proofs.Sends.{said_in-append, replied_in-append, said_in-to_all, replied_in-to_all}
+
+-- the core's effect is that of the move
+pub record Same (e : core_sends.Effect) (x : Effect) : Type 0 where
+  pub state : member_of e.0 ≡ x.state
+  pub said : said_in e.1 ≡ x.said
+  pub replies : replied_in e.1 ≡ x.replies
+
+-- ---- replies
+
+leader_said : (s : ReplicaState) (slot : ℕ) (r : Request) (o : Option (List ℕ)) → said_in (core_replies.leader_reply s slot r o) ≡ []
+leader_said s slot r None = refl
+leader_said s slot r (Some result) = refl
+
+leader_replied : (s : ReplicaState) (slot : ℕ) (r : Request) (o : Option (List ℕ))
+    → replied_in (core_replies.leader_reply s slot r o) ≡ replies.leader_reply (member_of s) slot r o
+leader_replied s slot r None = refl
+leader_replied s slot r (Some result) = refl
+
+module _ {S : Type 0} (m : Meaning S) where
+  reply_said_if : (b : Bool) (s : ReplicaState) (slot : ℕ) (r : Request) → said_in (core_replies.reply_if m b s slot r) ≡ []
+  reply_said_if true s slot r = leader_said s slot r (result_at m s.log slot)
+  reply_said_if false s slot r = refl
+
+  reply_replied_if : (b : Bool) (s : ReplicaState) (slot : ℕ) (r : Request)
+      → replied_in (core_replies.reply_if m b s slot r) ≡ replies.reply_if m b (member_of s) slot r
+  reply_replied_if true s slot r = leader_replied s slot r (result_at m s.log slot)
+  reply_replied_if false s slot r = refl
+
+  reply_said : (s : ReplicaState) (slot : ℕ) (r : Request) → said_in (reply_to m s slot r) ≡ []
+  unfolding reply_to
+  reply_said s slot r = reply_said_if (core_state.leads s) s slot r
+
+  reply_replied : (s : ReplicaState) (slot : ℕ) (r : Request) → replied_in (reply_to m s slot r) ≡ replies.reply_to m (member_of s) slot r
+  unfolding reply_to
+  reply_replied s slot r = reply_replied_if (core_state.leads s) s slot r
+
+  entry_said : (s : ReplicaState) (slot : ℕ) (e : Entry) → said_in (core_replies.reply_for m s slot e) ≡ []
+  entry_said s slot NoOp = refl
+  entry_said s slot (Req r) = reply_said s slot r
+
+  entry_replied : (s : ReplicaState) (slot : ℕ) (e : Entry)
+      → replied_in (core_replies.reply_for m s slot e) ≡ replies.reply_for m (member_of s) slot e
+  entry_replied s slot NoOp = refl
+  entry_replied s slot (Req r) = reply_replied s slot r
+
+  replies_said : (s : ReplicaState) (slot : ℕ) (l : List Entry) → said_in (core_replies.replies_to m s slot l) ≡ []
+  replies_said s slot [] = refl
+  replies_said s slot (e ∷ l) =
+      said_in-append (core_replies.reply_for m s slot e) (core_replies.replies_to m s (slot + 1) l)
+      ∙ ap (λ (xs : List Said). xs ++ said_in (core_replies.replies_to m s (slot + 1) l)) (entry_said s slot e)
+      ∙ replies_said s (slot + 1) l
+
+  replies_replied : (s : ReplicaState) (slot : ℕ) (l : List Entry)
+      → replied_in (core_replies.replies_to m s slot l) ≡ replies.replies_to m (member_of s) slot l
+  replies_replied s slot [] = refl
+  replies_replied s slot (e ∷ l) =
+      replied_in-append (core_replies.reply_for m s slot e) (core_replies.replies_to m s (slot + 1) l)
+      ∙ ap (λ (xs : List Reply). xs ++ replied_in (core_replies.replies_to m s (slot + 1) l)) (entry_replied s slot e)
+      ∙ ap (λ (xs : List Reply). replies.reply_for m (member_of s) slot e ++ xs) (replies_replied s (slot + 1) l)
+
+  -- the replies for the slots above one
+  pub said_above : (s : ReplicaState) (slot : ℕ) → said_in (core_replies.replies_above m s slot) ≡ []
+  said_above s slot = replies_said s (slot + 1) (drop slot s.log)
+
+  pub replied_above : (s : ReplicaState) (slot : ℕ)
+      → replied_in (core_replies.replies_above m s slot) ≡ replies.replies_above m (member_of s) slot
+  replied_above s slot = replies_replied s (slot + 1) (drop slot s.log)
+
+  -- ---- moves that reply
+
+  pub take_front_same : (s : ReplicaState) (r : Request) → Same (core.take_front m s r) (moves.take_front m (member_of s) r)
+  take_front_same s r = record {
+    state = refl;
+    said = reply_said (core.logged s r) (length s.log + 1) r;
+    replies = reply_replied (core.logged s r) (length s.log + 1) r;
+  }
+
+  pub fill_same : (s : ReplicaState) (r : Request) → Same (core.fill m s r) (moves.fill m (member_of s) r)
+  fill_same s r = record {
+    state = refl;
+    said = reply_said (core.appended s (Req r)) (length s.log + 1) r;
+    replies = reply_replied (core.appended s (Req r)) (length s.log + 1) r;
+  }
+
+  pub overlay_same : (s : ReplicaState) (l : List Entry) → Same (overlay m s l) (moves.overlay m (member_of s) l)
+  unfolding overlay
+  overlay_same s l =
+      let t : ReplicaState = core.overlaid s l in
+      let above : List Sending = core_replies.replies_above m t (length s.log) in
+      let told : List Sending = to_leader s (bodies.SyncRep (length l)) in
+      record {
+        state = refl;
+        said = said_in-append above told ∙ ap (λ (xs : List Said). xs ++ said_in told) (said_above t (length s.log));
+        replies =
+            replied_in-append above told
+            ∙ append-nil (replied_in above)
+            ∙ replied_above t (length s.log);
+      }
+
+-- ---- moves of one place
+
+pub open_gap_same : (s : ReplicaState) → Same (open_gap s) (moves.open_gap (member_of s))
+unfolding open_gap
+open_gap_same s = record {
+  state = refl;
+  said = said_in-to_all (core_state.others s == 0) s (bodies.GapCommit (length s.log + 1));
+  replies = replied_in-to_all (core_state.others s == 0) s (bodies.GapCommit (length s.log + 1));
+}
+
+pub open_sync_same : (s : ReplicaState) → Same (core.open_sync s) (moves.open_sync (member_of s))
+open_sync_same s = record {
+  state = refl;
+  said = said_in-to_all (core_state.others s == 0) s (bodies.SyncPrepare s.log);
+  replies = replied_in-to_all (core_state.others s == 0) s (bodies.SyncPrepare s.log);
+}
+
+pub repeat_commit_same : (s : ReplicaState) → Same (core.repeat_commit s) (moves.repeat_commit (member_of s))
+repeat_commit_same s = record {
+  state = refl;
+  said = said_in-to_all (core_state.others s == 0) s (bodies.SyncCommit s.sync.sync_point);
+  replies = replied_in-to_all (core_state.others s == 0) s (bodies.SyncCommit s.sync.sync_point);
+}
+
+commit_said : (s : ReplicaState) (k : ℕ) (v : Vote) → said_in (core.commit_if s k v) ≡ moves.commit_if (member_of s) k v
+commit_said s k Settled = said_in-to_all (core_state.others s == 0) s (bodies.SyncCommit k)
+commit_said s k Waiting = refl
+
+commit_replied : (s : ReplicaState) (k : ℕ) (v : Vote) → replied_in (core.commit_if s k v) ≡ []
+commit_replied s k Settled = replied_in-to_all (core_state.others s == 0) s (bodies.SyncCommit k)
+commit_replied s k Waiting = refl
+
+pub count_sync_vote_same : (s : ReplicaState) (q k : ℕ) → Same (core.count_sync_vote s q k) (moves.count_sync_vote (member_of s) q k)
+count_sync_vote_same s q k = record {
+  state = refl;
+  said = commit_said s k (vote_for s.sync q k);
+  replies = commit_replied s k (vote_for s.sync q k);
+}
+
+-- ---- a view is entered
+
+enter_as_same : (b : Bool) (s : ReplicaState) → Same (core.enter_as b s) (moves.enter_as b (member_of s))
+enter_as_same true s = record {
+  state = refl;
+  said = said_in-to_all (core_state.others s == 0) s bodies.ViewChangeReq;
+  replies = replied_in-to_all (core_state.others s == 0) s bodies.ViewChangeReq;
+}
+enter_as_same false s =
+    let asked : List Sending = to_all_if (core_state.others s == 0) s bodies.ViewChangeReq in
+    let told : List Sending = core.change_told s in
+    record {
+      state = refl;
+      said =
+          said_in-append asked told
+          ∙ ap (λ (xs : List Said). xs ++ said_in told) (said_in-to_all (core_state.others s == 0) s bodies.ViewChangeReq);
+      replies =
+          replied_in-append asked told
+          ∙ ap (λ (xs : List Reply). xs ++ replied_in told) (replied_in-to_all (core_state.others s == 0) s bodies.ViewChangeReq);
+    }
+
+pub enter_same : (s : ReplicaState) (v : View) → Same (enter s v) (moves.enter (member_of s) v)
+unfolding enter
+enter_same s v = enter_as_same (core_state.leads (core.entered s v)) (core.entered s v)

@@ -1,0 +1,10 @@
+pub mod Projection
+pub mod Replicas
+pub mod Datagrams
+pub mod Lines
+pub mod Steps
+pub mod Clients
+pub mod Sequencers
+pub mod Controllers
+pub mod Ranges
+pub mod Openings

@@ -1,0 +1,56 @@
+-- What the protocol sees of a replica's state and of what it sends.
+use Rattle.std.specs.Prelude.{List, [], ◌∷◌}
+use Rattle.nop_types.specs.declared.datagram.Reply.{Reply}
+use Rattle.nop_types.specs.declared.peer.Peer.{Peer}
+use Rattle.nop_types.specs.declared.peer.Body.{Body}
+use Rattle.nop_types.specs.declared.peer.Body.TheVariants as bodies
+use Rattle.replica_core.specs.declared.sending.Sending.{Sending}
+use Rattle.replica_core.specs.declared.sending.Sending.TheVariants.{ToClient, ToReplicas}
+use Rattle.replica_core.specs.declared.state.ReplicaState.{ReplicaState}
+use Rattle.protocol.specs.Member.{Member}
+use Rattle.protocol.specs.Said.{Said, Word, Plain, Found, GapCommit, GapRep, ViewChange, StartView, SyncPrepare, SyncRep, SyncCommit, says}
+
+-- without what keeps no promise to others: the slot that was asked for last, and whether the leader was heard
+abbrev pub member_of : ReplicaState → Member
+member_of s =
+    record {
+      number = s.number;
+      replicas = s.config.replicas;
+      view = s.view;
+      status = s.status;
+      last_normal = s.last_normal;
+      log = s.log;
+      next = s.next;
+      base = s.base;
+      receiver = s.receiver;
+      gap = s.gap;
+      sync = s.sync;
+      changes = s.changes;
+    }
+
+abbrev pub word_of : Body → Word
+word_of (bodies.SlotLookup k) = Plain
+word_of (bodies.Found k r) = Found k r
+word_of (bodies.GapCommit k) = GapCommit k
+word_of (bodies.GapRep k) = GapRep k
+word_of bodies.ViewChangeReq = Plain
+word_of (bodies.ViewChange u x l) = ViewChange u x l
+word_of (bodies.StartView x l) = StartView x l
+word_of (bodies.SyncPrepare l) = SyncPrepare l
+word_of (bodies.SyncRep k) = SyncRep k
+word_of (bodies.SyncCommit k) = SyncCommit k
+
+abbrev pub said_of : Peer → Said
+said_of p = says p.sender p.view (word_of p.body)
+
+-- what is said to other replicas, whoever they are
+abbrev pub said_in : List Sending → List Said
+said_in [] = []
+said_in (ToClient r ∷ sends) = said_in sends
+said_in (ToReplicas dest p ∷ sends) = said_of p ∷ said_in sends
+
+-- the replies to clients
+abbrev pub replied_in : List Sending → List Reply
+replied_in [] = []
+replied_in (ToClient r ∷ sends) = r ∷ replied_in sends
+replied_in (ToReplicas dest p ∷ sends) = replied_in sends

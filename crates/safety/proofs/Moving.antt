@@ -1,0 +1,92 @@
+-- Moves that lead from one world to a later one.
+use Rattle.std.proofs.Common.{◌≡◌, ℕ, ◌+◌, ◌*◌, refl, sym, ap, subst, ◌∙◌, arith, List, [], ◌∷◌, ◌++◌, append_assoc}
+use Rattle.nop_types.specs.Configuration.{Configuration}
+use Rattle.nop_types.specs.Lines.{Line}
+use Rattle.nop_types.specs.Meaning.{Meaning}
+use Rattle.protocol.specs.Conf.{Conf, opening}
+use Rattle.protocol.specs.Evolves.{Keeps}
+use Rattle.protocol.specs.Invariant.{Inv}
+use Rattle.protocol.specs.Moves.{tell}
+use Rattle.protocol.specs.Runs.{Move, Tell, run, MayAll}
+use Rattle.protocol.proofs.Opening.{opening_meets}
+use Rattle.protocol.proofs.Runs.{moves_keep}
+use Rattle.world.specs.WorldSteps.{WorldState, Happened}
+use Rattle.refinement.proofs.Runs.{run-append, may_all-append}
+use Rattle.safety.specs.Passed.{Passed, faults, noted, passes}
+use Rattle.safety.proofs.At.{Stands, Ran, At, Later, Goes}
+use Rattle.safety.proofs.Fitting.{sent_lasts}
+
+-- ---- lines that neither submit nor accept
+
+keeps_told : (c : Conf) (more : List Line) → Keeps c (tell c more)
+keeps_told c more = record {
+  requests = λ r h. h;
+  stamps = λ x h. h;
+  replies = λ y h. h;
+  installs = λ x h. h;
+  said = λ x h. h;
+  lines = (more, refl);
+}
+
+stands_told : (f : ℕ) (config : Configuration) (w : WorldState) (c : Conf) (more : List Line) → Stands f config w c
+    → Stands f config w (tell c more)
+stands_told f config w c more h = record {
+  same = h.same;
+  actors = record {
+    is_configuration = h.actors.is_configuration;
+    config = h.actors.config;
+    replica_count = h.actors.replica_count;
+    sequencer_count = h.actors.sequencer_count;
+    client_count = h.actors.client_count;
+    replicas = h.actors.replicas;
+    sequencers = h.actors.sequencers;
+    clients = h.actors.clients;
+    controller = h.actors.controller;
+  };
+  carries = record {
+    only = λ s x i e. sent_lasts c (tell c more) (keeps_told c more) x (h.carries.only s x i e);
+    requests = h.carries.requests;
+    stamps = h.carries.stamps;
+    replies = h.carries.replies;
+    installs = h.carries.installs;
+  };
+  talks = h.talks;
+  ranges = h.ranges;
+}
+
+module _ {S : Type 0} (m : Meaning S) (f : ℕ) (config : Configuration) where
+  -- ---- from the opening
+
+  pub ran_holds : config.replicas ≡ 2 * f + 1 → (c : Conf) → Ran m f config c → Inv m f c
+  ran_holds count c ran =
+      subst (Inv m f) ran.is (moves_keep m f (opening config) ran.moves (opening_meets m f config count) ran.may).0
+
+  pub ran_on : (c : Conf) (xs : List Move) → Ran m f config c → MayAll m f c xs → Ran m f config (run m f c xs)
+  ran_on c xs ran may = record {
+    moves = ran.moves ++ xs;
+    may = may_all-append m f (opening config) ran.moves xs ran.may (subst (λ (d : Conf). MayAll m f d xs) (sym ran.is) may);
+    is = run-append m f (opening config) ran.moves xs ∙ ap (λ (d : Conf). run m f d xs) ran.is;
+  }
+
+  -- ---- one event
+
+  pub goes_later : (p : Passed) (c : Conf) (h : Happened) → At m f config p c → Goes m f config p c h → Later m f config c (passes p h)
+  goes_later p c h at go =
+      let d = run m f c go.moves in
+      let told : List Move = Tell go.others ∷ [] in
+      let may : MayAll m f c (go.moves ++ told) = may_all-append m f c go.moves told go.may (go.tells, tt) in
+      let is : run m f c (go.moves ++ told) ≡ tell d go.others = run-append m f c go.moves told in
+      let half : faults p.world ≡ f = omega (arith, at.stands.actors.config) in
+      record {
+        moves = go.moves ++ told;
+        may = may;
+        at = record {
+          ran = ran_on c (go.moves ++ told) at.ran may;
+          stands = subst (Stands f config h.world) (sym is) (stands_told f config h.world d go.others go.stands);
+          lines = ap (λ (t : List Line). p.lines ++ t) go.are ∙ ap (λ (t : List Line). t ++ (go.said ++ go.others)) at.lines
+              ∙ sym (append_assoc c.lines go.said go.others) ∙ ap (λ (t : List Line). t ++ go.others) (sym go.lines)
+              ∙ ap (λ (e : Conf). e.lines) (sym is);
+          past = ap (λ (n : ℕ). noted n p.past 0 p.world.replicas h.world.replicas) half ∙ go.past
+              ∙ ap (λ (e : Conf). e.past) (sym is);
+        };
+      }

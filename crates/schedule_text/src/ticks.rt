@@ -1,0 +1,51 @@
+//! The ticks that a schedule may give.
+
+ghost use Rattle.std.specs.Prelude.{◌≡◌};
+ghost use Rattle.schedule_text.specs.Ticks.{tick_named, takes_tick};
+
+use crate::split::is_word;
+use nop_types::{Actor, Tick};
+
+/// The tick that the field names.
+#[tactic(auto, unfolding(crate::specs::Ticks::tick_named))]
+pub fn tick_named(field: &[u8]) -> Option<Tick>
+    ensures { result ≡ tick_named field.now }
+{
+    if is_word(field, "suspect") {
+        return Some(Tick::Suspect);
+    }
+    if is_word(field, "watch") {
+        return Some(Tick::Watch);
+    }
+    if is_word(field, "resend") {
+        return Some(Tick::Resend);
+    }
+    if is_word(field, "sync") {
+        return Some(Tick::Sync);
+    }
+    if is_word(field, "retry") {
+        return Some(Tick::Retry);
+    }
+    if is_word(field, "probe") {
+        return Some(Tick::Probe);
+    }
+    None
+}
+
+/// Whether a schedule may give the actor this tick. It gives no one Next, which is a timer of nodes
+/// alone, nor Install, which is an event of its own.
+pub fn takes_tick(actor: Actor, tick: Tick) -> bool
+    ensures { result ≡ takes_tick actor tick }
+{
+    match actor {
+        Actor::Replica(_) => {
+            matches!(
+                tick,
+                Tick::Suspect | Tick::Watch | Tick::Resend | Tick::Sync
+            )
+        }
+        Actor::Sequencer(_) => false,
+        Actor::Client(_) => matches!(tick, Tick::Retry),
+        Actor::Controller => matches!(tick, Tick::Probe | Tick::Resend),
+    }
+}

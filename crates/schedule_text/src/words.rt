@@ -1,0 +1,109 @@
+//! The words of a schedule's lines: the event that the fields after a word give, or the first rule
+//! that they break.
+
+ghost use Rattle.std.specs.Prelude.{◌≡◌};
+ghost use Rattle.std.specs.Option.{option_copied};
+ghost use Rattle.schedule_text.specs.LineAnswer.{IsAnswer};
+ghost use Rattle.schedule_text.specs.Rules.{
+  submit_event,
+  submit_of,
+  deliver_event,
+  deliver_of,
+  tick_event,
+  tick_of,
+  install_of,
+  crash_of,
+  junk_event,
+  junk_of,
+};
+ghost use Rattle.schedule_text.specs.Split.{other_fields};
+
+use crate::event::Event;
+use crate::line_error::LineError;
+use crate::rule::Rule;
+use crate::spelling::{actor, bytes, number, op};
+use crate::split::{one_field, two_fields};
+use crate::ticks::{takes_tick, tick_named};
+use nop_types::{Actor, Config, MAX_DATAGRAM_BYTES, MAX_OP_BYTES};
+use std::alloc::Global;
+
+/// The most characters of an op.
+const MAX_OP_TEXT: usize = 2 * MAX_OP_BYTES;
+
+/// The most characters of junk.
+const MAX_JUNK_TEXT: usize = 2 * MAX_DATAGRAM_BYTES;
+
+/// `submit cN HEX`
+pub fn submit(alloc: Global, config: Config, rest: Option<&[u8]>) -> Result<Event, LineError>
+    ensures { IsAnswer result (submit_of config (other_fields (option_copied rest.entry))) }
+{
+    let (client, text) = two_fields(rest)?;
+    if text.len() > MAX_OP_TEXT {
+        return Err(LineError::Breaks(Rule::WrongField));
+    }
+    let Some(op) = op(alloc, text)? else {
+        return Err(LineError::Breaks(Rule::WrongHex));
+    };
+    match actor(config, client) {
+        Some(Actor::Client(number)) => Ok(Event::Submit(number, op)),
+        _ => Err(LineError::Breaks(Rule::WrongActor)),
+    }
+}
+
+/// `deliver I ACTOR`
+pub fn deliver(config: Config, rest: Option<&[u8]>) -> Result<Event, Rule>
+    ensures { result ≡ deliver_of config (other_fields (option_copied rest.entry)) }
+{
+    let (index, to) = two_fields(rest)?;
+    let index = number(index).ok_or(Rule::WrongField)?;
+    let to = actor(config, to).ok_or(Rule::WrongActor)?;
+    Ok(Event::Deliver(index, to))
+}
+
+/// `tick ACTOR KIND`
+pub fn tick(config: Config, rest: Option<&[u8]>) -> Result<Event, Rule>
+    ensures { result ≡ tick_of config (other_fields (option_copied rest.entry)) }
+{
+    let (one, kind) = two_fields(rest)?;
+    let one = actor(config, one).ok_or(Rule::WrongActor)?;
+    let tick = tick_named(kind).ok_or(Rule::WrongActor)?;
+    if !takes_tick(one, tick) {
+        return Err(Rule::WrongActor);
+    }
+    Ok(Event::Tick(one, tick))
+}
+
+/// `install sN`
+pub fn install(config: Config, rest: Option<&[u8]>) -> Result<Event, Rule>
+    ensures { result ≡ install_of config (other_fields (option_copied rest.entry)) }
+{
+    match actor(config, one_field(rest)?) {
+        Some(Actor::Sequencer(number)) => Ok(Event::Install(number)),
+        _ => Err(Rule::WrongActor),
+    }
+}
+
+/// `crash ACTOR`
+pub fn crash(config: Config, rest: Option<&[u8]>) -> Result<Event, Rule>
+    ensures { result ≡ crash_of config (other_fields (option_copied rest.entry)) }
+{
+    let one = actor(config, one_field(rest)?).ok_or(Rule::WrongActor)?;
+    Ok(Event::Crash(one))
+}
+
+/// `junk ACTOR HEX`
+pub fn junk(alloc: Global, config: Config, rest: Option<&[u8]>) -> Result<Event, LineError>
+    ensures { IsAnswer result (junk_of config (other_fields (option_copied rest.entry))) }
+{
+    let (to, text) = two_fields(rest)?;
+    if text.len() > MAX_JUNK_TEXT {
+        return Err(LineError::Breaks(Rule::WrongField));
+    }
+    let Some(bytes) = bytes(alloc, text)? else {
+        return Err(LineError::Breaks(Rule::WrongHex));
+    };
+    match actor(config, to) {
+        Some(to) => Ok(Event::Junk(to, bytes)),
+        None => Err(LineError::Breaks(Rule::WrongActor)),
+    }
+}

@@ -1,0 +1,164 @@
+-- Events that change nothing.
+use Rattle.std.proofs.Common.{◌≡◌, ℕ, Bool, true, false, List, [], ◌∷◌, ◌++◌, Option, Some, None, Result, Ok, Err, refl, sym, ap, ◌∙◌}
+use Rattle.std.specs.Prelude.{slice_get, slice_set}
+use Rattle.std.proofs.lemmas.List.{append-nil}
+use Rattle.nop_types.specs.Given.{Given, Packet}
+use Rattle.nop_types.specs.Lines.{Dead}
+use Rattle.nop_types.specs.Meaning.{Meaning}
+use Rattle.nop_types.specs.declared.datagram.Datagram.{Datagram}
+use Rattle.nop_types.specs.declared.output.Actor.{Actor}
+use Rattle.nop_types.specs.declared.output.Actor.TheVariants as actors
+use Rattle.nop_types.specs.declared.output.Out.{Out}
+use Rattle.oum_codec.specs.declared.bad.Bad.{Bad}
+use Rattle.oum_codec.specs.Reading.{reading}
+use Rattle.client_quorum.specs.ClientSteps as client
+use Rattle.replica_core.specs.ReplicaSteps as replica
+use Rattle.replica_core.specs.ReplicaSteps.{Replica}
+use Rattle.sequencer.specs.SequencerSteps as sequencer
+use Rattle.session_control.specs.ControllerSteps as controller
+use Rattle.client_quorum.specs.declared.state.ClientState.{ClientState}
+use Rattle.sequencer.specs.declared.state.SequencerState.{SequencerState}
+use Rattle.session_control.specs.declared.state.ControllerState.{ControllerState}
+use Rattle.schedule_text.specs.declared.event.Event.{Event}
+use Rattle.schedule_text.specs.declared.event.Event.TheVariants.{Junk}
+use Rattle.world.specs.Network.{Sent, sends_by}
+use Rattle.world.specs.Seats.{Seated, Stimulus, Takes, Did, Nothing, Outputs, seated, moved_if}
+use Rattle.world.specs.WorldSteps.{WorldState, Refusal, Happened, actor_of, junk_of, stimulus_of, crashed_in, has_crashed}
+use Rattle.world.specs.WorldSteps.{at_replica, at_sequencer, at_client, at_controller, then_at, step_at, step_of, step}
+use Rattle.world.proofs.Places.{slice_set-found}
+
+-- ---- an actor that stays as it is and sends nothing
+
+pub record Idles {S : Type 0} (f : Seated S × Did → Happened) (o : Option (Seated S)) (h : Happened) (did : Did) : Type 0 where
+  pub seat : Seated S
+  pub found : o ≡ Some seat
+  pub is : h ≡ f (seat, did)
+
+module _ (w : WorldState) (did : Did) (silent : (from : Actor) → sends_by from did ≡ []) where
+  unsent : (from : Actor) → w.sent ++ sends_by from did ≡ w.sent
+  unsent from = ap (λ (more : List Sent). w.sent ++ more) (silent from) ∙ append-nil w.sent
+
+  stays : (v : WorldState) (from : Actor) → v ≡ w → record v { sent = w.sent ++ sends_by from did } ≡ w
+  stays v from same = ap (λ (u : WorldState). record u { sent = w.sent ++ sends_by from did }) same
+      ∙ ap (λ (s : List Sent). record w { sent = s }) (unsent from)
+
+  replica_idles : (i : ℕ) (p : Seated Replica) → slice_get w.replicas i ≡ Some p → (at_replica w i (p, did)).world ≡ w
+  replica_idles i p found = stays (record w { replicas = slice_set w.replicas i p }) (actors.Replica i)
+      (ap (λ (ps : List (Seated Replica)). record w { replicas = ps }) (slice_set-found w.replicas i p found))
+
+  sequencer_idles : (i : ℕ) (p : Seated SequencerState) → slice_get w.sequencers i ≡ Some p → (at_sequencer w i (p, did)).world ≡ w
+  sequencer_idles i p found = stays (record w { sequencers = slice_set w.sequencers i p }) (actors.Sequencer i)
+      (ap (λ (ps : List (Seated SequencerState)). record w { sequencers = ps }) (slice_set-found w.sequencers i p found))
+
+  client_idles : (i : ℕ) (p : Seated ClientState) → slice_get w.clients i ≡ Some p → (at_client w i (p, did)).world ≡ w
+  client_idles i p found = stays (record w { clients = slice_set w.clients i p }) (actors.Client i)
+      (ap (λ (ps : List (Seated ClientState)). record w { clients = ps }) (slice_set-found w.clients i p found))
+
+  controller_idles : (p : Seated ControllerState) → w.controller ≡ p → (at_controller w (p, did)).world ≡ w
+  controller_idles p same = stays (record w { controller = p }) actors.Controller
+      (ap (λ (q : Seated ControllerState). record w { controller = q }) (sym same))
+
+-- ---- a crashed actor
+
+rests : {S : Type 0} (next : S → Given → S × List Out) (f : Seated S × Did → Happened) (o : Option (Seated S))
+    (what : Result Stimulus Refusal) (h : Happened) → crashed_in o ≡ true → then_at f (step_at next o what) ≡ Ok h → Idles f o h Nothing
+rests next f None what h c e = absurd cc
+rests next f (Some p) (Err refusal) h c e = absurd cc
+rests {S} next f (Some p) (Ok x) h c e =
+    let same : f (moved_if next p.crashed p x) ≡ h = cc in
+    let rest : f (moved_if next p.crashed p x) ≡ f (p, Nothing) = ap (λ (b : Bool). f (moved_if next b p x)) c in
+    record { seat = p; found = refl; is = sym same ∙ rest }
+
+dead : (w v : WorldState) (actor : Actor) (h : Happened) → h ≡ record { world = v; lines = Dead actor ∷ [] } → v ≡ w
+    → h ≡ record { world = w; lines = Dead actor ∷ [] }
+dead w v actor h e same = e ∙ ap (λ (u : WorldState). record { world = u; lines = Dead actor ∷ [] }) same
+
+crashed_rests : {S : Type 0} (m : Meaning S) (w : WorldState) (actor : Actor) (what : Result Stimulus Refusal) (h : Happened)
+    → has_crashed w actor ≡ true → step_of m w actor what ≡ Ok h → h ≡ record { world = w; lines = Dead actor ∷ [] }
+crashed_rests m w (actors.Replica i) what h c e =
+    let r = rests (replica.next m) (at_replica w i) (slice_get w.replicas i) what h c e in
+    dead w _ (actors.Replica i) h r.is (replica_idles w Nothing (λ from. refl) i r.seat r.found)
+crashed_rests m w (actors.Sequencer i) what h c e =
+    let r = rests sequencer.next (at_sequencer w i) (slice_get w.sequencers i) what h c e in
+    dead w _ (actors.Sequencer i) h r.is (sequencer_idles w Nothing (λ from. refl) i r.seat r.found)
+crashed_rests m w (actors.Client i) what h c e =
+    let r = rests client.next (at_client w i) (slice_get w.clients i) what h c e in
+    dead w _ (actors.Client i) h r.is (client_idles w Nothing (λ from. refl) i r.seat r.found)
+crashed_rests m w actors.Controller what h c e =
+    let r = rests controller.next (at_controller w) (Some w.controller) what h c e in
+    let same : w.controller ≡ r.seat = cc in
+    dead w _ actors.Controller h r.is (controller_idles w Nothing (λ from. refl) r.seat same)
+
+pub crashed_takes_no_step : {S : Type 0} (m : Meaning S) (w : WorldState) (e : Event) (h : Happened) → has_crashed w (actor_of e) ≡ true
+    → step m w e ≡ Ok h → h ≡ record { world = w; lines = Dead (actor_of e) ∷ [] }
+unfolding step
+crashed_takes_no_step m w e h c is = crashed_rests m w (actor_of e) (stimulus_of w.config w.sent e) h c is
+
+-- ---- junk
+
+-- bytes that spell no datagram change no core, and make it send nothing
+replica_ignores : {S : Type 0} (m : Meaning S) (bytes : List ℕ) (b : Bad) → reading bytes ≡ Err b → (s : Replica)
+    → replica.next m s (Packet bytes) ≡ (s, [])
+unfolding replica.next
+replica_ignores m bytes b e s = ap (replica.on_datagram m s) e
+
+sequencer_ignores : (bytes : List ℕ) (b : Bad) → reading bytes ≡ Err b → (s : SequencerState) → sequencer.next s (Packet bytes) ≡ (s, [])
+unfolding sequencer.next
+sequencer_ignores bytes b e s = ap (sequencer.on_datagram s) e
+
+client_ignores : (bytes : List ℕ) (b : Bad) → reading bytes ≡ Err b → (s : ClientState) → client.next s (Packet bytes) ≡ (s, [])
+unfolding client.next
+client_ignores bytes b e s = ap (client.on_datagram s) e
+
+controller_ignores : (bytes : List ℕ) (b : Bad) → reading bytes ≡ Err b → (s : ControllerState)
+    → controller.next s (Packet bytes) ≡ (s, [])
+unfolding controller.next
+controller_ignores bytes b e s = ap (controller.on_datagram s) e
+
+-- at a core that ignores such bytes
+ignores : {S : Type 0} (next : S → Given → S × List Out) (f : Seated S × Did → Happened) (o : Option (Seated S)) (bytes : List ℕ)
+    (r : Result Datagram Bad) (h : Happened) → ((b : Bad) → r ≡ Err b → (s : S) → next s (Packet bytes) ≡ (s, []))
+    → then_at f (step_at next o (junk_of bytes r)) ≡ Ok h
+    → (did : Did) × ((from : Actor) → sends_by from did ≡ []) × Idles f o h did
+ignores next f None bytes r h quiet e = absurd cc
+ignores next f (Some p) bytes (Ok d) h quiet e = absurd cc
+ignores {S} next f (Some p) bytes (Err b) h quiet e = by p.crashed refl
+  where
+    what : Stimulus
+    what = Takes (Packet bytes)
+
+    came : h ≡ f (moved_if next p.crashed p what)
+    came = let same : f (moved_if next p.crashed p what) ≡ h = cc in sym same
+
+    by : (c : Bool) → p.crashed ≡ c → (did : Did) × ((from : Actor) → sends_by from did ≡ []) × Idles f (Some p) h did
+    by true c = (Nothing, λ from. refl, record { seat = p; found = refl; is = came ∙ ap (λ (d : Bool). f (moved_if next d p what)) c })
+    by false c =
+        let same : h ≡ f (p, Outputs []) =
+        came ∙ ap (λ (d : Bool). f (moved_if next d p what)) c
+        ∙ ap (λ (x : S × List Out). f (seated x.0, Outputs x.1)) (quiet b refl p.state)
+        ∙ ap (λ (d : Bool). f (record { state = p.state; crashed = d }, Outputs [])) (sym c) in
+        (Outputs [], λ from. refl, record { seat = p; found = refl; is = same })
+
+world_stays : (w : WorldState) (h g : Happened) → h ≡ g → g.world ≡ w → h.world ≡ w
+world_stays w h g e same = ap (λ (x : Happened). x.world) e ∙ same
+
+junk_stays : {S : Type 0} (m : Meaning S) (w : WorldState) (actor : Actor) (bytes : List ℕ) (h : Happened)
+    → step_of m w actor (junk_of bytes (reading bytes)) ≡ Ok h → h.world ≡ w
+junk_stays m w (actors.Replica i) bytes h e =
+    let r = ignores (replica.next m) (at_replica w i) (slice_get w.replicas i) bytes (reading bytes) h (replica_ignores m bytes) e in
+    world_stays w h _ r.2.is (replica_idles w r.0 r.1 i r.2.seat r.2.found)
+junk_stays m w (actors.Sequencer i) bytes h e =
+    let r = ignores sequencer.next (at_sequencer w i) (slice_get w.sequencers i) bytes (reading bytes) h (sequencer_ignores bytes) e in
+    world_stays w h _ r.2.is (sequencer_idles w r.0 r.1 i r.2.seat r.2.found)
+junk_stays m w (actors.Client i) bytes h e =
+    let r = ignores client.next (at_client w i) (slice_get w.clients i) bytes (reading bytes) h (client_ignores bytes) e in
+    world_stays w h _ r.2.is (client_idles w r.0 r.1 i r.2.seat r.2.found)
+junk_stays m w actors.Controller bytes h e =
+    let r = ignores controller.next (at_controller w) (Some w.controller) bytes (reading bytes) h (controller_ignores bytes) e in
+    let same : w.controller ≡ r.2.seat = cc in
+    world_stays w h _ r.2.is (controller_idles w r.0 r.1 r.2.seat same)
+
+pub junk_changes_nothing : {S : Type 0} (m : Meaning S) (w : WorldState) (actor : Actor) (bytes : List ℕ) (h : Happened)
+    → step m w (Junk actor bytes) ≡ Ok h → h.world ≡ w
+unfolding step stimulus_of
+junk_changes_nothing m w actor bytes h e = junk_stays m w actor bytes h e

@@ -1,0 +1,146 @@
+-- Which events are refused, and why.
+use Rattle.std.proofs.Common.{◌≡◌, ℕ, zero, suc, Bool, true, false, List, [], ◌∷◌, length, Option, Some, None, Result, Ok, Err}
+use Rattle.std.proofs.Common.{refl, ap, subst, ◌∙◌, arith, length-append}
+use Rattle.std.specs.Prelude.{◌&&◌, if◌then◌else◌, nat_lt, slice_get}
+use Rattle.std.proofs.lemmas.Bool.{ltb-true, ltb-false}
+use Rattle.std.proofs.lemmas.List.{length-set}
+use Rattle.std.proofs.lemmas.Option.{slice_get_past}
+use Rattle.nop_types.specs.Configuration.{Configuration}
+use Rattle.nop_types.specs.Given.{Given}
+use Rattle.nop_types.specs.Meaning.{Meaning}
+use Rattle.nop_types.specs.declared.datagram.Datagram.{Datagram}
+use Rattle.nop_types.specs.declared.input.Tick.{Tick}
+use Rattle.nop_types.specs.declared.input.Tick.TheVariants as ticks
+use Rattle.nop_types.specs.declared.output.Actor.{Actor}
+use Rattle.nop_types.specs.declared.output.Actor.TheVariants as actors
+use Rattle.nop_types.specs.declared.output.Out.{Out}
+use Rattle.facts.proofs.Places.{slice_get-some}
+use Rattle.oum_codec.specs.declared.bad.Bad.{Bad}
+use Rattle.oum_codec.specs.Reading.{reading}
+use Rattle.client_quorum.specs.ClientSteps as client
+use Rattle.replica_core.specs.ReplicaSteps as replica
+use Rattle.sequencer.specs.SequencerSteps as sequencer
+use Rattle.session_control.specs.ControllerSteps as controller
+use Rattle.schedule_text.specs.declared.event.Event.{Event}
+use Rattle.schedule_text.specs.declared.event.Event.TheVariants as events
+use Rattle.world.specs.Network.{Sent}
+use Rattle.world.specs.Seats.{Seated, Stimulus, Did, seated}
+use Rattle.world.specs.Refusals.{HasActors, is_actor, has_input, forged_if, later_cause, cause_of, refusal_in}
+use Rattle.world.specs.WorldSteps.{WorldState, Refusal, NoSuchActor, NoSuchDatagram, Happened, actor_of, counted, opening}
+use Rattle.world.specs.WorldSteps.{opening_client, tick_if, datagram_at, junk_of, stimulus_of, step_with, step_at, step_of, step}
+use Rattle.world.specs.WorldSteps.{at_replica, at_sequencer, at_client, at_controller, then_at}
+
+-- ---- the actor
+
+module _ {S : Type 0} (next : S → Given → S × List Out) where
+  with_refusal : (p : Seated S) (what : Result Stimulus Refusal) → refusal_in (step_with next p what) ≡ refusal_in what
+  with_refusal p (Ok x) = refl
+  with_refusal p (Err refusal) = refl
+
+  -- of the actor with a number, of n actors
+  at_refusal : (xs : List (Seated S)) (i n : ℕ) (what : Result Stimulus Refusal) → length xs ≡ n
+      → refusal_in (step_at next (slice_get xs i) what) ≡ (if nat_lt i n then refusal_in what else Some NoSuchActor)
+  at_refusal xs i n what len = by (nat_lt i n) refl
+    where
+      by : (b : Bool) → nat_lt i n ≡ b → refusal_in (step_at next (slice_get xs i) what) ≡ (if b then refusal_in what else Some NoSuchActor)
+      by true e =
+          let found = slice_get-some xs i (omega (arith, ltb-true i n e, len)) in
+          ap (λ (o : Option (Seated S)). refusal_in (step_at next o what)) found.1 ∙ with_refusal found.0 what
+      by false e =
+          ap (λ (o : Option (Seated S)). refusal_in (step_at next o what)) (slice_get_past xs i (omega (arith, ltb-false i n e, len)))
+
+then_refusal : {S : Type 0} (f : Seated S × Did → Happened) (r : Result (Seated S × Did) Refusal) → refusal_in (then_at f r) ≡ refusal_in r
+then_refusal f (Ok p) = refl
+then_refusal f (Err refusal) = refl
+
+actor_refusal : {S : Type 0} (m : Meaning S) (w : WorldState) (actor : Actor) (what : Result Stimulus Refusal) → HasActors w
+    → refusal_in (step_of m w actor what) ≡ (if is_actor w.config actor then refusal_in what else Some NoSuchActor)
+actor_refusal m w (actors.Replica i) what h =
+    then_refusal (at_replica w i) _ ∙ at_refusal (replica.next m) w.replicas i w.config.replicas what h.replicas
+actor_refusal m w (actors.Sequencer i) what h =
+    then_refusal (at_sequencer w i) _ ∙ at_refusal sequencer.next w.sequencers i w.config.sequencers what h.sequencers
+actor_refusal m w (actors.Client i) what h =
+    then_refusal (at_client w i) _ ∙ at_refusal client.next w.clients i w.config.clients what h.clients
+actor_refusal m w actors.Controller what h = then_refusal (at_controller w) _ ∙ with_refusal controller.next w.controller what
+
+-- ---- what the event brings
+
+tick_refusal : (b : Bool) (tick : Tick) → refusal_in (tick_if b tick) ≡ (if b then None else Some NoSuchActor)
+tick_refusal true tick = refl
+tick_refusal false tick = refl
+
+datagram_refusal : (sent : List Sent) (index : ℕ)
+    → refusal_in (datagram_at index (length sent) (slice_get sent index))
+    ≡ (if nat_lt index (length sent) then None else Some (NoSuchDatagram index (length sent)))
+datagram_refusal sent index = by (nat_lt index (length sent)) refl
+  where
+    by : (b : Bool) → nat_lt index (length sent) ≡ b
+        → refusal_in (datagram_at index (length sent) (slice_get sent index))
+        ≡ (if b then None else Some (NoSuchDatagram index (length sent)))
+    by true e =
+        let found = slice_get-some sent index (ltb-true index (length sent) e) in
+        ap (λ (o : Option Sent). refusal_in (datagram_at index (length sent) o)) found.1
+    by false e =
+        ap (λ (o : Option Sent). refusal_in (datagram_at index (length sent) o))
+        (slice_get_past sent index (ltb-false index (length sent) e))
+
+junk_refusal : (bytes : List ℕ) (r : Result Datagram Bad) → refusal_in (junk_of bytes r) ≡ forged_if r
+junk_refusal bytes (Ok d) = refl
+junk_refusal bytes (Err e) = refl
+
+input_refusal : (w : WorldState) (e : Event)
+    → refusal_in (stimulus_of w.config w.sent e) ≡ (if has_input w.config e then later_cause w e else Some NoSuchActor)
+unfolding stimulus_of
+input_refusal w (events.Submit number op) = refl
+input_refusal w (events.Deliver index actor) = datagram_refusal w.sent index
+input_refusal w (events.Tick actor tick) = tick_refusal _ tick
+input_refusal w (events.Install number) = tick_refusal (nat_lt number w.config.sequencers) (ticks.Install number)
+input_refusal w (events.Crash actor) = refl
+input_refusal w (events.Junk actor bytes) = junk_refusal bytes (reading bytes)
+
+-- ---- both
+
+one_test : (a b : Bool) (x y : Option Refusal) → (if a then (if b then x else y) else y) ≡ (if a && b then x else y)
+one_test true b x y = refl
+one_test false b x y = refl
+
+pub refuses_by_cause : {S : Type 0} (m : Meaning S) (w : WorldState) (e : Event) → HasActors w → refusal_in (step m w e) ≡ cause_of w e
+unfolding step
+refuses_by_cause m w e h =
+    actor_refusal m w (actor_of e) (stimulus_of w.config w.sent e) h
+    ∙ ap (λ (r : Option Refusal). if is_actor w.config (actor_of e) then r else Some NoSuchActor) (input_refusal w e)
+    ∙ one_test (is_actor w.config (actor_of e)) (has_input w.config e) (later_cause w e) (Some NoSuchActor)
+
+-- ---- the actors are there
+
+length-counted : {S : Type 0} (make : ℕ → S) (n : ℕ) → length (counted make n) ≡ n
+length-counted make zero = refl
+length-counted make (suc n) = omega (arith, length-append (counted make n) (seated (make n) ∷ []), length-counted make n)
+
+pub opening_has_actors : (c : Configuration) → HasActors (opening c)
+opening_has_actors c = record {
+  replicas = length-counted (replica.opening c) c.replicas;
+  sequencers = length-counted sequencer.opening c.sequencers;
+  clients = length-counted (opening_client c) c.clients;
+}
+
+then_has_actors : {S : Type 0} (f : Seated S × Did → Happened) (r : Result (Seated S × Did) Refusal) (h : Happened)
+    → ((p : Seated S × Did) → HasActors (f p).world) → then_at f r ≡ Ok h → HasActors h.world
+then_has_actors f (Ok p) h all e = let same : f p ≡ h = cc in subst (λ (x : Happened). HasActors x.world) same (all p)
+then_has_actors f (Err refusal) h all e = absurd cc
+
+step_of_has_actors : {S : Type 0} (m : Meaning S) (w : WorldState) (actor : Actor) (what : Result Stimulus Refusal) (h : Happened)
+    → HasActors w → step_of m w actor what ≡ Ok h → HasActors h.world
+step_of_has_actors m w (actors.Replica i) what h has e = then_has_actors (at_replica w i) _ h
+    (λ p. record { replicas = length-set w.replicas i p.0 ∙ has.replicas; sequencers = has.sequencers; clients = has.clients }) e
+step_of_has_actors m w (actors.Sequencer i) what h has e = then_has_actors (at_sequencer w i) _ h
+    (λ p. record { replicas = has.replicas; sequencers = length-set w.sequencers i p.0 ∙ has.sequencers; clients = has.clients }) e
+step_of_has_actors m w (actors.Client i) what h has e = then_has_actors (at_client w i) _ h
+    (λ p. record { replicas = has.replicas; sequencers = has.sequencers; clients = length-set w.clients i p.0 ∙ has.clients }) e
+step_of_has_actors m w actors.Controller what h has e = then_has_actors (at_controller w) _ h
+    (λ p. record { replicas = has.replicas; sequencers = has.sequencers; clients = has.clients }) e
+
+pub step_has_actors : {S : Type 0} (m : Meaning S) (w : WorldState) (e : Event) (h : Happened) → HasActors w → step m w e ≡ Ok h
+    → HasActors h.world
+unfolding step
+step_has_actors m w e h has is = step_of_has_actors m w (actor_of e) (stimulus_of w.config w.sent e) h has is

@@ -1,0 +1,16 @@
+use Rattle.std.proofs.Common.{ap, ◌∙◌}
+use Rattle.std.specs.Prelude.{map, option_map, slice_get}
+use Rattle.world.specs.SeatOutcomes.{seated_of}
+use Rattle.world.specs.WorldSteps.{greatest_of, log_of}
+use Rattle.world.proofs.MainLog.{main_log_is}
+use Rattle.world.proofs.main_log.main_log.Goals as goal
+
+pub returns : goal.returns
+returns g c =
+    main_log_is c.args.actors.now c.greatest_last_normal-view.result c.replicas.result c.leader_of.result c.log_at.result.now
+    (c.greatest_last_normal-view.ensures
+    ∙ ap (λ seats. greatest_of (map (λ p. p.core.state.state.last_normal) seats)) c.deref.ensures.value)
+    c.replicas.ensures.count
+    c.leader_of.ensures.leader
+    (c.log_at.ensures ∙ ap (λ seats. log_of (option_map (seated_of (λ r. r.state)) (slice_get seats c.leader_of.result)))
+    c.deref-2.ensures.value)

@@ -1,9 +1,0 @@
-use Rattle.std.proofs.Common.{◌≡◌}
-use Rattle.std.specs.Prelude.{map}
-use Rattle.world.specs.ClientSteps as client
-use Rattle.world.specs.SeatOutcomes.{seated_of}
-use Rattle.world.specs.WorldSteps.{counted}
-use Rattle.world.proofs.world_state.clients.Given as goal
-
-abbrev pub invariant-loop-number : goal.invariant-loop-number
-invariant-loop-number l = map (seated_of (λ c. c.state)) l.seats.items ≡ counted (client.opening l.config) l.number

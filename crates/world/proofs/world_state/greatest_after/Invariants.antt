@@ -1,9 +1,0 @@
-use Rattle.std.proofs.Common.{◌≡◌, drop}
-use Rattle.std.specs.Prelude.{map}
-use Rattle.world.specs.WorldSteps.{greatest_view}
-use Rattle.world.proofs.world_state.greatest_after.Given as goal
-
-abbrev pub invariant-loop-seat : goal.invariant-loop-seat
-invariant-loop-seat g l = greatest_view l.view
-    (map (λ p. p.core.state.last_normal) (drop l.seat-index l.seats)) ≡ greatest_view l.fn.first
-    (map (λ p. p.core.state.last_normal) l.seats)
