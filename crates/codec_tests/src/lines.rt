@@ -1,0 +1,209 @@
+ghost use Rattle.std.specs.Prelude.{◌≤◌, length};
+
+use nop_types::{Actor, Bytes, Config, Dest, Entry, NoMemory, Op, Phase, Request, View};
+use outside::ReadMem;
+use schedule_text::{
+    Event, NextError, Reader, accept_line, busy_line, dead_line, end_line, entry_line, error_line,
+    history_line, replica_line, send_line, submit_line, transcript_line,
+};
+use std::alloc::Global;
+use std::test::Fail;
+
+const FIRST: &[u8] = b"nopaxos 1 replicas 3 sequencers 2 clients 2\n";
+
+fn letter(answer: &Result<Option<Event>, NextError>) -> u8 {
+    match answer {
+        Ok(Some(Event::Submit(..))) => b's',
+        Ok(Some(Event::Deliver(..))) => b'd',
+        Ok(Some(Event::Tick(..))) => b't',
+        Ok(Some(Event::Install(_))) => b'i',
+        Ok(Some(Event::Crash(_))) => b'c',
+        Ok(Some(Event::Junk(..))) => b'j',
+        Ok(None) => b'.',
+        Err(NextError::BadLine { rule, .. }) => b'0'.wrapping_add(*rule),
+        Err(NextError::ReadFault) => b'f',
+        Err(NextError::NoMemory) => b'm',
+    }
+}
+
+// A letter for each of the first answers, for a rule its digit.
+fn letters(alloc: Global, text: Vec<u8>, most: usize, calls: usize) -> Result<Vec<u8>, Fail> {
+    let mut source = ReadMem::with_limit(text, most.max(1));
+    let mut reader = Reader::new(alloc);
+    let mut letters = Vec::new(alloc);
+    for _ in 0..calls {
+        letters.push(letter(&reader.next(&mut source)))?;
+    }
+    Ok(letters)
+}
+
+/// A row for each text: whether the first line stands before it (`+`), its front, a byte that follows that so many times, and a letter
+/// for each of four answers, for a rule its digit. A line that is refused is refused again. A line feed is written `;`, a carriage
+/// return `^`, and a byte of 127 `~`.
+const READ: &str = "\
++|submit c0 5000016b000176;deliver 0 s0;crash r1|;|0|sdc.
++|crash ctl;submit c1 -;crash c2|;|2|cs77
++|submit c1 fFAa09;deliver 18446744073709551615 ctl;| |1|sd33
++|submit c0 |0|1280|s...
++|submit c0 |0|1281|5555
++|submit c0 |g|1280|6666
++|tick r0 suspect;tick r1 watch;tick r2 resend;tick r0 sync|;|0|tttt
++|tick c1 retry;tick ctl probe;tick ctl resend;tick s0 resend|;|1|ttt7
++|tick r0| |1|7777
++|tick r0 sync| |1|4444
++|tick c0 nex|t|1|7777
++|install s0;install s|1|1|ii..
++|install s|2|1|7777
++|install ct|l|1|7777
++|install s0 ctl|;|1|4444
++|junk r0 4e4f;junk s1 -;junk ctl |0|3000|jjj.
++|junk ctl |0|3001|5555
++|junk r0 |g|2|6666
++|junk r|7|1|4444
++|junk c2 |0|2|7777
++||x|4096|3333
++||x|4097|1111
++|crash r0|^|1|2222
++|crash r0|~|1|2222
++|nopaxos 1 replicas 3 sequencers 2 clients 2|;|1|3333
++|crash r0| |1|4444
++|deliver 18446744073709551616 r|0|1|5555
++|deliver  r|0|1|5555
++|deliver 01 r|3|1|5555
++|submit c2 |0|1|6666
++|submit r0 |0|2|7777
++|crash s|2|1|7777
++|crash ctl|0|1|7777
+-|nopaxos 1 replicas 7 sequencers 4 clients |4|1|....
+-||x|0|3333
+-|Nopaxos 1 replicas 3 sequencers 2 clients |2|1|3333
+-|nopaxos 1 replicas 3 sequencers 2 clients 2| |1|4444
+-|nopaxos 2 replicas 3 sequencers 2 clients |2|1|5555
+-|nopaxos 1 replicas 2 sequencers 2 clients |2|1|5555
+-|nopaxos 1 replicas 03 sequencers 2 clients |2|1|5555
+-|nopaxos 1 replicas 259 sequencers 2 clients |2|1|5555
+-|nopaxos 1 replicas 3 sequencers 5 clients |2|1|5555
+-|nopaxos 1 replicas 3 sequencers 2 clients 1|7|1|5555";
+
+fn plain(written: u8) -> u8 {
+    match written {
+        b';' => b'\n',
+        b'^' => b'\r',
+        b'~' => 127,
+        byte => byte,
+    }
+}
+
+/// The text of a row, and the letters that it gives.
+fn text_of(alloc: Global, row: &str) -> Result<(Vec<u8>, &str), Fail> {
+    let (first, row) = row.split_once('|').ok_or("a first line")?;
+    let (front, row) = row.split_once('|').ok_or("a front")?;
+    let (byte, row) = row.split_once('|').ok_or("a byte")?;
+    let (count, letters) = row.split_once('|').ok_or("a count")?;
+    let mut text = Vec::new(alloc);
+    if first == "+" {
+        text.extend_from_slice(FIRST)?;
+    }
+    for written in front.bytes() {
+        text.push(plain(written))?;
+    }
+    for written in byte.bytes() {
+        for _ in 0..count.parse::<u32>()? {
+            text.push(plain(written))?;
+        }
+    }
+    Ok((text, letters))
+}
+
+#[test]
+fn lines_that_are_read(rt: HostRuntime) -> Result<(), Fail> {
+    let alloc = rt.alloc();
+    for row in READ.lines() {
+        for most in [1, 7, 4096] {
+            let (text, want) = text_of(alloc, row)?;
+            let told = letters(alloc, text, most, 4)?;
+            assert_eq!(rt; told.as_slice(), want.as_bytes(), "{row}");
+        }
+    }
+    Ok(())
+}
+
+const LINES: &str = "\
+transcript 1 replicas 3 sequencers 2 clients 16
+dead ctl
+dead c15
+submit c4294967295 18446744073709551615 -
+accept c1 2 6e6f6e65
+busy c3
+send 0 c0 s* request 25
+send 1 s0 r* stamped 37
+send 2 r0 c0 reply 36
+send 3 ctl s1 install 9
+send 4 s1 ctl installed 9
+send 5 ctl s0 ping 9
+send 6 s0 ctl pong 9
+send 18446744073709551615 r1 r2 fragment 31
+replica r6 crashed change 4294967295 2 4096 7
+entry r0 1 noop
+entry r2 4096 c7 9 00ff1a
+history 4096 c7 9 00ff1a
+end
+error line 1000001 rule 10
+error line 5 rule 8 index 7 sent 2
+";
+
+fn request(alloc: Global, client: u32, id: u64, op: &[u8]) -> Result<Request, NoMemory>
+    requires { length op.now ≤ 7 }
+{
+    Ok(Request {
+        client,
+        id,
+        op: Op::new(alloc, op)?,
+    })
+}
+
+#[test]
+fn lines_that_are_written(rt: HostRuntime) -> Result<(), Fail> {
+    let alloc = rt.alloc();
+    let mut to = Vec::new(alloc);
+    transcript_line(Config::new(3, 2, 16).ok_or("limits")?, &mut to)?;
+    dead_line(Actor::Controller, &mut to)?;
+    dead_line(Actor::Client(15), &mut to)?;
+    submit_line(&request(alloc, u32::MAX, u64::MAX, b"")?, &mut to)?;
+    accept_line(1, 2, &Bytes::new(alloc, b"none")?, &mut to)?;
+    busy_line(3, &mut to)?;
+    for (index, from, dest, kind, len) in [
+        (0, Actor::Client(0), Dest::Sequencers, 1, 25),
+        (1, Actor::Sequencer(0), Dest::Replicas, 2, 37),
+        (2, Actor::Replica(0), Dest::One(Actor::Client(0)), 3, 36),
+        (3, Actor::Controller, Dest::One(Actor::Sequencer(1)), 4, 9),
+        (4, Actor::Sequencer(1), Dest::One(Actor::Controller), 5, 9),
+        (5, Actor::Controller, Dest::One(Actor::Sequencer(0)), 6, 9),
+        (6, Actor::Sequencer(0), Dest::One(Actor::Controller), 7, 9),
+        (
+            u64::MAX,
+            Actor::Replica(1),
+            Dest::One(Actor::Replica(2)),
+            8,
+            31,
+        ),
+    ] {
+        let mut datagram = Vec::from_slice(alloc, &[0x4e, 0x4f, 1, kind])?;
+        datagram.resize(len, 0)?;
+        send_line(index, from, dest, &datagram, &mut to)?;
+    }
+    let view = View {
+        leader: u32::MAX,
+        session: 2,
+    };
+    replica_line(6, true, Phase::Change, view, 4096, 7, &mut to)?;
+    entry_line(0, 1, &Entry::NoOp, &mut to)?;
+    let entry = Entry::Req(request(alloc, 7, 9, b"\x00\xff\x1a")?);
+    entry_line(2, 4096, &entry, &mut to)?;
+    history_line(4096, &request(alloc, 7, 9, b"\x00\xff\x1a")?, &mut to)?;
+    end_line(&mut to)?;
+    error_line(1_000_001, 10, None, &mut to)?;
+    error_line(5, 8, Some((7, 2)), &mut to)?;
+    assert_eq!(rt; std::str::from_utf8(&to)?, LINES);
+    Ok(())
+}

@@ -1,0 +1,105 @@
+use crate::rows::{bytes_of, is_told};
+use nop_types::{Entry, View};
+use peer_codec::{EncodedPeer, LogBody, decode_peer, encode_peer, encode_with_log, read_peer};
+use std::alloc::Global;
+use std::test::Fail;
+
+/// The examples of the formats: bytes, and the message that they spell. The last three have fields and a log at their greatest.
+const EXAMPLES: &str = "\
+10 01 00000000 00000001 00000001 = Peer { sender: 1, view: View { leader: 0, session: 1 }, body: SlotLookup(1) }
+11 00 00000000 00000001 00000001 00000000 0000000000000001 0007 5000016b000176 = Peer { sender: 0, view: View { leader: 0, session: 1 }, body: Found(1, Request { client: 0, id: 1, op: Op { bytes: [80, 0, 1, 107, 0, 1, 118] } }) }
+12 00 00000000 00000001 00000001 = Peer { sender: 0, view: View { leader: 0, session: 1 }, body: GapCommit(1) }
+13 01 00000000 00000001 00000001 = Peer { sender: 1, view: View { leader: 0, session: 1 }, body: GapRep(1) }
+14 01 00000001 00000001 = Peer { sender: 1, view: View { leader: 1, session: 1 }, body: ViewChangeReq }
+15 02 00000001 00000001 00000000 00000001 0000000000000003 00000002 01 00000000 0000000000000001 0007 5000016b000176 01 00000001 0000000000000001 0004 4700016b = Peer { sender: 2, view: View { leader: 1, session: 1 }, body: ViewChange { last_normal: View { leader: 0, session: 1 }, next: 3, log: Log { entries: [Req(Request { client: 0, id: 1, op: Op { bytes: [80, 0, 1, 107, 0, 1, 118] } }), Req(Request { client: 1, id: 1, op: Op { bytes: [71, 0, 1, 107] } })] } } }
+16 01 00000001 00000001 0000000000000003 00000002 00 01 00000001 0000000000000001 0004 4700016b = Peer { sender: 1, view: View { leader: 1, session: 1 }, body: StartView { next: 3, log: Log { entries: [NoOp, Req(Request { client: 1, id: 1, op: Op { bytes: [71, 0, 1, 107] } })] } } }
+17 00 00000000 00000001 00000001 01 00000000 0000000000000001 0007 5000016b000176 = Peer { sender: 0, view: View { leader: 0, session: 1 }, body: SyncPrepare(Log { entries: [Req(Request { client: 0, id: 1, op: Op { bytes: [80, 0, 1, 107, 0, 1, 118] } })] }) }
+18 01 00000000 00000001 00000001 = Peer { sender: 1, view: View { leader: 0, session: 1 }, body: SyncRep(1) }
+19 00 00000000 00000001 00000001 = Peer { sender: 0, view: View { leader: 0, session: 1 }, body: SyncCommit(1) }
+16 01 00000001 00000001 0001000000000000 00000000 = Peer { sender: 1, view: View { leader: 1, session: 1 }, body: StartView { next: 281474976710656, log: Log { entries: [] } } }
+18 01 00000000 00000001 00000000 = Peer { sender: 1, view: View { leader: 0, session: 1 }, body: SyncRep(0) }
+10 06 ffffffff ffffffff 00001000 = Peer { sender: 6, view: View { leader: 4294967295, session: 4294967295 }, body: SlotLookup(4096) }
+17 06 ffffffff ffffffff 00001000 00*4096 = Peer { sender: 6, view: View { leader: 4294967295, session: 4294967295 }, body: SyncPrepare(Log { entries: [NoOp, NoOp..
+17 00 00000000 00000001 00000001 01 ffffffff ffffffffffffffff 0280 ff*640 = Peer { sender: 0, view: View { leader: 0, session: 1 }, body: SyncPrepare(Log { entries: [Req(Request { client: 4294967295, id: 18446744073709551615, op: Op { bytes: [255, 255..";
+
+/// Bytes, and the first test that they fail: no bytes, other kinds, a sender of 7, a session of 0, a slot of 4,097, a next number of
+/// 2^48 + 1, a log of 4,097 entries, a tag of 2, an op of 641 bytes, and bytes that are missing or too many.
+const REFUSALS: &str = "\
+= Short
+0f = Kind
+1a = Kind
+10 = Short
+10 07 = Field
+10 01 00000000 0000 = Short
+10 01 00000000 00000000 = Field
+10 01 00000000 00000001 0000 = Short
+10 01 00000000 00000001 00001001 = Field
+10 01 00000000 00000001 00000001 00 = Trailing
+16 01 00000001 00000001 0001000000000001 00000000 = Field
+17 00 00000000 00000001 00001001 = Field
+17 00 00000000 00000001 00000001 = Short
+17 00 00000000 00000001 00000001 02 = Field
+17 00 00000000 00000001 00000001 01 00000000 0000000000000001 0281 = Field";
+
+/// What the bytes spell, or the test that they fail. What is spelled is written as the same bytes.
+fn shown(alloc: Global, bytes: &[u8]) -> Result<String, Fail> {
+    match decode_peer(alloc, bytes) {
+        Err(bad) => Ok(format!(in alloc; "{bad:?}")?),
+        Ok(message) => {
+            let mut to = Vec::new(alloc);
+            encode_peer(alloc, &message, &mut to)?;
+            if to.as_slice() != bytes {
+                return Err("other bytes".into());
+            }
+            Ok(format!(in alloc; "{message:?}")?)
+        }
+    }
+}
+
+#[test]
+fn rows(rt: HostRuntime) -> Result<(), Fail> {
+    for table in [EXAMPLES, REFUSALS] {
+        for row in table.lines() {
+            let (bytes, told) = row.split_once("= ").ok_or("a row")?;
+            let bytes = bytes_of(rt.alloc(), bytes)?;
+            assert!(rt; is_told(&shown(rt.alloc(), &bytes)?, told), "{row}");
+            let is_spelled = read_peer(rt.alloc(), &bytes)?.is_some();
+            assert_eq!(rt; is_spelled, told.starts_with("Peer"), "{row}");
+        }
+    }
+    Ok(())
+}
+
+/// Messages whose logs are borrowed, of two NO-OPs each.
+#[test]
+fn spells_borrowed_logs(rt: HostRuntime) -> Result<(), Fail> {
+    let alloc = rt.alloc();
+    let log = [Entry::NoOp, Entry::NoOp];
+    let first = View {
+        leader: 0,
+        session: 1,
+    };
+    let second = View {
+        leader: 1,
+        session: 1,
+    };
+    let body = LogBody::ViewChange {
+        last_normal: first,
+        next: 3,
+        log: &log,
+    };
+    let change = EncodedPeer::with_log(alloc, 2, second, body)?;
+    let bytes = b"\x15\x02\0\0\0\x01\0\0\0\x01\0\0\0\0\0\0\0\x01\0\0\0\0\0\0\0\x03\0\0\0\x02\0\0";
+    assert_eq!(rt; change.sender(), 2);
+    assert!(rt; change.as_slice() == bytes.as_slice());
+    let body = LogBody::StartView { next: 3, log: &log };
+    let start = EncodedPeer::with_log(alloc, 1, second, body)?;
+    let bytes = b"\x16\x01\0\0\0\x01\0\0\0\x01\0\0\0\0\0\0\0\x03\0\0\0\x02\0\0";
+    assert_eq!(rt; start.sender(), 1);
+    assert!(rt; start.as_slice() == bytes.as_slice());
+    let mut to = Vec::from_slice(alloc, b"before")?;
+    encode_with_log(alloc, 0, first, LogBody::SyncPrepare(&log), &mut to)?;
+    let bytes = b"before\x17\0\0\0\0\0\0\0\0\x01\0\0\0\x02\0\0";
+    assert!(rt; to.as_slice() == bytes.as_slice());
+    Ok(())
+}

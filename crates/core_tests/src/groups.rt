@@ -1,0 +1,195 @@
+//! Three groups of replicas of the key-value service that are driven by hand. What is expected was worked out from the rules of the
+//! protocol and from its formats.
+use crate::scripts::{play, timers};
+use kv_host::KvHost;
+use nop_types::{Config, Entry, Host, Outbox, Tick};
+use replica_core::Replica;
+use std::alloc::Global;
+use std::process::Abort;
+use std::test::Fail;
+
+/// Client and id of each slot's request, 0 and 0 for a NO-OP.
+fn requests(alloc: Global, entries: &[Entry]) -> Result<Vec<(u32, u64)>, Fail> {
+    let mut requests = Vec::new(alloc);
+    for entry in entries {
+        match entry {
+            Entry::NoOp => requests.push((0, 0))?,
+            Entry::Req(request) => requests.push((request.client, request.id))?,
+        }
+    }
+    Ok(requests)
+}
+
+/// A replica's view, status, last normal view, sync point, how many slots are executed, and its log.
+fn state<H: Host>(alloc: Global, core: &Replica<H>) -> Result<String, Fail> {
+    let (view, normal) = (core.view(), core.last_normal());
+    let views = (view.leader, view.session, normal.leader, normal.session);
+    let points = (core.sync_point(), core.executed());
+    let log = requests(alloc, core.log().as_slice())?;
+    Ok(format!(in alloc; "{:?} {views:?} {points:?} {log:?}", core.status())?)
+}
+
+/// Three replicas to which nothing has come.
+fn opened<H: Host>(alloc: Global) -> Result<Vec<Replica<H>>, Fail> {
+    let config = Config::new(3, 2, 2).ok_or("no such group")?;
+    let mut cores = Vec::new(alloc);
+    for number in 0..config.replicas() {
+        cores.push(Replica::new(alloc, config, number)?)?;
+    }
+    Ok(cores)
+}
+
+/// Plays a script with three replicas, and compares their states at the end.
+fn play_three<H: Host>(
+    rt: &impl Abort,
+    alloc: Global,
+    script: &str,
+    states: [&str; 3],
+) -> Result<(), Fail> {
+    let mut cores: Vec<Replica<H>> = opened(alloc)?;
+    let mut sent = Outbox::new(alloc);
+    play(rt, alloc, &mut cores, &mut sent, script)?;
+    for (core, told) in cores.iter().zip(states) {
+        assert_eq!(rt; state(alloc, core)?.as_str(), told);
+    }
+    Ok(())
+}
+
+#[test]
+fn a_replica_has_three_timers(rt: HostRuntime) -> Result<(), Fail> {
+    let cores: Vec<Replica<KvHost>> = opened(rt.alloc())?;
+    let told = [
+        Some((Tick::Resend, 50)),
+        Some((Tick::Sync, 100)),
+        Some((Tick::Watch, 1000)),
+        None,
+    ];
+    assert_eq!(rt; timers(cores.first().ok_or("no replica")?), told);
+    Ok(())
+}
+
+/// A replica to which nothing has come.
+const OPENING: &str = "Normal (0, 1, 0, 1) (0, 0) []";
+
+/// While its gap waits, a leader neither replies nor synchronises nor begins another gap. It tells the gap again, on a tick and to whom
+/// asks for the slot. A vote for another slot, made by hand, changes nothing, and neither does a late one. After the right one slots 2
+/// and 3 are replied for, and the next gap begins in slot 4.
+const GAP: &str = "\
+0 packet 4e4f0102 00000001 0000000000000002 00000001 0000000000000001 0004 4700016b
+  0 Replicas 4e4f0108000000000000000001000000011200000000000000000100000001
+0 packet 4e4f0102 00000001 0000000000000003 00000000 0000000000000001 0007 5000016b000176
+0 packet 4e4f0102 00000001 0000000000000005 00000000 0000000000000001 0007 5000016b000176
+0 tick sync
+0 tick resend
+  1 Replicas 4e4f0108000000000000000002000000011200000000000000000100000001
+1 packet 4e4f0102 00000001 0000000000000002 00000001 0000000000000001 0004 4700016b
+  2 One(Replica(0)) 4e4f0108010000000000000001000000011001000000000000000100000001
+0 sent 2
+  3 One(Replica(1)) 4e4f0108000000000000000003000000011200000000000000000100000001
+1 sent 3
+  4 One(Replica(0)) 4e4f0108010000000000000002000000011301000000000000000100000001
+  5 One(Client(1)) 4e4f010301000000000000000100000002000000010000000000000001000000
+1 sent 1
+  6 One(Replica(0)) 4e4f0108010000000000000003000000011301000000000000000100000001
+0 packet 4e4f0108 01 0000000000000009 0000 0001 13 01 00000000 00000001 00000002
+0 packet 4e4f0108 01 0000000000000009 0000 0001 10 01 00000000 00000001 00000002
+0 sent 4
+  7 One(Client(1)) 4e4f0103000000000000000001000000020000000100000000000000010100046e6f6e65
+  8 One(Client(0)) 4e4f0103000000000000000001000000030000000000000000000000010100046e6f6e65
+  9 Replicas 4e4f0108000000000000000004000000011200000000000000000100000004
+0 sent 6";
+
+#[test]
+fn a_leader_waits_for_its_gap(rt: HostRuntime) -> Result<(), Fail> {
+    let leader = "Normal (0, 1, 0, 1) (0, 4) [(0, 0), (1, 1), (0, 1), (0, 0)]";
+    let follower = "Normal (0, 1, 0, 1) (0, 0) [(0, 0), (1, 1)]";
+    play_three::<KvHost>(&rt, rt.alloc(), GAP, [leader, follower, OPENING])
+}
+
+/// A leader and a follower answer three requests that are no ops of the service. Then that leader is suspected, and the next view
+/// keeps them with the same answers. The change and the start come in two fragments each, in the other order, and again: a change
+/// that is joined a second time is late, and gets the start.
+const VIEW_CHANGE: &str = "\
+0 packet 4e4f0102 00000001 0000000000000001 00000000 0000000000000001 0280 78*640
+  0 One(Client(0)) 4e4f010300000000000000000100000001000000000000000000000001010003626164
+0 packet 4e4f0102 00000001 0000000000000002 00000000 0000000000000002 0280 78*640
+  1 One(Client(0)) 4e4f010300000000000000000100000002000000000000000000000002010003626164
+0 packet 4e4f0102 00000001 0000000000000003 00000000 0000000000000003 0280 78*640
+  2 One(Client(0)) 4e4f010300000000000000000100000003000000000000000000000003010003626164
+2 packet 4e4f0102 00000001 0000000000000001 00000000 0000000000000001 0280 78*640
+  3 One(Client(0)) 4e4f010302000000000000000100000001000000000000000000000001000000
+2 packet 4e4f0102 00000001 0000000000000002 00000000 0000000000000002 0280 78*640
+  4 One(Client(0)) 4e4f010302000000000000000100000002000000000000000000000002000000
+2 packet 4e4f0102 00000001 0000000000000003 00000000 0000000000000003 0280 78*640
+  5 One(Client(0)) 4e4f010302000000000000000100000003000000000000000000000003000000
+1 tick suspect
+  6 Replicas 4e4f01080100000000000000010000000114010000000100000001
+2 sent 6
+  7 Replicas 4e4f01080200000000000000010000000114020000000100000001
+  8 One(Replica(1)) 1417 bytes
+  9 One(Replica(1)) 612 bytes
+1 sent 9
+1 sent 9
+1 sent 8
+  10 Replicas 1417 bytes
+  11 Replicas 604 bytes
+  12 One(Client(0)) 4e4f010301000000010000000100000001000000000000000000000001010003626164
+  13 One(Client(0)) 4e4f010301000000010000000100000002000000000000000000000002010003626164
+  14 One(Client(0)) 4e4f010301000000010000000100000003000000000000000000000003010003626164
+0 sent 11
+0 sent 10
+  15 One(Client(0)) 4e4f010300000000010000000100000001000000000000000000000001000000
+  16 One(Client(0)) 4e4f010300000000010000000100000002000000000000000000000002000000
+  17 One(Client(0)) 4e4f010300000000010000000100000003000000000000000000000003000000
+1 sent 8
+1 sent 9
+  18 One(Replica(2)) 1417 bytes
+  19 One(Replica(2)) 604 bytes
+2 sent 19
+2 sent 18
+  20 One(Client(0)) 4e4f010302000000010000000100000001000000000000000000000001000000
+  21 One(Client(0)) 4e4f010302000000010000000100000002000000000000000000000002000000
+  22 One(Client(0)) 4e4f010302000000010000000100000003000000000000000000000003000000";
+
+#[test]
+fn answered_requests_survive_a_view_change(rt: HostRuntime) -> Result<(), Fail> {
+    let follower = "Normal (1, 1, 1, 1) (0, 0) [(0, 1), (0, 2), (0, 3)]";
+    let leader = "Normal (1, 1, 1, 1) (0, 3) [(0, 1), (0, 2), (0, 3)]";
+    play_three::<KvHost>(&rt, rt.alloc(), VIEW_CHANGE, [follower, leader, follower])
+}
+
+/// A follower that missed a request takes it from the leader's log, replies, and votes; then both have it synchronised. Messages made
+/// by hand change nothing: a commit before the log came, a view that is asked for by the replica itself, by one that is not there, and
+/// in fragments of another than its sender, and a start of the next view without the request that is synchronised.
+const SYNCHRONISATION: &str = "\
+0 packet 4e4f0102 00000001 0000000000000001 00000000 0000000000000001 0007 5000016b000176
+  0 One(Client(0)) 4e4f0103000000000000000001000000010000000000000000000000010100046e6f6e65
+0 tick sync
+  1 Replicas 4e4f01080000000000000000010000000117000000000000000001000000010100000000000000000000000100075000016b000176
+2 packet 4e4f0108 00 0000000000000009 0000 0001 19 00 00000000 00000001 00000001
+2 packet 4e4f0108 02 0000000000000009 0000 0001 14 02 00000001 00000001
+2 packet 4e4f0108 03 0000000000000009 0000 0001 14 03 00000001 00000001
+2 packet 4e4f0108 01 0000000000000009 0000 0001 14 00 00000001 00000001
+2 sent 1
+  2 One(Client(0)) 4e4f010302000000000000000100000001000000000000000000000001000000
+  3 One(Replica(0)) 4e4f0108020000000000000001000000011802000000000000000100000001
+2 packet 4e4f0102 00000001 0000000000000002 00000001 0000000000000001 0004 4700016b
+  4 One(Client(1)) 4e4f010302000000000000000100000002000000010000000000000001000000
+0 sent 3
+  5 Replicas 4e4f0108000000000000000002000000011900000000000000000100000001
+2 sent 5
+0 tick sync
+  6 Replicas 4e4f0108000000000000000003000000011900000000000000000100000001
+2 packet 4e4f0108 01 0000000000000009 0000 0001 16 01 00000001 00000001 0000000000000001 00000000";
+
+#[test]
+fn a_missed_request_is_synchronised(rt: HostRuntime) -> Result<(), Fail> {
+    let leader = "Normal (0, 1, 0, 1) (1, 1) [(0, 1)]";
+    let follower = "Normal (0, 1, 0, 1) (1, 1) [(0, 1), (1, 1)]";
+    play_three::<KvHost>(
+        &rt,
+        rt.alloc(),
+        SYNCHRONISATION,
+        [leader, OPENING, follower],
+    )
+}

@@ -1,0 +1,26 @@
+//! Tests of the parts of a replica, of the cores, of runs of them, and of the key-value service, by the public calls of the crates
+//! below. It holds nothing else.
+#![tactic(auto)]
+
+#[cfg(test)]
+mod changes;
+#[cfg(test)]
+mod cores;
+#[cfg(test)]
+mod execution;
+#[cfg(test)]
+mod groups;
+#[cfg(test)]
+mod kv;
+#[cfg(test)]
+mod logs;
+#[cfg(test)]
+mod receiving;
+#[cfg(test)]
+mod rows;
+#[cfg(test)]
+mod scripts;
+#[cfg(test)]
+mod votes;
+#[cfg(test)]
+mod worlds;
