@@ -35,7 +35,7 @@ def lines_of(crate, part, ending):
 
 
 def is_test(path):
-    return path.endswith("/tests.rt") or "/tests/" in path
+    return path.endswith("/tests.rt") or "/tests/" in path or "_tests/" in path
 
 
 def kind_of(words, where):

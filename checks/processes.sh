@@ -55,6 +55,15 @@ same 'no output' $? 4 ''
 { (trap '' PIPE; sleep 0.2; "$program" replay < "$schedule" 2> "$folder/err"; echo $? > "$folder/status"); } | :
 same 'a closed pipe' "$(cat "$folder/status")" 4 ''
 
+# 300,000 datagrams do not fit into 10 MB: what was written then begins what is written where there is room.
+{ head -n 2 "$schedule"; yes 'deliver 0 s0' | head -n 300000; } > "$folder/long"
+"$program" replay < "$folder/long" > "$folder/whole" 2> "$folder/err"
+same 'a long schedule' $? 0 ''
+(ulimit -v 10000; exec "$program" replay < "$folder/long" > "$folder/front" 2> "$folder/err")
+status=$?
+head -c "$(stat -c %s "$folder/front")" "$folder/whole" | cmp - "$folder/front" > "$folder/out" 2>&1
+same 'a long schedule in 10 MB' $status 6 ''
+
 # ---- words
 for words in '' 'stop' 'replay replay' 'gen 1 1' 'node' 'node --help' \
     'node --id 3 --replicas 3 --sequencers 1' \

@@ -1,0 +1,94 @@
+#!/bin/bash
+# Replays each schedule of examples/ and compares the output and the exit status with the transcript beside it; then schedules
+# that are too long to store. It takes a few seconds, leaves nothing behind, and ends with status 1 at any difference.
+#
+#   checks/transcripts.sh        the program is crates/nopaxos/out/nopaxos, or the file that NOPAXOS names
+set -u
+cd "$(dirname "$0")/.." || exit 2
+program=${NOPAXOS:-crates/nopaxos/out/nopaxos}
+if [ ! -x "$program" ]; then
+    (cd crates/nopaxos && rt run -- replay < stdin > /dev/null 2>&1)
+fi
+[ -x "$program" ] || { echo "transcripts: there is no program file $program"; exit 1; }
+
+folder=$(mktemp -d) || exit 2
+trap 'rm -rf "$folder"' EXIT
+made=0
+wrong=0
+
+# differs WORDS..: one more difference.
+differs() {
+    echo "transcripts: $*"
+    wrong=$((wrong + 1))
+}
+
+# literal FILE: its text as a literal of the test.
+literal() {
+    if [ -s "$1" ]; then printf '"\\\n%s\n"' "$(cat "$1")"; else printf '""'; fi
+}
+
+# same NAME SCHEDULE TRANSCRIPT: the status is 1 where the transcript ends with an error line, and else 0.
+same() {
+    local status wanted=0
+    made=$((made + 1))
+    "$program" replay < "$2" > "$folder/out" 2> "$folder/err"
+    status=$?
+    case $(tail -n 1 "$3") in
+    error*) wanted=1 ;;
+    esac
+    if [ "$status" != "$wanted" ]; then
+        differs "$1: status $status and not $wanted"
+    elif ! cmp -s "$folder/out" "$3"; then
+        differs "$1: $(cmp "$folder/out" "$3" 2>&1)"
+    elif [ -s "$folder/err" ]; then
+        differs "$1: on standard error '$(head -c 300 "$folder/err")'"
+    fi
+}
+
+# ---- what is stored; the test of `run` has copies of it
+table=$(cat crates/nopaxos/src/tests/rows.rt)
+for schedule in examples/*.schedule; do
+    name=$(basename "$schedule" .schedule)
+    transcript=examples/$name.transcript
+    same "$name" "$schedule" "$transcript"
+    for file in "$schedule" "$transcript"; do
+        [[ $table == *"$(literal "$file")"* ]] || differs "$file is not in the table of the test"
+    done
+done
+
+# ---- a log of 4,096 slots: the 4,097th stamped request is not logged, and gets no reply
+{
+    echo 'nopaxos 1 replicas 1 sequencers 1 clients 1'
+    for ((i = 0; i < 4096; i++)); do
+        printf 'submit c0 4700016b\ndeliver %d s0\ndeliver %d r0\ndeliver %d c0\n' $((3 * i)) $((3 * i + 1)) $((3 * i + 2))
+    done
+    printf 'submit c0 4700016b\ndeliver 12288 s0\ndeliver 12289 r0\n'
+} > "$folder/schedule"
+{
+    echo 'transcript 1 replicas 1 sequencers 1 clients 1'
+    for ((i = 0; i < 4096; i++)); do
+        printf 'submit c0 %d 4700016b\nsend %d c0 s* request 22\n' $((i + 1)) $((3 * i))
+        printf 'send %d s0 r* stamped 34\nsend %d r0 c0 reply 36\n' $((3 * i + 1)) $((3 * i + 2))
+        printf 'accept c0 %d 6e6f6e65\n' $((i + 1))
+    done
+    printf 'submit c0 4097 4700016b\nsend 12288 c0 s* request 22\nsend 12289 s0 r* stamped 34\n'
+    echo 'replica r0 up normal 0 1 4096 0'
+    for ((i = 1; i <= 4096; i++)); do echo "history $i c0 $i 4700016b"; done
+    echo end
+} > "$folder/transcript"
+same 'a full log' "$folder/schedule" "$folder/transcript"
+
+# ---- a line of 4,097 bytes without an end, and one of 4,096 bytes with its end
+header='replicas 3 sequencers 1 clients 1'
+{ echo "nopaxos 1 $header"; head -c 4097 /dev/zero | tr '\0' x; } > "$folder/schedule"
+printf 'transcript 1 %s\nerror line 2 rule 1\n' "$header" > "$folder/transcript"
+same 'a line that is too long' "$folder/schedule" "$folder/transcript"
+{ echo "nopaxos 1 $header"; head -c 4096 /dev/zero | tr '\0' x; echo; } > "$folder/schedule"
+printf 'transcript 1 %s\nerror line 2 rule 3\n' "$header" > "$folder/transcript"
+same 'a line of the greatest length' "$folder/schedule" "$folder/transcript"
+
+if [ "$wrong" != 0 ]; then
+    echo "transcripts: $wrong of $made differ"
+    exit 1
+fi
+echo "transcripts: $made as they must be"
