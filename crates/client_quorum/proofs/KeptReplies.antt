@@ -1,11 +1,14 @@
 -- A reply that replaces its replica's kept one.
-use Rattle.std.proofs.Common.{◌≡◌, ℕ, ◌+◌, ◌≤◌, Bool, true, false, cond, refl, arith, List, [], ◌∷◌, ◌++◌}
-use Rattle.std.specs.Prelude.{◌==◌, not, filter, count_by}
+use Rattle.std.proofs.Common.{◌≡◌, ℕ, ◌+◌, ◌≤◌, Bool, true, false, cond, refl, arith, List, [], ◌∷◌, ◌++◌, All, Option, Some, None}
+use Rattle.std.specs.Prelude.{◌==◌, ◌&&◌, ◌/◌, nat_le, not, filter, find, count_by, IfSome}
+use Rattle.std.proofs.lemmas.List.Elements.{All-filter, All-push, All-head, All-tail}
 use Rattle.std.proofs.lemmas.List.Recursion.{is_count_by}
 use Rattle.std.proofs.lemmas.Bool.Decides.{nat_tests}
 use Rattle.std.proofs.lemmas.Bool.{eqb-true}
+use Rattle.nop_types.specs.Ranges.{ReplyFits}
 use Rattle.nop_types.specs.declared.datagram.Reply.{Reply}
-use Rattle.client_quorum.specs.KeptReplies.{HasOneEach, keep_reply}
+use Rattle.nop_types.specs.declared.view.View.{View}
+use Rattle.client_quorum.specs.KeptReplies.{HasOneEach, AreKept, keep_reply, matches, is_leaders, quorum_of}
 
 -- how many are of a replica
 abbrev pub times : ℕ → List Reply → ℕ
@@ -88,3 +91,36 @@ kept_one_each p ks one r =
     let d = one r in
     let c = kept_times r p ks (omega (arith, a, d)) in
     omega (arith, b, c)
+
+-- ---- ranges
+
+pub left_fit : (r : ℕ) (kept : List Reply) → All ReplyFits kept → All ReplyFits (filter (λ k. not (k.replica == r)) kept)
+left_fit r kept fit = All-filter (λ (k : Reply). not (k.replica == r)) ReplyFits kept fit
+
+pub left_kept : (r : ℕ) (kept : List Reply) → AreKept kept → AreKept (filter (λ k. not (k.replica == r)) kept)
+left_kept r kept are = record { one_each = left_one_each r kept are.one_each; fit = left_fit r kept are.fit }
+
+pub kept_kept : (p : Reply) (kept : List Reply) → AreKept kept → ReplyFits p → AreKept (keep_reply kept p)
+kept_kept p kept are fits = record {
+  one_each = kept_one_each p kept are.one_each;
+  fit = All-push ReplyFits (filter (λ (k : Reply). not (k.replica == p.replica)) kept) p (left_fit p.replica kept are.fit) fits;
+}
+
+found_at : (test : Reply → Bool) (b : Bool) (k : Reply) (kept : List Reply) → ReplyFits k → IfSome (find test kept) ReplyFits
+    → IfSome (cond b (Some k) (find test kept)) ReplyFits
+found_at test true k kept fits rest = fits
+found_at test false k kept fits rest = rest
+
+pub found_fits : (test : Reply → Bool) (kept : List Reply) → All ReplyFits kept → IfSome (find test kept) ReplyFits
+found_fits test [] fit = tt
+found_fits test (k ∷ kept) fit =
+    found_at test (test k) k kept (All-head ReplyFits k kept fit) (found_fits test kept (All-tail ReplyFits k kept fit))
+
+some_if : (b : Bool) (o : Option Reply) → IfSome o ReplyFits → IfSome (cond b o None) ReplyFits
+some_if true o fits = fits
+some_if false o fits = tt
+
+pub quorum_fits : (n : ℕ) (kept : List Reply) (v : View) (slot : ℕ) → AreKept kept → IfSome (quorum_of n kept v slot) ReplyFits
+quorum_fits n kept v slot are =
+    some_if (nat_le (n / 2 + 1) (count_by (matches v slot) kept)) (find (λ k. matches v slot k && is_leaders n k) kept)
+    (found_fits (λ k. matches v slot k && is_leaders n k) kept are.fit)

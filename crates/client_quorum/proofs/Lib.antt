@@ -1,3 +1,4 @@
+pub mod Ignoring
 pub mod KeptReplies
 pub mod Quorums
 pub mod Received

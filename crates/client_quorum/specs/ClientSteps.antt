@@ -1,9 +1,12 @@
 -- The step table of the client.
-use Rattle.std.specs.Prelude.{ℕ, ◌+◌, ◌-◌, ◌^◌, List, [], ◌∷◌, Bool, true, false, Option, Some, None, Result, Ok, Err, nat_lt, ◌==◌, ◌&&◌}
+use Rattle.std.specs.Prelude.{ℕ, ◌+◌, ◌-◌, ◌^◌, ◌<◌, ◌≤◌, length, IfSome, List, [], ◌∷◌, Bool, true, false, Option, Some, None, Result, Ok, Err, nat_lt, ◌==◌, ◌&&◌}
+use Rattle.nop_types.specs.declared.limits.TheConstants.{MAX_RESULT_BYTES}
 use Rattle.nop_types.specs.Configuration.{Configuration}
 use Rattle.nop_types.specs.Given.{Given, Packet, Ticked, Submit}
 use Rattle.nop_types.specs.declared.input.Tick.{Tick}
 use Rattle.nop_types.specs.declared.input.Tick.TheVariants as ticks
+use Rattle.nop_types.specs.Ranges.{RequestFits}
+use Rattle.nop_types.specs.declared.output.Accept.{Accept}
 use Rattle.nop_types.specs.declared.output.Out.{Out}
 use Rattle.nop_types.specs.declared.output.Out.TheVariants.{Send, Submitted, Accepted, Busy}
 use Rattle.nop_types.specs.declared.output.Dest.TheVariants.{Sequencers}
@@ -14,8 +17,19 @@ use Rattle.nop_types.specs.declared.datagram.Datagram.TheVariants as datagrams
 use Rattle.oum_codec.specs.declared.bad.Bad.{Bad}
 use Rattle.oum_codec.specs.Reading.{reading}
 use Rattle.oum_codec.specs.Spelling.{spelling}
-use Rattle.client_quorum.specs.KeptReplies.{keep_reply, quorum_of}
+use Rattle.client_quorum.specs.KeptReplies.{AreKept, keep_reply, quorum_of}
 use Rattle.client_quorum.specs.declared.state.ClientState.{ClientState}
+
+-- the result of an acceptance is within its limit
+abbrev pub AcceptFits : Option Accept → Type 0
+AcceptFits accepted = IfSome accepted (λ a. length a.result ≤ MAX_RESULT_BYTES)
+
+-- within the limits
+pub record IsWithin (s : ClientState) : Type 0 where
+  pub last_id : s.last_id < 2 ^ 64
+  pub pending : IfSome s.pending RequestFits
+  pub replies : AreKept s.replies
+  pub accepted : AcceptFits s.accepted
 
 abbrev pub opening : Configuration → ℕ → List (List ℕ) → ClientState
 opening config number ops =

@@ -1,3 +1,4 @@
 pub mod ClientSteps
+pub mod Ignoring
 pub mod KeptReplies
 pub mod Runs

@@ -1,8 +1,8 @@
 ghost use Rattle.std.specs.Prelude.{◌≡◌, false, IfOk};
 ghost use Rattle.std.specs.Option.{option_copied};
-ghost use Rattle.client_quorum.specs.ClientSteps.{opening, timers, is_done};
+ghost use Rattle.client_quorum.specs.ClientSteps.{AcceptFits, IsWithin, opening, timers, is_done, can_submit};
 
-use crate::rows::act;
+use crate::rows::{act, can_submit};
 use crate::{ClientState, Pending, Replies, Waiting};
 use nop_types::{Accept, Config, Core, Input, NoMemory, Op, Outbox, Tick, end_step};
 use std::alloc::Global;
@@ -19,10 +19,13 @@ pub struct Client {
 impl Model for Client {
     ghost use Rattle.nop_types.specs.Machine.{Machine};
     ghost use Rattle.client_quorum.specs.declared.state.ClientState.{ClientState};
+    ghost use Rattle.client_quorum.specs.ClientSteps.{AcceptFits};
 
     ghost Value = { Machine ClientState };
 
     ghost view = { λ c. record { failed = c.failed; state = c.state } };
+
+    ghost invariant = { λ c. AcceptFits c.state.accepted };
 }
 
 impl Client {
@@ -48,9 +51,28 @@ impl Client {
 
     /// The last acceptance: None exactly where no request was submitted, or the last submitted one was not accepted.
     pub fn accepted(&self) -> Option<&Accept>
-        ensures { option_copied result ≡ self.now.state.accepted }
+        ensures accepted { option_copied result ≡ self.now.state.accepted }
+        ensures limit { AcceptFits self.now.state.accepted }
     {
         self.state.accepted.as_ref()
+    }
+
+    /// What the client knows. Whatever came, it is within the limits.
+    pub fn state(&self) -> &ClientState
+        ensures value { result.now ≡ self.now.state }
+        ensures within { IsWithin self.now.state }
+    {
+        let _last = self.state.last_id;
+        let _pending = self.state.pending.request();
+        let _kept = self.state.replies.as_slice();
+        &self.state
+    }
+
+    /// Whether an op that is submitted now becomes the client's request: none is pending, and an id is left.
+    pub fn can_submit(&self) -> bool
+        ensures { result ≡ can_submit self.now.state }
+    {
+        can_submit(&self.state)
     }
 }
 

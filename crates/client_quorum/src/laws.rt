@@ -1,15 +1,17 @@
 //! What a client does over any inputs.
 
-ghost use Rattle.std.specs.Prelude.{◌≡◌, ◌↔◌, ℕ, List, true, None, Some, ◌++◌, ◌∷◌, [], slice_get, length};
+ghost use Rattle.std.specs.Prelude.{◌≡◌, ◌↔◌, ℕ, List, true, false, None, Some, ◌++◌, ◌∷◌, [], slice_get, length};
 ghost use Rattle.nop_types.specs.Configuration.{Configuration};
-ghost use Rattle.nop_types.specs.Given.{Given};
+ghost use Rattle.nop_types.specs.Given.{Given, Ticked};
 ghost use Rattle.nop_types.specs.Lists.{Has};
+ghost use Rattle.nop_types.specs.declared.input.Tick.{Tick};
 ghost use Rattle.nop_types.specs.declared.view.View.{View};
 ghost use Rattle.nop_types.specs.declared.datagram.Reply.{Reply};
 ghost use Rattle.nop_types.specs.declared.request.Request.{Request};
 ghost use Rattle.nop_types.specs.declared.output.Out.TheVariants.{Submitted, Accepted};
 ghost use Rattle.client_quorum.specs.declared.state.ClientState.{ClientState};
 ghost use Rattle.client_quorum.specs.ClientSteps.{opening, next, reply, is_expected};
+ghost use Rattle.client_quorum.specs.Ignoring.{is_tick_for, IsIgnored, IgnoresPacket};
 ghost use Rattle.client_quorum.specs.KeptReplies.{HasOneEach, keep_reply};
 ghost use Rattle.client_quorum.specs.Runs.{after, gave, replies_of, ops_of, HasNoSubmit, HasQuorum, IsAgreed, EndsWith, Stands, TakesTurns};
 
@@ -88,4 +90,12 @@ pub fn keeps_no_quorum()
         (view : View) (slot : ℕ) (result : List ℕ) →
         ¬ HasQuorum config.replicas (after (opening config number ops) inputs).replies
         view slot result }
+{}
+
+/// What is not for a client changes nothing and sends nothing: bytes that spell no datagram, a datagram that is no reply of a replica to
+/// its pending request, and a tick for others.
+pub fn ignores_what_is_for_others()
+    ensures packets { (s : ClientState) (bytes : List ℕ) → IgnoresPacket s bytes }
+    ensures ticks { (s : ClientState) (tick : Tick) → is_tick_for tick ≡ false →
+        IsIgnored s (Ticked tick) }
 {}

@@ -11,8 +11,9 @@ mod waiting;
 
 pub use client::Client;
 pub use laws::{
-    accepts_exactly_at_a_quorum, accepts_what_replicas_replied, keeps_no_quorum,
-    knows_the_last_request, submits_waiting_ops_in_order, takes_turns, uses_each_id_once,
+    accepts_exactly_at_a_quorum, accepts_what_replicas_replied, ignores_what_is_for_others,
+    keeps_no_quorum, knows_the_last_request, submits_waiting_ops_in_order, takes_turns,
+    uses_each_id_once,
 };
 pub use pending::Pending;
 pub use replies::Replies;

@@ -1,12 +1,13 @@
-ghost use Rattle.std.specs.Prelude.{◌≡◌, ◌≤◌, ◌&&◌, [], OnOk, find, count_by};
+ghost use Rattle.std.specs.Prelude.{◌≡◌, ◌≤◌, ◌&&◌, [], All, OnOk, IfSome, find, count_by};
 ghost use Rattle.std.specs.Option.{option_copied};
-ghost use Rattle.client_quorum.specs.KeptReplies.{HasOneEach, keep_reply, matches, is_leaders, quorum_of};
+ghost use Rattle.nop_types.specs.Ranges.{ReplyFits};
+ghost use Rattle.client_quorum.specs.KeptReplies.{AreKept, keep_reply, matches, is_leaders, quorum_of};
 
 use nop_types::{Config, NoMemory, Reply, View, leader_of};
 use std::alloc::Global;
 use std::marker::Model;
 
-/// The kept replies of a client, at most one for each replica.
+/// The kept replies of a client, at most one for each replica. Each field of them is in its range.
 #[derive(Debug, Drop)]
 pub struct Replies {
     kept: Vec<Reply>,
@@ -15,13 +16,13 @@ pub struct Replies {
 impl Model for Replies {
     ghost use Rattle.std.specs.Prelude.{List};
     ghost use Rattle.nop_types.specs.declared.datagram.Reply.{Reply};
-    ghost use Rattle.client_quorum.specs.KeptReplies.{HasOneEach};
+    ghost use Rattle.client_quorum.specs.KeptReplies.{AreKept};
 
     ghost Value = { List Reply };
 
     ghost view = { λ r. r.kept.items };
 
-    ghost invariant = { λ r. HasOneEach r.kept.items };
+    ghost invariant = { λ r. AreKept r.kept.items };
 }
 
 /// Whether it is of this view and slot.
@@ -54,9 +55,10 @@ fn of_leader(kept: &[Reply], n: u8, view: View, slot: u32) -> Option<&Reply>
 }
 
 fn replace(kept: &mut Vec<Reply>, reply: Reply) -> Result<(), NoMemory>
-    requires { HasOneEach kept.old.items }
+    requires kept { AreKept kept.old.items }
+    requires fits { ReplyFits reply }
     ensures kept { OnOk result (kept.new.items ≡ keep_reply kept.old.items reply) }
-    ensures one_each { HasOneEach kept.new.items }
+    ensures stays { AreKept kept.new.items }
 {
     let replica = reply.replica;
     kept.retain(|k| k.replica != replica);
@@ -75,8 +77,8 @@ impl Replies {
 
     /// The kept replies, no two of one replica.
     pub fn as_slice(&self) -> &[Reply]
-        ensures kept { result.now ≡ self.now }
-        ensures one_each { HasOneEach self.now }
+        ensures replies { result.now ≡ self.now }
+        ensures kept { AreKept self.now }
     {
         &self.kept
     }
@@ -89,6 +91,7 @@ impl Replies {
 
     /// Keeps a reply in place of its replica's kept one.
     pub fn put(&mut self, reply: Reply) -> Result<(), NoMemory>
+        requires { ReplyFits reply }
         ensures { OnOk result (self.new ≡ keep_reply self.old reply) }
     {
         replace(&mut self.kept, reply)
@@ -96,7 +99,8 @@ impl Replies {
 
     /// The reply of the view's leader at this slot, where f + 1 kept replies are of this view and slot.
     pub fn quorum(&self, config: Config, view: View, slot: u32) -> Option<&Reply>
-        ensures { option_copied result ≡ quorum_of config.replicas self.now view slot }
+        ensures reply { option_copied result ≡ quorum_of config.replicas self.now view slot }
+        ensures fits { IfSome (quorum_of config.replicas self.now view slot) ReplyFits }
     {
         let n = config.replicas();
         if matching(&self.kept, view, slot) < n as usize / 2 + 1 {

@@ -1,14 +1,14 @@
 ghost use Rattle.std.specs.Prelude.{◌≡◌, ◌++◌, ◌∷◌, ◌<◌, ◌^◌, ◌+◌, [], OnOk};
 ghost use Rattle.nop_types.specs.Given.{given};
-ghost use Rattle.nop_types.specs.Ranges.{RequestFits};
-ghost use Rattle.client_quorum.specs.ClientSteps.{begin, can_submit, is_expected, next, on_tick, reply, retry, sent, submit, submit_waiting};
+ghost use Rattle.nop_types.specs.Ranges.{ReplyFits, RequestFits};
+ghost use Rattle.client_quorum.specs.ClientSteps.{AcceptFits, begin, can_submit, is_expected, next, on_tick, reply, retry, sent, submit, submit_waiting};
 
 use crate::{ClientState, Pending};
 use nop_types::{Accept, Datagram, Dest, Input, NoMemory, Op, Out, Outbox, Reply, Request, Tick};
 use oum_codec::{read_datagram, send_datagram};
 use std::alloc::Global;
 
-fn can_submit(state: &ClientState) -> bool
+pub(crate) fn can_submit(state: &ClientState) -> bool
     ensures { result ≡ can_submit state.now }
 {
     state.pending.is_none() && state.last_id < u64::MAX
@@ -25,7 +25,9 @@ fn send(alloc: Global, request: &Request, out: &mut Outbox) -> Result<(), NoMemo
 
 /// The op is pending under the next id, and its request is sent.
 fn begin(alloc: Global, state: &mut ClientState, op: Op, out: &mut Outbox) -> Result<(), NoMemory>
-    requires { state.old.last_id + 1 < 2 ^ 64 }
+    requires room { state.old.last_id + 1 < 2 ^ 64 }
+    requires limit { AcceptFits state.old.accepted }
+    ensures limit { AcceptFits state.new.accepted }
     ensures state { OnOk result (state.new
         ≡ (begin state.old (record {
           client = state.old.number;
@@ -56,6 +58,8 @@ fn begin(alloc: Global, state: &mut ClientState, op: Op, out: &mut Outbox) -> Re
 
 /// An op is submitted.
 fn submit(alloc: Global, state: &mut ClientState, op: &Op, out: &mut Outbox) -> Result<(), NoMemory>
+    requires { AcceptFits state.old.accepted }
+    ensures limit { AcceptFits state.new.accepted }
     ensures state { OnOk result (state.new ≡ (submit state.old op.now).0) }
     ensures out { OnOk result (out.new ≡ out.old ++ (submit state.old op.now).1) }
 {
@@ -67,6 +71,8 @@ fn submit(alloc: Global, state: &mut ClientState, op: &Op, out: &mut Outbox) -> 
 
 /// The first waiting op is submitted, where that gives no Busy.
 fn submit_waiting(alloc: Global, state: &mut ClientState, out: &mut Outbox) -> Result<(), NoMemory>
+    requires { AcceptFits state.old.accepted }
+    ensures limit { AcceptFits state.new.accepted }
     ensures state { OnOk result (state.new ≡ (submit_waiting state.old).0) }
     ensures out { OnOk result (out.new ≡ out.old ++ (submit_waiting state.old).1) }
 {
@@ -89,6 +95,9 @@ fn is_expected(state: &ClientState, came: &Reply) -> bool
 
 /// A reply comes: it is kept, and accepts at a quorum.
 fn reply(state: &mut ClientState, came: Reply, out: &mut Outbox) -> Result<(), NoMemory>
+    requires limit { AcceptFits state.old.accepted }
+    requires fits { ReplyFits came }
+    ensures limit { AcceptFits state.new.accepted }
     ensures state { OnOk result (state.new ≡ (reply state.old came).0) }
     ensures out { OnOk result (out.new ≡ out.old ++ (reply state.old came).1) }
 {
@@ -129,6 +138,8 @@ fn on_tick(
     tick: Tick,
     out: &mut Outbox,
 ) -> Result<(), NoMemory>
+    requires { AcceptFits state.old.accepted }
+    ensures limit { AcceptFits state.new.accepted }
     ensures state { OnOk result (state.new ≡ (on_tick state.old tick).0) }
     ensures out { OnOk result (out.new ≡ out.old ++ (on_tick state.old tick).1) }
 {
@@ -147,6 +158,8 @@ pub(crate) fn act(
     input: Input<'_>,
     out: &mut Outbox,
 ) -> Result<(), NoMemory>
+    requires { AcceptFits state.old.accepted }
+    ensures limit { AcceptFits state.new.accepted }
     ensures state { OnOk result (state.new ≡ (next state.old (given input.entry)).0) }
     ensures out { OnOk result (out.new ≡ out.old ++ (next state.old (given input.entry)).1) }
 {

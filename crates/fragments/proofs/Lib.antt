@@ -2,6 +2,7 @@ pub mod Came
 pub mod Counting
 pub mod Fronts
 pub mod Goes
+pub mod Held
 pub mod Limits
 pub mod Pieces
 pub mod Together

@@ -1,7 +1,7 @@
 -- What is cut is in its ranges, and what is kept stays within the limits.
 use Rattle.std.proofs.Common.{◌≡◌, ℕ, suc, ◌+◌, ◌*◌, ◌<◌, ◌≤◌, Bool, true, false, cond, eqb, ltb, List, [], ◌∷◌, ◌++◌, length, get_or, take}
 use Rattle.std.proofs.Common.{drop, replicate, All, Option, Some, None, refl, sym, subst, arith, inl, inr}
-use Rattle.std.specs.Prelude.{slice_get, nat_lt, nat_le, ◌&&◌, ◌||◌}
+use Rattle.std.specs.Prelude.{slice_get, nat_lt, nat_le, ◌&&◌, ◌||◌, Result, Ok, Err, OnOk, OnErr}
 use Rattle.std.proofs.lemmas.Bool.Decides.{nat_tests}
 use Rattle.std.proofs.lemmas.Bool.{ltb-false}
 use Rattle.std.proofs.lemmas.List.{length-append, length-drop, length-take, length-set, length-replicate}
@@ -165,3 +165,9 @@ range_fits all f true e fits = sender_fits all f (slice_get all f.replica) (is_s
 
 pub taken_fits : (all : List Waiting) (f : Fragment) → All WaitingFits all → All WaitingFits (taken all f).0
 taken_fits all f fits = range_fits all f (is_in_range f) refl fits
+
+-- what a queue becomes where a fragment was taken, or memory ran out
+pub queue_fits : {A E : Type 0} (r : Result A E) (q q' : Waiting) (f : Fragment) (o : Option ℕ) → is_in_range f ≡ true
+    → place q f.message ≡ o → OnOk r (q' ≡ (placed q f o).0) → OnErr r (q' ≡ q) → WaitingFits q → WaitingFits q'
+queue_fits (Ok a) q q' f o e at ok err fits = subst WaitingFits (sym ok) (placed_fits q f o (is_short f e) at fits)
+queue_fits (Err x) q q' f o e at ok err fits = subst WaitingFits (sym err) fits

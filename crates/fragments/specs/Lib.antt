@@ -1,5 +1,6 @@
 pub mod Cutting
 pub mod Front
+pub mod Held
 pub mod Joining
 pub mod Parts
 pub mod Runs

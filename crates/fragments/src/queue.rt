@@ -1,5 +1,7 @@
-ghost use Rattle.std.specs.Prelude.{◌≡◌, ◌==◌, ◌<◌, [], true, length, slice_get, OnOk, OnErr, IfOk};
+ghost use Rattle.std.specs.Prelude.{◌≡◌, ◌==◌, ◌<◌, ◌^◌, [], true, length, slice_get, OnOk, OnErr, IfOk};
+ghost use Rattle.fragments.specs.Held.{held_of};
 ghost use Rattle.fragments.specs.Joining.{begun, is_in_range, place, started, found, joined};
+ghost use Rattle.fragments.specs.Runs.{WaitingFits};
 
 use crate::unfinished::Unfinished;
 use nop_types::{Bytes, Fragment, MAX_UNFINISHED, NoMemory};
@@ -42,6 +44,19 @@ impl Queue {
         Queue {
             messages: Vec::new(alloc),
         }
+    }
+
+    /// How many bytes of payloads are kept.
+    #[tactic(auto, using(std::proofs::lemmas::List::Sums::sum_by_more, std::proofs::lemmas::List::Sums::sum_by_more_le))]
+    pub(crate) fn held(&self) -> u64
+        requires { held_of self.now < 2 ^ 64 }
+        ensures { result ≡ held_of self.now }
+    {
+        let mut bytes = 0;
+        for message in &self.messages {
+            bytes += message.held();
+        }
+        bytes
     }
 
     fn place(&self, number: u64) -> Option<usize>
@@ -99,6 +114,7 @@ impl Queue {
         ensures gives { IfOk result (λ r. r ≡ (joined self.old fragment.now).1) }
         ensures kept { OnOk result (self.new ≡ (joined self.old fragment.now).0) }
         ensures err { OnErr result (self.new ≡ self.old) }
+        ensures fits { WaitingFits self.old → WaitingFits self.new }
     {
         match self.place(fragment.message) {
             None => self.start(fragment),

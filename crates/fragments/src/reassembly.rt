@@ -1,24 +1,31 @@
-ghost use Rattle.std.specs.Prelude.{◌≡◌, ◌<◌, length, OnOk, OnErr, IfOk};
+ghost use Rattle.std.specs.Prelude.{◌≡◌, ◌<◌, ◌≤◌, ◌*◌, All, length, OnOk, OnErr, IfOk};
+ghost use Rattle.nop_types.specs.declared.limits.TheConstants.{MAX_UNFINISHED};
+ghost use Rattle.fragments.specs.Held.{held};
 ghost use Rattle.fragments.specs.Joining.{is_in_range, opening, taken};
+ghost use Rattle.fragments.specs.Runs.{WaitingFits};
 
 use crate::queue::Queue;
 use nop_types::{Bytes, FRAGMENT_BYTES, Fragment, MAX_FRAGMENTS, NoMemory};
 use std::alloc::Global;
 use std::marker::Model;
 
-/// The unfinished messages of each sender, which are numbered from 0.
+/// The unfinished messages of each sender, which are numbered from 0. Whatever came, no sender has more than `MAX_UNFINISHED` of them,
+/// none has more than `MAX_FRAGMENTS` parts, and no part has more than `FRAGMENT_BYTES` bytes.
 #[derive(Debug, Drop)]
 pub struct Reassembly {
     senders: Vec<Queue>,
 }
 
 impl Model for Reassembly {
-    ghost use Rattle.std.specs.Prelude.{List};
+    ghost use Rattle.std.specs.Prelude.{List, All};
     ghost use Rattle.fragments.specs.Parts.{Partial};
+    ghost use Rattle.fragments.specs.Runs.{WaitingFits};
 
     ghost Value = { List (List Partial) };
 
     ghost view = { λ r. r.senders.items };
+
+    ghost invariant = { λ r. All WaitingFits r.senders.items };
 }
 
 /// Whether index and count go together, and the payload is as long as its index wants it.
@@ -47,9 +54,21 @@ impl Reassembly {
 
     /// How many senders there are.
     pub fn senders(&self) -> usize
-        ensures { result ≡ length self.now }
+        ensures senders { result ≡ length self.now }
+        ensures within { All WaitingFits self.now }
     {
         self.senders.len()
+    }
+
+    /// How many bytes of payloads are kept of a sender, 0 where there is no such sender.
+    pub fn held(&self, sender: u8) -> u64
+        ensures bytes { result ≡ held self.now sender }
+        ensures limit { result ≤ MAX_UNFINISHED * (MAX_FRAGMENTS * FRAGMENT_BYTES) }
+    {
+        match self.senders.get(sender as usize) {
+            Some(queue) => queue.held(),
+            None => 0,
+        }
     }
 
     /// Takes a fragment, and gives the bytes of the message that it completes. None where parts of its message are missing

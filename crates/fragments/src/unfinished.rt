@@ -1,6 +1,7 @@
-ghost use Rattle.std.specs.Prelude.{◌≡◌, ◌+◌, ◌*◌, ◌<◌, ◌≤◌, ◌++◌, true, length, replicate, set, take, IfOk, OnOk, OnErr, None, Some};
-ghost use Rattle.fragments.specs.Parts.{missing, is_open, whole, with_part};
+ghost use Rattle.std.specs.Prelude.{◌≡◌, ◌+◌, ◌*◌, ◌<◌, ◌≤◌, ◌^◌, ◌++◌, true, length, replicate, set, take, sum_by, IfOk, OnOk, OnErr, None, Some};
+ghost use Rattle.fragments.specs.Parts.{missing, is_open, bytes_of, whole, with_part};
 ghost use Rattle.fragments.specs.Front.{parts_of};
+ghost use Rattle.fragments.specs.Held.{held_in};
 
 use nop_types::{Bytes, FRAGMENT_BYTES, NoMemory};
 use std::alloc::Global;
@@ -109,6 +110,29 @@ fn is_empty_at(parts: &[Option<Bytes>], index: usize) -> bool
     }
 }
 
+/// How many bytes a part has, 0 where it did not come.
+fn part_len(part: &Option<Bytes>) -> u64
+    ensures { result ≡ length (bytes_of part.now) }
+{
+    match part {
+        Some(payload) => payload.as_slice().len() as u64,
+        None => 0,
+    }
+}
+
+/// How many bytes the parts have that came.
+#[tactic(auto, using(std::proofs::lemmas::List::Sums::sum_by_more, std::proofs::lemmas::List::Sums::sum_by_more_le))]
+fn bytes_in(parts: &[Option<Bytes>]) -> u64
+    requires { sum_by (λ part. length (bytes_of part)) parts.now < 2 ^ 64 }
+    ensures { result ≡ sum_by (λ part. length (bytes_of part)) parts.now }
+{
+    let mut bytes = 0;
+    for part in parts {
+        bytes += part_len(part);
+    }
+    bytes
+}
+
 /// Moves parts that came early behind the front, as far as they go on without a gap and memory lasts.
 fn gather(front: &mut Vec<u8>, filled: usize, later: &mut Vec<Option<Bytes>>) -> usize
     requires size { length front.old.items ≡ FRAGMENT_BYTES * filled }
@@ -168,6 +192,15 @@ impl Unfinished {
         ensures { result ≡ missing self.now.parts }
     {
         self.missing
+    }
+
+    /// How many bytes the parts have that came.
+    pub(crate) fn held(&self) -> u64
+        requires { held_in self.now < 2 ^ 64 }
+        ensures { result ≡ held_in self.now }
+    {
+        let (_, rest) = self.later.split_at(self.filled);
+        self.front.len() as u64 + bytes_in(rest)
     }
 
     /// Whether there is such an index and its part has not come.

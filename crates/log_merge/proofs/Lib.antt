@@ -1,4 +1,5 @@
 pub mod Counted
+pub mod Descending
 pub mod InRanges
 pub mod Merged
 pub mod Rows

@@ -1,4 +1,5 @@
 pub mod Given
 pub mod Merge
 pub mod Merged
+pub mod Pairs
 pub mod Starting

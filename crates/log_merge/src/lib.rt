@@ -3,6 +3,8 @@
 
 mod laws;
 mod merging;
+mod moving;
 
 pub use laws::{merge_by_slot, merge_is_in_ranges, merge_is_of_pairs};
 pub use merging::{merge, merge_of_view};
+pub use moving::merge_moved;

@@ -1,5 +1,7 @@
 pub mod Counting
 pub mod Draining
+pub mod Gathered
+pub mod Ignoring
 pub mod Lengths
 pub mod Opening
 pub mod Posted

@@ -1,10 +1,12 @@
 pub mod Code
 pub mod Draining
+pub mod Ignoring
+pub mod Keeping
 pub mod Messages
 pub mod Moves
 pub mod Posting
-pub mod Replies
 pub mod ReplicaSteps
+pub mod Replies
 pub mod Rows
 pub mod Sends
 pub mod State

@@ -1,8 +1,8 @@
 -- What holds of each replica's state, beside what its parts hold.
-use Rattle.std.specs.Prelude.{◌≡◌, ◌≤◌, ◌<◌, ◌+◌, ◌++◌, ℕ, List, [], length, Some, IfSome, ⊤}
+use Rattle.std.specs.Prelude.{◌≡◌, ◌≤◌, ◌<◌, ◌+◌, ◌++◌, ℕ, List, [], length, All, Some, IfSome, ⊤}
 use Rattle.std.specs.List.{AllByRecursion}
 use Rattle.nop_types.specs.declared.host.Host.{Ghosts}
-use Rattle.nop_types.specs.declared.limits.TheConstants.{MAX_SLOTS, MAX_REPLICAS, MAX_RESULT_BYTES}
+use Rattle.nop_types.specs.declared.limits.TheConstants.{MAX_SLOTS, MAX_REPLICAS, MAX_RESULT_BYTES, NUMBER_END}
 use Rattle.nop_types.specs.declared.replica_state.Phase.TheVariants.{Normal}
 use Rattle.nop_types.specs.declared.request.Entry.{Entry}
 use Rattle.nop_types.specs.Execution.{result_at}
@@ -10,12 +10,15 @@ use Rattle.nop_types.specs.Meaning.{Meaning}
 use Rattle.nop_types.specs.Ranges.{ViewFits, LogFits, NextFits, SlotFits, ChangeFits, StampedFits, PeerFits}
 use Rattle.executor.specs.Running.{Running}
 use Rattle.executor.specs.Undoing.{HasExecuted}
+use Rattle.fragments.specs.Runs.{WaitingFits}
+use Rattle.oum_receiver.specs.Receiving.{IsSound}
 use Rattle.replica_core.specs.declared.member.Member.{Member}
 use Rattle.replica_core.specs.declared.replica.Node.{Node}
 use Rattle.replica_core.specs.declared.state.ReplicaState.{ReplicaState}
 use Rattle.replica_core.specs.State.{executed_to}
 use Rattle.replica_core.specs.Sends.{Effect}
 use Rattle.replica_core.specs.Messages.{Arrival, Packet, Told, Ticked}
+use Rattle.replica_core.specs.ReplicaSteps.{Replica}
 
 -- each field is in its range, and what is sent of it too
 pub record IsWithin (s : ReplicaState) : Type 0 where
@@ -58,6 +61,14 @@ pub record IsReady {H U : Type 0} (host : Ghosts H U) (n : Node H U) : Type 0 wh
   pub executed : length n.member.executor.undos ≡ executed_to n.member.state
   pub nothing : n.member.sends ≡ []
   pub senders : length n.reassembly ≡ n.member.state.config.replicas
+
+-- the limits of a replica's parts, which hold whatever came, and also where memory ran out in the middle of a step
+pub record KeepsLimits (r : Replica) : Type 0 where
+  pub log : length r.state.log ≤ MAX_SLOTS
+  pub next : r.state.next ≤ NUMBER_END
+  -- a queue of at most MAX_QUEUED requests, each below NUMBER_END, and a next number that is at most that
+  pub receiver : IsSound r.state.receiver
+  pub reassembly : All WaitingFits r.reassembly
 
 -- what arrives is in its ranges
 abbrev pub ArrivalFits : Arrival → Type 0

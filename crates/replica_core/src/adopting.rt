@@ -26,7 +26,7 @@ impl ReplicaState {
         self.status = Phase::Normal;
         self.last_normal = view;
         self.log.adopt(log);
-        self.next = next;
+        self.next.set(next);
         self.base = self.log.len();
     }
 }

@@ -31,8 +31,9 @@ impl ReplicaState {
         ensures { OnOk result (self.new ≡ appended self.old entry) }
     {
         self.log.append(entry)?;
-        self.next += 1;
-        self.receiver.advance(self.next);
+        let next = self.next.get() + 1;
+        self.next.set(next);
+        self.receiver.advance(next);
         Ok(())
     }
 
@@ -56,7 +57,7 @@ impl ReplicaState {
             return Ok(false);
         };
         self.log.append(Entry::Req(request))?;
-        self.next = self.receiver.next();
+        self.next.set(self.receiver.next());
         Ok(true)
     }
 

@@ -42,7 +42,7 @@ impl ReplicaState {
         Ok(Change {
             sender: self.number,
             last_normal: self.last_normal,
-            next: self.next,
+            next: self.next.get(),
             log: self.log.copy(self.log.len())?,
         })
     }
@@ -54,7 +54,7 @@ impl ReplicaState {
     {
         let body = LogBody::ViewChange {
             last_normal: self.last_normal,
-            next: self.next,
+            next: self.next.get(),
             log: self.log.as_slice(),
         };
         self.send_log_to(self.leader(), body, sends)

@@ -20,8 +20,9 @@ impl ReplicaState {
         ensures { OnOk result (self.new ≡ overlaid self.old log.now) }
     {
         self.log.overlay(log)?;
-        self.next += appended;
-        self.receiver.advance(self.next);
+        let next = self.next.get() + appended;
+        self.next.set(next);
+        self.receiver.advance(next);
         self.sync.on_prepare(log.as_slice().len() as u32);
         Ok(())
     }
@@ -148,7 +149,7 @@ impl<H: Host> Member<H> {
     {
         let len = self.state.log.len() as usize;
         let appended = log.as_slice().len().saturating_sub(len) as u64;
-        if self.state.next + appended > NUMBER_END {
+        if self.state.next.get() + appended > NUMBER_END {
             return Ok(());
         }
         self.state.heard = true;

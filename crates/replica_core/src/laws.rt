@@ -1,11 +1,20 @@
-ghost use Rattle.std.specs.Prelude.{◌≡◌, ◌≤◌, ◌<◌};
+ghost use Rattle.std.specs.Prelude.{◌≡◌, ◌≤◌, ◌<◌, ◌+◌, ◌-◌, ℕ, List, [], false, length};
+ghost use Rattle.nop_types.specs.Given.{Submit};
 ghost use Rattle.nop_types.specs.Meaning.{Meaning};
 ghost use Rattle.nop_types.specs.Ranges.{PeerFits};
+ghost use Rattle.nop_types.specs.declared.limits.TheConstants.{NUMBER_END};
 ghost use Rattle.nop_types.specs.declared.peer.Peer.{Peer};
+ghost use Rattle.nop_types.specs.declared.request.Entry.{Entry};
+ghost use Rattle.nop_types.specs.declared.request.Request.{Request};
 ghost use Rattle.fragments.specs.Cutting.{HasNoCut};
 ghost use Rattle.peer_codec.specs.Spelling.{spelling};
 ghost use Rattle.replica_core.specs.declared.state.ReplicaState.{ReplicaState};
-ghost use Rattle.replica_core.specs.Sends.{message_count};
+ghost use Rattle.replica_core.specs.declared.state.TheConstants.{LAST_MESSAGE};
+ghost use Rattle.replica_core.specs.Ignoring.{IsIgnored, IgnoresPacket, IgnoresMessage};
+ghost use Rattle.replica_core.specs.ReplicaSteps.{Replica, row};
+ghost use Rattle.replica_core.specs.Rows.{gap_commit, found, sync_prepare, sync_commit, begin_gap, suspect, last_leader};
+ghost use Rattle.replica_core.specs.Sends.{still, message_count};
+ghost use Rattle.replica_core.specs.State.{may_append};
 ghost use Rattle.replica_core.specs.Messages.{Arrival, arrive};
 ghost use Rattle.replica_core.specs.Draining.{DrainsByFront};
 
@@ -27,4 +36,38 @@ pub fn messages_are_cut()
 /// A drain takes a request, opens a gap, asks or ends, by what stands in front.
 pub fn drains_by_front<S>()
     ensures { (m : Meaning S) (s : ReplicaState) → DrainsByFront m s }
+{}
+
+/// What is not for a replica changes nothing and sends nothing: bytes that spell no datagram, a datagram for others, a fragment of
+/// its own number or of none of the group, and an op. So does a message of no other replica, and one that is taken only in its
+/// view in Normal, where that is another view or status.
+pub fn ignores_what_is_for_others<S>()
+    ensures packets { (m : Meaning S) (s : Replica) (bytes : List ℕ) → IgnoresPacket m s bytes }
+    ensures ops { (m : Meaning S) (s : Replica) (op : List ℕ) → IsIgnored m s (Submit op) }
+    ensures messages { (m : Meaning S) (s : ReplicaState) (p : Peer) → IgnoresMessage m s p }
+{}
+
+/// A row that would pass a limit changes nothing and sends nothing: one that would log an entry in a full log or past the last number,
+/// or raise the sync point above what is prepared, or the leader number past its end.
+pub fn rows_rest_at_limits<S>()
+    ensures gap { (m : Meaning S) (s : ReplicaState) (k : ℕ) → may_append s ≡ false →
+        length s.log < k → gap_commit m k s ≡ still s }
+    ensures found { (m : Meaning S) (s : ReplicaState) (k : ℕ) (r : Request) →
+        may_append s ≡ false → found m k r s ≡ still s }
+    ensures prepare { (m : Meaning S) (s : ReplicaState) (l : List Entry) →
+        NUMBER_END < s.next + (length l - length s.log) → sync_prepare m l s ≡ still s }
+    ensures begin { (m : Meaning S) (s : ReplicaState) → NUMBER_END ≤ s.next →
+        begin_gap m s ≡ still s }
+    ensures commit { (s : ReplicaState) (k : ℕ) → s.sync.prepared < k →
+        sync_commit k s ≡ still s }
+    ensures leader { (m : Meaning S) (s : ReplicaState) → last_leader ≤ s.view.leader →
+        suspect m s ≡ still s }
+{}
+
+/// Once `LAST_MESSAGE` or a greater number was used no row is taken, so the numbers of messages never rise to their end.
+pub fn message_numbers_end<S>()
+    ensures ends { (m : Meaning S) (s : Replica) (a : Arrival) → LAST_MESSAGE ≤ s.messages →
+        row m s a ≡ (s, []) }
+    ensures below { (m : Meaning S) (s : Replica) (a : Arrival) →
+        s.messages < LAST_MESSAGE + 8 → (row m s a).0.messages < LAST_MESSAGE + 8 }
 {}

@@ -36,7 +36,7 @@ impl<H: Host> Member<H> {
         requires room { length self.old.state.log < MAX_SLOTS }
         ensures { OnOk result (Does H.Host self.old self.new (begin_gap H.meaning)) }
     {
-        if self.state.next >= NUMBER_END {
+        if self.state.next.get() >= NUMBER_END {
             return Ok(());
         }
         self.open_gap()?;

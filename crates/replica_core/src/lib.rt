@@ -10,6 +10,7 @@ mod follower;
 mod laws;
 mod leader;
 mod member;
+mod number;
 mod posting;
 mod replica;
 mod reply;
@@ -18,7 +19,11 @@ mod state;
 mod ticks;
 mod view_changes;
 
-pub use laws::{drains_by_front, messages_are_cut, rows_send_few_messages};
+pub use laws::{
+    drains_by_front, ignores_what_is_for_others, message_numbers_end, messages_are_cut,
+    rows_rest_at_limits, rows_send_few_messages,
+};
+pub use number::NextNumber;
 pub use replica::Replica;
 pub use sending::{Sending, Sends};
 pub use state::{LAST_MESSAGE, RESEND_MILLIS, ReplicaState, SYNC_MILLIS, WATCH_MILLIS};

@@ -1,5 +1,6 @@
-ghost use Rattle.std.specs.Prelude.{◌≡◌, ◌≤◌, ◌<◌, ◌++◌, false, OnOk, OnErr, IfOk};
-ghost use Rattle.nop_types.specs.declared.limits.TheConstants.{MAX_SLOTS};
+ghost use Rattle.std.specs.Prelude.{◌≡◌, ◌≤◌, ◌<◌, ◌*◌, ◌++◌, false, OnOk, OnErr, IfOk};
+ghost use Rattle.fragments.specs.Held.{held};
+ghost use Rattle.nop_types.specs.declared.limits.TheConstants.{MAX_SLOTS, MAX_UNFINISHED, MAX_FRAGMENTS, FRAGMENT_BYTES};
 ghost use Rattle.nop_types.specs.Given.{given};
 ghost use Rattle.nop_types.specs.Ranges.{ViewFits, LogFits};
 ghost use Rattle.peer_codec.specs.Reading as peer;
@@ -8,11 +9,13 @@ ghost use Rattle.replica_core.specs.State.{executed_to};
 ghost use Rattle.replica_core.specs.Messages.{arrive};
 ghost use Rattle.replica_core.specs.ReplicaSteps.{replica_of, arrival_of, row, read, next, opening};
 ghost use Rattle.replica_core.specs.ReplicaSteps as steps;
-ghost use Rattle.replica_core.specs.Within.{ArrivalFits, IsWithin, IsRunning, Does, IsReady};
+ghost use Rattle.replica_core.specs.Within.{ArrivalFits, IsWithin, IsRunning, Does, IsReady, KeepsLimits};
 
 use crate::member::Member;
 use crate::posting::post;
-use crate::{LAST_MESSAGE, RESEND_MILLIS, ReplicaState, SYNC_MILLIS, Sends, WATCH_MILLIS};
+use crate::{
+    LAST_MESSAGE, NextNumber, RESEND_MILLIS, ReplicaState, SYNC_MILLIS, Sends, WATCH_MILLIS,
+};
 use executor::Executor;
 use fragments::Reassembly;
 use nop_types::{
@@ -83,7 +86,7 @@ fn opening_state(alloc: Global, config: Config, number: u8) -> Result<ReplicaSta
         status: Phase::Normal,
         last_normal: first,
         log: ReplicaLog::new(alloc),
-        next: 1,
+        next: NextNumber::new(1),
         base: 0,
         receiver: Receiver::new(alloc, 1, 1)?,
         gap: None,
@@ -261,6 +264,28 @@ impl<H: Host> Replica<H> {
         ensures limit { self.now.failed ≡ false → result ≤ MAX_SLOTS }
     {
         self.node.member.state.sync.sync_point()
+    }
+
+    /// The last message number that the replica used, 0 where it used none. Whatever came, and also where it has failed, the
+    /// replica's parts keep their limits.
+    pub fn messages(&self) -> u64
+        ensures value { result ≡ self.now.state.messages }
+        ensures limits { KeepsLimits self.now.state }
+    {
+        let state = &self.node.member.state;
+        let _len = state.log.len();
+        let _number = state.next.get();
+        let _next = state.receiver.next();
+        let _senders = self.node.reassembly.senders();
+        self.node.messages
+    }
+
+    /// How many bytes of payloads are kept of a sender whose messages are unfinished, 0 where there is no such sender.
+    pub fn held(&self, sender: u8) -> u64
+        ensures bytes { result ≡ held self.now.state.reassembly sender }
+        ensures limit { result ≤ MAX_UNFINISHED * (MAX_FRAGMENTS * FRAGMENT_BYTES) }
+    {
+        self.node.reassembly.held(sender)
     }
 
     /// How many slots the host has executed: a leader in Normal has the whole log, another what is synchronised.

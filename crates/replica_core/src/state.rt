@@ -3,6 +3,7 @@ ghost use Rattle.replica_core.specs.State.{others, leader, leads, is_normal, has
 ghost use Rattle.replica_core.specs.State as words;
 ghost use Rattle.replica_core.specs.Within.{IsWithin};
 
+use crate::NextNumber;
 use gap_agree::Gap;
 use nop_types::{Config, NUMBER_END, Phase, View, leader_of};
 use oum_receiver::Receiver;
@@ -36,7 +37,7 @@ pub struct ReplicaState {
     pub status: Phase,
     pub last_normal: View,
     pub log: ReplicaLog,
-    pub next: u64,
+    pub next: NextNumber,
     pub base: u32,
     pub receiver: Receiver,
     pub gap: Option<Gap>,
@@ -92,7 +93,7 @@ impl ReplicaState {
     pub fn may_append(&self) -> bool
         ensures { result ≡ may_append self.now }
     {
-        self.log.has_room() && self.next < NUMBER_END
+        self.log.has_room() && self.next.get() < NUMBER_END
     }
 
     /// Whether what stands in front of the receiver may be taken.
@@ -108,6 +109,6 @@ impl ReplicaState {
         ensures value { result ≡ self.now.next - (length self.now.log - self.now.base) }
         ensures low { 1 ≤ result }
     {
-        self.next - u64::from(self.log.len() - self.base)
+        self.next.get() - u64::from(self.log.len() - self.base)
     }
 }

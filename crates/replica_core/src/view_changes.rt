@@ -1,9 +1,9 @@
 ghost use Rattle.std.specs.Prelude.{◌≡◌, ◌≤◌, ◌<◌, ◌++◌, OnOk, IfOk};
 ghost use Rattle.nop_types.specs.Ranges.{ViewFits, NextFits, LogFits, ChangeFits};
 ghost use Rattle.replica_core.specs.Moves.{resend_start};
+ghost use Rattle.replica_core.specs.Keeping.{kept_after};
 ghost use Rattle.replica_core.specs.Rows.{
   view_change_request,
-  kept_by,
   step_by,
   take_change,
   gather,
@@ -30,15 +30,21 @@ impl ReplicaState {
             && self.sync.sync_point() as usize <= log.as_slice().len()
     }
 
-    /// Keeps a change, where changes are gathered. Says whether the view starts then, and with what.
+    /// Keeps a change, where changes are gathered. Says whether the view starts then, and with what; the changes are gone then.
     fn keep_change(&mut self, change: Change) -> Result<Step, NoMemory>
-        ensures kept { OnOk result (self.new ≡ kept_by self.old self.old.changes change) }
+        ensures kept { IfOk result (λ step. self.new ≡ kept_after step self.old change) }
         ensures step { IfOk result (λ step. step ≡ step_by self.old.changes change) }
     {
-        let Some(changes) = &mut self.changes else {
+        let Some(mut changes) = self.changes.take() else {
             return Ok(Step::Waiting);
         };
-        changes.on_change(change)
+        if changes.is_enough_with(&change) {
+            let start = changes.start_with(change)?;
+            return Ok(Step::Started(start));
+        }
+        changes.on_change(change)?;
+        self.changes = Some(changes);
+        Ok(Step::Waiting)
     }
 
     /// Tells a replica what the view started with.

@@ -1,2 +1,3 @@
+pub mod Ignoring
 pub mod Outputs
 pub mod Stamping

@@ -1,5 +1,5 @@
 -- The step table of the sequencer.
-use Rattle.std.specs.Prelude.{ℕ, ◌+◌, ◌<◌, ◌≤◌, List, [], ◌∷◌, Bool, true, false, cond, Option, Some, None, Result, Ok, Err, nat_lt, nat_le}
+use Rattle.std.specs.Prelude.{ℕ, ◌+◌, ◌^◌, ◌<◌, ◌≤◌, List, [], ◌∷◌, Bool, true, false, cond, Option, Some, None, Result, Ok, Err, nat_lt, nat_le}
 use Rattle.std.specs.Prelude.{◌==◌, ◌&&◌, if◌then◌else◌}
 use Rattle.nop_types.specs.declared.limits.TheConstants.{NUMBER_END, MAX_SEQUENCERS}
 use Rattle.nop_types.specs.Given.{Given, Packet, Ticked, Submit}
@@ -19,6 +19,7 @@ use Rattle.sequencer.specs.declared.state.SequencerState.{SequencerState}
 -- within the limits
 pub record IsWithin (s : SequencerState) : Type 0 where
   pub number : s.number < MAX_SEQUENCERS
+  pub session : s.session < 2 ^ 32
   pub low : 1 ≤ s.next
   pub high : s.next ≤ NUMBER_END
 

@@ -1,7 +1,9 @@
 ghost use Rattle.std.specs.Prelude.{◌≡◌, List, ℕ, Some, map, slice_get};
-ghost use Rattle.nop_types.specs.Given.{Given};
+ghost use Rattle.nop_types.specs.Given.{Given, Ticked, Submit};
+ghost use Rattle.nop_types.specs.declared.input.Tick.{Tick};
 ghost use Rattle.nop_types.specs.declared.datagram.Stamped.{Stamped};
 ghost use Rattle.sequencer.specs.declared.state.SequencerState.{SequencerState};
+ghost use Rattle.sequencer.specs.Ignoring.{IsIgnored, IgnoresPacket};
 ghost use Rattle.sequencer.specs.Runs.{Call, Step, run, stamps, spelled, to_replicas};
 
 /// Whatever the inputs, what a sequencer sends to the replicas are the packets that it stamps in its steps, in order.
@@ -15,4 +17,12 @@ pub fn stamps_once()
     ensures { (s : SequencerState) (calls : List Call) (i j : ℕ) (p q : Stamped) →
         slice_get (stamps s calls) i ≡ Some p → slice_get (stamps s calls) j ≡ Some q →
         p.session ≡ q.session → p.number ≡ q.number → i ≡ j }
+{}
+
+/// What is not for a sequencer changes nothing and sends nothing: bytes that spell no datagram, a datagram for others, a tick and an
+/// op. So it is with a request where there is no session or no number is left.
+pub fn ignores_what_is_for_others()
+    ensures packets { (s : SequencerState) (bytes : List ℕ) → IgnoresPacket s bytes }
+    ensures ticks { (s : SequencerState) (tick : Tick) → IsIgnored s (Ticked tick) }
+    ensures ops { (s : SequencerState) (op : List ℕ) → IsIgnored s (Submit op) }
 {}

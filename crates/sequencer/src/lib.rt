@@ -6,6 +6,6 @@ mod rows;
 mod sequencer;
 mod state;
 
-pub use laws::{outputs_are_stamps, stamps_once};
+pub use laws::{ignores_what_is_for_others, outputs_are_stamps, stamps_once};
 pub use sequencer::Sequencer;
 pub use state::SequencerState;

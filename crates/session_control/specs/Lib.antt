@@ -1,2 +1,3 @@
 pub mod ControllerSteps
+pub mod Ignoring
 pub mod Moves

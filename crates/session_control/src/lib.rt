@@ -7,5 +7,5 @@ mod rows;
 mod state;
 
 pub use controller::Controller;
-pub use laws::{installs_are_of_last_move, moves_rise};
+pub use laws::{ignores_what_is_for_others, installs_are_of_last_move, moves_rise, sessions_end};
 pub use state::{ControllerState, MISSED_END, PROBE_MILLIS, RESEND_MILLIS};

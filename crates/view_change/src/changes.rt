@@ -1,10 +1,10 @@
-ghost use Rattle.std.specs.Prelude.{◌≡◌, ◌≤◌, ◌↔◌, length, IfOk, OnOk, OnErr};
+ghost use Rattle.std.specs.Prelude.{◌≡◌, ◌≤◌, ◌↔◌, length, nat_lt, IfOk, OnOk, OnErr};
 ghost use Rattle.log_merge.specs.Merged.{HasDistinctSenders};
 ghost use Rattle.log_merge.specs.Starting.{start_of};
 ghost use Rattle.view_change.specs.declared.starting.Step.TheVariants.{Waiting};
 ghost use Rattle.view_change.specs.Gathering.{entered, has_sender, counted, started, step_of};
 
-use crate::starting::start_of;
+use crate::starting::{start_moved, start_of};
 use crate::{Start, Step};
 use nop_types::{Change, NoMemory, View};
 use std::alloc::Global;
@@ -99,6 +99,29 @@ impl Changes {
             self.changes.pop();
         }
         step
+    }
+
+    /// Whether the view is started once this change is taken.
+    pub fn is_enough_with(&self, change: &Change) -> bool
+        ensures { result ≡ nat_lt self.now.f (length (counted self.now change.now).changes) }
+    {
+        let len = self.changes.len();
+        if has_sender(&self.changes, change.sender) {
+            return len > self.f as usize;
+        }
+        len >= self.f as usize
+    }
+
+    /// What the view is started with from this change and those that are there, whose entries are moved and not copied.
+    pub fn start_with(mut self, change: Change) -> Result<Start, NoMemory>
+        ensures { IfOk result (λ s. s
+            ≡ started (start_of self.view (counted self change).changes)) }
+    {
+        if has_sender(&self.changes, change.sender) {
+            return start_moved(self.alloc, self.view, self.changes);
+        }
+        self.changes.push(change)?;
+        start_moved(self.alloc, self.view, self.changes)
     }
 
     /// What a leader without others starts its view with.

@@ -1,9 +1,10 @@
-ghost use Rattle.std.specs.Prelude.{◌≡◌, filter, IfOk};
+ghost use Rattle.std.specs.Prelude.{◌≡◌, ◌==◌, cond, filter, IfOk};
 ghost use Rattle.nop_types.specs.Views.{is_view};
+ghost use Rattle.log_merge.specs.Merged.{HasDistinctSenders};
 ghost use Rattle.log_merge.specs.Starting.{greatest, greatest_next, start_of};
 ghost use Rattle.view_change.specs.Gathering.{greater, started};
 
-use log_merge::merge_of_view;
+use log_merge::{merge_moved, merge_of_view};
 use nop_types::{Change, Log, NoMemory, View};
 use std::alloc::Global;
 
@@ -55,16 +56,35 @@ fn greatest_next(changes: &[Change], view: View) -> u64
     most
 }
 
+/// The number of the next request that a view is started with, where `last` is the last normal view of greatest rank.
+fn next_of(view: View, changes: &[Change], last: View) -> u64
+    ensures { result ≡ cond (last.session == view.session)
+        (greatest_next (filter (λ c. is_view c.last_normal last) changes.now)) 1 }
+{
+    if last.session == view.session {
+        greatest_next(changes, last)
+    } else {
+        1
+    }
+}
+
 /// What a view is started with from these changes.
 pub fn start_of(alloc: Global, view: View, changes: &[Change]) -> Result<Start, NoMemory>
     ensures { IfOk result (λ s. s ≡ started (start_of view changes.now)) }
 {
     let last = greatest(changes);
     let log = merge_of_view(alloc, changes, last)?;
-    let next = if last.session == view.session {
-        greatest_next(changes, last)
-    } else {
-        1
-    };
+    let next = next_of(view, changes, last);
+    Ok(Start { next, log })
+}
+
+/// The same from changes whose entries are moved and not copied.
+pub fn start_moved(alloc: Global, view: View, changes: Vec<Change>) -> Result<Start, NoMemory>
+    requires { HasDistinctSenders changes.items }
+    ensures { IfOk result (λ s. s ≡ started (start_of view changes.items)) }
+{
+    let last = greatest(&changes);
+    let next = next_of(view, &changes, last);
+    let log = merge_moved(alloc, changes, last)?;
     Ok(Start { next, log })
 }

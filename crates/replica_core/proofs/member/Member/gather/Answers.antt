@@ -1,30 +1,33 @@
 use Rattle.std.proofs.Common.{ap, ◌∙◌, ◌++◌, refl, sym, append-nil}
-use Rattle.replica_core.proofs.Opening.{gathers, gathers_more}
+use Rattle.replica_core.specs.Keeping.{kept_after}
+use Rattle.replica_core.proofs.Gathered.{left_runs, gathers_taken}
+use Rattle.replica_core.proofs.Opening.{gathers_more}
 use Rattle.replica_core.proofs.Running.{on_ok, kept_runs}
 use Rattle.replica_core.proofs.member.Member.gather.Goals as goal
 
 pub open_view-requires-clause-runs : goal.open_view-requires-clause-runs
 open_view-requires-clause-runs g c =
-    kept_runs g.H.Host c.args.self.now.state c.keep_change.new.self
-    _ c.args.self.now.state.changes c.args.change refl c.in_ok-start.ensures.kept c.requires.runs c.requires.fits
+    let left = c.in_ok-start.ensures.kept ∙ ap (λ step. kept_after step c.args.self.now.state c.args.change) c.in-Started.is in
+    left_runs g.H.Host c.args.self.now.state c.keep_change.new.self _ left c.requires.runs
 
 pub open_view-requires-clause-next : goal.open_view-requires-clause-next
 open_view-requires-clause-next g c =
-    (gathers g.H.Host.meaning c.args.self.now.state c.keep_change.new.self c.args.self.now.state.changes c.args.change
-    c.in-Started.start refl c.requires.runs.within c.requires.fits c.in_ok-start.ensures.kept
-    (sym c.in_ok-start.ensures.step ∙ c.in-Started.is)).next
+    let left = c.in_ok-start.ensures.kept ∙ ap (λ step. kept_after step c.args.self.now.state c.args.change) c.in-Started.is in
+    (gathers_taken g.H.Host.meaning c.args.self.now.state c.keep_change.new.self c.args.self.now.state.changes c.args.change
+    c.in-Started.start refl c.requires.runs.within c.requires.fits left (sym c.in_ok-start.ensures.step ∙ c.in-Started.is)).next
 
 pub open_view-requires-clause-log : goal.open_view-requires-clause-log
 open_view-requires-clause-log g c =
-    (gathers g.H.Host.meaning c.args.self.now.state c.keep_change.new.self c.args.self.now.state.changes c.args.change
-    c.in-Started.start refl c.requires.runs.within c.requires.fits c.in_ok-start.ensures.kept
-    (sym c.in_ok-start.ensures.step ∙ c.in-Started.is)).log
+    let left = c.in_ok-start.ensures.kept ∙ ap (λ step. kept_after step c.args.self.now.state c.args.change) c.in-Started.is in
+    (gathers_taken g.H.Host.meaning c.args.self.now.state c.keep_change.new.self c.args.self.now.state.changes c.args.change
+    c.in-Started.start refl c.requires.runs.within c.requires.fits left (sym c.in_ok-start.ensures.step ∙ c.in-Started.is)).log
 
 pub returns-in-Started : goal.returns-in-Started
 returns-in-Started g c =
+    let left = c.in_ok-start.ensures.kept ∙ ap (λ step. kept_after step c.args.self.now.state c.args.change) c.in-Started.is in
     let starts =
-    gathers g.H.Host.meaning c.args.self.now.state c.keep_change.new.self c.args.self.now.state.changes c.args.change c.in-Started.start
-    refl c.requires.runs.within c.requires.fits c.in_ok-start.ensures.kept (sym c.in_ok-start.ensures.step ∙ c.in-Started.is) in
+    gathers_taken g.H.Host.meaning c.args.self.now.state c.keep_change.new.self c.args.self.now.state.changes c.args.change
+    c.in-Started.start refl c.requires.runs.within c.requires.fits left (sym c.in_ok-start.ensures.step ∙ c.in-Started.is) in
     on_ok c.open_view.result _ _
     (λ does. record {
       runs = does.runs;
@@ -35,13 +38,14 @@ returns-in-Started g c =
 
 pub returns-in-Waiting : goal.returns-in-Waiting
 returns-in-Waiting g c =
+    let kept = c.in_ok-start.ensures.kept ∙ ap (λ step. kept_after step c.args.self.now.state c.args.change) c.in-Waiting.is in
     let waits =
-    gathers_more g.H.Host.meaning c.args.self.now.state c.keep_change.new.self c.args.self.now.state.changes c.args.change refl
-    c.in_ok-start.ensures.kept (sym c.in_ok-start.ensures.step ∙ c.in-Waiting.is) in
+    gathers_more g.H.Host.meaning c.args.self.now.state c.keep_change.new.self c.args.self.now.state.changes c.args.change refl kept
+    (sym c.in_ok-start.ensures.step ∙ c.in-Waiting.is) in
     record {
       runs =
           kept_runs g.H.Host c.args.self.now.state c.keep_change.new.self
-          _ c.args.self.now.state.changes c.args.change refl c.in_ok-start.ensures.kept c.requires.runs c.requires.fits;
+          _ c.args.self.now.state.changes c.args.change refl kept c.requires.runs c.requires.fits;
       state = ap (λ x. x.0) (sym waits);
       sends = sym (append-nil c.args.self.now.sends) ∙ ap (λ x. c.args.self.now.sends ++ x.1) (sym waits);
     }

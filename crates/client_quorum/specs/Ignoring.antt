@@ -1,0 +1,41 @@
+-- What is not for a client.
+use Rattle.std.specs.Prelude.{◌≡◌, ℕ, List, [], Bool, true, false, Ok, Err}
+use Rattle.nop_types.specs.Given.{Given, Packet}
+use Rattle.nop_types.specs.declared.input.Tick.{Tick}
+use Rattle.nop_types.specs.declared.input.Tick.TheVariants as ticks
+use Rattle.nop_types.specs.declared.datagram.Datagram.{Datagram}
+use Rattle.nop_types.specs.declared.datagram.Datagram.TheVariants as datagrams
+use Rattle.oum_codec.specs.declared.bad.Bad.{Bad}
+use Rattle.oum_codec.specs.Reading.{reading}
+use Rattle.client_quorum.specs.declared.state.ClientState.{ClientState}
+use Rattle.client_quorum.specs.ClientSteps.{is_expected, next}
+
+-- a reply of a replica to its pending request
+abbrev pub is_for : ClientState → Datagram → Bool
+is_for s (datagrams.Reply p) = is_expected s p
+is_for s (datagrams.Request r) = false
+is_for s (datagrams.Stamped p) = false
+is_for s (datagrams.Install sequencer session) = false
+is_for s (datagrams.Installed sequencer session) = false
+is_for s (datagrams.Ping sequencer round) = false
+is_for s (datagrams.Pong sequencer round) = false
+is_for s (datagrams.Fragment f) = false
+
+abbrev pub is_tick_for : Tick → Bool
+is_tick_for ticks.Next = true
+is_tick_for ticks.Retry = true
+is_tick_for ticks.Suspect = false
+is_tick_for ticks.Watch = false
+is_tick_for ticks.Resend = false
+is_tick_for ticks.Sync = false
+is_tick_for ticks.Probe = false
+is_tick_for (ticks.Install j) = false
+
+-- the input changes nothing, and nothing is sent
+abbrev pub IsIgnored : ClientState → Given → Type 0
+IsIgnored s x = next s x ≡ (s, [])
+
+-- bytes that spell nothing, and datagrams for others
+pub record IgnoresPacket (s : ClientState) (bytes : List ℕ) : Type 0 where
+  pub unread : (e : Bad) → reading bytes ≡ Err e → IsIgnored s (Packet bytes)
+  pub others : (d : Datagram) → reading bytes ≡ Ok d → is_for s d ≡ false → IsIgnored s (Packet bytes)

@@ -1,0 +1,263 @@
+-- The merge of logs from the highest sender down.
+use Rattle.std.proofs.Common.{◌≡◌, ℕ, zero, suc, ◌<◌, ◌≤◌, Bool, true, false, cond, List, [], ◌∷◌, ◌++◌, length, take, drop, filter, Option, Some, None}
+use Rattle.std.proofs.Common.{refl, sym, ap, ◌∙◌, arith, get_or, min, take_all}
+use Rattle.std.proofs.Math.ListN.{drop_of_length-le}
+use Rattle.std.proofs.lemmas.List.{append-nil}
+use Rattle.std.proofs.lemmas.List.Elements.{filter-append}
+use Rattle.std.specs.Prelude.{IfSome, nat_le, slice_get, option_map}
+use Rattle.std.specs.List.{AllByRecursion, slice_index_or}
+use Rattle.std.specs.List.Sorted.{IsPermutation, IsNonDecreasingBy}
+use Rattle.std.proofs.lemmas.List.Sorted.{Contains-permutation, IsPermutation-sym}
+use Rattle.std.proofs.lemmas.List.Kept.{IsNonDecreasingBy-filter}
+use Rattle.std.proofs.lemmas.Option.{slice_get_within, get_or_from_slice_get}
+use Rattle.std.proofs.lemmas.Bool.Decides.{nat_tests}
+use Rattle.nop_types.specs.declared.request.Entry.{Entry}
+use Rattle.nop_types.specs.declared.request.Entry.TheVariants.{NoOp, Req}
+use Rattle.nop_types.specs.declared.peer.Change.{Change}
+use Rattle.nop_types.specs.Lists.{Has, slot_of}
+use Rattle.log_merge.specs.Merge.{Told, told, of_both, of_two, chosen, merge}
+use Rattle.log_merge.specs.Pairs.{of_entries, put_noop, with_noops, of_logs}
+use Rattle.log_merge.specs.Merged.{HasDistinctSenders, Tells}
+use Rattle.log_merge.proofs.Slots.{slot_of-merge, same_slots}
+use Rattle.log_merge.proofs.Merged.{merge_of_same}
+
+-- ---- the places of two logs
+
+pub length-with_noops : (xs ys : List Entry) → length (with_noops xs ys) ≡ length xs
+length-with_noops xs [] = refl
+length-with_noops [] (y ∷ ys) = refl
+length-with_noops (x ∷ xs) (y ∷ ys) = ap suc (length-with_noops xs ys)
+
+put_first : (x y : Entry) (xs : List Entry) → put_noop (x ∷ xs) zero y ≡ of_entries x y ∷ xs
+put_first x NoOp xs = refl
+put_first x (Req r) xs = refl
+
+put_later : (x y : Entry) (xs : List Entry) (i : ℕ) → put_noop (x ∷ xs) (suc i) y ≡ x ∷ put_noop xs i y
+put_later x NoOp xs i = refl
+put_later x (Req r) xs i = refl
+
+-- one place more
+pub put_more : (xs ys : List Entry) (i : ℕ) (d : Entry) → i < length xs → i < length ys
+    → put_noop (with_noops xs (take i ys)) i (get_or ys i d) ≡ with_noops xs (take (suc i) ys)
+put_more [] ys i d h g = absurd (omega arith)
+put_more (x ∷ xs) [] i d h g = absurd (omega arith)
+put_more (x ∷ xs) (y ∷ ys) zero d h g = put_first x y xs
+put_more (x ∷ xs) (y ∷ ys) (suc i) d h g =
+    put_later (of_entries x y) (get_or ys i d) (with_noops xs (take i ys)) i
+    ∙ ap (λ (l : List Entry). of_entries x y ∷ l) (put_more xs ys i d (omega arith) (omega arith))
+
+pub all_put : (xs ys : List Entry) (i : ℕ) → min (length xs) (length ys) ≤ i → with_noops xs (take i ys) ≡ with_noops xs ys
+all_put xs [] i h = ap (with_noops xs) (take_all i [] (omega arith))
+all_put [] (y ∷ ys) zero h = refl
+all_put [] (y ∷ ys) (suc i) h = refl
+all_put (x ∷ xs) (y ∷ ys) zero h = absurd (omega arith)
+all_put (x ∷ xs) (y ∷ ys) (suc i) h = ap (λ (l : List Entry). of_entries x y ∷ l) (all_put xs ys i (omega arith))
+
+-- ---- slots of two logs
+
+abbrev of_slots : Option Entry → Option Entry → Option Entry
+of_slots None b = b
+of_slots (Some x) None = Some x
+of_slots (Some x) (Some y) = Some (of_entries x y)
+
+of_slots_none : (a : Option Entry) → of_slots a None ≡ a
+of_slots_none None = refl
+of_slots_none (Some x) = refl
+
+place_of : (xs ys : List Entry) (i : ℕ) → slice_get (of_logs xs ys) i ≡ of_slots (slice_get xs i) (slice_get ys i)
+place_of [] [] i = refl
+place_of [] (y ∷ ys) i = refl
+place_of (x ∷ xs) [] i =
+    ap (λ (l : List Entry). slice_get l i) (append-nil (x ∷ xs)) ∙ sym (of_slots_none (slice_get (x ∷ xs) i))
+place_of (x ∷ xs) (y ∷ ys) zero = refl
+place_of (x ∷ xs) (y ∷ ys) (suc i) = place_of xs ys i
+
+slot_of_logs : (xs ys : List Entry) (k : ℕ) → slot_of (of_logs xs ys) k ≡ of_slots (slot_of xs k) (slot_of ys k)
+slot_of_logs xs ys zero = refl
+slot_of_logs xs ys (suc i) = place_of xs ys i
+
+-- ---- all logs, over one above them
+
+abbrev pub of_all : List Change → List Entry → List Entry
+of_all [] l = l
+of_all (c ∷ cs) l = of_logs c.log (of_all cs l)
+
+pub of_all_pushed : (cs : List Change) (c : Change) (l : List Entry) → of_all (cs ++ c ∷ []) l ≡ of_all cs (of_logs c.log l)
+of_all_pushed [] c l = refl
+of_all_pushed (d ∷ cs) c l = ap (λ (m : List Entry). of_logs d.log m) (of_all_pushed cs c l)
+
+-- each sender is no lower than those before it
+abbrev Ascends : List Change → Type 0
+Ascends [] = Unit {0}
+Ascends (c ∷ cs) = AllByRecursion (λ d. c.sender ≤ d.sender) cs × Ascends cs
+
+abbrev IsFrom : ℕ → Option Told → Type 0
+IsFrom s o = IfSome o (λ t. s ≤ t.sender)
+
+told_from : (s q : ℕ) (o : Option Entry) → s ≤ q → IsFrom s (told q o)
+told_from s q None h = tt
+told_from s q (Some x) h = h
+
+either_from : (s : ℕ) (b : Bool) (x y : Told) → s ≤ x.sender → s ≤ y.sender → s ≤ (cond b x y).sender
+either_from s true x y h g = h
+either_from s false x y h g = g
+
+both_from : (s : ℕ) (d e : Entry) (x y : Told) → s ≤ x.sender → s ≤ y.sender → s ≤ (of_both d e x y).sender
+both_from s NoOp e x y h g = h
+both_from s (Req q) NoOp x y h g = g
+both_from s (Req q) (Req r) x y h g = either_from s (nat_le x.sender y.sender) x y h g
+
+two_from : (s : ℕ) (a b : Option Told) → IsFrom s a → IsFrom s b → IsFrom s (of_two a b)
+two_from s None b h g = g
+two_from s (Some x) None h g = h
+two_from s (Some x) (Some y) h g = both_from s x.entry y.entry x y h g
+
+chosen_from : (s : ℕ) (cs : List Change) (k : ℕ) → AllByRecursion (λ d. s ≤ d.sender) cs → IsFrom s (chosen cs k)
+chosen_from s [] k h = tt
+chosen_from s (c ∷ cs) k h =
+    two_from s (told c.sender (slot_of c.log k)) (chosen cs k) (told_from s c.sender (slot_of c.log k) h.0) (chosen_from s cs k h.1)
+
+-- the lower sender's entry against another
+entries_won : (x y : Entry) (s : ℕ) (t : Told) → s ≤ t.sender → t.entry ≡ y
+    → Some (of_entries x y) ≡ Some (of_both x y (record { sender = s; entry = x }) t).entry
+entries_won NoOp NoOp s t h e = refl
+entries_won NoOp (Req r) s t h e = refl
+entries_won (Req q) NoOp s t h e = ap (λ (z : Entry). Some z) (sym e)
+entries_won (Req q) (Req r) s t h e = rw (let lower : nat_le s t.sender ≡ true = grind (arith, nat_tests) in lower) refl
+
+slots_won : (s : ℕ) (a : Option Entry) (o : Option Told) → IsFrom s o
+    → of_slots a (option_map (λ t. t.entry) o) ≡ option_map (λ t. t.entry) (of_two (told s a) o)
+slots_won s None o h = refl
+slots_won s (Some x) None h = refl
+slots_won s (Some x) (Some t) h = entries_won x t.entry s t h refl
+
+slot_of_all : (cs : List Change) (k : ℕ) → Ascends cs → slot_of (of_all cs []) k ≡ option_map (λ t. t.entry) (chosen cs k)
+slot_of_all [] zero h = refl
+slot_of_all [] (suc i) h = refl
+slot_of_all (c ∷ cs) k h =
+    slot_of_logs c.log (of_all cs []) k
+    ∙ ap (of_slots (slot_of c.log k)) (slot_of_all cs k h.1)
+    ∙ slots_won c.sender (slot_of c.log k) (chosen cs k) (chosen_from c.sender cs k h.0)
+
+pub of_ascending : (cs : List Change) → Ascends cs → of_all cs [] ≡ merge cs
+of_ascending cs h = same_slots (of_all cs []) (merge cs) (λ k. slot_of_all cs k h ∙ sym (slot_of-merge cs k))
+
+-- ---- sorted changes
+
+all_from : (s : ℕ) (cs : List Change) → ((j : ℕ) (d : Change) → j < length cs → s ≤ (slice_index_or cs j d).sender)
+    → AllByRecursion (λ d. s ≤ d.sender) cs
+all_from s [] h = tt
+all_from s (c ∷ cs) h = (h zero c (omega arith), all_from s cs (λ j d g. h (suc j) d (omega arith)))
+
+ascends : (cs : List Change) → IsNonDecreasingBy (λ c. c.sender) cs → Ascends cs
+ascends [] h = tt
+ascends (c ∷ cs) h = (
+  all_from c.sender cs (λ j d g. h zero (suc j) d (omega arith) (omega arith)),
+  ascends cs (λ i j d le g. h (suc i) (suc j) d (omega arith) (omega arith)),
+)
+
+-- ---- the changes that count
+
+has_later : {x : Change} (cs : List Change) (c : Change) → Has cs c → Has (x ∷ cs) c
+has_later cs c h = (suc h.0, h.1)
+
+kept_first : (p : Change → Bool) (x : Change) (cs : List Change) (c : Change) (b : Bool) → p x ≡ b
+    → (Has (filter p cs) c → Has cs c × (p c ≡ true)) → Has (cond b (x ∷ filter p cs) (filter p cs)) c → Has (x ∷ cs) c × (p c ≡ true)
+kept_first p x cs c true e rest (zero, g) = ((zero, g), (let same : x ≡ c = cc in ap p (sym same) ∙ e))
+kept_first p x cs c true e rest (suc i, g) = let found = rest (i, g) in (has_later cs c found.0, found.1)
+kept_first p x cs c false e rest g = let found = rest g in (has_later cs c found.0, found.1)
+
+has_kept : (p : Change → Bool) (cs : List Change) (c : Change) → Has (filter p cs) c → Has cs c × (p c ≡ true)
+has_kept p [] c h = absurd (let e = h.1 in cc)
+has_kept p (x ∷ cs) c h = kept_first p x cs c (p x) refl (has_kept p cs c) h
+
+kept_has : (p : Change → Bool) (cs : List Change) (c : Change) → Has cs c → p c ≡ true → Has (filter p cs) c
+kept_has p [] c h e = absurd (let g = h.1 in cc)
+kept_has p (x ∷ cs) c (zero, g) e = at (p x) refl
+  where
+    at : (b : Bool) → p x ≡ b → Has (cond b (x ∷ filter p cs) (filter p cs)) c
+    at true f = (zero, g)
+    at false f = absurd (let same : x ≡ c = cc in let both = ap p same in cc)
+kept_has p (x ∷ cs) c (suc i, g) e = at (p x) (kept_has p cs c (i, g) e)
+  where
+    at : (b : Bool) → Has (filter p cs) c → Has (cond b (x ∷ filter p cs) (filter p cs)) c
+    at true f = has_later (filter p cs) c f
+    at false f = f
+
+cons_distinct : (x : Change) (ds : List Change) → ((d : Change) → Has ds d → d.sender ≡ x.sender → ⊥) → HasDistinctSenders ds
+    → HasDistinctSenders (x ∷ ds)
+cons_distinct x ds apart h zero zero c d e g s = refl
+cons_distinct x ds apart h zero (suc j) c d e g s =
+    absurd (let same : x ≡ c = cc in apart d (j, g) (sym s ∙ ap (λ (y : Change). y.sender) (sym same)))
+cons_distinct x ds apart h (suc i) zero c d e g s =
+    absurd (let same : x ≡ d = cc in apart c (i, e) (s ∙ ap (λ (y : Change). y.sender) (sym same)))
+cons_distinct x ds apart h (suc i) (suc j) c d e g s = ap suc (h i j c d e g s)
+
+tail_distinct : (x : Change) (cs : List Change) → HasDistinctSenders (x ∷ cs) → HasDistinctSenders cs
+tail_distinct x cs h i j c d e g s = let same = h (suc i) (suc j) c d e g s in omega arith
+
+kept_distinct : (p : Change → Bool) (cs : List Change) → HasDistinctSenders cs → HasDistinctSenders (filter p cs)
+kept_distinct p [] h = h
+kept_distinct p (x ∷ cs) h = at (p x) (kept_distinct p cs (tail_distinct x cs h))
+  where
+    apart : (d : Change) → Has (filter p cs) d → d.sender ≡ x.sender → ⊥
+    apart d g s =
+        let found = (has_kept p cs d g).0 in
+        let same = h zero (suc found.0) x d refl found.1 (sym s) in
+        omega arith
+
+    at : (b : Bool) → HasDistinctSenders (filter p cs) → HasDistinctSenders (cond b (x ∷ filter p cs) (filter p cs))
+    at true rest = cons_distinct x (filter p cs) apart rest
+    at false rest = rest
+
+found_at : (xs : List Change) (k : ℕ) (x : Change) → k < length xs → slice_index_or xs k x ≡ x → slice_get xs k ≡ Some x
+found_at [] k x h e = absurd (omega arith)
+found_at (y ∷ xs) zero x h e = ap (λ (z : Change). Some z) e
+found_at (y ∷ xs) (suc k) x h e = found_at xs k x (omega arith) e
+
+has_permuted : (cs ds : List Change) (c : Change) → IsPermutation cs ds → Has cs c → Has ds c
+has_permuted cs ds c same h =
+    let there = Contains-permutation cs ds c same (h.0, slice_get_within cs h.0 c h.1, get_or_from_slice_get cs h.0 c c h.1) in
+    (there.0, found_at ds there.0 c there.1 there.2)
+
+tells_permuted : (p : Change → Bool) (cs ds : List Change) (s : ℕ) (l : List Entry) → IsPermutation cs ds
+    → Tells (filter p cs) s l → Tells (filter p ds) s l
+tells_permuted p cs ds s l same h =
+    let kept = has_kept p cs h.change h.member in
+    record {
+      change = h.change;
+      member = kept_has p ds h.change (has_permuted cs ds h.change same kept.0) kept.1;
+      sender = h.sender;
+      log = h.log;
+    }
+
+-- the changes that count, sorted, give the merge of those that count
+pub of_sorted : (p : Change → Bool) (cs ds : List Change) → HasDistinctSenders cs → IsPermutation cs ds
+    → IsNonDecreasingBy (λ c. c.sender) ds → of_all (filter p ds) [] ≡ merge (filter p cs)
+of_sorted p cs ds distinct same sorted =
+    of_ascending (filter p ds) (ascends (filter p ds) (IsNonDecreasingBy-filter (λ c. c.sender) p ds sorted))
+    ∙ sym
+    (merge_of_same (filter p cs) (filter p ds) (kept_distinct p cs distinct)
+    (λ s l. (tells_permuted p cs ds s l same, tells_permuted p ds cs s l (IsPermutation-sym cs ds same))))
+
+-- ---- two logs as one vector
+
+pub shorter_logs : (l xs ys : List Entry) → l ≡ with_noops xs ys → length ys ≤ length l → l ≡ of_logs xs ys
+shorter_logs l xs ys e h =
+    let len = ap length e ∙ length-with_noops xs ys in
+    e ∙ sym (append-nil (with_noops xs ys)) ∙ ap (λ (r : List Entry). with_noops xs ys ++ r) (sym (drop_of_length-le ys (omega arith)))
+
+pub longer_logs : (l r xs ys : List Entry) → l ≡ with_noops xs ys → r ≡ l ++ drop (length l) ys → r ≡ of_logs xs ys
+longer_logs l r xs ys e g = let len = ap length e ∙ length-with_noops xs ys in cc
+
+-- the last of the changes that count
+pub kept_more : (p : Change → Bool) (cs : List Change) (c : Change) (l : List Entry) → p c ≡ true
+    → of_all (filter p cs) (of_logs c.log l) ≡ of_all (filter p (cs ++ c ∷ [])) l
+kept_more p cs c l e =
+    sym (of_all_pushed (filter p cs) c l)
+    ∙ ap (λ (ds : List Change). of_all ds l)
+    (ap (λ (ds : List Change). filter p cs ++ ds) (ap (λ (b : Bool). cond b (c ∷ []) []) (sym e)) ∙ sym (filter-append p cs (c ∷ [])))
+
+pub none_left : (cs : List Change) → length cs ≡ 0 → cs ≡ []
+none_left [] h = refl
+none_left (c ∷ cs) h = absurd (omega arith)

@@ -1,0 +1,58 @@
+-- What is not for a sequencer changes nothing.
+use Rattle.std.proofs.Common.{◌≡◌, ℕ, List, [], refl, subst, sym, Bool, true, false, Result, Ok, Err}
+use Rattle.std.specs.Prelude.{cond, Some, None}
+use Rattle.nop_types.specs.Given.{Given, Packet, Ticked, Submit}
+use Rattle.nop_types.specs.declared.input.Tick.{Tick}
+use Rattle.nop_types.specs.declared.output.Out.{Out}
+use Rattle.nop_types.specs.declared.request.Request.{Request}
+use Rattle.nop_types.specs.declared.datagram.Datagram.{Datagram}
+use Rattle.nop_types.specs.declared.datagram.Datagram.TheVariants as datagrams
+use Rattle.oum_codec.specs.declared.bad.Bad.{Bad}
+use Rattle.oum_codec.specs.Reading.{reading}
+use Rattle.sequencer.specs.declared.state.SequencerState.{SequencerState}
+use Rattle.sequencer.specs.SequencerSteps.{can_stamp, can_install, stamp, install_if, ping_if, on_datagram, next}
+use Rattle.sequencer.specs.Ignoring.{is_for, IsIgnored, IgnoresPacket}
+
+-- nothing is changed or sent
+abbrev Rests : SequencerState → SequencerState × List Out → Type 0
+Rests s r = r ≡ (s, [])
+
+unstamped : (s : SequencerState) (r : Request) → can_stamp s ≡ false → Rests s (stamp s r)
+unstamped s r e = rw e refl
+
+not_installed : (s : SequencerState) (session : ℕ) (b : Bool) → b ≡ false → Rests s (install_if b s session)
+not_installed s session false e = refl
+not_installed s session true e = absurd cc
+
+not_pinged : (s : SequencerState) (round : ℕ) (b : Bool) → b ≡ false → Rests s (ping_if b s round)
+not_pinged s round false e = refl
+not_pinged s round true e = absurd cc
+
+rests : (s : SequencerState) (d : Datagram) → is_for s d ≡ false → Rests s (on_datagram s (Ok d))
+rests s (datagrams.Request r) e = unstamped s r e
+rests s (datagrams.Install sequencer session) e = not_installed s session (can_install s sequencer session) e
+rests s (datagrams.Ping sequencer round) e = not_pinged s round _ e
+rests s (datagrams.Stamped p) e = refl
+rests s (datagrams.Reply p) e = refl
+rests s (datagrams.Installed sequencer session) e = refl
+rests s (datagrams.Pong sequencer round) e = refl
+rests s (datagrams.Fragment f) e = refl
+
+read_rests : (s : SequencerState) (bytes : List ℕ) (r : Result Datagram Bad) → reading bytes ≡ r → Rests s (on_datagram s r)
+    → IsIgnored s (Packet bytes)
+unfolding next
+read_rests s bytes r e rest = rw e rest
+
+pub ignores_packet : (s : SequencerState) (bytes : List ℕ) → IgnoresPacket s bytes
+ignores_packet s bytes = record {
+  unread = λ e is. read_rests s bytes (Err e) is refl;
+  others = λ d is other. read_rests s bytes (Ok d) is (rests s d other);
+}
+
+pub ignores_tick : (s : SequencerState) (tick : Tick) → IsIgnored s (Ticked tick)
+unfolding next
+ignores_tick s tick = refl
+
+pub ignores_op : (s : SequencerState) (op : List ℕ) → IsIgnored s (Submit op)
+unfolding next
+ignores_op s op = refl
