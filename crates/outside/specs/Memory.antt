@@ -1,10 +1,9 @@
 -- What the forms in memory hold.
-use Rattle.std.specs.Prelude.{◌≡◌, ℕ, ◌≤◌, min, List, [], length, map, ⊤}
+use Rattle.std.specs.Prelude.{◌≡◌, ℕ, ◌≤◌, min, Bool, true, false, List, [], length, map, ⊤}
 use Rattle.nop_types.specs.declared.limits.TheConstants.{MAX_DATAGRAM_BYTES}
 use Rattle.outside.specs.declared.link.PollAnswer.{PollAnswer}
 use Rattle.outside.specs.declared.link.PollAnswer.TheVariants.{Received, Nothing, Failure}
 use Rattle.outside.specs.declared.link.Sent.{Sent}
-use Rattle.outside.specs.Plans.{FailingPlan}
 
 -- the bytes that are left, and the plan of the reads to come
 pub record ReadMemory (P : Type 0) : Type 0 where
@@ -28,24 +27,29 @@ pub record LinkMemory (P : Type 0) : Type 0 where
   pub sent : List Sent
   pub sends : P
 
--- a datagram has at most so many bytes
-abbrev pub IsShort : PollAnswer → Type 0
-IsShort (Received datagram) = length datagram ≤ MAX_DATAGRAM_BYTES
-IsShort Nothing = ⊤
-IsShort Failure = ⊤
+-- a poll may answer a datagram of at most so many bytes, nothing, and a failure only where calls may fail
+abbrev pub MayAnswer : Bool → PollAnswer → Type 0
+MayAnswer may_fail (Received datagram) = length datagram ≤ MAX_DATAGRAM_BYTES
+MayAnswer may_fail Nothing = ⊤
+MayAnswer may_fail Failure = may_fail ≡ true
+
+-- a count of faults, which is 0 by definition where no call may fail
+abbrev pub counted : Bool → ℕ → ℕ
+counted true faults = faults
+counted false faults = 0
 
 -- no call was made on the link
-pub record IsFresh (l : LinkMemory FailingPlan) : Type 0 where
+pub record IsFresh {P : Type 0} (fault_count : P → ℕ) (l : LinkMemory P) : Type 0 where
   pub faults : l.faults ≡ 0
   pub sent : l.sent ≡ []
-  pub losses : l.sends.faults ≡ 0
+  pub losses : fault_count l.sends ≡ 0
 
-abbrev pub answers_of : List (LinkMemory FailingPlan) → List (List PollAnswer)
+abbrev pub answers_of : {P : Type 0} → List (LinkMemory P) → List (List PollAnswer)
 answers_of links = map (λ l. l.answers) links
 
 -- the links to come, how many were given, those that came back, and the plan of the attaches to come
 pub record PortsMemory (P : Type 0) : Type 0 where
-  pub links : List (LinkMemory FailingPlan)
+  pub links : List (LinkMemory P)
   pub attached : ℕ
-  pub detached : List (LinkMemory FailingPlan)
+  pub detached : List (LinkMemory P)
   pub attaches : P

@@ -1,5 +1,5 @@
-ghost use Rattle.std.specs.Prelude.{◌≡◌, [], All, IfOk};
-ghost use Rattle.outside.specs.Memory.{IsShort};
+ghost use Rattle.std.specs.Prelude.{◌≡◌, [], All, IfOk, true, false};
+ghost use Rattle.outside.specs.Memory.{MayAnswer};
 ghost use Rattle.outside.specs.Plans.{new_plan};
 
 use crate::{CallPlan, Failed, Failing, Link, LinkError, PollAnswer, Sent, Unfailing};
@@ -8,7 +8,7 @@ use std::alloc::Global;
 use std::marker::Model;
 
 /// A link in memory. Its polls answer what they were given, and after that there is no datagram; it keeps what is sent. Its
-/// plan says which sends fail.
+/// plan says which sends fail. Where calls never fail, no poll was given a failure either.
 #[derive(Debug, Drop)]
 pub struct LinkMem<P: CallPlan = Unfailing> {
     alloc: Global,
@@ -21,14 +21,16 @@ pub struct LinkMem<P: CallPlan = Unfailing> {
 }
 
 impl<P: CallPlan> Model for LinkMem<P> {
-    ghost use Rattle.std.specs.Prelude.{drop, length, ◌≤◌, All};
-    ghost use Rattle.outside.specs.Memory.{LinkMemory, IsShort};
+    ghost use Rattle.std.specs.Prelude.{◌≡◌, drop, length, ◌≤◌, All};
+    ghost use Rattle.outside.specs.Memory.{LinkMemory, MayAnswer, counted};
 
     ghost Value = { LinkMemory P };
 
     ghost view = { λ s. record { port = s.port; answers = drop s.at s.answers.items; faults = s.faults; sent = s.sent.items; sends = s.sends } };
 
-    ghost invariant = { λ s. (s.at ≤ length s.answers.items) × All IsShort s.answers.items };
+    ghost invariant = { λ s. (s.at ≤ length s.answers.items)
+        × All (MayAnswer P.may_fail) s.answers.items
+        × (counted P.may_fail s.faults ≡ s.faults) };
 }
 
 impl LinkMem<Unfailing> {
@@ -45,9 +47,9 @@ impl LinkMem<Unfailing> {
         LinkMem::with_answers(alloc, port, Vec::new(alloc))
     }
 
-    /// The polls answer these in order, and no send fails.
+    /// The polls answer these in order, none of which is a failure, and no send fails.
     pub fn with_answers(alloc: Global, port: u16, answers: Vec<PollAnswer>) -> LinkMem<Unfailing>
-        requires { All IsShort answers.items }
+        requires { All (MayAnswer false) answers.items }
         ensures { result ≡ record {
           port = port;
           answers = answers.items;
@@ -76,7 +78,7 @@ impl LinkMem<Failing> {
         answers: Vec<PollAnswer>,
         failing: &[u64],
     ) -> Result<LinkMem<Failing>, NoMemory>
-        requires { All IsShort answers.items }
+        requires { All (MayAnswer true) answers.items }
         ensures { IfOk result (λ l. l
             ≡ record {
               port = port;
@@ -100,6 +102,29 @@ impl LinkMem<Failing> {
 }
 
 impl<P: CallPlan> LinkMem<P> {
+    /// No datagram comes, and no call fails.
+    pub(crate) fn empty(alloc: Global, port: u16) -> Result<LinkMem<P>, NoMemory>
+        ensures link { IfOk result (λ l. l
+            ≡ record {
+              port = port;
+              answers = [];
+              faults = 0;
+              sent = [];
+              sends = P.opening;
+            }) }
+        ensures count { IfOk result (λ l. P.fault_count l.sends ≡ 0) }
+    {
+        Ok(LinkMem {
+            alloc,
+            port,
+            answers: Vec::new(alloc),
+            at: 0,
+            faults: 0,
+            sent: Vec::new(alloc),
+            sends: P::new_opening(alloc)?,
+        })
+    }
+
     /// The same link at another port.
     pub(crate) fn at_port(self, port: u16) -> LinkMem<P>
         ensures { result ≡ record self { port = port } }
@@ -117,6 +142,7 @@ impl<P: CallPlan> LinkMem<P> {
 
 impl<P: CallPlan> Link for LinkMem<P> {
     ghost use Rattle.std.specs.Prelude.{Some};
+    ghost use Rattle.outside.specs.Memory.{counted};
 
     ghost answers = { λ s. Some s.answers };
 
@@ -124,7 +150,7 @@ impl<P: CallPlan> Link for LinkMem<P> {
 
     ghost own_port = { λ s. s.port };
 
-    ghost fault_count = { λ s. s.faults };
+    ghost fault_count = { λ s. counted P.may_fail s.faults };
 
     ghost loss_count = { λ s. P.fault_count s.sends };
 

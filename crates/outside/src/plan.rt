@@ -1,15 +1,21 @@
-ghost use Rattle.std.specs.Prelude.{◌≡◌, ◌≤◌, ◌<◌, ℕ, Result, IfOk};
-ghost use Rattle.outside.specs.Causes.{HasCause};
+ghost use Rattle.std.specs.Prelude.{◌≡◌, ◌≤◌, ◌<◌, ℕ, Bool, Result, IfOk};
+ghost use Rattle.outside.specs.Causes.{HasCause, Rose};
 ghost use Rattle.outside.specs.declared.errors.Failed.{Failed};
 
-use crate::{Failed, ReadMem, Sink, Source, WriteMem};
+use crate::{Failed, Link, LinkMem, Ports, PortsMem, ReadMem, Sink, Source, WriteMem};
 use nop_types::NoMemory;
 use std::alloc::Global;
 use std::marker::Model;
 
 /// What the calls on a form in memory do: how many bytes each one moves, and which fail. Forms that never fail are of a type
-/// of their own, so that their count of faults is 0 whatever is called on them.
+/// of their own, so that each of their counts of faults is 0 whatever is called on them.
 pub trait CallPlan: Drop {
+    /// Whether calls may fail.
+    ghost may_fail: { Bool };
+
+    /// Each call moves all that it could, and none was made.
+    ghost opening: { Self };
+
     /// How many calls failed so far.
     ghost fault_count: { Self → ℕ };
 
@@ -18,6 +24,11 @@ pub trait CallPlan: Drop {
 
     /// The plan after that call.
     ghost after_call: { Self → ℕ → Self };
+
+    /// A plan by which each call moves all that it could.
+    fn new_opening(alloc: Global) -> Result<Self, NoMemory>
+        ensures plan { IfOk result (λ p. p ≡ opening) }
+        ensures count { IfOk result (λ p. fault_count p ≡ 0) };
 
     /// What the next call answers, where so many bytes could be moved.
     fn answer(&self, count: usize) -> Result<usize, Failed>
@@ -64,13 +75,21 @@ impl Unfailing {
 }
 
 impl CallPlan for Unfailing {
-    ghost use Rattle.std.specs.Prelude.{Ok, min};
+    ghost use Rattle.std.specs.Prelude.{◌^◌, ◌-◌, false, Ok, min};
+
+    ghost may_fail = { false };
+
+    ghost opening = { 2 ^ 64 - 1 };
 
     ghost fault_count = { λ _. 0 };
 
     ghost next_answer = { λ p count. Ok (min count p) };
 
     ghost after_call = { λ p _. p };
+
+    fn new_opening(_alloc: Global) -> Result<Unfailing, NoMemory> {
+        Ok(Unfailing::new(usize::MAX))
+    }
 
     fn answer(&self, count: usize) -> Result<usize, Failed> {
         Ok(count.min(self.most))
@@ -126,13 +145,22 @@ impl Failing {
 }
 
 impl CallPlan for Failing {
-    ghost use Rattle.outside.specs.Plans.{answer_of, plan_after};
+    ghost use Rattle.std.specs.Prelude.{◌^◌, ◌-◌, true, []};
+    ghost use Rattle.outside.specs.Plans.{new_plan, answer_of, plan_after};
+
+    ghost may_fail = { true };
+
+    ghost opening = { new_plan (2 ^ 64 - 1) [] };
 
     ghost fault_count = { λ p. p.faults };
 
     ghost next_answer = { answer_of };
 
     ghost after_call = { plan_after };
+
+    fn new_opening(alloc: Global) -> Result<Failing, NoMemory> {
+        Failing::new(alloc, usize::MAX, &[])
+    }
 
     fn answer(&self, count: usize) -> Result<usize, Failed> {
         if self.fails(count) {
@@ -153,8 +181,18 @@ impl CallPlan for Failing {
     }
 }
 
-/// A form in memory that never fails has no faults, whatever was called on it.
+/// A form in memory that never fails has no faults, whatever was called on it. So no count of it ever rises.
 pub fn unfailing_has_no_faults()
-    ensures source { (s : _) → ⟦<ReadMem as Source>⟧.fault_count s ≡ 0 }
-    ensures sink { (s : _) → ⟦<WriteMem as Sink>⟧.fault_count s ≡ 0 }
+    ensures reads { (s : _) → ⟦<ReadMem as Source>⟧.fault_count s ≡ 0 }
+    ensures writes { (s : _) → ⟦<WriteMem as Sink>⟧.fault_count s ≡ 0 }
+    ensures polls { (l : _) → ⟦<LinkMem as Link>⟧.fault_count l ≡ 0 }
+    ensures sends { (l : _) → ⟦<LinkMem as Link>⟧.loss_count l ≡ 0 }
+    ensures attaches { (p : _) → ⟦<PortsMem as Ports>⟧.fault_count p ≡ 0 }
+    ensures source { (a b : _) → ¬ Rose (⟦<ReadMem as Source>⟧.fault_count a)
+        (⟦<ReadMem as Source>⟧.fault_count b) }
+    ensures sink { (a b : _) → ¬ Rose (⟦<WriteMem as Sink>⟧.fault_count a)
+        (⟦<WriteMem as Sink>⟧.fault_count b) }
+    ensures ports { (a b : _) → ¬ Rose (⟦<PortsMem as Ports>⟧.fault_count a)
+        (⟦<PortsMem as Ports>⟧.fault_count b) }
+    ensures link { (l : _) → ¬ Rose 0 (⟦<LinkMem as Link>⟧.fault_count l) }
 {}

@@ -9,13 +9,13 @@ use std::collections::VecDeque;
 use std::marker::Model;
 
 /// Ports in memory. They give their links in order, and after them links without datagrams. Their plan says which attaches
-/// fail.
+/// fail. Where calls never fail, those on the links don't either.
 #[derive(Debug, Drop)]
 pub struct PortsMem<P: CallPlan = Unfailing> {
     alloc: Global,
-    links: VecDeque<LinkMem<Failing>>,
+    links: VecDeque<LinkMem<P>>,
     attached: usize,
-    detached: Vec<LinkMem<Failing>>,
+    detached: Vec<LinkMem<P>>,
     attaches: P,
 }
 
@@ -28,11 +28,11 @@ impl<P: CallPlan> Model for PortsMem<P> {
     ghost view = { λ s. record { links = s.links.items; attached = s.attached; detached = s.detached.items; attaches = s.attaches } };
 
     ghost invariant = { λ s. (vec_len s.detached ≤ s.attached)
-        × (s.attached ≤ vec_capacity s.detached) × All IsFresh s.links.items };
+        × (s.attached ≤ vec_capacity s.detached) × All (IsFresh P.fault_count) s.links.items };
 }
 
 impl PortsMem<Unfailing> {
-    /// Links without datagrams, and no attach fails.
+    /// Links without datagrams, and no call fails.
     pub fn new(alloc: Global) -> PortsMem<Unfailing>
         ensures { result ≡ record {
           links = [];
@@ -44,9 +44,9 @@ impl PortsMem<Unfailing> {
         PortsMem::with_links(alloc, Vec::new(alloc))
     }
 
-    /// These links in order, and no attach fails.
-    pub fn with_links(alloc: Global, links: Vec<LinkMem<Failing>>) -> PortsMem<Unfailing>
-        requires { All IsFresh links.items }
+    /// These links in order, which never fail, and no attach fails.
+    pub fn with_links(alloc: Global, links: Vec<LinkMem<Unfailing>>) -> PortsMem<Unfailing>
+        requires { All (IsFresh ⟦<Unfailing as CallPlan>⟧.fault_count) links.items }
         ensures { result ≡ record {
           links = links.items;
           attached = 0;
@@ -71,7 +71,7 @@ impl PortsMem<Failing> {
         links: Vec<LinkMem<Failing>>,
         failing: &[u64],
     ) -> Result<PortsMem<Failing>, NoMemory>
-        requires { All IsFresh links.items }
+        requires { All (IsFresh ⟦<Failing as CallPlan>⟧.fault_count) links.items }
         ensures { IfOk result (λ p. p
             ≡ record {
               links = links.items;
@@ -93,7 +93,7 @@ impl PortsMem<Failing> {
 
 impl<P: CallPlan> PortsMem<P> {
     /// The links that were given back, in order.
-    pub fn detached(&self) -> &[LinkMem<Failing>]
+    pub fn detached(&self) -> &[LinkMem<P>]
         ensures { result.now ≡ self.now.detached }
     {
         &self.detached
@@ -101,7 +101,7 @@ impl<P: CallPlan> PortsMem<P> {
 }
 
 impl<P: CallPlan> Ports for PortsMem<P> {
-    type L = LinkMem<Failing>;
+    type L = LinkMem<P>;
 
     ghost use Rattle.std.specs.Prelude.{Some};
     ghost use Rattle.outside.specs.Memory.{answers_of};
@@ -114,14 +114,14 @@ impl<P: CallPlan> Ports for PortsMem<P> {
 
     ghost fault_count = { λ s. P.fault_count s.attaches };
 
-    fn attach(&mut self, port: u16) -> Result<LinkMem<Failing>, AttachError> {
+    fn attach(&mut self, port: u16) -> Result<LinkMem<P>, AttachError> {
         if self.attaches.answer(0).is_err() {
             self.attaches.advance(0);
             return Err(AttachError::Failed);
         }
         let waiting = self.attached - self.detached.len();
         self.detached.reserve(waiting + 1)?;
-        let empty = LinkMem::with_faults(self.alloc, port, Vec::new(self.alloc), &[])?;
+        let empty = LinkMem::empty(self.alloc, port)?;
         self.attaches.advance(0);
         self.attached += 1;
         match self.links.pop_front() {
@@ -130,7 +130,7 @@ impl<P: CallPlan> Ports for PortsMem<P> {
         }
     }
 
-    fn detach(&mut self, link: LinkMem<Failing>) {
+    fn detach(&mut self, link: LinkMem<P>) {
         self.detached.push(link).unwrap();
     }
 

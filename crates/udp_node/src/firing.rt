@@ -14,10 +14,10 @@ use std::alloc::Global;
 
 /// A timer of the core, with the time at which it is due.
 #[derive(Clone, Copy, Debug, PartialEq, Eq)]
-pub(crate) struct Timer {
-    pub(crate) tick: Tick,
-    pub(crate) period: u64,
-    pub(crate) due: u64,
+pub struct Timer {
+    pub tick: Tick,
+    pub period: u64,
+    pub due: u64,
 }
 
 /// The core's timers, each due a period after now.
@@ -115,7 +115,7 @@ fn rearmed(timer: Timer, now: u64) -> Timer
 }
 
 /// Each timer that is due is due again a period after now.
-pub(crate) fn rearm_due(timers: &mut Vec<Timer>, now: u64)
+pub fn rearm_due(timers: &mut Vec<Timer>, now: u64)
     ensures { timers.new.items ≡ map (rearmed now) timers.old.items }
 {
     for i in 0..timers.len() {

@@ -13,5 +13,7 @@ mod turn;
 
 pub use address::Address;
 pub use errors::ServeError;
+pub use firing::{Timer, rearm_due};
 pub use laws::counts_failed_sends;
+pub use sending::send_to;
 pub use serving::{Served, serve, serve_after};

@@ -83,7 +83,7 @@ fn send_each<L: Link>(
 }
 
 /// Sends a datagram to each port of its destination, in ascending order; one to all replicas not to the own port.
-pub(crate) fn send_to<L: Link>(
+pub fn send_to<L: Link>(
     at: &Address,
     dest: Dest,
     bytes: &[u8],

@@ -7,5 +7,5 @@ pub invariant_of-self-2 : goal.invariant_of-self-2
 invariant_of-self-2 g c = (
   search rules,
   search rules,
-  rw c.pop_front.ensures.rest (All-drop IsFresh 1 _ c.self.invariant.2),
+  rw c.pop_front.ensures.rest (All-drop (IsFresh g.P.CallPlan.fault_count) 1 _ c.self.invariant.2),
 )
