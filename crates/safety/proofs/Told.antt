@@ -1,4 +1,4 @@
--- A message whose fragments are all in a network, under one number, was told.
+-- A message whose fragments are all in a network, under one number, was told, and sent under that number.
 use Rattle.std.proofs.Common.{◌≡◌, ◌≤◌, ◌<◌, ◌+◌, ℕ, zero, suc, Option, Some, None, refl, sym, ap, subst, ◌∙◌, arith, inl, inr, length}
 use Rattle.std.proofs.Common.{List, [], ◌∷◌, ◌++◌, append_assoc}
 use Rattle.std.specs.Prelude.{Result, Ok, Err}
@@ -10,14 +10,14 @@ use Rattle.nop_types.specs.declared.datagram.Datagram.{Datagram}
 use Rattle.nop_types.specs.declared.datagram.Datagram.TheVariants as datagrams
 use Rattle.nop_types.specs.declared.datagram.Fragment.{Fragment}
 use Rattle.nop_types.specs.declared.peer.Peer.{Peer}
-use Rattle.facts.proofs.Members.{Has-none, Has-first, Has-rest, Has-one, Has-push, Has-append_left, Has-append_cases}
+use Rattle.facts.proofs.Members.{Has-none, Has-first, Has-rest, Has-one, Has-push, Has-append_left, Has-append_right, Has-append_cases}
 use Rattle.oum_codec.specs.declared.bad.Bad.{Bad}
 use Rattle.oum_codec.specs.Reading.{reading}
 use Rattle.fragments.specs.Cutting.{piece_count, fragment_at, first_fragments, fragments_of}
 use Rattle.fragments.specs.Joining.{Waiting, taken, opening}
 use Rattle.fragments.specs.Runs.{Sent, after_all, answered, AreCutFrom, CanBeCut, WasSent}
 use Rattle.fragments.proofs.Together.{cut_is_joined}
-use Rattle.fragments.proofs.Whole.{answers_what_was_sent}
+use Rattle.fragments.proofs.Whole.{is_at, answers_what_was_sent}
 use Rattle.peer_codec.specs.Spelling.{spelling}
 use Rattle.peer_codec.proofs.Peers.{spelling_is_injective}
 use Rattle.replica_core.proofs.Lengths.{message_is_cut}
@@ -140,14 +140,35 @@ message_was_told : (told : List Peer) (x : Sent) (p : Peer) → IsMessage told x
 message_was_told told x p is same fits =
     subst (Has told) (spelling_is_injective is.peer p is.fits fits (sym is.bytes ∙ same)) is.has
 
-pub whole_was_told : (told : List Peer) (sent : List (List ℕ)) (used : ℕ → ℕ) (p : Peer) → Network told sent used → PeerFits p
-    → IsWhole (fragments_among sent) p → Has told p
-whole_was_told told sent used p n fits w =
+-- what is sent of a message under a number
+abbrev sent_under : ℕ → Peer → Sent
+sent_under number p = record { sender = p.sender; number = number; bytes = spelling p }
+
+whole_was_sent : (told : List Peer) (sent : List (List ℕ)) (used : ℕ → ℕ) (p : Peer) (n : Network told sent used) → PeerFits p
+    → (w : IsWhole (fragments_among sent) p) → Has n.carried.sent (sent_under w.number p)
+whole_was_sent told sent used p n fits w =
     let fs = fragments_of p.sender w.number (spelling p) in
     let joined : answered (opening (p.sender + 1)) fs ≡ spelling p ∷ [] =
     cut_is_joined (p.sender + 1) p.sender w.number (spelling p) (omega arith) (whole_can_be_cut told sent used p n fits w) in
     let t = completed_by (opening (p.sender + 1)) fs (spelling p)
     (subst (λ (xs : List (List ℕ)). Has xs (spelling p)) (sym joined) (Has-first (spelling p) (spelling p) [] refl)) in
-    let x : Sent = record { sender = t.last.replica; number = t.last.message; bytes = spelling p } in
-    message_was_told told x p
-    (n.carried.spelled x (completed_was_sent told sent used n (p.sender + 1) fs (spelling p) w.all t)) refl fits
+    let last : Has fs t.last =
+    subst (λ (xs : List Fragment). Has xs t.last) (sym t.split)
+    (Has-append_right t.past (t.last ∷ t.rest) t.last (Has-first t.last t.last t.rest refl)) in
+    let at = is_at p.sender w.number (spelling p) (piece_count (spelling p)) t.last last in
+    subst (λ (f : Fragment). WasSent n.carried.sent f (spelling p)) at.same
+    (completed_was_sent told sent used n (p.sender + 1) fs (spelling p) w.all t)
+
+pub whole_was_told : (told : List Peer) (sent : List (List ℕ)) (used : ℕ → ℕ) (p : Peer) → Network told sent used → PeerFits p
+    → IsWhole (fragments_among sent) p → Has told p
+whole_was_told told sent used p n fits w =
+    let x = sent_under w.number p in message_was_told told x p (n.carried.spelled x (whole_was_sent told sent used p n fits w)) refl fits
+
+-- messages of one sender that are there whole under one number are the same
+pub whole_are_distinct : (told : List Peer) (sent : List (List ℕ)) (used : ℕ → ℕ) (p q : Peer) → Network told sent used → PeerFits p
+    → PeerFits q → (a : IsWhole (fragments_among sent) p) → (b : IsWhole (fragments_among sent) q) → p.sender ≡ q.sender
+    → a.number ≡ b.number → p ≡ q
+whole_are_distinct told sent used p q n p_fits q_fits a b sender number =
+    spelling_is_injective p q p_fits q_fits
+    (n.carried.distinct (sent_under a.number p) (sent_under b.number q) (whole_was_sent told sent used p n p_fits a)
+    (whole_was_sent told sent used q n q_fits b) sender number)

@@ -13,6 +13,7 @@ use Rattle.nop_types.specs.declared.peer.Peer.{Peer}
 use Rattle.oum_codec.specs.Reading.{reading}
 use Rattle.oum_codec.specs.Spelling.{Spells}
 use Rattle.fragments.specs.Cutting.{fragments_of}
+use Rattle.fragments.specs.Runs.{AllCame}
 use Rattle.peer_codec.specs.Spelling.{spelling}
 use Rattle.client_quorum.specs.declared.state.ClientState.{ClientState}
 use Rattle.sequencer.specs.declared.state.SequencerState.{SequencerState}
@@ -46,13 +47,16 @@ pub record IsTold (sent : List Sent) (x : Said) : Type 0 where
   pub whole : IsWhole (fragments_among (bytes_of sent)) peer
   pub says : said_of peer ≡ x
 
--- the fragment was cut from a message that was said
-pub record IsPart (c : Conf) (f : Fragment) : Type 0 where
+-- the fragment was cut from a message that its replica said, under the fragment's number; and so was, from that same message, each
+-- fragment of the network that has the same replica and number
+pub record IsPart (net : List Fragment) (c : Conf) (f : Fragment) : Type 0 where
   pub peer : Peer
   pub fits : PeerFits peer
-  pub number : ℕ
-  pub cut : Has (fragments_of peer.sender number (spelling peer)) f
+  pub sender : peer.sender ≡ f.replica
   pub said : Has c.said (said_of peer)
+  pub cut : Has (fragments_of peer.sender f.message (spelling peer)) f
+  pub others : (g : Fragment) → Has net g → g.replica ≡ f.replica → g.message ≡ f.message
+      → Has (fragments_of peer.sender f.message (spelling peer)) g
 
 -- each actor of the world has the state that is shown
 pub record ShowsActors (f : ℕ) (w : WorldState) (c : Conf) : Type 0 where
@@ -76,12 +80,18 @@ pub record ShowsNetwork (sent : List Sent) (c : Conf) : Type 0 where
   pub installs : (x : Install) → Has c.installs x → IsThere sent (datagrams.Install x.sequencer x.session)
   -- a message that was said is there whole; each fragment is of such a message, and each message that is there whole was said
   pub said : (x : Said) → Has c.said x → IsTold sent x
-  pub parts : (f : Fragment) → Has (fragments_among (bytes_of sent)) f → IsPart c f
+  pub parts : (f : Fragment) → Has (fragments_among (bytes_of sent)) f → IsPart (fragments_among (bytes_of sent)) c f
   pub told : (p : Peer) → PeerFits p → IsWhole (fragments_among (bytes_of sent)) p → Has c.said (said_of p)
+  -- messages of one replica that are there whole under one number are the same
+  pub distinct : (p q : Peer) → PeerFits p → PeerFits q → (a : IsWhole (fragments_among (bytes_of sent)) p)
+      → (b : IsWhole (fragments_among (bytes_of sent)) q) → p.sender ≡ q.sender → a.number ≡ b.number → p ≡ q
 
--- and lines and past are the same
+-- actors and network are shown, what each replica keeps in its reassembly came in fragments of the network, and lines and past are the
+-- same
 pub record Shows (f : ℕ) (p : Passed) (c : Conf) : Type 0 where
   pub actors : ShowsActors f p.world c
   pub network : ShowsNetwork p.world.sent c
+  pub kept : (i : ℕ) (q : Seated Replica) → slice_get p.world.replicas i ≡ Some q
+      → AllCame (fragments_among (bytes_of p.world.sent)) q.state.reassembly
   pub lines : p.lines ≡ c.lines
   pub past : p.past ≡ c.past

@@ -1,4 +1,4 @@
-//! The safety of each run over the whole cores, as the contract of the call that runs a list of events.
+//! The safety of each run, as the contract of the call that runs a list of events.
 #![tactic(auto)]
 
 mod run;
