@@ -1,5 +1,6 @@
 pub mod Cuts
 pub mod Digits
+pub mod EventTexts
 pub mod Filled
 pub mod Firsts
 pub mod Fitting

@@ -1,5 +1,6 @@
 pub mod Cutting
 pub mod Deciding
+pub mod EventText
 pub mod Fields
 pub mod Filling
 pub mod Fits

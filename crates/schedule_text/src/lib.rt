@@ -3,6 +3,7 @@
 
 mod buffer;
 mod event;
+mod event_text;
 mod field;
 mod first_line;
 mod laws;
@@ -18,6 +19,7 @@ mod transcript;
 mod words;
 
 pub use event::Event;
+pub use event_text::event_line;
 pub use laws::{read_events_fit, read_headers_fit, read_junk_fits};
 pub use next_error::NextError;
 pub use reader::Reader;

@@ -1,4 +1,5 @@
 pub mod Idle
+pub mod FindLemmas
 pub mod IdLemmas
 pub mod LineLemmas
 pub mod MainLog

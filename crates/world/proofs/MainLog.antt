@@ -22,6 +22,11 @@ normals : (seats : List (Seat (Machine Replica)))
 normals [] = refl
 normals (p ∷ seats) = ap (λ (vs : List View). p.core.state.state.last_normal ∷ vs) (normals seats)
 
+pub main_view_is : {H U : Type 0} (a : Actors H U) (view : View)
+    → view ≡ greatest_of (map (λ p. p.core.state.state.last_normal) a.replicas.items) → view ≡ main_view (world_of a)
+unfolding main_view
+main_view_is a view is = is ∙ ap greatest_of (normals a.replicas.items)
+
 pub main_log_is : {H U : Type 0} (a : Actors H U) (view : View) (n i : ℕ) (log : List Entry)
     → view ≡ greatest_of (map (λ p. p.core.state.state.last_normal) a.replicas.items) → n ≡ a.config.replicas → i ≡ leader_of view n
     → log ≡ log_of (option_map (seated_of (λ r. r.state)) (slice_get a.replicas.items i)) → log ≡ main_log (world_of a)

@@ -112,3 +112,15 @@ cut_after (Ok x) bytes new_bytes more ms new_ms from dest e b m =
     ∙ ap (cut_from 0 (ms ++ record { end = length new_bytes; from = from; dest = dest } ∷ [])) b
     ∙ pushed ms bytes more from dest (length new_bytes) e (ap length b)
 cut_after (Err x) bytes new_bytes more ms new_ms from dest e b m = tt
+
+pub cut_same : {E : Type 0} (r : Result (Unit {0}) E) (bytes new_bytes : List ℕ) (ms new_ms : List Mark)
+    → OnErr r ((new_bytes ≡ bytes) × (new_ms ≡ ms)) → OnErr r (cut_from 0 new_ms new_bytes ≡ cut_from 0 ms bytes)
+cut_same (Ok x) bytes new_bytes ms new_ms same = tt
+cut_same (Err x) bytes new_bytes ms new_ms same = ap (λ (xs : List Mark). cut_from 0 xs new_bytes) same.1 ∙ ap (cut_from 0 ms) same.0
+
+-- where the datagrams were sent to
+pub cut_destinations : (ms : List Mark) (start : ℕ) (bytes : List ℕ) (i : ℕ)
+    → option_map (λ s. s.dest) (slice_get (cut_from start ms bytes) i) ≡ option_map (λ m. m.dest) (slice_get ms i)
+cut_destinations [] start bytes i = refl
+cut_destinations (m ∷ ms) start bytes zero = refl
+cut_destinations (m ∷ ms) start bytes (suc i) = cut_destinations ms m.end bytes i

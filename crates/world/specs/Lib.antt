@@ -1,7 +1,9 @@
 pub mod Actors
 pub mod Agreement
+pub mod Finding
 pub mod Ids
 pub mod LineCounts
+pub mod Lookups
 pub mod Marks
 pub mod Network
 pub mod Refusals

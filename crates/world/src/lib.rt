@@ -3,6 +3,7 @@
 
 mod actors;
 mod history;
+mod index;
 mod laws;
 mod lines;
 mod main_log;

@@ -1,7 +1,7 @@
 ghost use Rattle.std.specs.Prelude.{◌≡◌, ◌∷◌, [], map, option_map, slice_get};
 ghost use Rattle.world.specs.Actors.{world_of};
 ghost use Rattle.world.specs.SeatOutcomes.{seated_of};
-ghost use Rattle.world.specs.WorldSteps.{greatest_view, greatest_of, log_of, main_log};
+ghost use Rattle.world.specs.WorldSteps.{greatest_view, greatest_of, log_of, main_view, main_log};
 
 use crate::actors::Actors;
 use crate::seat::Seat;
@@ -37,6 +37,13 @@ fn greatest_last_normal<H: Host>(seats: &[Seat<Replica<H>>]) -> View
             session: 1,
         },
     }
+}
+
+/// The greatest last normal view among all replicas.
+pub fn main_view<H: Host>(actors: &Actors<H>) -> View
+    ensures { result ≡ main_view (world_of actors.now) }
+{
+    greatest_last_normal(&actors.replicas)
 }
 
 /// The log of a replica, empty where there is none.

@@ -12,9 +12,14 @@ ghost use Rattle.std.specs.Prelude.{
   OnOk,
   OnErr,
 };
+ghost use Rattle.world.specs.Finding.{NotesIn, StaysIn};
 ghost use Rattle.world.specs.Network.{Sent};
 ghost use Rattle.world.specs.Marks.{start_of, cut_from, EndsAt};
 
+mod destination;
+mod finding;
+
+use crate::index::Index;
 use nop_types::{Actor, Dest, NoMemory};
 use std::alloc::Global;
 use std::marker::Model;
@@ -27,23 +32,27 @@ pub struct Mark {
     pub dest: Dest,
 }
 
-/// All datagrams that were ever sent, one behind the other in one vector.
+/// All datagrams that were ever sent, one behind the other in one vector; where it has an index, a
+/// datagram is found by its bytes without a walk over all of them.
 #[derive(Drop)]
 pub struct Network {
     bytes: Vec<u8>,
     marks: Vec<Mark>,
+    index: Option<Index>,
 }
 
 impl Model for Network {
     ghost use Rattle.std.specs.Prelude.{List, length};
     ghost use Rattle.world.specs.Network.{Sent};
+    ghost use Rattle.world.specs.Finding.{MayIndex};
     ghost use Rattle.world.specs.Marks.{cut_from, EndsAt};
 
     ghost Value = { List Sent };
 
     ghost view = { λ n. cut_from 0 n.marks.items n.bytes.items };
 
-    ghost invariant = { λ n. EndsAt 0 n.marks.items (length n.bytes.items) };
+    ghost invariant = { λ n. EndsAt 0 n.marks.items (length n.bytes.items)
+        × MayIndex n.index (cut_from 0 n.marks.items n.bytes.items) };
 }
 
 fn mark_at(marks: &[Mark], index: usize) -> Mark
@@ -109,6 +118,46 @@ fn put(
     Ok(())
 }
 
+/// Notes a datagram where there is an index.
+fn note(index: &mut Option<Index>, datagram: &[u8], at: u64) -> Result<(), NoMemory>
+    ensures ok { OnOk result (NotesIn index.old index.new datagram.now at) }
+    ensures err { OnErr result (StaysIn index.old index.new) }
+{
+    match index {
+        Some(index) => index.note(datagram, at),
+        None => Ok(()),
+    }
+}
+
+/// Puts a datagram behind the others, and notes it where there is an index.
+fn put_noted(
+    bytes: &mut Vec<u8>,
+    marks: &mut Vec<Mark>,
+    index: &mut Option<Index>,
+    from: Actor,
+    dest: Dest,
+    datagram: &[u8],
+) -> Result<(), NoMemory>
+    ensures bytes { OnOk result (bytes.new.items ≡ bytes.old.items ++ datagram.now) }
+    ensures marks { OnOk result (marks.new.items ≡ marks.old.items
+        ++ record { end = length bytes.new.items; from = from; dest = dest } ∷ []) }
+    ensures err { OnErr result ((bytes.new.items ≡ bytes.old.items)
+        × (marks.new.items ≡ marks.old.items)) }
+    ensures noted { OnOk result
+        (NotesIn index.old index.new datagram.now (length marks.old.items)) }
+    ensures unnoted { OnErr result (StaysIn index.old index.new) }
+{
+    let len = bytes.len();
+    let count = marks.len();
+    put(bytes, marks, from, dest, datagram)?;
+    if note(index, datagram, count as u64).is_err() {
+        bytes.truncate(len);
+        marks.truncate(count);
+        return Err(NoMemory);
+    }
+    Ok(())
+}
+
 impl Network {
     pub fn new(alloc: Global) -> Network
         ensures { result ≡ [] }
@@ -116,6 +165,17 @@ impl Network {
         Network {
             bytes: Vec::new(alloc),
             marks: Vec::new(alloc),
+            index: None,
+        }
+    }
+
+    pub fn with_index(alloc: Global) -> Network
+        ensures { result ≡ [] }
+    {
+        Network {
+            bytes: Vec::new(alloc),
+            marks: Vec::new(alloc),
+            index: Some(Index::new(alloc)),
         }
     }
 
@@ -139,6 +199,13 @@ impl Network {
             ++ record { from = from; dest = dest; bytes = datagram.now } ∷ []) }
         ensures err { OnErr result (self.new ≡ self.old) }
     {
-        put(&mut self.bytes, &mut self.marks, from, dest, datagram)
+        put_noted(
+            &mut self.bytes,
+            &mut self.marks,
+            &mut self.index,
+            from,
+            dest,
+            datagram,
+        )
     }
 }

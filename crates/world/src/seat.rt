@@ -1,12 +1,13 @@
 ghost use Rattle.std.specs.Prelude.{◌≡◌, OnOk, IfOk, IfErr, false, length, slice_get, map};
 ghost use Rattle.world.specs.Seats.{seat_step};
 ghost use Rattle.world.specs.SeatOutcomes.{seated_of, did_of, owned, Moves, MovesAt, Refuses};
+ghost use Rattle.world.specs.Lookups.{timers_if};
 ghost use Rattle.world.specs.WorldSteps.{crashed_in, step_at, step_with, stimulus_of};
 
 use crate::network::Network;
 use crate::step_error::StepError;
 use crate::stimulus::{Stimulus, stimulus_of};
-use nop_types::{Config, Core, NoMemory, Outbox};
+use nop_types::{Config, Core, NoMemory, Outbox, Tick};
 use schedule_text::Event;
 use std::alloc::Global;
 
@@ -96,5 +97,16 @@ pub fn is_crashed<C: Core>(seats: &[Seat<C>], i: usize) -> bool
     match seats.get(i) {
         Some(seat) => seat.crashed,
         None => false,
+    }
+}
+
+/// A timer of the actor with this number, None where there is none.
+pub fn timer_at<C: Core>(seats: &[Seat<C>], number: usize, i: u8) -> Option<(Tick, u64)>
+    ensures { result ≡ slice_get (timers_if (slice_get (map (seated_of C.state) seats.now) number)
+        C.timers) i }
+{
+    match seats.get(number) {
+        Some(seat) => seat.core.timer(i),
+        None => None,
     }
 }

@@ -21,10 +21,14 @@ ghost use Rattle.world.specs.SeatOutcomes.{Refuses};
 ghost use Rattle.world.specs.WorldSteps.{step, opening, history, has_crashed};
 ghost use Rattle.world.specs.StateLines.{replicas_text};
 
+mod lookups;
+mod queries;
+
 use crate::actors::Actors;
 use crate::history::history_of;
 use crate::lines::Lines;
 use crate::main_log::main_log;
+use crate::network::Network;
 use crate::state_lines::put_replicas;
 use crate::step_error::StepError;
 use nop_types::{Actor, Config, Host, NoMemory, Request};
@@ -74,7 +78,20 @@ impl<H: Host> World<H> {
     pub fn new(alloc: Global, config: Config) -> Result<World<H>, NoMemory>
         ensures { IfOk result (λ w. w ≡ record { failed = false; state = opening config }) }
     {
-        let actors = Actors::new(alloc, config)?;
+        let actors = Actors::new(alloc, config, Network::new(alloc))?;
+        Ok(World {
+            alloc,
+            failed: false,
+            actors,
+        })
+    }
+
+    /// As `new`. `find` then takes no longer the more datagrams were sent; the index holds each
+    /// datagram once more.
+    pub fn with_index(alloc: Global, config: Config) -> Result<World<H>, NoMemory>
+        ensures { IfOk result (λ w. w ≡ record { failed = false; state = opening config }) }
+    {
+        let actors = Actors::new(alloc, config, Network::with_index(alloc))?;
         Ok(World {
             alloc,
             failed: false,

@@ -1,0 +1,103 @@
+-- The line of an event, as a schedule has it.
+use Rattle.std.specs.Prelude.{◌≡◌, ℕ, ◌<◌, ◌≤◌, ◌^◌, ⊤, List, [], ◌∷◌, ◌++◌, length, codes, decimal, Ok, true, IsTrue}
+use Rattle.std.specs.List.{flat_map}
+use Rattle.hex.specs.Hex.{IsBytes}
+use Rattle.nop_types.specs.Configuration.{Configuration, is_configuration}
+use Rattle.nop_types.specs.declared.input.Tick.{Tick}
+use Rattle.nop_types.specs.declared.input.Tick.TheVariants as ticks
+use Rattle.nop_types.specs.declared.limits.TheConstants.{MAX_DATAGRAM_BYTES, MAX_LINES, MAX_OP_BYTES}
+use Rattle.nop_types.specs.declared.output.Actor.{Actor}
+use Rattle.nop_types.specs.declared.output.Actor.TheVariants as actors
+use Rattle.schedule_text.specs.declared.event.Event.{Event}
+use Rattle.schedule_text.specs.declared.event.Event.TheVariants as events
+use Rattle.schedule_text.specs.LineText.{after_space}
+use Rattle.schedule_text.specs.Rules.{event_of}
+use Rattle.schedule_text.specs.Ticks.{takes_tick}
+use Rattle.schedule_text.specs.Transcript.{actor_text, hex_text}
+
+-- ---- which events have a line
+
+-- a schedule has a word for the tick
+abbrev pub HasWord : Tick → Type 0
+HasWord ticks.Suspect = ⊤
+HasWord ticks.Watch = ⊤
+HasWord ticks.Resend = ⊤
+HasWord ticks.Sync = ⊤
+HasWord ticks.Retry = ⊤
+HasWord ticks.Next = ⊥
+HasWord ticks.Probe = ⊤
+HasWord (ticks.Install j) = ⊥
+
+-- a tick has a word, and junk is no longer than a datagram
+abbrev pub HasLine : Event → Type 0
+HasLine (events.Submit client op) = ⊤
+HasLine (events.Deliver index actor) = ⊤
+HasLine (events.Tick actor tick) = HasWord tick
+HasLine (events.Install number) = ⊤
+HasLine (events.Crash actor) = ⊤
+HasLine (events.Junk actor bytes) = length bytes ≤ MAX_DATAGRAM_BYTES
+
+-- ---- its text
+
+abbrev pub tick_text : Tick → List ℕ
+tick_text ticks.Suspect = codes "suspect"
+tick_text ticks.Watch = codes "watch"
+tick_text ticks.Resend = codes "resend"
+tick_text ticks.Sync = codes "sync"
+tick_text ticks.Retry = codes "retry"
+tick_text ticks.Next = []
+tick_text ticks.Probe = codes "probe"
+tick_text (ticks.Install j) = []
+
+abbrev pub event_word : Event → List ℕ
+event_word (events.Submit client op) = codes "submit"
+event_word (events.Deliver index actor) = codes "deliver"
+event_word (events.Tick actor tick) = codes "tick"
+event_word (events.Install number) = codes "install"
+event_word (events.Crash actor) = codes "crash"
+event_word (events.Junk actor bytes) = codes "junk"
+
+-- the fields after the word; bytes in lower case
+abbrev pub event_fields : Event → List (List ℕ)
+event_fields (events.Submit client op) = actor_text (actors.Client client) ∷ hex_text op ∷ []
+event_fields (events.Deliver index actor) = decimal index ∷ actor_text actor ∷ []
+event_fields (events.Tick actor tick) = actor_text actor ∷ tick_text tick ∷ []
+event_fields (events.Install number) = actor_text (actors.Sequencer number) ∷ []
+event_fields (events.Crash actor) = actor_text actor ∷ []
+event_fields (events.Junk actor bytes) = actor_text actor ∷ hex_text bytes ∷ []
+
+-- the line, without its end
+unfoldable pub event_text : Event → List ℕ
+event_text e = event_word e ++ flat_map after_space (event_fields e)
+
+-- ---- what the line means
+
+-- the actor is of the configuration
+abbrev pub IsActorOf : Configuration → Actor → Type 0
+IsActorOf c (actors.Replica i) = i < c.replicas
+IsActorOf c (actors.Sequencer i) = i < c.sequencers
+IsActorOf c (actors.Client i) = i < c.clients
+IsActorOf c actors.Controller = ⊤
+
+-- each actor that the event names is of the configuration, and takes its tick
+abbrev pub IsEventOf : Configuration → Event → Type 0
+IsEventOf c (events.Submit client op) = client < c.clients
+IsEventOf c (events.Deliver index actor) = IsActorOf c actor
+IsEventOf c (events.Tick actor tick) = IsActorOf c actor × (takes_tick actor tick ≡ true)
+IsEventOf c (events.Install number) = number < c.sequencers
+IsEventOf c (events.Crash actor) = IsActorOf c actor
+IsEventOf c (events.Junk actor bytes) = IsActorOf c actor
+
+-- a line of a schedule means the event, in each configuration that has its actors, and whatever lines stand before it
+abbrev pub Means : List ℕ → Event → Type 0
+Means line e = (c : Configuration) (before : ℕ) → IsTrue (is_configuration c) → before < MAX_LINES → IsEventOf c e
+    → event_of c before line ≡ Ok e
+
+-- the numbers of the event are those of its types
+abbrev pub IsTyped : Event → Type 0
+IsTyped (events.Submit client op) = (length op ≤ MAX_OP_BYTES) × IsBytes op
+IsTyped (events.Deliver index actor) = index < 2 ^ 64
+IsTyped (events.Tick actor tick) = ⊤
+IsTyped (events.Install number) = ⊤
+IsTyped (events.Crash actor) = ⊤
+IsTyped (events.Junk actor bytes) = IsBytes bytes

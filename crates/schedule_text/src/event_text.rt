@@ -1,0 +1,101 @@
+//! The lines of a schedule. What reads them is in `rules`.
+
+ghost use Rattle.std.specs.Prelude.{◌≡◌, ◌++◌, ◌∷◌, [], OnOk, OnErr};
+ghost use Rattle.hex.specs.Hex.{IsBytes};
+ghost use Rattle.schedule_text.specs.EventText.{
+  HasWord,
+  HasLine,
+  tick_text,
+  event_text,
+  Means,
+  IsTyped,
+};
+
+use crate::event::Event;
+use crate::field::{Field, write_line};
+use nop_types::{Actor, NoMemory, Tick};
+
+fn tick_word(tick: Tick) -> &'static str
+    requires { HasWord tick }
+    ensures { result.now ≡ tick_text tick }
+{
+    match tick {
+        Tick::Suspect => "suspect",
+        Tick::Watch => "watch",
+        Tick::Resend => "resend",
+        Tick::Sync => "sync",
+        Tick::Retry => "retry",
+        Tick::Probe => "probe",
+        Tick::Next | Tick::Install(_) => unreachable!(),
+    }
+}
+
+fn are_bytes(bytes: &[u8])
+    ensures { IsBytes bytes.now }
+{
+    let _bytes = bytes;
+}
+
+/// The ranges of an event's numbers, which its types keep.
+fn ranges(event: &Event)
+    ensures { IsTyped event.now }
+{
+    match event {
+        Event::Submit(_, op) => {
+            are_bytes(op.as_slice());
+        }
+        Event::Deliver(index, _) => {
+            let _index = *index;
+        }
+        Event::Junk(_, bytes) => {
+            are_bytes(bytes.as_slice());
+        }
+        Event::Tick(_, _) | Event::Install(_) | Event::Crash(_) => {}
+    }
+}
+
+#[tactic(auto, unfolding(crate::specs::EventText::event_text))]
+fn put_event(event: &Event, to: &mut Vec<u8>) -> Result<(), NoMemory>
+    requires { HasLine event.now }
+    ensures ok { OnOk result (to.new.items ≡ to.old.items ++ (event_text event.now ++ 10 ∷ [])) }
+    ensures err { OnErr result (to.new.items ≡ to.old.items) }
+{
+    match event {
+        Event::Submit(client, op) => {
+            let fields = [
+                Field::Name(Actor::Client(*client)),
+                Field::Hex(op.as_slice()),
+            ];
+            write_line("submit", &fields, to)
+        }
+        Event::Deliver(index, actor) => {
+            let fields = [Field::Number(*index), Field::Name(*actor)];
+            write_line("deliver", &fields, to)
+        }
+        Event::Tick(actor, tick) => {
+            let fields = [Field::Name(*actor), Field::Word(tick_word(*tick))];
+            write_line("tick", &fields, to)
+        }
+        Event::Install(number) => {
+            write_line("install", &[Field::Name(Actor::Sequencer(*number))], to)
+        }
+        Event::Crash(actor) => write_line("crash", &[Field::Name(*actor)], to),
+        Event::Junk(actor, bytes) => {
+            let fields = [Field::Name(*actor), Field::Hex(bytes.as_slice())];
+            write_line("junk", &fields, to)
+        }
+    }
+}
+
+/// Appends the line of an event, as a schedule has it: what reads the schedule gets the event again. Bytes are written in lower
+/// case.
+#[tactic(auto, using(crate::proofs::EventTexts::text_means))]
+pub fn event_line(event: &Event, to: &mut Vec<u8>) -> Result<(), NoMemory>
+    requires { HasLine event.now }
+    ensures ok { OnOk result (to.new.items ≡ to.old.items ++ (event_text event.now ++ 10 ∷ [])) }
+    ensures means { Means (event_text event.now) event.now }
+    ensures err { OnErr result (to.new.items ≡ to.old.items) }
+{
+    ranges(event);
+    put_event(event, to)
+}
