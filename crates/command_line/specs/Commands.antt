@@ -12,7 +12,7 @@ use Rattle.nop_types.specs.declared.limits.TheConstants.{MAX_OP_BYTES, MAX_SEQUE
 use Rattle.command_line.specs.Numbers.{number_of}
 use Rattle.command_line.specs.Program.{program_app}
 use Rattle.command_line.specs.declared.command.Command.{Command}
-use Rattle.command_line.specs.declared.command.Command.TheVariants.{Replay, Node, Sequencer, Controller, Client}
+use Rattle.command_line.specs.declared.command.Command.TheVariants.{Replay, Gen, Node, Sequencer, Controller, Client}
 use Rattle.command_line.specs.declared.command.Site.{Site}
 
 -- ---- values
@@ -82,6 +82,11 @@ ops_of (Some texts) = ops_on (Some []) texts
 
 -- ---- commands
 
+abbrev pub gen_by : Option ℕ → Option ℕ → Option Command
+gen_by None count = None
+gen_by (Some number) None = None
+gen_by (Some number) (Some count) = Some (Gen number count)
+
 abbrev pub node_by : Option ℕ → Option Site → Option Command
 node_by None site = None
 node_by (Some id) None = None
@@ -108,6 +113,10 @@ client_by (Some id) None ops = None
 client_by (Some id) (Some site) None = None
 client_by (Some id) (Some site) (Some ops) = Some (Client id site ops)
 
+-- a number of 64 bits, and a count from 1 to 100,000
+abbrev pub gen_in : List Row → Option Command
+gen_in rows = gen_by (value_of rows (codes "number") None 0 (2 ^ 64 - 1)) (value_of rows (codes "count") None 1 100000)
+
 abbrev pub node_in : List Row → Option Command
 node_in rows = node_by (value_of rows (codes "id") None 0 255) (site_of rows)
 
@@ -125,6 +134,7 @@ client_in rows = client_by (value_of rows (codes "id") None 0 (2 ^ 32 - 1)) (sit
 abbrev pub command_by : Text → List Row → Option Command
 command_by name rows =
     if bytes_eq name (codes "replay") then Some Replay
+    else if bytes_eq name (codes "gen") then gen_in rows
     else if bytes_eq name (codes "node") then node_in rows
     else if bytes_eq name (codes "sequencer") then sequencer_in rows
     else if bytes_eq name (codes "controller") then controller_in rows
@@ -165,6 +175,7 @@ command_of texts = command_if (faults_of texts) (subcommand_in texts)
 -- its numbers are in their ranges
 abbrev pub IsFit : Command → Type 0
 IsFit Replay = ⊤
+IsFit (Gen number count) = (1 ≤ count) × (count ≤ 100000)
 IsFit (Node id site) = (id < site.config.replicas) × (site.base ≤ 65000)
 IsFit (Sequencer id site) = (id < MAX_SEQUENCERS) × (site.base ≤ 65000)
 IsFit (Controller site session install) = (1 ≤ session) × (site.base ≤ 65000)

@@ -6,9 +6,16 @@ use Rattle.clap.specs.Words.{App, Rule, Text, new_app, new_rule, with_rule, with
 abbrev pub option_rule : Text → Bool → Rule
 option_rule name required = record (new_rule name) { long = Some name; required = required }
 
+-- a value without a name
+abbrev pub value_rule : Text → Rule
+value_rule name = record (new_rule name) { required = true }
+
 -- from 1 to 64 ops as the last words
 abbrev pub ops_rule : Rule
 ops_rule = record (new_rule (codes "ops")) { required = true; range = Some (record { start_inclusive = 1; end_inclusive = 64 }) }
+
+unfoldable pub gen_app : App
+gen_app = with_rule (with_rule (new_app (codes "gen")) (value_rule (codes "number"))) (value_rule (codes "count"))
 
 -- what each node is told
 unfoldable pub site_app : Text → App
@@ -35,8 +42,11 @@ client_app = with_rule (member_app (codes "client")) ops_rule
 unfoldable pub with_replay : App
 with_replay = with_subcommand (new_app (codes "nopaxos")) (new_app (codes "replay")).top
 
+unfoldable pub with_gen : App
+with_gen = with_subcommand with_replay gen_app.top
+
 unfoldable pub with_node : App
-with_node = with_subcommand with_replay (member_app (codes "node")).top
+with_node = with_subcommand with_gen (member_app (codes "node")).top
 
 unfoldable pub with_sequencer : App
 with_sequencer = with_subcommand with_node (member_app (codes "sequencer")).top

@@ -13,6 +13,8 @@ pub struct Site {
 #[derive(Debug, Drop)]
 pub enum Command {
     Replay,
+    /// A schedule that is drawn from this number, with so many events.
+    Gen(u64, u32),
     /// A replica with this number.
     Node(u8, Site),
     /// A sequencer with this number.

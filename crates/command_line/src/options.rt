@@ -55,6 +55,25 @@ pub(crate) fn medium(
     Some(n as u32)
 }
 
+/// The number of a drawn schedule.
+pub(crate) fn number_drawn(matches: &ArgMatches<'_>) -> Option<u64>
+    ensures { result ≡ value_of (rows_of (found_of matches.now)) (codes "number")
+        None 0 18446744073709551615 }
+{
+    value(matches, "number", None, 0, u64::MAX)
+}
+
+/// How many events a drawn schedule has.
+pub(crate) fn count_drawn(matches: &ArgMatches<'_>) -> Option<u32>
+    ensures value { result ≡ value_of (rows_of (found_of matches.now)) (codes "count")
+        None 1 100000 }
+    ensures least { IfSome result (λ n. 1 ≤ n) }
+    ensures limit { IfSome result (λ n. n ≤ 100000) }
+{
+    let n = value(matches, "count", None, 1, 100_000)?;
+    Some(n as u32)
+}
+
 fn base(matches: &ArgMatches<'_>) -> Option<u16>
     ensures value { result ≡ value_of (rows_of (found_of matches.now)) (codes "base")
         (Some 41000) 1024 65000 }

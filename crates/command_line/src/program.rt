@@ -3,7 +3,7 @@
 ghost use Rattle.std.specs.Prelude.{◌≡◌, IfOk, false, codes};
 ghost use Rattle.clap.specs.Words.{app_of, rule_of, new_app};
 ghost use Rattle.clap.specs.declared.builder.command.Command.TheViews.{out-Command};
-ghost use Rattle.command_line.specs.Program.{option_rule, ops_rule, site_app, member_app, controller_app, client_app, with_replay, with_node, with_sequencer, with_controller, program_app};
+ghost use Rattle.command_line.specs.Program.{option_rule, value_rule, ops_rule, gen_app, site_app, member_app, controller_app, client_app, with_replay, with_gen, with_node, with_sequencer, with_controller, program_app};
 
 use clap::{Arg, Command};
 use std::alloc::{AllocError, Global};
@@ -13,6 +13,13 @@ fn option<'a>(alloc: Global, name: &'a str, required: bool) -> Arg<'a>
     ensures local { result.global ≡ false }
 {
     Arg::new(alloc, name).long(name).required(required)
+}
+
+fn value<'a>(alloc: Global, name: &'a str) -> Arg<'a>
+    ensures rule { rule_of result ≡ value_rule name.entry.now }
+    ensures local { result.global ≡ false }
+{
+    Arg::new(alloc, name).required(true)
 }
 
 fn ops<'a>(alloc: Global) -> Arg<'a>
@@ -27,6 +34,16 @@ fn replay<'a>(alloc: Global) -> Command<'a>
     ensures local { (out-Command result).has_globals ≡ false }
 {
     Command::new(alloc, "replay")
+}
+
+#[tactic(auto, unfolding(crate::specs::Program::gen_app))]
+fn generate<'a>(alloc: Global) -> Result<Command<'a>, AllocError>
+    ensures app { IfOk result (λ c. app_of c ≡ gen_app) }
+    ensures local { IfOk result (λ c. (out-Command c).has_globals ≡ false) }
+{
+    Command::new(alloc, "gen")
+        .arg(value(alloc, "number"))?
+        .arg(value(alloc, "count"))
 }
 
 #[tactic(auto, unfolding(crate::specs::Program::site_app))]
@@ -75,12 +92,20 @@ fn with_replay<'a>(alloc: Global) -> Result<Command<'a>, AllocError>
     Command::new(alloc, "nopaxos").subcommand(replay(alloc))
 }
 
+#[tactic(auto, unfolding(crate::specs::Program::with_gen))]
+fn with_gen<'a>(alloc: Global) -> Result<Command<'a>, AllocError>
+    ensures app { IfOk result (λ c. app_of c ≡ with_gen) }
+    ensures local { IfOk result (λ c. (out-Command c).has_globals ≡ false) }
+{
+    with_replay(alloc)?.subcommand(generate(alloc)?)
+}
+
 #[tactic(auto, unfolding(crate::specs::Program::with_node))]
 fn with_node<'a>(alloc: Global) -> Result<Command<'a>, AllocError>
     ensures app { IfOk result (λ c. app_of c ≡ with_node) }
     ensures local { IfOk result (λ c. (out-Command c).has_globals ≡ false) }
 {
-    with_replay(alloc)?.subcommand(member(alloc, "node")?)
+    with_gen(alloc)?.subcommand(member(alloc, "node")?)
 }
 
 #[tactic(auto, unfolding(crate::specs::Program::with_sequencer))]

@@ -1,15 +1,33 @@
 ghost use Rattle.std.specs.Prelude.{◌≡◌, ◌≤◌, IfOk, IfSome, MatchOption};
 ghost use Rattle.clap.specs.Words.{found_of, rows_of, subcommand_rows_of};
-ghost use Rattle.command_line.specs.Commands.{IsFit, node_by, node_in, sequencer_by, sequencer_in, install_by, controller_by, controller_in, client_by, client_in, command_by, command_from, command_of, texts_of, IsRefused, HasFound};
+ghost use Rattle.command_line.specs.Commands.{IsFit, gen_by, gen_in, node_by, node_in, sequencer_by, sequencer_in, install_by, controller_by, controller_in, client_by, client_in, command_by, command_from, command_of, texts_of, IsRefused, HasFound};
 
 use crate::command::{Command, Site};
 use crate::ops::{Ops, read_ops};
-use crate::options::{choice, medium, site, small};
+use crate::options::{choice, count_drawn, medium, number_drawn, site, small};
 use crate::program::program;
 use clap::ArgMatches;
 use clap::error::ErrorKind;
 use nop_types::NoMemory;
 use std::alloc::Global;
+
+fn gen_by(number: Option<u64>, count: Option<u32>) -> Option<Command>
+    requires least { IfSome count (λ n. 1 ≤ n) }
+    requires limit { IfSome count (λ n. n ≤ 100000) }
+    ensures value { result ≡ gen_by number count }
+    ensures fits { IfSome result IsFit }
+{
+    let number = number?;
+    let count = count?;
+    Some(Command::Gen(number, count))
+}
+
+fn generate(matches: &ArgMatches<'_>) -> Option<Command>
+    ensures value { result ≡ gen_in (rows_of (found_of matches.now)) }
+    ensures fits { IfSome result IsFit }
+{
+    gen_by(number_drawn(matches), count_drawn(matches))
+}
 
 fn node_by(id: Option<u8>, site: Option<Site>) -> Option<Command>
     requires { IfSome site (λ s. s.base ≤ 65000) }
@@ -124,6 +142,9 @@ fn command(alloc: Global, name: &str, matches: &ArgMatches<'_>) -> Result<Option
 {
     if name == "replay" {
         return Ok(Some(Command::Replay));
+    }
+    if name == "gen" {
+        return Ok(generate(matches));
     }
     if name == "node" {
         return Ok(node(matches));

@@ -1,6 +1,6 @@
 -- An error of a device is told only where a count of faults rose.
-use Rattle.std.proofs.Common.{◌≡◌, ℕ, ◌≤◌, ◌+◌, Option, List, refl, subst, ◌∙◌, sym, ap, arith}
-use Rattle.std.specs.Prelude.{Result, Ok, Err, IsErrOf, min}
+use Rattle.std.proofs.Common.{◌≡◌, ℕ, ◌≤◌, Option, List, refl, subst, ap, arith}
+use Rattle.std.specs.Prelude.{Result, Ok, Err, IsErrOf}
 use Rattle.outside.specs.Causes.{Rose, HasCauseFor}
 use Rattle.schedule_text.specs.declared.next_error.NextError.{NextError}
 use Rattle.schedule_text.specs.declared.next_error.NextError.TheVariants as nexts

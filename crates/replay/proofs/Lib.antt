@@ -1,7 +1,14 @@
+pub mod Addressed
+pub mod Asked
 pub mod Beginning
 pub mod Causes
+pub mod Destinations
+pub mod Drawn
 pub mod Fronts
 pub mod Progressing
+pub mod Reaching
 pub mod Runs
 pub mod Safely
+pub mod Summaries
+pub mod Taken
 pub mod Texts

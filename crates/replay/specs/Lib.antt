@@ -1,3 +1,7 @@
+pub mod Destinations
+pub mod Drawing
+pub mod Generated
+pub mod Generating
 pub mod Outcome
 pub mod Output
 pub mod Progress

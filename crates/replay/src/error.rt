@@ -43,3 +43,21 @@ impl<T: Drop> From<AllocFailed<T>> for ReplayError {
         ReplayError::NoMemory
     }
 }
+
+/// How a generation ended before its summary was written.
+#[derive(Clone, Copy, Debug, PartialEq, Eq)]
+pub enum GenError {
+    WriteFault,
+    NoMemory,
+}
+
+impl From<OutOfMemory> for GenError {
+    ghost use Rattle.std.specs.Prelude.{◌≡◌};
+    ghost use Rattle.replay.specs.declared.error.GenError.TheVariants.{NoMemory};
+
+    ghost from_gives = { λ _ e. e ≡ NoMemory };
+
+    fn from(_e: OutOfMemory) -> GenError {
+        GenError::NoMemory
+    }
+}

@@ -4,8 +4,8 @@ ghost use Rattle.world.specs.WorldSteps.{step};
 ghost use Rattle.replay.specs.Output.{final_text};
 ghost use Rattle.replay.specs.Steps.{Writes, Refuses, Stops, TakesEvent};
 
+use crate::ending::final_lines;
 use crate::error::ReplayError;
-use crate::final_lines::final_lines;
 use crate::writing::{GATHERED_BYTES, flush};
 use nop_types::Host;
 use outside::Sink;

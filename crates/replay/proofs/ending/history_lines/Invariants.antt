@@ -1,6 +1,6 @@
 use Rattle.std.proofs.Common.{◌≡◌, ◌+◌, ◌++◌, drop}
 use Rattle.replay.specs.Output.{history_text}
-use Rattle.replay.proofs.final_lines.history_lines.Given as goal
+use Rattle.replay.proofs.ending.history_lines.Given as goal
 
 -- what was put and what is left are all
 abbrev pub invariant-loop-i : goal.invariant-loop-i

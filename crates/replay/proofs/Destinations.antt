@@ -1,0 +1,458 @@
+-- A row's messages go to replicas of its configuration.
+use Rattle.std.proofs.Common.{◌≡◌, ℕ, zero, suc, ◌+◌, ◌-◌, Bool, true, false, Option, Some, None, refl, subst, ◌∙◌, List, [], ◌∷◌, ◌++◌}
+use Rattle.std.proofs.Common.{◌≤◌, ◌<◌, sym, arith, length, drop}
+use Rattle.std.specs.Prelude.{⊤}
+use Rattle.std.proofs.lemmas.Bool.{and_parts, ltb-true}
+use Rattle.std.specs.Prelude.{not, nat_le, nat_lt, ◌&&◌, ◌==◌}
+use Rattle.std.specs.List.{AllByRecursion}
+use Rattle.nop_types.specs.declared.limits.TheConstants.{NUMBER_END}
+use Rattle.nop_types.specs.Execution.{result_at}
+use Rattle.nop_types.specs.Meaning.{Meaning}
+use Rattle.nop_types.specs.Views.{is_view, join_of}
+use Rattle.nop_types.specs.declared.input.Tick.{Tick}
+use Rattle.nop_types.specs.declared.input.Tick.TheVariants as ticks
+use Rattle.nop_types.specs.declared.view.View.{View}
+use Rattle.nop_types.specs.declared.replica_state.Phase.{Phase}
+use Rattle.nop_types.specs.declared.replica_state.Phase.TheVariants.{Normal, Change}
+use Rattle.nop_types.specs.declared.replica_state.Vote.{Vote}
+use Rattle.nop_types.specs.declared.replica_state.Vote.TheVariants.{Settled, Waiting}
+use Rattle.nop_types.specs.declared.request.Request.{Request}
+use Rattle.nop_types.specs.declared.request.Entry.{Entry}
+use Rattle.nop_types.specs.declared.request.Entry.TheVariants.{NoOp, Req}
+use Rattle.nop_types.specs.declared.datagram.Stamped.{Stamped}
+use Rattle.nop_types.specs.declared.peer.Change as peer
+use Rattle.nop_types.specs.declared.peer.Peer.{Peer}
+use Rattle.nop_types.specs.declared.peer.Body.{Body}
+use Rattle.nop_types.specs.declared.peer.Body.TheVariants as bodies
+use Rattle.gap_agree.specs.Agreement.{Agreement}
+use Rattle.log_merge.specs.Starting.{start_of}
+use Rattle.oum_receiver.specs.Front.{Front, Nothing, Message, Dropped}
+use Rattle.oum_receiver.specs.Receiving.{front_of}
+use Rattle.slot_lookup.specs.Answer.{Answer, Found, GapAgain, Begin, answer_of}
+use Rattle.slot_lookup.specs.Answer as answers
+use Rattle.sync_points.specs.Synchronisation.{vote_for}
+use Rattle.view_change.specs.Gathering.{Gathering}
+use Rattle.replica_core.specs.declared.sending.Sending.{Sending}
+use Rattle.replica_core.specs.declared.state.ReplicaState.{ReplicaState}
+use Rattle.replica_core.specs.State.{others, leader, leads, is_normal, drains, waits, has_room, may_append}
+use Rattle.replica_core.specs.Sends.{Effect, still, then_do, when, to_leader, to_all, to_all_if}
+use Rattle.replica_core.specs.Replies.{reply_to, reply_if, leader_reply, reply_for, replies_to, replies_above}
+use Rattle.replica_core.specs.Moves.{ask_if, open_gap, write_gap, add_gap, drain_drop, drain_at, drain_by, drain, entered, logged}
+use Rattle.replica_core.specs.Moves.{enter_as, enter, change_told, adopted, adopt, open_with, open_view, open_if_enough, overlaid, overlay}
+use Rattle.replica_core.specs.Moves.{commit_if, queue, keep_change, count_gap_vote, appended, begin_session}
+use Rattle.replica_core.specs.Rows as rows
+use Rattle.replica_core.specs.Messages.{
+  Arrival,
+  Packet,
+  Told,
+  Ticked,
+  from_leader,
+  from_follower,
+  by_role,
+  in_view,
+  on_body,
+  on_message,
+  ticked,
+  arrive,
+  is_from_leader,
+  is_to_leader,
+  is_other,
+}
+use Rattle.nop_types.specs.declared.output.Dest.{Dest}
+use Rattle.nop_types.specs.declared.output.Dest.TheVariants.{Replicas, Sequencers, One}
+use Rattle.nop_types.specs.declared.output.Actor.TheVariants as actors
+use Rattle.replica_core.specs.declared.sending.Sending.TheVariants.{ToClient, ToReplicas}
+
+-- all replicas, or one of so many, if there are any
+abbrev pub IsAmong : ℕ → Dest → Type 0
+IsAmong n Replicas = ⊤
+IsAmong n Sequencers = ⊥
+IsAmong n (One (actors.Replica i)) = 1 ≤ n → i < n
+IsAmong n (One (actors.Sequencer i)) = ⊥
+IsAmong n (One (actors.Client i)) = ⊥
+IsAmong n (One actors.Controller) = ⊥
+
+abbrev pub GoesAmong : ℕ → Sending → Type 0
+GoesAmong n (ToClient reply) = ⊤
+GoesAmong n (ToReplicas dest p) = IsAmong n dest
+
+abbrev pub AllAmong : ℕ → List Sending → Type 0
+AllAmong n sends = AllByRecursion (GoesAmong n) sends
+
+by_both : (r : ℕ) (a b : List Sending) → AllAmong r a → AllAmong r b → AllAmong r (a ++ b)
+by_both r [] b f g = g
+by_both r (x ∷ a) b f g = (f.0, by_both r a b f.1 g)
+
+-- what comes of a state has its configuration, and sends within it
+record Own (s : ReplicaState) (e : Effect) : Type 0 where
+  count : e.0.config.replicas ≡ s.config.replicas
+  sends : AllAmong s.config.replicas e.1
+
+-- whatever the state
+record AlwaysOwn (f : ReplicaState → Effect) : Type 0 where
+  at : (s : ReplicaState) → Own s (f s)
+
+still_own : (s : ReplicaState) → Own s (still s)
+still_own s = record { count = refl; sends = tt }
+
+changed_own : (s t : ReplicaState) → t.config.replicas ≡ s.config.replicas → Own s (still t)
+changed_own s t e = record { count = e; sends = tt }
+
+-- who leads a view is one of the replicas
+leads_among : (s : ReplicaState) → 1 ≤ s.config.replicas → leader s < s.config.replicas
+leads_among s some = omega arith
+
+leader_own : (s t u : ReplicaState) (body : Body) → t.config.replicas ≡ s.config.replicas → u.config.replicas ≡ s.config.replicas
+    → Own s (t, to_leader u body)
+leader_own s t u body e by = record {
+  count = e;
+  sends = (subst (λ (n : ℕ). 1 ≤ n → leader u < n) by (leads_among u), tt);
+}
+
+then_own : {s : ReplicaState} {e : Effect} (f : ReplicaState → Effect) → Own s e → Own e.0 (f e.0) → Own s (then_do e f)
+then_own {s} {e} f first second = record {
+  count = second.count ∙ first.count;
+  sends = by_both s.config.replicas e.1 (f e.0).1 first.sends (subst (λ (r : ℕ). AllAmong r (f e.0).1) first.count second.sends);
+}
+
+when_own : (b : Bool) (f : ReplicaState → Effect) (s : ReplicaState) → Own s (f s) → Own s (when b f s)
+when_own true f s h = h
+when_own false f s h = still_own s
+
+-- ---- replies
+
+leader_by : (s : ReplicaState) (slot : ℕ) (r : Request) (o : Option (List ℕ)) → AllAmong s.config.replicas (leader_reply s slot r o)
+leader_by s slot r None = tt
+leader_by s slot r (Some result) = (tt, tt)
+
+reply_if_by : {S : Type 0} (m : Meaning S) (b : Bool) (s : ReplicaState) (slot : ℕ) (r : Request) → AllAmong s.config.replicas (reply_if m b s slot r)
+reply_if_by m true s slot r = leader_by s slot r (result_at m s.log slot)
+reply_if_by m false s slot r = (tt, tt)
+
+reply_by : {S : Type 0} (m : Meaning S) (s : ReplicaState) (slot : ℕ) (r : Request) → AllAmong s.config.replicas (reply_to m s slot r)
+unfolding reply_to
+reply_by m s slot r = reply_if_by m (leads s) s slot r
+
+entry_by : {S : Type 0} (m : Meaning S) (s : ReplicaState) (slot : ℕ) (e : Entry) → AllAmong s.config.replicas (reply_for m s slot e)
+entry_by m s slot NoOp = tt
+entry_by m s slot (Req r) = reply_by m s slot r
+
+replies_by : {S : Type 0} (m : Meaning S) (s : ReplicaState) (slot : ℕ) (l : List Entry) → AllAmong s.config.replicas (replies_to m s slot l)
+replies_by m s slot [] = tt
+replies_by m s slot (e ∷ l) =
+    by_both s.config.replicas (reply_for m s slot e) (replies_to m s (slot + 1) l) (entry_by m s slot e) (replies_by m s (slot + 1) l)
+
+above_by : {S : Type 0} (m : Meaning S) (s : ReplicaState) (slot : ℕ) → AllAmong s.config.replicas (replies_above m s slot)
+above_by m s slot = replies_by m s (slot + 1) (drop slot s.log)
+
+-- ---- messages to all
+
+all_if_by : (b : Bool) (s : ReplicaState) (body : Body) → AllAmong s.config.replicas (to_all_if b s body)
+all_if_by true s body = tt
+all_if_by false s body = (tt, tt)
+
+all_by : (s : ReplicaState) (body : Body) → AllAmong s.config.replicas (to_all s body)
+all_by s body = all_if_by (others s == 0) s body
+
+-- ---- drains
+
+open_gap_own : (s : ReplicaState) → Own s (open_gap s)
+unfolding open_gap
+open_gap_own s = record { count = refl; sends = all_by s _ }
+
+ask_own : (b : Bool) (s : ReplicaState) → Own s (ask_if b s)
+ask_own true s = still_own s
+ask_own false s = record { count = refl; sends = (leads_among s, tt) }
+
+drop_own : (b : Bool) (again : ReplicaState → Effect) (s : ReplicaState) → AlwaysOwn again → Own s (drain_drop again b s)
+drop_own true again s own = then_own again (open_gap_own s) (own.at (open_gap s).0)
+drop_own false again s own = ask_own (s.asked == length s.log + 1) s
+
+drain_at_own : {S : Type 0} (m : Meaning S) (again : ReplicaState → Effect) (s : ReplicaState) (b : Bool) (front : Front) → AlwaysOwn again
+    → Own s (drain_at m again s b front)
+drain_at_own m again s true (Message r) own =
+    then_own again (record { count = refl; sends = reply_by m (logged s r) (length s.log + 1) r }) (own.at (logged s r))
+drain_at_own m again s true Dropped own = drop_own (leads s) again s own
+drain_at_own m again s true Nothing own = still_own s
+drain_at_own m again s false front own = still_own s
+
+drain_by_own : {S : Type 0} (m : Meaning S) (room : ℕ) → AlwaysOwn (drain_by m room)
+drain_by_own m zero = record { at = still_own }
+drain_by_own m (suc room) =
+    record { at = λ s. drain_at_own m (drain_by m room) s (drains s) (front_of s.receiver) (drain_by_own m room) }
+
+drain_own : {S : Type 0} (m : Meaning S) (s : ReplicaState) → Own s (drain m s)
+unfolding drain
+drain_own m s = (drain_by_own m _).at s
+
+-- what a row did first, and what waits is taken
+and_drain : {S : Type 0} (m : Meaning S) {s : ReplicaState} {e : Effect} → Own s e → Own s (then_do e (drain m))
+and_drain m {s} {e} h = then_own (drain m) h (drain_own m e.0)
+
+-- ---- views
+
+enter_as_own : (b : Bool) (s : ReplicaState) → Own s (enter_as b s)
+enter_as_own true s = record { count = refl; sends = all_by s bodies.ViewChangeReq }
+enter_as_own false s = record {
+  count = refl;
+  sends = by_both s.config.replicas (to_all s bodies.ViewChangeReq) (change_told s) (all_by s bodies.ViewChangeReq) (leads_among s, tt);
+}
+
+enter_own : (s : ReplicaState) (v : View) → Own s (enter s v)
+unfolding enter
+enter_own s v = let h = enter_as_own (leads (entered s v)) (entered s v) in record { count = h.count; sends = h.sends }
+
+adopt_own : {S : Type 0} (m : Meaning S) (s : ReplicaState) (v : View) (x : ℕ) (l : List Entry) → Own s (adopt m s v x l)
+unfolding adopt
+adopt_own m s v x l = and_drain m (record { count = refl; sends = above_by m (adopted s v x l) s.sync.sync_point })
+
+open_with_own : {S : Type 0} (m : Meaning S) (s : ReplicaState) (x : ℕ) (l : List Entry) → Own s (open_with m s x l)
+open_with_own m s x l =
+    then_own (λ t. adopt m t t.view x l) (record { count = refl; sends = all_by s (bodies.StartView x l) }) (adopt_own m s s.view x l)
+
+open_if_own : {S : Type 0} (m : Meaning S) (o : Option Gathering) (s : ReplicaState) → Own s (open_if_enough m o s)
+open_if_own m None s = still_own s
+open_if_own m (Some g) s = when_own (nat_lt g.f (length g.changes)) (open_view m g) s
+    (open_with_own m s (start_of g.view g.changes).next (start_of g.view g.changes).log)
+
+enter_view_own : {S : Type 0} (m : Meaning S) (v : View) (s : ReplicaState) → Own s (rows.enter_view m v s)
+unfolding rows.enter_view
+enter_view_own m v s =
+    then_own (λ t. open_if_enough m t.changes t) (enter_own s v) (open_if_own m (enter s v).0.changes (enter s v).0)
+
+enter_and_drain_own : {S : Type 0} (m : Meaning S) (v : View) (s : ReplicaState) → Own s (rows.enter_and_drain m v s)
+enter_and_drain_own m v s = and_drain m (enter_view_own m v s)
+
+-- ---- rows
+
+stamped_if_own : {S : Type 0} (m : Meaning S) (b : Bool) (s : ReplicaState) (p : Stamped) → Own s (rows.stamped_if m b p s)
+stamped_if_own m true s p =
+    let h = enter_and_drain_own m (record { leader = s.view.leader; session = p.session }) (begin_session s p) in
+    record { count = h.count; sends = h.sends }
+stamped_if_own m false s p = and_drain m (changed_own s (queue s p).0 refl)
+
+stamped_own : {S : Type 0} (m : Meaning S) (s : ReplicaState) (p : Stamped) → Own s (rows.stamped m p s)
+unfolding rows.stamped
+stamped_own m s p = stamped_if_own m (nat_lt s.view.session p.session) s p
+
+request_own : {S : Type 0} (m : Meaning S) (s : ReplicaState) (v : View) → Own s (rows.view_change_request m v s)
+request_own m s v = when_own (not (is_view (join_of s.view v) s.view)) _ s (enter_and_drain_own m (join_of s.view v) s)
+
+gather_own : {S : Type 0} (m : Meaning S) (o : Option Gathering) (c : peer.Change) (s : ReplicaState) → Own s (rows.gather m o c s)
+gather_own m None c s = still_own s
+gather_own m (Some g) c s =
+    then_own (λ t. open_if_enough m t.changes t) (changed_own s (keep_change s g c).0 refl)
+    (open_if_own m (keep_change s g c).0.changes (keep_change s g c).0)
+
+gather_by_own : {S : Type 0} (m : Meaning S) (status : Phase) (c : peer.Change) (s : ReplicaState) → c.sender < s.config.replicas
+    → Own s (rows.gather_by m status c s)
+gather_by_own m Change c s h = gather_own m s.changes c s
+gather_by_own m Normal c s h = record { count = refl; sends = (λ some. h, tt) }
+
+view_change_own : {S : Type 0} (m : Meaning S) (s : ReplicaState) (v : View) (c : peer.Change) → c.sender < s.config.replicas
+    → Own s (rows.view_change m v c s)
+unfolding rows.view_change
+view_change_own m s v c h =
+    let t : ReplicaState = (rows.view_change_request m v s).0 in
+    let first = request_own m s v in
+    let there : c.sender < t.config.replicas = subst (λ (n : ℕ). c.sender < n) (sym first.count) h in
+    then_own (rows.take_change m v c) first (when_own (is_view v t.view && leads t) _ t (gather_by_own m t.status c t there))
+
+start_view_own : {S : Type 0} (m : Meaning S) (s : ReplicaState) (q : ℕ) (v : View) (x : ℕ) (l : List Entry)
+    → Own s (rows.start_view m q v x l s)
+unfolding rows.start_view
+start_view_own m s q v x l = when_own (rows.may_adopt s q v l) _ s (adopt_own m s v x l)
+
+gap_commit_if_own : {S : Type 0} (m : Meaning S) (a b : Bool) (k : ℕ) (s : ReplicaState) → Own s (rows.gap_commit_if m a b k s)
+gap_commit_if_own m true b k s = and_drain m (leader_own s (write_gap (rows.hear s) k).0 (rows.hear s) (bodies.GapRep k) refl refl)
+gap_commit_if_own m false true k s =
+    and_drain m (leader_own s (add_gap (rows.hear s)).0 (rows.hear s) (bodies.GapRep (length s.log + 1)) refl refl)
+gap_commit_if_own m false false k s = still_own s
+
+gap_commit_own : {S : Type 0} (m : Meaning S) (k : ℕ) (s : ReplicaState) → Own s (rows.gap_commit m k s)
+unfolding rows.gap_commit
+gap_commit_own m k s = gap_commit_if_own m (nat_le k (length s.log)) ((k == length s.log + 1) && may_append s) k s
+
+found_own : {S : Type 0} (m : Meaning S) (k : ℕ) (r : Request) (s : ReplicaState) → Own s (rows.found m k r s)
+unfolding rows.found
+found_own m k r s =
+    let t : ReplicaState = appended (rows.hear s) (Req r) in
+    when_own ((k == length s.log + 1) && may_append s) _ s
+    (and_drain m (record { count = refl; sends = reply_by m t (length s.log + 1) r }))
+
+overlay_own : {S : Type 0} (m : Meaning S) (s : ReplicaState) (l : List Entry) → Own s (overlay m s l)
+unfolding overlay
+overlay_own m s l = record {
+  count = refl;
+  sends = by_both s.config.replicas (replies_above m (overlaid s l) (length s.log)) _ (above_by m (overlaid s l) (length s.log)) (leads_among s, tt);
+}
+
+prepare_own : {S : Type 0} (m : Meaning S) (l : List Entry) (s : ReplicaState) → Own s (rows.sync_prepare m l s)
+unfolding rows.sync_prepare
+prepare_own m l s =
+    let h = overlay_own m (rows.hear s) l in
+    when_own (nat_le (s.next + (length l - length s.log)) NUMBER_END) (λ t. then_do (overlay m (rows.hear t) l) (drain m)) s
+    (and_drain m (record { count = h.count; sends = h.sends }))
+
+commit_own : (k : ℕ) (s : ReplicaState) → Own s (rows.sync_commit k s)
+unfolding rows.sync_commit
+commit_own k s = when_own (nat_le k s.sync.prepared) _ s (record { count = refl; sends = tt })
+
+lookup_by_own : {S : Type 0} (m : Meaning S) (a : Answer) (q k : ℕ) (s : ReplicaState) → q < s.config.replicas
+    → Own s (rows.slot_lookup_by m a q k s)
+lookup_by_own m (Found r) q k s h = record { count = refl; sends = (λ some. h, tt) }
+lookup_by_own m GapAgain q k s h = record { count = refl; sends = (λ some. h, tt) }
+lookup_by_own m Begin q k s h = when_own (nat_lt s.next NUMBER_END) (λ t. then_do (open_gap t) (drain m)) s (and_drain m (open_gap_own s))
+lookup_by_own m answers.Nothing q k s h = still_own s
+
+lookup_own : {S : Type 0} (m : Meaning S) (q k : ℕ) (s : ReplicaState) → q < s.config.replicas → Own s (rows.slot_lookup m q k s)
+unfolding rows.slot_lookup
+lookup_own m q k s h = lookup_by_own m (answer_of s.log (waits s.gap) k) q k s h
+
+gap_reply_at_own : {S : Type 0} (m : Meaning S) (o : Option Agreement) (q k : ℕ) (s : ReplicaState) → Own s (rows.gap_reply_at m o q k s)
+gap_reply_at_own m None q k s = still_own s
+gap_reply_at_own m (Some g) q k s = when_own (g.slot == k) _ s (and_drain m (changed_own s (count_gap_vote s g q).0 refl))
+
+gap_reply_own : {S : Type 0} (m : Meaning S) (q k : ℕ) (s : ReplicaState) → Own s (rows.gap_reply m q k s)
+unfolding rows.gap_reply
+gap_reply_own m q k s = gap_reply_at_own m s.gap q k s
+
+commit_if_by : (s : ReplicaState) (k : ℕ) (v : Vote) → AllAmong s.config.replicas (commit_if s k v)
+commit_if_by s k Settled = all_by s (bodies.SyncCommit k)
+commit_if_by s k Waiting = tt
+
+sync_reply_own : (q k : ℕ) (s : ReplicaState) → Own s (rows.sync_reply q k s)
+sync_reply_own q k s = record { count = refl; sends = commit_if_by s k (vote_for s.sync q k) }
+
+-- ---- messages
+
+from_leader_own : {S : Type 0} (m : Meaning S) (body : Body) (s : ReplicaState) → Own s (from_leader m body s)
+from_leader_own m (bodies.GapCommit k) s = gap_commit_own m k s
+from_leader_own m (bodies.Found k r) s = found_own m k r s
+from_leader_own m (bodies.SyncPrepare l) s = prepare_own m l s
+from_leader_own m (bodies.SyncCommit k) s = commit_own k s
+from_leader_own m (bodies.SlotLookup k) s = still_own s
+from_leader_own m (bodies.GapRep k) s = still_own s
+from_leader_own m (bodies.SyncRep k) s = still_own s
+from_leader_own m bodies.ViewChangeReq s = still_own s
+from_leader_own m (bodies.ViewChange u x l) s = still_own s
+from_leader_own m (bodies.StartView x l) s = still_own s
+
+from_follower_own : {S : Type 0} (m : Meaning S) (q : ℕ) (body : Body) (s : ReplicaState) → q < s.config.replicas
+    → Own s (from_follower m q body s)
+from_follower_own m q (bodies.SlotLookup k) s h = lookup_own m q k s h
+from_follower_own m q (bodies.GapRep k) s h = gap_reply_own m q k s
+from_follower_own m q (bodies.SyncRep k) s h = sync_reply_own q k s
+from_follower_own m q (bodies.GapCommit k) s h = still_own s
+from_follower_own m q (bodies.Found k r) s h = still_own s
+from_follower_own m q (bodies.SyncPrepare l) s h = still_own s
+from_follower_own m q (bodies.SyncCommit k) s h = still_own s
+from_follower_own m q bodies.ViewChangeReq s h = still_own s
+from_follower_own m q (bodies.ViewChange u x l) s h = still_own s
+from_follower_own m q (bodies.StartView x l) s h = still_own s
+
+by_role_own : {S : Type 0} (m : Meaning S) (a b : Bool) (q : ℕ) (body : Body) (s : ReplicaState) → q < s.config.replicas
+    → Own s (by_role m a b q body s)
+by_role_own m true b q body s h = from_leader_own m body s
+by_role_own m false true q body s h = from_follower_own m q body s h
+by_role_own m false false q body s h = still_own s
+
+in_view_own : {S : Type 0} (m : Meaning S) (q : ℕ) (v : View) (body : Body) (s : ReplicaState) → q < s.config.replicas
+    → Own s (in_view m q v body s)
+in_view_own m q v body s h = by_role_own m (is_from_leader s v q) (is_to_leader s v) q body s h
+
+on_body_own : {S : Type 0} (m : Meaning S) (p : Peer) (body : Body) (s : ReplicaState) → p.sender < s.config.replicas
+    → Own s (on_body m p body s)
+on_body_own m p bodies.ViewChangeReq s h = request_own m s p.view
+on_body_own m p (bodies.ViewChange u x l) s h =
+    view_change_own m s p.view (record { sender = p.sender; last_normal = u; next = x; log = l }) h
+on_body_own m p (bodies.StartView x l) s h = start_view_own m s p.sender p.view x l
+on_body_own m p (bodies.GapCommit k) s h = in_view_own m p.sender p.view (bodies.GapCommit k) s h
+on_body_own m p (bodies.Found k r) s h = in_view_own m p.sender p.view (bodies.Found k r) s h
+on_body_own m p (bodies.SyncPrepare l) s h = in_view_own m p.sender p.view (bodies.SyncPrepare l) s h
+on_body_own m p (bodies.SyncCommit k) s h = in_view_own m p.sender p.view (bodies.SyncCommit k) s h
+on_body_own m p (bodies.SlotLookup k) s h = in_view_own m p.sender p.view (bodies.SlotLookup k) s h
+on_body_own m p (bodies.GapRep k) s h = in_view_own m p.sender p.view (bodies.GapRep k) s h
+on_body_own m p (bodies.SyncRep k) s h = in_view_own m p.sender p.view (bodies.SyncRep k) s h
+
+-- a message that is taken comes from another replica
+from_other : {S : Type 0} (m : Meaning S) (p : Peer) (s : ReplicaState) (b : Bool) → is_other s p.sender ≡ b
+    → Own s (when b (on_body m p p.body) s)
+from_other m p s false is = still_own s
+from_other m p s true is =
+    let parts = and_parts (nat_lt p.sender s.config.replicas) (not (p.sender == s.number)) is in
+    on_body_own m p p.body s (ltb-true p.sender s.config.replicas parts.0)
+
+on_message_own : {S : Type 0} (m : Meaning S) (s : ReplicaState) (p : Peer) → Own s (on_message m p s)
+unfolding on_message
+on_message_own m s p = from_other m p s (is_other s p.sender) refl
+
+-- ---- ticks
+
+suspect_own : {S : Type 0} (m : Meaning S) (s : ReplicaState) → Own s (rows.suspect m s)
+suspect_own m s =
+    when_own (nat_lt s.view.leader rows.last_leader) (rows.enter_and_drain m (rows.next_leader s.view)) s
+    (enter_and_drain_own m (rows.next_leader s.view) s)
+
+watch_own : {S : Type 0} (m : Meaning S) (a b : Bool) (s : ReplicaState) → Own s (rows.watch_if m a b s)
+watch_own m true b s = still_own s
+watch_own m false true s = record { count = refl; sends = tt }
+watch_own m false false s = suspect_own m s
+
+gap_again_own : (o : Option Agreement) (s : ReplicaState) → Own s (rows.gap_again o s)
+gap_again_own None s = still_own s
+gap_again_own (Some g) s = record { count = refl; sends = all_by s (bodies.GapCommit g.slot) }
+
+lookup_again_own : (front : Front) (s : ReplicaState) → Own s (rows.lookup_again front s)
+lookup_again_own Nothing s = still_own s
+lookup_again_own (Message r) s = still_own s
+lookup_again_own Dropped s = when_own (has_room s) _ s (record { count = refl; sends = (leads_among s, tt) })
+
+change_again_own : (b : Bool) (s : ReplicaState) → Own s (rows.change_again b s)
+change_again_own true s = still_own s
+change_again_own false s = record { count = refl; sends = (leads_among s, tt) }
+
+resend_by_own : (status : Phase) (b : Bool) (s : ReplicaState) → Own s (rows.resend_by status b s)
+resend_by_own Change b s =
+    then_own (rows.change_again b) (record { count = refl; sends = all_by s bodies.ViewChangeReq }) (change_again_own b s)
+resend_by_own Normal true s = gap_again_own s.gap s
+resend_by_own Normal false s = lookup_again_own (front_of s.receiver) s
+
+resend_own : (s : ReplicaState) → Own s (rows.resend s)
+unfolding rows.resend
+resend_own s = resend_by_own s.status (leads s) s
+
+sync_if_own : (b : Bool) (s : ReplicaState) → Own s (rows.sync_if b s)
+sync_if_own true s = record { count = refl; sends = all_by s (bodies.SyncPrepare s.log) }
+sync_if_own false s = record { count = refl; sends = all_by s (bodies.SyncCommit s.sync.sync_point) }
+
+sync_own : (s : ReplicaState) → Own s (rows.sync s)
+unfolding rows.sync
+sync_own s =
+    when_own (is_normal s.status && (leads s && not (waits s.gap))) (λ t. rows.sync_if (nat_lt t.sync.sync_point (length t.log)) t) s
+    (sync_if_own (nat_lt s.sync.sync_point (length s.log)) s)
+
+tick_own : {S : Type 0} (m : Meaning S) (s : ReplicaState) (tick : Tick) → Own s (ticked m tick s)
+tick_own m s ticks.Suspect = suspect_own m s
+tick_own m s ticks.Watch = watch_own m (is_normal s.status && leads s) s.heard s
+tick_own m s ticks.Resend = resend_own s
+tick_own m s ticks.Sync = sync_own s
+tick_own m s ticks.Retry = still_own s
+tick_own m s ticks.Next = still_own s
+tick_own m s ticks.Probe = still_own s
+tick_own m s (ticks.Install j) = still_own s
+
+-- ---- all that arrives
+
+arrive_own : {S : Type 0} (m : Meaning S) (s : ReplicaState) (a : Arrival) → Own s (arrive m s a)
+unfolding arrive
+arrive_own m s (Packet p) = stamped_own m s p
+arrive_own m s (Told p) = on_message_own m s p
+arrive_own m s (Ticked tick) = tick_own m s tick
+
+pub arrive_goes_among : {S : Type 0} (m : Meaning S) (s : ReplicaState) (a : Arrival) → AllAmong s.config.replicas (arrive m s a).1
+arrive_goes_among m s a = (arrive_own m s a).sends
+
+pub arrive_keeps_count : {S : Type 0} (m : Meaning S) (s : ReplicaState) (a : Arrival)
+    → (arrive m s a).0.config.replicas ≡ s.config.replicas
+arrive_keeps_count m s a = (arrive_own m s a).count

@@ -1,0 +1,352 @@
+-- In each world of a run the datagrams go to actors of the configuration.
+use Rattle.std.proofs.Common.{◌≡◌, ◌≤◌, ◌<◌, ◌+◌, ◌*◌, ℕ, Bool, true, false, Option, Some, None, refl, sym, ap, subst, ◌∙◌, arith, length}
+use Rattle.std.proofs.Common.{List, [], ◌∷◌, ◌++◌, inl, inr}
+use Rattle.std.specs.Prelude.{◌⊎◌, ◌/◌, ⊤, Result, Ok, Err, slice_get}
+use Rattle.std.proofs.lemmas.Option.{slice_get_within}
+use Rattle.nop_types.specs.Configuration.{Configuration, is_configuration}
+use Rattle.nop_types.specs.Given.{Given}
+use Rattle.nop_types.specs.Lines as lines
+use Rattle.nop_types.specs.Lines.{Line}
+use Rattle.nop_types.specs.Lists.{Has}
+use Rattle.nop_types.specs.Meaning.{Meaning}
+use Rattle.nop_types.specs.declared.datagram.Datagram.TheVariants as datagrams
+use Rattle.nop_types.specs.declared.datagram.Reply.{Reply}
+use Rattle.nop_types.specs.declared.output.Actor.{Actor}
+use Rattle.nop_types.specs.declared.output.Actor.TheVariants as actors
+use Rattle.nop_types.specs.declared.output.Dest.{Dest}
+use Rattle.nop_types.specs.declared.output.Dest.TheVariants.{Replicas, Sequencers, One}
+use Rattle.nop_types.specs.declared.output.Out.{Out}
+use Rattle.oum_codec.specs.Reading.{reading}
+use Rattle.oum_codec.proofs.Datagrams.{reads_again}
+use Rattle.facts.proofs.Members.{Has-none, Has-append_cases}
+use Rattle.client_quorum.specs.declared.state.ClientState.{ClientState}
+use Rattle.client_quorum.specs.ClientSteps as client
+use Rattle.sequencer.specs.declared.state.SequencerState.{SequencerState}
+use Rattle.sequencer.specs.SequencerSteps as sequencer
+use Rattle.session_control.specs.declared.state.ControllerState.{ControllerState}
+use Rattle.session_control.specs.ControllerSteps as controller
+use Rattle.replica_core.specs.ReplicaSteps as replica
+use Rattle.replica_core.specs.ReplicaSteps.{Replica}
+use Rattle.replica_core.specs.Sends as effects
+use Rattle.replica_core.specs.Sends.{SendingFits, still}
+use Rattle.replica_core.specs.Within.{ResultsShort}
+use Rattle.schedule_text.specs.declared.event.Event.{Event}
+use Rattle.schedule_text.specs.Fits.{EventFits, EventsFit}
+use Rattle.delivery.specs.Steps.{Delivers, TakesRow}
+use Rattle.delivery.proofs.Steps.{step_delivers}
+use Rattle.protocol.specs.Conf.{Conf, opening}
+use Rattle.protocol.specs.Invariant.{Inv}
+use Rattle.protocol.specs.Runs.{run}
+use Rattle.protocol.proofs.Opening.{opening_meets}
+use Rattle.world.specs.Network.{Sent, sends_by, lines_by}
+use Rattle.world.specs.Seats.{Seated, Stimulus, Takes, Crashes, Did, Nothing, Outputs, moved_if, seat_step}
+use Rattle.world.specs.WorldSteps as world
+use Rattle.world.specs.WorldSteps.{WorldState, Happened, Refusal, actor_of, stimulus_of, at_replica, at_sequencer, at_client, at_controller}
+use Rattle.world.specs.WorldSteps.{then_at, step_at, step_of, step, go_on, run_from}
+use Rattle.safety.specs.Passed.{Passed, passes}
+use Rattle.safety.specs.Shows.{bytes_of, ShowsActors}
+use Rattle.safety.proofs.At.{At, Talks, Later}
+use Rattle.safety.proofs.Coming.{AllBring, Brings, event_brings}
+use Rattle.safety.proofs.Counts.{counts_from}
+use Rattle.safety.proofs.Moving.{ran_holds}
+use Rattle.safety.proofs.Opening.{first, opening_stands}
+use Rattle.safety.proofs.Steps.{steps_lead}
+use Rattle.replay.specs.Destinations.{IsDestOf}
+use Rattle.replay.proofs.Addressed.{IsReplyTo, Goes, OutsGo, SubmitsOf, sent_goes, lines_are_of, dead_is_of, posted_goes, sequencer_goes}
+use Rattle.replay.proofs.Addressed.{client_goes, controller_goes, controller_keeps_config}
+use Rattle.replay.proofs.Asked.{AllAsked, HasAsked, moves_asked, none_asked}
+use Rattle.replay.proofs.Destinations.{AllAmong, arrive_goes_among}
+
+-- ---- what holds of a world
+
+-- what was sent goes to actors of the configuration, what was submitted is of its clients, and the controller knows it
+record Good (config : Configuration) (w : WorldState) (ls : List Line) : Type 0 where
+  sent : (s : Sent) → Has w.sent s → Goes config s.dest s.bytes
+  submits : SubmitsOf config ls
+  controller : w.controller.state.config ≡ config
+
+-- what an actor did
+abbrev DidGo : Configuration → Did → Type 0
+DidGo c Nothing = ⊤
+DidGo c (Outputs os) = OutsGo c os
+
+did_send : (c : Configuration) (from : Actor) (did : Did) → DidGo c did → (s : Sent) → Has (sends_by from did) s → Goes c s.dest s.bytes
+did_send c from Nothing go s h = absurd (Has-none s h)
+did_send c from (Outputs os) go s h = sent_goes c from os go s h
+
+did_say : (c : Configuration) (from : Actor) (n : ℕ) (did : Did) → DidGo c did → SubmitsOf c (lines_by from n did)
+did_say c from n Nothing go = dead_is_of c from
+did_say c from n (Outputs os) go = lines_are_of c from n os go
+
+-- ---- one event
+
+-- what an event made of a good world is good
+record Keeps (config : Configuration) (w : WorldState) (h : Happened) : Type 0 where
+  from : Actor
+  did : Did
+  goes : DidGo config did
+  sent : h.world.sent ≡ w.sent ++ sends_by from did
+  lines : h.lines ≡ lines_by from (length w.sent) did
+  controller : h.world.controller.state.config ≡ w.controller.state.config
+
+kept_good : (config : Configuration) (w : WorldState) (ls : List Line) (h : Happened) → Good config w ls → Keeps config w h
+    → Good config h.world (ls ++ h.lines)
+kept_good config w ls h good k = record {
+  sent = λ s i. elim (Has-append_cases w.sent (sends_by k.from k.did) s (subst (λ (xs : List Sent). Has xs s) k.sent i)) [
+    | inl before ↦ good.sent s before
+    | inr now ↦ did_send config k.from k.did k.goes s now
+  ];
+  submits = λ r i. elim (Has-append_cases ls h.lines (lines.Submit r) i) [
+    | inl before ↦ good.submits r before
+    | inr now ↦ did_say config k.from (length w.sent) k.did k.goes r (subst (λ (xs : List Line). Has xs (lines.Submit r)) k.lines now)
+  ];
+  controller = k.controller ∙ good.controller;
+}
+
+-- an actor that is there was brought something, and this is what its step makes of the world
+record Took {S : Type 0} (act : Seated S × Did → Happened) (next : S → Given → S × List Out) (o : Option (Seated S))
+    (r : Result Stimulus Refusal) (h : Happened) : Type 0 where
+  seat : Seated S
+  there : o ≡ Some seat
+  what : Stimulus
+  brought : r ≡ Ok what
+  gives : act (seat_step next seat what) ≡ h
+
+took : {S : Type 0} (act : Seated S × Did → Happened) (next : S → Given → S × List Out) (o : Option (Seated S))
+    (r : Result Stimulus Refusal) (h : Happened) → then_at act (step_at next o r) ≡ Ok h → Took act next o r h
+took act next None r h e = absurd cc
+took act next (Some p) (Err refusal) h e = absurd cc
+took act next (Some p) (Ok what) h e = record { seat = p; there = refl; what = what; brought = refl; gives = cc }
+
+-- a seat whose steps send to actors of the configuration
+seat_goes : {S : Type 0} (c : Configuration) (next : S → Given → S × List Out) (p : Seated S) (b : Bool) (what : Stimulus)
+    → ((i : Given) → what ≡ Takes i → OutsGo c (next p.state i).1) → DidGo c (moved_if next b p what).1
+seat_goes c next p true what go = tt
+seat_goes c next p false (Takes i) go = go i refl
+seat_goes c next p false Crashes go = tt
+
+module _ {S : Type 0} (m : Meaning S) (f : ℕ) (config : Configuration) (short : ResultsShort m) (p : Passed) (c : Conf) (inv : Inv m f c)
+    (at : At m f config p c) where
+  abbrev w : WorldState
+  w = p.world
+
+  abbrev shown : ShowsActors f w c
+  shown = at.stands.actors
+
+  abbrev talks : Talks w.sent w.replicas c.said
+  talks = at.stands.talks
+
+  -- ---- replicas
+
+  module _ (r : ℕ) (old : Seated Replica) (there : slice_get w.replicas r ≡ Some old) (i : Given) (brings : Brings w.sent i) where
+    delivers : Delivers m talks.told (bytes_of w.sent) talks.used r old.state (replica.next m old.state i)
+    delivers = step_delivers m short talks.told (bytes_of w.sent) talks.used r old.state i talks.network (talks.members r old there)
+        brings.may
+
+    -- a replica knows how many there are
+    counts : old.state.state.config.replicas ≡ config.replicas
+    counts =
+        let within : r < 2 * f + 1 = omega (arith, slice_get_within w.replicas r old there, shown.replica_count, shown.config) in
+        let own = (inv.own r within).replicas in
+        let same = ap (λ (q : _). q.replicas) (shown.replicas r old there) in
+        sym same ∙ own ∙ sym shown.config ∙ ap (λ (k : Configuration). k.replicas) at.stands.same
+
+    row_among : (e : effects.Effect) → TakesRow m talks.told (bytes_of w.sent) old.state.state e ⊎ (e ≡ still old.state.state)
+        → AllAmong config.replicas e.1
+    row_among e (inl row) =
+        subst (λ (n : ℕ). AllAmong n e.1) counts
+        (subst (λ (x : effects.Effect). AllAmong old.state.state.config.replicas x.1) (sym row.effect)
+        (arrive_goes_among m old.state.state row.arrival))
+    row_among e (inr same) = subst (λ (x : effects.Effect). AllAmong config.replicas x.1) (sym same) tt
+
+    some : 1 ≤ config.replicas
+    some = omega (arith, ap (λ (k : Configuration). k.replicas) at.stands.same, shown.config)
+
+    replica_goes : OutsGo config (replica.next m old.state i).1
+    replica_goes = subst (OutsGo config) (sym delivers.outs)
+        (posted_goes config old.state.messages delivers.effect.1 some delivers.fits (row_among delivers.effect delivers.row))
+
+  -- ---- all actors
+
+  replica_keeps : (i : ℕ) (old : Seated Replica) (what : Stimulus) → slice_get w.replicas i ≡ Some old → AllBring w.sent what
+      → Keeps config w (at_replica w i (seat_step (replica.next m) old what))
+  replica_keeps i old what there brings = record {
+    from = actors.Replica i;
+    did = (seat_step (replica.next m) old what).1;
+    goes = seat_goes config (replica.next m) old old.crashed what
+        (λ given is. replica_goes i old there given (subst (AllBring w.sent) is brings));
+    sent = refl;
+    lines = refl;
+    controller = refl;
+  }
+
+  sequencer_keeps : (j : ℕ) (old : Seated SequencerState) (what : Stimulus)
+      → Keeps config w (at_sequencer w j (seat_step sequencer.next old what))
+  sequencer_keeps j old what = record {
+    from = actors.Sequencer j;
+    did = (seat_step sequencer.next old what).1;
+    goes = seat_goes config sequencer.next old old.crashed what (λ given is. sequencer_goes config old.state given);
+    sent = refl;
+    lines = refl;
+    controller = refl;
+  }
+
+  own_number : (k : ℕ) (old : Seated ClientState) → slice_get w.clients k ≡ Some old → old.state.number < config.clients
+  own_number k old there =
+      let is : old.state.number ≡ k = ap (λ (s : ClientState). s.number) (sym (shown.clients k old there)) ∙ (inv.clients k).number in
+      omega (arith, is, slice_get_within w.clients k old there, shown.client_count, ap (λ (q : Configuration). q.clients) at.stands.same)
+
+  client_keeps : (k : ℕ) (old : Seated ClientState) (what : Stimulus) → slice_get w.clients k ≡ Some old
+      → Keeps config w (at_client w k (seat_step client.next old what))
+  client_keeps k old what there = record {
+    from = actors.Client k;
+    did = (seat_step client.next old what).1;
+    goes = seat_goes config client.next old old.crashed what (λ given is. client_goes config old.state (own_number k old there) given);
+    sent = refl;
+    lines = refl;
+    controller = refl;
+  }
+
+  controller_keeps : (b : Bool) (what : Stimulus) → controller.IsWithin (moved_if controller.next b w.controller what).0.state
+      → w.controller.state.config ≡ config → Keeps config w (at_controller w (moved_if controller.next b w.controller what))
+  controller_keeps true what within same =
+      record { from = actors.Controller; did = Nothing; goes = tt; sent = refl; lines = refl; controller = refl }
+  controller_keeps false (Takes given) within same = record {
+    from = actors.Controller;
+    did = Outputs (controller.next w.controller.state given).1;
+    goes = subst (λ (k : Configuration). OutsGo k (controller.next w.controller.state given).1) same
+        (controller_goes w.controller.state given within);
+    sent = refl;
+    lines = refl;
+    controller = controller_keeps_config w.controller.state given;
+  }
+  controller_keeps false Crashes within same =
+      record { from = actors.Controller; did = Outputs []; goes = tt; sent = refl; lines = refl; controller = refl }
+
+  -- ---- events
+
+  actor_keeps : (a : Actor) (r : Result Stimulus Refusal) (h : Happened) → ((what : Stimulus) → r ≡ Ok what → AllBring w.sent what)
+      → controller.IsWithin h.world.controller.state → w.controller.state.config ≡ config → step_of m w a r ≡ Ok h → Keeps config w h
+  actor_keeps (actors.Replica i) r h brings within same e =
+      let t = took (at_replica w i) (replica.next m) (slice_get w.replicas i) r h e in
+      subst (Keeps config w) t.gives (replica_keeps i t.seat t.what t.there (brings t.what t.brought))
+  actor_keeps (actors.Sequencer j) r h brings within same e =
+      let t = took (at_sequencer w j) sequencer.next (slice_get w.sequencers j) r h e in
+      subst (Keeps config w) t.gives (sequencer_keeps j t.seat t.what)
+  actor_keeps (actors.Client k) r h brings within same e =
+      let t = took (at_client w k) client.next (slice_get w.clients k) r h e in
+      subst (Keeps config w) t.gives (client_keeps k t.seat t.what t.there)
+  actor_keeps actors.Controller r h brings within same e =
+      let t = took (at_controller w) controller.next (Some w.controller) r h e in
+      let seat : w.controller ≡ t.seat = (let g : Some w.controller ≡ Some t.seat = t.there in cc) in
+      let gives : at_controller w (seat_step controller.next w.controller t.what) ≡ h =
+      ap (λ (q : Seated ControllerState). at_controller w (seat_step controller.next q t.what)) seat ∙ t.gives in
+      subst (Keeps config w) gives
+      (controller_keeps w.controller.crashed t.what
+      (subst (λ (x : Happened). controller.IsWithin x.world.controller.state) (sym gives) within) same)
+
+  step_keeps : (x : Event) (h : Happened) → EventFits x → controller.IsWithin h.world.controller.state → w.controller.state.config ≡ config
+      → step m w x ≡ Ok h → Keeps config w h
+  unfolding step
+  step_keeps x h fits within same e =
+      actor_keeps (actor_of x) (stimulus_of w.config w.sent x) h (λ what is. event_brings w.sent w.config x what fits is) within same e
+
+-- ---- lists of events
+
+-- where events lead, as the protocol shows it
+pub record Reached {S : Type 0} (m : Meaning S) (f : ℕ) (config : Configuration) (h : Happened) : Type 0 where
+  pub passed : Passed
+  pub conf : Conf
+  pub at : At m f config passed conf
+  pub world : passed.world ≡ h.world
+  pub lines : passed.lines ≡ h.lines
+  pub sent : (s : Sent) → Has h.world.sent s → Goes config s.dest s.bytes
+  pub submits : SubmitsOf config h.lines
+
+module _ {S : Type 0} (m : Meaning S) (f : ℕ) (config : Configuration) (short : ResultsShort m) (count : config.replicas ≡ 2 * f + 1) where
+  one_good : (p : Passed) (c : Conf) (x : Event) (h : Happened) → At m f config p c → EventFits x → step m p.world x ≡ Ok h
+      → Good config p.world p.lines → (next : Later m f config c (passes p h)) → Good config h.world (p.lines ++ h.lines)
+  one_good p c x h at fits is good next =
+      let inv : Inv m f c = ran_holds m f config count c at.ran in
+      kept_good config p.world p.lines h good
+      (step_keeps m f config short p c inv at x h fits next.at.stands.ranges.controller good.controller is)
+
+  reach_then : (x : Event) (es : List Event) (p : Passed) (c : Conf) (h : Happened) → At m f config p c → EventFits x
+      → Good config p.world p.lines
+      → ((q : Passed) (d : Conf) → At m f config q d → Good config q.world q.lines → run_from m q.lines q.world es ≡ Ok h
+      → Reached m f config h)
+      → (r : Result Happened Refusal) → step m p.world x ≡ r → go_on m p.lines r (λ more v. run_from m more v es) ≡ Ok h
+      → Reached m f config h
+  reach_then x es p c h at fits good rest (Err refusal) is e = absurd cc
+  reach_then x es p c h at fits good rest (Ok g) is e =
+      let next : Later m f config c (passes p g) = steps_lead m f config short p c x g at fits is in
+      rest (passes p g) (run m f c next.moves) next.at (one_good p c x g at fits is good next) e
+
+  reach : (es : List Event) (p : Passed) (c : Conf) (h : Happened) → At m f config p c → EventsFit es → Good config p.world p.lines
+      → run_from m p.lines p.world es ≡ Ok h → Reached m f config h
+  reach [] p c h at fit good e =
+      let same : record { world = p.world; lines = p.lines } ≡ h = cc in
+      let world : p.world ≡ h.world = ap (λ (t : Happened). t.world) same in
+      let lines : p.lines ≡ h.lines = ap (λ (t : Happened). t.lines) same in
+      record {
+        passed = p;
+        conf = c;
+        at = at;
+        world = world;
+        lines = lines;
+        sent = subst (λ (v : WorldState). (s : Sent) → Has v.sent s → Goes config s.dest s.bytes) world good.sent;
+        submits = subst (SubmitsOf config) lines good.submits;
+      }
+  reach (x ∷ es) p c h at fit good e =
+      reach_then x es p c h at fit.0 good (λ q d at_q good_q g. reach es q d h at_q fit.1 good_q g) (step m p.world x) refl e
+
+  nothing_sent : Good config (world.opening config) []
+  nothing_sent = record { sent = λ s h. absurd (Has-none s h); submits = λ r h. absurd (Has-none _ h); controller = refl }
+
+pub events_reach : {S : Type 0} (m : Meaning S) (config : Configuration) → ResultsShort m → is_configuration config ≡ true
+    → (es : List Event) (h : Happened) → EventsFit es → world.run m config es ≡ Ok h → Reached m (config.replicas / 2) config h
+events_reach m config short is_one es h fit e =
+    let f : ℕ = config.replicas / 2 in
+    let count : config.replicas ≡ 2 * f + 1 = (counts_from config is_one).replicas in
+    reach m f config short count es (first config) (opening config) h (opening_stands m f config is_one count) fit
+    (nothing_sent m f config short count) e
+
+-- ---- destinations
+
+module _ {S : Type 0} (m : Meaning S) (config : Configuration) (h : Happened) (r : Reached m (config.replicas / 2) config h)
+    (is_one : is_configuration config ≡ true) where
+  abbrev f : ℕ
+  f = config.replicas / 2
+
+  asked : AllAsked r.conf
+  asked = subst AllAsked r.at.ran.is
+      (moves_asked m f (opening config) r.at.ran.moves (opening_meets m f config (counts_from config is_one).replicas) r.at.ran.may
+      (none_asked config))
+
+  replied : (s : Sent) (y : Reply) → Has h.world.sent s → reading s.bytes ≡ Ok (datagrams.Reply y) → HasAsked r.conf.lines y.client
+  replied s y i e =
+      asked y (r.at.stands.carries.only s (datagrams.Reply y) (subst (λ (w : WorldState). Has w.sent s) (sym r.world) i) e)
+
+  -- who is sent a reply submitted a request
+  client_there : (k : ℕ) (s : Sent) → Has h.world.sent s → IsReplyTo k s.bytes → k < config.clients
+  client_there k s i is =
+      let e : reading s.bytes ≡ Ok (datagrams.Reply is.reply) = ap reading is.spelled ∙ reads_again (datagrams.Reply is.reply) is.fits in
+      let q = replied s is.reply i e in
+      let there : Has h.lines (lines.Submit q.request) =
+      subst (λ (ls : List Line). Has ls (lines.Submit q.request)) (sym r.at.lines ∙ r.lines) q.submitted in
+      subst (λ (n : ℕ). n < config.clients) (q.of ∙ is.to) (r.submits q.request there)
+
+  dest_of : (s : Sent) → Has h.world.sent s → (dest : Dest) → Goes config dest s.bytes → IsDestOf config dest
+  dest_of s i Replicas go = tt
+  dest_of s i Sequencers go = tt
+  dest_of s i (One (actors.Replica n)) go = go
+  dest_of s i (One (actors.Sequencer n)) go = go
+  dest_of s i (One (actors.Client k)) go = client_there k s i go
+  dest_of s i (One actors.Controller) go = tt
+
+  pub sent_to_actors : (s : Sent) → Has h.world.sent s → IsDestOf config s.dest
+  sent_to_actors s i = dest_of s i s.dest (r.sent s i)
+
+pub datagrams_go_to_actors : {S : Type 0} (m : Meaning S) → ResultsShort m → (c : Configuration) → is_configuration c ≡ true
+    → (es : List Event) (h : Happened) → EventsFit es → world.run m c es ≡ Ok h → (s : Sent) → Has h.world.sent s → IsDestOf c s.dest
+datagrams_go_to_actors m short c is_one es h fit e = sent_to_actors m c h (events_reach m c short is_one es h fit e) is_one

@@ -1,0 +1,26 @@
+-- A summary is not empty.
+use Rattle.std.proofs.Common.{◌≢◌, ℕ, List, [], ◌++◌}
+use Rattle.std.specs.Prelude.{Option, Result, Ok, Err}
+use Rattle.nop_types.specs.Meaning.{Meaning}
+use Rattle.world.specs.WorldSteps.{Refusal, Happened, run}
+use Rattle.replay.specs.declared.error.GenError.TheVariants.{NoMemory}
+use Rattle.replay.specs.Generated.{drawn_config, drawn_events, gen_line, tally_text, summary_of, drawn_summary, WritesText}
+use Rattle.replay.proofs.Fronts.{some_left, part_nil}
+
+gen_some : (number count : ℕ) → gen_line number count ≢ []
+unfolding gen_line
+gen_some number count = λ e. absurd cc
+
+of_some : (number count : ℕ) (r : Result Happened Refusal) → summary_of number count r ≢ []
+unfolding tally_text
+of_some number count (Err refusal) = gen_some number count
+of_some number count (Ok h) =
+    some_left (gen_line number count ++ _ ++ _) _ (some_left (gen_line number count ++ _) _ (some_left (gen_line number count) _ (gen_some number count)))
+
+pub summary_some : {S : Type 0} (m : Meaning S) (number count : ℕ) → drawn_summary m number count ≢ []
+summary_some m number count = of_some number count (run m drawn_config (drawn_events m number count))
+
+-- nothing of it was written
+pub unwritten : {S : Type 0} (m : Meaning S) (number count : ℕ) (a : Option (List ℕ))
+    → WritesText a a (drawn_summary m number count) (Err NoMemory)
+unwritten m number count a = part_nil a (drawn_summary m number count) (summary_some m number count)

@@ -1,0 +1,221 @@
+-- An event that is drawn is not refused.
+use Rattle.std.proofs.Common.{◌≡◌, ◌≤◌, ◌<◌, ◌-◌, ℕ, Bool, true, false, Option, Some, None, refl, sym, ap, subst, ◌∙◌, arith}
+use Rattle.std.proofs.Common.{length, List, min}
+use Rattle.std.specs.Prelude.{⊤, ◌/◌, nat_lt, nat_le, ◌==◌, if◌then◌else◌, Result, Ok, slice_get}
+use Rattle.std.proofs.lemmas.Bool.{lt-ltb}
+use Rattle.rand_pcg.specs.Lcg.{Lcg}
+use Rattle.nop_types.specs.Configuration.{Configuration}
+use Rattle.nop_types.specs.Given.{Given, Packet, Ticked, Submit}
+use Rattle.nop_types.specs.Lists.{Has}
+use Rattle.nop_types.specs.Meaning.{Meaning}
+use Rattle.nop_types.specs.declared.input.Tick.{Tick}
+use Rattle.nop_types.specs.declared.input.Tick.TheVariants as ticks
+use Rattle.nop_types.specs.declared.output.Actor.{Actor}
+use Rattle.nop_types.specs.declared.output.Actor.TheVariants as actors
+use Rattle.nop_types.specs.declared.output.Dest.{Dest}
+use Rattle.nop_types.specs.declared.output.Dest.TheVariants.{Replicas, Sequencers, One}
+use Rattle.nop_types.specs.declared.output.Out.{Out}
+use Rattle.facts.proofs.Places.{slice_get-some}
+use Rattle.client_quorum.specs.ClientSteps as client
+use Rattle.sequencer.specs.SequencerSteps as sequencer
+use Rattle.replica_core.specs.ReplicaSteps as replica
+use Rattle.replica_core.specs.Within.{ResultsShort}
+use Rattle.schedule_text.specs.declared.event.Event.{Event}
+use Rattle.schedule_text.specs.declared.event.Event.TheVariants as events
+use Rattle.schedule_text.specs.EventText.{HasWord, HasLine, IsActorOf, IsEventOf}
+use Rattle.schedule_text.specs.Fits.{EventFits}
+use Rattle.schedule_text.specs.Ticks.{takes_tick}
+use Rattle.world.specs.Network.{Sent}
+use Rattle.world.specs.Seats.{Seated, Stimulus, Takes, Crashes, Did}
+use Rattle.world.specs.WorldSteps.{WorldState, Happened, Refusal, tick_if, datagram_at, stimulus_of, then_at, step_at, step_of, step}
+use Rattle.world.specs.WorldSteps.{at_replica, at_sequencer, at_client}
+use Rattle.replay.specs.Drawing.{draw, put_drawn, get_drawn, taker_drawn, delivery_drawn, back_drawn, deliver_drawn}
+use Rattle.replay.specs.Drawing.{replica_tick_drawn, retry_drawn, crash_drawn, install_drawn, rare_drawn}
+use Rattle.replay.specs.Drawing.{event_drawn}
+use Rattle.replay.specs.Generated.{drawn_config}
+use Rattle.replay.specs.Generating.{IsTaken, Led, MayDraw}
+use Rattle.replay.specs.Destinations.{IsDestOf}
+use Rattle.replay.proofs.Reaching.{Reached, events_reach, sent_to_actors}
+
+-- ---- events that are not refused
+
+-- the world has so many actors as the configuration
+record HasActors (w : WorldState) : Type 0 where
+  replicas : length w.replicas ≡ w.config.replicas
+  sequencers : length w.sequencers ≡ w.config.sequencers
+  clients : length w.clients ≡ w.config.clients
+
+-- a datagram that is delivered was sent; no junk
+abbrev IsSent : List Sent → Event → Type 0
+IsSent sent (events.Submit n op) = ⊤
+IsSent sent (events.Deliver index actor) = index < length sent
+IsSent sent (events.Tick actor tick) = ⊤
+IsSent sent (events.Install number) = ⊤
+IsSent sent (events.Crash actor) = ⊤
+IsSent sent (events.Junk actor bytes) = ⊥
+
+seat_taken : {S : Type 0} (act : Seated S × Did → Happened) (next : S → Given → S × List Out) (xs : List (Seated S)) (i : ℕ)
+    (what : Stimulus) → i < length xs → IsTaken (then_at act (step_at next (slice_get xs i) (Ok what)))
+seat_taken act next xs i what l =
+    let p = slice_get-some xs i l in
+    (_, ap (λ o. then_at act (step_at next o (Ok what))) p.1)
+
+module _ {S : Type 0} (m : Meaning S) (w : WorldState) (has : HasActors w) where
+  actor_taken : (a : Actor) (what : Stimulus) → IsActorOf w.config a → IsTaken (step_of m w a (Ok what))
+  actor_taken (actors.Replica i) what h =
+      seat_taken (at_replica w i) (replica.next m) w.replicas i what (omega (arith, h, has.replicas))
+  actor_taken (actors.Sequencer j) what h =
+      seat_taken (at_sequencer w j) sequencer.next w.sequencers j what (omega (arith, h, has.sequencers))
+  actor_taken (actors.Client k) what h = seat_taken (at_client w k) client.next w.clients k what (omega (arith, h, has.clients))
+  actor_taken actors.Controller what h = (_, refl)
+
+  brought : (a : Actor) (r : Result Stimulus Refusal) (what : Stimulus) → r ≡ Ok what → IsActorOf w.config a → IsTaken (step_of m w a r)
+  brought a r what is h = subst (λ (x : Result Stimulus Refusal). IsTaken (step_of m w a x)) (sym is) (actor_taken a what h)
+
+  datagram_brought : (index : ℕ) → index < length w.sent
+      → (s : Sent) × (datagram_at index (length w.sent) (slice_get w.sent index) ≡ Ok (Takes (Packet s.bytes)))
+  datagram_brought index l = let s = slice_get-some w.sent index l in (s.0, ap (datagram_at index (length w.sent)) s.1)
+
+  event_taken : (e : Event) → IsEventOf w.config e → IsSent w.sent e → IsTaken (step m w e)
+  unfolding step stimulus_of
+  event_taken (events.Submit n op) h sent = actor_taken (actors.Client n) (Takes (Submit op)) h
+  event_taken (events.Deliver index a) h sent = let s = datagram_brought index sent in brought a _ _ s.1 h
+  event_taken (events.Tick a t) h sent =
+      brought a (tick_if (takes_tick a t) t) (Takes (Ticked t)) (ap (λ (b : Bool). tick_if b t) h.1) h.0
+  event_taken (events.Install j) h sent =
+      brought actors.Controller (tick_if (nat_lt j w.config.sequencers) (ticks.Install j)) (Takes (Ticked (ticks.Install j)))
+      (ap (λ (b : Bool). tick_if b (ticks.Install j)) (lt-ltb j w.config.sequencers h)) tt
+  event_taken (events.Crash a) h sent = actor_taken a Crashes h
+  event_taken (events.Junk a bytes) h sent = absurd sent
+
+-- ---- events that are drawn
+
+-- an event of the configuration, in its ranges, and of a datagram that was sent
+record IsFine (sent : List Sent) (e : Event) : Type 0 where
+  of : IsEventOf drawn_config e
+  was_sent : IsSent sent e
+  line : HasLine e
+  fits : EventFits e
+
+drawn_below : (n : ℕ) (g : Lcg) → 1 ≤ n → (draw n g).0 < n
+unfolding draw
+drawn_below n g some = omega arith
+
+module _ (sent : List Sent) (some : 1 ≤ length sent) (all : (s : Sent) → Has sent s → IsDestOf drawn_config s.dest) where
+  put_fine : (g : Lcg) → IsFine sent (put_drawn g).0
+  put_fine g = record { of = drawn_below 4 g (omega arith); was_sent = tt; line = tt; fits = omega arith }
+
+  get_fine : (g : Lcg) → IsFine sent (get_drawn g).0
+  get_fine g = record { of = drawn_below 4 g (omega arith); was_sent = tt; line = tt; fits = omega arith }
+
+  taker_there : (dest : Dest) (g : Lcg) → IsDestOf drawn_config dest → IsActorOf drawn_config (taker_drawn dest g).0
+  taker_there Replicas g h = drawn_below 5 g (omega arith)
+  taker_there Sequencers g h = drawn_below 2 g (omega arith)
+  taker_there (One actor) g h = h
+
+  delivery_fine : (index : ℕ) (s : Sent) (o : Option Sent) (g : Lcg) → index < length sent → slice_get sent index ≡ Some s → o ≡ Some s
+      → IsFine sent (delivery_drawn index o g).0
+  delivery_fine index s None g l there is = absurd cc
+  delivery_fine index s (Some t) g l there is =
+      let same : s ≡ t = cc in
+      record {
+        of = taker_there t.dest g (subst (λ (x : Sent). IsDestOf drawn_config x.dest) same (all s (index, there)));
+        was_sent = l;
+        line = tt;
+        fits = tt;
+      }
+
+  deliver_fine : (g : Lcg) → IsFine sent (deliver_drawn sent g).0
+  deliver_fine g =
+      let back : ℕ = (back_drawn (length sent) g).0 in
+      let low : back < min (length sent) 32 = drawn_below (min (length sent) 32) g (omega arith) in
+      let within : length sent - 1 - back < length sent = omega arith in
+      let s = slice_get-some sent (length sent - 1 - back) within in
+      delivery_fine (length sent - 1 - back) s.0 (slice_get sent (length sent - 1 - back)) (back_drawn (length sent) g).1 within s.1 s.1
+
+  replica_tick_fine : (t : Tick) (g : Lcg) → HasWord t → ((i : ℕ) → takes_tick (actors.Replica i) t ≡ true) → IsFine sent (replica_tick_drawn t g).0
+  replica_tick_fine t g word takes = record { of = (drawn_below 5 g (omega arith), takes (draw 5 g).0); was_sent = tt; line = word; fits = tt }
+
+  retry_fine : (g : Lcg) → IsFine sent (retry_drawn g).0
+  retry_fine g = record { of = (drawn_below 4 g (omega arith), refl); was_sent = tt; line = tt; fits = tt }
+
+  crash_fine : (g : Lcg) → IsFine sent (crash_drawn g).0
+  crash_fine g = let low = drawn_below 2 g (omega arith) in record { of = omega (arith, low); was_sent = tt; line = tt; fits = tt }
+
+  install_fine : (g : Lcg) → IsFine sent (install_drawn g).0
+  install_fine g = record { of = drawn_below 2 g (omega arith); was_sent = tt; line = tt; fits = tt }
+
+  crash_or_fine : (b : Bool) (g : Lcg) → IsFine sent ((if b then crash_drawn else install_drawn) g).0
+  crash_or_fine true g = crash_fine g
+  crash_or_fine false g = install_fine g
+
+  rare_fine : (g : Lcg) → IsFine sent (rare_drawn g).0
+  rare_fine g = crash_or_fine ((draw 16 g).0 == 0) (draw 16 g).1
+
+  controller_fine : (t : Tick) → HasWord t → takes_tick actors.Controller t ≡ true → IsFine sent (events.Tick actors.Controller t)
+  controller_fine t word takes = record { of = (tt, takes); was_sent = tt; line = word; fits = tt }
+
+  -- the tests of the table in their order
+  table_fine : (a b d e f h i j k : Bool) (g : Lcg) → IsFine sent ((if a then put_drawn else if b then get_drawn
+      else if d then deliver_drawn sent else if e then replica_tick_drawn ticks.Resend else if f then replica_tick_drawn ticks.Sync
+      else if h then retry_drawn else if i then replica_tick_drawn ticks.Suspect
+      else if j then (λ (x : Lcg). (events.Tick actors.Controller ticks.Probe, x))
+      else if k then (λ (x : Lcg). (events.Tick actors.Controller ticks.Resend, x)) else rare_drawn) g).0
+  table_fine true b d e f h i j k g = put_fine g
+  table_fine false true d e f h i j k g = get_fine g
+  table_fine false false true e f h i j k g = deliver_fine g
+  table_fine false false false true f h i j k g = replica_tick_fine ticks.Resend g tt (λ n. refl)
+  table_fine false false false false true h i j k g = replica_tick_fine ticks.Sync g tt (λ n. refl)
+  table_fine false false false false false true i j k g = retry_fine g
+  table_fine false false false false false false true j k g = replica_tick_fine ticks.Suspect g tt (λ n. refl)
+  table_fine false false false false false false false true k g = controller_fine ticks.Probe tt refl
+  table_fine false false false false false false false false true g = controller_fine ticks.Resend tt refl
+  table_fine false false false false false false false false false g = rare_fine g
+
+  drawn_fine : (g : Lcg) → IsFine sent (event_drawn sent g).0
+  unfolding event_drawn
+  drawn_fine g =
+      let n : ℕ = (draw 256 g).0 in
+      table_fine (nat_le n 19) (nat_le n 27) (nat_le n 241) (nat_le n 247) (nat_le n 249) (nat_le n 251) (n == 252) (n == 253) (n == 254)
+      (draw 256 g).1
+
+-- ---- in a world that events led to
+
+-- the event is taken, in its ranges, of the configuration, and a schedule has a line for it
+pub record GoesOn {S : Type 0} (m : Meaning S) (w : WorldState) (e : Event) : Type 0 where
+  pub taken : IsTaken (step m w e)
+  pub fits : EventFits e
+  pub line : HasLine e
+  pub of : IsEventOf drawn_config e
+
+module _ {S : Type 0} (m : Meaning S) (short : ResultsShort m) where
+  reached : (es : List Event) (w : WorldState) (ls : List _) → Led m es w ls
+      → Reached m (drawn_config.replicas / 2) drawn_config (record { world = w; lines = ls })
+  reached es w ls led = events_reach m drawn_config short refl es (record { world = w; lines = ls }) led.fit led.is
+
+  has_actors : (h : Happened) → (r : Reached m (drawn_config.replicas / 2) drawn_config h) → HasActors h.world
+  has_actors h r = subst HasActors r.world (record {
+    replicas = r.at.stands.actors.replica_count;
+    sequencers = r.at.stands.actors.sequencer_count;
+    clients = r.at.stands.actors.client_count;
+  })
+
+  config_is : (h : Happened) → (r : Reached m (drawn_config.replicas / 2) drawn_config h) → h.world.config ≡ drawn_config
+  config_is h r = ap (λ (w : WorldState). w.config) (sym r.world) ∙ r.at.stands.same
+
+  pub taken_there : (es : List Event) (w : WorldState) (ls : List _) (e : Event) → Led m es w ls → IsEventOf drawn_config e → IsSent w.sent e
+      → IsTaken (step m w e)
+  taken_there es w ls e led of sent =
+      let r = reached es w ls led in
+      event_taken m w (has_actors _ r) e (subst (λ (k : Configuration). IsEventOf k e) (sym (config_is _ r)) of) sent
+
+  pub drawn_goes_on : (w : WorldState) (g : Lcg) → MayDraw m w → GoesOn m w (event_drawn w.sent g).0
+  drawn_goes_on w g may =
+      let r = reached may.events w may.lines may.led in
+      let fine = drawn_fine w.sent may.some (sent_to_actors m drawn_config (record { world = w; lines = may.lines }) r refl) g in
+      record {
+        taken = taken_there may.events w may.lines _ may.led fine.of fine.was_sent;
+        fits = fine.fits;
+        line = fine.line;
+        of = fine.of;
+      }

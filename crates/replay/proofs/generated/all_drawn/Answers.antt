@@ -1,0 +1,42 @@
+use Rattle.std.proofs.Common.{◌≡◌, ℕ, suc, ◌+◌, ◌-◌, List, [], ◌∷◌, ◌++◌, sym, ap, subst, ◌∙◌, arith}
+use Rattle.rand_pcg.specs.Lcg.{Lcg}
+use Rattle.schedule_text.specs.declared.event.Event.{Event}
+use Rattle.safety.proofs.Results.{results_short}
+use Rattle.replay.specs.Generating.{DrawnTo}
+use Rattle.replay.proofs.Drawn.{begins, drawn_next}
+use Rattle.replay.proofs.generated.all_drawn.Goals as goal
+
+pub loop-done-init : goal.loop-done-init
+loop-done-init g c =
+    let m = g.H.Host.meaning in
+    let b = c.in_ok-first.ensures in
+    let e : Event = c.in_ok-first.first.event in
+    let items : c.push.new.self.items ≡ e ∷ [] = c.in_ok-push.ensures.items ∙ ap (λ (xs : List Event). xs ++ e ∷ []) c.new-events.ensures.items in
+    record {
+      lines = b.are;
+      to = subst (λ (xs : List Event). DrawnTo m c.args.number c.args.count (c.args.count - 1) xs c.first_drawn.new.world.state
+          c.generator-words.result b.are) (sym items)
+          (subst (λ (h : Lcg). DrawnTo m c.args.number c.args.count (c.args.count - 1) (e ∷ []) c.first_drawn.new.world.state h b.are)
+          (sym c.generator-words.ensures)
+          (begins m c.args.number c.args.count e c.first_drawn.new.world.state b.are c.requires b.event b.happened));
+    }
+
+pub loop-done-preserved : goal.loop-done-preserved
+loop-done-preserved g c =
+    let m = g.H.Host.meaning in
+    let short = results_short m g.H.Host.is_sound g.met.H.Host.opens_sound g.met.H.Host.stays_sound g.met.H.Host.answers_short in
+    let k = c.loop-done.invariant in
+    let d = c.in_ok-drawn.ensures in
+    let e : Event = c.in_ok-drawn.drawn.event in
+    let left : ℕ = c.args.count - (c.loop-done._done + 1) in
+    let more : c.args.count - c.loop-done._done ≡ suc left = omega (arith, c.loop-done-test.true) in
+    let to : DrawnTo m c.args.number c.args.count (suc left) c.loop-done.events.items c.loop-done.world.state c.loop-done.words k.lines =
+    subst (λ (n : ℕ). DrawnTo m c.args.number c.args.count n c.loop-done.events.items c.loop-done.world.state c.loop-done.words k.lines) more
+    k.to in
+    record {
+      lines = k.lines ++ d.are;
+      to = subst (λ (xs : List Event). DrawnTo m c.args.number c.args.count left xs c.next_drawn.new.world.state
+          c.next_drawn.new.words (k.lines ++ d.are)) (sym c.in_ok-push-2.ensures.items)
+          (drawn_next m short c.args.number c.args.count left c.loop-done.events.items c.loop-done.world.state c.loop-done.words k.lines e
+          c.next_drawn.new.world.state c.next_drawn.new.words d.are to d.draws);
+    }

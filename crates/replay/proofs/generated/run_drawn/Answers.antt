@@ -1,0 +1,45 @@
+use Rattle.std.proofs.Common.{◌≡◌, ℕ, suc, ◌+◌, ◌-◌, [], ◌∷◌, ◌++◌, sym, subst, ◌∙◌, arith}
+use Rattle.rand_pcg.specs.Lcg.{Lcg}
+use Rattle.schedule_text.specs.declared.event.Event.{Event}
+use Rattle.safety.proofs.Results.{results_short}
+use Rattle.world.specs.LineCounts.{is_send, is_accept}
+use Rattle.replay.specs.Generating.{DrawnTo}
+use Rattle.replay.proofs.Drawn.{begins, drawn_next, count_by_both}
+use Rattle.replay.proofs.generated.run_drawn.Goals as goal
+
+pub loop-done-init : goal.loop-done-init
+loop-done-init g c =
+    let m = g.H.Host.meaning in
+    let b = c.in_ok-first.ensures in
+    let e : Event = c.in_ok-first.first.event in
+    record {
+      events = e ∷ [];
+      lines = b.are;
+      to = subst (λ (h : Lcg). DrawnTo m c.args.number c.args.count (c.args.count - 1) (e ∷ []) c.first_drawn.new.world.state h b.are)
+          (sym c.generator-words.ensures)
+          (begins m c.args.number c.args.count e c.first_drawn.new.world.state b.are c.requires b.event b.happened);
+      sends_are = c.from-sends.ensures ∙ b.shown.sends;
+      accepts_are = c.from-accepts.ensures ∙ b.shown.accepts;
+    }
+
+pub loop-done-preserved : goal.loop-done-preserved
+loop-done-preserved g c =
+    let m = g.H.Host.meaning in
+    let short = results_short m g.H.Host.is_sound g.met.H.Host.opens_sound g.met.H.Host.stays_sound g.met.H.Host.answers_short in
+    let k = c.loop-done.invariant in
+    let d = c.in_ok-drawn.ensures in
+    let e : Event = c.in_ok-drawn.drawn.event in
+    let left : ℕ = c.args.count - (c.loop-done._done + 1) in
+    let more : c.args.count - c.loop-done._done ≡ suc left = omega (arith, c.loop-done-test.true) in
+    let to : DrawnTo m c.args.number c.args.count (suc left) k.events c.loop-done.world.state c.loop-done.words k.lines =
+    subst (λ (n : ℕ). DrawnTo m c.args.number c.args.count n k.events c.loop-done.world.state c.loop-done.words k.lines) more k.to in
+    let s = count_by_both is_send k.lines d.are in
+    let a = count_by_both is_accept k.lines d.are in
+    record {
+      events = k.events ++ e ∷ [];
+      lines = k.lines ++ d.are;
+      to = drawn_next m short c.args.number c.args.count left k.events c.loop-done.world.state c.loop-done.words k.lines e
+          c.next_drawn.new.world.state c.next_drawn.new.words d.are to d.draws;
+      sends_are = omega (arith, k.sends_are, c.in_ok-sends.ensures, d.shown.sends, s);
+      accepts_are = omega (arith, k.accepts_are, c.in_ok-accepts.ensures, d.shown.accepts, a);
+    }

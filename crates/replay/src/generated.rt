@@ -1,0 +1,201 @@
+//! The schedule that is drawn from a number, and its run.
+
+ghost use Rattle.std.specs.Prelude.{◌≡◌, ◌≤◌, ◌+◌, ◌++◌, IfOk, OnOk};
+ghost use Rattle.kv_host.specs.Kv.{kv_meaning};
+ghost use Rattle.outside.specs.Causes.{HasCauseFor};
+ghost use Rattle.world.specs.Actors.{Happens};
+ghost use Rattle.world.specs.LineCounts.{Shows};
+ghost use Rattle.world.specs.WorldSteps.{opening, step};
+ghost use Rattle.replay.specs.Generated.{
+  drawn_config,
+  drawn_events,
+  drawn_summary,
+  first_event,
+  RunsFrom,
+  WritesText,
+};
+ghost use Rattle.replay.specs.Generating.{IsTaken, MayDraw, LedAll, DrawsShown, BeginsShown, KeepsAll};
+
+use crate::drawing::{event, generator, get_of};
+use crate::error::GenError;
+use crate::summary::put_summary;
+use kv_host::KvHost;
+use nop_types::{Config, Host, NoMemory};
+use outside::{Sink, WriteError, write_all};
+use rand_pcg::Lcg64Xsh32;
+use schedule_text::Event;
+use std::alloc::Global;
+use world::{Lines, StepError, World};
+
+/// The most events of a schedule that is drawn.
+pub const MAX_DRAWN_EVENTS: u32 = 100_000;
+
+fn drawn_config() -> Config
+    ensures { result ≡ drawn_config }
+{
+    match Config::new(5, 2, 4) {
+        Some(config) => config,
+        None => unreachable!(),
+    }
+}
+
+/// An event that is not refused happens.
+fn happen<H: Host>(world: &mut World<H>, event: &Event) -> Result<Lines, NoMemory>
+    requires { IsTaken (step H.meaning world.old.state event.now) }
+    ensures { IfOk result (Happens (step H.meaning world.old.state event.now) world.new.state) }
+{
+    match world.step(event) {
+        Ok(lines) => Ok(lines),
+        Err(StepError::NoMemory) => Err(NoMemory),
+        Err(_) => unreachable!(),
+    }
+}
+
+/// An event that happened, and its lines.
+#[derive(Drop)]
+struct Drawn {
+    event: Event,
+    lines: Lines,
+}
+
+/// The first event, which is the same for each number.
+fn first_drawn<H: Host>(alloc: Global, world: &mut World<H>) -> Result<Drawn, NoMemory>
+    requires { world.old.state ≡ opening drawn_config }
+    ensures { IfOk result (λ d. BeginsShown H.meaning d.event world.new.state d.lines) }
+{
+    let event = Event::Submit(0, get_of(alloc, b'a')?);
+    let lines = happen(world, &event)?;
+    Ok(Drawn { event, lines })
+}
+
+/// The next event.
+fn next_drawn<H: Host>(
+    alloc: Global,
+    words: &mut Lcg64Xsh32,
+    world: &mut World<H>,
+) -> Result<Drawn, NoMemory>
+    requires { MayDraw H.meaning world.old.state }
+    ensures { IfOk result (λ d. DrawsShown H.meaning world.old.state words.old d.event
+        world.new.state words.new d.lines) }
+{
+    let event = event(alloc, words, world)?;
+    let lines = happen(world, &event)?;
+    Ok(Drawn { event, lines })
+}
+
+/// All events of a number.
+fn all_drawn<H: Host>(alloc: Global, number: u64, count: u32) -> Result<Vec<Event>, NoMemory>
+    requires { 1 ≤ count }
+    ensures { IfOk result (λ v. KeepsAll H.meaning number count v.items) }
+{
+    let mut words = generator(number);
+    let mut world: World<H> = World::new(alloc, drawn_config())?;
+    let mut events = Vec::new(alloc);
+    let first = first_drawn(alloc, &mut world)?;
+    events.push(first.event)?;
+    for _done in 1..count {
+        let drawn = next_drawn(alloc, &mut words, &mut world)?;
+        events.push(drawn.event)?;
+    }
+    Ok(events)
+}
+
+/// The world after all events of a number, and how many of their lines are sends and accepts.
+#[derive(Drop)]
+pub struct DrawnRun<H: Host> {
+    pub world: World<H>,
+    pub sends: u64,
+    pub accepts: u64,
+}
+
+/// A sum past its type answers NoMemory, since no memory holds so many lines.
+fn added(sum: u64, more: u32) -> Result<u64, NoMemory>
+    ensures { IfOk result (λ n. n ≡ sum + more) }
+{
+    match sum.checked_add(u64::from(more)) {
+        Some(n) => Ok(n),
+        None => Err(NoMemory),
+    }
+}
+
+/// The run of all events of a number, none of which is kept.
+fn run_drawn<H: Host>(alloc: Global, number: u64, count: u32) -> Result<DrawnRun<H>, NoMemory>
+    requires { 1 ≤ count }
+    ensures { IfOk result (λ r. LedAll H.meaning number count r.world.state r.sends r.accepts) }
+{
+    let mut words = generator(number);
+    let mut world: World<H> = World::new(alloc, drawn_config())?;
+    let first = first_drawn(alloc, &mut world)?;
+    let mut sends = u64::from(first.lines.sends);
+    let mut accepts = u64::from(first.lines.accepts);
+    for _done in 1..count {
+        let drawn = next_drawn(alloc, &mut words, &mut world)?;
+        sends = added(sends, drawn.lines.sends)?;
+        accepts = added(accepts, drawn.lines.accepts)?;
+    }
+    Ok(DrawnRun {
+        world,
+        sends,
+        accepts,
+    })
+}
+
+/// The configuration and the events of a schedule that is drawn from a number, from 1 to `MAX_DRAWN_EVENTS` of them. None of them is
+/// refused.
+pub fn events(alloc: Global, number: u64, count: u32) -> Result<(Config, Vec<Event>), NoMemory>
+    requires least { 1 ≤ count }
+    requires limit { count ≤ MAX_DRAWN_EVENTS }
+    ensures config { IfOk result (λ p. p.0 ≡ drawn_config) }
+    ensures events { IfOk result (λ p. p.1.items ≡ drawn_events kv_meaning number count) }
+    ensures run { IfOk result (λ p. RunsFrom kv_meaning p.0 p.1.items) }
+{
+    let events = all_drawn::<KvHost>(alloc, number, count)?;
+    Ok((drawn_config(), events))
+}
+
+fn summarise<H: Host>(
+    alloc: Global,
+    number: u64,
+    count: u32,
+    to: &mut Vec<u8>,
+) -> Result<(), NoMemory>
+    requires { 1 ≤ count }
+    ensures { OnOk result (to.new.items ≡ to.old.items ++ drawn_summary H.meaning number count) }
+{
+    let run: DrawnRun<H> = run_drawn(alloc, number, count)?;
+    put_summary(number, count, &run, to)
+}
+
+#[tactic(auto, using(crate::proofs::Fronts::part_of_front))]
+fn write_text<K: Sink>(text: &[u8], sink: &mut K) -> Result<(), GenError>
+    ensures writes { WritesText (K.held sink.old) (K.held sink.new) text.now result }
+    ensures cause { HasCauseFor (K.fault_count sink.old) (K.fault_count sink.new)
+        GenError.WriteFault result }
+{
+    match write_all(sink, text) {
+        Ok(()) => Ok(()),
+        Err(WriteError::Failed) => Err(GenError::WriteFault),
+        Err(WriteError::NoMemory) => Err(GenError::NoMemory),
+    }
+}
+
+/// Writes the summary of the run of a schedule that is drawn from a number, with from 1 to `MAX_DRAWN_EVENTS` events. What was written
+/// before an error stays.
+#[tactic(auto, using(crate::proofs::Summaries::unwritten))]
+pub fn generate<K: Sink>(
+    alloc: Global,
+    number: u64,
+    count: u32,
+    sink: &mut K,
+) -> Result<(), GenError>
+    requires least { 1 ≤ count }
+    requires limit { count ≤ MAX_DRAWN_EVENTS }
+    ensures writes { WritesText (K.held sink.old) (K.held sink.new)
+        (drawn_summary kv_meaning number count) result }
+    ensures cause { HasCauseFor (K.fault_count sink.old) (K.fault_count sink.new)
+        GenError.WriteFault result }
+{
+    let mut text = Vec::new(alloc);
+    summarise::<KvHost>(alloc, number, count, &mut text)?;
+    write_text(&text, sink)
+}

@@ -1,0 +1,83 @@
+//! The summary of a drawn schedule.
+
+ghost use Rattle.std.specs.Prelude.{◌≡◌, ◌++◌, OnOk, length, count_by};
+ghost use Rattle.world.specs.WorldSteps.{main_view, main_log, history};
+ghost use Rattle.replay.specs.Generated.{counted, is_noop, gen_line, sends_line, view_line, members_line, tally_text};
+
+use crate::generated::DrawnRun;
+use nop_types::{Entry, Host, NoMemory, View};
+
+fn put_counted(text: &str, n: u64, to: &mut Vec<u8>) -> Result<(), NoMemory>
+    ensures { OnOk result (to.new.items ≡ to.old.items ++ counted text.now n) }
+{
+    to.extend_from_slice(text.as_bytes())?;
+    let mut buffer = itoa::Buffer::new();
+    to.extend_from_slice(buffer.format(n).as_bytes())?;
+    Ok(())
+}
+
+#[tactic(auto, unfolding(crate::specs::Generated::gen_line))]
+fn put_gen(number: u64, count: u32, to: &mut Vec<u8>) -> Result<(), NoMemory>
+    ensures { OnOk result (to.new.items ≡ to.old.items ++ gen_line number count) }
+{
+    put_counted("gen ", number, to)?;
+    put_counted(" ", u64::from(count), to)?;
+    to.push(b'\n')?;
+    Ok(())
+}
+
+#[tactic(auto, unfolding(crate::specs::Generated::sends_line))]
+fn put_sends(sends: u64, accepts: u64, to: &mut Vec<u8>) -> Result<(), NoMemory>
+    ensures { OnOk result (to.new.items ≡ to.old.items ++ sends_line sends accepts) }
+{
+    put_counted("sends ", sends, to)?;
+    put_counted(" accepts ", accepts, to)?;
+    to.push(b'\n')?;
+    Ok(())
+}
+
+#[tactic(auto, unfolding(crate::specs::Generated::view_line))]
+fn put_view(view: View, len: usize, noops: usize, to: &mut Vec<u8>) -> Result<(), NoMemory>
+    ensures { OnOk result (to.new.items ≡ to.old.items ++ view_line view len noops) }
+{
+    put_counted("view ", u64::from(view.leader), to)?;
+    put_counted(" ", u64::from(view.session), to)?;
+    put_counted(" length ", len as u64, to)?;
+    put_counted(" noops ", noops as u64, to)?;
+    to.push(b'\n')?;
+    Ok(())
+}
+
+#[tactic(auto, unfolding(crate::specs::Generated::members_line))]
+fn put_members(members: usize, to: &mut Vec<u8>) -> Result<(), NoMemory>
+    ensures { OnOk result (to.new.items ≡ to.old.items ++ members_line members) }
+{
+    put_counted("history ", members as u64, to)?;
+    to.push(b'\n')?;
+    Ok(())
+}
+
+fn noops(log: &[Entry]) -> usize
+    ensures { result ≡ count_by is_noop log.now }
+{
+    log.iter().filter(|e| matches!(e, Entry::NoOp)).count()
+}
+
+/// Appends the summary of a run.
+#[tactic(auto, unfolding(crate::specs::Generated::tally_text))]
+pub fn put_summary<H: Host>(
+    number: u64,
+    count: u32,
+    run: &DrawnRun<H>,
+    to: &mut Vec<u8>,
+) -> Result<(), NoMemory>
+    ensures { OnOk result (to.new.items ≡ to.old.items
+        ++ tally_text number count run.now.world.state run.now.sends run.now.accepts) }
+{
+    let log = run.world.main_log();
+    let history = run.world.history()?;
+    put_gen(number, count, to)?;
+    put_sends(run.sends, run.accepts, to)?;
+    put_view(run.world.main_view(), log.len(), noops(log), to)?;
+    put_members(history.len(), to)
+}
