@@ -1,0 +1,60 @@
+use nop_types::NoMemory as OutOfMemory;
+use outside::WriteError;
+use schedule_text::NextError;
+use std::alloc::{AllocError, AllocFailed};
+
+/// Why no picture was drawn, or not all of it.
+#[derive(Clone, Copy, Debug, PartialEq, Eq)]
+pub enum DrawError {
+    /// The line with this number, counted from 1, breaks this rule first. Where it delivers a datagram that was not sent,
+    /// also the datagram's index and how many were sent.
+    Malformed {
+        line: u32,
+        rule: u8,
+        index_sent: Option<(u64, u64)>,
+    },
+    ReadFault,
+    WriteFault,
+    NoMemory,
+}
+
+impl From<OutOfMemory> for DrawError {
+    fn from(_e: OutOfMemory) -> DrawError {
+        DrawError::NoMemory
+    }
+}
+
+impl From<AllocError> for DrawError {
+    fn from(_e: AllocError) -> DrawError {
+        DrawError::NoMemory
+    }
+}
+
+impl<T: Drop> From<AllocFailed<T>> for DrawError {
+    fn from(_e: AllocFailed<T>) -> DrawError {
+        DrawError::NoMemory
+    }
+}
+
+impl From<NextError> for DrawError {
+    fn from(e: NextError) -> DrawError {
+        match e {
+            NextError::BadLine { line, rule } => DrawError::Malformed {
+                line,
+                rule,
+                index_sent: None,
+            },
+            NextError::ReadFault => DrawError::ReadFault,
+            NextError::NoMemory => DrawError::NoMemory,
+        }
+    }
+}
+
+impl From<WriteError> for DrawError {
+    fn from(e: WriteError) -> DrawError {
+        match e {
+            WriteError::Failed => DrawError::WriteFault,
+            WriteError::NoMemory => DrawError::NoMemory,
+        }
+    }
+}

@@ -1,0 +1,55 @@
+//! The program: a schedule on standard input, a picture of its run as SVG on standard output.
+#![tactic(auto)]
+
+mod datagrams;
+mod error;
+mod events;
+mod flights;
+mod lanes;
+mod layout;
+mod legend;
+mod naming;
+mod picture;
+mod recorder;
+mod run;
+mod said;
+mod standing;
+mod status;
+mod style;
+mod svg;
+
+use error::DrawError;
+use kv_host::KvHost;
+use run::{complaint, run};
+use standard_io::{StandardIn, StandardOut};
+use status::{Status, status_of};
+use std::process::ExitCode;
+
+const USAGE_LINE: &str = "usage: spacetime < SCHEDULE > PICTURE";
+
+/// Says on standard error why there is no picture.
+fn complain(rt: &HostRuntime, error: DrawError) {
+    if let Ok(line) = complaint(rt.alloc(), error) {
+        let _ = rt.eprintln(line.as_str());
+    }
+}
+
+fn main(rt: HostRuntime) -> ExitCode {
+    let words = match std::env::args(&rt) {
+        Ok(args) => args.count(),
+        Err(_) => 2,
+    };
+    if words > 1 {
+        let _ = rt.eprintln(USAGE_LINE);
+        return ExitCode::from(Status::Usage as u8);
+    }
+    let mut source = StandardIn::new(rt.reader());
+    let mut sink = StandardOut::new(std::io::writer(&rt));
+    match run::<KvHost, _, _>(rt.alloc(), &mut source, &mut sink) {
+        Ok(()) => ExitCode::from(Status::Done as u8),
+        Err(error) => {
+            complain(&rt, error);
+            ExitCode::from(status_of(error) as u8)
+        }
+    }
+}

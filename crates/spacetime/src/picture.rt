@@ -1,0 +1,114 @@
+//! A run as a picture: lanes, rows, marks and arrows as plain data.
+
+use nop_types::Actor;
+
+/// What happened to an actor in a step, where it shows.
+#[derive(Clone, Copy, Debug, PartialEq, Eq)]
+pub enum Mark {
+    /// A client began with a request.
+    Submitted,
+    /// A client took a result.
+    Accepted,
+    /// A client had an open request, or an actor had crashed.
+    Refused,
+    /// A sequencer stamped a request.
+    Stamped,
+    /// The controller orders a session, or a sequencer confirms one.
+    Session,
+    /// A request stands in a slot of a replica's log.
+    Logged,
+    /// A NO-OP stands in a slot of a replica's log.
+    NoOp,
+    /// A replica entered a view and waits for its start.
+    Entered,
+    /// A replica takes part in a new view.
+    Started,
+    /// A replica's sync point moved.
+    Synced,
+    Crashed,
+    /// Something was sent, and nothing else shows.
+    Acted,
+    /// Nothing shows.
+    Idle,
+}
+
+/// A mark with its label.
+#[derive(Debug, Drop)]
+pub struct Note {
+    pub mark: Mark,
+    pub text: String,
+}
+
+/// One event: the number of its line in the schedule, the actor whose step it is, its words, what was delivered or
+/// submitted, and what happened, at least one note.
+#[derive(Debug, Drop)]
+pub struct Row {
+    pub line: u32,
+    pub actor: Actor,
+    pub event: String,
+    pub detail: String,
+    pub notes: Vec<Note>,
+}
+
+/// What a datagram is for.
+#[derive(Clone, Copy, Debug, PartialEq, Eq)]
+pub enum Purpose {
+    /// A request, stamped or not.
+    Request,
+    Reply,
+    /// A part of a message between replicas.
+    Peer,
+    /// Installing and pinging sequencers.
+    Session,
+}
+
+/// A datagram that was delivered: from the actor and the row that sent it to those that took it, and whether that actor had
+/// taken it before. Rows count from 0.
+#[derive(Clone, Copy, Debug)]
+pub struct Arrow {
+    pub purpose: Purpose,
+    pub again: bool,
+    pub from: Actor,
+    pub sent: usize,
+    pub to: Actor,
+    pub taken: usize,
+}
+
+/// Datagrams of one row that an actor never got: the first one's text, and how many more there are.
+#[derive(Debug, Drop)]
+pub struct Loss {
+    pub purpose: Purpose,
+    pub from: Actor,
+    pub sent: usize,
+    pub to: Actor,
+    pub text: String,
+    pub more: u32,
+}
+
+/// How a replica stands in its view.
+#[derive(Clone, Copy, Debug, PartialEq, Eq)]
+pub enum Role {
+    Follows,
+    Leads,
+    /// The view has not started at this replica.
+    Waits,
+}
+
+/// A stretch of an actor's lane, from a row or the top to a row or the bottom.
+#[derive(Clone, Copy, Debug)]
+pub struct Stretch {
+    pub actor: Actor,
+    pub role: Role,
+    pub from: Option<usize>,
+    pub to: Option<usize>,
+}
+
+/// A run as a picture. Lanes stand in their order from left to right.
+#[derive(Debug, Drop)]
+pub struct Picture {
+    pub lanes: Vec<Actor>,
+    pub rows: Vec<Row>,
+    pub arrows: Vec<Arrow>,
+    pub losses: Vec<Loss>,
+    pub stretches: Vec<Stretch>,
+}

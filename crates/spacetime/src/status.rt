@@ -1,0 +1,24 @@
+use crate::error::DrawError;
+
+/// How the program ends; the number is its exit status, the same as that of `nopaxos replay`.
+#[derive(Clone, Copy, Debug, PartialEq, Eq)]
+pub enum Status {
+    /// The picture was written.
+    Done = 0,
+    /// A line of the schedule is bad.
+    Malformed = 1,
+    /// There are words on the command line.
+    Usage = 2,
+    ReadFault = 3,
+    WriteFault = 4,
+    NoMemory = 6,
+}
+
+pub fn status_of(error: DrawError) -> Status {
+    match error {
+        DrawError::Malformed { .. } => Status::Malformed,
+        DrawError::ReadFault => Status::ReadFault,
+        DrawError::WriteFault => Status::WriteFault,
+        DrawError::NoMemory => Status::NoMemory,
+    }
+}

@@ -1,0 +1,85 @@
+//! Standard input as a source and standard output as a sink.
+#![tactic(auto)]
+
+ghost use Rattle.std.specs.Prelude.{◌≡◌};
+
+use outside::{Failed, Sink, Source, WriteError};
+use std::io::{Read, Write};
+
+/// A reader of std, with a count of its errors.
+#[derive(Drop)]
+pub struct StandardIn<R: Read + Drop> {
+    inner: R,
+    faults: u64,
+}
+
+impl<R: Read + Drop> StandardIn<R> {
+    /// No fault so far.
+    pub fn new(inner: R) -> StandardIn<R>
+        ensures { result ≡ record { inner = inner; faults = 0 } }
+    {
+        StandardIn { inner, faults: 0 }
+    }
+}
+
+impl<R: Read + Drop> Source for StandardIn<R> {
+    ghost left = { λ s. R.remaining s.inner };
+
+    ghost fault_count = { λ s. s.faults };
+
+    fn read(&mut self, buf: &mut [u8]) -> Result<usize, Failed> {
+        match self.inner.read(buf) {
+            Ok(count) => Ok(count),
+            Err(_) => {
+                self.faults = self.faults.saturating_add(1);
+                Err(Failed)
+            }
+        }
+    }
+
+    fn faults(&self) -> u64 {
+        self.faults
+    }
+}
+
+/// A writer of std, with a count of its errors. A write that takes nothing of a piece is one.
+#[derive(Drop)]
+pub struct StandardOut<W: Write + Drop> {
+    inner: W,
+    faults: u64,
+}
+
+impl<W: Write + Drop> StandardOut<W> {
+    /// No fault so far.
+    pub fn new(inner: W) -> StandardOut<W>
+        ensures { result ≡ record { inner = inner; faults = 0 } }
+    {
+        StandardOut { inner, faults: 0 }
+    }
+}
+
+impl<W: Write + Drop> Sink for StandardOut<W> {
+    ghost held = { λ s. W.contents s.inner };
+
+    ghost fault_count = { λ s. s.faults };
+
+    fn write(&mut self, piece: &[u8]) -> Result<usize, WriteError> {
+        match self.inner.write(piece) {
+            Ok(count) => {
+                if count == 0 && !piece.is_empty() {
+                    self.faults = self.faults.saturating_add(1);
+                    return Err(WriteError::Failed);
+                }
+                Ok(count)
+            }
+            Err(_) => {
+                self.faults = self.faults.saturating_add(1);
+                Err(WriteError::Failed)
+            }
+        }
+    }
+
+    fn faults(&self) -> u64 {
+        self.faults
+    }
+}
