@@ -3,8 +3,8 @@ ghost use Rattle.outside.specs.Memory.{IsFresh};
 
 use nop_types::{Bytes, NoMemory};
 use outside::{
-    Clock, ClockMem, Failing, Link, LinkError, LinkMem, PollAnswer, Ports, PortsMem, ReadMem, Sink,
-    Source, WriteError, WriteMem, write_all,
+    CallPlan, Clock, ClockMem, Failing, Link, LinkError, LinkMem, PollAnswer, Ports, PortsMem,
+    ReadMem, Sink, Source, WriteError, WriteMem, write_all,
 };
 use std::alloc::Global;
 use std::test::Fail;
@@ -63,7 +63,7 @@ fn sinks(rt: HostRuntime) -> Result<(), Fail> {
 
 /// A link that fails once, gives a datagram, and loses what is sent first.
 fn short_link(alloc: Global) -> Result<LinkMem<Failing>, NoMemory>
-    ensures { IfOk result IsFresh }
+    ensures { IfOk result (IsFresh ⟦<Failing as CallPlan>⟧.fault_count) }
 {
     let mut answers = Vec::new(alloc);
     answers.push(PollAnswer::Failure)?;

@@ -2,6 +2,7 @@ use fragments::{CutError, Reassembly, cut};
 use nop_types::{Bytes, Datagram, Dest, Fragment, Out, Outbox};
 use oum_codec::decode;
 use std::alloc::Global;
+use std::process::Abort;
 use std::test::Fail;
 
 /// How many bytes a message has, how many fragments it is cut into, and how many bytes the datagram of the last one has.
@@ -113,22 +114,52 @@ fn messages_that_are_not_cut(rt: HostRuntime) -> Result<(), Fail> {
     Ok(())
 }
 
-#[test]
-fn fragments_that_arrive(rt: HostRuntime) -> Result<(), Fail> {
-    let mut kept = Reassembly::new(rt.alloc(), 3)?;
-    for (replica, message, index, count, len, gives) in ARRIVALS {
+/// Takes fragments in order, and compares what each of them completes.
+fn arrive(
+    rt: &impl Abort,
+    alloc: Global,
+    kept: &mut Reassembly,
+    arrivals: &[Arrival],
+) -> Result<(), Fail> {
+    for (replica, message, index, count, len, gives) in arrivals {
         let fragment = Fragment {
-            replica,
-            message,
-            index,
-            count,
-            payload: Bytes::from_vec(filled(rt.alloc(), len)?),
+            replica: *replica,
+            message: *message,
+            index: *index,
+            count: *count,
+            payload: Bytes::from_vec(filled(alloc, *len)?),
         };
-        let given = match taken(&mut kept, &fragment)? {
+        let given = match taken(kept, &fragment)? {
             Some(bytes) => bytes.as_slice().len(),
             None => 0,
         };
-        assert_eq!(rt; given, gives, "{index} of {count} with {len} bytes");
+        assert_eq!(rt; given, *gives, "{index} of {count} with {len} bytes");
     }
+    Ok(())
+}
+
+#[test]
+fn fragments_that_arrive(rt: HostRuntime) -> Result<(), Fail> {
+    let mut kept = Reassembly::new(rt.alloc(), 3)?;
+    arrive(&rt, rt.alloc(), &mut kept, &ARRIVALS)
+}
+
+/// Five messages that begin, of which the first is dropped, and that one once more, which drops the second.
+const DROPPED: [Arrival; 7] = [
+    (1, 1, 0, 2, 1400, 0),
+    (1, 2, 0, 2, 1400, 0),
+    (1, 3, 0, 2, 1400, 0),
+    (1, 4, 0, 2, 1400, 0),
+    (1, 5, 0, 2, 1400, 0),
+    (1, 1, 1, 2, 1, 0),
+    (1, 1, 0, 2, 1400, 1401),
+];
+
+#[test]
+fn unfinished_messages_are_few(rt: HostRuntime) -> Result<(), Fail> {
+    let mut kept = Reassembly::new(rt.alloc(), 3)?;
+    arrive(&rt, rt.alloc(), &mut kept, &DROPPED)?;
+    assert_eq!(rt; kept.held(1), 4200);
+    assert_eq!(rt; (kept.held(0), kept.held(3)), (0, 0));
     Ok(())
 }

@@ -30,7 +30,7 @@ fn state<H: Host>(alloc: Global, core: &Replica<H>) -> Result<String, Fail> {
 }
 
 /// Three replicas to which nothing has come.
-fn opened<H: Host>(alloc: Global) -> Result<Vec<Replica<H>>, Fail> {
+pub fn opened<H: Host>(alloc: Global) -> Result<Vec<Replica<H>>, Fail> {
     let config = Config::new(3, 2, 2).ok_or("no such group")?;
     let mut cores = Vec::new(alloc);
     for number in 0..config.replicas() {
@@ -40,7 +40,7 @@ fn opened<H: Host>(alloc: Global) -> Result<Vec<Replica<H>>, Fail> {
 }
 
 /// Plays a script with three replicas, and compares their states at the end.
-fn play_three<H: Host>(
+pub fn play_three<H: Host>(
     rt: &impl Abort,
     alloc: Global,
     script: &str,
@@ -69,7 +69,7 @@ fn a_replica_has_three_timers(rt: HostRuntime) -> Result<(), Fail> {
 }
 
 /// A replica to which nothing has come.
-const OPENING: &str = "Normal (0, 1, 0, 1) (0, 0) []";
+pub const OPENING: &str = "Normal (0, 1, 0, 1) (0, 0) []";
 
 /// While its gap waits, a leader neither replies nor synchronises nor begins another gap. It tells the gap again, on a tick and to whom
 /// asks for the slot. A vote for another slot, made by hand, changes nothing, and neither does a late one. After the right one slots 2

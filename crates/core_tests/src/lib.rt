@@ -1,5 +1,5 @@
-//! Tests of the parts of a replica, of the cores, of runs of them, and of the key-value service, by the public calls of the crates
-//! below. It holds nothing else.
+//! Tests of the parts of a replica, of the cores, and of the key-value service, by the public calls of the crates below. It holds
+//! nothing else.
 #![tactic(auto)]
 
 #[cfg(test)]
@@ -10,6 +10,8 @@ mod cores;
 mod execution;
 #[cfg(test)]
 mod groups;
+#[cfg(test)]
+mod hostile;
 #[cfg(test)]
 mod kv;
 #[cfg(test)]
@@ -22,5 +24,3 @@ mod rows;
 mod scripts;
 #[cfg(test)]
 mod votes;
-#[cfg(test)]
-mod worlds;

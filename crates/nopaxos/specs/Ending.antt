@@ -3,7 +3,8 @@ use Rattle.std.specs.Prelude.{ℕ, List, Option, ⊤}
 use Rattle.std.specs.Io.KnownBytes.{Appends}
 use Rattle.nop_types.specs.Meaning.{Meaning}
 use Rattle.outside.specs.Fronts.{AppendsFront}
-use Rattle.replay.specs.Outcome.{IsDone, IsMalformed, IsInterrupted, WroteFront}
+use Rattle.replay.specs.Generated.{drawn_summary}
+use Rattle.replay.specs.Outcome.{IsDone, IsMalformed, IsInterrupted, LeavesSome, WroteFront}
 use Rattle.nopaxos.specs.Words.{usage_line}
 use Rattle.nopaxos.specs.declared.status.Status.{Status}
 use Rattle.nopaxos.specs.declared.status.Status.TheVariants.{Done, Malformed, Usage, ReadFault, WriteFault, LinkFault, NoMemory, Unanswered}
@@ -26,6 +27,17 @@ module _ {S : Type 0} (m : Meaning S) where
   ReplayEnds bytes left before now NoMemory = WroteFront m bytes before now
   ReplayEnds bytes left before now Unanswered = ⊥
 
+  -- how a generation ended: the summary was written, or a front of it that is not all
+  abbrev pub GenEnds : ℕ → ℕ → Option (List ℕ) → Option (List ℕ) → Status → Type 0
+  GenEnds number count before now Done = Appends before now (drawn_summary m number count)
+  GenEnds number count before now Malformed = ⊥
+  GenEnds number count before now Usage = ⊥
+  GenEnds number count before now ReadFault = ⊥
+  GenEnds number count before now WriteFault = LeavesSome before now (drawn_summary m number count)
+  GenEnds number count before now LinkFault = ⊥
+  GenEnds number count before now NoMemory = LeavesSome before now (drawn_summary m number count)
+  GenEnds number count before now Unanswered = ⊥
+
 -- the usage line was written, or only a front of it
 abbrev pub UsageEnds : Option (List ℕ) → Option (List ℕ) → Status → Type 0
 UsageEnds before now Done = ⊥
@@ -47,6 +59,17 @@ EndsWithoutFault WriteFault = ⊥
 EndsWithoutFault LinkFault = ⊥
 EndsWithoutFault NoMemory = ⊤
 EndsWithoutFault Unanswered = ⊥
+
+-- how a generation ends where no device failed
+abbrev pub GeneratesWithoutFault : Status → Type 0
+GeneratesWithoutFault Done = ⊤
+GeneratesWithoutFault Malformed = ⊥
+GeneratesWithoutFault Usage = ⊥
+GeneratesWithoutFault ReadFault = ⊥
+GeneratesWithoutFault WriteFault = ⊥
+GeneratesWithoutFault LinkFault = ⊥
+GeneratesWithoutFault NoMemory = ⊤
+GeneratesWithoutFault Unanswered = ⊥
 
 -- how words that are not taken end where no device failed
 abbrev pub RefusesWithoutFault : Status → Type 0

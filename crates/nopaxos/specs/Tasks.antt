@@ -3,7 +3,7 @@ use Rattle.std.specs.Prelude.{ℕ, List, [], Bool, true, false, Option, Some, No
 use Rattle.client_quorum.specs.ClientSteps as client
 use Rattle.client_quorum.specs.declared.state.ClientState.{ClientState}
 use Rattle.command_line.specs.declared.command.Command.{Command}
-use Rattle.command_line.specs.declared.command.Command.TheVariants.{Replay, Node, Sequencer, Controller, Client}
+use Rattle.command_line.specs.declared.command.Command.TheVariants.{Replay, Gen, Node, Sequencer, Controller, Client}
 use Rattle.command_line.specs.declared.command.Site.{Site}
 use Rattle.kv_host.specs.Kv.{kv_meaning}
 use Rattle.nop_types.specs.declared.input.Tick.{Tick}
@@ -17,6 +17,7 @@ use Rattle.session_control.specs.ControllerSteps as controller
 use Rattle.session_control.specs.declared.state.ControllerState.{ControllerState}
 use Rattle.udp_node.specs.NodeRun.{first_inputs}
 use Rattle.udp_node.specs.declared.address.Address.{Address}
+use Rattle.nopaxos.specs.Ending.{GenEnds}
 use Rattle.nopaxos.specs.Nodes.{NodeTask, task_of, LinkView, PortsView, NodeEnds}
 use Rattle.nopaxos.specs.declared.status.Status.{Status}
 
@@ -57,6 +58,7 @@ abbrev pub CommandEnds : {L : Type 0} → Option Command → LinkView L → Port
     → Option (List ℕ) → Option (List ℕ) → Type 0
 CommandEnds None w p values s h i = ⊤
 CommandEnds (Some Replay) w p values s h i = ⊤
+CommandEnds (Some (Gen number count)) w p values s h i = ⊤
 CommandEnds (Some (Node id site)) w p values s h i = NodeEnds (replica_task id site) w p values s h i
 CommandEnds (Some (Sequencer id site)) w p values s h i = NodeEnds (sequencer_task id site) w p values s h i
 CommandEnds (Some (Controller site session install)) w p values s h i = NodeEnds (controller_task site session install) w p values s h i
@@ -66,6 +68,7 @@ CommandEnds (Some (Client id site ops)) w p values s h i = NodeEnds (client_task
 abbrev pub runs_node : Option Command → Bool
 runs_node None = false
 runs_node (Some Replay) = false
+runs_node (Some (Gen number count)) = false
 runs_node (Some (Node id site)) = true
 runs_node (Some (Sequencer id site)) = true
 runs_node (Some (Controller site session install)) = true
@@ -75,7 +78,30 @@ runs_node (Some (Client id site ops)) = true
 abbrev pub waits_for_ops : Option Command → Bool
 waits_for_ops None = false
 waits_for_ops (Some Replay) = false
+waits_for_ops (Some (Gen number count)) = false
 waits_for_ops (Some (Node id site)) = false
 waits_for_ops (Some (Sequencer id site)) = false
 waits_for_ops (Some (Controller site session install)) = false
 waits_for_ops (Some (Client id site ops)) = true
+
+-- ---- gen
+
+-- how a command that draws a schedule ends; nothing is said here of others
+abbrev pub DrawingEnds : Option Command → Status → Option (List ℕ) → Option (List ℕ) → Type 0
+DrawingEnds None s h i = ⊤
+DrawingEnds (Some Replay) s h i = ⊤
+DrawingEnds (Some (Gen number count)) s h i = GenEnds kv_meaning number count h i s
+DrawingEnds (Some (Node id site)) s h i = ⊤
+DrawingEnds (Some (Sequencer id site)) s h i = ⊤
+DrawingEnds (Some (Controller site session install)) s h i = ⊤
+DrawingEnds (Some (Client id site ops)) s h i = ⊤
+
+-- whether a command draws a schedule
+abbrev pub draws : Option Command → Bool
+draws None = false
+draws (Some Replay) = false
+draws (Some (Gen number count)) = true
+draws (Some (Node id site)) = false
+draws (Some (Sequencer id site)) = false
+draws (Some (Controller site session install)) = false
+draws (Some (Client id site ops)) = false

@@ -2,8 +2,8 @@
 //! over datagram sockets.
 #![tactic(auto)]
 
-mod adapters;
 mod commands;
+mod in_memory;
 mod node;
 mod run;
 mod sockets;
@@ -12,9 +12,9 @@ mod system_clock;
 #[cfg(test)]
 mod tests;
 
-use adapters::{StandardIn, StandardOut};
 use run::run;
 use sockets::UdpPorts;
+use standard_io::{StandardIn, StandardOut};
 use status::Status;
 use std::io::ErrorKind;
 use std::process::ExitCode;

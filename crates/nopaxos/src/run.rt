@@ -1,19 +1,19 @@
-ghost use Rattle.std.specs.Prelude.{◌≡◌, ◌≢◌, ◌++◌, ◌∷◌, [], true, false};
+ghost use Rattle.std.specs.Prelude.{◌≡◌, ◌≢◌, ◌≤◌, ◌++◌, ◌∷◌, [], true, false};
 ghost use Rattle.outside.specs.Causes.{Rose};
 ghost use Rattle.kv_host.specs.Kv.{kv_meaning};
 ghost use Rattle.replay.specs.Safety.{RunsSafelyOf};
 ghost use Rattle.command_line.specs.Commands.{IsFit};
 ghost use Rattle.nopaxos.specs.Words.{asked, Taken};
-ghost use Rattle.nopaxos.specs.Ending.{ReplayEnds, UsageEnds, EndsWithoutFault, RefusesWithoutFault};
+ghost use Rattle.nopaxos.specs.Ending.{ReplayEnds, GenEnds, UsageEnds, EndsWithoutFault, GeneratesWithoutFault, RefusesWithoutFault};
 ghost use Rattle.nopaxos.specs.Nodes.{EndsNodeWithoutFault, link_view, ports_view};
-ghost use Rattle.nopaxos.specs.Tasks.{CommandEnds, runs_node, waits_for_ops};
+ghost use Rattle.nopaxos.specs.Tasks.{CommandEnds, DrawingEnds, draws, runs_node, waits_for_ops};
 
 use crate::commands::{run_client, run_controller, run_replica, run_sequencer};
 use crate::status::Status;
 use command_line::{Command, read_words};
 use nop_types::NoMemory;
 use outside::{Clock, Ports, Sink, Source, WriteError, write_all};
-use replay::{ReplayError, replay};
+use replay::{GenError, ReplayError, generate, replay};
 use std::alloc::Global;
 
 /// The line that is written where the words are not taken.
@@ -35,6 +35,20 @@ fn run_replay<S: Source, K: Sink>(alloc: Global, source: &mut S, sink: &mut K) -
         Err(ReplayError::ReadFault) => Status::ReadFault,
         Err(ReplayError::WriteFault) => Status::WriteFault,
         Err(ReplayError::NoMemory) => Status::NoMemory,
+    }
+}
+
+fn run_gen<K: Sink>(alloc: Global, number: u64, count: u32, sink: &mut K) -> Status
+    requires least { 1 ≤ count }
+    requires limit { count ≤ 100000 }
+    ensures ends { GenEnds kv_meaning number count (K.held sink.old) (K.held sink.new) result }
+    ensures write { result ≡ Status.WriteFault → Rose (K.fault_count sink.old)
+        (K.fault_count sink.new) }
+{
+    match generate(alloc, number, count, sink) {
+        Ok(()) => Status::Done,
+        Err(GenError::WriteFault) => Status::WriteFault,
+        Err(GenError::NoMemory) => Status::NoMemory,
     }
 }
 
@@ -65,6 +79,7 @@ fn carry_out<S: Source, K: Sink, P: Ports, C: Clock>(
         (S.left source.new) (K.held sink.old) (K.held sink.new) result }
     ensures safe { command ≡ Command.Replay → result ≡ Status.Done →
         RunsSafelyOf kv_meaning (S.left source.old) }
+    ensures drawing { DrawingEnds (Some command) result (K.held sink.old) (K.held sink.new) }
     ensures node { CommandEnds (Some command)
         (link_view P.L.own_port P.L.sent P.L.loss_count P.L.fault_count)
         (ports_view (P.to_come ports.old) (P.detached ports.old) (P.detached ports.new)
@@ -74,12 +89,13 @@ fn carry_out<S: Source, K: Sink, P: Ports, C: Clock>(
         (S.fault_count source.new) }
     ensures write { result ≡ Status.WriteFault → Rose (K.fault_count sink.old)
         (K.fault_count sink.new) }
-    ensures unread { runs_node (Some command) ≡ true → source.new ≡ source.old }
+    ensures unread { command ≢ Command.Replay → source.new ≡ source.old }
     ensures ports { runs_node (Some command) ≡ false → ports.new ≡ ports.old }
     ensures clock { runs_node (Some command) ≡ false → clock.new ≡ clock.old }
 {
     match command {
         Command::Replay => run_replay(alloc, source, sink),
+        Command::Gen(number, count) => run_gen(alloc, number, count, sink),
         Command::Node(id, site) => run_replica(alloc, id, &site, ports, clock, sink),
         Command::Sequencer(id, site) => run_sequencer(alloc, id, &site, ports, clock, sink),
         Command::Controller(site, session, install) => {
@@ -104,6 +120,7 @@ pub fn run<S: Source, K: Sink, P: Ports, C: Clock>(
         (K.held sink.new) result }
     ensures safe { asked words.now ≡ Some Command.Replay → result ≡ Status.Done →
         RunsSafelyOf kv_meaning (S.left source.old) }
+    ensures drawing { DrawingEnds (asked words.now) result (K.held sink.old) (K.held sink.new) }
     ensures usage { ¬ Taken words.now → UsageEnds (K.held sink.old) (K.held sink.new) result }
     ensures node { CommandEnds (asked words.now)
         (link_view P.L.own_port P.L.sent P.L.loss_count P.L.fault_count)
@@ -117,6 +134,9 @@ pub fn run<S: Source, K: Sink, P: Ports, C: Clock>(
     ensures replay_complete { asked words.now ≡ Some Command.Replay
         → ¬ Rose (S.fault_count source.old) (S.fault_count source.new)
         → ¬ Rose (K.fault_count sink.old) (K.fault_count sink.new) → EndsWithoutFault result }
+    ensures drawing_complete { draws (asked words.now) ≡ true → ¬ Rose (K.fault_count sink.old)
+        (K.fault_count sink.new)
+        → GeneratesWithoutFault result }
     ensures usage_complete { ¬ Taken words.now → ¬ Rose (K.fault_count sink.old)
         (K.fault_count sink.new)
         → RefusesWithoutFault result }

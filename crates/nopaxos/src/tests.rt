@@ -1,4 +1,5 @@
 mod devices;
+mod faults;
 mod nodes;
 mod rows;
 
@@ -18,7 +19,7 @@ const USAGE: &str = "usage: nopaxos replay | gen | node | sequencer | controller
 /// written.
 type Run<'a> = (&'a str, &'a str, &'a [u64], &'a [u64], Status, &'a str);
 
-const RUNS: [Run<'_>; 5] = [
+const RUNS: [Run<'_>; 7] = [
     (
         "nopaxos replay",
         "nopaxos 1 replicas 3 sequencers 1 clients 1\ncrash r0\n",
@@ -45,6 +46,22 @@ const RUNS: [Run<'_>; 5] = [
         "transcript 1 rep",
     ),
     (
+        "nopaxos gen 7 1",
+        ONE_PUT,
+        &[],
+        &[],
+        Status::Done,
+        "gen 7 1\nsends 1 accepts 0\nview 0 1 length 0 noops 0\nhistory 0\n",
+    ),
+    (
+        "nopaxos gen 7 1",
+        ONE_PUT,
+        &[],
+        &[2],
+        Status::WriteFault,
+        "gen 7 1\nsends 1 ",
+    ),
+    (
         "nopaxos stop",
         ONE_PUT,
         &[],
@@ -58,7 +75,13 @@ const RUNS: [Run<'_>; 5] = [
 const NOT_TAKEN: &str = "nopaxos
 replay
 nopaxos stop
-nopaxos gen 1 1
+nopaxos gen
+nopaxos gen 1
+nopaxos gen 1 0
+nopaxos gen 1 100001
+nopaxos gen 18446744073709551616 1
+nopaxos gen -1 1
+nopaxos gen 1 1 1
 nopaxos replay replay
 nopaxos Replay
 nopaxos replays

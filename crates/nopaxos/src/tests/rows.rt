@@ -2,10 +2,9 @@ use super::check_run;
 use crate::status::Status;
 use std::test::Fail;
 
-/// The schedules of `examples/` with the status that they end with, and their transcripts.
-const ROWS: [(&str, Status, &str); 24] = [
-    (
-        "\
+/// The schedules of `examples/`, each with its transcript after a line `=>`, and lines `----` between them. A transcript that does not
+/// end with `end` is one of a schedule with a bad line.
+const ROWS: &str = "\
 nopaxos 1 replicas 3 sequencers 1 clients 1
 submit c0 5000016b000176
 deliver 0 s0
@@ -13,9 +12,7 @@ deliver 1 r0
 deliver 1 r1
 deliver 2 c0
 deliver 3 c0
-",
-        Status::Done,
-        "\
+=>
 transcript 1 replicas 3 sequencers 1 clients 1
 submit c0 1 5000016b000176
 send 0 c0 s* request 25
@@ -28,30 +25,18 @@ replica r1 up normal 0 1 1 0
 replica r2 up normal 0 1 0 0
 history 1 c0 1 5000016b000176
 end
-",
-    ),
-    (
-        "\
+----
 nopaxos 1 replicas 3 sequencers 1 clients 1
-",
-        Status::Done,
-        "\
+=>
 transcript 1 replicas 3 sequencers 1 clients 1
 replica r0 up normal 0 1 0 0
 replica r1 up normal 0 1 0 0
 replica r2 up normal 0 1 0 0
 end
-",
-    ),
-    (
-        "",
-        Status::Malformed,
-        "\
+----
+=>
 error line 1 rule 3
-",
-    ),
-    (
-        "\
+----
 nopaxos 1 replicas 3 sequencers 1 clients 1
 submit c0 5000016b000176
 deliver 0 s0
@@ -61,9 +46,7 @@ deliver 1 r2
 deliver 3 c0
 deliver 4 c0
 deliver 2 c0
-",
-        Status::Done,
-        "\
+=>
 transcript 1 replicas 3 sequencers 1 clients 1
 submit c0 1 5000016b000176
 send 0 c0 s* request 25
@@ -77,10 +60,7 @@ replica r1 up normal 0 1 1 0
 replica r2 up normal 0 1 1 0
 history 1 c0 1 5000016b000176
 end
-",
-    ),
-    (
-        "\
+----
 nopaxos 1 replicas 3 sequencers 1 clients 2
 submit c0 5000016b000176
 submit c1 4700016b
@@ -95,9 +75,7 @@ deliver 4 c0
 deliver 8 c0
 deliver 5 c1
 deliver 9 c1
-",
-        Status::Done,
-        "\
+=>
 transcript 1 replicas 3 sequencers 1 clients 2
 submit c0 1 5000016b000176
 send 0 c0 s* request 25
@@ -119,10 +97,7 @@ replica r2 up normal 0 1 0 0
 history 1 c0 1 5000016b000176
 history 2 c1 1 4700016b
 end
-",
-    ),
-    (
-        "\
+----
 nopaxos 1 replicas 3 sequencers 1 clients 2
 submit c0 5000016b000176
 submit c1 4700016b
@@ -140,9 +115,7 @@ tick r1 suspect
 deliver 9 r2
 deliver 11 r1
 deliver 12 r2
-",
-        Status::Done,
-        "\
+=>
 transcript 1 replicas 3 sequencers 1 clients 2
 submit c0 1 5000016b000176
 send 0 c0 s* request 25
@@ -167,10 +140,7 @@ replica r1 up normal 1 1 2 0
 replica r2 up normal 1 1 2 0
 history 1 c1 1 4700016b
 end
-",
-    ),
-    (
-        "\
+----
 nopaxos 1 replicas 3 sequencers 1 clients 2
 submit c0 5000016b000176
 submit c1 4700016b
@@ -188,9 +158,7 @@ deliver 11 r1
 deliver 12 r2
 deliver 8 c1
 deliver 5 c1
-",
-        Status::Done,
-        "\
+=>
 transcript 1 replicas 3 sequencers 1 clients 2
 submit c0 1 5000016b000176
 send 0 c0 s* request 25
@@ -215,10 +183,7 @@ replica r1 up normal 1 1 2 0
 replica r2 up normal 1 1 2 0
 history 1 c1 1 4700016b
 end
-",
-    ),
-    (
-        "\
+----
 nopaxos 1 replicas 5 sequencers 1 clients 2
 submit c0 5000016b000176
 submit c1 4700016b
@@ -235,9 +200,7 @@ deliver 9 r2
 deliver 9 r3
 deliver 11 r1
 deliver 13 r1
-",
-        Status::Done,
-        "\
+=>
 transcript 1 replicas 5 sequencers 1 clients 2
 submit c0 1 5000016b000176
 send 0 c0 s* request 25
@@ -264,10 +227,7 @@ replica r3 up change 1 1 1 0
 replica r4 up normal 0 1 1 0
 history 1 c0 1 5000016b000176
 end
-",
-    ),
-    (
-        "\
+----
 nopaxos 1 replicas 5 sequencers 1 clients 2
 submit c0 5000016b000176
 submit c1 4700016b
@@ -284,9 +244,7 @@ deliver 9 r2
 deliver 9 r4
 deliver 11 r1
 deliver 13 r1
-",
-        Status::Done,
-        "\
+=>
 transcript 1 replicas 5 sequencers 1 clients 2
 submit c0 1 5000016b000176
 send 0 c0 s* request 25
@@ -311,10 +269,7 @@ replica r2 up change 1 1 1 0
 replica r3 up normal 0 1 1 0
 replica r4 up change 1 1 1 0
 end
-",
-    ),
-    (
-        "\
+----
 nopaxos 1 replicas 3 sequencers 2 clients 1
 install s1
 deliver 0 s1
@@ -329,9 +284,7 @@ deliver 10 r2
 deliver 3 r1
 deliver 11 c0
 deliver 12 c0
-",
-        Status::Done,
-        "\
+=>
 transcript 1 replicas 3 sequencers 2 clients 1
 send 0 ctl s1 install 9
 send 1 s1 ctl installed 9
@@ -353,10 +306,7 @@ replica r1 up normal 1 2 1 0
 replica r2 up normal 1 2 1 0
 history 1 c0 1 5000016b000176
 end
-",
-    ),
-    (
-        "\
+----
 nopaxos 1 replicas 3 sequencers 2 clients 1
 submit c0 5000016b000176
 deliver 0 s0
@@ -372,9 +322,7 @@ deliver 10 r0
 deliver 11 r1
 deliver 13 c0
 deliver 15 c0
-",
-        Status::Done,
-        "\
+=>
 transcript 1 replicas 3 sequencers 2 clients 1
 submit c0 1 5000016b000176
 send 0 c0 s* request 25
@@ -399,10 +347,7 @@ replica r1 up normal 0 2 2 0
 replica r2 up normal 0 1 0 0
 history 1 c0 1 5000016b000176
 end
-",
-    ),
-    (
-        "\
+----
 nopaxos 1 replicas 3 sequencers 1 clients 1
 submit c0 5000016b000176
 deliver 0 s0
@@ -417,9 +362,7 @@ deliver 5 r1
 deliver 0 s0
 deliver 8 r0
 deliver 8 r1
-",
-        Status::Done,
-        "\
+=>
 transcript 1 replicas 3 sequencers 1 clients 1
 submit c0 1 5000016b000176
 send 0 c0 s* request 25
@@ -440,10 +383,7 @@ replica r2 up normal 0 1 0 0
 history 1 c0 1 5000016b000176
 history 2 c0 2 4700016b
 end
-",
-    ),
-    (
-        "\
+----
 nopaxos 1 replicas 3 sequencers 1 clients 2
 submit c0 5000016b000176
 deliver 0 s0
@@ -461,9 +401,7 @@ deliver 10 r1
 deliver 8 r0
 deliver 11 c1
 deliver 12 c1
-",
-        Status::Done,
-        "\
+=>
 transcript 1 replicas 3 sequencers 1 clients 2
 submit c0 1 5000016b000176
 send 0 c0 s* request 25
@@ -486,10 +424,7 @@ replica r1 up normal 1 1 2 0
 replica r2 up normal 1 1 0 0
 history 1 c1 1 4700016b
 end
-",
-    ),
-    (
-        "\
+----
 nopaxos 1 replicas 3 sequencers 1 clients 1
 submit c0 5000016b000176
 deliver 0 s0
@@ -502,9 +437,7 @@ deliver 6 r0
 deliver 7 r2
 deliver 5 r2
 deliver 7 r2
-",
-        Status::Done,
-        "\
+=>
 transcript 1 replicas 3 sequencers 1 clients 1
 submit c0 1 5000016b000176
 send 0 c0 s* request 25
@@ -523,10 +456,7 @@ replica r2 up normal 0 1 1 1
 entry r2 1 c0 1 5000016b000176
 history 1 c0 1 5000016b000176
 end
-",
-    ),
-    (
-        "\
+----
 nopaxos 1 replicas 3 sequencers 1 clients 1
 submit c0 5000016b000176
 deliver 0 s0
@@ -537,9 +467,7 @@ tick r0 sync
 deliver 5 r1
 deliver 6 r0
 deliver 7 r2
-",
-        Status::Done,
-        "\
+=>
 transcript 1 replicas 3 sequencers 1 clients 1
 submit c0 1 5000016b000176
 send 0 c0 s* request 25
@@ -556,10 +484,7 @@ replica r1 up normal 0 1 1 0
 replica r2 up normal 0 1 1 0
 history 1 c0 1 5000016b000176
 end
-",
-    ),
-    (
-        "\
+----
 nopaxos 1 replicas 3 sequencers 2 clients 1
 install s1
 deliver 0 s1
@@ -567,9 +492,7 @@ submit c0 5000016b000176
 deliver 2 s1
 deliver 0 s1
 deliver 2 s1
-",
-        Status::Done,
-        "\
+=>
 transcript 1 replicas 3 sequencers 2 clients 1
 send 0 ctl s1 install 9
 send 1 s1 ctl installed 9
@@ -582,24 +505,16 @@ replica r0 up normal 0 1 0 0
 replica r1 up normal 0 1 0 0
 replica r2 up normal 0 1 0 0
 end
-",
-    ),
-    (
-        "\
+----
 nopaxos 1 replicas 3 sequencers 1 clients 1
 submit c0 5000016b000176
 deliver 1 r0
-",
-        Status::Malformed,
-        "\
+=>
 transcript 1 replicas 3 sequencers 1 clients 1
 submit c0 1 5000016b000176
 send 0 c0 s* request 25
 error line 3 rule 8 index 1 sent 1
-",
-    ),
-    (
-        "\
+----
 nopaxos 1 replicas 1 sequencers 1 clients 2
 submit c0 5000016b000176
 submit c1 4700016b
@@ -608,9 +523,7 @@ deliver 1 s0
 deliver 3 r0
 deliver 4 c1
 tick r0 suspect
-",
-        Status::Done,
-        "\
+=>
 transcript 1 replicas 1 sequencers 1 clients 2
 submit c0 1 5000016b000176
 send 0 c0 s* request 25
@@ -624,16 +537,11 @@ send 5 r0 c1 reply 36
 replica r0 up normal 1 1 2 0
 history 1 c1 1 4700016b
 end
-",
-    ),
-    (
-        "\
+----
 nopaxos 1 replicas 3 sequencers 1 clients 1
 submit c0 5000016b000176
 submit c0 5000016b000176
-",
-        Status::Done,
-        "\
+=>
 transcript 1 replicas 3 sequencers 1 clients 1
 submit c0 1 5000016b000176
 send 0 c0 s* request 25
@@ -642,71 +550,46 @@ replica r0 up normal 0 1 0 0
 replica r1 up normal 0 1 0 0
 replica r2 up normal 0 1 0 0
 end
-",
-    ),
-    (
-        "\
+----
 nopaxos 1 replicas 3 sequencers 1 clients 1
 crash r0
 tick r0 resend
-",
-        Status::Done,
-        "\
+=>
 transcript 1 replicas 3 sequencers 1 clients 1
 dead r0
 replica r0 crashed normal 0 1 0 0
 replica r1 up normal 0 1 0 0
 replica r2 up normal 0 1 0 0
 end
-",
-    ),
-    (
-        "\
+----
 nopaxos 1 replicas 3 sequencers 1 clients 1
 junk r0 4e4f
-",
-        Status::Done,
-        "\
+=>
 transcript 1 replicas 3 sequencers 1 clients 1
 replica r0 up normal 0 1 0 0
 replica r1 up normal 0 1 0 0
 replica r2 up normal 0 1 0 0
 end
-",
-    ),
-    (
-        "\
+----
 nopaxos 1 replicas 3 sequencers 1 clients 1
 junk r0 4e4f01040000000002
-",
-        Status::Malformed,
-        "\
+=>
 transcript 1 replicas 3 sequencers 1 clients 1
 error line 2 rule 9
-",
-    ),
-    (
-        "\
+----
 nopaxos 1 replicas 3 sequencers 1 clients 1
 tick s0 resend
-",
-        Status::Malformed,
-        "\
+=>
 transcript 1 replicas 3 sequencers 1 clients 1
 error line 2 rule 7
-",
-    ),
-    (
-        "\
+----
 nopaxos 1 replicas 3 sequencers 2 clients 1
 tick ctl probe
 tick ctl probe
 tick ctl probe
 tick ctl probe
 tick ctl resend
-",
-        Status::Done,
-        "\
+=>
 transcript 1 replicas 3 sequencers 2 clients 1
 send 0 ctl s0 ping 9
 send 1 ctl s0 ping 9
@@ -717,13 +600,210 @@ replica r0 up normal 0 1 0 0
 replica r1 up normal 0 1 0 0
 replica r2 up normal 0 1 0 0
 end
-",
-    ),
-];
+----
+nopaxos 1 replicas 3 sequencers 1 clients 2
+submit c0 5000016b000176
+deliver 0 s0
+deliver 1 r0
+deliver 1 r1
+deliver 2 c0
+deliver 3 c0
+crash r0
+tick r1 suspect
+deliver 4 r2
+deliver 6 r1
+deliver 7 r2
+submit c1 4700016b
+deliver 10 s0
+deliver 11 r1
+deliver 11 r2
+deliver 12 c1
+deliver 13 c1
+=>
+transcript 1 replicas 3 sequencers 1 clients 2
+submit c0 1 5000016b000176
+send 0 c0 s* request 25
+send 1 s0 r* stamped 37
+send 2 r0 c0 reply 36
+send 3 r1 c0 reply 32
+accept c0 1 6e6f6e65
+send 4 r1 r* fragment 27
+send 5 r2 r* fragment 27
+send 6 r2 r1 fragment 47
+send 7 r1 r* fragment 61
+send 8 r1 c0 reply 36
+send 9 r2 c0 reply 32
+submit c1 1 4700016b
+send 10 c1 s* request 22
+send 11 s0 r* stamped 34
+send 12 r1 c1 reply 34
+send 13 r2 c1 reply 32
+accept c1 1 3d76
+replica r0 crashed normal 0 1 1 0
+replica r1 up normal 1 1 2 0
+replica r2 up normal 1 1 2 0
+history 1 c0 1 5000016b000176
+history 2 c1 1 4700016b
+end
+----
+nopaxos 1 replicas 3 sequencers 1 clients 2
+submit c0 5000016b000176
+submit c1 5000016b000177
+deliver 0 s0
+deliver 1 s0
+deliver 3 r1
+deliver 4 r0
+deliver 3 r0
+deliver 5 r1
+deliver 6 r0
+deliver 8 c1
+deliver 7 c1
+tick c0 retry
+deliver 9 s0
+deliver 10 r0
+deliver 10 r1
+deliver 11 c0
+deliver 12 c0
+=>
+transcript 1 replicas 3 sequencers 1 clients 2
+submit c0 1 5000016b000176
+send 0 c0 s* request 25
+submit c1 1 5000016b000177
+send 1 c1 s* request 25
+send 2 s0 r* stamped 37
+send 3 s0 r* stamped 37
+send 4 r1 r0 fragment 31
+send 5 r0 r* fragment 31
+send 6 r1 r0 fragment 31
+send 7 r1 c1 reply 32
+send 8 r0 c1 reply 36
+accept c1 1 6e6f6e65
+send 9 c0 s* request 25
+send 10 s0 r* stamped 37
+send 11 r0 c0 reply 34
+send 12 r1 c0 reply 32
+accept c0 1 3d77
+replica r0 up normal 0 1 3 0
+replica r1 up normal 0 1 3 0
+replica r2 up normal 0 1 0 0
+history 1 c1 1 5000016b000177
+history 2 c0 1 5000016b000176
+end
+----
+nopaxos 1 replicas 3 sequencers 1 clients 2
+submit c0 5000016b000176
+submit c1 5000016b000177
+deliver 0 s0
+deliver 1 s0
+deliver 2 r0
+deliver 2 r1
+deliver 3 r0
+deliver 3 r1
+deliver 4 c0
+deliver 5 c0
+deliver 6 c1
+deliver 7 c1
+tick r0 sync
+deliver 8 r1
+deliver 8 r2
+deliver 9 r0
+deliver 13 r1
+deliver 13 r2
+=>
+transcript 1 replicas 3 sequencers 1 clients 2
+submit c0 1 5000016b000176
+send 0 c0 s* request 25
+submit c1 1 5000016b000177
+send 1 c1 s* request 25
+send 2 s0 r* stamped 37
+send 3 s0 r* stamped 37
+send 4 r0 c0 reply 36
+send 5 r1 c0 reply 32
+send 6 r0 c1 reply 34
+send 7 r1 c1 reply 32
+accept c0 1 6e6f6e65
+accept c1 1 3d76
+send 8 r0 r* fragment 75
+send 9 r1 r0 fragment 31
+send 10 r2 c0 reply 32
+send 11 r2 c1 reply 32
+send 12 r2 r0 fragment 31
+send 13 r0 r* fragment 31
+replica r0 up normal 0 1 2 2
+entry r0 1 c0 1 5000016b000176
+entry r0 2 c1 1 5000016b000177
+replica r1 up normal 0 1 2 2
+entry r1 1 c0 1 5000016b000176
+entry r1 2 c1 1 5000016b000177
+replica r2 up normal 0 1 2 2
+entry r2 1 c0 1 5000016b000176
+entry r2 2 c1 1 5000016b000177
+history 1 c0 1 5000016b000176
+history 2 c1 1 5000016b000177
+end
+----
+nopaxos 1 replicas 3 sequencers 2 clients 2
+install s1
+deliver 0 s1
+deliver 1 ctl
+submit c0 5000016b000176
+submit c1 4700016b
+deliver 2 s0
+deliver 3 s1
+deliver 4 r0
+deliver 5 r2
+deliver 4 r1
+deliver 6 c0
+deliver 9 c0
+deliver 7 r0
+deliver 8 r0
+deliver 11 r2
+deliver 5 r0
+deliver 11 r1
+deliver 5 r1
+deliver 14 c1
+deliver 15 c1
+=>
+transcript 1 replicas 3 sequencers 2 clients 2
+send 0 ctl s1 install 9
+send 1 s1 ctl installed 9
+submit c0 1 5000016b000176
+send 2 c0 s* request 25
+submit c1 1 4700016b
+send 3 c1 s* request 22
+send 4 s0 r* stamped 37
+send 5 s1 r* stamped 34
+send 6 r0 c0 reply 36
+send 7 r2 r* fragment 27
+send 8 r2 r0 fragment 47
+send 9 r1 c0 reply 32
+accept c0 1 6e6f6e65
+send 10 r0 r* fragment 27
+send 11 r0 r* fragment 61
+send 12 r0 c0 reply 36
+send 13 r2 c0 reply 32
+send 14 r2 c1 reply 32
+send 15 r0 c1 reply 34
+send 16 r1 c0 reply 32
+send 17 r1 c1 reply 32
+accept c1 1 3d76
+replica r0 up normal 0 2 2 0
+replica r1 up normal 0 2 2 0
+replica r2 up normal 0 2 2 0
+history 1 c0 1 5000016b000176
+history 2 c1 1 4700016b
+end
+";
 
 #[test]
 fn rows(rt: HostRuntime) -> Result<(), Fail> {
-    for (schedule, status, transcript) in ROWS {
+    for row in ROWS.split("----\n") {
+        let (schedule, transcript) = row.split_once("=>\n").ok_or("a transcript")?;
+        let status = if transcript.ends_with("end\n") {
+            Status::Done
+        } else {
+            Status::Malformed
+        };
         check_run(
             &rt,
             rt.alloc(),

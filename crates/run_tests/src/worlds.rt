@@ -1,4 +1,3 @@
-use crate::rows::bytes_of;
 use kv_host::KvHost;
 use nop_types::{Actor, Config};
 use outside::{ReadMem, WriteMem};
@@ -39,6 +38,15 @@ replica r0 up normal 0 1 1 0
 replica r1 up normal 0 1 1 0
 replica r2 crashed normal 0 1 1 0
 ";
+
+/// The bytes of words of two digits for each byte.
+fn bytes_of(alloc: Global, row: &str) -> Result<Vec<u8>, Fail> {
+    let mut digits = String::new(alloc);
+    for word in row.split_whitespace() {
+        digits.push_str(word)?;
+    }
+    Ok(hex::decode(alloc, &digits).ok().ok_or("hexadecimal")?)
+}
 
 /// The events of a schedule.
 fn events_of(alloc: Global, schedule: &str) -> Result<Vec<Event>, Fail> {
