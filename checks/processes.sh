@@ -64,8 +64,20 @@ status=$?
 head -c "$(stat -c %s "$folder/front")" "$folder/whole" | cmp - "$folder/front" > "$folder/out" 2>&1
 same 'a long schedule in 10 MB' $status 6 ''
 
+# ---- gen
+"$program" gen 7 1 > "$folder/out" 2> "$folder/err"
+same 'a schedule of one event' $? 0 'gen 7 1
+sends 1 accepts 0
+view 0 1 length 0 noops 0
+history 0'
+"$program" gen 7 20000 > "$folder/whole" 2> "$folder/err"
+"$program" gen 7 20000 > "$folder/out" 2> "$folder/err"
+same 'a schedule drawn twice' $? 0 "$(cat "$folder/whole")"
+"$program" gen 7 1 > /dev/full 2> "$folder/err"
+same 'a summary on a full disk' $? 4 ''
+
 # ---- words
-for words in '' 'stop' 'replay replay' 'gen 1 1' 'node' 'node --help' \
+for words in '' 'stop' 'replay replay' 'gen 1 0' 'node' 'node --help' \
     'node --id 3 --replicas 3 --sequencers 1' \
     'node --id 0 --replicas 2 --sequencers 1' \
     'node --id 0 --replicas 3 --sequencers 1 --base 65001' \

@@ -22,11 +22,6 @@ differs() {
     wrong=$((wrong + 1))
 }
 
-# literal FILE: its text as a literal of the test.
-literal() {
-    if [ -s "$1" ]; then printf '"\\\n%s\n"' "$(cat "$1")"; else printf '""'; fi
-}
-
 # same NAME SCHEDULE TRANSCRIPT: the status is 1 where the transcript ends with an error line, and else 0.
 same() {
     local status wanted=0
@@ -51,9 +46,8 @@ for schedule in examples/*.schedule; do
     name=$(basename "$schedule" .schedule)
     transcript=examples/$name.transcript
     same "$name" "$schedule" "$transcript"
-    for file in "$schedule" "$transcript"; do
-        [[ $table == *"$(literal "$file")"* ]] || differs "$file is not in the table of the test"
-    done
+    row=$(cat "$schedule" - "$transcript" <<< '=>')
+    [[ $table == *[\\-]$'\n'"$row"$'\n'[-\"]* ]] || differs "$name is not in the table of the test"
 done
 
 # ---- a log of 4,096 slots: the 4,097th stamped request is not logged, and gets no reply

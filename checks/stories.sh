@@ -1,0 +1,97 @@
+#!/bin/bash
+# The stories of examples/: what a story quotes is the whole transcript beside it, in order; and the pictures there are what
+# `spacetime` draws of the schedules beside them. Then how `spacetime` ends where there is nothing to draw. It takes a few seconds, leaves
+# nothing behind, and ends with status 1 at any difference. checks/transcripts.sh compares the transcripts with what the
+# program writes, and checks/links.sh follows the links of the stories.
+#
+#   checks/stories.sh            the program is crates/spacetime/out/spacetime, or the file that SPACETIME names
+#   checks/stories.sh --draw     writes the pictures that are there anew
+set -u
+cd "$(dirname "$0")/.." || exit 2
+program=${SPACETIME:-crates/spacetime/out/spacetime}
+if [ ! -x "$program" ]; then
+    (cd crates/spacetime && rt run < stdin > /dev/null 2>&1)
+fi
+[ -x "$program" ] || { echo "stories: there is no program file $program"; exit 1; }
+
+folder=$(mktemp -d) || exit 2
+trap 'rm -rf "$folder"' EXIT
+made=0
+wrong=0
+
+# differs WORDS..: one more difference.
+differs() {
+    echo "stories: $*"
+    wrong=$((wrong + 1))
+}
+
+# told NAME: the story quotes its transcript, shows its picture, and is named in the list.
+told() {
+    local base=examples/$1
+    made=$((made + 1))
+    if [ ! -e "$base.transcript" ] || [ ! -e "$base.svg" ]; then
+        differs "$1: there is no transcript or no picture beside it"
+        return
+    fi
+    sed -n 's/^    //p' "$base.md" | cmp -s - "$base.transcript" || differs "$1: it does not quote its transcript"
+    grep -qF "]($1.svg)" "$base.md" || differs "$1: it does not show its picture"
+    grep -qF "]($1.md)" examples/README.md || differs "$1: examples/README.md does not name it"
+}
+
+# drawn NAME: the picture of a schedule.
+drawn() {
+    local base=examples/$1 status
+    made=$((made + 1))
+    "$program" < "$base.schedule" > "$folder/out" 2> "$folder/err"
+    status=$?
+    if [ "$status" != 0 ] || [ -s "$folder/err" ]; then
+        differs "$1: status $status, and on standard error '$(head -c 300 "$folder/err")'"
+    elif [ "$draw" = 1 ]; then
+        cp "$folder/out" "$base.svg"
+    elif ! cmp -s "$folder/out" "$base.svg"; then
+        differs "$1: its picture is not what is drawn now; checks/stories.sh --draw writes it anew"
+    fi
+}
+
+# same NAME STATUS WANTED_STATUS WANTED_LINE: nothing was drawn, and standard error has the one line.
+same() {
+    made=$((made + 1))
+    if [ "$2" != "$3" ]; then
+        differs "$1: status $2 and not $3"
+    elif [ "$(cat "$folder/err")" != "$4" ]; then
+        differs "$1: on standard error '$(head -c 300 "$folder/err")' and not '$4'"
+    elif [ -s "$folder/out" ]; then
+        differs "$1: it wrote '$(head -c 300 "$folder/out")'"
+    fi
+    : > "$folder/out"
+}
+
+draw=0
+if [ "${1:-}" = --draw ]; then draw=1; fi
+for story in examples/*.md; do
+    name=$(basename "$story" .md)
+    [ "$name" = README ] || told "$name"
+done
+for picture in examples/*.svg; do
+    drawn "$(basename "$picture" .svg)"
+done
+: > "$folder/out"
+
+"$program" < /dev/null > "$folder/out" 2> "$folder/err"
+same 'no bytes' $? 1 'error line 1 rule 3'
+"$program" < examples/deliver-before-sent.schedule > "$folder/out" 2> "$folder/err"
+same 'a datagram that was not sent' $? 1 "$(tail -n 1 examples/deliver-before-sent.transcript)"
+"$program" < examples/junk-spells-a-datagram.schedule > "$folder/out" 2> "$folder/err"
+same 'junk that spells a datagram' $? 1 "$(tail -n 1 examples/junk-spells-a-datagram.transcript)"
+"$program" --help < /dev/null > "$folder/out" 2> "$folder/err"
+same 'a word' $? 2 'usage: spacetime < SCHEDULE > PICTURE'
+"$program" < "$folder" > "$folder/out" 2> "$folder/err"
+same 'a folder as input' $? 3 'error reading the schedule'
+"$program" < examples/one-put.schedule > /dev/full 2> "$folder/err"
+same 'a full disk' $? 4 'error writing the picture'
+
+if [ "$wrong" != 0 ]; then
+    echo "stories: $wrong differences in $made"
+    exit 1
+fi
+echo "stories: $made as they must be"
