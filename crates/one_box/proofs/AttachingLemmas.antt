@@ -1,0 +1,196 @@
+-- The actors of a cluster, and their links.
+use Rattle.std.proofs.Common.{◌≡◌, ℕ, zero, suc, ◌+◌, ◌<◌, ◌≤◌, List, [], ◌∷◌, ◌++◌, length, map, take, drop, Option, Some, None, refl, sym, ap, subst, ◌∙◌}
+use Rattle.std.proofs.Common.{arith, add-one, append_assoc, length-append}
+use Rattle.std.specs.Prelude.{option_map, slice_get}
+use Rattle.std.proofs.lemmas.Option.{slice_get-map}
+use Rattle.std.proofs.lemmas.List.{map-append, take_all}
+use Rattle.facts.proofs.Places.{Splits-at}
+use Rattle.nop_types.specs.Configuration.{Configuration}
+use Rattle.nop_types.specs.declared.output.Actor.{Actor}
+use Rattle.nop_types.specs.declared.output.Actor.TheVariants as kinds
+use Rattle.outside.specs.Causes.{Rose}
+use Rattle.outside.specs.Ports.{GivesNext, next_link}
+use Rattle.nop_types.specs.declared.input.Tick.{Tick}
+use Rattle.outside.specs.declared.link.PollAnswer.{PollAnswer}
+use Rattle.outside.specs.declared.link.Sent as links
+use Rattle.udp_node.specs.declared.address.Address.{Address}
+use Rattle.udp_node.specs.declared.firing.Timer.{Timer}
+use Rattle.udp_node.specs.Sends.{LinkSide, Sends, side}
+use Rattle.udp_node.specs.Timing.{armed}
+use Rattle.udp_node.proofs.SendLemmas.{no_sends}
+use Rattle.world.specs.Lookups.{timers_if, timers_of}
+use Rattle.world.specs.Seats.{Seated}
+use Rattle.world.specs.WorldSteps.{WorldState, opening}
+use Rattle.one_box.specs.declared.node.Node as code
+use Rattle.one_box.specs.Actors.{numbered}
+use Rattle.one_box.specs.Attaching.{IsFresh, AttachesOne, AttachesAll, AttachingOn, Holds, HasRoom, place_for}
+use Rattle.one_box.specs.ClusterRun.{Node, opening_node, opening_nodes}
+use Rattle.one_box.specs.Showing.{LinkView, Shows, AllShow, BasesFit, place_of}
+
+-- ---- the actors of a kind
+
+pub numbered_more : (kind : ℕ → Actor) (first old new : List Actor) (i : ℕ) → old ≡ first ++ numbered kind i → new ≡ old ++ kind i ∷ []
+    → new ≡ first ++ numbered kind (i + 1)
+numbered_more kind first old new i so_far pushed =
+    pushed ∙ ap (λ (xs : List Actor). xs ++ kind i ∷ []) so_far ∙ append_assoc first (numbered kind i) (kind i ∷ [])
+    ∙ ap (λ (n : ℕ). first ++ numbered kind n) (sym (add-one i))
+
+-- ---- timers
+
+few_if : {S : Type 0} (o : Option (Seated S)) (ts : List (Tick × ℕ)) → length ts ≤ 255 → length (timers_if o ts) ≤ 255
+few_if None ts few = omega arith
+few_if (Some p) ts few = few
+
+pub few_timers : (w : WorldState) (a : Actor) → length (timers_of w a) ≤ 255
+few_timers w (kinds.Replica i) = few_if (slice_get w.replicas i) _ (omega arith)
+few_timers w (kinds.Sequencer i) = few_if (slice_get w.sequencers i) [] (omega arith)
+few_timers w (kinds.Client i) = few_if (slice_get w.clients i) _ (omega arith)
+few_timers w kinds.Controller = omega arith
+
+-- ---- links
+
+drop_one : (n : ℕ) (polls : List (List PollAnswer)) → drop n (drop 1 polls) ≡ drop (suc n) polls
+drop_one zero [] = refl
+drop_one (suc n) [] = refl
+drop_one n (p ∷ polls) = refl
+
+drop_then : (n : ℕ) (polls : List (List PollAnswer)) → drop 1 (drop n polls) ≡ drop (suc n) polls
+drop_then zero polls = refl
+drop_then (suc n) [] = refl
+drop_then (suc n) (p ∷ polls) = drop_then n polls
+
+module _ {L : Type 0} (v : LinkView L) (base : ℕ) (config : Configuration) (now : ℕ) where
+  opening_push : (actors : List Actor) (a : Actor) (polls : List (List PollAnswer))
+      → opening_nodes base config now (actors ++ a ∷ []) polls
+      ≡ opening_nodes base config now actors polls ++ opening_node base config now a (next_link (drop (length actors) polls)) ∷ []
+  opening_push [] a polls = refl
+  opening_push (x ∷ actors) a polls =
+      ap (λ (ns : List Node). opening_node base config now x (next_link polls) ∷ ns)
+      (opening_push actors a (drop 1 polls)
+      ∙ ap (λ (ps : List (List PollAnswer)). opening_nodes base config now actors (drop 1 polls)
+      ++ opening_node base config now a (next_link ps) ∷ []) (drop_one (length actors) polls))
+
+  shown_push : (ns : List Node) (xs : List (code.Node L)) (n : Node) (x : code.Node L) → AllShow v ns xs → Shows v n x
+      → AllShow v (ns ++ n ∷ []) (xs ++ x ∷ [])
+  shown_push [] [] n x all one = (one, tt)
+  shown_push [] (y ∷ xs) n x all one = absurd all
+  shown_push (k ∷ ns) [] n x all one = absurd all
+  shown_push (k ∷ ns) (y ∷ xs) n x all one = (all.0, shown_push ns xs n x all.1 one)
+
+  fresh_side : (sent : Option (List links.Sent)) (lost losses : ℕ) → sent ≡ Some [] → lost ≡ 0 → losses ≡ 0
+      → Sends [] (side (Some []) 0 0) (side sent lost losses)
+  fresh_side sent lost losses s l k =
+      let same : side (Some []) 0 0 ≡ side sent lost losses =
+      sym (ap (λ (o : Option (List links.Sent)). side o lost losses) s ∙ ap (λ (n : ℕ). side (Some []) n losses) l ∙ ap (side (Some []) 0) k) in
+      subst (λ (b : LinkSide). Sends [] (side (Some []) 0 0) b) same (no_sends (side (Some []) 0 0))
+
+  fresh_shows : (a : Actor) (polls : List (List PollAnswer)) (x : code.Node L) (new : Option (List (List PollAnswer)))
+      → IsFresh v (record { base = base; own = a; config = config }) (map (armed now) (timers_of (opening config) a)) x
+      → GivesNext (Some polls) new (v.answers x.link) (v.sent x.link) → Shows v (opening_node base config now a (next_link polls)) x
+  fresh_shows a polls x new fresh gives = record {
+    at = fresh.at;
+    next_op = fresh.next_op;
+    timers = fresh.timers;
+    answers = gives.1;
+    sends = fresh_side (v.sent x.link) x.lost (v.losses x.link) gives.2 fresh.lost fresh.losses;
+  }
+
+  pub attaching_first : (to_come : Option (List (List PollAnswer))) (xs : List (code.Node L)) → xs ≡ []
+      → AttachingOn v base config now [] to_come to_come xs
+  attaching_first None xs none = tt
+  attaching_first (Some polls) xs none = (refl, subst (AllShow v []) (sym none) tt)
+
+  pub attaching_more : (all : List Actor) (i : ℕ) (a : Actor) (to_come mid new : Option (List (List PollAnswer))) (xs ys : List (code.Node L))
+      (w : WorldState) → slice_get all i ≡ Some a → w ≡ opening config
+      → AttachesOne v (record { base = base; own = a; config = config }) (map (armed now) (timers_of w a)) mid new xs ys
+      → AttachingOn v base config now (take i all) to_come mid xs → AttachingOn v base config now (take (i + 1) all) to_come new ys
+  attaching_more all i a None mid new xs ys w there is one before = tt
+  attaching_more all i a (Some polls) mid new xs ys w there is one before =
+      let actors : List Actor = take i all in
+      let front : take (i + 1) all ≡ actors ++ a ∷ [] = ap (λ (k : ℕ). take k all) (add-one i) ∙ (Splits-at all i a there).front in
+      let left : List (List PollAnswer) = drop (length actors) polls in
+      let gives : GivesNext (Some left) new (v.answers one.node.link) (v.sent one.node.link) =
+      subst (λ (o : Option (List (List PollAnswer))). GivesNext o new (v.answers one.node.link) (v.sent one.node.link)) before.0 one.content in
+      let fresh : IsFresh v (record { base = base; own = a; config = config }) (map (armed now) (timers_of (opening config) a)) one.node =
+      subst (λ (u : WorldState). IsFresh v (record { base = base; own = a; config = config }) (map (armed now) (timers_of u a)) one.node) is one.fresh in
+      let shown : AllShow v (opening_nodes base config now actors polls ++ opening_node base config now a (next_link left) ∷ []) (xs ++ one.node ∷ []) =
+      shown_push (opening_nodes base config now actors polls) xs (opening_node base config now a (next_link left)) one.node before.1
+      (fresh_shows a left one.node new fresh gives) in
+      let all_shown : AllShow v (opening_nodes base config now (actors ++ a ∷ []) polls) ys =
+      subst (AllShow v (opening_nodes base config now (actors ++ a ∷ []) polls)) (sym one.added)
+      (subst (λ (ns : List Node). AllShow v ns (xs ++ one.node ∷ [])) (sym (opening_push actors a polls)) shown) in
+      let count : length (actors ++ a ∷ []) ≡ suc (length actors) = omega (arith, length-append actors (a ∷ [])) in
+      let later : new ≡ Some (drop (length (actors ++ a ∷ [])) polls) =
+      gives.0 ∙ ap Some (drop_then (length actors) polls ∙ ap (λ (k : ℕ). drop k polls) (sym count)) in
+      subst (λ (front_actors : List Actor). AttachingOn v base config now front_actors (Some polls) new ys) (sym front) (later, all_shown)
+
+  pub attached_all : (all : List Actor) (i : ℕ) (to_come new : Option (List (List PollAnswer))) (xs : List (code.Node L)) → length all ≤ i
+      → AttachingOn v base config now (take i all) to_come new xs → AttachesAll v base config now all to_come xs
+  attached_all all i None new xs past on = tt
+  attached_all all i (Some polls) new xs past on =
+      subst (λ (actors : List Actor). AllShow v (opening_nodes base config now actors polls) xs) (take_all i all past) on.1
+
+  pub places_more : (all : List Actor) (i : ℕ) (a : Actor) (mid new : Option (List (List PollAnswer))) (xs ys : List (code.Node L)) (ts : List Timer)
+      → slice_get all i ≡ Some a → AttachesOne v (record { base = base; own = a; config = config }) ts mid new xs ys
+      → map (place_of v) xs ≡ map (place_for base config) (take i all) → map (place_of v) ys ≡ map (place_for base config) (take (i + 1) all)
+  places_more all i a mid new xs ys ts there one before =
+      let front : take (i + 1) all ≡ take i all ++ a ∷ [] = ap (λ (k : ℕ). take k all) (add-one i) ∙ (Splits-at all i a there).front in
+      let place : place_of v one.node ≡ place_for base config a =
+      ap (λ (p : Address). (p, v.port one.node.link)) one.fresh.at ∙ ap (λ (k : ℕ). (record { base = base; own = a; config = config }, k)) one.fresh.port in
+      ap (map (place_of v)) one.added ∙ map-append (place_of v) xs (one.node ∷ [])
+      ∙ ap (λ (ps : List (Address × ℕ)). ps ++ place_of v one.node ∷ []) before
+      ∙ ap (λ (p : Address × ℕ). map (place_for base config) (take i all) ++ p ∷ []) place
+      ∙ sym (ap (map (place_for base config)) front ∙ map-append (place_for base config) (take i all) (a ∷ []))
+
+  pub places_all : (all : List Actor) (i : ℕ) (xs : List (code.Node L)) → length all ≤ i
+      → map (place_of v) xs ≡ map (place_for base config) (take i all) → map (place_of v) xs ≡ map (place_for base config) all
+  places_all all i xs past places = places ∙ ap (map (place_for base config)) (take_all i all past)
+
+-- ---- how many links are held
+
+pub rose_from : (a b c : ℕ) → a ≤ b → Rose b c → Rose a c
+rose_from a b c le rose = omega (arith, le, rose)
+
+module _ {A B : Type 0} (first mid last : ℕ) (det here there : List A) (xs ys : List B) where
+  pub holds_stays : ys ≡ xs → last + length here ≡ mid + length there → Holds first det mid here xs → Holds first det last there ys
+  holds_stays same balance holds = omega (arith, ap length same, balance, holds)
+
+  pub holds_more : (x : B) → ys ≡ xs ++ x ∷ [] → last ≡ mid + 1 → there ≡ here → Holds first det mid here xs → Holds first det last there ys
+  holds_more x added attached given holds =
+      let count : length ys ≡ length xs + 1 = ap length added ∙ length-append xs (x ∷ []) in
+      omega (arith, count, attached, ap length given, holds)
+
+module _ {A B : Type 0} (mid last : ℕ) (here there : List A) (xs ys : List B) where
+  pub room_stays : ys ≡ xs → last + length here ≡ mid + length there → HasRoom mid here xs → HasRoom last there ys
+  room_stays same balance room some =
+      let count : length ys ≡ length xs = ap length same in
+      let more : length here + length xs ≤ mid = room (omega (arith, some, count)) in
+      omega (arith, count, balance, more)
+
+  pub room_more : (x : B) → ys ≡ xs ++ x ∷ [] → last ≡ mid + 1 → there ≡ here → length there < last → HasRoom mid here xs → HasRoom last there ys
+  room_more x added attached given one room some = by (length xs) refl
+    where
+      count : length ys ≡ length xs + 1
+      count = ap length added ∙ length-append xs (x ∷ [])
+
+      by : (n : ℕ) → length xs ≡ n → length there + length ys ≤ last
+      by zero is = omega (arith, count, is, one)
+      by (suc n) is =
+          let more : length here + length xs ≤ mid = room (omega (arith, is)) in
+          omega (arith, count, attached, ap length given, more)
+
+-- the places of a configuration are in their ranges
+pub bases_placed : {L : Type 0} (v : LinkView L) (base : ℕ) (config : Configuration) (now : ℕ) (actors : List Actor) (xs : List (code.Node L))
+    → base ≤ 65000 → map (place_of v) xs ≡ map (place_for base config) actors → BasesFit v xs
+bases_placed v base config now actors xs fits places i x found = by (slice_get actors i) there
+  where
+    there : option_map (place_for base config) (slice_get actors i) ≡ Some (place_of v x)
+    there =
+        sym (slice_get-map (place_for base config) actors i) ∙ sym (ap (λ (ps : List (Address × ℕ)). slice_get ps i) places)
+        ∙ slice_get-map (place_of v) xs i ∙ ap (option_map (place_of v)) found
+
+    by : (o : Option Actor) → option_map (place_for base config) o ≡ Some (place_of v x) → x.at.base ≤ 65000
+    by None h = absurd cc
+    by (Some a) h =
+        let same : place_for base config a ≡ place_of v x = cc in
+        subst (λ (p : Address × ℕ). p.0.base ≤ 65000) same fits

@@ -1,0 +1,137 @@
+-- The events that are kept lead to the world.
+use Rattle.std.proofs.Common.{◌≡◌, ℕ, ◌+◌, List, [], ◌∷◌, ◌++◌, Bool, true, false, Option, Some, None, Result, Ok, Err, refl, sym, ap, subst, ◌∙◌, arith}
+use Rattle.std.specs.Prelude.{count_by, slice_get}
+use Rattle.std.specs.List.{All}
+use Rattle.std.proofs.lemmas.Grind.{common_steps, flat_map-append}
+use Rattle.std.proofs.lemmas.List.Elements.{All-append}
+use Rattle.nop_types.specs.Configuration.{Configuration}
+use Rattle.nop_types.specs.Given.{Given}
+use Rattle.nop_types.specs.Lines.{Line}
+use Rattle.nop_types.specs.Meaning.{Meaning}
+use Rattle.nop_types.specs.declared.input.Tick.{Tick}
+use Rattle.nop_types.specs.declared.input.Tick.TheVariants as ticks
+use Rattle.nop_types.specs.declared.output.Actor.{Actor}
+use Rattle.nop_types.specs.declared.output.Actor.TheVariants as actors
+use Rattle.nop_types.specs.declared.output.Out.{Out}
+use Rattle.schedule_text.specs.declared.event.Event.{Event}
+use Rattle.schedule_text.specs.declared.event.Event.TheVariants as events
+use Rattle.schedule_text.specs.EventText.{HasLine, HasWord}
+use Rattle.schedule_text.specs.Fits.{EventFits, EventsFit}
+use Rattle.schedule_text.specs.Ticks.{takes_tick}
+use Rattle.schedule_text.specs.Transcript.{line_text, lines_text}
+use Rattle.world.specs.Actors.{Happens}
+use Rattle.world.specs.declared.lines.Lines.{Lines}
+use Rattle.world.specs.LineCounts.{is_accept}
+use Rattle.world.specs.Seats.{Seated, Did}
+use Rattle.world.specs.WorldSteps.{WorldState, Refusal, Happened, step, step_at, step_of, then_at, tick_if, stimulus_of, go_on, run_from}
+use Rattle.one_box.specs.ClusterRun.{Course, kept}
+use Rattle.one_box.specs.Showing.{IsLedTo, IsNoJunk, GoesOn}
+
+fit_push : (es : List Event) (e : Event) → EventsFit es → EventFits e → EventsFit (es ++ e ∷ [])
+fit_push [] e fit one = (one, tt)
+fit_push (x ∷ es) e fit one = (fit.0, fit_push es e fit.1 one)
+
+-- ---- a run with one more event
+
+module _ {S : Type 0} (m : Meaning S) (e : Event) (h k : Happened) (next : step m h.world e ≡ Ok k) where
+  abbrev after : Result Happened Refusal
+  after = Ok (record { world = k.world; lines = h.lines ++ k.lines })
+
+  last : (lines : List Line) (w : WorldState) → run_from m lines w [] ≡ Ok h → run_from m lines w (e ∷ []) ≡ after
+  last lines w is =
+      let here : record { world = w; lines = lines } ≡ h = cc in
+      let world : w ≡ h.world = ap (λ (x : Happened). x.world) here in
+      let said : lines ≡ h.lines = ap (λ (x : Happened). x.lines) here in
+      let goes : step m w e ≡ Ok k = ap (λ (v : WorldState). step m v e) world ∙ next in
+      ap (λ (r : Result Happened Refusal). go_on m lines r (λ more v. run_from m more v [])) goes
+      ∙ ap (λ (ls : List Line). Ok (record { world = k.world; lines = ls ++ k.lines })) said
+
+  on : (es : List Event) (lines : List Line) (r : Result Happened Refusal)
+      → ((ls : List Line) (w : WorldState) → run_from m ls w es ≡ Ok h → run_from m ls w (es ++ e ∷ []) ≡ after)
+      → go_on m lines r (λ more v. run_from m more v es) ≡ Ok h → go_on m lines r (λ more v. run_from m more v (es ++ e ∷ [])) ≡ after
+  on es lines (Ok j) rec is = rec (lines ++ j.lines) j.world is
+  on es lines (Err refusal) rec is = absurd cc
+
+  run_push : (es : List Event) (lines : List Line) (w : WorldState) → run_from m lines w es ≡ Ok h → run_from m lines w (es ++ e ∷ []) ≡ after
+  run_push [] lines w is = last lines w is
+  run_push (x ∷ es) lines w is = on es lines (step m w x) (λ ls v. run_push es ls v) is
+
+-- ---- an event that happens has a line
+
+at_refusal : {S : Type 0} (next : S → Given → S × List Out) (f : Seated S × Did → Happened) (o : Option (Seated S)) (r : Refusal) (h : Happened)
+    → then_at f (step_at next o (Err r)) ≡ Ok h → ⊥
+at_refusal next f None r h is = cc
+at_refusal next f (Some p) r h is = cc
+
+of_refusal : {S : Type 0} (m : Meaning S) (w : WorldState) (a : Actor) (r : Refusal) (h : Happened) → step_of m w a (Err r) ≡ Ok h → ⊥
+of_refusal m w (actors.Replica i) r h is = at_refusal _ _ (slice_get w.replicas i) r h is
+of_refusal m w (actors.Sequencer i) r h is = at_refusal _ _ (slice_get w.sequencers i) r h is
+of_refusal m w (actors.Client i) r h is = at_refusal _ _ (slice_get w.clients i) r h is
+of_refusal m w actors.Controller r h is = cc
+
+tick_taken : {S : Type 0} (m : Meaning S) (w : WorldState) (a : Actor) (tick : Tick) (h : Happened) (b : Bool)
+    → step_of m w a (tick_if b tick) ≡ Ok h → b ≡ true
+tick_taken m w a tick h true is = refl
+tick_taken m w a tick h false is = absurd (of_refusal m w a _ h is)
+
+word_of : (a : Actor) (tick : Tick) → takes_tick a tick ≡ true → HasWord tick
+word_of a ticks.Suspect is = tt
+word_of a ticks.Watch is = tt
+word_of a ticks.Resend is = tt
+word_of a ticks.Sync is = tt
+word_of a ticks.Retry is = tt
+word_of a ticks.Probe is = tt
+word_of (actors.Replica i) ticks.Next is = absurd cc
+word_of (actors.Sequencer i) ticks.Next is = absurd cc
+word_of (actors.Client i) ticks.Next is = absurd cc
+word_of actors.Controller ticks.Next is = absurd cc
+word_of (actors.Replica i) (ticks.Install j) is = absurd cc
+word_of (actors.Sequencer i) (ticks.Install j) is = absurd cc
+word_of (actors.Client i) (ticks.Install j) is = absurd cc
+word_of actors.Controller (ticks.Install j) is = absurd cc
+
+happened_line : {S : Type 0} (m : Meaning S) (w : WorldState) (e : Event) (h : Happened) → IsNoJunk e → step m w e ≡ Ok h → HasLine e
+unfolding step stimulus_of
+happened_line m w (events.Submit client op) h free is = tt
+happened_line m w (events.Deliver index a) h free is = tt
+happened_line m w (events.Tick a tick) h free is = word_of a tick (tick_taken m w a tick h (takes_tick a tick) is)
+happened_line m w (events.Install number) h free is = tt
+happened_line m w (events.Crash a) h free is = tt
+happened_line m w (events.Junk a bytes) h free is = absurd free
+
+-- ---- one more event
+
+one_line : (e : Event) → HasLine e → All HasLine (e ∷ [])
+one_line e has = grind (arith, common_steps, has)
+
+count_append : (p : Line → Bool) (xs ys : List Line) → count_by p (xs ++ ys) ≡ count_by p xs + count_by p ys
+count_append p xs ys = grind (arith, common_steps)
+
+led_push : {S : Type 0} (m : Meaning S) (config : Configuration) (c : Course) (e : Event) (h : Happened) → step m c.world e ≡ Ok h
+    → EventFits e → IsNoJunk e → IsLedTo m config c → IsLedTo m config (kept c e h)
+led_push m config c e h next fits free before = record {
+  lines = before.lines ++ h.lines;
+  is = run_push m e (record { world = c.world; lines = before.lines }) h next c.events [] _ before.is;
+  fit = fit_push c.events e before.fit fits;
+  spelled = All-append HasLine c.events (e ∷ []) before.spelled (one_line e (happened_line m c.world e h free next));
+  text = ap (λ (t : List ℕ). t ++ lines_text h.lines) before.text ∙ sym (flat_map-append line_text before.lines h.lines);
+  accepts = ap (λ (n : ℕ). n + count_by is_accept h.lines) before.accepts ∙ sym (count_append is_accept before.lines h.lines);
+}
+
+-- the lines that the world showed are kept with the event
+pub kept_goes : {S : Type 0} (m : Meaning S) (c d : Course) (e : Event) (new : WorldState) (lines : Lines)
+    → Happens (step m c.world e) new lines
+    → d ≡ record { world = new; events = c.events ++ e ∷ []; text = c.text ++ lines.text; accepts = c.accepts + lines.accepts; stray = c.stray }
+    → EventFits e → IsNoJunk e → GoesOn m c d
+kept_goes m c d e new lines h is fits free config led =
+    let happened : Happened = record { world = new; lines = h.are } in
+    let keeps : d ≡ kept c e happened =
+    is
+    ∙ ap (λ (t : List ℕ). record { world = new; events = c.events ++ e ∷ []; text = c.text ++ t; accepts = c.accepts + lines.accepts; stray = c.stray })
+    h.shown.text
+    ∙ ap (λ (k : ℕ). record { world = new; events = c.events ++ e ∷ []; text = c.text ++ lines_text h.are; accepts = c.accepts + k; stray = c.stray })
+    h.shown.accepts in
+    subst (IsLedTo m config) (sym keeps) (led_push m config c e happened h.is fits free led)
+
+pub goes_through : {S : Type 0} (m : Meaning S) (a b c : Course) → GoesOn m a b → GoesOn m b c → GoesOn m a c
+goes_through m a b c one two config led = two config (one config led)

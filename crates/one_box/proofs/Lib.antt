@@ -1,0 +1,10 @@
+pub mod AttachingLemmas
+pub mod ClusterLemmas
+pub mod FiringLemmas
+pub mod LeadingLemmas
+pub mod PollingLemmas
+pub mod RunningLemmas
+pub mod SendingLemmas
+pub mod TakingLemmas
+pub mod TextLemmas
+pub mod TurningLemmas

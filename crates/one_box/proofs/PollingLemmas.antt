@@ -1,0 +1,115 @@
+-- One poll of an actor.
+use Rattle.std.proofs.Common.{◌≡◌, ℕ, List, [], ◌++◌, drop, map, Option, Some, None, Result, Ok, Err, refl, sym, ap, subst, ◌∙◌, append-nil}
+use Rattle.nop_types.specs.Meaning.{Meaning}
+use Rattle.outside.specs.Links.{next_poll, Polls}
+use Rattle.outside.specs.Plans.{next_count}
+use Rattle.outside.specs.Told.{Stays}
+use Rattle.outside.specs.declared.errors.DeviceError.TheVariants as devices
+use Rattle.outside.specs.declared.link.PollAnswer.{PollAnswer}
+use Rattle.outside.specs.declared.link.PollAnswer.TheVariants.{Received, Nothing, Failure}
+use Rattle.outside.specs.declared.link.Sent as links
+use Rattle.schedule_text.specs.declared.event.Event.TheVariants as events
+use Rattle.udp_node.specs.declared.address.Address.{Address}
+use Rattle.udp_node.specs.Sends.{LinkSide, Sends, side}
+use Rattle.udp_node.specs.Timing.{rearmed, Takes}
+use Rattle.udp_node.proofs.SendLemmas.{sends_then}
+use Rattle.udp_node.proofs.TurnLemmas.{answer_of, polled, poll_failed, quiet}
+use Rattle.world.specs.Finding.{first_index}
+use Rattle.one_box.specs.declared.errors.ClusterError.{ClusterError}
+use Rattle.one_box.specs.declared.errors.ClusterError.TheVariants.{LinkFault, WriteFault, NoMemory}
+use Rattle.one_box.specs.declared.node.Node as code
+use Rattle.one_box.specs.ClusterRun as run
+use Rattle.one_box.specs.ClusterRun.{Course, Node, take, deliver, poll, fire_due, node_turn}
+use Rattle.one_box.specs.Showing.{LinkView, Shows, Reaches, ReachesIf, Does, DoesOr, posts}
+
+module _ {S L : Type 0} (m : Meaning S) (v : LinkView L) (c d : Course) (x y : code.Node L) where
+  -- it equals one that was sent
+  pub delivered : (datagram : List ℕ) (index : ℕ) → first_index datagram c.world.sent ≡ Some index
+      → Does v (λ a n. take m a n (events.Deliver index x.at.own)) c x d y
+      → Does v (λ a n. deliver m (first_index datagram a.world.sent) a n) c x d y
+  unfolding deliver
+  delivered datagram index is does n shown =
+      let here : Reaches v (take m c n (events.Deliver index n.at.own)) d y =
+      subst (λ (a : Address). Reaches v (take m c n (events.Deliver index a.own)) d y) shown.at (does n shown) in
+      subst (λ (o : Option ℕ). Reaches v (deliver m o c n) d y) (sym is) here
+
+  -- it equals none
+  pub dropped : (datagram : List ℕ) → first_index datagram c.world.sent ≡ None → d ≡ record c { stray = next_count c.stray }
+      → Does v (λ a n. deliver m (first_index datagram a.world.sent) a n) c x d x
+  unfolding deliver
+  dropped datagram is strays n shown =
+      let here : Reaches v (deliver m None c n) d x = record { course = sym strays; node = shown } in
+      subst (λ (o : Option ℕ). Reaches v (deliver m o c n) d x) (sym is) here
+
+-- the link after a poll, with the timers that were due
+module _ {S L : Type 0} (m : Meaning S) (v : LinkView L) (now : ℕ) (c d : Course) (x z y : code.Node L) (at : z.at ≡ x.at)
+    (next_op : z.next_op ≡ x.next_op) (timers : z.timers.items ≡ map (rearmed now) x.timers.items) (lost : z.lost ≡ x.lost)
+    (sent : Stays (v.sent x.link) (v.sent z.link)) (losses : v.losses z.link ≡ v.losses x.link) where
+  after : Node → Node
+  after n = record n { timers = map (rearmed now) n.timers; answers = drop 1 n.answers }
+
+  shows_after : (n : Node) → Shows v n x → v.answers z.link ≡ Some (drop 1 n.answers)
+      → Shows v (record n { timers = map (rearmed now) n.timers; answers = drop 1 n.answers }) z
+  shows_after n shown answers =
+      let a : LinkSide = side (Some []) 0 0 in
+      let b : LinkSide = side (v.sent x.link) x.lost (v.losses x.link) in
+      let e : LinkSide = side (v.sent z.link) z.lost (v.losses z.link) in
+      let all : Sends (posts n.at n.sent ++ []) a e = sends_then (posts n.at n.sent) [] a b e shown.sends (quiet b e sent lost losses) in
+      record {
+        at = at ∙ shown.at;
+        next_op = next_op ∙ shown.next_op;
+        timers = timers ∙ ap (map (rearmed now)) shown.timers;
+        answers = answers;
+        sends = subst (λ (ds : List links.Sent). Sends ds a e) (append-nil (posts n.at n.sent)) all;
+      }
+
+  taken : (n : Node) (r : Option (List ℕ)) → Shows v n x → Polls (v.answers x.link) (v.answers z.link) (Ok r)
+      → Takes (Some n.answers) (v.answers z.link) (answer_of (Ok r))
+  taken n r shown polls =
+      polled (Some n.answers) (v.answers x.link) (v.answers z.link) r shown.answers polls
+
+  -- no datagram came
+  pub silent : Polls (v.answers x.link) (v.answers z.link) (Ok None) → (t : Unit {0}) → DoesOr v (poll m now) (Ok t) c x c z
+  unfolding poll run.polled
+  silent polls t n shown =
+      let took = taken n None shown polls in
+      let here : ReachesIf v (run.polled m Nothing c (record n { timers = map (rearmed now) n.timers; answers = drop 1 n.answers })) c z =
+      record { course = refl; node = shows_after n shown took.1 } in
+      subst (λ (p : PollAnswer). ReachesIf v (run.polled m p c (record n { timers = map (rearmed now) n.timers; answers = drop 1 n.answers })) c z)
+      took.0 here
+
+  -- a datagram came
+  pub received : (datagram shows : List ℕ) → shows ≡ datagram → Polls (v.answers x.link) (v.answers z.link) (Ok (Some datagram))
+      → Does v (λ a n. deliver m (first_index shows a.world.sent) a n) c z d y → (t : Unit {0}) → DoesOr v (poll m now) (Ok t) c x d y
+  unfolding poll run.polled
+  received datagram shows same polls does t n shown =
+      let took = taken n (Some datagram) shown polls in
+      let k : Node = record n { timers = map (rearmed now) n.timers; answers = drop 1 n.answers } in
+      let reach : Reaches v (deliver m (first_index shows c.world.sent) c k) d y = does k (shows_after n shown took.1) in
+      let here : ReachesIf v (run.polled m (Received datagram) c k) d y =
+      subst (λ (bytes : List ℕ). Reaches v (deliver m (first_index bytes c.world.sent) c k) d y) same reach in
+      subst (λ (p : PollAnswer). ReachesIf v (run.polled m p c k) d y) took.0 here
+
+  -- the poll failed
+  pub failed : Polls (v.answers x.link) (v.answers z.link) (Err devices.Failed) → DoesOr v (poll m now) (Err LinkFault) c x d y
+  unfolding poll run.polled
+  failed polls n shown =
+      let gives : Failure ≡ next_poll n.answers =
+      poll_failed (Some n.answers) (v.answers x.link) (v.answers z.link) shown.answers polls in
+      ap (λ (p : PollAnswer). run.polled m p c (record n { timers = map (rearmed now) n.timers; answers = drop 1 n.answers })) (sym gives)
+
+-- the timers and then the poll
+module _ {S L : Type 0} (m : Meaning S) (v : LinkView L) (ops : List (List ℕ)) (now : ℕ) (c d e : Course) (x y z : code.Node L) where
+  pub fired_and_polled : (r : Result (Unit {0}) ClusterError) → Does v (λ a n. fire_due m ops now n.timers a n) c x d y
+      → DoesOr v (λ a n. poll m now a n) r d y e z → DoesOr v (λ a n. node_turn m ops now a n) r c x e z
+  unfolding node_turn
+  fired_and_polled (Ok t) fires polls = λ n shown.
+      let p : Course × Node = fire_due m ops now n.timers c n in
+      let reach : Reaches v p d y = fires n shown in
+      subst (λ (a : Course). ReachesIf v (poll m now a p.1) e z) (sym reach.course) (polls p.1 reach.node)
+  fired_and_polled (Err LinkFault) fires polls = λ n shown.
+      let p : Course × Node = fire_due m ops now n.timers c n in
+      let reach : Reaches v p d y = fires n shown in
+      ap (λ (a : Course). poll m now a p.1) reach.course ∙ polls p.1 reach.node
+  fired_and_polled (Err WriteFault) fires polls = polls
+  fired_and_polled (Err NoMemory) fires polls = tt

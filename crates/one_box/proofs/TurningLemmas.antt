@@ -1,0 +1,188 @@
+-- The actors of a turn, one after the other.
+use Rattle.std.proofs.Common.{◌≡◌, ℕ, zero, suc, ◌+◌, ◌<◌, ◌≤◌, List, [], ◌∷◌, ◌++◌, length, Option, Some, None, refl, sym, ap, subst, ◌∙◌}
+use Rattle.std.proofs.Common.{arith, map, Err, length-append, append_assoc}
+use Rattle.std.specs.Prelude.{option_map, slice_get, slice_set}
+use Rattle.std.specs.Option.{option_and_then}
+use Rattle.std.proofs.lemmas.Option.{slice_get-map}
+use Rattle.nop_types.specs.Meaning.{Meaning}
+use Rattle.one_box.specs.declared.node.Node as code
+use Rattle.one_box.specs.ClusterRun.{Course, Node, node_turn, turn}
+use Rattle.outside.specs.Causes.{Rose}
+use Rattle.udp_node.specs.declared.address.Address.{Address}
+use Rattle.one_box.specs.declared.errors.ClusterError.{ClusterError}
+use Rattle.one_box.specs.declared.errors.ClusterError.TheVariants.{LinkFault, WriteFault, NoMemory}
+use Rattle.one_box.specs.Showing.{LinkView, Shows, ReachesIf, DoesOr, AllShow, AllReach, AllReachIf, TurnsOr, BasesFit, HasFault}
+use Rattle.one_box.specs.Showing.{place_of}
+use Rattle.one_box.specs.Progress.{TurningOn}
+
+module _ {L : Type 0} (v : LinkView L) where
+  pub shown_length : (ns : List Node) (xs : List (code.Node L)) → AllShow v ns xs → length ns ≡ length xs
+  shown_length [] [] h = refl
+  shown_length [] (x ∷ xs) h = absurd h
+  shown_length (n ∷ ns) [] h = absurd h
+  shown_length (n ∷ ns) (x ∷ xs) h = ap suc (shown_length ns xs h.1)
+
+  -- the actor at a place
+  pub shown_at : (before rest : List Node) (n : Node) (xs : List (code.Node L)) (x : code.Node L) → AllShow v (before ++ n ∷ rest) xs
+      → slice_get xs (length before) ≡ Some x → Shows v n x
+  shown_at [] rest n [] x h found = absurd h
+  shown_at [] rest n (y ∷ ys) x h found = let same : y ≡ x = cc in subst (Shows v n) same h.0
+  shown_at (b ∷ bs) rest n [] x h found = absurd h
+  shown_at (b ∷ bs) rest n (y ∷ ys) x h found = shown_at bs rest n ys x h.1 found
+
+  pub shown_set : (before rest : List Node) (n k : Node) (xs : List (code.Node L)) (y : code.Node L) → AllShow v (before ++ n ∷ rest) xs
+      → Shows v k y → AllShow v (before ++ k ∷ rest) (slice_set xs (length before) y)
+  shown_set [] rest n k [] y h one = absurd h
+  shown_set [] rest n k (x ∷ xs) y h one = (one, h.1)
+  shown_set (b ∷ bs) rest n k [] y h one = absurd h
+  shown_set (b ∷ bs) rest n k (x ∷ xs) y h one = (h.0, shown_set bs rest n k xs y h.1 one)
+
+abbrev Turned : Type 0
+Turned = Course × List Node
+
+abbrev some_turned : Course → List Node → Option Turned
+some_turned c ns = Some (c, ns)
+
+behind : (before : List Node) (k : Node) (o : Option Turned)
+    → option_map {U = Turned} (λ (q : Turned). (q.0, (before ++ k ∷ []) ++ q.1)) o
+    ≡ option_map {U = Turned} (λ (q : Turned). (q.0, before ++ q.1)) (option_map {U = Turned} (λ (q : Turned). (q.0, k ∷ q.1)) o)
+behind before k None = refl
+behind before k (Some q) = ap (λ (ns : List Node). some_turned q.0 ns) (append_assoc before (k ∷ []) q.1)
+
+module _ {S L : Type 0} (m : Meaning S) (v : LinkView L) (ops : List (List ℕ)) (now : ℕ) (c : Course) (ns : List Node) where
+  abbrev then_rest : List Node → Option (Course × Node) → Option Turned
+  then_rest rest o = option_and_then (λ (p : Course × Node). option_map {U = Turned} (λ (q : Turned). (q.0, p.1 ∷ q.1)) (turn m ops now p.0 rest)) o
+
+  pub none_turned : (xs : List (code.Node L)) → AllShow v ns xs → TurningOn m v ops now c ns 0 c xs
+  none_turned xs shown = record { before = []; rest = ns; count = refl; shown = shown; goes = same (turn m ops now c ns) }
+    where
+      same : (o : Option Turned) → option_map {U = Turned} (λ (q : Turned). (q.0, [] ++ q.1)) o ≡ o
+      same None = refl
+      same (Some q) = refl
+
+  module _ (i : ℕ) (d : Course) (ys : List (code.Node L)) (x : code.Node L) (found : slice_get ys i ≡ Some x) (within : i < length ys) where
+    -- the actor whose part comes next
+    pub record NextNode : Type 0 where
+      pub before : List Node
+      pub node : Node
+      pub rest : List Node
+      pub count : length before ≡ i
+      pub shown : AllShow v (before ++ node ∷ rest) ys
+      pub shows : Shows v node x
+      pub goes : option_map (λ q. (q.0, before ++ q.1)) (turn m ops now d (node ∷ rest)) ≡ turn m ops now c ns
+
+    next_node : TurningOn m v ops now c ns i d ys → NextNode
+    next_node t = by t.rest t.shown t.goes
+      where
+        by : (rest : List Node) → AllShow v (t.before ++ rest) ys
+            → option_map (λ q. (q.0, t.before ++ q.1)) (turn m ops now d rest) ≡ turn m ops now c ns → NextNode
+        by [] shown goes = absurd (omega (arith, shown_length v (t.before ++ []) ys shown, length-append t.before [], t.count, within))
+        by (n ∷ rest) shown goes = record {
+          before = t.before;
+          node = n;
+          rest = rest;
+          count = t.count;
+          shown = shown;
+          shows = shown_at v t.before rest n ys x shown (ap (slice_get ys) t.count ∙ found);
+          goes = goes;
+        }
+
+    -- its part of the turn
+    pub turned : (e : Course) (z : code.Node L) → TurningOn m v ops now c ns i d ys
+        → ((n : Node) → Shows v n x → ReachesIf v (node_turn m ops now d n) e z) → TurningOn m v ops now c ns (i + 1) e (slice_set ys i z)
+    unfolding turn
+    turned e z t does = by (node_turn m ops now d k.node) refl (does k.node k.shows)
+      where
+        k : NextNode
+        k = next_node t
+
+        by : (o : Option (Course × Node)) → node_turn m ops now d k.node ≡ o → ReachesIf v o e z
+            → TurningOn m v ops now c ns (i + 1) e (slice_set ys i z)
+        by None is reach = absurd reach
+        by (Some p) is reach = record {
+          before = k.before ++ p.1 ∷ [];
+          rest = k.rest;
+          count = omega (arith, length-append k.before (p.1 ∷ []), k.count);
+          shown =
+              let set : AllShow v (k.before ++ p.1 ∷ k.rest) (slice_set ys (length k.before) z) =
+              shown_set v k.before k.rest k.node p.1 ys z k.shown reach.node in
+              let placed : AllShow v (k.before ++ p.1 ∷ k.rest) (slice_set ys i z) =
+              subst (λ (j : ℕ). AllShow v (k.before ++ p.1 ∷ k.rest) (slice_set ys j z)) k.count set in
+              subst (λ (ms : List Node). AllShow v ms (slice_set ys i z)) (sym (append_assoc k.before (p.1 ∷ []) k.rest)) placed;
+          goes =
+              behind k.before p.1 (turn m ops now e k.rest)
+              ∙ ap (λ (a : Course). option_map {U = Turned} (λ (q : Turned). (q.0, k.before ++ q.1))
+              (option_map {U = Turned} (λ (q : Turned). (q.0, p.1 ∷ q.1)) (turn m ops now a k.rest))) (sym reach.course)
+              ∙ ap (λ (r : Option (Course × Node)). option_map {U = Turned} (λ (q : Turned). (q.0, k.before ++ q.1)) (then_rest k.rest r)) (sym is)
+              ∙ k.goes;
+        }
+
+    -- its poll failed
+    pub turn_broken : (e : Course) (z : code.Node L) → TurningOn m v ops now c ns i d ys
+        → ((n : Node) → Shows v n x → node_turn m ops now d n ≡ None) → turn m ops now c ns ≡ None
+    unfolding turn
+    turn_broken e z t fails =
+        sym k.goes ∙ ap (λ (r : Option (Course × Node)). option_map {U = Turned} (λ (q : Turned). (q.0, k.before ++ q.1)) (then_rest k.rest r)) (fails k.node k.shows)
+      where
+        k : NextNode
+        k = next_node t
+
+  -- all of them
+  pub all_turned : (i : ℕ) (d : Course) (ys : List (code.Node L)) → length ys ≤ i → TurningOn m v ops now c ns i d ys
+      → AllReachIf v (turn m ops now c ns) d ys
+  unfolding turn
+  all_turned i d ys past t = by t.rest t.shown t.goes
+    where
+      by : (rest : List Node) → AllShow v (t.before ++ rest) ys
+          → option_map {U = Turned} (λ (q : Turned). (q.0, t.before ++ q.1)) (turn m ops now d rest) ≡ turn m ops now c ns
+          → AllReachIf v (turn m ops now c ns) d ys
+      by (n ∷ rest) shown goes =
+          absurd (omega (arith, shown_length v (t.before ++ n ∷ rest) ys shown, length-append t.before (n ∷ rest), t.count, past))
+      by [] shown goes =
+          let reach : AllReach v (d, t.before ++ []) d ys = record { course = refl; nodes = shown } in
+          subst (λ (o : Option Turned). AllReachIf v o d ys) goes reach
+
+-- ---- the places of actors, which no turn changes
+
+module _ {L : Type 0} (v : LinkView L) where
+  pub same_places : (ys : List (code.Node L)) (i : ℕ) (x z : code.Node L) → slice_get ys i ≡ Some x → place_of v z ≡ place_of v x
+      → map (place_of v) (slice_set ys i z) ≡ map (place_of v) ys
+  same_places [] i x z found same = absurd cc
+  same_places (y ∷ ys) zero x z found same =
+      let here : y ≡ x = cc in
+      ap (λ (p : Address × ℕ). p ∷ map (place_of v) ys) (same ∙ sym (ap (place_of v) here))
+  same_places (y ∷ ys) (suc i) x z found same = ap (λ (ps : List (Address × ℕ)). place_of v y ∷ ps) (same_places ys i x z found same)
+
+  pub base_at : (xs ys : List (code.Node L)) (i : ℕ) (y : code.Node L) → BasesFit v xs → map (place_of v) ys ≡ map (place_of v) xs
+      → slice_get ys i ≡ Some y → y.at.base ≤ 65000
+  base_at xs ys i y fits places found = by (slice_get xs i) refl there
+    where
+      there : option_map (place_of v) (slice_get xs i) ≡ Some (place_of v y)
+      there =
+          sym (slice_get-map (place_of v) xs i) ∙ sym (ap (λ (ps : List (Address × ℕ)). slice_get ps i) places)
+          ∙ slice_get-map (place_of v) ys i ∙ ap (option_map (place_of v)) found
+
+      by : (o : Option (code.Node L)) → slice_get xs i ≡ o → option_map (place_of v) o ≡ Some (place_of v y) → y.at.base ≤ 65000
+      by None is h = absurd cc
+      by (Some x) is h =
+          let same : place_of v x ≡ place_of v y = cc in
+          subst (λ (p : Address × ℕ). p.0.base ≤ 65000) same (fits i x is)
+
+  pub fault_set : (ys : List (code.Node L)) (i : ℕ) (x z : code.Node L) → slice_get ys i ≡ Some x → Rose 0 (v.faults z.link)
+      → HasFault v (slice_set ys i z)
+  fault_set ys i x z found rose = record { place = i; node = z; there = set_there ys i found; rose = rose }
+    where
+      set_there : (xs : List (code.Node L)) (j : ℕ) → slice_get xs j ≡ Some x → slice_get (slice_set xs j z) j ≡ Some z
+      set_there [] j h = absurd cc
+      set_there (y ∷ xs) zero h = refl
+      set_there (y ∷ xs) (suc j) h = set_there xs j h
+
+-- an error ends the turn
+pub turn_stops : {S L : Type 0} (m : Meaning S) (v : LinkView L) (ops : List (List ℕ)) (now : ℕ) (c d e : Course) (xs ys zs : List (code.Node L))
+    (i : ℕ) (x z : code.Node L) (error : ClusterError) → slice_get ys i ≡ Some x → i < length ys
+    → ((ns : List Node) → AllShow v ns xs → TurningOn m v ops now c ns i d ys)
+    → DoesOr v (λ a n. node_turn m ops now a n) (Err error) d x e z → TurnsOr v (λ a ns. turn m ops now a ns) (Err error) c xs e zs
+turn_stops m v ops now c d e xs ys zs i x z LinkFault found within on fails =
+    λ ns shown. turn_broken m v ops now c ns i d ys x found within e z (on ns shown) fails
+turn_stops m v ops now c d e xs ys zs i x z WriteFault found within on fails = fails
+turn_stops m v ops now c d e xs ys zs i x z NoMemory found within on fails = tt

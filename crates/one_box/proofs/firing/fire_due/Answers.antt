@@ -1,0 +1,38 @@
+use Rattle.std.proofs.Common.{◌≡◌, ◌∙◌, subst, Some, arith, refl, List}
+use Rattle.std.specs.Prelude.{slice_get}
+use Rattle.udp_node.specs.declared.firing.Timer.{Timer}
+use Rattle.one_box.specs.Showing.{course_of, link_view}
+use Rattle.one_box.proofs.FiringLemmas.{none_fired, fired_at, all_fired_at}
+use Rattle.one_box.proofs.LeadingLemmas.{goes_through}
+use Rattle.one_box.proofs.firing.fire_due.Goals as goal
+
+pub loop-i-init : goal.loop-i-init
+loop-i-init g c = record {
+  fires = λ n shown. none_fired g.H.Host.meaning (link_view g.L.Link.answers g.L.Link.own_port g.L.Link.sent g.L.Link.loss_count g.L.Link.fault_count)
+      c.args.ops.now c.args.now c.args.node.now.timers.items (course_of c.args.course.now) n c.args.node.now shown;
+  goes = λ config led. led;
+  timers = refl;
+  place = refl;
+}
+
+pub loop-i-preserved : goal.loop-i-preserved
+loop-i-preserved g c =
+    let all = c.args.node.now.timers.items in
+    let i = c.loop-i.invariant in
+    let there : slice_get all c.loop-i.i ≡ Some c.timer_at-timer.result =
+    subst (λ (ts : List Timer). slice_get ts c.loop-i.i ≡ Some c.timer_at-timer.result) i.timers c.timer_at-timer.ensures in
+    record {
+      fires = λ n shown. fired_at g.H.Host.meaning (link_view g.L.Link.answers g.L.Link.own_port g.L.Link.sent g.L.Link.loss_count g.L.Link.fault_count)
+          c.args.ops.now c.args.now all c.loop-i.i c.timer_at-timer.result (course_of c.args.course.now) (course_of c.loop-i.course)
+          (course_of c.fire.new.course) n c.loop-i.node c.fire.new.node there (i.fires n shown) c.in_ok-fire.ensures.does;
+      goes = goes_through g.H.Host.meaning (course_of c.args.course.now) (course_of c.loop-i.course) (course_of c.fire.new.course) i.goes
+          c.in_ok-fire.ensures.goes;
+      timers = c.fire.ensures.timers ∙ i.timers;
+      place = c.fire.ensures.place ∙ i.place;
+    }
+
+pub returns-clause-does : goal.returns-clause-does
+returns-clause-does g c = λ n shown.
+    all_fired_at g.H.Host.meaning (link_view g.L.Link.answers g.L.Link.own_port g.L.Link.sent g.L.Link.loss_count g.L.Link.fault_count)
+    c.args.ops.now c.args.now c.args.node.now.timers.items c.loop-i.i (course_of c.args.course.now) (course_of c.loop-i.course) n
+    c.loop-i.node (omega arith) shown.timers (c.loop-i.invariant.fires n shown)

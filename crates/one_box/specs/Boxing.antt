@@ -1,0 +1,97 @@
+-- How a cluster in one process ends.
+use Rattle.std.specs.Prelude.{◌≡◌, ◌++◌, ◌==◌, ◌⊎◌, ℕ, List, length, map, count_by, false, ⊤, Option, Some, None, Result, Ok, Err}
+use Rattle.std.specs.Io.KnownBytes.{Appends}
+use Rattle.nop_types.specs.Configuration.{Configuration}
+use Rattle.nop_types.specs.Meaning.{Meaning}
+use Rattle.outside.specs.Fronts.{AppendsFront}
+use Rattle.outside.specs.declared.link.PollAnswer.{PollAnswer}
+use Rattle.safety.specs.Safe.{SafelyPassed}
+use Rattle.schedule_text.specs.declared.event.Event.{Event}
+use Rattle.schedule_text.specs.Transcript.{lines_text}
+use Rattle.udp_node.specs.Effects.{WroteFront}
+use Rattle.world.specs.LineCounts.{is_accept}
+use Rattle.world.specs.WorldSteps.{Happened, run}
+use Rattle.one_box.specs.declared.boxed.Boxed.{Boxed}
+use Rattle.one_box.specs.declared.errors.ClusterError.{ClusterError}
+use Rattle.one_box.specs.declared.errors.ClusterError.TheVariants.{LinkFault, WriteFault, NoMemory}
+use Rattle.one_box.specs.declared.node.Node as code_node
+use Rattle.one_box.specs.declared.serving.Taken.{Taken}
+use Rattle.one_box.specs.Actors.{actors_of}
+use Rattle.one_box.specs.Attaching.{place_for, lost_by}
+use Rattle.one_box.specs.ClusterRun.{Course, ClusterRun, cluster_run}
+use Rattle.one_box.specs.Running.{IsRunIf}
+use Rattle.one_box.specs.Showing.{LinkView, AllShow, HasFault, place_of}
+use Rattle.one_box.specs.Text.{cluster_text}
+
+-- ---- writing
+
+-- the text was written and the run told, or a front of the text was written
+abbrev pub WritesRun : List ℕ → Boxed → Result Boxed ClusterError → Option (List ℕ) → Option (List ℕ) → Type 0
+WritesRun text boxed (Ok told) before now = (told ≡ boxed) × Appends before now text
+WritesRun text boxed (Err LinkFault) before now = ⊥
+WritesRun text boxed (Err WriteFault) before now = AppendsFront before now text
+WritesRun text boxed (Err NoMemory) before now = WroteFront text before now
+
+-- ---- the run
+
+module _ {S L : Type 0} (m : Meaning S) (v : LinkView L) (c : Configuration) (ops : List (List ℕ)) (base turns : ℕ) where
+  -- where the ports and the clock tell their content, it is the run over it
+  abbrev pub IsToldRun : Option (List (List PollAnswer)) → Option (List ℕ) → Taken → Course → List (code_node.Node L) → Type 0
+  IsToldRun None values taken course xs = ⊤
+  IsToldRun (Some polls) None taken course xs = ⊤
+  IsToldRun (Some polls) (Some values) taken course xs = IsRunIf v (cluster_run m c ops base turns values polls) taken course xs
+
+  -- it is the run over these values and answers: its events, turns and counts are told, and each link sent what its actor sent
+  pub record Tells (values : List ℕ) (polls : List (List PollAnswer)) (es : List Event) (boxed : Boxed) (xs : List (code_node.Node L))
+      : Type 0 where
+    pub whole : ClusterRun
+    pub is : cluster_run m c ops base turns values polls ≡ Some whole
+    pub kept : whole.course.events ≡ es
+    pub taken : whole.turns ≡ boxed.turns
+    pub strays : whole.course.stray ≡ boxed.stray
+    pub ends : whole.done ≡ boxed.done
+    pub links : AllShow v whole.nodes xs
+
+  abbrev pub TellsOf : Option (List (List PollAnswer)) → Option (List ℕ) → List Event → Boxed → List (code_node.Node L) → Type 0
+  TellsOf None values events boxed xs = ⊤
+  TellsOf (Some polls) None events boxed xs = ⊤
+  TellsOf (Some polls) (Some values) events boxed xs = Tells values polls events boxed xs
+
+  -- The events that were kept are not refused, and what they lead to is safe. Each actor had a link at its port, which was given
+  -- back, and the failed sends of all links are told.
+  pub record Ran (polls : Option (List (List PollAnswer))) (values : Option (List ℕ)) (given_back given_back_now : List L) (boxed : Boxed)
+      : Type 0 where
+    pub events : List Event
+    pub happened : Happened
+    pub led : run m c events ≡ Ok happened
+    pub safely : SafelyPassed m c events happened
+    pub done : boxed.done ≡ (count_by is_accept happened.lines == length ops)
+    pub spent : boxed.done ≡ false → boxed.turns ≡ turns
+    pub nodes : List (code_node.Node L)
+    pub back : given_back_now ≡ given_back ++ map (λ x. x.link) nodes
+    pub places : map (place_of v) nodes ≡ map (place_for base c) (actors_of c)
+    pub lost : boxed.lost ≡ lost_by nodes
+    pub tells : TellsOf polls values events boxed nodes
+
+  -- what is written: the schedule of these events, its transcript, and the last line
+  abbrev pub text_of : List Event → Happened → Boxed → List ℕ
+  text_of events happened boxed =
+      cluster_text c events (lines_text happened.lines) happened.world boxed.turns boxed.lost boxed.stray
+
+  -- by how the call ended: with a run whose text was written, or a front of it, or before anything was written
+  abbrev pub EndsWith : Option (List (List PollAnswer)) → Option (List ℕ) → List L → List L → Result Boxed ClusterError
+      → Option (List ℕ) → Option (List ℕ) → Type 0
+  EndsWith polls values given_back given_back_now (Ok boxed) before now =
+      (r : Ran polls values given_back given_back_now boxed) × Appends before now (text_of r.events r.happened boxed)
+  EndsWith polls values given_back given_back_now (Err LinkFault) before now = now ≡ before
+  EndsWith polls values given_back given_back_now (Err WriteFault) before now =
+      (boxed : Boxed) × (r : Ran polls values given_back given_back_now boxed) × AppendsFront before now (text_of r.events r.happened boxed)
+  EndsWith polls values given_back given_back_now (Err NoMemory) before now =
+      (now ≡ before) ⊎ ((boxed : Boxed) × (r : Ran polls values given_back given_back_now boxed)
+      × WroteFront (text_of r.events r.happened boxed) before now)
+
+-- the poll of a link failed, which was given back
+pub record PollFailed {L : Type 0} (v : LinkView L) (given_back given_back_now : List L) : Type 0 where
+  pub nodes : List (code_node.Node L)
+  pub back : given_back_now ≡ given_back ++ map (λ x. x.link) nodes
+  pub fault : HasFault v nodes

@@ -1,0 +1,54 @@
+-- How the turns of a cluster end.
+use Rattle.std.specs.Prelude.{◌≡◌, ℕ, ◌+◌, ◌-◌, List, ⊤, Option, Some, None, Result, Ok, Err, option_map}
+use Rattle.nop_types.specs.Meaning.{Meaning}
+use Rattle.one_box.specs.declared.errors.ClusterError.{ClusterError}
+use Rattle.one_box.specs.declared.errors.ClusterError.TheVariants.{LinkFault, WriteFault, NoMemory}
+use Rattle.one_box.specs.declared.node.Node as code_node
+use Rattle.one_box.specs.declared.serving.Taken.{Taken}
+use Rattle.one_box.specs.ClusterRun.{Course, Node, ClusterRun, turns_from}
+use Rattle.one_box.specs.Showing.{LinkView, AllShow}
+
+-- so many turns before a run
+abbrev pub after_turns : ℕ → ClusterRun → ClusterRun
+after_turns k r = record r { turns = k + r.turns }
+
+module _ {L : Type 0} (v : LinkView L) where
+  -- the run of the definition
+  pub record IsRun (r : ClusterRun) (taken : Taken) (c : Course) (xs : List (code_node.Node L)) : Type 0 where
+    pub course : r.course ≡ c
+    pub nodes : AllShow v r.nodes xs
+    pub turns : r.turns ≡ taken.turns
+    pub done : r.done ≡ taken.done
+
+  abbrev pub IsRunIf : Option ClusterRun → Taken → Course → List (code_node.Node L) → Type 0
+  IsRunIf None taken c xs = ⊥
+  IsRunIf (Some r) taken c xs = IsRun r taken c xs
+
+  -- the call ended as this run does: at LinkFault there is none
+  abbrev pub EndsAs : Option ClusterRun → Result Taken ClusterError → Course → List (code_node.Node L) → Type 0
+  EndsAs run (Ok taken) c xs = IsRunIf run taken c xs
+  EndsAs run (Err LinkFault) c xs = run ≡ None
+  EndsAs run (Err WriteFault) c xs = ⊥
+  EndsAs run (Err NoMemory) c xs = ⊤
+
+  -- where the clock and each link tell their content, it is the run over it
+  abbrev pub RunsTold : {S : Type 0} → Meaning S → List (List ℕ) → ℕ → ℕ → Option (List ℕ) → Result Taken ClusterError → Course
+      → List (code_node.Node L) → Course → List (code_node.Node L) → Type 0
+  RunsTold m ops turns now None result c xs d ys = ⊤
+  RunsTold m ops turns now (Some values) result c xs d ys =
+      (ns : List Node) → AllShow v ns xs → EndsAs (turns_from m ops turns c ns now values) result d ys
+
+  -- the whole run is the run from here, after so many turns
+  pub record GoingFrom {S : Type 0} (m : Meaning S) (ops : List (List ℕ)) (turns now : ℕ) (values : List ℕ) (c : Course) (ns : List Node)
+      (left taken time : ℕ) (told : Option (List ℕ)) (d : Course) (xs : List (code_node.Node L)) : Type 0 where
+    pub later : List ℕ
+    pub tells : told ≡ Some later
+    pub nodes : List Node
+    pub shown : AllShow v nodes xs
+    pub is : turns_from m ops turns c ns now values ≡ option_map (after_turns taken) (turns_from m ops left d nodes time later)
+
+  abbrev pub Going : {S : Type 0} → Meaning S → List (List ℕ) → ℕ → ℕ → Option (List ℕ) → Course → List (code_node.Node L) → ℕ → ℕ
+      → Option (List ℕ) → Course → List (code_node.Node L) → Type 0
+  Going m ops turns now None c xs taken time told d ys = ⊤
+  Going m ops turns now (Some values) c xs taken time told d ys =
+      (ns : List Node) → AllShow v ns xs → GoingFrom m ops turns now values c ns (turns - taken) taken time told d ys

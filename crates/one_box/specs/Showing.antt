@@ -1,0 +1,161 @@
+-- What the values of the code stand for.
+use Rattle.std.specs.Prelude.{◌≡◌, ◌≤◌, ℕ, List, [], ◌∷◌, slice_get, count_by, ⊤, Bool, true, false, Option, Some, None, Result, Ok, Err}
+use Rattle.std.specs.List.{All, flat_map}
+use Rattle.nop_types.specs.Configuration.{Configuration}
+use Rattle.nop_types.specs.Lines.{Line}
+use Rattle.nop_types.specs.Meaning.{Meaning}
+use Rattle.outside.specs.Causes.{Rose}
+use Rattle.outside.specs.declared.link.PollAnswer.{PollAnswer}
+use Rattle.outside.specs.declared.link.Sent as links
+use Rattle.schedule_text.specs.declared.event.Event.{Event}
+use Rattle.schedule_text.specs.declared.event.Event.TheVariants.{Submit, Deliver, Tick, Install, Crash, Junk}
+use Rattle.schedule_text.specs.EventText.{HasLine}
+use Rattle.schedule_text.specs.Fits.{EventsFit}
+use Rattle.schedule_text.specs.Transcript.{lines_text}
+use Rattle.udp_node.specs.declared.address.Address.{Address}
+use Rattle.udp_node.specs.Ports.{datagrams_to}
+use Rattle.udp_node.specs.Sends.{Sends, side}
+use Rattle.world.specs.LineCounts.{is_accept}
+use Rattle.world.specs.Network.{Sent}
+use Rattle.world.specs.WorldSteps.{Happened, Refusal, step, run}
+use Rattle.one_box.specs.declared.course.Course as code_course
+use Rattle.one_box.specs.declared.errors.ClusterError.{ClusterError}
+use Rattle.one_box.specs.declared.errors.ClusterError.TheVariants.{LinkFault, WriteFault, NoMemory}
+use Rattle.one_box.specs.declared.node.Node as code_node
+use Rattle.one_box.specs.ClusterRun.{Course, Node, kept}
+
+abbrev pub course_of : {H U : Type 0} → code_course.Course H U → Course
+course_of c = record {
+  world = c.world.state;
+  events = c.events.items;
+  text = c.text.items;
+  accepts = c.accepts;
+  stray = c.stray;
+}
+
+-- ---- the world
+
+-- the events that were kept led to this world, and these are their lines
+pub record IsLedTo {S : Type 0} (m : Meaning S) (config : Configuration) (c : Course) : Type 0 where
+  pub lines : List Line
+  pub is : run m config c.events ≡ Ok (record { world = c.world; lines = lines })
+  pub fit : EventsFit c.events
+  pub spelled : All HasLine c.events
+  pub text : c.text ≡ lines_text lines
+  pub accepts : c.accepts ≡ count_by is_accept lines
+
+-- it is no junk
+abbrev pub IsNoJunk : Event → Type 0
+IsNoJunk (Submit client op) = ⊤
+IsNoJunk (Deliver index actor) = ⊤
+IsNoJunk (Tick actor tick) = ⊤
+IsNoJunk (Install number) = ⊤
+IsNoJunk (Crash actor) = ⊤
+IsNoJunk (Junk actor bytes) = ⊥
+
+-- the event happened, and was kept
+pub record Happens {S : Type 0} (m : Meaning S) (e : Event) (c d : Course) : Type 0 where
+  pub happened : Happened
+  pub is : step m c.world e ≡ Ok happened
+  pub keeps : d ≡ kept c e happened
+
+-- it was refused, and changed nothing
+pub record Refuses {S : Type 0} (m : Meaning S) (e : Event) (c d : Course) : Type 0 where
+  pub refusal : Refusal
+  pub is : step m c.world e ≡ Err refusal
+  pub same : d ≡ c
+
+abbrev pub StepsTo : {S : Type 0} → Meaning S → Event → Course → Course → Bool → Type 0
+StepsTo m e c d true = Happens m e c d
+StepsTo m e c d false = Refuses m e c d
+
+-- where it was so before, it is so now
+abbrev pub GoesOn : {S : Type 0} → Meaning S → Course → Course → Type 0
+GoesOn m c d = (config : Configuration) → IsLedTo m config c → IsLedTo m config d
+
+-- ---- an actor and its link
+
+-- what is seen of a link
+pub record LinkView (L : Type 0) : Type 0 where
+  pub answers : L → Option (List PollAnswer)
+  pub port : L → ℕ
+  pub sent : L → Option (List links.Sent)
+  pub losses : L → ℕ
+  pub faults : L → ℕ
+
+abbrev pub link_view : {L : Type 0} → (L → Option (List PollAnswer)) → (L → ℕ) → (L → Option (List links.Sent)) → (L → ℕ) → (L → ℕ)
+    → LinkView L
+link_view answers port sent losses faults =
+    record { answers = answers; port = port; sent = sent; losses = losses; faults = faults }
+
+-- the datagrams of an actor to the ports of their destinations, in order
+abbrev pub posts : Address → List Sent → List links.Sent
+posts at sent = flat_map (λ s. datagrams_to at s.dest s.bytes) sent
+
+module _ {L : Type 0} (v : LinkView L) where
+  -- the link tells its content, and sent what the actor sent, but for the sends that failed
+  pub record Shows (n : Node) (x : code_node.Node L) : Type 0 where
+    pub at : x.at ≡ n.at
+    pub next_op : x.next_op ≡ n.next_op
+    pub timers : x.timers.items ≡ n.timers
+    pub answers : v.answers x.link ≡ Some n.answers
+    pub sends : Sends (posts n.at n.sent) (side (Some []) 0 0) (side (v.sent x.link) x.lost (v.losses x.link))
+
+  -- the course and the actor of the definition
+  pub record Reaches (p : Course × Node) (c : Course) (x : code_node.Node L) : Type 0 where
+    pub course : p.0 ≡ c
+    pub node : Shows p.1 x
+
+  -- the call did this, where the link tells its content
+  abbrev pub Does : (Course → Node → Course × Node) → Course → code_node.Node L → Course → code_node.Node L → Type 0
+  Does f c x d y = (n : Node) → Shows n x → Reaches (f c n) d y
+
+  abbrev pub ReachesIf : Option (Course × Node) → Course → code_node.Node L → Type 0
+  ReachesIf None c x = ⊥
+  ReachesIf (Some p) c x = Reaches p c x
+
+  -- the same of a call that polls: at LinkFault there is no run
+  abbrev pub DoesOr : (Course → Node → Option (Course × Node)) → Result (Unit {0}) ClusterError → Course → code_node.Node L → Course
+      → code_node.Node L → Type 0
+  DoesOr f (Ok r) c x d y = (n : Node) → Shows n x → ReachesIf (f c n) d y
+  DoesOr f (Err LinkFault) c x d y = (n : Node) → Shows n x → f c n ≡ None
+  DoesOr f (Err WriteFault) c x d y = ⊥
+  DoesOr f (Err NoMemory) c x d y = ⊤
+
+  -- where an actor is, and the port of its link
+  abbrev pub place_of : code_node.Node L → Address × ℕ
+  place_of x = (x.at, v.port x.link)
+
+  -- the actors in order
+  abbrev pub AllShow : List Node → List (code_node.Node L) → Type 0
+  AllShow [] [] = ⊤
+  AllShow [] (x ∷ xs) = ⊥
+  AllShow (n ∷ ns) [] = ⊥
+  AllShow (n ∷ ns) (x ∷ xs) = Shows n x × AllShow ns xs
+
+  pub record AllReach (q : Course × List Node) (c : Course) (xs : List (code_node.Node L)) : Type 0 where
+    pub course : q.0 ≡ c
+    pub nodes : AllShow q.1 xs
+
+  abbrev pub AllReachIf : Option (Course × List Node) → Course → List (code_node.Node L) → Type 0
+  AllReachIf None c xs = ⊥
+  AllReachIf (Some q) c xs = AllReach q c xs
+
+  -- a turn of all actors did this, where each link tells its content
+  abbrev pub TurnsOr : (Course → List Node → Option (Course × List Node)) → Result (Unit {0}) ClusterError → Course
+      → List (code_node.Node L) → Course → List (code_node.Node L) → Type 0
+  TurnsOr f (Ok r) c xs d ys = (ns : List Node) → AllShow ns xs → AllReachIf (f c ns) d ys
+  TurnsOr f (Err LinkFault) c xs d ys = (ns : List Node) → AllShow ns xs → f c ns ≡ None
+  TurnsOr f (Err WriteFault) c xs d ys = ⊥
+  TurnsOr f (Err NoMemory) c xs d ys = ⊤
+
+  -- each port is within its range
+  abbrev pub BasesFit : List (code_node.Node L) → Type 0
+  BasesFit xs = (i : ℕ) (x : code_node.Node L) → slice_get xs i ≡ Some x → x.at.base ≤ 65000
+
+  -- the poll of a link failed
+  pub record HasFault (xs : List (code_node.Node L)) : Type 0 where
+    pub place : ℕ
+    pub node : code_node.Node L
+    pub there : slice_get xs place ≡ Some node
+    pub rose : Rose 0 (v.faults node.link)

@@ -1,0 +1,36 @@
+-- What a cluster writes at its end.
+use Rattle.std.specs.Prelude.{ℕ, List, [], ◌∷◌, ◌++◌, codes, decimal}
+use Rattle.std.specs.List.{flat_map}
+use Rattle.nop_types.specs.Configuration.{Configuration}
+use Rattle.replay.specs.Output.{final_text}
+use Rattle.schedule_text.specs.declared.event.Event.{Event}
+use Rattle.schedule_text.specs.EventText.{event_text}
+use Rattle.schedule_text.specs.Transcript.{transcript_line}
+use Rattle.world.specs.WorldSteps.{WorldState}
+
+-- line 1 of a schedule
+unfoldable pub header_of : (replicas sequencers clients : ℕ) → List ℕ
+header_of replicas sequencers clients = codes "nopaxos 1 replicas " ++ decimal replicas ++ codes " sequencers " ++ decimal sequencers
+    ++ codes " clients " ++ decimal clients ++ 10 ∷ []
+
+abbrev pub header_line : Configuration → List ℕ
+header_line c = header_of c.replicas c.sequencers c.clients
+
+abbrev pub event_line : Event → List ℕ
+event_line e = event_text e ++ 10 ∷ []
+
+-- the schedule of the events
+unfoldable pub schedule_text : Configuration → List Event → List ℕ
+schedule_text c es = header_line c ++ flat_map event_line es
+
+-- the transcript of a run, given the text of its lines
+unfoldable pub transcript_of : Configuration → List ℕ → WorldState → List ℕ
+transcript_of c text w = transcript_line c ++ (text ++ final_text w)
+
+unfoldable pub served_line : ℕ → ℕ → ℕ → List ℕ
+served_line turns lost stray = codes "served " ++ decimal turns ++ codes " lost " ++ decimal lost ++ codes " stray " ++ decimal stray
+    ++ 10 ∷ []
+
+-- the schedule, its transcript, and the last line: so many turns were taken, so many sends failed, so many datagrams were dropped
+unfoldable pub cluster_text : Configuration → List Event → List ℕ → WorldState → ℕ → ℕ → ℕ → List ℕ
+cluster_text c es text w turns lost stray = schedule_text c es ++ (transcript_of c text w ++ served_line turns lost stray)

@@ -1,0 +1,156 @@
+ghost use Rattle.std.specs.Prelude.{◌≡◌, ◌≤◌, ◌+◌, ◌⊎◌, [], false, length, map, IfOk, OnOk, IsErrOf};
+ghost use Rattle.kv_host.specs.Kv.{kv_meaning};
+ghost use Rattle.outside.specs.Causes.{Rose};
+ghost use Rattle.one_box.specs.Actors.{actors_of};
+ghost use Rattle.one_box.specs.Attaching.{HasRoom, Holds, place_for};
+ghost use Rattle.one_box.specs.Boxing.{EndsWith, IsToldRun, PollFailed};
+ghost use Rattle.one_box.specs.ClusterRun.{all_accepted, opening_course};
+ghost use Rattle.one_box.specs.Showing.{course_of, link_view, HasFault, IsLedTo, place_of};
+ghost use Rattle.one_box.specs.declared.errors.ClusterError.TheVariants as errors;
+
+use crate::attaching::{actors_of, attach_all, detach_all, lost_by};
+use crate::boxed::Boxed;
+use crate::course::Course;
+use crate::errors::ClusterError;
+use crate::node::Node;
+use crate::serving::{Taken, take_turns};
+use crate::writing::write_run;
+use kv_host::KvHost;
+use nop_types::{Config, Host, NoMemory, Op};
+use outside::{Clock, Ports, Sink};
+use std::alloc::Global;
+
+/// Attaches a link for each actor, and takes the turns.
+fn run_turns<H: Host, P: Ports, C: Clock>(
+    alloc: Global,
+    config: Config,
+    ops: &[Op],
+    base: u16,
+    turns: u64,
+    course: &mut Course<H>,
+    nodes: &mut Vec<Node<P::L>>,
+    ports: &mut P,
+    clock: &mut C,
+) -> Result<Taken, ClusterError>
+    requires base { base ≤ 65000 }
+    requires empty { nodes.old.items ≡ [] }
+    requires opens { course_of course.old ≡ opening_course config }
+    ensures told { IfOk result (λ taken. IsToldRun H.meaning
+        (link_view P.L.answers P.L.own_port P.L.sent P.L.loss_count P.L.fault_count)
+        config ops.now base turns (P.to_come ports.old) (C.values clock.old) taken
+        (course_of course.new) nodes.new.items) }
+    ensures led { OnOk result (IsLedTo H.meaning config (course_of course.new)) }
+    ensures done { IfOk result (λ t. t.done ≡ all_accepted ops.now (course_of course.new)) }
+    ensures spent { IfOk result (λ t. t.done ≡ false → t.turns ≡ turns) }
+    ensures places { OnOk result (map (place_of
+        (link_view P.L.answers P.L.own_port P.L.sent P.L.loss_count P.L.fault_count)) nodes.new.items
+        ≡ map (place_for base config) (actors_of config)) }
+    ensures given { OnOk result (P.detached ports.new ≡ P.detached ports.old) }
+    ensures holds { Holds (P.attached ports.old) (P.detached ports.old) (P.attached ports.new)
+        (P.detached ports.new) nodes.new.items }
+    ensures room { HasRoom (P.attached ports.new) (P.detached ports.new) nodes.new.items }
+    ensures cause { IsErrOf result errors.LinkFault
+        → Rose (P.fault_count ports.old) (P.fault_count ports.new)
+        ⊎ ((P.detached ports.new ≡ P.detached ports.old) × HasFault
+        (link_view P.L.answers P.L.own_port P.L.sent P.L.loss_count P.L.fault_count) nodes.new.items) }
+    ensures write { IsErrOf result errors.WriteFault → ⊥ }
+{
+    let Ok(actors) = actors_of(alloc, config) else {
+        return Err(ClusterError::NoMemory);
+    };
+    let now = clock.now();
+    let attached = attach_all(
+        alloc,
+        &course.world,
+        base,
+        config,
+        &actors,
+        now,
+        ports,
+        nodes,
+    );
+    if let Err(e) = attached {
+        return Err(e);
+    }
+    take_turns(course, nodes, ops, turns, now, clock)
+}
+
+/// Serves a cluster whose replicas have a host of this type.
+pub fn serve_all_with<H: Host, P: Ports, C: Clock, K: Sink>(
+    alloc: Global,
+    config: Config,
+    ops: &[Op],
+    base: u16,
+    turns: u64,
+    ports: &mut P,
+    clock: &mut C,
+    sink: &mut K,
+) -> Result<Boxed, ClusterError>
+    requires { base ≤ 65000 }
+    ensures ends { EndsWith H.meaning
+        (link_view P.L.answers P.L.own_port P.L.sent P.L.loss_count P.L.fault_count)
+        config ops.now base turns (P.to_come ports.old) (C.values clock.old)
+        (P.detached ports.old) (P.detached ports.new) result (K.held sink.old) (K.held sink.new) }
+    ensures back { P.attached ports.new + length (P.detached ports.old)
+        ≡ P.attached ports.old + length (P.detached ports.new) }
+    ensures link { IsErrOf result errors.LinkFault
+        → Rose (P.fault_count ports.old) (P.fault_count ports.new) ⊎ PollFailed
+        (link_view P.L.answers P.L.own_port P.L.sent P.L.loss_count P.L.fault_count)
+        (P.detached ports.old) (P.detached ports.new) }
+    ensures write { IsErrOf result errors.WriteFault
+        → Rose (K.fault_count sink.old) (K.fault_count sink.new) }
+{
+    // for the limits of a configuration
+    let _ = config.replicas();
+    let Ok(mut course) = Course::<H>::new(alloc, config) else {
+        return Err(ClusterError::NoMemory);
+    };
+    let mut nodes = Vec::new(alloc);
+    let ran = run_turns(
+        alloc,
+        config,
+        ops,
+        base,
+        turns,
+        &mut course,
+        &mut nodes,
+        ports,
+        clock,
+    );
+    let lost = lost_by(&nodes);
+    detach_all(ports, nodes);
+    match ran {
+        Ok(taken) => write_run(alloc, config, &course, taken, lost, sink),
+        Err(e) => Err(e),
+    }
+}
+
+/// Serves all actors of a configuration in one process, each over a link of its own at its port, for at most so many turns and until
+/// all ops are accepted; the ops go to the clients in turn. At the end it writes the schedule of the events that happened, its
+/// transcript, and a last line; before that it writes nothing.
+pub fn serve_all<P: Ports, C: Clock, K: Sink>(
+    alloc: Global,
+    config: Config,
+    ops: &[Op],
+    base: u16,
+    turns: u64,
+    ports: &mut P,
+    clock: &mut C,
+    sink: &mut K,
+) -> Result<Boxed, ClusterError>
+    requires { base ≤ 65000 }
+    ensures ends { EndsWith kv_meaning
+        (link_view P.L.answers P.L.own_port P.L.sent P.L.loss_count P.L.fault_count)
+        config ops.now base turns (P.to_come ports.old) (C.values clock.old)
+        (P.detached ports.old) (P.detached ports.new) result (K.held sink.old) (K.held sink.new) }
+    ensures back { P.attached ports.new + length (P.detached ports.old)
+        ≡ P.attached ports.old + length (P.detached ports.new) }
+    ensures link { IsErrOf result errors.LinkFault
+        → Rose (P.fault_count ports.old) (P.fault_count ports.new) ⊎ PollFailed
+        (link_view P.L.answers P.L.own_port P.L.sent P.L.loss_count P.L.fault_count)
+        (P.detached ports.old) (P.detached ports.new) }
+    ensures write { IsErrOf result errors.WriteFault
+        → Rose (K.fault_count sink.old) (K.fault_count sink.new) }
+{
+    serve_all_with::<KvHost, P, C, K>(alloc, config, ops, base, turns, ports, clock, sink)
+}

@@ -1,0 +1,7 @@
+/// Why a cluster ended without its last line.
+#[derive(Clone, Copy, Debug, PartialEq, Eq)]
+pub enum ClusterError {
+    LinkFault,
+    WriteFault,
+    NoMemory,
+}

@@ -1,0 +1,77 @@
+ghost use Rattle.std.specs.Prelude.{◌≡◌, false, map, IfOk, OnOk, IsErrOf};
+ghost use Rattle.one_box.specs.ClusterRun.{all_accepted};
+ghost use Rattle.one_box.specs.Showing.{
+  course_of,
+  link_view,
+  BasesFit,
+  GoesOn,
+  HasFault,
+  place_of,
+};
+ghost use Rattle.one_box.specs.Running.{RunsTold};
+ghost use Rattle.one_box.specs.declared.errors.ClusterError.TheVariants as errors;
+
+use crate::course::Course;
+use crate::errors::ClusterError;
+use crate::node::Node;
+use crate::turn::turn;
+use nop_types::{Host, Op};
+use outside::{Clock, Link};
+
+/// The turns that were taken, and whether all ops were accepted.
+#[derive(Clone, Copy)]
+pub(crate) struct Taken {
+    pub(crate) turns: u64,
+    pub(crate) done: bool,
+}
+
+fn all_accepted<H: Host>(course: &Course<H>, ops: &[Op]) -> bool
+    ensures { result ≡ all_accepted ops.now (course_of course.now) }
+{
+    course.accepts == ops.len() as u64
+}
+
+/// At most so many turns, until all ops are accepted.
+pub(crate) fn take_turns<H: Host, L: Link, C: Clock>(
+    course: &mut Course<H>,
+    nodes: &mut Vec<Node<L>>,
+    ops: &[Op],
+    turns: u64,
+    now: u64,
+    clock: &mut C,
+) -> Result<Taken, ClusterError>
+    requires { BasesFit (link_view L.answers L.own_port L.sent L.loss_count L.fault_count)
+        nodes.old.items }
+    ensures told { RunsTold
+        (link_view L.answers L.own_port L.sent L.loss_count L.fault_count)
+        H.meaning ops.now turns now (C.values clock.old) result
+        (course_of course.old) nodes.old.items (course_of course.new) nodes.new.items }
+    ensures done { IfOk result (λ t. t.done ≡ all_accepted ops.now (course_of course.new)) }
+    ensures spent { IfOk result (λ t. t.done ≡ false → t.turns ≡ turns) }
+    ensures goes { OnOk result (GoesOn H.meaning (course_of course.old) (course_of course.new)) }
+    ensures places { map (place_of
+        (link_view L.answers L.own_port L.sent L.loss_count L.fault_count)) nodes.new.items
+        ≡ map (place_of (link_view L.answers L.own_port L.sent L.loss_count L.fault_count))
+        nodes.old.items }
+    ensures cause { IsErrOf result errors.LinkFault → HasFault
+        (link_view L.answers L.own_port L.sent L.loss_count L.fault_count) nodes.new.items }
+    ensures write { IsErrOf result errors.WriteFault → ⊥ }
+{
+    let mut now = now;
+    let mut taken = 0;
+    while taken < turns {
+        if let Err(e) = turn(course, nodes, ops, now) {
+            return Err(e);
+        }
+        taken += 1;
+        if all_accepted(course, ops) {
+            return Ok(Taken {
+                turns: taken,
+                done: true,
+            });
+        }
+        now = now.max(clock.now());
+    }
+    let done = all_accepted(course, ops);
+    Ok(Taken { turns: taken, done })
+}

@@ -1,0 +1,145 @@
+ghost use Rattle.std.specs.Prelude.{◌≡◌, ◌++◌, decimal, OnOk, IsErrOf};
+ghost use Rattle.outside.specs.Causes.{Rose};
+ghost use Rattle.one_box.specs.Boxing.{WritesRun};
+ghost use Rattle.one_box.specs.declared.errors.ClusterError.TheVariants as errors;
+ghost use Rattle.std.specs.List.{All, flat_map};
+ghost use Rattle.schedule_text.specs.EventText.{HasLine};
+ghost use Rattle.one_box.specs.Text.{cluster_text, event_line, header_line, header_of, served_line};
+
+use crate::boxed::Boxed;
+use crate::course::Course;
+use crate::errors::ClusterError;
+use crate::serving::Taken;
+use nop_types::{Config, Host, NoMemory};
+use outside::{Sink, WriteError, write_all};
+use replay::final_lines;
+use schedule_text::{Event, event_line, transcript_line};
+use std::alloc::Global;
+
+fn put_number(n: u64, to: &mut Vec<u8>) -> Result<(), NoMemory>
+    ensures { OnOk result (to.new.items ≡ to.old.items ++ decimal n) }
+{
+    let mut buffer = itoa::Buffer::new();
+    to.extend_from_slice(buffer.format(n).as_bytes())?;
+    Ok(())
+}
+
+fn put_labelled(label: &[u8], n: u64, to: &mut Vec<u8>) -> Result<(), NoMemory>
+    ensures { OnOk result (to.new.items ≡ to.old.items ++ (label.now ++ decimal n)) }
+{
+    to.extend_from_slice(label)?;
+    put_number(n, to)?;
+    Ok(())
+}
+
+fn put_counts(
+    replicas: u64,
+    sequencers: u64,
+    clients: u64,
+    to: &mut Vec<u8>,
+) -> Result<(), NoMemory>
+    ensures { OnOk result (to.new.items ≡ to.old.items ++ header_of replicas sequencers clients) }
+{
+    put_labelled(b"nopaxos 1 replicas ", replicas, to)?;
+    put_labelled(b" sequencers ", sequencers, to)?;
+    put_labelled(b" clients ", clients, to)?;
+    to.push(b'\n')?;
+    Ok(())
+}
+
+/// Line 1 of the schedule.
+fn put_header(config: Config, to: &mut Vec<u8>) -> Result<(), NoMemory>
+    ensures { OnOk result (to.new.items ≡ to.old.items ++ header_line config) }
+{
+    put_counts(
+        u64::from(config.replicas()),
+        u64::from(config.sequencers()),
+        u64::from(config.clients()),
+        to,
+    )
+}
+
+fn put_events(events: &[Event], to: &mut Vec<u8>) -> Result<(), NoMemory>
+    requires { All HasLine events.now }
+    ensures { OnOk result (to.new.items ≡ to.old.items ++ flat_map event_line events.now) }
+{
+    for event in events {
+        event_line(event, to)?;
+    }
+    Ok(())
+}
+
+/// The last line.
+#[tactic(auto, unfolding(crate::specs::Text::served_line))]
+fn put_served(turns: u64, lost: u64, stray: u64, to: &mut Vec<u8>) -> Result<(), NoMemory>
+    ensures { OnOk result (to.new.items ≡ to.old.items ++ served_line turns lost stray) }
+{
+    to.extend_from_slice(b"served ")?;
+    put_number(turns, to)?;
+    to.extend_from_slice(b" lost ")?;
+    put_number(lost, to)?;
+    to.extend_from_slice(b" stray ")?;
+    put_number(stray, to)?;
+    to.push(b'\n')?;
+    Ok(())
+}
+
+/// The schedule of the events that were kept, its transcript, and the last line.
+fn put_all<H: Host>(
+    config: Config,
+    course: &Course<H>,
+    turns: u64,
+    lost: u64,
+    to: &mut Vec<u8>,
+) -> Result<(), NoMemory>
+    requires { All HasLine course.now.events.items }
+    ensures { OnOk result (to.new.items ≡ to.old.items ++ cluster_text config
+        course.now.events.items course.now.text.items course.now.world.state turns lost
+        course.now.stray) }
+{
+    put_header(config, to)?;
+    put_events(&course.events, to)?;
+    transcript_line(config, to)?;
+    to.extend_from_slice(&course.text)?;
+    final_lines(&course.world, to)?;
+    put_served(turns, lost, course.stray, to)?;
+    Ok(())
+}
+
+/// Writes what a run did, and says how it ended.
+pub(crate) fn write_run<H: Host, K: Sink>(
+    alloc: Global,
+    config: Config,
+    course: &Course<H>,
+    taken: Taken,
+    lost: u64,
+    sink: &mut K,
+) -> Result<Boxed, ClusterError>
+    requires { All HasLine course.now.events.items }
+    ensures writes { WritesRun (cluster_text config course.now.events.items
+        course.now.text.items course.now.world.state taken.turns lost course.now.stray)
+        (record {
+          turns = taken.turns;
+          lost = lost;
+          stray = course.now.stray;
+          done = taken.done;
+        })
+        result (K.held sink.old) (K.held sink.new) }
+    ensures cause { IsErrOf result errors.WriteFault
+        → Rose (K.fault_count sink.old) (K.fault_count sink.new) }
+{
+    let mut text = Vec::new(alloc);
+    if put_all(config, course, taken.turns, lost, &mut text).is_err() {
+        return Err(ClusterError::NoMemory);
+    }
+    match write_all(sink, &text) {
+        Ok(()) => Ok(Boxed {
+            turns: taken.turns,
+            lost,
+            stray: course.stray,
+            done: taken.done,
+        }),
+        Err(WriteError::Failed) => Err(ClusterError::WriteFault),
+        Err(WriteError::NoMemory) => Err(ClusterError::NoMemory),
+    }
+}
