@@ -12,8 +12,9 @@ use Rattle.nop_types.specs.declared.limits.TheConstants.{MAX_OP_BYTES, MAX_SEQUE
 use Rattle.command_line.specs.Numbers.{number_of}
 use Rattle.command_line.specs.Program.{program_app}
 use Rattle.command_line.specs.declared.command.Command.{Command}
-use Rattle.command_line.specs.declared.command.Command.TheVariants.{Replay, Gen, Node, Sequencer, Controller, Client}
+use Rattle.command_line.specs.declared.command.Command.TheVariants.{Replay, Gen, Node, Sequencer, Controller, Client, Cluster}
 use Rattle.command_line.specs.declared.command.Site.{Site}
+use Rattle.command_line.specs.declared.options.TheConstants.{MAX_CLUSTER_TURNS}
 
 -- ---- values
 
@@ -33,28 +34,36 @@ choice_of (Some text) = option_map Some (number_of 0 255 text)
 
 -- ---- where a node is
 
--- the product has one client in a node's configuration: no core reads that number
-abbrev pub config_of : ℕ → ℕ → Configuration
-config_of replicas sequencers = record { replicas = replicas; sequencers = sequencers; clients = 1 }
+abbrev pub config_of : ℕ → ℕ → ℕ → Configuration
+config_of replicas sequencers clients = record { replicas = replicas; sequencers = sequencers; clients = clients }
 
 abbrev pub site_if : Bool → Configuration → ℕ → ℕ → Option Site
 site_if true config base turns = Some (record { config = config; base = base; turns = turns })
 site_if false config base turns = None
 
-abbrev pub site_by : Option ℕ → Option ℕ → Option ℕ → Option ℕ → Option Site
-site_by None sequencers base turns = None
-site_by (Some r) None base turns = None
-site_by (Some r) (Some s) None turns = None
-site_by (Some r) (Some s) (Some b) None = None
-site_by (Some r) (Some s) (Some b) (Some t) = site_if (is_configuration (config_of r s)) (config_of r s) b t
+abbrev pub site_by : Option ℕ → Option ℕ → Option ℕ → Option ℕ → Option ℕ → Option Site
+site_by None sequencers clients base turns = None
+site_by (Some r) None clients base turns = None
+site_by (Some r) (Some s) None base turns = None
+site_by (Some r) (Some s) (Some c) None turns = None
+site_by (Some r) (Some s) (Some c) (Some b) None = None
+site_by (Some r) (Some s) (Some c) (Some b) (Some t) = site_if (is_configuration (config_of r s c)) (config_of r s c) b t
 
 abbrev pub last_turns : ℕ
 last_turns = 2 ^ 64 - 1
 
+-- of a node; its configuration has one client, since no core reads that number
 abbrev pub site_of : List Row → Option Site
 site_of rows =
-    site_by (value_of rows (codes "replicas") None 0 255) (value_of rows (codes "sequencers") None 0 255)
+    site_by (value_of rows (codes "replicas") None 0 255) (value_of rows (codes "sequencers") None 0 255) (Some 1)
     (value_of rows (codes "base") (Some 41000) 1024 65000) (value_of rows (codes "turns") (Some last_turns) 1 last_turns)
+
+-- of a cluster
+abbrev pub cluster_site_of : List Row → Option Site
+cluster_site_of rows =
+    site_by (value_of rows (codes "replicas") None 0 255) (value_of rows (codes "sequencers") None 0 255)
+    (value_of rows (codes "clients") None 0 255) (value_of rows (codes "base") (Some 41000) 1024 65000)
+    (value_of rows (codes "turns") (Some MAX_CLUSTER_TURNS) 1 MAX_CLUSTER_TURNS)
 
 -- ---- ops
 
@@ -113,6 +122,11 @@ client_by (Some id) None ops = None
 client_by (Some id) (Some site) None = None
 client_by (Some id) (Some site) (Some ops) = Some (Client id site ops)
 
+abbrev pub cluster_by : Option Site → Option (List (List ℕ)) → Option Command
+cluster_by None ops = None
+cluster_by (Some site) None = None
+cluster_by (Some site) (Some ops) = Some (Cluster site ops)
+
 -- a number of 64 bits, and a count from 1 to 100,000
 abbrev pub gen_in : List Row → Option Command
 gen_in rows = gen_by (value_of rows (codes "number") None 0 (2 ^ 64 - 1)) (value_of rows (codes "count") None 1 100000)
@@ -130,6 +144,9 @@ controller_in rows =
 abbrev pub client_in : List Row → Option Command
 client_in rows = client_by (value_of rows (codes "id") None 0 (2 ^ 32 - 1)) (site_of rows) (ops_of (all_of (codes "ops") rows))
 
+abbrev pub cluster_in : List Row → Option Command
+cluster_in rows = cluster_by (cluster_site_of rows) (ops_of (all_of (codes "ops") rows))
+
 -- by the name of a subcommand and its matches
 abbrev pub command_by : Text → List Row → Option Command
 command_by name rows =
@@ -139,6 +156,7 @@ command_by name rows =
     else if bytes_eq name (codes "sequencer") then sequencer_in rows
     else if bytes_eq name (codes "controller") then controller_in rows
     else if bytes_eq name (codes "client") then client_in rows
+    else if bytes_eq name (codes "cluster") then cluster_in rows
     else None
 
 abbrev pub command_from : Option (Text × List Row) → Option Command
@@ -180,6 +198,7 @@ IsFit (Node id site) = (id < site.config.replicas) × (site.base ≤ 65000)
 IsFit (Sequencer id site) = (id < MAX_SEQUENCERS) × (site.base ≤ 65000)
 IsFit (Controller site session install) = (1 ≤ session) × (site.base ≤ 65000)
 IsFit (Client id site ops) = site.base ≤ 65000
+IsFit (Cluster site ops) = site.base ≤ 65000
 
 abbrev pub texts_of : {Z : Type 0} → List (String Z) → List Text
 texts_of words = map string_bytes words

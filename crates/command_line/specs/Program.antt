@@ -17,7 +17,7 @@ ops_rule = record (new_rule (codes "ops")) { required = true; range = Some (reco
 unfoldable pub gen_app : App
 gen_app = with_rule (with_rule (new_app (codes "gen")) (value_rule (codes "number"))) (value_rule (codes "count"))
 
--- what each node is told
+-- what each node and a cluster is told
 unfoldable pub site_app : Text → App
 site_app name =
     with_rule (with_rule (with_rule (with_rule (new_app name)
@@ -38,6 +38,9 @@ controller_app =
 unfoldable pub client_app : App
 client_app = with_rule (member_app (codes "client")) ops_rule
 
+unfoldable pub cluster_app : App
+cluster_app = with_rule (with_rule (site_app (codes "cluster")) (option_rule (codes "clients") true)) ops_rule
+
 -- the program with its subcommands, one after another
 unfoldable pub with_replay : App
 with_replay = with_subcommand (new_app (codes "nopaxos")) (new_app (codes "replay")).top
@@ -54,5 +57,8 @@ with_sequencer = with_subcommand with_node (member_app (codes "sequencer")).top
 unfoldable pub with_controller : App
 with_controller = with_subcommand with_sequencer controller_app.top
 
+unfoldable pub with_client : App
+with_client = with_subcommand with_controller client_app.top
+
 unfoldable pub program_app : App
-program_app = with_subcommand with_controller client_app.top
+program_app = with_subcommand with_client cluster_app.top

@@ -1,7 +1,7 @@
 use crate::ops::Ops;
 use nop_types::Config;
 
-/// Where a node is: how many actors there are, the port of replica 0, and the most turns that it takes.
+/// Where a node or a cluster is: how many actors there are, the port of replica 0, and the most turns that it takes.
 #[derive(Clone, Copy, Debug, PartialEq, Eq)]
 pub struct Site {
     pub config: Config,
@@ -23,4 +23,6 @@ pub enum Command {
     Controller(Site, u32, Option<u8>),
     /// A client with this number, and the ops that it submits.
     Client(u32, Site, Ops),
+    /// All actors in one process, and the ops that its clients submit.
+    Cluster(Site, Ops),
 }

@@ -2,12 +2,15 @@
 
 ghost use Rattle.std.specs.Prelude.{◌≡◌, ◌≤◌, IfSome, codes};
 ghost use Rattle.clap.specs.Words.{found_of, rows_of, first_of};
-ghost use Rattle.command_line.specs.Commands.{value_of, choice_of, site_by, site_of};
+ghost use Rattle.command_line.specs.Commands.{value_of, choice_of, site_by, site_of, cluster_site_of};
 
 use crate::command::Site;
 use crate::number::number;
 use clap::ArgMatches;
 use nop_types::Config;
+
+/// The most turns of a cluster, which keeps each event.
+pub const MAX_CLUSTER_TURNS: u64 = 10_000;
 
 /// The number that an option has, from a least to a greatest one. Where it is left out, what stands for it.
 fn value(
@@ -83,11 +86,14 @@ fn base(matches: &ArgMatches<'_>) -> Option<u16>
     Some(n as u16)
 }
 
-fn turns(matches: &ArgMatches<'_>) -> Option<u64>
-    ensures { result ≡ value_of (rows_of (found_of matches.now)) (codes "turns")
-        (Some 18446744073709551615) 1 18446744073709551615 }
+/// The most turns, which are as many as can be where the option is left out.
+fn turns(matches: &ArgMatches<'_>, most: u64) -> Option<u64>
+    requires { 1 ≤ most }
+    ensures value { result ≡ value_of (rows_of (found_of matches.now)) (codes "turns")
+        (Some most) 1 most }
+    ensures limit { IfSome result (λ n. n ≤ most) }
 {
-    value(matches, "turns", Some(u64::MAX), 1, u64::MAX)
+    value(matches, "turns", Some(most), 1, most)
 }
 
 /// A number of 8 bits that may be left out. None where it is no such number.
@@ -106,18 +112,20 @@ pub(crate) fn choice(matches: &ArgMatches<'_>, name: &str) -> Option<Option<u8>>
 fn site_by(
     replicas: Option<u8>,
     sequencers: Option<u8>,
+    clients: Option<u8>,
     base: Option<u16>,
     turns: Option<u64>,
 ) -> Option<Site>
     requires { IfSome base (λ n. n ≤ 65000) }
-    ensures value { result ≡ site_by replicas sequencers base turns }
+    ensures value { result ≡ site_by replicas sequencers clients base turns }
     ensures base { IfSome result (λ s. s.base ≤ 65000) }
 {
     let replicas = replicas?;
     let sequencers = sequencers?;
+    let clients = clients?;
     let base = base?;
     let turns = turns?;
-    match Config::new(replicas, sequencers, 1) {
+    match Config::new(replicas, sequencers, clients) {
         Some(config) => Some(Site {
             config,
             base,
@@ -135,7 +143,22 @@ pub(crate) fn site(matches: &ArgMatches<'_>) -> Option<Site>
     site_by(
         small(matches, "replicas"),
         small(matches, "sequencers"),
+        Some(1),
         base(matches),
-        turns(matches),
+        turns(matches, u64::MAX),
+    )
+}
+
+/// Where the cluster is.
+pub(crate) fn cluster_site(matches: &ArgMatches<'_>) -> Option<Site>
+    ensures value { result ≡ cluster_site_of (rows_of (found_of matches.now)) }
+    ensures base { IfSome result (λ s. s.base ≤ 65000) }
+{
+    site_by(
+        small(matches, "replicas"),
+        small(matches, "sequencers"),
+        small(matches, "clients"),
+        base(matches),
+        turns(matches, MAX_CLUSTER_TURNS),
     )
 }

@@ -3,7 +3,7 @@
 ghost use Rattle.std.specs.Prelude.{◌≡◌, IfOk, false, codes};
 ghost use Rattle.clap.specs.Words.{app_of, rule_of, new_app};
 ghost use Rattle.clap.specs.declared.builder.command.Command.TheViews.{out-Command};
-ghost use Rattle.command_line.specs.Program.{option_rule, value_rule, ops_rule, gen_app, site_app, member_app, controller_app, client_app, with_replay, with_gen, with_node, with_sequencer, with_controller, program_app};
+ghost use Rattle.command_line.specs.Program.{option_rule, value_rule, ops_rule, gen_app, site_app, member_app, controller_app, client_app, cluster_app, with_replay, with_gen, with_node, with_sequencer, with_controller, with_client, program_app};
 
 use clap::{Arg, Command};
 use std::alloc::{AllocError, Global};
@@ -84,6 +84,16 @@ fn client<'a>(alloc: Global) -> Result<Command<'a>, AllocError>
     member(alloc, "client")?.arg(ops(alloc))
 }
 
+#[tactic(auto, unfolding(crate::specs::Program::cluster_app))]
+fn cluster<'a>(alloc: Global) -> Result<Command<'a>, AllocError>
+    ensures app { IfOk result (λ c. app_of c ≡ cluster_app) }
+    ensures local { IfOk result (λ c. (out-Command c).has_globals ≡ false) }
+{
+    site(alloc, "cluster")?
+        .arg(option(alloc, "clients", true))?
+        .arg(ops(alloc))
+}
+
 #[tactic(auto, unfolding(crate::specs::Program::with_replay))]
 fn with_replay<'a>(alloc: Global) -> Result<Command<'a>, AllocError>
     ensures app { IfOk result (λ c. app_of c ≡ with_replay) }
@@ -124,11 +134,19 @@ fn with_controller<'a>(alloc: Global) -> Result<Command<'a>, AllocError>
     with_sequencer(alloc)?.subcommand(controller(alloc)?)
 }
 
+#[tactic(auto, unfolding(crate::specs::Program::with_client))]
+fn with_client<'a>(alloc: Global) -> Result<Command<'a>, AllocError>
+    ensures app { IfOk result (λ c. app_of c ≡ with_client) }
+    ensures local { IfOk result (λ c. (out-Command c).has_globals ≡ false) }
+{
+    with_controller(alloc)?.subcommand(client(alloc)?)
+}
+
 /// The program, with a subcommand for each command.
 #[tactic(auto, unfolding(crate::specs::Program::program_app))]
 pub(crate) fn program<'a>(alloc: Global) -> Result<Command<'a>, AllocError>
     ensures app { IfOk result (λ c. app_of c ≡ program_app) }
     ensures local { IfOk result (λ c. (out-Command c).has_globals ≡ false) }
 {
-    with_controller(alloc)?.subcommand(client(alloc)?)
+    with_client(alloc)?.subcommand(cluster(alloc)?)
 }

@@ -1,10 +1,10 @@
 ghost use Rattle.std.specs.Prelude.{◌≡◌, ◌≤◌, IfOk, IfSome, MatchOption};
 ghost use Rattle.clap.specs.Words.{found_of, rows_of, subcommand_rows_of};
-ghost use Rattle.command_line.specs.Commands.{IsFit, gen_by, gen_in, node_by, node_in, sequencer_by, sequencer_in, install_by, controller_by, controller_in, client_by, client_in, command_by, command_from, command_of, texts_of, IsRefused, HasFound};
+ghost use Rattle.command_line.specs.Commands.{IsFit, gen_by, gen_in, node_by, node_in, sequencer_by, sequencer_in, install_by, controller_by, controller_in, client_by, client_in, cluster_by, cluster_in, command_by, command_from, command_of, texts_of, IsRefused, HasFound};
 
 use crate::command::{Command, Site};
 use crate::ops::{Ops, read_ops};
-use crate::options::{choice, count_drawn, medium, number_drawn, site, small};
+use crate::options::{choice, cluster_site, count_drawn, medium, number_drawn, site, small};
 use crate::program::program;
 use clap::ArgMatches;
 use clap::error::ErrorKind;
@@ -135,6 +135,24 @@ fn client(alloc: Global, matches: &ArgMatches<'_>) -> Result<Option<Command>, No
     Ok(client_by(medium(matches, "id", None, 0), site(matches), ops))
 }
 
+fn cluster_by(site: Option<Site>, ops: Option<Ops>) -> Option<Command>
+    requires { IfSome site (λ s. s.base ≤ 65000) }
+    ensures value { result ≡ cluster_by site ops }
+    ensures fits { IfSome result IsFit }
+{
+    let site = site?;
+    let ops = ops?;
+    Some(Command::Cluster(site, ops))
+}
+
+fn cluster(alloc: Global, matches: &ArgMatches<'_>) -> Result<Option<Command>, NoMemory>
+    ensures value { IfOk result (λ c. c ≡ cluster_in (rows_of (found_of matches.now))) }
+    ensures fits { IfOk result (λ c. IfSome c IsFit) }
+{
+    let ops = read_ops(alloc, matches.get_strs("ops"))?;
+    Ok(cluster_by(cluster_site(matches), ops))
+}
+
 /// The command of a subcommand's name and its matches.
 fn command(alloc: Global, name: &str, matches: &ArgMatches<'_>) -> Result<Option<Command>, NoMemory>
     ensures value { IfOk result (λ c. c ≡ command_by name.now (rows_of (found_of matches.now))) }
@@ -157,6 +175,9 @@ fn command(alloc: Global, name: &str, matches: &ArgMatches<'_>) -> Result<Option
     }
     if name == "client" {
         return client(alloc, matches);
+    }
+    if name == "cluster" {
+        return cluster(alloc, matches);
     }
     Ok(None)
 }

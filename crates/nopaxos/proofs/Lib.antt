@@ -1,2 +1,3 @@
+pub mod ClusterLemmas
 pub mod CommandLemmas
 pub mod NodeLemmas

@@ -1,3 +1,4 @@
+pub mod Clusters
 pub mod Ending
 pub mod Nodes
 pub mod Tasks

@@ -3,7 +3,7 @@ use Rattle.std.specs.Prelude.{ℕ, List, [], Bool, true, false, Option, Some, No
 use Rattle.client_quorum.specs.ClientSteps as client
 use Rattle.client_quorum.specs.declared.state.ClientState.{ClientState}
 use Rattle.command_line.specs.declared.command.Command.{Command}
-use Rattle.command_line.specs.declared.command.Command.TheVariants.{Replay, Gen, Node, Sequencer, Controller, Client}
+use Rattle.command_line.specs.declared.command.Command.TheVariants.{Replay, Gen, Node, Sequencer, Controller, Client, Cluster}
 use Rattle.command_line.specs.declared.command.Site.{Site}
 use Rattle.kv_host.specs.Kv.{kv_meaning}
 use Rattle.nop_types.specs.declared.input.Tick.{Tick}
@@ -63,6 +63,7 @@ CommandEnds (Some (Node id site)) w p values s h i = NodeEnds (replica_task id s
 CommandEnds (Some (Sequencer id site)) w p values s h i = NodeEnds (sequencer_task id site) w p values s h i
 CommandEnds (Some (Controller site session install)) w p values s h i = NodeEnds (controller_task site session install) w p values s h i
 CommandEnds (Some (Client id site ops)) w p values s h i = NodeEnds (client_task id site ops) w p values s h i
+CommandEnds (Some (Cluster site ops)) w p values s h i = ⊤
 
 -- whether a command runs a node
 abbrev pub runs_node : Option Command → Bool
@@ -73,6 +74,7 @@ runs_node (Some (Node id site)) = true
 runs_node (Some (Sequencer id site)) = true
 runs_node (Some (Controller site session install)) = true
 runs_node (Some (Client id site ops)) = true
+runs_node (Some (Cluster site ops)) = false
 
 -- whether it waits until its ops are accepted
 abbrev pub waits_for_ops : Option Command → Bool
@@ -83,6 +85,7 @@ waits_for_ops (Some (Node id site)) = false
 waits_for_ops (Some (Sequencer id site)) = false
 waits_for_ops (Some (Controller site session install)) = false
 waits_for_ops (Some (Client id site ops)) = true
+waits_for_ops (Some (Cluster site ops)) = false
 
 -- ---- gen
 
@@ -95,6 +98,7 @@ DrawingEnds (Some (Node id site)) s h i = ⊤
 DrawingEnds (Some (Sequencer id site)) s h i = ⊤
 DrawingEnds (Some (Controller site session install)) s h i = ⊤
 DrawingEnds (Some (Client id site ops)) s h i = ⊤
+DrawingEnds (Some (Cluster site ops)) s h i = ⊤
 
 -- whether a command draws a schedule
 abbrev pub draws : Option Command → Bool
@@ -105,3 +109,4 @@ draws (Some (Node id site)) = false
 draws (Some (Sequencer id site)) = false
 draws (Some (Controller site session install)) = false
 draws (Some (Client id site ops)) = false
+draws (Some (Cluster site ops)) = false

@@ -12,4 +12,4 @@ abbrev pub Taken : {Z : Type 0} → List (String Z) → Type 0
 Taken words = IsSome (asked words)
 
 unfoldable pub usage_line : List ℕ
-usage_line = codes "usage: nopaxos replay | gen | node | sequencer | controller | client" ++ 10 ∷ []
+usage_line = codes "usage: nopaxos replay | gen | node | sequencer | controller | client | cluster" ++ 10 ∷ []

@@ -1,7 +1,8 @@
-//! The program: `nopaxos replay` reads a schedule and writes its transcript; the other commands run a part of the protocol
-//! over datagram sockets.
+//! The program: `nopaxos replay` reads a schedule and writes its transcript, and `gen` draws schedules; `cluster` runs all actors
+//! in one process, and the other commands one of them, over datagram sockets.
 #![tactic(auto)]
 
+mod cluster;
 mod commands;
 mod in_memory;
 mod node;

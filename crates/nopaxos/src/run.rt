@@ -1,13 +1,17 @@
-ghost use Rattle.std.specs.Prelude.{◌≡◌, ◌≢◌, ◌≤◌, ◌++◌, ◌∷◌, [], true, false};
+ghost use Rattle.std.specs.Prelude.{◌≡◌, ◌≢◌, ◌≤◌, ◌+◌, ◌++◌, ◌∷◌, [], length, true, false};
+ghost use Rattle.one_box.specs.Boxing.{PollFailed};
+ghost use Rattle.one_box.specs.Showing as boxed;
 ghost use Rattle.outside.specs.Causes.{Rose};
 ghost use Rattle.kv_host.specs.Kv.{kv_meaning};
 ghost use Rattle.replay.specs.Safety.{RunsSafelyOf};
 ghost use Rattle.command_line.specs.Commands.{IsFit};
 ghost use Rattle.nopaxos.specs.Words.{asked, Taken};
+ghost use Rattle.nopaxos.specs.Clusters.{ClusterCommandEnds, ClusterEndsWithoutFault, runs_cluster, uses_ports};
 ghost use Rattle.nopaxos.specs.Ending.{ReplayEnds, GenEnds, UsageEnds, EndsWithoutFault, GeneratesWithoutFault, RefusesWithoutFault};
 ghost use Rattle.nopaxos.specs.Nodes.{EndsNodeWithoutFault, link_view, ports_view};
 ghost use Rattle.nopaxos.specs.Tasks.{CommandEnds, DrawingEnds, draws, runs_node, waits_for_ops};
 
+use crate::cluster::run_cluster;
 use crate::commands::{run_client, run_controller, run_replica, run_sequencer};
 use crate::status::Status;
 use command_line::{Command, read_words};
@@ -18,7 +22,7 @@ use std::alloc::Global;
 
 /// The line that is written where the words are not taken.
 pub const USAGE_LINE: &str =
-    "usage: nopaxos replay | gen | node | sequencer | controller | client\n";
+    "usage: nopaxos replay | gen | node | sequencer | controller | client | cluster\n";
 
 fn run_replay<S: Source, K: Sink>(alloc: Global, source: &mut S, sink: &mut K) -> Status
     ensures ends { ReplayEnds kv_meaning (S.left source.old) (S.left source.new) (K.held sink.old)
@@ -85,13 +89,20 @@ fn carry_out<S: Source, K: Sink, P: Ports, C: Clock>(
         (ports_view (P.to_come ports.old) (P.detached ports.old) (P.detached ports.new)
         (P.fault_count ports.old) (P.fault_count ports.new))
         (C.values clock.old) result (K.held sink.old) (K.held sink.new) }
+    ensures cluster { ClusterCommandEnds (Some command)
+        (boxed.link_view P.L.answers P.L.own_port P.L.sent P.L.loss_count P.L.fault_count)
+        (ports_view (P.to_come ports.old) (P.detached ports.old) (P.detached ports.new)
+        (P.fault_count ports.old) (P.fault_count ports.new))
+        (C.values clock.old) result (K.held sink.old) (K.held sink.new) }
+    ensures back { runs_cluster (Some command) ≡ true → P.attached ports.new + length (P.detached ports.old)
+        ≡ P.attached ports.old + length (P.detached ports.new) }
     ensures read { result ≡ Status.ReadFault → Rose (S.fault_count source.old)
         (S.fault_count source.new) }
     ensures write { result ≡ Status.WriteFault → Rose (K.fault_count sink.old)
         (K.fault_count sink.new) }
     ensures unread { command ≢ Command.Replay → source.new ≡ source.old }
-    ensures ports { runs_node (Some command) ≡ false → ports.new ≡ ports.old }
-    ensures clock { runs_node (Some command) ≡ false → clock.new ≡ clock.old }
+    ensures ports { uses_ports (Some command) ≡ false → ports.new ≡ ports.old }
+    ensures clock { uses_ports (Some command) ≡ false → clock.new ≡ clock.old }
 {
     match command {
         Command::Replay => run_replay(alloc, source, sink),
@@ -102,6 +113,7 @@ fn carry_out<S: Source, K: Sink, P: Ports, C: Clock>(
             run_controller(alloc, &site, session, install, ports, clock, sink)
         }
         Command::Client(id, site, ops) => run_client(alloc, id, &site, ops, ports, clock, sink),
+        Command::Cluster(site, ops) => run_cluster(alloc, &site, ops, ports, clock, sink),
     }
 }
 
@@ -127,6 +139,13 @@ pub fn run<S: Source, K: Sink, P: Ports, C: Clock>(
         (ports_view (P.to_come ports.old) (P.detached ports.old) (P.detached ports.new)
         (P.fault_count ports.old) (P.fault_count ports.new))
         (C.values clock.old) result (K.held sink.old) (K.held sink.new) }
+    ensures cluster { ClusterCommandEnds (asked words.now)
+        (boxed.link_view P.L.answers P.L.own_port P.L.sent P.L.loss_count P.L.fault_count)
+        (ports_view (P.to_come ports.old) (P.detached ports.old) (P.detached ports.new)
+        (P.fault_count ports.old) (P.fault_count ports.new))
+        (C.values clock.old) result (K.held sink.old) (K.held sink.new) }
+    ensures back { runs_cluster (asked words.now) ≡ true → P.attached ports.new + length (P.detached ports.old)
+        ≡ P.attached ports.old + length (P.detached ports.new) }
     ensures read { result ≡ Status.ReadFault → Rose (S.fault_count source.old)
         (S.fault_count source.new) }
     ensures write { result ≡ Status.WriteFault → Rose (K.fault_count sink.old)
@@ -148,9 +167,18 @@ pub fn run<S: Source, K: Sink, P: Ports, C: Clock>(
         → ((link : P.L) → P.detached ports.new ≡ P.detached ports.old ++ link ∷ [] →
         ¬ Rose 0 (P.L.fault_count link))
         → EndsNodeWithoutFault (waits_for_ops (asked words.now)) result }
+
+    // The same of all the links of a cluster.
+    ensures cluster_complete { runs_cluster (asked words.now) ≡ true
+        → ¬ Rose (P.fault_count ports.old) (P.fault_count ports.new)
+        → ¬ Rose (K.fault_count sink.old) (K.fault_count sink.new)
+        → ¬ PollFailed
+        (boxed.link_view P.L.answers P.L.own_port P.L.sent P.L.loss_count P.L.fault_count)
+        (P.detached ports.old) (P.detached ports.new)
+        → ClusterEndsWithoutFault result }
     ensures unread { asked words.now ≢ Some Command.Replay → source.new ≡ source.old }
-    ensures ports { runs_node (asked words.now) ≡ false → ports.new ≡ ports.old }
-    ensures clock { runs_node (asked words.now) ≡ false → clock.new ≡ clock.old }
+    ensures ports { uses_ports (asked words.now) ≡ false → ports.new ≡ ports.old }
+    ensures clock { uses_ports (asked words.now) ≡ false → clock.new ≡ clock.old }
 {
     match read_words(alloc, words) {
         Ok(Some(command)) => carry_out(alloc, command, source, sink, ports, clock),

@@ -12,6 +12,6 @@ pub enum Status {
     /// A port or a link failed.
     LinkFault = 5,
     NoMemory = 6,
-    /// A client took all its turns, and one of its ops was not accepted.
+    /// A client or a cluster took all its turns, and one of the ops was not accepted.
     Unanswered = 7,
 }

@@ -1,3 +1,4 @@
+mod clusters;
 mod devices;
 mod faults;
 mod nodes;
@@ -13,7 +14,8 @@ use std::test::Fail;
 const ONE_PUT: &str =
     "nopaxos 1 replicas 3 sequencers 1 clients 1\nsubmit c0 5000016b000176\ndeliver 0 s0\ndeliver 1 r0\ndeliver 1 r1\ndeliver 2 c0\ndeliver 3 c0\n";
 
-const USAGE: &str = "usage: nopaxos replay | gen | node | sequencer | controller | client\n";
+const USAGE: &str =
+    "usage: nopaxos replay | gen | node | sequencer | controller | client | cluster\n";
 
 /// Words, a schedule, the reads of 82 bytes and the writes of 16 bytes that fail, and what comes of it: the status, and what was
 /// written.
@@ -103,7 +105,13 @@ nopaxos controller --replicas 3 --sequencers 1 --install 1
 nopaxos controller --id 0 --replicas 3 --sequencers 1
 nopaxos client --id 0 --replicas 3 --sequencers 1
 nopaxos client --id 0 --replicas 3 --sequencers 1 5
-nopaxos client --id 4294967296 --replicas 3 --sequencers 1 50";
+nopaxos client --id 4294967296 --replicas 3 --sequencers 1 50
+nopaxos cluster --replicas 3 --sequencers 1 --clients 1
+nopaxos cluster --replicas 3 --sequencers 1 50
+nopaxos cluster --replicas 3 --sequencers 1 --clients 0 50
+nopaxos cluster --replicas 3 --sequencers 1 --clients 17 50
+nopaxos cluster --replicas 3 --sequencers 1 --clients 1 --turns 0 50
+nopaxos cluster --replicas 3 --sequencers 1 --clients 1 --turns 10001 50";
 
 fn words_of(alloc: Global, text: &str) -> Result<Vec<String>, AllocError> {
     let mut words = Vec::new(alloc);

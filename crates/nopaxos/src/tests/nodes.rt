@@ -13,9 +13,10 @@ use std::alloc::Global;
 use std::process::Abort;
 use std::test::Fail;
 
-const REQUEST: &str = "4e4f010100000000000000000000000100075000016b000176";
+pub const REQUEST: &str = "4e4f010100000000000000000000000100075000016b000176";
 
-const STAMPED: &str = "4e4f010200000001000000000000000100000000000000000000000100075000016b000176";
+pub const STAMPED: &str =
+    "4e4f010200000001000000000000000100000000000000000000000100075000016b000176";
 
 pub const REPLY: &str = "4e4f0103000000000000000001000000010000000000000000000000010100046e6f6e65";
 
@@ -112,7 +113,7 @@ fn datagram(alloc: Global, text: &str) -> Result<Bytes, Fail>
 }
 
 /// What a poll answers: nothing, a failure, or a datagram in hexadecimal.
-fn answer(alloc: Global, text: &str) -> Result<PollAnswer, Fail>
+pub fn answer(alloc: Global, text: &str) -> Result<PollAnswer, Fail>
     ensures { IfOk result (MayAnswer true) }
 {
     match text {

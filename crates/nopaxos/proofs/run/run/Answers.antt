@@ -1,5 +1,8 @@
 use Rattle.kv_host.specs.Kv.{kv_meaning}
+use Rattle.one_box.specs.Showing as boxed
+use Rattle.nopaxos.proofs.ClusterLemmas.{not_served}
 use Rattle.nopaxos.proofs.CommandLemmas.{no_drawing, no_front, no_usage}
+use Rattle.nopaxos.specs.Nodes.{ports_view}
 use Rattle.nopaxos.specs.Words.{asked}
 use Rattle.nopaxos.proofs.run.run.Goals as goal
 
@@ -11,3 +14,10 @@ returns-in-Err-clause-drawing g c = no_drawing (asked c.args.words.now) (g.K.Sin
 
 pub returns-in-Err-clause-usage : goal.returns-in-Err-clause-usage
 returns-in-Err-clause-usage g c = λ refused. no_usage (g.K.Sink.held c.args.sink.now)
+
+pub returns-in-Err-clause-cluster : goal.returns-in-Err-clause-cluster
+returns-in-Err-clause-cluster g c =
+    not_served (boxed.link_view g.P.L.Link.answers g.P.L.Link.own_port g.P.L.Link.sent g.P.L.Link.loss_count g.P.L.Link.fault_count)
+    (ports_view (g.P.Ports.to_come c.args.ports.now) (g.P.Ports.detached c.args.ports.now) (g.P.Ports.detached c.args.ports.now)
+    (g.P.Ports.fault_count c.args.ports.now) (g.P.Ports.fault_count c.args.ports.now))
+    (g.C.Clock.values c.args.clock.now) (asked c.args.words.now) (g.K.Sink.held c.args.sink.now)
