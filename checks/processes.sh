@@ -16,7 +16,7 @@ fi
 folder=$(mktemp -d) || exit 2
 base=$((20000 + $$ % 2000 * 20))
 site="--replicas 3 --sequencers 1 --base $base"
-usage='usage: nopaxos replay | gen | node | sequencer | controller | client'
+usage='usage: nopaxos replay | gen | node | sequencer | controller | client | cluster'
 made=0
 wrong=0
 server=
