@@ -22,13 +22,13 @@ use Rattle.oum_receiver.specs.Front.{Nothing, Message, front_at}
 use Rattle.oum_receiver.specs.Receiving.{Receiving, QueuedFits, IsSound, judged, front_of}
 use Rattle.sync_points.specs.Synchronisation.{Synchronisation, Round}
 use Rattle.sync_points.specs.Synchronisation as synchronisation
-use Rattle.replica_core.specs.declared.sending.Sending.{Sending}
-use Rattle.replica_core.specs.declared.state.ReplicaState.{ReplicaState}
-use Rattle.replica_core.specs.State.{others}
-use Rattle.replica_core.specs.Sends.{Effect, still, then_do, when, to_replica, to_all, to_all_if, SendingFits}
-use Rattle.replica_core.specs.Moves.{entered, own_change}
-use Rattle.replica_core.specs.Rows as rows
-use Rattle.replica_core.specs.Within.{IsWithin}
+use Rattle.replica_rows.specs.declared.sending.Sending.{Sending}
+use Rattle.replica_rows.specs.declared.state.ReplicaState.{ReplicaState}
+use Rattle.replica_rows.specs.State.{others}
+use Rattle.replica_rows.specs.Sends.{Effect, still, then_do, when, to_replica, to_all, to_all_if, SendingFits}
+use Rattle.replica_rows.specs.Moves.{entered, own_change}
+use Rattle.replica_rows.specs.Rows as rows
+use Rattle.replica_rows.specs.Within.{IsWithin}
 use Rattle.delivery.specs.Ranges.{StaysInRanges}
 
 -- ---- tests

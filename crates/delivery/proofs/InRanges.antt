@@ -43,16 +43,16 @@ use Rattle.slot_lookup.specs.Answer as answers
 use Rattle.sync_points.specs.Synchronisation as synchronisation
 use Rattle.view_change.specs.Gathering.{Gathering}
 use Rattle.view_change.specs.Gathering as gathering
-use Rattle.replica_core.specs.declared.state.ReplicaState.{ReplicaState}
-use Rattle.replica_core.specs.State.{opening, others, leader, leads, is_normal, drains, waits, waiting, has_room, may_append}
-use Rattle.replica_core.specs.Sends.{Effect, then_do, to_leader, to_all, SendingFits}
-use Rattle.replica_core.specs.Replies.{leader_reply, reply_if, reply_to, reply_for, replies_to, replies_above}
-use Rattle.replica_core.specs.Moves.{queue, begin_session, logged, take_front, appended, fill, ask_if, gap_opened, open_gap, write_gap}
-use Rattle.replica_core.specs.Moves.{add_gap, count_gap_vote, drain_drop, drain_at, drain_by, drain, listening, entered, own_change}
-use Rattle.replica_core.specs.Moves.{change_told, enter_as, enter, adopted, adopt, open_with, open_view, open_if_enough, keep_change}
-use Rattle.replica_core.specs.Moves.{resend_start, overlaid, overlay, obey, open_sync, repeat_commit, commit_if}
-use Rattle.replica_core.specs.Rows as rows
-use Rattle.replica_core.specs.Messages.{
+use Rattle.replica_rows.specs.declared.state.ReplicaState.{ReplicaState}
+use Rattle.replica_rows.specs.State.{opening, others, leader, leads, is_normal, drains, waits, waiting, has_room, may_append}
+use Rattle.replica_rows.specs.Sends.{Effect, then_do, to_leader, to_all, SendingFits}
+use Rattle.replica_rows.specs.Replies.{leader_reply, reply_if, reply_to, reply_for, replies_to, replies_above}
+use Rattle.replica_rows.specs.Moves.{queue, begin_session, logged, take_front, appended, fill, ask_if, gap_opened, open_gap, write_gap}
+use Rattle.replica_rows.specs.Moves.{add_gap, count_gap_vote, drain_drop, drain_at, drain_by, drain, listening, entered, own_change}
+use Rattle.replica_rows.specs.Moves.{change_told, enter_as, enter, adopted, adopt, open_with, open_view, open_if_enough, keep_change}
+use Rattle.replica_rows.specs.Moves.{resend_start, overlaid, overlay, obey, open_sync, repeat_commit, commit_if}
+use Rattle.replica_rows.specs.Rows as rows
+use Rattle.replica_rows.specs.Messages.{
   Arrival,
   Packet,
   Told,
@@ -69,8 +69,8 @@ use Rattle.replica_core.specs.Messages.{
   is_to_leader,
   is_other,
 }
-use Rattle.replica_core.specs.Within.{IsWithin, ArrivalFits, ResultsShort}
-use Rattle.replica_core.proofs.Running.{
+use Rattle.replica_rows.specs.Within.{IsWithin, ArrivalFits, ResultsShort}
+use Rattle.replica_rows.proofs.Running.{
   append_within,
   open_gap_within,
   logged_within,
@@ -81,8 +81,8 @@ use Rattle.replica_core.proofs.Running.{
   overlaid_within,
   waiting_fits,
 }
-use Rattle.replica_core.proofs.Opening.{opened_next_fits, opened_log_fits, counted_fits}
-use Rattle.replica_core.proofs.Ready.{opens_within}
+use Rattle.replica_rows.proofs.Opening.{opened_next_fits, opened_log_fits, counted_fits}
+use Rattle.replica_rows.proofs.Ready.{opens_within}
 use Rattle.delivery.specs.Ranges.{StaysInRanges}
 use Rattle.delivery.proofs.FieldRanges.{
   below,

@@ -21,15 +21,15 @@ use Rattle.oum_codec.specs.Spelling.{spelling}
 use Rattle.oum_codec.proofs.Datagrams.{reads_again}
 use Rattle.fragments.specs.Joining.{Waiting, taken}
 use Rattle.fragments.specs.Runs.{AllCame}
-use Rattle.replica_core.specs.declared.state.TheConstants.{LAST_MESSAGE}
-use Rattle.replica_core.specs.Messages as messages
-use Rattle.replica_core.specs.Messages.{Arrival, arrive}
+use Rattle.replica_core.specs.declared.replica.TheConstants.{LAST_MESSAGE}
+use Rattle.replica_rows.specs.Messages as messages
+use Rattle.replica_rows.specs.Messages.{Arrival, arrive}
 use Rattle.replica_core.specs.Posting.{posted}
 use Rattle.replica_core.specs.ReplicaSteps.{Replica, post, row_if, row}
 use Rattle.replica_core.specs.ReplicaSteps.{fragment, on_datagram, next}
-use Rattle.replica_core.specs.Sends.{Effect, still, message_count}
-use Rattle.replica_core.specs.Within.{ArrivalFits, ResultsShort}
-use Rattle.replica_core.proofs.Counting.{arrive_sends_few}
+use Rattle.replica_rows.specs.Sends.{Effect, still, message_count}
+use Rattle.replica_rows.specs.Within.{ArrivalFits, ResultsShort}
+use Rattle.replica_rows.proofs.Counting.{arrive_sends_few}
 use Rattle.delivery.specs.Network.{bytes_in, fragments_among, Network, IsNoDatagram, MayCome}
 use Rattle.delivery.specs.Ranges.{StaysInRanges}
 use Rattle.delivery.specs.Sends.{peers_in, IsBy}

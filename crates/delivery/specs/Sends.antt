@@ -1,8 +1,11 @@
--- The messages among what a replica sends, and under which number it sends.
-use Rattle.std.specs.Prelude.{◌≡◌, ℕ, List, [], ◌∷◌}
+-- The messages among what a replica sends, under which number it sends, and to whom.
+use Rattle.std.specs.Prelude.{◌≡◌, ℕ, ◌<◌, ◌≤◌, List, [], ◌∷◌, ⊤}
+use Rattle.nop_types.specs.declared.output.Actor.TheVariants as actors
+use Rattle.nop_types.specs.declared.output.Dest.{Dest}
+use Rattle.nop_types.specs.declared.output.Dest.TheVariants.{Replicas, Sequencers, One}
 use Rattle.nop_types.specs.declared.peer.Peer.{Peer}
-use Rattle.replica_core.specs.declared.sending.Sending.{Sending}
-use Rattle.replica_core.specs.declared.sending.Sending.TheVariants.{ToClient, ToReplicas}
+use Rattle.replica_rows.specs.declared.sending.Sending.{Sending}
+use Rattle.replica_rows.specs.declared.sending.Sending.TheVariants.{ToClient, ToReplicas}
 
 -- the peer messages, in order
 abbrev pub peers_in : List Sending → List Peer
@@ -14,3 +17,17 @@ peers_in (ToReplicas dest p ∷ sends) = p ∷ peers_in sends
 abbrev pub IsBy : ℕ → Sending → Type 0
 IsBy r (ToClient reply) = reply.replica ≡ r
 IsBy r (ToReplicas dest p) = p.sender ≡ r
+
+-- all replicas, or one of this number of them, if there are any
+abbrev pub IsAmong : ℕ → Dest → Type 0
+IsAmong n Replicas = ⊤
+IsAmong n Sequencers = ⊥
+IsAmong n (One (actors.Replica i)) = 1 ≤ n → i < n
+IsAmong n (One (actors.Sequencer i)) = ⊥
+IsAmong n (One (actors.Client i)) = ⊥
+IsAmong n (One actors.Controller) = ⊥
+
+-- a message goes to replicas of this number of them; of a reply nothing is said
+abbrev pub GoesAmong : ℕ → Sending → Type 0
+GoesAmong n (ToClient reply) = ⊤
+GoesAmong n (ToReplicas dest p) = IsAmong n dest

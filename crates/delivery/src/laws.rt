@@ -12,19 +12,19 @@ ghost use Rattle.fragments.specs.Joining.{Waiting, taken};
 ghost use Rattle.fragments.specs.Runs.{AllCame};
 ghost use Rattle.oum_receiver.specs.Receiving.{IsSound};
 ghost use Rattle.peer_codec.specs.Reading.{reading};
-ghost use Rattle.replica_core.specs.declared.sending.Sending.{Sending};
-ghost use Rattle.replica_core.specs.declared.state.ReplicaState.{ReplicaState};
-ghost use Rattle.replica_core.specs.Messages.{Arrival, arrive};
+ghost use Rattle.replica_rows.specs.declared.sending.Sending.{Sending};
+ghost use Rattle.replica_rows.specs.declared.state.ReplicaState.{ReplicaState};
+ghost use Rattle.replica_rows.specs.Messages.{Arrival, arrive};
 ghost use Rattle.replica_core.specs.Posting.{posted};
 ghost use Rattle.replica_core.specs.ReplicaSteps.{Replica, opening, fragment, next};
-ghost use Rattle.replica_core.specs.Sends.{SendingFits, message_count};
-ghost use Rattle.replica_core.specs.State as state;
-ghost use Rattle.replica_core.specs.Within.{IsWithin, ArrivalFits, ResultsShort};
+ghost use Rattle.replica_rows.specs.Sends.{SendingFits, message_count};
+ghost use Rattle.replica_rows.specs.State as state;
+ghost use Rattle.replica_rows.specs.Within.{IsWithin, ArrivalFits, ResultsShort};
 ghost use Rattle.delivery.specs.Carried.{Carried, WasTold};
 ghost use Rattle.delivery.specs.Network.{IsOtherDatagram, MayCome, Network, PostsReplies};
 ghost use Rattle.delivery.specs.PostedFragments.{PostsFragments, fragments_in};
 ghost use Rattle.delivery.specs.Ranges.{StaysInRanges};
-ghost use Rattle.delivery.specs.Sends.{peers_in, IsBy};
+ghost use Rattle.delivery.specs.Sends.{peers_in, GoesAmong, IsBy};
 ghost use Rattle.delivery.specs.Steps.{InNetwork, Brings, Delivers};
 
 /// A state in its ranges, whose receiver is sound, stays so at whatever arrives in its ranges, and
@@ -51,6 +51,15 @@ pub fn rows_send_under_their_number<S>()
         → (arrive m s a).0.number ≡ s.number }
     ensures sends { (m : Meaning S) (s : ReplicaState) (a : Arrival)
         → AllByRecursion (IsBy s.number) (arrive m s a).1 }
+{}
+
+/// A row keeps the number of replicas of its configuration, and its messages go to all of them, or
+/// to one of them.
+pub fn rows_send_within_the_configuration<S>()
+    ensures count { (m : Meaning S) (s : ReplicaState) (a : Arrival)
+        → (arrive m s a).0.config.replicas ≡ s.config.replicas }
+    ensures sends { (m : Meaning S) (s : ReplicaState) (a : Arrival)
+        → AllByRecursion (GoesAmong s.config.replicas) (arrive m s a).1 }
 {}
 
 /// Where the fragments of a network carry what was told, and a reassembly has only parts that came

@@ -13,14 +13,14 @@ use Rattle.nop_types.specs.Meaning.{Meaning}
 use Rattle.oum_receiver.specs.declared.verdict.Verdict.{Verdict}
 use Rattle.oum_receiver.specs.declared.verdict.Verdict.TheVariants.{Queued, Old, Terminated, Full}
 use Rattle.oum_receiver.specs.Receiving.{Receiving, verdict_of, judged, offered, opened}
-use Rattle.replica_core.specs.declared.sending.Sending.{Sending}
-use Rattle.replica_core.specs.declared.state.ReplicaState.{ReplicaState}
-use Rattle.replica_core.specs.State.{others, leads, drains, is_normal, waits, has_room}
-use Rattle.replica_core.specs.Sends.{Effect, then_do, to_all_if}
-use Rattle.replica_core.specs.Moves.{session_view, begin_session, queue, drain, left, listening, entered, enter_as, enter, change_told}
-use Rattle.replica_core.specs.Rows.{enter_and_drain}
-use Rattle.replica_core.proofs.Draining.{drains_by_front}
-use Rattle.replica_core.proofs.Opening.{enters_with_others}
+use Rattle.replica_rows.specs.declared.sending.Sending.{Sending}
+use Rattle.replica_rows.specs.declared.state.ReplicaState.{ReplicaState}
+use Rattle.replica_rows.specs.State.{others, leads, drains, is_normal, waits, has_room}
+use Rattle.replica_rows.specs.Sends.{Effect, then_do, to_all_if}
+use Rattle.replica_rows.specs.Moves.{session_view, begin_session, queue, drain, left, listening, entered, enter_as, enter, change_told}
+use Rattle.replica_rows.specs.Rows.{enter_and_drain}
+use Rattle.replica_rows.proofs.Draining.{drains_by_front}
+use Rattle.replica_rows.proofs.Opening.{enters_with_others}
 
 -- ---- the session begins before the view is entered, or after it
 

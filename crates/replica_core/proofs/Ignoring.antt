@@ -3,7 +3,7 @@ use Rattle.std.proofs.Common.{◌≡◌, ℕ, ◌<◌, ◌≤◌, ◌+◌, ◌-�
 use Rattle.std.specs.Prelude.{nat_lt, nat_le, ◌==◌, ◌&&◌}
 use Rattle.std.proofs.lemmas.Bool.{ltb-true}
 use Rattle.std.proofs.lemmas.Bool.Decides.{nat_tests}
-use Rattle.nop_types.specs.Given.{Given, Packet, Submit}
+use Rattle.nop_types.specs.Given.{Packet, Submit}
 use Rattle.nop_types.specs.Meaning.{Meaning}
 use Rattle.nop_types.specs.declared.datagram.Fragment.{Fragment}
 use Rattle.nop_types.specs.declared.datagram.Datagram.{Datagram}
@@ -18,10 +18,10 @@ use Rattle.nop_types.specs.declared.request.Request.{Request}
 use Rattle.nop_types.specs.declared.view.View.{View}
 use Rattle.oum_codec.specs.declared.bad.Bad.{Bad}
 use Rattle.oum_codec.specs.Reading.{reading}
-use Rattle.replica_core.specs.declared.state.ReplicaState.{ReplicaState}
-use Rattle.replica_core.specs.declared.state.TheConstants.{LAST_MESSAGE}
+use Rattle.replica_rows.specs.declared.state.ReplicaState.{ReplicaState}
+use Rattle.replica_core.specs.declared.replica.TheConstants.{LAST_MESSAGE}
 use Rattle.replica_core.specs.Ignoring.{is_for, IsIgnored, IgnoresPacket, is_of_view, Rests, IgnoresMessage}
-use Rattle.replica_core.specs.Messages.{
+use Rattle.replica_rows.specs.Messages.{
   Arrival,
   is_current,
   is_from_leader,
@@ -34,10 +34,10 @@ use Rattle.replica_core.specs.Messages.{
   arrive,
 }
 use Rattle.replica_core.specs.ReplicaSteps.{Replica, row_if, row, fragment_if, fragment, on_datagram, next}
-use Rattle.replica_core.specs.Rows.{gap_commit_if, gap_commit, found, sync_prepare, sync_commit, begin_gap, suspect, last_leader}
-use Rattle.replica_core.specs.Sends.{Effect, still, when, message_count}
-use Rattle.replica_core.specs.State.{leads, leader, may_append}
-use Rattle.replica_core.proofs.Counting.{arrive_sends_few}
+use Rattle.replica_rows.specs.Rows.{gap_commit_if, gap_commit, found, sync_prepare, sync_commit, begin_gap, suspect, last_leader}
+use Rattle.replica_rows.specs.Sends.{Effect, still, when}
+use Rattle.replica_rows.specs.State.{may_append}
+use Rattle.replica_rows.proofs.Counting.{arrive_sends_few}
 
 -- ---- datagrams
 

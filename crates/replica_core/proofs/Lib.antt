@@ -1,11 +1,4 @@
-pub mod Counting
-pub mod Draining
-pub mod Gathered
 pub mod Ignoring
 pub mod Lengths
-pub mod Opening
 pub mod Posted
 pub mod Ready
-pub mod Replying
-pub mod Rows
-pub mod Running

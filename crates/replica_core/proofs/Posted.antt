@@ -6,11 +6,11 @@ use Rattle.nop_types.specs.declared.datagram.Reply.{Reply}
 use Rattle.nop_types.specs.declared.output.Dest.{Dest}
 use Rattle.nop_types.specs.declared.output.Out.{Out}
 use Rattle.nop_types.specs.declared.peer.Peer.{Peer}
-use Rattle.replica_core.specs.declared.sending.Sending.{Sending}
-use Rattle.replica_core.specs.declared.sending.Sending.TheVariants.{ToClient, ToReplicas}
-use Rattle.replica_core.specs.Sends.{message_count}
+use Rattle.replica_rows.specs.declared.sending.Sending.{Sending}
+use Rattle.replica_rows.specs.declared.sending.Sending.TheVariants.{ToClient, ToReplicas}
+use Rattle.replica_rows.specs.Sends.{message_count}
 use Rattle.replica_core.specs.Posting.{reply_out, message_outs, posted}
-use Rattle.replica_core.proofs.Counting.{count_append}
+use Rattle.replica_rows.proofs.Counting.{count_append}
 
 pub posted_none : (number : ℕ) → posted number [] ≡ []
 unfolding posted

@@ -9,10 +9,10 @@ use Rattle.nop_types.specs.declared.peer.Body.{Body}
 use Rattle.nop_types.specs.declared.peer.Body.TheVariants as bodies
 use Rattle.oum_codec.specs.declared.bad.Bad.{Bad}
 use Rattle.oum_codec.specs.Reading.{reading}
-use Rattle.replica_core.specs.declared.state.ReplicaState.{ReplicaState}
-use Rattle.replica_core.specs.Messages.{Told, is_current, is_other, arrive}
+use Rattle.replica_rows.specs.declared.state.ReplicaState.{ReplicaState}
+use Rattle.replica_rows.specs.Messages.{Told, is_current, is_other, arrive}
+use Rattle.replica_rows.specs.Sends.{still}
 use Rattle.replica_core.specs.ReplicaSteps.{Replica, next}
-use Rattle.replica_core.specs.Sends.{still}
 
 -- ---- datagrams
 

@@ -1,13 +1,5 @@
 pub mod Code
-pub mod Draining
 pub mod Ignoring
-pub mod Keeping
-pub mod Messages
-pub mod Moves
 pub mod Posting
 pub mod ReplicaSteps
-pub mod Replies
-pub mod Rows
-pub mod Sends
-pub mod State
 pub mod Within

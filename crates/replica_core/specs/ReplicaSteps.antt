@@ -17,14 +17,12 @@ use Rattle.peer_codec.specs.declared.bad_peer.BadPeer.{BadPeer}
 use Rattle.peer_codec.specs.Reading as peer
 use Rattle.fragments.specs.Joining.{Waiting, taken}
 use Rattle.fragments.specs.Joining as joining
-use Rattle.replica_core.specs.declared.replica.Arrival.{Arrival}
-use Rattle.replica_core.specs.declared.replica.Arrival.TheVariants as arrivals
+use Rattle.replica_rows.specs.declared.state.ReplicaState.{ReplicaState}
+use Rattle.replica_rows.specs.State as state
+use Rattle.replica_rows.specs.Sends.{Effect, message_count}
+use Rattle.replica_rows.specs.Messages as messages
 use Rattle.replica_core.specs.declared.replica.Node.{Node}
-use Rattle.replica_core.specs.declared.state.ReplicaState.{ReplicaState}
-use Rattle.replica_core.specs.declared.state.TheConstants.{RESEND_MILLIS, SYNC_MILLIS, WATCH_MILLIS, LAST_MESSAGE}
-use Rattle.replica_core.specs.State as state
-use Rattle.replica_core.specs.Sends.{Effect, message_count}
-use Rattle.replica_core.specs.Messages as messages
+use Rattle.replica_core.specs.declared.replica.TheConstants.{RESEND_MILLIS, SYNC_MILLIS, WATCH_MILLIS, LAST_MESSAGE}
 use Rattle.replica_core.specs.Posting.{posted}
 
 -- a replica with what its messages need: the last message number that it used, and the fragments that wait
@@ -36,12 +34,6 @@ pub record Replica : Type 0 where
 -- the same of the code's, without what executes its log
 abbrev pub replica_of : {H U : Type 0} → Node H U → Replica
 replica_of n = record { state = n.member.state; messages = n.messages; reassembly = n.reassembly }
-
--- what the code calls an arrival
-abbrev pub arrival_of : Arrival → messages.Arrival
-arrival_of (arrivals.Stamped p) = messages.Packet p
-arrival_of (arrivals.Told p) = messages.Told p
-arrival_of (arrivals.Ticked tick) = messages.Ticked tick
 
 abbrev pub opening : Configuration → ℕ → Replica
 opening config number = record { state = state.opening config number; messages = 0; reassembly = joining.opening config.replicas }

@@ -1,14 +1,14 @@
 ghost use Rattle.std.specs.Prelude.{◌≡◌, ◌≤◌, ◌<◌, ◌+◌, ◌^◌, ◌++◌, ◌∷◌, [], length, take, OnOk, OnErr, IfOk};
 ghost use Rattle.std.specs.List.{AllByRecursion};
 ghost use Rattle.nop_types.specs.Ranges.{ReplyFits};
-ghost use Rattle.replica_core.specs.Sends.{SendingFits, message_count};
+ghost use Rattle.replica_rows.specs.Sends.{SendingFits, message_count};
 ghost use Rattle.replica_core.specs.Posting.{reply_out, message_outs, posted};
 
-use crate::{Sending, Sends};
 use fragments::{CutError, cut};
 use nop_types::{Actor, Bytes, Dest, NoMemory, Out, Outbox, Reply};
 use oum_codec::encode_reply;
 use peer_codec::EncodedPeer;
+use replica_rows::{Sending, Sends};
 use std::alloc::Global;
 
 fn post_reply(alloc: Global, reply: &Reply, out: &mut Outbox) -> Result<(), NoMemory>

@@ -4,31 +4,39 @@ ghost use Rattle.nop_types.specs.declared.limits.TheConstants.{MAX_SLOTS, MAX_UN
 ghost use Rattle.nop_types.specs.Given.{given};
 ghost use Rattle.nop_types.specs.Ranges.{ViewFits, LogFits};
 ghost use Rattle.peer_codec.specs.Reading as peer;
-ghost use Rattle.replica_core.specs.State as words;
-ghost use Rattle.replica_core.specs.State.{executed_to};
-ghost use Rattle.replica_core.specs.Messages.{arrive};
-ghost use Rattle.replica_core.specs.ReplicaSteps.{replica_of, arrival_of, row, read, next, opening};
+ghost use Rattle.replica_rows.specs.Messages.{arrival_of, arrive};
+ghost use Rattle.replica_rows.specs.State.{executed_to};
+ghost use Rattle.replica_rows.specs.Within.{ArrivalFits, IsWithin, IsRunning, Does};
+ghost use Rattle.replica_core.specs.ReplicaSteps.{replica_of, row, read, next, opening};
 ghost use Rattle.replica_core.specs.ReplicaSteps as steps;
-ghost use Rattle.replica_core.specs.Within.{ArrivalFits, IsWithin, IsRunning, Does, IsReady, KeepsLimits};
+ghost use Rattle.replica_core.specs.Within.{IsReady, KeepsLimits};
 
-use crate::member::Member;
 use crate::posting::post;
-use crate::{
-    LAST_MESSAGE, NextNumber, RESEND_MILLIS, ReplicaState, SYNC_MILLIS, Sends, WATCH_MILLIS,
-};
-use executor::Executor;
 use fragments::Reassembly;
 use nop_types::{
-    Bytes, Config, Core, Datagram, Fragment, Host, Input, NoMemory, Outbox, Peer, Phase, Stamped,
-    Tick, View,
+    Bytes, Config, Core, Datagram, Fragment, Host, Input, NoMemory, Outbox, Phase, Tick, View,
 };
 use oum_codec::{Bad, decode};
-use oum_receiver::Receiver;
 use peer_codec::{BadPeer, decode_peer};
 use replica_log::ReplicaLog;
+use replica_rows::{Arrival, Member};
 use std::alloc::Global;
 use std::marker::Model;
-use sync_points::SyncPoints;
+
+/// The time between two resends of what was not answered.
+pub const RESEND_MILLIS: u64 = 50;
+
+/// The time between two synchronisations.
+pub const SYNC_MILLIS: u64 = 100;
+
+/// A follower that takes nothing of its leader for so long suspects it.
+pub const WATCH_MILLIS: u64 = 1000;
+
+/// A replica that used this message number, or a greater one, takes no row any more. A step uses at most eight.
+pub const LAST_MESSAGE: u64 = u64::MAX - 8;
+
+// its value as STEPS.md has it, which no contract pins
+const _: () = prove!(LAST_MESSAGE == 18_446_744_073_709_551_607);
 
 /// A replica with what its messages need, while it has not failed.
 #[derive(Drop)]
@@ -63,60 +71,24 @@ impl<H: Host> Model for Replica<H> {
     ghost invariant = { λ r. r.failed ≡ false → IsReady H.Host r.node };
 }
 
-/// What a whole input is: a stamped request, a message of another replica, or a tick.
-#[derive(Drop)]
-enum Arrival {
-    Stamped(Stamped),
-    Told(Peer),
-    Ticked(Tick),
-}
-
-/// The state of a replica before its first input.
-fn opening_state(alloc: Global, config: Config, number: u8) -> Result<ReplicaState, NoMemory>
-    ensures { IfOk result (λ s. s ≡ words.opening config number) }
-{
-    let first = View {
-        leader: 0,
-        session: 1,
-    };
-    Ok(ReplicaState {
-        config,
-        number,
-        view: first,
-        status: Phase::Normal,
-        last_normal: first,
-        log: ReplicaLog::new(alloc),
-        next: NextNumber::new(1),
-        base: 0,
-        receiver: Receiver::new(alloc, 1, 1)?,
-        gap: None,
-        sync: SyncPoints::new(config.replicas() / 2),
-        changes: None,
-        asked: 0,
-        heard: true,
-    })
-}
-
-impl<H: Host> Member<H> {
-    /// The row for what arrives.
-    #[tactic(auto, unfolding(crate::specs::Messages::arrive))]
-    fn arrive(&mut self, arrival: Arrival) -> Result<(), NoMemory>
-        requires runs { IsRunning H.Host self.old }
-        requires fits { ArrivalFits (arrival_of arrival) }
-        ensures { OnOk result
-            (Does H.Host self.old self.new (λ s. arrive H.meaning s (arrival_of arrival))) }
-    {
-        match arrival {
-            Arrival::Stamped(packet) => self.stamped(packet),
-            Arrival::Told(message) => self.on_message(message),
-            Arrival::Ticked(tick) => self.ticked(tick),
-        }
-    }
-}
-
 impl<H: Host> Node<H> {
+    /// A replica before its first input.
+    fn new(alloc: Global, config: Config, number: u8) -> Result<Node<H>, NoMemory>
+        requires { number < config.replicas }
+        ensures ready { IfOk result (λ n. IsReady H.Host n) }
+        ensures state { IfOk result (λ n. replica_of n ≡ opening config number) }
+    {
+        let member = Member::new(alloc, config, number)?;
+        let reassembly = Reassembly::new(alloc, config.replicas())?;
+        Ok(Node {
+            member,
+            messages: 0,
+            reassembly,
+        })
+    }
+
     /// The row for what arrives, while message numbers are left, and the datagrams of what it sends.
-    #[tactic(auto, using(crate::proofs::Counting::arrive_sends_few, crate::proofs::Counting::arrive_keeps_config))]
+    #[tactic(auto, using(replica_rows::proofs::Counting::arrive_sends_few, replica_rows::proofs::Counting::arrive_keeps_config))]
     fn row(&mut self, arrival: Arrival, out: &mut Outbox) -> Result<(), NoMemory>
         requires ready { IsReady H.Host self.old }
         requires fits { ArrivalFits (arrival_of arrival) }
@@ -130,8 +102,7 @@ impl<H: Host> Node<H> {
         if self.messages >= LAST_MESSAGE {
             return Ok(());
         }
-        self.member.arrive(arrival)?;
-        self.member.settle()?;
+        self.member.take(arrival)?;
         let member = &mut self.member;
         self.messages = post(member.alloc, self.messages, &member.sends, out)?;
         member.sends.clear();
@@ -212,19 +183,10 @@ impl<H: Host> Replica<H> {
         ensures { IfOk result (λ r. r
             ≡ record { failed = false; state = opening config number }) }
     {
-        let state = opening_state(alloc, config, number)?;
+        let node = Node::new(alloc, config, number)?;
         Ok(Replica {
             failed: false,
-            node: Node {
-                member: Member {
-                    alloc,
-                    state,
-                    executor: Executor::new(alloc)?,
-                    sends: Sends::new(alloc),
-                },
-                messages: 0,
-                reassembly: Reassembly::new(alloc, config.replicas())?,
-            },
+            node,
         })
     }
 
@@ -288,7 +250,8 @@ impl<H: Host> Replica<H> {
         self.node.reassembly.held(sender)
     }
 
-    /// How many slots the host has executed: a leader in Normal has the whole log, another what is synchronised.
+    /// While the replica has not failed, how many slots its host has executed: of a leader in Normal the whole log, of another what is
+    /// synchronised.
     pub fn executed(&self) -> u32
         ensures { self.now.failed ≡ false → result ≡ executed_to self.now.state.state }
     {

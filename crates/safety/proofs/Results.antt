@@ -8,7 +8,7 @@ use Rattle.nop_types.specs.declared.request.Entry.TheVariants.{NoOp, Req}
 use Rattle.nop_types.specs.Execution.{Answered, Executed, opening, execute, exec, exec_kept, enter_kept, is_above_kept, result_kept}
 use Rattle.nop_types.specs.Meaning.{Meaning}
 use Rattle.histories.proofs.Results.{exec_is_by_kept, result_is_kept, result_is_of_request}
-use Rattle.replica_core.specs.Within.{ResultsShort}
+use Rattle.replica_rows.specs.Within.{ResultsShort}
 
 module _ {S : Type 0} (m : Meaning S) (is_sound : S → Type 0) (opens : is_sound m.opening)
     (stays : (s : S) (op : List ℕ) → is_sound s → is_sound (m.after s op))

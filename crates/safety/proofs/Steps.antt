@@ -15,7 +15,7 @@ use Rattle.session_control.specs.declared.state.ControllerState.{ControllerState
 use Rattle.session_control.specs.ControllerSteps as controller
 use Rattle.replica_core.specs.ReplicaSteps as replica
 use Rattle.replica_core.specs.ReplicaSteps.{Replica}
-use Rattle.replica_core.specs.Within.{ResultsShort}
+use Rattle.replica_rows.specs.Within.{ResultsShort}
 use Rattle.schedule_text.specs.declared.event.Event.{Event}
 use Rattle.schedule_text.specs.Fits.{EventFits}
 use Rattle.protocol.specs.Conf.{Conf}
@@ -36,15 +36,15 @@ use Rattle.safety.proofs.ReplicaSteps.{replica_goes}
 -- ---- where a step comes from
 
 -- an actor that is there was brought something, and this is what its step makes of the world
-record Took {S : Type 0} (act : Seated S × Did → Happened) (next : S → Given → S × List Out) (o : Option (Seated S))
+pub record Took {S : Type 0} (act : Seated S × Did → Happened) (next : S → Given → S × List Out) (o : Option (Seated S))
     (r : Result Stimulus Refusal) (h : Happened) : Type 0 where
-  seat : Seated S
-  there : o ≡ Some seat
-  what : Stimulus
-  brought : r ≡ Ok what
-  gives : act (seat_step next seat what) ≡ h
+  pub seat : Seated S
+  pub there : o ≡ Some seat
+  pub what : Stimulus
+  pub brought : r ≡ Ok what
+  pub gives : act (seat_step next seat what) ≡ h
 
-took : {S : Type 0} (act : Seated S × Did → Happened) (next : S → Given → S × List Out) (o : Option (Seated S))
+pub took : {S : Type 0} (act : Seated S × Did → Happened) (next : S → Given → S × List Out) (o : Option (Seated S))
     (r : Result Stimulus Refusal) (h : Happened) → then_at act (step_at next o r) ≡ Ok h → Took act next o r h
 took act next None r h e = absurd cc
 took act next (Some p) (Err refusal) h e = absurd cc

@@ -8,7 +8,7 @@ use Rattle.nop_types.specs.Legality.{Legal}
 use Rattle.nop_types.specs.Lines.{Line}
 use Rattle.nop_types.specs.Meaning.{Meaning}
 use Rattle.facts.proofs.Places.{Splits-at}
-use Rattle.replica_core.specs.Within.{ResultsShort}
+use Rattle.replica_rows.specs.Within.{ResultsShort}
 use Rattle.schedule_text.specs.declared.event.Event.{Event}
 use Rattle.schedule_text.specs.Fits.{EventFits, EventsFit}
 use Rattle.protocol.specs.Conf.{Conf, opening}

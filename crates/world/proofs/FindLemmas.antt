@@ -124,7 +124,7 @@ may_index_after (Err x) index new sent later s count is before noted stays put s
 
 -- ---- a walk
 
--- so many datagrams were passed, and the first of those that are left is the first of all
+-- `i` datagrams were passed, and the first of those that are left is the first of all
 pub record Passed (wanted : List ℕ) (ms : List Mark) (bytes : List ℕ) (i start : ℕ) : Type 0 where
   pub ends : EndsAt start (drop i ms) (length bytes)
   pub finds : position_from (has_bytes wanted) i (cut_from start (drop i ms) bytes) ≡ first_index wanted (cut_from 0 ms bytes)
@@ -160,7 +160,8 @@ module _ (wanted : List ℕ) (ms : List Mark) (bytes : List ℕ) (i start : ℕ)
     }
 
     pub found_here : b ≡ true → Some i ≡ first_index wanted (cut_from 0 ms bytes)
-    found_here same = subst (λ (c : Bool). cond c (Some i) (position_from (has_bytes wanted) (i + 1) (cut_from m.end (drop (i + 1) ms) bytes))
+    found_here same = subst (λ (c : Bool). cond c (Some i) (position_from (has_bytes wanted) (i + 1) (cut_from m.end (drop (i + 1) ms)
+        bytes))
         ≡ first_index wanted (cut_from 0 ms bytes)) same next_finds
 
 -- none is left

@@ -65,7 +65,7 @@ abbrev pub tick_if : Bool → Tick → Result Stimulus Refusal
 tick_if true tick = Ok (Takes (Ticked tick))
 tick_if false tick = Err NoSuchActor
 
--- a datagram that was sent, where so many were
+-- the datagram with an index, where `count` were sent
 abbrev pub datagram_at : ℕ → ℕ → Option Sent → Result Stimulus Refusal
 datagram_at index count None = Err (NoSuchDatagram index count)
 datagram_at index count (Some s) = Ok (Takes (Packet s.bytes))

@@ -84,8 +84,8 @@ fn carry_out_all(
     Ok(())
 }
 
-/// Carries out what an actor did, in order: its datagrams go into the network, and its lines are
-/// written.
+/// Carries out what an actor did, in order: its datagrams go into the network, and its lines are written. Where memory runs
+/// out, a front of the datagrams is in the network, and the lines are lost.
 pub fn carry_out(
     alloc: Global,
     network: &mut Network,

@@ -3,7 +3,7 @@ ghost use Rattle.world.specs.SeatOutcomes.{seated_of};
 ghost use Rattle.world.specs.StateLines.{entries_text, replica_text, replicas_text};
 
 use crate::seat::Seat;
-use nop_types::{Entry, Host, MAX_SLOTS, NoMemory};
+use nop_types::{Entry, Host, MAX_REPLICAS, MAX_SLOTS, NoMemory};
 use replica_core::Replica;
 use schedule_text::{entry_line, replica_line};
 
@@ -49,9 +49,9 @@ fn put_replica<H: Host>(
     put_entries(number, front(log, core.sync_point()), to)
 }
 
-/// Appends the lines of all replicas.
+/// Appends the lines of all replicas. Where memory runs out, `to` keeps the lines before, each of them whole.
 pub fn put_replicas<H: Host>(seats: &[Seat<Replica<H>>], to: &mut Vec<u8>) -> Result<(), NoMemory>
-    requires { length seats.now ≤ 7 }
+    requires { length seats.now ≤ MAX_REPLICAS }
     ensures { OnOk result (to.new.items ≡ to.old.items
         ++ replicas_text 0 (map (seated_of (λ r. r.state)) seats.now)) }
 {

@@ -1,7 +1,7 @@
 use Rattle.std.proofs.Common.{◌≡◌, length, refl}
 use Rattle.std.proofs.lemmas.Option.{slice_get_read}
 use Rattle.std.proofs.lemmas.Result.{err_from_is_err_and}
-use Rattle.replica_core.specs.Within.{ResultsShort}
+use Rattle.replica_rows.specs.Within.{ResultsShort}
 use Rattle.safety.proofs.Results.{results_short}
 use Rattle.safety.proofs.Whole.{running_on, run_led, run_refused}
 use Rattle.safety.proofs.run.run_events.Goals as goal

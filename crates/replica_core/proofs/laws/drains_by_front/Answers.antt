@@ -1,5 +1,0 @@
-use Rattle.replica_core.proofs.Draining.{drains_by_front}
-use Rattle.replica_core.proofs.laws.drains_by_front.Goals as goal
-
-pub returns : goal.returns
-returns g c = λ m. drains_by_front m

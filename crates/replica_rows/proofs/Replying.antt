@@ -1,0 +1,49 @@
+-- Replies for one slot after the other.
+use Rattle.std.proofs.Common.{◌≡◌, ℕ, zero, suc, ◌+◌, ◌<◌, List, [], ◌∷◌, ◌++◌, length, drop, true, Option, Some, refl, sym, ap, subst, ◌∙◌}
+use Rattle.std.proofs.Common.{arith, append_assoc}
+use Rattle.std.specs.Prelude.{slice_get}
+use Rattle.nop_types.specs.declared.request.Request.{Request}
+use Rattle.nop_types.specs.declared.request.Entry.{Entry}
+use Rattle.nop_types.specs.declared.request.Entry.TheVariants.{Req}
+use Rattle.nop_types.specs.Execution.{result_at}
+use Rattle.nop_types.specs.Lists.{slot_of}
+use Rattle.nop_types.specs.Meaning.{Meaning}
+use Rattle.facts.proofs.Places.{Splits-at}
+use Rattle.replica_rows.specs.declared.sending.Sending.{Sending}
+use Rattle.replica_rows.specs.declared.state.ReplicaState.{ReplicaState}
+use Rattle.replica_rows.specs.State.{leads}
+use Rattle.replica_rows.specs.Replies.{leader_reply, reply_if, reply_to, reply_at, reply_for_any, replies_to, replies_above}
+
+has_place : (l : List Entry) (i : ℕ) → i < length l → (e : Entry) × (slice_get l i ≡ Some e)
+has_place [] i less = absurd (omega (arith, less))
+has_place (x ∷ l) zero less = (x, refl)
+has_place (x ∷ l) (suc i) less = has_place l i (omega (arith, less))
+
+module _ {S : Type 0} (m : Meaning S) where
+  first : (s : ReplicaState) (i : ℕ) → i < length s.log → replies_above m s i ≡ reply_at m s (i + 1) ++ replies_above m s (i + 1)
+  first s i less =
+      let place = has_place s.log i less in
+      let next : i + 1 ≡ suc i = omega arith in
+      ap (replies_to m s (i + 1)) (Splits-at s.log i place.0 place.1).back
+      ∙ ap (λ (o : Option Entry). reply_for_any m s (i + 1) o ++ replies_to m s (i + 1 + 1) (drop (suc i) s.log))
+      (sym (ap (slot_of s.log) next ∙ place.1))
+      ∙ ap (λ k. reply_at m s (i + 1) ++ replies_to m s (i + 1 + 1) (drop k s.log)) (sym next)
+
+  -- replying for one slot more, of what is to be replied in all
+  pub replies_on : (s t : ReplicaState) (i : ℕ) (old new total : List Sending) → s ≡ t → i < length s.log
+      → new ≡ old ++ reply_at m s (i + 1) → old ++ replies_above m t i ≡ total → new ++ replies_above m t (i + 1) ≡ total
+  replies_on s t i old new total same less sent so_far =
+      let here : i < length t.log = subst (λ (p : ReplicaState). i < length p.log) same less in
+      ap (λ (xs : List Sending). xs ++ replies_above m t (i + 1)) (sent ∙ ap (λ (p : ReplicaState). old ++ reply_at m p (i + 1)) same)
+      ∙ append_assoc old (reply_at m t (i + 1)) (replies_above m t (i + 1))
+      ∙ ap (λ (xs : List Sending). old ++ xs) (sym (first t i here))
+      ∙ so_far
+
+  -- a leader's reply with the result of the slot
+  pub leader_replies : (s : ReplicaState) (slot : ℕ) (r : Request) (o : Option (List ℕ)) → leads s ≡ true
+      → slot_of s.log slot ≡ Some (Req r) → o ≡ result_at m s.log slot → leader_reply s slot r o ≡ reply_at m s slot
+  unfolding reply_to
+  leader_replies s slot r o leading there is =
+      ap (λ (q : Option (List ℕ)). leader_reply s slot r q) is
+      ∙ sym (ap (λ b. reply_if m b s slot r) leading)
+      ∙ sym (ap (λ (e : Option Entry). reply_for_any m s slot e) there)

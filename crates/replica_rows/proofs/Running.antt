@@ -1,0 +1,312 @@
+-- Moves keep a replica's state within its ranges, and what was executed.
+use Rattle.std.proofs.Common.{◌≡◌, ◌<◌, ◌≤◌, ◌+◌, ◌-◌, ℕ, zero, suc, Bool, true, false, List, [], ◌∷◌, ◌++◌, length, take, refl, sym, ap}
+use Rattle.std.proofs.Common.{subst, ◌∙◌, arith, append_assoc, length-append, inl, inr}
+use Rattle.std.specs.Prelude.{cond, ◌⊎◌, slice_get, slice_set, not, nat_lt, IfSome, Option, Some, None, Result, Ok, Err, OnOk}
+use Rattle.std.specs.List.{AllByRecursion}
+use Rattle.std.proofs.lemmas.Bool.{ltb-true, and_parts}
+use Rattle.std.proofs.lemmas.Option.{same_Some}
+use Rattle.nop_types.specs.declared.host.Host.{Ghosts}
+use Rattle.nop_types.specs.declared.limits.TheConstants.{MAX_SLOTS, NUMBER_END}
+use Rattle.nop_types.specs.declared.request.Request.{Request}
+use Rattle.nop_types.specs.declared.request.Entry.{Entry}
+use Rattle.nop_types.specs.declared.request.Entry.TheVariants.{NoOp, Req}
+use Rattle.nop_types.specs.Lists.{slot_of}
+use Rattle.nop_types.specs.Slots.{set_slot, laid}
+use Rattle.nop_types.specs.Ranges.{EntryFits, RequestFits, LogFits, SlotFits, ViewFits, NextFits, ChangeFits}
+use Rattle.gap_agree.specs.Agreement.{Agreement, begun}
+use Rattle.gap_agree.specs.Votes.{vote_of}
+use Rattle.nop_types.specs.declared.replica_state.Vote.{Vote}
+use Rattle.nop_types.specs.declared.replica_state.Vote.TheVariants.{Settled, Waiting}
+use Rattle.nop_types.specs.declared.view.View.{View}
+use Rattle.nop_types.specs.declared.datagram.Stamped.{Stamped}
+use Rattle.nop_types.specs.declared.peer.Change.{Change}
+use Rattle.facts.proofs.Slots.{length-set_slot, length-laid}
+use Rattle.oum_receiver.specs.Receiving.{Receiving}
+use Rattle.view_change.specs.Gathering.{Gathering, counted}
+use Rattle.executor.specs.Running.{Running}
+use Rattle.executor.proofs.FrontLemmas.{on_front, on_append, on_slot}
+use Rattle.replica_log.proofs.InRanges.{append_fits, slot_fits, laid_fits}
+use Rattle.replica_rows.specs.declared.state.ReplicaState.{ReplicaState}
+use Rattle.replica_rows.specs.State.{may_append, drains, others, waits, is_normal, unless_settled}
+use Rattle.replica_rows.specs.Moves.{begin_session, appended, gap_opened, logged, adopted, overlaid}
+use Rattle.replica_rows.specs.Rows.{kept_by}
+use Rattle.replica_rows.specs.Within.{IsWithin, Runs}
+use Rattle.replica_rows.proofs.Opening.{counted_fits}
+
+-- ---- at Ok
+
+pub on_ok : {A E : Type 0} (r : Result A E) (P Q : Type 0) → (P → Q) → OnOk r P → OnOk r Q
+on_ok (Ok a) P Q f p = f p
+on_ok (Err e) P Q f p = p
+
+pub sent_on : {A : Type 0} (old a mid b new : List A) → mid ≡ old ++ a → new ≡ mid ++ b → new ≡ old ++ (a ++ b)
+sent_on old a mid b new first then = then ∙ ap (λ xs. xs ++ b) first ∙ append_assoc old a b
+
+pub waiting_fits : (g : Agreement) → SlotFits g.slot → (v : Vote) → IfSome (unless_settled g v) (λ g. SlotFits g.slot)
+waiting_fits g fits Settled = tt
+waiting_fits g fits Waiting = fits
+
+-- ---- an entry is appended
+
+pub append_within : (s : ReplicaState) (e : Entry) → IsWithin s → EntryFits e → may_append s ≡ true → IsWithin (appended s e)
+append_within s e w fits may =
+    let tests = and_parts (nat_lt (length s.log) MAX_SLOTS) (nat_lt s.next NUMBER_END) may in
+    let room : length s.log < MAX_SLOTS = ltb-true _ _ tests.0 in
+    let more : s.next < NUMBER_END = ltb-true _ _ tests.1 in
+    let low = w.next.low in
+    let base = w.base in
+    let start = w.start in
+    let len = length-append s.log (e ∷ []) in
+    record {
+      number = w.number;
+      few = w.few;
+      view = w.view;
+      last_normal = w.last_normal;
+      log = append_fits s.log e w.log fits room;
+      next = record { low = omega arith; high = omega arith };
+      base = omega arith;
+      start = omega arith;
+      receiver = λ _. refl;
+      gap = w.gap;
+      sync_point = w.sync_point;
+      syncing = w.syncing;
+      prepared = w.prepared;
+      changes = w.changes;
+    }
+
+pub open_gap_within : (s : ReplicaState) → IsWithin s → may_append s ≡ true → IsWithin (gap_opened s)
+open_gap_within s w may =
+    let a = append_within s NoOp w tt may in
+    let room : length s.log < MAX_SLOTS = ltb-true _ _ (and_parts (nat_lt (length s.log) MAX_SLOTS) (nat_lt s.next NUMBER_END) may).0 in
+    record {
+      number = a.number;
+      few = a.few;
+      view = a.view;
+      last_normal = a.last_normal;
+      log = a.log;
+      next = a.next;
+      base = a.base;
+      start = a.start;
+      receiver = a.receiver;
+      gap = waiting_fits (begun (length s.log + 1) (others s)) (record { low = omega arith; high = omega arith }) (vote_of (others s) []);
+      sync_point = a.sync_point;
+      syncing = a.syncing;
+      prepared = a.prepared;
+      changes = a.changes;
+    }
+
+pub logged_within : (s : ReplicaState) (r : Request) → IsWithin s → RequestFits r → drains s ≡ true → s.next < NUMBER_END
+    → IsWithin (logged s r)
+logged_within s r w fits d more =
+    let normal = and_parts (is_normal s.status) _ d in
+    let room : length s.log < MAX_SLOTS = ltb-true _ _ (and_parts (not (waits s.gap)) (nat_lt (length s.log) MAX_SLOTS) normal.1).1 in
+    let low = w.next.low in
+    let base = w.base in
+    let start = w.start in
+    let len = length-append s.log (Req r ∷ []) in
+    record {
+      number = w.number;
+      few = w.few;
+      view = w.view;
+      last_normal = w.last_normal;
+      log = append_fits s.log (Req r) w.log fits room;
+      next = record { low = omega arith; high = omega arith };
+      base = omega arith;
+      start = omega arith;
+      receiver = λ e. ap (λ n. n + 1) (w.receiver e);
+      gap = w.gap;
+      sync_point = w.sync_point;
+      syncing = w.syncing;
+      prepared = w.prepared;
+      changes = w.changes;
+    }
+
+-- ---- a slot becomes a NO-OP
+
+set_same : (l : List Entry) (i : ℕ) (e : Entry) → slice_get l i ≡ Some e → slice_set l i e ≡ l
+set_same [] i e h = refl
+set_same (x ∷ l) zero e h = ap (λ y. y ∷ l) (sym (same_Some _ _ h))
+set_same (x ∷ l) (suc i) e h = ap (λ k. x ∷ k) (set_same l i e h)
+
+slot_same : (l : List Entry) (k : ℕ) (e : Entry) → slot_of l k ≡ Some e → set_slot l k e ≡ l
+slot_same l zero e h = refl
+slot_same l (suc i) e h = set_same l i e h
+
+pub noop_within : (s : ReplicaState) (k : ℕ) → IsWithin s → IsWithin (record s { log = set_slot s.log k NoOp })
+noop_within s k w =
+    let same = length-set_slot s.log k NoOp in
+    let base = w.base in
+    let start = w.start in
+    record {
+      number = w.number;
+      few = w.few;
+      view = w.view;
+      last_normal = w.last_normal;
+      log = slot_fits s.log k NoOp w.log tt;
+      next = w.next;
+      base = omega arith;
+      start = omega arith;
+      receiver = w.receiver;
+      gap = w.gap;
+      sync_point = w.sync_point;
+      syncing = w.syncing;
+      prepared = w.prepared;
+      changes = w.changes;
+    }
+
+-- ---- views
+
+from_next : (b : Bool) (r q : Receiving) (x : ℕ) → r.next ≡ x → q.next ≡ x → (cond b r q).next ≡ x
+from_next true r q x e f = e
+from_next false r q x e f = f
+
+pub adopted_within : (s : ReplicaState) (v : View) (x : ℕ) (l : List Entry) → IsWithin s → ViewFits v → NextFits x → LogFits l
+    → IsWithin (adopted s v x l)
+adopted_within s v x l w view next log =
+    let low = next.low in
+    record {
+      number = w.number;
+      few = w.few;
+      view = view;
+      last_normal = view;
+      log = log;
+      next = next;
+      base = omega arith;
+      start = omega arith;
+      receiver = λ _. from_next (nat_lt s.receiver.session v.session) _ _ x refl refl;
+      gap = tt;
+      sync_point = w.sync_point;
+      syncing = tt;
+      prepared = omega arith;
+      changes = tt;
+    }
+
+pub begun_within : (s : ReplicaState) (p : Stamped) → IsWithin s → IsWithin (begin_session s p)
+begun_within s p w = record {
+  number = w.number;
+  few = w.few;
+  view = w.view;
+  last_normal = w.last_normal;
+  log = w.log;
+  next = w.next;
+  base = w.base;
+  start = w.start;
+  receiver = λ e. absurd cc;
+  gap = w.gap;
+  sync_point = w.sync_point;
+  syncing = w.syncing;
+  prepared = w.prepared;
+  changes = w.changes;
+}
+
+pub gathers_within : (s : ReplicaState) (g : Gathering) → IsWithin s → AllByRecursion ChangeFits g.changes
+    → IsWithin (record s { changes = Some g })
+gathers_within s g w fits = record {
+  number = w.number;
+  few = w.few;
+  view = w.view;
+  last_normal = w.last_normal;
+  log = w.log;
+  next = w.next;
+  base = w.base;
+  start = w.start;
+  receiver = w.receiver;
+  gap = w.gap;
+  sync_point = w.sync_point;
+  syncing = w.syncing;
+  prepared = w.prepared;
+  changes = fits;
+}
+
+-- ---- the leader's log is laid over
+
+-- where both logs agree, so does what is laid over
+laid_front : (l k : List Entry) (n : ℕ) → take n l ≡ take n k → n ≤ length k → take n (laid l k) ≡ take n k
+laid_front [] k n same le = refl
+laid_front (x ∷ l) [] n same le = same
+laid_front (x ∷ l) (y ∷ k) zero same le = refl
+laid_front (x ∷ l) (y ∷ k) (suc n) same le =
+    let heads : x ≡ y = cc in
+    let tails : take n l ≡ take n k = cc in
+    ap (λ z. z ∷ take n (laid l k)) heads ∙ ap (λ t. y ∷ t) (laid_front l k n tails (omega (arith, le)))
+
+pub overlaid_within : (s : ReplicaState) (l : List Entry) → IsWithin s → LogFits l → s.next + (length l - length s.log) ≤ NUMBER_END
+    → IsWithin (overlaid s l)
+overlaid_within s l w fits high =
+    let len = length-laid l s.log in
+    let low = w.next.low in
+    let base = w.base in
+    let start = w.start in
+    let most = fits.len in
+    let prepared = w.prepared in
+    record {
+      number = w.number;
+      few = w.few;
+      view = w.view;
+      last_normal = w.last_normal;
+      log = laid_fits l s.log fits w.log;
+      next = record { low = omega arith; high = high };
+      base = grind (arith, len, base);
+      start = grind (arith, len, base, start);
+      receiver = λ _. refl;
+      gap = w.gap;
+      sync_point = w.sync_point;
+      syncing = w.syncing;
+      prepared = grind (arith, most, prepared);
+      changes = w.changes;
+    }
+
+module _ {H U : Type 0} (host : Ghosts H U) where
+  pub append_runs : (s t : ReplicaState) (x : Running H U) (e : Entry) → t ≡ appended s e → Runs host s x → EntryFits e
+      → may_append s ≡ true → Runs host t x
+  append_runs s t x e is r fits may =
+      rw is (record { within = append_within s e r.within fits may; run = on_append host.meaning host.undo_of s.log (e ∷ []) _ _ r.run })
+
+  pub open_gap_runs : (s t : ReplicaState) (x : Running H U) → t ≡ gap_opened s → Runs host s x → may_append s ≡ true → Runs host t x
+  open_gap_runs s t x is r may =
+      rw is (record { within = open_gap_within s r.within may; run = on_append host.meaning host.undo_of s.log (NoOp ∷ []) _ _ r.run })
+
+  pub logged_runs : (s t : ReplicaState) (x : Running H U) (r : Request) → t ≡ logged s r → Runs host s x → RequestFits r → drains s ≡ true
+      → s.next < NUMBER_END → Runs host t x
+  logged_runs s t x r is h fits d more =
+      rw is (record {
+        within = logged_within s r h.within fits d more;
+        run = on_append host.meaning host.undo_of s.log (Req r ∷ []) _ _ h.run;
+      })
+
+  pub noop_runs : (s t : ReplicaState) (x : Running H U) (k : ℕ) → t ≡ record s { log = set_slot s.log k NoOp } → Runs host s x
+      → (length x.undos < k) ⊎ (slot_of s.log k ≡ Some NoOp) → Runs host t x
+  noop_runs s t x k is r (inl less) =
+      rw is (record { within = noop_within s k r.within; run = on_slot host.meaning host.undo_of s.log k NoOp _ _ r.run less })
+  noop_runs s t x k is r (inr there) = rw is (record { within = noop_within s k r.within; run = rw (slot_same s.log k NoOp there) r.run })
+
+  pub gathers_runs : (s t : ReplicaState) (x : Running H U) (g : Gathering) → t ≡ record s { changes = Some g } → Runs host s x
+      → AllByRecursion ChangeFits g.changes → Runs host t x
+  gathers_runs s t x g is r fits = rw is (record { within = gathers_within s g r.within fits; run = r.run })
+
+  pub adopted_runs : (s t : ReplicaState) (x : Running H U) (v : View) (n : ℕ) (l : List Entry) → t ≡ adopted s v n l → Runs host s x
+      → take (length x.undos) l ≡ take (length x.undos) s.log → ViewFits v → NextFits n → LogFits l → Runs host t x
+  adopted_runs s t x v n l is r same view next log =
+      rw is (record {
+        within = adopted_within s v n l r.within view next log;
+        run = on_front host.meaning host.undo_of s.log l _ _ r.run same;
+      })
+
+  pub overlaid_runs : (s t : ReplicaState) (x : Running H U) (l : List Entry) → t ≡ overlaid s l → Runs host s x
+      → take (length x.undos) l ≡ take (length x.undos) s.log → LogFits l → s.next + (length l - length s.log) ≤ NUMBER_END → Runs host t x
+  overlaid_runs s t x l is r same fits high =
+      rw is (record {
+        within = overlaid_within s l r.within fits high;
+        run = on_front host.meaning host.undo_of s.log (laid l s.log) _ _ r.run (laid_front l s.log (length x.undos) same r.run.within);
+      })
+
+  pub begun_runs : (s t : ReplicaState) (x : Running H U) (p : Stamped) → t ≡ begin_session s p → Runs host s x → Runs host t x
+  begun_runs s t x p is r = rw is (record { within = begun_within s p r.within; run = r.run })
+
+  pub kept_runs : (s t : ReplicaState) (x : Running H U) (o : Option Gathering) (c : Change) → o ≡ s.changes → t ≡ kept_by s o c
+      → Runs host s x → ChangeFits c → Runs host t x
+  kept_runs s t x None c e is r fits = rw is r
+  kept_runs s t x (Some g) c e is r fits =
+      gathers_runs s t x (counted g c) is r
+      (counted_fits g c (subst (λ (o : Option Gathering). IfSome o (λ g. AllByRecursion ChangeFits g.changes)) (sym e) r.within.changes)
+      fits)

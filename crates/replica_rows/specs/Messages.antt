@@ -1,0 +1,110 @@
+-- The step table of a replica over whole messages.
+use Rattle.std.specs.Prelude.{ℕ, Bool, true, false, not, nat_lt, ◌==◌, ◌&&◌}
+use Rattle.nop_types.specs.Meaning.{Meaning}
+use Rattle.nop_types.specs.Views.{is_view}
+use Rattle.nop_types.specs.declared.view.View.{View}
+use Rattle.nop_types.specs.declared.input.Tick.{Tick}
+use Rattle.nop_types.specs.declared.input.Tick.TheVariants as ticks
+use Rattle.nop_types.specs.declared.datagram.Stamped.{Stamped}
+use Rattle.nop_types.specs.declared.peer.Peer.{Peer}
+use Rattle.nop_types.specs.declared.peer.Body.{Body}
+use Rattle.nop_types.specs.declared.peer.Body.TheVariants as bodies
+use Rattle.replica_rows.specs.declared.arrivals.Arrival as code
+use Rattle.replica_rows.specs.declared.arrivals.Arrival.TheVariants as arrivals
+use Rattle.replica_rows.specs.declared.state.ReplicaState.{ReplicaState}
+use Rattle.replica_rows.specs.State.{leader, leads, is_normal}
+use Rattle.replica_rows.specs.Sends.{Effect, still, when}
+use Rattle.replica_rows.specs.Rows as rows
+
+-- what a replica takes: a stamped request, a message of another replica, or a tick
+pub data Arrival : Type 0 where
+  Packet : Stamped → Arrival
+  Told : Peer → Arrival
+  Ticked : Tick → Arrival
+
+-- what the code calls an arrival
+abbrev pub arrival_of : code.Arrival → Arrival
+arrival_of (arrivals.Stamped p) = Packet p
+arrival_of (arrivals.Told p) = Told p
+arrival_of (arrivals.Ticked tick) = Ticked tick
+
+-- ---- messages of the view in which the replica is Normal
+
+abbrev pub is_current : ReplicaState → View → Bool
+is_current s v = is_view v s.view && is_normal s.status
+
+-- of the leader, to a follower
+abbrev pub is_from_leader : ReplicaState → View → ℕ → Bool
+is_from_leader s v q = is_current s v && (not (leads s) && (q == leader s))
+
+-- of a follower, to the leader
+abbrev pub is_to_leader : ReplicaState → View → Bool
+is_to_leader s v = is_current s v && leads s
+
+abbrev pub from_leader : {S : Type 0} → Meaning S → Body → ReplicaState → Effect
+from_leader m (bodies.GapCommit k) s = rows.gap_commit m k s
+from_leader m (bodies.Found k r) s = rows.found m k r s
+from_leader m (bodies.SyncPrepare l) s = rows.sync_prepare m l s
+from_leader m (bodies.SyncCommit k) s = rows.sync_commit k s
+from_leader m (bodies.SlotLookup k) s = still s
+from_leader m (bodies.GapRep k) s = still s
+from_leader m (bodies.SyncRep k) s = still s
+from_leader m bodies.ViewChangeReq s = still s
+from_leader m (bodies.ViewChange u x l) s = still s
+from_leader m (bodies.StartView x l) s = still s
+
+abbrev pub from_follower : {S : Type 0} → Meaning S → ℕ → Body → ReplicaState → Effect
+from_follower m q (bodies.SlotLookup k) s = rows.slot_lookup m q k s
+from_follower m q (bodies.GapRep k) s = rows.gap_reply m q k s
+from_follower m q (bodies.SyncRep k) s = rows.sync_reply q k s
+from_follower m q (bodies.GapCommit k) s = still s
+from_follower m q (bodies.Found k r) s = still s
+from_follower m q (bodies.SyncPrepare l) s = still s
+from_follower m q (bodies.SyncCommit k) s = still s
+from_follower m q bodies.ViewChangeReq s = still s
+from_follower m q (bodies.ViewChange u x l) s = still s
+from_follower m q (bodies.StartView x l) s = still s
+
+abbrev pub by_role : {S : Type 0} → Meaning S → Bool → Bool → ℕ → Body → ReplicaState → Effect
+by_role m true to_leader q body s = from_leader m body s
+by_role m false true q body s = from_follower m q body s
+by_role m false false q body s = still s
+
+abbrev pub in_view : {S : Type 0} → Meaning S → ℕ → View → Body → ReplicaState → Effect
+in_view m q v body s = by_role m (is_from_leader s v q) (is_to_leader s v) q body s
+
+-- ---- all messages
+
+abbrev pub on_body : {S : Type 0} → Meaning S → Peer → Body → ReplicaState → Effect
+on_body m p bodies.ViewChangeReq s = rows.view_change_request m p.view s
+on_body m p (bodies.ViewChange u x l) s = rows.view_change m p.view (record { sender = p.sender; last_normal = u; next = x; log = l }) s
+on_body m p (bodies.StartView x l) s = rows.start_view m p.sender p.view x l s
+on_body m p (bodies.GapCommit k) s = in_view m p.sender p.view (bodies.GapCommit k) s
+on_body m p (bodies.Found k r) s = in_view m p.sender p.view (bodies.Found k r) s
+on_body m p (bodies.SyncPrepare l) s = in_view m p.sender p.view (bodies.SyncPrepare l) s
+on_body m p (bodies.SyncCommit k) s = in_view m p.sender p.view (bodies.SyncCommit k) s
+on_body m p (bodies.SlotLookup k) s = in_view m p.sender p.view (bodies.SlotLookup k) s
+on_body m p (bodies.GapRep k) s = in_view m p.sender p.view (bodies.GapRep k) s
+on_body m p (bodies.SyncRep k) s = in_view m p.sender p.view (bodies.SyncRep k) s
+
+-- a replica takes no message of its own
+abbrev pub is_other : ReplicaState → ℕ → Bool
+is_other s q = nat_lt q s.config.replicas && not (q == s.number)
+
+unfoldable pub on_message : {S : Type 0} → Meaning S → Peer → ReplicaState → Effect
+on_message m p s = when (is_other s p.sender) (on_body m p p.body) s
+
+abbrev pub ticked : {S : Type 0} → Meaning S → Tick → ReplicaState → Effect
+ticked m ticks.Suspect s = rows.suspect m s
+ticked m ticks.Watch s = rows.watch m s
+ticked m ticks.Resend s = rows.resend s
+ticked m ticks.Sync s = rows.sync s
+ticked m ticks.Retry s = still s
+ticked m ticks.Next s = still s
+ticked m ticks.Probe s = still s
+ticked m (ticks.Install j) s = still s
+
+unfoldable pub arrive : {S : Type 0} → Meaning S → ReplicaState → Arrival → Effect
+arrive m s (Packet p) = rows.stamped m p s
+arrive m s (Told p) = on_message m p s
+arrive m s (Ticked tick) = ticked m tick s

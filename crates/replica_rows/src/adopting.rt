@@ -1,0 +1,70 @@
+ghost use Rattle.std.specs.Prelude.{◌≡◌, ◌≤◌, ◌++◌, OnOk, IfOk};
+ghost use Rattle.nop_types.specs.declared.limits.TheConstants.{NUMBER_END};
+ghost use Rattle.nop_types.specs.Ranges.{ViewFits, NextFits, LogFits};
+ghost use Rattle.replica_rows.specs.Moves.{adopted, adopt, open_with};
+ghost use Rattle.replica_rows.specs.Within.{IsRunning, Does};
+
+use crate::ReplicaState;
+use crate::member::Member;
+use nop_types::{Host, Log, NoMemory, Phase, View};
+use peer_codec::LogBody;
+use view_change::Start;
+
+impl ReplicaState {
+    /// Takes part in a view from what it starts with.
+    fn take_part(&mut self, view: View, next: u64, log: Log)
+        requires { next ≤ NUMBER_END }
+        ensures { self.new ≡ adopted self.old view next log }
+    {
+        if self.receiver.session() < view.session {
+            self.receiver.reset(view.session, next);
+        } else {
+            self.receiver.advance(next);
+        }
+        self.leave();
+        self.view = view;
+        self.status = Phase::Normal;
+        self.last_normal = view;
+        self.log.adopt(log);
+        self.next.set(next);
+        self.base = self.log.len();
+    }
+}
+
+impl<H: Host> Member<H> {
+    /// Takes part in a view from what it starts with, and replies again for each request above the sync point.
+    #[tactic(auto, unfolding(crate::specs::Moves::adopt))]
+    pub(crate) fn adopt(&mut self, view: View, next: u64, log: Log) -> Result<(), NoMemory>
+        requires runs { IsRunning H.Host self.old }
+        requires view { ViewFits view }
+        requires next { NextFits next }
+        requires log { LogFits log }
+        ensures { OnOk result (Does H.Host self.old self.new
+            (λ s. adopt H.meaning s view next log)) }
+    {
+        let sync_point = self.state.sync.sync_point();
+        self.go_back(sync_point);
+        self.go_back_to(log.as_slice());
+        self.state.take_part(view, next, log);
+        self.replies_above(sync_point)?;
+        self.drain()
+    }
+
+    /// Opens the view with what it starts with: all others are told, and the replica takes part in it.
+    pub(crate) fn open_view(&mut self, start: Start) -> Result<(), NoMemory>
+        requires runs { IsRunning H.Host self.old }
+        requires next { NextFits start.next }
+        requires log { LogFits start.log }
+        ensures { OnOk result
+            (Does H.Host self.old self.new (λ s. open_with H.meaning s start.next start.log)) }
+    {
+        let Start { next, log } = start;
+        let body = LogBody::StartView {
+            next,
+            log: log.as_slice(),
+        };
+        self.state.send_log_to_all(body, &mut self.sends)?;
+        let view = self.state.view;
+        self.adopt(view, next, log)
+    }
+}

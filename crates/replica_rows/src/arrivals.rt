@@ -1,0 +1,244 @@
+ghost use Rattle.std.specs.Prelude.{◌≡◌, ◌<◌, ◌++◌, length, OnOk};
+ghost use Rattle.nop_types.specs.declared.limits.TheConstants.{MAX_REPLICAS};
+ghost use Rattle.nop_types.specs.Ranges.{StampedFits, PeerFits, BodyFits};
+ghost use Rattle.replica_rows.specs.Moves.{begin_session, queue};
+ghost use Rattle.replica_rows.specs.Rows.{new_session, stamped};
+ghost use Rattle.replica_rows.specs.Messages.{
+  is_current,
+  is_from_leader,
+  is_to_leader,
+  is_other,
+  from_leader,
+  from_follower,
+  in_view,
+  on_body,
+  on_message,
+  ticked,
+  arrival_of,
+  arrive,
+};
+ghost use Rattle.replica_rows.specs.State.{executed_to};
+ghost use Rattle.replica_rows.specs.Within.{ArrivalFits, IsRunning, Does};
+
+use crate::ReplicaState;
+use crate::member::Member;
+use nop_types::{Body, Change, Host, NoMemory, Peer, Phase, Stamped, Tick, View};
+
+/// What a whole input is: a stamped request, a message of another replica, or a tick.
+#[derive(Drop)]
+pub enum Arrival {
+    Stamped(Stamped),
+    Told(Peer),
+    Ticked(Tick),
+}
+
+impl ReplicaState {
+    /// Whether this is another replica of the group.
+    pub fn is_other(&self, replica: u8) -> bool
+        ensures { result ≡ is_other self.now replica }
+    {
+        replica < self.config.replicas() && replica != self.number
+    }
+
+    /// The receiver begins a greater session with a packet, and the view is left.
+    fn begin_session(&mut self, packet: &Stamped) -> Result<(), NoMemory>
+        requires { StampedFits packet.now }
+        ensures { OnOk result (self.new ≡ begin_session self.old packet.now) }
+    {
+        self.status = Phase::Change;
+        self.receiver.reset(packet.session, 1);
+        self.receiver.offer(packet)?;
+        Ok(())
+    }
+
+    /// A packet is offered to the receiver.
+    fn queue(&mut self, packet: Stamped) -> Result<(), NoMemory>
+        requires { StampedFits packet }
+        ensures { OnOk result (self.new ≡ (queue self.old packet).0) }
+    {
+        self.receiver.offer_owned(packet)?;
+        Ok(())
+    }
+
+    /// Whether a message is of the view in which the replica is Normal.
+    fn is_current(&self, view: View) -> bool
+        ensures { result ≡ is_current self.now view }
+    {
+        view.is(self.view) && self.is_normal()
+    }
+
+    fn is_from_leader(&self, view: View, sender: u8) -> bool
+        ensures { result ≡ is_from_leader self.now view sender }
+    {
+        self.is_current(view) && !self.leads() && sender == self.leader()
+    }
+
+    fn is_to_leader(&self, view: View) -> bool
+        ensures { result ≡ is_to_leader self.now view }
+    {
+        self.is_current(view) && self.leads()
+    }
+}
+
+impl<H: Host> Member<H> {
+    /// A packet of a greater session comes: the receiver begins that session, and the view of it is entered.
+    fn new_session(&mut self, packet: &Stamped) -> Result<(), NoMemory>
+        requires runs { IsRunning H.Host self.old }
+        requires fits { StampedFits packet.now }
+        ensures { OnOk result (Does H.Host self.old self.new (new_session H.meaning packet.now)) }
+    {
+        self.state.begin_session(packet)?;
+        let leader = self.state.view.leader;
+        self.enter_and_drain(View {
+            leader,
+            session: packet.session,
+        })
+    }
+
+    /// A stamped request comes.
+    #[tactic(auto, unfolding(crate::specs::Rows::stamped))]
+    pub(crate) fn stamped(&mut self, packet: Stamped) -> Result<(), NoMemory>
+        requires runs { IsRunning H.Host self.old }
+        requires fits { StampedFits packet }
+        ensures { OnOk result (Does H.Host self.old self.new (stamped H.meaning packet)) }
+    {
+        if self.state.view.session < packet.session {
+            return self.new_session(&packet);
+        }
+        self.state.queue(packet)?;
+        self.drain()
+    }
+
+    /// A message of the leader to a follower comes.
+    fn from_leader(&mut self, body: Body) -> Result<(), NoMemory>
+        requires runs { IsRunning H.Host self.old }
+        requires fits { BodyFits body }
+        ensures { OnOk result (Does H.Host self.old self.new (from_leader H.meaning body)) }
+    {
+        match body {
+            Body::GapCommit(slot) => self.gap_commit(slot),
+            Body::Found(slot, request) => self.found(slot, request),
+            Body::SyncPrepare(log) => self.sync_prepare(&log),
+            Body::SyncCommit(slot) => {
+                self.sync_commit(slot);
+                Ok(())
+            }
+            _ => Ok(()),
+        }
+    }
+
+    /// A message of a follower to the leader comes.
+    fn from_follower(&mut self, sender: u8, body: Body) -> Result<(), NoMemory>
+        requires runs { IsRunning H.Host self.old }
+        requires sender { sender < MAX_REPLICAS }
+        requires fits { BodyFits body }
+        ensures { OnOk result (Does H.Host self.old self.new
+            (from_follower H.meaning sender body)) }
+    {
+        match body {
+            Body::SlotLookup(slot) => self.slot_lookup(sender, slot),
+            Body::GapRep(slot) => self.gap_reply(sender, slot),
+            Body::SyncRep(len) => self.sync_reply(sender, len),
+            _ => Ok(()),
+        }
+    }
+
+    /// A message that is taken in the view in which the replica is Normal.
+    fn in_view(&mut self, sender: u8, view: View, body: Body) -> Result<(), NoMemory>
+        requires runs { IsRunning H.Host self.old }
+        requires sender { sender < MAX_REPLICAS }
+        requires fits { BodyFits body }
+        ensures { OnOk result (Does H.Host self.old self.new (in_view H.meaning sender view body)) }
+    {
+        if self.state.is_from_leader(view, sender) {
+            return self.from_leader(body);
+        }
+        if self.state.is_to_leader(view) {
+            return self.from_follower(sender, body);
+        }
+        Ok(())
+    }
+
+    /// The row of a message, by its body.
+    fn on_body(&mut self, message: Peer) -> Result<(), NoMemory>
+        requires runs { IsRunning H.Host self.old }
+        requires fits { PeerFits message }
+        ensures { OnOk result (Does H.Host self.old self.new
+            (on_body H.meaning message message.body)) }
+    {
+        let Peer { sender, view, body } = message;
+        match body {
+            Body::ViewChangeReq => self.view_change_request(view),
+            Body::ViewChange {
+                last_normal,
+                next,
+                log,
+            } => {
+                let change = Change {
+                    sender,
+                    last_normal,
+                    next,
+                    log,
+                };
+                self.view_change(view, change)
+            }
+            Body::StartView { next, log } => self.start_view(sender, view, next, log),
+            body => self.in_view(sender, view, body),
+        }
+    }
+
+    /// A message of another replica comes.
+    #[tactic(auto, unfolding(crate::specs::Messages::on_message))]
+    pub(crate) fn on_message(&mut self, message: Peer) -> Result<(), NoMemory>
+        requires runs { IsRunning H.Host self.old }
+        requires fits { PeerFits message }
+        ensures { OnOk result (Does H.Host self.old self.new (on_message H.meaning message)) }
+    {
+        if !self.state.is_other(message.sender) {
+            return Ok(());
+        }
+        self.on_body(message)
+    }
+
+    /// A tick comes.
+    pub(crate) fn ticked(&mut self, tick: Tick) -> Result<(), NoMemory>
+        requires runs { IsRunning H.Host self.old }
+        ensures { OnOk result (Does H.Host self.old self.new (ticked H.meaning tick)) }
+    {
+        match tick {
+            Tick::Suspect => self.suspect(),
+            Tick::Watch => self.watch(),
+            Tick::Resend => self.resend(),
+            Tick::Sync => self.sync(),
+            _ => Ok(()),
+        }
+    }
+
+    /// The row for what arrives.
+    #[tactic(auto, unfolding(crate::specs::Messages::arrive))]
+    fn arrive(&mut self, arrival: Arrival) -> Result<(), NoMemory>
+        requires runs { IsRunning H.Host self.old }
+        requires fits { ArrivalFits (arrival_of arrival) }
+        ensures { OnOk result
+            (Does H.Host self.old self.new (λ s. arrive H.meaning s (arrival_of arrival))) }
+    {
+        match arrival {
+            Arrival::Stamped(packet) => self.stamped(packet),
+            Arrival::Told(message) => self.on_message(message),
+            Arrival::Ticked(tick) => self.ticked(tick),
+        }
+    }
+
+    /// Takes the row for what arrives, and executes as far as a replica does.
+    pub fn take(&mut self, arrival: Arrival) -> Result<(), NoMemory>
+        requires runs { IsRunning H.Host self.old }
+        requires fits { ArrivalFits (arrival_of arrival) }
+        ensures does { OnOk result
+            (Does H.Host self.old self.new (λ s. arrive H.meaning s (arrival_of arrival))) }
+        ensures executed { OnOk result (length self.new.executor.undos
+            ≡ executed_to self.new.state) }
+    {
+        self.arrive(arrival)?;
+        self.settle()
+    }
+}

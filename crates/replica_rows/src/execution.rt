@@ -1,0 +1,93 @@
+ghost use Rattle.std.specs.Prelude.{◌≡◌, ◌≤◌, ◌↔◌, ℕ, IsTrue, length, min, take, OnOk, cond};
+ghost use Rattle.replica_rows.specs.State.{executed_to};
+ghost use Rattle.replica_rows.specs.Within.{IsRunning};
+
+use crate::member::Member;
+use nop_types::{Entry, Host, NoMemory};
+
+/// Whether two entries are one.
+fn same_entry(a: &Entry, b: &Entry) -> bool
+    ensures { IsTrue result ↔ (a.now ≡ b.now) }
+{
+    match (a, b) {
+        (Entry::NoOp, Entry::NoOp) => true,
+        (Entry::Req(a), Entry::Req(b)) => {
+            a.client == b.client && a.id == b.id && a.op.as_slice() == b.op.as_slice()
+        }
+        _ => false,
+    }
+}
+
+/// How many entries two logs have in common at their front, of so many at most.
+fn common_front(a: &[Entry], b: &[Entry], most: usize) -> usize
+    ensures most { result ≤ most }
+    ensures common { take result a.now ≡ take result b.now }
+    ensures longest { (len : ℕ) → len ≤ most → len ≤ length a.now → len ≤ length b.now
+        → take len a.now ≡ take len b.now → len ≤ result }
+{
+    let end = most.min(a.len()).min(b.len());
+    let mut len = 0;
+    while len < end {
+        if !same_entry(&a[len], &b[len]) {
+            return len;
+        }
+        len += 1;
+    }
+    len
+}
+
+impl<H: Host> Member<H> {
+    /// Takes back what was executed above a slot.
+    pub(crate) fn go_back(&mut self, slot: u32)
+        requires runs { IsRunning H.Host self.old }
+        ensures state { self.new.state ≡ self.old.state }
+        ensures sends { self.new.sends ≡ self.old.sends }
+        ensures runs { IsRunning H.Host self.new }
+        ensures behind { length self.new.executor.undos ≤ slot }
+        ensures fewer { length self.new.executor.undos ≤ length self.old.executor.undos }
+        ensures kept { length self.new.executor.undos
+            ≡ min slot (length self.old.executor.undos) }
+    {
+        if slot < self.executor.executed() {
+            self.executor.rewind(&self.state.log, slot);
+        }
+    }
+
+    /// Takes back what was executed of entries that are not those of this log.
+    pub(crate) fn go_back_to(&mut self, log: &[Entry])
+        requires runs { IsRunning H.Host self.old }
+        ensures state { self.new.state ≡ self.old.state }
+        ensures sends { self.new.sends ≡ self.old.sends }
+        ensures runs { IsRunning H.Host self.new }
+        ensures fewer { length self.new.executor.undos ≤ length self.old.executor.undos }
+        ensures same { take (length self.new.executor.undos) log.now
+            ≡ take (length self.new.executor.undos) self.old.state.log }
+        ensures kept { (len : ℕ) → len ≤ length self.old.executor.undos → len
+            ≤ length log.now
+            → take len self.old.state.log ≡ take len log.now → len
+            ≤ length self.new.executor.undos }
+    {
+        let executed = self.executor.executed() as usize;
+        let common = common_front(self.state.log.as_slice(), log, executed);
+        self.executor.rewind(&self.state.log, common as u32);
+    }
+
+    /// Executes as far as a replica does: a leader in Normal the whole log, another up to the sync point.
+    pub(crate) fn settle(&mut self) -> Result<(), NoMemory>
+        requires runs { IsRunning H.Host self.old }
+        ensures state { self.new.state ≡ self.old.state }
+        ensures sends { self.new.sends ≡ self.old.sends }
+        ensures runs { OnOk result (IsRunning H.Host self.new) }
+        ensures executed { OnOk result (length self.new.executor.undos
+            ≡ executed_to self.new.state) }
+    {
+        let len = self.state.log.len();
+        let slot = if self.state.is_normal() && self.state.leads() {
+            len
+        } else {
+            self.state.sync.sync_point().min(len)
+        };
+        self.go_back(slot);
+        self.executor.run_to(&self.state.log, slot)
+    }
+}

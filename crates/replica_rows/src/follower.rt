@@ -1,0 +1,170 @@
+ghost use Rattle.std.specs.Prelude.{◌≡◌, ◌≤◌, ◌<◌, ◌+◌, ◌-◌, ◌++◌, ◌⊎◌, length, true, nat_le, Some, OnOk};
+ghost use Rattle.nop_types.specs.declared.limits.TheConstants.{NUMBER_END};
+ghost use Rattle.nop_types.specs.declared.request.Entry.TheVariants.{NoOp};
+ghost use Rattle.nop_types.specs.Lists.{slot_of};
+ghost use Rattle.nop_types.specs.Ranges.{SlotFits, RequestFits, LogFits};
+ghost use Rattle.replica_rows.specs.State.{may_append};
+ghost use Rattle.replica_rows.specs.Moves.{write_gap, add_gap, fill, overlaid, overlay, obey};
+ghost use Rattle.replica_rows.specs.Rows.{gap_commit, found, sync_prepare, sync_commit};
+ghost use Rattle.replica_rows.specs.Within.{IsRunning, Does};
+
+use crate::ReplicaState;
+use crate::member::Member;
+use nop_types::{Body, Entry, Host, Log, NUMBER_END, NoMemory, Request};
+
+impl ReplicaState {
+    /// Takes the entries of the leader's log, of which so many are new.
+    fn lay_over(&mut self, log: &Log, appended: u64) -> Result<(), NoMemory>
+        requires appended { appended ≡ length log.now - length self.old.log }
+        requires within { self.old.next + appended ≤ NUMBER_END }
+        ensures { OnOk result (self.new ≡ overlaid self.old log.now) }
+    {
+        self.log.overlay(log)?;
+        let next = self.next.get() + appended;
+        self.next.set(next);
+        self.receiver.advance(next);
+        self.sync.on_prepare(log.as_slice().len() as u32);
+        Ok(())
+    }
+
+    /// Lets the sync point rise to what the leader says, where so much is prepared. Says whether it is.
+    fn obey(&mut self, slot: u32) -> bool
+        ensures state { self.new ≡ (obey self.old slot).0 }
+        ensures prepared { result ≡ nat_le slot self.old.sync.prepared }
+    {
+        self.sync.on_commit(slot).is_some()
+    }
+}
+
+impl<H: Host> Member<H> {
+    /// Takes back what was executed from a slot on, unless a NO-OP stands there already.
+    fn make_way(&mut self, slot: u32)
+        requires runs { IsRunning H.Host self.old }
+        requires from_one { 1 ≤ slot }
+        ensures state { self.new.state ≡ self.old.state }
+        ensures sends { self.new.sends ≡ self.old.sends }
+        ensures runs { IsRunning H.Host self.new }
+        ensures way { (length self.new.executor.undos < slot)
+            ⊎ (slot_of self.new.state.log slot ≡ Some NoOp) }
+    {
+        if !matches!(self.state.log.at(slot), Some(Entry::NoOp)) {
+            self.go_back(slot - 1);
+        }
+    }
+
+    /// Puts a NO-OP into a slot of the log, and tells the leader so.
+    fn write_gap(&mut self, slot: u32) -> Result<(), NoMemory>
+        requires runs { IsRunning H.Host self.old }
+        requires fits { SlotFits slot }
+        requires there { slot ≤ length self.old.state.log }
+        ensures { OnOk result (Does H.Host self.old self.new (λ s. write_gap s slot)) }
+    {
+        self.make_way(slot);
+        self.state.log.put_noop(slot);
+        self.to_leader(Body::GapRep(slot))
+    }
+
+    /// Puts a NO-OP into the next slot, and tells the leader so.
+    fn add_gap(&mut self) -> Result<(), NoMemory>
+        requires runs { IsRunning H.Host self.old }
+        requires room { may_append self.old.state ≡ true }
+        ensures { OnOk result (Does H.Host self.old self.new add_gap) }
+    {
+        self.append(Entry::NoOp)?;
+        let slot = self.state.log.len();
+        self.to_leader(Body::GapRep(slot))
+    }
+
+    /// Logs a request that was missed, and replies for it.
+    fn fill(&mut self, request: Request) -> Result<(), NoMemory>
+        requires runs { IsRunning H.Host self.old }
+        requires room { may_append self.old.state ≡ true }
+        requires fits { RequestFits request }
+        ensures { OnOk result (Does H.Host self.old self.new (λ s. fill H.meaning s request)) }
+    {
+        self.append(Entry::Req(request))?;
+        let slot = self.state.log.len();
+        self.reply_at(slot)?;
+        Ok(())
+    }
+
+    /// The leader has a NO-OP in a slot.
+    #[tactic(auto, unfolding(crate::specs::Rows::gap_commit))]
+    pub(crate) fn gap_commit(&mut self, slot: u32) -> Result<(), NoMemory>
+        requires runs { IsRunning H.Host self.old }
+        requires fits { SlotFits slot }
+        ensures { OnOk result (Does H.Host self.old self.new (gap_commit H.meaning slot)) }
+    {
+        let len = self.state.log.len();
+        if slot <= len {
+            self.state.heard = true;
+            self.write_gap(slot)?;
+            return self.drain();
+        }
+        if slot != len + 1 || !self.state.may_append() {
+            return Ok(());
+        }
+        self.state.heard = true;
+        self.add_gap()?;
+        self.drain()
+    }
+
+    /// The leader tells the request of the next slot.
+    #[tactic(auto, unfolding(crate::specs::Rows::found))]
+    pub(crate) fn found(&mut self, slot: u32, request: Request) -> Result<(), NoMemory>
+        requires runs { IsRunning H.Host self.old }
+        requires fits { RequestFits request }
+        ensures { OnOk result (Does H.Host self.old self.new (found H.meaning slot request)) }
+    {
+        if slot != self.state.log.len() + 1 || !self.state.may_append() {
+            return Ok(());
+        }
+        self.state.heard = true;
+        self.fill(request)?;
+        self.drain()
+    }
+
+    /// Takes the entries of the leader's log, replies for those that are new, and tells the leader so.
+    #[tactic(auto, unfolding(crate::specs::Moves::overlay))]
+    fn overlay(&mut self, log: &Log, appended: u64) -> Result<(), NoMemory>
+        requires runs { IsRunning H.Host self.old }
+        requires fits { LogFits log.now }
+        requires appended { appended ≡ length log.now - length self.old.state.log }
+        requires within { self.old.state.next + appended ≤ NUMBER_END }
+        ensures { OnOk result (Does H.Host self.old self.new (λ s. overlay H.meaning s log.now)) }
+    {
+        let len = self.state.log.len();
+        self.go_back_to(log.as_slice());
+        self.state.lay_over(log, appended)?;
+        self.replies_above(len)?;
+        self.to_leader(Body::SyncRep(log.as_slice().len() as u32))
+    }
+
+    /// The leader tells its log.
+    #[tactic(auto, unfolding(crate::specs::Rows::sync_prepare))]
+    pub(crate) fn sync_prepare(&mut self, log: &Log) -> Result<(), NoMemory>
+        requires runs { IsRunning H.Host self.old }
+        requires fits { LogFits log.now }
+        ensures { OnOk result (Does H.Host self.old self.new (sync_prepare H.meaning log.now)) }
+    {
+        let len = self.state.log.len() as usize;
+        let appended = log.as_slice().len().saturating_sub(len) as u64;
+        if self.state.next.get() + appended > NUMBER_END {
+            return Ok(());
+        }
+        self.state.heard = true;
+        self.overlay(log, appended)?;
+        self.drain()
+    }
+
+    /// The leader says that the slots up to this one are synchronised.
+    #[tactic(auto, unfolding(crate::specs::Rows::sync_commit))]
+    pub(crate) fn sync_commit(&mut self, slot: u32)
+        requires runs { IsRunning H.Host self.old }
+        ensures { Does H.Host self.old self.new (sync_commit slot) }
+    {
+        if self.state.obey(slot) {
+            self.state.heard = true;
+        }
+    }
+}

@@ -1,0 +1,21 @@
+ghost use Rattle.std.specs.Prelude.{◌≡◌, ◌≤◌};
+ghost use Rattle.nop_types.specs.Meaning.{Meaning};
+ghost use Rattle.replica_rows.specs.declared.state.ReplicaState.{ReplicaState};
+ghost use Rattle.replica_rows.specs.Sends.{message_count};
+ghost use Rattle.replica_rows.specs.Messages.{Arrival, arrive};
+ghost use Rattle.replica_rows.specs.Draining.{DrainsByFront};
+
+/// Whatever arrives, a row sends at most eight messages to other replicas, and keeps the configuration. So message numbers
+/// never pass their end.
+#[tactic(auto, using(crate::proofs::Counting::arrive_sends_few, crate::proofs::Counting::arrive_keeps_config))]
+pub fn rows_send_few_messages<S>()
+    ensures few { (m : Meaning S) (s : ReplicaState) (a : Arrival)
+        → message_count (arrive m s a).1 ≤ 8 }
+    ensures config { (m : Meaning S) (s : ReplicaState) (a : Arrival)
+        → (arrive m s a).0.config ≡ s.config }
+{}
+
+/// A drain takes a request, opens a gap, asks or ends, by what stands in front.
+pub fn drains_by_front<S>()
+    ensures { (m : Meaning S) (s : ReplicaState) → DrainsByFront m s }
+{}

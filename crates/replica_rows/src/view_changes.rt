@@ -1,0 +1,146 @@
+ghost use Rattle.std.specs.Prelude.{◌≡◌, ◌≤◌, ◌<◌, ◌++◌, OnOk, IfOk};
+ghost use Rattle.nop_types.specs.Ranges.{ViewFits, NextFits, LogFits, ChangeFits};
+ghost use Rattle.replica_rows.specs.Moves.{resend_start};
+ghost use Rattle.replica_rows.specs.Keeping.{kept_after};
+ghost use Rattle.replica_rows.specs.Rows.{
+  view_change_request,
+  step_by,
+  take_change,
+  gather,
+  view_change,
+  may_adopt,
+  start_view,
+};
+ghost use Rattle.replica_rows.specs.Within.{IsWithin, IsRunning, Does};
+
+use crate::member::Member;
+use crate::{ReplicaState, Sends};
+use nop_types::{Change, Host, Log, NoMemory, Phase, View, leader_of};
+use peer_codec::LogBody;
+use view_change::Step;
+
+impl ReplicaState {
+    /// Whether a replica adopts what a view starts with.
+    fn may_adopt(&self, sender: u8, view: View, log: &Log) -> bool
+        ensures { result ≡ may_adopt self.now sender view log.now }
+    {
+        sender == leader_of(view, self.config.replicas())
+            && View::le(self.view, view)
+            && (!view.is(self.view) || !self.is_normal())
+            && self.sync.sync_point() as usize <= log.as_slice().len()
+    }
+
+    /// Keeps a change, where changes are gathered. Says whether the view starts then, and with what; the changes are gone then.
+    fn keep_change(&mut self, change: Change) -> Result<Step, NoMemory>
+        ensures kept { IfOk result (λ step. self.new ≡ kept_after step self.old change) }
+        ensures step { IfOk result (λ step. step ≡ step_by self.old.changes change) }
+    {
+        let Some(mut changes) = self.changes.take() else {
+            return Ok(Step::Waiting);
+        };
+        if changes.is_enough_with(&change) {
+            let start = changes.start_with(change)?;
+            return Ok(Step::Started(start));
+        }
+        changes.on_change(change)?;
+        self.changes = Some(changes);
+        Ok(Step::Waiting)
+    }
+
+    /// Tells a replica what the view started with.
+    fn tell_start(&self, replica: u8, sends: &mut Sends) -> Result<(), NoMemory>
+        requires { IsWithin self.now }
+        ensures { OnOk result (sends.new ≡ sends.old ++ (resend_start self.now replica).1) }
+    {
+        let body = LogBody::StartView {
+            next: self.start(),
+            log: &self.log.as_slice()[..self.base as usize],
+        };
+        self.send_log_to(replica, body, sends)
+    }
+}
+
+impl<H: Host> Member<H> {
+    /// Another replica asks for a view.
+    pub(crate) fn view_change_request(&mut self, view: View) -> Result<(), NoMemory>
+        requires runs { IsRunning H.Host self.old }
+        requires fits { ViewFits view }
+        ensures { OnOk result (Does H.Host self.old self.new (view_change_request H.meaning view)) }
+    {
+        let join = View::join(self.state.view, view);
+        if join.is(self.state.view) {
+            return Ok(());
+        }
+        self.enter_and_drain(join)
+    }
+
+    /// Tells a late replica once more what the view started with.
+    fn resend_start(&mut self, replica: u8) -> Result<(), NoMemory>
+        requires runs { IsRunning H.Host self.old }
+        ensures { OnOk result (Does H.Host self.old self.new (λ s. resend_start s replica)) }
+    {
+        self.state.tell_start(replica, &mut self.sends)?;
+        Ok(())
+    }
+
+    /// Keeps a change, and starts the view where enough are there.
+    fn gather(&mut self, change: Change) -> Result<(), NoMemory>
+        requires runs { IsRunning H.Host self.old }
+        requires fits { ChangeFits change }
+        ensures { OnOk result (Does H.Host self.old self.new
+            (λ s. gather H.meaning s.changes change s)) }
+    {
+        match self.state.keep_change(change)? {
+            Step::Started(start) => self.open_view(start),
+            Step::Waiting => Ok(()),
+        }
+    }
+
+    fn take_change(&mut self, view: View, change: Change) -> Result<(), NoMemory>
+        requires runs { IsRunning H.Host self.old }
+        requires fits { ChangeFits change }
+        ensures { OnOk result (Does H.Host self.old self.new (take_change H.meaning view change)) }
+    {
+        if !view.is(self.state.view) || !self.state.leads() {
+            return Ok(());
+        }
+        match self.state.status {
+            Phase::Change => self.gather(change),
+            Phase::Normal => self.resend_start(change.sender),
+        }
+    }
+
+    /// Another replica tells what it had when it entered a view.
+    #[tactic(auto, unfolding(crate::specs::Rows::view_change))]
+    pub(crate) fn view_change(&mut self, view: View, change: Change) -> Result<(), NoMemory>
+        requires runs { IsRunning H.Host self.old }
+        requires view { ViewFits view }
+        requires change { ChangeFits change }
+        ensures { OnOk result (Does H.Host self.old self.new (view_change H.meaning view change)) }
+    {
+        self.view_change_request(view)?;
+        self.take_change(view, change)
+    }
+
+    /// The leader of a view tells what it starts with.
+    #[tactic(auto, unfolding(crate::specs::Rows::start_view))]
+    pub(crate) fn start_view(
+        &mut self,
+        sender: u8,
+        view: View,
+        next: u64,
+        log: Log,
+    ) -> Result<(), NoMemory>
+        requires runs { IsRunning H.Host self.old }
+        requires view { ViewFits view }
+        requires next { NextFits next }
+        requires log { LogFits log }
+        ensures { OnOk result (Does H.Host self.old self.new
+            (start_view H.meaning sender view next log)) }
+    {
+        if !self.state.may_adopt(sender, view, &log) {
+            return Ok(());
+        }
+        self.adopt(view, next, log)
+    }
+}
