@@ -1,14 +1,14 @@
 //! What a datagram is, in a few words.
 
-use crate::naming::{Name, ViewName, put_bytes};
-use crate::picture::{Mark, Note, Purpose};
-use nop_types::{Actor, Body, Datagram, Fragment, NoMemory, Peer, Reply};
+use crate::naming::{put_bytes, put_numbered, put_request, put_view};
+use nop_types::{Body, Datagram, Fragment, NoMemory, Peer, Reply};
 use oum_codec::read_datagram;
 use peer_codec::read_peer;
+use picture::{Mark, Note, Purpose, Text};
 use std::alloc::Global;
 
 /// What a datagram is.
-#[derive(Debug, Drop)]
+#[derive(Drop)]
 pub struct Described {
     pub purpose: Purpose,
     pub text: String,
@@ -17,92 +17,98 @@ pub struct Described {
     pub note: Option<Note>,
 }
 
-fn peer_text(alloc: Global, peer: &Peer) -> Result<String, NoMemory> {
-    let view = ViewName(peer.view);
-    let text = match &peer.body {
-        Body::SlotLookup(slot) => format!(in alloc; "SlotLookup {slot}")?,
-        Body::Found(slot, _) => format!(in alloc; "Found {slot}")?,
-        Body::GapCommit(slot) => format!(in alloc; "GapCommit {slot}")?,
-        Body::GapRep(slot) => format!(in alloc; "GapRep {slot}")?,
-        Body::ViewChangeReq => format!(in alloc; "ViewChangeReq {view}")?,
-        Body::ViewChange { .. } => format!(in alloc; "ViewChange {view}")?,
-        Body::StartView { .. } => format!(in alloc; "StartView {view}")?,
-        Body::SyncPrepare(log) => {
-            let len = log.as_slice().len();
-            format!(in alloc; "SyncPrepare {len}")?
-        }
-        Body::SyncRep(len) => format!(in alloc; "SyncRep {len}")?,
-        Body::SyncCommit(len) => format!(in alloc; "SyncCommit {len}")?,
-    };
-    Ok(text)
+/// A datagram, with the message that a fragment alone spells.
+#[derive(Drop)]
+struct Opened {
+    datagram: Datagram,
+    peer: Option<Peer>,
 }
 
-/// A message in one fragment by its name, a part of a longer one by its number.
-fn fragment_text(alloc: Global, fragment: &Fragment) -> Result<String, NoMemory> {
-    if fragment.count == 1 {
-        if let Some(peer) = read_peer(alloc, fragment.payload.as_slice())? {
-            return peer_text(alloc, &peer);
-        }
+fn put_slot(word: &str, slot: u32, to: &mut Text) {
+    put_numbered(word, u64::from(slot), to);
+}
+
+fn put_peer(peer: &Peer, to: &mut Text) {
+    match &peer.body {
+        Body::SlotLookup(slot) => put_slot("SlotLookup ", *slot, to),
+        Body::Found(slot, _) => put_slot("Found ", *slot, to),
+        Body::GapCommit(slot) => put_slot("GapCommit ", *slot, to),
+        Body::GapRep(slot) => put_slot("GapRep ", *slot, to),
+        Body::ViewChangeReq => put_view("ViewChangeReq ", peer.view, to),
+        Body::ViewChange { .. } => put_view("ViewChange ", peer.view, to),
+        Body::StartView { .. } => put_view("StartView ", peer.view, to),
+        Body::SyncPrepare(log) => put_numbered("SyncPrepare ", log.as_slice().len() as u64, to),
+        Body::SyncRep(len) => put_slot("SyncRep ", *len, to),
+        Body::SyncCommit(len) => put_slot("SyncCommit ", *len, to),
     }
-    let number = u32::from(fragment.index) + 1;
-    let count = fragment.count;
-    let text = format!(in alloc; "fragment {number} of {count}")?;
-    Ok(text)
 }
 
-fn reply_text(alloc: Global, reply: &Reply) -> Result<String, NoMemory> {
-    let client = Name(Actor::Client(reply.client));
-    let id = reply.id;
-    let slot = reply.slot;
-    let mut text = format!(in alloc; "reply {client}#{id} slot {slot}")?;
+/// A part of a longer message by its number.
+fn put_part(index: u16, count: u16, to: &mut Text) {
+    put_numbered("fragment ", u64::from(index) + 1, to);
+    put_numbered(" of ", u64::from(count), to);
+}
+
+fn put_fragment(fragment: &Fragment, peer: &Option<Peer>, to: &mut Text) {
+    match peer {
+        Some(peer) => put_peer(peer, to),
+        None => put_part(fragment.index, fragment.count, to),
+    }
+}
+
+fn put_reply(reply: &Reply, to: &mut Text) {
+    to.put("reply ");
+    put_request(reply.client, reply.id, to);
+    put_slot(" slot ", reply.slot, to);
     if reply.tag == 1 {
-        text.push(' ')?;
-        put_bytes(reply.result.as_slice(), &mut text)?;
-    }
-    Ok(text)
-}
-
-fn text_of(alloc: Global, datagram: &Datagram) -> Result<String, NoMemory> {
-    match datagram {
-        Datagram::Request(request) => {
-            let client = Name(Actor::Client(request.client));
-            let id = request.id;
-            Ok(format!(in alloc; "request {client}#{id}")?)
-        }
-        Datagram::Stamped(stamped) => {
-            let session = stamped.session;
-            let number = stamped.number;
-            let client = Name(Actor::Client(stamped.request.client));
-            let id = stamped.request.id;
-            Ok(format!(in alloc; "stamped {session}:{number} {client}#{id}")?)
-        }
-        Datagram::Reply(reply) => reply_text(alloc, reply),
-        Datagram::Install { session, .. } => Ok(format!(in alloc; "install session {session}")?),
-        Datagram::Installed { session, .. } => {
-            Ok(format!(in alloc; "installed session {session}")?)
-        }
-        Datagram::Ping { round, .. } => Ok(format!(in alloc; "ping {round}")?),
-        Datagram::Pong { round, .. } => Ok(format!(in alloc; "pong {round}")?),
-        Datagram::Fragment(fragment) => fragment_text(alloc, fragment),
+        to.put(" ");
+        put_bytes(reply.result.as_slice(), to);
     }
 }
 
-fn brief_of(alloc: Global, datagram: &Datagram) -> Result<String, NoMemory> {
-    match datagram {
+fn put_stamp(session: u32, number: u64, to: &mut Text) {
+    to.number(u64::from(session));
+    put_numbered(":", number, to);
+}
+
+fn put_stamped(session: u32, number: u64, client: u32, id: u64, to: &mut Text) {
+    to.put("stamped ");
+    put_stamp(session, number, to);
+    to.put(" ");
+    put_request(client, id, to);
+}
+
+fn put_opened(opened: &Opened, to: &mut Text) {
+    match &opened.datagram {
         Datagram::Request(request) => {
-            let id = request.id;
-            Ok(format!(in alloc; "#{id}")?)
+            to.put("request ");
+            put_request(request.client, request.id, to);
         }
         Datagram::Stamped(stamped) => {
-            let session = stamped.session;
-            let number = stamped.number;
-            Ok(format!(in alloc; "{session}:{number}")?)
+            let request = &stamped.request;
+            put_stamped(
+                stamped.session,
+                stamped.number,
+                request.client,
+                request.id,
+                to,
+            );
         }
-        Datagram::Reply(reply) => {
-            let id = reply.id;
-            Ok(format!(in alloc; "reply #{id}")?)
-        }
-        _ => text_of(alloc, datagram),
+        Datagram::Reply(reply) => put_reply(reply, to),
+        Datagram::Install { session, .. } => put_slot("install session ", *session, to),
+        Datagram::Installed { session, .. } => put_slot("installed session ", *session, to),
+        Datagram::Ping { round, .. } => put_slot("ping ", *round, to),
+        Datagram::Pong { round, .. } => put_slot("pong ", *round, to),
+        Datagram::Fragment(fragment) => put_fragment(fragment, &opened.peer, to),
+    }
+}
+
+fn put_brief(opened: &Opened, to: &mut Text) {
+    match &opened.datagram {
+        Datagram::Request(request) => put_numbered("#", request.id, to),
+        Datagram::Stamped(stamped) => put_stamp(stamped.session, stamped.number, to),
+        Datagram::Reply(reply) => put_numbered("reply #", reply.id, to),
+        _ => put_opened(opened, to),
     }
 }
 
@@ -116,37 +122,64 @@ fn purpose_of(datagram: &Datagram) -> Purpose {
 }
 
 /// What shows at the actor that sent a datagram: a stamp, or a session that is ordered or confirmed.
-fn note_of(alloc: Global, datagram: &Datagram) -> Result<Option<Note>, NoMemory> {
+fn put_note(datagram: &Datagram, to: &mut Text) -> Option<Mark> {
     match datagram {
         Datagram::Stamped(stamped) => {
-            let session = stamped.session;
-            let number = stamped.number;
-            Ok(Some(Note {
-                mark: Mark::Stamped,
-                text: format!(in alloc; "{session}:{number}")?,
-            }))
+            put_stamp(stamped.session, stamped.number, to);
+            Some(Mark::Stamped)
         }
-        Datagram::Install { sequencer, session } => Ok(Some(Note {
-            mark: Mark::Session,
-            text: format!(in alloc; "session {session} at s{sequencer}")?,
-        })),
-        Datagram::Installed { session, .. } => Ok(Some(Note {
-            mark: Mark::Session,
-            text: format!(in alloc; "session {session}")?,
-        })),
+        Datagram::Install { sequencer, session } => {
+            put_slot("session ", *session, to);
+            put_numbered(" at s", u64::from(*sequencer), to);
+            Some(Mark::Session)
+        }
+        Datagram::Installed { session, .. } => {
+            put_slot("session ", *session, to);
+            Some(Mark::Session)
+        }
+        _ => None,
+    }
+}
+
+fn note_of(alloc: Global, datagram: &Datagram) -> Result<Option<Note>, NoMemory> {
+    let mut text = Text::new(alloc);
+    let Some(mark) = put_note(datagram, &mut text) else {
+        return Ok(None);
+    };
+    let text = text.finish()?;
+    Ok(Some(Note { mark, text }))
+}
+
+/// The message of a fragment that is the only one.
+fn peer_in(alloc: Global, datagram: &Datagram) -> Result<Option<Peer>, NoMemory> {
+    match datagram {
+        Datagram::Fragment(fragment) if fragment.count == 1 => {
+            read_peer(alloc, fragment.payload.as_slice())
+        }
         _ => Ok(None),
     }
+}
+
+fn describe_datagram(alloc: Global, datagram: Datagram) -> Result<Described, NoMemory> {
+    let peer = peer_in(alloc, &datagram)?;
+    let note = note_of(alloc, &datagram)?;
+    let opened = Opened { datagram, peer };
+    let mut text = Text::new(alloc);
+    put_opened(&opened, &mut text);
+    let mut brief = Text::new(alloc);
+    put_brief(&opened, &mut brief);
+    Ok(Described {
+        purpose: purpose_of(&opened.datagram),
+        text: text.finish()?,
+        brief: brief.finish()?,
+        note,
+    })
 }
 
 /// What the bytes of a datagram are for, their texts, and what shows where they were sent.
 pub fn describe(alloc: Global, bytes: &[u8]) -> Result<Described, NoMemory> {
     match read_datagram(alloc, bytes)? {
-        Some(datagram) => Ok(Described {
-            purpose: purpose_of(&datagram),
-            text: text_of(alloc, &datagram)?,
-            brief: brief_of(alloc, &datagram)?,
-            note: note_of(alloc, &datagram)?,
-        }),
+        Some(datagram) => describe_datagram(alloc, datagram),
         None => Ok(Described {
             purpose: Purpose::Peer,
             text: String::from_str(alloc, "no datagram")?,

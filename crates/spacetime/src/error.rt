@@ -4,7 +4,7 @@ use schedule_text::NextError;
 use std::alloc::{AllocError, AllocFailed};
 
 /// Why no picture was drawn, or not all of it.
-#[derive(Clone, Copy, Debug, PartialEq, Eq)]
+#[derive(Clone, Copy)]
 pub enum DrawError {
     /// The line with this number, counted from 1, breaks this rule first. Where it delivers a datagram that was not sent,
     /// also the datagram's index and how many were sent.
@@ -19,24 +19,44 @@ pub enum DrawError {
 }
 
 impl From<OutOfMemory> for DrawError {
+    ghost use Rattle.std.specs.Prelude.{◌≡◌};
+    ghost use Rattle.spacetime.specs.declared.error.DrawError.TheVariants.{NoMemory};
+
+    ghost from_gives = { λ _ e. e ≡ NoMemory };
+
     fn from(_e: OutOfMemory) -> DrawError {
         DrawError::NoMemory
     }
 }
 
 impl From<AllocError> for DrawError {
+    ghost use Rattle.std.specs.Prelude.{◌≡◌};
+    ghost use Rattle.spacetime.specs.declared.error.DrawError.TheVariants.{NoMemory};
+
+    ghost from_gives = { λ _ e. e ≡ NoMemory };
+
     fn from(_e: AllocError) -> DrawError {
         DrawError::NoMemory
     }
 }
 
 impl<T: Drop> From<AllocFailed<T>> for DrawError {
+    ghost use Rattle.std.specs.Prelude.{◌≡◌};
+    ghost use Rattle.spacetime.specs.declared.error.DrawError.TheVariants.{NoMemory};
+
+    ghost from_gives = { λ _ e. e ≡ NoMemory };
+
     fn from(_e: AllocFailed<T>) -> DrawError {
         DrawError::NoMemory
     }
 }
 
 impl From<NextError> for DrawError {
+    ghost use Rattle.std.specs.Prelude.{◌≡◌};
+    ghost use Rattle.spacetime.specs.Errors.{of_reader};
+
+    ghost from_gives = { λ e d. d ≡ of_reader e };
+
     fn from(e: NextError) -> DrawError {
         match e {
             NextError::BadLine { line, rule } => DrawError::Malformed {
@@ -51,6 +71,11 @@ impl From<NextError> for DrawError {
 }
 
 impl From<WriteError> for DrawError {
+    ghost use Rattle.std.specs.Prelude.{◌≡◌};
+    ghost use Rattle.spacetime.specs.Errors.{of_sink};
+
+    ghost from_gives = { λ e d. d ≡ of_sink e };
+
     fn from(e: WriteError) -> DrawError {
         match e {
             WriteError::Failed => DrawError::WriteFault,

@@ -1,12 +1,18 @@
 //! Events in a few words.
 
-use crate::naming::{Name, put_op};
+ghost use Rattle.std.specs.Prelude.{◌≡◌};
+ghost use Rattle.world.specs.WorldSteps.{actor_of};
+
+use crate::naming::{put_numbered, put_op};
 use nop_types::{Actor, NoMemory, Tick};
+use picture::Text;
 use schedule_text::Event;
 use std::alloc::Global;
 
 /// The actor whose step an event is.
-pub fn actor_of(event: &Event) -> Actor {
+pub fn actor_of(event: &Event) -> Actor
+    ensures { result ≡ actor_of event.now }
+{
     match event {
         Event::Submit(client, _) => Actor::Client(*client),
         Event::Install(_) => Actor::Controller,
@@ -19,44 +25,60 @@ pub fn actor_of(event: &Event) -> Actor {
 
 fn tick_word(tick: Tick) -> &'static str {
     match tick {
-        Tick::Suspect => "suspect",
-        Tick::Watch => "watch",
-        Tick::Resend => "resend",
-        Tick::Sync => "sync",
-        Tick::Retry => "retry",
-        Tick::Next => "next",
-        Tick::Probe => "probe",
-        Tick::Install(_) => "install",
+        Tick::Suspect => " suspect",
+        Tick::Watch => " watch",
+        Tick::Resend => " resend",
+        Tick::Sync => " sync",
+        Tick::Retry => " retry",
+        Tick::Next => " next",
+        Tick::Probe => " probe",
+        Tick::Install(_) => " install",
+    }
+}
+
+fn put_named(word: &str, actor: Actor, to: &mut Text) {
+    to.put(word);
+    to.actor(actor);
+}
+
+fn put_deliver(index: u64, actor: Actor, to: &mut Text) {
+    put_numbered("deliver ", index, to);
+    put_named(" ", actor, to);
+}
+
+fn put_event(event: &Event, to: &mut Text) {
+    match event {
+        Event::Submit(client, _) => put_named("submit ", Actor::Client(*client), to),
+        Event::Deliver(index, actor) => put_deliver(*index, *actor, to),
+        Event::Tick(actor, tick) => {
+            put_named("tick ", *actor, to);
+            to.put(tick_word(*tick));
+        }
+        Event::Install(number) => put_named("install ", Actor::Sequencer(*number), to),
+        Event::Crash(actor) => put_named("crash ", *actor, to),
+        Event::Junk(actor, _) => put_named("junk ", *actor, to),
     }
 }
 
 /// An event as its line has it, without an op and without junk.
 pub fn event_text(alloc: Global, event: &Event) -> Result<String, NoMemory> {
-    let actor = Name(actor_of(event));
-    let text = match event {
-        Event::Submit(_, _) => format!(in alloc; "submit {actor}")?,
-        Event::Deliver(index, _) => format!(in alloc; "deliver {index} {actor}")?,
-        Event::Tick(_, tick) => {
-            let word = tick_word(*tick);
-            format!(in alloc; "tick {actor} {word}")?
-        }
-        Event::Install(number) => format!(in alloc; "install s{number}")?,
-        Event::Crash(_) => format!(in alloc; "crash {actor}")?,
-        Event::Junk(_, _) => format!(in alloc; "junk {actor}")?,
-    };
-    Ok(text)
+    let mut text = Text::new(alloc);
+    put_event(event, &mut text);
+    text.finish()
+}
+
+fn put_junk(bytes: &[u8], to: &mut Text) {
+    to.number(bytes.len() as u64);
+    to.put(" bytes");
 }
 
 /// The op that is submitted, or how many bytes of junk come.
 pub fn submitted(alloc: Global, event: &Event) -> Result<String, NoMemory> {
-    let mut text = String::new(alloc);
+    let mut text = Text::new(alloc);
     match event {
-        Event::Submit(_, op) => put_op(op.as_slice(), &mut text)?,
-        Event::Junk(_, bytes) => {
-            let len = bytes.as_slice().len();
-            write!(text, "{len} bytes")?;
-        }
+        Event::Submit(_, op) => put_op(op.as_slice(), &mut text),
+        Event::Junk(_, bytes) => put_junk(bytes.as_slice(), &mut text),
         _ => {}
     }
-    Ok(text)
+    text.finish()
 }

@@ -1,22 +1,19 @@
 //! The program: a schedule on standard input, a picture of its run as SVG on standard output.
 #![tactic(auto)]
 
+mod actors;
 mod datagrams;
 mod error;
 mod events;
 mod flights;
-mod lanes;
-mod layout;
-mod legend;
+mod losses;
 mod naming;
-mod picture;
+mod observing;
 mod recorder;
 mod run;
 mod said;
 mod standing;
 mod status;
-mod style;
-mod svg;
 
 use error::DrawError;
 use kv_host::KvHost;

@@ -1,66 +1,64 @@
 //! Short texts for what stands in a picture.
 
-use nop_types::{Actor, NoMemory, View};
+use nop_types::{Actor, View};
 use oum_codec::split_u16;
-use std::fmt;
+use picture::Text;
 
 /// The most characters of one string of an op or a result.
 const MAX_SHOWN: usize = 12;
 
-/// The name of an actor, as schedules have it.
-#[derive(Clone, Copy)]
-pub struct Name(pub Actor);
+/// A word and a number.
+pub fn put_numbered(word: &str, n: u64, to: &mut Text) {
+    to.put(word);
+    to.number(n);
+}
 
-impl fmt::Display for Name {
-    fn fmt<W: fmt::Write>(&self, f: &mut fmt::Formatter<W>) -> fmt::Result {
-        match self.0 {
-            Actor::Replica(i) => write!(f, "r{i}"),
-            Actor::Sequencer(i) => write!(f, "s{i}"),
-            Actor::Client(i) => write!(f, "c{i}"),
-            Actor::Controller => write!(f, "ctl"),
-        }
-    }
+/// A request by its client and its id.
+pub fn put_request(client: u32, id: u64, to: &mut Text) {
+    to.actor(Actor::Client(client));
+    put_numbered("#", id, to);
 }
 
 /// A view: its leader number and its session.
-#[derive(Clone, Copy)]
-pub struct ViewName(pub View);
-
-impl fmt::Display for ViewName {
-    fn fmt<W: fmt::Write>(&self, f: &mut fmt::Formatter<W>) -> fmt::Result {
-        let leader = self.0.leader;
-        let session = self.0.session;
-        write!(f, "({leader},{session})")
-    }
+pub fn put_view(word: &str, view: View, to: &mut Text) {
+    to.put(word);
+    put_numbered("(", u64::from(view.leader), to);
+    put_numbered(",", u64::from(view.session), to);
+    to.put(")");
 }
 
-fn put_characters(bytes: &[u8], to: &mut String) -> Result<(), NoMemory> {
+fn put_characters(bytes: &[u8], to: &mut Text) {
     for b in bytes.iter().take(MAX_SHOWN) {
-        to.push(*b as char)?;
+        to.character(*b as char);
     }
-    Ok(())
 }
 
-fn put_hex(bytes: &[u8], to: &mut String) -> Result<(), NoMemory> {
+fn hex_digit(n: u8) -> char {
+    char::from_digit(u32::from(n), 16).unwrap_or('0')
+}
+
+fn put_hex(bytes: &[u8], to: &mut Text) {
     for b in bytes.iter().take(MAX_SHOWN / 2) {
-        write!(to, "{b:02x}")?;
+        to.character(hex_digit(*b / 16));
+        to.character(hex_digit(*b % 16));
     }
-    Ok(())
+}
+
+fn put_dots(bytes: &[u8], most: usize, to: &mut Text) {
+    if bytes.len() > most {
+        to.put("..");
+    }
 }
 
 /// Appends the first bytes as characters where all are printable ASCII, else in hexadecimal.
-pub fn put_bytes(bytes: &[u8], to: &mut String) -> Result<(), NoMemory> {
-    let most = if bytes.iter().all(|b| b.is_ascii_graphic()) {
-        put_characters(bytes, to)?;
-        MAX_SHOWN
+pub fn put_bytes(bytes: &[u8], to: &mut Text) {
+    if bytes.iter().all(|b| b.is_ascii_graphic()) {
+        put_characters(bytes, to);
+        put_dots(bytes, MAX_SHOWN, to);
     } else {
-        put_hex(bytes, to)?;
-        MAX_SHOWN / 2
-    };
-    if bytes.len() > most {
-        to.push_str("..")?;
+        put_hex(bytes, to);
+        put_dots(bytes, MAX_SHOWN / 2, to);
     }
-    Ok(())
 }
 
 /// The first string of an op, and what follows it.
@@ -73,38 +71,36 @@ fn first_string(bytes: &[u8]) -> Option<(&[u8], &[u8])> {
     Some(rest.split_at(len))
 }
 
-fn put_strings(bytes: &[u8], to: &mut String) -> Result<(), NoMemory> {
+fn put_strings(bytes: &[u8], to: &mut Text) {
     let mut rest = bytes;
     for _ in 0..3u8 {
         let Some((string, more)) = first_string(rest) else {
-            return Ok(());
+            return;
         };
-        to.push(' ')?;
-        put_bytes(string, to)?;
+        to.put(" ");
+        put_bytes(string, to);
         rest = more;
     }
-    Ok(())
+}
+
+fn op_word(kind: u8) -> Option<&'static str> {
+    match kind {
+        b'G' => Some("get"),
+        b'P' => Some("put"),
+        b'D' => Some("delete"),
+        b'C' => Some("compare-and-set"),
+        _ => None,
+    }
 }
 
 /// Appends an op of the key-value host by its word and strings, any other bytes in hexadecimal.
-pub fn put_op(op: &[u8], to: &mut String) -> Result<(), NoMemory> {
-    match op {
-        [b'G', rest @ ..] => {
-            to.push_str("get")?;
-            put_strings(rest, to)
+pub fn put_op(op: &[u8], to: &mut Text) {
+    if let [kind, rest @ ..] = op {
+        if let Some(word) = op_word(*kind) {
+            to.put(word);
+            put_strings(rest, to);
+            return;
         }
-        [b'P', rest @ ..] => {
-            to.push_str("put")?;
-            put_strings(rest, to)
-        }
-        [b'D', rest @ ..] => {
-            to.push_str("delete")?;
-            put_strings(rest, to)
-        }
-        [b'C', rest @ ..] => {
-            to.push_str("compare-and-set")?;
-            put_strings(rest, to)
-        }
-        _ => put_hex(op, to),
     }
+    put_hex(op, to);
 }

@@ -1,17 +1,17 @@
-//! A run as it goes on, and what of it a picture shows.
+//! What a picture shows of a run, as it goes on.
 
-use crate::datagrams::{Described, describe};
-use crate::error::DrawError;
+use crate::actors::{actors, lanes};
+use crate::datagrams::Described;
 use crate::events::{actor_of, event_text, submitted};
-use crate::flights::{Crash, Flight, deliver, losses};
-use crate::lanes::lanes;
-use crate::picture::{Arrow, Mark, Note, Picture, Role, Row, Stretch};
-use crate::said::{Said, read_lines};
-use crate::standing::{Standing, put_changes, role, standing_of};
-use nop_types::{Actor, Bytes, Config, Dest, Host, NoMemory};
-use schedule_text::{Event, Rule};
+use crate::flights::{Flight, Leg, deliver};
+use crate::losses::{Crash, losses};
+use crate::observing::{Observed, Sending};
+use crate::said::read_lines;
+use crate::standing::{Standing, put_changes, role};
+use nop_types::{Actor, Config, NoMemory};
+use picture::{Arrow, Mark, Note, Picture, Role, Row, Stretch, same};
+use schedule_text::Event;
 use std::alloc::Global;
-use world::{StepError, World};
 
 /// A replica as it stands, its role, and since which row it has it, None from the top.
 #[derive(Drop)]
@@ -21,11 +21,11 @@ struct Watched {
     since: Option<usize>,
 }
 
-/// A run, and what of it a picture shows.
+/// What a picture shows of a run so far.
 #[derive(Drop)]
-pub struct Recorder<H: Host> {
+pub struct Recorder {
     alloc: Global,
-    world: World<H>,
+    config: Config,
     watched: Vec<Watched>,
     flights: Vec<Flight>,
     crashes: Vec<Crash>,
@@ -34,39 +34,25 @@ pub struct Recorder<H: Host> {
     stretches: Vec<Stretch>,
 }
 
-fn watch<H: Host>(
-    alloc: Global,
-    world: &World<H>,
-    config: Config,
-) -> Result<Vec<Watched>, NoMemory> {
-    let mut watched = Vec::new(alloc);
-    for number in 0..config.replicas() {
-        if let Some(replica) = world.replica(number) {
-            let standing = standing_of(alloc, replica)?;
-            let role = role(&standing, number, config.replicas());
-            watched.push(Watched {
-                standing,
-                role,
-                since: None,
-            })?;
-        }
+fn watched_from(standing: Standing, replicas: u8) -> Watched {
+    let role = role(&standing, replicas);
+    Watched {
+        standing,
+        role,
+        since: None,
     }
-    Ok(watched)
 }
 
-/// Why the event of a line is refused.
-fn refusal(line: u32, error: StepError) -> DrawError {
-    let (rule, index_sent) = match error {
-        StepError::NoSuchActor => (Rule::WrongActor, None),
-        StepError::NoSuchDatagram { index, sent } => (Rule::NoSuchDatagram, Some((index, sent))),
-        StepError::Forged => (Rule::Forged, None),
-        StepError::NoMemory => return DrawError::NoMemory,
-    };
-    DrawError::Malformed {
-        line,
-        rule: rule.number(),
-        index_sent,
+fn watched_all(
+    alloc: Global,
+    standings: Vec<Standing>,
+    replicas: u8,
+) -> Result<Vec<Watched>, NoMemory> {
+    let mut watched = Vec::new(alloc);
+    for standing in standings {
+        watched.push(watched_from(standing, replicas))?;
     }
+    Ok(watched)
 }
 
 /// One note at least: whether something was sent.
@@ -83,11 +69,21 @@ fn fill(alloc: Global, sends: bool, notes: &mut Vec<Note>) -> Result<(), NoMemor
 /// The row in which an actor crashed.
 fn crash_row(crashes: &[Crash], actor: Actor) -> Option<usize> {
     for crash in crashes {
-        if crash.actor == actor {
+        if same(crash.actor, actor) {
             return Some(crash.row);
         }
     }
     None
+}
+
+/// The role of an actor at the end, and since which row it has it.
+fn last_role(watched: &[Watched], actor: Actor) -> (Role, Option<usize>) {
+    if let Actor::Replica(number) = actor {
+        if let Some(watched) = watched.get(number as usize) {
+            return (watched.role, watched.since);
+        }
+    }
+    (Role::Follows, None)
 }
 
 /// Appends the last stretch of each lane, which ends with a crash or at the bottom.
@@ -98,32 +94,141 @@ fn put_last(
     stretches: &mut Vec<Stretch>,
 ) -> Result<(), NoMemory> {
     for actor in lanes {
-        let (role, from) = match actor {
-            Actor::Replica(number) => match watched.get(*number as usize) {
-                Some(watched) => (watched.role, watched.since),
-                None => (Role::Follows, None),
-            },
-            _ => (Role::Follows, None),
-        };
-        let to = crash_row(crashes, *actor);
+        let (role, from) = last_role(watched, *actor);
         stretches.push(Stretch {
             actor: *actor,
             role,
             from,
-            to,
+            to: crash_row(crashes, *actor),
         })?;
     }
     Ok(())
 }
 
-impl<H: Host> Recorder<H> {
-    pub fn new(alloc: Global, config: Config) -> Result<Recorder<H>, NoMemory> {
-        let world = World::new(alloc, config)?;
-        let watched = watch(alloc, &world, config)?;
+/// The arrow of a delivery of the datagram with this index, and its text.
+fn take_at(
+    alloc: Global,
+    flights: &mut Vec<Flight>,
+    index: u64,
+    to: Actor,
+    row: usize,
+) -> Result<Option<(Arrow, String)>, NoMemory> {
+    let Some(flight) = flights.get_mut(index as usize) else {
+        return Ok(None);
+    };
+    let text = String::from_str(alloc, flight.text.as_str())?;
+    let arrow = deliver(flight, to, row)?;
+    Ok(Some((arrow, text)))
+}
+
+/// Keeps a datagram that a row sent, and what shows there.
+fn send(
+    alloc: Global,
+    sending: Sending,
+    from: Actor,
+    sent: usize,
+    flights: &mut Vec<Flight>,
+    notes: &mut Vec<Note>,
+) -> Result<(), NoMemory> {
+    let Sending { dest, described } = sending;
+    let Described {
+        purpose,
+        text,
+        brief,
+        note,
+    } = described;
+    if let Some(note) = note {
+        notes.push(note)?;
+    }
+    flights.push(Flight {
+        leg: Leg {
+            purpose,
+            from,
+            sent,
+            dest,
+        },
+        text,
+        brief,
+        reached: Vec::new(alloc),
+    })?;
+    Ok(())
+}
+
+fn send_all(
+    alloc: Global,
+    sent: Vec<Sending>,
+    from: Actor,
+    row: usize,
+    flights: &mut Vec<Flight>,
+    notes: &mut Vec<Note>,
+) -> Result<(), NoMemory> {
+    for sending in sent {
+        send(alloc, sending, from, row, flights, notes)?;
+    }
+    Ok(())
+}
+
+/// Another role of a replica since a row: the stretch of the earlier one.
+fn change_role(role: Role, row: usize, watched: &mut Watched) -> Option<Stretch> {
+    if role.is(watched.role) {
+        return None;
+    }
+    let stretch = Stretch {
+        actor: Actor::Replica(watched.standing.number),
+        role: watched.role,
+        from: watched.since,
+        to: Some(row),
+    };
+    watched.role = role;
+    watched.since = Some(row);
+    Some(stretch)
+}
+
+/// Appends what changed at a replica, and ends its stretch where its role did.
+fn compare(
+    alloc: Global,
+    replicas: u8,
+    row: usize,
+    after: Standing,
+    watched: &mut Watched,
+    notes: &mut Vec<Note>,
+) -> Result<Option<Stretch>, NoMemory> {
+    put_changes(alloc, &watched.standing, &after, notes)?;
+    let role = role(&after, replicas);
+    watched.standing = after;
+    Ok(change_role(role, row, watched))
+}
+
+/// Keeps a crash, unless the actor had crashed before.
+fn crash(
+    alloc: Global,
+    actor: Actor,
+    row: usize,
+    crashes: &mut Vec<Crash>,
+    notes: &mut Vec<Note>,
+) -> Result<(), NoMemory> {
+    if notes.is_empty() {
+        let text = String::from_str(alloc, "crash")?;
+        notes.push(Note {
+            mark: Mark::Crashed,
+            text,
+        })?;
+        crashes.push(Crash { actor, row })?;
+    }
+    Ok(())
+}
+
+impl Recorder {
+    /// The replicas at the top, in order.
+    pub fn new(
+        alloc: Global,
+        config: Config,
+        standings: Vec<Standing>,
+    ) -> Result<Recorder, NoMemory> {
         Ok(Recorder {
             alloc,
-            world,
-            watched,
+            config,
+            watched: watched_all(alloc, standings, config.replicas())?,
             flights: Vec::new(alloc),
             crashes: Vec::new(alloc),
             rows: Vec::new(alloc),
@@ -132,153 +237,99 @@ impl<H: Host> Recorder<H> {
         })
     }
 
+    /// How many datagrams were sent so far.
+    pub fn sent_count(&self) -> u64 {
+        self.flights.len() as u64
+    }
+
     /// The arrow of a delivery, and what was delivered or submitted.
-    fn taken(&mut self, event: &Event) -> Result<String, NoMemory> {
+    fn detail(&mut self, event: &Event, row: usize) -> Result<String, NoMemory> {
         let Event::Deliver(index, to) = event else {
             return submitted(self.alloc, event);
         };
-        let row = self.rows.len();
-        let mut text = String::new(self.alloc);
-        if let Ok(index) = usize::try_from(*index) {
-            if let Some(flight) = self.flights.get_mut(index) {
-                text.push_str(flight.text.as_str())?;
-                self.arrows.push(deliver(flight, *to, row)?)?;
+        match take_at(self.alloc, &mut self.flights, *index, *to, row)? {
+            Some((arrow, text)) => {
+                self.arrows.push(arrow)?;
+                Ok(text)
+            }
+            None => Ok(String::new(self.alloc)),
+        }
+    }
+
+    /// What changed at a replica.
+    fn change(
+        &mut self,
+        row: usize,
+        after: Standing,
+        notes: &mut Vec<Note>,
+    ) -> Result<(), NoMemory> {
+        let number = after.number as usize;
+        let replicas = self.config.replicas();
+        if let Some(watched) = self.watched.get_mut(number) {
+            let stretch = compare(self.alloc, replicas, row, after, watched, notes)?;
+            if let Some(stretch) = stretch {
+                self.stretches.push(stretch)?;
             }
         }
-        Ok(text)
+        Ok(())
     }
 
-    /// Keeps a datagram that a step sent.
-    fn send(&mut self, from: Actor, dest: Dest, notes: &mut Vec<Note>) -> Result<(), NoMemory> {
-        let Some(bytes) = self.world.sent(self.flights.len() as u64) else {
-            return Ok(());
-        };
-        let Described {
-            purpose,
-            text,
-            brief,
-            note,
-        } = describe(self.alloc, bytes)?;
-        self.flights.push(Flight {
-            purpose,
-            from,
-            dest,
-            sent: self.rows.len(),
-            text,
-            brief,
-            reached: Vec::new(self.alloc),
-        })?;
-        if let Some(note) = note {
-            notes.push(note)?;
+    /// What the step of an actor shows.
+    fn put_notes(
+        &mut self,
+        event: &Event,
+        row: usize,
+        observed: Observed,
+        notes: &mut Vec<Note>,
+    ) -> Result<(), NoMemory> {
+        let Observed { sent, after, .. } = observed;
+        send_all(
+            self.alloc,
+            sent,
+            actor_of(event),
+            row,
+            &mut self.flights,
+            notes,
+        )?;
+        if let Some(after) = after {
+            self.change(row, after, notes)?;
+        }
+        if let Event::Crash(actor) = event {
+            crash(self.alloc, *actor, row, &mut self.crashes, notes)?;
         }
         Ok(())
     }
 
-    /// Appends what changed at a replica, and ends its stretch where its role did.
-    fn compare(&mut self, number: u8, notes: &mut Vec<Note>) -> Result<(), NoMemory> {
-        let Some(replica) = self.world.replica(number) else {
-            return Ok(());
-        };
-        let Some(watched) = self.watched.get_mut(number as usize) else {
-            return Ok(());
-        };
-        let after = standing_of(self.alloc, replica)?;
-        put_changes(self.alloc, &watched.standing, &after, notes)?;
-        let role = role(&after, number, self.world.config().replicas());
-        watched.standing = after;
-        if role != watched.role {
-            let row = Some(self.rows.len());
-            self.stretches.push(Stretch {
-                actor: Actor::Replica(number),
-                role: watched.role,
-                from: watched.since,
-                to: row,
-            })?;
-            watched.role = role;
-            watched.since = row;
-        }
-        Ok(())
-    }
-
-    /// Keeps a crash, unless the actor had crashed before.
-    fn crash(&mut self, actor: Actor, notes: &mut Vec<Note>) -> Result<(), NoMemory> {
-        if !notes.is_empty() {
-            return Ok(());
-        }
+    /// Keeps what was seen of the event of a line.
+    pub fn keep(&mut self, line: u32, event: &Event, observed: Observed) -> Result<(), NoMemory> {
         let row = self.rows.len();
-        self.crashes.push(Crash { actor, row })?;
-        notes.push(Note {
-            mark: Mark::Crashed,
-            text: String::from_str(self.alloc, "crash")?,
-        })?;
-        Ok(())
-    }
-
-    /// The lines that the event of a line writes.
-    fn step(&mut self, line: u32, event: &Event) -> Result<Bytes, DrawError> {
-        match self.world.step(event) {
-            Ok(lines) => Ok(lines.text),
-            Err(error) => Err(refusal(line, error)),
-        }
-    }
-
-    /// What the step of an actor that wrote these lines shows, at least one note.
-    fn notes(&mut self, event: &Event, text: &[u8]) -> Result<Vec<Note>, NoMemory> {
-        let actor = actor_of(event);
-        let Said { dests, mut notes } = read_lines(self.alloc, text)?;
-        for dest in &dests {
-            self.send(actor, *dest, &mut notes)?;
-        }
-        match (event, actor) {
-            (Event::Crash(_), _) => self.crash(actor, &mut notes)?,
-            (_, Actor::Replica(number)) => self.compare(number, &mut notes)?,
-            _ => {}
-        }
-        fill(self.alloc, !dests.is_empty(), &mut notes)?;
-        Ok(notes)
-    }
-
-    /// Keeps the row of an event that was carried out.
-    fn keep(&mut self, line: u32, event: &Event, text: &[u8]) -> Result<(), NoMemory> {
-        let detail = self.taken(event)?;
-        let notes = self.notes(event, text)?;
+        let detail = self.detail(event, row)?;
+        let sends = !observed.sent.is_empty();
+        let mut notes = read_lines(self.alloc, observed.text.as_slice())?;
+        self.put_notes(event, row, observed, &mut notes)?;
+        fill(self.alloc, sends, &mut notes)?;
+        let words = event_text(self.alloc, event)?;
         self.rows.push(Row {
             line,
             actor: actor_of(event),
-            event: event_text(self.alloc, event)?,
+            event: words,
             detail,
             notes,
         })?;
         Ok(())
     }
 
-    /// Carries out the event of a line.
-    pub fn take(&mut self, line: u32, event: &Event) -> Result<(), DrawError> {
-        let text = self.step(line, event)?;
-        self.keep(line, event, text.as_slice())?;
-        Ok(())
-    }
-
     /// The picture of what happened so far.
     pub fn finish(self) -> Result<Picture, NoMemory> {
-        let Recorder {
-            alloc,
-            world,
-            watched,
-            flights,
-            crashes,
-            rows,
-            arrows,
-            mut stretches,
-        } = self;
-        let config = world.config();
-        let losses = losses(alloc, config, &flights, &crashes)?;
-        let lanes = lanes(alloc, config, &rows, &losses)?;
-        put_last(&lanes, &watched, &crashes, &mut stretches)?;
+        let actors = actors(self.alloc, self.config)?;
+        let losses = losses(self.alloc, &actors, &self.flights, &self.crashes)?;
+        let lanes = lanes(self.alloc, &actors, &self.rows, &losses)?;
+        let mut stretches = self.stretches;
+        put_last(&lanes, &self.watched, &self.crashes, &mut stretches)?;
         Ok(Picture {
             lanes,
-            rows,
-            arrows,
+            rows: self.rows,
+            arrows: self.arrows,
             losses,
             stretches,
         })

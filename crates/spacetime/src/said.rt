@@ -1,113 +1,71 @@
-//! The lines that an event writes in a transcript, read back.
+//! The lines that a client's step writes in a transcript, read back.
 
 use crate::naming::put_bytes;
-use crate::picture::{Mark, Note};
-use nop_types::{Actor, Dest, NoMemory};
+use nop_types::NoMemory;
+use picture::{Mark, Note, Text};
 use std::alloc::Global;
-use std::str::Split;
 
-/// What an event's lines say: where its datagrams were sent, in order, and what a client did.
-#[derive(Debug, Drop)]
-pub struct Said {
-    pub dests: Vec<Dest>,
-    pub notes: Vec<Note>,
-}
-
-fn actor(name: &str) -> Option<Actor> {
-    if name == "ctl" {
-        return Some(Actor::Controller);
-    }
-    if let Some(number) = name.strip_prefix('r') {
-        return Some(Actor::Replica(number.parse().ok()?));
-    }
-    if let Some(number) = name.strip_prefix('s') {
-        return Some(Actor::Sequencer(number.parse().ok()?));
-    }
-    let number = name.strip_prefix('c')?;
-    Some(Actor::Client(number.parse().ok()?))
-}
-
-fn dest(name: &str) -> Option<Dest> {
-    match name {
-        "r*" => Some(Dest::Replicas),
-        "s*" => Some(Dest::Sequencers),
-        _ => Some(Dest::One(actor(name)?)),
-    }
-}
-
-/// A result in hexadecimal as text.
-fn put_result(alloc: Global, hex: &str, to: &mut String) -> Result<(), NoMemory> {
+/// A result in hexadecimal as bytes; what is no hexadecimal as it is.
+fn answer_of(alloc: Global, hex: &str) -> Result<Vec<u8>, NoMemory> {
     match hex::decode(alloc, hex.as_bytes()) {
-        Ok(bytes) => put_bytes(&bytes, to),
+        Ok(bytes) => Ok(bytes),
         Err(hex::FromHexError::OutOfMemory) => Err(NoMemory),
-        Err(_) => Ok(to.push_str(hex)?),
+        Err(_) => Ok(Vec::from_slice(alloc, hex.as_bytes())?),
     }
 }
 
-fn note(alloc: Global, mark: Mark, text: &str) -> Result<Note, NoMemory> {
-    Ok(Note {
-        mark,
-        text: String::from_str(alloc, text)?,
-    })
-}
-
-fn client_note(alloc: Global, word: &str, id: &str, hex: &str) -> Result<Option<Note>, NoMemory> {
-    let mut text = format!(in alloc; "#{id}")?;
+fn mark_of(word: &str) -> Option<Mark> {
     match word {
-        "submit" => Ok(Some(Note {
-            mark: Mark::Submitted,
-            text,
-        })),
-        "accept" => {
-            text.push(' ')?;
-            put_result(alloc, hex, &mut text)?;
-            Ok(Some(Note {
-                mark: Mark::Accepted,
-                text,
-            }))
+        "submit" => Some(Mark::Submitted),
+        "accept" => Some(Mark::Accepted),
+        "busy" | "dead" => Some(Mark::Refused),
+        _ => None,
+    }
+}
+
+fn put_words(word: &str, id: &str, answer: &[u8], to: &mut Text) {
+    match word {
+        "busy" => to.put("busy"),
+        "dead" => to.put("crashed"),
+        _ => {
+            to.put("#");
+            to.put(id);
         }
-        "busy" => Ok(Some(note(alloc, Mark::Refused, "busy")?)),
-        "dead" => Ok(Some(note(alloc, Mark::Refused, "crashed")?)),
-        _ => Ok(None),
+    }
+    if word == "accept" {
+        to.put(" ");
+        put_bytes(answer, to);
     }
 }
 
-fn next<'a>(words: &mut Split<'a, char>) -> &'a str {
-    match words.next() {
-        Some(word) => word,
-        None => "",
+/// The first word of a line, and what follows it.
+fn first_word(line: &str) -> (&str, &str) {
+    match line.split_once(' ') {
+        Some(pair) => pair,
+        None => (line, ""),
     }
 }
 
-fn read_line(alloc: Global, line: &str, said: &mut Said) -> Result<(), NoMemory> {
-    let mut words = line.split(' ');
-    let word = next(&mut words);
-    let _first = next(&mut words);
-    let second = next(&mut words);
-    let third = next(&mut words);
-    if word == "send" {
-        if let Some(dest) = dest(third) {
-            said.dests.push(dest)?;
+fn note_of(alloc: Global, mark: Mark, word: &str, rest: &str) -> Result<Note, NoMemory> {
+    let (_client, rest) = first_word(rest);
+    let (id, hex) = first_word(rest);
+    let answer = answer_of(alloc, hex)?;
+    let mut text = Text::new(alloc);
+    put_words(word, id, &answer, &mut text);
+    let text = text.finish()?;
+    Ok(Note { mark, text })
+}
+
+/// What a client did, by the lines of an event.
+pub fn read_lines(alloc: Global, text: &[u8]) -> Result<Vec<Note>, NoMemory> {
+    let mut notes = Vec::new(alloc);
+    if let Ok(text) = str::from_utf8(text) {
+        for line in text.lines() {
+            let (word, rest) = first_word(line);
+            if let Some(mark) = mark_of(word) {
+                notes.push(note_of(alloc, mark, word, rest)?)?;
+            }
         }
-        return Ok(());
     }
-    if let Some(note) = client_note(alloc, word, second, third)? {
-        said.notes.push(note)?;
-    }
-    Ok(())
-}
-
-/// Reads the lines of an event.
-pub fn read_lines(alloc: Global, text: &[u8]) -> Result<Said, NoMemory> {
-    let mut said = Said {
-        dests: Vec::new(alloc),
-        notes: Vec::new(alloc),
-    };
-    let Ok(text) = str::from_utf8(text) else {
-        return Ok(said);
-    };
-    for line in text.lines() {
-        read_line(alloc, line, &mut said)?;
-    }
-    Ok(said)
+    Ok(notes)
 }

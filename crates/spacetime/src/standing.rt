@@ -1,24 +1,25 @@
 //! How a replica stands, and what a step changed.
 
-use crate::naming::{Name, ViewName};
-use crate::picture::{Mark, Note, Role};
-use nop_types::{Actor, Entry, Host, NoMemory, Phase, View, leader_of};
+use crate::naming::{put_numbered, put_request, put_view};
+use nop_types::{Entry, Host, NoMemory, Phase, View, leader_of};
+use picture::{Mark, Note, Role, Text};
 use replica_core::Replica;
 use std::alloc::Global;
 
-/// At most so many changed slots of a step have notes of their own.
+/// How many changed slots of a step have notes of their own, at most.
 const MAX_SLOT_NOTES: usize = 4;
 
 /// The request in a slot.
-#[derive(Clone, Copy, Debug, PartialEq, Eq)]
+#[derive(Clone, Copy)]
 pub struct Held {
     client: u32,
     id: u64,
 }
 
-/// What a picture shows of a replica: its view, whether it takes part, its sync point, and its slots, None for a NO-OP.
-#[derive(Debug, Drop)]
+/// What a picture shows of the replica with a number: its view, whether it takes part, its sync point, and its slots, None for a NO-OP.
+#[derive(Drop)]
 pub struct Standing {
+    pub number: u8,
     view: View,
     status: Phase,
     sync_point: u32,
@@ -35,121 +36,161 @@ fn request_in(entry: &Entry) -> Option<Held> {
     }
 }
 
-/// How a replica stands.
-pub fn standing_of<H: Host>(alloc: Global, replica: &Replica<H>) -> Result<Standing, NoMemory> {
+fn slots_of(alloc: Global, log: &[Entry]) -> Result<Vec<Option<Held>>, NoMemory> {
     let mut slots = Vec::new(alloc);
-    for entry in replica.log().as_slice() {
+    for entry in log {
         slots.push(request_in(entry))?;
     }
+    Ok(slots)
+}
+
+/// How a replica stands.
+pub fn standing_of<H: Host>(
+    alloc: Global,
+    number: u8,
+    replica: &Replica<H>,
+) -> Result<Standing, NoMemory> {
     Ok(Standing {
+        number,
         view: replica.view(),
         status: replica.status(),
         sync_point: replica.sync_point(),
-        slots,
+        slots: slots_of(alloc, replica.log().as_slice())?,
     })
 }
 
-/// The role of the replica with this number, of so many replicas.
-pub fn role(standing: &Standing, number: u8, replicas: u8) -> Role {
+/// The role of a replica among so many.
+pub fn role(standing: &Standing, replicas: u8) -> Role {
     match standing.status {
         Phase::Change => Role::Waits,
-        Phase::Normal if replicas > 0 && leader_of(standing.view, replicas) == number => {
-            Role::Leads
-        }
-        Phase::Normal => Role::Follows,
+        Phase::Normal => role_in(standing.view, standing.number, replicas),
     }
 }
 
-fn view_note(
+/// The role of a replica in a view that has started.
+fn role_in(view: View, number: u8, replicas: u8) -> Role {
+    if replicas > 0 && leader_of(view, replicas) == number {
+        Role::Leads
+    } else {
+        Role::Follows
+    }
+}
+
+/// Appends a note, one of whose parts is a number.
+fn put_count(
     alloc: Global,
-    before: &Standing,
-    after: &Standing,
+    mark: Mark,
+    before: &str,
+    n: u64,
+    after: &str,
     notes: &mut Vec<Note>,
 ) -> Result<(), NoMemory> {
-    let same = before.view.is(after.view);
-    if same && before.status == after.status {
-        return Ok(());
-    }
-    let view = ViewName(after.view);
-    let note = match after.status {
-        Phase::Change => Note {
-            mark: Mark::Entered,
-            text: format!(in alloc; "enters view {view}")?,
-        },
-        Phase::Normal => Note {
-            mark: Mark::Started,
-            text: format!(in alloc; "view {view} starts")?,
-        },
-    };
-    notes.push(note)?;
+    let mut text = Text::new(alloc);
+    put_numbered(before, n, &mut text);
+    text.put(after);
+    let text = text.finish()?;
+    notes.push(Note { mark, text })?;
     Ok(())
 }
 
-fn slot_note(alloc: Global, slot: usize, held: Option<Held>) -> Result<Note, NoMemory> {
-    match held {
-        None => Ok(Note {
-            mark: Mark::NoOp,
-            text: format!(in alloc; "{slot}: NO-OP")?,
-        }),
-        Some(held) => {
-            let client = Name(Actor::Client(held.client));
-            let id = held.id;
-            Ok(Note {
-                mark: Mark::Logged,
-                text: format!(in alloc; "{slot}: {client}#{id}")?,
-            })
+fn put_phase(view: View, status: Phase, to: &mut Text) -> Mark {
+    match status {
+        Phase::Change => {
+            put_view("enters view ", view, to);
+            Mark::Entered
         }
+        Phase::Normal => {
+            put_view("view ", view, to);
+            to.put(" starts");
+            Mark::Started
+        }
+    }
+}
+
+fn view_note(alloc: Global, after: &Standing) -> Result<Note, NoMemory> {
+    let mut text = Text::new(alloc);
+    let mark = put_phase(after.view, after.status, &mut text);
+    let text = text.finish()?;
+    Ok(Note { mark, text })
+}
+
+fn put_held(slot: usize, held: Option<Held>, to: &mut Text) -> Mark {
+    to.number(slot as u64);
+    match held {
+        None => {
+            to.put(": NO-OP");
+            Mark::NoOp
+        }
+        Some(held) => {
+            to.put(": ");
+            put_request(held.client, held.id, to);
+            Mark::Logged
+        }
+    }
+}
+
+fn slot_note(alloc: Global, slot: usize, held: Option<Held>) -> Result<Note, NoMemory> {
+    let mut text = Text::new(alloc);
+    let mark = put_held(slot, held, &mut text);
+    let text = text.finish()?;
+    Ok(Note { mark, text })
+}
+
+fn is_same(a: Option<Held>, b: Option<Held>) -> bool {
+    match (a, b) {
+        (Some(a), Some(b)) => a.client == b.client && a.id == b.id,
+        (None, None) => true,
+        _ => false,
     }
 }
 
 /// Whether the slot with this place, counted from 0, has another entry than before.
-fn is_changed(before: &Standing, place: usize, held: Option<Held>) -> bool {
-    match before.slots.get(place) {
-        Some(old) => *old != held,
+fn is_changed(before: &[Option<Held>], place: usize, held: Option<Held>) -> bool {
+    match before.get(place) {
+        Some(old) => !is_same(*old, held),
         None => true,
     }
 }
 
-/// The places of the slots with another entry than before.
-fn changed_places(
+/// Appends the notes of the first slots with another entry than before, and says how many such slots there are.
+fn put_changed(
     alloc: Global,
-    before: &Standing,
-    after: &Standing,
-) -> Result<Vec<usize>, NoMemory> {
-    let mut places = Vec::new(alloc);
-    for (place, held) in after.slots.iter().enumerate() {
+    before: &[Option<Held>],
+    after: &[Option<Held>],
+    notes: &mut Vec<Note>,
+) -> Result<usize, NoMemory> {
+    let mut changed = 0usize;
+    for (place, held) in after.iter().enumerate() {
         if is_changed(before, place, *held) {
-            places.push(place)?;
+            if changed < MAX_SLOT_NOTES {
+                notes.push(slot_note(alloc, place.saturating_add(1), *held)?)?;
+            }
+            changed = changed.saturating_add(1);
         }
     }
-    Ok(places)
+    Ok(changed)
 }
 
-fn log_notes(
+fn put_log(
     alloc: Global,
-    before: &Standing,
-    after: &Standing,
+    before: &[Option<Held>],
+    after: &[Option<Held>],
     notes: &mut Vec<Note>,
 ) -> Result<(), NoMemory> {
-    let places = changed_places(alloc, before, after)?;
-    for place in places.iter().take(MAX_SLOT_NOTES) {
-        if let Some(held) = after.slots.get(*place) {
-            notes.push(slot_note(alloc, place.saturating_add(1), *held)?)?;
-        }
-    }
-    let more = places.len().saturating_sub(MAX_SLOT_NOTES);
+    let changed = put_changed(alloc, before, after, notes)?;
+    let more = changed.saturating_sub(MAX_SLOT_NOTES);
     if more > 0 {
-        notes.push(Note {
-            mark: Mark::Logged,
-            text: format!(in alloc; "{more} more slots")?,
-        })?;
+        put_count(alloc, Mark::Logged, "", more as u64, " more slots", notes)?;
     }
-    if after.slots.len() < before.slots.len() {
-        let len = after.slots.len();
-        notes.push(Note {
-            mark: Mark::Logged,
-            text: format!(in alloc; "log of {len}")?,
-        })?;
+    if after.len() < before.len() {
+        put_count(
+            alloc,
+            Mark::Logged,
+            "log of ",
+            after.len() as u64,
+            "",
+            notes,
+        )?;
     }
     Ok(())
 }
@@ -161,14 +202,13 @@ pub fn put_changes(
     after: &Standing,
     notes: &mut Vec<Note>,
 ) -> Result<(), NoMemory> {
-    view_note(alloc, before, after, notes)?;
-    log_notes(alloc, before, after, notes)?;
+    if !before.view.is(after.view) || before.status != after.status {
+        notes.push(view_note(alloc, after)?)?;
+    }
+    put_log(alloc, &before.slots, &after.slots, notes)?;
     if before.sync_point != after.sync_point {
-        let to = after.sync_point;
-        notes.push(Note {
-            mark: Mark::Synced,
-            text: format!(in alloc; "synced to {to}")?,
-        })?;
+        let point = u64::from(after.sync_point);
+        put_count(alloc, Mark::Synced, "synced to ", point, "", notes)?;
     }
     Ok(())
 }

@@ -1,7 +1,10 @@
+ghost use Rattle.std.specs.Prelude.{◌≡◌};
+ghost use Rattle.spacetime.specs.Errors.{status_of};
+
 use crate::error::DrawError;
 
 /// How the program ends; the number is its exit status, the same as that of `nopaxos replay`.
-#[derive(Clone, Copy, Debug, PartialEq, Eq)]
+#[derive(Clone, Copy)]
 pub enum Status {
     /// The picture was written.
     Done = 0,
@@ -14,7 +17,9 @@ pub enum Status {
     NoMemory = 6,
 }
 
-pub fn status_of(error: DrawError) -> Status {
+pub fn status_of(error: DrawError) -> Status
+    ensures { result ≡ status_of error }
+{
     match error {
         DrawError::Malformed { .. } => Status::Malformed,
         DrawError::ReadFault => Status::ReadFault,

@@ -48,3 +48,8 @@ pub const ARROW_HEADS: [(&str, &str); 4] = [
     ("peer", "#8250df"),
     ("control", "#9a6700"),
 ];
+
+/// Between the name of an arrow's head and its colour.
+pub const ARROW_HEAD: &str =
+    "\" viewBox=\"0 0 8 8\" refX=\"12\" refY=\"4\" markerWidth=\"8\" markerHeight=\"8\" \
+    markerUnits=\"userSpaceOnUse\" orient=\"auto\"><path d=\"M0,0L8,4L0,8z\" style=\"fill:";

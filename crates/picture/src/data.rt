@@ -1,9 +1,7 @@
-//! A run as a picture: lanes, rows, marks and arrows as plain data.
-
 use nop_types::Actor;
 
 /// What happened to an actor in a step, where it shows.
-#[derive(Clone, Copy, Debug, PartialEq, Eq)]
+#[derive(Clone, Copy)]
 pub enum Mark {
     /// A client began with a request.
     Submitted,
@@ -32,8 +30,14 @@ pub enum Mark {
     Idle,
 }
 
+impl Mark {
+    pub fn is(self, other: Mark) -> bool {
+        self as u8 == other as u8
+    }
+}
+
 /// A mark with its label.
-#[derive(Debug, Drop)]
+#[derive(Drop)]
 pub struct Note {
     pub mark: Mark,
     pub text: String,
@@ -41,7 +45,7 @@ pub struct Note {
 
 /// One event: the number of its line in the schedule, the actor whose step it is, its words, what was delivered or
 /// submitted, and what happened, at least one note.
-#[derive(Debug, Drop)]
+#[derive(Drop)]
 pub struct Row {
     pub line: u32,
     pub actor: Actor,
@@ -51,7 +55,7 @@ pub struct Row {
 }
 
 /// What a datagram is for.
-#[derive(Clone, Copy, Debug, PartialEq, Eq)]
+#[derive(Clone, Copy)]
 pub enum Purpose {
     /// A request, stamped or not.
     Request,
@@ -62,9 +66,15 @@ pub enum Purpose {
     Session,
 }
 
+impl Purpose {
+    pub fn is(self, other: Purpose) -> bool {
+        self as u8 == other as u8
+    }
+}
+
 /// A datagram that was delivered: from the actor and the row that sent it to those that took it, and whether that actor had
 /// taken it before. Rows count from 0.
-#[derive(Clone, Copy, Debug)]
+#[derive(Clone, Copy)]
 pub struct Arrow {
     pub purpose: Purpose,
     pub again: bool,
@@ -74,19 +84,18 @@ pub struct Arrow {
     pub taken: usize,
 }
 
-/// Datagrams of one row that an actor never got: the first one's text, and how many more there are.
-#[derive(Debug, Drop)]
+/// Datagrams of one row that an actor never got, with their label.
+#[derive(Drop)]
 pub struct Loss {
     pub purpose: Purpose,
     pub from: Actor,
     pub sent: usize,
     pub to: Actor,
     pub text: String,
-    pub more: u32,
 }
 
 /// How a replica stands in its view.
-#[derive(Clone, Copy, Debug, PartialEq, Eq)]
+#[derive(Clone, Copy)]
 pub enum Role {
     Follows,
     Leads,
@@ -94,8 +103,14 @@ pub enum Role {
     Waits,
 }
 
+impl Role {
+    pub fn is(self, other: Role) -> bool {
+        self as u8 == other as u8
+    }
+}
+
 /// A stretch of an actor's lane, from a row or the top to a row or the bottom.
-#[derive(Clone, Copy, Debug)]
+#[derive(Clone, Copy)]
 pub struct Stretch {
     pub actor: Actor,
     pub role: Role,
@@ -104,7 +119,7 @@ pub struct Stretch {
 }
 
 /// A run as a picture. Lanes stand in their order from left to right.
-#[derive(Debug, Drop)]
+#[derive(Drop)]
 pub struct Picture {
     pub lanes: Vec<Actor>,
     pub rows: Vec<Row>,

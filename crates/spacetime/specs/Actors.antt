@@ -1,0 +1,39 @@
+-- Which actors there are, from left to right, and which of them have a lane.
+use Rattle.std.specs.Prelude.{ℕ, zero, suc, List, [], ◌∷◌, ◌++◌, Bool, true, false, ◌||◌}
+use Rattle.std.specs.List.{list_any}
+use Rattle.nop_types.specs.Configuration.{Configuration}
+use Rattle.nop_types.specs.declared.output.Actor.{Actor}
+use Rattle.nop_types.specs.declared.output.Actor.TheVariants.{Replica, Sequencer, Client, Controller}
+use Rattle.picture.specs.Actors.{same}
+use Rattle.picture.specs.declared.data.Row.{Row}
+use Rattle.picture.specs.declared.data.Loss.{Loss}
+
+abbrev pub counted : (ℕ → Actor) → ℕ → List Actor
+counted make zero = []
+counted make (suc n) = counted make n ++ make n ∷ []
+
+abbrev pub actors_of : Configuration → List Actor
+actors_of c = ((Controller ∷ [] ++ counted Client c.clients) ++ counted Sequencer c.sequencers) ++ counted Replica c.replicas
+
+abbrev pub has : List Actor → Actor → Bool
+has actors a = list_any (λ b. same b a) actors
+
+abbrev pub is_replica : Actor → Bool
+is_replica (Replica i) = true
+is_replica _ = false
+
+abbrev pub is_sequencer : Actor → Bool
+is_sequencer (Sequencer i) = true
+is_sequencer _ = false
+
+-- it is the actor of an event
+abbrev pub takes_step : List Row → Actor → Bool
+takes_step rows a = list_any (λ r. same r.actor a) rows
+
+-- it should have got a datagram
+abbrev pub lacks : List Loss → Actor → Bool
+lacks losses a = list_any (λ l. same l.to a) losses
+
+-- all replicas, and of the other actors those that take part
+abbrev pub has_lane : List Row → List Loss → Actor → Bool
+has_lane rows losses a = is_replica a || (takes_step rows a || lacks losses a)

@@ -1,0 +1,4 @@
+pub mod Actors
+pub mod Deliveries
+pub mod Errors
+pub mod Missed
