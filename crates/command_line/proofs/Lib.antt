@@ -1,4 +1,5 @@
 pub mod Digits
+pub mod FoldLemmas
 pub mod FoundLemmas
 pub mod OpLemmas
 pub mod WordLemmas

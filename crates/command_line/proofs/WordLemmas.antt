@@ -1,6 +1,5 @@
 -- What clap makes of the words.
-use Rattle.std.proofs.Common.{◌≡◌, ℕ, List, [], ◌∷◌, Bool, true, Option, Some, None, option_map, refl, ap, sym, subst, ◌∙◌, inl, inr}
-use Rattle.std.specs.Borrow.{Bor}
+use Rattle.std.proofs.Common.{◌≡◌, List, [], ◌∷◌, true, Option, None, refl, ap, sym, subst, ◌∙◌, inl, inr}
 use Rattle.clap.proofs.OnLiterals.{clap_on_literals}
 use Rattle.clap.specs.Kinds.{IsAmong, HasKind}
 use Rattle.clap.specs.Words.{App, HasMatchesOf, Kinds, Row, Text, fault_of, is_simple, is_simple_and_free, kind_of, subcommand_of}
@@ -10,15 +9,27 @@ use Rattle.clap.specs.declared.error.kind.ErrorKind.{ErrorKind}
 use Rattle.clap.specs.declared.error.kind.ErrorKind.TheVariants as kinds
 use Rattle.clap.specs.declared.parser.matches.ArgMatches.{ArgMatches}
 use Rattle.command_line.specs.Commands.{command_from, command_if, command_of, faults_of, subcommand_in, IsRefused, HasFound}
-use Rattle.command_line.specs.Program.{program_app, with_replay, with_gen, with_node, with_sequencer, with_controller, with_client, gen_app, site_app}
+use Rattle.command_line.specs.Program.{
+  program_app,
+  with_replay,
+  with_gen,
+  with_node,
+  with_sequencer,
+  with_controller,
+  with_client,
+  gen_app,
+  site_app,
+}
 use Rattle.command_line.specs.Program.{member_app, controller_app, client_app, cluster_app}
 
 pub program_is_simple : is_simple program_app ≡ true
-unfolding clap_on_literals program_app with_replay with_gen with_node with_sequencer with_controller with_client gen_app site_app member_app controller_app client_app cluster_app
+unfolding clap_on_literals program_app with_replay with_gen with_node with_sequencer with_controller with_client gen_app site_app
+    member_app controller_app client_app cluster_app
 program_is_simple = refl
 
 pub program_is_free : is_simple_and_free program_app ≡ true
-unfolding clap_on_literals program_app with_replay with_gen with_node with_sequencer with_controller with_client gen_app site_app member_app controller_app client_app cluster_app
+unfolding clap_on_literals program_app with_replay with_gen with_node with_sequencer with_controller with_client gen_app site_app
+    member_app controller_app client_app cluster_app
 program_is_free = refl
 
 refused_by : (texts : List Text) (k : ErrorKind) (ks : Kinds) → faults_of texts ≡ ks → IsAmong k ks → IsRefused texts

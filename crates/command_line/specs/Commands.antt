@@ -1,6 +1,7 @@
 -- The command that the words ask for.
-use Rattle.std.specs.Prelude.{◌≡◌, ℕ, ◌+◌, ◌-◌, ◌*◌, ◌^◌, ◌<◌, ◌≤◌, ⊤, List, [], ◌∷◌, ◌++◌, Bool, true, false, Option, Some, None, Result}
+use Rattle.std.specs.Prelude.{◌≡◌, ℕ, ◌-◌, ◌^◌, ◌<◌, ◌≤◌, ⊤, List, [], ◌∷◌, ◌++◌, Bool, true, false, Option, Some, None, Result}
 use Rattle.std.specs.Prelude.{Ok, Err, length, map, codes, nat_lt, nat_le, option_map, if◌then◌else◌, String}
+use Rattle.std.specs.Borrow.{Bor}
 use Rattle.std.specs.Str.{bytes_eq}
 use Rattle.std.specs.String.{string_bytes}
 use Rattle.clap.specs.Words.{Kinds, Row, Text, all_of, fault_of, first_of, subcommand_of}
@@ -84,6 +85,10 @@ ops_on ops [] = ops
 ops_on None (text ∷ texts) = None
 ops_on (Some ops) (text ∷ texts) = ops_on (with_op ops (op_of text)) texts
 
+-- the texts behind references
+abbrev pub texts_in : Option (Bor (List (Bor Text))) → Option (List Text)
+texts_in = option_map (λ s. map (λ t. t.now) s.now)
+
 -- each text as an op
 abbrev pub ops_of : Option (List Text) → Option (List (List ℕ))
 ops_of None = None
@@ -147,17 +152,21 @@ client_in rows = client_by (value_of rows (codes "id") None 0 (2 ^ 32 - 1)) (sit
 abbrev pub cluster_in : List Row → Option Command
 cluster_in rows = cluster_by (cluster_site_of rows) (ops_of (all_of (codes "ops") rows))
 
+abbrev pub served_by : Text → List Row → Option Command
+served_by name rows =
+    if bytes_eq name (codes "sequencer") then sequencer_in rows
+    else if bytes_eq name (codes "controller") then controller_in rows
+    else if bytes_eq name (codes "client") then client_in rows
+    else if bytes_eq name (codes "cluster") then cluster_in rows
+    else None
+
 -- by the name of a subcommand and its matches
 abbrev pub command_by : Text → List Row → Option Command
 command_by name rows =
     if bytes_eq name (codes "replay") then Some Replay
     else if bytes_eq name (codes "gen") then gen_in rows
     else if bytes_eq name (codes "node") then node_in rows
-    else if bytes_eq name (codes "sequencer") then sequencer_in rows
-    else if bytes_eq name (codes "controller") then controller_in rows
-    else if bytes_eq name (codes "client") then client_in rows
-    else if bytes_eq name (codes "cluster") then cluster_in rows
-    else None
+    else served_by name rows
 
 abbrev pub command_from : Option (Text × List Row) → Option Command
 command_from None = None

@@ -13,7 +13,7 @@ pub struct Site {
 #[derive(Debug, Drop)]
 pub enum Command {
     Replay,
-    /// A schedule that is drawn from this number, with so many events.
+    /// A schedule that is drawn from this number, and its count of events.
     Gen(u64, u32),
     /// A replica with this number.
     Node(u8, Site),

@@ -9,8 +9,12 @@ fn digit(most: u64, n: u64, d: u8) -> Option<u64>
     if !(b'0'..=b'9').contains(&d) {
         return None;
     }
-    let n = n.checked_mul(10)?.checked_add(u64::from(d - b'0'))?;
-    if n <= most { Some(n) } else { None }
+    let n = u128::from(n) * 10 + u128::from(d - b'0');
+    if n <= u128::from(most) {
+        Some(n as u64)
+    } else {
+        None
+    }
 }
 
 fn digits(most: u64, text: &[u8]) -> Option<u64>
@@ -38,6 +42,8 @@ pub(crate) fn number(text: &str, least: u64, most: u64) -> Option<u64>
     if bytes.is_empty() {
         return None;
     }
-    let n = digits(most, bytes)?;
-    if least <= n { Some(n) } else { None }
+    match digits(most, bytes) {
+        Some(n) if least <= n => Some(n),
+        _ => None,
+    }
 }

@@ -1,7 +1,7 @@
 //! Ops in hexadecimal.
 
-ghost use Rattle.std.specs.Prelude.{◌≡◌, IfOk, [], map, option_map};
-ghost use Rattle.command_line.specs.Commands.{op_of, ops_on, ops_of};
+ghost use Rattle.std.specs.Prelude.{◌≡◌, IfOk, [], map};
+ghost use Rattle.command_line.specs.Commands.{op_of, ops_on, ops_of, texts_in};
 
 use nop_types::{MAX_OP_BYTES, NoMemory, Op};
 use std::alloc::Global;
@@ -62,8 +62,7 @@ fn each_op(alloc: Global, texts: &[&str]) -> Result<Option<Ops>, NoMemory>
 
 /// Each text as an op. None where there are no texts, or one is no op.
 pub(crate) fn read_ops(alloc: Global, texts: Option<&[&str]>) -> Result<Option<Ops>, NoMemory>
-    ensures { IfOk result (λ ops. ops ≡ ops_of (option_map (λ s. map (λ t. t.now) s.now)
-        texts.entry)) }
+    ensures { IfOk result (λ ops. ops ≡ ops_of (texts_in texts.entry)) }
 {
     match texts {
         Some(texts) => each_op(alloc, texts),

@@ -1,8 +1,8 @@
 //! The values of options.
 
 ghost use Rattle.std.specs.Prelude.{◌≡◌, ◌≤◌, IfSome, codes};
-ghost use Rattle.clap.specs.Words.{found_of, rows_of, first_of};
-ghost use Rattle.command_line.specs.Commands.{value_of, choice_of, site_by, site_of, cluster_site_of};
+ghost use Rattle.clap.specs.Words.{all_of, found_of, rows_of, first_of};
+ghost use Rattle.command_line.specs.Commands.{value_of, choice_of, texts_in, site_by, site_of, cluster_site_of};
 
 use crate::command::Site;
 use crate::number::number;
@@ -37,8 +37,10 @@ fn value(
 pub(crate) fn small(matches: &ArgMatches<'_>, name: &str) -> Option<u8>
     ensures { result ≡ value_of (rows_of (found_of matches.now)) name.now None 0 255 }
 {
-    let n = value(matches, name, None, 0, 255)?;
-    Some(n as u8)
+    match value(matches, name, None, 0, 255) {
+        Some(n) => Some(n as u8),
+        None => None,
+    }
 }
 
 /// A number of 32 bits.
@@ -54,8 +56,10 @@ pub(crate) fn medium(
         least 4294967295 }
     ensures least { IfSome result (λ n. least ≤ n) }
 {
-    let n = value(matches, name, default, least, 4_294_967_295)?;
-    Some(n as u32)
+    match value(matches, name, default, least, 4_294_967_295) {
+        Some(n) => Some(n as u32),
+        None => None,
+    }
 }
 
 /// The number of a drawn schedule.
@@ -73,8 +77,10 @@ pub(crate) fn count_drawn(matches: &ArgMatches<'_>) -> Option<u32>
     ensures least { IfSome result (λ n. 1 ≤ n) }
     ensures limit { IfSome result (λ n. n ≤ 100000) }
 {
-    let n = value(matches, "count", None, 1, 100_000)?;
-    Some(n as u32)
+    match value(matches, "count", None, 1, 100_000) {
+        Some(n) => Some(n as u32),
+        None => None,
+    }
 }
 
 fn base(matches: &ArgMatches<'_>) -> Option<u16>
@@ -82,8 +88,10 @@ fn base(matches: &ArgMatches<'_>) -> Option<u16>
         (Some 41000) 1024 65000 }
     ensures limit { IfSome result (λ n. n ≤ 65000) }
 {
-    let n = value(matches, "base", Some(41000), 1024, 65000)?;
-    Some(n as u16)
+    match value(matches, "base", Some(41000), 1024, 65000) {
+        Some(n) => Some(n as u16),
+        None => None,
+    }
 }
 
 /// The most turns, which are as many as can be where the option is left out.
@@ -109,6 +117,13 @@ pub(crate) fn choice(matches: &ArgMatches<'_>, name: &str) -> Option<Option<u8>>
     }
 }
 
+/// The texts of ops.
+pub(crate) fn ops<'m>(matches: &'m ArgMatches<'_>) -> Option<&'m [&'m str]>
+    ensures { texts_in result ≡ all_of (codes "ops") (rows_of (found_of matches.now)) }
+{
+    matches.get_strs("ops")
+}
+
 fn site_by(
     replicas: Option<u8>,
     sequencers: Option<u8>,
@@ -120,11 +135,11 @@ fn site_by(
     ensures value { result ≡ site_by replicas sequencers clients base turns }
     ensures base { IfSome result (λ s. s.base ≤ 65000) }
 {
-    let replicas = replicas?;
-    let sequencers = sequencers?;
-    let clients = clients?;
-    let base = base?;
-    let turns = turns?;
+    let (Some(replicas), Some(sequencers), Some(clients), Some(base), Some(turns)) = (
+        replicas, sequencers, clients, base, turns,
+    ) else {
+        return None;
+    };
     match Config::new(replicas, sequencers, clients) {
         Some(config) => Some(Site {
             config,

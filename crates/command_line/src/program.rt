@@ -1,12 +1,84 @@
 //! The program's command line, as clap takes it.
 
 ghost use Rattle.std.specs.Prelude.{◌≡◌, IfOk, false, codes};
-ghost use Rattle.clap.specs.Words.{app_of, rule_of, new_app};
+ghost use Rattle.clap.specs.Words.{app_of, rule_of, new_app, with_rule};
 ghost use Rattle.clap.specs.declared.builder.command.Command.TheViews.{out-Command};
-ghost use Rattle.command_line.specs.Program.{option_rule, value_rule, ops_rule, gen_app, site_app, member_app, controller_app, client_app, cluster_app, with_replay, with_gen, with_node, with_sequencer, with_controller, with_client, program_app};
+ghost use Rattle.command_line.specs.Program.{option_rule, value_rule, ops_rule, program_app};
+ghost use Rattle.command_line.specs.Rows.{HasApp, rule_for, with_words, row_app, with_row, with_rows};
 
 use clap::{Arg, Command};
 use std::alloc::{AllocError, Global};
+
+/// What a command takes.
+#[derive(Clone, Copy)]
+enum Word<'a> {
+    /// An option with a value.
+    Required(&'a str),
+    /// An option with a value, which may be left out.
+    Optional(&'a str),
+    /// A value without a name.
+    Value(&'a str),
+    /// From 1 to 64 ops.
+    Ops,
+}
+
+/// A command's name and what it takes: what it shares with others, and what is its own.
+#[derive(Clone, Copy)]
+struct Row<'a> {
+    name: &'a str,
+    shared: &'a [Word<'a>],
+    own: &'a [Word<'a>],
+}
+
+/// The number of a replica, a sequencer or a client.
+const ID: Word<'static> = Word::Required("id");
+
+/// The options of a node and of a cluster.
+const SITE: &[Word<'static>] = &[
+    Word::Required("replicas"),
+    Word::Required("sequencers"),
+    Word::Optional("base"),
+    Word::Optional("turns"),
+];
+
+/// The commands.
+const COMMANDS: &[Row<'static>] = &[
+    Row {
+        name: "replay",
+        shared: &[],
+        own: &[],
+    },
+    Row {
+        name: "gen",
+        shared: &[],
+        own: &[Word::Value("number"), Word::Value("count")],
+    },
+    Row {
+        name: "node",
+        shared: SITE,
+        own: &[ID],
+    },
+    Row {
+        name: "sequencer",
+        shared: SITE,
+        own: &[ID],
+    },
+    Row {
+        name: "controller",
+        shared: SITE,
+        own: &[Word::Optional("session"), Word::Optional("install")],
+    },
+    Row {
+        name: "client",
+        shared: SITE,
+        own: &[ID, Word::Ops],
+    },
+    Row {
+        name: "cluster",
+        shared: SITE,
+        own: &[Word::Required("clients"), Word::Ops],
+    },
+];
 
 fn option<'a>(alloc: Global, name: &'a str, required: bool) -> Arg<'a>
     ensures rule { rule_of result ≡ option_rule name.entry.now required }
@@ -29,124 +101,86 @@ fn ops<'a>(alloc: Global) -> Arg<'a>
     Arg::new(alloc, "ops").required(true).num_args(1..=64usize)
 }
 
-fn replay<'a>(alloc: Global) -> Command<'a>
-    ensures app { app_of result ≡ new_app (codes "replay") }
-    ensures local { (out-Command result).has_globals ≡ false }
+fn arg<'a>(alloc: Global, word: Word<'a>) -> Arg<'a>
+    ensures rule { rule_of result ≡ rule_for word.entry }
+    ensures local { result.global ≡ false }
 {
-    Command::new(alloc, "replay")
+    match word {
+        Word::Required(name) => option(alloc, name, true),
+        Word::Optional(name) => option(alloc, name, false),
+        Word::Value(name) => value(alloc, name),
+        Word::Ops => ops(alloc),
+    }
 }
 
-#[tactic(auto, unfolding(crate::specs::Program::gen_app))]
-fn generate<'a>(alloc: Global) -> Result<Command<'a>, AllocError>
-    ensures app { IfOk result (λ c. app_of c ≡ gen_app) }
-    ensures local { IfOk result (λ c. (out-Command c).has_globals ≡ false) }
+fn with_word<'a>(
+    alloc: Global,
+    command: Command<'a>,
+    word: Word<'a>,
+) -> Result<Command<'a>, AllocError>
+    requires { (out-Command command).has_globals ≡ false }
+    ensures { IfOk result (HasApp (with_rule (app_of command.entry) (rule_for word.entry))) }
 {
-    Command::new(alloc, "gen")
-        .arg(value(alloc, "number"))?
-        .arg(value(alloc, "count"))
+    command.arg(arg(alloc, word))
 }
 
-#[tactic(auto, unfolding(crate::specs::Program::site_app))]
-fn site<'a>(alloc: Global, name: &'a str) -> Result<Command<'a>, AllocError>
-    ensures app { IfOk result (λ c. app_of c ≡ site_app name.entry.now) }
-    ensures local { IfOk result (λ c. (out-Command c).has_globals ≡ false) }
+fn with_words<'a>(
+    alloc: Global,
+    command: Command<'a>,
+    words: &[Word<'a>],
+) -> Result<Command<'a>, AllocError>
+    requires { (out-Command command).has_globals ≡ false }
+    ensures { IfOk result (HasApp (with_words (app_of command.entry) words.now)) }
 {
-    Command::new(alloc, name)
-        .arg(option(alloc, "replicas", true))?
-        .arg(option(alloc, "sequencers", true))?
-        .arg(option(alloc, "base", false))?
-        .arg(option(alloc, "turns", false))
+    let mut command = command;
+    for word in words {
+        match with_word(alloc, command, *word) {
+            Ok(more) => command = more,
+            Err(e) => return Err(e),
+        }
+    }
+    Ok(command)
 }
 
-#[tactic(auto, unfolding(crate::specs::Program::member_app))]
-fn member<'a>(alloc: Global, name: &'a str) -> Result<Command<'a>, AllocError>
-    ensures app { IfOk result (λ c. app_of c ≡ member_app name.entry.now) }
-    ensures local { IfOk result (λ c. (out-Command c).has_globals ≡ false) }
+fn command<'a>(alloc: Global, row: Row<'a>) -> Result<Command<'a>, AllocError>
+    ensures { IfOk result (HasApp (row_app row.entry)) }
 {
-    site(alloc, name)?.arg(option(alloc, "id", true))
+    match with_words(alloc, Command::new(alloc, row.name), row.shared) {
+        Ok(command) => with_words(alloc, command, row.own),
+        Err(e) => Err(e),
+    }
 }
 
-#[tactic(auto, unfolding(crate::specs::Program::controller_app))]
-fn controller<'a>(alloc: Global) -> Result<Command<'a>, AllocError>
-    ensures app { IfOk result (λ c. app_of c ≡ controller_app) }
-    ensures local { IfOk result (λ c. (out-Command c).has_globals ≡ false) }
+fn with_row<'a>(
+    alloc: Global,
+    program: Command<'a>,
+    row: Row<'a>,
+) -> Result<Command<'a>, AllocError>
+    requires { (out-Command program).has_globals ≡ false }
+    ensures { IfOk result (HasApp (with_row (app_of program.entry) row.entry)) }
 {
-    site(alloc, "controller")?
-        .arg(option(alloc, "session", false))?
-        .arg(option(alloc, "install", false))
+    match command(alloc, row) {
+        Ok(command) => program.subcommand(command),
+        Err(e) => Err(e),
+    }
 }
 
-#[tactic(auto, unfolding(crate::specs::Program::client_app))]
-fn client<'a>(alloc: Global) -> Result<Command<'a>, AllocError>
-    ensures app { IfOk result (λ c. app_of c ≡ client_app) }
-    ensures local { IfOk result (λ c. (out-Command c).has_globals ≡ false) }
+fn with_rows<'a>(alloc: Global, name: &'a str, rows: &[Row<'a>]) -> Result<Command<'a>, AllocError>
+    ensures { IfOk result (HasApp (with_rows (new_app name.entry.now) rows.now)) }
 {
-    member(alloc, "client")?.arg(ops(alloc))
-}
-
-#[tactic(auto, unfolding(crate::specs::Program::cluster_app))]
-fn cluster<'a>(alloc: Global) -> Result<Command<'a>, AllocError>
-    ensures app { IfOk result (λ c. app_of c ≡ cluster_app) }
-    ensures local { IfOk result (λ c. (out-Command c).has_globals ≡ false) }
-{
-    site(alloc, "cluster")?
-        .arg(option(alloc, "clients", true))?
-        .arg(ops(alloc))
-}
-
-#[tactic(auto, unfolding(crate::specs::Program::with_replay))]
-fn with_replay<'a>(alloc: Global) -> Result<Command<'a>, AllocError>
-    ensures app { IfOk result (λ c. app_of c ≡ with_replay) }
-    ensures local { IfOk result (λ c. (out-Command c).has_globals ≡ false) }
-{
-    Command::new(alloc, "nopaxos").subcommand(replay(alloc))
-}
-
-#[tactic(auto, unfolding(crate::specs::Program::with_gen))]
-fn with_gen<'a>(alloc: Global) -> Result<Command<'a>, AllocError>
-    ensures app { IfOk result (λ c. app_of c ≡ with_gen) }
-    ensures local { IfOk result (λ c. (out-Command c).has_globals ≡ false) }
-{
-    with_replay(alloc)?.subcommand(generate(alloc)?)
-}
-
-#[tactic(auto, unfolding(crate::specs::Program::with_node))]
-fn with_node<'a>(alloc: Global) -> Result<Command<'a>, AllocError>
-    ensures app { IfOk result (λ c. app_of c ≡ with_node) }
-    ensures local { IfOk result (λ c. (out-Command c).has_globals ≡ false) }
-{
-    with_gen(alloc)?.subcommand(member(alloc, "node")?)
-}
-
-#[tactic(auto, unfolding(crate::specs::Program::with_sequencer))]
-fn with_sequencer<'a>(alloc: Global) -> Result<Command<'a>, AllocError>
-    ensures app { IfOk result (λ c. app_of c ≡ with_sequencer) }
-    ensures local { IfOk result (λ c. (out-Command c).has_globals ≡ false) }
-{
-    with_node(alloc)?.subcommand(member(alloc, "sequencer")?)
-}
-
-#[tactic(auto, unfolding(crate::specs::Program::with_controller))]
-fn with_controller<'a>(alloc: Global) -> Result<Command<'a>, AllocError>
-    ensures app { IfOk result (λ c. app_of c ≡ with_controller) }
-    ensures local { IfOk result (λ c. (out-Command c).has_globals ≡ false) }
-{
-    with_sequencer(alloc)?.subcommand(controller(alloc)?)
-}
-
-#[tactic(auto, unfolding(crate::specs::Program::with_client))]
-fn with_client<'a>(alloc: Global) -> Result<Command<'a>, AllocError>
-    ensures app { IfOk result (λ c. app_of c ≡ with_client) }
-    ensures local { IfOk result (λ c. (out-Command c).has_globals ≡ false) }
-{
-    with_controller(alloc)?.subcommand(client(alloc)?)
+    let mut program = Command::new(alloc, name);
+    for row in rows {
+        match with_row(alloc, program, *row) {
+            Ok(more) => program = more,
+            Err(e) => return Err(e),
+        }
+    }
+    Ok(program)
 }
 
 /// The program, with a subcommand for each command.
-#[tactic(auto, unfolding(crate::specs::Program::program_app))]
 pub(crate) fn program<'a>(alloc: Global) -> Result<Command<'a>, AllocError>
-    ensures app { IfOk result (λ c. app_of c ≡ program_app) }
-    ensures local { IfOk result (λ c. (out-Command c).has_globals ≡ false) }
+    ensures { IfOk result (HasApp program_app) }
 {
-    with_client(alloc)?.subcommand(cluster(alloc)?)
+    with_rows(alloc, "nopaxos", COMMANDS)
 }

@@ -1,10 +1,11 @@
 ghost use Rattle.std.specs.Prelude.{◌≡◌, ◌≤◌, IfOk, IfSome, MatchOption};
-ghost use Rattle.clap.specs.Words.{found_of, rows_of, subcommand_rows_of};
-ghost use Rattle.command_line.specs.Commands.{IsFit, gen_by, gen_in, node_by, node_in, sequencer_by, sequencer_in, install_by, controller_by, controller_in, client_by, client_in, cluster_by, cluster_in, command_by, command_from, command_of, texts_of, IsRefused, HasFound};
+ghost use Rattle.clap.specs.Words.{app_of, found_of, rows_of, subcommand_rows_of};
+ghost use Rattle.command_line.specs.Program.{program_app};
+ghost use Rattle.command_line.specs.Commands.{IsFit, gen_by, gen_in, node_by, node_in, sequencer_by, sequencer_in, install_by, controller_by, controller_in, client_by, client_in, cluster_by, cluster_in, ops_of, texts_in, served_by, command_by, command_from, command_of, texts_of, IsRefused, HasFound};
 
 use crate::command::{Command, Site};
-use crate::ops::{Ops, read_ops};
-use crate::options::{choice, cluster_site, count_drawn, medium, number_drawn, site, small};
+use crate::ops::read_ops;
+use crate::options::{choice, cluster_site, count_drawn, medium, number_drawn, ops, site, small};
 use crate::program::program;
 use clap::ArgMatches;
 use clap::error::ErrorKind;
@@ -17,9 +18,10 @@ fn gen_by(number: Option<u64>, count: Option<u32>) -> Option<Command>
     ensures value { result ≡ gen_by number count }
     ensures fits { IfSome result IsFit }
 {
-    let number = number?;
-    let count = count?;
-    Some(Command::Gen(number, count))
+    match (number, count) {
+        (Some(number), Some(count)) => Some(Command::Gen(number, count)),
+        _ => None,
+    }
 }
 
 fn generate(matches: &ArgMatches<'_>) -> Option<Command>
@@ -34,12 +36,9 @@ fn node_by(id: Option<u8>, site: Option<Site>) -> Option<Command>
     ensures value { result ≡ node_by id site }
     ensures fits { IfSome result IsFit }
 {
-    let id = id?;
-    let site = site?;
-    if id < site.config.replicas() {
-        Some(Command::Node(id, site))
-    } else {
-        None
+    match (id, site) {
+        (Some(id), Some(site)) if id < site.config.replicas() => Some(Command::Node(id, site)),
+        _ => None,
     }
 }
 
@@ -55,12 +54,11 @@ fn sequencer_by(id: Option<u8>, site: Option<Site>) -> Option<Command>
     ensures value { result ≡ sequencer_by id site }
     ensures fits { IfSome result IsFit }
 {
-    let id = id?;
-    let site = site?;
-    if id < site.config.sequencers() {
-        Some(Command::Sequencer(id, site))
-    } else {
-        None
+    match (id, site) {
+        (Some(id), Some(site)) if id < site.config.sequencers() => {
+            Some(Command::Sequencer(id, site))
+        }
+        _ => None,
     }
 }
 
@@ -78,14 +76,8 @@ fn install_by(site: Site, session: u32, install: Option<u8>) -> Option<Command>
     ensures fits { IfSome result IsFit }
 {
     match install {
-        Some(j) => {
-            if j < site.config.sequencers() {
-                Some(Command::Controller(site, session, Some(j)))
-            } else {
-                None
-            }
-        }
-        None => Some(Command::Controller(site, session, None)),
+        Some(j) if j >= site.config.sequencers() => None,
+        _ => Some(Command::Controller(site, session, install)),
     }
 }
 
@@ -99,10 +91,10 @@ fn controller_by(
     ensures value { result ≡ controller_by site session install }
     ensures fits { IfSome result IsFit }
 {
-    let site = site?;
-    let session = session?;
-    let install = install?;
-    install_by(site, session, install)
+    match (site, session, install) {
+        (Some(site), Some(session), Some(install)) => install_by(site, session, install),
+        _ => None,
+    }
 }
 
 fn controller(matches: &ArgMatches<'_>) -> Option<Command>
@@ -116,41 +108,68 @@ fn controller(matches: &ArgMatches<'_>) -> Option<Command>
     )
 }
 
-fn client_by(id: Option<u32>, site: Option<Site>, ops: Option<Ops>) -> Option<Command>
-    requires { IfSome site (λ s. s.base ≤ 65000) }
-    ensures value { result ≡ client_by id site ops }
-    ensures fits { IfSome result IsFit }
+fn client_by(
+    alloc: Global,
+    id: u32,
+    site: Site,
+    ops: Option<&[&str]>,
+) -> Result<Option<Command>, NoMemory>
+    requires { site.base ≤ 65000 }
+    ensures value { IfOk result (λ c.
+        c ≡ client_by (Some id) (Some site) (ops_of (texts_in ops.entry))) }
+    ensures fits { IfOk result (λ c. IfSome c IsFit) }
 {
-    let id = id?;
-    let site = site?;
-    let ops = ops?;
-    Some(Command::Client(id, site, ops))
+    match read_ops(alloc, ops) {
+        Ok(Some(ops)) => Ok(Some(Command::Client(id, site, ops))),
+        Ok(None) => Ok(None),
+        Err(e) => Err(e),
+    }
 }
 
 fn client(alloc: Global, matches: &ArgMatches<'_>) -> Result<Option<Command>, NoMemory>
     ensures value { IfOk result (λ c. c ≡ client_in (rows_of (found_of matches.now))) }
     ensures fits { IfOk result (λ c. IfSome c IsFit) }
 {
-    let ops = read_ops(alloc, matches.get_strs("ops"))?;
-    Ok(client_by(medium(matches, "id", None, 0), site(matches), ops))
+    match (medium(matches, "id", None, 0), site(matches)) {
+        (Some(id), Some(site)) => client_by(alloc, id, site, ops(matches)),
+        _ => Ok(None),
+    }
 }
 
-fn cluster_by(site: Option<Site>, ops: Option<Ops>) -> Option<Command>
-    requires { IfSome site (λ s. s.base ≤ 65000) }
-    ensures value { result ≡ cluster_by site ops }
-    ensures fits { IfSome result IsFit }
+fn cluster_by(alloc: Global, site: Site, ops: Option<&[&str]>) -> Result<Option<Command>, NoMemory>
+    requires { site.base ≤ 65000 }
+    ensures value { IfOk result (λ c. c ≡ cluster_by (Some site) (ops_of (texts_in ops.entry))) }
+    ensures fits { IfOk result (λ c. IfSome c IsFit) }
 {
-    let site = site?;
-    let ops = ops?;
-    Some(Command::Cluster(site, ops))
+    match read_ops(alloc, ops) {
+        Ok(Some(ops)) => Ok(Some(Command::Cluster(site, ops))),
+        Ok(None) => Ok(None),
+        Err(e) => Err(e),
+    }
 }
 
 fn cluster(alloc: Global, matches: &ArgMatches<'_>) -> Result<Option<Command>, NoMemory>
     ensures value { IfOk result (λ c. c ≡ cluster_in (rows_of (found_of matches.now))) }
     ensures fits { IfOk result (λ c. IfSome c IsFit) }
 {
-    let ops = read_ops(alloc, matches.get_strs("ops"))?;
-    Ok(cluster_by(cluster_site(matches), ops))
+    match cluster_site(matches) {
+        Some(site) => cluster_by(alloc, site, ops(matches)),
+        None => Ok(None),
+    }
+}
+
+/// The command of a node's or the cluster's name and its matches.
+fn served(alloc: Global, name: &str, matches: &ArgMatches<'_>) -> Result<Option<Command>, NoMemory>
+    ensures value { IfOk result (λ c. c ≡ served_by name.now (rows_of (found_of matches.now))) }
+    ensures fits { IfOk result (λ c. IfSome c IsFit) }
+{
+    match name {
+        "sequencer" => Ok(sequencer(matches)),
+        "controller" => Ok(controller(matches)),
+        "client" => client(alloc, matches),
+        "cluster" => cluster(alloc, matches),
+        _ => Ok(None),
+    }
 }
 
 /// The command of a subcommand's name and its matches.
@@ -158,36 +177,23 @@ fn command(alloc: Global, name: &str, matches: &ArgMatches<'_>) -> Result<Option
     ensures value { IfOk result (λ c. c ≡ command_by name.now (rows_of (found_of matches.now))) }
     ensures fits { IfOk result (λ c. IfSome c IsFit) }
 {
-    if name == "replay" {
-        return Ok(Some(Command::Replay));
+    match name {
+        "replay" => Ok(Some(Command::Replay)),
+        "gen" => Ok(generate(matches)),
+        "node" => Ok(node(matches)),
+        _ => served(alloc, name, matches),
     }
-    if name == "gen" {
-        return Ok(generate(matches));
-    }
-    if name == "node" {
-        return Ok(node(matches));
-    }
-    if name == "sequencer" {
-        return Ok(sequencer(matches));
-    }
-    if name == "controller" {
-        return Ok(controller(matches));
-    }
-    if name == "client" {
-        return client(alloc, matches);
-    }
-    if name == "cluster" {
-        return cluster(alloc, matches);
-    }
-    Ok(None)
 }
 
-/// What clap finds in the words. None where it finds something wrong.
-fn matches_of<'a>(alloc: Global, words: &'a [String]) -> Result<Option<ArgMatches<'a>>, NoMemory>
+/// What clap finds in the words for the program. None where it finds something wrong.
+fn parse<'a>(
+    program: clap::Command<'a>,
+    words: &'a [String],
+) -> Result<Option<ArgMatches<'a>>, NoMemory>
+    requires { app_of program ≡ program_app }
     ensures { IfOk result (λ o. MatchOption o (IsRefused (texts_of words.entry.now))
         (λ m. HasFound (texts_of words.entry.now) (subcommand_rows_of m))) }
 {
-    let program = program(alloc)?;
     match program.try_get_matches_from(words) {
         Ok(matches) => Ok(Some(matches)),
         Err(e) => {
@@ -197,6 +203,17 @@ fn matches_of<'a>(alloc: Global, words: &'a [String]) -> Result<Option<ArgMatche
                 Ok(None)
             }
         }
+    }
+}
+
+/// What clap finds in the words. None where it finds something wrong.
+fn matches_of<'a>(alloc: Global, words: &'a [String]) -> Result<Option<ArgMatches<'a>>, NoMemory>
+    ensures { IfOk result (λ o. MatchOption o (IsRefused (texts_of words.entry.now))
+        (λ m. HasFound (texts_of words.entry.now) (subcommand_rows_of m))) }
+{
+    match program(alloc) {
+        Ok(program) => parse(program, words),
+        Err(_) => Err(NoMemory),
     }
 }
 
@@ -216,8 +233,9 @@ pub fn read_words(alloc: Global, words: &[String]) -> Result<Option<Command>, No
     ensures value { IfOk result (λ c. c ≡ command_of (texts_of words.now)) }
     ensures fits { IfOk result (λ c. IfSome c IsFit) }
 {
-    match matches_of(alloc, words)? {
-        Some(matches) => command_found(alloc, &matches),
-        None => Ok(None),
+    match matches_of(alloc, words) {
+        Ok(Some(matches)) => command_found(alloc, &matches),
+        Ok(None) => Ok(None),
+        Err(e) => Err(e),
     }
 }

@@ -1,11 +1,11 @@
 -- The table behind the key-value service: a place for each key that was ever written, with its value or without one.
-use Rattle.std.specs.Prelude.{ℕ, List, [], ◌∷◌, Option, Some, None, map, slice_get, IsTrue, ⊤}
+use Rattle.std.specs.Prelude.{◌≡◌, ℕ, ◌<◌, List, [], ◌∷◌, Option, Some, None, map, slice_get, IsTrue, ⊤}
 use Rattle.std.specs.Ordering.{nat_cmp}
 use Rattle.std.specs.Option.{option_map_or}
 use Rattle.std.specs.Cmp.Lexicographic.{slice_cmp}
 use Rattle.std.specs.FinMap as finite
 use Rattle.std.specs.Global.{Vec}
-use Rattle.indexmap.specs.IndexMap.{IndexMap}
+use Rattle.indexmap.specs.IndexMap.{IndexMap, index_map_len}
 use Rattle.kv_host.specs.declared.undo.KvUndo.{KvUndo}
 use Rattle.kv_host.specs.Kv.{Kv, with_value}
 
@@ -39,3 +39,8 @@ module _ {S : Type 0} where
   -- the key of the place with this number
   abbrev pub key_of : IndexMap (Vec ℕ) (Option (List ℕ)) S → ℕ → List ℕ
   key_of table index = option_map_or (λ e. e.0.items) (slice_get table.entries index) []
+
+  -- the key has the place with this number, or none
+  abbrev pub IsPlaceOf : IndexMap (Vec ℕ) (Option (List ℕ)) S → List ℕ → Option ℕ → Type 0
+  IsPlaceOf table key None = finite.get (places table) key ≡ None
+  IsPlaceOf table key (Some index) = (index < index_map_len table) × (key_of table index ≡ key)

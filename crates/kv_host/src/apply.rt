@@ -1,19 +1,24 @@
-ghost use Rattle.std.specs.Prelude.{◌≡◌, ◌<◌, ◌≤◌, length, Some, None, IfOk, OnOk, OnErr};
-ghost use Rattle.std.specs.Option.{option_copied};
+ghost use Rattle.std.specs.Prelude.{◌≡◌, ◌≤◌, length, Some, None, IfOk, OnErr, codes, nat_eq};
+ghost use Rattle.std.specs.Option.{option_copied, option_eq};
+ghost use Rattle.std.specs.Cmp.Lexicographic.{pointwise};
 ghost use Rattle.std.specs.FinMap as finite;
-ghost use Rattle.indexmap.specs.IndexMap.{index_map_len};
-ghost use Rattle.kv_host.specs.declared.undo.KvUndo.{KvUndo};
 ghost use Rattle.kv_host.specs.Op.{Get, Put, Delete, Swap};
-ghost use Rattle.kv_host.specs.Kv.{shown, with_value, answer_to};
-ghost use Rattle.kv_host.specs.Done.{IsDone};
-ghost use Rattle.kv_host.specs.Places.{places, values_of, key_of, HasPlace};
+ghost use Rattle.kv_host.specs.Spelling.{OpFits};
+ghost use Rattle.kv_host.specs.View.{op_of};
+ghost use Rattle.kv_host.specs.Kv.{shown};
+ghost use Rattle.kv_host.specs.Done.{IsDone, IsWritten, IsCleared};
+ghost use Rattle.kv_host.specs.Places.{places, HasPlace, IsPlaceOf};
 
 use crate::key::KvKey;
-use crate::table::{Table, find, insert, replace};
+use crate::op::KvOp;
+use crate::table::{Table, look_up, replace, write};
 use crate::undo::KvUndo;
 use crate::value::KvValue;
 use nop_types::{Bytes, MAX_KEY_BYTES, MAX_VALUE_BYTES, NoMemory};
 use std::alloc::Global;
+
+/// What an op answers, and what undoes it.
+pub type Done = Result<(Bytes, Option<KvUndo>), NoMemory>;
 
 /// `=` and the value, or `none`.
 fn show(alloc: Global, value: Option<&KvValue>) -> Result<Bytes, NoMemory>
@@ -32,144 +37,166 @@ fn show(alloc: Global, value: Option<&KvValue>) -> Result<Bytes, NoMemory>
     }
 }
 
-/// Writes into the place of a key, and says how to undo it.
-#[tactic(auto, using(crate::proofs::PlacesLemmas::place_writes))]
-fn write(table: &mut Table, index: usize, key: &[u8], value: Option<KvValue>) -> Option<KvUndo>
-    requires within { index < index_map_len table.old }
-    requires key { key_of table.old index ≡ key.now }
-    requires short { length key.now ≤ MAX_KEY_BYTES }
-    ensures after { values_of (places table.new) ≡ with_value (values_of (places table.old))
-        key.now value }
-    ensures undo { result
-        ≡ Some
-        (record { key = key.now; value = finite.get (values_of (places table.old)) key.now }) }
-    ensures fits { HasPlace (places table.new) result }
-    ensures still_fits { (u : _) → HasPlace (places table.old) u →
-        HasPlace (places table.new) u }
+/// The value is this one.
+fn is_same(value: Option<&KvValue>, other: &[u8]) -> bool
+    ensures { result ≡ option_eq (pointwise nat_eq) (option_copied value.entry) (Some other.now) }
 {
-    Some(KvUndo {
-        key: KvKey::new(key),
-        value: replace(table, index, value),
-    })
+    match value {
+        Some(value) => value.as_slice() == other,
+        None => false,
+    }
 }
 
-/// Writes a value at a key that has no place, and says how to undo it.
+/// An answer of an op that changes nothing.
+fn say(alloc: Global, answer: &[u8]) -> Done
+    ensures { IfOk result (λ r. (r.0 ≡ answer.now) × (r.1 ≡ None)) }
+{
+    match Bytes::new(alloc, answer) {
+        Ok(answer) => Ok((answer, None)),
+        Err(e) => Err(e),
+    }
+}
+
+/// Gives a key a value, and says how to undo it, with the answer that was made before.
 #[tactic(auto, using(crate::proofs::PlacesLemmas::place_writes))]
-fn add(
+fn set(
     alloc: Global,
     table: &mut Table,
+    place: Option<usize>,
     key: &[u8],
-    value: KvValue,
-) -> Result<Option<KvUndo>, NoMemory>
-    requires absent { finite.get (places table.old) key.now ≡ None }
-    requires short { length key.now ≤ MAX_KEY_BYTES }
-    ensures after { OnOk result (values_of (places table.new)
-        ≡ finite.insert (values_of (places table.old)) key.now value) }
-    ensures undo { IfOk result (λ u. u
-        ≡ Some (record {
-          key = key.now;
-          value = finite.get (values_of (places table.old)) key.now;
-        })) }
-    ensures fits { IfOk result (HasPlace (places table.new)) }
-    ensures still_fits { (u : _) → HasPlace (places table.old) u →
-        HasPlace (places table.new) u }
+    value: &[u8],
+    answer: Bytes,
+) -> Done
+    requires place { IsPlaceOf table.old key.now place }
+    requires key { length key.now ≤ MAX_KEY_BYTES }
+    requires value { length value.now ≤ MAX_VALUE_BYTES }
+    ensures answer { IfOk result (λ r. r.0 ≡ answer) }
+    ensures ok { IfOk result (λ r. IsWritten (places table.old) (places table.new) key.now
+        value.now r.1) }
     ensures err { OnErr result (places table.new ≡ places table.old) }
 {
-    insert(alloc, table, key, value)?;
-    Ok(Some(KvUndo {
+    let value = KvValue::new(alloc, value)?;
+    let former = write(alloc, table, place, key, value)?;
+    let undo = KvUndo {
         key: KvKey::new(key),
-        value: None,
-    }))
+        value: former,
+    };
+    Ok((answer, Some(undo)))
+}
+
+/// Takes the value of a key away, and says how to undo it.
+#[tactic(auto, using(crate::proofs::PlacesLemmas::place_writes))]
+fn clear(table: &mut Table, place: Option<usize>, key: &[u8]) -> Option<KvUndo>
+    requires place { IsPlaceOf table.old key.now place }
+    requires key { length key.now ≤ MAX_KEY_BYTES }
+    ensures { IsCleared (places table.old) (places table.new) key.now result }
+{
+    match place {
+        Some(index) => match replace(table, index, None) {
+            Some(value) => Some(KvUndo {
+                key: KvKey::new(key),
+                value: Some(value),
+            }),
+            None => None,
+        },
+        None => None,
+    }
 }
 
 /// Answers with the value of a key.
-#[tactic(auto, using(crate::proofs::PlacesLemmas::place_writes))]
-pub fn get(alloc: Global, table: &Table, key: &[u8]) -> Result<Bytes, NoMemory>
-    ensures answer { IfOk result (λ b. b ≡ answer_to (values_of (places table.now))
-        (Get key.now)) }
-    ensures short { IfOk result (λ b. length b ≤ 257) }
+pub fn get(alloc: Global, table: &Table, key: &[u8]) -> Done
+    ensures { IfOk result (λ r. IsDone (Get key.now) (places table.now) (places table.now) r.0
+        r.1) }
 {
-    match find(table, key) {
-        Some((_index, value)) => show(alloc, value),
-        None => show(alloc, None),
+    let (_place, value) = look_up(table, key);
+    match show(alloc, value) {
+        Ok(answer) => Ok((answer, None)),
+        Err(e) => Err(e),
     }
 }
 
 /// Gives a key a value, and answers with the former value.
-#[tactic(auto, using(crate::proofs::PlacesLemmas::place_writes))]
-pub fn put(
-    alloc: Global,
-    table: &mut Table,
-    key: &[u8],
-    value: &[u8],
-) -> Result<(Bytes, Option<KvUndo>), NoMemory>
+pub fn put(alloc: Global, table: &mut Table, key: &[u8], value: &[u8]) -> Done
     requires key { length key.now ≤ MAX_KEY_BYTES }
     requires value { length value.now ≤ MAX_VALUE_BYTES }
     ensures done { IfOk result (λ r. IsDone (Put key.now value.now) (places table.old)
         (places table.new) r.0 r.1) }
-    ensures still_fits { (u : _) → HasPlace (places table.old) u →
-        HasPlace (places table.new) u }
     ensures err { OnErr result (places table.new ≡ places table.old) }
 {
-    let value = KvValue::new(alloc, value)?;
-    match find(table, key) {
-        Some((index, former)) => {
-            let answer = show(alloc, former)?;
-            Ok((answer, write(table, index, key, Some(value))))
-        }
-        None => {
-            let answer = show(alloc, None)?;
-            Ok((answer, add(alloc, table, key, value)?))
-        }
+    let (place, former) = look_up(table, key);
+    match show(alloc, former) {
+        Ok(answer) => set(alloc, table, place, key, value, answer),
+        Err(e) => Err(e),
     }
 }
 
 /// Takes the value of a key away, and answers with it. A key without one gets no place.
-#[tactic(auto, using(crate::proofs::PlacesLemmas::place_writes))]
-pub fn delete(
-    alloc: Global,
-    table: &mut Table,
-    key: &[u8],
-) -> Result<(Bytes, Option<KvUndo>), NoMemory>
+pub fn delete(alloc: Global, table: &mut Table, key: &[u8]) -> Done
     requires { length key.now ≤ MAX_KEY_BYTES }
     ensures done { IfOk result (λ r. IsDone (Delete key.now) (places table.old)
         (places table.new) r.0 r.1) }
-    ensures still_fits { (u : _) → HasPlace (places table.old) u →
-        HasPlace (places table.new) u }
     ensures err { OnErr result (places table.new ≡ places table.old) }
 {
-    match find(table, key) {
-        Some((index, Some(former))) => {
-            let answer = show(alloc, Some(former))?;
-            Ok((answer, write(table, index, key, None)))
-        }
-        _ => Ok((show(alloc, None)?, None)),
+    let (place, former) = look_up(table, key);
+    match show(alloc, former) {
+        Ok(answer) => Ok((answer, clear(table, place, key))),
+        Err(e) => Err(e),
+    }
+}
+
+/// Gives a key a new value, and answers `yes`.
+fn exchange(alloc: Global, table: &mut Table, place: Option<usize>, key: &[u8], new: &[u8]) -> Done
+    requires place { IsPlaceOf table.old key.now place }
+    requires key { length key.now ≤ MAX_KEY_BYTES }
+    requires value { length new.now ≤ MAX_VALUE_BYTES }
+    ensures answer { IfOk result (λ r. r.0 ≡ codes "yes") }
+    ensures ok { IfOk result (λ r. IsWritten (places table.old) (places table.new) key.now
+        new.now r.1) }
+    ensures err { OnErr result (places table.new ≡ places table.old) }
+{
+    match Bytes::new(alloc, b"yes") {
+        Ok(answer) => set(alloc, table, place, key, new, answer),
+        Err(e) => Err(e),
     }
 }
 
 /// Gives a key a new value where it has the old one, and answers whether it had.
-#[tactic(auto, using(crate::proofs::PlacesLemmas::place_writes))]
-pub fn swap(
-    alloc: Global,
-    table: &mut Table,
-    key: &[u8],
-    old: &[u8],
-    new: &[u8],
-) -> Result<(Bytes, Option<KvUndo>), NoMemory>
+pub fn swap(alloc: Global, table: &mut Table, key: &[u8], old: &[u8], new: &[u8]) -> Done
     requires key { length key.now ≤ MAX_KEY_BYTES }
     requires value { length new.now ≤ MAX_VALUE_BYTES }
     ensures done { IfOk result (λ r. IsDone (Swap key.now old.now new.now) (places table.old)
         (places table.new) r.0 r.1) }
-    ensures still_fits { (u : _) → HasPlace (places table.old) u →
-        HasPlace (places table.new) u }
     ensures err { OnErr result (places table.new ≡ places table.old) }
 {
-    match find(table, key) {
-        Some((index, Some(former))) if former.as_slice() == old => {
-            let answer = Bytes::new(alloc, b"yes")?;
-            let new = KvValue::new(alloc, new)?;
-            Ok((answer, write(table, index, key, Some(new))))
-        }
-        _ => Ok((Bytes::new(alloc, b"no")?, None)),
+    let (place, former) = look_up(table, key);
+    if is_same(former, old) {
+        exchange(alloc, table, place, key, new)
+    } else {
+        say(alloc, b"no")
     }
+}
+
+/// Does an op.
+pub fn apply(alloc: Global, table: &mut Table, op: KvOp<'_>) -> Done
+    requires { OpFits (op_of op) }
+    ensures done { IfOk result (λ r. IsDone (op_of op.entry) (places table.old)
+        (places table.new) r.0 r.1) }
+    ensures err { OnErr result (places table.new ≡ places table.old) }
+{
+    match op {
+        KvOp::Get(key) => get(alloc, table, key),
+        KvOp::Put(key, value) => put(alloc, table, key, value),
+        KvOp::Delete(key) => delete(alloc, table, key),
+        KvOp::Swap(key, old, new) => swap(alloc, table, key, old, new),
+        KvOp::Bad => say(alloc, b"bad"),
+    }
+}
+
+/// Takes an op back.
+pub fn undo(table: &mut Table, undo: KvUndo)
+    requires { HasPlace (places table.old) (Some undo) }
+    ensures { places table.new ≡ finite.insert (places table.old) undo.key undo.value }
+{
+    let (place, _value) = look_up(table, undo.key.as_slice());
+    drop(replace(table, place.unwrap(), undo.value));
 }

@@ -1,6 +1,6 @@
 use crate::apply;
-use crate::op::{KvOp, read};
-use crate::table::{Table, find, replace};
+use crate::op::read;
+use crate::table::Table;
 use crate::undo::KvUndo;
 use indexmap::IndexMap;
 use nop_types::{Bytes, Host, NoMemory};
@@ -66,22 +66,13 @@ impl Host for KvHost {
     }
 
     fn apply(&mut self, op: &[u8]) -> Result<(Bytes, Option<KvUndo>), NoMemory> {
-        let alloc = *self.table.allocator();
-        let table = &mut self.table;
-        match read(op) {
-            KvOp::Get(key) => Ok((apply::get(alloc, table, key)?, None)),
-            KvOp::Put(key, value) => apply::put(alloc, table, key, value),
-            KvOp::Delete(key) => apply::delete(alloc, table, key),
-            KvOp::Swap(key, old, new) => apply::swap(alloc, table, key, old, new),
-            KvOp::Bad => Ok((Bytes::new(alloc, b"bad")?, None)),
-        }
+        apply::apply(*self.table.allocator(), &mut self.table, read(op))
     }
 
     #[tactic(auto, using(crate::proofs::PlacesLemmas::place_writes))]
     fn undo(&mut self, undo: Option<KvUndo>) {
-        if let Some(KvUndo { key, value }) = undo {
-            let (index, _value) = find(&self.table, key.as_slice()).unwrap();
-            drop(replace(&mut self.table, index, value));
+        if let Some(undo) = undo {
+            apply::undo(&mut self.table, undo);
         }
     }
 

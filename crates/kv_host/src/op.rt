@@ -70,35 +70,49 @@ fn at_end<'a>(rest: &[u8], op: KvOp<'a>) -> Option<KvOp<'a>>
 fn get(fields: &[u8]) -> Option<KvOp<'_>>
     ensures { option_map op_of result ≡ read_get fields.now }
 {
-    let (key, rest) = key(fields)?;
-    at_end(rest, KvOp::Get(key))
+    match key(fields) {
+        Some((key, rest)) => at_end(rest, KvOp::Get(key)),
+        None => None,
+    }
 }
 
 #[tactic(auto, unfolding(crate::specs::Op::read_put))]
 fn put(fields: &[u8]) -> Option<KvOp<'_>>
     ensures { option_map op_of result ≡ read_put fields.now }
 {
-    let (key, rest) = key(fields)?;
-    let (value, rest) = value(rest)?;
-    at_end(rest, KvOp::Put(key, value))
+    let Some((key, rest)) = key(fields) else {
+        return None;
+    };
+    match value(rest) {
+        Some((value, rest)) => at_end(rest, KvOp::Put(key, value)),
+        None => None,
+    }
 }
 
 #[tactic(auto, unfolding(crate::specs::Op::read_delete))]
 fn delete(fields: &[u8]) -> Option<KvOp<'_>>
     ensures { option_map op_of result ≡ read_delete fields.now }
 {
-    let (key, rest) = key(fields)?;
-    at_end(rest, KvOp::Delete(key))
+    match key(fields) {
+        Some((key, rest)) => at_end(rest, KvOp::Delete(key)),
+        None => None,
+    }
 }
 
 #[tactic(auto, unfolding(crate::specs::Op::read_swap))]
 fn swap(fields: &[u8]) -> Option<KvOp<'_>>
     ensures { option_map op_of result ≡ read_swap fields.now }
 {
-    let (key, rest) = key(fields)?;
-    let (old, rest) = value(rest)?;
-    let (new, rest) = value(rest)?;
-    at_end(rest, KvOp::Swap(key, old, new))
+    let Some((key, rest)) = key(fields) else {
+        return None;
+    };
+    let Some((old, rest)) = value(rest) else {
+        return None;
+    };
+    match value(rest) {
+        Some((new, rest)) => at_end(rest, KvOp::Swap(key, old, new)),
+        None => None,
+    }
 }
 
 /// The op that the bytes spell.

@@ -1,8 +1,8 @@
-ghost use Rattle.std.specs.Prelude.{◌≡◌, ◌<◌, Some, IfSome, OnOk, OnErr, option_map};
+ghost use Rattle.std.specs.Prelude.{◌≡◌, ◌<◌, Some, None, IfOk, OnOk, OnErr};
 ghost use Rattle.std.specs.Option.{option_copied};
 ghost use Rattle.std.specs.FinMap as finite;
 ghost use Rattle.indexmap.specs.IndexMap.{index_map_len};
-ghost use Rattle.kv_host.specs.Places.{places, key_of};
+ghost use Rattle.kv_host.specs.Places.{places, values_of, key_of, IsPlaceOf};
 
 use crate::value::KvValue;
 use indexmap::IndexMap;
@@ -14,14 +14,14 @@ use std::mem;
 pub type Table = IndexMap<Vec<u8>, Option<KvValue>>;
 
 /// The number of a key's place, and the key's value.
-pub fn find<'a>(table: &'a Table, key: &[u8]) -> Option<(usize, Option<&'a KvValue>)>
-    ensures within { IfSome result (λ p. p.0 < index_map_len table.now) }
-    ensures key { IfSome result (λ p. key_of table.now p.0 ≡ key.now) }
-    ensures value { option_map (λ p. option_copied p.1) result
-        ≡ finite.get (places table.now) key.now }
+pub fn look_up<'a>(table: &'a Table, key: &[u8]) -> (Option<usize>, Option<&'a KvValue>)
+    ensures place { IsPlaceOf table.now key.now result.0 }
+    ensures value { option_copied result.1 ≡ finite.get (values_of (places table.now)) key.now }
 {
-    let (index, _key, value) = table.get_full(key)?;
-    Some((index, value.as_ref()))
+    match table.get_full(key) {
+        Some((index, _key, value)) => (Some(index), value.as_ref()),
+        None => (None, None),
+    }
 }
 
 /// Writes into a place, and gives the value that was there.
@@ -36,11 +36,49 @@ pub fn replace(table: &mut Table, index: usize, value: Option<KvValue>) -> Optio
 }
 
 /// Makes a place for a key, with a value.
-pub fn insert(alloc: Global, table: &mut Table, key: &[u8], value: KvValue) -> Result<(), NoMemory>
+fn insert(table: &mut Table, key: Vec<u8>, value: KvValue) -> Result<(), NoMemory>
+    ensures ok { OnOk result (places table.new ≡ finite.insert (places table.old) key.items
+        (Some value)) }
+    ensures err { OnErr result (places table.new ≡ places table.old) }
+{
+    match table.insert(key, Some(value)) {
+        Ok(_) => Ok(()),
+        Err(_) => Err(NoMemory),
+    }
+}
+
+/// Makes a place for a copy of a key, with a value.
+fn add(alloc: Global, table: &mut Table, key: &[u8], value: KvValue) -> Result<(), NoMemory>
     ensures ok { OnOk result (places table.new ≡ finite.insert (places table.old) key.now
         (Some value)) }
     ensures err { OnErr result (places table.new ≡ places table.old) }
 {
-    table.insert(Vec::from_slice(alloc, key)?, Some(value))?;
-    Ok(())
+    match Vec::from_slice(alloc, key) {
+        Ok(key) => insert(table, key, value),
+        Err(_) => Err(NoMemory),
+    }
+}
+
+/// Writes a value into a key's place, which is made where there is none, and gives the former value.
+#[tactic(auto, using(crate::proofs::PlacesLemmas::place_writes))]
+pub fn write(
+    alloc: Global,
+    table: &mut Table,
+    place: Option<usize>,
+    key: &[u8],
+    value: KvValue,
+) -> Result<Option<KvValue>, NoMemory>
+    requires { IsPlaceOf table.old key.now place }
+    ensures former { IfOk result (λ v. v ≡ finite.get (values_of (places table.old)) key.now) }
+    ensures ok { OnOk result (places table.new ≡ finite.insert (places table.old) key.now
+        (Some value)) }
+    ensures err { OnErr result (places table.new ≡ places table.old) }
+{
+    match place {
+        Some(index) => Ok(replace(table, index, Some(value))),
+        None => match add(alloc, table, key, value) {
+            Ok(()) => Ok(None),
+            Err(e) => Err(e),
+        },
+    }
 }
