@@ -1,16 +1,18 @@
 -- The actors of a cluster, and their links.
-use Rattle.std.proofs.Common.{◌≡◌, ℕ, zero, suc, ◌+◌, ◌<◌, ◌≤◌, List, [], ◌∷◌, ◌++◌, length, map, take, drop, Option, Some, None, refl, sym, ap, subst, ◌∙◌}
-use Rattle.std.proofs.Common.{arith, add-one, append_assoc, length-append}
-use Rattle.std.specs.Prelude.{option_map, slice_get}
+use Rattle.std.proofs.Common.{◌≡◌, ℕ, zero, suc, ◌+◌, ◌<◌, ◌≤◌, List, [], ◌∷◌, ◌++◌, length, map, take, drop, Option, Some, None}
+use Rattle.std.proofs.Common.{refl, sym, ap, subst, ◌∙◌, arith, add-one, append_assoc, length-append}
+use Rattle.std.specs.Prelude.{option_map, slice_get, Result, Ok, Err}
 use Rattle.std.proofs.lemmas.Option.{slice_get-map}
 use Rattle.std.proofs.lemmas.List.{map-append, take_all}
 use Rattle.facts.proofs.Places.{Splits-at}
 use Rattle.nop_types.specs.Configuration.{Configuration}
 use Rattle.nop_types.specs.declared.output.Actor.{Actor}
 use Rattle.nop_types.specs.declared.output.Actor.TheVariants as kinds
-use Rattle.outside.specs.Causes.{Rose}
+use Rattle.outside.specs.Causes.{Rose, HasCauseFor}
 use Rattle.outside.specs.Ports.{GivesNext, next_link}
 use Rattle.nop_types.specs.declared.input.Tick.{Tick}
+use Rattle.outside.specs.declared.errors.DeviceError.{DeviceError}
+use Rattle.outside.specs.declared.errors.DeviceError.TheVariants.{Failed, NoMemory}
 use Rattle.outside.specs.declared.link.PollAnswer.{PollAnswer}
 use Rattle.outside.specs.declared.link.Sent as links
 use Rattle.udp_node.specs.declared.address.Address.{Address}
@@ -81,7 +83,8 @@ module _ {L : Type 0} (v : LinkView L) (base : ℕ) (config : Configuration) (no
       → Sends [] (side (Some []) 0 0) (side sent lost losses)
   fresh_side sent lost losses s l k =
       let same : side (Some []) 0 0 ≡ side sent lost losses =
-      sym (ap (λ (o : Option (List links.Sent)). side o lost losses) s ∙ ap (λ (n : ℕ). side (Some []) n losses) l ∙ ap (side (Some []) 0) k) in
+      sym (ap (λ (o : Option (List links.Sent)). side o lost losses) s ∙ ap (λ (n : ℕ). side (Some []) n losses) l
+      ∙ ap (side (Some []) 0) k) in
       subst (λ (b : LinkSide). Sends [] (side (Some []) 0 0) b) same (no_sends (side (Some []) 0 0))
 
   fresh_shows : (a : Actor) (polls : List (List PollAnswer)) (x : code.Node L) (new : Option (List (List PollAnswer)))
@@ -100,8 +103,8 @@ module _ {L : Type 0} (v : LinkView L) (base : ℕ) (config : Configuration) (no
   attaching_first None xs none = tt
   attaching_first (Some polls) xs none = (refl, subst (AllShow v []) (sym none) tt)
 
-  pub attaching_more : (all : List Actor) (i : ℕ) (a : Actor) (to_come mid new : Option (List (List PollAnswer))) (xs ys : List (code.Node L))
-      (w : WorldState) → slice_get all i ≡ Some a → w ≡ opening config
+  pub attaching_more : (all : List Actor) (i : ℕ) (a : Actor) (to_come mid new : Option (List (List PollAnswer)))
+      (xs ys : List (code.Node L)) (w : WorldState) → slice_get all i ≡ Some a → w ≡ opening config
       → AttachesOne v (record { base = base; own = a; config = config }) (map (armed now) (timers_of w a)) mid new xs ys
       → AttachingOn v base config now (take i all) to_come mid xs → AttachingOn v base config now (take (i + 1) all) to_come new ys
   attaching_more all i a None mid new xs ys w there is one before = tt
@@ -110,15 +113,18 @@ module _ {L : Type 0} (v : LinkView L) (base : ℕ) (config : Configuration) (no
       let front : take (i + 1) all ≡ actors ++ a ∷ [] = ap (λ (k : ℕ). take k all) (add-one i) ∙ (Splits-at all i a there).front in
       let left : List (List PollAnswer) = drop (length actors) polls in
       let gives : GivesNext (Some left) new (v.answers one.node.link) (v.sent one.node.link) =
-      subst (λ (o : Option (List (List PollAnswer))). GivesNext o new (v.answers one.node.link) (v.sent one.node.link)) before.0 one.content in
-      let fresh : IsFresh v (record { base = base; own = a; config = config }) (map (armed now) (timers_of (opening config) a)) one.node =
-      subst (λ (u : WorldState). IsFresh v (record { base = base; own = a; config = config }) (map (armed now) (timers_of u a)) one.node) is one.fresh in
-      let shown : AllShow v (opening_nodes base config now actors polls ++ opening_node base config now a (next_link left) ∷ []) (xs ++ one.node ∷ []) =
-      shown_push (opening_nodes base config now actors polls) xs (opening_node base config now a (next_link left)) one.node before.1
-      (fresh_shows a left one.node new fresh gives) in
+      subst (λ (o : Option (List (List PollAnswer))). GivesNext o new (v.answers one.node.link) (v.sent one.node.link)) before.0
+      one.content in
+      let place : Address = record { base = base; own = a; config = config } in
+      let fresh : IsFresh v place (map (armed now) (timers_of (opening config) a)) one.node =
+      subst (λ (u : WorldState). IsFresh v place (map (armed now) (timers_of u a)) one.node) is one.fresh in
+      let ns : List Node = opening_nodes base config now actors polls in
+      let k : Node = opening_node base config now a (next_link left) in
+      let shown : AllShow v (ns ++ k ∷ []) (xs ++ one.node ∷ []) =
+      shown_push ns xs k one.node before.1 (fresh_shows a left one.node new fresh gives) in
       let all_shown : AllShow v (opening_nodes base config now (actors ++ a ∷ []) polls) ys =
       subst (AllShow v (opening_nodes base config now (actors ++ a ∷ []) polls)) (sym one.added)
-      (subst (λ (ns : List Node). AllShow v ns (xs ++ one.node ∷ [])) (sym (opening_push actors a polls)) shown) in
+      (subst (λ (ms : List Node). AllShow v ms (xs ++ one.node ∷ [])) (sym (opening_push actors a polls)) shown) in
       let count : length (actors ++ a ∷ []) ≡ suc (length actors) = omega (arith, length-append actors (a ∷ [])) in
       let later : new ≡ Some (drop (length (actors ++ a ∷ [])) polls) =
       gives.0 ∙ ap Some (drop_then (length actors) polls ∙ ap (λ (k : ℕ). drop k polls) (sym count)) in
@@ -130,13 +136,15 @@ module _ {L : Type 0} (v : LinkView L) (base : ℕ) (config : Configuration) (no
   attached_all all i (Some polls) new xs past on =
       subst (λ (actors : List Actor). AllShow v (opening_nodes base config now actors polls) xs) (take_all i all past) on.1
 
-  pub places_more : (all : List Actor) (i : ℕ) (a : Actor) (mid new : Option (List (List PollAnswer))) (xs ys : List (code.Node L)) (ts : List Timer)
-      → slice_get all i ≡ Some a → AttachesOne v (record { base = base; own = a; config = config }) ts mid new xs ys
-      → map (place_of v) xs ≡ map (place_for base config) (take i all) → map (place_of v) ys ≡ map (place_for base config) (take (i + 1) all)
+  pub places_more : (all : List Actor) (i : ℕ) (a : Actor) (mid new : Option (List (List PollAnswer))) (xs ys : List (code.Node L))
+      (ts : List Timer) → slice_get all i ≡ Some a → AttachesOne v (record { base = base; own = a; config = config }) ts mid new xs ys
+      → map (place_of v) xs ≡ map (place_for base config) (take i all)
+      → map (place_of v) ys ≡ map (place_for base config) (take (i + 1) all)
   places_more all i a mid new xs ys ts there one before =
       let front : take (i + 1) all ≡ take i all ++ a ∷ [] = ap (λ (k : ℕ). take k all) (add-one i) ∙ (Splits-at all i a there).front in
       let place : place_of v one.node ≡ place_for base config a =
-      ap (λ (p : Address). (p, v.port one.node.link)) one.fresh.at ∙ ap (λ (k : ℕ). (record { base = base; own = a; config = config }, k)) one.fresh.port in
+      ap (λ (p : Address). (p, v.port one.node.link)) one.fresh.at
+      ∙ ap (λ (k : ℕ). (record { base = base; own = a; config = config }, k)) one.fresh.port in
       ap (map (place_of v)) one.added ∙ map-append (place_of v) xs (one.node ∷ [])
       ∙ ap (λ (ps : List (Address × ℕ)). ps ++ place_of v one.node ∷ []) before
       ∙ ap (λ (p : Address × ℕ). map (place_for base config) (take i all) ++ p ∷ []) place
@@ -148,8 +156,32 @@ module _ {L : Type 0} (v : LinkView L) (base : ℕ) (config : Configuration) (no
 
 -- ---- how many links are held
 
-pub rose_from : (a b c : ℕ) → a ≤ b → Rose b c → Rose a c
+rose_from : (a b c : ℕ) → a ≤ b → Rose b c → Rose a c
 rose_from a b c le rose = omega (arith, le, rose)
+
+-- a cause since a later time is one since an earlier time
+pub cause_since : {T E : Type 0} (a b c : ℕ) (error : E) (r : Result T E) → a ≤ b → HasCauseFor b c error r → HasCauseFor a c error r
+cause_since a b c error r le h = record { later = omega (arith, le, h.later); failed = λ is. rose_from a b c le (h.failed is) }
+
+-- an error is the same whatever the result was to be
+pub cause_as : {T U : Type 0} (a b : ℕ) (e : DeviceError) → HasCauseFor {T = T} a b Failed (Err e) → HasCauseFor {T = U} a b Failed (Err e)
+cause_as {T} {U} a b e h = record { later = h.later; failed = λ is. h.failed (ap Err (same is)) }
+  where
+    same : (let r : Result U DeviceError = Err e in r ≡ Err Failed) → e ≡ Failed
+    same is = cc
+
+pub memory_cause : {T : Type 0} (a b : ℕ) → a ≤ b → HasCauseFor {T = T} a b Failed (Err NoMemory)
+memory_cause a b le = record { later = le; failed = λ is. absurd cc }
+
+pub no_cause : {T E : Type 0} (a b : ℕ) (error : E) (t : T) → a ≤ b → HasCauseFor a b error (Ok t)
+no_cause a b error t le = record { later = le; failed = λ is. absurd cc }
+
+-- a link that was attached and given back
+pub given_back : {A : Type 0} (first mid last : ℕ) (det here there : List A) (x : A) → mid ≡ first + 1 → here ≡ det → last ≡ mid
+    → there ≡ here ++ x ∷ [] → last + length det ≡ first + length there
+given_back first mid last det here there x attached same held back =
+    let count : length there ≡ length here + 1 = ap length back ∙ length-append here (x ∷ []) in
+    omega (arith, count, attached, held, ap length same)
 
 module _ {A B : Type 0} (first mid last : ℕ) (det here there : List A) (xs ys : List B) where
   pub holds_stays : ys ≡ xs → last + length here ≡ mid + length there → Holds first det mid here xs → Holds first det last there ys
@@ -167,7 +199,8 @@ module _ {A B : Type 0} (mid last : ℕ) (here there : List A) (xs ys : List B) 
       let more : length here + length xs ≤ mid = room (omega (arith, some, count)) in
       omega (arith, count, balance, more)
 
-  pub room_more : (x : B) → ys ≡ xs ++ x ∷ [] → last ≡ mid + 1 → there ≡ here → length there < last → HasRoom mid here xs → HasRoom last there ys
+  pub room_more : (x : B) → ys ≡ xs ++ x ∷ [] → last ≡ mid + 1 → there ≡ here → length there < last → HasRoom mid here xs
+      → HasRoom last there ys
   room_more x added attached given one room some = by (length xs) refl
     where
       count : length ys ≡ length xs + 1
@@ -180,8 +213,8 @@ module _ {A B : Type 0} (mid last : ℕ) (here there : List A) (xs ys : List B) 
           omega (arith, count, attached, ap length given, more)
 
 -- the places of a configuration are in their ranges
-pub bases_placed : {L : Type 0} (v : LinkView L) (base : ℕ) (config : Configuration) (now : ℕ) (actors : List Actor) (xs : List (code.Node L))
-    → base ≤ 65000 → map (place_of v) xs ≡ map (place_for base config) actors → BasesFit v xs
+pub bases_placed : {L : Type 0} (v : LinkView L) (base : ℕ) (config : Configuration) (now : ℕ) (actors : List Actor)
+    (xs : List (code.Node L)) → base ≤ 65000 → map (place_of v) xs ≡ map (place_for base config) actors → BasesFit v xs
 bases_placed v base config now actors xs fits places i x found = by (slice_get actors i) there
   where
     there : option_map (place_for base config) (slice_get actors i) ≡ Some (place_of v x)

@@ -1,17 +1,20 @@
 -- A cluster from its links to what it wrote.
-use Rattle.std.proofs.Common.{◌≡◌, ◌≤◌, ℕ, ◌+◌, List, [], ◌++◌, length, map, true, false, Option, Some, None, Result, Ok, Err, OnOk, IfOk, refl, sym, ap, subst}
-use Rattle.std.proofs.Common.{◌∙◌, arith, inl, inr, length-append}
+use Rattle.std.proofs.Common.{◌≡◌, ◌≤◌, ℕ, ◌+◌, List, [], ◌++◌, length, map, true, Option, Some, None, Result, Ok, Err}
+use Rattle.std.proofs.Common.{refl, sym, ap, subst, ◌∙◌, arith, inl, inr, length-append}
 use Rattle.std.proofs.lemmas.List.{length-map}
 use Rattle.std.specs.Prelude.{◌⊎◌, ◌==◌, IsErrOf}
 use Rattle.std.specs.Io.KnownBytes.{Appends}
 use Rattle.std.proofs.lemmas.Grind.{common_steps}
 use Rattle.nop_types.specs.Configuration.{Configuration, is_configuration}
 use Rattle.nop_types.specs.Meaning.{Meaning}
-use Rattle.outside.specs.Causes.{Rose}
+use Rattle.outside.specs.Causes.{Rose, HasCauseFor}
 use Rattle.outside.specs.Clocks.{later_values, TellsTime}
 use Rattle.outside.specs.Fronts.{AppendsFront}
+use Rattle.outside.specs.declared.errors.DeviceError.{DeviceError}
+use Rattle.outside.specs.declared.errors.DeviceError.TheVariants.{Failed}
+use Rattle.outside.specs.declared.errors.DeviceError.TheVariants as devices
 use Rattle.outside.specs.declared.link.PollAnswer.{PollAnswer}
-use Rattle.replica_core.specs.Within.{ResultsShort}
+use Rattle.replica_rows.specs.Within.{ResultsShort}
 use Rattle.safety.proofs.Whole.{runs_are_safe}
 use Rattle.schedule_text.specs.Transcript.{lines_text}
 use Rattle.udp_node.specs.Effects.{WroteFront}
@@ -23,10 +26,11 @@ use Rattle.one_box.specs.declared.node.Node as code
 use Rattle.one_box.specs.declared.serving.Taken.{Taken}
 use Rattle.one_box.specs.Actors.{actors_of}
 use Rattle.one_box.specs.Attaching.{AttachesAll, Holds, HasRoom, place_for, lost_by}
-use Rattle.one_box.specs.Boxing.{WritesRun, IsToldRun, Tells, TellsOf, Ran, text_of, EndsWith, PollFailed}
-use Rattle.one_box.specs.ClusterRun.{Course, ClusterRun, all_accepted, turns_from, opening_course, opening_nodes, cluster_run}
-use Rattle.one_box.specs.Running.{IsRunIf, RunsTold}
-use Rattle.one_box.specs.Showing.{LinkView, IsLedTo, GoesOn, AllShow, HasFault, place_of}
+use Rattle.one_box.specs.Boxing.{WritesRun, IsToldRun, IsNoRun, RanTurns, BreaksOff, RunsOr, Tells, TellsOf}
+use Rattle.one_box.specs.Boxing.{Ran, text_of, EndsWith, PollFailed, error_of}
+use Rattle.one_box.specs.ClusterRun.{Course, Node, ClusterRun, turns_from, opening_course, opening_nodes, cluster_run}
+use Rattle.one_box.specs.Running.{IsRunIf, EndsAs, RunsTold, Runs}
+use Rattle.one_box.specs.Showing.{LinkView, IsLedTo, AllShow, place_of}
 use Rattle.one_box.specs.Text.{cluster_text}
 
 -- ---- the turns
@@ -34,60 +38,82 @@ use Rattle.one_box.specs.Text.{cluster_text}
 led_opening : {S : Type 0} (m : Meaning S) (config : Configuration) → IsLedTo m config (opening_course config)
 led_opening m config = record { lines = []; is = refl; fit = tt; spelled = grind (arith, common_steps); text = refl; accepts = refl }
 
-pub led_on : {S T : Type 0} (m : Meaning S) (config : Configuration) (c d : Course) (r : Result T ClusterError) → c ≡ opening_course config
-    → OnOk r (GoesOn m c d) → OnOk r (IsLedTo m config d)
-led_on m config c d (Ok t) opens goes = goes config (subst (IsLedTo m config) (sym opens) (led_opening m config))
-led_on m config c d (Err e) opens goes = tt
-
 module _ {S L : Type 0} (m : Meaning S) (v : LinkView L) (config : Configuration) (ops : List (List ℕ)) (base turns : ℕ) where
-  told_by : (now : ℕ) (polls : List (List PollAnswer)) (values : List ℕ) (later : Option (List ℕ)) (taken : Taken) (c d : Course)
-      (xs ys : List (code.Node L)) → TellsTime (Some values) later now → AllShow v (opening_nodes base config now (actors_of config) polls) xs
-      → c ≡ opening_course config → RunsTold v m ops turns now later (Ok taken) c xs d ys
-      → IsRunIf v (cluster_run m config ops base turns values polls) taken d ys
+  -- where all is told, the call ended as the run of the definition
+  told_by : (now : ℕ) (polls : List (List PollAnswer)) (values : List ℕ) (later : Option (List ℕ)) (r : Result Taken DeviceError)
+      (c d : Course) (xs ys : List (code.Node L)) → TellsTime (Some values) later now
+      → AllShow v (opening_nodes base config now (actors_of config) polls) xs → c ≡ opening_course config
+      → RunsTold v m ops turns now later r c xs d ys → EndsAs v (cluster_run m config ops base turns values polls) r d ys
   unfolding cluster_run
-  told_by now polls values later taken c d xs ys time shown opens told =
-      let here : RunsTold v m ops turns now (Some (later_values values)) (Ok taken) c xs d ys =
-      subst (λ (o : Option (List ℕ)). RunsTold v m ops turns now o (Ok taken) c xs d ys) time.1 told in
-      let run_here : IsRunIf v (turns_from m ops turns c (opening_nodes base config now (actors_of config) polls) now (later_values values)) taken d ys =
-      here (opening_nodes base config now (actors_of config) polls) shown in
-      let opened : IsRunIf v (turns_from m ops turns (opening_course config) (opening_nodes base config now (actors_of config) polls) now
-      (later_values values)) taken d ys =
-      subst (λ (a : Course). IsRunIf v (turns_from m ops turns a (opening_nodes base config now (actors_of config) polls) now (later_values values))
-      taken d ys) opens run_here in
-      subst (λ (t : ℕ). IsRunIf v (turns_from m ops turns (opening_course config) (opening_nodes base config t (actors_of config) polls) t
-      (later_values values)) taken d ys) time.0 opened
+  told_by now polls values later r c d xs ys time shown opens told =
+      let here : RunsTold v m ops turns now (Some (later_values values)) r c xs d ys =
+      subst (λ (o : Option (List ℕ)). RunsTold v m ops turns now o r c xs d ys) time.1 told in
+      let ns : List Node = opening_nodes base config now (actors_of config) polls in
+      let run_here : EndsAs v (turns_from m ops turns c ns now (later_values values)) r d ys = here ns shown in
+      let opened : EndsAs v (turns_from m ops turns (opening_course config) ns now (later_values values)) r d ys =
+      subst (λ (a : Course). EndsAs v (turns_from m ops turns a ns now (later_values values)) r d ys) opens run_here in
+      subst (λ (t : ℕ). EndsAs v (turns_from m ops turns (opening_course config) (opening_nodes base config t (actors_of config) polls) t
+      (later_values values)) r d ys) time.0 opened
 
-  told_of : (now : ℕ) (to_come : Option (List (List PollAnswer))) (first later : Option (List ℕ)) (taken : Taken) (c d : Course)
-      (xs ys : List (code.Node L)) → TellsTime first later now → AttachesAll v base config now (actors_of config) to_come xs
-      → c ≡ opening_course config → RunsTold v m ops turns now later (Ok taken) c xs d ys
-      → IsToldRun m v config ops base turns to_come first taken d ys
-  told_of now None first later taken c d xs ys time shown opens told = tt
-  told_of now (Some polls) None later taken c d xs ys time shown opens told = tt
-  told_of now (Some polls) (Some values) later taken c d xs ys time shown opens told =
-      told_by now polls values later taken c d xs ys time shown opens told
+  module _ (now : ℕ) (to_come : Option (List (List PollAnswer))) (first later : Option (List ℕ)) (c d : Course)
+      (xs ys : List (code.Node L)) (time : TellsTime first later now) (shown : AttachesAll v base config now (actors_of config) to_come xs)
+      (opens : c ≡ opening_course config) where
+    told_run : (taken : Taken) → RunsTold v m ops turns now later (Ok taken) c xs d ys
+        → IsToldRun m v config ops base turns to_come first taken d ys
+    told_run taken told = by to_come first time shown
+      where
+        by : (p : Option (List (List PollAnswer))) (t : Option (List ℕ)) → TellsTime t later now
+            → AttachesAll v base config now (actors_of config) p xs → IsToldRun m v config ops base turns p t taken d ys
+        by None t tells shows = tt
+        by (Some polls) None tells shows = tt
+        by (Some polls) (Some values) tells shows = told_by now polls values later (Ok taken) c d xs ys tells shows opens told
 
-  pub told_if : (now : ℕ) (to_come : Option (List (List PollAnswer))) (first later : Option (List ℕ)) (r : Result Taken ClusterError) (c d : Course)
-      (xs ys : List (code.Node L)) → TellsTime first later now → AttachesAll v base config now (actors_of config) to_come xs
-      → c ≡ opening_course config → RunsTold v m ops turns now later r c xs d ys
-      → IfOk r (λ taken. IsToldRun m v config ops base turns to_come first taken d ys)
-  told_if now to_come first later (Ok taken) c d xs ys time shown opens told = told_of now to_come first later taken c d xs ys time shown opens told
-  told_if now to_come first later (Err e) c d xs ys time shown opens told = tt
+    told_none : RunsTold v m ops turns now later (Err Failed) c xs d ys → IsNoRun m config ops base turns to_come first
+    told_none told = by to_come first time shown
+      where
+        by : (p : Option (List (List PollAnswer))) (t : Option (List ℕ)) → TellsTime t later now
+            → AttachesAll v base config now (actors_of config) p xs → IsNoRun m config ops base turns p t
+        by None t tells shows = tt
+        by (Some polls) None tells shows = tt
+        by (Some polls) (Some values) tells shows = told_by now polls values later (Err Failed) c d xs ys tells shows opens told
+
+    -- the turns after all links were attached
+    pub turns_run : (r : Result Taken DeviceError) (faults faults_now : ℕ) (det here : List L)
+        → RunsTold v m ops turns now later r c xs d ys → Runs v m ops turns r c d ys
+        → map (place_of v) ys ≡ map (place_for base config) (actors_of config) → here ≡ det
+        → RunsOr m v config ops base turns to_come first faults faults_now det here r d ys
+    turns_run (Ok taken) faults faults_now det here told runs places given = record {
+      told = told_run taken told;
+      led = runs.goes config (subst (IsLedTo m config) (sym opens) (led_opening m config));
+      done = runs.done;
+      spent = runs.spent;
+      places = places;
+      given = given;
+    }
+    turns_run (Err Failed) faults faults_now det here told runs places given =
+        inr (record { given = given; fault = runs; none = told_none told })
+    turns_run (Err devices.NoMemory) faults faults_now det here told runs places given = tt
+
+  -- a link that was not attached
+  pub unattached : (e : DeviceError) (polls : Option (List (List PollAnswer))) (values : Option (List ℕ)) (faults faults_now : ℕ)
+      (det here : List L) (d : Course) (ys : List (code.Node L)) → HasCauseFor {T = Unit {0}} faults faults_now Failed (Err e)
+      → RunsOr m v config ops base turns polls values faults faults_now det here (Err e) d ys
+  unattached Failed polls values faults faults_now det here d ys cause = inl (cause.failed refl)
+  unattached devices.NoMemory polls values faults faults_now det here d ys cause = tt
 
 -- ---- the links
 
 module _ {L : Type 0} (v : LinkView L) (xs ys : List (code.Node L)) (places : map (place_of v) ys ≡ map (place_of v) xs) where
-  pub same_count : length ys ≡ length xs
+  same_count : length ys ≡ length xs
   same_count = sym (length-map ys (place_of v)) ∙ ap length places ∙ length-map xs (place_of v)
 
-pub holds_same : {A L : Type 0} (first last : ℕ) (det there : List A) (xs ys : List (code.Node L)) → length ys ≡ length xs
-    → Holds first det last there xs → Holds first det last there ys
-holds_same first last det there xs ys count holds = omega (arith, count, holds)
+  pub holds_same : {A : Type 0} (first last : ℕ) (det there : List A) → Holds first det last there xs → Holds first det last there ys
+  holds_same first last det there holds = omega (arith, same_count, holds)
 
-pub room_same : {A L : Type 0} (last : ℕ) (there : List A) (xs ys : List (code.Node L)) → length ys ≡ length xs → HasRoom last there xs
-    → HasRoom last there ys
-room_same last there xs ys count room some =
-    let more : length there + length xs ≤ last = room (omega (arith, count, some)) in
-    omega (arith, count, more)
+  pub room_same : {A : Type 0} (last : ℕ) (there : List A) → HasRoom last there xs → HasRoom last there ys
+  room_same last there room some =
+      let more : length there + length xs ≤ last = room (omega (arith, same_count, some)) in
+      omega (arith, same_count, more)
 
 pub holds_none : {A L : Type 0} (first : ℕ) (det : List A) (xs : List (code.Node L)) → xs ≡ [] → Holds first det first det xs
 holds_none first det xs none = let count : length xs ≡ 0 = ap length none in omega (arith, count)
@@ -106,17 +132,19 @@ all_back {L} first mid last det here there xs holds same back =
 
 -- ---- how it ends
 
+err_is : (x y : ClusterError) → (let r : Result Boxed ClusterError = Err x in IsErrOf r y) → x ≡ y
+err_is x y is = cc
+
 module _ {S L : Type 0} (m : Meaning S) (v : LinkView L) (config : Configuration) (ops : List (List ℕ)) (base turns : ℕ)
     (polls : Option (List (List PollAnswer))) (values : Option (List ℕ)) (det there : List L) where
-  module _ (short : ResultsShort m) (fits : is_configuration config ≡ true) (d : Course) (taken : Taken) (lost : ℕ) (xs : List (code.Node L))
-      (led : IsLedTo m config d) (done : taken.done ≡ all_accepted ops d) (spent : taken.done ≡ false → taken.turns ≡ turns)
-      (told : IsToldRun m v config ops base turns polls values taken d xs) (lost_is : lost ≡ lost_by xs)
-      (places : map (place_of v) xs ≡ map (place_for base config) (actors_of config)) (back : there ≡ det ++ map (λ x. x.link) xs) where
+  module _ (short : ResultsShort m) (fits : is_configuration config ≡ true) (d : Course) (taken : Taken) (lost : ℕ)
+      (xs : List (code.Node L)) (here : List L) (t : RanTurns m v config ops base turns polls values det here taken d xs)
+      (lost_is : lost ≡ lost_by xs) (given : there ≡ here ++ map (λ x. x.link) xs) where
     abbrev boxed : Boxed
     boxed = record { turns = taken.turns; lost = lost; stray = d.stray; done = taken.done }
 
     abbrev happened : Happened
-    happened = record { world = d.world; lines = led.lines }
+    happened = record { world = d.world; lines = t.led.lines }
 
     tells_run : (o : Option ClusterRun) (values : List ℕ) (polls : List (List PollAnswer))
         → cluster_run m config ops base turns values polls ≡ o → IsRunIf v o taken d xs
@@ -132,9 +160,9 @@ module _ {S L : Type 0} (m : Meaning S) (v : LinkView L) (config : Configuration
       links = r.nodes;
     }
 
-    tells_of : (p : Option (List (List PollAnswer))) (t : Option (List ℕ)) → IsToldRun m v config ops base turns p t taken d xs
-        → TellsOf m v config ops base turns p t d.events boxed xs
-    tells_of None t r = tt
+    tells_of : (p : Option (List (List PollAnswer))) (q : Option (List ℕ)) → IsToldRun m v config ops base turns p q taken d xs
+        → TellsOf m v config ops base turns p q d.events boxed xs
+    tells_of None q r = tt
     tells_of (Some polls) None r = tt
     tells_of (Some polls) (Some values) r = tells_run (cluster_run m config ops base turns values polls) values polls refl r
 
@@ -142,52 +170,90 @@ module _ {S L : Type 0} (m : Meaning S) (v : LinkView L) (config : Configuration
     ran = record {
       events = d.events;
       happened = happened;
-      led = led.is;
-      safely = runs_are_safe m short config d.events happened fits led.fit led.is;
-      done = done ∙ ap (λ (n : ℕ). n == length ops) led.accepts;
-      spent = spent;
+      led = t.led.is;
+      safely = runs_are_safe m short config d.events happened fits t.led.fit t.led.is;
+      done = t.done ∙ ap (λ (n : ℕ). n == length ops) t.led.accepts;
+      spent = t.spent;
       nodes = xs;
-      back = back;
-      places = places;
+      back = given ∙ ap (λ (ls : List L). ls ++ map (λ x. x.link) xs) t.given;
+      places = t.places;
       lost = lost_is;
-      tells = tells_of polls values told;
+      tells = tells_of polls values t.told;
     }
 
     abbrev written : List ℕ
     written = cluster_text config d.events d.text d.world taken.turns lost d.stray
 
-    same_text : written ≡ cluster_text config d.events (lines_text led.lines) d.world taken.turns lost d.stray
-    same_text = ap (λ (t : List ℕ). cluster_text config d.events t d.world taken.turns lost d.stray) led.text
+    same_text : written ≡ cluster_text config d.events (lines_text t.led.lines) d.world taken.turns lost d.stray
+    same_text = ap (λ (ls : List ℕ). cluster_text config d.events ls d.world taken.turns lost d.stray) t.led.text
 
     pub run_ends : (r : Result Boxed ClusterError) (before now : Option (List ℕ)) → WritesRun written boxed r before now
         → EndsWith m v config ops base turns polls values det there r before now
     unfolding ran
     run_ends (Ok told_box) before now w =
-        let whole : (x : Ran m v config ops base turns polls values det there boxed) × Appends before now (text_of m v config ops base turns x.events x.happened boxed) =
-        (ran, subst (λ (t : List ℕ). Appends before now t) same_text w.1) in
+        let whole : (x : Ran m v config ops base turns polls values det there boxed)
+        × Appends before now (text_of m v config ops base turns x.events x.happened boxed) =
+        (ran, subst (λ (ls : List ℕ). Appends before now ls) same_text w.1) in
         subst (λ (b : Boxed). (x : Ran m v config ops base turns polls values det there b)
         × Appends before now (text_of m v config ops base turns x.events x.happened b)) (sym w.0) whole
     run_ends (Err errors.LinkFault) before now w = absurd w
-    run_ends (Err errors.WriteFault) before now w = (boxed, ran, subst (λ (t : List ℕ). AppendsFront before now t) same_text w)
-    run_ends (Err errors.NoMemory) before now w = inr (boxed, ran, subst (λ (t : List ℕ). WroteFront t before now) same_text w)
+    run_ends (Err errors.WriteFault) before now w = (boxed, ran, subst (λ (ls : List ℕ). AppendsFront before now ls) same_text w)
+    run_ends (Err errors.NoMemory) before now w = inr (boxed, ran, subst (λ (ls : List ℕ). WroteFront ls before now) same_text w)
 
   -- before anything was written
-  pub ends_early : (e : ClusterError) (held : Option (List ℕ)) → (let r : Result Boxed ClusterError = Err e in IsErrOf r errors.WriteFault → ⊥)
-      → EndsWith m v config ops base turns polls values det there (Err e) held held
-  ends_early errors.LinkFault held never = refl
-  ends_early errors.WriteFault held never = absurd (never refl)
-  ends_early errors.NoMemory held never = inl refl
+  pub ends_early : (e : DeviceError) (x : ClusterError) (held : Option (List ℕ)) → x ≡ error_of e
+      → EndsWith m v config ops base turns polls values det there (Err x) held held
+  ends_early e x held is =
+      subst (λ (y : ClusterError). EndsWith m v config ops base turns polls values det there (Err y) held held) (sym is) (early e)
+    where
+      early : (y : DeviceError) → EndsWith m v config ops base turns polls values det there (Err (error_of y)) held held
+      early Failed = refl
+      early devices.NoMemory = inl refl
 
--- an error is the same in either result
-pub same_error : {A B : Type 0} (e x : ClusterError) → (let r : Result A ClusterError = Err e in IsErrOf r x)
-    → (let r : Result B ClusterError = Err e in IsErrOf r x)
-same_error {A} {B} e x is =
-    let same : e ≡ x = cc in
-    let some_error : ClusterError → Result B ClusterError = λ y. Err y in
-    ap some_error same
+  module _ (a b c : ℕ) (here : List L) (d : Course) (xs : List (code.Node L)) (e : DeviceError) (x : ClusterError) (is : x ≡ error_of e)
+      (same : c ≡ b) (runs : RunsOr m v config ops base turns polls values a b det here (Err e) d xs) where
+    broke_off : (let r : Result Boxed ClusterError = Err x in IsErrOf r errors.LinkFault)
+        → Rose a b ⊎ BreaksOff m v config ops base turns polls values det here xs
+    broke_off told = by e (sym is ∙ err_is x errors.LinkFault told) runs
+      where
+        by : (y : DeviceError) → error_of y ≡ errors.LinkFault → RunsOr m v config ops base turns polls values a b det here (Err y) d xs
+            → Rose a b ⊎ BreaksOff m v config ops base turns polls values det here xs
+        by Failed fault r = r
+        by devices.NoMemory fault r = absurd cc
 
-pub caused : {L : Type 0} (v : LinkView L) (a b c : ℕ) (det here there : List L) (xs : List (code.Node L)) → c ≡ b
-    → there ≡ here ++ map (λ x. x.link) xs → Rose a b ⊎ ((here ≡ det) × HasFault v xs) → Rose a c ⊎ PollFailed v det there
-caused v a b c det here there xs same back (inl rose) = inl (subst (Rose a) (sym same) rose)
-caused v a b c det here there xs same back (inr failed) =
-    inr (record { nodes = xs; back = back ∙ ap (λ (ls : List _). ls ++ map (λ x. x.link) xs) failed.0; fault = failed.1 })
+    -- a port had no link, or a poll failed
+    pub caused : there ≡ here ++ map (λ x. x.link) xs → (let r : Result Boxed ClusterError = Err x in IsErrOf r errors.LinkFault)
+        → Rose a c ⊎ PollFailed v det there
+    caused back told = by (broke_off told)
+      where
+        by : Rose a b ⊎ BreaksOff m v config ops base turns polls values det here xs → Rose a c ⊎ PollFailed v det there
+        by (inl rose) = inl (subst (Rose a) (sym same) rose)
+        by (inr f) = inr (record {
+          nodes = xs;
+          back = back ∙ ap (λ (ls : List L). ls ++ map (λ x. x.link) xs) f.given;
+          fault = f.fault;
+        })
+
+    -- and then there is no run
+    pub no_run : (let r : Result Boxed ClusterError = Err x in IsErrOf r errors.LinkFault)
+        → Rose a c ⊎ IsNoRun m config ops base turns polls values
+    no_run told = by (broke_off told)
+      where
+        by : Rose a b ⊎ BreaksOff m v config ops base turns polls values det here xs
+            → Rose a c ⊎ IsNoRun m config ops base turns polls values
+        by (inl rose) = inl (subst (Rose a) (sym same) rose)
+        by (inr f) = inr f.none
+
+-- before it is written nothing meets a fault of the sink
+pub never_written : (e : DeviceError) (x : ClusterError) → x ≡ error_of e
+    → (let r : Result Boxed ClusterError = Err x in IsErrOf r errors.WriteFault) → ⊥
+never_written e x is told = by e (sym is ∙ err_is x errors.WriteFault told)
+  where
+    by : (y : DeviceError) → error_of y ≡ errors.WriteFault → ⊥
+    by Failed fault = cc
+    by devices.NoMemory fault = cc
+
+-- what is written meets no fault of a link
+pub never_link : (text : List ℕ) (boxed : Boxed) (r : Result Boxed ClusterError) (before now : Option (List ℕ))
+    → WritesRun text boxed r before now → IsErrOf r errors.LinkFault → ⊥
+never_link text boxed r before now w is = subst (λ (q : Result Boxed ClusterError). WritesRun text boxed q before now) is w

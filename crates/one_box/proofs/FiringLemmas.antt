@@ -1,45 +1,25 @@
 -- The timers of an actor.
-use Rattle.std.proofs.Common.{◌≡◌, ℕ, ◌+◌, ◌≤◌, ◌<◌, List, [], ◌∷◌, Bool, true, false, Option, Some, None, drop, length, refl, sym, ap, subst, ◌∙◌, add-one, arith}
+use Rattle.std.proofs.Common.{◌≡◌, ℕ, ◌+◌, ◌≤◌, List, [], ◌∷◌, Bool, true, false, Option, Some, None, Result, Ok, Err, OnOk}
+use Rattle.std.proofs.Common.{drop, length, refl, sym, ap, subst, ◌∙◌, add-one}
 use Rattle.std.specs.Prelude.{nat_le, slice_get, ⊤}
-use Rattle.std.proofs.lemmas.Bool.Decides.{nat_tests}
 use Rattle.std.proofs.lemmas.List.{drop_all}
-use Rattle.schedule_text.specs.EventText.{HasWord}
 use Rattle.nop_types.specs.Meaning.{Meaning}
+use Rattle.nop_types.specs.declared.memory.NoMemory.{NoMemory}
 use Rattle.nop_types.specs.declared.input.Tick.{Tick}
 use Rattle.nop_types.specs.declared.input.Tick.TheVariants as ticks
 use Rattle.nop_types.specs.declared.output.Actor.{Actor}
 use Rattle.nop_types.specs.declared.output.Actor.TheVariants as actors
 use Rattle.facts.proofs.Places.{Splits-at}
-use Rattle.schedule_text.specs.declared.event.Event.TheVariants as events
+use Rattle.schedule_text.specs.declared.event.Event.{Event}
 use Rattle.udp_node.specs.declared.address.Address.{Address}
 use Rattle.udp_node.specs.declared.firing.Timer.{Timer}
 use Rattle.world.specs.Lookups.{takes_op}
+use Rattle.world.specs.WorldSteps.{WorldState}
 use Rattle.one_box.specs.declared.node.Node as code
 use Rattle.one_box.specs.ClusterRun.{Course, Node, take, submit_next, next_of, on_tick, fire_if, fire_due}
-use Rattle.one_box.specs.Showing.{LinkView, Shows, Reaches, Does}
+use Rattle.one_box.specs.Firing.{submit_if, next_event, tick_event, tick_event_if, timer_event, next_after, take_event}
+use Rattle.one_box.specs.Showing.{LinkView, Shows, Reaches, Does, Acts, IsNoJunk}
 use Rattle.one_box.specs.Progress.{FiringOn}
-
-abbrev pub IsNoClient : Actor → Type 0
-IsNoClient (actors.Replica i) = ⊤
-IsNoClient (actors.Sequencer i) = ⊤
-IsNoClient (actors.Client i) = ⊥
-IsNoClient actors.Controller = ⊤
-
-pub word_if : (tick : Tick) → (tick ≡ ticks.Next → ⊥) → ((j : ℕ) → tick ≡ ticks.Install j → ⊥) → HasWord tick
-word_if ticks.Suspect next install = tt
-word_if ticks.Watch next install = tt
-word_if ticks.Resend next install = tt
-word_if ticks.Sync next install = tt
-word_if ticks.Retry next install = tt
-word_if ticks.Next next install = absurd (next refl)
-word_if ticks.Probe next install = tt
-word_if (ticks.Install j) next install = absurd (install j refl)
-
-nat_le_true : (a b : ℕ) → a ≤ b → nat_le a b ≡ true
-nat_le_true a b le = grind (arith, nat_tests)
-
-nat_le_false : (a b : ℕ) → b < a → nat_le a b ≡ false
-nat_le_false a b lt = grind (arith, nat_tests)
 
 module _ {S L : Type 0} (m : Meaning S) (v : LinkView L) (ops : List (List ℕ)) (now : ℕ) where
   pub none_fired : (all : List Timer) (c : Course) (n : Node) (x : code.Node L) → Shows v n x → FiringOn m v ops now all all c n c x
@@ -82,109 +62,108 @@ module _ {S L : Type 0} (m : Meaning S) (v : LinkView L) (ops : List (List ℕ))
       subst (λ (ts : List Timer). Reaches v (fire_due m ops now ts c n) d y) same
       (all_fired all c d n y (subst (λ (ts : List Timer). FiringOn m v ops now all ts c n d y) (drop_all i all past) f))
 
--- ---- one tick
+-- ---- one timer
 
-module _ {S L : Type 0} (m : Meaning S) (v : LinkView L) (ops : List (List ℕ)) (c d : Course) (x y : code.Node L) where
-  -- the client takes its next op
-  pub submitted : (client : ℕ) (op : List ℕ) (place : ℕ) → takes_op c.world client ≡ true → slice_get ops x.next_op ≡ Some op
-      → place ≡ x.next_op + c.world.config.clients
-      → Does v (λ a n. take m a n (events.Submit client op)) c (record x { next_op = place }) d y
-      → Does v (λ a n. submit_next m (takes_op a.world client) client (slice_get ops n.next_op) a n) c x d y
+module _ {S : Type 0} (m : Meaning S) (ops : List (List ℕ)) (c : Course) (n : Node) where
+  submit_by : (b : Bool) (client : ℕ) (op : Option (List ℕ)) → submit_next m b client op c n ≡ take_event m (submit_if b client op) c n
   unfolding submit_next
-  submitted client op place takes there is does n shown =
-      let clients : ℕ = c.world.config.clients in
-      let k : Node = record n { next_op = n.next_op + clients } in
-      let shows : Shows v k (record x { next_op = place }) = record {
-        at = shown.at;
-        next_op = is ∙ ap (λ (i : ℕ). i + clients) shown.next_op;
-        timers = shown.timers;
-        answers = shown.answers;
-        sends = shown.sends;
-      } in
-      let reach : Reaches v (take m c k (events.Submit client op)) d y = does k shows in
-      let found : slice_get ops n.next_op ≡ Some op = sym (ap (slice_get ops) shown.next_op) ∙ there in
-      let one : Reaches v (submit_next m true client (slice_get ops n.next_op) c n) d y =
-      subst (λ (o : Option (List ℕ)). Reaches v (submit_next m true client o c n) d y) (sym found) reach in
-      subst (λ (b : Bool). Reaches v (submit_next m b client (slice_get ops n.next_op) c n) d y) (sym takes) one
+  submit_by true client (Some op) = refl
+  submit_by true client None = refl
+  submit_by false client op = refl
 
-  -- it takes none
-  pub not_taken : (client : ℕ) → takes_op c.world client ≡ false
-      → Does v (λ a n. submit_next m (takes_op a.world client) client (slice_get ops n.next_op) a n) c x c x
-  unfolding submit_next
-  not_taken client takes n shown =
-      let here : Reaches v (submit_next m false client (slice_get ops n.next_op) c n) c x = record { course = refl; node = shown } in
-      subst (λ (b : Bool). Reaches v (submit_next m b client (slice_get ops n.next_op) c n) c x) (sym takes) here
+  next_by : (a : Actor) → next_of m ops a c n ≡ take_event m (next_event c.world a (slice_get ops n.next_op)) c n
+  unfolding next_of
+  next_by (actors.Client i) = submit_by (takes_op c.world i) i (slice_get ops n.next_op)
+  next_by (actors.Replica i) = refl
+  next_by (actors.Sequencer i) = refl
+  next_by actors.Controller = refl
 
-  -- or none is left
-  pub none_left : (client : ℕ) → slice_get ops x.next_op ≡ None
-      → Does v (λ a n. submit_next m (takes_op a.world client) client (slice_get ops n.next_op) a n) c x c x
-  unfolding submit_next
-  none_left client none n shown =
-      let found : slice_get ops n.next_op ≡ None = sym (ap (slice_get ops) shown.next_op) ∙ none in
-      subst (λ (o : Option (List ℕ)). Reaches v (submit_next m (takes_op c.world client) client o c n) c x) (sym found)
-      (by (takes_op c.world client))
-    where
-      by : (b : Bool) → Reaches v (submit_next m b client None c n) c x
-      by true = record { course = refl; node = shown }
-      by false = record { course = refl; node = shown }
-
-  pub next_submits : (tick : Tick) (client : ℕ) → tick ≡ ticks.Next → x.at.own ≡ actors.Client client
-      → Does v (λ a n. submit_next m (takes_op a.world client) client (slice_get ops n.next_op) a n) c x d y
-      → Does v (λ a n. on_tick m ops a n tick) c x d y
-  unfolding on_tick next_of
-  next_submits tick client is own does n shown =
-      let there : n.at.own ≡ actors.Client client = sym (ap (λ (a : Address). a.own) shown.at) ∙ own in
-      let one : Reaches v (next_of m ops n.at.own c n) d y =
-      subst (λ (a : Actor). Reaches v (next_of m ops a c n) d y) (sym there) (does n shown) in
-      subst (λ (t : Tick). Reaches v (on_tick m ops c n t) d y) (sym is) one
-
-  -- an actor that submits nothing
-  pub next_nothing : (tick : Tick) (actor : Actor) → tick ≡ ticks.Next → x.at.own ≡ actor → IsNoClient actor
-      → Does v (λ a n. on_tick m ops a n tick) c x c x
-  unfolding on_tick next_of
-  next_nothing tick actor is own free n shown =
-      let there : n.at.own ≡ actor = sym (ap (λ (a : Address). a.own) shown.at) ∙ own in
-      let one : Reaches v (next_of m ops n.at.own c n) c x =
-      subst (λ (a : Actor). Reaches v (next_of m ops a c n) c x) (sym there) (by actor free) in
-      subst (λ (t : Tick). Reaches v (on_tick m ops c n t) c x) (sym is) one
-    where
-      by : (a : Actor) → IsNoClient a → Reaches v (next_of m ops a c n) c x
-      by (actors.Replica i) free = record { course = refl; node = shown }
-      by (actors.Sequencer i) free = record { course = refl; node = shown }
-      by (actors.Client i) free = absurd free
-      by actors.Controller free = record { course = refl; node = shown }
-
-  pub install_nothing : (tick : Tick) (j : ℕ) → tick ≡ ticks.Install j → Does v (λ a n. on_tick m ops a n tick) c x c x
+  tick_by : (t : Tick) → on_tick m ops c n t ≡ take_event m (tick_event c.world n.at.own (slice_get ops n.next_op) t) c n
   unfolding on_tick
-  install_nothing tick j is n shown =
-      let here : Reaches v (on_tick m ops c n (ticks.Install j)) c x = record { course = refl; node = shown } in
-      subst (λ (t : Tick). Reaches v (on_tick m ops c n t) c x) (sym is) here
+  tick_by ticks.Next = next_by n.at.own
+  tick_by ticks.Suspect = refl
+  tick_by ticks.Watch = refl
+  tick_by ticks.Resend = refl
+  tick_by ticks.Sync = refl
+  tick_by ticks.Retry = refl
+  tick_by ticks.Probe = refl
+  tick_by (ticks.Install j) = refl
 
-  -- each other tick is an event
-  pub tick_event : (tick : Tick) → HasWord tick → Does v (λ a n. take m a n (events.Tick x.at.own tick)) c x d y
-      → Does v (λ a n. on_tick m ops a n tick) c x d y
-  unfolding on_tick
-  tick_event tick has does n shown =
-      by tick has (subst (λ (a : Address). Reaches v (take m c n (events.Tick a.own tick)) d y) shown.at (does n shown))
-    where
-      by : (t : Tick) → HasWord t → Reaches v (take m c n (events.Tick n.at.own t)) d y → Reaches v (on_tick m ops c n t) d y
-      by ticks.Suspect has reach = reach
-      by ticks.Watch has reach = reach
-      by ticks.Resend has reach = reach
-      by ticks.Sync has reach = reach
-      by ticks.Retry has reach = reach
-      by ticks.Next has reach = absurd has
-      by ticks.Probe has reach = reach
-      by (ticks.Install j) has reach = absurd has
-
-  pub fires : (now : ℕ) (t : Timer) → t.due ≤ now → Does v (λ a n. on_tick m ops a n t.tick) c x d y
-      → Does v (λ a n. fire_if m ops (nat_le t.due now) a n t.tick) c x d y
+  fire_by : (b : Bool) (t : Tick) → fire_if m ops b c n t ≡ take_event m (tick_event_if b c.world n.at.own (slice_get ops n.next_op) t) c n
   unfolding fire_if
-  fires now t le does n shown =
-      subst (λ (b : Bool). Reaches v (fire_if m ops b c n t.tick) d y) (sym (nat_le_true t.due now le)) (does n shown)
+  fire_by true t = tick_by t
+  fire_by false t = refl
 
-  pub waits : (now : ℕ) (t : Timer) → now < t.due → Does v (λ a n. fire_if m ops (nat_le t.due now) a n t.tick) c x c x
-  unfolding fire_if
-  waits now t lt n shown =
-      let here : Reaches v (fire_if m ops false c n t.tick) c x = record { course = refl; node = shown } in
-      subst (λ (b : Bool). Reaches v (fire_if m ops b c n t.tick) c x) (sym (nat_le_false t.due now lt)) here
+abbrev HasNoJunk : Option Event → Type 0
+HasNoJunk None = ⊤
+HasNoJunk (Some e) = IsNoJunk e
+
+submit_free : (b : Bool) (client : ℕ) (op : Option (List ℕ)) → HasNoJunk (submit_if b client op)
+submit_free true client (Some op) = tt
+submit_free true client None = tt
+submit_free false client op = tt
+
+next_free : (w : WorldState) (a : Actor) (op : Option (List ℕ)) → HasNoJunk (next_event w a op)
+next_free w (actors.Client i) op = submit_free (takes_op w i) i op
+next_free w (actors.Replica i) op = tt
+next_free w (actors.Sequencer i) op = tt
+next_free w actors.Controller op = tt
+
+tick_free : (w : WorldState) (a : Actor) (op : Option (List ℕ)) (t : Tick) → HasNoJunk (tick_event w a op t)
+tick_free w a op ticks.Next = next_free w a op
+tick_free w a op ticks.Suspect = tt
+tick_free w a op ticks.Watch = tt
+tick_free w a op ticks.Resend = tt
+tick_free w a op ticks.Sync = tt
+tick_free w a op ticks.Retry = tt
+tick_free w a op ticks.Probe = tt
+tick_free w a op (ticks.Install j) = tt
+
+free_if : (b : Bool) (w : WorldState) (a : Actor) (op : Option (List ℕ)) (t : Tick) → HasNoJunk (tick_event_if b w a op t)
+free_if true w a op t = tick_free w a op t
+free_if false w a op t = tt
+
+-- no timer brings junk
+pub timer_free : (w : WorldState) (a : Actor) (op : Option (List ℕ)) (t : Timer) (now : ℕ) (o : Option Event) (e : Event)
+    → o ≡ timer_event w a op t now → o ≡ Some e → IsNoJunk e
+timer_free w a op t now o e is some = subst HasNoJunk (sym is ∙ some) (free_if (nat_le t.due now) w a op t.tick)
+
+module _ {S L : Type 0} (m : Meaning S) (v : LinkView L) (ops : List (List ℕ)) (c d : Course) (x y : code.Node L) (t : Timer) (now : ℕ)
+    (op : Option (List ℕ)) (found : op ≡ slice_get ops x.next_op) (o : Option Event) (is : o ≡ timer_event c.world x.at.own op t now) where
+  -- what fires is the event that was found
+  is_fired : (n : Node) → Shows v n x → fire_if m ops (nat_le t.due now) c n t.tick ≡ take_event m o c n
+  is_fired n shown =
+      fire_by m ops c n (nat_le t.due now) t.tick
+      ∙ ap (λ (a : Address). take_event m (timer_event c.world a.own (slice_get ops n.next_op) t now) c n) (sym shown.at)
+      ∙ ap (λ (k : ℕ). take_event m (timer_event c.world x.at.own (slice_get ops k) t now) c n) (sym shown.next_op)
+      ∙ ap (λ (p : Option (List ℕ)). take_event m (timer_event c.world x.at.own p t now) c n) (sym found)
+      ∙ ap (λ (p : Option Event). take_event m p c n) (sym is)
+
+  pub fired_none : o ≡ None → Acts v m (λ a n. fire_if m ops (nat_le t.due now) a n t.tick) c x c x
+  fired_none none = record {
+    does = λ n shown.
+        let here : Reaches v (take_event m None c n) c x = record { course = refl; node = shown } in
+        subst (λ (p : Course × Node). Reaches v p c x) (sym (is_fired n shown ∙ ap (λ (p : Option Event). take_event m p c n) none)) here;
+    goes = λ config led. led;
+  }
+
+  pub fired_some : (e : Event) (place : ℕ) (r : Result (Unit {0}) NoMemory) → o ≡ Some e
+      → place ≡ next_after e x.next_op c.world.config.clients
+      → OnOk r (Acts v m (λ a n. take m a n e) c (record x { next_op = place }) d y)
+      → OnOk r (Acts v m (λ a n. fire_if m ops (nat_le t.due now) a n t.tick) c x d y)
+  fired_some e place (Err error) some next acts = tt
+  fired_some e place (Ok u) some next acts = record {
+    does = λ n shown.
+        let clients : ℕ = c.world.config.clients in
+        let k : Node = record n { next_op = next_after e n.next_op clients } in
+        let shows : Shows v k (record x { next_op = place }) = record {
+          at = shown.at;
+          next_op = next ∙ ap (λ (i : ℕ). next_after e i clients) shown.next_op;
+          timers = shown.timers;
+          answers = shown.answers;
+          sends = shown.sends;
+        } in
+        let here : Reaches v (take_event m (Some e) c n) d y = acts.does k shows in
+        subst (λ (p : Course × Node). Reaches v p d y) (sym (is_fired n shown ∙ ap (λ (p : Option Event). take_event m p c n) some)) here;
+    goes = acts.goes;
+  }

@@ -1,5 +1,6 @@
 -- The events that are kept lead to the world.
-use Rattle.std.proofs.Common.{◌≡◌, ℕ, ◌+◌, List, [], ◌∷◌, ◌++◌, Bool, true, false, Option, Some, None, Result, Ok, Err, refl, sym, ap, subst, ◌∙◌, arith}
+use Rattle.std.proofs.Common.{◌≡◌, ℕ, ◌+◌, List, [], ◌∷◌, ◌++◌, Bool, true, false, Option, Some, None, Result, Ok, Err, OnOk}
+use Rattle.std.proofs.Common.{refl, sym, ap, subst, ◌∙◌, arith, inl}
 use Rattle.std.specs.Prelude.{count_by, slice_get}
 use Rattle.std.specs.List.{All}
 use Rattle.std.proofs.lemmas.Grind.{common_steps, flat_map-append}
@@ -8,6 +9,7 @@ use Rattle.nop_types.specs.Configuration.{Configuration}
 use Rattle.nop_types.specs.Given.{Given}
 use Rattle.nop_types.specs.Lines.{Line}
 use Rattle.nop_types.specs.Meaning.{Meaning}
+use Rattle.nop_types.specs.declared.memory.NoMemory.{NoMemory}
 use Rattle.nop_types.specs.declared.input.Tick.{Tick}
 use Rattle.nop_types.specs.declared.input.Tick.TheVariants as ticks
 use Rattle.nop_types.specs.declared.output.Actor.{Actor}
@@ -19,13 +21,13 @@ use Rattle.schedule_text.specs.EventText.{HasLine, HasWord}
 use Rattle.schedule_text.specs.Fits.{EventFits, EventsFit}
 use Rattle.schedule_text.specs.Ticks.{takes_tick}
 use Rattle.schedule_text.specs.Transcript.{line_text, lines_text}
-use Rattle.world.specs.Actors.{Happens}
+use Rattle.world.specs.Actors as world
 use Rattle.world.specs.declared.lines.Lines.{Lines}
 use Rattle.world.specs.LineCounts.{is_accept}
 use Rattle.world.specs.Seats.{Seated, Did}
 use Rattle.world.specs.WorldSteps.{WorldState, Refusal, Happened, step, step_at, step_of, then_at, tick_if, stimulus_of, go_on, run_from}
 use Rattle.one_box.specs.ClusterRun.{Course, kept}
-use Rattle.one_box.specs.Showing.{IsLedTo, IsNoJunk, GoesOn}
+use Rattle.one_box.specs.Showing.{IsLedTo, IsNoJunk, Steps, GoesOn}
 
 fit_push : (es : List Event) (e : Event) → EventsFit es → EventFits e → EventsFit (es ++ e ∷ [])
 fit_push [] e fit one = (one, tt)
@@ -52,14 +54,15 @@ module _ {S : Type 0} (m : Meaning S) (e : Event) (h k : Happened) (next : step 
   on es lines (Ok j) rec is = rec (lines ++ j.lines) j.world is
   on es lines (Err refusal) rec is = absurd cc
 
-  run_push : (es : List Event) (lines : List Line) (w : WorldState) → run_from m lines w es ≡ Ok h → run_from m lines w (es ++ e ∷ []) ≡ after
+  run_push : (es : List Event) (lines : List Line) (w : WorldState) → run_from m lines w es ≡ Ok h
+      → run_from m lines w (es ++ e ∷ []) ≡ after
   run_push [] lines w is = last lines w is
   run_push (x ∷ es) lines w is = on es lines (step m w x) (λ ls v. run_push es ls v) is
 
 -- ---- an event that happens has a line
 
-at_refusal : {S : Type 0} (next : S → Given → S × List Out) (f : Seated S × Did → Happened) (o : Option (Seated S)) (r : Refusal) (h : Happened)
-    → then_at f (step_at next o (Err r)) ≡ Ok h → ⊥
+at_refusal : {S : Type 0} (next : S → Given → S × List Out) (f : Seated S × Did → Happened) (o : Option (Seated S)) (r : Refusal)
+    (h : Happened) → then_at f (step_at next o (Err r)) ≡ Ok h → ⊥
 at_refusal next f None r h is = cc
 at_refusal next f (Some p) r h is = cc
 
@@ -118,20 +121,35 @@ led_push m config c e h next fits free before = record {
   accepts = ap (λ (n : ℕ). n + count_by is_accept h.lines) before.accepts ∙ sym (count_append is_accept before.lines h.lines);
 }
 
+-- what is kept of an event and the text of its lines
+abbrev pub kept_as : Course → Event → WorldState → List ℕ → ℕ → Course
+kept_as c e new text accepts = record {
+  world = new;
+  events = c.events ++ e ∷ [];
+  text = c.text ++ text;
+  accepts = c.accepts + accepts;
+  stray = c.stray;
+}
+
 -- the lines that the world showed are kept with the event
-pub kept_goes : {S : Type 0} (m : Meaning S) (c d : Course) (e : Event) (new : WorldState) (lines : Lines)
-    → Happens (step m c.world e) new lines
-    → d ≡ record { world = new; events = c.events ++ e ∷ []; text = c.text ++ lines.text; accepts = c.accepts + lines.accepts; stray = c.stray }
-    → EventFits e → IsNoJunk e → GoesOn m c d
-kept_goes m c d e new lines h is fits free config led =
-    let happened : Happened = record { world = new; lines = h.are } in
-    let keeps : d ≡ kept c e happened =
-    is
-    ∙ ap (λ (t : List ℕ). record { world = new; events = c.events ++ e ∷ []; text = c.text ++ t; accepts = c.accepts + lines.accepts; stray = c.stray })
-    h.shown.text
-    ∙ ap (λ (k : ℕ). record { world = new; events = c.events ++ e ∷ []; text = c.text ++ lines_text h.are; accepts = c.accepts + k; stray = c.stray })
-    h.shown.accepts in
-    subst (IsLedTo m config) (sym keeps) (led_push m config c e happened h.is fits free led)
+module _ {S : Type 0} (m : Meaning S) (c d : Course) (e : Event) (new : WorldState) (lines : Lines)
+    (h : world.Happens (step m c.world e) new lines) where
+  keeps : d ≡ kept_as c e new lines.text lines.accepts → d ≡ kept c e (record { world = new; lines = h.are })
+  keeps is =
+      is ∙ ap (λ (t : List ℕ). kept_as c e new t lines.accepts) h.shown.text
+      ∙ ap (λ (k : ℕ). kept_as c e new (lines_text h.are) k) h.shown.accepts
+
+  pub kept_steps : (r : Result (Unit {0}) NoMemory) → OnOk r (d ≡ kept_as c e new lines.text lines.accepts) → OnOk r (Steps m e c d)
+  kept_steps (Ok t) is = inl (record { happened = record { world = new; lines = h.are }; is = h.is; keeps = keeps is })
+  kept_steps (Err x) is = tt
+
+  pub kept_goes : (r : Result (Unit {0}) NoMemory) → OnOk r (d ≡ kept_as c e new lines.text lines.accepts) → EventFits e → IsNoJunk e
+      → OnOk r (GoesOn m c d)
+  kept_goes (Ok t) is fits free =
+      λ config led.
+      subst (IsLedTo m config) (sym (keeps is))
+      (led_push m config c e (record { world = new; lines = h.are }) h.is fits free led)
+  kept_goes (Err x) is fits free = tt
 
 pub goes_through : {S : Type 0} (m : Meaning S) (a b c : Course) → GoesOn m a b → GoesOn m b c → GoesOn m a c
 goes_through m a b c one two config led = two config (one config led)

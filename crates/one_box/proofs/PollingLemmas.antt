@@ -1,10 +1,15 @@
 -- One poll of an actor.
-use Rattle.std.proofs.Common.{◌≡◌, ℕ, List, [], ◌++◌, drop, map, Option, Some, None, Result, Ok, Err, refl, sym, ap, subst, ◌∙◌, append-nil}
+use Rattle.std.proofs.Common.{◌≡◌, ℕ, List, [], ◌++◌, drop, map, Option, Some, None, Result, Ok, Err, OnOk}
+use Rattle.std.proofs.Common.{refl, sym, ap, subst, ◌∙◌, append-nil, arith}
+use Rattle.nop_types.specs.Configuration.{Configuration}
 use Rattle.nop_types.specs.Meaning.{Meaning}
+use Rattle.outside.specs.Causes.{Rose, HasCauseFor}
 use Rattle.outside.specs.Links.{next_poll, Polls}
 use Rattle.outside.specs.Plans.{next_count}
 use Rattle.outside.specs.Told.{Stays}
+use Rattle.outside.specs.declared.errors.DeviceError.{DeviceError}
 use Rattle.outside.specs.declared.errors.DeviceError.TheVariants as devices
+use Rattle.nop_types.specs.declared.memory.NoMemory.{NoMemory}
 use Rattle.outside.specs.declared.link.PollAnswer.{PollAnswer}
 use Rattle.outside.specs.declared.link.PollAnswer.TheVariants.{Received, Nothing, Failure}
 use Rattle.outside.specs.declared.link.Sent as links
@@ -15,31 +20,43 @@ use Rattle.udp_node.specs.Timing.{rearmed, Takes}
 use Rattle.udp_node.proofs.SendLemmas.{sends_then}
 use Rattle.udp_node.proofs.TurnLemmas.{answer_of, polled, poll_failed, quiet}
 use Rattle.world.specs.Finding.{first_index}
-use Rattle.one_box.specs.declared.errors.ClusterError.{ClusterError}
-use Rattle.one_box.specs.declared.errors.ClusterError.TheVariants.{LinkFault, WriteFault, NoMemory}
 use Rattle.one_box.specs.declared.node.Node as code
 use Rattle.one_box.specs.ClusterRun as run
 use Rattle.one_box.specs.ClusterRun.{Course, Node, take, deliver, poll, fire_due, node_turn}
-use Rattle.one_box.specs.Showing.{LinkView, Shows, Reaches, ReachesIf, Does, DoesOr, posts}
+use Rattle.one_box.specs.Showing.{LinkView, IsLedTo, Shows, Reaches, ReachesIf, Acts, Served, Serves, posts}
+use Rattle.one_box.proofs.LeadingLemmas.{goes_through}
+
+-- what is led to by events does not depend on what was dropped
+led_with_stray : {S : Type 0} (m : Meaning S) (config : Configuration) (c : Course) (n : ℕ) → IsLedTo m config c
+    → IsLedTo m config (record c { stray = n })
+led_with_stray m config c n led =
+    record { lines = led.lines; is = led.is; fit = led.fit; spelled = led.spelled; text = led.text; accepts = led.accepts }
 
 module _ {S L : Type 0} (m : Meaning S) (v : LinkView L) (c d : Course) (x y : code.Node L) where
   -- it equals one that was sent
-  pub delivered : (datagram : List ℕ) (index : ℕ) → first_index datagram c.world.sent ≡ Some index
-      → Does v (λ a n. take m a n (events.Deliver index x.at.own)) c x d y
-      → Does v (λ a n. deliver m (first_index datagram a.world.sent) a n) c x d y
+  pub delivered : (r : Result (Unit {0}) NoMemory) (datagram : List ℕ) (index : ℕ) → Some index ≡ first_index datagram c.world.sent
+      → OnOk r (Acts v m (λ a n. take m a n (events.Deliver index x.at.own)) c x d y)
+      → OnOk r (Acts v m (λ a n. deliver m (first_index datagram a.world.sent) a n) c x d y)
   unfolding deliver
-  delivered datagram index is does n shown =
-      let here : Reaches v (take m c n (events.Deliver index n.at.own)) d y =
-      subst (λ (a : Address). Reaches v (take m c n (events.Deliver index a.own)) d y) shown.at (does n shown) in
-      subst (λ (o : Option ℕ). Reaches v (deliver m o c n) d y) (sym is) here
+  delivered (Err e) datagram index is acts = tt
+  delivered (Ok t) datagram index is acts = record {
+    does = λ n shown.
+        let here : Reaches v (take m c n (events.Deliver index n.at.own)) d y =
+        subst (λ (a : Address). Reaches v (take m c n (events.Deliver index a.own)) d y) shown.at (acts.does n shown) in
+        subst (λ (o : Option ℕ). Reaches v (deliver m o c n) d y) is here;
+    goes = acts.goes;
+  }
 
   -- it equals none
-  pub dropped : (datagram : List ℕ) → first_index datagram c.world.sent ≡ None → d ≡ record c { stray = next_count c.stray }
-      → Does v (λ a n. deliver m (first_index datagram a.world.sent) a n) c x d x
+  pub dropped : (datagram : List ℕ) → None ≡ first_index datagram c.world.sent → d ≡ record c { stray = next_count c.stray }
+      → Acts v m (λ a n. deliver m (first_index datagram a.world.sent) a n) c x d x
   unfolding deliver
-  dropped datagram is strays n shown =
-      let here : Reaches v (deliver m None c n) d x = record { course = sym strays; node = shown } in
-      subst (λ (o : Option ℕ). Reaches v (deliver m o c n) d x) (sym is) here
+  dropped datagram is strays = record {
+    does = λ n shown.
+        let here : Reaches v (deliver m None c n) d x = record { course = sym strays; node = shown } in
+        subst (λ (o : Option ℕ). Reaches v (deliver m o c n) d x) is here;
+    goes = λ config led. subst (IsLedTo m config) (sym strays) (led_with_stray m config c (next_count c.stray) led);
+  }
 
 -- the link after a poll, with the timers that were due
 module _ {S L : Type 0} (m : Meaning S) (v : LinkView L) (now : ℕ) (c d : Course) (x z y : code.Node L) (at : z.at ≡ x.at)
@@ -69,47 +86,65 @@ module _ {S L : Type 0} (m : Meaning S) (v : LinkView L) (now : ℕ) (c d : Cour
       polled (Some n.answers) (v.answers x.link) (v.answers z.link) r shown.answers polls
 
   -- no datagram came
-  pub silent : Polls (v.answers x.link) (v.answers z.link) (Ok None) → (t : Unit {0}) → DoesOr v (poll m now) (Ok t) c x c z
+  pub silent : Polls (v.answers x.link) (v.answers z.link) (Ok None) → Served v m (poll m now) c x c z
   unfolding poll run.polled
-  silent polls t n shown =
-      let took = taken n None shown polls in
-      let here : ReachesIf v (run.polled m Nothing c (record n { timers = map (rearmed now) n.timers; answers = drop 1 n.answers })) c z =
-      record { course = refl; node = shows_after n shown took.1 } in
-      subst (λ (p : PollAnswer). ReachesIf v (run.polled m p c (record n { timers = map (rearmed now) n.timers; answers = drop 1 n.answers })) c z)
-      took.0 here
+  silent polls = record {
+    does = λ n shown.
+        let took = taken n None shown polls in
+        let k : Node = record n { timers = map (rearmed now) n.timers; answers = drop 1 n.answers } in
+        let here : ReachesIf v (run.polled m Nothing c k) c z = record { course = refl; node = shows_after n shown took.1 } in
+        subst (λ (p : PollAnswer). ReachesIf v (run.polled m p c k) c z) took.0 here;
+    goes = λ config led. led;
+  }
 
   -- a datagram came
   pub received : (datagram shows : List ℕ) → shows ≡ datagram → Polls (v.answers x.link) (v.answers z.link) (Ok (Some datagram))
-      → Does v (λ a n. deliver m (first_index shows a.world.sent) a n) c z d y → (t : Unit {0}) → DoesOr v (poll m now) (Ok t) c x d y
+      → Acts v m (λ a n. deliver m (first_index shows a.world.sent) a n) c z d y → Served v m (poll m now) c x d y
   unfolding poll run.polled
-  received datagram shows same polls does t n shown =
-      let took = taken n (Some datagram) shown polls in
-      let k : Node = record n { timers = map (rearmed now) n.timers; answers = drop 1 n.answers } in
-      let reach : Reaches v (deliver m (first_index shows c.world.sent) c k) d y = does k (shows_after n shown took.1) in
-      let here : ReachesIf v (run.polled m (Received datagram) c k) d y =
-      subst (λ (bytes : List ℕ). Reaches v (deliver m (first_index bytes c.world.sent) c k) d y) same reach in
-      subst (λ (p : PollAnswer). ReachesIf v (run.polled m p c k) d y) took.0 here
+  received datagram shows same polls acts = record {
+    does = λ n shown.
+        let took = taken n (Some datagram) shown polls in
+        let k : Node = record n { timers = map (rearmed now) n.timers; answers = drop 1 n.answers } in
+        let reach : Reaches v (deliver m (first_index shows c.world.sent) c k) d y = acts.does k (shows_after n shown took.1) in
+        let here : ReachesIf v (run.polled m (Received datagram) c k) d y =
+        subst (λ (bytes : List ℕ). Reaches v (deliver m (first_index bytes c.world.sent) c k) d y) same reach in
+        subst (λ (p : PollAnswer). ReachesIf v (run.polled m p c k) d y) took.0 here;
+    goes = acts.goes;
+  }
 
-  -- the poll failed
-  pub failed : Polls (v.answers x.link) (v.answers z.link) (Err devices.Failed) → DoesOr v (poll m now) (Err LinkFault) c x d y
+  -- the poll failed, or memory ran out
+  pub unpolled : (e : DeviceError) → Polls (v.answers x.link) (v.answers z.link) (Err e)
+      → HasCauseFor {T = Option (List ℕ)} (v.faults x.link) (v.faults z.link) devices.Failed (Err e)
+      → Serves v m (poll m now) (Err e) c x d z
   unfolding poll run.polled
-  failed polls n shown =
-      let gives : Failure ≡ next_poll n.answers =
-      poll_failed (Some n.answers) (v.answers x.link) (v.answers z.link) shown.answers polls in
-      ap (λ (p : PollAnswer). run.polled m p c (record n { timers = map (rearmed now) n.timers; answers = drop 1 n.answers })) (sym gives)
+  unpolled devices.Failed polls cause = record {
+    none = λ n shown.
+        let gives : Failure ≡ next_poll n.answers =
+        poll_failed (Some n.answers) (v.answers x.link) (v.answers z.link) shown.answers polls in
+        let k : Node = record n { timers = map (rearmed now) n.timers; answers = drop 1 n.answers } in
+        ap (λ (p : PollAnswer). run.polled m p c k) (sym gives);
+    rose = let rose : Rose (v.faults x.link) (v.faults z.link) = cause.failed refl in omega (arith, rose);
+  }
+  unpolled devices.NoMemory polls cause = tt
 
 -- the timers and then the poll
-module _ {S L : Type 0} (m : Meaning S) (v : LinkView L) (ops : List (List ℕ)) (now : ℕ) (c d e : Course) (x y z : code.Node L) where
-  pub fired_and_polled : (r : Result (Unit {0}) ClusterError) → Does v (λ a n. fire_due m ops now n.timers a n) c x d y
-      → DoesOr v (λ a n. poll m now a n) r d y e z → DoesOr v (λ a n. node_turn m ops now a n) r c x e z
+module _ {S L : Type 0} (m : Meaning S) (v : LinkView L) (ops : List (List ℕ)) (now : ℕ) (c d e : Course) (x y z : code.Node L)
+    (fires : Acts v m (λ a n. fire_due m ops now n.timers a n) c x d y) where
+  pub fired_and_polled : (r : Result (Unit {0}) DeviceError) → Serves v m (λ a n. poll m now a n) r d y e z
+      → Serves v m (λ a n. node_turn m ops now a n) r c x e z
   unfolding node_turn
-  fired_and_polled (Ok t) fires polls = λ n shown.
-      let p : Course × Node = fire_due m ops now n.timers c n in
-      let reach : Reaches v p d y = fires n shown in
-      subst (λ (a : Course). ReachesIf v (poll m now a p.1) e z) (sym reach.course) (polls p.1 reach.node)
-  fired_and_polled (Err LinkFault) fires polls = λ n shown.
-      let p : Course × Node = fire_due m ops now n.timers c n in
-      let reach : Reaches v p d y = fires n shown in
-      ap (λ (a : Course). poll m now a p.1) reach.course ∙ polls p.1 reach.node
-  fired_and_polled (Err WriteFault) fires polls = polls
-  fired_and_polled (Err NoMemory) fires polls = tt
+  fired_and_polled (Ok t) polls = record {
+    does = λ n shown.
+        let p : Course × Node = fire_due m ops now n.timers c n in
+        let reach : Reaches v p d y = fires.does n shown in
+        subst (λ (a : Course). ReachesIf v (poll m now a p.1) e z) (sym reach.course) (polls.does p.1 reach.node);
+    goes = goes_through m c d e fires.goes polls.goes;
+  }
+  fired_and_polled (Err devices.Failed) polls = record {
+    none = λ n shown.
+        let p : Course × Node = fire_due m ops now n.timers c n in
+        let reach : Reaches v p d y = fires.does n shown in
+        ap (λ (a : Course). poll m now a p.1) reach.course ∙ polls.none p.1 reach.node;
+    rose = polls.rose;
+  }
+  fired_and_polled (Err devices.NoMemory) polls = tt

@@ -1,17 +1,16 @@
 -- The turns of a cluster, one after the other.
 use Rattle.std.proofs.Common.{◌≡◌, ℕ, suc, ◌+◌, ◌-◌, ◌<◌, ◌≤◌, List, Bool, true, false, Option, Some, None, refl, sym, ap, subst, ◌∙◌}
-use Rattle.std.proofs.Common.{arith, max, Result, Ok, Err}
-use Rattle.std.specs.Prelude.{option_map, IsErrOf}
+use Rattle.std.proofs.Common.{arith, max, Ok, Err}
+use Rattle.std.specs.Prelude.{option_map}
 use Rattle.std.specs.Option.{option_and_then}
 use Rattle.nop_types.specs.Meaning.{Meaning}
 use Rattle.outside.specs.Clocks.{next_value, later_values, TellsTime}
-use Rattle.one_box.specs.declared.errors.ClusterError.{ClusterError}
-use Rattle.one_box.specs.declared.errors.ClusterError.TheVariants.{LinkFault, WriteFault, NoMemory}
+use Rattle.outside.specs.declared.errors.DeviceError.{DeviceError}
+use Rattle.outside.specs.declared.errors.DeviceError.TheVariants.{Failed, NoMemory}
 use Rattle.one_box.specs.declared.node.Node as code
-use Rattle.one_box.specs.declared.serving.Taken.{Taken}
 use Rattle.one_box.specs.ClusterRun.{Course, Node, ClusterRun, all_accepted, turn, one_more, ends_or, turns_from}
-use Rattle.one_box.specs.Showing.{LinkView, AllShow, AllReachIf, TurnsOr}
-use Rattle.one_box.specs.Running.{IsRunIf, RunsTold, after_turns, GoingFrom, Going}
+use Rattle.one_box.specs.Showing.{LinkView, AllShow, AllReachIf, Turns}
+use Rattle.one_box.specs.Running.{IsRunIf, RunsTold, Runs, after_turns, GoingFrom, Going}
 
 abbrev Turned : Type 0
 Turned = Course × List Node
@@ -60,7 +59,9 @@ module _ {S L : Type 0} (m : Meaning S) (v : LinkView L) (ops : List (List ℕ))
 
     -- a poll failed
     turn_fails : turn m ops time d from.nodes ≡ None → turns_from m ops turns c ns now values ≡ None
-    turn_fails is = next_turn ∙ ap (λ (o : Option Turned). option_map (after_turns taken) (after_turn (turns - (taken + 1)) time from.later o)) is
+    turn_fails is =
+        next_turn
+        ∙ ap (λ (o : Option Turned). option_map (after_turns taken) (after_turn (turns - (taken + 1)) time from.later o)) is
 
     -- all ops are accepted after the turn
     turn_ends : (o : Option Turned) → turn m ops time d from.nodes ≡ o → AllReachIf v o e zs → all_accepted ops e ≡ true
@@ -84,7 +85,8 @@ module _ {S L : Type 0} (m : Meaning S) (v : LinkView L) (ops : List (List ℕ))
     turn_goes None value left_told is reach all tells = absurd reach
     turn_goes (Some p) value left_told is reach all tells =
         let here : all_accepted ops p.0 ≡ false = ap (all_accepted ops) reach.course ∙ all in
-        let time_told : TellsTime (Some from.later) left_told value = subst (λ (t : Option (List ℕ)). TellsTime t left_told value) from.tells tells in
+        let time_told : TellsTime (Some from.later) left_told value =
+        subst (λ (t : Option (List ℕ)). TellsTime t left_told value) from.tells tells in
         let rest : ℕ = turns - (taken + 1) in
         record {
           later = later_values from.later;
@@ -103,13 +105,15 @@ module _ {S L : Type 0} (m : Meaning S) (v : LinkView L) (ops : List (List ℕ))
               (sym time_told.0);
         }
 
-  module _ (turns now taken time : ℕ) (told first : Option (List ℕ)) (c d e : Course) (xs ys zs : List (code.Node L)) (left : taken < turns) where
+  module _ (turns now taken time : ℕ) (told first : Option (List ℕ)) (c d e : Course) (xs ys zs : List (code.Node L))
+      (left : taken < turns) where
     pub turn_broken : Going v m ops turns now first c xs taken time told d ys
         → ((ns : List Node) → AllShow v ns ys → turn m ops time d ns ≡ None)
-        → RunsTold v m ops turns now first (Err LinkFault) c xs e zs
+        → RunsTold v m ops turns now first (Err Failed) c xs e zs
     turn_broken going fails = by first going
       where
-        by : (o : Option (List ℕ)) → Going v m ops turns now o c xs taken time told d ys → RunsTold v m ops turns now o (Err LinkFault) c xs e zs
+        by : (o : Option (List ℕ)) → Going v m ops turns now o c xs taken time told d ys
+            → RunsTold v m ops turns now o (Err Failed) c xs e zs
         by None g = tt
         by (Some values) g = λ ns shown.
             let f = g ns shown in
@@ -141,10 +145,9 @@ module _ {S L : Type 0} (m : Meaning S) (v : LinkView L) (ops : List (List ℕ))
             (does f.nodes f.shown) all tells
 
     -- an error ends the run
-    pub run_stops : (error : ClusterError) → Going v m ops turns now first c xs taken time told d ys
-        → TurnsOr v (λ a ns. turn m ops time a ns) (Err error) d ys e zs → RunsTold v m ops turns now first (Err error) c xs e zs
-    run_stops LinkFault going fails = turn_broken going fails
-    run_stops WriteFault going fails = absurd fails
+    pub run_stops : (error : DeviceError) → Going v m ops turns now first c xs taken time told d ys
+        → Turns v m (λ a ns. turn m ops time a ns) (Err error) d ys e zs → RunsTold v m ops turns now first (Err error) c xs e zs
+    run_stops Failed going fails = turn_broken going fails.none
     run_stops NoMemory going fails = by first
       where
         by : (o : Option (List ℕ)) → RunsTold v m ops turns now o (Err NoMemory) c xs e zs
@@ -167,9 +170,9 @@ module _ {S L : Type 0} (m : Meaning S) (v : LinkView L) (ops : List (List ℕ))
       subst (λ (o : Option ClusterRun). IsRunIf v o (record { turns = taken; done = done }) d ys) (sym whole)
       (record { course = refl; nodes = f.shown; turns = count; done = sym is })
 
--- a turn writes nothing
-pub never_write : {L : Type 0} (v : LinkView L) (f : Course → List Node → Option (Course × List Node)) (c d : Course) (xs ys : List (code.Node L))
-    (e : ClusterError) → TurnsOr v f (Err e) c xs d ys → (let r : Result Taken ClusterError = Err e in IsErrOf r WriteFault) → ⊥
-never_write v f c d xs ys LinkFault stops is = cc
-never_write v f c d xs ys WriteFault stops is = stops
-never_write v f c d xs ys NoMemory stops is = cc
+-- a poll that failed
+pub runs_fail : {S L : Type 0} (m : Meaning S) (v : LinkView L) (f : Course → List Node → Option (Course × List Node)) (ops : List (List ℕ))
+    (turns : ℕ) (c d e : Course) (ys zs : List (code.Node L)) (error : DeviceError) → Turns v m f (Err error) d ys e zs
+    → Runs v m ops turns (Err error) c e zs
+runs_fail m v f ops turns c d e ys zs Failed stops = stops.fault
+runs_fail m v f ops turns c d e ys zs NoMemory stops = tt

@@ -1,6 +1,6 @@
 -- What an actor sent in a step, over its link.
-use Rattle.std.proofs.Common.{◌≡◌, ℕ, zero, suc, ◌+◌, ◌-◌, ◌≤◌, List, [], ◌∷◌, ◌++◌, length, take, drop, Option, Some, None, refl, sym, ap, subst, ◌∙◌}
-use Rattle.std.proofs.Common.{arith, append-nil, length-drop}
+use Rattle.std.proofs.Common.{◌≡◌, ℕ, zero, suc, ◌+◌, ◌-◌, ◌≤◌, List, [], ◌∷◌, ◌++◌, length, take, drop, Option, Some, None}
+use Rattle.std.proofs.Common.{refl, sym, ap, subst, ◌∙◌, arith, append-nil, length-drop}
 use Rattle.std.specs.Prelude.{option_map, slice_get, slice_range}
 use Rattle.std.specs.Option.{option_to_list}
 use Rattle.std.proofs.lemmas.Grind.{flat_map-append}
@@ -26,7 +26,8 @@ sent_one at (Some s) dest bytes a b to is sends =
     let same_to : dest ≡ s.dest = cc in
     let same : bytes ≡ s.bytes = cc in
     let all : datagrams_to at dest bytes ≡ datagrams_to at s.dest s.bytes ++ [] =
-    ap (λ (d : Dest). datagrams_to at d bytes) same_to ∙ ap (datagrams_to at s.dest) same ∙ sym (append-nil (datagrams_to at s.dest s.bytes)) in
+    ap (λ (d : Dest). datagrams_to at d bytes) same_to ∙ ap (datagrams_to at s.dest) same
+    ∙ sym (append-nil (datagrams_to at s.dest s.bytes)) in
     subst (λ ds. Sends ds a b) all sends
 
 pub sent_none : (at : Address) (o : Option Sent) (a : LinkSide) → None ≡ option_map (λ (s : Sent). s.dest) o
@@ -76,8 +77,8 @@ one_since at xs count i a b c le one two =
     let more = option_to_list (slice_get xs i) in
     rw (range_more xs count i le, posts-append at front more) (sends_then (posts at front) (posts at more) a b c one two)
 
-pub all_since : (at : Address) (xs : List Sent) (count i : ℕ) (a b : LinkSide) → length xs ≤ i → Sends (posts at (slice_range xs count i)) a b
-    → Sends (posts at (drop count xs)) a b
+pub all_since : (at : Address) (xs : List Sent) (count i : ℕ) (a b : LinkSide) → length xs ≤ i
+    → Sends (posts at (slice_range xs count i)) a b → Sends (posts at (drop count xs)) a b
 all_since at xs count i a b past sends =
     let all : take (i - count) (drop count xs) ≡ drop count xs =
     take_all (i - count) (drop count xs) (omega (arith, length-drop count xs)) in

@@ -12,8 +12,8 @@ joined : (a h es t x f s : List ℕ) → (((((a ++ h) ++ es) ++ t) ++ x) ++ f) +
 joined a h es t x f s = simp append_assoc
 
 pub all_put : (config : Configuration) (es : List Event) (text : List ℕ) (w : WorldState) (turns lost stray : ℕ) (a b c d e f g : List ℕ)
-    → b ≡ a ++ header_line config → c ≡ b ++ flat_map event_line es → d ≡ c ++ transcript_line config → e ≡ d ++ text → f ≡ e ++ final_text w
-    → g ≡ f ++ served_line turns lost stray → g ≡ a ++ cluster_text config es text w turns lost stray
+    → b ≡ a ++ header_line config → c ≡ b ++ flat_map event_line es → d ≡ c ++ transcript_line config → e ≡ d ++ text
+    → f ≡ e ++ final_text w → g ≡ f ++ served_line turns lost stray → g ≡ a ++ cluster_text config es text w turns lost stray
 unfolding cluster_text schedule_text transcript_of
 all_put config es text w turns lost stray a b c d e f g hb hc hd he hf hg =
     let s = served_line turns lost stray in

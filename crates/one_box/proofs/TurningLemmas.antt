@@ -9,9 +9,9 @@ use Rattle.one_box.specs.declared.node.Node as code
 use Rattle.one_box.specs.ClusterRun.{Course, Node, node_turn, turn}
 use Rattle.outside.specs.Causes.{Rose}
 use Rattle.udp_node.specs.declared.address.Address.{Address}
-use Rattle.one_box.specs.declared.errors.ClusterError.{ClusterError}
-use Rattle.one_box.specs.declared.errors.ClusterError.TheVariants.{LinkFault, WriteFault, NoMemory}
-use Rattle.one_box.specs.Showing.{LinkView, Shows, ReachesIf, DoesOr, AllShow, AllReach, AllReachIf, TurnsOr, BasesFit, HasFault}
+use Rattle.outside.specs.declared.errors.DeviceError.{DeviceError}
+use Rattle.outside.specs.declared.errors.DeviceError.TheVariants.{Failed, NoMemory}
+use Rattle.one_box.specs.Showing.{LinkView, Shows, ReachesIf, Serves, AllShow, AllReach, AllReachIf, Turns, BasesFit, HasFault}
 use Rattle.one_box.specs.Showing.{place_of}
 use Rattle.one_box.specs.Progress.{TurningOn}
 
@@ -51,7 +51,8 @@ behind before k (Some q) = ap (λ (ns : List Node). some_turned q.0 ns) (append_
 
 module _ {S L : Type 0} (m : Meaning S) (v : LinkView L) (ops : List (List ℕ)) (now : ℕ) (c : Course) (ns : List Node) where
   abbrev then_rest : List Node → Option (Course × Node) → Option Turned
-  then_rest rest o = option_and_then (λ (p : Course × Node). option_map {U = Turned} (λ (q : Turned). (q.0, p.1 ∷ q.1)) (turn m ops now p.0 rest)) o
+  then_rest rest o =
+      option_and_then (λ (p : Course × Node). option_map {U = Turned} (λ (q : Turned). (q.0, p.1 ∷ q.1)) (turn m ops now p.0 rest)) o
 
   pub none_turned : (xs : List (code.Node L)) → AllShow v ns xs → TurningOn m v ops now c ns 0 c xs
   none_turned xs shown = record { before = []; rest = ns; count = refl; shown = shown; goes = same (turn m ops now c ns) }
@@ -113,7 +114,8 @@ module _ {S L : Type 0} (m : Meaning S) (v : LinkView L) (ops : List (List ℕ))
               behind k.before p.1 (turn m ops now e k.rest)
               ∙ ap (λ (a : Course). option_map {U = Turned} (λ (q : Turned). (q.0, k.before ++ q.1))
               (option_map {U = Turned} (λ (q : Turned). (q.0, p.1 ∷ q.1)) (turn m ops now a k.rest))) (sym reach.course)
-              ∙ ap (λ (r : Option (Course × Node)). option_map {U = Turned} (λ (q : Turned). (q.0, k.before ++ q.1)) (then_rest k.rest r)) (sym is)
+              ∙ ap (λ (r : Option (Course × Node)). option_map {U = Turned} (λ (q : Turned). (q.0, k.before ++ q.1)) (then_rest k.rest r))
+              (sym is)
               ∙ k.goes;
         }
 
@@ -122,7 +124,9 @@ module _ {S L : Type 0} (m : Meaning S) (v : LinkView L) (ops : List (List ℕ))
         → ((n : Node) → Shows v n x → node_turn m ops now d n ≡ None) → turn m ops now c ns ≡ None
     unfolding turn
     turn_broken e z t fails =
-        sym k.goes ∙ ap (λ (r : Option (Course × Node)). option_map {U = Turned} (λ (q : Turned). (q.0, k.before ++ q.1)) (then_rest k.rest r)) (fails k.node k.shows)
+        sym k.goes
+        ∙ ap (λ (r : Option (Course × Node)). option_map {U = Turned} (λ (q : Turned). (q.0, k.before ++ q.1)) (then_rest k.rest r))
+        (fails k.node k.shows)
       where
         k : NextNode
         k = next_node t
@@ -178,11 +182,13 @@ module _ {L : Type 0} (v : LinkView L) where
       set_there (y ∷ xs) (suc j) h = set_there xs j h
 
 -- an error ends the turn
-pub turn_stops : {S L : Type 0} (m : Meaning S) (v : LinkView L) (ops : List (List ℕ)) (now : ℕ) (c d e : Course) (xs ys zs : List (code.Node L))
-    (i : ℕ) (x z : code.Node L) (error : ClusterError) → slice_get ys i ≡ Some x → i < length ys
+pub turn_stops : {S L : Type 0} (m : Meaning S) (v : LinkView L) (ops : List (List ℕ)) (now : ℕ) (c d e : Course)
+    (xs ys : List (code.Node L)) (i : ℕ) (x z : code.Node L) (error : DeviceError) → slice_get ys i ≡ Some x → i < length ys
     → ((ns : List Node) → AllShow v ns xs → TurningOn m v ops now c ns i d ys)
-    → DoesOr v (λ a n. node_turn m ops now a n) (Err error) d x e z → TurnsOr v (λ a ns. turn m ops now a ns) (Err error) c xs e zs
-turn_stops m v ops now c d e xs ys zs i x z LinkFault found within on fails =
-    λ ns shown. turn_broken m v ops now c ns i d ys x found within e z (on ns shown) fails
-turn_stops m v ops now c d e xs ys zs i x z WriteFault found within on fails = fails
-turn_stops m v ops now c d e xs ys zs i x z NoMemory found within on fails = tt
+    → Serves v m (λ a n. node_turn m ops now a n) (Err error) d x e z
+    → Turns v m (λ a ns. turn m ops now a ns) (Err error) c xs e (slice_set ys i z)
+turn_stops m v ops now c d e xs ys i x z Failed found within on fails = record {
+  none = λ ns shown. turn_broken m v ops now c ns i d ys x found within e z (on ns shown) fails.none;
+  fault = fault_set v ys i x z found fails.rose;
+}
+turn_stops m v ops now c d e xs ys i x z NoMemory found within on fails = tt

@@ -3,7 +3,11 @@ use Rattle.std.specs.Prelude.{◌≡◌, ◌++◌, ◌==◌, ◌⊎◌, ℕ, Lis
 use Rattle.std.specs.Io.KnownBytes.{Appends}
 use Rattle.nop_types.specs.Configuration.{Configuration}
 use Rattle.nop_types.specs.Meaning.{Meaning}
+use Rattle.outside.specs.Causes.{Rose}
 use Rattle.outside.specs.Fronts.{AppendsFront}
+use Rattle.outside.specs.declared.errors.DeviceError.{DeviceError}
+use Rattle.outside.specs.declared.errors.DeviceError.TheVariants.{Failed}
+use Rattle.outside.specs.declared.errors.DeviceError.TheVariants as devices
 use Rattle.outside.specs.declared.link.PollAnswer.{PollAnswer}
 use Rattle.safety.specs.Safe.{SafelyPassed}
 use Rattle.schedule_text.specs.declared.event.Event.{Event}
@@ -18,10 +22,15 @@ use Rattle.one_box.specs.declared.node.Node as code_node
 use Rattle.one_box.specs.declared.serving.Taken.{Taken}
 use Rattle.one_box.specs.Actors.{actors_of}
 use Rattle.one_box.specs.Attaching.{place_for, lost_by}
-use Rattle.one_box.specs.ClusterRun.{Course, ClusterRun, cluster_run}
+use Rattle.one_box.specs.ClusterRun.{Course, ClusterRun, all_accepted, cluster_run}
 use Rattle.one_box.specs.Running.{IsRunIf}
-use Rattle.one_box.specs.Showing.{LinkView, AllShow, HasFault, place_of}
+use Rattle.one_box.specs.Showing.{LinkView, AllShow, HasFault, IsLedTo, place_of}
 use Rattle.one_box.specs.Text.{cluster_text}
+
+-- a port that has no link and a poll that failed are told alike
+abbrev pub error_of : DeviceError → ClusterError
+error_of Failed = LinkFault
+error_of devices.NoMemory = NoMemory
 
 -- ---- writing
 
@@ -34,12 +43,45 @@ WritesRun text boxed (Err NoMemory) before now = WroteFront text before now
 
 -- ---- the run
 
+-- where the ports and the clock tell their content, there is no run over it
+abbrev pub IsNoRun : {S : Type 0} → Meaning S → Configuration → List (List ℕ) → ℕ → ℕ → Option (List (List PollAnswer))
+    → Option (List ℕ) → Type 0
+IsNoRun m c ops base turns None values = ⊤
+IsNoRun m c ops base turns (Some polls) None = ⊤
+IsNoRun m c ops base turns (Some polls) (Some values) = cluster_run m c ops base turns values polls ≡ None
+
 module _ {S L : Type 0} (m : Meaning S) (v : LinkView L) (c : Configuration) (ops : List (List ℕ)) (base turns : ℕ) where
   -- where the ports and the clock tell their content, it is the run over it
   abbrev pub IsToldRun : Option (List (List PollAnswer)) → Option (List ℕ) → Taken → Course → List (code_node.Node L) → Type 0
   IsToldRun None values taken course xs = ⊤
   IsToldRun (Some polls) None taken course xs = ⊤
   IsToldRun (Some polls) (Some values) taken course xs = IsRunIf v (cluster_run m c ops base turns values polls) taken course xs
+
+  -- the turns were taken: the events lead to the course, and each actor has a link at its port
+  pub record RanTurns (polls : Option (List (List PollAnswer))) (values : Option (List ℕ)) (given_back given_back_now : List L)
+      (taken : Taken) (course : Course) (xs : List (code_node.Node L)) : Type 0 where
+    pub told : IsToldRun polls values taken course xs
+    pub led : IsLedTo m c course
+    pub done : taken.done ≡ all_accepted ops course
+    pub spent : taken.done ≡ false → taken.turns ≡ turns
+    pub places : map (place_of v) xs ≡ map (place_for base c) (actors_of c)
+    pub given : given_back_now ≡ given_back
+
+  -- a poll failed
+  pub record BreaksOff (polls : Option (List (List PollAnswer))) (values : Option (List ℕ)) (given_back given_back_now : List L)
+      (xs : List (code_node.Node L)) : Type 0 where
+    pub given : given_back_now ≡ given_back
+    pub fault : HasFault v xs
+    pub none : IsNoRun m c ops base turns polls values
+
+  -- or a port had no link
+  abbrev pub RunsOr : Option (List (List PollAnswer)) → Option (List ℕ) → ℕ → ℕ → List L → List L → Result Taken DeviceError → Course
+      → List (code_node.Node L) → Type 0
+  RunsOr polls values faults faults_now given_back given_back_now (Ok taken) course xs =
+      RanTurns polls values given_back given_back_now taken course xs
+  RunsOr polls values faults faults_now given_back given_back_now (Err Failed) course xs =
+      Rose faults faults_now ⊎ BreaksOff polls values given_back given_back_now xs
+  RunsOr polls values faults faults_now given_back given_back_now (Err devices.NoMemory) course xs = ⊤
 
   -- it is the run over these values and answers: its events, turns and counts are told, and each link sent what its actor sent
   pub record Tells (values : List ℕ) (polls : List (List PollAnswer)) (es : List Event) (boxed : Boxed) (xs : List (code_node.Node L))

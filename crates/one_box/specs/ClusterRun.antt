@@ -83,7 +83,7 @@ module _ {S : Type 0} (m : Meaning S) where
   unfoldable pub take : Course → Node → Event → Course × Node
   take c n e = kept_if c n e (step m c.world e)
 
-  -- a client that takes an op is given its next one; of the ops each client has every so manieth
+  -- a client that takes an op is given its next one; of C clients each has every C-th op
   unfoldable pub submit_next : Bool → ℕ → Option (List ℕ) → Course → Node → Course × Node
   submit_next true client (Some op) c n = take c (record n { next_op = n.next_op + c.world.config.clients }) (events.Submit client op)
   submit_next true client None c n = (c, n)
@@ -149,7 +149,7 @@ module _ {S : Type 0} (m : Meaning S) (ops : List (List ℕ)) where
       (λ (p : Course × Node). option_map (λ (q : Course × List Node). (q.0, p.1 ∷ q.1)) (turn now p.0 ns))
       (node_turn now c n)
 
-  -- at most so many turns, of which the first is now; None where a poll failed
+  -- at most this number of turns, of which the first is now; None where a poll failed
   unfoldable pub turns_from : ℕ → Course → List Node → ℕ → List ℕ → Option ClusterRun
   turns_from zero c ns now values = Some (record { course = c; nodes = ns; turns = 0; done = all_accepted ops c })
   turns_from (suc k) c ns now values =

@@ -1,12 +1,12 @@
 -- How the turns of a cluster end.
-use Rattle.std.specs.Prelude.{◌≡◌, ℕ, ◌+◌, ◌-◌, List, ⊤, Option, Some, None, Result, Ok, Err, option_map}
+use Rattle.std.specs.Prelude.{◌≡◌, ℕ, ◌+◌, ◌-◌, List, false, ⊤, Option, Some, None, Result, Ok, Err, option_map}
 use Rattle.nop_types.specs.Meaning.{Meaning}
-use Rattle.one_box.specs.declared.errors.ClusterError.{ClusterError}
-use Rattle.one_box.specs.declared.errors.ClusterError.TheVariants.{LinkFault, WriteFault, NoMemory}
+use Rattle.outside.specs.declared.errors.DeviceError.{DeviceError}
+use Rattle.outside.specs.declared.errors.DeviceError.TheVariants.{Failed, NoMemory}
 use Rattle.one_box.specs.declared.node.Node as code_node
 use Rattle.one_box.specs.declared.serving.Taken.{Taken}
-use Rattle.one_box.specs.ClusterRun.{Course, Node, ClusterRun, turns_from}
-use Rattle.one_box.specs.Showing.{LinkView, AllShow}
+use Rattle.one_box.specs.ClusterRun.{Course, Node, ClusterRun, all_accepted, turns_from}
+use Rattle.one_box.specs.Showing.{LinkView, AllShow, GoesOn, HasFault}
 
 -- so many turns before a run
 abbrev pub after_turns : ℕ → ClusterRun → ClusterRun
@@ -24,19 +24,30 @@ module _ {L : Type 0} (v : LinkView L) where
   IsRunIf None taken c xs = ⊥
   IsRunIf (Some r) taken c xs = IsRun r taken c xs
 
-  -- the call ended as this run does: at LinkFault there is none
-  abbrev pub EndsAs : Option ClusterRun → Result Taken ClusterError → Course → List (code_node.Node L) → Type 0
+  -- the call ended as this run does: where a poll failed there is none
+  abbrev pub EndsAs : Option ClusterRun → Result Taken DeviceError → Course → List (code_node.Node L) → Type 0
   EndsAs run (Ok taken) c xs = IsRunIf run taken c xs
-  EndsAs run (Err LinkFault) c xs = run ≡ None
-  EndsAs run (Err WriteFault) c xs = ⊥
+  EndsAs run (Err Failed) c xs = run ≡ None
   EndsAs run (Err NoMemory) c xs = ⊤
 
   -- where the clock and each link tell their content, it is the run over it
-  abbrev pub RunsTold : {S : Type 0} → Meaning S → List (List ℕ) → ℕ → ℕ → Option (List ℕ) → Result Taken ClusterError → Course
+  abbrev pub RunsTold : {S : Type 0} → Meaning S → List (List ℕ) → ℕ → ℕ → Option (List ℕ) → Result Taken DeviceError → Course
       → List (code_node.Node L) → Course → List (code_node.Node L) → Type 0
   RunsTold m ops turns now None result c xs d ys = ⊤
   RunsTold m ops turns now (Some values) result c xs d ys =
       (ns : List Node) → AllShow v ns xs → EndsAs (turns_from m ops turns c ns now values) result d ys
+
+  -- so many turns were taken, and all ops were accepted or no turn is left
+  pub record Completes {S : Type 0} (m : Meaning S) (ops : List (List ℕ)) (turns : ℕ) (taken : Taken) (c d : Course) : Type 0 where
+    pub done : taken.done ≡ all_accepted ops d
+    pub spent : taken.done ≡ false → taken.turns ≡ turns
+    pub goes : GoesOn m c d
+
+  abbrev pub Runs : {S : Type 0} → Meaning S → List (List ℕ) → ℕ → Result Taken DeviceError → Course → Course
+      → List (code_node.Node L) → Type 0
+  Runs m ops turns (Ok taken) c d ys = Completes m ops turns taken c d
+  Runs m ops turns (Err Failed) c d ys = HasFault v ys
+  Runs m ops turns (Err NoMemory) c d ys = ⊤
 
   -- the whole run is the run from here, after so many turns
   pub record GoingFrom {S : Type 0} (m : Meaning S) (ops : List (List ℕ)) (turns now : ℕ) (values : List ℕ) (c : Course) (ns : List Node)

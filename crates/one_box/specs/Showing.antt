@@ -1,10 +1,12 @@
 -- What the values of the code stand for.
-use Rattle.std.specs.Prelude.{◌≡◌, ◌≤◌, ℕ, List, [], ◌∷◌, slice_get, count_by, ⊤, Bool, true, false, Option, Some, None, Result, Ok, Err}
+use Rattle.std.specs.Prelude.{◌≡◌, ◌≤◌, ℕ, List, [], ◌∷◌, slice_get, count_by, ◌⊎◌, ⊤, Option, Some, None, Result, Ok, Err}
 use Rattle.std.specs.List.{All, flat_map}
 use Rattle.nop_types.specs.Configuration.{Configuration}
 use Rattle.nop_types.specs.Lines.{Line}
 use Rattle.nop_types.specs.Meaning.{Meaning}
 use Rattle.outside.specs.Causes.{Rose}
+use Rattle.outside.specs.declared.errors.DeviceError.{DeviceError}
+use Rattle.outside.specs.declared.errors.DeviceError.TheVariants.{Failed, NoMemory}
 use Rattle.outside.specs.declared.link.PollAnswer.{PollAnswer}
 use Rattle.outside.specs.declared.link.Sent as links
 use Rattle.schedule_text.specs.declared.event.Event.{Event}
@@ -18,9 +20,9 @@ use Rattle.udp_node.specs.Sends.{Sends, side}
 use Rattle.world.specs.LineCounts.{is_accept}
 use Rattle.world.specs.Network.{Sent}
 use Rattle.world.specs.WorldSteps.{Happened, Refusal, step, run}
+use Rattle.world.specs.declared.step_error.StepError.{StepError}
+use Rattle.world.specs.declared.step_error.StepError.TheVariants as steps
 use Rattle.one_box.specs.declared.course.Course as code_course
-use Rattle.one_box.specs.declared.errors.ClusterError.{ClusterError}
-use Rattle.one_box.specs.declared.errors.ClusterError.TheVariants.{LinkFault, WriteFault, NoMemory}
 use Rattle.one_box.specs.declared.node.Node as code_node
 use Rattle.one_box.specs.ClusterRun.{Course, Node, kept}
 
@@ -53,6 +55,13 @@ IsNoJunk (Install number) = ⊤
 IsNoJunk (Crash actor) = ⊤
 IsNoJunk (Junk actor bytes) = ⊥
 
+-- the world refused an event
+abbrev pub IsRefusal : StepError → Type 0
+IsRefusal (steps.NoSuchDatagram index sent) = ⊤
+IsRefusal steps.NoSuchActor = ⊤
+IsRefusal steps.Forged = ⊤
+IsRefusal steps.NoMemory = ⊥
+
 -- the event happened, and was kept
 pub record Happens {S : Type 0} (m : Meaning S) (e : Event) (c d : Course) : Type 0 where
   pub happened : Happened
@@ -65,9 +74,8 @@ pub record Refuses {S : Type 0} (m : Meaning S) (e : Event) (c d : Course) : Typ
   pub is : step m c.world e ≡ Err refusal
   pub same : d ≡ c
 
-abbrev pub StepsTo : {S : Type 0} → Meaning S → Event → Course → Course → Bool → Type 0
-StepsTo m e c d true = Happens m e c d
-StepsTo m e c d false = Refuses m e c d
+abbrev pub Steps : {S : Type 0} → Meaning S → Event → Course → Course → Type 0
+Steps m e c d = Happens m e c d ⊎ Refuses m e c d
 
 -- where it was so before, it is so now
 abbrev pub GoesOn : {S : Type 0} → Meaning S → Course → Course → Type 0
@@ -114,13 +122,28 @@ module _ {L : Type 0} (v : LinkView L) where
   ReachesIf None c x = ⊥
   ReachesIf (Some p) c x = Reaches p c x
 
-  -- the same of a call that polls: at LinkFault there is no run
-  abbrev pub DoesOr : (Course → Node → Option (Course × Node)) → Result (Unit {0}) ClusterError → Course → code_node.Node L → Course
-      → code_node.Node L → Type 0
-  DoesOr f (Ok r) c x d y = (n : Node) → Shows n x → ReachesIf (f c n) d y
-  DoesOr f (Err LinkFault) c x d y = (n : Node) → Shows n x → f c n ≡ None
-  DoesOr f (Err WriteFault) c x d y = ⊥
-  DoesOr f (Err NoMemory) c x d y = ⊤
+  -- and what is led to by events still is
+  pub record Acts {S : Type 0} (m : Meaning S) (f : Course → Node → Course × Node) (c : Course) (x : code_node.Node L) (d : Course)
+      (y : code_node.Node L) : Type 0 where
+    pub does : Does f c x d y
+    pub goes : GoesOn m c d
+
+  -- the same of a call that polls
+  pub record Served {S : Type 0} (m : Meaning S) (f : Course → Node → Option (Course × Node)) (c : Course) (x : code_node.Node L)
+      (d : Course) (y : code_node.Node L) : Type 0 where
+    pub does : (n : Node) → Shows n x → ReachesIf (f c n) d y
+    pub goes : GoesOn m c d
+
+  -- the poll failed: there is no run
+  pub record Broken (f : Course → Node → Option (Course × Node)) (c : Course) (x y : code_node.Node L) : Type 0 where
+    pub none : (n : Node) → Shows n x → f c n ≡ None
+    pub rose : Rose 0 (v.faults y.link)
+
+  abbrev pub Serves : {S : Type 0} → Meaning S → (Course → Node → Option (Course × Node)) → Result (Unit {0}) DeviceError → Course
+      → code_node.Node L → Course → code_node.Node L → Type 0
+  Serves m f (Ok r) c x d y = Served m f c x d y
+  Serves m f (Err Failed) c x d y = Broken f c x y
+  Serves m f (Err NoMemory) c x d y = ⊤
 
   -- where an actor is, and the port of its link
   abbrev pub place_of : code_node.Node L → Address × ℕ
@@ -141,14 +164,6 @@ module _ {L : Type 0} (v : LinkView L) where
   AllReachIf None c xs = ⊥
   AllReachIf (Some q) c xs = AllReach q c xs
 
-  -- a turn of all actors did this, where each link tells its content
-  abbrev pub TurnsOr : (Course → List Node → Option (Course × List Node)) → Result (Unit {0}) ClusterError → Course
-      → List (code_node.Node L) → Course → List (code_node.Node L) → Type 0
-  TurnsOr f (Ok r) c xs d ys = (ns : List Node) → AllShow ns xs → AllReachIf (f c ns) d ys
-  TurnsOr f (Err LinkFault) c xs d ys = (ns : List Node) → AllShow ns xs → f c ns ≡ None
-  TurnsOr f (Err WriteFault) c xs d ys = ⊥
-  TurnsOr f (Err NoMemory) c xs d ys = ⊤
-
   -- each port is within its range
   abbrev pub BasesFit : List (code_node.Node L) → Type 0
   BasesFit xs = (i : ℕ) (x : code_node.Node L) → slice_get xs i ≡ Some x → x.at.base ≤ 65000
@@ -159,3 +174,21 @@ module _ {L : Type 0} (v : LinkView L) where
     pub node : code_node.Node L
     pub there : slice_get xs place ≡ Some node
     pub rose : Rose 0 (v.faults node.link)
+
+  -- a turn of all actors did this, where each link tells its content
+  pub record AllServed {S : Type 0} (m : Meaning S) (f : Course → List Node → Option (Course × List Node)) (c : Course)
+      (xs : List (code_node.Node L)) (d : Course) (ys : List (code_node.Node L)) : Type 0 where
+    pub does : (ns : List Node) → AllShow ns xs → AllReachIf (f c ns) d ys
+    pub goes : GoesOn m c d
+
+  -- a poll failed: there is no run
+  pub record SomeBroken (f : Course → List Node → Option (Course × List Node)) (c : Course)
+      (xs ys : List (code_node.Node L)) : Type 0 where
+    pub none : (ns : List Node) → AllShow ns xs → f c ns ≡ None
+    pub fault : HasFault ys
+
+  abbrev pub Turns : {S : Type 0} → Meaning S → (Course → List Node → Option (Course × List Node)) → Result (Unit {0}) DeviceError
+      → Course → List (code_node.Node L) → Course → List (code_node.Node L) → Type 0
+  Turns m f (Ok r) c xs d ys = AllServed m f c xs d ys
+  Turns m f (Err Failed) c xs d ys = SomeBroken f c xs ys
+  Turns m f (Err NoMemory) c xs d ys = ⊤

@@ -8,10 +8,14 @@ use Rattle.schedule_text.specs.EventText.{event_text}
 use Rattle.schedule_text.specs.Transcript.{transcript_line}
 use Rattle.world.specs.WorldSteps.{WorldState}
 
+-- three numbers, each behind its word
+abbrev pub line_of : List ℕ → ℕ → List ℕ → ℕ → List ℕ → ℕ → List ℕ
+line_of first a second b third c = first ++ decimal a ++ second ++ decimal b ++ third ++ decimal c ++ 10 ∷ []
+
 -- line 1 of a schedule
 unfoldable pub header_of : (replicas sequencers clients : ℕ) → List ℕ
-header_of replicas sequencers clients = codes "nopaxos 1 replicas " ++ decimal replicas ++ codes " sequencers " ++ decimal sequencers
-    ++ codes " clients " ++ decimal clients ++ 10 ∷ []
+header_of replicas sequencers clients =
+    line_of (codes "nopaxos 1 replicas ") replicas (codes " sequencers ") sequencers (codes " clients ") clients
 
 abbrev pub header_line : Configuration → List ℕ
 header_line c = header_of c.replicas c.sequencers c.clients
@@ -28,9 +32,8 @@ unfoldable pub transcript_of : Configuration → List ℕ → WorldState → Lis
 transcript_of c text w = transcript_line c ++ (text ++ final_text w)
 
 unfoldable pub served_line : ℕ → ℕ → ℕ → List ℕ
-served_line turns lost stray = codes "served " ++ decimal turns ++ codes " lost " ++ decimal lost ++ codes " stray " ++ decimal stray
-    ++ 10 ∷ []
+served_line turns lost stray = line_of (codes "served ") turns (codes " lost ") lost (codes " stray ") stray
 
--- the schedule, its transcript, and the last line: so many turns were taken, so many sends failed, so many datagrams were dropped
+-- the schedule, its transcript, and the last line with the turns taken, the sends that failed, and the datagrams that were dropped
 unfoldable pub cluster_text : Configuration → List Event → List ℕ → WorldState → ℕ → ℕ → ℕ → List ℕ
 cluster_text c es text w turns lost stray = schedule_text c es ++ (transcript_of c text w ++ served_line turns lost stray)

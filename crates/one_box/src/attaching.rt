@@ -1,32 +1,33 @@
-ghost use Rattle.std.specs.Prelude.{◌≡◌, ◌≤◌, ◌<◌, ◌+◌, ◌++◌, ◌∷◌, [], map, length, slice_get, Some, IfOk, OnOk, OnErr, IsErrOf};
+ghost use Rattle.std.specs.Prelude.{◌≡◌, ◌≤◌, ◌<◌, ◌++◌, ◌∷◌, [], map, length, slice_get};
+ghost use Rattle.std.specs.Prelude.{Some, IfOk, OnOk};
 ghost use Rattle.nop_types.specs.declared.output.Actor.TheVariants as kinds;
-ghost use Rattle.outside.specs.Causes.{Rose};
+ghost use Rattle.outside.specs.Causes.{HasCauseFor};
 ghost use Rattle.outside.specs.Told.{Stays};
+ghost use Rattle.outside.specs.declared.errors.DeviceError.TheVariants as errors;
 ghost use Rattle.udp_node.specs.Timing.{armed};
 ghost use Rattle.world.specs.Lookups.{timers_of};
 ghost use Rattle.world.specs.WorldSteps.{opening};
 ghost use Rattle.one_box.specs.Actors.{actors_of, first_op, numbered};
 ghost use Rattle.one_box.specs.Attaching.{
-  AttachesAll,
-  AttachesOne,
+  AllAttached,
+  Attaches,
   HasRoom,
   Holds,
   lost_by,
-  place_for,
+  ports_side,
 };
-ghost use Rattle.one_box.specs.Showing.{link_view, place_of};
-ghost use Rattle.one_box.specs.declared.errors.ClusterError.TheVariants as errors;
+ghost use Rattle.one_box.specs.Showing.{link_view};
 
-use crate::errors::ClusterError;
 use crate::node::Node;
-use nop_types::{Actor, Config, Host, NoMemory};
+use nop_types::{Actor, Config, Host, NoMemory, Tick};
 use outside::{AttachError, Ports};
 use std::alloc::{AllocFailed, Global};
 use udp_node::{Address, Timer};
 use world::World;
 
 fn add_replicas(actors: &mut Vec<Actor>, count: u8) -> Result<(), NoMemory>
-    ensures { OnOk result (actors.new.items ≡ actors.old.items ++ numbered kinds.Replica count) }
+    ensures { OnOk result (actors.new.items
+        ≡ actors.old.items ++ numbered kinds.Replica count) }
 {
     for i in 0..count {
         actors.push(Actor::Replica(i))?;
@@ -35,7 +36,8 @@ fn add_replicas(actors: &mut Vec<Actor>, count: u8) -> Result<(), NoMemory>
 }
 
 fn add_sequencers(actors: &mut Vec<Actor>, count: u8) -> Result<(), NoMemory>
-    ensures { OnOk result (actors.new.items ≡ actors.old.items ++ numbered kinds.Sequencer count) }
+    ensures { OnOk result (actors.new.items
+        ≡ actors.old.items ++ numbered kinds.Sequencer count) }
 {
     for i in 0..count {
         actors.push(Actor::Sequencer(i))?;
@@ -44,7 +46,8 @@ fn add_sequencers(actors: &mut Vec<Actor>, count: u8) -> Result<(), NoMemory>
 }
 
 fn add_clients(actors: &mut Vec<Actor>, count: u8) -> Result<(), NoMemory>
-    ensures { OnOk result (actors.new.items ≡ actors.old.items ++ numbered kinds.Client count) }
+    ensures { OnOk result (actors.new.items
+        ≡ actors.old.items ++ numbered kinds.Client count) }
 {
     for i in 0..count {
         actors.push(Actor::Client(u32::from(i)))?;
@@ -64,6 +67,16 @@ pub(crate) fn actors_of(alloc: Global, config: Config) -> Result<Vec<Actor>, NoM
     Ok(actors)
 }
 
+fn armed(tick: Tick, period: u64, now: u64) -> Timer
+    ensures { result ≡ armed now (tick, period) }
+{
+    Timer {
+        tick,
+        period,
+        due: now.saturating_add(period),
+    }
+}
+
 /// The timers of an actor, each due a period after now.
 fn first_timers<H: Host>(
     alloc: Global,
@@ -78,11 +91,7 @@ fn first_timers<H: Host>(
     let mut timers = Vec::new(alloc);
     let mut i = 0;
     while let Some((tick, period)) = world.timer(actor, i) {
-        timers.push(Timer {
-            tick,
-            period,
-            due: now.saturating_add(period),
-        })?;
+        timers.push(armed(tick, period, now))?;
         i += 1;
     }
     Ok(timers)
@@ -122,22 +131,16 @@ fn attach_one<P: Ports>(
     at: Address,
     timers: Vec<Timer>,
     nodes: &mut Vec<Node<P::L>>,
-) -> Result<(), ClusterError>
+) -> Result<(), AttachError>
     requires base { at.base ≤ 65000 }
-    ensures one { OnOk result (AttachesOne
+    ensures attaches { Attaches
         (link_view P.L.answers P.L.own_port P.L.sent P.L.loss_count P.L.fault_count)
-        at timers.items (P.to_come ports.old) (P.to_come ports.new)
-        nodes.old.items nodes.new.items) }
-    ensures attached { OnOk result (P.attached ports.new ≡ P.attached ports.old + 1) }
-    ensures room { OnOk result (length (P.detached ports.new) < P.attached ports.new) }
-    ensures given { OnOk result (P.detached ports.new ≡ P.detached ports.old) }
-    ensures err { OnErr result (nodes.new.items ≡ nodes.old.items) }
-    ensures balance { OnErr result (P.attached ports.new + length (P.detached ports.old)
-        ≡ P.attached ports.old + length (P.detached ports.new)) }
-    ensures later { P.fault_count ports.old ≤ P.fault_count ports.new }
-    ensures cause { IsErrOf result errors.LinkFault
-        → Rose (P.fault_count ports.old) (P.fault_count ports.new) }
-    ensures write { IsErrOf result errors.WriteFault → ⊥ }
+        at timers.items result
+        (ports_side (P.to_come ports.old) (P.attached ports.old) (P.detached ports.old))
+        (ports_side (P.to_come ports.new) (P.attached ports.new) (P.detached ports.new))
+        nodes.old.items nodes.new.items }
+    ensures cause { HasCauseFor (P.fault_count ports.old) (P.fault_count ports.new)
+        errors.Failed result }
 {
     let port = at.port_of(at.own);
     match ports.attach(port) {
@@ -155,12 +158,11 @@ fn attach_one<P: Ports>(
                 Err(failed) => {
                     let AllocFailed { value } = failed;
                     detach_one(ports, value);
-                    Err(ClusterError::NoMemory)
+                    Err(AttachError::NoMemory)
                 }
             }
         }
-        Err(AttachError::Failed) => Err(ClusterError::LinkFault),
-        Err(AttachError::NoMemory) => Err(ClusterError::NoMemory),
+        Err(e) => Err(e),
     }
 }
 
@@ -172,26 +174,20 @@ fn attach_actor<H: Host, P: Ports>(
     now: u64,
     ports: &mut P,
     nodes: &mut Vec<Node<P::L>>,
-) -> Result<(), ClusterError>
+) -> Result<(), AttachError>
     requires base { at.base ≤ 65000 }
-    ensures one { OnOk result (AttachesOne
+    ensures attaches { Attaches
         (link_view P.L.answers P.L.own_port P.L.sent P.L.loss_count P.L.fault_count)
-        at (map (armed now) (timers_of world.now.state at.own)) (P.to_come ports.old)
-        (P.to_come ports.new) nodes.old.items nodes.new.items) }
-    ensures attached { OnOk result (P.attached ports.new ≡ P.attached ports.old + 1) }
-    ensures room { OnOk result (length (P.detached ports.new) < P.attached ports.new) }
-    ensures given { OnOk result (P.detached ports.new ≡ P.detached ports.old) }
-    ensures err { OnErr result (nodes.new.items ≡ nodes.old.items) }
-    ensures balance { OnErr result (P.attached ports.new + length (P.detached ports.old)
-        ≡ P.attached ports.old + length (P.detached ports.new)) }
-    ensures later { P.fault_count ports.old ≤ P.fault_count ports.new }
-    ensures cause { IsErrOf result errors.LinkFault
-        → Rose (P.fault_count ports.old) (P.fault_count ports.new) }
-    ensures write { IsErrOf result errors.WriteFault → ⊥ }
+        at (map (armed now) (timers_of world.now.state at.own)) result
+        (ports_side (P.to_come ports.old) (P.attached ports.old) (P.detached ports.old))
+        (ports_side (P.to_come ports.new) (P.attached ports.new) (P.detached ports.new))
+        nodes.old.items nodes.new.items }
+    ensures cause { HasCauseFor (P.fault_count ports.old) (P.fault_count ports.new)
+        errors.Failed result }
 {
     match first_timers(alloc, world, at.own, now) {
         Ok(timers) => attach_one(ports, at, timers, nodes),
-        Err(NoMemory) => Err(ClusterError::NoMemory),
+        Err(NoMemory) => Err(AttachError::NoMemory),
     }
 }
 
@@ -212,24 +208,21 @@ pub(crate) fn attach_all<H: Host, P: Ports>(
     now: u64,
     ports: &mut P,
     nodes: &mut Vec<Node<P::L>>,
-) -> Result<(), ClusterError>
+) -> Result<(), AttachError>
     requires base { base ≤ 65000 }
     requires empty { nodes.old.items ≡ [] }
     requires world { world.now.state ≡ opening config }
-    ensures told { OnOk result (AttachesAll
+    ensures attaches { OnOk result (AllAttached
         (link_view P.L.answers P.L.own_port P.L.sent P.L.loss_count P.L.fault_count)
-        base config now actors.now (P.to_come ports.old) nodes.new.items) }
-    ensures places { OnOk result (map (place_of
-        (link_view P.L.answers P.L.own_port P.L.sent P.L.loss_count P.L.fault_count)) nodes.new.items
-        ≡ map (place_for base config) actors.now) }
+        base config now actors.now
+        (ports_side (P.to_come ports.old) (P.attached ports.old) (P.detached ports.old))
+        (ports_side (P.to_come ports.new) (P.attached ports.new) (P.detached ports.new))
+        nodes.new.items) }
     ensures holds { Holds (P.attached ports.old) (P.detached ports.old) (P.attached ports.new)
         (P.detached ports.new) nodes.new.items }
     ensures room { HasRoom (P.attached ports.new) (P.detached ports.new) nodes.new.items }
-    ensures given { OnOk result (P.detached ports.new ≡ P.detached ports.old) }
-    ensures later { P.fault_count ports.old ≤ P.fault_count ports.new }
-    ensures cause { IsErrOf result errors.LinkFault
-        → Rose (P.fault_count ports.old) (P.fault_count ports.new) }
-    ensures write { IsErrOf result errors.WriteFault → ⊥ }
+    ensures cause { HasCauseFor (P.fault_count ports.old) (P.fault_count ports.new)
+        errors.Failed result }
 {
     for i in 0..actors.len() {
         let own = actor_at(actors, i);

@@ -1,11 +1,10 @@
-ghost use Rattle.std.specs.Prelude.{◌≡◌, ◌≤◌, ◌+◌, ◌⊎◌, [], false, length, map, IfOk, OnOk, IsErrOf};
+ghost use Rattle.std.specs.Prelude.{◌≡◌, ◌≤◌, ◌+◌, ◌⊎◌, [], length, IsErrOf};
 ghost use Rattle.kv_host.specs.Kv.{kv_meaning};
 ghost use Rattle.outside.specs.Causes.{Rose};
-ghost use Rattle.one_box.specs.Actors.{actors_of};
-ghost use Rattle.one_box.specs.Attaching.{HasRoom, Holds, place_for};
-ghost use Rattle.one_box.specs.Boxing.{EndsWith, IsToldRun, PollFailed};
-ghost use Rattle.one_box.specs.ClusterRun.{all_accepted, opening_course};
-ghost use Rattle.one_box.specs.Showing.{course_of, link_view, HasFault, IsLedTo, place_of};
+ghost use Rattle.one_box.specs.Attaching.{HasRoom, Holds};
+ghost use Rattle.one_box.specs.Boxing.{error_of, EndsWith, IsNoRun, PollFailed, RunsOr};
+ghost use Rattle.one_box.specs.ClusterRun.{opening_course};
+ghost use Rattle.one_box.specs.Showing.{course_of, link_view};
 ghost use Rattle.one_box.specs.declared.errors.ClusterError.TheVariants as errors;
 
 use crate::attaching::{actors_of, attach_all, detach_all, lost_by};
@@ -17,7 +16,7 @@ use crate::serving::{Taken, take_turns};
 use crate::writing::write_run;
 use kv_host::KvHost;
 use nop_types::{Config, Host, NoMemory, Op};
-use outside::{Clock, Ports, Sink};
+use outside::{Clock, LinkError, Ports, Sink};
 use std::alloc::Global;
 
 /// Attaches a link for each actor, and takes the turns.
@@ -31,32 +30,22 @@ fn run_turns<H: Host, P: Ports, C: Clock>(
     nodes: &mut Vec<Node<P::L>>,
     ports: &mut P,
     clock: &mut C,
-) -> Result<Taken, ClusterError>
+) -> Result<Taken, LinkError>
     requires base { base ≤ 65000 }
     requires empty { nodes.old.items ≡ [] }
     requires opens { course_of course.old ≡ opening_course config }
-    ensures told { IfOk result (λ taken. IsToldRun H.meaning
+    ensures runs { RunsOr H.meaning
         (link_view P.L.answers P.L.own_port P.L.sent P.L.loss_count P.L.fault_count)
-        config ops.now base turns (P.to_come ports.old) (C.values clock.old) taken
-        (course_of course.new) nodes.new.items) }
-    ensures led { OnOk result (IsLedTo H.meaning config (course_of course.new)) }
-    ensures done { IfOk result (λ t. t.done ≡ all_accepted ops.now (course_of course.new)) }
-    ensures spent { IfOk result (λ t. t.done ≡ false → t.turns ≡ turns) }
-    ensures places { OnOk result (map (place_of
-        (link_view P.L.answers P.L.own_port P.L.sent P.L.loss_count P.L.fault_count)) nodes.new.items
-        ≡ map (place_for base config) (actors_of config)) }
-    ensures given { OnOk result (P.detached ports.new ≡ P.detached ports.old) }
+        config ops.now base turns (P.to_come ports.old) (C.values clock.old)
+        (P.fault_count ports.old) (P.fault_count ports.new)
+        (P.detached ports.old) (P.detached ports.new) result (course_of course.new)
+        nodes.new.items }
     ensures holds { Holds (P.attached ports.old) (P.detached ports.old) (P.attached ports.new)
         (P.detached ports.new) nodes.new.items }
     ensures room { HasRoom (P.attached ports.new) (P.detached ports.new) nodes.new.items }
-    ensures cause { IsErrOf result errors.LinkFault
-        → Rose (P.fault_count ports.old) (P.fault_count ports.new)
-        ⊎ ((P.detached ports.new ≡ P.detached ports.old) × HasFault
-        (link_view P.L.answers P.L.own_port P.L.sent P.L.loss_count P.L.fault_count) nodes.new.items) }
-    ensures write { IsErrOf result errors.WriteFault → ⊥ }
 {
     let Ok(actors) = actors_of(alloc, config) else {
-        return Err(ClusterError::NoMemory);
+        return Err(LinkError::NoMemory);
     };
     let now = clock.now();
     let attached = attach_all(
@@ -69,10 +58,20 @@ fn run_turns<H: Host, P: Ports, C: Clock>(
         ports,
         nodes,
     );
-    if let Err(e) = attached {
-        return Err(e);
+    match attached {
+        Ok(()) => take_turns(course, nodes, ops, turns, now, clock),
+        Err(e) => Err(e),
     }
-    take_turns(course, nodes, ops, turns, now, clock)
+}
+
+/// A port that has no link and a poll that failed are told alike.
+fn error_of(error: LinkError) -> ClusterError
+    ensures { result ≡ error_of error }
+{
+    match error {
+        LinkError::Failed => ClusterError::LinkFault,
+        LinkError::NoMemory => ClusterError::NoMemory,
+    }
 }
 
 /// Serves a cluster whose replicas have a host of this type.
@@ -97,6 +96,9 @@ pub fn serve_all_with<H: Host, P: Ports, C: Clock, K: Sink>(
         → Rose (P.fault_count ports.old) (P.fault_count ports.new) ⊎ PollFailed
         (link_view P.L.answers P.L.own_port P.L.sent P.L.loss_count P.L.fault_count)
         (P.detached ports.old) (P.detached ports.new) }
+    ensures none { IsErrOf result errors.LinkFault
+        → Rose (P.fault_count ports.old) (P.fault_count ports.new) ⊎ IsNoRun H.meaning config
+        ops.now base turns (P.to_come ports.old) (C.values clock.old) }
     ensures write { IsErrOf result errors.WriteFault
         → Rose (K.fault_count sink.old) (K.fault_count sink.new) }
 {
@@ -121,11 +123,11 @@ pub fn serve_all_with<H: Host, P: Ports, C: Clock, K: Sink>(
     detach_all(ports, nodes);
     match ran {
         Ok(taken) => write_run(alloc, config, &course, taken, lost, sink),
-        Err(e) => Err(e),
+        Err(e) => Err(error_of(e)),
     }
 }
 
-/// Serves all actors of a configuration in one process, each over a link of its own at its port, for at most so many turns and until
+/// Serves all actors of a configuration in one process, each over a link of its own at its port, for at most `turns` turns and until
 /// all ops are accepted; the ops go to the clients in turn. At the end it writes the schedule of the events that happened, its
 /// transcript, and a last line; before that it writes nothing.
 pub fn serve_all<P: Ports, C: Clock, K: Sink>(
@@ -149,6 +151,9 @@ pub fn serve_all<P: Ports, C: Clock, K: Sink>(
         → Rose (P.fault_count ports.old) (P.fault_count ports.new) ⊎ PollFailed
         (link_view P.L.answers P.L.own_port P.L.sent P.L.loss_count P.L.fault_count)
         (P.detached ports.old) (P.detached ports.new) }
+    ensures none { IsErrOf result errors.LinkFault
+        → Rose (P.fault_count ports.old) (P.fault_count ports.new) ⊎ IsNoRun kv_meaning config
+        ops.now base turns (P.to_come ports.old) (C.values clock.old) }
     ensures write { IsErrOf result errors.WriteFault
         → Rose (K.fault_count sink.old) (K.fault_count sink.new) }
 {

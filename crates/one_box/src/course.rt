@@ -18,7 +18,7 @@ pub(crate) struct Course<H: Host> {
     pub(crate) stray: u64,
 }
 
-/// So many more; a count past its type answers NoMemory, since no memory holds so many lines.
+/// The sum; a count past its type answers NoMemory, since no memory holds that many lines.
 fn raised(count: u64, more: u32) -> Result<u64, NoMemory>
     ensures { IfOk result (λ n. n ≡ count + more) }
 {

@@ -1,7 +1,8 @@
-ghost use Rattle.std.specs.Prelude.{◌≡◌, ◌≤◌, ◌+◌, ◌<◌, IfOk, OnOk, Some, length, nat_le, option_map, slice_get};
-ghost use Rattle.world.specs.Lookups.{takes_op};
-ghost use Rattle.one_box.specs.ClusterRun.{fire_due, fire_if, on_tick, submit_next};
-ghost use Rattle.one_box.specs.Showing.{course_of, link_view, Does, GoesOn, place_of};
+ghost use Rattle.std.specs.Prelude.{◌≡◌, ◌≤◌, ◌<◌, IfOk, OnOk, Some};
+ghost use Rattle.std.specs.Prelude.{length, nat_le, option_map, slice_get};
+ghost use Rattle.one_box.specs.ClusterRun.{fire_due, fire_if};
+ghost use Rattle.one_box.specs.Firing.{next_after, next_event, tick_event, timer_event};
+ghost use Rattle.one_box.specs.Showing.{course_of, link_view, Acts, place_of};
 
 use crate::course::Course;
 use crate::node::Node;
@@ -10,16 +11,7 @@ use nop_types::{Actor, Host, NoMemory, Op, Tick};
 use outside::Link;
 use schedule_text::Event;
 use udp_node::Timer;
-
-/// The place of a client's next op, behind one that was there.
-fn next_place(place: usize, clients: u8) -> Result<usize, NoMemory>
-    ensures { IfOk result (λ n. n ≡ place + clients) }
-{
-    match place.checked_add(clients as usize) {
-        Some(n) => Ok(n),
-        None => Err(NoMemory),
-    }
-}
+use world::World;
 
 fn op_at(ops: &[Op], place: usize) -> Option<&Op>
     ensures { option_map (λ op. op.now) result ≡ slice_get ops.now place }
@@ -30,90 +22,78 @@ fn op_at(ops: &[Op], place: usize) -> Option<&Op>
     }
 }
 
-/// A client that takes an op is given its next one, if one is left.
-fn submit_next<H: Host, L: Link>(
-    course: &mut Course<H>,
-    node: &mut Node<L>,
-    ops: &[Op],
-    client: u32,
-) -> Result<(), NoMemory>
-    requires { node.old.at.base ≤ 65000 }
-    ensures does { OnOk result (Does
-        (link_view L.answers L.own_port L.sent L.loss_count L.fault_count)
-        (λ c n. submit_next H.meaning (takes_op c.world client) client
-        (slice_get ops.now n.next_op) c n)
-        (course_of course.old) node.old (course_of course.new) node.new) }
-    ensures goes { OnOk result (GoesOn H.meaning (course_of course.old) (course_of course.new)) }
-    ensures timers { node.new.timers.items ≡ node.old.timers.items }
-    ensures place { place_of
-        (link_view L.answers L.own_port L.sent L.loss_count L.fault_count) node.new
-        ≡ place_of (link_view L.answers L.own_port L.sent L.loss_count L.fault_count) node.old }
+fn submit(client: u32, op: &Op) -> Result<Option<Event>, NoMemory>
+    ensures { IfOk result (λ e. e ≡ Some (Event.Submit client op.now)) }
 {
-    if !course.world.takes(client) {
-        return Ok(());
-    }
-    let Some(op) = op_at(ops, node.next_op) else {
-        return Ok(());
-    };
-    let op = op.try_clone()?;
-    node.next_op = next_place(node.next_op, course.world.config().clients())?;
-    take(course, node, Event::Submit(client, op))?;
-    Ok(())
+    Ok(Some(Event::Submit(client, op.try_clone()?)))
 }
 
-/// The tick Next: a client is given its next op.
-fn next_op<H: Host, L: Link>(
-    course: &mut Course<H>,
-    node: &mut Node<L>,
-    ops: &[Op],
-) -> Result<(), NoMemory>
-    requires { node.old.at.base ≤ 65000 }
-    ensures does { OnOk result (Does
-        (link_view L.answers L.own_port L.sent L.loss_count L.fault_count)
-        (λ c n. on_tick H.meaning ops.now c n Tick.Next)
-        (course_of course.old) node.old (course_of course.new) node.new) }
-    ensures goes { OnOk result (GoesOn H.meaning (course_of course.old) (course_of course.new)) }
-    ensures timers { node.new.timers.items ≡ node.old.timers.items }
-    ensures place { place_of
-        (link_view L.answers L.own_port L.sent L.loss_count L.fault_count) node.new
-        ≡ place_of (link_view L.answers L.own_port L.sent L.loss_count L.fault_count) node.old }
+/// The tick Next: a client that takes an op is given this one, if it is there.
+fn next_event<H: Host>(
+    world: &World<H>,
+    own: Actor,
+    op: Option<&Op>,
+) -> Result<Option<Event>, NoMemory>
+    ensures { IfOk result (λ e. e ≡ next_event world.now.state own
+        (option_map (λ op. op.now) op.entry)) }
 {
-    match node.at.own {
-        Actor::Client(client) => {
-            submit_next(course, node, ops, client)?;
-            Ok(())
-        }
-        Actor::Replica(_) => Ok(()),
-        Actor::Sequencer(_) => Ok(()),
-        Actor::Controller => Ok(()),
+    let Actor::Client(client) = own else {
+        return Ok(None);
+    };
+    if !world.takes(client) {
+        return Ok(None);
+    }
+    match op {
+        Some(op) => submit(client, op),
+        None => Ok(None),
     }
 }
 
 /// The tick Next gives a client its next op; each other tick is an event.
-fn on_tick<H: Host, L: Link>(
-    course: &mut Course<H>,
-    node: &mut Node<L>,
-    ops: &[Op],
+fn tick_event<H: Host>(
+    world: &World<H>,
+    own: Actor,
+    op: Option<&Op>,
     tick: Tick,
-) -> Result<(), NoMemory>
-    requires { node.old.at.base ≤ 65000 }
-    ensures does { OnOk result (Does
-        (link_view L.answers L.own_port L.sent L.loss_count L.fault_count)
-        (λ c n. on_tick H.meaning ops.now c n tick)
-        (course_of course.old) node.old (course_of course.new) node.new) }
-    ensures goes { OnOk result (GoesOn H.meaning (course_of course.old) (course_of course.new)) }
-    ensures timers { node.new.timers.items ≡ node.old.timers.items }
-    ensures place { place_of
-        (link_view L.answers L.own_port L.sent L.loss_count L.fault_count) node.new
-        ≡ place_of (link_view L.answers L.own_port L.sent L.loss_count L.fault_count) node.old }
+) -> Result<Option<Event>, NoMemory>
+    ensures { IfOk result (λ e. e ≡ tick_event world.now.state own
+        (option_map (λ op. op.now) op.entry) tick) }
 {
     match tick {
-        Tick::Next => next_op(course, node, ops),
-        Tick::Install(_) => Ok(()),
-        _ => {
-            take(course, node, Event::Tick(node.at.own, tick))?;
-            Ok(())
-        }
+        Tick::Next => next_event(world, own, op),
+        Tick::Install(_) => Ok(None),
+        _ => Ok(Some(Event::Tick(own, tick))),
+    }
+}
+
+/// What a timer brings: nothing where it is not due.
+fn timer_event<H: Host>(
+    world: &World<H>,
+    own: Actor,
+    op: Option<&Op>,
+    timer: Timer,
+    now: u64,
+) -> Result<Option<Event>, NoMemory>
+    ensures { IfOk result (λ e. e ≡ timer_event world.now.state own
+        (option_map (λ op. op.now) op.entry) timer now) }
+{
+    if timer.due <= now {
+        tick_event(world, own, op, timer.tick)
+    } else {
+        Ok(None)
+    }
+}
+
+/// The place of an actor's next op after an event: a client's is behind one that was there.
+fn next_after(event: &Event, place: usize, clients: u8) -> Result<usize, NoMemory>
+    ensures { IfOk result (λ n. n ≡ next_after event.now place clients) }
+{
+    match event {
+        Event::Submit(..) => match place.checked_add(clients as usize) {
+            Some(n) => Ok(n),
+            None => Err(NoMemory),
+        },
+        _ => Ok(place),
     }
 }
 
@@ -133,22 +113,21 @@ fn fire<H: Host, L: Link>(
     now: u64,
 ) -> Result<(), NoMemory>
     requires { node.old.at.base ≤ 65000 }
-    ensures does { OnOk result (Does
-        (link_view L.answers L.own_port L.sent L.loss_count L.fault_count)
+    ensures acts { OnOk result (Acts
+        (link_view L.answers L.own_port L.sent L.loss_count L.fault_count) H.meaning
         (λ c n. fire_if H.meaning ops.now (nat_le timer.due now) c n timer.tick)
         (course_of course.old) node.old (course_of course.new) node.new) }
-    ensures goes { OnOk result (GoesOn H.meaning (course_of course.old) (course_of course.new)) }
     ensures timers { node.new.timers.items ≡ node.old.timers.items }
     ensures place { place_of
         (link_view L.answers L.own_port L.sent L.loss_count L.fault_count) node.new
         ≡ place_of (link_view L.answers L.own_port L.sent L.loss_count L.fault_count) node.old }
 {
-    if timer.due <= now {
-        on_tick(course, node, ops, timer.tick)?;
-        Ok(())
-    } else {
-        Ok(())
-    }
+    let op = op_at(ops, node.next_op);
+    let Some(event) = timer_event(&course.world, node.at.own, op, timer, now)? else {
+        return Ok(());
+    };
+    node.next_op = next_after(&event, node.next_op, course.world.config().clients())?;
+    take(course, node, event)
 }
 
 /// The timers that are due fire, in order.
@@ -159,11 +138,10 @@ pub(crate) fn fire_due<H: Host, L: Link>(
     now: u64,
 ) -> Result<(), NoMemory>
     requires { node.old.at.base ≤ 65000 }
-    ensures does { OnOk result (Does
-        (link_view L.answers L.own_port L.sent L.loss_count L.fault_count)
+    ensures acts { OnOk result (Acts
+        (link_view L.answers L.own_port L.sent L.loss_count L.fault_count) H.meaning
         (λ c n. fire_due H.meaning ops.now now n.timers c n)
         (course_of course.old) node.old (course_of course.new) node.new) }
-    ensures goes { OnOk result (GoesOn H.meaning (course_of course.old) (course_of course.new)) }
     ensures timers { node.new.timers.items ≡ node.old.timers.items }
     ensures place { place_of
         (link_view L.answers L.own_port L.sent L.loss_count L.fault_count) node.new

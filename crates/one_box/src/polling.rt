@@ -1,19 +1,9 @@
-ghost use Rattle.std.specs.Prelude.{◌≡◌, ◌≤◌, OnOk, IsErrOf};
-ghost use Rattle.outside.specs.Causes.{Rose};
+ghost use Rattle.std.specs.Prelude.{◌≡◌, ◌≤◌, OnOk};
 ghost use Rattle.one_box.specs.ClusterRun.{deliver, poll};
-ghost use Rattle.one_box.specs.Showing.{
-  course_of,
-  link_view,
-  Does,
-  DoesOr,
-  GoesOn,
-  place_of,
-};
-ghost use Rattle.one_box.specs.declared.errors.ClusterError.TheVariants as errors;
+ghost use Rattle.one_box.specs.Showing.{course_of, link_view, Acts, Serves, place_of};
 ghost use Rattle.world.specs.Finding.{first_index};
 
 use crate::course::Course;
-use crate::errors::ClusterError;
 use crate::node::Node;
 use crate::taking::take;
 use nop_types::{Host, NoMemory};
@@ -28,20 +18,16 @@ fn deliver<H: Host, L: Link>(
     datagram: &[u8],
 ) -> Result<(), NoMemory>
     requires { node.old.at.base ≤ 65000 }
-    ensures does { OnOk result (Does
-        (link_view L.answers L.own_port L.sent L.loss_count L.fault_count)
+    ensures acts { OnOk result (Acts
+        (link_view L.answers L.own_port L.sent L.loss_count L.fault_count) H.meaning
         (λ c n. deliver H.meaning (first_index datagram.now c.world.sent) c n)
         (course_of course.old) node.old (course_of course.new) node.new) }
-    ensures goes { OnOk result (GoesOn H.meaning (course_of course.old) (course_of course.new)) }
     ensures place { place_of
         (link_view L.answers L.own_port L.sent L.loss_count L.fault_count) node.new
         ≡ place_of (link_view L.answers L.own_port L.sent L.loss_count L.fault_count) node.old }
 {
     match course.world.find(datagram) {
-        Some(index) => {
-            take(course, node, Event::Deliver(index, node.at.own))?;
-            Ok(())
-        }
+        Some(index) => take(course, node, Event::Deliver(index, node.at.own)),
         None => {
             course.stray = course.stray.saturating_add(1);
             Ok(())
@@ -54,26 +40,23 @@ pub(crate) fn poll<H: Host, L: Link>(
     course: &mut Course<H>,
     node: &mut Node<L>,
     now: u64,
-) -> Result<(), ClusterError>
+) -> Result<(), LinkError>
     requires { node.old.at.base ≤ 65000 }
-    ensures does { DoesOr
-        (link_view L.answers L.own_port L.sent L.loss_count L.fault_count)
+    ensures serves { Serves
+        (link_view L.answers L.own_port L.sent L.loss_count L.fault_count) H.meaning
         (λ c n. poll H.meaning now c n) result
         (course_of course.old) node.old (course_of course.new) node.new }
-    ensures goes { OnOk result (GoesOn H.meaning (course_of course.old) (course_of course.new)) }
     ensures place { place_of
         (link_view L.answers L.own_port L.sent L.loss_count L.fault_count) node.new
         ≡ place_of (link_view L.answers L.own_port L.sent L.loss_count L.fault_count) node.old }
-    ensures cause { IsErrOf result errors.LinkFault → Rose 0 (L.fault_count node.new.link) }
 {
     rearm_due(&mut node.timers, now);
     match node.link.poll() {
         Ok(None) => Ok(()),
         Ok(Some(datagram)) => match deliver(course, node, datagram.as_slice()) {
             Ok(()) => Ok(()),
-            Err(NoMemory) => Err(ClusterError::NoMemory),
+            Err(NoMemory) => Err(LinkError::NoMemory),
         },
-        Err(LinkError::Failed) => Err(ClusterError::LinkFault),
-        Err(LinkError::NoMemory) => Err(ClusterError::NoMemory),
+        Err(e) => Err(e),
     }
 }

@@ -35,7 +35,7 @@ fn send_one<H: Host, L: Link>(
     }
 }
 
-/// Sends over an actor's link what was sent since there were so many datagrams.
+/// Sends over an actor's link the datagrams of the network from this index on.
 pub(crate) fn send_since<H: Host, L: Link>(
     world: &World<H>,
     count: u64,

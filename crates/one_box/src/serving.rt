@@ -1,22 +1,13 @@
-ghost use Rattle.std.specs.Prelude.{◌≡◌, false, map, IfOk, OnOk, IsErrOf};
+ghost use Rattle.std.specs.Prelude.{◌≡◌, map};
 ghost use Rattle.one_box.specs.ClusterRun.{all_accepted};
-ghost use Rattle.one_box.specs.Showing.{
-  course_of,
-  link_view,
-  BasesFit,
-  GoesOn,
-  HasFault,
-  place_of,
-};
-ghost use Rattle.one_box.specs.Running.{RunsTold};
-ghost use Rattle.one_box.specs.declared.errors.ClusterError.TheVariants as errors;
+ghost use Rattle.one_box.specs.Running.{Runs, RunsTold};
+ghost use Rattle.one_box.specs.Showing.{course_of, link_view, BasesFit, place_of};
 
 use crate::course::Course;
-use crate::errors::ClusterError;
 use crate::node::Node;
 use crate::turn::turn;
 use nop_types::{Host, Op};
-use outside::{Clock, Link};
+use outside::{Clock, Link, LinkError};
 
 /// The turns that were taken, and whether all ops were accepted.
 #[derive(Clone, Copy)]
@@ -31,7 +22,7 @@ fn all_accepted<H: Host>(course: &Course<H>, ops: &[Op]) -> bool
     course.accepts == ops.len() as u64
 }
 
-/// At most so many turns, until all ops are accepted.
+/// At most `turns` turns, until all ops are accepted.
 pub(crate) fn take_turns<H: Host, L: Link, C: Clock>(
     course: &mut Course<H>,
     nodes: &mut Vec<Node<L>>,
@@ -39,23 +30,20 @@ pub(crate) fn take_turns<H: Host, L: Link, C: Clock>(
     turns: u64,
     now: u64,
     clock: &mut C,
-) -> Result<Taken, ClusterError>
+) -> Result<Taken, LinkError>
     requires { BasesFit (link_view L.answers L.own_port L.sent L.loss_count L.fault_count)
         nodes.old.items }
     ensures told { RunsTold
         (link_view L.answers L.own_port L.sent L.loss_count L.fault_count)
         H.meaning ops.now turns now (C.values clock.old) result
         (course_of course.old) nodes.old.items (course_of course.new) nodes.new.items }
-    ensures done { IfOk result (λ t. t.done ≡ all_accepted ops.now (course_of course.new)) }
-    ensures spent { IfOk result (λ t. t.done ≡ false → t.turns ≡ turns) }
-    ensures goes { OnOk result (GoesOn H.meaning (course_of course.old) (course_of course.new)) }
+    ensures runs { Runs
+        (link_view L.answers L.own_port L.sent L.loss_count L.fault_count) H.meaning
+        ops.now turns result (course_of course.old) (course_of course.new) nodes.new.items }
     ensures places { map (place_of
         (link_view L.answers L.own_port L.sent L.loss_count L.fault_count)) nodes.new.items
         ≡ map (place_of (link_view L.answers L.own_port L.sent L.loss_count L.fault_count))
         nodes.old.items }
-    ensures cause { IsErrOf result errors.LinkFault → HasFault
-        (link_view L.answers L.own_port L.sent L.loss_count L.fault_count) nodes.new.items }
-    ensures write { IsErrOf result errors.WriteFault → ⊥ }
 {
     let mut now = now;
     let mut taken = 0;

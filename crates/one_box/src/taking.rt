@@ -1,12 +1,13 @@
-ghost use Rattle.std.specs.Prelude.{◌≡◌, ◌≤◌, IfOk, OnOk};
+ghost use Rattle.std.specs.Prelude.{◌≡◌, ◌≤◌, OnOk, OnErr};
 ghost use Rattle.one_box.specs.ClusterRun.{take};
 ghost use Rattle.one_box.specs.Showing.{
   course_of,
   link_view,
-  Does,
+  Acts,
   GoesOn,
   IsNoJunk,
-  StepsTo,
+  IsRefusal,
+  Steps,
   place_of,
 };
 
@@ -18,22 +19,27 @@ use outside::Link;
 use schedule_text::Event;
 use world::StepError;
 
-/// One event of the world, which is kept; false where it is refused, which changes nothing.
-fn keep_step<H: Host>(course: &mut Course<H>, event: Event) -> Result<bool, NoMemory>
+/// A refused event changes nothing.
+fn refused(error: StepError) -> Result<(), NoMemory>
+    ensures ok { OnOk result (IsRefusal error) }
+    ensures err { OnErr result (error ≡ StepError.NoMemory) }
+{
+    match error {
+        StepError::NoMemory => Err(NoMemory),
+        _ => Ok(()),
+    }
+}
+
+/// One event of the world, which is kept unless it is refused.
+fn keep_step<H: Host>(course: &mut Course<H>, event: Event) -> Result<(), NoMemory>
     requires { IsNoJunk event }
-    ensures steps { IfOk result (StepsTo H.meaning event (course_of course.old)
+    ensures steps { OnOk result (Steps H.meaning event (course_of course.old)
         (course_of course.new)) }
     ensures goes { OnOk result (GoesOn H.meaning (course_of course.old) (course_of course.new)) }
 {
     match course.world.step(&event) {
-        Ok(lines) => {
-            course.keep(event, lines)?;
-            Ok(true)
-        }
-        Err(StepError::NoMemory) => Err(NoMemory),
-        Err(StepError::NoSuchActor) => Ok(false),
-        Err(StepError::NoSuchDatagram { .. }) => Ok(false),
-        Err(StepError::Forged) => Ok(false),
+        Ok(lines) => course.keep(event, lines),
+        Err(e) => refused(e),
     }
 }
 
@@ -45,27 +51,24 @@ pub(crate) fn take<H: Host, L: Link>(
 ) -> Result<(), NoMemory>
     requires base { node.old.at.base ≤ 65000 }
     requires event { IsNoJunk event }
-    ensures does { OnOk result (Does
-        (link_view L.answers L.own_port L.sent L.loss_count L.fault_count)
+    ensures acts { OnOk result (Acts
+        (link_view L.answers L.own_port L.sent L.loss_count L.fault_count) H.meaning
         (λ c n. take H.meaning c n event)
         (course_of course.old) node.old (course_of course.new) node.new) }
-    ensures goes { OnOk result (GoesOn H.meaning (course_of course.old) (course_of course.new)) }
     ensures timers { node.new.timers.items ≡ node.old.timers.items }
     ensures place { place_of
         (link_view L.answers L.own_port L.sent L.loss_count L.fault_count) node.new
         ≡ place_of (link_view L.answers L.own_port L.sent L.loss_count L.fault_count) node.old }
 {
     let count = course.world.sent_count();
-    let kept = keep_step(course, event)?;
-    if !kept {
-        return Ok(());
+    match keep_step(course, event) {
+        Ok(()) => send_since(
+            &course.world,
+            count,
+            &node.at,
+            &mut node.link,
+            &mut node.lost,
+        ),
+        Err(NoMemory) => Err(NoMemory),
     }
-    send_since(
-        &course.world,
-        count,
-        &node.at,
-        &mut node.link,
-        &mut node.lost,
-    )?;
-    Ok(())
 }

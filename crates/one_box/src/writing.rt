@@ -4,7 +4,7 @@ ghost use Rattle.one_box.specs.Boxing.{WritesRun};
 ghost use Rattle.one_box.specs.declared.errors.ClusterError.TheVariants as errors;
 ghost use Rattle.std.specs.List.{All, flat_map};
 ghost use Rattle.schedule_text.specs.EventText.{HasLine};
-ghost use Rattle.one_box.specs.Text.{cluster_text, event_line, header_line, header_of, served_line};
+ghost use Rattle.one_box.specs.Text.{cluster_text, event_line, header_line, line_of, served_line};
 
 use crate::boxed::Boxed;
 use crate::course::Course;
@@ -32,28 +32,37 @@ fn put_labelled(label: &[u8], n: u64, to: &mut Vec<u8>) -> Result<(), NoMemory>
     Ok(())
 }
 
-fn put_counts(
-    replicas: u64,
-    sequencers: u64,
-    clients: u64,
+/// A line of three numbers, each behind its word.
+fn put_line(
+    first: &[u8],
+    a: u64,
+    second: &[u8],
+    b: u64,
+    third: &[u8],
+    c: u64,
     to: &mut Vec<u8>,
 ) -> Result<(), NoMemory>
-    ensures { OnOk result (to.new.items ≡ to.old.items ++ header_of replicas sequencers clients) }
+    ensures { OnOk result (to.new.items
+        ≡ to.old.items ++ line_of first.now a second.now b third.now c) }
 {
-    put_labelled(b"nopaxos 1 replicas ", replicas, to)?;
-    put_labelled(b" sequencers ", sequencers, to)?;
-    put_labelled(b" clients ", clients, to)?;
+    put_labelled(first, a, to)?;
+    put_labelled(second, b, to)?;
+    put_labelled(third, c, to)?;
     to.push(b'\n')?;
     Ok(())
 }
 
 /// Line 1 of the schedule.
+#[tactic(auto, unfolding(crate::specs::Text::header_of))]
 fn put_header(config: Config, to: &mut Vec<u8>) -> Result<(), NoMemory>
     ensures { OnOk result (to.new.items ≡ to.old.items ++ header_line config) }
 {
-    put_counts(
+    put_line(
+        b"nopaxos 1 replicas ",
         u64::from(config.replicas()),
+        b" sequencers ",
         u64::from(config.sequencers()),
+        b" clients ",
         u64::from(config.clients()),
         to,
     )
@@ -74,14 +83,7 @@ fn put_events(events: &[Event], to: &mut Vec<u8>) -> Result<(), NoMemory>
 fn put_served(turns: u64, lost: u64, stray: u64, to: &mut Vec<u8>) -> Result<(), NoMemory>
     ensures { OnOk result (to.new.items ≡ to.old.items ++ served_line turns lost stray) }
 {
-    to.extend_from_slice(b"served ")?;
-    put_number(turns, to)?;
-    to.extend_from_slice(b" lost ")?;
-    put_number(lost, to)?;
-    to.extend_from_slice(b" stray ")?;
-    put_number(stray, to)?;
-    to.push(b'\n')?;
-    Ok(())
+    put_line(b"served ", turns, b" lost ", lost, b" stray ", stray, to)
 }
 
 /// The schedule of the events that were kept, its transcript, and the last line.

@@ -36,12 +36,12 @@ use Rattle.sequencer.specs.SequencerSteps as sequencer
 use Rattle.session_control.specs.declared.state.ControllerState.{ControllerState}
 use Rattle.session_control.specs.declared.state.TheConstants.{MISSED_END}
 use Rattle.session_control.specs.ControllerSteps as controller
-use Rattle.replica_core.specs.declared.sending.Sending.{Sending}
-use Rattle.replica_core.specs.declared.sending.Sending.TheVariants.{ToClient, ToReplicas}
+use Rattle.replica_rows.specs.declared.sending.Sending.{Sending}
+use Rattle.replica_rows.specs.declared.sending.Sending.TheVariants.{ToClient, ToReplicas}
 use Rattle.replica_core.specs.Posting.{posted}
-use Rattle.replica_core.specs.Sends.{SendingFits}
+use Rattle.delivery.specs.Sends.{IsAmong, GoesAmong}
+use Rattle.replica_rows.specs.Sends.{SendingFits}
 use Rattle.world.specs.Network.{Sent, sends_of as sent_of, lines_from}
-use Rattle.replay.proofs.Destinations.{IsAmong, AllAmong}
 
 -- ---- outputs
 
@@ -77,7 +77,8 @@ both_go c (x ∷ xs) ys f g = (f.0, both_go c xs ys f.1 g)
 
 -- ---- what comes of them in the world
 
-goes_later : (c : Configuration) (s : Sent) (x : Sent) (xs : List Sent) → Goes c x.dest x.bytes → ((t : Sent) → Has xs t → Goes c t.dest t.bytes)
+goes_later : (c : Configuration) (s : Sent) (x : Sent) (xs : List Sent) → Goes c x.dest x.bytes
+    → ((t : Sent) → Has xs t → Goes c t.dest t.bytes)
     → Has (x ∷ xs) s → Goes c s.dest s.bytes
 goes_later c s x xs here rest h = elim (Has-cases s x xs h) [
   | inl e ↦ subst (λ (t : Sent). Goes c t.dest t.bytes) (sym e) here
@@ -97,7 +98,8 @@ sent_goes c from (outs.Busy client ∷ os) all s h = sent_goes c from os all.1 s
 abbrev pub SubmitsOf : Configuration → List Line → Type 0
 SubmitsOf c ls = (r : Request) → Has ls (lines.Submit r) → r.client < c.clients
 
-other_line : (c : Configuration) (x : Line) (ls : List Line) → ((r : Request) → lines.Submit r ≡ x → ⊥) → SubmitsOf c ls → SubmitsOf c (x ∷ ls)
+other_line : (c : Configuration) (x : Line) (ls : List Line) → ((r : Request) → lines.Submit r ≡ x → ⊥) → SubmitsOf c ls
+    → SubmitsOf c (x ∷ ls)
 other_line c x ls other rest r h = elim (Has-cases (lines.Submit r) x ls h) [ inl e ↦ absurd (other r e) | inr i ↦ rest r i ]
 
 own_line : (c : Configuration) (q : Request) (ls : List Line) → q.client < c.clients → SubmitsOf c ls → SubmitsOf c (lines.Submit q ∷ ls)
@@ -134,7 +136,7 @@ cut_goes c dest [] some h = tt
 cut_goes c dest (x ∷ fs) some h = (among_goes c dest (spelling (datagrams.Fragment x)) some h, cut_goes c dest fs some h)
 
 pub posted_goes : (c : Configuration) (number : ℕ) (sends : List Sending) → 1 ≤ c.replicas → AllByRecursion SendingFits sends
-    → AllAmong c.replicas sends → OutsGo c (posted number sends)
+    → AllByRecursion (GoesAmong c.replicas) sends → OutsGo c (posted number sends)
 unfolding posted
 posted_goes c number [] some fits all = tt
 posted_goes c number (ToClient r ∷ sends) some fits all =
@@ -308,7 +310,8 @@ pub controller_keeps_config : (s : ControllerState) (i : Given) → (controller.
 controller_keeps_config s i = (controller_directs s i).config
 
 -- the current sequencer is one of its configuration
-pub controller_goes : (s : ControllerState) (i : Given) → controller.IsWithin (controller.next s i).0 → OutsGo s.config (controller.next s i).1
+pub controller_goes : (s : ControllerState) (i : Given) → controller.IsWithin (controller.next s i).0
+    → OutsGo s.config (controller.next s i).1
 controller_goes s i within =
     let t = controller_directs s i in
     t.sends s.config (subst (λ (c : Configuration). (controller.next s i).0.current < c.sequencers) t.config within.current)

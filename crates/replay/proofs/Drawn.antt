@@ -14,7 +14,7 @@ use Rattle.client_quorum.specs.ClientSteps as client
 use Rattle.sequencer.specs.SequencerSteps as sequencer
 use Rattle.session_control.specs.ControllerSteps as controller
 use Rattle.replica_core.specs.ReplicaSteps as replica
-use Rattle.replica_core.specs.Within.{ResultsShort}
+use Rattle.replica_rows.specs.Within.{ResultsShort}
 use Rattle.schedule_text.specs.declared.event.Event.{Event}
 use Rattle.schedule_text.specs.Fits.{EventFits, EventsFit}
 use Rattle.world.specs.Network.{sends_by}
@@ -58,7 +58,8 @@ module _ {S : Type 0} (m : Meaning S) where
 
   -- one event more
   pub led_more : (es : List Event) (w : WorldState) (ls : List Line) (e : Event) (v : WorldState) (more : List Line) → Led m es w ls
-      → EventFits e → HasLine e → IsEventOf drawn_config e → step m w e ≡ Ok (record { world = v; lines = more }) → Led m (es ++ e ∷ []) v (ls ++ more)
+      → EventFits e → HasLine e → IsEventOf drawn_config e → step m w e ≡ Ok (record { world = v; lines = more })
+      → Led m (es ++ e ∷ []) v (ls ++ more)
   led_more es w ls e v more led fits line of is = record {
     is = run_both es (e ∷ []) (record { world = w; lines = ls }) [] (opening drawn_config) led.is
         ∙ ap (λ (r : Result Happened Refusal). go_on m ls r (λ ks u. run_from m ks u [])) is;
@@ -186,7 +187,13 @@ module _ {S : Type 0} (m : Meaning S) where
 
     none_runs : (number : ℕ) → RunsFrom m drawn_config (drawn_events m number 0)
     unfolding drawn_events
-    none_runs number = record { fit = tt; spelled = tt; of = tt; happened = record { world = opening drawn_config; lines = [] }; led = refl }
+    none_runs number = record {
+      fit = tt;
+      spelled = tt;
+      of = tt;
+      happened = record { world = opening drawn_config; lines = [] };
+      led = refl;
+    }
 
     -- whatever the number and the count, no event is refused
     pub drawn_runs : (number count : ℕ) → RunsFrom m drawn_config (drawn_events m number count)

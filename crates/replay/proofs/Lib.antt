@@ -2,7 +2,6 @@ pub mod Addressed
 pub mod Asked
 pub mod Beginning
 pub mod Causes
-pub mod Destinations
 pub mod Drawn
 pub mod Fronts
 pub mod Progressing

@@ -2,6 +2,7 @@
 use Rattle.std.proofs.Common.{◌≡◌, ◌≤◌, ◌<◌, ◌+◌, ◌*◌, ℕ, Bool, true, false, Option, Some, None, refl, sym, ap, subst, ◌∙◌, arith, length}
 use Rattle.std.proofs.Common.{List, [], ◌∷◌, ◌++◌, inl, inr}
 use Rattle.std.specs.Prelude.{◌⊎◌, ◌/◌, ⊤, Result, Ok, Err, slice_get}
+use Rattle.std.specs.List.{AllByRecursion}
 use Rattle.std.proofs.lemmas.Option.{slice_get_within}
 use Rattle.nop_types.specs.Configuration.{Configuration, is_configuration}
 use Rattle.nop_types.specs.Given.{Given}
@@ -27,13 +28,15 @@ use Rattle.session_control.specs.declared.state.ControllerState.{ControllerState
 use Rattle.session_control.specs.ControllerSteps as controller
 use Rattle.replica_core.specs.ReplicaSteps as replica
 use Rattle.replica_core.specs.ReplicaSteps.{Replica}
-use Rattle.replica_core.specs.Sends as effects
-use Rattle.replica_core.specs.Sends.{SendingFits, still}
-use Rattle.replica_core.specs.Within.{ResultsShort}
+use Rattle.replica_rows.specs.Sends as effects
+use Rattle.replica_rows.specs.Sends.{SendingFits, still}
+use Rattle.replica_rows.specs.Within.{ResultsShort}
 use Rattle.schedule_text.specs.declared.event.Event.{Event}
 use Rattle.schedule_text.specs.Fits.{EventFits, EventsFit}
 use Rattle.delivery.specs.Steps.{Delivers, TakesRow}
+use Rattle.delivery.proofs.Own.{arrive_goes_among}
 use Rattle.delivery.proofs.Steps.{step_delivers}
+use Rattle.delivery.specs.Sends.{GoesAmong}
 use Rattle.protocol.specs.Conf.{Conf, opening}
 use Rattle.protocol.specs.Invariant.{Inv}
 use Rattle.protocol.specs.Runs.{run}
@@ -50,12 +53,11 @@ use Rattle.safety.proofs.Coming.{AllBring, Brings, event_brings}
 use Rattle.safety.proofs.Counts.{counts_from}
 use Rattle.safety.proofs.Moving.{ran_holds}
 use Rattle.safety.proofs.Opening.{first, opening_stands}
-use Rattle.safety.proofs.Steps.{steps_lead}
+use Rattle.safety.proofs.Steps.{Took, took, steps_lead}
 use Rattle.replay.specs.Destinations.{IsDestOf}
 use Rattle.replay.proofs.Addressed.{IsReplyTo, Goes, OutsGo, SubmitsOf, sent_goes, lines_are_of, dead_is_of, posted_goes, sequencer_goes}
 use Rattle.replay.proofs.Addressed.{client_goes, controller_goes, controller_keeps_config}
 use Rattle.replay.proofs.Asked.{AllAsked, HasAsked, moves_asked, none_asked}
-use Rattle.replay.proofs.Destinations.{AllAmong, arrive_goes_among}
 
 -- ---- what holds of a world
 
@@ -103,21 +105,6 @@ kept_good config w ls h good k = record {
   controller = k.controller ∙ good.controller;
 }
 
--- an actor that is there was brought something, and this is what its step makes of the world
-record Took {S : Type 0} (act : Seated S × Did → Happened) (next : S → Given → S × List Out) (o : Option (Seated S))
-    (r : Result Stimulus Refusal) (h : Happened) : Type 0 where
-  seat : Seated S
-  there : o ≡ Some seat
-  what : Stimulus
-  brought : r ≡ Ok what
-  gives : act (seat_step next seat what) ≡ h
-
-took : {S : Type 0} (act : Seated S × Did → Happened) (next : S → Given → S × List Out) (o : Option (Seated S))
-    (r : Result Stimulus Refusal) (h : Happened) → then_at act (step_at next o r) ≡ Ok h → Took act next o r h
-took act next None r h e = absurd cc
-took act next (Some p) (Err refusal) h e = absurd cc
-took act next (Some p) (Ok what) h e = record { seat = p; there = refl; what = what; brought = refl; gives = cc }
-
 -- a seat whose steps send to actors of the configuration
 seat_goes : {S : Type 0} (c : Configuration) (next : S → Given → S × List Out) (p : Seated S) (b : Bool) (what : Stimulus)
     → ((i : Given) → what ≡ Takes i → OutsGo c (next p.state i).1) → DidGo c (moved_if next b p what).1
@@ -152,12 +139,12 @@ module _ {S : Type 0} (m : Meaning S) (f : ℕ) (config : Configuration) (short 
         sym same ∙ own ∙ sym shown.config ∙ ap (λ (k : Configuration). k.replicas) at.stands.same
 
     row_among : (e : effects.Effect) → TakesRow m talks.told (bytes_of w.sent) old.state.state e ⊎ (e ≡ still old.state.state)
-        → AllAmong config.replicas e.1
+        → AllByRecursion (GoesAmong config.replicas) e.1
     row_among e (inl row) =
-        subst (λ (n : ℕ). AllAmong n e.1) counts
-        (subst (λ (x : effects.Effect). AllAmong old.state.state.config.replicas x.1) (sym row.effect)
+        subst (λ (n : ℕ). AllByRecursion (GoesAmong n) e.1) counts
+        (subst (λ (x : effects.Effect). AllByRecursion (GoesAmong old.state.state.config.replicas) x.1) (sym row.effect)
         (arrive_goes_among m old.state.state row.arrival))
-    row_among e (inr same) = subst (λ (x : effects.Effect). AllAmong config.replicas x.1) (sym same) tt
+    row_among e (inr same) = subst (λ (x : effects.Effect). AllByRecursion (GoesAmong config.replicas) x.1) (sym same) tt
 
     some : 1 ≤ config.replicas
     some = omega (arith, ap (λ (k : Configuration). k.replicas) at.stands.same, shown.config)

@@ -12,7 +12,7 @@ use Rattle.schedule_text.specs.Rules.{header_of, event_of}
 use Rattle.schedule_text.specs.Transcript.{transcript_line}
 use Rattle.schedule_text.proofs.Fitting.{events_fit, headers_fit}
 use Rattle.world.specs.WorldSteps.{WorldState, Refusal, Happened, step, go_on, run_from, opening}
-use Rattle.replica_core.specs.Within.{ResultsShort}
+use Rattle.replica_rows.specs.Within.{ResultsShort}
 use Rattle.safety.proofs.Whole.{runs_are_safe}
 use Rattle.replay.specs.declared.error.ReplayError.{ReplayError}
 use Rattle.replay.specs.Output.{BadLine, Schedule, stepped, scheduled, schedule_from, text_after, output}

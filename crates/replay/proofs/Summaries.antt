@@ -15,7 +15,8 @@ of_some : (number count : ℕ) (r : Result Happened Refusal) → summary_of numb
 unfolding tally_text
 of_some number count (Err refusal) = gen_some number count
 of_some number count (Ok h) =
-    some_left (gen_line number count ++ _ ++ _) _ (some_left (gen_line number count ++ _) _ (some_left (gen_line number count) _ (gen_some number count)))
+    some_left (gen_line number count ++ _ ++ _) _
+    (some_left (gen_line number count ++ _) _ (some_left (gen_line number count) _ (gen_some number count)))
 
 pub summary_some : {S : Type 0} (m : Meaning S) (number count : ℕ) → drawn_summary m number count ≢ []
 summary_some m number count = of_some number count (run m drawn_config (drawn_events m number count))

@@ -19,7 +19,7 @@ use Rattle.facts.proofs.Places.{slice_get-some}
 use Rattle.client_quorum.specs.ClientSteps as client
 use Rattle.sequencer.specs.SequencerSteps as sequencer
 use Rattle.replica_core.specs.ReplicaSteps as replica
-use Rattle.replica_core.specs.Within.{ResultsShort}
+use Rattle.replica_rows.specs.Within.{ResultsShort}
 use Rattle.schedule_text.specs.declared.event.Event.{Event}
 use Rattle.schedule_text.specs.declared.event.Event.TheVariants as events
 use Rattle.schedule_text.specs.EventText.{HasWord, HasLine, IsActorOf, IsEventOf}
@@ -133,8 +133,14 @@ module _ (sent : List Sent) (some : 1 ≤ length sent) (all : (s : Sent) → Has
       let s = slice_get-some sent (length sent - 1 - back) within in
       delivery_fine (length sent - 1 - back) s.0 (slice_get sent (length sent - 1 - back)) (back_drawn (length sent) g).1 within s.1 s.1
 
-  replica_tick_fine : (t : Tick) (g : Lcg) → HasWord t → ((i : ℕ) → takes_tick (actors.Replica i) t ≡ true) → IsFine sent (replica_tick_drawn t g).0
-  replica_tick_fine t g word takes = record { of = (drawn_below 5 g (omega arith), takes (draw 5 g).0); was_sent = tt; line = word; fits = tt }
+  replica_tick_fine : (t : Tick) (g : Lcg) → HasWord t → ((i : ℕ) → takes_tick (actors.Replica i) t ≡ true)
+      → IsFine sent (replica_tick_drawn t g).0
+  replica_tick_fine t g word takes = record {
+    of = (drawn_below 5 g (omega arith), takes (draw 5 g).0);
+    was_sent = tt;
+    line = word;
+    fits = tt;
+  }
 
   retry_fine : (g : Lcg) → IsFine sent (retry_drawn g).0
   retry_fine g = record { of = (drawn_below 4 g (omega arith), refl); was_sent = tt; line = tt; fits = tt }
@@ -203,7 +209,8 @@ module _ {S : Type 0} (m : Meaning S) (short : ResultsShort m) where
   config_is : (h : Happened) → (r : Reached m (drawn_config.replicas / 2) drawn_config h) → h.world.config ≡ drawn_config
   config_is h r = ap (λ (w : WorldState). w.config) (sym r.world) ∙ r.at.stands.same
 
-  pub taken_there : (es : List Event) (w : WorldState) (ls : List _) (e : Event) → Led m es w ls → IsEventOf drawn_config e → IsSent w.sent e
+  pub taken_there : (es : List Event) (w : WorldState) (ls : List _) (e : Event) → Led m es w ls → IsEventOf drawn_config e
+      → IsSent w.sent e
       → IsTaken (step m w e)
   taken_there es w ls e led of sent =
       let r = reached es w ls led in

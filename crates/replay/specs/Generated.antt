@@ -41,7 +41,7 @@ module _ {S : Type 0} (m : Meaning S) where
   abbrev pub next_world : WorldState → Lcg → WorldState
   next_world w g = world_after w (step m w (event_drawn w.sent g).0)
 
-  -- so many events, each drawn in the world after those before it
+  -- a number of events, each drawn in the world after those before it
   abbrev pub drawn_from : ℕ → WorldState → Lcg → List Event
   drawn_from zero w g = []
   drawn_from (suc n) w g = (event_drawn w.sent g).0 ∷ drawn_from n (next_world w g) (event_drawn w.sent g).1
@@ -50,7 +50,7 @@ module _ {S : Type 0} (m : Meaning S) where
   abbrev pub first_world : WorldState
   first_world = world_after (opening drawn_config) (step m (opening drawn_config) first_event)
 
-  -- the events that are drawn from a number, so many of them; the first is the same for each number
+  -- the events that are drawn from a number, by their count; the first is the same for each number
   unfoldable pub drawn_events : ℕ → ℕ → List Event
   drawn_events number zero = []
   drawn_events number (suc n) = first_event ∷ drawn_from n first_world (generator_of number)

@@ -82,7 +82,7 @@ fn taker(words: &mut Lcg64Xsh32, dest: Dest) -> Actor
     }
 }
 
-/// How far back among so many datagrams.
+/// How far back among the datagrams that were sent.
 fn back(words: &mut Lcg64Xsh32, count: u64) -> u64
     requires { 1 ≤ count }
     ensures value { drawing.back_drawn count words.old ≡ (result, words.new) }

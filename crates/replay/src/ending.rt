@@ -5,7 +5,7 @@ use nop_types::{Host, NoMemory, Request};
 use schedule_text::{end_line, history_line};
 use world::World;
 
-/// The number of a member of the history; a number past its type answers NoMemory, since no memory holds so many.
+/// The number of a member of the history; a number past its type answers NoMemory, since no memory holds that many.
 fn numbered(i: usize) -> Result<u32, NoMemory>
     ensures { IfOk result (λ n. n ≡ i + 1) }
 {

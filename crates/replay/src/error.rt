@@ -1,7 +1,7 @@
 use nop_types::NoMemory as OutOfMemory;
 use std::alloc::{AllocError, AllocFailed};
 
-/// How a replay ended before the end of its input.
+/// How a replay ended before all was read and written.
 #[derive(Clone, Copy, Debug, PartialEq, Eq)]
 pub enum ReplayError {
     /// The line with this number, counted from 1, breaks this rule first.

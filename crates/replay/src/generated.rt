@@ -108,7 +108,7 @@ pub struct DrawnRun<H: Host> {
     pub accepts: u64,
 }
 
-/// A sum past its type answers NoMemory, since no memory holds so many lines.
+/// A sum past its type answers NoMemory, since no memory holds that many lines.
 fn added(sum: u64, more: u32) -> Result<u64, NoMemory>
     ensures { IfOk result (λ n. n ≡ sum + more) }
 {

@@ -4,7 +4,7 @@ ghost use Rattle.std.specs.Prelude.{◌≡◌, ℕ, List, true, Ok};
 ghost use Rattle.nop_types.specs.Configuration.{Configuration, is_configuration};
 ghost use Rattle.nop_types.specs.Lists.{Has};
 ghost use Rattle.nop_types.specs.Meaning.{Meaning};
-ghost use Rattle.replica_core.specs.Within.{ResultsShort};
+ghost use Rattle.replica_rows.specs.Within.{ResultsShort};
 ghost use Rattle.schedule_text.specs.declared.event.Event.{Event};
 ghost use Rattle.schedule_text.specs.Fits.{EventsFit};
 ghost use Rattle.world.specs.Network.{Sent};
@@ -14,7 +14,8 @@ ghost use Rattle.replay.specs.Generated.{drawn_config, drawn_events, RunsFrom};
 
 /// Each datagram that was sent in a run goes to an actor of its configuration.
 pub fn datagrams_go_to_actors<S>()
-    ensures { (m : Meaning S) → ResultsShort m → (c : Configuration) → is_configuration c ≡ true
+    ensures { (m : Meaning S) → ResultsShort m
+        → (c : Configuration) → is_configuration c ≡ true
         → (es : List Event) (h : Happened) → EventsFit es → run m c es ≡ Ok h
         → (s : Sent) → Has h.world.sent s → IsDestOf c s.dest }
 {}

@@ -13,7 +13,7 @@ use schedule_text::{Reader, transcript_line};
 use std::alloc::Global;
 use world::World;
 
-/// Replays a schedule with a host of this type.
+/// Replays a schedule with a host of this type. What was written before an error stays.
 #[tactic(auto, using(crate::proofs::Progressing::starved_first))]
 pub fn replay_with<H: Host, S: Source, K: Sink>(
     alloc: Global,

@@ -2,7 +2,9 @@
 
 ghost use Rattle.std.specs.Prelude.{◌≡◌, ◌++◌, OnOk, length, count_by};
 ghost use Rattle.world.specs.WorldSteps.{main_view, main_log, history};
-ghost use Rattle.replay.specs.Generated.{counted, is_noop, gen_line, sends_line, view_line, members_line, tally_text};
+ghost use Rattle.replay.specs.Generated.{counted, is_noop, gen_line, sends_line, view_line};
+ghost use Rattle.replay.specs.Generated.{members_line, tally_text};
+ghost use Rattle.schedule_text.specs.Transcript.{line_end};
 
 use crate::generated::DrawnRun;
 use nop_types::{Entry, Host, NoMemory, View};
@@ -16,36 +18,43 @@ fn put_counted(text: &str, n: u64, to: &mut Vec<u8>) -> Result<(), NoMemory>
     Ok(())
 }
 
+fn put_two(a: &str, m: u64, b: &str, n: u64, to: &mut Vec<u8>) -> Result<(), NoMemory>
+    ensures { OnOk result (to.new.items ≡ to.old.items ++ (counted a.now m ++ counted b.now n)) }
+{
+    put_counted(a, m, to)?;
+    put_counted(b, n, to)
+}
+
+fn put_pair(a: &str, m: u64, b: &str, n: u64, to: &mut Vec<u8>) -> Result<(), NoMemory>
+    ensures { OnOk result (to.new.items
+        ≡ to.old.items ++ (counted a.now m ++ counted b.now n ++ line_end)) }
+{
+    put_two(a, m, b, n, to)?;
+    to.push(b'\n')?;
+    Ok(())
+}
+
 #[tactic(auto, unfolding(crate::specs::Generated::gen_line))]
 fn put_gen(number: u64, count: u32, to: &mut Vec<u8>) -> Result<(), NoMemory>
     ensures { OnOk result (to.new.items ≡ to.old.items ++ gen_line number count) }
 {
-    put_counted("gen ", number, to)?;
-    put_counted(" ", u64::from(count), to)?;
-    to.push(b'\n')?;
-    Ok(())
+    put_pair("gen ", number, " ", u64::from(count), to)
 }
 
 #[tactic(auto, unfolding(crate::specs::Generated::sends_line))]
 fn put_sends(sends: u64, accepts: u64, to: &mut Vec<u8>) -> Result<(), NoMemory>
     ensures { OnOk result (to.new.items ≡ to.old.items ++ sends_line sends accepts) }
 {
-    put_counted("sends ", sends, to)?;
-    put_counted(" accepts ", accepts, to)?;
-    to.push(b'\n')?;
-    Ok(())
+    put_pair("sends ", sends, " accepts ", accepts, to)
 }
 
 #[tactic(auto, unfolding(crate::specs::Generated::view_line))]
 fn put_view(view: View, len: usize, noops: usize, to: &mut Vec<u8>) -> Result<(), NoMemory>
     ensures { OnOk result (to.new.items ≡ to.old.items ++ view_line view len noops) }
 {
-    put_counted("view ", u64::from(view.leader), to)?;
-    put_counted(" ", u64::from(view.session), to)?;
-    put_counted(" length ", len as u64, to)?;
-    put_counted(" noops ", noops as u64, to)?;
-    to.push(b'\n')?;
-    Ok(())
+    let (leader, session) = (u64::from(view.leader), u64::from(view.session));
+    put_two("view ", leader, " ", session, to)?;
+    put_pair(" length ", len as u64, " noops ", noops as u64, to)
 }
 
 #[tactic(auto, unfolding(crate::specs::Generated::members_line))]

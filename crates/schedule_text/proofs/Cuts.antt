@@ -2,7 +2,7 @@
 use Rattle.std.proofs.Common.{◌≡◌, ◌≢◌, ℕ, suc, ◌+◌, ◌<◌, ◌≤◌, Bool, true, false, eqb, leb, List, [], ◌∷◌, ◌++◌, length}
 use Rattle.std.proofs.Common.{refl, ap, ◌∙◌, arith, append_assoc}
 use Rattle.std.proofs.lemmas.List.{append-nil, length_push}
-use Rattle.std.proofs.lemmas.Bool.Decides.{nat_tests}
+use Rattle.std.proofs.lemmas.Bool.{le-leb, lt-leb, eq-eqb, ne_eqb}
 use Rattle.schedule_text.specs.Cutting.{lines_on, last_line}
 use Rattle.schedule_text.specs.Deciding.{HasNoEnd}
 
@@ -16,7 +16,7 @@ none_later b line none = λ k below. none (suc k) (omega arith)
 
 module _ (ended : Bool) (before : ℕ) (fits : before < 1000000) where
   below : leb 1000000 before ≡ false
-  below = grind (arith, nat_tests)
+  below = lt-leb 1000000 before fits
 
   at_end : (line rest : List ℕ) → lines_on ended before line (10 ∷ rest) ≡ line ∷ lines_on ended (before + 1) [] rest
   at_end line rest = rw below refl
@@ -24,14 +24,14 @@ module _ (ended : Bool) (before : ℕ) (fits : before < 1000000) where
   goes_on : (line rest : List ℕ) (b : ℕ) → b ≢ 10 → length line < 4096
       → lines_on ended before line (b ∷ rest) ≡ lines_on ended before (line ++ b ∷ []) rest
   goes_on line rest b other short =
-      let not_end : eqb b 10 ≡ false = grind (arith, nat_tests) in
-      let not_full : eqb (length line) 4096 ≡ false = grind (arith, nat_tests) in
+      let not_end : eqb b 10 ≡ false = ne_eqb b 10 other in
+      let not_full : eqb (length line) 4096 ≡ false = ne_eqb (length line) 4096 (λ is. omega arith) in
       rw (below, not_end, not_full) refl
 
   too_long : (line rest : List ℕ) (b : ℕ) → b ≢ 10 → length line ≡ 4096 → lines_on ended before line (b ∷ rest) ≡ (line ++ b ∷ []) ∷ []
   too_long line rest b other full =
-      let not_end : eqb b 10 ≡ false = grind (arith, nat_tests) in
-      let is_full : eqb (length line) 4096 ≡ true = grind (arith, nat_tests) in
+      let not_end : eqb b 10 ≡ false = ne_eqb b 10 other in
+      let is_full : eqb (length line) 4096 ≡ true = eq-eqb (length line) 4096 full in
       rw (below, not_end, is_full) refl
 
   -- a line end cuts the line that stands before it
@@ -66,5 +66,5 @@ module _ (ended : Bool) (before : ℕ) (fits : before < 1000000) where
 -- the first byte past the last line that a schedule may have
 pub cut_past : (ended : Bool) (before : ℕ) (b : ℕ) (rest : List ℕ) → 1000000 ≤ before → lines_on ended before [] (b ∷ rest) ≡ (b ∷ []) ∷ []
 cut_past ended before b rest past =
-    let above : leb 1000000 before ≡ true = grind (arith, nat_tests) in
+    let above : leb 1000000 before ≡ true = le-leb 1000000 before past in
     rw above refl

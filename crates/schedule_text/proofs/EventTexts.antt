@@ -21,10 +21,10 @@ use Rattle.nop_types.specs.declared.output.Actor.TheVariants as actors
 use Rattle.schedule_text.specs.declared.event.Event.{Event}
 use Rattle.schedule_text.specs.declared.event.Event.TheVariants as events
 use Rattle.schedule_text.specs.EventText.{HasWord, HasLine, tick_text, event_text, IsActorOf, IsEventOf, Means}
-use Rattle.schedule_text.specs.EventText.{IsTyped}
+use Rattle.schedule_text.specs.EventText.{IsTyped, event_word, event_fields}
 use Rattle.schedule_text.specs.Fields.{fields, fields_on, is_text, digit_on, number_on, number_of, number_below, numbered, actor_of}
 use Rattle.schedule_text.specs.Fields.{as_option, bytes_of}
-use Rattle.schedule_text.specs.LineText.{after_space}
+use Rattle.schedule_text.specs.LineText.{after_space, line_of}
 use Rattle.schedule_text.specs.Rules.{is_plain, max_op_text, max_junk_text, event_of_fields, event_of, plain_line, submit_event}
 use Rattle.schedule_text.specs.Rules.{deliver_event, tick_event, install_of, crash_of, junk_event}
 use Rattle.schedule_text.specs.Ticks.{tick_named, takes_tick}
@@ -414,3 +414,8 @@ module _ (c : Configuration) (small : Small c) where
 
 pub text_means : (e : Event) → IsTyped e → HasLine e → Means (event_text e) e
 text_means e typed line c before is room h = text_read c (small_counts c is) e before typed line room h
+
+-- the line with its end
+pub whole_line : (e : Event) → line_of (event_word e) (event_fields e) ≡ event_text e ++ 10 ∷ []
+unfolding event_text
+whole_line e = rw append_assoc refl

@@ -10,3 +10,4 @@ pub mod Searched
 pub mod SplitLemmas
 pub mod Takings
 pub mod Turns
+pub mod Worded

@@ -1,9 +1,8 @@
 -- What a search behind bytes that were searched before says of all of them.
-use Rattle.std.proofs.Common.{◌≡◌, ℕ, ◌+◌, ◌-◌, ◌<◌, ◌≤◌, true, eqb, List, length, get_or, drop, slice_index, sym}
+use Rattle.std.proofs.Common.{◌≡◌, ℕ, ◌+◌, ◌-◌, ◌<◌, ◌≤◌, true, eqb, List, length, get_or, drop, slice_index, refl, sym}
 use Rattle.std.proofs.Common.{ap, ◌∙◌, arith}
 use Rattle.std.specs.List.{slice_range}
-use Rattle.std.proofs.lemmas.Bool.{cases_lt}
-use Rattle.std.proofs.lemmas.Bool.Decides.{nat_tests}
+use Rattle.std.proofs.lemmas.Bool.{cases_lt, eqb-true}
 use Rattle.std.proofs.lemmas.List.{length-take-le, length-drop, get_or-take, get_or-drop}
 use Rattle.std.proofs.Common.{⊎_elim}
 use Rattle.memchr.specs.Find.{Passes, NoneBefore, Nowhere, is_byte}
@@ -28,7 +27,7 @@ module _ (bytes : List ℕ) (searched limit : ℕ) (before : IsSearched searched
       (cases_lt k searched)
     where
       refl10 : eqb 10 10 ≡ true
-      refl10 = grind (arith, nat_tests)
+      refl10 = refl
 
   pub none : Nowhere (Passes (is_byte 10) (slice_range bytes searched limit)) 0 (length (slice_range bytes searched limit))
       → HasNoEnd limit bytes
@@ -41,7 +40,8 @@ module _ (bytes : List ℕ) (searched limit : ℕ) (before : IsSearched searched
   found at short nowhere passes =
       let there : at < limit - searched = omega (arith, nowhere.high, length-window) in
       let same : searched + at - searched ≡ at = omega arith in
-      let byte : slice_index (slice_range bytes searched limit) at ≡ 10 = grind (arith, nat_tests, passes) in
+      let byte : slice_index (slice_range bytes searched limit) at ≡ 10 =
+      eqb-true (slice_index (slice_range bytes searched limit) at) 10 passes in
       record {
         within = omega arith;
         short = omega arith;

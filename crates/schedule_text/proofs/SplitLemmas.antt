@@ -1,5 +1,5 @@
 -- The first field ends at the first space.
-use Rattle.std.proofs.Common.{◌≡◌, ℕ, Bool, true, false, not, nat_lt, ◌==◌, ◌+◌, Option, Some, None, Err, cond, position, take, drop}
+use Rattle.std.proofs.Common.{◌≡◌, ℕ, Bool, true, false, not, nat_lt, ◌==◌, ◌+◌, Option, Some, None, Ok, cond, position, take, drop}
 use Rattle.std.proofs.Common.{length}
 use Rattle.std.proofs.Common.{List, [], ◌∷◌, ◌++◌, refl, arith, append_assoc, append-nil}
 use Rattle.std.specs.List.{position_or_len, before_first, after_first}
@@ -7,9 +7,8 @@ use Rattle.std.proofs.Math.Seq.{take-length}
 use Rattle.std.proofs.lemmas.List.Sums.{prefix_len-le-length}
 use Rattle.std.proofs.lemmas.Bool.Decides.{nat_tests}
 use Rattle.std.proofs.lemmas.Grind.{common_steps}
-use Rattle.schedule_text.specs.declared.rule.Rule.TheVariants.{WrongFieldCount}
 use Rattle.schedule_text.specs.Fields.{fields, fields_on}
-use Rattle.schedule_text.specs.Rules.{one_field, two_fields}
+use Rattle.schedule_text.specs.Rules.{◌>>=◌, one_field, two_fields}
 
 abbrev first_space : List ℕ → ℕ
 first_space line = position_or_len (λ b. b == 32) line
@@ -51,11 +50,8 @@ pub fields_are_some : (line : List ℕ) → (first : List ℕ) × (more : List (
 unfolding fields
 fields_are_some line = (_, _, first_field [] line)
 
--- ---- too many fields
-
-module _ (line : List ℕ) where
-  pub more_than_one : (first : List ℕ) → one_field (first ∷ fields line) ≡ Err WrongFieldCount
-  more_than_one first = rw (fields_are_some line).2 refl
-
-  pub more_than_two : (first second : List ℕ) → two_fields (first ∷ second ∷ fields line) ≡ Err WrongFieldCount
-  more_than_two first second = rw (fields_are_some line).2 refl
+-- the second of two fields is the only one of the others
+pub second_of : (first : List ℕ) (others : List (List ℕ)) → two_fields (first ∷ others) ≡ one_field others >>= λ second. Ok (first, second)
+second_of first [] = refl
+second_of first (second ∷ []) = refl
+second_of first (second ∷ third ∷ more) = refl

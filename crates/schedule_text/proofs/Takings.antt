@@ -1,11 +1,13 @@
 -- Steps of a reader, one after the other.
 use Rattle.std.proofs.Common.{◌≡◌, ℕ, Bool, true, false, List, [], ◌∷◌, ◌++◌, Option, Some, None, Result, Err, refl, sym, ap, subst}
-use Rattle.std.proofs.Common.{◌∙◌, append_assoc}
-use Rattle.std.proofs.lemmas.Bool.{false≢true}
+use Rattle.std.proofs.Common.{◌∙◌, append_assoc, eqb}
+use Rattle.std.proofs.lemmas.Bool.{false≢true, eqb-true}
 use Rattle.schedule_text.specs.declared.event.Event.{Event}
 use Rattle.schedule_text.specs.declared.next_error.NextError.{NextError}
 use Rattle.schedule_text.specs.declared.next_error.NextError.TheVariants.{NoMemory}
-use Rattle.schedule_text.specs.Reading.{Reading, MayFollow, turn_of, Takes, TakesOf}
+use Rattle.schedule_text.specs.Cutting.{lines_of}
+use Rattle.schedule_text.specs.Filling.{Fills}
+use Rattle.schedule_text.specs.Reading.{Reading, MayFollow, turn, turn_of, Takes, TakesOf}
 use Rattle.schedule_text.specs.Stepping.{Answers}
 
 -- of two lists that make the empty one
@@ -82,4 +84,22 @@ stays r (Some left) = (
   refl,
   record
       { end = λ going ended. absurd (false≢true (sym going ∙ ended)); after_end = λ was. (refl, was); turn = λ ended more follows. refl },
+)
+
+-- a piece that was read behind the bytes
+pub filled : (r : Reading) (count : ℕ) (pending : List ℕ) (before left : Option (List ℕ)) → r.ended ≡ false
+    → Fills before left r.pending pending count
+    → TakesOf r (record r { pending = pending; ended = eqb count 0 }) before left (Err NoMemory)
+filled r count pending None left going fills = tt
+filled r count pending (Some before) None going fills = fills.taken
+filled r count pending (Some before) (Some left) going fills = (
+  fills.piece,
+  fills.taken,
+  record {
+    end = λ was ended. fills.end (eqb-true count 0 ended);
+    after_end = λ was. absurd (false≢true (sym going ∙ was));
+    turn = λ ended more follows.
+        ap (λ (xs : List ℕ). turn r.config r.line (lines_of ended r.line xs))
+        (sym (append_assoc r.pending fills.piece more) ∙ ap (λ (xs : List ℕ). xs ++ more) (sym fills.bytes));
+  },
 )

@@ -1,15 +1,17 @@
 -- A line that is taken.
-use Rattle.std.proofs.Common.{◌≡◌, ℕ, ◌+◌, ◌<◌, ◌≤◌, Bool, true, false, leb, List, [], ◌++◌, length, take, drop, Some}
+use Rattle.std.proofs.Common.{◌≡◌, ℕ, ◌+◌, ◌<◌, ◌≤◌, Bool, true, false, leb, ltb, List, [], ◌++◌, length, take, drop, Some}
 use Rattle.std.proofs.Common.{None, Ok, Err, refl, sym, ap, ◌∙◌, inl, inr, arith, if◌then◌else◌}
-use Rattle.std.proofs.lemmas.Bool.{false≢true}
-use Rattle.std.proofs.lemmas.Bool.Decides.{nat_tests}
+use Rattle.std.proofs.lemmas.Bool.{false≢true, ltb-false, leb-false}
+use Rattle.std.specs.List.{list_all}
 use Rattle.std.proofs.lemmas.List.{append-nil, length-take-le}
 use Rattle.nop_types.specs.Configuration.{Configuration}
 use Rattle.schedule_text.specs.declared.event.Event.{Event}
 use Rattle.schedule_text.specs.declared.first_line.FirstLine.{FirstLine}
 use Rattle.schedule_text.specs.declared.next_error.NextError.TheVariants.{BadLine, NoMemory}
-use Rattle.schedule_text.specs.declared.rule.Rule.TheVariants.{TooManyLines, WrongWord}
-use Rattle.schedule_text.specs.Rules.{Read, rule_number, ◌>>=◌, plain_line, header_of, header_of_fields, event_of, event_of_fields}
+use Rattle.schedule_text.specs.declared.rule.Rule.{Rule}
+use Rattle.schedule_text.specs.declared.rule.Rule.TheVariants.{LineTooLong, TooManyLines, WrongByte, WrongWord}
+use Rattle.schedule_text.specs.Rules.{Read, is_plain, rule_number, ◌>>=◌, plain_line}
+use Rattle.schedule_text.specs.Rules.{header_of, header_of_fields, event_of, event_of_fields}
 use Rattle.schedule_text.specs.Fields.{fields}
 use Rattle.schedule_text.specs.Cutting.{lines_of}
 use Rattle.schedule_text.specs.Deciding.{IsFirstLine, IsUndecided, Follows}
@@ -17,9 +19,17 @@ use Rattle.schedule_text.specs.Reading.{Reading, MayFollow, lines_before, turn, 
 use Rattle.schedule_text.proofs.Firsts.{no_lines}
 use Rattle.schedule_text.specs.Stepping.{IsReader, Answers, NeedsNoRead}
 
+-- what passed a test
+passed : {A : Type 0} (rule : Rule) (breaks : Bool) (r : Read A) (x : A) → (if breaks then Err rule else r) ≡ Ok x
+    → (breaks ≡ false) × (r ≡ Ok x)
+passed rule true r x is = absurd cc
+passed rule false r x is = (refl, is)
+
 -- a line that is read is not too long
 plain_fits : (line text : List ℕ) → plain_line line ≡ Ok text → length line ≤ 4096
-plain_fits line text is = grind (arith, nat_tests)
+plain_fits line text is =
+    let test = passed LineTooLong (ltb 4096 (length line)) (if list_all is_plain line then Ok line else Err WrongByte) text is in
+    ltb-false 4096 (length line) test.0
 
 was_read : {A B : Type 0} (r : Read A) (f : A → Read B) (y : B) → (r >>= f) ≡ Ok y → (x : A) × (r ≡ Ok x)
 was_read (Ok x) f y is = (x, refl)
@@ -31,18 +41,14 @@ header_fits line c is =
     let read = was_read (plain_line line) (λ text. header_of_fields (fields text)) c is in
     plain_fits line read.0 read.1
 
-past_read : (past : Bool) (r : Read Event) (e : Event) → (if past then Err TooManyLines else r) ≡ Ok e → (past ≡ false) × (r ≡ Ok e)
-past_read true r e is = absurd cc
-past_read false r e is = (refl, is)
-
 -- and stands behind fewer lines than a schedule may have
 pub event_fits : (c : Configuration) (before : ℕ) (line : List ℕ) (e : Event) → event_of c before line ≡ Ok e → (before < 1000000)
     × (length line ≤ 4096)
 unfolding event_of
 event_fits c before line e is =
-    let last = past_read (leb 1000000 before) (plain_line line >>= λ text. event_of_fields c (fields text)) e is in
+    let last = passed TooManyLines (leb 1000000 before) (plain_line line >>= λ text. event_of_fields c (fields text)) e is in
     let read = was_read (plain_line line) (λ text. event_of_fields c (fields text)) e last.1 in
-    (grind (arith, nat_tests, last.0), plain_fits line read.0 read.1)
+    (leb-false 1000000 before last.0, plain_fits line read.0 read.1)
 
 -- what a reader keeps after a line was taken
 pub keeps_on : (before : ℕ) (pending : List ℕ) (c : Configuration) → before < 1000000 → IsReader 0 (before + 1) pending (Some c)

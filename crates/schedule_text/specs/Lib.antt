@@ -12,3 +12,4 @@ pub mod Split
 pub mod Stepping
 pub mod Ticks
 pub mod Transcript
+pub mod Words

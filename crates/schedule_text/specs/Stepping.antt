@@ -20,10 +20,6 @@ abbrev pub after_step : {A : Type 0} → Result A NextError → Result (Option E
 after_step (Ok x) = Err NoMemory
 after_step (Err e) = Err e
 
-abbrev pub answer_with : Result Event NextError → Result (Option Event) NextError
-answer_with (Ok e) = Ok (Some e)
-answer_with (Err e) = Err e
-
 -- a step without the source
 pub record Answers (old new : Reading) (answer : Result (Option Event) NextError) : Type 0 where
   pub ended : new.ended ≡ old.ended

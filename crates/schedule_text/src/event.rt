@@ -5,7 +5,7 @@ use nop_types::{Actor, Bytes, Op, Tick};
 pub enum Event {
     /// A client is given an op.
     Submit(u32, Op),
-    /// The datagram with this number, counted from 0 over all that were ever sent, comes to an
+    /// The datagram with this index, counted from 0 over all that were ever sent, comes to an
     /// actor.
     Deliver(u64, Actor),
     /// An actor is given a tick, one that a schedule may give it.

@@ -6,10 +6,13 @@ ghost use Rattle.schedule_text.specs.EventText.{
   HasWord,
   HasLine,
   tick_text,
+  event_word,
+  event_fields,
   event_text,
   Means,
   IsTyped,
 };
+ghost use Rattle.schedule_text.specs.LineText.{field_text, line_of};
 
 use crate::event::Event;
 use crate::field::{Field, write_line};
@@ -54,45 +57,71 @@ fn ranges(event: &Event)
     }
 }
 
-#[tactic(auto, unfolding(crate::specs::EventText::event_text))]
+/// A line of a word and one field.
+fn one_field(word: &str, field: Field<'_>, to: &mut Vec<u8>) -> Result<(), NoMemory>
+    ensures ok { OnOk result (to.new.items ≡ to.old.items
+        ++ line_of word.now (field_text field.entry ∷ [])) }
+    ensures err { OnErr result (to.new.items ≡ to.old.items) }
+{
+    write_line(word, &[field], to)
+}
+
+/// A line of a word and two fields.
+fn two_fields(
+    word: &str,
+    first: Field<'_>,
+    second: Field<'_>,
+    to: &mut Vec<u8>,
+) -> Result<(), NoMemory>
+    ensures ok { OnOk result (to.new.items ≡ to.old.items
+        ++ line_of word.now (field_text first.entry ∷ field_text second.entry ∷ [])) }
+    ensures err { OnErr result (to.new.items ≡ to.old.items) }
+{
+    write_line(word, &[first, second], to)
+}
+
 fn put_event(event: &Event, to: &mut Vec<u8>) -> Result<(), NoMemory>
     requires { HasLine event.now }
-    ensures ok { OnOk result (to.new.items ≡ to.old.items ++ (event_text event.now ++ 10 ∷ [])) }
+    ensures ok { OnOk result (to.new.items ≡ to.old.items
+        ++ line_of (event_word event.now) (event_fields event.now)) }
     ensures err { OnErr result (to.new.items ≡ to.old.items) }
 {
     match event {
         Event::Submit(client, op) => {
-            let fields = [
-                Field::Name(Actor::Client(*client)),
-                Field::Hex(op.as_slice()),
-            ];
-            write_line("submit", &fields, to)
+            let client = Field::Name(Actor::Client(*client));
+            two_fields("submit", client, Field::Hex(op.as_slice()), to)
         }
         Event::Deliver(index, actor) => {
-            let fields = [Field::Number(*index), Field::Name(*actor)];
-            write_line("deliver", &fields, to)
+            two_fields("deliver", Field::Number(*index), Field::Name(*actor), to)
         }
         Event::Tick(actor, tick) => {
-            let fields = [Field::Name(*actor), Field::Word(tick_word(*tick))];
-            write_line("tick", &fields, to)
+            two_fields(
+                "tick",
+                Field::Name(*actor),
+                Field::Word(tick_word(*tick)),
+                to,
+            )
         }
-        Event::Install(number) => {
-            write_line("install", &[Field::Name(Actor::Sequencer(*number))], to)
-        }
-        Event::Crash(actor) => write_line("crash", &[Field::Name(*actor)], to),
+        Event::Install(number) => one_field("install", Field::Name(Actor::Sequencer(*number)), to),
+        Event::Crash(actor) => one_field("crash", Field::Name(*actor), to),
         Event::Junk(actor, bytes) => {
-            let fields = [Field::Name(*actor), Field::Hex(bytes.as_slice())];
-            write_line("junk", &fields, to)
+            two_fields(
+                "junk",
+                Field::Name(*actor),
+                Field::Hex(bytes.as_slice()),
+                to,
+            )
         }
     }
 }
 
-/// Appends the line of an event, as a schedule has it: what reads the schedule gets the event again. Bytes are written in lower
-/// case.
-#[tactic(auto, using(crate::proofs::EventTexts::text_means))]
+/// Appends the line of an event, as a schedule has it: what reads the schedule gets the event
+/// again. Bytes are written in lower case.
+#[tactic(auto, using(crate::proofs::EventTexts::text_means, crate::proofs::EventTexts::whole_line))]
 pub fn event_line(event: &Event, to: &mut Vec<u8>) -> Result<(), NoMemory>
     requires { HasLine event.now }
-    ensures ok { OnOk result (to.new.items ≡ to.old.items ++ (event_text event.now ++ 10 ∷ [])) }
+    ensures ok { OnOk result (to.new.items
+        ≡ to.old.items ++ (event_text event.now ++ 10 ∷ [])) }
     ensures means { Means (event_text event.now) event.now }
     ensures err { OnErr result (to.new.items ≡ to.old.items) }
 {

@@ -1,7 +1,8 @@
 ghost use Rattle.std.specs.Prelude.{◌≡◌, ◌++◌, ◌∷◌, decimal, slice_index, OnOk, OnErr};
+ghost use Rattle.std.specs.List.{flat_map};
 ghost use Rattle.hex.specs.Hex.{encode_lower};
 ghost use Rattle.nop_types.specs.Lists.{IsPrefixOf};
-ghost use Rattle.schedule_text.specs.LineText.{field_text, field_texts, line_of};
+ghost use Rattle.schedule_text.specs.LineText.{after_space, field_text, field_texts, line_of};
 ghost use Rattle.schedule_text.specs.Transcript.{
   actor_text,
   dest_text,
@@ -71,8 +72,7 @@ fn put_number(n: u64, to: &mut Vec<u8>) -> Result<(), NoMemory>
     ensures err { OnErr result (to.new.items ≡ to.old.items) }
 {
     let mut buffer = itoa::Buffer::new();
-    to.extend_from_slice(buffer.format(n).as_bytes())?;
-    Ok(())
+    put_word(buffer.format(n), to)
 }
 
 fn put_numbered(letter: u8, n: u64, to: &mut Vec<u8>) -> Result<(), NoMemory>
@@ -151,16 +151,34 @@ fn put_field(field: Field<'_>, to: &mut Vec<u8>) -> Result<(), NoMemory>
     }
 }
 
+/// A space and a field.
+fn put_spaced(field: Field<'_>, to: &mut Vec<u8>) -> Result<(), NoMemory>
+    ensures ok { OnOk result (to.new.items
+        ≡ to.old.items ++ after_space (field_text field.entry)) }
+    ensures err { OnErr result (IsPrefixOf to.old.items to.new.items) }
+{
+    to.push(b' ')?;
+    put_field(field, to)
+}
+
+fn put_fields(fields: &[Field<'_>], to: &mut Vec<u8>) -> Result<(), NoMemory>
+    ensures ok { OnOk result (to.new.items ≡ to.old.items
+        ++ flat_map after_space (field_texts fields.now)) }
+    ensures err { OnErr result (IsPrefixOf to.old.items to.new.items) }
+{
+    for field in fields {
+        put_spaced(*field, to)?;
+    }
+    Ok(())
+}
+
 fn put_line(word: &str, fields: &[Field<'_>], to: &mut Vec<u8>) -> Result<(), NoMemory>
     ensures ok { OnOk result (to.new.items ≡ to.old.items
         ++ line_of word.now (field_texts fields.now)) }
     ensures err { OnErr result (IsPrefixOf to.old.items to.new.items) }
 {
     put_word(word, to)?;
-    for field in fields {
-        to.push(b' ')?;
-        put_field(*field, to)?;
-    }
+    put_fields(fields, to)?;
     to.push(b'\n')?;
     Ok(())
 }

@@ -13,7 +13,7 @@ use nop_types::{MAX_LINE_BYTES, MAX_LINES};
 
 /// Where the first line of some bytes lies: how long it is, and where the bytes after it and its
 /// end begin.
-#[derive(Clone, Copy, Debug, PartialEq, Eq)]
+#[derive(Clone, Copy)]
 pub(crate) struct FirstLine {
     pub(crate) len: usize,
     pub(crate) end: usize,

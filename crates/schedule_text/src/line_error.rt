@@ -2,7 +2,7 @@ use crate::rule::Rule;
 use nop_types::NoMemory as OutOfMemory;
 
 /// Why a line gave nothing.
-#[derive(Clone, Copy, Debug, PartialEq, Eq)]
+#[derive(Clone, Copy)]
 pub enum LineError {
     /// The first rule that the line breaks.
     Breaks(Rule),

@@ -33,7 +33,6 @@ ghost use Rattle.schedule_text.specs.Reading.{
 ghost use Rattle.schedule_text.specs.Rules.{rule_number};
 ghost use Rattle.schedule_text.specs.Stepping.{
   after_step,
-  answer_with,
   Answers,
   IsFirst,
   NeedsNoRead,
@@ -133,7 +132,7 @@ impl Reader {
         let config = self.open(source)?;
         match self.reach_line(source)? {
             None => Ok(None),
-            Some(first) => Ok(Some(self.take_event(config, first)?)),
+            Some(first) => self.take_event(config, first),
         }
     }
 
@@ -233,12 +232,12 @@ impl Reader {
         }
     }
 
-    fn take_event(&mut self, config: Config, first: FirstLine) -> Result<Event, NextError>
+    fn take_event(&mut self, config: Config, first: FirstLine) -> Result<Option<Event>, NextError>
         requires first { IsFirst self.old first }
         requires config { self.old.config ≡ Some config }
-        ensures answers { Answers self.old self.new (answer_with result) }
+        ensures answers { Answers self.old self.new result }
         ensures config { self.new.config ≡ self.old.config }
-        ensures line { self.new.line ≡ self.old.line + lines_taken (answer_with result) }
+        ensures line { self.new.line ≡ self.old.line + lines_taken result }
         ensures no_fault { result ≢ Err NextError.ReadFault }
     {
         let line = &self.buffer.as_slice()[..first.len];
@@ -247,7 +246,7 @@ impl Reader {
                 self.buffer.advance(first.end);
                 self.searched = 0;
                 self.line += 1;
-                Ok(event)
+                Ok(Some(event))
             }
             Err(LineError::Breaks(rule)) => Err(self.bad_line(rule)),
             Err(LineError::NoMemory) => Err(NextError::NoMemory),

@@ -3,7 +3,7 @@
 ghost use Rattle.std.specs.Prelude.{◌≡◌, ◌&&◌, codes, Ok, Err, MatchResult};
 ghost use Rattle.std.specs.List.{list_all};
 ghost use Rattle.std.specs.Option.{option_copied};
-ghost use Rattle.schedule_text.specs.Fields.{is_text};
+ghost use Rattle.schedule_text.specs.Fields.{fields, is_text};
 ghost use Rattle.schedule_text.specs.LineAnswer.{IsAnswer};
 ghost use Rattle.schedule_text.specs.Rules.{
   is_plain,
@@ -16,6 +16,7 @@ ghost use Rattle.schedule_text.specs.Rules.{
   event_of_fields,
 };
 ghost use Rattle.schedule_text.specs.Split.{other_fields};
+ghost use Rattle.schedule_text.specs.Words.{event_after, word_of};
 
 use crate::event::Event;
 use crate::line_error::LineError;
@@ -29,7 +30,7 @@ use std::alloc::Global;
 fn is_plain(b: u8) -> bool
     ensures { result ≡ is_plain b }
 {
-    (b' '..=b'~').contains(&b)
+    matches!(b, b' '..=b'~')
 }
 
 fn has_plain_bytes(line: &[u8]) -> bool
@@ -112,6 +113,79 @@ pub fn header(line: &[u8]) -> Result<Config, Rule>
     counts(rest)
 }
 
+/// The words of the lines behind the first one.
+#[derive(Clone, Copy)]
+enum Word {
+    Submit,
+    Deliver,
+    Tick,
+    Install,
+    Crash,
+    Junk,
+}
+
+fn word_of(field: &[u8]) -> Option<Word>
+    ensures { result ≡ word_of field.now }
+{
+    if is_word(field, "submit") {
+        return Some(Word::Submit);
+    }
+    if is_word(field, "deliver") {
+        return Some(Word::Deliver);
+    }
+    if is_word(field, "tick") {
+        return Some(Word::Tick);
+    }
+    if is_word(field, "install") {
+        return Some(Word::Install);
+    }
+    if is_word(field, "crash") {
+        return Some(Word::Crash);
+    }
+    if is_word(field, "junk") {
+        return Some(Word::Junk);
+    }
+    None
+}
+
+fn answer(read: Result<Event, Rule>) -> Result<Event, LineError>
+    ensures { IsAnswer result read }
+{
+    match read {
+        Ok(event) => Ok(event),
+        Err(rule) => Err(LineError::Breaks(rule)),
+    }
+}
+
+fn event_after(
+    alloc: Global,
+    config: Config,
+    word: Word,
+    rest: Option<&[u8]>,
+) -> Result<Event, LineError>
+    ensures { IsAnswer result (event_after config word (other_fields (option_copied rest.entry))) }
+{
+    match word {
+        Word::Submit => submit(alloc, config, rest),
+        Word::Deliver => answer(deliver(config, rest)),
+        Word::Tick => answer(tick(config, rest)),
+        Word::Install => answer(install(config, rest)),
+        Word::Crash => answer(crash(config, rest)),
+        Word::Junk => junk(alloc, config, rest),
+    }
+}
+
+#[tactic(auto, using(crate::proofs::Worded::worded))]
+fn event_of_words(alloc: Global, config: Config, line: &[u8]) -> Result<Event, LineError>
+    ensures { IsAnswer result (event_of_fields config (fields line.now)) }
+{
+    let (field, rest) = cut(line);
+    match word_of(field) {
+        Some(word) => event_after(alloc, config, word, rest),
+        None => Err(LineError::Breaks(Rule::WrongWord)),
+    }
+}
+
 /// The event of any other line, or the rule that it breaks; `before` is the number of lines before
 /// it.
 #[tactic(auto, unfolding(crate::specs::Rules::event_of))]
@@ -121,25 +195,8 @@ pub fn event(alloc: Global, config: Config, before: u32, line: &[u8]) -> Result<
     if before >= MAX_LINES {
         return Err(LineError::Breaks(Rule::TooManyLines));
     }
-    plain(line)?;
-    let (word, rest) = cut(line);
-    if is_word(word, "submit") {
-        return submit(alloc, config, rest);
+    match plain(line) {
+        Ok(()) => event_of_words(alloc, config, line),
+        Err(rule) => Err(LineError::Breaks(rule)),
     }
-    if is_word(word, "deliver") {
-        return Ok(deliver(config, rest)?);
-    }
-    if is_word(word, "tick") {
-        return Ok(tick(config, rest)?);
-    }
-    if is_word(word, "install") {
-        return Ok(install(config, rest)?);
-    }
-    if is_word(word, "crash") {
-        return Ok(crash(config, rest)?);
-    }
-    if is_word(word, "junk") {
-        return junk(alloc, config, rest);
-    }
-    Err(LineError::Breaks(Rule::WrongWord))
 }

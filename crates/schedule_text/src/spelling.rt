@@ -5,6 +5,7 @@ ghost use Rattle.schedule_text.specs.Fields.{
   actor_of,
   bytes_of,
   digit_on,
+  lettered,
   number_of,
   number_on,
   number_below,
@@ -17,10 +18,10 @@ use std::alloc::Global;
 fn digit(n: u64, d: u8) -> Option<u64>
     ensures { result ≡ digit_on n d }
 {
-    if !(b'0'..=b'9').contains(&d) {
-        return None;
+    match d {
+        b'0'..=b'9' => n.checked_mul(10)?.checked_add(u64::from(d - b'0')),
+        _ => None,
     }
-    n.checked_mul(10)?.checked_add(u64::from(d - b'0'))
 }
 
 fn digits(text: &[u8]) -> Option<u64>
@@ -66,6 +67,17 @@ fn numbered(count: u8, digits: &[u8]) -> Option<u8>
     small_number(u16::from(count), digits)
 }
 
+fn lettered(config: Config, letter: u8, digits: &[u8]) -> Option<Actor>
+    ensures { result ≡ lettered config letter digits.now }
+{
+    match letter {
+        b'r' => Some(Actor::Replica(numbered(config.replicas(), digits)?)),
+        b's' => Some(Actor::Sequencer(numbered(config.sequencers(), digits)?)),
+        b'c' => Some(Actor::Client(u32::from(numbered(config.clients(), digits)?))),
+        _ => None,
+    }
+}
+
 /// An actor of the configuration.
 #[tactic(auto, unfolding(crate::specs::Fields::actor_of))]
 pub fn actor(config: Config, field: &[u8]) -> Option<Actor>
@@ -75,10 +87,8 @@ pub fn actor(config: Config, field: &[u8]) -> Option<Actor>
         return Some(Actor::Controller);
     }
     match field {
-        [b'r', digits @ ..] => Some(Actor::Replica(numbered(config.replicas(), digits)?)),
-        [b's', digits @ ..] => Some(Actor::Sequencer(numbered(config.sequencers(), digits)?)),
-        [b'c', digits @ ..] => Some(Actor::Client(u32::from(numbered(config.clients(), digits)?))),
-        _ => None,
+        [] => None,
+        [letter, digits @ ..] => lettered(config, *letter, digits),
     }
 }
 

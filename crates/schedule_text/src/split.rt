@@ -58,34 +58,26 @@ pub fn no_field(rest: Option<&[u8]>) -> Result<(), Rule>
 }
 
 /// The only field of those that follow.
-#[tactic(auto, using(crate::proofs::SplitLemmas::more_than_one))]
 pub fn one_field(rest: Option<&[u8]>) -> Result<&[u8], Rule>
     ensures { let read = one_field (other_fields (option_copied rest.entry)) in
         MatchResult result (λ field. read ≡ Ok field.now) (λ rule. read ≡ Err rule) }
 {
-    let Some(rest) = rest else {
-        return Err(Rule::WrongFieldCount);
-    };
-    match cut(rest) {
-        (field, None) => Ok(field),
-        (_, Some(_)) => Err(Rule::WrongFieldCount),
+    let (field, rest) = next_field(rest)?;
+    match no_field(rest) {
+        Ok(()) => Ok(field),
+        Err(rule) => Err(rule),
     }
 }
 
 /// The fields that follow, if they are two.
-#[tactic(auto, using(crate::proofs::SplitLemmas::more_than_two))]
+#[tactic(auto, using(crate::proofs::SplitLemmas::second_of))]
 pub fn two_fields(rest: Option<&[u8]>) -> Result<(&[u8], &[u8]), Rule>
     ensures { let read = two_fields (other_fields (option_copied rest.entry)) in
         MatchResult result (λ p. read ≡ Ok (p.0.now, p.1.now)) (λ rule. read ≡ Err rule) }
 {
-    let Some(rest) = rest else {
-        return Err(Rule::WrongFieldCount);
-    };
-    let (first, Some(rest)) = cut(rest) else {
-        return Err(Rule::WrongFieldCount);
-    };
-    match cut(rest) {
-        (second, None) => Ok((first, second)),
-        (_, Some(_)) => Err(Rule::WrongFieldCount),
+    let (first, rest) = next_field(rest)?;
+    match one_field(rest) {
+        Ok(second) => Ok((first, second)),
+        Err(rule) => Err(rule),
     }
 }

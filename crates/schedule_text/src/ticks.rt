@@ -7,7 +7,6 @@ use crate::split::is_word;
 use nop_types::{Actor, Tick};
 
 /// The tick that the field names.
-#[tactic(auto, unfolding(crate::specs::Ticks::tick_named))]
 pub fn tick_named(field: &[u8]) -> Option<Tick>
     ensures { result ≡ tick_named field.now }
 {
@@ -32,8 +31,8 @@ pub fn tick_named(field: &[u8]) -> Option<Tick>
     None
 }
 
-/// Whether a schedule may give the actor this tick. It gives no one Next, which is a timer of nodes
-/// alone, nor Install, which is an event of its own.
+/// Whether a schedule may give the actor this tick. No actor is given Next, which is a timer of
+/// nodes alone, or Install, which is an event of its own.
 pub fn takes_tick(actor: Actor, tick: Tick) -> bool
     ensures { result ≡ takes_tick actor tick }
 {

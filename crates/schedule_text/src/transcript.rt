@@ -1,6 +1,6 @@
 //! The lines of a transcript. Each function appends one line.
 
-ghost use Rattle.std.specs.Prelude.{◌≡◌, ◌++◌, OnOk, OnErr};
+ghost use Rattle.std.specs.Prelude.{◌≡◌, ◌++◌, Some, None, OnOk, OnErr};
 ghost use Rattle.schedule_text.specs.Transcript as texts;
 
 use crate::field::{Field, write_line};
@@ -33,7 +33,7 @@ pub fn dead_line(actor: Actor, to: &mut Vec<u8>) -> Result<(), NoMemory>
     write_line("dead", &[Field::Name(actor)], to)
 }
 
-/// A client began with a request.
+/// A client submitted a request.
 #[tactic(auto, unfolding(crate::specs::Transcript::submit_line))]
 pub fn submit_line(request: &Request, to: &mut Vec<u8>) -> Result<(), NoMemory>
     ensures ok { OnOk result (to.new.items ≡ to.old.items ++ texts.submit_line request.now) }
@@ -121,32 +121,45 @@ pub fn replica_line(
     write_line("replica", &fields, to)
 }
 
-/// What stands in a slot of a replica's log.
 #[tactic(auto, unfolding(crate::specs::Transcript::entry_line))]
+fn no_op_line(replica: u8, slot: u32, to: &mut Vec<u8>) -> Result<(), NoMemory>
+    ensures ok { OnOk result (to.new.items ≡ to.old.items
+        ++ texts.entry_line replica slot Entry.NoOp) }
+    ensures err { OnErr result (to.new.items ≡ to.old.items) }
+{
+    let fields = [
+        Field::Name(Actor::Replica(replica)),
+        Field::Number(u64::from(slot)),
+        Field::Word("noop"),
+    ];
+    write_line("entry", &fields, to)
+}
+
+#[tactic(auto, unfolding(crate::specs::Transcript::entry_line))]
+fn request_line(replica: u8, slot: u32, request: &Request, to: &mut Vec<u8>) -> Result<(), NoMemory>
+    ensures ok { OnOk result (to.new.items ≡ to.old.items
+        ++ texts.entry_line replica slot (Entry.Req request.now)) }
+    ensures err { OnErr result (to.new.items ≡ to.old.items) }
+{
+    let fields = [
+        Field::Name(Actor::Replica(replica)),
+        Field::Number(u64::from(slot)),
+        Field::Name(Actor::Client(request.client)),
+        Field::Number(request.id),
+        Field::Hex(request.op.as_slice()),
+    ];
+    write_line("entry", &fields, to)
+}
+
+/// What stands in a slot of a replica's log.
 pub fn entry_line(replica: u8, slot: u32, entry: &Entry, to: &mut Vec<u8>) -> Result<(), NoMemory>
     ensures ok { OnOk result (to.new.items ≡ to.old.items
         ++ texts.entry_line replica slot entry.now) }
     ensures err { OnErr result (to.new.items ≡ to.old.items) }
 {
     match entry {
-        Entry::NoOp => {
-            let fields = [
-                Field::Name(Actor::Replica(replica)),
-                Field::Number(u64::from(slot)),
-                Field::Word("noop"),
-            ];
-            write_line("entry", &fields, to)
-        }
-        Entry::Req(request) => {
-            let fields = [
-                Field::Name(Actor::Replica(replica)),
-                Field::Number(u64::from(slot)),
-                Field::Name(Actor::Client(request.client)),
-                Field::Number(request.id),
-                Field::Hex(request.op.as_slice()),
-            ];
-            write_line("entry", &fields, to)
-        }
+        Entry::NoOp => no_op_line(replica, slot, to),
+        Entry::Req(request) => request_line(replica, slot, request, to),
     }
 }
 
@@ -166,9 +179,47 @@ pub fn history_line(index: u32, request: &Request, to: &mut Vec<u8>) -> Result<(
     write_line("history", &fields, to)
 }
 
+#[tactic(auto, unfolding(crate::specs::Transcript::error_line))]
+fn rule_line(line: u32, rule: u8, to: &mut Vec<u8>) -> Result<(), NoMemory>
+    ensures ok { OnOk result (to.new.items ≡ to.old.items ++ texts.error_line line rule None) }
+    ensures err { OnErr result (to.new.items ≡ to.old.items) }
+{
+    let fields = [
+        Field::Word("line"),
+        Field::Number(u64::from(line)),
+        Field::Word("rule"),
+        Field::Number(u64::from(rule)),
+    ];
+    write_line("error", &fields, to)
+}
+
+#[tactic(auto, unfolding(crate::specs::Transcript::error_line))]
+fn datagram_line(
+    line: u32,
+    rule: u8,
+    index: u64,
+    sent: u64,
+    to: &mut Vec<u8>,
+) -> Result<(), NoMemory>
+    ensures ok { OnOk result (to.new.items ≡ to.old.items
+        ++ texts.error_line line rule (Some (index, sent))) }
+    ensures err { OnErr result (to.new.items ≡ to.old.items) }
+{
+    let fields = [
+        Field::Word("line"),
+        Field::Number(u64::from(line)),
+        Field::Word("rule"),
+        Field::Number(u64::from(rule)),
+        Field::Word("index"),
+        Field::Number(index),
+        Field::Word("sent"),
+        Field::Number(sent),
+    ];
+    write_line("error", &fields, to)
+}
+
 /// A bad line, counted from 1, and the rule that it breaks. Where it delivers a datagram that was
 /// not sent, also the datagram's index and how many were sent.
-#[tactic(auto, unfolding(crate::specs::Transcript::error_line))]
 pub fn error_line(
     line: u32,
     rule: u8,
@@ -179,25 +230,9 @@ pub fn error_line(
         ++ texts.error_line line rule index_sent) }
     ensures err { OnErr result (to.new.items ≡ to.old.items) }
 {
-    let line_field = Field::Word("line");
-    let line = Field::Number(u64::from(line));
-    let rule_field = Field::Word("rule");
-    let rule = Field::Number(u64::from(rule));
     match index_sent {
-        None => write_line("error", &[line_field, line, rule_field, rule], to),
-        Some((index, sent)) => {
-            let fields = [
-                line_field,
-                line,
-                rule_field,
-                rule,
-                Field::Word("index"),
-                Field::Number(index),
-                Field::Word("sent"),
-                Field::Number(sent),
-            ];
-            write_line("error", &fields, to)
-        }
+        None => rule_line(line, rule, to),
+        Some((index, sent)) => datagram_line(line, rule, index, sent, to),
     }
 }
 

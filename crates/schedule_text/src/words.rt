@@ -55,9 +55,13 @@ pub fn deliver(config: Config, rest: Option<&[u8]>) -> Result<Event, Rule>
     ensures { result ≡ deliver_of config (other_fields (option_copied rest.entry)) }
 {
     let (index, to) = two_fields(rest)?;
-    let index = number(index).ok_or(Rule::WrongField)?;
-    let to = actor(config, to).ok_or(Rule::WrongActor)?;
-    Ok(Event::Deliver(index, to))
+    let Some(index) = number(index) else {
+        return Err(Rule::WrongField);
+    };
+    match actor(config, to) {
+        Some(to) => Ok(Event::Deliver(index, to)),
+        None => Err(Rule::WrongActor),
+    }
 }
 
 /// `tick ACTOR KIND`
@@ -65,12 +69,13 @@ pub fn tick(config: Config, rest: Option<&[u8]>) -> Result<Event, Rule>
     ensures { result ≡ tick_of config (other_fields (option_copied rest.entry)) }
 {
     let (one, kind) = two_fields(rest)?;
-    let one = actor(config, one).ok_or(Rule::WrongActor)?;
-    let tick = tick_named(kind).ok_or(Rule::WrongActor)?;
-    if !takes_tick(one, tick) {
+    let Some(one) = actor(config, one) else {
         return Err(Rule::WrongActor);
+    };
+    match tick_named(kind) {
+        Some(tick) if takes_tick(one, tick) => Ok(Event::Tick(one, tick)),
+        _ => Err(Rule::WrongActor),
     }
-    Ok(Event::Tick(one, tick))
 }
 
 /// `install sN`
@@ -87,8 +92,10 @@ pub fn install(config: Config, rest: Option<&[u8]>) -> Result<Event, Rule>
 pub fn crash(config: Config, rest: Option<&[u8]>) -> Result<Event, Rule>
     ensures { result ≡ crash_of config (other_fields (option_copied rest.entry)) }
 {
-    let one = actor(config, one_field(rest)?).ok_or(Rule::WrongActor)?;
-    Ok(Event::Crash(one))
+    match actor(config, one_field(rest)?) {
+        Some(one) => Ok(Event::Crash(one)),
+        None => Err(Rule::WrongActor),
+    }
 }
 
 /// `junk ACTOR HEX`

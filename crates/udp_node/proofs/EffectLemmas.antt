@@ -1,7 +1,6 @@
 -- Effects one after another.
-use Rattle.std.proofs.Common.{◌≡◌, ℕ, ◌+◌, ◌<◌, List, [], ◌∷◌, ◌++◌, map, length, get_or, take, drop, Option, Some, None, Result, Ok, Err}
-use Rattle.std.proofs.Common.{refl, ap, sym, ◌∙◌, append_assoc, arith}
-use Rattle.std.proofs.lemmas.Grind.{common_steps}
+use Rattle.std.proofs.Common.{◌≡◌, ℕ, zero, suc, ◌+◌, ◌<◌, List, [], ◌∷◌, ◌++◌, map, length, get_or, take, drop}
+use Rattle.std.proofs.Common.{Option, Some, None, Result, Ok, Err, refl, ap, sym, ◌∙◌, append_assoc, append-nil, arith}
 use Rattle.std.proofs.KnownBytes.{Appends-trans}
 use Rattle.std.specs.Io.KnownBytes.{Appends}
 use Rattle.std.proofs.lemmas.List.{take_more, take-append-drop}
@@ -46,7 +45,7 @@ first_line_map (d ∷ ds) = refl
 
 pub Appends_none : (s : Option (List ℕ)) → Appends s s []
 Appends_none None = tt
-Appends_none (Some xs) = grind (arith, common_steps)
+Appends_none (Some xs) = sym (append-nil xs)
 
 pub effects_append : (at : Address) (xs ys : List Out) → effects at (xs ++ ys) ≡ effects at xs ++ effects at ys
 effects_append at [] ys = refl
@@ -79,10 +78,14 @@ unfolding stopped_then
 stops_then xs ys Failed a b c h i j one two = record { stopped = stopped_then xs ys a b c h i j one two.stopped; below = two.below }
 stops_then xs ys NoMemory a b c h i j one two = stopped_then xs ys a b c h i j one two
 
+take_none : (count : ℕ) → take {A = ℕ} count [] ≡ []
+take_none zero = refl
+take_none (suc count) = refl
+
 -- nothing of no line is nothing of any line
 no_line : (h i : Option (List ℕ)) (xs l : List ℕ) (count : ℕ) → Appends h i (xs ++ take count []) → Appends h i (xs ++ take 0 l)
 no_line h i xs l count one =
-    let e : xs ++ take count [] ≡ xs ++ take 0 l = grind (arith, common_steps) in
+    let e : xs ++ take count [] ≡ xs ++ take 0 l = ap (λ (ys : List ℕ). xs ++ ys) (take_none count) in
     rw e at one
 
 -- the line that comes next stays, where there is one
@@ -160,10 +163,7 @@ posted_front ds a b h one = record {
 
 pub wrote_line : {T : Type 0} (line : List ℕ) (r : Result T DeviceError) (a : LinkSide) (h i : Option (List ℕ)) → Writes line r h i
     → Carries (Line line ∷ []) r a a h i
-wrote_line line (Ok t) a h i one = record { sends = no_sends a; lines = rw (append_nil line) one }
-  where
-    append_nil : (xs : List ℕ) → xs ++ [] ≡ xs
-    append_nil xs = grind (arith, common_steps)
+wrote_line line (Ok t) a h i one = record { sends = no_sends a; lines = rw (append-nil line) one }
 wrote_line line (Err Failed) a h i one = record {
   stopped = record { front = []; rest = Line line ∷ []; split = refl; count = one.count; sends = no_sends a; lines = one.appended };
   below = one.below;
@@ -184,7 +184,7 @@ posted_as at out dest shown bytes a b h is same sends =
 
 effects_more : (at : Address) (os : List Out) (o : Out) → effects at (os ++ o ∷ []) ≡ effects at os ++ effects_of at o
 effects_more at os o =
-    let one : effects_of at o ++ [] ≡ effects_of at o = grind (arith, common_steps) in
+    let one : effects_of at o ++ [] ≡ effects_of at o = append-nil (effects_of at o) in
     effects_append at os (o ∷ []) ∙ rw one refl
 
 effects_next : (at : Address) (os : List Out) (i : ℕ) (o : Out) → i < length os → o ≡ get_or os i o

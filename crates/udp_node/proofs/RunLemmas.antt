@@ -1,7 +1,6 @@
 -- Turns of a run, one after another.
 use Rattle.std.proofs.Common.{◌≡◌, ℕ, zero, suc, ◌+◌, ◌-◌, ◌≤◌, ◌<◌, min, max, List, [], ◌∷◌, ◌++◌, map, drop, Bool, true, false, Option}
-use Rattle.std.proofs.Common.{Some, None, Result, Ok, Err, refl, ap, sym, ◌∙◌, append_assoc, arith}
-use Rattle.std.proofs.lemmas.Grind.{common_steps}
+use Rattle.std.proofs.Common.{Some, None, Result, Ok, Err, refl, ap, sym, ◌∙◌, append_assoc, append-nil, arith}
 use Rattle.nop_types.specs.Given.{Given}
 use Rattle.nop_types.specs.declared.input.Tick.{Tick}
 use Rattle.nop_types.specs.declared.output.Out.{Out}
@@ -134,8 +133,8 @@ module _ {S : Type 0} (next : S → Given → S × List Out) (is_done : S → Bo
 
   -- what is done of a turn stands in the run
   outs_front : (failed done : Bool) (os : List Out) (r : NodeRun) → (more : List Out) × ((turn_then failed done os r).outs ≡ os ++ more)
-  outs_front true done os r = ([], grind (arith, common_steps))
-  outs_front false true os r = ([], grind (arith, common_steps))
+  outs_front true done os r = ([], sym (append-nil os))
+  outs_front false true os r = ([], sym (append-nil os))
   outs_front false false os r = (r.outs, refl)
 
   done_more : (outs os : List Out) (a b c : LinkSide) (h i j : Option (List ℕ)) → Done (effects at outs) a b h i
@@ -229,7 +228,7 @@ module _ {S : Type 0} (next : S → Given → S × List Out) (is_done : S → Bo
   no_turn r outs taken left s ts now answers values none is =
       let one : r ≡ after_turns outs taken (record { outs = []; turns = 0; done = is_done s; broken = false }) = rw none at is in
       let e : taken + 0 ≡ taken = omega arith in
-      let f : outs ++ [] ≡ outs = grind (arith, common_steps) in
+      let f : outs ++ [] ≡ outs = append-nil outs in
       rw (e, f) at one
 
   pub serves_last : (timers : List (Tick × ℕ)) (turns : ℕ) (s0 : S) (o0 : Option (List PollAnswer)) (v0 : Option (List ℕ)) (taken : ℕ)
@@ -272,7 +271,7 @@ module _ {S : Type 0} (next : S → Given → S × List Out) (is_done : S → Bo
   breaks_run r turns taken s ts now o v a b c h i j g within failed =
       let some : 0 < turns - taken = omega (arith, within) in
       let gave : Failure ≡ next_poll g.answers = rw g.answers_told at failed.gives in
-      let none : turn_inputs now ts Failure ≡ due_ticks now ts = grind (arith, common_steps) in
+      let none : turn_inputs now ts Failure ≡ due_ticks now ts = append-nil (due_ticks now ts) in
       let one = this_turn r g.outs taken (turns - taken) s ts now g.answers g.values some g.is in
       let is : r ≡ after_turns g.outs taken
       (turn_then true (is_done (after s now ts Failure).0) (after s now ts Failure).1

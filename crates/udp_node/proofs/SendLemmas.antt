@@ -1,12 +1,11 @@
 -- Sends one after another.
 use Rattle.std.proofs.Common.{◌≡◌, ℕ, zero, suc, ◌+◌, ◌-◌, ◌≤◌, ◌<◌, min, List, [], ◌∷◌, ◌++◌, Bool, true, false, Option, Some, None}
-use Rattle.std.proofs.Common.{Result, Ok, Err, refl, ap, sym, ◌∙◌, append_assoc, arith}
+use Rattle.std.proofs.Common.{Result, Ok, Err, refl, ap, sym, ◌∙◌, append_assoc, append-nil, arith}
 use Rattle.nop_types.specs.declared.memory.NoMemory.{NoMemory}
 use Rattle.outside.specs.declared.link.Sent.{Sent}
 use Rattle.outside.specs.Causes.{Rose}
 use Rattle.outside.specs.Plans.{next_count}
 use Rattle.outside.specs.Told.{Stays, Adds}
-use Rattle.std.proofs.lemmas.Grind.{common_steps}
 use Rattle.udp_node.specs.Ports.{is_skipped, unless, datagrams_from}
 use Rattle.udp_node.specs.Sends.{LinkSide, Grows, tried, kept, kept_if, failures, counted, count_if, last_count, Sends, SendsFront}
 use Rattle.udp_node.specs.Sends.{SendsAll}
@@ -86,7 +85,7 @@ datagrams_add bytes skipped first (suc m) n =
 
 pub Grows_none : {A : Type 0} (s : Option (List A)) → Grows s s []
 Grows_none None = tt
-Grows_none (Some xs) = grind (arith, common_steps)
+Grows_none (Some xs) = ap Some (sym (append-nil xs))
 
 pub no_sends : (a : LinkSide) → Sends [] a a
 no_sends a = record { tries = []; all = refl; sent = Grows_none a.sent; lost = refl; losses = omega arith }
@@ -97,7 +96,7 @@ Adds_Grows (Some xs) b x one = one
 
 pub Stays_Grows : {A : Type 0} (a b : Option (List A)) → Stays a b → Grows a b []
 Stays_Grows None b one = tt
-Stays_Grows (Some xs) b one = grind (arith, common_steps, one)
+Stays_Grows (Some xs) b one = one ∙ ap Some (sym (append-nil xs))
 
 pub sent_one : (d : Sent) (a b : LinkSide) → Adds a.sent b.sent d → b.lost ≡ a.lost → a.losses ≤ b.losses → Sends (d ∷ []) a b
 sent_one d a b sent lost losses = record {

@@ -1,6 +1,5 @@
 -- The ends of a turn.
-use Rattle.std.proofs.Common.{◌≡◌, ℕ, List, [], ◌∷◌, ◌++◌, map, drop, Option, Some, None, Result, Ok, Err, refl, ap, sym, arith}
-use Rattle.std.proofs.lemmas.Grind.{common_steps}
+use Rattle.std.proofs.Common.{◌≡◌, ℕ, List, [], ◌∷◌, ◌++◌, map, drop, Option, Some, None, Result, Ok, Err, refl, ap, sym, append-nil, arith}
 use Rattle.nop_types.specs.Given.{Given, Packet}
 use Rattle.nop_types.specs.declared.output.Out.{Out}
 use Rattle.outside.specs.Links.{next_poll, poll_result, Polls}
@@ -75,7 +74,7 @@ quiet a b sent lost losses =
 
 done_quiet : (es : List Effect) (a b c : LinkSide) (h i : Option (List ℕ)) → Done es a b h i → Sends [] b c → Done es a c h i
 done_quiet es a b c h i one two =
-    let none : posts es ++ [] ≡ posts es = grind (arith, common_steps) in
+    let none : posts es ++ [] ≡ posts es = append-nil (posts es) in
     record { sends = rw none at (sends_then (posts es) [] a b c one.sends two); lines = one.lines }
 
 module _ {S : Type 0} (next : S → Given → S × List Out) (at : Address) where

@@ -18,6 +18,10 @@ pub record WroteFront (line : List ℕ) (before now : Option (List ℕ)) : Type 
   pub count : ℕ
   pub appended : Appends before now (take count line)
 
+-- what the sink held stays, and some text was written after it
+abbrev pub WroteText : Option (List ℕ) → Option (List ℕ) → Type 0
+WroteText before now = (text : List ℕ) × Appends before now text
+
 -- a line was written, or not all of it
 abbrev pub Writes : {T : Type 0} → List ℕ → Result T DeviceError → Option (List ℕ) → Option (List ℕ) → Type 0
 Writes line (Ok t) before now = Appends before now line

@@ -39,7 +39,7 @@ turn_then false true os r = record { outs = os; turns = 1; done = true; broken =
 turn_then false false os r = after_turn os r
 
 module _ {S : Type 0} (next : S → Given → S × List Out) (is_done : S → Bool) where
-  -- at most so many turns, of which the first is now
+  -- at most this number of turns, of which the first is now
   abbrev pub turns_from : ℕ → S → List Timer → ℕ → List PollAnswer → List ℕ → NodeRun
   turns_from zero s ts now answers values = record { outs = []; turns = 0; done = is_done s; broken = false }
   turns_from (suc k) s ts now answers values =
@@ -74,7 +74,7 @@ pub record Broke (at : Address) (r : NodeRun) (a b : LinkSide) (h i : Option (Li
   pub broken : r.broken ≡ true
   pub effects : Done (effects at r.outs) a b h i
 
--- by how the call ended; the node counted so many losses
+-- by how the call ended; at an error any number of losses was counted
 abbrev pub ServesRun : Address → NodeRun → Result Served ServeError → LinkSide → LinkSide → Option (List ℕ) → Option (List ℕ) → Type 0
 ServesRun at r (Ok served) a b h i = ServedRun at r served a (record b { lost = served.lost }) h i
 ServesRun at r (Err LinkFault) a b h i = (lost : ℕ) × Broke at r a (record b { lost = lost }) h i

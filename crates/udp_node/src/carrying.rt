@@ -96,7 +96,9 @@ fn carry_out_all<L: Link, W: Sink>(
     ensures port { L.own_port link.new ≡ L.own_port link.old }
 {
     for out in outs {
-        carry_out(alloc, at, out, link, sink, lost)?;
+        if let Err(e) = carry_out(alloc, at, out, link, sink, lost) {
+            return Err(e);
+        }
     }
     Ok(())
 }

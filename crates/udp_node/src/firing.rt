@@ -12,7 +12,7 @@ use nop_types::{Core, Input, NoMemory, Tick};
 use outside::{Link, Sink, WriteError};
 use std::alloc::Global;
 
-/// A timer of the core, with the time at which it is due.
+/// A timer of the core, with its period and the time at which it is due, both in milliseconds of the clock.
 #[derive(Clone, Copy, Debug, PartialEq, Eq)]
 pub struct Timer {
     pub tick: Tick,
@@ -96,7 +96,9 @@ pub(crate) fn fire_due<C: Core, L: Link, W: Sink>(
     ensures port { L.own_port link.new ≡ L.own_port link.old }
 {
     for timer in timers {
-        fire(alloc, core, at, *timer, now, link, sink, lost)?;
+        if let Err(e) = fire(alloc, core, at, *timer, now, link, sink, lost) {
+            return Err(e);
+        }
     }
     Ok(())
 }

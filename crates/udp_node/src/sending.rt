@@ -82,7 +82,8 @@ fn send_each<L: Link>(
     Ok(())
 }
 
-/// Sends a datagram to each port of its destination, in ascending order; one to all replicas not to the own port.
+/// Sends a datagram to each port of its destination, in ascending order; one to all replicas not to the own port. Failed
+/// sends are counted; where memory runs out, what was sent before is sent.
 pub fn send_to<L: Link>(
     at: &Address,
     dest: Dest,

@@ -1,5 +1,6 @@
-ghost use Rattle.std.specs.Prelude.{◌≡◌, ◌≤◌, ◌+◌, ◌-◌, ◌^◌, min, length, IfOk};
+ghost use Rattle.std.specs.Prelude.{◌≡◌, ◌≤◌, ◌+◌, ◌-◌, ◌^◌, min, length, false, IfOk};
 ghost use Rattle.outside.specs.Causes.{HasCauseFor};
+ghost use Rattle.udp_node.specs.Effects.{WroteText};
 ghost use Rattle.udp_node.specs.NodeRun.{first_inputs, ServesTold, ServesAfter};
 ghost use Rattle.udp_node.specs.Sends.{side};
 ghost use Rattle.udp_node.specs.declared.errors.ServeError.TheVariants as errors;
@@ -12,7 +13,7 @@ use nop_types::{Core, Tick};
 use outside::{Clock, Link, Sink};
 use std::alloc::Global;
 
-/// How a run ended: the turns taken, the sends that failed, and whether the core was done.
+/// How a run ended: the turns taken, the sends that failed (up to 2^64 - 1), and whether the core was done.
 #[derive(Clone, Copy, Debug, PartialEq, Eq)]
 pub struct Served {
     pub turns: u64,
@@ -38,8 +39,13 @@ fn take_turns<C: Core, L: Link, K: Clock, W: Sink>(
         (side (L.sent link.old) before (L.loss_count link.old))
         (side (L.sent link.new) 0 (L.loss_count link.new))
         (W.held sink.old) (W.held sink.new) }
+    ensures turns { IfOk result (λ served. served.turns ≤ turns) }
+    ensures done { IfOk result (λ served. served.done ≡ C.is_done (C.state core.new)) }
+    ensures spent { IfOk result (λ served. served.done ≡ false → served.turns ≡ turns) }
+    ensures wrote { WroteText (W.held sink.old) (W.held sink.new) }
     ensures lost { IfOk result (λ served.
-        min (L.loss_count link.old + (served.lost - before)) (2 ^ 64 - 1) ≤ L.loss_count link.new) }
+        min (L.loss_count link.old + (served.lost - before)) (2 ^ 64 - 1)
+        ≤ L.loss_count link.new) }
     ensures port { L.own_port link.new ≡ L.own_port link.old }
     ensures poll { HasCauseFor (L.fault_count link.old) (L.fault_count link.new)
         errors.LinkFault result }
@@ -73,7 +79,8 @@ fn take_turns<C: Core, L: Link, K: Clock, W: Sink>(
     })
 }
 
-/// Serves a core for at most so many turns, and until it is done.
+/// Serves a core for at most `turns` turns, and until it is done. A poll or a write that fails ends it, a send that fails is
+/// counted.
 pub fn serve<C: Core, L: Link, K: Clock, W: Sink>(
     alloc: Global,
     core: &mut C,
@@ -90,6 +97,10 @@ pub fn serve<C: Core, L: Link, K: Clock, W: Sink>(
         (side (L.sent link.old) 0 (L.loss_count link.old))
         (side (L.sent link.new) 0 (L.loss_count link.new))
         (W.held sink.old) (W.held sink.new) }
+    ensures turns { IfOk result (λ served. served.turns ≤ turns) }
+    ensures done { IfOk result (λ served. served.done ≡ C.is_done (C.state core.new)) }
+    ensures spent { IfOk result (λ served. served.done ≡ false → served.turns ≡ turns) }
+    ensures wrote { WroteText (W.held sink.old) (W.held sink.new) }
     ensures lost { IfOk result (λ served.
         min (L.loss_count link.old + served.lost) (2 ^ 64 - 1) ≤ L.loss_count link.new) }
     ensures port { L.own_port link.new ≡ L.own_port link.old }
@@ -119,6 +130,10 @@ pub fn serve_after<C: Core, L: Link, K: Clock, W: Sink>(
         (side (L.sent link.old) 0 (L.loss_count link.old))
         (side (L.sent link.new) 0 (L.loss_count link.new))
         (W.held sink.old) (W.held sink.new) }
+    ensures turns { IfOk result (λ served. served.turns ≤ turns) }
+    ensures done { IfOk result (λ served. served.done ≡ C.is_done (C.state core.new)) }
+    ensures spent { IfOk result (λ served. served.done ≡ false → served.turns ≡ turns) }
+    ensures wrote { WroteText (W.held sink.old) (W.held sink.new) }
     ensures lost { IfOk result (λ served.
         min (L.loss_count link.old + served.lost) (2 ^ 64 - 1) ≤ L.loss_count link.new) }
     ensures port { L.own_port link.new ≡ L.own_port link.old }

@@ -4,4 +4,5 @@ use Rattle.one_box.proofs.attaching.add_sequencers.Goals as goal
 
 pub loop-i-preserved : goal.loop-i-preserved
 loop-i-preserved c =
-    numbered_more Sequencer c.args.actors.now.items c.loop-i.actors.items c.push.new.self.items c.loop-i.i c.loop-i.invariant c.in_ok-push.ensures.items
+    numbered_more Sequencer c.args.actors.now.items c.loop-i.actors.items c.push.new.self.items c.loop-i.i c.loop-i.invariant
+    c.in_ok-push.ensures.items

@@ -7,7 +7,9 @@ abbrev pub invariant-loop-i : goal.invariant-loop-i
 invariant-loop-i g l = record {
   on : AttachingOn (link_view g.P.L.Link.answers g.P.L.Link.own_port g.P.L.Link.sent g.P.L.Link.loss_count g.P.L.Link.fault_count)
       l.base l.config l.now (take l.i l.actors) (g.P.Ports.to_come l.fn.ports) (g.P.Ports.to_come l.ports) l.nodes.items;
-  places : map (place_of (link_view g.P.L.Link.answers g.P.L.Link.own_port g.P.L.Link.sent g.P.L.Link.loss_count g.P.L.Link.fault_count)) l.nodes.items
+  places : map
+      (place_of (link_view g.P.L.Link.answers g.P.L.Link.own_port g.P.L.Link.sent g.P.L.Link.loss_count g.P.L.Link.fault_count))
+      l.nodes.items
       ≡ map (place_for l.base l.config) (take l.i l.actors);
   holds : Holds (g.P.Ports.attached l.fn.ports) (g.P.Ports.detached l.fn.ports) (g.P.Ports.attached l.ports) (g.P.Ports.detached l.ports)
       l.nodes.items;

@@ -1,17 +1,51 @@
-use Rattle.std.proofs.Common.{refl, ◌∙◌}
+use Rattle.std.proofs.Common.{refl, ◌∙◌, ap, arith, length}
+use Rattle.outside.specs.declared.errors.DeviceError.TheVariants.{Failed}
+use Rattle.one_box.proofs.AttachingLemmas.{no_cause, memory_cause, cause_as, given_back}
 use Rattle.one_box.proofs.attaching.attach_one.Goals as goal
 
-pub returns-in-Ok-push-clause-one : goal.returns-in-Ok-push-clause-one
-returns-in-Ok-push-clause-one g c = record {
-  node = record { at = c.args.at; timers = c.args.timers; next_op = c.first_op-next_op.result; link = c.in-Ok.link; lost = 0 };
-  added = c.in-Ok-push.ensures.items;
-  fresh = record {
-    at = refl;
-    timers = refl;
-    next_op = c.first_op-next_op.ensures;
-    lost = refl;
-    port = c.in-Ok.ensures.port ∙ c.port_of-port.ensures.port;
-    losses = c.in-Ok.ensures.losses;
+pub returns-in-Ok-push-clause-attaches : goal.returns-in-Ok-push-clause-attaches
+returns-in-Ok-push-clause-attaches g c = record {
+  one = record {
+    node = record { at = c.args.at; timers = c.args.timers; next_op = c.first_op-next_op.result; link = c.in-Ok.link; lost = 0 };
+    added = c.in-Ok-push.ensures.items;
+    fresh = record {
+      at = refl;
+      timers = refl;
+      next_op = c.first_op-next_op.ensures;
+      lost = refl;
+      port = c.in-Ok.ensures.port ∙ c.port_of-port.ensures.port;
+      losses = c.in-Ok.ensures.losses;
+    };
+    content = c.in-Ok.ensures.content;
   };
-  content = c.in-Ok.ensures.content;
+  attached = c.in-Ok.ensures.attached;
+  room = c.in-Ok.ensures.room;
+  given = c.in-Ok.ensures.detached;
 }
+
+pub returns-in-Ok-push-clause-cause : goal.returns-in-Ok-push-clause-cause
+returns-in-Ok-push-clause-cause g c = no_cause _ _ Failed tt c.in-Ok.ensures.cause.later
+
+pub returns-in-Err-push-clause-attaches : goal.returns-in-Err-push-clause-attaches
+returns-in-Err-push-clause-attaches g c = record {
+  same = c.in-Err-push.ensures.items;
+  balance = given_back (g.P.Ports.attached c.args.ports.now) (g.P.Ports.attached c.attach.new.self)
+      (g.P.Ports.attached c.detach_one.new.ports) (g.P.Ports.detached c.args.ports.now) (g.P.Ports.detached c.attach.new.self)
+      (g.P.Ports.detached c.detach_one.new.ports) _ c.in-Ok.ensures.attached c.in-Ok.ensures.detached c.detach_one.ensures.attached
+      c.detach_one.ensures.detached;
+}
+
+pub returns-in-Err-push-clause-cause : goal.returns-in-Err-push-clause-cause
+returns-in-Err-push-clause-cause g c =
+    memory_cause (g.P.Ports.fault_count c.args.ports.now) (g.P.Ports.fault_count c.detach_one.new.ports)
+    (omega (arith, c.in-Ok.ensures.cause.later, c.detach_one.ensures.faults))
+
+pub returns-in-Err-clause-attaches : goal.returns-in-Err-clause-attaches
+returns-in-Err-clause-attaches g c = record {
+  same = refl;
+  balance = omega (arith, c.in-Err.ensures.err, ap length c.attach.ensures.detached);
+}
+
+pub returns-in-Err-clause-cause : goal.returns-in-Err-clause-cause
+returns-in-Err-clause-cause g c =
+    cause_as (g.P.Ports.fault_count c.args.ports.now) (g.P.Ports.fault_count c.attach.new.self) c.in-Err.e c.in-Err.ensures.cause

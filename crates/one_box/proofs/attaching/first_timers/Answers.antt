@@ -1,6 +1,8 @@
-use Rattle.std.proofs.Common.{rules, ◌≡◌, ◌<◌, length, map, arith, Some, sym, ◌∙◌, ap}
+use Rattle.std.proofs.Common.{◌≡◌, ◌<◌, ◌++◌, ◌∷◌, [], ℕ, length, List, map, arith, Some, sym, ◌∙◌, ap}
 use Rattle.std.specs.Prelude.{slice_get}
 use Rattle.std.proofs.lemmas.Option.{slice_get_within}
+use Rattle.nop_types.specs.declared.input.Tick.{Tick}
+use Rattle.udp_node.specs.declared.firing.Timer.{Timer}
 use Rattle.udp_node.specs.Timing.{armed}
 use Rattle.udp_node.proofs.FoldLemmas.{armed_more, all_taken}
 use Rattle.world.specs.Lookups.{timers_of}
@@ -8,12 +10,16 @@ use Rattle.one_box.proofs.attaching.first_timers.Goals as goal
 
 pub loop-tick-preserved : goal.loop-tick-preserved
 loop-tick-preserved g c =
-    let ts = timers_of c.args.world.now.state c.args.actor in
-    let got : slice_get ts c.loop-tick.i ≡ Some (c.in-Some.tick, c.in-Some.period) = search rules in
-    let within : c.loop-tick.i < length ts = slice_get_within ts c.loop-tick.i (c.in-Some.tick, c.in-Some.period) got in
+    let ts : List (Tick × ℕ) = timers_of c.args.world.now.state c.args.actor in
+    let x : Tick × ℕ = (c.in-Some.tick, c.in-Some.period) in
+    let old : List Timer = c.loop-tick.timers.items in
+    let got : slice_get ts c.loop-tick.i ≡ Some x = sym c.timer.ensures ∙ c.in-Some.is in
+    let within : c.loop-tick.i < length ts = slice_get_within ts c.loop-tick.i x got in
     record {
       within = omega (arith, within);
-      first = search (rules, armed_more c.args.now ts c.loop-tick.i (c.in-Some.tick, c.in-Some.period) got);
+      first = c.in_ok-push.ensures.items ∙ ap (λ (t : Timer). old ++ t ∷ []) c.armed.ensures
+          ∙ ap (λ (all : List Timer). all ++ armed c.args.now x ∷ []) c.loop-tick.invariant.first
+          ∙ sym (armed_more c.args.now ts c.loop-tick.i x got);
     }
 
 pub returns : goal.returns

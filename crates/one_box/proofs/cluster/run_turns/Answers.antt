@@ -1,27 +1,65 @@
-use Rattle.std.proofs.Common.{subst, ◌∙◌, List}
+use Rattle.std.proofs.Common.{subst, ◌∙◌, ap, List, map}
 use Rattle.nop_types.specs.declared.output.Actor.{Actor}
-use Rattle.one_box.specs.Attaching.{AttachesAll}
+use Rattle.one_box.specs.Attaching.{AttachesAll, place_for}
 use Rattle.one_box.specs.Showing.{course_of, link_view}
 use Rattle.one_box.proofs.AttachingLemmas.{bases_placed}
-use Rattle.one_box.proofs.ClusterLemmas.{told_if}
+use Rattle.one_box.proofs.ClusterLemmas.{turns_run, unattached, holds_same, room_same, holds_none, room_none}
 use Rattle.one_box.proofs.cluster.run_turns.Goals as goal
 
 pub take_turns-requires : goal.take_turns-requires
 take_turns-requires g c =
-    bases_placed (link_view g.P.L.Link.answers g.P.L.Link.own_port g.P.L.Link.sent g.P.L.Link.loss_count g.P.L.Link.fault_count)
-    c.args.base c.args.config c.now-now.result c.deref.result.now c.attach_all-attached.new.nodes.items c.requires.base
-    c.in_default-attached.ensures.places
+    let v = link_view g.P.L.Link.answers g.P.L.Link.own_port g.P.L.Link.sent g.P.L.Link.loss_count g.P.L.Link.fault_count in
+    bases_placed v c.args.base c.args.config c.now-now.result c.deref.result.now c.attach_all-attached.new.nodes.items c.requires.base
+    c.in-Ok-attached.ensures.attaches.places
 
-pub returns-clause-told : goal.returns-clause-told
-returns-clause-told g c =
-    told_if g.H.Host.meaning (link_view g.P.L.Link.answers g.P.L.Link.own_port g.P.L.Link.sent g.P.L.Link.loss_count g.P.L.Link.fault_count)
-    c.args.config c.args.ops.now c.args.base c.args.turns c.now-now.result (g.P.Ports.to_come c.args.ports.now)
-    (g.C.Clock.values c.args.clock.now) (g.C.Clock.values c.now-now.new.self) c.take_turns.result (course_of c.args.course.now)
+pub returns-in-Ok-attached-clause-runs : goal.returns-in-Ok-attached-clause-runs
+returns-in-Ok-attached-clause-runs g c =
+    let v = link_view g.P.L.Link.answers g.P.L.Link.own_port g.P.L.Link.sent g.P.L.Link.loss_count g.P.L.Link.fault_count in
+    let attached = c.in-Ok-attached.ensures.attaches in
+    let actors = c.deref.ensures.value ∙ c.in-Ok.ensures in
+    turns_run g.H.Host.meaning v c.args.config c.args.ops.now c.args.base c.args.turns c.now-now.result (g.P.Ports.to_come c.args.ports.now)
+    (g.C.Clock.values c.args.clock.now) (g.C.Clock.values c.now-now.new.self) (course_of c.args.course.now)
     (course_of c.take_turns.new.course) c.attach_all-attached.new.nodes.items c.take_turns.new.nodes.items c.now-now.ensures
-    (subst (λ (actors : List Actor). AttachesAll (link_view g.P.L.Link.answers g.P.L.Link.own_port g.P.L.Link.sent g.P.L.Link.loss_count g.P.L.Link.fault_count)
-    c.args.base c.args.config c.now-now.result actors (g.P.Ports.to_come c.args.ports.now) c.attach_all-attached.new.nodes.items)
-    (c.deref.ensures.value ∙ c.in-Ok.ensures) c.in_default-attached.ensures.told)
-    c.requires.opens c.take_turns.ensures.told
+    (subst (λ (all : List Actor). AttachesAll v c.args.base c.args.config c.now-now.result all (g.P.Ports.to_come c.args.ports.now)
+    c.attach_all-attached.new.nodes.items) actors attached.told) c.requires.opens c.take_turns.result
+    (g.P.Ports.fault_count c.args.ports.now) (g.P.Ports.fault_count c.attach_all-attached.new.ports)
+    (g.P.Ports.detached c.args.ports.now) (g.P.Ports.detached c.attach_all-attached.new.ports) c.take_turns.ensures.told
+    c.take_turns.ensures.runs
+    (c.take_turns.ensures.places ∙ attached.places ∙ ap (map (place_for c.args.base c.args.config)) actors) attached.given
 
-pub returns-clause-write : goal.returns-clause-write
-returns-clause-write g c = c.take_turns.ensures.write
+pub returns-in-Ok-attached-clause-holds : goal.returns-in-Ok-attached-clause-holds
+returns-in-Ok-attached-clause-holds g c =
+    let v = link_view g.P.L.Link.answers g.P.L.Link.own_port g.P.L.Link.sent g.P.L.Link.loss_count g.P.L.Link.fault_count in
+    holds_same v c.attach_all-attached.new.nodes.items c.take_turns.new.nodes.items c.take_turns.ensures.places
+    (g.P.Ports.attached c.args.ports.now) (g.P.Ports.attached c.attach_all-attached.new.ports)
+    (g.P.Ports.detached c.args.ports.now) (g.P.Ports.detached c.attach_all-attached.new.ports) c.attach_all-attached.ensures.holds
+
+pub returns-in-Ok-attached-clause-room : goal.returns-in-Ok-attached-clause-room
+returns-in-Ok-attached-clause-room g c =
+    let v = link_view g.P.L.Link.answers g.P.L.Link.own_port g.P.L.Link.sent g.P.L.Link.loss_count g.P.L.Link.fault_count in
+    room_same v c.attach_all-attached.new.nodes.items c.take_turns.new.nodes.items c.take_turns.ensures.places
+    (g.P.Ports.attached c.attach_all-attached.new.ports) (g.P.Ports.detached c.attach_all-attached.new.ports)
+    c.attach_all-attached.ensures.room
+
+pub returns-clause-runs : goal.returns-clause-runs
+returns-clause-runs g c =
+    let v = link_view g.P.L.Link.answers g.P.L.Link.own_port g.P.L.Link.sent g.P.L.Link.loss_count g.P.L.Link.fault_count in
+    unattached g.H.Host.meaning v c.args.config c.args.ops.now c.args.base c.args.turns c.in-Err.e
+    (g.P.Ports.to_come c.args.ports.now) (g.C.Clock.values c.args.clock.now) (g.P.Ports.fault_count c.args.ports.now)
+    (g.P.Ports.fault_count c.attach_all-attached.new.ports) (g.P.Ports.detached c.args.ports.now)
+    (g.P.Ports.detached c.attach_all-attached.new.ports) (course_of c.args.course.now) c.attach_all-attached.new.nodes.items
+    c.in-Err.ensures.cause
+
+pub returns-in_default-clause-holds : goal.returns-in_default-clause-holds
+returns-in_default-clause-holds g c =
+    holds_none (g.P.Ports.attached c.args.ports.now) (g.P.Ports.detached c.args.ports.now) c.args.nodes.now.items c.requires.empty
+
+pub returns-in_default-clause-room : goal.returns-in_default-clause-room
+returns-in_default-clause-room g c =
+    room_none (g.P.Ports.attached c.args.ports.now) (g.P.Ports.detached c.args.ports.now) c.args.nodes.now.items c.requires.empty
+
+pub returns-clause-holds : goal.returns-clause-holds
+returns-clause-holds g c = c.attach_all-attached.ensures.holds
+
+pub returns-clause-room : goal.returns-clause-room
+returns-clause-room g c = c.attach_all-attached.ensures.room

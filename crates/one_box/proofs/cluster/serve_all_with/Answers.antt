@@ -1,29 +1,76 @@
-use Rattle.std.proofs.Common.{◌≡◌, ◌++◌, ◌∙◌, ap, rules, map}
-use Rattle.replica_core.specs.Within.{ResultsShort}
+use Rattle.std.proofs.Common.{◌≡◌, rules}
+use Rattle.replica_rows.specs.Within.{ResultsShort}
 use Rattle.safety.proofs.Results.{results_short}
-use Rattle.one_box.specs.declared.errors.ClusterError.TheVariants.{LinkFault}
 use Rattle.one_box.specs.Attaching.{lost_by}
 use Rattle.one_box.specs.Showing.{course_of, link_view}
-use Rattle.one_box.proofs.ClusterLemmas.{run_ends, caused, same_error}
+use Rattle.one_box.proofs.ClusterLemmas.{run_ends, ends_early, caused, no_run, never_link, never_written, all_back}
 use Rattle.one_box.proofs.cluster.serve_all_with.Goals as goal
 
 pub returns-in-Ok-ran-clause-ends : goal.returns-in-Ok-ran-clause-ends
 returns-in-Ok-ran-clause-ends g c =
+    let v = link_view g.P.L.Link.answers g.P.L.Link.own_port g.P.L.Link.sent g.P.L.Link.loss_count g.P.L.Link.fault_count in
     let short : ResultsShort g.H.Host.meaning =
     results_short g.H.Host.meaning g.H.Host.is_sound g.met.H.Host.opens_sound g.met.H.Host.stays_sound g.met.H.Host.answers_short in
-    let e = c.in-Ok-ran.ensures in
-    let lost_is : c.lost_by-lost.result ≡ lost_by c.run_turns-ran.new.nodes.items = search rules in
-    run_ends g.H.Host.meaning (link_view g.P.L.Link.answers g.P.L.Link.own_port g.P.L.Link.sent g.P.L.Link.loss_count g.P.L.Link.fault_count)
-    c.args.config c.args.ops.now c.args.base c.args.turns (g.P.Ports.to_come c.args.ports.now) (g.C.Clock.values c.args.clock.now)
-    (g.P.Ports.detached c.args.ports.now) (g.P.Ports.detached c.detach_all.new.ports) short c.replicas.ensures.limits
-    (course_of c.run_turns-ran.new.course) c.in-Ok-ran.taken c.lost_by-lost.result c.run_turns-ran.new.nodes.items e.led e.done e.spent e.told
-    lost_is e.places
-    (c.detach_all.ensures.detached ∙ ap (λ links. links ++ map (λ x. x.link) c.run_turns-ran.new.nodes.items) e.given)
-    c.write_run.result (g.K.Sink.held c.args.sink.now) (g.K.Sink.held c.write_run.new.sink) c.write_run.ensures.writes
+    let xs = c.run_turns-ran.new.nodes.items in
+    let lost_is : c.lost_by-lost.result ≡ lost_by xs = search rules in
+    run_ends g.H.Host.meaning v c.args.config c.args.ops.now c.args.base c.args.turns (g.P.Ports.to_come c.args.ports.now)
+    (g.C.Clock.values c.args.clock.now) (g.P.Ports.detached c.args.ports.now) (g.P.Ports.detached c.detach_all.new.ports) short
+    c.replicas.ensures.limits (course_of c.run_turns-ran.new.course) c.in-Ok-ran.taken c.lost_by-lost.result xs
+    (g.P.Ports.detached c.run_turns-ran.new.ports) c.in-Ok-ran.ensures.runs lost_is c.detach_all.ensures.detached c.write_run.result
+    (g.K.Sink.held c.args.sink.now) (g.K.Sink.held c.write_run.new.sink) c.write_run.ensures.writes
+
+pub returns-in-Ok-ran-clause-link : goal.returns-in-Ok-ran-clause-link
+returns-in-Ok-ran-clause-link g c = λ is. absurd (never_link _ _ c.write_run.result _ _ c.write_run.ensures.writes is)
+
+pub returns-in-Ok-ran-clause-none : goal.returns-in-Ok-ran-clause-none
+returns-in-Ok-ran-clause-none g c = λ is. absurd (never_link _ _ c.write_run.result _ _ c.write_run.ensures.writes is)
+
+pub returns-clause-ends : goal.returns-clause-ends
+returns-clause-ends g c =
+    let v = link_view g.P.L.Link.answers g.P.L.Link.own_port g.P.L.Link.sent g.P.L.Link.loss_count g.P.L.Link.fault_count in
+    ends_early g.H.Host.meaning v c.args.config c.args.ops.now c.args.base c.args.turns (g.P.Ports.to_come c.args.ports.now)
+    (g.C.Clock.values c.args.clock.now) (g.P.Ports.detached c.args.ports.now) (g.P.Ports.detached c.detach_all.new.ports) c.in-Err.e
+    c.error_of.result (g.K.Sink.held c.args.sink.now) c.error_of.ensures
 
 pub returns-clause-link : goal.returns-clause-link
-returns-clause-link g c = λ is.
-    caused (link_view g.P.L.Link.answers g.P.L.Link.own_port g.P.L.Link.sent g.P.L.Link.loss_count g.P.L.Link.fault_count)
-    (g.P.Ports.fault_count c.args.ports.now) (g.P.Ports.fault_count c.run_turns-ran.new.ports) (g.P.Ports.fault_count c.detach_all.new.ports)
-    (g.P.Ports.detached c.args.ports.now) (g.P.Ports.detached c.run_turns-ran.new.ports) (g.P.Ports.detached c.detach_all.new.ports)
-    c.run_turns-ran.new.nodes.items c.detach_all.ensures.faults c.detach_all.ensures.detached (c.in-Err.ensures.cause (same_error c.in-Err.e LinkFault is))
+returns-clause-link g c =
+    let v = link_view g.P.L.Link.answers g.P.L.Link.own_port g.P.L.Link.sent g.P.L.Link.loss_count g.P.L.Link.fault_count in
+    caused g.H.Host.meaning v c.args.config c.args.ops.now c.args.base c.args.turns (g.P.Ports.to_come c.args.ports.now)
+    (g.C.Clock.values c.args.clock.now) (g.P.Ports.detached c.args.ports.now) (g.P.Ports.detached c.detach_all.new.ports)
+    (g.P.Ports.fault_count c.args.ports.now) (g.P.Ports.fault_count c.run_turns-ran.new.ports)
+    (g.P.Ports.fault_count c.detach_all.new.ports) (g.P.Ports.detached c.run_turns-ran.new.ports) (course_of c.run_turns-ran.new.course)
+    c.run_turns-ran.new.nodes.items c.in-Err.e c.error_of.result c.error_of.ensures c.detach_all.ensures.faults
+    c.in-Err.ensures.runs c.detach_all.ensures.detached
+
+pub returns-clause-none : goal.returns-clause-none
+returns-clause-none g c =
+    let v = link_view g.P.L.Link.answers g.P.L.Link.own_port g.P.L.Link.sent g.P.L.Link.loss_count g.P.L.Link.fault_count in
+    no_run g.H.Host.meaning v c.args.config c.args.ops.now c.args.base c.args.turns (g.P.Ports.to_come c.args.ports.now)
+    (g.C.Clock.values c.args.clock.now) (g.P.Ports.detached c.args.ports.now) (g.P.Ports.detached c.detach_all.new.ports)
+    (g.P.Ports.fault_count c.args.ports.now) (g.P.Ports.fault_count c.run_turns-ran.new.ports)
+    (g.P.Ports.fault_count c.detach_all.new.ports) (g.P.Ports.detached c.run_turns-ran.new.ports) (course_of c.run_turns-ran.new.course)
+    c.run_turns-ran.new.nodes.items c.in-Err.e c.error_of.result c.error_of.ensures c.detach_all.ensures.faults
+    c.in-Err.ensures.runs
+
+pub returns-clause-write : goal.returns-clause-write
+returns-clause-write g c = λ is. absurd (never_written c.in-Err.e c.error_of.result c.error_of.ensures is)
+
+pub detach_all-requires : goal.detach_all-requires
+detach_all-requires g c = c.run_turns-ran.ensures.room
+
+pub write_run-requires : goal.write_run-requires
+write_run-requires g c = c.in-Ok-ran.ensures.runs.led.spelled
+
+pub returns-in-Ok-ran-clause-back : goal.returns-in-Ok-ran-clause-back
+returns-in-Ok-ran-clause-back g c =
+    all_back (g.P.Ports.attached c.args.ports.now) (g.P.Ports.attached c.run_turns-ran.new.ports)
+    (g.P.Ports.attached c.detach_all.new.ports) (g.P.Ports.detached c.args.ports.now) (g.P.Ports.detached c.run_turns-ran.new.ports)
+    (g.P.Ports.detached c.detach_all.new.ports) c.run_turns-ran.new.nodes.items c.run_turns-ran.ensures.holds
+    c.detach_all.ensures.attached c.detach_all.ensures.detached
+
+pub returns-clause-back : goal.returns-clause-back
+returns-clause-back g c =
+    all_back (g.P.Ports.attached c.args.ports.now) (g.P.Ports.attached c.run_turns-ran.new.ports)
+    (g.P.Ports.attached c.detach_all.new.ports) (g.P.Ports.detached c.args.ports.now) (g.P.Ports.detached c.run_turns-ran.new.ports)
+    (g.P.Ports.detached c.detach_all.new.ports) c.run_turns-ran.new.nodes.items c.run_turns-ran.ensures.holds
+    c.detach_all.ensures.attached c.detach_all.ensures.detached

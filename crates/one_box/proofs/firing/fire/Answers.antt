@@ -1,15 +1,26 @@
+use Rattle.std.proofs.Common.{◌≡◌, ◌∙◌, ap, rules}
+use Rattle.one_box.specs.Firing.{next_after}
 use Rattle.one_box.specs.Showing.{course_of, link_view}
-use Rattle.one_box.proofs.FiringLemmas.{fires, waits}
+use Rattle.one_box.proofs.FiringLemmas.{fired_none, fired_some, timer_free}
 use Rattle.one_box.proofs.firing.fire.Goals as goal
 
-pub returns-in_ok-on_tick-clause-does : goal.returns-in_ok-on_tick-clause-does
-returns-in_ok-on_tick-clause-does g c =
-    fires g.H.Host.meaning (link_view g.L.Link.answers g.L.Link.own_port g.L.Link.sent g.L.Link.loss_count g.L.Link.fault_count)
-    c.args.ops.now (course_of c.args.course.now) (course_of c.on_tick.new.course) c.args.node.now c.on_tick.new.node c.args.now c.args.timer
-    c.if-timer-now.true c.in_ok-on_tick.ensures.does
-
-pub returns-else-timer-now-clause-does : goal.returns-else-timer-now-clause-does
-returns-else-timer-now-clause-does g c =
+pub returns-in_default-clause-acts : goal.returns-in_default-clause-acts
+returns-in_default-clause-acts g c =
+    let v = link_view g.L.Link.answers g.L.Link.own_port g.L.Link.sent g.L.Link.loss_count g.L.Link.fault_count in
     let x = c.args.node.now in
-    waits g.H.Host.meaning (link_view g.L.Link.answers g.L.Link.own_port g.L.Link.sent g.L.Link.loss_count g.L.Link.fault_count)
-    c.args.ops.now (course_of c.args.course.now) (course_of c.args.course.now) x x c.args.now c.args.timer c.if-timer-now.false
+    fired_none g.H.Host.meaning v c.args.ops.now (course_of c.args.course.now) (course_of c.args.course.now) x x c.args.timer c.args.now _
+    c.op_at-op.ensures c.in_ok-event.field-0 c.in_ok-event.ensures c.in_default.is
+
+pub take-requires-clause-event : goal.take-requires-clause-event
+take-requires-clause-event g c =
+    timer_free c.args.course.now.world.state c.args.node.now.at.own _ c.args.timer c.args.now c.in_ok-event.field-0 c.in-Some.event
+    c.in_ok-event.ensures c.in-Some.is
+
+pub returns-clause-acts : goal.returns-clause-acts
+returns-clause-acts g c =
+    let v = link_view g.L.Link.answers g.L.Link.own_port g.L.Link.sent g.L.Link.loss_count g.L.Link.fault_count in
+    let x = c.args.node.now in
+    let clients : c.clients.result ≡ c.args.course.now.world.state.config.clients = search rules in
+    fired_some g.H.Host.meaning v c.args.ops.now (course_of c.args.course.now) (course_of c.take.new.course) x c.take.new.node c.args.timer
+    c.args.now _ c.op_at-op.ensures c.in_ok-event.field-0 c.in_ok-event.ensures c.in-Some.event c.in_ok-node.field-0 c.take.result
+    c.in-Some.is (c.in_ok-node.ensures ∙ ap (λ n. next_after c.in-Some.event x.next_op n) clients) c.take.ensures.acts

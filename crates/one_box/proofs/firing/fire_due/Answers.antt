@@ -7,32 +7,45 @@ use Rattle.one_box.proofs.LeadingLemmas.{goes_through}
 use Rattle.one_box.proofs.firing.fire_due.Goals as goal
 
 pub loop-i-init : goal.loop-i-init
-loop-i-init g c = record {
-  fires = λ n shown. none_fired g.H.Host.meaning (link_view g.L.Link.answers g.L.Link.own_port g.L.Link.sent g.L.Link.loss_count g.L.Link.fault_count)
-      c.args.ops.now c.args.now c.args.node.now.timers.items (course_of c.args.course.now) n c.args.node.now shown;
-  goes = λ config led. led;
-  timers = refl;
-  place = refl;
-}
+loop-i-init g c =
+    let v = link_view g.L.Link.answers g.L.Link.own_port g.L.Link.sent g.L.Link.loss_count g.L.Link.fault_count in
+    record {
+      fires = λ n shown. none_fired g.H.Host.meaning v
+          c.args.ops.now c.args.now c.args.node.now.timers.items (course_of c.args.course.now) n c.args.node.now shown;
+      goes = λ config led. led;
+      timers = refl;
+      place = refl;
+    }
 
 pub loop-i-preserved : goal.loop-i-preserved
 loop-i-preserved g c =
+    let v = link_view g.L.Link.answers g.L.Link.own_port g.L.Link.sent g.L.Link.loss_count g.L.Link.fault_count in
     let all = c.args.node.now.timers.items in
     let i = c.loop-i.invariant in
     let there : slice_get all c.loop-i.i ≡ Some c.timer_at-timer.result =
     subst (λ (ts : List Timer). slice_get ts c.loop-i.i ≡ Some c.timer_at-timer.result) i.timers c.timer_at-timer.ensures in
     record {
-      fires = λ n shown. fired_at g.H.Host.meaning (link_view g.L.Link.answers g.L.Link.own_port g.L.Link.sent g.L.Link.loss_count g.L.Link.fault_count)
+      fires = λ n shown. fired_at g.H.Host.meaning v
           c.args.ops.now c.args.now all c.loop-i.i c.timer_at-timer.result (course_of c.args.course.now) (course_of c.loop-i.course)
-          (course_of c.fire.new.course) n c.loop-i.node c.fire.new.node there (i.fires n shown) c.in_ok-fire.ensures.does;
+          (course_of c.fire.new.course) n c.loop-i.node c.fire.new.node there (i.fires n shown) c.in_ok-fire.ensures.acts.does;
       goes = goes_through g.H.Host.meaning (course_of c.args.course.now) (course_of c.loop-i.course) (course_of c.fire.new.course) i.goes
-          c.in_ok-fire.ensures.goes;
+          c.in_ok-fire.ensures.acts.goes;
       timers = c.fire.ensures.timers ∙ i.timers;
       place = c.fire.ensures.place ∙ i.place;
     }
 
-pub returns-clause-does : goal.returns-clause-does
-returns-clause-does g c = λ n shown.
-    all_fired_at g.H.Host.meaning (link_view g.L.Link.answers g.L.Link.own_port g.L.Link.sent g.L.Link.loss_count g.L.Link.fault_count)
-    c.args.ops.now c.args.now c.args.node.now.timers.items c.loop-i.i (course_of c.args.course.now) (course_of c.loop-i.course) n
-    c.loop-i.node (omega arith) shown.timers (c.loop-i.invariant.fires n shown)
+pub returns-clause-acts : goal.returns-clause-acts
+returns-clause-acts g c =
+    let v = link_view g.L.Link.answers g.L.Link.own_port g.L.Link.sent g.L.Link.loss_count g.L.Link.fault_count in
+    record {
+      does = λ n shown. all_fired_at g.H.Host.meaning v c.args.ops.now c.args.now c.args.node.now.timers.items c.loop-i.i
+          (course_of c.args.course.now) (course_of c.loop-i.course) n c.loop-i.node (omega arith) shown.timers
+          (c.loop-i.invariant.fires n shown);
+      goes = c.loop-i.invariant.goes;
+    }
+
+pub returns-clause-timers : goal.returns-clause-timers
+returns-clause-timers g c = c.loop-i.invariant.timers
+
+pub returns-clause-place : goal.returns-clause-place
+returns-clause-place g c = c.loop-i.invariant.place

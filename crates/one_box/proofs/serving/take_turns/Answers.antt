@@ -1,18 +1,21 @@
 use Rattle.std.proofs.Common.{◌≡◌, ◌∙◌, sym, arith, rules, max}
 use Rattle.one_box.specs.Showing.{course_of, link_view}
 use Rattle.one_box.proofs.LeadingLemmas.{goes_through}
-use Rattle.one_box.proofs.RunningLemmas.{never_write, run_stops, turn_done, going_on, turns_over}
+use Rattle.one_box.proofs.RunningLemmas.{run_stops, turn_done, going_on, turns_over, runs_fail}
 use Rattle.one_box.proofs.TurningLemmas.{base_at}
 use Rattle.one_box.proofs.serving.take_turns.Goals as goal
 
 pub turn-requires : goal.turn-requires
-turn-requires g c = λ i y found.
-    base_at (link_view g.L.Link.answers g.L.Link.own_port g.L.Link.sent g.L.Link.loss_count g.L.Link.fault_count)
+turn-requires g c =
+    let v = link_view g.L.Link.answers g.L.Link.own_port g.L.Link.sent g.L.Link.loss_count g.L.Link.fault_count in
+    λ i y found.
+    base_at v
     c.args.nodes.now.items c.loop-taken.nodes.items i y c.requires c.loop-taken.invariant.places found
 
 pub returns-in-Err-clause-told : goal.returns-in-Err-clause-told
 returns-in-Err-clause-told g c =
-    run_stops g.H.Host.meaning (link_view g.L.Link.answers g.L.Link.own_port g.L.Link.sent g.L.Link.loss_count g.L.Link.fault_count)
+    let v = link_view g.L.Link.answers g.L.Link.own_port g.L.Link.sent g.L.Link.loss_count g.L.Link.fault_count in
+    run_stops g.H.Host.meaning v
     c.args.ops.now c.args.turns c.args.now c.loop-taken.taken c.loop-taken.now (g.C.Clock.values c.loop-taken.clock)
     (g.C.Clock.values c.args.clock.now) (course_of c.args.course.now) (course_of c.loop-taken.course) (course_of c.turn.new.course)
     c.args.nodes.now.items c.loop-taken.nodes.items c.turn.new.nodes.items c.loop-taken-test.true c.in-Err.e
@@ -20,39 +23,66 @@ returns-in-Err-clause-told g c =
 
 pub returns-then-all_accepted-clause-told : goal.returns-then-all_accepted-clause-told
 returns-then-all_accepted-clause-told g c =
-    turn_done g.H.Host.meaning (link_view g.L.Link.answers g.L.Link.own_port g.L.Link.sent g.L.Link.loss_count g.L.Link.fault_count)
+    let v = link_view g.L.Link.answers g.L.Link.own_port g.L.Link.sent g.L.Link.loss_count g.L.Link.fault_count in
+    turn_done g.H.Host.meaning v
     c.args.ops.now c.args.turns c.args.now c.loop-taken.taken c.loop-taken.now (g.C.Clock.values c.loop-taken.clock)
     (g.C.Clock.values c.args.clock.now) (course_of c.args.course.now) (course_of c.loop-taken.course) (course_of c.turn.new.course)
     c.args.nodes.now.items c.loop-taken.nodes.items c.turn.new.nodes.items c.loop-taken-test.true
-    c.loop-taken.invariant.going c.in_default.ensures.turns (sym c.all_accepted.ensures ∙ c.if-all_accepted.true)
+    c.loop-taken.invariant.going c.in_default.ensures.turns.does (sym c.all_accepted.ensures ∙ c.if-all_accepted.true)
 
 pub loop-taken-preserved : goal.loop-taken-preserved
 loop-taken-preserved g c =
+    let v = link_view g.L.Link.answers g.L.Link.own_port g.L.Link.sent g.L.Link.loss_count g.L.Link.fault_count in
     let later : c.max-now.result ≡ max c.loop-taken.now c.now.result = search rules in
-    let goes_on = going_on g.H.Host.meaning (link_view g.L.Link.answers g.L.Link.own_port g.L.Link.sent g.L.Link.loss_count g.L.Link.fault_count)
+    let goes_on = going_on g.H.Host.meaning v
     c.args.ops.now c.args.turns c.args.now c.loop-taken.taken c.loop-taken.now (g.C.Clock.values c.loop-taken.clock)
     (g.C.Clock.values c.args.clock.now) (course_of c.args.course.now) (course_of c.loop-taken.course) (course_of c.turn.new.course)
     c.args.nodes.now.items c.loop-taken.nodes.items c.turn.new.nodes.items c.loop-taken-test.true c.now.result
-    (g.C.Clock.values c.now.new.self) c.loop-taken.invariant.going c.in_default.ensures.turns
+    (g.C.Clock.values c.now.new.self) c.loop-taken.invariant.going c.in_default.ensures.turns.does
     (sym c.all_accepted.ensures ∙ c.if-all_accepted.false) c.now.ensures in
     record {
       going = rw later goes_on;
       goes = goes_through g.H.Host.meaning (course_of c.args.course.now) (course_of c.loop-taken.course) (course_of c.turn.new.course)
-          c.loop-taken.invariant.goes c.in_default.ensures.goes;
+          c.loop-taken.invariant.goes c.in_default.ensures.turns.goes;
       places = c.turn.ensures.places ∙ c.loop-taken.invariant.places;
       within = omega (arith, c.loop-taken-test.true);
     }
 
 pub returns-clause-told : goal.returns-clause-told
 returns-clause-told g c =
-    turns_over g.H.Host.meaning (link_view g.L.Link.answers g.L.Link.own_port g.L.Link.sent g.L.Link.loss_count g.L.Link.fault_count)
+    let v = link_view g.L.Link.answers g.L.Link.own_port g.L.Link.sent g.L.Link.loss_count g.L.Link.fault_count in
+    turns_over g.H.Host.meaning v
     c.args.ops.now c.args.turns c.args.now c.loop-taken.taken c.loop-taken.now (g.C.Clock.values c.loop-taken.clock)
     (g.C.Clock.values c.args.clock.now) (course_of c.args.course.now) (course_of c.loop-taken.course)
     c.args.nodes.now.items c.loop-taken.nodes.items c.all_accepted-done.result c.loop-taken-test.false c.all_accepted-done.ensures
     c.loop-taken.invariant.going
 
-pub returns-in-Err-clause-write : goal.returns-in-Err-clause-write
-returns-in-Err-clause-write g c =
-    never_write (link_view g.L.Link.answers g.L.Link.own_port g.L.Link.sent g.L.Link.loss_count g.L.Link.fault_count)
-    _ (course_of c.loop-taken.course) (course_of c.turn.new.course) c.loop-taken.nodes.items c.turn.new.nodes.items c.in-Err.e
-    c.in-Err.ensures.turns
+pub returns-in-Err-clause-runs : goal.returns-in-Err-clause-runs
+returns-in-Err-clause-runs g c =
+    let v = link_view g.L.Link.answers g.L.Link.own_port g.L.Link.sent g.L.Link.loss_count g.L.Link.fault_count in
+    runs_fail g.H.Host.meaning v _ c.args.ops.now c.args.turns (course_of c.args.course.now) (course_of c.loop-taken.course)
+    (course_of c.turn.new.course) c.loop-taken.nodes.items c.turn.new.nodes.items c.in-Err.e c.in-Err.ensures.turns
+
+pub returns-in-Err-clause-places : goal.returns-in-Err-clause-places
+returns-in-Err-clause-places g c = c.turn.ensures.places ∙ c.loop-taken.invariant.places
+
+pub returns-then-all_accepted-clause-runs : goal.returns-then-all_accepted-clause-runs
+returns-then-all_accepted-clause-runs g c = record {
+  done = sym c.if-all_accepted.true ∙ c.all_accepted.ensures;
+  spent = λ is. absurd cc;
+  goes = goes_through g.H.Host.meaning (course_of c.args.course.now) (course_of c.loop-taken.course) (course_of c.turn.new.course)
+      c.loop-taken.invariant.goes c.in_default.ensures.turns.goes;
+}
+
+pub returns-then-all_accepted-clause-places : goal.returns-then-all_accepted-clause-places
+returns-then-all_accepted-clause-places g c = c.turn.ensures.places ∙ c.loop-taken.invariant.places
+
+pub returns-clause-runs : goal.returns-clause-runs
+returns-clause-runs g c = record {
+  done = c.all_accepted-done.ensures;
+  spent = λ is. omega (arith, c.loop-taken-test.false, c.loop-taken.invariant.within);
+  goes = c.loop-taken.invariant.goes;
+}
+
+pub returns-clause-places : goal.returns-clause-places
+returns-clause-places g c = c.loop-taken.invariant.places

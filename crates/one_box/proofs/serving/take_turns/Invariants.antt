@@ -9,8 +9,10 @@ invariant-loop-taken g l = record {
       l.ops l.turns l.fn.now (g.C.Clock.values l.fn.clock) (course_of l.fn.course) l.fn.nodes.items l.taken l.now
       (g.C.Clock.values l.clock) (course_of l.course) l.nodes.items;
   goes : GoesOn g.H.Host.meaning (course_of l.fn.course) (course_of l.course);
-  places : map (place_of (link_view g.L.Link.answers g.L.Link.own_port g.L.Link.sent g.L.Link.loss_count g.L.Link.fault_count)) l.nodes.items
-      ≡ map (place_of (link_view g.L.Link.answers g.L.Link.own_port g.L.Link.sent g.L.Link.loss_count g.L.Link.fault_count)) l.fn.nodes.items;
+  places : map (place_of (link_view g.L.Link.answers g.L.Link.own_port g.L.Link.sent g.L.Link.loss_count g.L.Link.fault_count))
+      l.nodes.items
+      ≡ map (place_of (link_view g.L.Link.answers g.L.Link.own_port g.L.Link.sent g.L.Link.loss_count g.L.Link.fault_count))
+      l.fn.nodes.items;
   within : l.taken ≤ l.turns;
 }
 

@@ -4,75 +4,82 @@ use Rattle.std.proofs.lemmas.List.{length-set}
 use Rattle.std.proofs.lemmas.Option.{slice_get_read}
 use Rattle.one_box.specs.Showing.{course_of, link_view}
 use Rattle.one_box.proofs.LeadingLemmas.{goes_through}
-use Rattle.one_box.proofs.TurningLemmas.{none_turned, turned, all_turned, turn_stops, same_places, base_at, fault_set}
+use Rattle.one_box.proofs.TurningLemmas.{none_turned, turned, all_turned, turn_stops, same_places, base_at}
 use Rattle.one_box.proofs.turn.turn.Goals as goal
 
 pub loop-i-init : goal.loop-i-init
-loop-i-init g c = record {
-  turns = λ ns shown. none_turned g.H.Host.meaning (link_view g.L.Link.answers g.L.Link.own_port g.L.Link.sent g.L.Link.loss_count g.L.Link.fault_count)
-      c.args.ops.now c.args.now (course_of c.args.course.now) ns c.args.nodes.now.items shown;
-  goes = λ config led. led;
-  places = refl;
-  len = refl;
-}
+loop-i-init g c =
+    let v = link_view g.L.Link.answers g.L.Link.own_port g.L.Link.sent g.L.Link.loss_count g.L.Link.fault_count in
+    record {
+      turns = λ ns shown. none_turned g.H.Host.meaning v
+          c.args.ops.now c.args.now (course_of c.args.course.now) ns c.args.nodes.now.items shown;
+      goes = λ config led. led;
+      places = refl;
+      len = refl;
+    }
 
 pub node_turn-requires : goal.node_turn-requires
 node_turn-requires g c =
+    let v = link_view g.L.Link.answers g.L.Link.own_port g.L.Link.sent g.L.Link.loss_count g.L.Link.fault_count in
     let ys = c.loop-i.nodes.items in
-    let within : c.loop-i.i < length ys = omega (arith, c.loop-i-test.true, c.len-i-end.ensures, c.args.nodes.now.ok.0, c.loop-i.invariant.len) in
-    base_at (link_view g.L.Link.answers g.L.Link.own_port g.L.Link.sent g.L.Link.loss_count g.L.Link.fault_count)
+    let within : c.loop-i.i < length ys =
+    omega (arith, c.loop-i-test.true, c.len-i-end.ensures, c.args.nodes.now.ok.0, c.loop-i.invariant.len) in
+    base_at v
     c.args.nodes.now.items ys c.loop-i.i c.index_mut-node.result.now c.requires c.loop-i.invariant.places
     (slice_get_read ys (length ys) c.loop-i.i c.index_mut-node.result.now refl within c.index_mut-node.ensures.value)
 
 pub returns-in-Err-clause-turns : goal.returns-in-Err-clause-turns
 returns-in-Err-clause-turns g c =
+    let v = link_view g.L.Link.answers g.L.Link.own_port g.L.Link.sent g.L.Link.loss_count g.L.Link.fault_count in
     let ys = c.loop-i.nodes.items in
     let x = c.index_mut-node.result.now in
-    let within : c.loop-i.i < length ys = omega (arith, c.loop-i-test.true, c.len-i-end.ensures, c.args.nodes.now.ok.0, c.loop-i.invariant.len) in
+    let within : c.loop-i.i < length ys =
+    omega (arith, c.loop-i-test.true, c.len-i-end.ensures, c.args.nodes.now.ok.0, c.loop-i.invariant.len) in
     let found : slice_get ys c.loop-i.i ≡ Some x = slice_get_read ys (length ys) c.loop-i.i x refl within c.index_mut-node.ensures.value in
-    turn_stops g.H.Host.meaning (link_view g.L.Link.answers g.L.Link.own_port g.L.Link.sent g.L.Link.loss_count g.L.Link.fault_count)
+    turn_stops g.H.Host.meaning v
     c.args.ops.now c.args.now (course_of c.args.course.now) (course_of c.loop-i.course) (course_of c.node_turn.new.course)
-    c.args.nodes.now.items ys _ c.loop-i.i x c.node_turn.new.node c.in-Err.e found within c.loop-i.invariant.turns c.in-Err.ensures.does
+    c.args.nodes.now.items ys c.loop-i.i x c.node_turn.new.node c.in-Err.e found within c.loop-i.invariant.turns c.in-Err.ensures.serves
 
 pub returns-in-Err-clause-places : goal.returns-in-Err-clause-places
 returns-in-Err-clause-places g c =
+    let v = link_view g.L.Link.answers g.L.Link.own_port g.L.Link.sent g.L.Link.loss_count g.L.Link.fault_count in
     let ys = c.loop-i.nodes.items in
     let x = c.index_mut-node.result.now in
-    let within : c.loop-i.i < length ys = omega (arith, c.loop-i-test.true, c.len-i-end.ensures, c.args.nodes.now.ok.0, c.loop-i.invariant.len) in
+    let within : c.loop-i.i < length ys =
+    omega (arith, c.loop-i-test.true, c.len-i-end.ensures, c.args.nodes.now.ok.0, c.loop-i.invariant.len) in
     let found : slice_get ys c.loop-i.i ≡ Some x = slice_get_read ys (length ys) c.loop-i.i x refl within c.index_mut-node.ensures.value in
-    same_places (link_view g.L.Link.answers g.L.Link.own_port g.L.Link.sent g.L.Link.loss_count g.L.Link.fault_count)
+    same_places v
     ys c.loop-i.i x c.node_turn.new.node found c.in-Err.ensures.place ∙ c.loop-i.invariant.places
-
-pub returns-in-Err-clause-cause : goal.returns-in-Err-clause-cause
-returns-in-Err-clause-cause g c =
-    let ys = c.loop-i.nodes.items in
-    let x = c.index_mut-node.result.now in
-    let within : c.loop-i.i < length ys = omega (arith, c.loop-i-test.true, c.len-i-end.ensures, c.args.nodes.now.ok.0, c.loop-i.invariant.len) in
-    let found : slice_get ys c.loop-i.i ≡ Some x = slice_get_read ys (length ys) c.loop-i.i x refl within c.index_mut-node.ensures.value in
-    λ is. fault_set (link_view g.L.Link.answers g.L.Link.own_port g.L.Link.sent g.L.Link.loss_count g.L.Link.fault_count)
-    ys c.loop-i.i x c.node_turn.new.node found (c.in-Err.ensures.cause is)
 
 pub loop-i-preserved : goal.loop-i-preserved
 loop-i-preserved g c =
+    let v = link_view g.L.Link.answers g.L.Link.own_port g.L.Link.sent g.L.Link.loss_count g.L.Link.fault_count in
     let ys = c.loop-i.nodes.items in
     let x = c.index_mut-node.result.now in
-    let within : c.loop-i.i < length ys = omega (arith, c.loop-i-test.true, c.len-i-end.ensures, c.args.nodes.now.ok.0, c.loop-i.invariant.len) in
+    let within : c.loop-i.i < length ys =
+    omega (arith, c.loop-i-test.true, c.len-i-end.ensures, c.args.nodes.now.ok.0, c.loop-i.invariant.len) in
     let found : slice_get ys c.loop-i.i ≡ Some x = slice_get_read ys (length ys) c.loop-i.i x refl within c.index_mut-node.ensures.value in
     record {
-      turns = λ ns shown. turned g.H.Host.meaning (link_view g.L.Link.answers g.L.Link.own_port g.L.Link.sent g.L.Link.loss_count g.L.Link.fault_count)
+      turns = λ ns shown. turned g.H.Host.meaning v
           c.args.ops.now c.args.now (course_of c.args.course.now) ns c.loop-i.i (course_of c.loop-i.course) ys x found within
-          (course_of c.node_turn.new.course) c.node_turn.new.node (c.loop-i.invariant.turns ns shown) c.in_default.ensures.does;
+          (course_of c.node_turn.new.course) c.node_turn.new.node (c.loop-i.invariant.turns ns shown) c.in_default.ensures.serves.does;
       goes = goes_through g.H.Host.meaning (course_of c.args.course.now) (course_of c.loop-i.course) (course_of c.node_turn.new.course)
-          c.loop-i.invariant.goes c.in_default.ensures.goes;
-      places = same_places (link_view g.L.Link.answers g.L.Link.own_port g.L.Link.sent g.L.Link.loss_count g.L.Link.fault_count)
+          c.loop-i.invariant.goes c.in_default.ensures.serves.goes;
+      places = same_places v
           ys c.loop-i.i x c.node_turn.new.node found c.node_turn.ensures.place ∙ c.loop-i.invariant.places;
       len = length-set ys c.loop-i.i c.node_turn.new.node ∙ c.loop-i.invariant.len;
     }
 
 pub returns-clause-turns : goal.returns-clause-turns
-returns-clause-turns g c = λ ns shown.
+returns-clause-turns g c =
+    let v = link_view g.L.Link.answers g.L.Link.own_port g.L.Link.sent g.L.Link.loss_count g.L.Link.fault_count in
     let past : length c.loop-i.nodes.items ≤ c.loop-i.i =
     omega (arith, c.loop-i-test.false, c.len-i-end.ensures, c.args.nodes.now.ok.0, c.loop-i.invariant.len) in
-    all_turned g.H.Host.meaning (link_view g.L.Link.answers g.L.Link.own_port g.L.Link.sent g.L.Link.loss_count g.L.Link.fault_count)
-    c.args.ops.now c.args.now (course_of c.args.course.now) ns c.loop-i.i (course_of c.loop-i.course) c.loop-i.nodes.items past
-    (c.loop-i.invariant.turns ns shown)
+    record {
+      does = λ ns shown. all_turned g.H.Host.meaning v c.args.ops.now c.args.now (course_of c.args.course.now) ns c.loop-i.i
+          (course_of c.loop-i.course) c.loop-i.nodes.items past (c.loop-i.invariant.turns ns shown);
+      goes = c.loop-i.invariant.goes;
+    }
+
+pub returns-clause-places : goal.returns-clause-places
+returns-clause-places g c = c.loop-i.invariant.places

@@ -11,7 +11,8 @@ loop-done-init g c =
     let m = g.H.Host.meaning in
     let b = c.in_ok-first.ensures in
     let e : Event = c.in_ok-first.first.event in
-    let items : c.push.new.self.items ≡ e ∷ [] = c.in_ok-push.ensures.items ∙ ap (λ (xs : List Event). xs ++ e ∷ []) c.new-events.ensures.items in
+    let items : c.push.new.self.items ≡ e ∷ [] =
+    c.in_ok-push.ensures.items ∙ ap (λ (xs : List Event). xs ++ e ∷ []) c.new-events.ensures.items in
     record {
       lines = b.are;
       to = subst (λ (xs : List Event). DrawnTo m c.args.number c.args.count (c.args.count - 1) xs c.first_drawn.new.world.state
@@ -31,8 +32,9 @@ loop-done-preserved g c =
     let left : ℕ = c.args.count - (c.loop-done._done + 1) in
     let more : c.args.count - c.loop-done._done ≡ suc left = omega (arith, c.loop-done-test.true) in
     let to : DrawnTo m c.args.number c.args.count (suc left) c.loop-done.events.items c.loop-done.world.state c.loop-done.words k.lines =
-    subst (λ (n : ℕ). DrawnTo m c.args.number c.args.count n c.loop-done.events.items c.loop-done.world.state c.loop-done.words k.lines) more
-    k.to in
+    subst
+    (λ (n : ℕ). DrawnTo m c.args.number c.args.count n c.loop-done.events.items c.loop-done.world.state c.loop-done.words k.lines)
+    more k.to in
     record {
       lines = k.lines ++ d.are;
       to = subst (λ (xs : List Event). DrawnTo m c.args.number c.args.count left xs c.next_drawn.new.world.state

@@ -1,22 +1,20 @@
-use Rattle.std.proofs.Common.{rules, arith}
+use Rattle.std.proofs.Common.{◌∙◌, arith}
 use Rattle.udp_node.proofs.SendLemmas.{Stays_trans}
 use Rattle.udp_node.proofs.EffectLemmas.{out_done, out_stopped}
 use Rattle.udp_node.proofs.carrying.carry_out_all.Goals as goal
 
-pub returns-in_err-carry_out-clause-carries : goal.returns-in_err-carry_out-clause-carries
-returns-in_err-carry_out-clause-carries g c =
-    let h =
+pub returns-in-Err-clause-carries : goal.returns-in-Err-clause-carries
+returns-in-Err-clause-carries g c =
     out_stopped _ c.args.at.now _ _ _ _ _ _ _ _ _ c.loop-out-test.true c.out-item.is c.loop-out.invariant.done
-    c.in_err-carry_out.ensures.carries in
-    search (rules, h)
+    c.in-Err.ensures.carries
 
 pub loop-out-preserved : goal.loop-out-preserved
 loop-out-preserved g c = record {
   done =
       out_done c.args.at.now _ _ _ _ _ _ _ _ _ c.loop-out-test.true c.out-item.is c.loop-out.invariant.done
-      c.in_ok-carry_out.ensures.carries;
+      c.in_default.ensures.carries;
   later = omega (arith, c.loop-out.invariant.later, c.carry_out.ensures.cause.later);
   answers = Stays_trans _ _ _ c.loop-out.invariant.answers c.carry_out.ensures.answers;
-  faults = search rules;
-  port = search rules;
+  faults = c.carry_out.ensures.faults ∙ c.loop-out.invariant.faults;
+  port = c.carry_out.ensures.port ∙ c.loop-out.invariant.port;
 }

@@ -1,10 +1,10 @@
-use Rattle.std.proofs.Common.{rules}
+use Rattle.std.proofs.Common.{rules, refl, ◌∙◌}
 use Rattle.udp_node.specs.Sends.{side}
 use Rattle.udp_node.proofs.SendLemmas.{no_sends, one_more, one_less, Stays_trans}
 use Rattle.udp_node.proofs.sending.send_each.Goals as goal
 
 pub loop-i-init : goal.loop-i-init
-loop-i-init g c = record { sends = no_sends _; answers = search rules; faults = search rules; port = search rules }
+loop-i-init g c = record { sends = no_sends _; answers = search rules; faults = refl; port = refl }
 
 pub returns-in_err-send_unless_skipped-clause-sends : goal.returns-in_err-send_unless_skipped-clause-sends
 returns-in_err-send_unless_skipped-clause-sends g c =
@@ -26,6 +26,6 @@ loop-i-preserved g c =
       sends = one_more c.args.bytes.now c.args.targets.skipped c.args.targets.first c.loop-i.i a b d
           c.loop-i.invariant.sends c.in_ok-send_unless_skipped.ensures.sends;
       answers = Stays_trans _ _ _ c.loop-i.invariant.answers c.send_unless_skipped.ensures.answers;
-      faults = search rules;
-      port = search rules;
+      faults = c.send_unless_skipped.ensures.faults ∙ c.loop-i.invariant.faults;
+      port = c.send_unless_skipped.ensures.port ∙ c.loop-i.invariant.port;
     }

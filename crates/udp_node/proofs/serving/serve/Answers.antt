@@ -1,4 +1,3 @@
-use Rattle.std.proofs.Common.{arith}
 use Rattle.std.proofs.lemmas.Result.{IfOk-weaker}
 use Rattle.udp_node.proofs.RunLemmas.{lost_first}
 use Rattle.udp_node.proofs.serving.serve.Goals as goal

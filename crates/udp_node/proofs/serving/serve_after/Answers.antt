@@ -1,8 +1,9 @@
-use Rattle.std.proofs.Common.{rules, arith, refl}
+use Rattle.std.proofs.Common.{arith, refl}
 use Rattle.udp_node.specs.NodeRun.{first_inputs}
 use Rattle.udp_node.specs.Sends.{side}
 use Rattle.std.proofs.lemmas.Result.{IfOk-weaker}
 use Rattle.udp_node.proofs.RunLemmas.{serves_after, serves_stopped, lost_more, lost_joined}
+use Rattle.udp_node.proofs.WritingLemmas.{wrote_then, runs_wrote}
 use Rattle.udp_node.proofs.serving.serve_after.Goals as goal
 
 pub returns-in-Ok-clause-run : goal.returns-in-Ok-clause-run
@@ -33,3 +34,10 @@ returns-in-Ok-clause-lost g c =
     let b = side (g.L.Link.sent c.take_first.new.link) c.take_first.new.lost (g.L.Link.loss_count c.take_first.new.link) in
     let first = lost_more (g.L.Link.loss_count c.args.link.now) 0 _ a b (omega arith) c.in-Ok.ensures.runs.done.sends in
     IfOk-weaker c.take_turns.result _ _ (λ served one. lost_joined _ _ _ _ served.lost first one) c.take_turns.ensures.lost
+
+pub returns-in-Ok-clause-wrote : goal.returns-in-Ok-clause-wrote
+returns-in-Ok-clause-wrote g c =
+    wrote_then _ _ _ (runs_wrote _ _ _ _ _ _ _ _ _ _ c.take_first.ensures.runs) c.take_turns.ensures.wrote
+
+pub returns-in-Err-clause-wrote : goal.returns-in-Err-clause-wrote
+returns-in-Err-clause-wrote g c = runs_wrote _ _ _ _ _ _ _ _ _ _ c.take_first.ensures.runs

@@ -1,4 +1,5 @@
 use Rattle.std.proofs.Common.{◌≡◌, ◌-◌, ◌≤◌, ◌+◌, ◌^◌, min}
+use Rattle.udp_node.specs.Effects.{WroteText}
 use Rattle.udp_node.specs.Progress.{Going}
 use Rattle.udp_node.specs.Sends.{side}
 use Rattle.udp_node.proofs.serving.take_turns.Given as goal
@@ -11,6 +12,8 @@ invariant-loop-taken g l = record {
       (side (g.L.Link.sent l.fn.link) l.before (g.L.Link.loss_count l.fn.link))
       (side (g.L.Link.sent l.link) l.lost (g.L.Link.loss_count l.link))
       (g.W.Sink.held l.fn.sink) (g.W.Sink.held l.sink);
+  within : l.taken ≤ l.turns;
+  wrote : WroteText (g.W.Sink.held l.fn.sink) (g.W.Sink.held l.sink);
   lost : min (g.L.Link.loss_count l.fn.link + (l.lost - l.before)) (2 ^ 64 - 1) ≤ g.L.Link.loss_count l.link;
   polls : g.L.Link.fault_count l.fn.link ≤ g.L.Link.fault_count l.link;
   writes : g.W.Sink.fault_count l.fn.sink ≤ g.W.Sink.fault_count l.sink;

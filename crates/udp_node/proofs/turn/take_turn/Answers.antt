@@ -1,4 +1,4 @@
-use Rattle.std.proofs.Common.{rules, refl}
+use Rattle.std.proofs.Common.{refl}
 use Rattle.udp_node.specs.Sends.{side}
 use Rattle.udp_node.proofs.TurnLemmas.{stopped_firing, packet_turn, packet_stops, short_turn, quiet}
 use Rattle.udp_node.proofs.turn.take_turn.Goals as goal
@@ -32,7 +32,7 @@ returns-in-Ok-take_packet-clause-turn g c =
     (g.W.Sink.held c.args.sink.now) (g.W.Sink.held c.fire_due.new.sink) (g.W.Sink.held c.take_packet.new.sink)
     (rw c.deref.ensures.value at c.in-Ok.ensures.runs) c.fire_due.ensures.answers
     (rw c.in-Ok-Some.field-0-is at c.in-Ok-Some.ensures.answer)
-    (quiet b d (search rules) refl (search rules))
+    (quiet b d c.poll.ensures.sent refl c.poll.ensures.losses)
     c.rearm_due.ensures refl c.in-Ok-take_packet.ensures.runs c.take_packet.ensures.answers
 
 pub returns-in-Err-take_packet-clause-turn : goal.returns-in-Err-take_packet-clause-turn
@@ -54,7 +54,7 @@ returns-in-Err-take_packet-clause-turn g c =
     (g.W.Sink.held c.args.sink.now) (g.W.Sink.held c.fire_due.new.sink) (g.W.Sink.held c.take_packet.new.sink)
     (rw c.deref.ensures.value at c.in-Ok.ensures.runs) c.fire_due.ensures.answers
     (rw c.in-Ok-Some.field-0-is at c.in-Ok-Some.ensures.answer)
-    (quiet b d (search rules) refl (search rules))
+    (quiet b d c.poll.ensures.sent refl c.poll.ensures.losses)
     refl c.in-Err-take_packet.ensures.runs c.take_packet.ensures.answers)
 
 pub returns-in-Err-NoMemory-clause-turn : goal.returns-in-Err-NoMemory-clause-turn
@@ -66,4 +66,4 @@ returns-in-Err-NoMemory-clause-turn g c =
     let d = side (g.L.Link.sent c.poll.new.self) c.fire_due.new.lost (g.L.Link.loss_count c.poll.new.self) in
     short_turn g.C.Core.next c.args.at.now s t c.args.now c.args.timers.now.items (g.L.Link.answers c.args.link.now)
     a b d (g.W.Sink.held c.args.sink.now) (g.W.Sink.held c.fire_due.new.sink)
-    (rw c.deref.ensures.value at c.in-Ok.ensures.runs) (quiet b d (search rules) refl (search rules))
+    (rw c.deref.ensures.value at c.in-Ok.ensures.runs) (quiet b d c.poll.ensures.sent refl c.poll.ensures.losses)

@@ -24,21 +24,11 @@ returns-in-None-clause-takes g c =
     then_answers c.args.self.now now now (Ok None) (left c.args.source.now) (left c.reach_line.new.source) reached
     (no_event now c.in_ok-config.config opened at_end.0 at_end.1)
 
-pub returns-in_ok-take_event-in-Some-clause-takes : goal.returns-in_ok-take_event-in-Some-clause-takes
-returns-in_ok-take_event-in-Some-clause-takes g c =
+pub returns-in-Some-clause-takes : goal.returns-in-Some-clause-takes
+returns-in-Some-clause-takes g c =
     let left = g.S.Source.left in
     let now = c.reach_line.new.self in
     let reached = then_takes c.args.self.now c.open.new.self now (Err NoMemory) (left c.args.source.now) (left c.open.new.source)
     (left c.reach_line.new.source) c.in_ok-config.ensures.takes c.in_ok-reach_line.ensures.takes in
-    then_answers c.args.self.now now c.take_event.new.self (Ok (Some c.in_ok-take_event-in-Some.field-0)) (left c.args.source.now)
-    (left c.reach_line.new.source) reached c.in_ok-take_event-in-Some.ensures.answers
-
-pub returns-in_err-take_event-in-Some-clause-takes : goal.returns-in_err-take_event-in-Some-clause-takes
-returns-in_err-take_event-in-Some-clause-takes g c =
-    let left = g.S.Source.left in
-    let now = c.reach_line.new.self in
-    let reached = then_takes c.args.self.now c.open.new.self now (Err NoMemory) (left c.args.source.now) (left c.open.new.source)
-    (left c.reach_line.new.source) c.in_ok-config.ensures.takes c.in_ok-reach_line.ensures.takes in
-    let p = err_from_is_err_and c.from_residual-in_err-take_event-in-Some.result c.from_residual-in_err-take_event-in-Some.ensures.1 in
-    rw (p.1, p.2) (then_answers c.args.self.now now c.take_event.new.self (Err c.in_err-take_event-in-Some.field-0.0)
-    (left c.args.source.now) (left c.reach_line.new.source) reached c.in_err-take_event-in-Some.ensures.answers)
+    then_answers c.args.self.now now c.take_event.new.self c.take_event.result (left c.args.source.now) (left c.reach_line.new.source)
+    reached c.take_event.ensures.answers
