@@ -1,5 +1,29 @@
 -- The step table of the client.
-use Rattle.std.specs.Prelude.{ℕ, ◌+◌, ◌-◌, ◌^◌, ◌<◌, ◌≤◌, length, IfSome, List, [], ◌∷◌, Bool, true, false, Option, Some, None, Result, Ok, Err, nat_lt, ◌==◌, ◌&&◌}
+use Rattle.std.specs.Prelude.{
+  ℕ,
+  ◌+◌,
+  ◌-◌,
+  ◌^◌,
+  ◌<◌,
+  ◌≤◌,
+  length,
+  IfSome,
+  List,
+  [],
+  ◌∷◌,
+  Bool,
+  true,
+  false,
+  Option,
+  Some,
+  None,
+  Result,
+  Ok,
+  Err,
+  nat_lt,
+  ◌==◌,
+  ◌&&◌,
+}
 use Rattle.nop_types.specs.declared.limits.TheConstants.{MAX_RESULT_BYTES}
 use Rattle.nop_types.specs.Configuration.{Configuration}
 use Rattle.nop_types.specs.Given.{Given, Packet, Ticked, Submit}

@@ -1,4 +1,4 @@
-ghost use Rattle.std.specs.Prelude.{◌≡◌, ◌≤◌, ◌&&◌, [], All, OnOk, IfSome, find, count_by};
+ghost use Rattle.std.specs.Prelude.{◌≡◌, ◌≤◌, ◌&&◌, [], All, OnOk, OnErr, IfSome, find, count_by};
 ghost use Rattle.std.specs.Option.{option_copied};
 ghost use Rattle.nop_types.specs.Ranges.{ReplyFits};
 ghost use Rattle.client_quorum.specs.KeptReplies.{AreKept, keep_reply, matches, is_leaders, quorum_of};
@@ -58,11 +58,13 @@ fn replace(kept: &mut Vec<Reply>, reply: Reply) -> Result<(), NoMemory>
     requires kept { AreKept kept.old.items }
     requires fits { ReplyFits reply }
     ensures kept { OnOk result (kept.new.items ≡ keep_reply kept.old.items reply) }
+    ensures err { OnErr result (kept.new.items ≡ kept.old.items) }
     ensures stays { AreKept kept.new.items }
 {
+    kept.reserve(1)?;
     let replica = reply.replica;
     kept.retain(|k| k.replica != replica);
-    kept.push(reply)?;
+    kept.push(reply).unwrap();
     Ok(())
 }
 
@@ -92,7 +94,8 @@ impl Replies {
     /// Keeps a reply in place of its replica's kept one.
     pub fn put(&mut self, reply: Reply) -> Result<(), NoMemory>
         requires { ReplyFits reply }
-        ensures { OnOk result (self.new ≡ keep_reply self.old reply) }
+        ensures ok { OnOk result (self.new ≡ keep_reply self.old reply) }
+        ensures err { OnErr result (self.new ≡ self.old) }
     {
         replace(&mut self.kept, reply)
     }

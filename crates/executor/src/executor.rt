@@ -34,9 +34,15 @@ impl<H: Host> Model for Executor<H> {
 
     ghost coded = { running_code H.code H.Undo.code };
 
-    ghost view = { λ e. record { host = e.host; table = e.table; undos = e.undos.items; failed = e.failed } };
+    ghost view = { λ e. record {
+      host = e.host;
+      table = e.table;
+      undos = e.undos.items;
+      failed = e.failed;
+    } };
 
-    ghost invariant = { λ e. (length e.undos.items ≤ MAX_SLOTS) × UndosFit (H.fits e.host) e.undos.items };
+    ghost invariant = { λ e. (length e.undos.items ≤ MAX_SLOTS)
+        × UndosFit (H.fits e.host) e.undos.items };
 }
 
 /// The answer that is kept for a request.

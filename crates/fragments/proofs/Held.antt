@@ -1,5 +1,28 @@
 -- How many bytes are kept: the sums of the code, and their limits.
-use Rattle.std.proofs.Common.{◌≡◌, ℕ, zero, suc, ◌+◌, ◌*◌, ◌≤◌, List, [], ◌∷◌, ◌++◌, length, get_or, take, drop, Option, Some, All, refl, sym, subst, arith}
+use Rattle.std.proofs.Common.{
+  ◌≡◌,
+  ℕ,
+  zero,
+  suc,
+  ◌+◌,
+  ◌*◌,
+  ◌≤◌,
+  List,
+  [],
+  ◌∷◌,
+  ◌++◌,
+  length,
+  get_or,
+  take,
+  drop,
+  Option,
+  Some,
+  All,
+  refl,
+  sym,
+  subst,
+  arith,
+}
 use Rattle.std.proofs.Common.{◌<◌}
 use Rattle.std.specs.Prelude.{sum_by}
 use Rattle.std.proofs.lemmas.List.{length-drop, length-take}
@@ -56,4 +79,5 @@ pub sender_limit : (items all : List Waiting) (sender : ℕ) (q : Waiting) → i
     → q ≡ get_or items sender q → held_of q ≤ MAX_UNFINISHED * (MAX_FRAGMENTS * FRAGMENT_BYTES)
 sender_limit items all sender q same fits lt here =
     held_of_limit q
-    (subst WaitingFits (sym here) (All-get_or WaitingFits items sender q lt (subst (λ (qs : List Waiting). All WaitingFits qs) (sym same) fits)))
+    (subst WaitingFits (sym here) (All-get_or WaitingFits items sender q lt (subst (λ (qs : List Waiting). All WaitingFits qs) (sym same)
+    fits)))

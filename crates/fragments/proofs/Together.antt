@@ -20,7 +20,7 @@ use Rattle.fragments.proofs.Goes.{found_last, found_more}
 use Rattle.fragments.proofs.Limits.{fragment_fits, fitting_is_in_range}
 use Rattle.fragments.proofs.Whole.{enough}
 
--- ---- the first parts of a message, and so many that are missing
+-- ---- the first `k` parts of a message, and `j` that are missing
 
 abbrev parts_at : List ℕ → ℕ → ℕ → List (Option (List ℕ))
 parts_at bytes k j = front_parts bytes k ++ replicate j None

@@ -4,7 +4,7 @@ ghost use Rattle.oum_codec.specs.Spelling.{spelling};
 ghost use Rattle.fragments.specs.Cutting.{piece, piece_count, fragments_of, sends_of, HasNoCut};
 
 use crate::CutError;
-use nop_types::{Bytes, Dest, FRAGMENT_BYTES, MAX_FRAGMENTS, NoMemory, Out, Outbox};
+use nop_types::{Bytes, Dest, FRAGMENT_BYTES, MAX_FRAGMENTS, MAX_REPLICAS, NoMemory, Out, Outbox};
 use oum_codec::put_fragment;
 use std::alloc::Global;
 
@@ -74,7 +74,7 @@ pub fn cut(
     out: &mut Outbox,
     dest: Dest,
 ) -> Result<(), CutError>
-    requires replica { sender ≤ 6 }
+    requires replica { sender < MAX_REPLICAS }
     requires from_1 { 1 ≤ number }
     ensures ok { OnOk result (out.new ≡ out.old
         ++ sends_of dest (fragments_of sender number bytes.now)) }

@@ -73,7 +73,8 @@ impl Reassembly {
 
     /// Takes a fragment, and gives the bytes of the message that it completes. None where parts of its message are missing
     /// after it, and where the fragment changes nothing: it is out of its ranges, has another count than the one that is
-    /// kept, or an index that is there.
+    /// kept, or an index that is there. An unfinished message of a sender beyond `MAX_UNFINISHED` drops the one that was begun
+    /// first.
     pub fn take(&mut self, fragment: &Fragment) -> Result<Option<Bytes>, NoMemory>
         requires { fragment.now.replica < length self.old }
         ensures gives { IfOk result (λ r. r ≡ (taken self.old fragment.now).1) }

@@ -41,7 +41,7 @@ impl Gap {
         self.slot
     }
 
-    /// Counts the vote of another replica, and says whether `f` voted by now.
+    /// Counts the vote of another replica, and says whether at least `f` voted by now.
     pub fn on_rep(&mut self, sender: u8) -> Vote
         requires { sender < MAX_REPLICAS }
         ensures after { self.new ≡ counted self.old sender }

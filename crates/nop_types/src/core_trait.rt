@@ -24,7 +24,7 @@ pub trait Core {
     /// Whether nothing is left to do.
     ghost is_done: { State → Bool };
 
-    /// One step. Where memory runs out, the outputs are as before, and so does each later step.
+    /// One step. Where memory runs out, the outputs are as before, and each later step answers NoMemory too.
     fn step(&mut self, input: Input<'_>, out: &mut Outbox) -> Result<(), NoMemory>
         ensures state { OnOk result (state self.new
             ≡ (next (state self.old) (given input.entry)).0) }

@@ -84,7 +84,8 @@ impl Outbox {
         self.outs.append(&mut outs)?;
         Ok(())
     }
-    /// Keeps the first outputs, so many of them, and the room of the others.
+
+    /// Keeps the first `len` outputs, and the capacity.
     pub fn truncate(&mut self, len: usize)
         ensures { self.new ≡ take len self.old }
     {

@@ -34,7 +34,7 @@ pub Takes-then : (a x b y c : List ℕ) → Takes a x b → Takes b y c → Take
 Takes-then a x b y c p q =
     record { parts = p.parts ∙ ap (λ (t : List ℕ). x ++ t) q.parts ∙ sym (append_assoc x y c); rest_fits = q.rest_fits }
 
--- the numbers below a limit are those of so many bytes
+-- the numbers below a limit are those of as many bytes as a width has
 pub record IsWide (w : Width) (limit : ℕ) : Type 0 where
   pub len : (n : ℕ) → length (be_bytes w n) ≡ byte_len w
   pub back : (bytes : List ℕ) → length bytes ≡ byte_len w → IsBytes bytes → be_bytes w (from_be_bytes w bytes) ≡ bytes

@@ -19,6 +19,4 @@ pub use laws::{
 };
 pub use read::{decode, read_datagram};
 pub use send::send_datagram;
-pub use write::{
-    encode, encode_reply, put_fragment, put_request, put_u16, put_u32, put_u64, put_view,
-};
+pub use write::{encode, encode_reply, put_fragment, put_request, put_u32, put_u64, put_view};

@@ -9,7 +9,7 @@ use std::alloc::Global;
 
 /// Appends two bytes.
 #[tactic(auto, unfolding(crate::specs::Numbers::be_bytes))]
-pub fn put_u16(to: &mut Vec<u8>, n: u16) -> Result<(), NoMemory>
+pub(crate) fn put_u16(to: &mut Vec<u8>, n: u16) -> Result<(), NoMemory>
     ensures ok { OnOk result (to.new.items ≡ to.old.items ++ be_bytes w16 n) }
     ensures err { OnErr result (to.new.items ≡ to.old.items) }
 {
@@ -37,30 +37,60 @@ pub fn put_u64(to: &mut Vec<u8>, n: u64) -> Result<(), NoMemory>
     Ok(())
 }
 
-/// Appends the leader number, then the session. After an error `to` may end with a part of them.
-pub fn put_view(to: &mut Vec<u8>, view: View) -> Result<(), NoMemory>
-    ensures { OnOk result (to.new.items ≡ to.old.items ++ view_bytes view) }
+#[tactic(auto, unfolding(crate::specs::Numbers::be_bytes))]
+fn view_front(view: View) -> [u8; 8]
+    ensures { result ≡ view_bytes view }
 {
-    put_u32(to, view.leader)?;
-    put_u32(to, view.session)
+    let [l0, l1, l2, l3] = view.leader.to_be_bytes();
+    let [s0, s1, s2, s3] = view.session.to_be_bytes();
+    [l0, l1, l2, l3, s0, s1, s2, s3]
 }
 
-fn put_counted(to: &mut Vec<u8>, bytes: &[u8]) -> Result<(), NoMemory>
-    requires { length bytes.now < 2 ^ 16 }
-    ensures { OnOk result (to.new.items ≡ to.old.items ++ counted_bytes bytes.now) }
+/// Appends the leader number, then the session.
+pub fn put_view(to: &mut Vec<u8>, view: View) -> Result<(), NoMemory>
+    ensures ok { OnOk result (to.new.items ≡ to.old.items ++ view_bytes view) }
+    ensures err { OnErr result (to.new.items ≡ to.old.items) }
 {
-    put_u16(to, bytes.len() as u16)?;
-    to.extend_from_slice(bytes)?;
+    to.extend_from_slice(&view_front(view))?;
     Ok(())
 }
 
-/// Appends client, id, the length of the op and the op. After an error `to` may end with a part of them.
-pub fn put_request(to: &mut Vec<u8>, request: &Request) -> Result<(), NoMemory>
-    ensures { OnOk result (to.new.items ≡ to.old.items ++ request_bytes request.now) }
+/// Appends both pieces, or none of them.
+fn put_both(to: &mut Vec<u8>, front: &[u8], back: &[u8]) -> Result<(), NoMemory>
+    ensures ok { OnOk result (to.new.items ≡ to.old.items ++ (front.now ++ back.now)) }
+    ensures err { OnErr result (to.new.items ≡ to.old.items) }
 {
-    put_u32(to, request.client)?;
-    put_u64(to, request.id)?;
-    put_counted(to, request.op.as_slice())
+    let len = to.len();
+    to.extend_from_slice(front)?;
+    if to.extend_from_slice(back).is_err() {
+        to.truncate(len);
+        return Err(NoMemory);
+    }
+    Ok(())
+}
+
+/// All of a request but its op: the client, the id and the length of the op.
+#[tactic(auto, unfolding(crate::specs::Numbers::be_bytes))]
+fn request_front(client: u32, id: u64, op_len: u16) -> [u8; 14]
+    ensures { result ≡ be_bytes w32 client ++ be_bytes w64 id ++ be_bytes w16 op_len }
+{
+    let [c0, c1, c2, c3] = client.to_be_bytes();
+    let [i0, i1, i2, i3, i4, i5, i6, i7] = id.to_be_bytes();
+    let [o0, o1] = op_len.to_be_bytes();
+    [c0, c1, c2, c3, i0, i1, i2, i3, i4, i5, i6, i7, o0, o1]
+}
+
+/// Appends client, id, the length of the op and the op.
+pub fn put_request(to: &mut Vec<u8>, request: &Request) -> Result<(), NoMemory>
+    ensures ok { OnOk result (to.new.items ≡ to.old.items ++ request_bytes request.now) }
+    ensures err { OnErr result (to.new.items ≡ to.old.items) }
+{
+    let op = request.op.as_slice();
+    put_both(
+        to,
+        &request_front(request.client, request.id, op.len() as u16),
+        op,
+    )
 }
 
 fn put_stamped(to: &mut Vec<u8>, stamped: &Stamped) -> Result<(), NoMemory>
@@ -126,10 +156,7 @@ fn put_reply(to: &mut Vec<u8>, reply: &Reply) -> Result<(), NoMemory>
     ensures { OnOk result (to.new.items ≡ to.old.items ++ (header 3 ++ reply_bytes reply.now)) }
 {
     let result = reply.result.as_slice();
-    let front = reply_front(reply, result.len() as u16);
-    to.extend_from_slice(&front)?;
-    to.extend_from_slice(result)?;
-    Ok(())
+    put_both(to, &reply_front(reply, result.len() as u16), result)
 }
 
 fn put_signal(to: &mut Vec<u8>, sequencer: u8, n: u32) -> Result<(), NoMemory>
@@ -151,7 +178,37 @@ fn put_header(to: &mut Vec<u8>, kind: u8) -> Result<(), NoMemory>
     Ok(())
 }
 
-/// Appends a fragment's spelling, from its fields and its payload. After an error `to` may end with a part of it.
+/// All of a fragment but its payload.
+#[tactic(auto, unfolding(crate::specs::Numbers::be_bytes))]
+fn fragment_front(replica: u8, message: u64, index: u16, count: u16) -> [u8; 17]
+    ensures { result ≡ header 8 ++ (replica ∷ [] ++ be_bytes w64 message
+        ++ be_bytes w16 index ++ be_bytes w16 count) }
+{
+    let [m0, m1, m2, m3, m4, m5, m6, m7] = message.to_be_bytes();
+    let [i0, i1] = index.to_be_bytes();
+    let [c0, c1] = count.to_be_bytes();
+    [
+        kinds::FIRST_MAGIC,
+        kinds::SECOND_MAGIC,
+        kinds::VERSION,
+        kinds::FRAGMENT,
+        replica,
+        m0,
+        m1,
+        m2,
+        m3,
+        m4,
+        m5,
+        m6,
+        m7,
+        i0,
+        i1,
+        c0,
+        c1,
+    ]
+}
+
+/// Appends a fragment's spelling, from its fields and its payload.
 pub fn put_fragment(
     to: &mut Vec<u8>,
     replica: u8,
@@ -160,7 +217,7 @@ pub fn put_fragment(
     count: u16,
     payload: &[u8],
 ) -> Result<(), NoMemory>
-    ensures { OnOk result (to.new.items ≡ to.old.items
+    ensures ok { OnOk result (to.new.items ≡ to.old.items
         ++ spelling (Datagram.Fragment (record {
           replica = replica;
           message = message;
@@ -168,14 +225,9 @@ pub fn put_fragment(
           count = count;
           payload = payload.now;
         }))) }
+    ensures err { OnErr result (to.new.items ≡ to.old.items) }
 {
-    put_header(to, kinds::FRAGMENT)?;
-    to.push(replica)?;
-    put_u64(to, message)?;
-    put_u16(to, index)?;
-    put_u16(to, count)?;
-    to.extend_from_slice(payload)?;
-    Ok(())
+    put_both(to, &fragment_front(replica, message, index, count), payload)
 }
 
 fn put(to: &mut Vec<u8>, datagram: &Datagram) -> Result<(), NoMemory>
@@ -220,8 +272,10 @@ fn put(to: &mut Vec<u8>, datagram: &Datagram) -> Result<(), NoMemory>
 }
 
 /// How many bytes the spelling has.
+#[tactic(auto, unfolding(crate::specs::Numbers::be_bytes))]
 fn spelled_len(datagram: &Datagram) -> usize
     requires { DatagramFits datagram.now }
+    ensures { result ≡ length (spelling datagram.now) }
 {
     match datagram {
         Datagram::Request(request) => 18 + request.op.as_slice().len(),

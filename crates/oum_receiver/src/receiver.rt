@@ -25,7 +25,11 @@ impl Model for Receiver {
 
     ghost view = { λ r. record { session = r.session; next = r.next; queued = r.queue } };
 
-    ghost invariant = { λ r. IsSound (record { session = r.session; next = r.next; queued = r.queue }) };
+    ghost invariant = { λ r. IsSound (record {
+      session = r.session;
+      next = r.next;
+      queued = r.queue;
+    }) };
 }
 
 impl Receiver {

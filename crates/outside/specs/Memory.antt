@@ -1,5 +1,5 @@
 -- What the forms in memory hold.
-use Rattle.std.specs.Prelude.{◌≡◌, ℕ, ◌≤◌, min, Bool, true, false, List, [], length, map, ⊤}
+use Rattle.std.specs.Prelude.{◌≡◌, ℕ, ◌≤◌, min, Bool, true, false, List, [], ◌∷◌, length, map, ⊤}
 use Rattle.nop_types.specs.declared.limits.TheConstants.{MAX_DATAGRAM_BYTES}
 use Rattle.outside.specs.declared.link.PollAnswer.{PollAnswer}
 use Rattle.outside.specs.declared.link.PollAnswer.TheVariants.{Received, Nothing, Failure}
@@ -27,7 +27,7 @@ pub record LinkMemory (P : Type 0) : Type 0 where
   pub sent : List Sent
   pub sends : P
 
--- a poll may answer a datagram of at most so many bytes, nothing, and a failure only where calls may fail
+-- a poll may answer a datagram of at most MAX_DATAGRAM_BYTES bytes, nothing, and a failure only where calls may fail
 abbrev pub MayAnswer : Bool → PollAnswer → Type 0
 MayAnswer may_fail (Received datagram) = length datagram ≤ MAX_DATAGRAM_BYTES
 MayAnswer may_fail Nothing = ⊤
@@ -46,6 +46,11 @@ pub record IsFresh {P : Type 0} (fault_count : P → ℕ) (l : LinkMemory P) : T
 
 abbrev pub answers_of : {P : Type 0} → List (LinkMemory P) → List (List PollAnswer)
 answers_of links = map (λ l. l.answers) links
+
+-- the link that an attach at a port gives: the next one, and after the last one a link without datagrams
+abbrev pub link_at : {P : Type 0} → P → ℕ → List (LinkMemory P) → LinkMemory P
+link_at opening port [] = record { port = port; answers = []; faults = 0; sent = []; sends = opening }
+link_at opening port (l ∷ links) = record l { port = port }
 
 -- the links to come, how many were given, those that came back, and the plan of the attaches to come
 pub record PortsMemory (P : Type 0) : Type 0 where

@@ -8,14 +8,14 @@ use std::alloc::{AllocError, AllocFailed};
 #[derive(Clone, Copy, Debug, PartialEq, Eq)]
 pub struct Failed;
 
-/// Why a call on a device did nothing.
+/// Why a call on a device failed.
 #[derive(Clone, Copy, Debug, PartialEq, Eq)]
 pub enum DeviceError {
     Failed,
     NoMemory,
 }
 
-/// Why a write added nothing.
+/// Why a write failed. A single write then added nothing; `write_all` may have written a front of its bytes.
 pub type WriteError = DeviceError;
 
 /// Why a link gave or sent nothing.

@@ -42,7 +42,8 @@ pub trait Link {
     /// How many sends failed.
     ghost loss_count: { Self → ℕ };
 
-    /// The next datagram, of at most `MAX_DATAGRAM_BYTES` bytes. None where this poll has none.
+    /// The next datagram, of at most `MAX_DATAGRAM_BYTES` bytes. None where this poll has none. `Failed` where the link failed:
+    /// the count of faults rises. `NoMemory` where no memory is left for the datagram, which may be lost then.
     fn poll(&mut self) -> Result<Option<Bytes>, LinkError>
         ensures short { IfOk result (λ r. IfSome r (λ datagram. length datagram
             ≤ MAX_DATAGRAM_BYTES)) }
@@ -55,7 +56,8 @@ pub trait Link {
         ensures sent { Stays (sent self.old) (sent self.new) }
         ensures port { own_port self.new ≡ own_port self.old };
 
-    /// Sends the bytes to a port.
+    /// Sends the bytes to a port. `Failed` where they could not be sent: the count of losses rises, and not that of faults.
+    /// `NoMemory` raises neither. At an error nothing was sent.
     fn send(&mut self, port: u16, bytes: &[u8]) -> Result<(), LinkError>
         ensures ok { OnOk result
             (Adds (sent self.old) (sent self.new) (record { port = port; bytes = bytes.now })) }

@@ -1,9 +1,13 @@
-ghost use Rattle.std.specs.Prelude.{◌≡◌, [], All, IfOk, true, false};
-ghost use Rattle.outside.specs.Memory.{MayAnswer};
-ghost use Rattle.outside.specs.Plans.{new_plan};
+ghost use Rattle.std.specs.Prelude.{◌≡◌, ◌≤◌, [], length, All, IfOk, IfSome, OnOk, OnErr, IsErrOf, Some, true, false};
+ghost use Rattle.outside.specs.Causes.{HasCauseFor};
+ghost use Rattle.outside.specs.Links.{Polls};
+ghost use Rattle.outside.specs.Told.{Adds, Stays};
+ghost use Rattle.outside.specs.Memory.{MayAnswer, counted};
+ghost use Rattle.outside.specs.Plans.{new_plan, IsPlannedCall, plan_after_call};
+ghost use Rattle.outside.specs.declared.errors.DeviceError.TheVariants as errors;
 
 use crate::{CallPlan, Failed, Failing, Link, LinkError, PollAnswer, Sent, Unfailing};
-use nop_types::{Bytes, NoMemory};
+use nop_types::{Bytes, MAX_DATAGRAM_BYTES, NoMemory};
 use std::alloc::Global;
 use std::marker::Model;
 
@@ -26,7 +30,13 @@ impl<P: CallPlan> Model for LinkMem<P> {
 
     ghost Value = { LinkMemory P };
 
-    ghost view = { λ s. record { port = s.port; answers = drop s.at s.answers.items; faults = s.faults; sent = s.sent.items; sends = s.sends } };
+    ghost view = { λ s. record {
+      port = s.port;
+      answers = drop s.at s.answers.items;
+      faults = s.faults;
+      sent = s.sent.items;
+      sends = s.sends;
+    } };
 
     ghost invariant = { λ s. (s.at ≤ length s.answers.items)
         × All (MayAnswer P.may_fail) s.answers.items
@@ -154,7 +164,21 @@ impl<P: CallPlan> Link for LinkMem<P> {
 
     ghost loss_count = { λ s. P.fault_count s.sends };
 
-    fn poll(&mut self) -> Result<Option<Bytes>, LinkError> {
+    fn poll(&mut self) -> Result<Option<Bytes>, LinkError>
+        ensures short { IfOk result (λ r. IfSome r (λ datagram. length datagram
+            ≤ MAX_DATAGRAM_BYTES)) }
+        ensures answer { Polls (Some self.old.answers) (Some self.new.answers) result }
+        ensures cause { HasCauseFor (counted P.may_fail self.old.faults)
+            (counted P.may_fail self.new.faults) errors.Failed result }
+        ensures no_memory { IsErrOf result errors.NoMemory → counted P.may_fail self.new.faults
+            ≡ counted P.may_fail self.old.faults }
+        ensures losses { P.fault_count self.new.sends ≡ P.fault_count self.old.sends }
+        ensures sent { Stays (Some self.old.sent) (Some self.new.sent) }
+        ensures port { self.new.port ≡ self.old.port }
+
+        // The plan of the sends stays.
+        ensures plan { self.new.sends ≡ self.old.sends }
+    {
         match self.answers.get(self.at) {
             None => Ok(None),
             Some(PollAnswer::Nothing) => {
@@ -174,7 +198,23 @@ impl<P: CallPlan> Link for LinkMem<P> {
         }
     }
 
-    fn send(&mut self, port: u16, bytes: &[u8]) -> Result<(), LinkError> {
+    fn send(&mut self, port: u16, bytes: &[u8]) -> Result<(), LinkError>
+        ensures ok { OnOk result (Adds (Some self.old.sent) (Some self.new.sent)
+            (record { port = port; bytes = bytes.now })) }
+        ensures err { OnErr result (Stays (Some self.old.sent) (Some self.new.sent)) }
+        ensures cause { HasCauseFor (P.fault_count self.old.sends) (P.fault_count self.new.sends)
+            errors.Failed result }
+        ensures no_memory { IsErrOf result errors.NoMemory → P.fault_count self.new.sends
+            ≡ P.fault_count self.old.sends }
+        ensures faults { counted P.may_fail self.new.faults ≡ counted P.may_fail self.old.faults }
+        ensures answers { Stays (Some self.old.answers) (Some self.new.answers) }
+        ensures port { self.new.port ≡ self.old.port }
+
+        // What the plan says, or that memory ran out: then the send does not count.
+        ensures answer { IsPlannedCall (P.next_answer self.old.sends 0) result }
+        ensures plan { self.new.sends ≡ plan_after_call result self.old.sends
+            (P.after_call self.old.sends 0) }
+    {
         let answer = self.sends.answer(0);
         if answer.is_ok() {
             let bytes = Bytes::new(self.alloc, bytes)?;

@@ -19,7 +19,7 @@ pub trait CallPlan: Drop {
     /// How many calls failed so far.
     ghost fault_count: { Self → ℕ };
 
-    /// What the next call answers, where so many bytes could be moved.
+    /// What the next call answers, where this many bytes could be moved.
     ghost next_answer: { Self → ℕ → Result ℕ Failed };
 
     /// The plan after that call.
@@ -30,7 +30,7 @@ pub trait CallPlan: Drop {
         ensures plan { IfOk result (λ p. p ≡ opening) }
         ensures count { IfOk result (λ p. fault_count p ≡ 0) };
 
-    /// What the next call answers, where so many bytes could be moved.
+    /// What the next call answers, where `count` bytes could be moved.
     fn answer(&self, count: usize) -> Result<usize, Failed>
         ensures answer { result ≡ next_answer self.now count }
         ensures most { IfOk result (λ n. n ≤ count) }
@@ -47,7 +47,7 @@ pub trait CallPlan: Drop {
         ensures { result ≡ fault_count self.now };
 }
 
-/// Calls that never fail, and move at most so many bytes each: at least 1.
+/// Calls that never fail, and move at most `most` bytes each: at least 1.
 #[derive(Clone, Copy, Debug, PartialEq, Eq)]
 pub struct Unfailing {
     most: usize,
@@ -102,7 +102,7 @@ impl CallPlan for Unfailing {
     }
 }
 
-/// Calls that move at most so many bytes each, and of which those with the given numbers fail. Calls count from 1, up to
+/// Calls that move at most `most` bytes each, and of which those with the numbers `failing` fail. Calls count from 1, up to
 /// the greatest number of 64 bits, which all later ones have. Where a call may move no bytes, one that could move some
 /// fails.
 #[derive(Debug, Drop)]
@@ -118,7 +118,12 @@ impl Model for Failing {
 
     ghost Value = { FailingPlan };
 
-    ghost view = { λ p. record { most = p.most; failing = p.failing.items; made = p.made; faults = p.faults } };
+    ghost view = { λ p. record {
+      most = p.most;
+      failing = p.failing.items;
+      made = p.made;
+      faults = p.faults;
+    } };
 }
 
 impl Failing {

@@ -24,7 +24,8 @@ pub trait Ports {
     /// How many attaches failed.
     ghost fault_count: { Self → ℕ };
 
-    /// A link at this port, which has sent nothing. It makes the room for the link to be given back.
+    /// A link at this port, which has sent nothing. It makes the room for the link to be given back. `Failed` where the port
+    /// could not be opened: the count of faults rises. `NoMemory` does not raise it. At an error no link is attached.
     fn attach(&mut self, port: u16) -> Result<Self::L, AttachError>
         ensures port { IfOk result (λ link. Self.L.own_port link ≡ port) }
         ensures faults { IfOk result (λ link. Self.L.fault_count link ≡ 0) }

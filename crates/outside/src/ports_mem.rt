@@ -1,6 +1,10 @@
-ghost use Rattle.std.specs.Prelude.{◌≡◌, [], All, IfOk};
-ghost use Rattle.outside.specs.Memory.{IsFresh};
-ghost use Rattle.outside.specs.Plans.{new_plan};
+ghost use Rattle.std.specs.Prelude.{◌≡◌, ◌+◌, ◌<◌, [], length, drop, All, IfOk, OnOk, OnErr, IsErrOf, Some};
+ghost use Rattle.outside.specs.Causes.{HasCauseFor};
+ghost use Rattle.outside.specs.Told.{Stays};
+ghost use Rattle.outside.specs.Ports.{GivesNext};
+ghost use Rattle.outside.specs.Memory.{IsFresh, answers_of, counted, link_at};
+ghost use Rattle.outside.specs.Plans.{new_plan, IsPlannedCall, plan_after_call};
+ghost use Rattle.outside.specs.declared.errors.DeviceError.TheVariants as errors;
 
 use crate::{AttachError, CallPlan, Failing, LinkMem, Ports, Unfailing};
 use nop_types::NoMemory;
@@ -25,7 +29,12 @@ impl<P: CallPlan> Model for PortsMem<P> {
 
     ghost Value = { PortsMemory P };
 
-    ghost view = { λ s. record { links = s.links.items; attached = s.attached; detached = s.detached.items; attaches = s.attaches } };
+    ghost view = { λ s. record {
+      links = s.links.items;
+      attached = s.attached;
+      detached = s.detached.items;
+      attaches = s.attaches;
+    } };
 
     ghost invariant = { λ s. (vec_len s.detached ≤ s.attached)
         × (s.attached ≤ vec_capacity s.detached) × All (IsFresh P.fault_count) s.links.items };
@@ -114,7 +123,34 @@ impl<P: CallPlan> Ports for PortsMem<P> {
 
     ghost fault_count = { λ s. P.fault_count s.attaches };
 
-    fn attach(&mut self, port: u16) -> Result<LinkMem<P>, AttachError> {
+    fn attach(&mut self, port: u16) -> Result<LinkMem<P>, AttachError>
+        ensures port { IfOk result (λ link. link.port ≡ port) }
+        ensures faults { IfOk result (λ link. counted P.may_fail link.faults ≡ 0) }
+        ensures losses { IfOk result (λ link. P.fault_count link.sends ≡ 0) }
+        ensures content { IfOk result (λ link.
+            GivesNext (Some (answers_of self.old.links)) (Some (answers_of self.new.links))
+            (Some link.answers) (Some link.sent)) }
+        ensures attached { OnOk result (self.new.attached ≡ self.old.attached + 1) }
+        ensures room { OnOk result (length self.new.detached < self.new.attached) }
+        ensures err { OnErr result (self.new.attached ≡ self.old.attached) }
+        ensures kept { OnErr result (Stays (Some (answers_of self.old.links))
+            (Some (answers_of self.new.links))) }
+        ensures detached { self.new.detached ≡ self.old.detached }
+        ensures cause { HasCauseFor (P.fault_count self.old.attaches)
+            (P.fault_count self.new.attaches) errors.Failed result }
+        ensures no_memory { IsErrOf result errors.NoMemory → P.fault_count self.new.attaches
+            ≡ P.fault_count self.old.attaches }
+
+        // What the plan says, or that memory ran out: then the attach does not count.
+        ensures answer { IsPlannedCall (P.next_answer self.old.attaches 0) result }
+        ensures plan { self.new.attaches ≡ plan_after_call result self.old.attaches
+            (P.after_call self.old.attaches 0) }
+
+        // The links come in order.
+        ensures link { IfOk result (λ link. link ≡ link_at P.opening port self.old.links) }
+        ensures taken { OnOk result (self.new.links ≡ drop 1 self.old.links) }
+        ensures left { OnErr result (self.new.links ≡ self.old.links) }
+    {
         if self.attaches.answer(0).is_err() {
             self.attaches.advance(0);
             return Err(AttachError::Failed);

@@ -37,7 +37,7 @@ impl ReadMem<Unfailing> {
         ReadMem::with_limit(bytes, usize::MAX)
     }
 
-    /// Each read gives at most so many bytes.
+    /// Each read gives at most `most` bytes.
     pub fn with_limit(bytes: Vec<u8>, most: usize) -> ReadMem<Unfailing>
         requires { 1 ≤ most }
         ensures { result ≡ record { left = bytes.items; plan = most } }
@@ -51,7 +51,7 @@ impl ReadMem<Unfailing> {
 }
 
 impl ReadMem<Failing> {
-    /// Each read gives at most so many bytes, and the reads with these numbers fail. Reads count from 1.
+    /// Each read gives at most `most` bytes, and the reads with the numbers `failing` fail. Reads count from 1.
     pub fn with_faults(
         alloc: Global,
         bytes: Vec<u8>,

@@ -1,7 +1,7 @@
 ghost use Rattle.std.specs.Prelude.{◌≡◌, ◌≤◌, ◌<◌, [], length, IfOk, IsErrOf};
 ghost use Rattle.std.specs.Io.KnownBytes.{WriteAppends};
 ghost use Rattle.outside.specs.Causes.{HasCauseFor};
-ghost use Rattle.outside.specs.Plans.{new_plan, IsPlanned, plan_after_write};
+ghost use Rattle.outside.specs.Plans.{new_plan, IsPlanned, plan_after_call};
 ghost use Rattle.outside.specs.declared.errors.DeviceError.TheVariants as errors;
 
 use crate::{CallPlan, Failing, Sink, Unfailing, WriteError};
@@ -32,7 +32,7 @@ impl WriteMem<Unfailing> {
         WriteMem::with_limit(alloc, usize::MAX)
     }
 
-    /// Each write takes at most so many bytes.
+    /// Each write takes at most `most` bytes.
     pub fn with_limit(alloc: Global, most: usize) -> WriteMem<Unfailing>
         requires { 1 ≤ most }
         ensures { result ≡ record { held = []; plan = most } }
@@ -45,7 +45,7 @@ impl WriteMem<Unfailing> {
 }
 
 impl WriteMem<Failing> {
-    /// Each write takes at most so many bytes, and the writes with these numbers fail. Writes count from 1. Where a write
+    /// Each write takes at most `most` bytes, and the writes with the numbers `failing` fail. Writes count from 1. Where a write
     /// may take none, one of a piece that is not empty fails.
     pub fn with_faults(
         alloc: Global,
@@ -96,7 +96,7 @@ impl<P: CallPlan> Sink for WriteMem<P> {
         // What the plan says, or that memory ran out: then nothing changed.
         ensures answer { IsPlanned (P.next_answer self.old.plan (length piece.now)) result }
         ensures after { self.new.plan
-            ≡ plan_after_write result self.old.plan (P.after_call self.old.plan
+            ≡ plan_after_call result self.old.plan (P.after_call self.old.plan
             (length piece.now)) }
     {
         let answer = self.plan.answer(piece.len());

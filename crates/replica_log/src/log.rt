@@ -154,7 +154,7 @@ impl ReplicaLog {
         Ok(appended as u32)
     }
 
-    /// The first entries.
+    /// A copy of the first `len` entries.
     pub fn copy(&self, len: u32) -> Result<Log, NoMemory>
         requires { len ≤ length self.now }
         ensures { IfOk result (λ log. log ≡ take len self.now) }

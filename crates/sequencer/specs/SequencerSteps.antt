@@ -1,5 +1,26 @@
 -- The step table of the sequencer.
-use Rattle.std.specs.Prelude.{ℕ, ◌+◌, ◌^◌, ◌<◌, ◌≤◌, List, [], ◌∷◌, Bool, true, false, cond, Option, Some, None, Result, Ok, Err, nat_lt, nat_le}
+use Rattle.std.specs.Prelude.{
+  ℕ,
+  ◌+◌,
+  ◌^◌,
+  ◌<◌,
+  ◌≤◌,
+  List,
+  [],
+  ◌∷◌,
+  Bool,
+  true,
+  false,
+  cond,
+  Option,
+  Some,
+  None,
+  Result,
+  Ok,
+  Err,
+  nat_lt,
+  nat_le,
+}
 use Rattle.std.specs.Prelude.{◌==◌, ◌&&◌, if◌then◌else◌}
 use Rattle.nop_types.specs.declared.limits.TheConstants.{NUMBER_END, MAX_SEQUENCERS}
 use Rattle.nop_types.specs.Given.{Given, Packet, Ticked, Submit}

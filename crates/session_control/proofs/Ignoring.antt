@@ -11,7 +11,17 @@ use Rattle.nop_types.specs.declared.datagram.Datagram.TheVariants as datagrams
 use Rattle.oum_codec.specs.declared.bad.Bad.{Bad}
 use Rattle.oum_codec.specs.Reading.{reading}
 use Rattle.session_control.specs.declared.state.ControllerState.{ControllerState}
-use Rattle.session_control.specs.ControllerSteps.{last_number, move_if, move_to, order_if, heard_if, confirmed_if, on_tick, on_datagram, next}
+use Rattle.session_control.specs.ControllerSteps.{
+  last_number,
+  move_if,
+  move_to,
+  order_if,
+  heard_if,
+  confirmed_if,
+  on_tick,
+  on_datagram,
+  next,
+}
 use Rattle.session_control.specs.Ignoring.{is_for, is_tick_for, IsIgnored, IgnoresPacket}
 
 -- nothing is changed or sent

@@ -105,8 +105,8 @@ impl SyncPoints {
         self.syncing = None;
     }
 
-    /// A leader tells a log of this length: where it is longer than the sync point, a round without votes begins, in the place
-    /// of an earlier one.
+    /// A leader tells a log of this length. Where it is longer than the sync point, a round without votes begins, in the place
+    /// of an earlier one; at `f` = 0, where no votes are needed, none begins, and the sync point is that length at once.
     pub fn prepare(&mut self, len: u32)
         ensures { self.new ≡ with_round self.old len }
     {
