@@ -1,8 +1,10 @@
-use crate::rows::{bytes_of, is_told};
-use nop_types::View;
+ghost use Rattle.nop_types.specs.Ranges.{DatagramFits};
+
+use crate::rows::{bytes_of, check_text, is_told, text};
+use nop_types::Datagram;
 use oum_codec::{decode, encode, read_request, read_u16, read_u32, read_u64, read_view};
 use std::alloc::Global;
-use std::test::Fail;
+use std::process::Abort;
 
 /// The examples of the formats: bytes, and the value that they spell.
 const EXAMPLES: &str = "\
@@ -51,47 +53,56 @@ const REFUSALS: &str = "\
 4e4f0108 00 0000000000000001 0000 0001 = Short
 4e4f0108 00 0000000000000001 0001 0001 00 = Field";
 
+/// The bytes that a datagram is written as.
+fn spelled(rt: &impl Abort, alloc: Global, datagram: &Datagram) -> Vec<u8>
+    requires { DatagramFits datagram.now }
+{
+    let mut to = Vec::new(alloc);
+    encode(alloc, datagram, &mut to).expect(rt, "memory");
+    to
+}
+
 /// What the bytes spell, or the test that they fail. What is spelled is written as the same bytes.
-fn shown(alloc: Global, bytes: &[u8]) -> Result<String, Fail> {
+fn shown(rt: &impl Abort, alloc: Global, bytes: &[u8]) -> String {
     match decode(alloc, bytes) {
-        Err(bad) => Ok(format!(in alloc; "{bad:?}")?),
+        Err(bad) => text(rt, alloc, &bad),
         Ok(datagram) => {
-            let mut to = Vec::new(alloc);
-            encode(alloc, &datagram, &mut to)?;
-            if to.as_slice() != bytes {
-                return Err("other bytes".into());
-            }
-            Ok(format!(in alloc; "{datagram:?}")?)
+            assert!(rt; spelled(rt, alloc, &datagram).as_slice() == bytes);
+            text(rt, alloc, &datagram)
         }
     }
 }
 
-#[test]
-fn rows(rt: HostRuntime) -> Result<(), Fail> {
-    for table in [EXAMPLES, LIMITS, REFUSALS] {
-        for row in table.lines() {
-            let (bytes, told) = row.split_once("= ").ok_or("a row")?;
-            let bytes = bytes_of(rt.alloc(), bytes)?;
-            assert!(rt; is_told(&shown(rt.alloc(), &bytes)?, told), "{row}");
-        }
+fn check_row(rt: &impl Abort, alloc: Global, row: &str) {
+    let (bytes, told) = row.split_once("= ").expect(rt, "a row");
+    let given = shown(rt, alloc, &bytes_of(rt, alloc, bytes));
+    assert!(rt; is_told(&given, told), "{row}");
+}
+
+fn check_rows(rt: &impl Abort, alloc: Global, rows: &str) {
+    for row in rows.lines() {
+        check_row(rt, alloc, row);
     }
-    Ok(())
 }
 
 #[test]
-fn fields(rt: HostRuntime) -> Result<(), Fail> {
-    let bytes = bytes_of(rt.alloc(), "4e4f0101 00000002 0000000000000001 0002 6b30")?;
-    assert_eq!(rt; read_u16(&bytes, 16), Some(2));
-    assert_eq!(rt; read_u32(&bytes, 0), Some(0x4e4f_0101));
-    assert_eq!(rt; read_u64(&bytes, 8), Some(1));
-    assert_eq!(rt; read_u64(&bytes, 13), None);
-    let view = View {
-        leader: 0x4e4f_0101,
-        session: 2,
-    };
-    assert_eq!(rt; read_view(&bytes, 0), Some(view));
-    let request = read_request(rt.alloc(), &bytes, 4)?;
+fn rows(rt: HostRuntime) {
+    check_rows(&rt, rt.alloc(), EXAMPLES);
+    check_rows(&rt, rt.alloc(), LIMITS);
+    check_rows(&rt, rt.alloc(), REFUSALS);
+}
+
+#[test]
+fn fields(rt: HostRuntime) {
+    let alloc = rt.alloc();
+    let bytes = bytes_of(&rt, alloc, "4e4f0101 00000002 0000000000000001 0002 6b30");
+    assert!(rt; read_u16(&bytes, 16) == Some(2));
+    assert!(rt; read_u32(&bytes, 0) == Some(0x4e4f_0101));
+    assert!(rt; read_u64(&bytes, 8) == Some(1));
+    assert!(rt; read_u64(&bytes, 13) == None);
+    let view = text(&rt, alloc, &read_view(&bytes, 0));
+    check_text(&rt, &view, "Some(View { leader: 1313800449, session: 2 })");
+    let request = read_request(alloc, &bytes, 4).expect(&rt, "memory");
     let told = "Some(Request { client: 2, id: 1, op: Op { bytes: [107, 48] } })";
-    assert_eq!(rt; format!(in rt.alloc(); "{request:?}")?.as_str(), told);
-    Ok(())
+    check_text(&rt, &text(&rt, alloc, &request), told);
 }

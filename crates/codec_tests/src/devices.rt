@@ -1,116 +1,129 @@
-ghost use Rattle.std.specs.Prelude.{IfOk};
+ghost use Rattle.std.specs.Prelude.{◌≤◌};
 ghost use Rattle.outside.specs.Memory.{IsFresh};
 
-use nop_types::{Bytes, NoMemory};
+use nop_types::Bytes;
 use outside::{
     CallPlan, Clock, ClockMem, Failing, Link, LinkError, LinkMem, PollAnswer, Ports, PortsMem,
     ReadMem, Sink, Source, WriteError, WriteMem, write_all,
 };
 use std::alloc::Global;
-use std::test::Fail;
+use std::process::Abort;
 
 /// What so many reads into eight bytes give, each with a bar behind it; an x is a failure.
-fn reads<S: Source>(alloc: Global, source: &mut S, count: usize) -> Result<Vec<u8>, NoMemory> {
+fn reads<S: Source>(rt: &impl Abort, alloc: Global, source: &mut S, count: usize) -> Vec<u8> {
     let mut given = Vec::new(alloc);
     for _ in 0..count {
         let mut buf = [0u8; 8];
         match source.read(&mut buf) {
-            Ok(n) => given.extend_from_slice(&buf[..n])?,
-            Err(_) => given.push(b'x')?,
+            Ok(n) => given.extend_from_slice(&buf[..n]).expect(rt, "memory"),
+            Err(_) => given.push(b'x').expect(rt, "memory"),
         }
-        given.push(b'|')?;
+        given.push(b'|').expect(rt, "memory");
     }
-    Ok(given)
+    given
+}
+
+fn digits(rt: &impl Abort, alloc: Global) -> Vec<u8> {
+    b"0123456789".to_vec(alloc).expect(rt, "memory")
 }
 
 #[test]
-fn sources(rt: HostRuntime) -> Result<(), Fail> {
-    let mut source = ReadMem::new(b"0123456789".to_vec(rt.alloc())?);
-    let given = reads(rt.alloc(), &mut source, 3)?;
-    assert_eq!(rt; given.as_slice(), b"01234567|89||".as_slice());
-    let bytes = b"0123456789".to_vec(rt.alloc())?;
-    let mut source = ReadMem::with_faults(rt.alloc(), bytes, 4, &[2])?;
-    let given = reads(rt.alloc(), &mut source, 3)?;
-    assert_eq!(rt; given.as_slice(), b"0123|x|4567|".as_slice());
-    assert_eq!(rt; source.as_slice(), b"89".as_slice());
-    assert_eq!(rt; source.faults(), 1);
-    Ok(())
+fn sources(rt: HostRuntime) {
+    let alloc = rt.alloc();
+    let mut source = ReadMem::new(digits(&rt, alloc));
+    let given = reads(&rt, alloc, &mut source, 3);
+    assert!(rt; given.as_slice() == b"01234567|89||".as_slice());
 }
 
-/// The most bytes of a write, a write that fails, the answer, and how many bytes were written.
-const WRITES: [(usize, u64, Result<(), WriteError>, usize); 5] = [
-    (16, 2, Err(WriteError::Failed), 16),
-    (16, 1, Err(WriteError::Failed), 0),
-    (16, 3, Err(WriteError::Failed), 32),
-    (16, 4, Ok(()), 40),
-    (0, 2, Err(WriteError::Failed), 0),
-];
+#[test]
+fn failing_sources(rt: HostRuntime) {
+    let alloc = rt.alloc();
+    let source = ReadMem::with_faults(alloc, digits(&rt, alloc), 4, &[2]);
+    let mut source = source.expect(&rt, "memory");
+    let given = reads(&rt, alloc, &mut source, 3);
+    assert!(rt; given.as_slice() == b"0123|x|4567|".as_slice());
+    assert!(rt; source.as_slice() == b"89".as_slice() && source.faults() == 1);
+}
+
+const BYTES: &[u8] = b"0123456789012345678901234567890123456789";
+
+/// Writes them all with at most so many bytes a write, where one fails: the answer, and how many were written.
+fn check_writes(
+    rt: &impl Abort,
+    alloc: Global,
+    most: usize,
+    failing: u64,
+    answer: Result<(), WriteError>,
+    count: usize,
+)
+    requires { count ≤ 40 }
+{
+    let mut sink = WriteMem::with_faults(alloc, most, &[failing]).expect(rt, "memory");
+    assert!(rt; write_all(&mut sink, BYTES) == answer);
+    assert!(rt; sink.as_slice() == &BYTES[..count]);
+    assert!(rt; (sink.faults() == 1) == answer.is_err());
+}
 
 #[test]
-fn sinks(rt: HostRuntime) -> Result<(), Fail> {
-    let bytes = b"0123456789012345678901234567890123456789";
-    let mut sink = WriteMem::with_limit(rt.alloc(), 3);
-    assert_eq!(rt; write_all(&mut sink, bytes), Ok(()));
-    assert_eq!(rt; sink.into_vec().as_slice(), bytes.as_slice());
-    for (most, failing, answer, count) in WRITES {
-        let mut sink = WriteMem::with_faults(rt.alloc(), most, &[failing])?;
-        assert_eq!(rt; write_all(&mut sink, bytes), answer);
-        assert_eq!(rt; sink.as_slice(), &bytes[..count]);
-        assert_eq!(rt; sink.faults() == 1, answer.is_err());
-    }
-    Ok(())
+fn sinks(rt: HostRuntime) {
+    let alloc = rt.alloc();
+    let mut sink = WriteMem::with_limit(alloc, 3);
+    assert!(rt; write_all(&mut sink, BYTES) == Ok(()));
+    assert!(rt; sink.into_vec().as_slice() == BYTES);
+    let failed = Err(WriteError::Failed);
+    check_writes(&rt, alloc, 16, 2, failed, 16);
+    check_writes(&rt, alloc, 16, 1, failed, 0);
+    check_writes(&rt, alloc, 16, 3, failed, 32);
+    check_writes(&rt, alloc, 16, 4, Ok(()), 40);
+    check_writes(&rt, alloc, 0, 2, failed, 0);
 }
 
 /// A link that fails once, gives a datagram, and loses what is sent first.
-fn short_link(alloc: Global) -> Result<LinkMem<Failing>, NoMemory>
-    ensures { IfOk result (IsFresh ⟦<Failing as CallPlan>⟧.fault_count) }
+fn short_link(rt: &impl Abort, alloc: Global) -> LinkMem<Failing>
+    ensures { IsFresh ⟦<Failing as CallPlan>⟧.fault_count result }
 {
     let mut answers = Vec::new(alloc);
-    answers.push(PollAnswer::Failure)?;
-    answers.push(PollAnswer::Received(Bytes::new(alloc, b"NO")?))?;
-    LinkMem::with_faults(alloc, 0, answers, &[1])
+    answers.push(PollAnswer::Failure).expect(rt, "memory");
+    let datagram = Bytes::new(alloc, b"NO").expect(rt, "memory");
+    answers
+        .push(PollAnswer::Received(datagram))
+        .expect(rt, "memory");
+    LinkMem::with_faults(alloc, 0, answers, &[1]).expect(rt, "memory")
 }
 
 #[test]
-fn links(rt: HostRuntime) -> Result<(), Fail> {
-    let mut link = short_link(rt.alloc())?;
+fn links(rt: HostRuntime) {
+    let mut link = short_link(&rt, rt.alloc());
     assert!(rt; link.poll().is_err());
-    let datagram = link.poll()?.ok_or("a datagram")?;
-    assert_eq!(rt; datagram.as_slice(), b"NO".as_slice());
-    assert!(rt; link.poll()?.is_none());
-    assert_eq!(rt; link.send(41000, b"NO"), Err(LinkError::Failed));
-    link.send(41001, b"01")?;
-    assert_eq!(rt; (link.faults(), link.losses()), (1, 1));
-    let [sent] = link.sent() else {
-        return Err("one send".into());
-    };
-    assert_eq!(rt;
-        (sent.port, sent.bytes.as_slice()),
-        (41001, b"01".as_slice())
-    );
-    Ok(())
+    let datagram = link.poll().expect(&rt, "a poll").expect(&rt, "a datagram");
+    assert!(rt; datagram.as_slice() == b"NO".as_slice());
+    assert!(rt; link.poll().expect(&rt, "a poll").is_none());
+    assert!(rt; link.send(41000, b"NO") == Err(LinkError::Failed));
+    assert!(rt; link.send(41001, b"01") == Ok(()));
+    assert!(rt; link.faults() == 1 && link.losses() == 1 && link.sent().len() == 1);
+    let sent = link.sent().first().expect(&rt, "one send");
+    assert!(rt; sent.port == 41001 && sent.bytes.as_slice() == b"01".as_slice());
 }
 
 #[test]
-fn ports(rt: HostRuntime) -> Result<(), Fail> {
-    let links = vec![in rt.alloc(); short_link(rt.alloc())?]?;
-    let mut ports = PortsMem::with_faults(rt.alloc(), links, &[1])?;
-    assert!(rt; ports.attach(41000).is_err());
-    assert_eq!(rt; ports.faults(), 1);
-    let link = ports.attach(41000)?;
+fn ports(rt: HostRuntime) {
+    let alloc = rt.alloc();
+    let mut links = Vec::new(alloc);
+    links.push(short_link(&rt, alloc)).expect(&rt, "memory");
+    let ports = PortsMem::with_faults(alloc, links, &[1]);
+    let mut ports = ports.expect(&rt, "memory");
+    assert!(rt; ports.attach(41000).is_err() && ports.faults() == 1);
+    let link = ports.attach(41000).expect(&rt, "a port");
     ports.detach(link);
-    let link = ports.attach(41001)?;
+    let link = ports.attach(41001).expect(&rt, "a port");
     ports.detach(link);
-    let [first, second] = ports.detached() else {
-        return Err("two links".into());
-    };
-    assert_eq!(rt; (first.port(), second.port()), (41000, 41001));
-    Ok(())
+    let detached = ports.detached();
+    assert!(rt; detached.len() == 2);
+    assert!(rt; detached[0].port() == 41000 && detached[1].port() == 41001);
 }
 
 #[test]
-fn clocks(rt: HostRuntime) -> Result<(), Fail> {
-    let mut clock = ClockMem::with_values(rt.alloc(), &[5, 3])?;
-    assert_eq!(rt; (clock.now(), clock.now(), clock.now()), (5, 3, 3));
-    Ok(())
+fn clocks(rt: HostRuntime) {
+    let mut clock = ClockMem::with_values(rt.alloc(), &[5, 3]).expect(&rt, "memory");
+    assert!(rt; clock.now() == 5 && clock.now() == 3 && clock.now() == 3);
 }

@@ -3,15 +3,6 @@ use nop_types::{Bytes, Datagram, Dest, Fragment, Out, Outbox};
 use oum_codec::decode;
 use std::alloc::Global;
 use std::process::Abort;
-use std::test::Fail;
-
-/// How many bytes a message has, how many fragments it is cut into, and how many bytes the datagram of the last one has.
-const LENGTHS: [(u32, usize, usize); 4] = [
-    (1, 1, 18),
-    (1400, 1, 1417),
-    (1401, 2, 18),
-    (2_867_200, 2048, 1417),
-];
 
 /// A fragment by its sender, its message, its index, its count and how many bytes it has; then how many bytes it completes, 0 for
 /// no message.
@@ -48,38 +39,45 @@ const ARRIVALS: [Arrival; 24] = [
 ];
 
 /// So many bytes, of which the pieces of 1,400 differ.
-fn filled(alloc: Global, len: u32) -> Result<Vec<u8>, Fail> {
+fn filled(rt: &impl Abort, alloc: Global, len: u32) -> Vec<u8> {
     let mut bytes = Vec::new(alloc);
     for i in 0..len {
-        bytes.push((i % 251) as u8 ^ (i / 1400 % 256) as u8)?;
+        let byte = (i % 251) as u8 ^ (i / 1400 % 256) as u8;
+        bytes.push(byte).expect(rt, "memory");
     }
-    Ok(bytes)
+    bytes
 }
 
 /// The bytes that a fragment completes.
-fn taken(kept: &mut Reassembly, fragment: &Fragment) -> Result<Option<Bytes>, Fail> {
-    if fragment.replica as usize >= kept.senders() {
-        return Err("no such sender".into());
+fn taken(rt: &impl Abort, kept: &mut Reassembly, fragment: &Fragment) -> Option<Bytes> {
+    assert!(rt; (fragment.replica as usize) < kept.senders());
+    kept.take(fragment).expect(rt, "memory")
+}
+
+/// The fragment that was sent to all replicas.
+fn fragment_of(rt: &impl Abort, alloc: Global, out: &Out) -> Fragment {
+    let Out::Send(Dest::Replicas, bytes) = out else {
+        panic!(rt; "no send to all replicas")
+    };
+    match decode(alloc, bytes.as_slice()) {
+        Ok(Datagram::Fragment(fragment)) => fragment,
+        _ => panic!(rt; "no fragment"),
     }
-    Ok(kept.take(fragment)?)
 }
 
 /// Takes the fragments that were sent from the last to the first, and gives the bytes that they complete.
-fn joined(alloc: Global, sent: &[Out]) -> Result<Vec<u8>, Fail> {
-    let mut kept = Reassembly::new(alloc, 3)?;
+fn joined(rt: &impl Abort, alloc: Global, sent: &[Out]) -> Vec<u8> {
+    let mut kept = Reassembly::new(alloc, 3).expect(rt, "memory");
     let mut whole = Vec::new(alloc);
     for out in sent.iter().rev() {
-        let Out::Send(Dest::Replicas, bytes) = out else {
-            return Err("no send to all replicas".into());
-        };
-        let Datagram::Fragment(fragment) = decode(alloc, bytes.as_slice())? else {
-            return Err("no fragment".into());
-        };
-        if let Some(bytes) = taken(&mut kept, &fragment)? {
-            whole.extend_from_slice(bytes.as_slice())?;
+        let fragment = fragment_of(rt, alloc, out);
+        if let Some(bytes) = taken(rt, &mut kept, &fragment) {
+            whole
+                .extend_from_slice(bytes.as_slice())
+                .expect(rt, "memory");
         }
     }
-    Ok(whole)
+    whole
 }
 
 /// How many bytes the last datagram has.
@@ -90,58 +88,58 @@ fn last_len(sent: &[Out]) -> usize {
     }
 }
 
-#[test]
-fn messages_are_cut_and_joined(rt: HostRuntime) -> Result<(), Fail> {
-    for (len, count, last) in LENGTHS {
-        let message = filled(rt.alloc(), len)?;
-        let mut out = Outbox::new(rt.alloc());
-        cut(rt.alloc(), 2, 5, &message, &mut out, Dest::Replicas)?;
-        let sent = out.as_slice();
-        assert_eq!(rt; (sent.len(), last_len(sent)), (count, last));
-        assert!(rt; joined(rt.alloc(), sent)? == message, "{len}");
-    }
-    Ok(())
+/// A message of so many bytes is cut into so many fragments, the last of a datagram of that length, and joined again.
+fn check_length(rt: &impl Abort, alloc: Global, len: u32, count: usize, last: usize) {
+    let message = filled(rt, alloc, len);
+    let mut out = Outbox::new(alloc);
+    cut(alloc, 2, 5, &message, &mut out, Dest::Replicas).expect(rt, "cut");
+    let sent = out.as_slice();
+    assert!(rt; sent.len() == count && last_len(sent) == last, "{len}");
+    assert!(rt; joined(rt, alloc, sent) == message, "{len}");
 }
 
 #[test]
-fn messages_that_are_not_cut(rt: HostRuntime) -> Result<(), Fail> {
-    let mut out = Outbox::new(rt.alloc());
-    for len in [0, 2_867_201] {
-        let message = filled(rt.alloc(), len)?;
-        let answer = cut(rt.alloc(), 2, 5, &message, &mut out, Dest::Replicas);
-        assert_eq!(rt; answer, Err(CutError::Size));
-    }
-    Ok(())
+fn messages_are_cut_and_joined(rt: HostRuntime) {
+    check_length(&rt, rt.alloc(), 1, 1, 18);
+    check_length(&rt, rt.alloc(), 1400, 1, 1417);
+    check_length(&rt, rt.alloc(), 1401, 2, 18);
+    check_length(&rt, rt.alloc(), 2_867_200, 2048, 1417);
+}
+
+fn is_cut(rt: &impl Abort, alloc: Global, len: u32) -> Result<(), CutError> {
+    let message = filled(rt, alloc, len);
+    let mut out = Outbox::new(alloc);
+    cut(alloc, 2, 5, &message, &mut out, Dest::Replicas)
+}
+
+#[test]
+fn messages_that_are_not_cut(rt: HostRuntime) {
+    assert!(rt; is_cut(&rt, rt.alloc(), 0) == Err(CutError::Size));
+    assert!(rt; is_cut(&rt, rt.alloc(), 2_867_201) == Err(CutError::Size));
 }
 
 /// Takes fragments in order, and compares what each of them completes.
-fn arrive(
-    rt: &impl Abort,
-    alloc: Global,
-    kept: &mut Reassembly,
-    arrivals: &[Arrival],
-) -> Result<(), Fail> {
+fn arrive(rt: &impl Abort, alloc: Global, kept: &mut Reassembly, arrivals: &[Arrival]) {
     for (replica, message, index, count, len, gives) in arrivals {
         let fragment = Fragment {
             replica: *replica,
             message: *message,
             index: *index,
             count: *count,
-            payload: Bytes::from_vec(filled(alloc, *len)?),
+            payload: Bytes::from_vec(filled(rt, alloc, *len)),
         };
-        let given = match taken(kept, &fragment)? {
+        let given = match taken(rt, kept, &fragment) {
             Some(bytes) => bytes.as_slice().len(),
             None => 0,
         };
-        assert_eq!(rt; given, *gives, "{index} of {count} with {len} bytes");
+        assert!(rt; given == *gives, "{index} of {count} with {len} bytes");
     }
-    Ok(())
 }
 
 #[test]
-fn fragments_that_arrive(rt: HostRuntime) -> Result<(), Fail> {
-    let mut kept = Reassembly::new(rt.alloc(), 3)?;
-    arrive(&rt, rt.alloc(), &mut kept, &ARRIVALS)
+fn fragments_that_arrive(rt: HostRuntime) {
+    let mut kept = Reassembly::new(rt.alloc(), 3).expect(&rt, "memory");
+    arrive(&rt, rt.alloc(), &mut kept, &ARRIVALS);
 }
 
 /// Five messages that begin, of which the first is dropped, and that one once more, which drops the second.
@@ -156,10 +154,9 @@ const DROPPED: [Arrival; 7] = [
 ];
 
 #[test]
-fn unfinished_messages_are_few(rt: HostRuntime) -> Result<(), Fail> {
-    let mut kept = Reassembly::new(rt.alloc(), 3)?;
-    arrive(&rt, rt.alloc(), &mut kept, &DROPPED)?;
-    assert_eq!(rt; kept.held(1), 4200);
-    assert_eq!(rt; (kept.held(0), kept.held(3)), (0, 0));
-    Ok(())
+fn unfinished_messages_are_few(rt: HostRuntime) {
+    let mut kept = Reassembly::new(rt.alloc(), 3).expect(&rt, "memory");
+    arrive(&rt, rt.alloc(), &mut kept, &DROPPED);
+    assert!(rt; kept.held(1) == 4200);
+    assert!(rt; kept.held(0) == 0 && kept.held(3) == 0);
 }

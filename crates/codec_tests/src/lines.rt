@@ -1,13 +1,14 @@
 ghost use Rattle.std.specs.Prelude.{◌≤◌, length};
 
-use nop_types::{Actor, Bytes, Config, Dest, Entry, NoMemory, Op, Phase, Request, View};
+use crate::rows::check_text;
+use nop_types::{Actor, Bytes, Config, Dest, Entry, Op, Phase, Request, View};
 use outside::ReadMem;
 use schedule_text::{
     Event, NextError, Reader, accept_line, busy_line, dead_line, end_line, entry_line, error_line,
     history_line, replica_line, send_line, submit_line, transcript_line,
 };
 use std::alloc::Global;
-use std::test::Fail;
+use std::process::Abort;
 
 const FIRST: &[u8] = b"nopaxos 1 replicas 3 sequencers 2 clients 2\n";
 
@@ -27,14 +28,15 @@ fn letter(answer: &Result<Option<Event>, NextError>) -> u8 {
 }
 
 // A letter for each of the first answers, for a rule its digit.
-fn letters(alloc: Global, text: Vec<u8>, most: usize, calls: usize) -> Result<Vec<u8>, Fail> {
+fn letters(rt: &impl Abort, alloc: Global, text: Vec<u8>, most: usize, calls: usize) -> Vec<u8> {
     let mut source = ReadMem::with_limit(text, most.max(1));
     let mut reader = Reader::new(alloc);
     let mut letters = Vec::new(alloc);
     for _ in 0..calls {
-        letters.push(letter(&reader.next(&mut source)))?;
+        let letter = letter(&reader.next(&mut source));
+        letters.push(letter).expect(rt, "memory");
     }
-    Ok(letters)
+    letters
 }
 
 /// A row for each text: whether the first line stands before it (`+`), its front, a byte that follows that so many times, and a letter
@@ -94,38 +96,42 @@ fn plain(written: u8) -> u8 {
     }
 }
 
-/// The text of a row, and the letters that it gives.
-fn text_of(alloc: Global, row: &str) -> Result<(Vec<u8>, &str), Fail> {
-    let (first, row) = row.split_once('|').ok_or("a first line")?;
-    let (front, row) = row.split_once('|').ok_or("a front")?;
-    let (byte, row) = row.split_once('|').ok_or("a byte")?;
-    let (count, letters) = row.split_once('|').ok_or("a count")?;
-    let mut text = Vec::new(alloc);
-    if first == "+" {
-        text.extend_from_slice(FIRST)?;
-    }
-    for written in front.bytes() {
-        text.push(plain(written))?;
-    }
-    for written in byte.bytes() {
-        for _ in 0..count.parse::<u32>()? {
-            text.push(plain(written))?;
+fn put_plain(rt: &impl Abort, written: &str, count: u32, text: &mut Vec<u8>) {
+    for byte in written.bytes() {
+        for _ in 0..count {
+            text.push(plain(byte)).expect(rt, "memory");
         }
     }
-    Ok((text, letters))
+}
+
+/// The text of a row, without the letters that it gives.
+fn text_of(rt: &impl Abort, alloc: Global, row: &str) -> Vec<u8> {
+    let (first, row) = row.split_once('|').expect(rt, "a first line");
+    let (front, row) = row.split_once('|').expect(rt, "a front");
+    let (byte, count) = row.split_once('|').expect(rt, "a byte");
+    let mut text = Vec::new(alloc);
+    if first == "+" {
+        text.extend_from_slice(FIRST).expect(rt, "memory");
+    }
+    put_plain(rt, front, 1, &mut text);
+    let count = count.parse::<u32>().expect(rt, "a number");
+    put_plain(rt, byte, count, &mut text);
+    text
+}
+
+fn check_row(rt: &impl Abort, alloc: Global, row: &str, most: usize) {
+    let (row, told) = row.rsplit_once('|').expect(rt, "letters");
+    let given = letters(rt, alloc, text_of(rt, alloc, row), most, 4);
+    assert!(rt; given.as_slice() == told.as_bytes(), "{row}");
 }
 
 #[test]
-fn lines_that_are_read(rt: HostRuntime) -> Result<(), Fail> {
-    let alloc = rt.alloc();
+fn lines_that_are_read(rt: HostRuntime) {
     for row in READ.lines() {
-        for most in [1, 7, 4096] {
-            let (text, want) = text_of(alloc, row)?;
-            let told = letters(alloc, text, most, 4)?;
-            assert_eq!(rt; told.as_slice(), want.as_bytes(), "{row}");
-        }
+        check_row(&rt, rt.alloc(), row, 1);
+        check_row(&rt, rt.alloc(), row, 7);
+        check_row(&rt, rt.alloc(), row, 4096);
     }
-    Ok(())
 }
 
 const LINES: &str = "\
@@ -152,58 +158,122 @@ error line 1000001 rule 10
 error line 5 rule 8 index 7 sent 2
 ";
 
-fn request(alloc: Global, client: u32, id: u64, op: &[u8]) -> Result<Request, NoMemory>
+fn request(rt: &impl Abort, alloc: Global, client: u32, id: u64, op: &[u8]) -> Request
     requires { length op.now ≤ 7 }
 {
-    Ok(Request {
+    Request {
         client,
         id,
-        op: Op::new(alloc, op)?,
-    })
+        op: Op::new(alloc, op).expect(rt, "memory"),
+    }
 }
 
-#[test]
-fn lines_that_are_written(rt: HostRuntime) -> Result<(), Fail> {
-    let alloc = rt.alloc();
-    let mut to = Vec::new(alloc);
-    transcript_line(Config::new(3, 2, 16).ok_or("limits")?, &mut to)?;
-    dead_line(Actor::Controller, &mut to)?;
-    dead_line(Actor::Client(15), &mut to)?;
-    submit_line(&request(alloc, u32::MAX, u64::MAX, b"")?, &mut to)?;
-    accept_line(1, 2, &Bytes::new(alloc, b"none")?, &mut to)?;
-    busy_line(3, &mut to)?;
-    for (index, from, dest, kind, len) in [
-        (0, Actor::Client(0), Dest::Sequencers, 1, 25),
-        (1, Actor::Sequencer(0), Dest::Replicas, 2, 37),
-        (2, Actor::Replica(0), Dest::One(Actor::Client(0)), 3, 36),
-        (3, Actor::Controller, Dest::One(Actor::Sequencer(1)), 4, 9),
-        (4, Actor::Sequencer(1), Dest::One(Actor::Controller), 5, 9),
-        (5, Actor::Controller, Dest::One(Actor::Sequencer(0)), 6, 9),
-        (6, Actor::Sequencer(0), Dest::One(Actor::Controller), 7, 9),
-        (
-            u64::MAX,
-            Actor::Replica(1),
-            Dest::One(Actor::Replica(2)),
-            8,
-            31,
-        ),
-    ] {
-        let mut datagram = Vec::from_slice(alloc, &[0x4e, 0x4f, 1, kind])?;
-        datagram.resize(len, 0)?;
-        send_line(index, from, dest, &datagram, &mut to)?;
-    }
+/// The lines of requests and of what clients do.
+fn put_requests(rt: &impl Abort, alloc: Global, to: &mut Vec<u8>) {
+    let config = Config::new(3, 2, 16).expect(rt, "limits");
+    transcript_line(config, to).expect(rt, "memory");
+    dead_line(Actor::Controller, to).expect(rt, "memory");
+    dead_line(Actor::Client(15), to).expect(rt, "memory");
+    let empty = request(rt, alloc, u32::MAX, u64::MAX, b"");
+    submit_line(&empty, to).expect(rt, "memory");
+    let none = Bytes::new(alloc, b"none").expect(rt, "memory");
+    accept_line(1, 2, &none, to).expect(rt, "memory");
+    busy_line(3, to).expect(rt, "memory");
+}
+
+/// The line of a datagram of this kind and length.
+fn put_send(
+    rt: &impl Abort,
+    alloc: Global,
+    index: u64,
+    ends: (Actor, Dest),
+    kind: u8,
+    len: usize,
+    to: &mut Vec<u8>,
+) {
+    let (from, dest) = ends;
+    let mut datagram = Vec::from_slice(alloc, &[0x4e, 0x4f, 1, kind]).expect(rt, "memory");
+    datagram.resize(len, 0).expect(rt, "memory");
+    send_line(index, from, dest, &datagram, to).expect(rt, "memory");
+}
+
+/// The lines of sends.
+fn put_sends(rt: &impl Abort, alloc: Global, to: &mut Vec<u8>) {
+    let (first, second) = (Actor::Sequencer(0), Actor::Sequencer(1));
+    let client = Actor::Client(0);
+    put_send(rt, alloc, 0, (client, Dest::Sequencers), 1, 25, to);
+    put_send(rt, alloc, 1, (first, Dest::Replicas), 2, 37, to);
+    put_send(
+        rt,
+        alloc,
+        2,
+        (Actor::Replica(0), Dest::One(client)),
+        3,
+        36,
+        to,
+    );
+    put_send(
+        rt,
+        alloc,
+        3,
+        (Actor::Controller, Dest::One(second)),
+        4,
+        9,
+        to,
+    );
+    put_send(
+        rt,
+        alloc,
+        4,
+        (second, Dest::One(Actor::Controller)),
+        5,
+        9,
+        to,
+    );
+    put_send(
+        rt,
+        alloc,
+        5,
+        (Actor::Controller, Dest::One(first)),
+        6,
+        9,
+        to,
+    );
+    put_send(
+        rt,
+        alloc,
+        6,
+        (first, Dest::One(Actor::Controller)),
+        7,
+        9,
+        to,
+    );
+    let ends = (Actor::Replica(1), Dest::One(Actor::Replica(2)));
+    put_send(rt, alloc, u64::MAX, ends, 8, 31, to);
+}
+
+/// The lines of a state, and of the end.
+fn put_state(rt: &impl Abort, alloc: Global, to: &mut Vec<u8>) {
     let view = View {
         leader: u32::MAX,
         session: 2,
     };
-    replica_line(6, true, Phase::Change, view, 4096, 7, &mut to)?;
-    entry_line(0, 1, &Entry::NoOp, &mut to)?;
-    let entry = Entry::Req(request(alloc, 7, 9, b"\x00\xff\x1a")?);
-    entry_line(2, 4096, &entry, &mut to)?;
-    history_line(4096, &request(alloc, 7, 9, b"\x00\xff\x1a")?, &mut to)?;
-    end_line(&mut to)?;
-    error_line(1_000_001, 10, None, &mut to)?;
-    error_line(5, 8, Some((7, 2)), &mut to)?;
-    assert_eq!(rt; std::str::from_utf8(&to)?, LINES);
-    Ok(())
+    replica_line(6, true, Phase::Change, view, 4096, 7, to).expect(rt, "memory");
+    entry_line(0, 1, &Entry::NoOp, to).expect(rt, "memory");
+    let entry = Entry::Req(request(rt, alloc, 7, 9, b"\x00\xff\x1a"));
+    entry_line(2, 4096, &entry, to).expect(rt, "memory");
+    let last = request(rt, alloc, 7, 9, b"\x00\xff\x1a");
+    history_line(4096, &last, to).expect(rt, "memory");
+    end_line(to).expect(rt, "memory");
+    error_line(1_000_001, 10, None, to).expect(rt, "memory");
+    error_line(5, 8, Some((7, 2)), to).expect(rt, "memory");
+}
+
+#[test]
+fn lines_that_are_written(rt: HostRuntime) {
+    let mut to = Vec::new(rt.alloc());
+    put_requests(&rt, rt.alloc(), &mut to);
+    put_sends(&rt, rt.alloc(), &mut to);
+    put_state(&rt, rt.alloc(), &mut to);
+    check_text(&rt, std::str::from_utf8(&to).expect(&rt, "text"), LINES);
 }

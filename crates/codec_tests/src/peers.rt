@@ -1,8 +1,10 @@
-use crate::rows::{bytes_of, is_told};
-use nop_types::{Entry, View};
+ghost use Rattle.nop_types.specs.Ranges.{PeerFits};
+
+use crate::rows::{bytes_of, is_told, text};
+use nop_types::{Entry, Peer, View};
 use peer_codec::{EncodedPeer, LogBody, decode_peer, encode_peer, encode_with_log, read_peer};
 use std::alloc::Global;
-use std::test::Fail;
+use std::process::Abort;
 
 /// The examples of the formats: bytes, and the message that they spell. The last three have fields and a log at their greatest.
 const EXAMPLES: &str = "\
@@ -41,38 +43,48 @@ const REFUSALS: &str = "\
 17 00 00000000 00000001 00000001 02 = Field
 17 00 00000000 00000001 00000001 01 00000000 0000000000000001 0281 = Field";
 
+/// The bytes that a message is written as.
+fn spelled(rt: &impl Abort, alloc: Global, message: &Peer) -> Vec<u8>
+    requires { PeerFits message.now }
+{
+    let mut to = Vec::new(alloc);
+    encode_peer(alloc, message, &mut to).expect(rt, "memory");
+    to
+}
+
 /// What the bytes spell, or the test that they fail. What is spelled is written as the same bytes.
-fn shown(alloc: Global, bytes: &[u8]) -> Result<String, Fail> {
+fn shown(rt: &impl Abort, alloc: Global, bytes: &[u8]) -> String {
     match decode_peer(alloc, bytes) {
-        Err(bad) => Ok(format!(in alloc; "{bad:?}")?),
+        Err(bad) => text(rt, alloc, &bad),
         Ok(message) => {
-            let mut to = Vec::new(alloc);
-            encode_peer(alloc, &message, &mut to)?;
-            if to.as_slice() != bytes {
-                return Err("other bytes".into());
-            }
-            Ok(format!(in alloc; "{message:?}")?)
+            assert!(rt; spelled(rt, alloc, &message).as_slice() == bytes);
+            text(rt, alloc, &message)
         }
     }
 }
 
+fn check_row(rt: &impl Abort, alloc: Global, row: &str) {
+    let (bytes, told) = row.split_once("= ").expect(rt, "a row");
+    let bytes = bytes_of(rt, alloc, bytes);
+    let given = shown(rt, alloc, &bytes);
+    assert!(rt; is_told(&given, told), "{row}");
+    let read = read_peer(alloc, &bytes).expect(rt, "memory");
+    assert!(rt; read.is_some() == told.starts_with("Peer"), "{row}");
+}
+
 #[test]
-fn rows(rt: HostRuntime) -> Result<(), Fail> {
-    for table in [EXAMPLES, REFUSALS] {
-        for row in table.lines() {
-            let (bytes, told) = row.split_once("= ").ok_or("a row")?;
-            let bytes = bytes_of(rt.alloc(), bytes)?;
-            assert!(rt; is_told(&shown(rt.alloc(), &bytes)?, told), "{row}");
-            let is_spelled = read_peer(rt.alloc(), &bytes)?.is_some();
-            assert_eq!(rt; is_spelled, told.starts_with("Peer"), "{row}");
-        }
+fn rows(rt: HostRuntime) {
+    for row in EXAMPLES.lines() {
+        check_row(&rt, rt.alloc(), row);
     }
-    Ok(())
+    for row in REFUSALS.lines() {
+        check_row(&rt, rt.alloc(), row);
+    }
 }
 
 /// Messages whose logs are borrowed, of two NO-OPs each.
 #[test]
-fn spells_borrowed_logs(rt: HostRuntime) -> Result<(), Fail> {
+fn spells_borrowed_logs(rt: HostRuntime) {
     let alloc = rt.alloc();
     let log = [Entry::NoOp, Entry::NoOp];
     let first = View {
@@ -88,18 +100,17 @@ fn spells_borrowed_logs(rt: HostRuntime) -> Result<(), Fail> {
         next: 3,
         log: &log,
     };
-    let change = EncodedPeer::with_log(alloc, 2, second, body)?;
+    let change = EncodedPeer::with_log(alloc, 2, second, body).expect(&rt, "memory");
     let bytes = b"\x15\x02\0\0\0\x01\0\0\0\x01\0\0\0\0\0\0\0\x01\0\0\0\0\0\0\0\x03\0\0\0\x02\0\0";
-    assert_eq!(rt; change.sender(), 2);
+    assert!(rt; change.sender() == 2);
     assert!(rt; change.as_slice() == bytes.as_slice());
     let body = LogBody::StartView { next: 3, log: &log };
-    let start = EncodedPeer::with_log(alloc, 1, second, body)?;
+    let start = EncodedPeer::with_log(alloc, 1, second, body).expect(&rt, "memory");
     let bytes = b"\x16\x01\0\0\0\x01\0\0\0\x01\0\0\0\0\0\0\0\x03\0\0\0\x02\0\0";
-    assert_eq!(rt; start.sender(), 1);
+    assert!(rt; start.sender() == 1);
     assert!(rt; start.as_slice() == bytes.as_slice());
-    let mut to = Vec::from_slice(alloc, b"before")?;
-    encode_with_log(alloc, 0, first, LogBody::SyncPrepare(&log), &mut to)?;
+    let mut to = Vec::from_slice(alloc, b"before").expect(&rt, "memory");
+    encode_with_log(alloc, 0, first, LogBody::SyncPrepare(&log), &mut to).expect(&rt, "memory");
     let bytes = b"before\x17\0\0\0\0\0\0\0\0\x01\0\0\0\x02\0\0";
     assert!(rt; to.as_slice() == bytes.as_slice());
-    Ok(())
 }

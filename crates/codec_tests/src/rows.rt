@@ -1,17 +1,22 @@
 use std::alloc::Global;
-use std::test::Fail;
+use std::fmt::Debug;
+use std::process::Abort;
+
+fn put_bytes(rt: &impl Abort, alloc: Global, word: &str, bytes: &mut Vec<u8>) {
+    let (digits, count) = word.split_once('*').unwrap_or((word, "1"));
+    let piece = hex::decode(alloc, digits).expect(rt, "hexadecimal");
+    for _ in 0..count.parse::<u32>().expect(rt, "a number") {
+        bytes.extend_from_slice(&piece).expect(rt, "memory");
+    }
+}
 
 /// The bytes of a row: words of two digits for each byte, where `ff*640` has its bytes 640 times.
-pub fn bytes_of(alloc: Global, row: &str) -> Result<Vec<u8>, Fail> {
+pub fn bytes_of(rt: &impl Abort, alloc: Global, row: &str) -> Vec<u8> {
     let mut bytes = Vec::new(alloc);
     for word in row.split(' ') {
-        let (digits, count) = word.split_once('*').unwrap_or((word, "1"));
-        let piece = hex::decode(alloc, digits).ok().ok_or("hexadecimal")?;
-        for _ in 0..count.parse::<u32>()? {
-            bytes.extend_from_slice(&piece)?;
-        }
+        put_bytes(rt, alloc, word, &mut bytes);
     }
-    Ok(bytes)
+    bytes
 }
 
 /// Whether a text is the one that is told, or begins so where that ends in two dots.
@@ -20,4 +25,13 @@ pub fn is_told(shown: &str, told: &str) -> bool {
         Some(front) => shown.starts_with(front),
         None => shown == told,
     }
+}
+
+/// A value as its derive shows it.
+pub fn text<T: Debug>(rt: &impl Abort, alloc: Global, value: &T) -> String {
+    format!(in alloc; "{value:?}").expect(rt, "memory")
+}
+
+pub fn check_text(rt: &impl Abort, given: &str, told: &str) {
+    assert!(rt; given == told, "{given}");
 }

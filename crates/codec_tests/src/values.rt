@@ -1,50 +1,52 @@
+use crate::rows::{check_text, text};
 use nop_types::{Bytes, Config, Entry, Log, Op, Out, Outbox, Request, View, leader_of};
-use std::test::Fail;
+use std::alloc::Global;
+use std::process::Abort;
 
-#[test]
-fn copies(rt: HostRuntime) -> Result<(), Fail> {
-    let mut log = Log::with_capacity(rt.alloc(), 2)?;
-    let op = Op::new(rt.alloc(), b"op")?;
-    let request = Request {
+fn request(rt: &impl Abort, alloc: Global) -> Request {
+    Request {
         client: 7,
         id: 3,
-        op: op.try_clone()?,
-    };
-    log.push(Entry::Req(request.try_clone()?))?;
-    log.push(Entry::NoOp)?;
-    let told =
-        "Log { entries: [Req(Request { client: 7, id: 3, op: Op { bytes: [111, 112] } }), NoOp] }";
-    let copy = log.try_clone()?;
-    assert_eq!(rt; format!(in rt.alloc(); "{copy:?}")?.as_str(), told);
-    let bytes = Bytes::new(rt.alloc(), b"abc")?.try_clone()?;
-    assert_eq!(rt; bytes.into_vec().as_slice(), b"abc".as_slice());
-    Ok(())
+        op: Op::new(alloc, b"op").expect(rt, "memory"),
+    }
+}
+
+/// A copy of a log of a request and a NO-OP, each of which is a copy.
+fn log(rt: &impl Abort, alloc: Global) -> Log {
+    let mut log = Log::with_capacity(alloc, 2).expect(rt, "memory");
+    let first = request(rt, alloc).try_clone().expect(rt, "memory");
+    log.push(Entry::Req(first)).expect(rt, "memory");
+    log.push(Entry::NoOp).expect(rt, "memory");
+    log.try_clone().expect(rt, "memory")
 }
 
 #[test]
-fn outputs(rt: HostRuntime) -> Result<(), Fail> {
-    let mut first = Outbox::new(rt.alloc());
-    first.push(Out::Busy(1))?;
-    let mut second = Outbox::new(rt.alloc());
-    second.push(Out::Busy(2))?;
-    first.append(second)?;
-    let told = "Outbox { outs: [Busy(1), Busy(2)] }";
-    assert_eq!(rt; format!(in rt.alloc(); "{first:?}")?.as_str(), told);
-    Ok(())
+fn copies(rt: HostRuntime) {
+    let alloc = rt.alloc();
+    let told =
+        "Log { entries: [Req(Request { client: 7, id: 3, op: Op { bytes: [111, 112] } }), NoOp] }";
+    check_text(&rt, &text(&rt, alloc, &log(&rt, alloc)), told);
+    let bytes = Bytes::new(alloc, b"abc").expect(&rt, "memory");
+    let copy = bytes.try_clone().expect(&rt, "memory").into_vec();
+    assert!(rt; copy.as_slice() == b"abc".as_slice());
+    let op = request(&rt, alloc).op.try_clone().expect(&rt, "memory");
+    check_text(&rt, &text(&rt, alloc, &op), "Op { bytes: [111, 112] }");
 }
 
-/// Which numbers of actors make a configuration.
-const CONFIGURATIONS: [(u8, u8, u8, bool); 9] = [
-    (1, 1, 1, true),
-    (7, 4, 16, true),
-    (0, 1, 1, false),
-    (2, 1, 1, false),
-    (9, 1, 1, false),
-    (3, 0, 1, false),
-    (3, 5, 1, false),
-    (3, 1, 0, false),
-    (3, 1, 17, false),
-];
+fn busy(rt: &impl Abort, alloc: Global, client: u32) -> Outbox {
+    let mut out = Outbox::new(alloc);
+    out.push(Out::Busy(client)).expect(rt, "memory");
+    out
+}
+
+#[test]
+fn outputs(rt: HostRuntime) {
+    let mut first = busy(&rt, rt.alloc(), 1);
+    let second = busy(&rt, rt.alloc(), 2);
+    first.append(second).expect(&rt, "memory");
+    let told = "Outbox { outs: [Busy(1), Busy(2)] }";
+    check_text(&rt, &text(&rt, rt.alloc(), &first), told);
+}
 
 /// Two views of which neither is at most the other, and the least view above both.
 const LEFT: View = View {
@@ -62,14 +64,23 @@ const ABOVE: View = View {
     session: 3,
 };
 
+/// Whether these numbers of actors make a configuration.
+fn is_one(replicas: u8, sequencers: u8, clients: u8) -> bool {
+    Config::new(replicas, sequencers, clients).is_some()
+}
+
 #[test]
-fn configurations_and_views(rt: HostRuntime) {
-    for (replicas, sequencers, clients, is_one) in CONFIGURATIONS {
-        let config = Config::new(replicas, sequencers, clients);
-        assert_eq!(rt; config.is_some(), is_one);
-    }
+fn configurations(rt: HostRuntime) {
+    assert!(rt; is_one(1, 1, 1) && is_one(7, 4, 16));
+    assert!(rt; !is_one(0, 1, 1) && !is_one(2, 1, 1) && !is_one(9, 1, 1));
+    assert!(rt; !is_one(3, 0, 1) && !is_one(3, 5, 1));
+    assert!(rt; !is_one(3, 1, 0) && !is_one(3, 1, 17));
+}
+
+#[test]
+fn views(rt: HostRuntime) {
     assert!(rt; !View::le(LEFT, RIGHT) && !View::le(RIGHT, LEFT));
-    assert_eq!(rt; View::join(LEFT, RIGHT), ABOVE);
+    assert!(rt; View::join(LEFT, RIGHT) == ABOVE);
     assert!(rt; View::le(LEFT, ABOVE) && View::le(RIGHT, ABOVE) && RIGHT.outranks(LEFT));
-    assert_eq!(rt; leader_of(ABOVE, 3), 1);
+    assert!(rt; leader_of(ABOVE, 3) == 1);
 }

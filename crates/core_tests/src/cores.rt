@@ -1,9 +1,14 @@
+ghost use Rattle.std.specs.Prelude.{◌≤◌};
+
+use crate::rows::{check_shown, check_text};
 use crate::scripts::{play, timers};
 use client_quorum::Client;
-use nop_types::{Config, Core, Op, Outbox, Request, Tick};
-use sequencer::{Sequencer, SequencerState};
-use session_control::{Controller, ControllerState};
-use std::test::Fail;
+use nop_types::{Config, Core, Op, Outbox, Request};
+use sequencer::Sequencer;
+use session_control::Controller;
+use std::alloc::Global;
+use std::process::Abort;
+use std::slice::from_mut;
 
 /// Sequencer 1 stamps nothing without a session, and answers pings of its own. Session 2 is installed twice, and the numbers go on;
 /// an older session is not taken, and a newer one is. What is for others, what does not decode, and what is no packet change nothing.
@@ -32,29 +37,30 @@ const SEQUENCER: &str = "\
 0 packet 4e
 0 submit 6f70
 0 tick resend
-0 tick install 0";
+0 tick install 0
+";
 
-#[test]
-fn a_sequencer(rt: HostRuntime) -> Result<(), Fail> {
-    let mut cores = [Sequencer::new(rt.alloc(), 1)?];
-    let mut sent = Outbox::new(rt.alloc());
-    play(&rt, rt.alloc(), &mut cores, &mut sent, SEQUENCER)?;
-    let told = SequencerState {
-        number: 1,
-        session: u32::MAX,
-        next: 1,
-    };
-    assert_eq!(rt; cores[0].state(), told);
-    assert_eq!(rt; timers(&cores[0]), [None, None, None, None]);
-    let request = Request {
+fn request(rt: &impl Abort, alloc: Global) -> Request {
+    Request {
         client: 7,
         id: 5,
-        op: Op::new(rt.alloc(), b"op")?,
-    };
-    let stamped = cores[0].stamp(&request)?.ok_or("not stamped")?;
-    assert_eq!(rt; (stamped.session, stamped.number), (u32::MAX, 1));
-    assert_eq!(rt; stamped.request.op.as_slice(), b"op".as_slice());
-    Ok(())
+        op: Op::new(alloc, b"op").expect(rt, "memory"),
+    }
+}
+
+#[test]
+fn a_sequencer(rt: HostRuntime) {
+    let alloc = rt.alloc();
+    let mut core = Sequencer::new(alloc, 1).expect(&rt, "memory");
+    let mut sent = Outbox::new(alloc);
+    play(&rt, alloc, from_mut(&mut core), &mut sent, SEQUENCER);
+    let told = "SequencerState { number: 1, session: 4294967295, next: 1 }";
+    check_shown(&rt, alloc, &core.state(), told);
+    check_text(&rt, &timers(&rt, alloc, &core), "None None None None");
+    let stamped = core.stamp(&request(&rt, alloc)).expect(&rt, "memory");
+    let told =
+        "Some(Stamped { session: 4294967295, number: 1, request: Request { client: 7, id: 5, op: Op { bytes: [111, 112] } } })";
+    check_shown(&rt, alloc, &stamped, told);
 }
 
 /// Probes that are answered and some that are not, and orders, with two sequencers. Answers of an older round, of another sequencer
@@ -99,32 +105,29 @@ const CONTROLLER: &str = "\
 0 packet 4e4f0104 00 00000009
 0 packet 4e4f0106 00 00000009
 0 packet 4e4f0105 00 00000004 00
-0 submit 6f70";
+0 submit 6f70
+";
+
+/// A controller of a group with one client.
+fn controller(rt: &impl Abort, alloc: Global, group: (u8, u8), session: u32) -> Controller
+    requires { 1 ≤ session }
+{
+    let (replicas, sequencers) = group;
+    let config = Config::new(replicas, sequencers, 1).expect(rt, "a group");
+    Controller::new(alloc, config, session).expect(rt, "memory")
+}
 
 #[test]
-fn a_controller(rt: HostRuntime) -> Result<(), Fail> {
-    let config = Config::new(3, 2, 1).ok_or("no such group")?;
-    let mut cores = [Controller::new(rt.alloc(), config, 1)?];
-    let mut sent = Outbox::new(rt.alloc());
-    play(&rt, rt.alloc(), &mut cores, &mut sent, CONTROLLER)?;
-    let told = ControllerState {
-        config,
-        session: 4,
-        current: 0,
-        confirmed: false,
-        round: 8,
-        heard: true,
-        missed: 0,
-    };
-    assert_eq!(rt; cores[0].state(), told);
-    let told = [
-        Some((Tick::Resend, 100)),
-        Some((Tick::Probe, 300)),
-        None,
-        None,
-    ];
-    assert_eq!(rt; timers(&cores[0]), told);
-    Ok(())
+fn a_controller(rt: HostRuntime) {
+    let alloc = rt.alloc();
+    let mut core = controller(&rt, alloc, (3, 2), 1);
+    let mut sent = Outbox::new(alloc);
+    play(&rt, alloc, from_mut(&mut core), &mut sent, CONTROLLER);
+    let told =
+        "ControllerState { config: Config { replicas: 3, sequencers: 2, clients: 1 }, session: 4, current: 0, confirmed: false, round: 8, heard: true, missed: 0 }";
+    check_shown(&rt, alloc, &core.state(), told);
+    let told = "Some((Resend, 100)) Some((Probe, 300)) None None";
+    check_text(&rt, &timers(&rt, alloc, &core), told);
 }
 
 /// With the last session no move is made.
@@ -136,14 +139,15 @@ const LAST_SESSION: &str = "\
   1 One(Sequencer(0)) 4e4f01060000000002
 0 tick probe
   2 One(Sequencer(0)) 4e4f01060000000003
-0 tick probe";
+0 tick probe
+";
 
 #[test]
-fn the_last_session(rt: HostRuntime) -> Result<(), Fail> {
-    let config = Config::new(1, 4, 1).ok_or("no such group")?;
-    let mut cores = [Controller::new(rt.alloc(), config, u32::MAX)?];
-    let mut sent = Outbox::new(rt.alloc());
-    play(&rt, rt.alloc(), &mut cores, &mut sent, LAST_SESSION)
+fn the_last_session(rt: HostRuntime) {
+    let alloc = rt.alloc();
+    let mut core = controller(&rt, alloc, (1, 4), u32::MAX);
+    let mut sent = Outbox::new(alloc);
+    play(&rt, alloc, from_mut(&mut core), &mut sent, LAST_SESSION);
 }
 
 /// One op: its request, a second op while it is pending, a follower's reply that comes twice, the request again, and the leader's reply.
@@ -161,17 +165,25 @@ const CLIENT: &str = "\
   4 accepted 1 6e6f6e65
 0 packet 4e4f0103 00 00000000 00000001 00000001 00000000 0000000000000001 01 0004 6e6f6e65
 0 tick retry
-0 tick next";
+0 tick next
+";
+
+/// A client of three replicas with one op.
+pub fn client(rt: &impl Abort, alloc: Global) -> Client {
+    let config = Config::new(3, 1, 1).expect(rt, "a group");
+    let op = Op::new(alloc, b"P\0\x01k\0\x01v").expect(rt, "memory");
+    let mut ops = Vec::new(alloc);
+    ops.push(op).expect(rt, "memory");
+    Client::new(alloc, config, 0, ops).expect(rt, "memory")
+}
 
 #[test]
-fn a_client(rt: HostRuntime) -> Result<(), Fail> {
-    let config = Config::new(3, 1, 1).ok_or("no such group")?;
-    let ops = vec![in rt.alloc(); Op::new(rt.alloc(), b"P\0\x01k\0\x01v")?]?;
-    let mut cores = [Client::new(rt.alloc(), config, 0, ops)?];
-    let mut sent = Outbox::new(rt.alloc());
-    play(&rt, rt.alloc(), &mut cores, &mut sent, CLIENT)?;
-    assert!(rt; cores[0].done() && cores[0].accepted().is_some());
-    let told = [Some((Tick::Next, 0)), Some((Tick::Retry, 200)), None, None];
-    assert_eq!(rt; timers(&cores[0]), told);
-    Ok(())
+fn a_client(rt: HostRuntime) {
+    let alloc = rt.alloc();
+    let mut core = client(&rt, alloc);
+    let mut sent = Outbox::new(alloc);
+    play(&rt, alloc, from_mut(&mut core), &mut sent, CLIENT);
+    assert!(rt; core.done() && core.accepted().is_some());
+    let told = "Some((Next, 0)) Some((Retry, 200)) None None";
+    check_text(&rt, &timers(&rt, alloc, &core), told);
 }

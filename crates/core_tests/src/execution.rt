@@ -1,10 +1,11 @@
+use crate::rows::{bytes_of, check_text, put_line};
 use client_table::{ClientTable, Judged};
 use executor::Executor;
 use kv_host::KvHost;
-use nop_types::{Bytes, Entry, Host, Op, Request};
+use nop_types::{Bytes, Entry, Host, MAX_OP_BYTES, Op, Request};
 use replica_log::ReplicaLog;
 use std::alloc::Global;
-use std::test::Fail;
+use std::process::Abort;
 
 /// What a verdict says, and the answer that it has.
 fn said<'a>(verdict: Judged<'a>) -> (&'static str, &'a [u8]) {
@@ -15,96 +16,121 @@ fn said<'a>(verdict: Judged<'a>) -> (&'static str, &'a [u8]) {
     }
 }
 
-/// A client, an id, and the verdict, where the last id of client 7 is 5.
-const VERDICTS: [(u32, u64, &str, &[u8]); 5] = [
-    (7, 4, "stale", b""),
-    (7, 5, "same", b"=v"),
-    (7, 6, "fresh", b""),
-    (6, 5, "fresh", b""),
-    (u32::MAX, u64::MAX, "fresh", b""),
-];
+fn check_verdict(rt: &impl Abort, table: &ClientTable, client: u32, id: u64, told: (&str, &[u8])) {
+    let (name, answer) = said(table.judge(client, id));
+    assert!(rt; name == told.0 && answer == told.1, "{id} of {client}");
+}
 
+/// A client, an id, and the verdict, where the last id of client 7 is 5.
 #[test]
-fn last_answers(rt: HostRuntime) -> Result<(), Fail> {
+fn last_answers(rt: HostRuntime) {
     let mut table = ClientTable::new(rt.alloc());
+    check_verdict(&rt, &table, 7, 5, ("fresh", b""));
     let Judged::Fresh = table.judge(7, 5) else {
-        return Err("not fresh".into());
+        panic!(rt; "not fresh")
     };
-    let kept = table.keep(7, 5, Bytes::new(rt.alloc(), b"=v")?)?;
-    for (client, id, told, answer) in VERDICTS {
-        assert_eq!(rt; said(table.judge(client, id)), (told, answer), "{id}");
-    }
+    let answer = Bytes::new(rt.alloc(), b"=v").expect(&rt, "memory");
+    let kept = table.keep(7, 5, answer).expect(&rt, "memory");
+    check_verdict(&rt, &table, 7, 4, ("stale", b""));
+    check_verdict(&rt, &table, 7, 5, ("same", b"=v"));
+    check_verdict(&rt, &table, 7, 6, ("fresh", b""));
+    check_verdict(&rt, &table, 6, 5, ("fresh", b""));
+    check_verdict(&rt, &table, u32::MAX, u64::MAX, ("fresh", b""));
     table.unkeep(kept);
-    assert_eq!(rt; said(table.judge(7, 5)).0, "fresh");
-    Ok(())
+    check_verdict(&rt, &table, 7, 5, ("fresh", b""));
 }
 
 /// A log: a NO-OP, or a client, an id and an op.
-const SLOTS: [Option<(u32, u64, &[u8])>; 8] = [
-    None,
-    Some((1, 2, b"P\x00\x01k\x00\x01v")),
-    None,
-    Some((1, 2, b"P\x00\x01k\x00\x01v")),
-    Some((1, 1, b"D\x00\x01k")),
-    Some((2, 1, b"G\x00\x01k")),
-    Some((3, 1, b"D\x00\x01k")),
-    Some((4, 1, b"G\x00\x01k")),
-];
+const SLOTS: &str = "\
+noop
+1 2 5000016b000176
+noop
+1 2 5000016b000176
+1 1 4400016b
+2 1 4700016b
+3 1 4400016b
+4 1 4700016b";
 
 /// The last answers: an id that is not the last one of its client has none.
-const RESULTS: [(u32, u64, Option<&[u8]>); 7] = [
-    (1, 2, Some(b"none")),
-    (1, 1, None),
-    (1, 3, None),
-    (2, 1, Some(b"=v")),
-    (3, 1, Some(b"=v")),
-    (4, 1, Some(b"none")),
-    (0, 0, None),
-];
+const RESULTS: &str = "\
+1 2 none
+1 1
+1 3
+2 1 =v
+3 1 =v
+4 1 none
+0 0
+";
 
-fn log_of_slots(alloc: Global) -> Result<ReplicaLog, Fail> {
-    let mut log = ReplicaLog::new(alloc);
-    for slot in SLOTS {
-        let entry = match slot {
-            None => Entry::NoOp,
-            Some((client, id, op)) if op.len() <= 640 => {
-                let op = Op::new(alloc, op)?;
-                Entry::Req(Request { client, id, op })
-            }
-            Some(_) => return Err("a long op".into()),
-        };
-        if log.has_room() {
-            log.append(entry)?;
-        }
+fn request(rt: &impl Abort, alloc: Global, row: &str) -> Request {
+    let (client, rest) = row.split_once(' ').expect(rt, "a client");
+    let (id, op) = rest.split_once(' ').expect(rt, "an id");
+    let op = bytes_of(rt, alloc, op);
+    assert!(rt; op.len() <= MAX_OP_BYTES);
+    Request {
+        client: client.parse::<u32>().expect(rt, "a number"),
+        id: id.parse::<u64>().expect(rt, "a number"),
+        op: Op::from_vec(op),
     }
-    Ok(log)
+}
+
+fn entry(rt: &impl Abort, alloc: Global, row: &str) -> Entry {
+    if row == "noop" {
+        Entry::NoOp
+    } else {
+        Entry::Req(request(rt, alloc, row))
+    }
+}
+
+fn log_of_slots(rt: &impl Abort, alloc: Global) -> ReplicaLog {
+    let mut log = ReplicaLog::new(alloc);
+    for row in SLOTS.lines() {
+        assert!(rt; log.has_room());
+        log.append(entry(rt, alloc, row)).expect(rt, "memory");
+    }
+    log
 }
 
 /// Executes the whole log, undoes it down to slot 1, and executes it again.
-fn executed_again<H: Host>(alloc: Global, log: &ReplicaLog) -> Result<Executor<H>, Fail> {
-    let mut executor: Executor<H> = Executor::new(alloc)?;
-    executor.run_to(log, log.len())?;
-    if executor.executed() < 1 {
-        return Err("nothing is executed".into());
-    }
+fn executed_again<H: Host>(rt: &impl Abort, alloc: Global, log: &ReplicaLog) -> Executor<H> {
+    let mut executor: Executor<H> = Executor::new(alloc).expect(rt, "memory");
+    executor.run_to(log, log.len()).expect(rt, "memory");
+    assert!(rt; executor.executed() >= 1);
     executor.rewind(log, 1);
-    if executor.executed() != 1 || executor.result(2, 1).is_some() {
-        return Err("nothing is undone".into());
+    assert!(rt; executor.executed() == 1 && executor.result(2, 1).is_none());
+    executor.run_to(log, log.len()).expect(rt, "memory");
+    executor
+}
+
+/// Adds a client and an id, and the last answer.
+fn put_result<H: Host>(rt: &impl Abort, executor: &Executor<H>, row: &str, to: &mut String) {
+    let mut words = row.split(' ');
+    let client = words.next().expect(rt, "a client");
+    let id = words.next().expect(rt, "an id");
+    to.push_str(client).expect(rt, "memory");
+    to.push(' ').expect(rt, "memory");
+    to.push_str(id).expect(rt, "memory");
+    let client = client.parse::<u32>().expect(rt, "a number");
+    let id = id.parse::<u64>().expect(rt, "a number");
+    if let Some(bytes) = executor.result(client, id) {
+        let text = std::str::from_utf8(bytes.as_slice()).expect(rt, "text");
+        to.push(' ').expect(rt, "memory");
+        to.push_str(text).expect(rt, "memory");
     }
-    executor.run_to(log, log.len())?;
-    Ok(executor)
+    put_line(rt, "", to);
+}
+
+fn check_results<H: Host>(rt: &impl Abort, alloc: Global) {
+    let log = log_of_slots(rt, alloc);
+    let executor: Executor<H> = executed_again(rt, alloc, &log);
+    let mut given = String::new(alloc);
+    for row in RESULTS.lines() {
+        put_result(rt, &executor, row, &mut given);
+    }
+    check_text(rt, &given, RESULTS);
 }
 
 #[test]
-fn executed_and_undone(rt: HostRuntime) -> Result<(), Fail> {
-    let log = log_of_slots(rt.alloc())?;
-    let executor: Executor<KvHost> = executed_again(rt.alloc(), &log)?;
-    for (client, id, told) in RESULTS {
-        let given = match executor.result(client, id) {
-            Some(bytes) => Some(bytes.as_slice()),
-            None => None,
-        };
-        assert_eq!(rt; given, told, "{id} of {client}");
-    }
-    Ok(())
+fn executed_and_undone(rt: HostRuntime) {
+    check_results::<KvHost>(&rt, rt.alloc());
 }

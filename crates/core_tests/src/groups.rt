@@ -1,75 +1,73 @@
 //! Three groups of replicas of the key-value service that are driven by hand. What is expected was worked out from the rules of the
 //! protocol and from its formats.
+use crate::rows::{check_text, put_line};
 use crate::scripts::{play, timers};
 use kv_host::KvHost;
-use nop_types::{Config, Entry, Host, Outbox, Tick};
+use nop_types::{Config, Entry, Host, Outbox, View};
 use replica_core::Replica;
 use std::alloc::Global;
 use std::process::Abort;
-use std::test::Fail;
 
-/// Client and id of each slot's request, 0 and 0 for a NO-OP.
-fn requests(alloc: Global, entries: &[Entry]) -> Result<Vec<(u32, u64)>, Fail> {
-    let mut requests = Vec::new(alloc);
-    for entry in entries {
-        match entry {
-            Entry::NoOp => requests.push((0, 0))?,
-            Entry::Req(request) => requests.push((request.client, request.id))?,
-        }
-    }
-    Ok(requests)
+/// Adds client and id of a slot's request, 0 and 0 for a NO-OP.
+fn put_entry(rt: &impl Abort, alloc: Global, entry: &Entry, to: &mut String) {
+    let (client, id) = match entry {
+        Entry::NoOp => (0, 0),
+        Entry::Req(request) => (request.client, request.id),
+    };
+    let text = format!(in alloc; " ({client}, {id})").expect(rt, "memory");
+    to.push_str(&text).expect(rt, "memory");
 }
 
-/// A replica's view, status, last normal view, sync point, how many slots are executed, and its log.
-fn state<H: Host>(alloc: Global, core: &Replica<H>) -> Result<String, Fail> {
-    let (view, normal) = (core.view(), core.last_normal());
-    let views = (view.leader, view.session, normal.leader, normal.session);
-    let points = (core.sync_point(), core.executed());
-    let log = requests(alloc, core.log().as_slice())?;
-    Ok(format!(in alloc; "{:?} {views:?} {points:?} {log:?}", core.status())?)
+/// Adds a replica's view, status, last normal view, sync point, how many slots are executed, and its log.
+fn put_state<H: Host>(rt: &impl Abort, alloc: Global, core: &Replica<H>, to: &mut String) {
+    let status = core.status();
+    let (view, normal): (View, View) = (core.view(), core.last_normal());
+    let (point, executed) = (core.sync_point(), core.executed());
+    let text = format!(in alloc;
+        "{status:?} ({}, {}, {}, {}) ({point}, {executed})",
+        view.leader, view.session, normal.leader, normal.session
+    );
+    to.push_str(&text.expect(rt, "memory")).expect(rt, "memory");
+    for entry in core.log().as_slice() {
+        put_entry(rt, alloc, entry, to);
+    }
+    put_line(rt, "", to);
+}
+
+/// The states of replicas, a line each.
+fn states<H: Host>(rt: &impl Abort, alloc: Global, cores: &[Replica<H>]) -> String {
+    let mut lines = String::new(alloc);
+    for core in cores {
+        put_state(rt, alloc, core, &mut lines);
+    }
+    lines
 }
 
 /// Three replicas to which nothing has come.
-pub fn opened<H: Host>(alloc: Global) -> Result<Vec<Replica<H>>, Fail> {
-    let config = Config::new(3, 2, 2).ok_or("no such group")?;
+pub fn opened<H: Host>(rt: &impl Abort, alloc: Global) -> Vec<Replica<H>> {
+    let config = Config::new(3, 2, 2).expect(rt, "a group");
     let mut cores = Vec::new(alloc);
     for number in 0..config.replicas() {
-        cores.push(Replica::new(alloc, config, number)?)?;
+        let core = Replica::new(alloc, config, number).expect(rt, "memory");
+        cores.push(core).expect(rt, "memory");
     }
-    Ok(cores)
+    cores
 }
 
-/// Plays a script with three replicas, and compares their states at the end.
-pub fn play_three<H: Host>(
-    rt: &impl Abort,
-    alloc: Global,
-    script: &str,
-    states: [&str; 3],
-) -> Result<(), Fail> {
-    let mut cores: Vec<Replica<H>> = opened(alloc)?;
-    let mut sent = Outbox::new(alloc);
-    play(rt, alloc, &mut cores, &mut sent, script)?;
-    for (core, told) in cores.iter().zip(states) {
-        assert_eq!(rt; state(alloc, core)?.as_str(), told);
-    }
-    Ok(())
+/// Plays a script with three replicas, and compares their states at the end, a line each.
+pub fn play_three<H: Host>(rt: &impl Abort, alloc: Global, script: &str, told: &str) {
+    let mut cores: Vec<Replica<H>> = opened(rt, alloc);
+    play(rt, alloc, &mut cores, &mut Outbox::new(alloc), script);
+    check_text(rt, &states(rt, alloc, &cores), told);
 }
 
 #[test]
-fn a_replica_has_three_timers(rt: HostRuntime) -> Result<(), Fail> {
-    let cores: Vec<Replica<KvHost>> = opened(rt.alloc())?;
-    let told = [
-        Some((Tick::Resend, 50)),
-        Some((Tick::Sync, 100)),
-        Some((Tick::Watch, 1000)),
-        None,
-    ];
-    assert_eq!(rt; timers(cores.first().ok_or("no replica")?), told);
-    Ok(())
+fn a_replica_has_three_timers(rt: HostRuntime) {
+    let config = Config::new(3, 2, 2).expect(&rt, "a group");
+    let core: Replica<KvHost> = Replica::new(rt.alloc(), config, 0).expect(&rt, "memory");
+    let told = "Some((Resend, 50)) Some((Sync, 100)) Some((Watch, 1000)) None";
+    check_text(&rt, &timers(&rt, rt.alloc(), &core), told);
 }
-
-/// A replica to which nothing has come.
-pub const OPENING: &str = "Normal (0, 1, 0, 1) (0, 0) []";
 
 /// While its gap waits, a leader neither replies nor synchronises nor begins another gap. It tells the gap again, on a tick and to whom
 /// asks for the slot. A vote for another slot, made by hand, changes nothing, and neither does a late one. After the right one slots 2
@@ -97,13 +95,17 @@ const GAP: &str = "\
   7 One(Client(1)) 4e4f0103000000000000000001000000020000000100000000000000010100046e6f6e65
   8 One(Client(0)) 4e4f0103000000000000000001000000030000000000000000000000010100046e6f6e65
   9 Replicas 4e4f0108000000000000000004000000011200000000000000000100000004
-0 sent 6";
+0 sent 6
+";
 
 #[test]
-fn a_leader_waits_for_its_gap(rt: HostRuntime) -> Result<(), Fail> {
-    let leader = "Normal (0, 1, 0, 1) (0, 4) [(0, 0), (1, 1), (0, 1), (0, 0)]";
-    let follower = "Normal (0, 1, 0, 1) (0, 0) [(0, 0), (1, 1)]";
-    play_three::<KvHost>(&rt, rt.alloc(), GAP, [leader, follower, OPENING])
+fn a_leader_waits_for_its_gap(rt: HostRuntime) {
+    let told = "\
+Normal (0, 1, 0, 1) (0, 4) (0, 0) (1, 1) (0, 1) (0, 0)
+Normal (0, 1, 0, 1) (0, 0) (0, 0) (1, 1)
+Normal (0, 1, 0, 1) (0, 0)
+";
+    play_three::<KvHost>(&rt, rt.alloc(), GAP, told);
 }
 
 /// A leader and a follower answer three requests that are no ops of the service. Then that leader is suspected, and the next view
@@ -149,13 +151,17 @@ const VIEW_CHANGE: &str = "\
 2 sent 18
   20 One(Client(0)) 4e4f010302000000010000000100000001000000000000000000000001000000
   21 One(Client(0)) 4e4f010302000000010000000100000002000000000000000000000002000000
-  22 One(Client(0)) 4e4f010302000000010000000100000003000000000000000000000003000000";
+  22 One(Client(0)) 4e4f010302000000010000000100000003000000000000000000000003000000
+";
 
 #[test]
-fn answered_requests_survive_a_view_change(rt: HostRuntime) -> Result<(), Fail> {
-    let follower = "Normal (1, 1, 1, 1) (0, 0) [(0, 1), (0, 2), (0, 3)]";
-    let leader = "Normal (1, 1, 1, 1) (0, 3) [(0, 1), (0, 2), (0, 3)]";
-    play_three::<KvHost>(&rt, rt.alloc(), VIEW_CHANGE, [follower, leader, follower])
+fn answered_requests_survive_a_view_change(rt: HostRuntime) {
+    let told = "\
+Normal (1, 1, 1, 1) (0, 0) (0, 1) (0, 2) (0, 3)
+Normal (1, 1, 1, 1) (0, 3) (0, 1) (0, 2) (0, 3)
+Normal (1, 1, 1, 1) (0, 0) (0, 1) (0, 2) (0, 3)
+";
+    play_three::<KvHost>(&rt, rt.alloc(), VIEW_CHANGE, told);
 }
 
 /// A follower that missed a request takes it from the leader's log, replies, and votes; then both have it synchronised. Messages made
@@ -180,16 +186,15 @@ const SYNCHRONISATION: &str = "\
 2 sent 5
 0 tick sync
   6 Replicas 4e4f0108000000000000000003000000011900000000000000000100000001
-2 packet 4e4f0108 01 0000000000000009 0000 0001 16 01 00000001 00000001 0000000000000001 00000000";
+2 packet 4e4f0108 01 0000000000000009 0000 0001 16 01 00000001 00000001 0000000000000001 00000000
+";
 
 #[test]
-fn a_missed_request_is_synchronised(rt: HostRuntime) -> Result<(), Fail> {
-    let leader = "Normal (0, 1, 0, 1) (1, 1) [(0, 1)]";
-    let follower = "Normal (0, 1, 0, 1) (1, 1) [(0, 1), (1, 1)]";
-    play_three::<KvHost>(
-        &rt,
-        rt.alloc(),
-        SYNCHRONISATION,
-        [leader, OPENING, follower],
-    )
+fn a_missed_request_is_synchronised(rt: HostRuntime) {
+    let told = "\
+Normal (0, 1, 0, 1) (1, 1) (0, 1)
+Normal (0, 1, 0, 1) (0, 0)
+Normal (0, 1, 0, 1) (1, 1) (0, 1) (1, 1)
+";
+    play_three::<KvHost>(&rt, rt.alloc(), SYNCHRONISATION, told);
 }

@@ -1,8 +1,8 @@
 use crate::rows::bytes_of;
 use kv_host::KvHost;
-use nop_types::{Bytes, Host};
+use nop_types::Host;
 use std::alloc::Global;
-use std::test::Fail;
+use std::process::Abort;
 
 /// An op, and the answer to it, one after the other. An op is its letter and its fields; `k*64` is a field of 64 bytes, and a dash
 /// one without bytes.
@@ -54,66 +54,82 @@ C k*64 v*256 w*256 = yes
 C k*64 w*256 v = yes
 G k*64 = =v";
 
-/// Bytes that no op spells.
-const SHORT: [&str; 5] = [
-    "",
-    "47",
-    "47 0002 6b",
-    "47 0001 6b 00",
-    "50 0001 6b 0001 76 76",
-];
+/// Bytes that no op spells: none, and these.
+const SHORT: &str = "\
+47
+47 0002 6b
+47 0001 6b 00
+50 0001 6b 0001 76 76";
+
+/// Adds a letter or a field, which begins with its length.
+fn put_word(rt: &impl Abort, word: &str, is_field: bool, to: &mut Vec<u8>) {
+    let (piece, count) = word.split_once('*').unwrap_or((word, "1"));
+    let count = if word == "-" {
+        0
+    } else {
+        count.parse::<usize>().expect(rt, "a number")
+    };
+    if is_field {
+        let len = count.saturating_mul(piece.len()) as u64;
+        let len = u16::try_from(len).expect(rt, "a short field");
+        to.extend_from_slice(&len.to_be_bytes())
+            .expect(rt, "memory");
+    }
+    for _ in 0..count {
+        to.extend_from_slice(piece.as_bytes()).expect(rt, "memory");
+    }
+}
 
 /// The bytes of an op.
-fn spelled(alloc: Global, op: &str) -> Result<Vec<u8>, Fail> {
+fn spelled(rt: &impl Abort, alloc: Global, op: &str) -> Vec<u8> {
     let mut bytes = Vec::new(alloc);
-    for (i, word) in op.split(' ').enumerate() {
-        let (piece, count) = word.split_once('*').unwrap_or((word, "1"));
-        let count = if word == "-" {
-            0
-        } else {
-            count.parse::<usize>()?
-        };
-        if i > 0 {
-            let len = u16::try_from(count.saturating_mul(piece.len()))?;
-            bytes.extend_from_slice(&len.to_be_bytes())?;
-        }
-        for _ in 0..count {
-            bytes.extend_from_slice(piece.as_bytes())?;
-        }
+    let mut is_field = false;
+    for word in op.split(' ') {
+        put_word(rt, word, is_field, &mut bytes);
+        is_field = true;
     }
-    Ok(bytes)
+    bytes
+}
+
+fn check_answer<H: Host>(rt: &impl Abort, host: &mut H, op: &[u8], told: &str) {
+    let (answer, _undo) = host.apply(op).expect(rt, "memory");
+    assert!(rt; answer.as_slice() == told.as_bytes(), "{told}");
+}
+
+fn check_op<H: Host>(rt: &impl Abort, alloc: Global, host: &mut H, row: &str) {
+    let (op, told) = row.split_once(" = ").expect(rt, "a row");
+    check_answer(rt, host, &spelled(rt, alloc, op), told);
+}
+
+fn check_ops<H: Host>(rt: &impl Abort, alloc: Global) {
+    let mut host = H::fresh(alloc).expect(rt, "memory");
+    for row in OPS.lines() {
+        check_op(rt, alloc, &mut host, row);
+    }
+    check_answer(rt, &mut host, b"", "bad");
+    for row in SHORT.lines() {
+        check_answer(rt, &mut host, &bytes_of(rt, alloc, row), "bad");
+    }
 }
 
 #[test]
-fn answers(rt: HostRuntime) -> Result<(), Fail> {
-    let mut host = KvHost::fresh(rt.alloc())?;
-    for row in OPS.lines() {
-        let (op, told) = row.split_once(" = ").ok_or("a row")?;
-        let (answer, _undo) = host.apply(&spelled(rt.alloc(), op)?)?;
-        assert_eq!(rt; answer.as_slice(), told.as_bytes(), "{row}");
-    }
-    for row in SHORT {
-        let (answer, _undo) = host.apply(&bytes_of(rt.alloc(), row)?)?;
-        assert_eq!(rt; answer.as_slice(), b"bad".as_slice(), "{row}");
-    }
-    Ok(())
+fn answers(rt: HostRuntime) {
+    check_ops::<KvHost>(&rt, rt.alloc());
 }
 
 /// An op is undone in a host, and not in a copy of it: what both then answer to another one.
-fn undone<H: Host>(alloc: Global, op: &[u8], other: &[u8]) -> Result<(Bytes, Bytes), Fail> {
-    let mut host = H::fresh(alloc)?;
-    let (_answer, undo) = host.apply(op)?;
-    let mut copy = host.copy()?;
+fn check_undo<H: Host>(rt: &impl Abort, alloc: Global) {
+    let mut host = H::fresh(alloc).expect(rt, "memory");
+    let (_answer, undo) = host
+        .apply(&spelled(rt, alloc, "P k v"))
+        .expect(rt, "memory");
+    let mut copy = host.copy().expect(rt, "memory");
     host.undo(undo);
-    Ok((host.apply(other)?.0, copy.apply(other)?.0))
+    check_op(rt, alloc, &mut host, "G k = none");
+    check_op(rt, alloc, &mut copy, "G k = =v");
 }
 
 #[test]
-fn an_op_is_undone(rt: HostRuntime) -> Result<(), Fail> {
-    let put = spelled(rt.alloc(), "P k v")?;
-    let get = spelled(rt.alloc(), "G k")?;
-    let (given, copied) = undone::<KvHost>(rt.alloc(), &put, &get)?;
-    assert_eq!(rt; given.as_slice(), b"none".as_slice());
-    assert_eq!(rt; copied.as_slice(), b"=v".as_slice());
-    Ok(())
+fn an_op_is_undone(rt: HostRuntime) {
+    check_undo::<KvHost>(&rt, rt.alloc());
 }

@@ -9,6 +9,8 @@ mod cores;
 #[cfg(test)]
 mod execution;
 #[cfg(test)]
+mod failing;
+#[cfg(test)]
 mod groups;
 #[cfg(test)]
 mod hostile;

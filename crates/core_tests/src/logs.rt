@@ -1,60 +1,68 @@
-use crate::rows::numbers;
+use crate::rows::{check_text, numbers, put_line};
 use nop_types::{Entry, Log, MAX_SLOTS, Op, Request};
 use replica_log::ReplicaLog;
 use slot_lookup::{Answer, answer};
 use std::alloc::Global;
-use std::test::Fail;
+use std::process::Abort;
 
 /// A request with this id, or a NO-OP for 0.
-fn entry(alloc: Global, id: u64) -> Result<Entry, Fail> {
+fn entry(rt: &impl Abort, alloc: Global, id: u64) -> Entry {
     if id == 0 {
-        return Ok(Entry::NoOp);
+        return Entry::NoOp;
     }
-    let op = Op::new(alloc, b"op")?;
-    Ok(Entry::Req(Request { client: 7, id, op }))
+    let op = Op::new(alloc, b"op").expect(rt, "memory");
+    Entry::Req(Request { client: 7, id, op })
 }
 
 /// A log with these entries.
-pub fn log_of(alloc: Global, ids: &[u64]) -> Result<Log, Fail> {
+pub fn log_of(rt: &impl Abort, alloc: Global, ids: &[u64]) -> Log {
     let mut entries = Vec::new(alloc);
     for id in ids {
-        entries.push(entry(alloc, *id)?)?;
+        let entry = entry(rt, alloc, *id);
+        entries.push(entry).expect(rt, "memory");
     }
-    if entries.len() > MAX_SLOTS {
-        return Err("too long".into());
-    }
-    Ok(Log::from_vec(entries))
+    assert!(rt; entries.len() <= MAX_SLOTS);
+    Log::from_vec(entries)
 }
 
-/// The ids of entries, 0 for a NO-OP.
-pub fn ids(alloc: Global, entries: &[Entry]) -> Result<Vec<u64>, Fail> {
-    let mut ids = Vec::new(alloc);
+/// Adds the ids of entries, 0 for a NO-OP, each with a space before it.
+pub fn put_ids(rt: &impl Abort, alloc: Global, entries: &[Entry], to: &mut String) {
     for entry in entries {
-        match entry {
-            Entry::NoOp => ids.push(0)?,
-            Entry::Req(request) => ids.push(request.id)?,
-        }
+        let id = match entry {
+            Entry::NoOp => 0,
+            Entry::Req(request) => request.id,
+        };
+        let text = format!(in alloc; " {id}").expect(rt, "memory");
+        to.push_str(&text).expect(rt, "memory");
     }
-    Ok(ids)
+}
+
+/// A replica's log with these ids.
+fn adopted(rt: &impl Abort, alloc: Global, row: &str) -> ReplicaLog {
+    let mut log = ReplicaLog::new(alloc);
+    log.adopt(log_of(rt, alloc, &numbers(rt, alloc, row)));
+    log
 }
 
 #[test]
-fn entries(rt: HostRuntime) -> Result<(), Fail> {
-    let mut log = ReplicaLog::new(rt.alloc());
-    assert!(rt; log.is_empty() && log.has_room());
-    log.adopt(log_of(rt.alloc(), &[1, 2])?);
-    if log.has_room() {
-        log.append(entry(rt.alloc(), 3)?)?;
-    }
-    assert_eq!(rt; log.len(), 3);
+fn entries(rt: HostRuntime) {
+    let alloc = rt.alloc();
+    let empty = ReplicaLog::new(alloc);
+    assert!(rt; empty.is_empty() && empty.has_room());
+    let mut log = adopted(&rt, alloc, "1 2");
+    assert!(rt; log.has_room());
+    log.append(entry(&rt, alloc, 3)).expect(&rt, "memory");
+    assert!(rt; log.len() == 3);
     log.put_noop(2);
     assert!(rt; log.at(0).is_none() && matches!(log.at(2), Some(Entry::NoOp)));
-    let front = log.copy(2)?;
-    assert_eq!(rt;
-        ids(rt.alloc(), front.as_slice())?.as_slice(),
-        [1, 0].as_slice()
+    let mut ids = String::new(alloc);
+    put_ids(
+        &rt,
+        alloc,
+        log.copy(2).expect(&rt, "memory").as_slice(),
+        &mut ids,
     );
-    Ok(())
+    check_text(&rt, &ids, " 1 0");
 }
 
 /// An own log, another one, how many slots are appended where that is laid over, and what the log is then.
@@ -63,22 +71,29 @@ const OVERLAYS: &str = "\
 1 2 | 4 5 = 0 4 5
 1 | 4 5 0 = 2 4 5 0
  | 4 = 1 4
-1 0 | = 0 1 0";
+1 0 | = 0 1 0
+";
+
+/// Adds two logs as they are written, and what came of them.
+fn put_overlay(rt: &impl Abort, alloc: Global, row: &str, to: &mut String) {
+    let (logs, _told) = row.split_once(" =").expect(rt, "a row");
+    let (own, other) = logs.split_once('|').expect(rt, "two logs");
+    let mut log = adopted(rt, alloc, own);
+    let other = log_of(rt, alloc, &numbers(rt, alloc, other));
+    let added = log.overlay(&other).expect(rt, "memory");
+    let text = format!(in alloc; "{logs} = {added}").expect(rt, "memory");
+    to.push_str(&text).expect(rt, "memory");
+    put_ids(rt, alloc, log.as_slice(), to);
+    put_line(rt, "", to);
+}
 
 #[test]
-fn overlays(rt: HostRuntime) -> Result<(), Fail> {
+fn overlays(rt: HostRuntime) {
+    let mut given = String::new(rt.alloc());
     for row in OVERLAYS.lines() {
-        let (logs, told) = row.split_once('=').ok_or("a row")?;
-        let (own, other) = logs.split_once('|').ok_or("two logs")?;
-        let mut log = ReplicaLog::new(rt.alloc());
-        log.adopt(log_of(rt.alloc(), &numbers(rt.alloc(), own)?)?);
-        let other = log_of(rt.alloc(), &numbers(rt.alloc(), other)?)?;
-        let mut given = Vec::new(rt.alloc());
-        given.push(log.overlay(&other)? as u64)?;
-        given.extend_from_slice(&ids(rt.alloc(), log.as_slice())?)?;
-        assert_eq!(rt; given, numbers(rt.alloc(), told)?, "{row}");
+        put_overlay(&rt, rt.alloc(), row, &mut given);
     }
-    Ok(())
+    check_text(&rt, &given, OVERLAYS);
 }
 
 fn name(answer: Answer<'_>) -> &'static str {
@@ -91,24 +106,24 @@ fn name(answer: Answer<'_>) -> &'static str {
     }
 }
 
-/// Whether votes for a gap are waited for, the slot that is asked for, and the answer, with two entries in the log.
-const LOOKUPS: [(bool, u32, &str); 8] = [
-    (false, 0, "nothing"),
-    (false, 1, "found"),
-    (true, 1, "found"),
-    (false, 2, "gap again"),
-    (true, 2, "gap again"),
-    (false, 3, "begin"),
-    (true, 3, "nothing"),
-    (false, 4, "nothing"),
-];
+/// The slot that is asked for, the answer with two entries in the log, and the answer where votes for a gap are waited for.
+const LOOKUPS: &str = "\
+0 nothing nothing
+1 found found
+2 gap again gap again
+3 begin nothing
+4 nothing nothing
+";
 
 #[test]
-fn lookups(rt: HostRuntime) -> Result<(), Fail> {
-    let mut log = ReplicaLog::new(rt.alloc());
-    log.adopt(log_of(rt.alloc(), &[9, 0])?);
-    for (waiting, slot, told) in LOOKUPS {
-        assert_eq!(rt; name(answer(&log, waiting, slot)), told, "at {slot}");
+fn lookups(rt: HostRuntime) {
+    let log = adopted(&rt, rt.alloc(), "9 0");
+    let mut given = String::new(rt.alloc());
+    for slot in 0..5 {
+        let first = name(answer(&log, false, slot));
+        let second = name(answer(&log, true, slot));
+        let line = format!(in rt.alloc(); "{slot} {first} {second}");
+        put_line(&rt, &line.expect(&rt, "memory"), &mut given);
     }
-    Ok(())
+    check_text(&rt, &given, LOOKUPS);
 }

@@ -1,24 +1,46 @@
 use std::alloc::Global;
-use std::test::Fail;
+use std::fmt::Debug;
+use std::process::Abort;
 
 /// The numbers of a row, with spaces between them.
-pub fn numbers(alloc: Global, row: &str) -> Result<Vec<u64>, Fail> {
+pub fn numbers(rt: &impl Abort, alloc: Global, row: &str) -> Vec<u64> {
     let mut numbers = Vec::new(alloc);
     for word in row.split_whitespace() {
-        numbers.push(word.parse::<u64>()?)?;
+        let number = word.parse::<u64>().expect(rt, "a number");
+        numbers.push(number).expect(rt, "memory");
     }
-    Ok(numbers)
+    numbers
+}
+
+fn put_bytes(rt: &impl Abort, alloc: Global, word: &str, bytes: &mut Vec<u8>) {
+    let (digits, count) = word.split_once('*').unwrap_or((word, "1"));
+    let piece = hex::decode(alloc, digits).expect(rt, "hexadecimal");
+    for _ in 0..count.parse::<u32>().expect(rt, "a number") {
+        bytes.extend_from_slice(&piece).expect(rt, "memory");
+    }
 }
 
 /// The bytes of words of two digits for each byte, where `ff*640` has its bytes 640 times.
-pub fn bytes_of(alloc: Global, row: &str) -> Result<Vec<u8>, Fail> {
+pub fn bytes_of(rt: &impl Abort, alloc: Global, row: &str) -> Vec<u8> {
     let mut bytes = Vec::new(alloc);
     for word in row.split_whitespace() {
-        let (digits, count) = word.split_once('*').unwrap_or((word, "1"));
-        let piece = hex::decode(alloc, digits).ok().ok_or("hexadecimal")?;
-        for _ in 0..count.parse::<u32>()? {
-            bytes.extend_from_slice(&piece)?;
-        }
+        put_bytes(rt, alloc, word, &mut bytes);
     }
-    Ok(bytes)
+    bytes
+}
+
+/// Adds a text and a line end.
+pub fn put_line(rt: &impl Abort, text: &str, to: &mut String) {
+    to.push_str(text).expect(rt, "memory");
+    to.push('\n').expect(rt, "memory");
+}
+
+pub fn check_text(rt: &impl Abort, given: &str, told: &str) {
+    assert!(rt; given == told, "{given}");
+}
+
+/// A value as its derive shows it.
+pub fn check_shown<T: Debug>(rt: &impl Abort, alloc: Global, value: &T, told: &str) {
+    let given = format!(in alloc; "{value:?}").expect(rt, "memory");
+    check_text(rt, &given, told);
 }

@@ -1,12 +1,11 @@
-use crate::rows::bytes_of;
-use nop_types::{Core, Input, MAX_OP_BYTES, Op, Out, Outbox, Tick};
+use crate::rows::{bytes_of, check_text, put_line};
+use nop_types::{Core, Dest, Input, MAX_OP_BYTES, Op, Out, Outbox, Tick};
 use std::alloc::Global;
 use std::process::Abort;
-use std::test::Fail;
 
 /// A tick by its name, or `install I`.
-fn tick_of(name: &str) -> Result<Tick, Fail> {
-    Ok(match name {
+fn tick_of(rt: &impl Abort, name: &str) -> Tick {
+    match name {
         "suspect" => Tick::Suspect,
         "watch" => Tick::Watch,
         "resend" => Tick::Resend,
@@ -15,97 +14,136 @@ fn tick_of(name: &str) -> Result<Tick, Fail> {
         "next" => Tick::Next,
         "probe" => Tick::Probe,
         _ => {
-            let (_install, number) = name.split_once(' ').ok_or("no such tick")?;
-            Tick::Install(number.parse::<u8>()?)
+            let number = name.strip_prefix("install ").expect(rt, "no such tick");
+            Tick::Install(number.parse::<u8>().expect(rt, "a number"))
         }
-    })
+    }
 }
 
 /// The bytes of a datagram that was sent.
-pub fn datagram(sent: &Outbox, i: usize) -> Result<&[u8], Fail> {
+fn datagram<'a>(rt: &impl Abort, sent: &'a Outbox, number: &str) -> &'a [u8] {
+    let i = number.parse::<usize>().expect(rt, "a number");
     match sent.as_slice().get(i) {
-        Some(Out::Send(_, bytes)) => Ok(bytes.as_slice()),
-        _ => Err("no such datagram".into()),
+        Some(Out::Send(_, bytes)) => bytes.as_slice(),
+        _ => panic!(rt; "no such datagram"),
     }
+}
+
+/// The bytes of an input: none of a tick, a datagram that was sent, or in hexadecimal.
+fn bytes_in(rt: &impl Abort, alloc: Global, kind: &str, rest: &str, sent: &Outbox) -> Vec<u8> {
+    match kind {
+        "tick" => Vec::new(alloc),
+        "sent" => datagram(rt, sent, rest).to_vec(alloc).expect(rt, "memory"),
+        _ => bytes_of(rt, alloc, rest),
+    }
+}
+
+/// The op with these bytes, if they are few enough.
+fn op_of(rt: &impl Abort, alloc: Global, bytes: &[u8]) -> Op {
+    if bytes.len() > MAX_OP_BYTES {
+        return Op::from_vec(Vec::new(alloc));
+    }
+    Op::new(alloc, bytes).expect(rt, "memory")
 }
 
 /// A core takes an input: a packet in hexadecimal, an output that was sent, an op in hexadecimal, or a tick.
 fn take<C: Core>(
+    rt: &impl Abort,
     alloc: Global,
     core: &mut C,
     input: &str,
     sent: &Outbox,
-    out: &mut Outbox,
-) -> Result<(), Fail> {
-    let (kind, rest) = input.split_once(' ').ok_or("an input")?;
-    match kind {
-        "tick" => core.step(Input::Tick(tick_of(rest)?), out)?,
-        "sent" => core.step(Input::Packet(datagram(sent, rest.parse::<usize>()?)?), out)?,
-        "packet" => core.step(Input::Packet(&bytes_of(alloc, rest)?), out)?,
-        _ => {
-            let op = bytes_of(alloc, rest)?;
-            if op.len() > MAX_OP_BYTES {
-                return Err("a long op".into());
-            }
-            core.step(Input::Submit(&Op::from_vec(op)), out)?;
-        }
-    }
-    Ok(())
+) -> Outbox {
+    let (kind, rest) = input.split_once(' ').expect(rt, "an input");
+    let bytes = bytes_in(rt, alloc, kind, rest, sent);
+    let op = op_of(rt, alloc, &bytes);
+    let input = match kind {
+        "tick" => Input::Tick(tick_of(rt, rest)),
+        "submit" => Input::Submit(&op),
+        _ => Input::Packet(&bytes),
+    };
+    let mut out = Outbox::new(alloc);
+    core.step(input, &mut out).expect(rt, "memory");
+    out
 }
 
-/// An output in few words: a datagram with its destination and its bytes, or how many they are where they are many.
-fn told(alloc: Global, out: &Out) -> Result<String, Fail> {
-    let text = match out {
-        Out::Send(dest, bytes) if bytes.as_slice().len() <= 80 => {
-            let digits = hex::encode(alloc, bytes.as_slice())?;
-            format!(in alloc; "{dest:?} {digits}")?
+/// A datagram with its destination and its bytes, or how many they are where they are many.
+fn told_send(rt: &impl Abort, alloc: Global, dest: &Dest, bytes: &[u8]) -> String {
+    let len = bytes.len();
+    if len > 80 {
+        return format!(in alloc; "{dest:?} {len} bytes").expect(rt, "memory");
+    }
+    let digits = hex::encode(alloc, bytes).expect(rt, "memory");
+    format!(in alloc; "{dest:?} {digits}").expect(rt, "memory")
+}
+
+fn told_accept(rt: &impl Abort, alloc: Global, id: u64, answer: &[u8]) -> String {
+    let digits = hex::encode(alloc, answer).expect(rt, "memory");
+    format!(in alloc; "accepted {id} {digits}").expect(rt, "memory")
+}
+
+/// An output in few words.
+fn told(rt: &impl Abort, alloc: Global, out: &Out) -> String {
+    match out {
+        Out::Send(dest, bytes) => told_send(rt, alloc, dest, bytes.as_slice()),
+        Out::Submitted(request) => {
+            format!(in alloc; "submitted {}", request.id).expect(rt, "memory")
         }
-        Out::Send(dest, bytes) => {
-            let len = bytes.as_slice().len();
-            format!(in alloc; "{dest:?} {len} bytes")?
-        }
-        Out::Submitted(request) => format!(in alloc; "submitted {}", request.id)?,
-        Out::Accepted { id, result, .. } => {
-            let digits = hex::encode(alloc, result.as_slice())?;
-            format!(in alloc; "accepted {id} {digits}")?
-        }
-        Out::Busy(_) => String::from_str(alloc, "busy")?,
-    };
-    Ok(text)
+        Out::Accepted { id, result, .. } => told_accept(rt, alloc, *id, result.as_slice()),
+        Out::Busy(_) => String::from_str(alloc, "busy").expect(rt, "memory"),
+    }
+}
+
+/// Adds a line for each output from this place on.
+fn put_outputs(rt: &impl Abort, alloc: Global, sent: &Outbox, from: usize, to: &mut String) {
+    let outputs = sent.as_slice();
+    for i in from..outputs.len() {
+        let text = told(rt, alloc, &outputs[i]);
+        let line = format!(in alloc; "  {i} {text}").expect(rt, "memory");
+        put_line(rt, &line, to);
+    }
+}
+
+/// One turn: the place of a core, and its input. Its outputs are put behind those that were sent.
+fn turn<C: Core>(
+    rt: &impl Abort,
+    alloc: Global,
+    cores: &mut [C],
+    sent: &mut Outbox,
+    line: &str,
+    to: &mut String,
+) {
+    let (place, input) = line.split_once(' ').expect(rt, "a turn");
+    let place = place.parse::<usize>().expect(rt, "a number");
+    let core = cores.get_mut(place).expect(rt, "a core");
+    let out = take(rt, alloc, core, input, sent);
+    let from = sent.as_slice().len();
+    sent.append(out).expect(rt, "memory");
+    put_line(rt, line, to);
+    put_outputs(rt, alloc, sent, from, to);
 }
 
 /// Cores take turns. A line has the place of a core and its input; each line below it that is indented has an output of that step, with
-/// how many outputs came before it. All outputs are put behind those that were sent.
+/// how many outputs came before it.
 pub fn play<C: Core>(
     rt: &impl Abort,
     alloc: Global,
     cores: &mut [C],
     sent: &mut Outbox,
     script: &str,
-) -> Result<(), Fail> {
-    let mut checked = sent.as_slice().len();
+) {
+    let mut given = String::new(alloc);
     for line in script.lines() {
-        if let Some(output) = line.strip_prefix("  ") {
-            let out = sent.as_slice().get(checked).ok_or("an output is missing")?;
-            let text = told(alloc, out)?;
-            assert_eq!(rt; format!(in alloc; "{checked} {text}")?.as_str(), output);
-            checked = checked.saturating_add(1);
-            continue;
+        if !line.starts_with("  ") {
+            turn(rt, alloc, cores, sent, line, &mut given);
         }
-        assert_eq!(rt; sent.as_slice().len(), checked, "before {line}");
-        let (place, input) = line.split_once(' ').ok_or("a turn")?;
-        let core = cores
-            .get_mut(place.parse::<usize>()?)
-            .ok_or("no such core")?;
-        let mut out = Outbox::new(alloc);
-        take(alloc, core, input, sent, &mut out)?;
-        sent.append(out)?;
     }
-    assert_eq!(rt; sent.as_slice().len(), checked, "at the end");
-    Ok(())
+    check_text(rt, &given, script);
 }
 
 /// A core's timers, None past the last.
-pub fn timers<C: Core>(core: &C) -> [Option<(Tick, u64)>; 4] {
-    [core.timer(0), core.timer(1), core.timer(2), core.timer(3)]
+pub fn timers<C: Core>(rt: &impl Abort, alloc: Global, core: &C) -> String {
+    let (first, second) = (core.timer(0), core.timer(1));
+    let (third, fourth) = (core.timer(2), core.timer(3));
+    format!(in alloc; "{first:?} {second:?} {third:?} {fourth:?}").expect(rt, "memory")
 }

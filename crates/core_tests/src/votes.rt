@@ -1,76 +1,79 @@
 use gap_agree::{Gap, Votes};
 use nop_types::{MAX_REPLICAS, Vote};
-use std::test::Fail;
+use std::process::Abort;
 use sync_points::SyncPoints;
 
-/// A vote for a gap, where three are needed, and whether the votes settle it then.
-const GAP_VOTES: [(u8, Vote); 6] = [
-    (1, Vote::Waiting),
-    (6, Vote::Waiting),
-    (1, Vote::Waiting),
-    (6, Vote::Waiting),
-    (0, Vote::Settled),
-    (2, Vote::Settled),
-];
+fn check_gap(rt: &impl Abort, gap: &mut Gap, sender: u8, told: Vote) {
+    assert!(rt; sender < MAX_REPLICAS);
+    assert!(rt; gap.on_rep(sender) == told, "from {sender}");
+}
 
+/// Votes for a gap, where three are needed, and whether they settle it.
 #[test]
 fn gaps(rt: HostRuntime) {
     let mut gap = Gap::begin(5, 3);
-    assert_eq!(rt; gap.slot(), 5);
-    for (sender, told) in GAP_VOTES {
-        assert!(rt; sender < MAX_REPLICAS);
-        assert_eq!(rt; gap.on_rep(sender), told, "from {sender}");
-    }
+    assert!(rt; gap.slot() == 5);
+    check_gap(&rt, &mut gap, 1, Vote::Waiting);
+    check_gap(&rt, &mut gap, 6, Vote::Waiting);
+    check_gap(&rt, &mut gap, 1, Vote::Waiting);
+    check_gap(&rt, &mut gap, 6, Vote::Waiting);
+    check_gap(&rt, &mut gap, 0, Vote::Settled);
+    check_gap(&rt, &mut gap, 2, Vote::Settled);
     let mut votes = Votes::new();
     votes.add(3);
     votes.add(3);
-    assert_eq!(rt; (votes.count(), votes.vote(1)), (1, Vote::Settled));
+    assert!(rt; votes.count() == 1 && votes.vote(1) == Vote::Settled);
 }
 
-/// A vote for a length, where two are needed for 3, and whether the votes settle it then.
-const LENGTH_VOTES: [(u8, u32, Vote); 5] = [
-    (1, 3, Vote::Waiting),
-    (1, 3, Vote::Waiting),
-    (2, 4, Vote::Waiting),
-    (4, 3, Vote::Settled),
-    (2, 3, Vote::Waiting),
-];
+fn check_length(rt: &impl Abort, points: &mut SyncPoints, sender: u8, len: u32, told: Vote) {
+    assert!(rt; sender < MAX_REPLICAS);
+    assert!(rt; points.on_rep(sender, len) == told, "from {sender}");
+}
 
+/// The sync point, and the length that votes are gathered for.
+fn check_points(rt: &impl Abort, points: &SyncPoints, point: u32, syncing: Option<u32>) {
+    assert!(rt; points.sync_point() == point && points.syncing() == syncing);
+}
+
+/// Votes for a length, where two are needed for 3.
 #[test]
 fn a_leader_synchronises(rt: HostRuntime) {
     let mut points = SyncPoints::new(2);
     points.prepare(3);
-    for (sender, len, told) in LENGTH_VOTES {
-        assert!(rt; sender < MAX_REPLICAS);
-        assert_eq!(rt; points.on_rep(sender, len), told);
-    }
-    assert_eq!(rt; (points.sync_point(), points.syncing()), (3, None));
+    check_length(&rt, &mut points, 1, 3, Vote::Waiting);
+    check_length(&rt, &mut points, 1, 3, Vote::Waiting);
+    check_length(&rt, &mut points, 2, 4, Vote::Waiting);
+    check_length(&rt, &mut points, 4, 3, Vote::Settled);
+    check_length(&rt, &mut points, 2, 3, Vote::Waiting);
+    check_points(&rt, &points, 3, None);
     points.prepare(3);
-    assert_eq!(rt; points.syncing(), None);
+    check_points(&rt, &points, 3, None);
     points.prepare(4);
     points.prepare(5);
-    assert_eq!(rt; points.syncing(), Some(5));
+    check_points(&rt, &points, 3, Some(5));
     points.clear();
-    assert_eq!(rt; (points.sync_point(), points.syncing()), (3, None));
+    check_points(&rt, &points, 3, None);
     let mut points = SyncPoints::new(0);
     points.prepare(2);
-    assert_eq!(rt; (points.sync_point(), points.syncing()), (2, None));
+    check_points(&rt, &points, 2, None);
 }
 
-/// A follower was told a log of length 2, and then shorter ones; these are commits, and the sync points that they give.
-const COMMITS: [(u32, Option<u32>); 4] = [(0, Some(0)), (3, None), (2, Some(2)), (1, Some(2))];
+fn check_commit(rt: &impl Abort, points: &mut SyncPoints, len: u32, told: Option<u32>) {
+    assert!(rt; points.on_commit(len) == told, "at {len}");
+}
 
+/// A follower was told a log of length 2, and then shorter ones; then commits come, and the sync points that they give.
 #[test]
-fn a_follower_synchronises(rt: HostRuntime) -> Result<(), Fail> {
+fn a_follower_synchronises(rt: HostRuntime) {
     let mut points = SyncPoints::new(1);
-    assert_eq!(rt; points.on_commit(1), None);
+    check_commit(&rt, &mut points, 1, None);
     points.on_prepare(2);
     points.on_prepare(1);
-    assert_eq!(rt; points.prepared(), 2);
-    for (len, told) in COMMITS {
-        assert_eq!(rt; points.on_commit(len), told);
-    }
+    assert!(rt; points.prepared() == 2);
+    check_commit(&rt, &mut points, 0, Some(0));
+    check_commit(&rt, &mut points, 3, None);
+    check_commit(&rt, &mut points, 2, Some(2));
+    check_commit(&rt, &mut points, 1, Some(2));
     points.clear();
-    assert_eq!(rt; (points.prepared(), points.sync_point()), (0, 2));
-    Ok(())
+    assert!(rt; points.prepared() == 0 && points.sync_point() == 2);
 }

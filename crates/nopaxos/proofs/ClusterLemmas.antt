@@ -1,5 +1,5 @@
 -- How a cluster in one process ends.
-use Rattle.std.proofs.Common.{arith, ◌≡◌, ℕ, List, Bool, true, Option, Some, None, Result, Ok, Err, refl, subst, inl, inr}
+use Rattle.std.proofs.Common.{arith, ◌≡◌, ℕ, List, Bool, true, Option, Some, None, Result, Ok, refl, subst, inl, inr}
 use Rattle.command_line.specs.declared.command.Command.{Command}
 use Rattle.command_line.specs.declared.command.Command.TheVariants.{Replay, Gen, Node, Sequencer, Controller, Client, Cluster}
 use Rattle.command_line.specs.declared.command.Site.{Site}

@@ -16,7 +16,17 @@ use Rattle.command_line.specs.declared.command.Command.TheVariants.{Replay, Gen,
 use Rattle.nopaxos.specs.Nodes.{LinkView, PortsView, EndsNodeWithoutFault, NodeTask, NodeEnds}
 use Rattle.nopaxos.specs.Ending.{GeneratesWithoutFault}
 use Rattle.nopaxos.specs.Words.{usage_line}
-use Rattle.nopaxos.specs.Tasks.{CommandEnds, DrawingEnds, draws, runs_node, waits_for_ops, replica_task, sequencer_task, controller_task, client_task}
+use Rattle.nopaxos.specs.Tasks.{
+  CommandEnds,
+  DrawingEnds,
+  draws,
+  runs_node,
+  waits_for_ops,
+  replica_task,
+  sequencer_task,
+  controller_task,
+  client_task,
+}
 use Rattle.nopaxos.specs.declared.status.Status.{Status}
 use Rattle.nopaxos.specs.declared.status.Status.TheVariants as statuses
 use Rattle.nopaxos.proofs.NodeLemmas.{ends_well}

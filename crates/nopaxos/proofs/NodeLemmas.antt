@@ -1,6 +1,7 @@
 -- A run of a node, its last line, and the ports that it ran over.
-use Rattle.std.proofs.Common.{◌≡◌, ℕ, List, [], ◌∷◌, ◌++◌, Bool, true, false, Option, Some, None, Result, Ok, Err, option_map, refl, ap}
+use Rattle.std.proofs.Common.{◌≡◌, ℕ, ◌≤◌, List, [], ◌∷◌, ◌++◌, Bool, true, false, Option, Some, None, Ok, Err, option_map, refl, ap}
 use Rattle.std.proofs.Common.{sym, ◌∙◌, inl, inr}
+use Rattle.std.proofs.KnownBytes.{Appends-trans}
 use Rattle.std.specs.Io.KnownBytes.{Appends}
 use Rattle.outside.specs.Causes.{Rose}
 use Rattle.outside.specs.Fronts.{AppendsFront}
@@ -8,14 +9,15 @@ use Rattle.outside.specs.Ports.{GivesNext, next_link}
 use Rattle.outside.specs.declared.errors.DeviceError.TheVariants as devices
 use Rattle.outside.specs.declared.link.PollAnswer.{PollAnswer}
 use Rattle.outside.specs.declared.link.Sent.{Sent}
-use Rattle.udp_node.specs.Effects.{Effect, Line, effects, WroteFront}
+use Rattle.udp_node.specs.Effects.{Line, effects, WroteFront, WroteText}
 use Rattle.udp_node.specs.Ports.{port_of}
-use Rattle.udp_node.specs.NodeRun.{NodeRun, ServedRun, ServesRun, ServesAfter}
+use Rattle.udp_node.specs.NodeRun.{NodeRun, ServedRun, ServesAfter}
 use Rattle.udp_node.specs.Sends.{LinkSide, side}
 use Rattle.udp_node.specs.declared.errors.ServeError.TheVariants as serve_errors
 use Rattle.udp_node.specs.declared.serving.Served.{Served}
 use Rattle.udp_node.proofs.EffectLemmas.{done_then, stops_then, stops_more, wrote_line}
-use Rattle.nopaxos.specs.Nodes.{served_line, last_effects, all_effects, end_status, IsNodeStatus, IsUnattachedStatus, EndsNodeWithoutFault}
+use Rattle.nopaxos.specs.Nodes.{served_line, last_effects, end_status, IsNodeStatus, IsUnattachedStatus, EndsNodeWithoutFault}
+use Rattle.nopaxos.specs.Nodes.{LastLine, EndsInLine}
 use Rattle.nopaxos.specs.Nodes.{Finished, RunEnds, NodeTask, run_of, RunTold, LinkView, PortsView, NodeEnds}
 use Rattle.nopaxos.specs.declared.status.Status.{Status}
 use Rattle.nopaxos.specs.declared.status.Status.TheVariants as statuses
@@ -26,6 +28,34 @@ last_is : (r : NodeRun) (turns lost : ℕ) → r.broken ≡ false → turns ≡ 
     → last_effects r.broken r.turns lost ≡ Line (served_line turns lost) ∷ []
 last_is r turns lost works same =
     ap (λ b. last_effects b r.turns lost) works ∙ ap (λ n. Line (served_line n lost) ∷ []) (sym same)
+
+last_line : (turns taken lost : ℕ) (s : Status) (h i j : Option (List ℕ)) → taken ≤ turns → (s ≡ statuses.Unanswered → taken ≡ turns)
+    → WroteText h i → Appends i j (served_line taken lost) → LastLine turns s h j
+last_line turns taken lost s h i j most all one wrote = record {
+  text = one.0;
+  taken = taken;
+  lost = lost;
+  most = most;
+  all = all;
+  line = Appends-trans h i j one.0 (served_line taken lost) one.1 wrote;
+}
+
+in_line : (waits done : Bool) (turns taken lost : ℕ) (h i j : Option (List ℕ)) → taken ≤ turns → (done ≡ false → taken ≡ turns)
+    → WroteText h i → Appends i j (served_line taken lost) → EndsInLine turns (end_status waits done) h j
+in_line true true turns taken lost h i j most spent one wrote =
+    last_line turns taken lost statuses.Done h i j most (λ is. absurd cc) one wrote
+in_line true false turns taken lost h i j most spent one wrote =
+    last_line turns taken lost statuses.Unanswered h i j most (λ is. spent refl) one wrote
+in_line false true turns taken lost h i j most spent one wrote =
+    last_line turns taken lost statuses.Done h i j most (λ is. absurd cc) one wrote
+in_line false false turns taken lost h i j most spent one wrote =
+    last_line turns taken lost statuses.Done h i j most (λ is. absurd cc) one wrote
+
+pub ends_in_last : (waits : Bool) (turns : ℕ) (served : Served) (s : Status) (h i j : Option (List ℕ)) → served.turns ≤ turns
+    → (served.done ≡ false → served.turns ≡ turns) → WroteText h i → Appends i j (served_line served.turns served.lost)
+    → s ≡ end_status waits served.done → EndsInLine turns s h j
+ends_in_last waits turns served s h i j most spent one wrote is =
+    rw is (in_line waits served.done turns served.turns served.lost h i j most spent one wrote)
 
 module _ {S : Type 0} (k : NodeTask S) where
   finished : (r : NodeRun) (served : Served) (a b : LinkSide) (h i j : Option (List ℕ))
@@ -125,15 +155,16 @@ module _ {S : Type 0} (k : NodeTask S) where
 pub attached_ends : {S L : Type 0} (k : NodeTask S) (w : LinkView L) (p : PortsView L) (values : Option (List ℕ)) (s : Status)
     (h i : Option (List ℕ)) (link : L) (later : Option (List (List PollAnswer))) (o : Option (List PollAnswer))
     (sent : Option (List Sent)) (losses faults : ℕ) → p.after ≡ p.before ++ link ∷ [] → w.port link ≡ port_of k.at.base k.at.own
-    → IsNodeStatus k.waits s → (s ≡ statuses.LinkFault → Rose faults (w.faults link)) → faults ≡ 0 → losses ≡ 0
+    → IsNodeStatus k.waits s → (s ≡ statuses.LinkFault → Rose faults (w.faults link)) → EndsInLine k.turns s h i → faults ≡ 0 → losses ≡ 0
     → GivesNext p.to_come later o sent → RunTold k o values s (side sent 0 losses) (side (w.sent link) 0 (w.losses link)) h i
     → NodeEnds k w p values s h i
-attached_ends k w p values s h i link later o sent losses faults back port may cause none no_losses gives run = inr (record {
+attached_ends k w p values s h i link later o sent losses faults back port may cause last none no_losses gives run = inr (record {
   link = link;
   given_back = back;
   port = port;
   status = may;
   cause = λ is. rw none at (cause is);
+  last = last;
   run = from_attach k p.to_come later o values sent losses s (side (w.sent link) 0 (w.losses link)) h i gives no_losses run;
 })
 

@@ -1,5 +1,6 @@
 -- How a command that runs a node ends.
 use Rattle.std.specs.Prelude.{◌≡◌, ℕ, ◌≤◌, List, [], ◌∷◌, ◌++◌, Bool, true, false, decimal, codes, Option, Some, None, option_map, ◌⊎◌, ⊤}
+use Rattle.std.specs.Io.KnownBytes.{Appends}
 use Rattle.nop_types.specs.Given.{Given}
 use Rattle.nop_types.specs.declared.input.Tick.{Tick}
 use Rattle.nop_types.specs.declared.output.Out.{Out}
@@ -90,6 +91,28 @@ RunEnds at waits r statuses.LinkFault a b h i = (lost : ℕ) × Broke at r a (re
 RunEnds at waits r statuses.NoMemory a b h i = (lost : ℕ) × Stopped (all_effects at r lost) a (record b { lost = lost }) h i
 RunEnds at waits r statuses.Unanswered a b h i = Finished at waits r statuses.Unanswered a b h i
 
+-- ---- the last line over any link and clock
+
+-- it was written after some text; it says no more turns than there were, and all of them where a client is unanswered
+pub record LastLine (turns : ℕ) (s : Status) (h i : Option (List ℕ)) : Type 0 where
+  pub text : List ℕ
+  pub taken : ℕ
+  pub lost : ℕ
+  pub most : taken ≤ turns
+  pub all : s ≡ statuses.Unanswered → taken ≡ turns
+  pub line : Appends h i (text ++ served_line taken lost)
+
+-- by its status
+abbrev pub EndsInLine : ℕ → Status → Option (List ℕ) → Option (List ℕ) → Type 0
+EndsInLine turns statuses.Done h i = LastLine turns statuses.Done h i
+EndsInLine turns statuses.Malformed h i = ⊤
+EndsInLine turns statuses.Usage h i = ⊤
+EndsInLine turns statuses.ReadFault h i = ⊤
+EndsInLine turns statuses.WriteFault h i = ⊤
+EndsInLine turns statuses.LinkFault h i = ⊤
+EndsInLine turns statuses.NoMemory h i = ⊤
+EndsInLine turns statuses.Unanswered h i = LastLine turns statuses.Unanswered h i
+
 -- ---- what a node runs from
 
 -- its core's step table and opening, its address, the inputs before the first turn, the most turns, and whether it waits for
@@ -158,6 +181,7 @@ pub record Attached {S L : Type 0} (k : NodeTask S) (w : LinkView L) (p : PortsV
   pub port : w.port link ≡ port_of k.at.base k.at.own
   pub status : IsNodeStatus k.waits s
   pub cause : s ≡ statuses.LinkFault → Rose 0 (w.faults link)
+  pub last : EndsInLine k.turns s h i
   pub run : RunTold k (option_map next_link p.to_come) values s (side (Some []) 0 0) (side (w.sent link) 0 (w.losses link)) h i
 
 abbrev pub NodeEnds : {S L : Type 0} → NodeTask S → LinkView L → PortsView L → Option (List ℕ) → Status → Option (List ℕ) → Option (List ℕ)

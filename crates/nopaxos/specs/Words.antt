@@ -1,5 +1,5 @@
 -- The words that the program takes, and what it answers to all others.
-use Rattle.std.specs.Prelude.{◌≡◌, ℕ, List, [], ◌∷◌, ◌++◌, String, Option, IsSome, codes}
+use Rattle.std.specs.Prelude.{ℕ, List, [], ◌∷◌, ◌++◌, String, Option, IsSome, codes}
 use Rattle.command_line.specs.Commands.{command_of, texts_of}
 use Rattle.command_line.specs.declared.command.Command.{Command}
 

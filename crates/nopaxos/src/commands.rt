@@ -1,6 +1,6 @@
 //! The commands that run a node.
 
-ghost use Rattle.std.specs.Prelude.{◌≡◌, ◌≤◌, ◌<◌, false, true};
+ghost use Rattle.std.specs.Prelude.{◌≡◌, ◌≤◌, ◌<◌, ◌+◌, false, length, true};
 ghost use Rattle.nop_types.specs.declared.limits.TheConstants.{MAX_SEQUENCERS};
 ghost use Rattle.outside.specs.Causes.{Rose};
 ghost use Rattle.nopaxos.specs.Nodes.{IsNodeStatus, link_view, ports_view, NodeEnds};
@@ -57,6 +57,8 @@ pub(crate) fn run_replica<P: Ports, T: Clock, K: Sink>(
         (P.fault_count ports.old) (P.fault_count ports.new))
         (T.values clock.old) result (K.held sink.old) (K.held sink.new) }
     ensures status { IsNodeStatus false result }
+    ensures back { P.attached ports.new + length (P.detached ports.old)
+        ≡ P.attached ports.old + length (P.detached ports.new) }
     ensures write { result ≡ Status.WriteFault → Rose (K.fault_count sink.old)
         (K.fault_count sink.new) }
 {
@@ -87,6 +89,8 @@ pub(crate) fn run_sequencer<P: Ports, T: Clock, K: Sink>(
         (P.fault_count ports.old) (P.fault_count ports.new))
         (T.values clock.old) result (K.held sink.old) (K.held sink.new) }
     ensures status { IsNodeStatus false result }
+    ensures back { P.attached ports.new + length (P.detached ports.old)
+        ≡ P.attached ports.old + length (P.detached ports.new) }
     ensures write { result ≡ Status.WriteFault → Rose (K.fault_count sink.old)
         (K.fault_count sink.new) }
 {
@@ -128,6 +132,8 @@ pub(crate) fn run_controller<P: Ports, T: Clock, K: Sink>(
         (P.fault_count ports.old) (P.fault_count ports.new))
         (T.values clock.old) result (K.held sink.old) (K.held sink.new) }
     ensures status { IsNodeStatus false result }
+    ensures back { P.attached ports.new + length (P.detached ports.old)
+        ≡ P.attached ports.old + length (P.detached ports.new) }
     ensures write { result ≡ Status.WriteFault → Rose (K.fault_count sink.old)
         (K.fault_count sink.new) }
 {
@@ -158,6 +164,8 @@ pub(crate) fn run_client<P: Ports, T: Clock, K: Sink>(
         (P.fault_count ports.old) (P.fault_count ports.new))
         (T.values clock.old) result (K.held sink.old) (K.held sink.new) }
     ensures status { IsNodeStatus true result }
+    ensures back { P.attached ports.new + length (P.detached ports.old)
+        ≡ P.attached ports.old + length (P.detached ports.new) }
     ensures write { result ≡ Status.WriteFault → Rose (K.fault_count sink.old)
         (K.fault_count sink.new) }
 {

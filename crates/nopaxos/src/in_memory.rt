@@ -42,7 +42,7 @@ pub fn run_in_memory(
         (boxed.link_view (λ l. Some l.answers) (λ l. l.port) (λ l. Some l.sent) (λ _. 0) (λ _. 0))
         (ports_view (Some (answers_of ports.old.links)) ports.old.detached ports.new.detached 0 0)
         (Some clock.old) result (Some sink.old.held) (Some sink.new.held) }
-    ensures back { runs_cluster (asked words.now) ≡ true → ports.new.attached
+    ensures back { uses_ports (asked words.now) ≡ true → ports.new.attached
         + length ports.old.detached ≡ ports.old.attached + length ports.new.detached }
     ensures replay_complete { asked words.now ≡ Some Command.Replay → EndsWithoutFault result }
     ensures drawing_complete { draws (asked words.now) ≡ true → GeneratesWithoutFault result }

@@ -1,12 +1,13 @@
 //! A run of a core over the ports, and its last line.
 
-ghost use Rattle.std.specs.Prelude.{◌≡◌, ◌≤◌, ◌++◌, decimal, length, OnOk};
+ghost use Rattle.std.specs.Prelude.{◌≡◌, ◌≤◌, ◌+◌, ◌++◌, decimal, length, OnOk};
 ghost use Rattle.outside.specs.Causes.{Rose, HasCauseFor};
 ghost use Rattle.outside.specs.declared.errors.DeviceError.TheVariants as devices;
 ghost use Rattle.udp_node.specs.Effects.{Writes};
 ghost use Rattle.udp_node.specs.NodeRun.{first_inputs};
 ghost use Rattle.udp_node.specs.Sends.{side};
-ghost use Rattle.nopaxos.specs.Nodes.{served_line, end_status, task_of, RunTold, IsNodeStatus, link_view, ports_view, NodeEnds};
+ghost use Rattle.nopaxos.specs.Nodes.{served_line, end_status, task_of, RunTold, IsNodeStatus};
+ghost use Rattle.nopaxos.specs.Nodes.{EndsInLine, link_view, ports_view, NodeEnds};
 
 use crate::status::Status;
 use nop_types::{Core, NoMemory, Tick};
@@ -90,6 +91,7 @@ fn run_link<C: Core, L: Link, T: Clock, K: Sink>(
         (side (L.sent link.old) 0 (L.loss_count link.old))
         (side (L.sent link.new) 0 (L.loss_count link.new)) (K.held sink.old) (K.held sink.new) }
     ensures status { IsNodeStatus task.now.waits result }
+    ensures last { EndsInLine task.now.turns result (K.held sink.old) (K.held sink.new) }
     ensures port { L.own_port link.new ≡ L.own_port link.old }
     ensures poll { result ≡ Status.LinkFault → Rose (L.fault_count link.old)
         (L.fault_count link.new) }
@@ -130,6 +132,8 @@ pub(crate) fn run_core<C: Core, P: Ports, T: Clock, K: Sink>(
         (P.fault_count ports.old) (P.fault_count ports.new))
         (T.values clock.old) result (K.held sink.old) (K.held sink.new) }
     ensures status { IsNodeStatus task.now.waits result }
+    ensures back { P.attached ports.new + length (P.detached ports.old)
+        ≡ P.attached ports.old + length (P.detached ports.new) }
     ensures write { result ≡ Status.WriteFault → Rose (K.fault_count sink.old)
         (K.fault_count sink.new) }
 {

@@ -94,7 +94,8 @@ fn carry_out<S: Source, K: Sink, P: Ports, C: Clock>(
         (ports_view (P.to_come ports.old) (P.detached ports.old) (P.detached ports.new)
         (P.fault_count ports.old) (P.fault_count ports.new))
         (C.values clock.old) result (K.held sink.old) (K.held sink.new) }
-    ensures back { runs_cluster (Some command) ≡ true → P.attached ports.new + length (P.detached ports.old)
+    ensures back { uses_ports (Some command) ≡ true
+        → P.attached ports.new + length (P.detached ports.old)
         ≡ P.attached ports.old + length (P.detached ports.new) }
     ensures read { result ≡ Status.ReadFault → Rose (S.fault_count source.old)
         (S.fault_count source.new) }
@@ -144,7 +145,8 @@ pub fn run<S: Source, K: Sink, P: Ports, C: Clock>(
         (ports_view (P.to_come ports.old) (P.detached ports.old) (P.detached ports.new)
         (P.fault_count ports.old) (P.fault_count ports.new))
         (C.values clock.old) result (K.held sink.old) (K.held sink.new) }
-    ensures back { runs_cluster (asked words.now) ≡ true → P.attached ports.new + length (P.detached ports.old)
+    ensures back { uses_ports (asked words.now) ≡ true
+        → P.attached ports.new + length (P.detached ports.old)
         ≡ P.attached ports.old + length (P.detached ports.new) }
     ensures read { result ≡ Status.ReadFault → Rose (S.fault_count source.old)
         (S.fault_count source.new) }

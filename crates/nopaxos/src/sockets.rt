@@ -8,7 +8,7 @@ use std::io::ErrorKind;
 use std::net::{Ipv4Addr, Net, UdpSocket};
 use std::time::Duration;
 
-/// How long a poll waits at most, in milliseconds.
+/// How long a poll waits at most, in milliseconds, where it waits.
 const POLL_MILLIS: u64 = 1;
 
 /// A datagram socket at a port of the loopback address, with counts of its errors.
@@ -21,10 +21,14 @@ pub struct UdpLink {
     losses: u64,
 }
 
-/// A socket that waits a short time for a datagram.
-fn bound_socket<R: Net>(net: &R, port: u16) -> io::Result<UdpSocket> {
+/// A socket that waits a short time for a datagram, or not at all.
+fn bound_socket<R: Net>(net: &R, port: u16, waits: bool) -> io::Result<UdpSocket> {
     let socket = UdpSocket::bind(net, (Ipv4Addr::LOCALHOST, port))?;
-    socket.set_read_timeout(Some(Duration::from_millis(POLL_MILLIS)))?;
+    if waits {
+        socket.set_read_timeout(Some(Duration::from_millis(POLL_MILLIS)))?;
+    } else {
+        socket.set_nonblocking(true)?;
+    }
     Ok(socket)
 }
 
@@ -49,6 +53,7 @@ impl Link for UdpLink {
 
     ghost loss_count = { λ s. s.losses };
 
+    /// At `NoMemory` the datagram that came is lost.
     fn poll(&mut self) -> Result<Option<Bytes>, LinkError> {
         let mut buf = [0u8; MAX_DATAGRAM_BYTES];
         match self.socket.recv_from(&mut buf) {
@@ -86,7 +91,8 @@ impl Link for UdpLink {
     }
 }
 
-/// The ports of the loopback address, with a count of the attaches that failed.
+/// The ports of the loopback address, with a count of the attaches that failed. Of the links that are attached together only the
+/// first waits when it is polled, so a turn of a cluster waits once and not for each of its actors.
 #[derive(Drop)]
 pub struct UdpPorts<'a, R: Net> {
     net: &'a R,
@@ -100,7 +106,11 @@ pub struct UdpPorts<'a, R: Net> {
 
 impl<'a, R: Net> UdpPorts<'a, R> {
     /// Nothing is attached.
-    pub fn new(net: &'a R, alloc: Global) -> UdpPorts<'a, R> {
+    pub fn new(net: &'a R, alloc: Global) -> UdpPorts<'a, R>
+        ensures attached { result.attached ≡ 0 }
+        ensures detached { result.detached.items ≡ [] }
+        ensures faults { result.faults ≡ 0 }
+    {
         UdpPorts {
             net,
             alloc,
@@ -125,9 +135,9 @@ impl<'a, R: Net> Ports for UdpPorts<'a, R> {
     ghost fault_count = { λ s. s.faults };
 
     fn attach(&mut self, port: u16) -> Result<UdpLink, AttachError> {
-        let waiting = self.attached - self.detached.len();
-        self.detached.reserve(waiting + 1)?;
-        match bound_socket(self.net, port) {
+        let others = self.attached - self.detached.len();
+        self.detached.reserve(others + 1)?;
+        match bound_socket(self.net, port, others == 0) {
             Ok(socket) => {
                 self.attached += 1;
                 Ok(UdpLink {

@@ -1,3 +1,5 @@
+ghost use Rattle.std.specs.Prelude.{◌≡◌};
+
 use outside::Clock;
 
 /// The clock of the operating system, in milliseconds from a start of its own. Where it cannot be read, the last value.
@@ -8,7 +10,9 @@ pub struct SystemClock<'a, R: std::time::Clock> {
 }
 
 impl<'a, R: std::time::Clock> SystemClock<'a, R> {
-    pub fn new(system: &'a R) -> SystemClock<'a, R> {
+    pub fn new(system: &'a R) -> SystemClock<'a, R>
+        ensures { result ≡ record { system = system.entry; last = 0 } }
+    {
         SystemClock { system, last: 0 }
     }
 }

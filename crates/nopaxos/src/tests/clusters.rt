@@ -1,27 +1,20 @@
-ghost use Rattle.std.specs.Prelude.{IfOk};
-ghost use Rattle.outside.specs.Memory.{IsFresh};
-
-use super::nodes::{REPLY, REQUEST, STAMPED, answer};
-use super::words_of;
-use crate::run::run;
-use crate::sockets::UdpPorts;
-use crate::status::Status;
-use crate::system_clock::SystemClock;
-use outside::{CallPlan, ClockMem, Failing, LinkMem, PortsMem, ReadMem, WriteMem};
+use super::outcomes::{ONE_PUT, outcome_of, told};
 use std::alloc::Global;
 use std::process::Abort;
-use std::test::Fail;
 
-/// A cluster with one actor of each kind.
-const SMALL: &str =
-    "nopaxos cluster --replicas 1 --sequencers 1 --clients 1 --turns 9 5000016b000176";
+/// A cluster with one actor of each kind. It gets the datagrams of one put by the polls of the replica, the sequencer, the controller
+/// and the client, three each.
+pub const SMALL: &str = "\
+nopaxos cluster --replicas 1 --sequencers 1 --clients 1 --turns 9 5000016b000176
+polls nothing nothing stamped nothing request nothing nothing nothing nothing nothing nothing reply";
 
 /// The same with a turn too few.
-const SHORT: &str =
-    "nopaxos cluster --replicas 1 --sequencers 1 --clients 1 --turns 2 5000016b000176";
+const SHORT: &str = "\
+nopaxos cluster --replicas 1 --sequencers 1 --clients 1 --turns 2 5000016b000176
+polls nothing nothing stamped nothing request nothing nothing nothing nothing nothing nothing reply";
 
-/// What the cluster writes before its last line.
-const LINES: &str = "\
+/// What it writes before its last line.
+pub const LINES: &str = "\
 nopaxos 1 replicas 1 sequencers 1 clients 1
 submit c0 5000016b000176
 deliver 0 s0
@@ -38,88 +31,78 @@ history 1 c0 1 5000016b000176
 end
 ";
 
-/// A link whose first polls answer this.
-fn link(alloc: Global, first: &str, second: &str, third: &str) -> Result<LinkMem<Failing>, Fail>
-    ensures { IfOk result (IsFresh ⟦<Failing as CallPlan>⟧.fault_count) }
-{
-    let mut answers = Vec::new(alloc);
-    answers.push(answer(alloc, first)?)?;
-    answers.push(answer(alloc, second)?)?;
-    answers.push(answer(alloc, third)?)?;
-    Ok(LinkMem::with_faults(alloc, 0, answers, &[])?)
+/// How it ends with a turn too few.
+const SHORT_END: &str = "\
+Unanswered
+nopaxos 1 replicas 1 sequencers 1 clients 1
+submit c0 5000016b000176
+deliver 0 s0
+transcript 1 replicas 1 sequencers 1 clients 1
+submit c0 1 5000016b000176
+send 0 c0 s* request 25
+send 1 s0 r* stamped 37
+replica r0 up normal 0 1 0 0
+end
+served 2 lost 0 stray 0
+|
+41000 4e4f010200000001000000000000000100000000000000000000000100075000016b000176
+41008 4e4f010100000000000000000000000100075000016b000176
+";
+
+/// What is added to the head, and the end of the run: nothing, a datagram that nobody sent, which comes to the controller, and each
+/// send failing in turn.
+const ENDS: &str = "\
+=>
+served 3 lost 0 stray 0
+|
+41016 4e4f0103000000000000000001000000010000000000000000000000010100046e6f6e65
+41000 4e4f010200000001000000000000000100000000000000000000000100075000016b000176
+41008 4e4f010100000000000000000000000100075000016b000176
+----
+instead 4e4f 7
+=>
+served 3 lost 0 stray 1
+|
+41016 4e4f0103000000000000000001000000010000000000000000000000010100046e6f6e65
+41000 4e4f010200000001000000000000000100000000000000000000000100075000016b000176
+41008 4e4f010100000000000000000000000100075000016b000176
+----
+sends of 1: 1
+=>
+served 3 lost 1 stray 0
+|
+41000 4e4f010200000001000000000000000100000000000000000000000100075000016b000176
+41008 4e4f010100000000000000000000000100075000016b000176
+----
+sends of 2: 1
+=>
+served 3 lost 1 stray 0
+|
+41016 4e4f0103000000000000000001000000010000000000000000000000010100046e6f6e65
+41008 4e4f010100000000000000000000000100075000016b000176
+----
+sends of 4: 1
+=>
+served 3 lost 1 stray 0
+|
+41016 4e4f0103000000000000000001000000010000000000000000000000010100046e6f6e65
+41000 4e4f010200000001000000000000000100000000000000000000000100075000016b000176
+";
+
+fn check_end(rt: &impl Abort, alloc: Global, row: &str) {
+    let (added, end) = row.split_once("=>\n").expect(rt, "a row");
+    let head = format!(in alloc; "{SMALL}\n{added}").expect(rt, "memory");
+    let given = told(rt, alloc, &outcome_of(rt, alloc, &head, ONE_PUT));
+    let wanted = format!(in alloc; "Done\n{LINES}{end}").expect(rt, "memory");
+    assert_eq!(rt; given.as_str(), wanted.as_str(), "{added}");
 }
 
-/// Runs the words where the datagrams of one put come, and at the controller what is given. It gives the status, and what was
-/// written.
-fn run_small(alloc: Global, words: &str, third: &str) -> Result<(Status, Vec<u8>), Fail> {
-    let replica = link(alloc, "nothing", "nothing", STAMPED)?;
-    let sequencer = link(alloc, "nothing", REQUEST, "nothing")?;
-    let controller = link(alloc, third, "nothing", "nothing")?;
-    let client = link(alloc, "nothing", "nothing", REPLY)?;
-    let links = vec![in alloc; replica, sequencer, controller, client]?;
-    let mut source = ReadMem::new(Vec::new(alloc));
-    let mut sink = WriteMem::new(alloc);
-    let mut ports = PortsMem::with_faults(alloc, links, &[])?;
-    let mut clock = ClockMem::new(alloc);
-    let status = run(
-        alloc,
-        &words_of(alloc, words)?,
-        &mut source,
-        &mut sink,
-        &mut ports,
-        &mut clock,
-    );
-    Ok((status, sink.into_vec()))
-}
-
-/// The run ends done, and writes the lines and this last one.
-fn check_small(rt: &impl Abort, alloc: Global, third: &str, last: &str) -> Result<(), Fail> {
-    let (status, written) = run_small(alloc, SMALL, third)?;
-    let mut text = String::from_str(alloc, LINES)?;
-    text.push_str(last)?;
-    assert_eq!(rt; status, Status::Done);
-    assert_eq!(rt; written.as_slice(), text.as_bytes());
-    Ok(())
-}
-
-/// A put in a cluster; a datagram that nobody sent is dropped and counted.
 #[test]
-fn clusters(rt: HostRuntime) -> Result<(), Fail> {
+fn clusters(rt: HostRuntime) {
     let alloc = rt.alloc();
-    check_small(&rt, alloc, "nothing", "served 3 lost 0 stray 0\n")?;
-    check_small(&rt, alloc, "4e4f", "served 3 lost 0 stray 1\n")?;
-    let (status, written) = run_small(alloc, SHORT, "nothing")?;
-    assert_eq!(rt; status, Status::Unanswered);
-    assert!(rt; written.ends_with(b"end\nserved 2 lost 0 stray 0\n"));
-    let (status, written) = run_small(alloc, SMALL, "failure")?;
-    assert_eq!(rt; (status, written.len()), (Status::LinkFault, 0));
-    Ok(())
-}
-
-/// A cluster over sockets accepts its op.
-#[test]
-fn a_cluster_over_sockets(rt: HostRuntime) -> Result<(), Fail> {
-    let alloc = rt.alloc();
-    let mut source = ReadMem::new(Vec::new(alloc));
-    let mut sink = WriteMem::new(alloc);
-    let mut ports = UdpPorts::new(&rt, alloc);
-    let mut clock = SystemClock::new(&rt);
-    let words =
-        "nopaxos cluster --replicas 3 --sequencers 1 --clients 1 --base 43210 5000016b000176";
-    let status = run(
-        alloc,
-        &words_of(alloc, words)?,
-        &mut source,
-        &mut sink,
-        &mut ports,
-        &mut clock,
-    );
-    assert_eq!(rt; status, Status::Done);
-    let written = std::str::from_utf8(sink.as_slice()).ok().ok_or("text")?;
-    let mut found = false;
-    for line in written.lines() {
-        found = found || line == "history 1 c0 1 5000016b000176";
+    for row in ENDS.split("----\n") {
+        check_end(&rt, alloc, row);
     }
-    assert!(rt; found);
-    Ok(())
+    let given = told(&rt, alloc, &outcome_of(&rt, alloc, SHORT, ONE_PUT));
+    assert_eq!(rt; given.as_str(), SHORT_END);
 }

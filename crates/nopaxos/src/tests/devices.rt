@@ -1,6 +1,9 @@
+use super::outcomes::words_of;
+use crate::run::run;
 use crate::sockets::UdpPorts;
+use crate::status::Status;
 use crate::system_clock::SystemClock;
-use outside::{Clock, Link, Ports};
+use outside::{Clock, Link, Ports, ReadMem, WriteMem};
 use std::test::Fail;
 
 const PORT: u16 = 40961;
@@ -27,4 +30,28 @@ fn a_socket_and_the_clock(rt: HostRuntime) -> Result<(), Fail> {
     ports.detach(link);
     assert!(rt; clock.now() >= first);
     Ok(())
+}
+
+/// A cluster over sockets accepts its op.
+#[test]
+fn a_cluster_over_sockets(rt: HostRuntime) {
+    let alloc = rt.alloc();
+    let mut source = ReadMem::new(Vec::new(alloc));
+    let mut sink = WriteMem::new(alloc);
+    let mut ports = UdpPorts::new(&rt, alloc);
+    let mut clock = SystemClock::new(&rt);
+    let words =
+        "nopaxos cluster --replicas 3 --sequencers 1 --clients 1 --base 43210 5000016b000176";
+    let words = words_of(&rt, alloc, words);
+    let status = run(
+        alloc,
+        &words,
+        &mut source,
+        &mut sink,
+        &mut ports,
+        &mut clock,
+    );
+    assert_eq!(rt; status, Status::Done);
+    let written = std::str::from_utf8(sink.as_slice()).expect(&rt, "text");
+    assert!(rt; written.contains("\nhistory 1 c0 1 5000016b000176\n"));
 }

@@ -1,10 +1,6 @@
-use super::check_run;
-use crate::status::Status;
-use std::test::Fail;
-
 /// The schedules of `examples/`, each with its transcript after a line `=>`, and lines `----` between them. A transcript that does not
 /// end with `end` is one of a schedule with a bad line.
-const ROWS: &str = "\
+pub const ROWS: &str = "\
 nopaxos 1 replicas 3 sequencers 1 clients 1
 submit c0 5000016b000176
 deliver 0 s0
@@ -794,21 +790,3 @@ history 1 c0 1 5000016b000176
 history 2 c1 1 4700016b
 end
 ";
-
-#[test]
-fn rows(rt: HostRuntime) -> Result<(), Fail> {
-    for row in ROWS.split("----\n") {
-        let (schedule, transcript) = row.split_once("=>\n").ok_or("a transcript")?;
-        let status = if transcript.ends_with("end\n") {
-            Status::Done
-        } else {
-            Status::Malformed
-        };
-        check_run(
-            &rt,
-            rt.alloc(),
-            ("nopaxos replay", schedule, &[], &[], status, transcript),
-        )?;
-    }
-    Ok(())
-}

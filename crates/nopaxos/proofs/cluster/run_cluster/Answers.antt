@@ -1,4 +1,4 @@
-use Rattle.std.proofs.Common.{◌≡◌, ◌∙◌, true, false, Err, rules}
+use Rattle.std.proofs.Common.{◌∙◌, true, false, Err, rules}
 use Rattle.one_box.specs.Showing as boxed
 use Rattle.one_box.specs.declared.errors.ClusterError.TheVariants as errors
 use Rattle.nopaxos.specs.Nodes.{ports_view}
@@ -27,7 +27,8 @@ returns-in-Err-WriteFault-clause-ends g c =
     (ports_view (g.P.Ports.to_come c.args.ports.now) (g.P.Ports.detached c.args.ports.now) (g.P.Ports.detached c.serve_all.new.ports)
     (g.P.Ports.fault_count c.args.ports.now) (g.P.Ports.fault_count c.serve_all.new.ports))
     (g.T.Clock.values c.args.clock.now) c.args.site.now c.deref.result.now c.args.ops (c.deref.ensures.value ∙ c.into_vec-ops.ensures)
-    (Err errors.WriteFault) (g.K.Sink.held c.args.sink.now) (g.K.Sink.held c.serve_all.new.sink) (rw c.in-Err-WriteFault.field-0-is at c.in-Err-WriteFault.ensures.ends)
+    (Err errors.WriteFault) (g.K.Sink.held c.args.sink.now) (g.K.Sink.held c.serve_all.new.sink) (rw c.in-Err-WriteFault.field-0-is at
+    c.in-Err-WriteFault.ensures.ends)
 
 pub returns-clause-ends : goal.returns-clause-ends
 returns-clause-ends g c =
@@ -35,4 +36,5 @@ returns-clause-ends g c =
     (ports_view (g.P.Ports.to_come c.args.ports.now) (g.P.Ports.detached c.args.ports.now) (g.P.Ports.detached c.serve_all.new.ports)
     (g.P.Ports.fault_count c.args.ports.now) (g.P.Ports.fault_count c.serve_all.new.ports))
     (g.T.Clock.values c.args.clock.now) c.args.site.now c.deref.result.now c.args.ops (c.deref.ensures.value ∙ c.into_vec-ops.ensures)
-    (Err errors.NoMemory) (g.K.Sink.held c.args.sink.now) (g.K.Sink.held c.serve_all.new.sink) (rw c.in-Err-NoMemory.field-0-is at c.in-Err-NoMemory.ensures.ends)
+    (Err errors.NoMemory) (g.K.Sink.held c.args.sink.now) (g.K.Sink.held c.serve_all.new.sink) (rw c.in-Err-NoMemory.field-0-is at
+    c.in-Err-NoMemory.ensures.ends)

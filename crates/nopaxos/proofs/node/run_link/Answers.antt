@@ -1,8 +1,7 @@
-use Rattle.std.proofs.Common.{rules}
 use Rattle.udp_node.specs.NodeRun.{first_inputs}
 use Rattle.udp_node.specs.Sends.{side}
 use Rattle.nopaxos.specs.Nodes.{task_of}
-use Rattle.nopaxos.proofs.NodeLemmas.{ends_served, ends_in_line, ends_short, ends_broken, ends_writing, ends_without_memory}
+use Rattle.nopaxos.proofs.NodeLemmas.{ends_served, ends_in_line, ends_short, ends_broken, ends_writing, ends_without_memory, ends_in_last}
 use Rattle.nopaxos.proofs.node.run_link.Goals as goal
 
 pub returns-in-Ok-write_served-clause-run : goal.returns-in-Ok-write_served-clause-run
@@ -14,6 +13,12 @@ returns-in-Ok-write_served-clause-run g c =
     (side (g.L.Link.sent c.serve_after.new.link) 0 (g.L.Link.loss_count c.serve_after.new.link))
     (g.K.Sink.held c.args.sink.now) (g.K.Sink.held c.serve_after.new.sink) (g.K.Sink.held c.write_served.new.sink)
     (rw c.copied-place.ensures at c.in-Ok.ensures.run) c.in-Ok-write_served.ensures.line c.end_status.ensures
+
+pub returns-in-Ok-write_served-clause-last : goal.returns-in-Ok-write_served-clause-last
+returns-in-Ok-write_served-clause-last g c =
+    ends_in_last c.args.task.now.waits c.args.task.now.turns c.in-Ok.served c.end_status.result
+    (g.K.Sink.held c.args.sink.now) (g.K.Sink.held c.serve_after.new.sink) (g.K.Sink.held c.write_served.new.sink)
+    c.in-Ok.ensures.turns c.in-Ok.ensures.spent c.serve_after.ensures.wrote c.in-Ok-write_served.ensures.line c.end_status.ensures
 
 pub returns-in-Err-Failed-clause-run : goal.returns-in-Err-Failed-clause-run
 returns-in-Err-Failed-clause-run g c =
