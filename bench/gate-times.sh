@@ -102,6 +102,7 @@ try:
                 time.sleep(0.2)
     said = open(folder + "/log", encoding="utf-8").read().rstrip().split("\n")
     if gate.returncode:
+        print(table_of(seen, crates))
         sys.exit("\n".join(said[-40:]))
     whole = f"""The whole run: {(time.time() - began) / 60:.0f} minutes by the clock, {(used.ru_utime + used.ru_stime) / 60:.0f} processor minutes on
 {os.cpu_count()} processors; `{said[-1]}`."""

@@ -1,0 +1,87 @@
+#!/bin/bash
+# Runs the commands that README.md and examples/README.md show, as they are written there, each at the top of the tree, and looks at what
+# they print. A command that this script does not know is a difference, and so is one that it knows and no document shows; .ci/run is
+# known and not run here, since it runs this. `rt try` makes its program anew each time: it takes some minutes. It leaves nothing behind
+# but what `rt run` keeps, and ends with status 1 at any difference.
+set -u
+cd "$(dirname "$0")/.." || exit 2
+folder=$(mktemp -d) || exit 2
+trap 'rm -rf "$folder"' EXIT
+# The top of the tree, in a folder that can be written to.
+for it in "$PWD"/* "$PWD"/.ci; do ln -s "$it" "$folder"; done
+made=0
+wrong=0
+
+# differs WORDS..: one more difference.
+differs() {
+    echo "commands: $*"
+    wrong=$((wrong + 1))
+}
+
+# shows DOCUMENT COMMAND: the document shows the command, as a line of its own or between backquotes.
+shows() {
+    grep -qxF "    $2" "$1" || grep -qF "\`$2\`" "$1"
+}
+
+# runs DOCUMENT COMMAND: runs it. What it prints goes to the file out of the folder.
+runs() {
+    local status
+    made=$((made + 1))
+    shows "$1" "$2" || differs "$1 does not show '$2'"
+    echo "$2" >> "$folder/known"
+    (cd "$folder" && bash -c "$2") > "$folder/out" 2> "$folder/err" < /dev/null
+    status=$?
+    [ "$status" = 0 ] || differs "'$2' ends with status $status: $(tail -n 3 "$folder/err")"
+}
+
+# is_picture: my.svg is a whole picture of the put.
+is_picture() {
+    head -n 1 "$folder/my.svg" | grep -q '^<svg ' && tail -n 1 "$folder/my.svg" | grep -q '</svg>$' \
+        && grep -q 'submit c0' "$folder/my.svg" || differs "my.svg is no picture of the schedule"
+    rm -f "$folder/my.svg"
+}
+
+echo .ci/run > "$folder/known"
+runs README.md '(cd crates/nopaxos && rt try -- replay) < examples/one-put.schedule'
+cmp -s "$folder/out" examples/one-put.transcript || differs "the one put has another transcript"
+
+runs README.md '(cat examples/one-put.schedule; echo "deliver 1 r2") > my.schedule'
+runs README.md '(cd crates/spacetime && rt try) < my.schedule > my.svg'
+is_picture
+runs README.md '(cd crates/nopaxos && rt try -- cluster --replicas 3 --sequencers 1 --clients 1 5000016b000176)'
+grep -qx 'accept c0 1 6e6f6e65' "$folder/out" || differs "the cluster accepts no put"
+tail -n 1 "$folder/out" | grep -qx 'served [0-9]* lost 0 stray [0-9]*' || differs "the cluster has another last line"
+# Its schedule is drawn next.
+sed '/^transcript /,$d' "$folder/out" > "$folder/my.schedule"
+# `rt run` proves on its own what `rt ci` has proved, which takes long: it is run only where its program is not there.
+if [ -x crates/spacetime/out/spacetime ]; then
+    echo '(cd crates/spacetime && rt run < stdin > /dev/null)' >> "$folder/known"
+else
+    runs examples/README.md '(cd crates/spacetime && rt run < stdin > /dev/null)'
+fi
+runs examples/README.md 'crates/spacetime/out/spacetime < my.schedule > my.svg'
+is_picture
+
+# A cluster of processes, whose leader is killed: three clients put and get, and the last reads its own value.
+made=$((made + 1))
+if examples/cluster.sh > "$folder/out" 2> "$folder/err"; then
+    [ "$(grep -c '^status 0$' "$folder/out")" = 3 ] || differs "not each client of examples/cluster.sh ends with status 0"
+    grep -qx 'accept c2 2 3d78' "$folder/out" || differs "the last client of examples/cluster.sh reads another value"
+else
+    differs "examples/cluster.sh ends with status $?: $(tail -n 3 "$folder/err")"
+fi
+
+for document in README.md examples/README.md; do
+    while IFS= read -r command; do
+        grep -qxF "$command" "$folder/known" || differs "$document shows '$command', which is not run"
+    done < <(grep -E '^    (\(c|\.ci/|(crates|checks|bench|examples)/)' "$document" | cut -c5-)
+done
+
+# Scripts that documents name are there, and can be read as what they are.
+while IFS= read -r script; do
+    made=$((made + 1))
+    { [ -x "$script" ] && bash -n "$script"; } || differs "a document names $script, which cannot be run"
+done < <(grep -ohE '\b(bench|checks)/[a-z-]+\.sh' README.md docs/*.md examples/*.md | sort -u)
+
+echo "commands: $made looked at, $wrong differ"
+[ "$wrong" = 0 ]
