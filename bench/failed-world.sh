@@ -21,7 +21,7 @@ sweep() {
     while :; do
         number=$((number + 1))
         rm -f "$folder/refused"
-        REFUSE=$number REFUSED=$folder/refused LD_PRELOAD=$folder/refuse.so timeout 20 "$program" "$2" \
+        timeout 20 env REFUSE="$number" REFUSED="$folder/refused" LD_PRELOAD="$folder/refuse.so" "$program" "$2" \
             > "$folder/out" 2> "$folder/err"
         local status=$?
         if [ "$status" != 0 ] || ! grep -qx 'test result: ok' "$folder/out"; then
