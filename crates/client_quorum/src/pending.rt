@@ -7,7 +7,7 @@ use nop_types::Request;
 use std::marker::Model;
 
 /// The request that a client waits for, if it waits for one. Each of its fields is in its range.
-#[derive(Debug, Drop)]
+#[derive(Drop)]
 pub struct Pending {
     request: Option<Request>,
 }

@@ -3,7 +3,7 @@ use nop_types::{Accept, Config};
 
 /// A client's number, its last id, the pending request with the replies kept for it, the last acceptance, and the ops that
 /// wait.
-#[derive(Debug, Drop)]
+#[derive(Drop)]
 pub struct ClientState {
     pub config: Config,
     pub number: u32,

@@ -6,7 +6,7 @@ use std::collections::VecDeque;
 use std::marker::Model;
 
 /// The ops that a client submits one after the other, seen as their list. None is added.
-#[derive(Debug, Drop)]
+#[derive(Drop)]
 pub struct Waiting {
     ops: VecDeque<Op>,
 }

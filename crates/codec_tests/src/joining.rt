@@ -54,12 +54,17 @@ fn taken(rt: &impl Abort, kept: &mut Reassembly, fragment: &Fragment) -> Option<
     kept.take(fragment).expect(rt, "memory")
 }
 
-/// The fragment that was sent to all replicas.
-fn fragment_of(rt: &impl Abort, alloc: Global, out: &Out) -> Fragment {
-    let Out::Send(Dest::Replicas, bytes) = out else {
-        panic!(rt; "no send to all replicas")
-    };
-    match decode(alloc, bytes.as_slice()) {
+/// The datagram that was sent to all replicas.
+fn datagram_of<'a>(rt: &impl Abort, out: &'a Out) -> &'a [u8] {
+    match out {
+        Out::Send(Dest::Replicas, bytes) => bytes.as_slice(),
+        _ => panic!(rt; "no send to all replicas"),
+    }
+}
+
+/// The fragment that it spells.
+fn fragment_of(rt: &impl Abort, alloc: Global, datagram: &[u8]) -> Fragment {
+    match decode(alloc, datagram) {
         Ok(Datagram::Fragment(fragment)) => fragment,
         _ => panic!(rt; "no fragment"),
     }
@@ -70,7 +75,7 @@ fn joined(rt: &impl Abort, alloc: Global, sent: &[Out]) -> Vec<u8> {
     let mut kept = Reassembly::new(alloc, 3).expect(rt, "memory");
     let mut whole = Vec::new(alloc);
     for out in sent.iter().rev() {
-        let fragment = fragment_of(rt, alloc, out);
+        let fragment = fragment_of(rt, alloc, datagram_of(rt, out));
         if let Some(bytes) = taken(rt, &mut kept, &fragment) {
             whole
                 .extend_from_slice(bytes.as_slice())
@@ -80,21 +85,17 @@ fn joined(rt: &impl Abort, alloc: Global, sent: &[Out]) -> Vec<u8> {
     whole
 }
 
-/// How many bytes the last datagram has.
-fn last_len(sent: &[Out]) -> usize {
-    match sent.last() {
-        Some(Out::Send(_, bytes)) => bytes.as_slice().len(),
-        _ => 0,
-    }
-}
-
 /// A message of so many bytes is cut into so many fragments, the last of a datagram of that length, and joined again.
 fn check_length(rt: &impl Abort, alloc: Global, len: u32, count: usize, last: usize) {
     let message = filled(rt, alloc, len);
     let mut out = Outbox::new(alloc);
     cut(alloc, 2, 5, &message, &mut out, Dest::Replicas).expect(rt, "cut");
     let sent = out.as_slice();
-    assert!(rt; sent.len() == count && last_len(sent) == last, "{len}");
+    let last_sent = sent.last().expect(rt, "a datagram");
+    assert!(rt;
+        sent.len() == count && datagram_of(rt, last_sent).len() == last,
+        "{len}"
+    );
     assert!(rt; joined(rt, alloc, sent) == message, "{len}");
 }
 

@@ -1,11 +1,9 @@
-//! Tests of the formats, of schedules and transcripts, of the shared types and of devices in memory, by the public calls of the
-//! crates below. It holds nothing else.
+//! Tests of the formats, of schedules and transcripts, and of the shared types, by the public calls of the crates below. It holds
+//! nothing else.
 #![tactic(auto)]
 
 #[cfg(test)]
 mod datagrams;
-#[cfg(test)]
-mod devices;
 #[cfg(test)]
 mod joining;
 #[cfg(test)]

@@ -1,7 +1,5 @@
-ghost use Rattle.std.specs.Prelude.{◌≤◌, length};
-
-use crate::rows::check_text;
-use nop_types::{Actor, Bytes, Config, Dest, Entry, Op, Phase, Request, View};
+use crate::rows::{check_text, request};
+use nop_types::{Actor, Bytes, Config, Dest, Entry, Phase, View};
 use outside::ReadMem;
 use schedule_text::{
     Event, NextError, Reader, accept_line, busy_line, dead_line, end_line, entry_line, error_line,
@@ -12,14 +10,20 @@ use std::process::Abort;
 
 const FIRST: &[u8] = b"nopaxos 1 replicas 3 sequencers 2 clients 2\n";
 
+fn event_letter(event: &Event) -> u8 {
+    match event {
+        Event::Submit(..) => b's',
+        Event::Deliver(..) => b'd',
+        Event::Tick(..) => b't',
+        Event::Install(_) => b'i',
+        Event::Crash(_) => b'c',
+        Event::Junk(..) => b'j',
+    }
+}
+
 fn letter(answer: &Result<Option<Event>, NextError>) -> u8 {
     match answer {
-        Ok(Some(Event::Submit(..))) => b's',
-        Ok(Some(Event::Deliver(..))) => b'd',
-        Ok(Some(Event::Tick(..))) => b't',
-        Ok(Some(Event::Install(_))) => b'i',
-        Ok(Some(Event::Crash(_))) => b'c',
-        Ok(Some(Event::Junk(..))) => b'j',
+        Ok(Some(event)) => event_letter(event),
         Ok(None) => b'.',
         Err(NextError::BadLine { rule, .. }) => b'0'.wrapping_add(*rule),
         Err(NextError::ReadFault) => b'f',
@@ -158,16 +162,6 @@ error line 1000001 rule 10
 error line 5 rule 8 index 7 sent 2
 ";
 
-fn request(rt: &impl Abort, alloc: Global, client: u32, id: u64, op: &[u8]) -> Request
-    requires { length op.now ≤ 7 }
-{
-    Request {
-        client,
-        id,
-        op: Op::new(alloc, op).expect(rt, "memory"),
-    }
-}
-
 /// The lines of requests and of what clients do.
 fn put_requests(rt: &impl Abort, alloc: Global, to: &mut Vec<u8>) {
     let config = Config::new(3, 2, 16).expect(rt, "limits");
@@ -181,75 +175,31 @@ fn put_requests(rt: &impl Abort, alloc: Global, to: &mut Vec<u8>) {
     busy_line(3, to).expect(rt, "memory");
 }
 
-/// The line of a datagram of this kind and length.
-fn put_send(
-    rt: &impl Abort,
-    alloc: Global,
-    index: u64,
-    ends: (Actor, Dest),
-    kind: u8,
-    len: usize,
-    to: &mut Vec<u8>,
-) {
-    let (from, dest) = ends;
-    let mut datagram = Vec::from_slice(alloc, &[0x4e, 0x4f, 1, kind]).expect(rt, "memory");
-    datagram.resize(len, 0).expect(rt, "memory");
-    send_line(index, from, dest, &datagram, to).expect(rt, "memory");
-}
+/// Datagrams: an index, from whom, to whom, a kind and a length.
+const SENDS: [(u64, Actor, Dest, u8, usize); 8] = [
+    (0, Actor::Client(0), Dest::Sequencers, 1, 25),
+    (1, Actor::Sequencer(0), Dest::Replicas, 2, 37),
+    (2, Actor::Replica(0), Dest::One(Actor::Client(0)), 3, 36),
+    (3, Actor::Controller, Dest::One(Actor::Sequencer(1)), 4, 9),
+    (4, Actor::Sequencer(1), Dest::One(Actor::Controller), 5, 9),
+    (5, Actor::Controller, Dest::One(Actor::Sequencer(0)), 6, 9),
+    (6, Actor::Sequencer(0), Dest::One(Actor::Controller), 7, 9),
+    (
+        u64::MAX,
+        Actor::Replica(1),
+        Dest::One(Actor::Replica(2)),
+        8,
+        31,
+    ),
+];
 
 /// The lines of sends.
 fn put_sends(rt: &impl Abort, alloc: Global, to: &mut Vec<u8>) {
-    let (first, second) = (Actor::Sequencer(0), Actor::Sequencer(1));
-    let client = Actor::Client(0);
-    put_send(rt, alloc, 0, (client, Dest::Sequencers), 1, 25, to);
-    put_send(rt, alloc, 1, (first, Dest::Replicas), 2, 37, to);
-    put_send(
-        rt,
-        alloc,
-        2,
-        (Actor::Replica(0), Dest::One(client)),
-        3,
-        36,
-        to,
-    );
-    put_send(
-        rt,
-        alloc,
-        3,
-        (Actor::Controller, Dest::One(second)),
-        4,
-        9,
-        to,
-    );
-    put_send(
-        rt,
-        alloc,
-        4,
-        (second, Dest::One(Actor::Controller)),
-        5,
-        9,
-        to,
-    );
-    put_send(
-        rt,
-        alloc,
-        5,
-        (Actor::Controller, Dest::One(first)),
-        6,
-        9,
-        to,
-    );
-    put_send(
-        rt,
-        alloc,
-        6,
-        (first, Dest::One(Actor::Controller)),
-        7,
-        9,
-        to,
-    );
-    let ends = (Actor::Replica(1), Dest::One(Actor::Replica(2)));
-    put_send(rt, alloc, u64::MAX, ends, 8, 31, to);
+    for (index, from, dest, kind, len) in &SENDS {
+        let mut datagram = Vec::from_slice(alloc, &[0x4e, 0x4f, 1, *kind]).expect(rt, "memory");
+        datagram.resize(*len, 0).expect(rt, "memory");
+        send_line(*index, *from, *dest, &datagram, to).expect(rt, "memory");
+    }
 }
 
 /// The lines of a state, and of the end.

@@ -82,35 +82,50 @@ fn rows(rt: HostRuntime) {
     }
 }
 
-/// Messages whose logs are borrowed, of two NO-OPs each.
+/// A log of two NO-OPs, which messages borrow.
+const NO_OPS: [Entry; 2] = [Entry::NoOp, Entry::NoOp];
+
+const FIRST: View = View {
+    leader: 0,
+    session: 1,
+};
+
+const SECOND: View = View {
+    leader: 1,
+    session: 1,
+};
+
 #[test]
-fn spells_borrowed_logs(rt: HostRuntime) {
-    let alloc = rt.alloc();
-    let log = [Entry::NoOp, Entry::NoOp];
-    let first = View {
-        leader: 0,
-        session: 1,
-    };
-    let second = View {
-        leader: 1,
-        session: 1,
-    };
+fn spells_a_borrowed_change(rt: HostRuntime) {
     let body = LogBody::ViewChange {
-        last_normal: first,
+        last_normal: FIRST,
         next: 3,
-        log: &log,
+        log: &NO_OPS,
     };
-    let change = EncodedPeer::with_log(alloc, 2, second, body).expect(&rt, "memory");
+    let change = EncodedPeer::with_log(rt.alloc(), 2, SECOND, body).expect(&rt, "memory");
     let bytes = b"\x15\x02\0\0\0\x01\0\0\0\x01\0\0\0\0\0\0\0\x01\0\0\0\0\0\0\0\x03\0\0\0\x02\0\0";
     assert!(rt; change.sender() == 2);
     assert!(rt; change.as_slice() == bytes.as_slice());
-    let body = LogBody::StartView { next: 3, log: &log };
-    let start = EncodedPeer::with_log(alloc, 1, second, body).expect(&rt, "memory");
+}
+
+#[test]
+fn spells_a_borrowed_start(rt: HostRuntime) {
+    let body = LogBody::StartView {
+        next: 3,
+        log: &NO_OPS,
+    };
+    let start = EncodedPeer::with_log(rt.alloc(), 1, SECOND, body).expect(&rt, "memory");
     let bytes = b"\x16\x01\0\0\0\x01\0\0\0\x01\0\0\0\0\0\0\0\x03\0\0\0\x02\0\0";
     assert!(rt; start.sender() == 1);
     assert!(rt; start.as_slice() == bytes.as_slice());
+}
+
+#[test]
+fn appends_a_borrowed_log(rt: HostRuntime) {
+    let alloc = rt.alloc();
     let mut to = Vec::from_slice(alloc, b"before").expect(&rt, "memory");
-    encode_with_log(alloc, 0, first, LogBody::SyncPrepare(&log), &mut to).expect(&rt, "memory");
+    let body = LogBody::SyncPrepare(&NO_OPS);
+    encode_with_log(alloc, 0, FIRST, body, &mut to).expect(&rt, "memory");
     let bytes = b"before\x17\0\0\0\0\0\0\0\0\x01\0\0\0\x02\0\0";
     assert!(rt; to.as_slice() == bytes.as_slice());
 }

@@ -1,3 +1,4 @@
+use nop_types::{MAX_OP_BYTES, Op, Request};
 use std::alloc::Global;
 use std::fmt::Debug;
 use std::process::Abort;
@@ -17,6 +18,16 @@ pub fn bytes_of(rt: &impl Abort, alloc: Global, row: &str) -> Vec<u8> {
         put_bytes(rt, alloc, word, &mut bytes);
     }
     bytes
+}
+
+/// The request of a client with this id and this op.
+pub fn request(rt: &impl Abort, alloc: Global, client: u32, id: u64, op: &[u8]) -> Request {
+    assert!(rt; op.len() <= MAX_OP_BYTES);
+    Request {
+        client,
+        id,
+        op: Op::new(alloc, op).expect(rt, "memory"),
+    }
 }
 
 /// Whether a text is the one that is told, or begins so where that ends in two dots.

@@ -1,20 +1,13 @@
-use crate::rows::{check_text, text};
-use nop_types::{Bytes, Config, Entry, Log, Op, Out, Outbox, Request, View, leader_of};
+use crate::rows::{check_text, request, text};
+use nop_types::{Bytes, Config, Entry, Log, Out, Outbox, View, leader_of};
 use std::alloc::Global;
 use std::process::Abort;
-
-fn request(rt: &impl Abort, alloc: Global) -> Request {
-    Request {
-        client: 7,
-        id: 3,
-        op: Op::new(alloc, b"op").expect(rt, "memory"),
-    }
-}
 
 /// A copy of a log of a request and a NO-OP, each of which is a copy.
 fn log(rt: &impl Abort, alloc: Global) -> Log {
     let mut log = Log::with_capacity(alloc, 2).expect(rt, "memory");
-    let first = request(rt, alloc).try_clone().expect(rt, "memory");
+    let first = request(rt, alloc, 7, 3, b"op");
+    let first = first.try_clone().expect(rt, "memory");
     log.push(Entry::Req(first)).expect(rt, "memory");
     log.push(Entry::NoOp).expect(rt, "memory");
     log.try_clone().expect(rt, "memory")
@@ -29,7 +22,8 @@ fn copies(rt: HostRuntime) {
     let bytes = Bytes::new(alloc, b"abc").expect(&rt, "memory");
     let copy = bytes.try_clone().expect(&rt, "memory").into_vec();
     assert!(rt; copy.as_slice() == b"abc".as_slice());
-    let op = request(&rt, alloc).op.try_clone().expect(&rt, "memory");
+    let request = request(&rt, alloc, 7, 3, b"op");
+    let op = request.op.try_clone().expect(&rt, "memory");
     check_text(&rt, &text(&rt, alloc, &op), "Op { bytes: [111, 112] }");
 }
 

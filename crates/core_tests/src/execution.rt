@@ -1,8 +1,8 @@
-use crate::rows::{bytes_of, check_text, put_line};
+use crate::rows::{bytes_of, request};
 use client_table::{ClientTable, Judged};
 use executor::Executor;
 use kv_host::KvHost;
-use nop_types::{Bytes, Entry, Host, MAX_OP_BYTES, Op, Request};
+use nop_types::{Bytes, Entry, Host};
 use replica_log::ReplicaLog;
 use std::alloc::Global;
 use std::process::Abort;
@@ -52,34 +52,26 @@ noop
 4 1 4700016b";
 
 /// The last answers: an id that is not the last one of its client has none.
-const RESULTS: &str = "\
-1 2 none
-1 1
-1 3
-2 1 =v
-3 1 =v
-4 1 none
-0 0
-";
-
-fn request(rt: &impl Abort, alloc: Global, row: &str) -> Request {
-    let (client, rest) = row.split_once(' ').expect(rt, "a client");
-    let (id, op) = rest.split_once(' ').expect(rt, "an id");
-    let op = bytes_of(rt, alloc, op);
-    assert!(rt; op.len() <= MAX_OP_BYTES);
-    Request {
-        client: client.parse::<u32>().expect(rt, "a number"),
-        id: id.parse::<u64>().expect(rt, "a number"),
-        op: Op::from_vec(op),
-    }
-}
+const RESULTS: [(u32, u64, Option<&str>); 7] = [
+    (1, 2, Some("none")),
+    (1, 1, None),
+    (1, 3, None),
+    (2, 1, Some("=v")),
+    (3, 1, Some("=v")),
+    (4, 1, Some("none")),
+    (0, 0, None),
+];
 
 fn entry(rt: &impl Abort, alloc: Global, row: &str) -> Entry {
     if row == "noop" {
-        Entry::NoOp
-    } else {
-        Entry::Req(request(rt, alloc, row))
+        return Entry::NoOp;
     }
+    let (client, rest) = row.split_once(' ').expect(rt, "a client");
+    let (id, op) = rest.split_once(' ').expect(rt, "an id");
+    let client = client.parse::<u32>().expect(rt, "a number");
+    let id = id.parse::<u64>().expect(rt, "a number");
+    let op = bytes_of(rt, alloc, op);
+    Entry::Req(request(rt, alloc, client, id, &op))
 }
 
 fn log_of_slots(rt: &impl Abort, alloc: Global) -> ReplicaLog {
@@ -102,32 +94,19 @@ fn executed_again<H: Host>(rt: &impl Abort, alloc: Global, log: &ReplicaLog) -> 
     executor
 }
 
-/// Adds a client and an id, and the last answer.
-fn put_result<H: Host>(rt: &impl Abort, executor: &Executor<H>, row: &str, to: &mut String) {
-    let mut words = row.split(' ');
-    let client = words.next().expect(rt, "a client");
-    let id = words.next().expect(rt, "an id");
-    to.push_str(client).expect(rt, "memory");
-    to.push(' ').expect(rt, "memory");
-    to.push_str(id).expect(rt, "memory");
-    let client = client.parse::<u32>().expect(rt, "a number");
-    let id = id.parse::<u64>().expect(rt, "a number");
-    if let Some(bytes) = executor.result(client, id) {
-        let text = std::str::from_utf8(bytes.as_slice()).expect(rt, "text");
-        to.push(' ').expect(rt, "memory");
-        to.push_str(text).expect(rt, "memory");
+fn check_answer(rt: &impl Abort, given: Option<&Bytes>, told: Option<&str>) {
+    assert!(rt; given.is_some() == told.is_some());
+    if let Some(answer) = given {
+        assert!(rt; answer.as_slice() == told.unwrap_or("").as_bytes());
     }
-    put_line(rt, "", to);
 }
 
 fn check_results<H: Host>(rt: &impl Abort, alloc: Global) {
     let log = log_of_slots(rt, alloc);
     let executor: Executor<H> = executed_again(rt, alloc, &log);
-    let mut given = String::new(alloc);
-    for row in RESULTS.lines() {
-        put_result(rt, &executor, row, &mut given);
+    for (client, id, told) in &RESULTS {
+        check_answer(rt, executor.result(*client, *id), *told);
     }
-    check_text(rt, &given, RESULTS);
 }
 
 #[test]

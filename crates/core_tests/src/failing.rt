@@ -31,16 +31,28 @@ fn fails_for_good<C: Core + Drop>(
     true
 }
 
+fn replica_fails(rt: &impl Abort, alloc: Global, config: Config) -> bool {
+    let core: Result<Replica<KvHost>, NoMemory> = Replica::new(alloc, config, 0);
+    fails_for_good(rt, alloc, core, Input::Tick(Tick::Suspect))
+}
+
+fn controller_fails(rt: &impl Abort, alloc: Global, config: Config) -> bool {
+    let core = Controller::new(alloc, config, 1);
+    fails_for_good(rt, alloc, core, Input::Tick(Tick::Probe))
+}
+
+fn sequencer_fails(rt: &impl Abort, alloc: Global) -> bool {
+    let core = Sequencer::new(alloc, 0);
+    fails_for_good(rt, alloc, core, Input::Packet(PING))
+}
+
 #[test]
 fn cores_fail_for_good(rt: HostRuntime) {
     let alloc = rt.alloc();
     let config = Config::new(3, 2, 1).expect(&rt, "a group");
-    let core: Result<Replica<KvHost>, NoMemory> = Replica::new(alloc, config, 0);
-    let mut failed = fails_for_good(&rt, alloc, core, Input::Tick(Tick::Suspect));
-    let core = Controller::new(alloc, config, 1);
-    failed |= fails_for_good(&rt, alloc, core, Input::Tick(Tick::Probe));
-    let core = Sequencer::new(alloc, 0);
-    failed |= fails_for_good(&rt, alloc, core, Input::Packet(PING));
+    let mut failed = replica_fails(&rt, alloc, config);
+    failed |= controller_fails(&rt, alloc, config);
+    failed |= sequencer_fails(&rt, alloc);
     if failed {
         let _ = println!(rt; "failed");
     }

@@ -61,20 +61,18 @@ const SHORT: &str = "\
 47 0001 6b 00
 50 0001 6b 0001 76 76";
 
-/// Adds a letter or a field, which begins with its length.
-fn put_word(rt: &impl Abort, word: &str, is_field: bool, to: &mut Vec<u8>) {
+/// Adds the length of a field.
+fn put_len(rt: &impl Abort, len: usize, to: &mut Vec<u8>) {
+    let len = u16::try_from(len).expect(rt, "a short field");
+    to.extend_from_slice(&len.to_be_bytes())
+        .expect(rt, "memory");
+}
+
+/// Adds a field, which begins with its length.
+fn put_field(rt: &impl Abort, word: &str, to: &mut Vec<u8>) {
     let (piece, count) = word.split_once('*').unwrap_or((word, "1"));
-    let count = if word == "-" {
-        0
-    } else {
-        count.parse::<usize>().expect(rt, "a number")
-    };
-    if is_field {
-        let len = count.saturating_mul(piece.len()) as u64;
-        let len = u16::try_from(len).expect(rt, "a short field");
-        to.extend_from_slice(&len.to_be_bytes())
-            .expect(rt, "memory");
-    }
+    let count = count.parse::<usize>().expect(rt, "a number");
+    put_len(rt, count.saturating_mul(piece.len()), to);
     for _ in 0..count {
         to.extend_from_slice(piece.as_bytes()).expect(rt, "memory");
     }
@@ -82,11 +80,14 @@ fn put_word(rt: &impl Abort, word: &str, is_field: bool, to: &mut Vec<u8>) {
 
 /// The bytes of an op.
 fn spelled(rt: &impl Abort, alloc: Global, op: &str) -> Vec<u8> {
-    let mut bytes = Vec::new(alloc);
-    let mut is_field = false;
-    for word in op.split(' ') {
-        put_word(rt, word, is_field, &mut bytes);
-        is_field = true;
+    let (letter, fields) = op.split_once(' ').unwrap_or((op, ""));
+    let mut bytes = letter.as_bytes().to_vec(alloc).expect(rt, "memory");
+    for word in fields.split(' ') {
+        match word {
+            "" => {}
+            "-" => put_len(rt, 0, &mut bytes),
+            _ => put_field(rt, word, &mut bytes),
+        }
     }
     bytes
 }

@@ -1,5 +1,5 @@
-use crate::rows::{check_text, numbers, put_line};
-use nop_types::{Entry, Log, MAX_SLOTS, Op, Request};
+use crate::rows::{check_text, numbers, put_line, request};
+use nop_types::{Entry, Log, MAX_SLOTS, Request};
 use replica_log::ReplicaLog;
 use slot_lookup::{Answer, answer};
 use std::alloc::Global;
@@ -10,8 +10,7 @@ fn entry(rt: &impl Abort, alloc: Global, id: u64) -> Entry {
     if id == 0 {
         return Entry::NoOp;
     }
-    let op = Op::new(alloc, b"op").expect(rt, "memory");
-    Entry::Req(Request { client: 7, id, op })
+    Entry::Req(request(rt, alloc, 7, id, b"op"))
 }
 
 /// A log with these entries.

@@ -1,7 +1,7 @@
 ghost use Rattle.nop_types.specs.Ranges.{StampedFits};
 
-use crate::rows::{check_text, put_line};
-use nop_types::{MAX_QUEUED, NUMBER_END, Op, Request, Stamped};
+use crate::rows::{check_text, put_line, request};
+use nop_types::{MAX_QUEUED, NUMBER_END, Stamped};
 use oum_receiver::{Receiver, Upcall, Verdict};
 use std::alloc::Global;
 use std::process::Abort;
@@ -11,16 +11,10 @@ fn packet(rt: &impl Abort, alloc: Global, session: u32, number: u64) -> Stamped
     ensures { StampedFits result }
 {
     assert!(rt; session > 0 && number > 0 && number < NUMBER_END);
-    let op = Op::new(alloc, b"op").expect(rt, "memory");
-    let request = Request {
-        client: 7,
-        id: number,
-        op,
-    };
     Stamped {
         session,
         number,
-        request,
+        request: request(rt, alloc, 7, number, b"op"),
     }
 }
 

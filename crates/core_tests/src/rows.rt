@@ -1,3 +1,6 @@
+ghost use Rattle.std.specs.Prelude.{◌≡◌};
+
+use nop_types::{MAX_OP_BYTES, Op, Request};
 use std::alloc::Global;
 use std::fmt::Debug;
 use std::process::Abort;
@@ -5,9 +8,11 @@ use std::process::Abort;
 /// The numbers of a row, with spaces between them.
 pub fn numbers(rt: &impl Abort, alloc: Global, row: &str) -> Vec<u64> {
     let mut numbers = Vec::new(alloc);
-    for word in row.split_whitespace() {
-        let number = word.parse::<u64>().expect(rt, "a number");
-        numbers.push(number).expect(rt, "memory");
+    for word in row.split(' ') {
+        if !word.is_empty() {
+            let number = word.parse::<u64>().expect(rt, "a number");
+            numbers.push(number).expect(rt, "memory");
+        }
     }
     numbers
 }
@@ -20,13 +25,25 @@ fn put_bytes(rt: &impl Abort, alloc: Global, word: &str, bytes: &mut Vec<u8>) {
     }
 }
 
-/// The bytes of words of two digits for each byte, where `ff*640` has its bytes 640 times.
+/// The bytes of words of two digits for each byte, with a space between two words, where `ff*640` has its bytes 640 times.
 pub fn bytes_of(rt: &impl Abort, alloc: Global, row: &str) -> Vec<u8> {
     let mut bytes = Vec::new(alloc);
-    for word in row.split_whitespace() {
+    for word in row.split(' ') {
         put_bytes(rt, alloc, word, &mut bytes);
     }
     bytes
+}
+
+/// The request of a client with this id and this op.
+pub fn request(rt: &impl Abort, alloc: Global, client: u32, id: u64, op: &[u8]) -> Request
+    ensures { result.id ≡ id }
+{
+    assert!(rt; op.len() <= MAX_OP_BYTES);
+    Request {
+        client,
+        id,
+        op: Op::new(alloc, op).expect(rt, "memory"),
+    }
 }
 
 /// Adds a text and a line end.

@@ -20,20 +20,28 @@ fn tick_of(rt: &impl Abort, name: &str) -> Tick {
     }
 }
 
-/// The bytes of a datagram that was sent.
-fn datagram<'a>(rt: &impl Abort, sent: &'a Outbox, number: &str) -> &'a [u8] {
-    let i = number.parse::<usize>().expect(rt, "a number");
-    match sent.as_slice().get(i) {
-        Some(Out::Send(_, bytes)) => bytes.as_slice(),
-        _ => panic!(rt; "no such datagram"),
+/// The bytes of a datagram.
+fn datagram<'a>(rt: &impl Abort, out: &'a Out) -> &'a [u8] {
+    match out {
+        Out::Send(_, bytes) => bytes.as_slice(),
+        _ => panic!(rt; "no datagram"),
     }
+}
+
+/// The output with this number.
+fn output<'a>(rt: &impl Abort, sent: &'a Outbox, number: &str) -> &'a Out {
+    let i = number.parse::<usize>().expect(rt, "a number");
+    sent.as_slice().get(i).expect(rt, "an output")
 }
 
 /// The bytes of an input: none of a tick, a datagram that was sent, or in hexadecimal.
 fn bytes_in(rt: &impl Abort, alloc: Global, kind: &str, rest: &str, sent: &Outbox) -> Vec<u8> {
     match kind {
         "tick" => Vec::new(alloc),
-        "sent" => datagram(rt, sent, rest).to_vec(alloc).expect(rt, "memory"),
+        "sent" => {
+            let bytes = datagram(rt, output(rt, sent, rest));
+            bytes.to_vec(alloc).expect(rt, "memory")
+        }
         _ => bytes_of(rt, alloc, rest),
     }
 }

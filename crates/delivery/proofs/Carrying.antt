@@ -15,9 +15,9 @@ use Rattle.fragments.proofs.Whole.{joins_what_was_sent}
 use Rattle.peer_codec.specs.declared.bad_peer.BadPeer.{BadPeer}
 use Rattle.peer_codec.specs.Reading.{reading}
 use Rattle.peer_codec.proofs.Peers.{reads_again}
-use Rattle.replica_rows.specs.declared.sending.Sending.{Sending}
+use Rattle.replica_state.specs.declared.sending.Sending.{Sending}
 use Rattle.replica_core.specs.Posting.{posted}
-use Rattle.replica_rows.specs.Sends.{SendingFits, message_count}
+use Rattle.replica_state.specs.Sends.{SendingFits, message_count}
 use Rattle.delivery.specs.Carried.{Carried, IsMessage, IsWhole, WasTold}
 use Rattle.delivery.specs.PostedFragments.{fragments_in, messages_from, fragments_of_all}
 use Rattle.delivery.specs.Sends.{peers_in, IsBy}

@@ -22,13 +22,13 @@ use Rattle.oum_receiver.specs.Front.{Nothing, Message, front_at}
 use Rattle.oum_receiver.specs.Receiving.{Receiving, QueuedFits, IsSound, judged, front_of}
 use Rattle.sync_points.specs.Synchronisation.{Synchronisation, Round}
 use Rattle.sync_points.specs.Synchronisation as synchronisation
-use Rattle.replica_rows.specs.declared.sending.Sending.{Sending}
-use Rattle.replica_rows.specs.declared.state.ReplicaState.{ReplicaState}
-use Rattle.replica_rows.specs.State.{others}
-use Rattle.replica_rows.specs.Sends.{Effect, still, then_do, when, to_replica, to_all, to_all_if, SendingFits}
-use Rattle.replica_rows.specs.Moves.{entered, own_change}
+use Rattle.replica_state.specs.declared.sending.Sending.{Sending}
+use Rattle.replica_state.specs.declared.state.ReplicaState.{ReplicaState}
+use Rattle.replica_state.specs.State.{others}
+use Rattle.replica_state.specs.Sends.{Effect, still, then_do, when, to_replica, to_all, to_all_if, SendingFits}
+use Rattle.replica_state.specs.Moves.{entered, own_change}
 use Rattle.replica_rows.specs.Rows as rows
-use Rattle.replica_rows.specs.Within.{IsWithin}
+use Rattle.replica_state.specs.Within.{IsWithin}
 use Rattle.delivery.specs.Ranges.{StaysInRanges}
 
 -- ---- tests
@@ -109,11 +109,21 @@ message_fits x r sound e =
 pub not_nothing : (x : Receiving) (r : Request) → front_of x ≡ Message r → front_of x ≢ Nothing
 not_nothing x r e none = absurd cc
 
--- ---- changes of one field
+-- ---- changes of fields
 
-pub with_receiver : (s : ReplicaState) (x : Receiving) → IsWithin s → (s.status ≡ Normal → x.next ≡ s.next)
-    → IsWithin (record s { receiver = x })
-with_receiver s x w next = record {
+-- the fields of a synchronisation
+pub record SyncFits (x : Synchronisation) : Type 0 where
+  pub sync_point : x.sync_point ≤ MAX_SLOTS
+  pub syncing : IfSome x.syncing (λ r. r.len ≤ MAX_SLOTS)
+  pub prepared : x.prepared ≤ MAX_SLOTS
+
+pub sync_of : (s : ReplicaState) → IsWithin s → SyncFits s.sync
+sync_of s w = record { sync_point = w.sync_point; syncing = w.syncing; prepared = w.prepared }
+
+with_each : (s : ReplicaState) (x : Receiving) (o : Option Agreement) (n : ℕ) (b : Bool) (y : Synchronisation) → IsWithin s
+    → (s.status ≡ Normal → x.next ≡ s.next) → IfSome o (λ g. SlotFits g.slot) → SyncFits y
+    → IsWithin (record s { receiver = x; gap = o; asked = n; heard = b; sync = y })
+with_each s x o n b y w next gap sync = record {
   number = w.number;
   few = w.few;
   view = w.view;
@@ -123,66 +133,28 @@ with_receiver s x w next = record {
   base = w.base;
   start = w.start;
   receiver = next;
-  gap = w.gap;
-  sync_point = w.sync_point;
-  syncing = w.syncing;
-  prepared = w.prepared;
+  gap = gap;
+  sync_point = sync.sync_point;
+  syncing = sync.syncing;
+  prepared = sync.prepared;
   changes = w.changes;
 }
+
+pub with_receiver : (s : ReplicaState) (x : Receiving) → IsWithin s → (s.status ≡ Normal → x.next ≡ s.next)
+    → IsWithin (record s { receiver = x })
+with_receiver s x w next = with_each s x s.gap s.asked s.heard s.sync w next w.gap (sync_of s w)
 
 pub with_gap : (s : ReplicaState) (o : Option Agreement) → IsWithin s → IfSome o (λ g. SlotFits g.slot) → IsWithin (record s { gap = o })
-with_gap s o w fits = record {
-  number = w.number;
-  few = w.few;
-  view = w.view;
-  last_normal = w.last_normal;
-  log = w.log;
-  next = w.next;
-  base = w.base;
-  start = w.start;
-  receiver = w.receiver;
-  gap = fits;
-  sync_point = w.sync_point;
-  syncing = w.syncing;
-  prepared = w.prepared;
-  changes = w.changes;
-}
+with_gap s o w fits = with_each s s.receiver o s.asked s.heard s.sync w w.receiver fits (sync_of s w)
 
 pub with_asked : (s : ReplicaState) (n : ℕ) → IsWithin s → IsWithin (record s { asked = n })
-with_asked s n w = record {
-  number = w.number;
-  few = w.few;
-  view = w.view;
-  last_normal = w.last_normal;
-  log = w.log;
-  next = w.next;
-  base = w.base;
-  start = w.start;
-  receiver = w.receiver;
-  gap = w.gap;
-  sync_point = w.sync_point;
-  syncing = w.syncing;
-  prepared = w.prepared;
-  changes = w.changes;
-}
+with_asked s n w = with_each s s.receiver s.gap n s.heard s.sync w w.receiver w.gap (sync_of s w)
 
 pub with_heard : (s : ReplicaState) (b : Bool) → IsWithin s → IsWithin (record s { heard = b })
-with_heard s b w = record {
-  number = w.number;
-  few = w.few;
-  view = w.view;
-  last_normal = w.last_normal;
-  log = w.log;
-  next = w.next;
-  base = w.base;
-  start = w.start;
-  receiver = w.receiver;
-  gap = w.gap;
-  sync_point = w.sync_point;
-  syncing = w.syncing;
-  prepared = w.prepared;
-  changes = w.changes;
-}
+with_heard s b w = with_each s s.receiver s.gap s.asked b s.sync w w.receiver w.gap (sync_of s w)
+
+pub with_sync : (s : ReplicaState) (x : Synchronisation) → IsWithin s → SyncFits x → IsWithin (record s { sync = x })
+with_sync s x w fits = with_each s s.receiver s.gap s.asked s.heard x w w.receiver w.gap fits
 
 pub entered_within : (s : ReplicaState) (v : View) → IsWithin s → ViewFits v → IsWithin (entered s v)
 entered_within s v w view = record {
@@ -200,33 +172,6 @@ entered_within s v w view = record {
   syncing = tt;
   prepared = omega arith;
   changes = tt;
-}
-
--- the fields of a synchronisation
-pub record SyncFits (x : Synchronisation) : Type 0 where
-  pub sync_point : x.sync_point ≤ MAX_SLOTS
-  pub syncing : IfSome x.syncing (λ r. r.len ≤ MAX_SLOTS)
-  pub prepared : x.prepared ≤ MAX_SLOTS
-
-pub sync_of : (s : ReplicaState) → IsWithin s → SyncFits s.sync
-sync_of s w = record { sync_point = w.sync_point; syncing = w.syncing; prepared = w.prepared }
-
-pub with_sync : (s : ReplicaState) (x : Synchronisation) → IsWithin s → SyncFits x → IsWithin (record s { sync = x })
-with_sync s x w fits = record {
-  number = w.number;
-  few = w.few;
-  view = w.view;
-  last_normal = w.last_normal;
-  log = w.log;
-  next = w.next;
-  base = w.base;
-  start = w.start;
-  receiver = w.receiver;
-  gap = w.gap;
-  sync_point = fits.sync_point;
-  syncing = fits.syncing;
-  prepared = fits.prepared;
-  changes = w.changes;
 }
 
 pub hears : (s : ReplicaState) → IsGood s → IsGood (rows.hear s)

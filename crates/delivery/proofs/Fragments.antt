@@ -12,7 +12,7 @@ use Rattle.fragments.specs.Runs.{AllCame}
 use Rattle.fragments.proofs.Came.{keeps_what_came}
 use Rattle.peer_codec.specs.declared.bad_peer.BadPeer.{BadPeer}
 use Rattle.peer_codec.specs.Reading as peer
-use Rattle.replica_rows.specs.Messages.{is_other}
+use Rattle.replica_state.specs.State.{is_other}
 use Rattle.replica_core.specs.ReplicaSteps.{Replica, of_sender_if, read, joined}
 use Rattle.replica_core.specs.ReplicaSteps.{fragment_if, fragment}
 use Rattle.delivery.specs.Carried.{Carried, WasTold}

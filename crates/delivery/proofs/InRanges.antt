@@ -43,33 +43,18 @@ use Rattle.slot_lookup.specs.Answer as answers
 use Rattle.sync_points.specs.Synchronisation as synchronisation
 use Rattle.view_change.specs.Gathering.{Gathering}
 use Rattle.view_change.specs.Gathering as gathering
-use Rattle.replica_rows.specs.declared.state.ReplicaState.{ReplicaState}
-use Rattle.replica_rows.specs.State.{opening, others, leader, leads, is_normal, drains, waits, waiting, has_room, may_append}
-use Rattle.replica_rows.specs.Sends.{Effect, then_do, to_leader, to_all, SendingFits}
-use Rattle.replica_rows.specs.Replies.{leader_reply, reply_if, reply_to, reply_for, replies_to, replies_above}
-use Rattle.replica_rows.specs.Moves.{queue, begin_session, logged, take_front, appended, fill, ask_if, gap_opened, open_gap, write_gap}
-use Rattle.replica_rows.specs.Moves.{add_gap, count_gap_vote, drain_drop, drain_at, drain_by, drain, listening, entered, own_change}
-use Rattle.replica_rows.specs.Moves.{change_told, enter_as, enter, adopted, adopt, open_with, open_view, open_if_enough, keep_change}
-use Rattle.replica_rows.specs.Moves.{resend_start, overlaid, overlay, obey, open_sync, repeat_commit, commit_if}
+use Rattle.replica_state.specs.declared.state.ReplicaState.{ReplicaState}
+use Rattle.replica_state.specs.State.{opening, others, leader, leads, is_normal, drains, waits, waiting, has_room, may_append, is_from_leader, is_to_leader, is_other, may_adopt}
+use Rattle.replica_state.specs.Sends.{Effect, then_do, to_leader, to_all, SendingFits}
+use Rattle.replica_state.specs.Replies.{leader_reply, reply_if, reply_to, reply_for, replies_to, replies_above}
+use Rattle.replica_state.specs.Moves.{queue, begin_session, logged, take_front, appended, fill, ask_if, gap_opened, open_gap, write_gap}
+use Rattle.replica_state.specs.Moves.{add_gap, count_gap_vote, drain_drop, drain_at, drain_by, drain, listening, entered, own_change}
+use Rattle.replica_state.specs.Moves.{change_told, enter_as, enter, adopted, adopt, open_with, open_view, open_if_enough, keep_change}
+use Rattle.replica_state.specs.Moves.{resend_start, overlaid, overlay, obey, open_sync, repeat_commit, commit_if}
 use Rattle.replica_rows.specs.Rows as rows
-use Rattle.replica_rows.specs.Messages.{
-  Arrival,
-  Packet,
-  Told,
-  Ticked,
-  from_leader,
-  from_follower,
-  by_role,
-  in_view,
-  on_body,
-  on_message,
-  ticked,
-  arrive,
-  is_from_leader,
-  is_to_leader,
-  is_other,
-}
-use Rattle.replica_rows.specs.Within.{IsWithin, ArrivalFits, ResultsShort}
+use Rattle.replica_rows.specs.Messages.{Arrival, Packet, Told, Ticked, from_leader, from_follower, by_role, in_view, on_body, on_message, ticked, arrive}
+use Rattle.replica_state.specs.Within.{IsWithin}
+use Rattle.replica_rows.specs.Within.{ArrivalFits, ResultsShort}
 use Rattle.replica_rows.proofs.Running.{
   append_within,
   open_gap_within,
@@ -474,7 +459,7 @@ module _ {S : Type 0} (m : Meaning S) (short : ResultsShort m) where
       → StaysInRanges (rows.start_view m q v x l s)
   unfolding rows.start_view
   start_view_stays s q v x l g view next log =
-      when_stays (rows.may_adopt s q v l) (λ t. adopt m t v x l) s g (λ _. adopt_stays s v x l g view next log)
+      when_stays (may_adopt s q v l) (λ t. adopt m t v x l) s g (λ _. adopt_stays s v x l g view next log)
 
   -- ---- rows of the leader's messages
 

@@ -8,9 +8,9 @@ use Rattle.facts.proofs.Members.{Has-first, Has-rest, Has-none, Has-cases, Has-a
 use Rattle.fragments.specs.Cutting.{fragments_of}
 use Rattle.fragments.specs.Runs.{Sent, IsCutFrom}
 use Rattle.peer_codec.specs.Spelling.{spelling}
-use Rattle.replica_rows.specs.declared.sending.Sending.{Sending}
-use Rattle.replica_rows.specs.declared.sending.Sending.TheVariants.{ToClient, ToReplicas}
-use Rattle.replica_rows.specs.Sends.{SendingFits, message_count}
+use Rattle.replica_state.specs.declared.sending.Sending.{Sending}
+use Rattle.replica_state.specs.declared.sending.Sending.TheVariants.{ToClient, ToReplicas}
+use Rattle.replica_state.specs.Sends.{SendingFits, message_count}
 use Rattle.delivery.specs.Carried.{IsMessage}
 use Rattle.delivery.specs.PostedFragments.{messages_from, fragments_of_all}
 use Rattle.delivery.specs.Sends.{peers_in, IsBy}

@@ -19,9 +19,9 @@ use Rattle.oum_codec.specs.declared.bad.Bad.{Bad}
 use Rattle.oum_codec.specs.Reading.{reading}
 use Rattle.oum_codec.specs.Spelling.{Spells}
 use Rattle.oum_codec.proofs.Datagrams.{reads_again}
-use Rattle.replica_rows.specs.declared.sending.Sending.{Sending}
+use Rattle.replica_state.specs.declared.sending.Sending.{Sending}
 use Rattle.replica_core.specs.Posting.{posted}
-use Rattle.replica_rows.specs.Sends.{SendingFits, message_count}
+use Rattle.replica_state.specs.Sends.{SendingFits, message_count}
 use Rattle.delivery.specs.Carried.{Carried}
 use Rattle.delivery.specs.Network.{bytes_in, fragments_among, IsDatagram, IsOtherDatagram, MayCome, Network}
 use Rattle.delivery.specs.PostedFragments.{fragment_read, fragments_in}

@@ -31,32 +31,16 @@ use Rattle.slot_lookup.specs.Answer.{Answer, Found, GapAgain, Begin, answer_of}
 use Rattle.slot_lookup.specs.Answer as answers
 use Rattle.sync_points.specs.Synchronisation.{vote_for}
 use Rattle.view_change.specs.Gathering.{Gathering}
-use Rattle.replica_rows.specs.declared.sending.Sending.{Sending}
-use Rattle.replica_rows.specs.declared.state.ReplicaState.{ReplicaState}
-use Rattle.replica_rows.specs.State.{others, leader, leads, is_normal, drains, waits, has_room, may_append}
-use Rattle.replica_rows.specs.Sends.{Effect, still, then_do, when, to_leader, to_all, to_all_if}
-use Rattle.replica_rows.specs.Replies.{reply_to, reply_if, leader_reply, reply_for, replies_to, replies_above}
-use Rattle.replica_rows.specs.Moves.{ask_if, open_gap, write_gap, add_gap, drain_drop, drain_at, drain_by, drain, entered, logged}
-use Rattle.replica_rows.specs.Moves.{enter_as, enter, change_told, adopted, adopt, open_with, open_view, open_if_enough, overlaid, overlay}
-use Rattle.replica_rows.specs.Moves.{commit_if, queue, keep_change, count_gap_vote, appended, begin_session}
+use Rattle.replica_state.specs.declared.sending.Sending.{Sending}
+use Rattle.replica_state.specs.declared.state.ReplicaState.{ReplicaState}
+use Rattle.replica_state.specs.State.{others, leader, leads, is_normal, drains, waits, has_room, may_append, is_from_leader, is_to_leader, is_other, may_adopt}
+use Rattle.replica_state.specs.Sends.{Effect, still, then_do, when, to_leader, to_all, to_all_if}
+use Rattle.replica_state.specs.Replies.{reply_to, reply_if, leader_reply, reply_for, replies_to, replies_above}
+use Rattle.replica_state.specs.Moves.{ask_if, open_gap, write_gap, add_gap, drain_drop, drain_at, drain_by, drain, entered, logged}
+use Rattle.replica_state.specs.Moves.{enter_as, enter, change_told, adopted, adopt, open_with, open_view, open_if_enough, overlaid, overlay}
+use Rattle.replica_state.specs.Moves.{commit_if, queue, keep_change, count_gap_vote, appended, begin_session}
 use Rattle.replica_rows.specs.Rows as rows
-use Rattle.replica_rows.specs.Messages.{
-  Arrival,
-  Packet,
-  Told,
-  Ticked,
-  from_leader,
-  from_follower,
-  by_role,
-  in_view,
-  on_body,
-  on_message,
-  ticked,
-  arrive,
-  is_from_leader,
-  is_to_leader,
-  is_other,
-}
+use Rattle.replica_rows.specs.Messages.{Arrival, Packet, Told, Ticked, from_leader, from_follower, by_role, in_view, on_body, on_message, ticked, arrive}
 use Rattle.delivery.specs.Sends.{IsBy, GoesAmong}
 
 -- sent under a number, and where it is a message, to replicas of so many
@@ -192,7 +176,8 @@ enter_as_own true s = record { number = refl; count = refl; sends = all_by s bod
 enter_as_own false s = record {
   number = refl;
   count = refl;
-  sends = by_both s (to_all s bodies.ViewChangeReq) (change_told s) (all_by s bodies.ViewChangeReq) (record { by = refl; to = leads_among s }, tt);
+  sends = by_both s (to_all s bodies.ViewChangeReq) (change_told s) (all_by s bodies.ViewChangeReq)
+      (record { by = refl; to = leads_among s }, tt);
 }
 
 enter_own : (s : ReplicaState) (v : View) → Own s (enter s v)
@@ -205,7 +190,8 @@ adopt_own m s v x l = and_drain m (record { number = refl; count = refl; sends =
 
 open_with_own : {S : Type 0} (m : Meaning S) (s : ReplicaState) (x : ℕ) (l : List Entry) → Own s (open_with m s x l)
 open_with_own m s x l =
-    then_own (λ t. adopt m t t.view x l) (record { number = refl; count = refl; sends = all_by s (bodies.StartView x l) }) (adopt_own m s s.view x l)
+    then_own (λ t. adopt m t t.view x l) (record { number = refl; count = refl; sends = all_by s (bodies.StartView x l) })
+    (adopt_own m s s.view x l)
 
 open_if_own : {S : Type 0} (m : Meaning S) (o : Option Gathering) (s : ReplicaState) → Own s (open_if_enough m o s)
 open_if_own m None s = still_own s
@@ -258,10 +244,12 @@ view_change_own m s v c h =
 start_view_own : {S : Type 0} (m : Meaning S) (s : ReplicaState) (q : ℕ) (v : View) (x : ℕ) (l : List Entry)
     → Own s (rows.start_view m q v x l s)
 unfolding rows.start_view
-start_view_own m s q v x l = when_own (rows.may_adopt s q v l) _ s (adopt_own m s v x l)
+start_view_own m s q v x l = when_own (may_adopt s q v l) _ s (adopt_own m s v x l)
 
 gap_commit_if_own : {S : Type 0} (m : Meaning S) (a b : Bool) (k : ℕ) (s : ReplicaState) → Own s (rows.gap_commit_if m a b k s)
-gap_commit_if_own m true b k s = and_drain m (leader_own s (write_gap (rows.hear s) k).0 (rows.hear s) (bodies.GapRep k) (changed_own s _ refl refl) (changed_own s _ refl refl))
+gap_commit_if_own m true b k s =
+    and_drain m (leader_own s (write_gap (rows.hear s) k).0 (rows.hear s) (bodies.GapRep k) (changed_own s _ refl refl)
+    (changed_own s _ refl refl))
 gap_commit_if_own m false true k s =
     and_drain m (leader_own s (add_gap (rows.hear s)).0 (rows.hear s) (bodies.GapRep (length s.log + 1)) (changed_own s _ refl refl)
     (changed_own s _ refl refl))
@@ -283,7 +271,8 @@ unfolding overlay
 overlay_own m s l = record {
   number = refl;
   count = refl;
-  sends = by_both s (replies_above m (overlaid s l) (length s.log)) _ (above_by m (overlaid s l) (length s.log)) (record { by = refl; to = leads_among s }, tt);
+  sends = by_both s (replies_above m (overlaid s l) (length s.log)) _ (above_by m (overlaid s l) (length s.log))
+      (record { by = refl; to = leads_among s }, tt);
 }
 
 prepare_own : {S : Type 0} (m : Meaning S) (l : List Entry) (s : ReplicaState) → Own s (rows.sync_prepare m l s)
@@ -405,7 +394,8 @@ gap_again_own (Some g) s = record { number = refl; count = refl; sends = all_by 
 lookup_again_own : (front : Front) (s : ReplicaState) → Own s (rows.lookup_again front s)
 lookup_again_own Nothing s = still_own s
 lookup_again_own (Message r) s = still_own s
-lookup_again_own Dropped s = when_own (has_room s) _ s (record { number = refl; count = refl; sends = (record { by = refl; to = leads_among s }, tt) })
+lookup_again_own Dropped s =
+    when_own (has_room s) _ s (record { number = refl; count = refl; sends = (record { by = refl; to = leads_among s }, tt) })
 
 change_again_own : (b : Bool) (s : ReplicaState) → Own s (rows.change_again b s)
 change_again_own true s = still_own s

@@ -18,10 +18,10 @@ use Rattle.fragments.specs.Cutting.{fragments_of, sends_of, piece_count}
 use Rattle.fragments.specs.Runs.{CanBeCut}
 use Rattle.fragments.proofs.Limits.{cut_fragments_fit}
 use Rattle.peer_codec.specs.Spelling.{spelling}
-use Rattle.replica_rows.specs.declared.sending.Sending.{Sending}
-use Rattle.replica_rows.specs.declared.sending.Sending.TheVariants.{ToClient, ToReplicas}
+use Rattle.replica_state.specs.declared.sending.Sending.{Sending}
+use Rattle.replica_state.specs.declared.sending.Sending.TheVariants.{ToClient, ToReplicas}
 use Rattle.replica_core.specs.Posting.{message_outs, posted}
-use Rattle.replica_rows.specs.Sends.{SendingFits, message_count}
+use Rattle.replica_state.specs.Sends.{SendingFits, message_count}
 use Rattle.replica_core.proofs.Lengths.{message_is_cut}
 use Rattle.delivery.specs.Network.{bytes_in, IsFragment, IsReplyIn, PostsReplies}
 

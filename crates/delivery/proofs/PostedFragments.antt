@@ -15,9 +15,9 @@ use Rattle.peer_codec.specs.Spelling.{spelling}
 use Rattle.fragments.specs.Cutting.{fragments_of, sends_of}
 use Rattle.fragments.specs.Runs.{Sent}
 use Rattle.fragments.proofs.Limits.{cut_fragments_fit}
-use Rattle.replica_rows.specs.declared.sending.Sending.{Sending}
-use Rattle.replica_rows.specs.declared.sending.Sending.TheVariants.{ToClient, ToReplicas}
-use Rattle.replica_rows.specs.Sends.{SendingFits, message_count}
+use Rattle.replica_state.specs.declared.sending.Sending.{Sending}
+use Rattle.replica_state.specs.declared.sending.Sending.TheVariants.{ToClient, ToReplicas}
+use Rattle.replica_state.specs.Sends.{SendingFits, message_count}
 use Rattle.replica_core.specs.Posting.{reply_out, message_outs, posted}
 use Rattle.delivery.specs.PostedFragments.{fragment_read, fragment_in, fragments_in, messages_from, fragments_of_all, PostsFragments}
 use Rattle.delivery.proofs.Posted.{can_be_cut}

@@ -27,7 +27,7 @@ use Rattle.replica_rows.specs.Messages.{Arrival, arrive}
 use Rattle.replica_core.specs.Posting.{posted}
 use Rattle.replica_core.specs.ReplicaSteps.{Replica, post, row_if, row}
 use Rattle.replica_core.specs.ReplicaSteps.{fragment, on_datagram, next}
-use Rattle.replica_rows.specs.Sends.{Effect, still, message_count}
+use Rattle.replica_state.specs.Sends.{Effect, still, message_count}
 use Rattle.replica_rows.specs.Within.{ArrivalFits, ResultsShort}
 use Rattle.replica_rows.proofs.Counting.{arrive_sends_few}
 use Rattle.delivery.specs.Network.{bytes_in, fragments_among, Network, IsNoDatagram, MayCome}

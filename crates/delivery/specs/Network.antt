@@ -13,8 +13,8 @@ use Rattle.nop_types.specs.declared.peer.Peer.{Peer}
 use Rattle.oum_codec.specs.declared.bad.Bad.{Bad}
 use Rattle.oum_codec.specs.Spelling.{Spells, spelling}
 use Rattle.oum_codec.specs.Reading.{reading}
-use Rattle.replica_rows.specs.declared.sending.Sending.{Sending}
-use Rattle.replica_rows.specs.declared.sending.Sending.TheVariants.{ToClient}
+use Rattle.replica_state.specs.declared.sending.Sending.{Sending}
+use Rattle.replica_state.specs.declared.sending.Sending.TheVariants.{ToClient}
 use Rattle.replica_core.specs.Posting.{posted}
 use Rattle.delivery.specs.Carried.{Carried}
 use Rattle.delivery.specs.PostedFragments.{fragment_read}

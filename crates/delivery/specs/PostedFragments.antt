@@ -11,9 +11,9 @@ use Rattle.oum_codec.specs.Reading.{reading}
 use Rattle.peer_codec.specs.Spelling.{spelling}
 use Rattle.fragments.specs.Cutting.{fragments_of}
 use Rattle.fragments.specs.Runs.{Sent}
-use Rattle.replica_rows.specs.declared.sending.Sending.{Sending}
-use Rattle.replica_rows.specs.declared.sending.Sending.TheVariants.{ToClient, ToReplicas}
-use Rattle.replica_rows.specs.Sends.{message_count}
+use Rattle.replica_state.specs.declared.sending.Sending.{Sending}
+use Rattle.replica_state.specs.declared.sending.Sending.TheVariants.{ToClient, ToReplicas}
+use Rattle.replica_state.specs.Sends.{message_count}
 use Rattle.replica_core.specs.Posting.{posted}
 
 -- ---- the fragments among datagrams

@@ -1,8 +1,8 @@
 -- A state and what is sent are in their ranges.
 use Rattle.std.specs.List.{AllByRecursion}
 use Rattle.oum_receiver.specs.Receiving.{IsSound}
-use Rattle.replica_rows.specs.Sends.{Effect, SendingFits}
-use Rattle.replica_rows.specs.Within.{IsWithin}
+use Rattle.replica_state.specs.Sends.{Effect, SendingFits}
+use Rattle.replica_state.specs.Within.{IsWithin}
 
 -- the state is in its ranges, its receiver is sound, and what is sent is in its ranges
 pub record StaysInRanges (e : Effect) : Type 0 where

@@ -12,13 +12,14 @@ use Rattle.oum_receiver.specs.Receiving.{IsSound}
 use Rattle.facts.specs.Functions.{put}
 use Rattle.fragments.specs.Joining.{Waiting, taken}
 use Rattle.fragments.specs.Runs.{AllCame}
-use Rattle.replica_rows.specs.declared.state.ReplicaState.{ReplicaState}
+use Rattle.replica_state.specs.declared.state.ReplicaState.{ReplicaState}
 use Rattle.replica_rows.specs.Messages as messages
 use Rattle.replica_rows.specs.Messages.{Arrival, arrive}
 use Rattle.replica_core.specs.Posting.{posted}
 use Rattle.replica_core.specs.ReplicaSteps.{Replica, row}
-use Rattle.replica_rows.specs.Sends.{Effect, SendingFits, still, message_count}
-use Rattle.replica_rows.specs.Within.{IsWithin, ArrivalFits}
+use Rattle.replica_state.specs.Sends.{Effect, SendingFits, still, message_count}
+use Rattle.replica_rows.specs.Within.{ArrivalFits}
+use Rattle.replica_state.specs.Within.{IsWithin}
 use Rattle.delivery.specs.Carried.{WasTold}
 use Rattle.delivery.specs.Network.{bytes_in, fragments_among, Network}
 use Rattle.delivery.specs.Sends.{peers_in, IsBy}

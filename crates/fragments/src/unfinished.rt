@@ -46,15 +46,25 @@ fn empty_parts(alloc: Global, count: u16) -> Result<Vec<Option<Bytes>>, NoMemory
     Ok(parts)
 }
 
+/// Puts a part behind these bytes, where it came.
+fn append_part(to: &mut Vec<u8>, part: &Option<Bytes>) -> Result<(), NoMemory>
+    ensures ok { OnOk result (to.new.items ≡ to.old.items ++ bytes_of part.now) }
+    ensures err { OnErr result (to.new.items ≡ to.old.items) }
+{
+    let Some(bytes) = part else {
+        return Ok(());
+    };
+    to.extend_from_slice(bytes.as_slice())?;
+    Ok(())
+}
+
 /// Puts the parts that came behind these bytes. After an error some of them stand there.
 fn append_parts(to: &mut Vec<u8>, parts: &[Option<Bytes>]) -> Result<(), NoMemory>
     ensures ok { OnOk result (to.new.items ≡ to.old.items ++ whole parts.now) }
     ensures front { take (length to.old.items) to.new.items ≡ to.old.items }
 {
     for part in parts {
-        if let Some(bytes) = part {
-            to.extend_from_slice(bytes.as_slice())?;
-        }
+        append_part(to, part)?;
     }
     Ok(())
 }

@@ -49,8 +49,6 @@ impl Op {
     pub fn try_clone(&self) -> Result<Op, NoMemory>
         ensures { IfOk result (λ op. op ≡ self.now) }
     {
-        Ok(Op {
-            bytes: self.bytes.clone()?,
-        })
+        Op::new(*self.bytes.allocator(), &self.bytes)
     }
 }

@@ -2,24 +2,10 @@
 //! in one process, and the other commands one of them, over datagram sockets.
 #![tactic(auto)]
 
-mod cluster;
-mod commands;
-mod in_memory;
-mod node;
-mod run;
-mod sockets;
-mod status;
-mod system_clock;
-#[cfg(test)]
-mod tests;
-
-use run::run;
-use sockets::UdpPorts;
+use commands::{Status, SystemClock, UdpPorts, run};
 use standard_io::{StandardIn, StandardOut};
-use status::Status;
 use std::io::ErrorKind;
 use std::process::ExitCode;
-use system_clock::SystemClock;
 
 fn main(rt: HostRuntime) -> ExitCode {
     let words = match std::env::args(&rt) {

@@ -13,10 +13,8 @@ use std::alloc::Global;
 pub fn split_u8(bytes: &[u8]) -> Option<(u8, &[u8])>
     ensures { option_map (λ x. (x.0, x.1.now)) result ≡ byte_at bytes.now }
 {
-    match bytes {
-        [] => None,
-        [byte, rest @ ..] => Some((*byte, rest)),
-    }
+    let (byte, rest) = bytes.split_first()?;
+    Some((*byte, rest))
 }
 
 /// The number in the first two bytes, the higher one first, and the bytes after it.

@@ -27,7 +27,9 @@ fn within(bytes: &[u8], least: usize, most: usize) -> Result<&[u8], Bad>
 fn request(alloc: Global, bytes: &[u8]) -> Result<Datagram, Bad>
     ensures { Gives result (request_of bytes.now) }
 {
-    let (fields, rest) = RequestFields::split(bytes).ok_or(Bad::Short)?;
+    let Some((fields, rest)) = RequestFields::split(bytes) else {
+        return Err(Bad::Short);
+    };
     if !fields.is_in_range() {
         return Err(Bad::Field);
     }
@@ -44,7 +46,9 @@ fn request(alloc: Global, bytes: &[u8]) -> Result<Datagram, Bad>
 fn stamped(alloc: Global, bytes: &[u8]) -> Result<Datagram, Bad>
     ensures { Gives result (stamped_of bytes.now) }
 {
-    let (fields, rest) = StampedFields::split(bytes).ok_or(Bad::Short)?;
+    let Some((fields, rest)) = StampedFields::split(bytes) else {
+        return Err(Bad::Short);
+    };
     if !fields.is_in_range() {
         return Err(Bad::Field);
     }
@@ -65,7 +69,9 @@ fn stamped(alloc: Global, bytes: &[u8]) -> Result<Datagram, Bad>
 fn reply(alloc: Global, bytes: &[u8]) -> Result<Datagram, Bad>
     ensures { Gives result (reply_of bytes.now) }
 {
-    let (fields, rest) = ReplyFields::split(bytes).ok_or(Bad::Short)?;
+    let Some((fields, rest)) = ReplyFields::split(bytes) else {
+        return Err(Bad::Short);
+    };
     if !fields.is_in_range() {
         return Err(Bad::Field);
     }
@@ -86,7 +92,9 @@ fn reply(alloc: Global, bytes: &[u8]) -> Result<Datagram, Bad>
 fn signal(bytes: &[u8]) -> Result<SignalFields, Bad>
     ensures { Gives result (signal_of bytes.now) }
 {
-    let (fields, rest) = SignalFields::split(bytes).ok_or(Bad::Short)?;
+    let Some((fields, rest)) = SignalFields::split(bytes) else {
+        return Err(Bad::Short);
+    };
     if !fields.is_in_range() {
         return Err(Bad::Field);
     }
@@ -98,7 +106,9 @@ fn signal(bytes: &[u8]) -> Result<SignalFields, Bad>
 fn fragment(alloc: Global, bytes: &[u8]) -> Result<Datagram, Bad>
     ensures { Gives result (fragment_of bytes.now) }
 {
-    let (fields, rest) = FragmentFields::split(bytes).ok_or(Bad::Short)?;
+    let Some((fields, rest)) = FragmentFields::split(bytes) else {
+        return Err(Bad::Short);
+    };
     if !fields.is_in_range() {
         return Err(Bad::Field);
     }

@@ -1,10 +1,11 @@
-ghost use Rattle.std.specs.Prelude.{◌≡◌, ◌≤◌, [], length, All, IfOk, IfSome, OnOk, OnErr, IsErrOf, Some, true, false};
+ghost use Rattle.std.specs.Prelude.{◌≡◌, ◌≤◌, ◌++◌, ◌∷◌, [], drop, length, All, IfOk, IfSome, OnOk, OnErr, IsErrOf, Some, Ok, true, false};
 ghost use Rattle.outside.specs.Causes.{HasCauseFor};
-ghost use Rattle.outside.specs.Links.{Polls};
+ghost use Rattle.outside.specs.Links.{Polls, next_poll, poll_result};
 ghost use Rattle.outside.specs.Told.{Adds, Stays};
 ghost use Rattle.outside.specs.Memory.{MayAnswer, counted};
 ghost use Rattle.outside.specs.Plans.{new_plan, IsPlannedCall, plan_after_call};
 ghost use Rattle.outside.specs.declared.errors.DeviceError.TheVariants as errors;
+ghost use Rattle.outside.specs.declared.link.PollAnswer.TheVariants.{Failure};
 
 use crate::{CallPlan, Failed, Failing, Link, LinkError, PollAnswer, Sent, Unfailing};
 use nop_types::{Bytes, MAX_DATAGRAM_BYTES, NoMemory};
@@ -142,6 +143,43 @@ impl<P: CallPlan> LinkMem<P> {
         LinkMem { port, ..self }
     }
 
+    /// What the next poll gives.
+    fn peek(&self) -> Result<Option<Bytes>, LinkError>
+        ensures short { IfOk result (λ r. IfSome r (λ datagram. length datagram
+            ≤ MAX_DATAGRAM_BYTES)) }
+        ensures ok { IfOk result (λ r. poll_result (next_poll self.now.answers) ≡ Ok r) }
+        ensures failed { IsErrOf result errors.Failed → next_poll self.now.answers ≡ Failure }
+        ensures may_fail { IsErrOf result errors.Failed → P.may_fail ≡ true }
+    {
+        match self.answers.get(self.at) {
+            None | Some(PollAnswer::Nothing) => Ok(None),
+            Some(PollAnswer::Failure) => Err(LinkError::Failed),
+            Some(PollAnswer::Received(datagram)) => Ok(Some(datagram.try_clone()?)),
+        }
+    }
+
+    /// Lets the next poll have the answer after this one.
+    fn pass(&mut self)
+        ensures answers { self.new.answers ≡ drop 1 self.old.answers }
+        ensures rest { self.new ≡ record self.old { answers = self.new.answers } }
+    {
+        if self.at < self.answers.len() {
+            self.at += 1;
+        }
+    }
+
+    /// Keeps what was sent.
+    fn keep(&mut self, port: u16, bytes: &[u8]) -> Result<(), NoMemory>
+        ensures ok { OnOk result (self.new ≡ record self.old {
+          sent = self.old.sent ++ record { port = port; bytes = bytes.now } ∷ [];
+        }) }
+        ensures err { OnErr result (self.new ≡ self.old) }
+    {
+        let bytes = Bytes::new(self.alloc, bytes)?;
+        self.sent.push(Sent { port, bytes })?;
+        Ok(())
+    }
+
     /// What was sent, in order.
     pub fn sent(&self) -> &[Sent]
         ensures { result.now ≡ self.now.sent }
@@ -179,22 +217,17 @@ impl<P: CallPlan> Link for LinkMem<P> {
         // The plan of the sends stays.
         ensures plan { self.new.sends ≡ self.old.sends }
     {
-        match self.answers.get(self.at) {
-            None => Ok(None),
-            Some(PollAnswer::Nothing) => {
-                self.at += 1;
-                Ok(None)
+        match self.peek() {
+            Ok(datagram) => {
+                self.pass();
+                Ok(datagram)
             }
-            Some(PollAnswer::Failure) => {
-                self.at += 1;
+            Err(LinkError::Failed) => {
+                self.pass();
                 self.faults = self.faults.saturating_add(1);
                 Err(LinkError::Failed)
             }
-            Some(PollAnswer::Received(datagram)) => {
-                let datagram = datagram.try_clone()?;
-                self.at += 1;
-                Ok(Some(datagram))
-            }
+            Err(LinkError::NoMemory) => Err(LinkError::NoMemory),
         }
     }
 
@@ -217,8 +250,7 @@ impl<P: CallPlan> Link for LinkMem<P> {
     {
         let answer = self.sends.answer(0);
         if answer.is_ok() {
-            let bytes = Bytes::new(self.alloc, bytes)?;
-            self.sent.push(Sent { port, bytes })?;
+            self.keep(port, bytes)?;
         }
         self.sends.advance(0);
         match answer {

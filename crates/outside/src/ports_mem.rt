@@ -1,4 +1,4 @@
-ghost use Rattle.std.specs.Prelude.{◌≡◌, ◌+◌, ◌<◌, [], length, drop, All, IfOk, OnOk, OnErr, IsErrOf, Some};
+ghost use Rattle.std.specs.Prelude.{◌≡◌, ◌+◌, ◌<◌, ◌≤◌, [], length, drop, All, IfOk, OnOk, OnErr, IsErrOf, Some};
 ghost use Rattle.outside.specs.Causes.{HasCauseFor};
 ghost use Rattle.outside.specs.Told.{Stays};
 ghost use Rattle.outside.specs.Ports.{GivesNext};
@@ -101,6 +101,28 @@ impl PortsMem<Failing> {
 }
 
 impl<P: CallPlan> PortsMem<P> {
+    /// The next link, with the room for it to be given back.
+    fn give(&mut self, port: u16) -> Result<LinkMem<P>, NoMemory>
+        ensures link { IfOk result (λ link. link ≡ link_at P.opening port self.old.links) }
+        ensures fresh { IfOk result (IsFresh P.fault_count) }
+        ensures ok { OnOk result (self.new ≡ record {
+          links = drop 1 self.old.links;
+          attached = self.old.attached + 1;
+          detached = self.old.detached;
+          attaches = P.after_call self.old.attaches 0;
+        }) }
+        ensures room { OnOk result (length self.new.detached < self.new.attached) }
+        ensures count { P.fault_count self.old.attaches ≤ P.fault_count self.new.attaches }
+        ensures err { OnErr result (self.new ≡ self.old) }
+    {
+        let waiting = self.attached - self.detached.len();
+        self.detached.reserve(waiting + 1)?;
+        let link = next_link(self.alloc, &mut self.links, port)?;
+        self.attaches.advance(0);
+        self.attached += 1;
+        Ok(link)
+    }
+
     /// The links that were given back, in order.
     pub fn detached(&self) -> &[LinkMem<P>]
         ensures { result.now ≡ self.now.detached }
@@ -155,15 +177,7 @@ impl<P: CallPlan> Ports for PortsMem<P> {
             self.attaches.advance(0);
             return Err(AttachError::Failed);
         }
-        let waiting = self.attached - self.detached.len();
-        self.detached.reserve(waiting + 1)?;
-        let empty = LinkMem::empty(self.alloc, port)?;
-        self.attaches.advance(0);
-        self.attached += 1;
-        match self.links.pop_front() {
-            Some(link) => Ok(link.at_port(port)),
-            None => Ok(empty),
-        }
+        Ok(self.give(port)?)
     }
 
     fn detach(&mut self, link: LinkMem<P>) {
@@ -172,5 +186,24 @@ impl<P: CallPlan> Ports for PortsMem<P> {
 
     fn faults(&self) -> u64 {
         self.attaches.faults()
+    }
+}
+
+/// The first of the links, at this port. Where there is none, a link without datagrams.
+fn next_link<P: CallPlan>(
+    alloc: Global,
+    links: &mut VecDeque<LinkMem<P>>,
+    port: u16,
+) -> Result<LinkMem<P>, NoMemory>
+    requires { All (IsFresh P.fault_count) links.old.items }
+    ensures link { IfOk result (λ link. link ≡ link_at P.opening port links.old.items) }
+    ensures fresh { IfOk result (IsFresh P.fault_count) }
+    ensures ok { OnOk result (links.new.items ≡ drop 1 links.old.items) }
+    ensures err { OnErr result (links.new.items ≡ links.old.items) }
+    ensures rest { All (IsFresh P.fault_count) links.new.items }
+{
+    match links.pop_front() {
+        Some(link) => Ok(link.at_port(port)),
+        None => LinkMem::empty(alloc, port),
     }
 }

@@ -109,7 +109,9 @@ impl<P: CallPlan> Source for ReadMem<P> {
         let count = buf.len().min(self.bytes.len() - self.at);
         let answer = self.plan.answer(count);
         self.plan.advance(count);
-        let taken = answer?;
+        let Ok(taken) = answer else {
+            return Err(Failed);
+        };
         let end = self.at + taken;
         buf[..taken].copy_from_slice(&self.bytes[self.at..end]);
         self.at = end;

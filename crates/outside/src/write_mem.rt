@@ -4,7 +4,7 @@ ghost use Rattle.outside.specs.Causes.{HasCauseFor};
 ghost use Rattle.outside.specs.Plans.{new_plan, IsPlanned, plan_after_call};
 ghost use Rattle.outside.specs.declared.errors.DeviceError.TheVariants as errors;
 
-use crate::{CallPlan, Failing, Sink, Unfailing, WriteError};
+use crate::{CallPlan, Failed, Failing, Sink, Unfailing, WriteError};
 use nop_types::NoMemory;
 use std::alloc::Global;
 use std::marker::Model;
@@ -104,7 +104,10 @@ impl<P: CallPlan> Sink for WriteMem<P> {
             self.bytes.extend_from_slice(&piece[..count])?;
         }
         self.plan.advance(piece.len());
-        Ok(answer?)
+        match answer {
+            Ok(count) => Ok(count),
+            Err(Failed) => Err(WriteError::Failed),
+        }
     }
 
     fn faults(&self) -> u64 {

@@ -14,7 +14,9 @@ use std::alloc::Global;
 pub fn split_sender(bytes: &[u8]) -> Result<(u8, &[u8]), BadPeer>
     ensures { GivesBy (λ x. (x.0, x.1.now)) result (sender_at bytes.now) }
 {
-    let (sender, rest) = split_u8(bytes).ok_or(BadPeer::Short)?;
+    let Some((sender, rest)) = split_u8(bytes) else {
+        return Err(BadPeer::Short);
+    };
     if MAX_REPLICAS <= sender {
         return Err(BadPeer::Field);
     }
@@ -26,7 +28,9 @@ pub fn split_sender(bytes: &[u8]) -> Result<(u8, &[u8]), BadPeer>
 pub fn split_started(bytes: &[u8]) -> Result<(View, &[u8]), BadPeer>
     ensures { GivesBy (λ x. (x.0, x.1.now)) result (view_at bytes.now) }
 {
-    let (view, rest) = split_view(bytes).ok_or(BadPeer::Short)?;
+    let Some((view, rest)) = split_view(bytes) else {
+        return Err(BadPeer::Short);
+    };
     if view.session == 0 {
         return Err(BadPeer::Field);
     }
@@ -37,7 +41,9 @@ pub fn split_started(bytes: &[u8]) -> Result<(View, &[u8]), BadPeer>
 pub fn split_slot(bytes: &[u8]) -> Result<(u32, &[u8]), BadPeer>
     ensures { GivesBy (λ x. (x.0, x.1.now)) result (slot_at bytes.now) }
 {
-    let (slot, rest) = split_u32(bytes).ok_or(BadPeer::Short)?;
+    let Some((slot, rest)) = split_u32(bytes) else {
+        return Err(BadPeer::Short);
+    };
     if slot == 0 || MAX_SLOTS < slot as usize {
         return Err(BadPeer::Field);
     }
@@ -49,7 +55,9 @@ pub fn split_slot(bytes: &[u8]) -> Result<(u32, &[u8]), BadPeer>
 pub fn split_next(bytes: &[u8]) -> Result<(u64, &[u8]), BadPeer>
     ensures { GivesBy (λ x. (x.0, x.1.now)) result (next_at bytes.now) }
 {
-    let (next, rest) = split_u64(bytes).ok_or(BadPeer::Short)?;
+    let Some((next, rest)) = split_u64(bytes) else {
+        return Err(BadPeer::Short);
+    };
     if next == 0 || NUMBER_END < next {
         return Err(BadPeer::Field);
     }
@@ -62,7 +70,9 @@ pub fn split_length(bytes: &[u8]) -> Result<(u32, &[u8]), BadPeer>
     ensures exact { GivesBy (λ x. (x.0, x.1.now)) result (length_at bytes.now) }
     ensures small { IfOk result (λ x. x.0 ≤ MAX_SLOTS) }
 {
-    let (length, rest) = split_u32(bytes).ok_or(BadPeer::Short)?;
+    let Some((length, rest)) = split_u32(bytes) else {
+        return Err(BadPeer::Short);
+    };
     if MAX_SLOTS < length as usize {
         return Err(BadPeer::Field);
     }
@@ -73,7 +83,9 @@ pub fn split_length(bytes: &[u8]) -> Result<(u32, &[u8]), BadPeer>
 fn split_id(bytes: &[u8]) -> Result<(u64, &[u8]), BadPeer>
     ensures { GivesBy (λ x. (x.0, x.1.now)) result (id_at bytes.now) }
 {
-    let (id, rest) = split_u64(bytes).ok_or(BadPeer::Short)?;
+    let Some((id, rest)) = split_u64(bytes) else {
+        return Err(BadPeer::Short);
+    };
     if id == 0 {
         return Err(BadPeer::Field);
     }
@@ -85,12 +97,16 @@ fn split_id(bytes: &[u8]) -> Result<(u64, &[u8]), BadPeer>
 fn split_op(alloc: Global, bytes: &[u8]) -> Result<(Op, &[u8]), BadPeer>
     ensures { GivesBy (λ x. (x.0, x.1.now)) result (op_at bytes.now) }
 {
-    let (len, rest) = split_u16(bytes).ok_or(BadPeer::Short)?;
+    let Some((len, rest)) = split_u16(bytes) else {
+        return Err(BadPeer::Short);
+    };
     let len = len as usize;
     if MAX_OP_BYTES < len {
         return Err(BadPeer::Field);
     }
-    let (op, rest) = split_bytes(rest, len).ok_or(BadPeer::Short)?;
+    let Some((op, rest)) = split_bytes(rest, len) else {
+        return Err(BadPeer::Short);
+    };
     Ok((Op::new(alloc, op)?, rest))
 }
 
@@ -98,7 +114,9 @@ fn split_op(alloc: Global, bytes: &[u8]) -> Result<(Op, &[u8]), BadPeer>
 pub fn split_request(alloc: Global, bytes: &[u8]) -> Result<(Request, &[u8]), BadPeer>
     ensures { GivesBy (λ x. (x.0, x.1.now)) result (request_at bytes.now) }
 {
-    let (client, rest) = split_u32(bytes).ok_or(BadPeer::Short)?;
+    let Some((client, rest)) = split_u32(bytes) else {
+        return Err(BadPeer::Short);
+    };
     let (id, rest) = split_id(rest)?;
     let (op, rest) = split_op(alloc, rest)?;
     Ok((Request { client, id, op }, rest))

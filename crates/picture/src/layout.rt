@@ -117,15 +117,28 @@ fn longest_of_losses(losses: &[Loss], actor: Actor) -> usize {
     most
 }
 
-/// The most characters of the words of an event, and of what was delivered.
-fn longest_beside(rows: &[Row]) -> (usize, usize) {
-    let mut event = 0;
-    let mut detail = 0;
+fn longest_event(rows: &[Row]) -> usize {
+    let mut most = 0;
     for row in rows {
-        event = event.max(row.event.len());
-        detail = detail.max(row.detail.len());
+        most = most.max(row.event.len());
     }
-    (event, detail)
+    most
+}
+
+fn longest_detail(rows: &[Row]) -> usize {
+    let mut most = 0;
+    for row in rows {
+        most = most.max(row.detail.len());
+    }
+    most
+}
+
+/// The number of the last line.
+fn last_line(rows: &[Row]) -> u32 {
+    match rows.last() {
+        Some(row) => row.line,
+        None => 0,
+    }
 }
 
 /// The room of an actor's lane with its labels.
@@ -140,7 +153,6 @@ fn lane_width(picture: &Picture, actor: Actor) -> u32
 }
 
 /// The lanes from a place on, and where the last one ends.
-#[tactic(auto, using(crate::proofs::LaneLemmas::stand_apart_push))]
 fn place_lanes(alloc: Global, picture: &Picture, at: u32) -> Result<(Vec<Lane>, u32), NoMemory>
     ensures actors { IfOk result (λ p. actors_of p.0.items ≡ picture.now.lanes.items) }
     ensures apart { IfOk result (λ p. p.1 < u32.MAX → StandApart p.0.items p.1) }
@@ -176,14 +188,12 @@ pub fn lay_out(alloc: Global, picture: &Picture, signs: usize) -> Result<Layout,
     ensures apart { IfOk result (λ l. l.width < u32.MAX → StandApart l.lanes.items l.width) }
 {
     let rows = picture.rows.as_slice();
-    let last = rows.last().map_or(0, |row| row.line);
-    let (event, detail) = longest_beside(rows);
-    let line_end = text_width(digits(last)).saturating_add(GAP);
+    let line_end = text_width(digits(last_line(rows))).saturating_add(GAP);
     let event_at = line_end.saturating_add(GAP / 2);
-    let detail_at = text_width(event)
+    let detail_at = text_width(longest_event(rows))
         .saturating_add(event_at)
         .saturating_add(GAP);
-    let lanes_at = text_width(detail)
+    let lanes_at = text_width(longest_detail(rows))
         .saturating_add(detail_at)
         .saturating_add(2 * GAP);
     let (lanes, width) = place_lanes(alloc, picture, lanes_at)?;

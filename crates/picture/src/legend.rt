@@ -1,6 +1,6 @@
 //! What the signs of a picture mean.
 
-use crate::data::{Mark, Note, Picture, Purpose, Role};
+use crate::data::{Mark, Note, Picture, Purpose, Role, Stretch};
 use nop_types::{Actor, NoMemory};
 use std::alloc::Global;
 
@@ -88,27 +88,63 @@ fn role_meaning(role: Role) -> &'static str {
 }
 
 fn has_note(notes: &[Note], mark: Mark) -> bool {
-    notes.iter().any(|note| note.mark.is(mark))
+    for note in notes {
+        if note.mark.is(mark) {
+            return true;
+        }
+    }
+    false
 }
 
 fn has_mark(picture: &Picture, mark: Mark) -> bool {
-    picture.rows.iter().any(|row| has_note(&row.notes, mark))
+    for row in &picture.rows {
+        if has_note(&row.notes, mark) {
+            return true;
+        }
+    }
+    false
 }
 
 fn has_arrow(picture: &Picture, purpose: Purpose) -> bool {
-    picture.arrows.iter().any(|arrow| arrow.purpose.is(purpose))
+    for arrow in &picture.arrows {
+        if arrow.purpose.is(purpose) {
+            return true;
+        }
+    }
+    false
 }
 
+fn has_again(picture: &Picture) -> bool {
+    for arrow in &picture.arrows {
+        if arrow.again {
+            return true;
+        }
+    }
+    false
+}
+
+fn is_of_replica(stretch: &Stretch, role: Role) -> bool {
+    match stretch.actor {
+        Actor::Replica(_) => stretch.role.is(role),
+        _ => false,
+    }
+}
+
+/// Whether a replica has the role somewhere.
 fn has_role(picture: &Picture, role: Role) -> bool {
-    picture.stretches.iter().any(|stretch| stretch.role.is(role)
-        && matches!(stretch.actor, Actor::Replica(_)))
+    for stretch in &picture.stretches {
+        if is_of_replica(stretch, role) {
+            return true;
+        }
+    }
+    false
 }
 
 fn occurs(picture: &Picture, sign: Sign) -> bool {
     match sign {
         Sign::Mark(mark) => has_mark(picture, mark),
         Sign::Arrow(purpose) => has_arrow(picture, purpose),
-        Sign::Again => picture.arrows.iter().any(|arrow| arrow.again),
+        Sign::Again => has_again(picture),
         Sign::Loss => !picture.losses.is_empty(),
         Sign::Lane(role) => has_role(picture, role),
     }

@@ -33,8 +33,7 @@ fn put_escaped(text: &str, to: &mut Text) {
 
 /// The name is as it stands before the value, with the quotation mark.
 fn put_attribute(name: &str, value: u32, to: &mut Text) {
-    to.put(name);
-    to.number(u64::from(value));
+    to.numbered(name, u64::from(value));
     to.put("\"");
 }
 
@@ -47,10 +46,8 @@ fn put_size(width: u32, height: u32, to: &mut Text) {
 pub fn open_picture(width: u32, height: u32, to: &mut Text) {
     to.put("<svg xmlns=\"http://www.w3.org/2000/svg\" version=\"1.1\"");
     put_size(width, height, to);
-    to.put(" viewBox=\"0 0 ");
-    to.number(u64::from(width));
-    to.put(" ");
-    to.number(u64::from(height));
+    to.numbered(" viewBox=\"0 0 ", u64::from(width));
+    to.numbered(" ", u64::from(height));
     to.put("\">\n");
 }
 
@@ -115,10 +112,8 @@ pub fn put_plate(at: Point, characters: usize, to: &mut Text) {
 }
 
 fn put_point(before: &str, point: Point, to: &mut Text) {
-    to.put(before);
-    to.number(u64::from(point.x));
-    to.put(",");
-    to.number(u64::from(point.y));
+    to.numbered(before, u64::from(point.x));
+    to.numbered(",", u64::from(point.y));
 }
 
 /// A path begins, of one or two classes.
@@ -146,8 +141,7 @@ pub fn put_line(weight: &str, class: &str, from: Point, end: Point, to: &mut Tex
 /// A line to the right or to the left.
 pub fn put_level(weight: &str, class: &str, from: Point, end: u32, to: &mut Text) {
     begin_path(weight, class, from, to);
-    to.put("H");
-    to.number(u64::from(end));
+    to.numbered("H", u64::from(end));
     to.put("\"/>\n");
 }
 

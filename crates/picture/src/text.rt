@@ -29,16 +29,20 @@ impl Text {
         self.put(buffer.format(n));
     }
 
+    /// A word and a number.
+    pub fn numbered(&mut self, word: &str, n: u64) {
+        self.put(word);
+        self.number(n);
+    }
+
     /// The name of an actor, as schedules have it.
     pub fn actor(&mut self, actor: Actor) {
-        let (kind, number) = match actor {
-            Actor::Replica(i) => ("r", u64::from(i)),
-            Actor::Sequencer(i) => ("s", u64::from(i)),
-            Actor::Client(i) => ("c", u64::from(i)),
-            Actor::Controller => return self.put("ctl"),
-        };
-        self.put(kind);
-        self.number(number);
+        match actor {
+            Actor::Replica(i) => self.numbered("r", u64::from(i)),
+            Actor::Sequencer(i) => self.numbered("s", u64::from(i)),
+            Actor::Client(i) => self.numbered("c", u64::from(i)),
+            Actor::Controller => self.put("ctl"),
+        }
     }
 
     pub fn finish(self) -> Result<String, NoMemory> {

@@ -9,12 +9,11 @@ use Rattle.nop_types.specs.declared.replica_state.Phase.{Phase}
 use Rattle.nop_types.specs.declared.replica_state.Phase.TheVariants.{Normal, Change}
 use Rattle.nop_types.specs.declared.request.Entry.{Entry}
 use Rattle.facts.proofs.Views.{is_view-same}
-use Rattle.replica_rows.specs.declared.state.ReplicaState.{ReplicaState}
-use Rattle.replica_rows.specs.Messages.{is_other}
-use Rattle.replica_rows.specs.Moves.{adopted, adopt, drain}
-use Rattle.replica_rows.specs.Replies.{replies_above}
-use Rattle.replica_rows.specs.Rows.{is_at_most, may_adopt, start_view}
-use Rattle.replica_rows.specs.State.{is_normal}
+use Rattle.replica_state.specs.declared.state.ReplicaState.{ReplicaState}
+use Rattle.replica_state.specs.Moves.{adopted, adopt, drain}
+use Rattle.replica_state.specs.Replies.{replies_above}
+use Rattle.replica_rows.specs.Rows.{start_view}
+use Rattle.replica_state.specs.State.{is_normal, is_other, is_at_most, may_adopt}
 use Rattle.protocol.specs.Conf.{Conf, DidSay}
 use Rattle.protocol.specs.Moves.{MayAdopt}
 use Rattle.protocol.specs.Runs.{Adopt}

@@ -7,8 +7,9 @@ use Rattle.nop_types.specs.declared.peer.Body.TheVariants as bodies
 use Rattle.nop_types.specs.declared.peer.Peer.{Peer}
 use Rattle.nop_types.specs.Lists.{Has}
 use Rattle.nop_types.specs.Meaning.{Meaning}
-use Rattle.replica_rows.specs.declared.state.ReplicaState.{ReplicaState}
-use Rattle.replica_rows.specs.Messages.{Arrival, Packet, Told, Ticked, in_view, on_body, is_other, on_message, ticked, arrive}
+use Rattle.replica_state.specs.declared.state.ReplicaState.{ReplicaState}
+use Rattle.replica_rows.specs.Messages.{Arrival, Packet, Told, Ticked, in_view, on_body, on_message, ticked, arrive}
+use Rattle.replica_state.specs.State.{is_other}
 use Rattle.protocol.specs.Conf.{Conf}
 use Rattle.protocol.specs.Said.{says}
 use Rattle.refinement.specs.Replicas.{ReplicasReach}

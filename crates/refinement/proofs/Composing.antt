@@ -5,9 +5,9 @@ use Rattle.nop_types.specs.Meaning.{Meaning}
 use Rattle.facts.proofs.Functions.{put-here, put-other}
 use Rattle.started_views.specs.Parts.{InParts}
 use Rattle.started_views.specs.Past.{Past, note}
-use Rattle.replica_rows.specs.declared.sending.Sending.{Sending}
-use Rattle.replica_rows.specs.declared.state.ReplicaState.{ReplicaState}
-use Rattle.replica_rows.specs.Sends.{Effect, still, then_do, when}
+use Rattle.replica_state.specs.declared.sending.Sending.{Sending}
+use Rattle.replica_state.specs.declared.state.ReplicaState.{ReplicaState}
+use Rattle.replica_state.specs.Sends.{Effect, still, then_do, when}
 use Rattle.protocol.specs.Conf.{Conf}
 use Rattle.protocol.specs.Conf as protocol
 use Rattle.protocol.specs.Member.{Member, standing}

@@ -9,10 +9,10 @@ use Rattle.nop_types.specs.declared.request.Entry.TheVariants.{NoOp, Req}
 use Rattle.nop_types.specs.Meaning.{Meaning}
 use Rattle.oum_receiver.specs.Front.{Front, Nothing, Message, Dropped}
 use Rattle.oum_receiver.specs.Receiving.{front_of}
-use Rattle.replica_rows.specs.declared.state.ReplicaState.{ReplicaState}
-use Rattle.replica_rows.specs.State.{is_normal, waits, has_room, drains, leads}
-use Rattle.replica_rows.specs.Sends.{Effect}
-use Rattle.replica_rows.specs.Moves.{take_front, open_gap, ask_if, drain_drop, drain_at, drain_by, drain}
+use Rattle.replica_state.specs.declared.state.ReplicaState.{ReplicaState}
+use Rattle.replica_state.specs.State.{is_normal, waits, has_room, drains, leads}
+use Rattle.replica_state.specs.Sends.{Effect}
+use Rattle.replica_state.specs.Moves.{take_front, open_gap, ask_if, drain_drop, drain_at, drain_by, drain}
 use Rattle.protocol.specs.Conf.{Conf}
 use Rattle.protocol.specs.Member.{standing}
 use Rattle.protocol.specs.Runs.{TakeFront, OpenGap, Say}

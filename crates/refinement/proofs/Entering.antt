@@ -3,9 +3,9 @@ use Rattle.std.proofs.Common.{◌≡◌, ℕ, Bool, true, false, refl}
 use Rattle.nop_types.specs.declared.view.View.{View}
 use Rattle.nop_types.specs.Meaning.{Meaning}
 use Rattle.nop_types.specs.Views.{Below}
-use Rattle.replica_rows.specs.declared.state.ReplicaState.{ReplicaState}
-use Rattle.replica_rows.specs.State.{leads}
-use Rattle.replica_rows.specs.Moves.{entered, enter_as, enter}
+use Rattle.replica_state.specs.declared.state.ReplicaState.{ReplicaState}
+use Rattle.replica_state.specs.State.{leads}
+use Rattle.replica_state.specs.Moves.{entered, enter_as, enter}
 use Rattle.protocol.specs.Conf.{Conf}
 use Rattle.protocol.specs.Member.{standing}
 use Rattle.protocol.specs.Runs.{Enter}

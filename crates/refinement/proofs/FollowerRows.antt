@@ -8,9 +8,9 @@ use Rattle.nop_types.specs.declared.request.Entry.{Entry}
 use Rattle.nop_types.specs.declared.request.Entry.TheVariants.{NoOp, Req}
 use Rattle.nop_types.specs.Meaning.{Meaning}
 use Rattle.nop_types.specs.Slots.{laid, set_slot}
-use Rattle.replica_rows.specs.declared.state.ReplicaState.{ReplicaState}
-use Rattle.replica_rows.specs.State.{may_append}
-use Rattle.replica_rows.specs.Moves.{write_gap, add_gap, fill, overlay, obey, drain}
+use Rattle.replica_state.specs.declared.state.ReplicaState.{ReplicaState}
+use Rattle.replica_state.specs.State.{may_append}
+use Rattle.replica_state.specs.Moves.{write_gap, add_gap, fill, overlay, obey, drain}
 use Rattle.replica_rows.specs.Rows.{hear, gap_commit_if, gap_commit, found, sync_prepare, sync_commit}
 use Rattle.protocol.specs.Conf.{Conf}
 use Rattle.protocol.specs.Member.{standing}

@@ -10,10 +10,10 @@ use Rattle.nop_types.specs.Lists.{slot_of}
 use Rattle.nop_types.specs.Meaning.{Meaning}
 use Rattle.gap_agree.specs.Agreement.{Agreement}
 use Rattle.slot_lookup.specs.Answer.{answer_by, may_begin}
-use Rattle.replica_rows.specs.declared.state.ReplicaState.{ReplicaState}
-use Rattle.replica_rows.specs.State.{waits}
-use Rattle.replica_rows.specs.Sends.{to_replica}
-use Rattle.replica_rows.specs.Moves.{open_gap, count_gap_vote, count_sync_vote, drain}
+use Rattle.replica_state.specs.declared.state.ReplicaState.{ReplicaState}
+use Rattle.replica_state.specs.State.{waits}
+use Rattle.replica_state.specs.Sends.{to_replica}
+use Rattle.replica_state.specs.Moves.{open_gap, count_gap_vote, count_sync_vote, drain}
 use Rattle.replica_rows.specs.Rows.{begin_gap, slot_lookup_by, slot_lookup, gap_reply_at, gap_reply, sync_reply}
 use Rattle.protocol.specs.Conf.{Conf}
 use Rattle.protocol.specs.Member.{standing}

@@ -13,8 +13,8 @@ use Rattle.facts.proofs.Options.{same_Some-at}
 use Rattle.facts.proofs.Prefixes.{IsPrefixOf-take, length-prefix}
 use Rattle.log_merge.specs.Starting.{Start}
 use Rattle.started_views.specs.Past.{HadLog, LeaderHad, IsStart, entered_with}
-use Rattle.replica_rows.specs.declared.state.ReplicaState.{ReplicaState}
-use Rattle.replica_rows.specs.State.{leads, leader}
+use Rattle.replica_state.specs.declared.state.ReplicaState.{ReplicaState}
+use Rattle.replica_state.specs.State.{leads, leader}
 use Rattle.protocol.specs.Conf.{Conf}
 use Rattle.protocol.specs.Invariant.{GoodLog, Own}
 use Rattle.protocol.specs.Member.{Member, standing}

@@ -13,11 +13,11 @@ use Rattle.nop_types.specs.Meaning.{Meaning}
 use Rattle.oum_receiver.specs.declared.verdict.Verdict.{Verdict}
 use Rattle.oum_receiver.specs.declared.verdict.Verdict.TheVariants.{Queued, Old, Terminated, Full}
 use Rattle.oum_receiver.specs.Receiving.{Receiving, verdict_of, judged, offered, opened}
-use Rattle.replica_rows.specs.declared.sending.Sending.{Sending}
-use Rattle.replica_rows.specs.declared.state.ReplicaState.{ReplicaState}
-use Rattle.replica_rows.specs.State.{others, leads, drains, is_normal, waits, has_room}
-use Rattle.replica_rows.specs.Sends.{Effect, then_do, to_all_if}
-use Rattle.replica_rows.specs.Moves.{session_view, begin_session, queue, drain, left, listening, entered, enter_as, enter, change_told}
+use Rattle.replica_state.specs.declared.sending.Sending.{Sending}
+use Rattle.replica_state.specs.declared.state.ReplicaState.{ReplicaState}
+use Rattle.replica_state.specs.State.{others, leads, drains, is_normal, waits, has_room}
+use Rattle.replica_state.specs.Sends.{Effect, then_do, to_all_if}
+use Rattle.replica_state.specs.Moves.{session_view, begin_session, queue, drain, left, listening, entered, enter_as, enter, change_told}
 use Rattle.replica_rows.specs.Rows.{enter_and_drain}
 use Rattle.replica_rows.proofs.Draining.{drains_by_front}
 use Rattle.replica_rows.proofs.Opening.{enters_with_others}

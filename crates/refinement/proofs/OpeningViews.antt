@@ -9,12 +9,12 @@ use Rattle.nop_types.specs.declared.request.Entry.{Entry}
 use Rattle.nop_types.specs.declared.peer.Body.TheVariants as bodies
 use Rattle.log_merge.specs.Starting.{start_of}
 use Rattle.view_change.specs.Gathering.{Gathering}
-use Rattle.replica_rows.specs.declared.sending.Sending.{Sending}
-use Rattle.replica_rows.specs.declared.state.ReplicaState.{ReplicaState}
-use Rattle.replica_rows.specs.Moves.{adopted, adopt, open_view, open_if_enough, drain}
-use Rattle.replica_rows.specs.Replies.{replies_above}
-use Rattle.replica_rows.specs.Sends.{Effect, then_do, when, to_all}
-use Rattle.replica_rows.specs.State.{others}
+use Rattle.replica_state.specs.declared.sending.Sending.{Sending}
+use Rattle.replica_state.specs.declared.state.ReplicaState.{ReplicaState}
+use Rattle.replica_state.specs.Moves.{adopted, adopt, open_view, open_if_enough, drain}
+use Rattle.replica_state.specs.Replies.{replies_above}
+use Rattle.replica_state.specs.Sends.{Effect, then_do, when, to_all}
+use Rattle.replica_state.specs.State.{others}
 use Rattle.protocol.specs.Conf.{Conf}
 use Rattle.protocol.specs.Moves as moves
 use Rattle.protocol.specs.Moves.{MayOpenView, say_all}

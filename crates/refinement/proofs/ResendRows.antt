@@ -11,10 +11,10 @@ use Rattle.nop_types.specs.Meaning.{Meaning}
 use Rattle.gap_agree.specs.Agreement.{Agreement}
 use Rattle.oum_receiver.specs.Front.{Front, Nothing, Message, Dropped}
 use Rattle.oum_receiver.specs.Receiving.{front_of}
-use Rattle.replica_rows.specs.declared.state.ReplicaState.{ReplicaState}
-use Rattle.replica_rows.specs.State.{others, leads, is_normal, waits, has_room}
-use Rattle.replica_rows.specs.Sends.{to_all_if, to_all, to_leader}
-use Rattle.replica_rows.specs.Moves.{change_told, open_sync, repeat_commit}
+use Rattle.replica_state.specs.declared.state.ReplicaState.{ReplicaState}
+use Rattle.replica_state.specs.State.{others, leads, is_normal, waits, has_room}
+use Rattle.replica_state.specs.Sends.{to_all_if, to_all, to_leader}
+use Rattle.replica_state.specs.Moves.{change_told, open_sync, repeat_commit}
 use Rattle.replica_rows.specs.Rows.{gap_again, lookup_again, change_again, resend_by, resend, sync_if, sync}
 use Rattle.protocol.specs.Conf.{Conf}
 use Rattle.protocol.specs.Member.{standing}

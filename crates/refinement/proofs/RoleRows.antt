@@ -11,9 +11,9 @@ use Rattle.nop_types.specs.Meaning.{Meaning}
 use Rattle.nop_types.specs.Views.{is_view}
 use Rattle.facts.proofs.Bools.{not-both}
 use Rattle.facts.proofs.Views.{is_view-true}
-use Rattle.replica_rows.specs.declared.state.ReplicaState.{ReplicaState}
-use Rattle.replica_rows.specs.State.{leader, leads, is_normal}
-use Rattle.replica_rows.specs.Messages.{is_current, is_from_leader, is_to_leader, from_leader, from_follower, by_role, in_view, is_other}
+use Rattle.replica_state.specs.declared.state.ReplicaState.{ReplicaState}
+use Rattle.replica_state.specs.State.{leader, leads, is_normal, is_current, is_from_leader, is_to_leader, is_other}
+use Rattle.replica_rows.specs.Messages.{from_leader, from_follower, by_role, in_view}
 use Rattle.protocol.specs.Conf.{Conf}
 use Rattle.protocol.specs.Moves.{MayLead, MayFollow, DidAnother}
 use Rattle.protocol.specs.Said.{Word, says}

@@ -13,15 +13,15 @@ use Rattle.nop_types.specs.declared.replica_state.Vote.TheVariants.{Settled, Wai
 use Rattle.nop_types.specs.declared.peer.Body.TheVariants as bodies
 use Rattle.nop_types.specs.declared.view.View.{View}
 use Rattle.sync_points.specs.Synchronisation.{vote_for}
-use Rattle.replica_rows.specs.declared.sending.Sending.{Sending}
-use Rattle.replica_rows.specs.declared.state.ReplicaState.{ReplicaState}
-use Rattle.replica_rows.specs.State as core_state
-use Rattle.replica_rows.specs.Sends as core_sends
-use Rattle.replica_rows.specs.Sends.{to_all_if, to_leader}
-use Rattle.replica_rows.specs.Replies as core_replies
-use Rattle.replica_rows.specs.Replies.{reply_to}
-use Rattle.replica_rows.specs.Moves as core
-use Rattle.replica_rows.specs.Moves.{open_gap, enter, overlay}
+use Rattle.replica_state.specs.declared.sending.Sending.{Sending}
+use Rattle.replica_state.specs.declared.state.ReplicaState.{ReplicaState}
+use Rattle.replica_state.specs.State as core_state
+use Rattle.replica_state.specs.Sends as core_sends
+use Rattle.replica_state.specs.Sends.{to_all_if, to_leader}
+use Rattle.replica_state.specs.Replies as core_replies
+use Rattle.replica_state.specs.Replies.{reply_to}
+use Rattle.replica_state.specs.Moves as core
+use Rattle.replica_state.specs.Moves.{open_gap, enter, overlay}
 use Rattle.protocol.specs.Conf.{Effect}
 use Rattle.protocol.specs.Said.{Said}
 use Rattle.protocol.specs.Replies as replies

@@ -3,10 +3,10 @@ use Rattle.std.proofs.Common.{◌≡◌, Bool, true, false, refl, ap, inl, inr, 
 use Rattle.nop_types.specs.declared.datagram.Reply.{Reply}
 use Rattle.nop_types.specs.declared.peer.Body.{Body}
 use Rattle.facts.proofs.Members.{Has-append_left, Has-append_right, Has-append_cases, Has-none}
-use Rattle.replica_rows.specs.declared.sending.Sending.{Sending}
-use Rattle.replica_rows.specs.declared.sending.Sending.TheVariants.{ToClient, ToReplicas}
-use Rattle.replica_rows.specs.declared.state.ReplicaState.{ReplicaState}
-use Rattle.replica_rows.specs.Sends.{to_all_if}
+use Rattle.replica_state.specs.declared.sending.Sending.{Sending}
+use Rattle.replica_state.specs.declared.sending.Sending.TheVariants.{ToClient, ToReplicas}
+use Rattle.replica_state.specs.declared.state.ReplicaState.{ReplicaState}
+use Rattle.replica_state.specs.Sends.{to_all_if}
 use Rattle.protocol.specs.Conf.{Conf}
 use Rattle.protocol.specs.Moves.{say_unless}
 use Rattle.protocol.specs.Said.{Said}

@@ -10,9 +10,9 @@ use Rattle.nop_types.specs.declared.datagram.Reply.{Reply}
 use Rattle.nop_types.specs.declared.datagram.Datagram.{Datagram}
 use Rattle.nop_types.specs.declared.datagram.Datagram.TheVariants as datagrams
 use Rattle.facts.proofs.Members.{Has-none, Has-cases}
-use Rattle.replica_rows.specs.declared.sending.Sending.{Sending}
-use Rattle.replica_rows.specs.declared.sending.Sending.TheVariants.{ToClient, ToReplicas}
-use Rattle.replica_rows.specs.Sends.{SendingFits}
+use Rattle.replica_state.specs.declared.sending.Sending.{Sending}
+use Rattle.replica_state.specs.declared.sending.Sending.TheVariants.{ToClient, ToReplicas}
+use Rattle.replica_state.specs.Sends.{SendingFits}
 use Rattle.protocol.specs.Conf.{Conf, Install}
 use Rattle.refinement.specs.Projection.{replied_in}
 use Rattle.refinement.specs.Ranges.{AllFit, ReplicasStayInRanges}

@@ -7,9 +7,9 @@ use Rattle.nop_types.specs.declared.view.View.{View}
 use Rattle.nop_types.specs.Lists.{Has}
 use Rattle.nop_types.specs.Meaning.{Meaning}
 use Rattle.nop_types.specs.Views.{Below}
-use Rattle.replica_rows.specs.declared.state.ReplicaState.{ReplicaState}
-use Rattle.replica_rows.specs.Sends.{Effect, then_do}
-use Rattle.replica_rows.specs.Moves.{session_view, begin_session, queue, enter, open_if_enough, drain}
+use Rattle.replica_state.specs.declared.state.ReplicaState.{ReplicaState}
+use Rattle.replica_state.specs.Sends.{Effect, then_do}
+use Rattle.replica_state.specs.Moves.{session_view, begin_session, queue, enter, open_if_enough, drain}
 use Rattle.replica_rows.specs.Rows.{enter_view, new_session, stamped_if, stamped}
 use Rattle.protocol.specs.Conf.{Conf}
 use Rattle.protocol.specs.Member.{standing}

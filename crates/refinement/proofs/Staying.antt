@@ -8,8 +8,8 @@ use Rattle.nop_types.specs.declared.replica_state.Phase.TheVariants.{Normal, Cha
 use Rattle.nop_types.specs.declared.request.Entry.{Entry}
 use Rattle.gap_agree.specs.Agreement.{Agreement}
 use Rattle.started_views.specs.Past.{Standing}
-use Rattle.replica_rows.specs.declared.state.ReplicaState.{ReplicaState}
-use Rattle.replica_rows.specs.State.{is_normal, waits}
+use Rattle.replica_state.specs.declared.state.ReplicaState.{ReplicaState}
+use Rattle.replica_state.specs.State.{is_normal, waits}
 use Rattle.protocol.specs.Conf.{Conf}
 use Rattle.protocol.specs.Member.{standing}
 use Rattle.refinement.specs.Projection.{member_of}

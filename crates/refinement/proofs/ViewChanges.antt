@@ -10,12 +10,11 @@ use Rattle.nop_types.specs.declared.replica_state.Phase.TheVariants.{Normal, Cha
 use Rattle.nop_types.specs.declared.peer.Change as peer
 use Rattle.facts.proofs.Views.{is_view-true}
 use Rattle.view_change.specs.Gathering.{Gathering}
-use Rattle.replica_rows.specs.declared.state.ReplicaState.{ReplicaState}
-use Rattle.replica_rows.specs.Messages.{is_other}
-use Rattle.replica_rows.specs.Moves.{keep_change, resend_start, open_if_enough}
+use Rattle.replica_state.specs.declared.state.ReplicaState.{ReplicaState}
+use Rattle.replica_state.specs.Moves.{keep_change, resend_start, open_if_enough}
 use Rattle.replica_rows.specs.Rows.{enter_and_drain, view_change_request, gather, gather_by, take_change, view_change}
-use Rattle.replica_rows.specs.Sends.{Effect, when}
-use Rattle.replica_rows.specs.State.{leads, others}
+use Rattle.replica_state.specs.Sends.{Effect, when}
+use Rattle.replica_state.specs.State.{leads, others, is_other}
 use Rattle.protocol.specs.Conf.{Conf, DidSay}
 use Rattle.protocol.specs.Member.{standing}
 use Rattle.protocol.specs.Runs.{KeepChange, Say, run}

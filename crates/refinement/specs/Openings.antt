@@ -3,7 +3,7 @@ use Rattle.std.specs.Prelude.{◌≡◌, ◌<◌, ◌+◌, ◌*◌, ℕ, []}
 use Rattle.nop_types.specs.Configuration.{Configuration}
 use Rattle.nop_types.specs.Meaning.{Meaning}
 use Rattle.client_quorum.specs.ClientSteps as client
-use Rattle.replica_rows.specs.State as replica
+use Rattle.replica_state.specs.State as replica
 use Rattle.sequencer.specs.SequencerSteps as sequencer
 use Rattle.session_control.specs.ControllerSteps as controller
 use Rattle.protocol.specs.Conf.{opening}

@@ -3,10 +3,10 @@ use Rattle.std.specs.Prelude.{◌≡◌, ◌⊎◌, ◌<◌, ◌+◌, ◌*◌, �
 use Rattle.nop_types.specs.Lists.{Has}
 use Rattle.nop_types.specs.Meaning.{Meaning}
 use Rattle.started_views.specs.Past.{note}
-use Rattle.replica_rows.specs.declared.sending.Sending.{Sending}
-use Rattle.replica_rows.specs.declared.state.ReplicaState.{ReplicaState}
+use Rattle.replica_state.specs.declared.sending.Sending.{Sending}
+use Rattle.replica_state.specs.declared.state.ReplicaState.{ReplicaState}
 use Rattle.replica_rows.specs.Messages.{Arrival, Packet, Told, Ticked, arrive}
-use Rattle.replica_rows.specs.Sends.{Effect}
+use Rattle.replica_state.specs.Sends.{Effect}
 use Rattle.protocol.specs.Conf.{Conf}
 use Rattle.protocol.specs.Invariant.{Inv}
 use Rattle.protocol.specs.Member.{standing}

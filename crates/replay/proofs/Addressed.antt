@@ -36,11 +36,11 @@ use Rattle.sequencer.specs.SequencerSteps as sequencer
 use Rattle.session_control.specs.declared.state.ControllerState.{ControllerState}
 use Rattle.session_control.specs.declared.state.TheConstants.{MISSED_END}
 use Rattle.session_control.specs.ControllerSteps as controller
-use Rattle.replica_rows.specs.declared.sending.Sending.{Sending}
-use Rattle.replica_rows.specs.declared.sending.Sending.TheVariants.{ToClient, ToReplicas}
+use Rattle.replica_state.specs.declared.sending.Sending.{Sending}
+use Rattle.replica_state.specs.declared.sending.Sending.TheVariants.{ToClient, ToReplicas}
 use Rattle.replica_core.specs.Posting.{posted}
 use Rattle.delivery.specs.Sends.{IsAmong, GoesAmong}
-use Rattle.replica_rows.specs.Sends.{SendingFits}
+use Rattle.replica_state.specs.Sends.{SendingFits}
 use Rattle.world.specs.Network.{Sent, sends_of as sent_of, lines_from}
 
 -- ---- outputs

@@ -28,8 +28,8 @@ use Rattle.session_control.specs.declared.state.ControllerState.{ControllerState
 use Rattle.session_control.specs.ControllerSteps as controller
 use Rattle.replica_core.specs.ReplicaSteps as replica
 use Rattle.replica_core.specs.ReplicaSteps.{Replica}
-use Rattle.replica_rows.specs.Sends as effects
-use Rattle.replica_rows.specs.Sends.{SendingFits, still}
+use Rattle.replica_state.specs.Sends as effects
+use Rattle.replica_state.specs.Sends.{SendingFits, still}
 use Rattle.replica_rows.specs.Within.{ResultsShort}
 use Rattle.schedule_text.specs.declared.event.Event.{Event}
 use Rattle.schedule_text.specs.Fits.{EventFits, EventsFit}

@@ -31,7 +31,7 @@ use Rattle.world.specs.WorldSteps.{WorldState, Happened, Refusal, tick_if, datag
 use Rattle.world.specs.WorldSteps.{at_replica, at_sequencer, at_client}
 use Rattle.replay.specs.Drawing.{draw, put_drawn, get_drawn, taker_drawn, delivery_drawn, back_drawn, deliver_drawn}
 use Rattle.replay.specs.Drawing.{replica_tick_drawn, retry_drawn, crash_drawn, install_drawn, rare_drawn}
-use Rattle.replay.specs.Drawing.{event_drawn}
+use Rattle.replay.specs.Drawing.{often_drawn, seldom_drawn, event_drawn}
 use Rattle.replay.specs.Generated.{drawn_config}
 use Rattle.replay.specs.Generating.{IsTaken, Led, MayDraw}
 use Rattle.replay.specs.Destinations.{IsDestOf}
@@ -162,28 +162,31 @@ module _ (sent : List Sent) (some : 1 ≤ length sent) (all : (s : Sent) → Has
   controller_fine t word takes = record { of = (tt, takes); was_sent = tt; line = word; fits = tt }
 
   -- the tests of the table in their order
-  table_fine : (a b d e f h i j k : Bool) (g : Lcg) → IsFine sent ((if a then put_drawn else if b then get_drawn
-      else if d then deliver_drawn sent else if e then replica_tick_drawn ticks.Resend else if f then replica_tick_drawn ticks.Sync
-      else if h then retry_drawn else if i then replica_tick_drawn ticks.Suspect
+  often_fine : (a b : Bool) (g : Lcg)
+      → IsFine sent ((if a then put_drawn else if b then get_drawn else deliver_drawn sent) g).0
+  often_fine true b g = put_fine g
+  often_fine false true g = get_fine g
+  often_fine false false g = deliver_fine g
+
+  seldom_fine : (e f h i j k : Bool) (g : Lcg) → IsFine sent ((if e then replica_tick_drawn ticks.Resend
+      else if f then replica_tick_drawn ticks.Sync else if h then retry_drawn else if i then replica_tick_drawn ticks.Suspect
       else if j then (λ (x : Lcg). (events.Tick actors.Controller ticks.Probe, x))
       else if k then (λ (x : Lcg). (events.Tick actors.Controller ticks.Resend, x)) else rare_drawn) g).0
-  table_fine true b d e f h i j k g = put_fine g
-  table_fine false true d e f h i j k g = get_fine g
-  table_fine false false true e f h i j k g = deliver_fine g
-  table_fine false false false true f h i j k g = replica_tick_fine ticks.Resend g tt (λ n. refl)
-  table_fine false false false false true h i j k g = replica_tick_fine ticks.Sync g tt (λ n. refl)
-  table_fine false false false false false true i j k g = retry_fine g
-  table_fine false false false false false false true j k g = replica_tick_fine ticks.Suspect g tt (λ n. refl)
-  table_fine false false false false false false false true k g = controller_fine ticks.Probe tt refl
-  table_fine false false false false false false false false true g = controller_fine ticks.Resend tt refl
-  table_fine false false false false false false false false false g = rare_fine g
+  seldom_fine true f h i j k g = replica_tick_fine ticks.Resend g tt (λ n. refl)
+  seldom_fine false true h i j k g = replica_tick_fine ticks.Sync g tt (λ n. refl)
+  seldom_fine false false true i j k g = retry_fine g
+  seldom_fine false false false true j k g = replica_tick_fine ticks.Suspect g tt (λ n. refl)
+  seldom_fine false false false false true k g = controller_fine ticks.Probe tt refl
+  seldom_fine false false false false false true g = controller_fine ticks.Resend tt refl
+  seldom_fine false false false false false false g = rare_fine g
+
+  by_fine : (b : Bool) (n : ℕ) (g : Lcg) → IsFine sent ((if b then often_drawn sent n else seldom_drawn n) g).0
+  by_fine true n g = often_fine (nat_le n 19) (nat_le n 27) g
+  by_fine false n g = seldom_fine (nat_le n 247) (nat_le n 249) (nat_le n 251) (n == 252) (n == 253) (n == 254) g
 
   drawn_fine : (g : Lcg) → IsFine sent (event_drawn sent g).0
   unfolding event_drawn
-  drawn_fine g =
-      let n : ℕ = (draw 256 g).0 in
-      table_fine (nat_le n 19) (nat_le n 27) (nat_le n 241) (nat_le n 247) (nat_le n 249) (nat_le n 251) (n == 252) (n == 253) (n == 254)
-      (draw 256 g).1
+  drawn_fine g = by_fine (nat_le (draw 256 g).0 241) (draw 256 g).0 (draw 256 g).1
 
 -- ---- in a world that events led to
 

@@ -122,19 +122,27 @@ crash_or_install n = if n == 0 then crash_drawn else install_drawn
 abbrev pub rare_drawn : Draw Event
 rare_drawn = draw 16 >>= crash_or_install
 
--- by a number below 256
-abbrev pub event_by : List Sent → ℕ → Draw Event
-event_by sent n =
+-- a put, a get or a delivery, by a number below 242
+abbrev pub often_drawn : List Sent → ℕ → Draw Event
+often_drawn sent n =
     if nat_le n 19 then put_drawn
     else if nat_le n 27 then get_drawn
-    else if nat_le n 241 then deliver_drawn sent
-    else if nat_le n 247 then replica_tick_drawn ticks.Resend
+    else deliver_drawn sent
+
+-- a timer, or what is rare, by a number from 242 on
+abbrev pub seldom_drawn : ℕ → Draw Event
+seldom_drawn n =
+    if nat_le n 247 then replica_tick_drawn ticks.Resend
     else if nat_le n 249 then replica_tick_drawn ticks.Sync
     else if nat_le n 251 then retry_drawn
     else if n == 252 then replica_tick_drawn ticks.Suspect
     else if n == 253 then gives (events.Tick Controller ticks.Probe)
     else if n == 254 then gives (events.Tick Controller ticks.Resend)
     else rare_drawn
+
+-- by a number below 256
+abbrev pub event_by : List Sent → ℕ → Draw Event
+event_by sent n = if nat_le n 241 then often_drawn sent n else seldom_drawn n
 
 -- the event that is drawn where these datagrams were sent
 unfoldable pub event_drawn : List Sent → Draw Event

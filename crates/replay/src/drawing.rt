@@ -126,28 +126,53 @@ fn rare(words: &mut Lcg64Xsh32) -> Event
     }
 }
 
+/// A put, a get or a delivery.
+fn often<H: Host>(
+    alloc: Global,
+    words: &mut Lcg64Xsh32,
+    world: &World<H>,
+    n: u32,
+) -> Result<Event, NoMemory>
+    requires { 1 ≤ length world.now.state.sent }
+    ensures { IfOk result (λ e. drawing.often_drawn world.now.state.sent n words.old
+        ≡ (e, words.new)) }
+{
+    match n {
+        0..=19 => put(alloc, words),
+        20..=27 => get(alloc, words),
+        _ => Ok(deliver(words, world)),
+    }
+}
+
+/// A timer, or what is rare.
+fn seldom(words: &mut Lcg64Xsh32, n: u32) -> Event
+    ensures { drawing.seldom_drawn n words.old ≡ (result, words.new) }
+{
+    match n {
+        0..=247 => replica_tick(words, Tick::Resend),
+        248..=249 => replica_tick(words, Tick::Sync),
+        250..=251 => retry(words),
+        252 => replica_tick(words, Tick::Suspect),
+        253 => Event::Tick(Actor::Controller, Tick::Probe),
+        254 => Event::Tick(Actor::Controller, Tick::Resend),
+        _ => rare(words),
+    }
+}
+
 fn event_by<H: Host>(
     alloc: Global,
     words: &mut Lcg64Xsh32,
     world: &World<H>,
     n: u32,
 ) -> Result<Event, NoMemory>
-    requires some { 1 ≤ length world.now.state.sent }
-    requires below { n < 256 }
+    requires { 1 ≤ length world.now.state.sent }
     ensures { IfOk result (λ e. drawing.event_by world.now.state.sent n words.old
         ≡ (e, words.new)) }
 {
-    match n {
-        0..=19 => put(alloc, words),
-        20..=27 => get(alloc, words),
-        28..=241 => Ok(deliver(words, world)),
-        242..=247 => Ok(replica_tick(words, Tick::Resend)),
-        248..=249 => Ok(replica_tick(words, Tick::Sync)),
-        250..=251 => Ok(retry(words)),
-        252 => Ok(replica_tick(words, Tick::Suspect)),
-        253 => Ok(Event::Tick(Actor::Controller, Tick::Probe)),
-        254 => Ok(Event::Tick(Actor::Controller, Tick::Resend)),
-        _ => Ok(rare(words)),
+    if n <= 241 {
+        often(alloc, words, world, n)
+    } else {
+        Ok(seldom(words, n))
     }
 }
 

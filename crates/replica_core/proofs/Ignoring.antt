@@ -18,25 +18,14 @@ use Rattle.nop_types.specs.declared.request.Request.{Request}
 use Rattle.nop_types.specs.declared.view.View.{View}
 use Rattle.oum_codec.specs.declared.bad.Bad.{Bad}
 use Rattle.oum_codec.specs.Reading.{reading}
-use Rattle.replica_rows.specs.declared.state.ReplicaState.{ReplicaState}
+use Rattle.replica_state.specs.declared.state.ReplicaState.{ReplicaState}
 use Rattle.replica_core.specs.declared.replica.TheConstants.{LAST_MESSAGE}
 use Rattle.replica_core.specs.Ignoring.{is_for, IsIgnored, IgnoresPacket, is_of_view, Rests, IgnoresMessage}
-use Rattle.replica_rows.specs.Messages.{
-  Arrival,
-  is_current,
-  is_from_leader,
-  is_to_leader,
-  is_other,
-  by_role,
-  in_view,
-  on_body,
-  on_message,
-  arrive,
-}
+use Rattle.replica_rows.specs.Messages.{Arrival, by_role, in_view, on_body, on_message, arrive}
 use Rattle.replica_core.specs.ReplicaSteps.{Replica, row_if, row, fragment_if, fragment, on_datagram, next}
 use Rattle.replica_rows.specs.Rows.{gap_commit_if, gap_commit, found, sync_prepare, sync_commit, begin_gap, suspect, last_leader}
-use Rattle.replica_rows.specs.Sends.{Effect, still, when}
-use Rattle.replica_rows.specs.State.{may_append}
+use Rattle.replica_state.specs.Sends.{Effect, still, when}
+use Rattle.replica_state.specs.State.{may_append, is_current, is_from_leader, is_to_leader, is_other}
 use Rattle.replica_rows.proofs.Counting.{arrive_sends_few}
 
 -- ---- datagrams

@@ -3,8 +3,8 @@ use Rattle.std.specs.Prelude.{ℕ, List, Option, Bool, refl}
 use Rattle.std.specs.Coded.{Coded, code_by, coded×, coded_ℕ, coded_list, coded_option, coded_bool}
 use Rattle.nop_types.specs.Machine.{Machine}
 use Rattle.fragments.specs.Parts.{Partial}
-use Rattle.replica_rows.specs.declared.state.ReplicaState.{ReplicaState}
-use Rattle.replica_rows.specs.contracts.state.ReplicaState as state
+use Rattle.replica_state.specs.declared.state.ReplicaState.{ReplicaState}
+use Rattle.replica_state.specs.contracts.state.ReplicaState as state
 use Rattle.replica_core.specs.ReplicaSteps.{Replica}
 
 abbrev pub partial_code : Coded Partial

@@ -9,9 +9,10 @@ use Rattle.nop_types.specs.declared.peer.Body.{Body}
 use Rattle.nop_types.specs.declared.peer.Body.TheVariants as bodies
 use Rattle.oum_codec.specs.declared.bad.Bad.{Bad}
 use Rattle.oum_codec.specs.Reading.{reading}
-use Rattle.replica_rows.specs.declared.state.ReplicaState.{ReplicaState}
-use Rattle.replica_rows.specs.Messages.{Told, is_current, is_other, arrive}
-use Rattle.replica_rows.specs.Sends.{still}
+use Rattle.replica_state.specs.declared.state.ReplicaState.{ReplicaState}
+use Rattle.replica_rows.specs.Messages.{Told, arrive}
+use Rattle.replica_state.specs.State.{is_current, is_other}
+use Rattle.replica_state.specs.Sends.{still}
 use Rattle.replica_core.specs.ReplicaSteps.{Replica, next}
 
 -- ---- datagrams

@@ -11,8 +11,8 @@ use Rattle.nop_types.specs.declared.peer.Peer.{Peer}
 use Rattle.oum_codec.specs.Spelling as datagram
 use Rattle.peer_codec.specs.Spelling as peer
 use Rattle.fragments.specs.Cutting.{fragments_of, sends_of}
-use Rattle.replica_rows.specs.declared.sending.Sending.{Sending}
-use Rattle.replica_rows.specs.declared.sending.Sending.TheVariants.{ToClient, ToReplicas}
+use Rattle.replica_state.specs.declared.sending.Sending.{Sending}
+use Rattle.replica_state.specs.declared.sending.Sending.TheVariants.{ToClient, ToReplicas}
 
 -- a reply is one datagram, to its client
 abbrev pub reply_out : Reply → Out

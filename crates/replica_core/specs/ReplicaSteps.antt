@@ -17,9 +17,10 @@ use Rattle.peer_codec.specs.declared.bad_peer.BadPeer.{BadPeer}
 use Rattle.peer_codec.specs.Reading as peer
 use Rattle.fragments.specs.Joining.{Waiting, taken}
 use Rattle.fragments.specs.Joining as joining
-use Rattle.replica_rows.specs.declared.state.ReplicaState.{ReplicaState}
-use Rattle.replica_rows.specs.State as state
-use Rattle.replica_rows.specs.Sends.{Effect, message_count}
+use Rattle.replica_state.specs.State.{is_other}
+use Rattle.replica_state.specs.declared.state.ReplicaState.{ReplicaState}
+use Rattle.replica_state.specs.State as state
+use Rattle.replica_state.specs.Sends.{Effect, message_count}
 use Rattle.replica_rows.specs.Messages as messages
 use Rattle.replica_core.specs.declared.replica.Node.{Node}
 use Rattle.replica_core.specs.declared.replica.TheConstants.{RESEND_MILLIS, SYNC_MILLIS, WATCH_MILLIS, LAST_MESSAGE}
@@ -74,7 +75,7 @@ fragment_if m false s f = (s, [])
 
 -- a fragment of another replica
 unfoldable pub fragment : {S : Type 0} → Meaning S → Replica → Fragment → Replica × List Out
-fragment m s f = fragment_if m (messages.is_other s.state f.replica) s f
+fragment m s f = fragment_if m (is_other s.state f.replica) s f
 
 -- ---- all inputs
 

@@ -4,7 +4,7 @@ use Rattle.nop_types.specs.declared.host.Host.{Ghosts}
 use Rattle.nop_types.specs.declared.limits.TheConstants.{MAX_SLOTS, NUMBER_END}
 use Rattle.fragments.specs.Runs.{WaitingFits}
 use Rattle.oum_receiver.specs.Receiving.{IsSound}
-use Rattle.replica_rows.specs.State.{executed_to}
+use Rattle.replica_state.specs.State.{executed_to}
 use Rattle.replica_rows.specs.Within.{IsRunning}
 use Rattle.replica_core.specs.declared.replica.Node.{Node}
 use Rattle.replica_core.specs.ReplicaSteps.{Replica}

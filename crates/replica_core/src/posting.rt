@@ -1,7 +1,7 @@
 ghost use Rattle.std.specs.Prelude.{◌≡◌, ◌≤◌, ◌<◌, ◌+◌, ◌^◌, ◌++◌, ◌∷◌, [], length, take, OnOk, OnErr, IfOk};
 ghost use Rattle.std.specs.List.{AllByRecursion};
 ghost use Rattle.nop_types.specs.Ranges.{ReplyFits};
-ghost use Rattle.replica_rows.specs.Sends.{SendingFits, message_count};
+ghost use Rattle.replica_state.specs.Sends.{SendingFits, message_count};
 ghost use Rattle.replica_core.specs.Posting.{reply_out, message_outs, posted};
 
 use fragments::{CutError, cut};

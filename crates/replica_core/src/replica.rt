@@ -5,8 +5,9 @@ ghost use Rattle.nop_types.specs.Given.{given};
 ghost use Rattle.nop_types.specs.Ranges.{ViewFits, LogFits};
 ghost use Rattle.peer_codec.specs.Reading as peer;
 ghost use Rattle.replica_rows.specs.Messages.{arrival_of, arrive};
-ghost use Rattle.replica_rows.specs.State.{executed_to};
-ghost use Rattle.replica_rows.specs.Within.{ArrivalFits, IsWithin, IsRunning, Does};
+ghost use Rattle.replica_state.specs.State.{executed_to};
+ghost use Rattle.replica_rows.specs.Within.{ArrivalFits, IsRunning, Does};
+ghost use Rattle.replica_state.specs.Within.{IsWithin};
 ghost use Rattle.replica_core.specs.ReplicaSteps.{replica_of, row, read, next, opening};
 ghost use Rattle.replica_core.specs.ReplicaSteps as steps;
 ghost use Rattle.replica_core.specs.Within.{IsReady, KeepsLimits};
@@ -16,7 +17,7 @@ use fragments::Reassembly;
 use nop_types::{
     Bytes, Config, Core, Datagram, Fragment, Host, Input, NoMemory, Outbox, Phase, Tick, View,
 };
-use oum_codec::{Bad, decode};
+use oum_codec::read_datagram;
 use peer_codec::{BadPeer, decode_peer};
 use replica_log::ReplicaLog;
 use replica_rows::{Arrival, Member};
@@ -167,12 +168,10 @@ impl<H: Host> Node<H> {
             Input::Submit(_) => return Ok(()),
             Input::Packet(bytes) => bytes,
         };
-        match decode(self.member.alloc, bytes) {
-            Ok(Datagram::Stamped(packet)) => self.row(Arrival::Stamped(packet), out),
-            Ok(Datagram::Fragment(fragment)) => self.fragment(&fragment, out),
-            Ok(_) => Ok(()),
-            Err(Bad::NoMemory) => Err(NoMemory),
-            Err(_) => Ok(()),
+        match read_datagram(self.member.alloc, bytes)? {
+            Some(Datagram::Stamped(packet)) => self.row(Arrival::Stamped(packet), out),
+            Some(Datagram::Fragment(fragment)) => self.fragment(&fragment, out),
+            _ => Ok(()),
         }
     }
 }

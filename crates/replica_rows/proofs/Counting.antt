@@ -30,34 +30,18 @@ use Rattle.slot_lookup.specs.Answer.{Answer, Found, GapAgain, Begin, answer_of}
 use Rattle.slot_lookup.specs.Answer as answers
 use Rattle.sync_points.specs.Synchronisation.{vote_for}
 use Rattle.view_change.specs.Gathering.{Gathering}
-use Rattle.replica_rows.specs.declared.sending.Sending.{Sending}
-use Rattle.replica_rows.specs.declared.sending.Sending.TheVariants.{ToClient, ToReplicas}
-use Rattle.replica_rows.specs.declared.state.ReplicaState.{ReplicaState}
-use Rattle.replica_rows.specs.State.{others, leads, is_normal, drains, waits, has_room, may_append}
-use Rattle.replica_rows.specs.Sends.{Effect, still, then_do, when, to_leader, to_all, to_all_if, message_count}
-use Rattle.replica_rows.specs.Replies.{reply_to, reply_if, leader_reply, reply_for, replies_to, replies_above}
-use Rattle.replica_rows.specs.Moves.{ask_if, gap_opened, open_gap, write_gap, add_gap, drain_drop, drain_at, drain_by, drain, entered}
-use Rattle.replica_rows.specs.Moves.{enter_as, enter, change_told, adopted, adopt, open_with, open_view, open_if_enough, overlaid, overlay}
-use Rattle.replica_rows.specs.Moves.{open_sync, commit_if, count_sync_vote, queue, keep_change, count_gap_vote, logged, appended}
-use Rattle.replica_rows.specs.Moves.{begin_session}
+use Rattle.replica_state.specs.declared.sending.Sending.{Sending}
+use Rattle.replica_state.specs.declared.sending.Sending.TheVariants.{ToClient, ToReplicas}
+use Rattle.replica_state.specs.declared.state.ReplicaState.{ReplicaState}
+use Rattle.replica_state.specs.State.{others, leads, is_normal, drains, waits, has_room, may_append, is_from_leader, is_to_leader, is_other, may_adopt}
+use Rattle.replica_state.specs.Sends.{Effect, still, then_do, when, to_leader, to_all, to_all_if, message_count}
+use Rattle.replica_state.specs.Replies.{reply_to, reply_if, leader_reply, reply_for, replies_to, replies_above}
+use Rattle.replica_state.specs.Moves.{ask_if, gap_opened, open_gap, write_gap, add_gap, drain_drop, drain_at, drain_by, drain, entered}
+use Rattle.replica_state.specs.Moves.{enter_as, enter, change_told, adopted, adopt, open_with, open_view, open_if_enough, overlaid, overlay}
+use Rattle.replica_state.specs.Moves.{open_sync, commit_if, count_sync_vote, queue, keep_change, count_gap_vote, logged, appended}
+use Rattle.replica_state.specs.Moves.{begin_session}
 use Rattle.replica_rows.specs.Rows as rows
-use Rattle.replica_rows.specs.Messages.{
-  Arrival,
-  Packet,
-  Told,
-  Ticked,
-  from_leader,
-  from_follower,
-  by_role,
-  in_view,
-  on_body,
-  on_message,
-  ticked,
-  arrive,
-  is_from_leader,
-  is_to_leader,
-  is_other,
-}
+use Rattle.replica_rows.specs.Messages.{Arrival, Packet, Told, Ticked, from_leader, from_follower, by_role, in_view, on_body, on_message, ticked, arrive}
 
 pub count_append : (a b : List Sending) → message_count (a ++ b) ≡ message_count a + message_count b
 count_append [] b = sym (zero-add (message_count b))
@@ -283,7 +267,7 @@ view_change_few m s v c =
 start_view_few : {S : Type 0} (m : Meaning S) (s : ReplicaState) (q : ℕ) (v : View) (x : ℕ) (l : List Entry)
     → Few 1 s (rows.start_view m q v x l s)
 unfolding rows.start_view
-start_view_few m s q v x l = when_few 1 (rows.may_adopt s q v l) _ s (adopt_few m s v x l)
+start_view_few m s q v x l = when_few 1 (may_adopt s q v l) _ s (adopt_few m s v x l)
 
 gap_commit_if_few : {S : Type 0} (m : Meaning S) (a b : Bool) (k : ℕ) (s : ReplicaState) → Few 2 s (rows.gap_commit_if m a b k s)
 gap_commit_if_few m true b k s = and_drain m 1 (leader_few s (write_gap (rows.hear s) k).0 (rows.hear s) (bodies.GapRep k) refl)

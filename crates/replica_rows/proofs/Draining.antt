@@ -4,34 +4,27 @@ use Rattle.std.proofs.Common.{◌∙◌, arith, append_assoc, length-append}
 use Rattle.std.specs.Prelude.{◌&&◌, not, nat_lt, slice_get}
 use Rattle.std.proofs.lemmas.Bool.{ltb-true, le-ltb, and_parts}
 use Rattle.std.proofs.lemmas.List.{append-nil}
-use Rattle.nop_types.specs.declared.limits.TheConstants.{MAX_SLOTS, NUMBER_END}
+use Rattle.nop_types.specs.declared.limits.TheConstants.{MAX_SLOTS}
 use Rattle.nop_types.specs.declared.request.Request.{Request}
 use Rattle.nop_types.specs.declared.request.Entry.{Entry}
 use Rattle.nop_types.specs.declared.request.Entry.TheVariants.{NoOp, Req}
 use Rattle.nop_types.specs.Lists.{slot_of}
 use Rattle.nop_types.specs.Meaning.{Meaning}
-use Rattle.oum_receiver.specs.Front.{Front, Nothing, Message, Dropped}
-use Rattle.oum_receiver.specs.Receiving.{Receiving, IsSound, front_of}
-use Rattle.oum_receiver.proofs.Sound.{taken_sound}
-use Rattle.replica_rows.specs.declared.sending.Sending.{Sending}
-use Rattle.replica_rows.specs.declared.state.ReplicaState.{ReplicaState}
-use Rattle.replica_rows.specs.State.{is_normal, waits, drains, leads}
-use Rattle.replica_rows.specs.Sends.{Effect, still, then_do}
-use Rattle.replica_rows.specs.Replies.{reply_at, reply_for_any}
-use Rattle.replica_rows.specs.Moves.{logged, take_front, appended, fill, open_gap, ask, drain_drop, drain_at, drain_by, drain}
-use Rattle.replica_rows.specs.Draining.{TookFront, TookNone, TakesFront, GoesOn, Stops, TakesOne, DrainsByFront}
+use Rattle.oum_receiver.specs.Front.{Nothing, Message, Dropped}
+use Rattle.oum_receiver.specs.Receiving.{front_of}
+use Rattle.replica_state.specs.declared.sending.Sending.{Sending}
+use Rattle.replica_state.specs.declared.state.ReplicaState.{ReplicaState}
+use Rattle.replica_state.specs.State.{is_normal, waits, drains, leads}
+use Rattle.replica_state.specs.Sends.{Effect, still, then_do}
+use Rattle.replica_state.specs.Replies.{reply_at, reply_for_any}
+use Rattle.replica_state.specs.Moves.{logged, take_front, appended, fill, open_gap, ask, drain_drop, drain_at, drain_by, drain}
+use Rattle.replica_rows.specs.Draining.{GoesOn, Stops, TakesOne, DrainsByFront}
+use Rattle.replica_state.specs.Taking.{TookFront, TookNone, TakesFront}
 
 last_false : (a b c : Bool) → c ≡ false → (a && (b && c)) ≡ false
 last_false true true c e = e
 last_false true false c e = refl
 last_false false b c e = refl
-
-drop_is_some : (f : Front) → f ≡ Dropped → f ≡ Nothing → ⊥
-drop_is_some f e h = cc
-
--- at a drop there is a number after the next one
-pub drop_is_below : (r : Receiving) → IsSound r → front_of r ≡ Dropped → r.next < NUMBER_END
-drop_is_below r sound drop = let taken = taken_sound r sound (drop_is_some (front_of r) drop) in let high = taken.next in omega arith
 
 last_place : (l : List Entry) (e : Entry) → slice_get (l ++ e ∷ []) (length l) ≡ Some e
 last_place [] e = refl

@@ -12,36 +12,20 @@ use Rattle.executor.specs.Running.{Running}
 use Rattle.view_change.specs.Gathering.{Gathering, counted}
 use Rattle.view_change.specs.declared.starting.Step.TheVariants.{Started}
 use Rattle.view_change.specs.declared.starting.Start.{Start}
-use Rattle.replica_rows.specs.declared.state.ReplicaState.{ReplicaState}
-use Rattle.replica_rows.specs.declared.sending.Sending.{Sending}
-use Rattle.replica_rows.specs.State.{others}
-use Rattle.replica_rows.specs.Sends.{to_all_if}
-use Rattle.replica_rows.specs.Moves.{adopt, open_with}
-use Rattle.replica_rows.specs.Rows.{step_by}
-use Rattle.replica_rows.specs.Within.{IsWithin, Runs}
+use Rattle.replica_state.specs.declared.state.ReplicaState.{ReplicaState}
+use Rattle.replica_state.specs.declared.sending.Sending.{Sending}
+use Rattle.replica_state.specs.State.{others}
+use Rattle.replica_state.specs.Sends.{to_all_if}
+use Rattle.replica_state.specs.Moves.{adopt, open_with}
+use Rattle.replica_state.specs.Keeping.{step_by}
+use Rattle.replica_state.specs.Within.{IsWithin}
+use Rattle.replica_rows.specs.Within.{Runs}
 use Rattle.replica_rows.proofs.Opening.{Gathers, gathers}
-
-left_within : (s : ReplicaState) → IsWithin s → IsWithin (record s { changes = None })
-left_within s w = record {
-  number = w.number;
-  few = w.few;
-  view = w.view;
-  last_normal = w.last_normal;
-  log = w.log;
-  next = w.next;
-  base = w.base;
-  start = w.start;
-  receiver = w.receiver;
-  gap = w.gap;
-  sync_point = w.sync_point;
-  syncing = w.syncing;
-  prepared = w.prepared;
-  changes = tt;
-}
+use Rattle.replica_rows.proofs.Running.{with_changes}
 
 pub left_runs : {H U : Type 0} (host : Ghosts H U) (s t : ReplicaState) (x : Running H U) → t ≡ record s { changes = None }
     → Runs host s x → Runs host t x
-left_runs host s t x is r = rw is (record { within = left_within s r.within; run = r.run })
+left_runs host s t x is r = rw is (record { within = with_changes s None r.within tt; run = r.run })
 
 told_left : (b : Bool) (s : ReplicaState) (o : Option Gathering) (body : Body)
     → to_all_if b (record s { changes = o }) body ≡ to_all_if b (record s { changes = None }) body

@@ -18,13 +18,14 @@ use Rattle.log_merge.proofs.InRanges.{merge_of_changes_fits}
 use Rattle.view_change.specs.Gathering.{Gathering, started, counted, has_sender, step_of}
 use Rattle.view_change.specs.declared.starting.Step.TheVariants.{Started, Waiting}
 use Rattle.view_change.specs.declared.starting.Start.{Start}
-use Rattle.replica_rows.specs.declared.sending.Sending.{Sending}
-use Rattle.replica_rows.specs.declared.state.ReplicaState.{ReplicaState}
-use Rattle.replica_rows.specs.State.{others, leads}
-use Rattle.replica_rows.specs.Sends.{Effect, still, then_do, when}
-use Rattle.replica_rows.specs.Moves.{entered, enter, enter_as, open_with, open_view, open_if_enough, keep_change}
-use Rattle.replica_rows.specs.Rows.{enter_view, gather, kept_by, step_by}
-use Rattle.replica_rows.specs.Within.{IsWithin}
+use Rattle.replica_state.specs.declared.sending.Sending.{Sending}
+use Rattle.replica_state.specs.declared.state.ReplicaState.{ReplicaState}
+use Rattle.replica_state.specs.State.{others, leads}
+use Rattle.replica_state.specs.Sends.{Effect, still, then_do, when}
+use Rattle.replica_state.specs.Moves.{entered, enter, enter_as, open_with, open_view, open_if_enough, keep_change}
+use Rattle.replica_rows.specs.Rows.{enter_view, gather}
+use Rattle.replica_state.specs.Keeping.{kept_by, step_by}
+use Rattle.replica_state.specs.Within.{IsWithin}
 
 -- ---- ranges
 

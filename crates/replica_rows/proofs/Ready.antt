@@ -8,9 +8,10 @@ use Rattle.nop_types.specs.Configuration.{Configuration, is_configuration}
 use Rattle.facts.proofs.Limits.{is_configuration-few_replicas}
 use Rattle.executor.specs.Running.{Running}
 use Rattle.executor.specs.Undoing.{HasExecuted}
-use Rattle.replica_rows.specs.declared.state.ReplicaState.{ReplicaState}
-use Rattle.replica_rows.specs.State.{opening}
-use Rattle.replica_rows.specs.Within.{IsWithin, Runs}
+use Rattle.replica_state.specs.declared.state.ReplicaState.{ReplicaState}
+use Rattle.replica_state.specs.State.{opening}
+use Rattle.replica_rows.specs.Within.{Runs}
+use Rattle.replica_state.specs.Within.{IsWithin}
 
 pub opens_within : (config : Configuration) (number : ℕ) → number < config.replicas → config.replicas ≤ MAX_REPLICAS
     → IsWithin (opening config number)

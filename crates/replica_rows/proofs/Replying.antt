@@ -1,5 +1,5 @@
 -- Replies for one slot after the other.
-use Rattle.std.proofs.Common.{◌≡◌, ℕ, zero, suc, ◌+◌, ◌<◌, List, [], ◌∷◌, ◌++◌, length, drop, true, Option, Some, refl, sym, ap, subst, ◌∙◌}
+use Rattle.std.proofs.Common.{◌≡◌, ℕ, zero, suc, ◌+◌, ◌<◌, List, [], ◌∷◌, ◌++◌, length, drop, true, false, Option, Some, refl, sym, ap, subst, ◌∙◌}
 use Rattle.std.proofs.Common.{arith, append_assoc}
 use Rattle.std.specs.Prelude.{slice_get}
 use Rattle.nop_types.specs.declared.request.Request.{Request}
@@ -9,10 +9,10 @@ use Rattle.nop_types.specs.Execution.{result_at}
 use Rattle.nop_types.specs.Lists.{slot_of}
 use Rattle.nop_types.specs.Meaning.{Meaning}
 use Rattle.facts.proofs.Places.{Splits-at}
-use Rattle.replica_rows.specs.declared.sending.Sending.{Sending}
-use Rattle.replica_rows.specs.declared.state.ReplicaState.{ReplicaState}
-use Rattle.replica_rows.specs.State.{leads}
-use Rattle.replica_rows.specs.Replies.{leader_reply, reply_if, reply_to, reply_at, reply_for_any, replies_to, replies_above}
+use Rattle.replica_state.specs.declared.sending.Sending.{Sending}
+use Rattle.replica_state.specs.declared.state.ReplicaState.{ReplicaState}
+use Rattle.replica_state.specs.State.{leads}
+use Rattle.replica_state.specs.Replies.{leader_reply, reply_with, reply_if, reply_to, reply_at, reply_for_any, replies_to, replies_above}
 
 has_place : (l : List Entry) (i : ℕ) → i < length l → (e : Entry) × (slice_get l i ≡ Some e)
 has_place [] i less = absurd (omega (arith, less))
@@ -39,11 +39,16 @@ module _ {S : Type 0} (m : Meaning S) where
       ∙ ap (λ (xs : List Sending). old ++ xs) (sym (first t i here))
       ∙ so_far
 
-  -- a leader's reply with the result of the slot
-  pub leader_replies : (s : ReplicaState) (slot : ℕ) (r : Request) (o : Option (List ℕ)) → leads s ≡ true
-      → slot_of s.log slot ≡ Some (Req r) → o ≡ result_at m s.log slot → leader_reply s slot r o ≡ reply_at m s slot
+  -- where a request stands in the slot, a leader replies with the result there
+  pub leader_replies : (s : ReplicaState) (slot : ℕ) (r : Request) → leads s ≡ true → slot_of s.log slot ≡ Some (Req r)
+      → leader_reply s slot r (result_at m s.log slot) ≡ reply_at m s slot
   unfolding reply_to
-  leader_replies s slot r o leading there is =
-      ap (λ (q : Option (List ℕ)). leader_reply s slot r q) is
-      ∙ sym (ap (λ b. reply_if m b s slot r) leading)
-      ∙ sym (ap (λ (e : Option Entry). reply_for_any m s slot e) there)
+  leader_replies s slot r leading there =
+      sym (ap (λ b. reply_if m b s slot r) leading) ∙ sym (ap (λ (e : Option Entry). reply_for_any m s slot e) there)
+
+  -- and a follower without
+  pub follower_replies : (s : ReplicaState) (slot : ℕ) (r : Request) → leads s ≡ false → slot_of s.log slot ≡ Some (Req r)
+      → reply_with s slot r.client r.id 0 [] ≡ reply_at m s slot
+  unfolding reply_to
+  follower_replies s slot r follows there =
+      sym (ap (λ b. reply_if m b s slot r) follows) ∙ sym (ap (λ (e : Option Entry). reply_for_any m s slot e) there)

@@ -3,10 +3,10 @@ use Rattle.std.proofs.Common.{◌≡◌, ℕ, ◌+◌, List, [], ◌∷◌, ◌+
 use Rattle.nop_types.specs.Meaning.{Meaning}
 use Rattle.nop_types.specs.declared.request.Request.{Request}
 use Rattle.nop_types.specs.declared.request.Entry.TheVariants.{Req}
-use Rattle.replica_rows.specs.declared.sending.Sending.{Sending}
-use Rattle.replica_rows.specs.declared.state.ReplicaState.{ReplicaState}
-use Rattle.replica_rows.specs.Replies.{reply_at}
-use Rattle.replica_rows.specs.Moves.{appended, fill}
+use Rattle.replica_state.specs.declared.sending.Sending.{Sending}
+use Rattle.replica_state.specs.declared.state.ReplicaState.{ReplicaState}
+use Rattle.replica_state.specs.Replies.{reply_at}
+use Rattle.replica_state.specs.Moves.{appended, fill}
 use Rattle.replica_rows.proofs.Draining.{replies_filled}
 
 -- the request was appended, and replied for in its slot

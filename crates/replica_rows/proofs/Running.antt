@@ -1,6 +1,6 @@
 -- Moves keep a replica's state within its ranges, and what was executed.
 use Rattle.std.proofs.Common.{◌≡◌, ◌<◌, ◌≤◌, ◌+◌, ◌-◌, ℕ, zero, suc, Bool, true, false, List, [], ◌∷◌, ◌++◌, length, take, refl, sym, ap}
-use Rattle.std.proofs.Common.{subst, ◌∙◌, arith, append_assoc, length-append, inl, inr}
+use Rattle.std.proofs.Common.{subst, ◌∙◌, arith, append_assoc, append-nil, length-append, inl, inr}
 use Rattle.std.specs.Prelude.{cond, ◌⊎◌, slice_get, slice_set, not, nat_lt, IfSome, Option, Some, None, Result, Ok, Err, OnOk}
 use Rattle.std.specs.List.{AllByRecursion}
 use Rattle.std.proofs.lemmas.Bool.{ltb-true, and_parts}
@@ -26,11 +26,14 @@ use Rattle.view_change.specs.Gathering.{Gathering, counted}
 use Rattle.executor.specs.Running.{Running}
 use Rattle.executor.proofs.FrontLemmas.{on_front, on_append, on_slot}
 use Rattle.replica_log.proofs.InRanges.{append_fits, slot_fits, laid_fits}
-use Rattle.replica_rows.specs.declared.state.ReplicaState.{ReplicaState}
-use Rattle.replica_rows.specs.State.{may_append, drains, others, waits, is_normal, unless_settled}
-use Rattle.replica_rows.specs.Moves.{begin_session, appended, gap_opened, logged, adopted, overlaid}
-use Rattle.replica_rows.specs.Rows.{kept_by}
-use Rattle.replica_rows.specs.Within.{IsWithin, Runs}
+use Rattle.replica_state.specs.declared.state.ReplicaState.{ReplicaState}
+use Rattle.replica_state.specs.State.{may_append, drains, others, waits, is_normal, unless_settled}
+use Rattle.replica_state.specs.Moves.{begin_session, appended, gap_opened, logged, adopted, overlaid}
+use Rattle.replica_state.specs.Keeping.{kept_by}
+use Rattle.replica_state.specs.Within.{IsWithin}
+use Rattle.replica_state.specs.Sends.{Effect, still, then_do}
+use Rattle.replica_rows.specs.declared.member.Member.{Member}
+use Rattle.replica_rows.specs.Within.{Runs, IsRunning, Does}
 use Rattle.replica_rows.proofs.Opening.{counted_fits}
 
 -- ---- at Ok
@@ -41,6 +44,35 @@ on_ok (Err e) P Q f p = p
 
 pub sent_on : {A : Type 0} (old a mid b new : List A) → mid ≡ old ++ a → new ≡ mid ++ b → new ≡ old ++ (a ++ b)
 sent_on old a mid b new first then = then ∙ ap (λ xs. xs ++ b) first ∙ append_assoc old a b
+
+-- ---- one row after the other
+
+-- what comes of a row does not depend on how it is written
+pub does_as : {H U : Type 0} (host : Ghosts H U) (old new : Member H U) (f h : ReplicaState → Effect) → f old.state ≡ h old.state
+    → Does host old new f → Does host old new h
+does_as host old new f h same does = record {
+  runs = does.runs;
+  state = does.state ∙ ap (λ (e : Effect). e.0) same;
+  sends = does.sends ∙ ap (λ (e : Effect). old.sends ++ e.1) same;
+}
+
+-- a row that does nothing
+pub does_nothing : {H U : Type 0} (host : Ghosts H U) (old : Member H U) (h : ReplicaState → Effect) → h old.state ≡ still old.state
+    → IsRunning host old → Does host old old h
+does_nothing host old h same runs = record {
+  runs = runs;
+  state = sym (ap (λ (e : Effect). e.0) same);
+  sends = sym (append-nil old.sends) ∙ sym (ap (λ (e : Effect). old.sends ++ e.1) same);
+}
+
+-- two rows
+pub does_both : {H U : Type 0} (host : Ghosts H U) (old mid new : Member H U) (f h : ReplicaState → Effect) → Does host old mid f
+    → Does host mid new h → Does host old new (λ s. then_do (f s) h)
+does_both host old mid new f h first then = record {
+  runs = then.runs;
+  state = then.state ∙ ap (λ (s : ReplicaState). (h s).0) first.state;
+  sends = sent_on old.sends _ mid.sends _ new.sends first.sends (then.sends ∙ ap (λ (s : ReplicaState). mid.sends ++ (h s).1) first.state);
+}
 
 pub waiting_fits : (g : Agreement) → SlotFits g.slot → (v : Vote) → IfSome (unless_settled g v) (λ g. SlotFits g.slot)
 waiting_fits g fits Settled = tt
@@ -199,9 +231,9 @@ begun_within s p w = record {
   changes = w.changes;
 }
 
-pub gathers_within : (s : ReplicaState) (g : Gathering) → IsWithin s → AllByRecursion ChangeFits g.changes
-    → IsWithin (record s { changes = Some g })
-gathers_within s g w fits = record {
+pub with_changes : (s : ReplicaState) (o : Option Gathering) → IsWithin s → IfSome o (λ g. AllByRecursion ChangeFits g.changes)
+    → IsWithin (record s { changes = o })
+with_changes s o w fits = record {
   number = w.number;
   few = w.few;
   view = w.view;
@@ -217,6 +249,10 @@ gathers_within s g w fits = record {
   prepared = w.prepared;
   changes = fits;
 }
+
+pub gathers_within : (s : ReplicaState) (g : Gathering) → IsWithin s → AllByRecursion ChangeFits g.changes
+    → IsWithin (record s { changes = Some g })
+gathers_within s g w fits = with_changes s (Some g) w fits
 
 -- ---- the leader's log is laid over
 

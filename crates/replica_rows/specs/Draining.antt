@@ -1,32 +1,14 @@
 -- What a drain does, and one turn of it.
-use Rattle.std.specs.Prelude.{◌≡◌, ◌<◌, ◌+◌, ◌++◌, length, Bool, true, false, List, None}
-use Rattle.nop_types.specs.declared.limits.TheConstants.{NUMBER_END}
-use Rattle.nop_types.specs.Ranges.{RequestFits}
+use Rattle.std.specs.Prelude.{◌≡◌, ◌+◌, ◌++◌, length, Bool, true, false, List}
 use Rattle.nop_types.specs.Meaning.{Meaning}
 use Rattle.nop_types.specs.declared.request.Request.{Request}
-use Rattle.oum_receiver.specs.Front.{Nothing, Message, Dropped, request_in}
+use Rattle.oum_receiver.specs.Front.{Nothing, Message, Dropped}
 use Rattle.oum_receiver.specs.Receiving.{front_of}
-use Rattle.replica_rows.specs.declared.sending.Sending.{Sending}
-use Rattle.replica_rows.specs.declared.state.ReplicaState.{ReplicaState}
-use Rattle.replica_rows.specs.State.{drains, leads}
-use Rattle.replica_rows.specs.Sends.{Effect, still, then_do}
-use Rattle.replica_rows.specs.Moves.{logged, take_front, open_gap, ask, drain_at, drain}
-
--- the request in front was logged, or none stands there
-pub record TookFront (s t : ReplicaState) : Type 0 where
-  pub request : Request
-  pub front : front_of s.receiver ≡ Message request
-  pub fits : RequestFits request
-  pub more : s.next < NUMBER_END
-  pub state : t ≡ logged s request
-
-pub record TookNone (s t : ReplicaState) : Type 0 where
-  pub front : request_in (front_of s.receiver) ≡ None
-  pub state : t ≡ s
-
-abbrev pub TakesFront : ReplicaState → ReplicaState → Bool → Type 0
-TakesFront s t true = TookFront s t
-TakesFront s t false = TookNone s t
+use Rattle.replica_state.specs.declared.sending.Sending.{Sending}
+use Rattle.replica_state.specs.declared.state.ReplicaState.{ReplicaState}
+use Rattle.replica_state.specs.State.{drains, leads}
+use Rattle.replica_state.specs.Sends.{Effect, still, then_do}
+use Rattle.replica_state.specs.Moves.{take_front, open_gap, ask, drain_at, drain}
 
 -- whatever comes after it, a turn that goes on is the first of a drain
 pub record GoesOn {S : Type 0} (m : Meaning S) (s : ReplicaState) (old : List Sending) (t : ReplicaState)

@@ -1,9 +1,4 @@
 pub mod Draining
-pub mod Keeping
 pub mod Messages
-pub mod Moves
-pub mod Replies
 pub mod Rows
-pub mod Sends
-pub mod State
 pub mod Within

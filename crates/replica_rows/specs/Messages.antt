@@ -1,7 +1,6 @@
 -- The step table of a replica over whole messages.
-use Rattle.std.specs.Prelude.{ℕ, Bool, true, false, not, nat_lt, ◌==◌, ◌&&◌}
+use Rattle.std.specs.Prelude.{ℕ, Bool, true, false}
 use Rattle.nop_types.specs.Meaning.{Meaning}
-use Rattle.nop_types.specs.Views.{is_view}
 use Rattle.nop_types.specs.declared.view.View.{View}
 use Rattle.nop_types.specs.declared.input.Tick.{Tick}
 use Rattle.nop_types.specs.declared.input.Tick.TheVariants as ticks
@@ -11,9 +10,9 @@ use Rattle.nop_types.specs.declared.peer.Body.{Body}
 use Rattle.nop_types.specs.declared.peer.Body.TheVariants as bodies
 use Rattle.replica_rows.specs.declared.arrivals.Arrival as code
 use Rattle.replica_rows.specs.declared.arrivals.Arrival.TheVariants as arrivals
-use Rattle.replica_rows.specs.declared.state.ReplicaState.{ReplicaState}
-use Rattle.replica_rows.specs.State.{leader, leads, is_normal}
-use Rattle.replica_rows.specs.Sends.{Effect, still, when}
+use Rattle.replica_state.specs.declared.state.ReplicaState.{ReplicaState}
+use Rattle.replica_state.specs.State.{is_other, is_from_leader, is_to_leader}
+use Rattle.replica_state.specs.Sends.{Effect, still, when}
 use Rattle.replica_rows.specs.Rows as rows
 
 -- what a replica takes: a stamped request, a message of another replica, or a tick
@@ -29,17 +28,6 @@ arrival_of (arrivals.Told p) = Told p
 arrival_of (arrivals.Ticked tick) = Ticked tick
 
 -- ---- messages of the view in which the replica is Normal
-
-abbrev pub is_current : ReplicaState → View → Bool
-is_current s v = is_view v s.view && is_normal s.status
-
--- of the leader, to a follower
-abbrev pub is_from_leader : ReplicaState → View → ℕ → Bool
-is_from_leader s v q = is_current s v && (not (leads s) && (q == leader s))
-
--- of a follower, to the leader
-abbrev pub is_to_leader : ReplicaState → View → Bool
-is_to_leader s v = is_current s v && leads s
 
 abbrev pub from_leader : {S : Type 0} → Meaning S → Body → ReplicaState → Effect
 from_leader m (bodies.GapCommit k) s = rows.gap_commit m k s
@@ -86,10 +74,6 @@ on_body m p (bodies.SyncCommit k) s = in_view m p.sender p.view (bodies.SyncComm
 on_body m p (bodies.SlotLookup k) s = in_view m p.sender p.view (bodies.SlotLookup k) s
 on_body m p (bodies.GapRep k) s = in_view m p.sender p.view (bodies.GapRep k) s
 on_body m p (bodies.SyncRep k) s = in_view m p.sender p.view (bodies.SyncRep k) s
-
--- a replica takes no message of its own
-abbrev pub is_other : ReplicaState → ℕ → Bool
-is_other s q = nat_lt q s.config.replicas && not (q == s.number)
 
 unfoldable pub on_message : {S : Type 0} → Meaning S → Peer → ReplicaState → Effect
 on_message m p s = when (is_other s p.sender) (on_body m p p.body) s

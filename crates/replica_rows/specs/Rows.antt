@@ -1,8 +1,8 @@
 -- The rows of a replica's step table over whole messages: what each kind of input does.
-use Rattle.std.specs.Prelude.{ℕ, ◌+◌, ◌-◌, ◌^◌, List, length, Bool, true, false, Option, Some, None, not, nat_le, nat_lt, ◌==◌, ◌&&◌, ◌||◌}
+use Rattle.std.specs.Prelude.{ℕ, ◌+◌, ◌-◌, ◌^◌, List, length, Bool, true, false, Option, Some, None, not, nat_le, nat_lt, ◌==◌, ◌&&◌}
 use Rattle.nop_types.specs.declared.limits.TheConstants.{NUMBER_END}
 use Rattle.nop_types.specs.Meaning.{Meaning}
-use Rattle.nop_types.specs.Views.{join_of, is_view, leader_of}
+use Rattle.nop_types.specs.Views.{join_of, is_view}
 use Rattle.nop_types.specs.declared.view.View.{View}
 use Rattle.nop_types.specs.declared.replica_state.Phase.{Phase}
 use Rattle.nop_types.specs.declared.replica_state.Phase.TheVariants.{Normal, Change}
@@ -16,13 +16,11 @@ use Rattle.oum_receiver.specs.Front.{Front, Nothing, Message, Dropped}
 use Rattle.oum_receiver.specs.Receiving.{front_of}
 use Rattle.slot_lookup.specs.Answer.{Answer, Found, GapAgain, Begin, answer_of}
 use Rattle.slot_lookup.specs.Answer as answers
-use Rattle.view_change.specs.declared.starting.Step.{Step}
-use Rattle.view_change.specs.declared.starting.Step.TheVariants.{Waiting}
-use Rattle.view_change.specs.Gathering.{Gathering, counted, step_of}
-use Rattle.replica_rows.specs.declared.state.ReplicaState.{ReplicaState}
-use Rattle.replica_rows.specs.State.{leads, is_normal, waits, has_room, may_append}
-use Rattle.replica_rows.specs.Sends.{Effect, still, then_do, when, to_replica, to_leader, to_all}
-use Rattle.replica_rows.specs.Moves.{
+use Rattle.view_change.specs.Gathering.{Gathering}
+use Rattle.replica_state.specs.declared.state.ReplicaState.{ReplicaState}
+use Rattle.replica_state.specs.State.{leads, is_normal, waits, has_room, may_append, may_adopt}
+use Rattle.replica_state.specs.Sends.{Effect, still, then_do, when, to_replica, to_leader, to_all}
+use Rattle.replica_state.specs.Moves.{
   queue,
   begin_session,
   session_view,
@@ -78,15 +76,6 @@ abbrev pub gather : {S : Type 0} → Meaning S → Option Gathering → peer.Cha
 gather m None c s = still s
 gather m (Some g) c s = then_do (keep_change s g c) (λ t. open_if_enough m t.changes t)
 
--- what keeping a change leaves, and whether the view starts then
-abbrev pub kept_by : ReplicaState → Option Gathering → peer.Change → ReplicaState
-kept_by s None c = s
-kept_by s (Some g) c = (keep_change s g c).0
-
-abbrev pub step_by : Option Gathering → peer.Change → Step
-step_by None c = Waiting
-step_by (Some g) c = step_of (counted g c)
-
 -- while the view has not started, its leader gathers changes; then it answers a late one
 abbrev pub gather_by : {S : Type 0} → Meaning S → Phase → peer.Change → ReplicaState → Effect
 gather_by m Change c s = gather m s.changes c s
@@ -97,17 +86,6 @@ take_change m v c s = when (is_view v s.view && leads s) (gather_by m s.status c
 
 unfoldable pub view_change : {S : Type 0} → Meaning S → View → peer.Change → ReplicaState → Effect
 view_change m v c s = then_do (view_change_request m v s) (take_change m v c)
-
-abbrev pub is_at_most : View → View → Bool
-is_at_most a b = nat_le a.leader b.leader && nat_le a.session b.session
-
--- whether a replica adopts what a view starts with
-abbrev pub may_adopt : ReplicaState → ℕ → View → List Entry → Bool
-may_adopt s q v l =
-    (q == leader_of v s.config.replicas)
-    && (is_at_most s.view v
-    && ((not (is_view v s.view) || not (is_normal s.status))
-    && nat_le s.sync.sync_point (length l)))
 
 unfoldable pub start_view : {S : Type 0} → Meaning S → ℕ → View → ℕ → List Entry → ReplicaState → Effect
 start_view m q v x l s = when (may_adopt s q v l) (λ t. adopt m t v x l) s

@@ -1,38 +1,18 @@
 -- What holds of each replica's state, beside what its parts hold.
-use Rattle.std.specs.Prelude.{◌≡◌, ◌≤◌, ◌<◌, ◌+◌, ◌++◌, ℕ, List, length, Some, IfSome, ⊤}
-use Rattle.std.specs.List.{AllByRecursion}
+use Rattle.std.specs.Prelude.{◌≡◌, ◌≤◌, ◌+◌, ◌++◌, ℕ, List, length, Some, ⊤}
 use Rattle.nop_types.specs.declared.host.Host.{Ghosts}
-use Rattle.nop_types.specs.declared.limits.TheConstants.{MAX_SLOTS, MAX_REPLICAS, MAX_RESULT_BYTES}
-use Rattle.nop_types.specs.declared.replica_state.Phase.TheVariants.{Normal}
+use Rattle.nop_types.specs.declared.limits.TheConstants.{MAX_RESULT_BYTES}
 use Rattle.nop_types.specs.declared.request.Entry.{Entry}
 use Rattle.nop_types.specs.Execution.{result_at}
 use Rattle.nop_types.specs.Meaning.{Meaning}
-use Rattle.nop_types.specs.Ranges.{ViewFits, LogFits, NextFits, SlotFits, ChangeFits, StampedFits, PeerFits}
+use Rattle.nop_types.specs.Ranges.{StampedFits, PeerFits}
 use Rattle.executor.specs.Running.{Running}
 use Rattle.executor.specs.Undoing.{HasExecuted}
 use Rattle.replica_rows.specs.declared.member.Member.{Member}
-use Rattle.replica_rows.specs.declared.state.ReplicaState.{ReplicaState}
-use Rattle.replica_rows.specs.Sends.{Effect}
+use Rattle.replica_state.specs.declared.state.ReplicaState.{ReplicaState}
+use Rattle.replica_state.specs.Within.{IsWithin}
+use Rattle.replica_state.specs.Sends.{Effect}
 use Rattle.replica_rows.specs.Messages.{Arrival, Packet, Told, Ticked}
-
--- each field is in its range, and what is sent of it too
-pub record IsWithin (s : ReplicaState) : Type 0 where
-  pub number : s.number < s.config.replicas
-  pub few : s.config.replicas ≤ MAX_REPLICAS
-  pub view : ViewFits s.view
-  pub last_normal : ViewFits s.last_normal
-  pub log : LogFits s.log
-  pub next : NextFits s.next
-  -- the view started with base entries, at a number from 1
-  pub base : s.base ≤ length s.log
-  pub start : length s.log < s.next + s.base
-  -- in Normal the receiver hands up the next number
-  pub receiver : s.status ≡ Normal → s.receiver.next ≡ s.next
-  pub gap : IfSome s.gap (λ g. SlotFits g.slot)
-  pub sync_point : s.sync.sync_point ≤ MAX_SLOTS
-  pub syncing : IfSome s.sync.syncing (λ x. x.len ≤ MAX_SLOTS)
-  pub prepared : s.sync.prepared ≤ MAX_SLOTS
-  pub changes : IfSome s.changes (λ g. AllByRecursion ChangeFits g.changes)
 
 -- and the executor has executed the first entries of the log
 pub record Runs {H U : Type 0} (host : Ghosts H U) (s : ReplicaState) (e : Running H U) : Type 0 where

@@ -1,39 +1,16 @@
-ghost use Rattle.std.specs.Prelude.{◌≡◌, ◌≤◌, ◌++◌, OnOk, IfOk};
-ghost use Rattle.nop_types.specs.declared.limits.TheConstants.{NUMBER_END};
+ghost use Rattle.std.specs.Prelude.{OnOk};
 ghost use Rattle.nop_types.specs.Ranges.{ViewFits, NextFits, LogFits};
-ghost use Rattle.replica_rows.specs.Moves.{adopted, adopt, open_with};
+ghost use Rattle.replica_state.specs.Moves.{adopt, open_with};
 ghost use Rattle.replica_rows.specs.Within.{IsRunning, Does};
 
-use crate::ReplicaState;
 use crate::member::Member;
-use nop_types::{Host, Log, NoMemory, Phase, View};
+use nop_types::{Host, Log, NoMemory, View};
 use peer_codec::LogBody;
 use view_change::Start;
 
-impl ReplicaState {
-    /// Takes part in a view from what it starts with.
-    fn take_part(&mut self, view: View, next: u64, log: Log)
-        requires { next ≤ NUMBER_END }
-        ensures { self.new ≡ adopted self.old view next log }
-    {
-        if self.receiver.session() < view.session {
-            self.receiver.reset(view.session, next);
-        } else {
-            self.receiver.advance(next);
-        }
-        self.leave();
-        self.view = view;
-        self.status = Phase::Normal;
-        self.last_normal = view;
-        self.log.adopt(log);
-        self.next.set(next);
-        self.base = self.log.len();
-    }
-}
-
 impl<H: Host> Member<H> {
     /// Takes part in a view from what it starts with, and replies again for each request above the sync point.
-    #[tactic(auto, unfolding(crate::specs::Moves::adopt))]
+    #[tactic(auto, unfolding(replica_state::specs::Moves::adopt))]
     pub(crate) fn adopt(&mut self, view: View, next: u64, log: Log) -> Result<(), NoMemory>
         requires runs { IsRunning H.Host self.old }
         requires view { ViewFits view }

@@ -1,28 +1,14 @@
-ghost use Rattle.std.specs.Prelude.{◌≡◌, ◌<◌, ◌++◌, length, OnOk};
+ghost use Rattle.std.specs.Prelude.{◌≡◌, ◌<◌, length, OnOk};
 ghost use Rattle.nop_types.specs.declared.limits.TheConstants.{MAX_REPLICAS};
 ghost use Rattle.nop_types.specs.Ranges.{StampedFits, PeerFits, BodyFits};
-ghost use Rattle.replica_rows.specs.Moves.{begin_session, queue};
+ghost use Rattle.replica_state.specs.Moves.{begin_session, queue};
 ghost use Rattle.replica_rows.specs.Rows.{new_session, stamped};
-ghost use Rattle.replica_rows.specs.Messages.{
-  is_current,
-  is_from_leader,
-  is_to_leader,
-  is_other,
-  from_leader,
-  from_follower,
-  in_view,
-  on_body,
-  on_message,
-  ticked,
-  arrival_of,
-  arrive,
-};
-ghost use Rattle.replica_rows.specs.State.{executed_to};
+ghost use Rattle.replica_rows.specs.Messages.{from_leader, from_follower, in_view, on_body, on_message, ticked, arrival_of, arrive};
+ghost use Rattle.replica_state.specs.State.{executed_to, is_from_leader, is_to_leader, is_other};
 ghost use Rattle.replica_rows.specs.Within.{ArrivalFits, IsRunning, Does};
 
-use crate::ReplicaState;
 use crate::member::Member;
-use nop_types::{Body, Change, Host, NoMemory, Peer, Phase, Stamped, Tick, View};
+use nop_types::{Body, Change, Host, NoMemory, Peer, Stamped, Tick, View};
 
 /// What a whole input is: a stamped request, a message of another replica, or a tick.
 #[derive(Drop)]
@@ -30,54 +16,6 @@ pub enum Arrival {
     Stamped(Stamped),
     Told(Peer),
     Ticked(Tick),
-}
-
-impl ReplicaState {
-    /// Whether this is another replica of the group.
-    pub fn is_other(&self, replica: u8) -> bool
-        ensures { result ≡ is_other self.now replica }
-    {
-        replica < self.config.replicas() && replica != self.number
-    }
-
-    /// The receiver begins a greater session with a packet, and the view is left.
-    fn begin_session(&mut self, packet: &Stamped) -> Result<(), NoMemory>
-        requires { StampedFits packet.now }
-        ensures { OnOk result (self.new ≡ begin_session self.old packet.now) }
-    {
-        self.status = Phase::Change;
-        self.receiver.reset(packet.session, 1);
-        self.receiver.offer(packet)?;
-        Ok(())
-    }
-
-    /// A packet is offered to the receiver.
-    fn queue(&mut self, packet: Stamped) -> Result<(), NoMemory>
-        requires { StampedFits packet }
-        ensures { OnOk result (self.new ≡ (queue self.old packet).0) }
-    {
-        self.receiver.offer_owned(packet)?;
-        Ok(())
-    }
-
-    /// Whether a message is of the view in which the replica is Normal.
-    fn is_current(&self, view: View) -> bool
-        ensures { result ≡ is_current self.now view }
-    {
-        view.is(self.view) && self.is_normal()
-    }
-
-    fn is_from_leader(&self, view: View, sender: u8) -> bool
-        ensures { result ≡ is_from_leader self.now view sender }
-    {
-        self.is_current(view) && !self.leads() && sender == self.leader()
-    }
-
-    fn is_to_leader(&self, view: View) -> bool
-        ensures { result ≡ is_to_leader self.now view }
-    {
-        self.is_current(view) && self.leads()
-    }
 }
 
 impl<H: Host> Member<H> {

@@ -1,79 +1,16 @@
-ghost use Rattle.std.specs.Prelude.{◌≡◌, ◌≤◌, ◌<◌, ◌++◌, ◌+◌, ◌↔◌, length, true, IsTrue, OnOk, IfOk};
+ghost use Rattle.std.specs.Prelude.{◌≡◌, ◌<◌, ◌+◌, length, true, OnOk, IfOk};
 ghost use Rattle.nop_types.specs.Ranges.{EntryFits};
-ghost use Rattle.nop_types.specs.declared.limits.TheConstants.{MAX_SLOTS, NUMBER_END};
-ghost use Rattle.oum_receiver.specs.Front.{Dropped};
-ghost use Rattle.oum_receiver.specs.Receiving.{front_of};
-ghost use Rattle.replica_rows.specs.State.{drains, may_append, waiting_in, leads};
-ghost use Rattle.replica_rows.specs.Moves.{appended, gap_opened, open_gap, ask, drain};
-ghost use Rattle.replica_rows.specs.Within.{IsWithin, IsRunning, Does};
-ghost use Rattle.replica_rows.specs.Draining.{TakesFront, TakesOne};
+ghost use Rattle.nop_types.specs.declared.limits.TheConstants.{MAX_SLOTS};
+ghost use Rattle.replica_state.specs.State.{drains, may_append, leads};
+ghost use Rattle.replica_state.specs.Moves.{appended, open_gap, ask, drain};
+ghost use Rattle.replica_rows.specs.Within.{IsRunning, Does};
+ghost use Rattle.replica_rows.specs.Draining.{TakesOne};
 
-use crate::ReplicaState;
 use crate::member::Member;
-use gap_agree::Gap;
 use nop_types::{Body, Entry, Host, MAX_SLOTS, NoMemory};
-use oum_receiver::Upcall;
-
-/// The gap that waits for votes in a slot, unless nobody has to vote.
-fn gap_in(slot: u32, f: u8) -> Option<Gap>
-    ensures { result ≡ waiting_in slot f }
-{
-    if f == 0 {
-        return None;
-    }
-    Some(Gap::begin(slot, f))
-}
-
-impl ReplicaState {
-    /// Appends an entry that did not come through the receiver, which goes to the number after it.
-    pub(crate) fn append(&mut self, entry: Entry) -> Result<(), NoMemory>
-        requires { may_append self.old ≡ true }
-        ensures { OnOk result (self.new ≡ appended self.old entry) }
-    {
-        self.log.append(entry)?;
-        let next = self.next.get() + 1;
-        self.next.set(next);
-        self.receiver.advance(next);
-        Ok(())
-    }
-
-    /// Puts a NO-OP into the next slot, for which votes are then counted.
-    fn put_gap(&mut self) -> Result<(), NoMemory>
-        requires { may_append self.old ≡ true }
-        ensures { OnOk result (self.new ≡ gap_opened self.old) }
-    {
-        self.append(Entry::NoOp)?;
-        self.gap = gap_in(self.log.len(), self.others());
-        Ok(())
-    }
-
-    /// Logs the request in front, where one stands there.
-    fn take_front(&mut self) -> Result<bool, NoMemory>
-        requires within { IsWithin self.old }
-        requires drains { drains self.old ≡ true }
-        ensures { IfOk result (TakesFront self.old self.new) }
-    {
-        let Some(request) = self.receiver.take_message() else {
-            return Ok(false);
-        };
-        self.log.append(Entry::Req(request))?;
-        self.next.set(self.receiver.next());
-        Ok(true)
-    }
-
-    /// Whether the receiver has a drop in front.
-    pub(crate) fn has_drop(&self) -> bool
-        ensures drop { IsTrue result ↔ (front_of self.now.receiver ≡ Dropped) }
-        ensures more { IsTrue result → self.now.receiver.next < NUMBER_END }
-    {
-        let _next = self.receiver.next();
-        matches!(self.receiver.front(), Some(Upcall::Drop))
-    }
-}
 
 impl<H: Host> Member<H> {
     /// The same, with what was executed.
-    #[tactic(auto, using(crate::proofs::Running::append_runs))]
     pub(crate) fn append(&mut self, entry: Entry) -> Result<(), NoMemory>
         requires runs { IsRunning H.Host self.old }
         requires room { may_append self.old.state ≡ true }
@@ -87,7 +24,7 @@ impl<H: Host> Member<H> {
     }
 
     /// Puts a NO-OP into the next slot, and tells all others.
-    #[tactic(auto, using(crate::proofs::Running::open_gap_runs), unfolding(crate::specs::Moves::open_gap))]
+    #[tactic(auto, using(crate::proofs::Running::open_gap_runs), unfolding(replica_state::specs::Moves::open_gap))]
     pub(crate) fn open_gap(&mut self) -> Result<(), NoMemory>
         requires runs { IsRunning H.Host self.old }
         requires room { may_append self.old.state ≡ true }

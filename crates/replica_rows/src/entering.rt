@@ -1,76 +1,11 @@
-ghost use Rattle.std.specs.Prelude.{◌≡◌, ◌≤◌, ◌++◌, true, OnOk, IfOk};
+ghost use Rattle.std.specs.Prelude.{◌≡◌, OnOk};
 ghost use Rattle.nop_types.specs.Ranges.{ViewFits};
-ghost use Rattle.nop_types.specs.Views.{AtMost};
-ghost use Rattle.replica_rows.specs.Moves.{left, entered, enter_as, enter, own_change, change_told};
+ghost use Rattle.replica_state.specs.Moves.{enter, change_told};
 ghost use Rattle.replica_rows.specs.Rows.{enter_view, enter_and_drain};
-ghost use Rattle.replica_rows.specs.Within.{IsWithin, IsRunning, Does};
+ghost use Rattle.replica_rows.specs.Within.{IsRunning, Does};
 
 use crate::member::Member;
-use crate::{ReplicaState, Sends};
-use nop_types::{Body, Change, Host, NoMemory, Phase, View};
-use peer_codec::LogBody;
-use std::alloc::Global;
-use view_change::Changes;
-
-impl ReplicaState {
-    /// Nothing of the view that is left stays: no gap, no votes, no changes. The replica listens for the leader of the new one.
-    pub(crate) fn leave(&mut self)
-        ensures { self.new ≡ left self.old }
-    {
-        self.gap = None;
-        self.sync.clear();
-        self.changes = None;
-        self.asked = 0;
-        self.heard = true;
-    }
-
-    /// Goes to a greater view, and waits for it to start.
-    fn go_to(&mut self, view: View)
-        ensures { self.new ≡ entered self.old view }
-    {
-        if self.view.session < view.session && self.receiver.session() != view.session {
-            self.receiver.reset(view.session, 1);
-        }
-        self.leave();
-        self.view = view;
-        self.status = Phase::Change;
-    }
-
-    /// The replica's own change, which it keeps where it leads the view that it enters.
-    fn own_change(&self) -> Result<Change, NoMemory>
-        ensures { IfOk result (λ c. c ≡ own_change self.now) }
-    {
-        Ok(Change {
-            sender: self.number,
-            last_normal: self.last_normal,
-            next: self.next.get(),
-            log: self.log.copy(self.log.len())?,
-        })
-    }
-
-    /// The leader of the view that is entered gathers changes, its own first.
-    fn begin_gathering(&mut self, alloc: Global) -> Result<(), NoMemory>
-        ensures { OnOk result (self.new ≡ (enter_as true self.old).0) }
-    {
-        let own = self.own_change()?;
-        let changes = Changes::enter(alloc, self.view, self.others(), own)?;
-        self.changes = Some(changes);
-        Ok(())
-    }
-
-    /// Tells the leader of the view what the replica had when it entered it.
-    fn tell_change(&self, sends: &mut Sends) -> Result<(), NoMemory>
-        requires { IsWithin self.now }
-        ensures { OnOk result (sends.new ≡ sends.old ++ change_told self.now) }
-    {
-        let body = LogBody::ViewChange {
-            last_normal: self.last_normal,
-            next: self.next.get(),
-            log: self.log.as_slice(),
-        };
-        self.send_log_to(self.leader(), body, sends)
-    }
-}
+use nop_types::{Body, Host, NoMemory, View};
 
 impl<H: Host> Member<H> {
     /// Sends its own change to the leader of the view.
@@ -84,7 +19,7 @@ impl<H: Host> Member<H> {
         Ok(())
     }
 
-    #[tactic(auto, unfolding(crate::specs::Moves::enter))]
+    #[tactic(auto, unfolding(replica_state::specs::Moves::enter))]
     fn enter(&mut self, view: View) -> Result<(), NoMemory>
         requires runs { IsRunning H.Host self.old }
         requires fits { ViewFits view }

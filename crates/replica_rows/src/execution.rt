@@ -1,5 +1,5 @@
-ghost use Rattle.std.specs.Prelude.{◌≡◌, ◌≤◌, ◌↔◌, ℕ, IsTrue, length, min, take, OnOk, cond};
-ghost use Rattle.replica_rows.specs.State.{executed_to};
+ghost use Rattle.std.specs.Prelude.{◌≡◌, ◌≤◌, ◌↔◌, ℕ, IsTrue, length, min, take, OnOk};
+ghost use Rattle.replica_state.specs.State.{executed_to};
 ghost use Rattle.replica_rows.specs.Within.{IsRunning};
 
 use crate::member::Member;
@@ -44,13 +44,13 @@ impl<H: Host> Member<H> {
         ensures sends { self.new.sends ≡ self.old.sends }
         ensures runs { IsRunning H.Host self.new }
         ensures behind { length self.new.executor.undos ≤ slot }
-        ensures fewer { length self.new.executor.undos ≤ length self.old.executor.undos }
         ensures kept { length self.new.executor.undos
             ≡ min slot (length self.old.executor.undos) }
     {
-        if slot < self.executor.executed() {
-            self.executor.rewind(&self.state.log, slot);
+        if self.executor.executed() <= slot {
+            return;
         }
+        self.executor.rewind(&self.state.log, slot);
     }
 
     /// Takes back what was executed of entries that are not those of this log.

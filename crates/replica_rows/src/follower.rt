@@ -1,40 +1,15 @@
-ghost use Rattle.std.specs.Prelude.{◌≡◌, ◌≤◌, ◌<◌, ◌+◌, ◌-◌, ◌++◌, ◌⊎◌, length, true, nat_le, Some, OnOk};
+ghost use Rattle.std.specs.Prelude.{◌≡◌, ◌≤◌, ◌<◌, ◌+◌, ◌-◌, ◌⊎◌, length, true, Some, OnOk};
 ghost use Rattle.nop_types.specs.declared.limits.TheConstants.{NUMBER_END};
 ghost use Rattle.nop_types.specs.declared.request.Entry.TheVariants.{NoOp};
 ghost use Rattle.nop_types.specs.Lists.{slot_of};
 ghost use Rattle.nop_types.specs.Ranges.{SlotFits, RequestFits, LogFits};
-ghost use Rattle.replica_rows.specs.State.{may_append};
-ghost use Rattle.replica_rows.specs.Moves.{write_gap, add_gap, fill, overlaid, overlay, obey};
+ghost use Rattle.replica_state.specs.State.{may_append};
+ghost use Rattle.replica_state.specs.Moves.{write_gap, add_gap, fill, overlay, obey};
 ghost use Rattle.replica_rows.specs.Rows.{gap_commit, found, sync_prepare, sync_commit};
 ghost use Rattle.replica_rows.specs.Within.{IsRunning, Does};
 
-use crate::ReplicaState;
 use crate::member::Member;
 use nop_types::{Body, Entry, Host, Log, NUMBER_END, NoMemory, Request};
-
-impl ReplicaState {
-    /// Takes the entries of the leader's log, of which so many are new.
-    fn lay_over(&mut self, log: &Log, appended: u64) -> Result<(), NoMemory>
-        requires appended { appended ≡ length log.now - length self.old.log }
-        requires within { self.old.next + appended ≤ NUMBER_END }
-        ensures { OnOk result (self.new ≡ overlaid self.old log.now) }
-    {
-        self.log.overlay(log)?;
-        let next = self.next.get() + appended;
-        self.next.set(next);
-        self.receiver.advance(next);
-        self.sync.on_prepare(log.as_slice().len() as u32);
-        Ok(())
-    }
-
-    /// Lets the sync point rise to what the leader says, where so much is prepared. Says whether it is.
-    fn obey(&mut self, slot: u32) -> bool
-        ensures state { self.new ≡ (obey self.old slot).0 }
-        ensures prepared { result ≡ nat_le slot self.old.sync.prepared }
-    {
-        self.sync.on_commit(slot).is_some()
-    }
-}
 
 impl<H: Host> Member<H> {
     /// Takes back what was executed from a slot on, unless a NO-OP stands there already.
@@ -47,9 +22,10 @@ impl<H: Host> Member<H> {
         ensures way { (length self.new.executor.undos < slot)
             ⊎ (slot_of self.new.state.log slot ≡ Some NoOp) }
     {
-        if !matches!(self.state.log.at(slot), Some(Entry::NoOp)) {
-            self.go_back(slot - 1);
+        if let Some(Entry::NoOp) = self.state.log.at(slot) {
+            return;
         }
+        self.go_back(slot - 1);
     }
 
     /// Puts a NO-OP into a slot of the log, and tells the leader so.
@@ -125,7 +101,7 @@ impl<H: Host> Member<H> {
     }
 
     /// Takes the entries of the leader's log, replies for those that are new, and tells the leader so.
-    #[tactic(auto, unfolding(crate::specs::Moves::overlay))]
+    #[tactic(auto, unfolding(replica_state::specs::Moves::overlay))]
     fn overlay(&mut self, log: &Log, appended: u64) -> Result<(), NoMemory>
         requires runs { IsRunning H.Host self.old }
         requires fits { LogFits log.now }

@@ -1,7 +1,7 @@
 ghost use Rattle.std.specs.Prelude.{◌≡◌, ◌≤◌};
 ghost use Rattle.nop_types.specs.Meaning.{Meaning};
-ghost use Rattle.replica_rows.specs.declared.state.ReplicaState.{ReplicaState};
-ghost use Rattle.replica_rows.specs.Sends.{message_count};
+ghost use Rattle.replica_state.specs.declared.state.ReplicaState.{ReplicaState};
+ghost use Rattle.replica_state.specs.Sends.{message_count};
 ghost use Rattle.replica_rows.specs.Messages.{Arrival, arrive};
 ghost use Rattle.replica_rows.specs.Draining.{DrainsByFront};
 

@@ -1,74 +1,39 @@
-ghost use Rattle.std.specs.Prelude.{◌≡◌, ◌≤◌, ◌<◌, ◌++◌, ◌+◌, length, OnOk, IfSome};
-ghost use Rattle.std.specs.Option.{option_copied};
-ghost use Rattle.nop_types.specs.declared.limits.TheConstants.{MAX_RESULT_BYTES};
-ghost use Rattle.nop_types.specs.Legality.{IsOf};
-ghost use Rattle.nop_types.specs.Ranges.{SlotFits};
+ghost use Rattle.std.specs.Prelude.{◌≡◌, ◌≤◌, ◌<◌, ◌++◌, length, Some, OnOk};
 ghost use Rattle.nop_types.specs.declared.request.Request.{Request};
-ghost use Rattle.replica_rows.specs.Replies.{reply_with, leader_reply, reply_at, replies_above};
-ghost use Rattle.replica_rows.specs.Within.{IsWithin, IsRunning};
+ghost use Rattle.nop_types.specs.declared.request.Entry.TheVariants.{Req};
+ghost use Rattle.nop_types.specs.Execution.{result_at};
+ghost use Rattle.nop_types.specs.Legality.{IsOf};
+ghost use Rattle.nop_types.specs.Lists.{slot_of};
+ghost use Rattle.nop_types.specs.Ranges.{SlotFits};
+ghost use Rattle.replica_state.specs.Replies.{leader_reply, reply_at, replies_above};
+ghost use Rattle.replica_rows.specs.Within.{IsRunning};
 
 use crate::member::Member;
-use crate::{ReplicaState, Sends};
-use nop_types::{Bytes, Entry, Host, NoMemory, Reply};
-
-impl ReplicaState {
-    /// Sends a reply to a client.
-    fn send_reply(
-        &self,
-        slot: u32,
-        client: u32,
-        id: u64,
-        tag: u8,
-        answer: Bytes,
-        sends: &mut Sends,
-    ) -> Result<(), NoMemory>
-        requires within { IsWithin self.now }
-        requires slot { SlotFits slot }
-        requires id { 1 ≤ id }
-        requires tag { tag ≤ 1 }
-        requires short { length answer ≤ MAX_RESULT_BYTES }
-        requires without { tag ≡ 0 → length answer ≡ 0 }
-        ensures { OnOk result (sends.new
-            ≡ sends.old ++ reply_with self.now slot client id tag answer) }
-    {
-        sends.push_reply(Reply {
-            replica: self.number,
-            view: self.view,
-            slot,
-            client,
-            id,
-            tag,
-            result: answer,
-        })
-    }
-
-    /// Sends a leader's reply, where there is a result.
-    fn send_result(
-        &self,
-        slot: u32,
-        client: u32,
-        id: u64,
-        answer: Option<&Bytes>,
-        sends: &mut Sends,
-    ) -> Result<(), NoMemory>
-        requires within { IsWithin self.now }
-        requires slot { SlotFits slot }
-        requires id { 1 ≤ id }
-        requires short { IfSome (option_copied answer) (λ bytes. length bytes ≤ MAX_RESULT_BYTES) }
-        ensures { (r : Request) → IsOf client id r → OnOk result (sends.new
-            ≡ sends.old ++ leader_reply self.now slot r (option_copied answer.entry)) }
-    {
-        let Some(answer) = answer else {
-            return Ok(());
-        };
-        let answer = answer.try_clone()?;
-        self.send_reply(slot, client, id, 1, answer, sends)
-    }
-}
+use nop_types::{Entry, Host, NoMemory};
 
 impl<H: Host> Member<H> {
+    /// Executes up to a slot where a request of this client and id stands, and replies with its result.
+    fn reply_with_result(&mut self, slot: u32, client: u32, id: u64) -> Result<(), NoMemory>
+        requires runs { IsRunning H.Host self.old }
+        requires slot { SlotFits slot }
+        requires there { slot ≤ length self.old.state.log }
+        requires ahead { length self.old.executor.undos ≤ slot }
+        requires id { 1 ≤ id }
+        ensures state { self.new.state ≡ self.old.state }
+        ensures runs { OnOk result (IsRunning H.Host self.new) }
+        ensures behind { OnOk result (length self.new.executor.undos ≤ slot) }
+        ensures sends { (r : Request) → IsOf client id r
+            → slot_of self.old.state.log slot ≡ Some (Req r) → OnOk result (self.new.sends
+            ≡ self.old.sends ++ leader_reply self.old.state slot r
+            (result_at H.meaning self.old.state.log slot)) }
+    {
+        self.executor.run_to(&self.state.log, slot)?;
+        let answer = self.executor.result(client, id);
+        self.state
+            .send_result(slot, client, id, answer, &mut self.sends)
+    }
+
     /// Replies for a slot, where a request stands there: a leader with its result, a follower without.
-    #[tactic(auto, unfolding(crate::specs::Replies::reply_to))]
     pub(crate) fn reply_at(&mut self, slot: u32) -> Result<(), NoMemory>
         requires runs { IsRunning H.Host self.old }
         requires there { slot ≤ length self.old.state.log }
@@ -82,18 +47,12 @@ impl<H: Host> Member<H> {
         let Some(Entry::Req(request)) = self.state.log.at(slot) else {
             return Ok(());
         };
-        let client = request.client;
-        let id = request.id;
-        if !self.state.leads() {
-            let none = Bytes::from_vec(Vec::new(self.alloc));
-            return self
-                .state
-                .send_reply(slot, client, id, 0, none, &mut self.sends);
+        let (client, id) = (request.client, request.id);
+        if self.state.leads() {
+            return self.reply_with_result(slot, client, id);
         }
-        self.executor.run_to(&self.state.log, slot)?;
-        let answer = self.executor.result(client, id);
         self.state
-            .send_result(slot, client, id, answer, &mut self.sends)
+            .send_short(self.alloc, slot, client, id, &mut self.sends)
     }
 
     /// Replies for each request above a slot, in the order of their slots.

@@ -1,27 +1,12 @@
-ghost use Rattle.std.specs.Prelude.{◌≡◌, ◌≤◌, ◌++◌, OnOk, IfOk};
-ghost use Rattle.nop_types.specs.declared.peer.Body.TheVariants.{SyncPrepare};
+ghost use Rattle.std.specs.Prelude.{◌≡◌, OnOk};
 ghost use Rattle.oum_receiver.specs.Receiving.{front_of};
-ghost use Rattle.replica_rows.specs.Moves.{open_sync, repeat_commit};
+ghost use Rattle.replica_state.specs.Moves.{open_sync, repeat_commit};
 ghost use Rattle.replica_rows.specs.Rows.{suspect, watch, resend, sync, gap_again, lookup_again, change_again};
-ghost use Rattle.replica_rows.specs.Sends.{to_all};
-ghost use Rattle.replica_rows.specs.State.{leads};
-ghost use Rattle.replica_rows.specs.Within.{IsWithin, IsRunning, Does};
+ghost use Rattle.replica_state.specs.State.{leads};
+ghost use Rattle.replica_rows.specs.Within.{IsRunning, Does};
 
 use crate::member::Member;
-use crate::{ReplicaState, Sends};
-use nop_types::{Body, Host, NoMemory, Phase, View};
-use peer_codec::LogBody;
-
-impl ReplicaState {
-    /// Tells all others the log.
-    fn tell_log(&self, sends: &mut Sends) -> Result<(), NoMemory>
-        requires { IsWithin self.now }
-        ensures { OnOk result (sends.new ≡ sends.old
-            ++ to_all self.now (SyncPrepare self.now.log)) }
-    {
-        self.send_log_to_all(LogBody::SyncPrepare(self.log.as_slice()), sends)
-    }
-}
+use nop_types::{Body, Host, NoMemory, View};
 
 impl<H: Host> Member<H> {
     /// The view's leader is suspected: the next leader's view is entered.
@@ -60,10 +45,11 @@ impl<H: Host> Member<H> {
         ensures state { self.new.state ≡ self.old.state }
         ensures does { OnOk result (Does H.Host self.old self.new (λ s. gap_again s.gap s)) }
     {
-        match self.state.gap_slot() {
-            Some(slot) => self.to_all(Body::GapCommit(slot)),
-            None => Ok(()),
-        }
+        let Some(gap) = &self.state.gap else {
+            return Ok(());
+        };
+        let slot = gap.slot();
+        self.to_all(Body::GapCommit(slot))
     }
 
     /// A follower asks once more for the slot at which the receiver has a drop.

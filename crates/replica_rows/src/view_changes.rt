@@ -1,64 +1,13 @@
-ghost use Rattle.std.specs.Prelude.{◌≡◌, ◌≤◌, ◌<◌, ◌++◌, OnOk, IfOk};
+ghost use Rattle.std.specs.Prelude.{◌<◌, OnOk};
 ghost use Rattle.nop_types.specs.Ranges.{ViewFits, NextFits, LogFits, ChangeFits};
-ghost use Rattle.replica_rows.specs.Moves.{resend_start};
-ghost use Rattle.replica_rows.specs.Keeping.{kept_after};
-ghost use Rattle.replica_rows.specs.Rows.{
-  view_change_request,
-  step_by,
-  take_change,
-  gather,
-  view_change,
-  may_adopt,
-  start_view,
-};
-ghost use Rattle.replica_rows.specs.Within.{IsWithin, IsRunning, Does};
+ghost use Rattle.replica_state.specs.Moves.{resend_start};
+ghost use Rattle.replica_rows.specs.Rows.{view_change_request, take_change, gather, view_change, start_view};
+ghost use Rattle.replica_state.specs.State.{may_adopt};
+ghost use Rattle.replica_rows.specs.Within.{IsRunning, Does};
 
 use crate::member::Member;
-use crate::{ReplicaState, Sends};
-use nop_types::{Change, Host, Log, NoMemory, Phase, View, leader_of};
-use peer_codec::LogBody;
+use nop_types::{Change, Host, Log, NoMemory, Phase, View};
 use view_change::Step;
-
-impl ReplicaState {
-    /// Whether a replica adopts what a view starts with.
-    fn may_adopt(&self, sender: u8, view: View, log: &Log) -> bool
-        ensures { result ≡ may_adopt self.now sender view log.now }
-    {
-        sender == leader_of(view, self.config.replicas())
-            && View::le(self.view, view)
-            && (!view.is(self.view) || !self.is_normal())
-            && self.sync.sync_point() as usize <= log.as_slice().len()
-    }
-
-    /// Keeps a change, where changes are gathered. Says whether the view starts then, and with what; the changes are gone then.
-    fn keep_change(&mut self, change: Change) -> Result<Step, NoMemory>
-        ensures kept { IfOk result (λ step. self.new ≡ kept_after step self.old change) }
-        ensures step { IfOk result (λ step. step ≡ step_by self.old.changes change) }
-    {
-        let Some(mut changes) = self.changes.take() else {
-            return Ok(Step::Waiting);
-        };
-        if changes.is_enough_with(&change) {
-            let start = changes.start_with(change)?;
-            return Ok(Step::Started(start));
-        }
-        changes.on_change(change)?;
-        self.changes = Some(changes);
-        Ok(Step::Waiting)
-    }
-
-    /// Tells a replica what the view started with.
-    fn tell_start(&self, replica: u8, sends: &mut Sends) -> Result<(), NoMemory>
-        requires { IsWithin self.now }
-        ensures { OnOk result (sends.new ≡ sends.old ++ (resend_start self.now replica).1) }
-    {
-        let body = LogBody::StartView {
-            next: self.start(),
-            log: &self.log.as_slice()[..self.base as usize],
-        };
-        self.send_log_to(replica, body, sends)
-    }
-}
 
 impl<H: Host> Member<H> {
     /// Another replica asks for a view.

@@ -25,13 +25,13 @@ use Rattle.oum_codec.specs.Spelling.{spelling}
 use Rattle.oum_codec.proofs.Datagrams.{reads_again}
 use Rattle.client_quorum.specs.declared.state.ClientState.{ClientState}
 use Rattle.sequencer.specs.declared.state.SequencerState.{SequencerState}
-use Rattle.replica_rows.specs.declared.sending.Sending.{Sending}
-use Rattle.replica_rows.specs.declared.state.ReplicaState.{ReplicaState}
+use Rattle.replica_state.specs.declared.sending.Sending.{Sending}
+use Rattle.replica_state.specs.declared.state.ReplicaState.{ReplicaState}
 use Rattle.replica_rows.specs.Messages.{Arrival, Packet, Told, Ticked}
 use Rattle.replica_core.specs.Posting.{posted}
 use Rattle.replica_core.specs.ReplicaSteps as replica
 use Rattle.replica_core.specs.ReplicaSteps.{Replica}
-use Rattle.replica_rows.specs.Sends.{Effect, SendingFits, still}
+use Rattle.replica_state.specs.Sends.{Effect, SendingFits, still}
 use Rattle.replica_rows.specs.Within.{ResultsShort, ArrivalFits}
 use Rattle.started_views.specs.Past.{Past, note}
 use Rattle.protocol.specs.Conf.{Conf, Control, Install}

@@ -11,10 +11,10 @@ use Rattle.nop_types.specs.declared.peer.Peer.{Peer}
 use Rattle.facts.proofs.Members.{Has-none, Has-first, Has-rest, Has-cases}
 use Rattle.fragments.specs.Cutting.{fragments_of, sends_of}
 use Rattle.peer_codec.specs.Spelling.{spelling}
-use Rattle.replica_rows.specs.declared.sending.Sending.{Sending}
-use Rattle.replica_rows.specs.declared.sending.Sending.TheVariants.{ToClient, ToReplicas}
+use Rattle.replica_state.specs.declared.sending.Sending.{Sending}
+use Rattle.replica_state.specs.declared.sending.Sending.TheVariants.{ToClient, ToReplicas}
 use Rattle.replica_core.specs.Posting.{posted}
-use Rattle.replica_rows.specs.Sends.{SendingFits}
+use Rattle.replica_state.specs.Sends.{SendingFits}
 use Rattle.protocol.specs.Said.{Said}
 use Rattle.delivery.specs.Sends.{peers_in}
 use Rattle.refinement.specs.Lines.{lines_in}

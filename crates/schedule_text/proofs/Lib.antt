@@ -1,7 +1,6 @@
 pub mod Cuts
 pub mod Digits
 pub mod EventTexts
-pub mod Filled
 pub mod Firsts
 pub mod Fitting
 pub mod HexLengths
@@ -10,4 +9,3 @@ pub mod Searched
 pub mod SplitLemmas
 pub mod Takings
 pub mod Turns
-pub mod Worded

@@ -1,5 +1,5 @@
 -- The first field ends at the first space.
-use Rattle.std.proofs.Common.{◌≡◌, ℕ, Bool, true, false, not, nat_lt, ◌==◌, ◌+◌, Option, Some, None, Ok, cond, position, take, drop}
+use Rattle.std.proofs.Common.{◌≡◌, ℕ, Bool, true, false, not, nat_lt, ◌==◌, ◌+◌, Option, Some, None, Ok, Err, cond, position, take, drop}
 use Rattle.std.proofs.Common.{length}
 use Rattle.std.proofs.Common.{List, [], ◌∷◌, ◌++◌, refl, arith, append_assoc, append-nil}
 use Rattle.std.specs.List.{position_or_len, before_first, after_first}
@@ -7,6 +7,7 @@ use Rattle.std.proofs.Math.Seq.{take-length}
 use Rattle.std.proofs.lemmas.List.Sums.{prefix_len-le-length}
 use Rattle.std.proofs.lemmas.Bool.Decides.{nat_tests}
 use Rattle.std.proofs.lemmas.Grind.{common_steps}
+use Rattle.schedule_text.specs.declared.rule.Rule.TheVariants.{WrongFieldCount}
 use Rattle.schedule_text.specs.Fields.{fields, fields_on}
 use Rattle.schedule_text.specs.Rules.{◌>>=◌, one_field, two_fields}
 
@@ -55,3 +56,10 @@ pub second_of : (first : List ℕ) (others : List (List ℕ)) → two_fields (fi
 second_of first [] = refl
 second_of first (second ∷ []) = refl
 second_of first (second ∷ third ∷ more) = refl
+
+-- a field and those of a further part are no single field
+pub more_than_one : (line first rest : List ℕ) (others : List (List ℕ)) → others ≡ fields rest → fields line ≡ first ∷ others
+    → one_field (fields line) ≡ Err WrongFieldCount
+more_than_one line first rest others is cut =
+    let some = fields_are_some rest in
+    rw (cut, is, some.2) refl

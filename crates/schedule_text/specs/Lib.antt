@@ -12,4 +12,3 @@ pub mod Split
 pub mod Stepping
 pub mod Ticks
 pub mod Transcript
-pub mod Words

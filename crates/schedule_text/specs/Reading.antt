@@ -89,6 +89,10 @@ TakesOf old new None after answer = ⊤
 TakesOf old new (Some before) None answer = ⊥
 TakesOf old new (Some before) (Some left) answer = (taken : List ℕ) × (before ≡ taken ++ left) × Takes old new taken left answer
 
+-- the same of any source: there are bytes that the call read so that its answer is what the rules say of them
+unfoldable pub Reads : Reading → Reading → Result (Option Event) NextError → Type 0
+Reads old new answer = (taken : List ℕ) × Takes old new taken [] answer
+
 -- how many lines a call took that answered so, where line 1 was taken before
 abbrev pub lines_taken : Result (Option Event) NextError → ℕ
 lines_taken (Ok (Some e)) = 1

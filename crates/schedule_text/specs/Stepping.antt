@@ -1,5 +1,5 @@
 -- The steps of a reader on the way to an answer.
-use Rattle.std.specs.Prelude.{◌≡◌, ◌≢◌, ℕ, ◌≤◌, ◌↔◌, ◌⊎◌, List, [], Bool, true, false, Option, Some, None, Result, Ok, Err, IsNone}
+use Rattle.std.specs.Prelude.{◌≡◌, ◌≢◌, ℕ, ◌≤◌, ◌↔◌, ◌⊎◌, List, [], ◌++◌, Bool, true, false, Option, Some, None, Result, Ok, Err, IsNone}
 use Rattle.nop_types.specs.declared.limits.TheConstants.{MAX_LINES}
 use Rattle.nop_types.specs.Configuration.{Configuration}
 use Rattle.schedule_text.specs.declared.event.Event.{Event}
@@ -7,7 +7,7 @@ use Rattle.schedule_text.specs.declared.first_line.FirstLine.{FirstLine}
 use Rattle.schedule_text.specs.declared.next_error.NextError.{NextError}
 use Rattle.schedule_text.specs.declared.next_error.NextError.TheVariants.{NoMemory}
 use Rattle.schedule_text.specs.Deciding.{IsSearched, IsFirstLine}
-use Rattle.schedule_text.specs.Reading.{Reading, MayFollow, IsTurn, lines_before, turn_of}
+use Rattle.schedule_text.specs.Reading.{Reading, MayFollow, IsTurn, Takes, lines_before, turn_of}
 
 -- what a reader keeps: which bytes were searched, and a configuration from line 1 on
 pub record IsReader (searched line : ℕ) (pending : List ℕ) (config : Option Configuration) : Type 0 where
@@ -19,6 +19,12 @@ pub record IsReader (searched line : ℕ) (pending : List ℕ) (config : Option 
 abbrev pub after_step : {A : Type 0} → Result A NextError → Result (Option Event) NextError
 after_step (Ok x) = Err NoMemory
 after_step (Err e) = Err e
+
+-- there are bytes that a call took from a source, whether the source tells its bytes or not
+unfoldable pub TakesFrom : Reading → Reading → Option (List ℕ) → Option (List ℕ) → Result (Option Event) NextError → Type 0
+TakesFrom old new None after answer = (taken : List ℕ) × Takes old new taken [] answer
+TakesFrom old new (Some before) None answer = ⊥
+TakesFrom old new (Some before) (Some left) answer = (taken : List ℕ) × (before ≡ taken ++ left) × Takes old new taken left answer
 
 -- a step without the source
 pub record Answers (old new : Reading) (answer : Result (Option Event) NextError) : Type 0 where

@@ -1,7 +1,7 @@
 use nop_types::{Actor, Bytes, Op, Tick};
 
 /// One step of one actor, as a line of a schedule names it.
-#[derive(Debug, Drop)]
+#[derive(Drop)]
 pub enum Event {
     /// A client is given an op.
     Submit(u32, Op),

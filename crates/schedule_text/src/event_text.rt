@@ -2,17 +2,9 @@
 
 ghost use Rattle.std.specs.Prelude.{◌≡◌, ◌++◌, ◌∷◌, [], OnOk, OnErr};
 ghost use Rattle.hex.specs.Hex.{IsBytes};
-ghost use Rattle.schedule_text.specs.EventText.{
-  HasWord,
-  HasLine,
-  tick_text,
-  event_word,
-  event_fields,
-  event_text,
-  Means,
-  IsTyped,
-};
-ghost use Rattle.schedule_text.specs.LineText.{field_text, line_of};
+ghost use Rattle.schedule_text.specs.EventText.{HasWord, HasLine, tick_text, event_word};
+ghost use Rattle.schedule_text.specs.EventText.{event_fields, event_text, Means, IsTyped};
+ghost use Rattle.schedule_text.specs.LineText.{line_of};
 
 use crate::event::Event;
 use crate::field::{Field, write_line};
@@ -57,29 +49,6 @@ fn ranges(event: &Event)
     }
 }
 
-/// A line of a word and one field.
-fn one_field(word: &str, field: Field<'_>, to: &mut Vec<u8>) -> Result<(), NoMemory>
-    ensures ok { OnOk result (to.new.items ≡ to.old.items
-        ++ line_of word.now (field_text field.entry ∷ [])) }
-    ensures err { OnErr result (to.new.items ≡ to.old.items) }
-{
-    write_line(word, &[field], to)
-}
-
-/// A line of a word and two fields.
-fn two_fields(
-    word: &str,
-    first: Field<'_>,
-    second: Field<'_>,
-    to: &mut Vec<u8>,
-) -> Result<(), NoMemory>
-    ensures ok { OnOk result (to.new.items ≡ to.old.items
-        ++ line_of word.now (field_text first.entry ∷ field_text second.entry ∷ [])) }
-    ensures err { OnErr result (to.new.items ≡ to.old.items) }
-{
-    write_line(word, &[first, second], to)
-}
-
 fn put_event(event: &Event, to: &mut Vec<u8>) -> Result<(), NoMemory>
     requires { HasLine event.now }
     ensures ok { OnOk result (to.new.items ≡ to.old.items
@@ -89,26 +58,23 @@ fn put_event(event: &Event, to: &mut Vec<u8>) -> Result<(), NoMemory>
     match event {
         Event::Submit(client, op) => {
             let client = Field::Name(Actor::Client(*client));
-            two_fields("submit", client, Field::Hex(op.as_slice()), to)
+            write_line("submit", &[client, Field::Hex(op.as_slice())], to)
         }
         Event::Deliver(index, actor) => {
-            two_fields("deliver", Field::Number(*index), Field::Name(*actor), to)
+            write_line("deliver", &[Field::Number(*index), Field::Name(*actor)], to)
         }
         Event::Tick(actor, tick) => {
-            two_fields(
-                "tick",
-                Field::Name(*actor),
-                Field::Word(tick_word(*tick)),
-                to,
-            )
+            let fields = [Field::Name(*actor), Field::Word(tick_word(*tick))];
+            write_line("tick", &fields, to)
         }
-        Event::Install(number) => one_field("install", Field::Name(Actor::Sequencer(*number)), to),
-        Event::Crash(actor) => one_field("crash", Field::Name(*actor), to),
+        Event::Install(number) => {
+            write_line("install", &[Field::Name(Actor::Sequencer(*number))], to)
+        }
+        Event::Crash(actor) => write_line("crash", &[Field::Name(*actor)], to),
         Event::Junk(actor, bytes) => {
-            two_fields(
+            write_line(
                 "junk",
-                Field::Name(*actor),
-                Field::Hex(bytes.as_slice()),
+                &[Field::Name(*actor), Field::Hex(bytes.as_slice())],
                 to,
             )
         }

@@ -1,16 +1,10 @@
-ghost use Rattle.std.specs.Prelude.{◌≡◌, ◌++◌, ◌∷◌, decimal, slice_index, OnOk, OnErr};
+ghost use Rattle.std.specs.Prelude.{◌≡◌, ◌++◌, ◌∷◌, [], decimal, slice_index, OnOk, OnErr};
 ghost use Rattle.std.specs.List.{flat_map};
 ghost use Rattle.hex.specs.Hex.{encode_lower};
 ghost use Rattle.nop_types.specs.Lists.{IsPrefixOf};
 ghost use Rattle.schedule_text.specs.LineText.{after_space, field_text, field_texts, line_of};
-ghost use Rattle.schedule_text.specs.Transcript.{
-  actor_text,
-  dest_text,
-  hex_text,
-  kind_text,
-  phase_text,
-  up_text,
-};
+ghost use Rattle.schedule_text.specs.Transcript.{actor_text, dest_text, hex_text, kind_text};
+ghost use Rattle.schedule_text.specs.Transcript.{phase_text, up_text};
 
 use nop_types::{Actor, Dest, NoMemory, Phase, kinds};
 
@@ -63,8 +57,20 @@ fn put_word(word: &str, to: &mut Vec<u8>) -> Result<(), NoMemory>
     ensures ok { OnOk result (to.new.items ≡ to.old.items ++ word.now) }
     ensures err { OnErr result (to.new.items ≡ to.old.items) }
 {
-    to.extend_from_slice(word.as_bytes())?;
-    Ok(())
+    match to.extend_from_slice(word.as_bytes()) {
+        Ok(()) => Ok(()),
+        Err(_) => Err(NoMemory),
+    }
+}
+
+fn put_byte(byte: u8, to: &mut Vec<u8>) -> Result<(), NoMemory>
+    ensures ok { OnOk result (to.new.items ≡ to.old.items ++ byte ∷ []) }
+    ensures err { OnErr result (to.new.items ≡ to.old.items) }
+{
+    match to.push(byte) {
+        Ok(()) => Ok(()),
+        Err(_) => Err(NoMemory),
+    }
 }
 
 fn put_number(n: u64, to: &mut Vec<u8>) -> Result<(), NoMemory>
@@ -79,7 +85,7 @@ fn put_numbered(letter: u8, n: u64, to: &mut Vec<u8>) -> Result<(), NoMemory>
     ensures ok { OnOk result (to.new.items ≡ to.old.items ++ (letter ∷ decimal n)) }
     ensures err { OnErr result (IsPrefixOf to.old.items to.new.items) }
 {
-    to.push(letter)?;
+    put_byte(letter, to)?;
     put_number(n, to)
 }
 
@@ -111,13 +117,10 @@ fn put_digits(bytes: &[u8], to: &mut Vec<u8>) -> Result<(), NoMemory>
     ensures err { OnErr result (to.new.items ≡ to.old.items) }
 {
     let start = to.len();
-    let Some(digits) = bytes.len().checked_mul(2) else {
+    let end = start.saturating_add(bytes.len().saturating_mul(2));
+    if to.resize(end, 0).is_err() {
         return Err(NoMemory);
-    };
-    let Some(end) = start.checked_add(digits) else {
-        return Err(NoMemory);
-    };
-    to.resize(end, 0)?;
+    }
     match hex::encode_to_slice(bytes, &mut to[start..]) {
         Ok(()) => Ok(()),
         Err(_) => unreachable!(),
@@ -129,8 +132,7 @@ fn put_hex(bytes: &[u8], to: &mut Vec<u8>) -> Result<(), NoMemory>
     ensures err { OnErr result (to.new.items ≡ to.old.items) }
 {
     if bytes.is_empty() {
-        to.push(b'-')?;
-        return Ok(());
+        return put_byte(b'-', to);
     }
     put_digits(bytes, to)
 }
@@ -157,7 +159,7 @@ fn put_spaced(field: Field<'_>, to: &mut Vec<u8>) -> Result<(), NoMemory>
         ≡ to.old.items ++ after_space (field_text field.entry)) }
     ensures err { OnErr result (IsPrefixOf to.old.items to.new.items) }
 {
-    to.push(b' ')?;
+    put_byte(b' ', to)?;
     put_field(field, to)
 }
 
@@ -179,8 +181,7 @@ fn put_line(word: &str, fields: &[Field<'_>], to: &mut Vec<u8>) -> Result<(), No
 {
     put_word(word, to)?;
     put_fields(fields, to)?;
-    to.push(b'\n')?;
-    Ok(())
+    put_byte(b'\n', to)
 }
 
 /// Appends a line of a word and further fields.

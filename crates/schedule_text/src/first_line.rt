@@ -1,12 +1,6 @@
 ghost use Rattle.std.specs.Prelude.{MatchOption};
-ghost use Rattle.schedule_text.specs.Deciding.{
-  HasNoEnd,
-  IsSearched,
-  IsFirstEnd,
-  IsFirstLine,
-  IsUndecided,
-  reach,
-};
+ghost use Rattle.schedule_text.specs.Deciding.{HasNoEnd, IsSearched, IsFirstEnd, IsFirstLine};
+ghost use Rattle.schedule_text.specs.Deciding.{IsUndecided, reach};
 
 use memchr::memchr;
 use nop_types::{MAX_LINE_BYTES, MAX_LINES};

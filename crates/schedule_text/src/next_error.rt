@@ -1,6 +1,5 @@
-use nop_types::NoMemory as OutOfMemory;
 use outside::Failed;
-use std::alloc::{AllocError, AllocFailed};
+use std::alloc::AllocError;
 
 /// Why a reader gave no event.
 #[derive(Clone, Copy, Debug, PartialEq, Eq)]
@@ -22,17 +21,6 @@ impl From<Failed> for NextError {
     }
 }
 
-impl From<OutOfMemory> for NextError {
-    ghost use Rattle.std.specs.Prelude.{◌≡◌};
-    ghost use Rattle.schedule_text.specs.declared.next_error.NextError.TheVariants.{NoMemory};
-
-    ghost from_gives = { λ _ e. e ≡ NoMemory };
-
-    fn from(_e: OutOfMemory) -> NextError {
-        NextError::NoMemory
-    }
-}
-
 impl From<AllocError> for NextError {
     ghost use Rattle.std.specs.Prelude.{◌≡◌};
     ghost use Rattle.schedule_text.specs.declared.next_error.NextError.TheVariants.{NoMemory};
@@ -40,17 +28,6 @@ impl From<AllocError> for NextError {
     ghost from_gives = { λ _ e. e ≡ NoMemory };
 
     fn from(_e: AllocError) -> NextError {
-        NextError::NoMemory
-    }
-}
-
-impl<T: Drop> From<AllocFailed<T>> for NextError {
-    ghost use Rattle.std.specs.Prelude.{◌≡◌};
-    ghost use Rattle.schedule_text.specs.declared.next_error.NextError.TheVariants.{NoMemory};
-
-    ghost from_gives = { λ _ e. e ≡ NoMemory };
-
-    fn from(_e: AllocFailed<T>) -> NextError {
         NextError::NoMemory
     }
 }

@@ -1,50 +1,22 @@
-ghost use Rattle.std.specs.Prelude.{
-  ◌≡◌,
-  ◌≢◌,
-  ◌+◌,
-  ◌≤◌,
-  ◌<◌,
-  ◌↔◌,
-  ◌⊎◌,
-  false,
-  true,
-  [],
-  length,
-  Some,
-  None,
-  Err,
-  IsNone,
-  IsSome,
-  IfOk,
-  OnOk,
-  OnErr,
-  MatchOption,
-};
+ghost use Rattle.std.specs.Prelude.{◌≡◌, ◌≢◌, ◌+◌, ◌≤◌, ◌<◌, ◌↔◌, ◌⊎◌, false, true, []};
+ghost use Rattle.std.specs.Prelude.{length, Some, None, Err, IsNone, IsSome, IfOk, OnOk, OnErr};
+ghost use Rattle.std.specs.Prelude.{MatchOption};
 ghost use Rattle.nop_types.specs.declared.limits.TheConstants.{MAX_LINES};
 ghost use Rattle.outside.specs.Causes.{HasCauseFor};
 ghost use Rattle.schedule_text.specs.Deciding.{IsUndecided};
-ghost use Rattle.schedule_text.specs.Reading.{
-  opening,
-  lines_before,
-  lines_taken,
-  TakesOf,
-  LeavesNone,
-};
+ghost use Rattle.schedule_text.specs.Reading.{opening, lines_before, lines_taken, Reads, TakesOf};
+ghost use Rattle.schedule_text.specs.Reading.{LeavesNone};
 ghost use Rattle.schedule_text.specs.Rules.{rule_number};
-ghost use Rattle.schedule_text.specs.Stepping.{
-  after_step,
-  Answers,
-  IsFirst,
-  NeedsNoRead,
-  Reaches,
-};
+ghost use Rattle.schedule_text.specs.Stepping.{after_step, Answers, IsFirst, NeedsNoRead, Reaches};
+ghost use Rattle.schedule_text.specs.Stepping.{TakesFrom};
 
-use crate::buffer::Buffer;
+use crate::buffer::fill;
 use crate::first_line::{FirstLine, first_line};
 use crate::line_error::LineError;
 use crate::rule::Rule;
 use crate::rules::{event, header};
 use crate::{Event, NextError};
+use bytes::BytesMut;
 use nop_types::Config;
 use outside::Source;
 use std::alloc::Global;
@@ -53,10 +25,10 @@ use std::marker::Model;
 /// Reads the events of a schedule, line by line. It asks a source for pieces of at most 4,096
 /// bytes, and only while no further line is decided: a line is decided by its end, by a byte more
 /// than a line or a line more than a schedule may have, or by the end of the source.
-#[derive(Debug, Drop)]
+#[derive(Drop)]
 pub struct Reader {
     alloc: Global,
-    buffer: Buffer,
+    buffer: BytesMut,
     searched: usize,
     config: Option<Config>,
     line: u32,
@@ -73,11 +45,11 @@ impl Model for Reader {
     ghost view = { λ r. record {
       config = r.config;
       line = r.line;
-      pending = r.buffer;
+      pending = r.buffer.items;
       ended = r.ended;
     } };
 
-    ghost invariant = { λ r. IsReader r.searched r.line r.buffer r.config };
+    ghost invariant = { λ r. IsReader r.searched r.line r.buffer.items r.config };
 }
 
 impl Reader {
@@ -87,7 +59,7 @@ impl Reader {
     {
         Reader {
             alloc,
-            buffer: Buffer::new(alloc),
+            buffer: BytesMut::new(alloc),
             searched: 0,
             config: None,
             line: 0,
@@ -116,6 +88,7 @@ impl Reader {
     /// on.
     pub fn next<S: Source>(&mut self, source: &mut S) -> Result<Option<Event>, NextError>
         ensures takes { TakesOf self.old self.new (S.left source.old) (S.left source.new) result }
+        ensures reads { Reads self.old self.new result }
         ensures none_left { LeavesNone self.new result }
         ensures cause { HasCauseFor (S.fault_count source.old) (S.fault_count source.new)
             NextError.ReadFault result }
@@ -143,6 +116,7 @@ impl Reader {
         ensures closed { OnErr result (self.new.config ≡ self.old.config) }
         ensures takes { TakesOf self.old self.new (S.left source.old) (S.left source.new)
             (after_step result) }
+        ensures reads { Reads self.old self.new (after_step result) }
         ensures none_left { LeavesNone self.new (after_step result) }
         ensures cause { HasCauseFor (S.fault_count source.old) (S.fault_count source.new)
             NextError.ReadFault result }
@@ -150,6 +124,7 @@ impl Reader {
             × (self.new.ended ≡ true) }
         ensures unread { IsSome self.old.config → (source.new ≡ source.old)
             × (self.new ≡ self.old) }
+        ensures unread_first { NeedsNoRead self.old → source.new ≡ source.old }
     {
         if let Some(config) = self.config {
             return Ok(config);
@@ -166,7 +141,7 @@ impl Reader {
         ensures first { IfOk result (Reaches self.new) }
         ensures config { self.new.config ≡ self.old.config }
         ensures line { self.new.line ≡ self.old.line }
-        ensures takes { TakesOf self.old self.new (S.left source.old) (S.left source.new)
+        ensures takes { TakesFrom self.old self.new (S.left source.old) (S.left source.new)
             (after_step result) }
         ensures none_left { LeavesNone self.new (after_step result) }
         ensures cause { HasCauseFor (S.fault_count source.old) (S.fault_count source.new)
@@ -199,16 +174,21 @@ impl Reader {
             ⊎ (length self.old.pending < length self.new.pending)) }
         ensures config { self.new.config ≡ self.old.config }
         ensures line { self.new.line ≡ self.old.line }
-        ensures takes { TakesOf self.old self.new (S.left source.old) (S.left source.new)
+        ensures takes { TakesFrom self.old self.new (S.left source.old) (S.left source.new)
             (after_step result) }
         ensures kept { OnErr result (self.new ≡ self.old) }
         ensures cause { HasCauseFor (S.fault_count source.old) (S.fault_count source.new)
             NextError.ReadFault result }
     {
-        self.searched = self.buffer.as_slice().len();
-        let count = self.buffer.fill(source)?;
-        self.ended = count == 0;
-        Ok(())
+        let searched = self.buffer.len();
+        match fill(&mut self.buffer, source) {
+            Ok(count) => {
+                self.searched = searched;
+                self.ended = count == 0;
+                Ok(())
+            }
+            Err(e) => Err(e),
+        }
     }
 
     fn take_header(&mut self, first: FirstLine) -> Result<Config, NextError>

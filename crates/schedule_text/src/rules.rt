@@ -5,18 +5,9 @@ ghost use Rattle.std.specs.List.{list_all};
 ghost use Rattle.std.specs.Option.{option_copied};
 ghost use Rattle.schedule_text.specs.Fields.{fields, is_text};
 ghost use Rattle.schedule_text.specs.LineAnswer.{IsAnswer};
-ghost use Rattle.schedule_text.specs.Rules.{
-  is_plain,
-  plain_line,
-  header_of,
-  header_rest,
-  configuration_of,
-  count_of,
-  event_of,
-  event_of_fields,
-};
+ghost use Rattle.schedule_text.specs.Rules.{is_plain, plain_line, header_of, header_rest};
+ghost use Rattle.schedule_text.specs.Rules.{configuration_of, count_of, event_of, event_of_fields};
 ghost use Rattle.schedule_text.specs.Split.{other_fields};
-ghost use Rattle.schedule_text.specs.Words.{event_after, word_of};
 
 use crate::event::Event;
 use crate::line_error::LineError;
@@ -30,7 +21,7 @@ use std::alloc::Global;
 fn is_plain(b: u8) -> bool
     ensures { result ≡ is_plain b }
 {
-    matches!(b, b' '..=b'~')
+    b' ' <= b && b <= b'~'
 }
 
 fn has_plain_bytes(line: &[u8]) -> bool
@@ -113,41 +104,6 @@ pub fn header(line: &[u8]) -> Result<Config, Rule>
     counts(rest)
 }
 
-/// The words of the lines behind the first one.
-#[derive(Clone, Copy)]
-enum Word {
-    Submit,
-    Deliver,
-    Tick,
-    Install,
-    Crash,
-    Junk,
-}
-
-fn word_of(field: &[u8]) -> Option<Word>
-    ensures { result ≡ word_of field.now }
-{
-    if is_word(field, "submit") {
-        return Some(Word::Submit);
-    }
-    if is_word(field, "deliver") {
-        return Some(Word::Deliver);
-    }
-    if is_word(field, "tick") {
-        return Some(Word::Tick);
-    }
-    if is_word(field, "install") {
-        return Some(Word::Install);
-    }
-    if is_word(field, "crash") {
-        return Some(Word::Crash);
-    }
-    if is_word(field, "junk") {
-        return Some(Word::Junk);
-    }
-    None
-}
-
 fn answer(read: Result<Event, Rule>) -> Result<Event, LineError>
     ensures { IsAnswer result read }
 {
@@ -157,33 +113,30 @@ fn answer(read: Result<Event, Rule>) -> Result<Event, LineError>
     }
 }
 
-fn event_after(
-    alloc: Global,
-    config: Config,
-    word: Word,
-    rest: Option<&[u8]>,
-) -> Result<Event, LineError>
-    ensures { IsAnswer result (event_after config word (other_fields (option_copied rest.entry))) }
-{
-    match word {
-        Word::Submit => submit(alloc, config, rest),
-        Word::Deliver => answer(deliver(config, rest)),
-        Word::Tick => answer(tick(config, rest)),
-        Word::Install => answer(install(config, rest)),
-        Word::Crash => answer(crash(config, rest)),
-        Word::Junk => junk(alloc, config, rest),
-    }
-}
-
-#[tactic(auto, using(crate::proofs::Worded::worded))]
+/// The event of the fields of a line, by the word that comes first.
 fn event_of_words(alloc: Global, config: Config, line: &[u8]) -> Result<Event, LineError>
     ensures { IsAnswer result (event_of_fields config (fields line.now)) }
 {
-    let (field, rest) = cut(line);
-    match word_of(field) {
-        Some(word) => event_after(alloc, config, word, rest),
-        None => Err(LineError::Breaks(Rule::WrongWord)),
+    let (word, rest) = cut(line);
+    if is_word(word, "submit") {
+        return submit(alloc, config, rest);
     }
+    if is_word(word, "deliver") {
+        return answer(deliver(config, rest));
+    }
+    if is_word(word, "tick") {
+        return answer(tick(config, rest));
+    }
+    if is_word(word, "install") {
+        return answer(install(config, rest));
+    }
+    if is_word(word, "crash") {
+        return answer(crash(config, rest));
+    }
+    if is_word(word, "junk") {
+        return junk(alloc, config, rest);
+    }
+    Err(LineError::Breaks(Rule::WrongWord))
 }
 
 /// The event of any other line, or the rule that it breaks; `before` is the number of lines before

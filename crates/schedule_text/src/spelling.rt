@@ -1,15 +1,8 @@
 //! What single fields spell.
 
 ghost use Rattle.std.specs.Prelude.{◌≡◌, ◌*◌, ◌≤◌, length, IfOk};
-ghost use Rattle.schedule_text.specs.Fields.{
-  actor_of,
-  bytes_of,
-  digit_on,
-  lettered,
-  number_of,
-  number_on,
-  number_below,
-};
+ghost use Rattle.schedule_text.specs.Fields.{actor_of, bytes_of, digit_on, lettered, number_of};
+ghost use Rattle.schedule_text.specs.Fields.{number_on, number_below};
 
 use crate::split::is_word;
 use nop_types::{Actor, Bytes, Config, MAX_OP_BYTES, NoMemory, Op};
@@ -18,10 +11,10 @@ use std::alloc::Global;
 fn digit(n: u64, d: u8) -> Option<u64>
     ensures { result ≡ digit_on n d }
 {
-    match d {
-        b'0'..=b'9' => n.checked_mul(10)?.checked_add(u64::from(d - b'0')),
-        _ => None,
+    if d < b'0' || b'9' < d {
+        return None;
     }
+    n.checked_mul(10)?.checked_add(u64::from(d - b'0'))
 }
 
 fn digits(text: &[u8]) -> Option<u64>
@@ -49,22 +42,18 @@ pub fn number(field: &[u8]) -> Option<u64>
 }
 
 /// A number below a limit.
-pub fn small_number(limit: u16, field: &[u8]) -> Option<u8>
+pub fn small_number(limit: u64, field: &[u8]) -> Option<u8>
     requires { limit ≤ 256 }
     ensures { result ≡ number_below limit field.now }
 {
     let n = number(field)?;
-    if n < u64::from(limit) {
-        Some(n as u8)
-    } else {
-        None
-    }
+    if n < limit { Some(n as u8) } else { None }
 }
 
 fn numbered(count: u8, digits: &[u8]) -> Option<u8>
     ensures { result ≡ number_below count digits.now }
 {
-    small_number(u16::from(count), digits)
+    small_number(u64::from(count), digits)
 }
 
 fn lettered(config: Config, letter: u8, digits: &[u8]) -> Option<Actor>

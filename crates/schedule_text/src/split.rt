@@ -62,10 +62,12 @@ pub fn one_field(rest: Option<&[u8]>) -> Result<&[u8], Rule>
     ensures { let read = one_field (other_fields (option_copied rest.entry)) in
         MatchResult result (λ field. read ≡ Ok field.now) (λ rule. read ≡ Err rule) }
 {
-    let (field, rest) = next_field(rest)?;
-    match no_field(rest) {
-        Ok(()) => Ok(field),
-        Err(rule) => Err(rule),
+    match rest {
+        Some(rest) => match cut(rest) {
+            (field, None) => Ok(field),
+            (_, Some(_)) => Err(Rule::WrongFieldCount),
+        },
+        None => Err(Rule::WrongFieldCount),
     }
 }
 

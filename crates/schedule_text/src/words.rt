@@ -4,18 +4,9 @@
 ghost use Rattle.std.specs.Prelude.{◌≡◌};
 ghost use Rattle.std.specs.Option.{option_copied};
 ghost use Rattle.schedule_text.specs.LineAnswer.{IsAnswer};
-ghost use Rattle.schedule_text.specs.Rules.{
-  submit_event,
-  submit_of,
-  deliver_event,
-  deliver_of,
-  tick_event,
-  tick_of,
-  install_of,
-  crash_of,
-  junk_event,
-  junk_of,
-};
+ghost use Rattle.schedule_text.specs.Rules.{submit_event, submit_of, deliver_event, deliver_of};
+ghost use Rattle.schedule_text.specs.Rules.{tick_event, tick_of, install_of, crash_of, junk_event};
+ghost use Rattle.schedule_text.specs.Rules.{junk_of};
 ghost use Rattle.schedule_text.specs.Split.{other_fields};
 
 use crate::event::Event;

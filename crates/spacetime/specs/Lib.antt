@@ -1,4 +1,1 @@
-pub mod Actors
-pub mod Deliveries
 pub mod Errors
-pub mod Missed

@@ -1,7 +1,6 @@
 use nop_types::NoMemory as OutOfMemory;
 use outside::WriteError;
 use schedule_text::NextError;
-use std::alloc::{AllocError, AllocFailed};
 
 /// Why no picture was drawn, or not all of it.
 #[derive(Clone, Copy)]
@@ -25,28 +24,6 @@ impl From<OutOfMemory> for DrawError {
     ghost from_gives = { λ _ e. e ≡ NoMemory };
 
     fn from(_e: OutOfMemory) -> DrawError {
-        DrawError::NoMemory
-    }
-}
-
-impl From<AllocError> for DrawError {
-    ghost use Rattle.std.specs.Prelude.{◌≡◌};
-    ghost use Rattle.spacetime.specs.declared.error.DrawError.TheVariants.{NoMemory};
-
-    ghost from_gives = { λ _ e. e ≡ NoMemory };
-
-    fn from(_e: AllocError) -> DrawError {
-        DrawError::NoMemory
-    }
-}
-
-impl<T: Drop> From<AllocFailed<T>> for DrawError {
-    ghost use Rattle.std.specs.Prelude.{◌≡◌};
-    ghost use Rattle.spacetime.specs.declared.error.DrawError.TheVariants.{NoMemory};
-
-    ghost from_gives = { λ _ e. e ≡ NoMemory };
-
-    fn from(_e: AllocFailed<T>) -> DrawError {
         DrawError::NoMemory
     }
 }

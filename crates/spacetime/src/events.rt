@@ -3,7 +3,7 @@
 ghost use Rattle.std.specs.Prelude.{◌≡◌};
 ghost use Rattle.world.specs.WorldSteps.{actor_of};
 
-use crate::naming::{put_numbered, put_op};
+use labels::put_op;
 use nop_types::{Actor, NoMemory, Tick};
 use picture::Text;
 use schedule_text::Event;
@@ -42,7 +42,7 @@ fn put_named(word: &str, actor: Actor, to: &mut Text) {
 }
 
 fn put_deliver(index: u64, actor: Actor, to: &mut Text) {
-    put_numbered("deliver ", index, to);
+    to.numbered("deliver ", index);
     put_named(" ", actor, to);
 }
 

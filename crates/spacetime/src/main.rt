@@ -1,17 +1,11 @@
 //! The program: a schedule on standard input, a picture of its run as SVG on standard output.
 #![tactic(auto)]
 
-mod actors;
-mod datagrams;
 mod error;
 mod events;
-mod flights;
-mod losses;
-mod naming;
 mod observing;
 mod recorder;
 mod run;
-mod said;
 mod standing;
 mod status;
 

@@ -1,26 +1,28 @@
 //! What is seen of a world: how its replicas stand, and what the step of an event brings.
 
-use crate::datagrams::{Described, describe};
 use crate::error::DrawError;
-use crate::events::actor_of;
 use crate::standing::{Standing, standing_of};
-use nop_types::{Actor, Bytes, Dest, Host, NoMemory};
+use flights::{Flight, Leg};
+use labels::{Label, describe, read_lines};
+use nop_types::{Actor, Dest, Host, NoMemory};
+use picture::Note;
 use schedule_text::{Event, Rule};
 use std::alloc::Global;
-use world::{StepError, World};
+use world::{Lines, StepError, World};
 
-/// A datagram that was sent, in a few words.
-#[derive(Drop)]
-pub struct Sending {
-    pub dest: Dest,
-    pub described: Described,
+/// The actor whose step an event is, the row of the event, and how many datagrams were sent before.
+#[derive(Clone, Copy)]
+pub struct Turn {
+    pub actor: Actor,
+    pub row: usize,
+    pub sent_before: u64,
 }
 
-/// The lines of an event, what its actor sent, and how it stands if it is a replica.
+/// The notes of a turn, what its actor sent, and how it stands if it is a replica.
 #[derive(Drop)]
 pub struct Observed {
-    pub text: Bytes,
-    pub sent: Vec<Sending>,
+    pub notes: Vec<Note>,
+    pub sent: Vec<Flight>,
     pub after: Option<Standing>,
 }
 
@@ -36,6 +38,14 @@ fn refusal(line: u32, error: StepError) -> DrawError {
         line,
         rule: rule.number(),
         index_sent,
+    }
+}
+
+/// Carries out the event of a line.
+pub fn step<H: Host>(world: &mut World<H>, line: u32, event: &Event) -> Result<Lines, DrawError> {
+    match world.step(event) {
+        Ok(lines) => Ok(lines),
+        Err(error) => Err(refusal(line, error)),
     }
 }
 
@@ -61,62 +71,75 @@ pub fn standings<H: Host>(alloc: Global, world: &World<H>) -> Result<Vec<Standin
     Ok(standings)
 }
 
-fn sending_at<H: Host>(
-    alloc: Global,
-    world: &World<H>,
-    i: u64,
-) -> Result<Option<Sending>, NoMemory> {
-    let Some(dest) = world.sent_to(i) else {
-        return Ok(None);
-    };
-    let Some(bytes) = world.sent(i) else {
-        return Ok(None);
-    };
-    let described = describe(alloc, bytes)?;
-    Ok(Some(Sending { dest, described }))
+fn flight_of(alloc: Global, turn: Turn, dest: Dest, label: Label) -> Flight {
+    Flight {
+        leg: Leg {
+            purpose: label.purpose,
+            from: turn.actor,
+            sent: turn.row,
+            dest,
+        },
+        text: label.text,
+        brief: label.brief,
+        reached: Vec::new(alloc),
+    }
 }
 
-/// The datagrams from this index on.
-fn sent_since<H: Host>(
+/// The datagram with this index, if a turn sent one. Appends what shows there.
+fn flight_at<H: Host>(
     alloc: Global,
     world: &World<H>,
-    first: u64,
-) -> Result<Vec<Sending>, NoMemory> {
+    turn: Turn,
+    index: u64,
+    notes: &mut Vec<Note>,
+) -> Result<Option<Flight>, NoMemory> {
+    let Some(dest) = world.sent_to(index) else {
+        return Ok(None);
+    };
+    let Some(bytes) = world.sent(index) else {
+        return Ok(None);
+    };
+    let label = describe(alloc, bytes, notes)?;
+    Ok(Some(flight_of(alloc, turn, dest, label)))
+}
+
+/// The datagrams that a turn sent. Appends what shows there.
+fn flights<H: Host>(
+    alloc: Global,
+    world: &World<H>,
+    turn: Turn,
+    notes: &mut Vec<Note>,
+) -> Result<Vec<Flight>, NoMemory> {
     let mut sent = Vec::new(alloc);
-    for i in first..world.sent_count() {
-        if let Some(sending) = sending_at(alloc, world, i)? {
-            sent.push(sending)?;
+    for index in turn.sent_before..world.sent_count() {
+        if let Some(flight) = flight_at(alloc, world, turn, index, notes)? {
+            sent.push(flight)?;
         }
     }
     Ok(sent)
 }
 
-/// What is seen after a step, where so many datagrams were sent before.
-fn seen<H: Host>(
+/// How an actor stands, None where it is no replica.
+fn standing_after<H: Host>(
     alloc: Global,
     world: &World<H>,
     actor: Actor,
-    before: u64,
-    text: Bytes,
-) -> Result<Observed, NoMemory> {
-    let sent = sent_since(alloc, world, before)?;
-    let after = match actor {
-        Actor::Replica(number) => standing_at(alloc, world, number)?,
-        _ => None,
-    };
-    Ok(Observed { text, sent, after })
+) -> Result<Option<Standing>, NoMemory> {
+    match actor {
+        Actor::Replica(number) => standing_at(alloc, world, number),
+        _ => Ok(None),
+    }
 }
 
-/// Carries out the event of a line, where so many datagrams were sent before.
+/// What is seen after a turn with these lines.
 pub fn observe<H: Host>(
     alloc: Global,
-    world: &mut World<H>,
-    line: u32,
-    event: &Event,
-    before: u64,
-) -> Result<Observed, DrawError> {
-    match world.step(event) {
-        Ok(lines) => Ok(seen(alloc, world, actor_of(event), before, lines.text)?),
-        Err(error) => Err(refusal(line, error)),
-    }
+    world: &World<H>,
+    turn: Turn,
+    lines: &[u8],
+) -> Result<Observed, NoMemory> {
+    let after = standing_after(alloc, world, turn.actor)?;
+    let mut notes = read_lines(alloc, lines)?;
+    let sent = flights(alloc, world, turn, &mut notes)?;
+    Ok(Observed { notes, sent, after })
 }

@@ -1,15 +1,12 @@
 //! What a picture shows of a run, as it goes on.
 
-use crate::actors::{actors, lanes};
-use crate::datagrams::Described;
 use crate::events::{actor_of, event_text, submitted};
-use crate::flights::{Flight, Leg, deliver};
-use crate::losses::{Crash, losses};
-use crate::observing::{Observed, Sending};
-use crate::said::read_lines;
+use crate::observing::{Observed, Turn};
 use crate::standing::{Standing, put_changes, role};
+use flights::{Crash, Flight, actors, deliver, lanes, losses};
+use labels::put_note;
 use nop_types::{Actor, Config, NoMemory};
-use picture::{Arrow, Mark, Note, Picture, Role, Row, Stretch, same};
+use picture::{Mark, Note, Picture, Role, Row, Stretch, Text, same};
 use schedule_text::Event;
 use std::alloc::Global;
 
@@ -29,9 +26,7 @@ pub struct Recorder {
     watched: Vec<Watched>,
     flights: Vec<Flight>,
     crashes: Vec<Crash>,
-    rows: Vec<Row>,
-    arrows: Vec<Arrow>,
-    stretches: Vec<Stretch>,
+    picture: Picture,
 }
 
 fn watched_from(standing: Standing, replicas: u8) -> Watched {
@@ -57,13 +52,11 @@ fn watched_all(
 
 /// One note at least: whether something was sent.
 fn fill(alloc: Global, sends: bool, notes: &mut Vec<Note>) -> Result<(), NoMemory> {
-    if notes.is_empty() {
-        notes.push(Note {
-            mark: if sends { Mark::Acted } else { Mark::Idle },
-            text: String::new(alloc),
-        })?;
+    if !notes.is_empty() {
+        return Ok(());
     }
-    Ok(())
+    let mark = if sends { Mark::Acted } else { Mark::Idle };
+    put_note(mark, Text::new(alloc), notes)
 }
 
 /// The row in which an actor crashed.
@@ -105,69 +98,6 @@ fn put_last(
     Ok(())
 }
 
-/// The arrow of a delivery of the datagram with this index, and its text.
-fn take_at(
-    alloc: Global,
-    flights: &mut Vec<Flight>,
-    index: u64,
-    to: Actor,
-    row: usize,
-) -> Result<Option<(Arrow, String)>, NoMemory> {
-    let Some(flight) = flights.get_mut(index as usize) else {
-        return Ok(None);
-    };
-    let text = String::from_str(alloc, flight.text.as_str())?;
-    let arrow = deliver(flight, to, row)?;
-    Ok(Some((arrow, text)))
-}
-
-/// Keeps a datagram that a row sent, and what shows there.
-fn send(
-    alloc: Global,
-    sending: Sending,
-    from: Actor,
-    sent: usize,
-    flights: &mut Vec<Flight>,
-    notes: &mut Vec<Note>,
-) -> Result<(), NoMemory> {
-    let Sending { dest, described } = sending;
-    let Described {
-        purpose,
-        text,
-        brief,
-        note,
-    } = described;
-    if let Some(note) = note {
-        notes.push(note)?;
-    }
-    flights.push(Flight {
-        leg: Leg {
-            purpose,
-            from,
-            sent,
-            dest,
-        },
-        text,
-        brief,
-        reached: Vec::new(alloc),
-    })?;
-    Ok(())
-}
-
-fn send_all(
-    alloc: Global,
-    sent: Vec<Sending>,
-    from: Actor,
-    row: usize,
-    flights: &mut Vec<Flight>,
-    notes: &mut Vec<Note>,
-) -> Result<(), NoMemory> {
-    for sending in sent {
-        send(alloc, sending, from, row, flights, notes)?;
-    }
-    Ok(())
-}
-
 /// Another role of a replica since a row: the stretch of the earlier one.
 fn change_role(role: Role, row: usize, watched: &mut Watched) -> Option<Stretch> {
     if role.is(watched.role) {
@@ -202,20 +132,20 @@ fn compare(
 /// Keeps a crash, unless the actor had crashed before.
 fn crash(
     alloc: Global,
-    actor: Actor,
-    row: usize,
+    turn: Turn,
     crashes: &mut Vec<Crash>,
     notes: &mut Vec<Note>,
 ) -> Result<(), NoMemory> {
-    if notes.is_empty() {
-        let text = String::from_str(alloc, "crash")?;
-        notes.push(Note {
-            mark: Mark::Crashed,
-            text,
-        })?;
-        crashes.push(Crash { actor, row })?;
+    if !notes.is_empty() {
+        return Ok(());
     }
-    Ok(())
+    crashes.push(Crash {
+        actor: turn.actor,
+        row: turn.row,
+    })?;
+    let mut text = Text::new(alloc);
+    text.put("crash");
+    put_note(Mark::Crashed, text, notes)
 }
 
 impl Recorder {
@@ -225,21 +155,30 @@ impl Recorder {
         config: Config,
         standings: Vec<Standing>,
     ) -> Result<Recorder, NoMemory> {
+        let watched = watched_all(alloc, standings, config.replicas())?;
         Ok(Recorder {
             alloc,
             config,
-            watched: watched_all(alloc, standings, config.replicas())?,
+            watched,
             flights: Vec::new(alloc),
             crashes: Vec::new(alloc),
-            rows: Vec::new(alloc),
-            arrows: Vec::new(alloc),
-            stretches: Vec::new(alloc),
+            picture: Picture {
+                lanes: Vec::new(alloc),
+                rows: Vec::new(alloc),
+                arrows: Vec::new(alloc),
+                losses: Vec::new(alloc),
+                stretches: Vec::new(alloc),
+            },
         })
     }
 
-    /// How many datagrams were sent so far.
-    pub fn sent_count(&self) -> u64 {
-        self.flights.len() as u64
+    /// The turn of an event that comes next.
+    pub fn turn(&self, event: &Event) -> Turn {
+        Turn {
+            actor: actor_of(event),
+            row: self.picture.rows.len(),
+            sent_before: self.flights.len() as u64,
+        }
     }
 
     /// The arrow of a delivery, and what was delivered or submitted.
@@ -247,10 +186,11 @@ impl Recorder {
         let Event::Deliver(index, to) = event else {
             return submitted(self.alloc, event);
         };
-        match take_at(self.alloc, &mut self.flights, *index, *to, row)? {
-            Some((arrow, text)) => {
-                self.arrows.push(arrow)?;
-                Ok(text)
+        match self.flights.get_mut(*index as usize) {
+            Some(flight) => {
+                let arrow = deliver(flight, *to, row)?;
+                self.picture.arrows.push(arrow)?;
+                Ok(String::from_str(self.alloc, flight.text.as_str())?)
             }
             None => Ok(String::new(self.alloc)),
         }
@@ -263,75 +203,65 @@ impl Recorder {
         after: Standing,
         notes: &mut Vec<Note>,
     ) -> Result<(), NoMemory> {
-        let number = after.number as usize;
         let replicas = self.config.replicas();
-        if let Some(watched) = self.watched.get_mut(number) {
+        if let Some(watched) = self.watched.get_mut(after.number as usize) {
             let stretch = compare(self.alloc, replicas, row, after, watched, notes)?;
             if let Some(stretch) = stretch {
-                self.stretches.push(stretch)?;
+                self.picture.stretches.push(stretch)?;
             }
         }
         Ok(())
     }
 
     /// What the step of an actor shows.
-    fn put_notes(
-        &mut self,
-        event: &Event,
-        row: usize,
-        observed: Observed,
-        notes: &mut Vec<Note>,
-    ) -> Result<(), NoMemory> {
-        let Observed { sent, after, .. } = observed;
-        send_all(
-            self.alloc,
-            sent,
-            actor_of(event),
-            row,
-            &mut self.flights,
-            notes,
-        )?;
-        if let Some(after) = after {
-            self.change(row, after, notes)?;
+    fn note(&mut self, event: &Event, turn: Turn, observed: &mut Observed) -> Result<(), NoMemory> {
+        let sends = !observed.sent.is_empty();
+        self.flights.append(&mut observed.sent)?;
+        if let Some(after) = observed.after.take() {
+            self.change(turn.row, after, &mut observed.notes)?;
         }
-        if let Event::Crash(actor) = event {
-            crash(self.alloc, *actor, row, &mut self.crashes, notes)?;
+        if let Event::Crash(_) = event {
+            crash(self.alloc, turn, &mut self.crashes, &mut observed.notes)?;
         }
-        Ok(())
+        fill(self.alloc, sends, &mut observed.notes)
     }
 
     /// Keeps what was seen of the event of a line.
-    pub fn keep(&mut self, line: u32, event: &Event, observed: Observed) -> Result<(), NoMemory> {
-        let row = self.rows.len();
-        let detail = self.detail(event, row)?;
-        let sends = !observed.sent.is_empty();
-        let mut notes = read_lines(self.alloc, observed.text.as_slice())?;
-        self.put_notes(event, row, observed, &mut notes)?;
-        fill(self.alloc, sends, &mut notes)?;
+    pub fn keep(
+        &mut self,
+        line: u32,
+        event: &Event,
+        mut observed: Observed,
+    ) -> Result<(), NoMemory> {
+        let turn = self.turn(event);
+        self.note(event, turn, &mut observed)?;
+        let detail = self.detail(event, turn.row)?;
         let words = event_text(self.alloc, event)?;
-        self.rows.push(Row {
+        self.picture.rows.push(Row {
             line,
-            actor: actor_of(event),
+            actor: turn.actor,
             event: words,
             detail,
-            notes,
+            notes: observed.notes,
         })?;
         Ok(())
     }
 
-    /// The picture of what happened so far.
-    pub fn finish(self) -> Result<Picture, NoMemory> {
+    /// The lanes, and where they end.
+    fn close(&mut self) -> Result<(), NoMemory> {
         let actors = actors(self.alloc, self.config)?;
         let losses = losses(self.alloc, &actors, &self.flights, &self.crashes)?;
-        let lanes = lanes(self.alloc, &actors, &self.rows, &losses)?;
-        let mut stretches = self.stretches;
-        put_last(&lanes, &self.watched, &self.crashes, &mut stretches)?;
-        Ok(Picture {
-            lanes,
-            rows: self.rows,
-            arrows: self.arrows,
-            losses,
-            stretches,
-        })
+        let lanes = lanes(self.alloc, &actors, &self.picture.rows, &losses)?;
+        let stretches = &mut self.picture.stretches;
+        put_last(&lanes, &self.watched, &self.crashes, stretches)?;
+        self.picture.lanes = lanes;
+        self.picture.losses = losses;
+        Ok(())
+    }
+
+    /// The picture of what happened so far.
+    pub fn finish(mut self) -> Result<Picture, NoMemory> {
+        self.close()?;
+        Ok(self.picture)
     }
 }

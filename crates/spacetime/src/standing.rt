@@ -1,6 +1,6 @@
 //! How a replica stands, and what a step changed.
 
-use crate::naming::{put_numbered, put_request, put_view};
+use labels::{put_note, put_request, put_view};
 use nop_types::{Entry, Host, NoMemory, Phase, View, leader_of};
 use picture::{Mark, Note, Role, Text};
 use replica_core::Replica;
@@ -86,11 +86,9 @@ fn put_count(
     notes: &mut Vec<Note>,
 ) -> Result<(), NoMemory> {
     let mut text = Text::new(alloc);
-    put_numbered(before, n, &mut text);
+    text.numbered(before, n);
     text.put(after);
-    let text = text.finish()?;
-    notes.push(Note { mark, text })?;
-    Ok(())
+    put_note(mark, text, notes)
 }
 
 fn put_phase(view: View, status: Phase, to: &mut Text) -> Mark {
@@ -107,11 +105,10 @@ fn put_phase(view: View, status: Phase, to: &mut Text) -> Mark {
     }
 }
 
-fn view_note(alloc: Global, after: &Standing) -> Result<Note, NoMemory> {
+fn note_view(alloc: Global, after: &Standing, notes: &mut Vec<Note>) -> Result<(), NoMemory> {
     let mut text = Text::new(alloc);
     let mark = put_phase(after.view, after.status, &mut text);
-    let text = text.finish()?;
-    Ok(Note { mark, text })
+    put_note(mark, text, notes)
 }
 
 fn put_held(slot: usize, held: Option<Held>, to: &mut Text) -> Mark {
@@ -129,11 +126,15 @@ fn put_held(slot: usize, held: Option<Held>, to: &mut Text) -> Mark {
     }
 }
 
-fn slot_note(alloc: Global, slot: usize, held: Option<Held>) -> Result<Note, NoMemory> {
+fn note_slot(
+    alloc: Global,
+    slot: usize,
+    held: Option<Held>,
+    notes: &mut Vec<Note>,
+) -> Result<(), NoMemory> {
     let mut text = Text::new(alloc);
     let mark = put_held(slot, held, &mut text);
-    let text = text.finish()?;
-    Ok(Note { mark, text })
+    put_note(mark, text, notes)
 }
 
 fn is_same(a: Option<Held>, b: Option<Held>) -> bool {
@@ -163,7 +164,7 @@ fn put_changed(
     for (place, held) in after.iter().enumerate() {
         if is_changed(before, place, *held) {
             if changed < MAX_SLOT_NOTES {
-                notes.push(slot_note(alloc, place.saturating_add(1), *held)?)?;
+                note_slot(alloc, place.saturating_add(1), *held, notes)?;
             }
             changed = changed.saturating_add(1);
         }
@@ -203,7 +204,7 @@ pub fn put_changes(
     notes: &mut Vec<Note>,
 ) -> Result<(), NoMemory> {
     if !before.view.is(after.view) || before.status != after.status {
-        notes.push(view_note(alloc, after)?)?;
+        note_view(alloc, after, notes)?;
     }
     put_log(alloc, &before.slots, &after.slots, notes)?;
     if before.sync_point != after.sync_point {

@@ -45,9 +45,6 @@ lost_more first before ds a b one sends =
     let most : b.lost ≤ a.lost + failures sends.tries = rw sends.lost (counted_most a.lost sends.tries) in
     lost_by first before a.lost a.losses b.losses b.lost (failures sends.tries) one most sends.losses
 
-pub lost_first : (l m n : ℕ) → min (l + (n - 0)) last_count ≤ m → min (l + n) last_count ≤ m
-lost_first l m n one = omega (arith, one)
-
 pub lost_joined : (l m n k lost : ℕ) → min (l + (k - 0)) last_count ≤ m → min (m + (lost - k)) last_count ≤ n
     → min (l + lost) last_count ≤ n
 lost_joined l m n k lost one two = omega (arith, one, two)

@@ -16,4 +16,4 @@ pub use errors::ServeError;
 pub use firing::{Timer, rearm_due};
 pub use laws::counts_failed_sends;
 pub use sending::send_to;
-pub use serving::{Served, serve, serve_after};
+pub use serving::{Served, serve};

@@ -79,41 +79,10 @@ fn take_turns<C: Core, L: Link, K: Clock, W: Sink>(
     })
 }
 
-/// Serves a core for at most `turns` turns, and until it is done. A poll or a write that fails ends it, a send that fails is
+/// Serves a core for at most `turns` turns, and until it is done. Where a first tick is given, the core takes it
+/// before all turns, and its outputs come first. A poll or a write that fails ends it, a send that fails is
 /// counted.
 pub fn serve<C: Core, L: Link, K: Clock, W: Sink>(
-    alloc: Global,
-    core: &mut C,
-    at: Address,
-    link: &mut L,
-    clock: &mut K,
-    turns: u64,
-    sink: &mut W,
-) -> Result<Served, ServeError>
-    requires ports { at.base ≤ 65000 }
-    requires timers { length C.timers ≤ 255 }
-    ensures run { ServesTold C.next C.is_done C.timers at turns (C.state core.old)
-        (L.answers link.old) (K.values clock.old) result
-        (side (L.sent link.old) 0 (L.loss_count link.old))
-        (side (L.sent link.new) 0 (L.loss_count link.new))
-        (W.held sink.old) (W.held sink.new) }
-    ensures turns { IfOk result (λ served. served.turns ≤ turns) }
-    ensures done { IfOk result (λ served. served.done ≡ C.is_done (C.state core.new)) }
-    ensures spent { IfOk result (λ served. served.done ≡ false → served.turns ≡ turns) }
-    ensures wrote { WroteText (W.held sink.old) (W.held sink.new) }
-    ensures lost { IfOk result (λ served.
-        min (L.loss_count link.old + served.lost) (2 ^ 64 - 1) ≤ L.loss_count link.new) }
-    ensures port { L.own_port link.new ≡ L.own_port link.old }
-    ensures poll { HasCauseFor (L.fault_count link.old) (L.fault_count link.new)
-        errors.LinkFault result }
-    ensures write { HasCauseFor (W.fault_count sink.old) (W.fault_count sink.new)
-        errors.WriteFault result }
-{
-    take_turns(alloc, core, at, link, clock, turns, sink, 0)
-}
-
-/// As `serve`, after a step with this tick, whose outputs come first.
-pub fn serve_after<C: Core, L: Link, K: Clock, W: Sink>(
     alloc: Global,
     core: &mut C,
     at: Address,

@@ -11,7 +11,7 @@ use std::alloc::Global;
 use std::marker::Model;
 
 /// The changes that the leader of a new view has: its own, and the first one of each other sender.
-#[derive(Debug, Drop)]
+#[derive(Drop)]
 pub struct Changes {
     alloc: Global,
     view: View,

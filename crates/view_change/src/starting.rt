@@ -9,14 +9,14 @@ use nop_types::{Change, Log, NoMemory, View};
 use std::alloc::Global;
 
 /// What a view is started with: the next message number and the log.
-#[derive(Debug, Drop)]
+#[derive(Drop)]
 pub struct Start {
     pub next: u64,
     pub log: Log,
 }
 
 /// Whether a change was the one that starts the view.
-#[derive(Debug, Drop)]
+#[derive(Drop)]
 pub enum Step {
     Started(Start),
     Waiting,

@@ -1,5 +1,5 @@
 -- A step of one actor among several.
-use Rattle.std.proofs.Common.{◌≡◌, ℕ, List, Option, Some, Result, Ok, Err, IfOk, IfErr, sym, ap, ◌∙◌}
+use Rattle.std.proofs.Common.{◌≡◌, ℕ, Bool, List, Option, Some, Result, Ok, Err, IfOk, IfErr, sym, ap, ◌∙◌}
 use Rattle.std.specs.Prelude.{map, slice_get, slice_set, option_map}
 use Rattle.std.proofs.lemmas.List.{map-set}
 use Rattle.std.proofs.lemmas.Option.{slice_get-map}
@@ -9,7 +9,7 @@ use Rattle.world.specs.declared.step_error.StepError.{StepError}
 use Rattle.world.specs.declared.step_error.StepError.TheVariants as errors
 use Rattle.world.specs.Seats.{Seated, Did}
 use Rattle.world.specs.SeatOutcomes.{seated_of, Moves, MovesAt, Refuses}
-use Rattle.world.specs.WorldSteps.{Refusal}
+use Rattle.world.specs.WorldSteps.{Refusal, crashed_in}
 use Rattle.world.proofs.Places.{slice_set-found}
 
 pub pair_ok : {A B E : Type 0} (p : A × B) (a : A) (b : B) → a ≡ p.0 → b ≡ p.1 → (let r : Result (A × B) E = Ok p in r) ≡ Ok (a, b)
@@ -42,3 +42,8 @@ module _ {C S : Type 0} (state : C → S) (f : Option (Seated S) → Result (Sea
   refuses_at (Err (errors.NoSuchDatagram index sent)) h = (looked_up ∙ h.0, written_back h.1)
   refuses_at (Err errors.Forged) h = (looked_up ∙ h.0, written_back h.1)
   refuses_at (Err errors.NoMemory) h = tt
+
+-- whether the actor at a place crashed, where these are the seats
+pub crashed_at : {C S : Type 0} (state : C → S) (xs ys : List (Seat C)) (i : ℕ) (b : Bool) → xs ≡ ys
+    → b ≡ crashed_in (slice_get (map (seated_of state) xs) i) → b ≡ crashed_in (slice_get (map (seated_of state) ys) i)
+crashed_at state xs ys i b same is = is ∙ ap (λ seats. crashed_in (slice_get (map (seated_of state) seats) i)) same

@@ -1,7 +1,7 @@
 -- Replicas agree as far as they are synchronised.
 use Rattle.std.specs.Prelude.{◌≡◌, ℕ, ◌≤◌, Some, slice_get, take}
 use Rattle.nop_types.specs.Lists.{IsPrefixOf, slot_of}
-use Rattle.replica_rows.specs.declared.state.ReplicaState.{ReplicaState}
+use Rattle.replica_state.specs.declared.state.ReplicaState.{ReplicaState}
 use Rattle.replica_core.specs.ReplicaSteps.{Replica}
 use Rattle.world.specs.Seats.{Seated}
 use Rattle.world.specs.WorldSteps.{WorldState, main_log}

@@ -1,10 +1,11 @@
 ghost use Rattle.std.specs.Prelude.{◌≡◌, ◌+◌, ◌++◌, ◌∷◌, [], OnOk, IfOk, length};
+ghost use Rattle.nop_types.specs.Lines.{Accept};
 ghost use Rattle.world.specs.LineCounts.{Shows, Grows};
 ghost use Rattle.world.specs.Network.{sends_of, lines_from, sends_by, lines_by};
 ghost use Rattle.world.specs.SeatOutcomes.{did_of};
 
 use crate::network::Network;
-use nop_types::{Actor, Bytes, NoMemory, Out, Outbox};
+use nop_types::{Actor, Bytes, Dest, NoMemory, Out, Outbox};
 use schedule_text::{accept_line, busy_line, dead_line, send_line, submit_line};
 use std::alloc::Global;
 
@@ -34,6 +35,34 @@ fn raised(count: u32) -> Result<u32, NoMemory>
     }
 }
 
+/// Carries out a send: its line, and the datagram.
+fn carry_send(
+    network: &mut Network,
+    from: Actor,
+    dest: Dest,
+    bytes: &[u8],
+    tally: &mut Tally,
+) -> Result<(), NoMemory>
+    ensures network { OnOk result (network.new
+        ≡ network.old ++ sends_of from (Out.Send dest bytes.now ∷ [])) }
+    ensures lines { OnOk result (Grows tally.old tally.new
+        (lines_from from (length network.old) (Out.Send dest bytes.now ∷ []))) }
+{
+    send_line(network.len(), from, dest, bytes, &mut tally.text)?;
+    network.push(from, dest, bytes)?;
+    tally.sends = raised(tally.sends)?;
+    Ok(())
+}
+
+/// The line of an accepted result.
+fn carry_accept(client: u32, id: u64, answer: &Bytes, tally: &mut Tally) -> Result<(), NoMemory>
+    ensures { OnOk result (Grows tally.old tally.new (Accept client id answer.now ∷ [])) }
+{
+    accept_line(client, id, answer, &mut tally.text)?;
+    tally.accepts = raised(tally.accepts)?;
+    Ok(())
+}
+
 /// Carries out one output: its line, and for a send the datagram.
 fn carry_out_one(
     network: &mut Network,
@@ -46,24 +75,9 @@ fn carry_out_one(
         (lines_from from (length network.old) (out.now ∷ []))) }
 {
     match out {
-        Out::Send(dest, bytes) => {
-            send_line(
-                network.len(),
-                from,
-                *dest,
-                bytes.as_slice(),
-                &mut tally.text,
-            )?;
-            network.push(from, *dest, bytes.as_slice())?;
-            tally.sends = raised(tally.sends)?;
-            Ok(())
-        }
+        Out::Send(dest, bytes) => carry_send(network, from, *dest, bytes.as_slice(), tally),
         Out::Submitted(request) => submit_line(request, &mut tally.text),
-        Out::Accepted { client, id, result } => {
-            accept_line(*client, *id, result, &mut tally.text)?;
-            tally.accepts = raised(tally.accepts)?;
-            Ok(())
-        }
+        Out::Accepted { client, id, result } => carry_accept(*client, *id, result, tally),
         Out::Busy(client) => busy_line(*client, &mut tally.text),
     }
 }
@@ -84,6 +98,24 @@ fn carry_out_all(
     Ok(())
 }
 
+/// The datagrams and the lines of what an actor did.
+fn carry(
+    network: &mut Network,
+    from: Actor,
+    did: &Option<Outbox>,
+    tally: &mut Tally,
+) -> Result<(), NoMemory>
+    ensures network { OnOk result (network.new
+        ≡ network.old ++ sends_by from (did_of did.now)) }
+    ensures lines { OnOk result (Grows tally.old tally.new
+        (lines_by from (length network.old) (did_of did.now))) }
+{
+    match did {
+        Some(outs) => carry_out_all(network, from, outs.as_slice(), tally),
+        None => dead_line(from, &mut tally.text),
+    }
+}
+
 /// Carries out what an actor did, in order: its datagrams go into the network, and its lines are written. Where memory runs
 /// out, a front of the datagrams is in the network, and the lines are lost.
 pub fn carry_out(
@@ -100,10 +132,7 @@ pub fn carry_out(
         sends: 0,
         accepts: 0,
     };
-    match did {
-        Some(outs) => carry_out_all(network, from, outs.as_slice(), &mut tally)?,
-        None => dead_line(from, &mut tally.text)?,
-    }
+    carry(network, from, &did, &mut tally)?;
     Ok(Lines {
         text: Bytes::from_vec(tally.text),
         sends: tally.sends,

@@ -25,7 +25,7 @@ use std::alloc::Global;
 use std::marker::Model;
 
 /// Where a datagram ends in the bytes of the network, who sent it, and where to.
-#[derive(Clone, Copy, Debug)]
+#[derive(Clone, Copy)]
 pub struct Mark {
     pub end: usize,
     pub from: Actor,

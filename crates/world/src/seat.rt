@@ -1,4 +1,4 @@
-ghost use Rattle.std.specs.Prelude.{◌≡◌, OnOk, IfOk, IfErr, false, length, slice_get, map};
+ghost use Rattle.std.specs.Prelude.{◌≡◌, OnOk, IfOk, IfErr, false, length, option_map, slice_get, map};
 ghost use Rattle.world.specs.Seats.{seat_step};
 ghost use Rattle.world.specs.SeatOutcomes.{seated_of, did_of, owned, Moves, MovesAt, Refuses};
 ghost use Rattle.world.specs.Lookups.{timers_if};
@@ -90,11 +90,22 @@ pub fn take_at<C: Core>(
     seat.take(alloc, config, network, event)
 }
 
+/// The actor with this number, None where there is none.
+fn seat_at<C: Core>(seats: &[Seat<C>], number: usize) -> Option<&Seat<C>>
+    ensures { option_map (λ p. seated_of C.state p.now) result
+        ≡ slice_get (map (seated_of C.state) seats.now) number }
+{
+    match seats.get(number) {
+        Some(seat) => Some(seat),
+        None => None,
+    }
+}
+
 /// Whether the actor with this number crashed, false where there is none.
 pub fn is_crashed<C: Core>(seats: &[Seat<C>], i: usize) -> bool
     ensures { result ≡ crashed_in (slice_get (map (seated_of C.state) seats.now) i) }
 {
-    match seats.get(i) {
+    match seat_at(seats, i) {
         Some(seat) => seat.crashed,
         None => false,
     }
@@ -105,7 +116,7 @@ pub fn timer_at<C: Core>(seats: &[Seat<C>], number: usize, i: u8) -> Option<(Tic
     ensures { result ≡ slice_get (timers_if (slice_get (map (seated_of C.state) seats.now) number)
         C.timers) i }
 {
-    match seats.get(number) {
+    match seat_at(seats, number) {
         Some(seat) => seat.core.timer(i),
         None => None,
     }

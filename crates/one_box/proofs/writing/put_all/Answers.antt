@@ -9,4 +9,4 @@ returns g c =
     c.put_header.new.to.items c.put_events.new.to.items c.transcript_line.new.to.items c.extend_from_slice.new.self.items
     c.final_lines.new.to.items c.put_served.new.to.items c.in_ok-put_header.ensures
     (search (rules, c.in_ok-put_events.ensures)) c.in_ok-transcript_line.ensures.ok
-    (search (rules, c.in_ok-extend_from_slice.ensures.items)) c.in_ok-final_lines.ensures c.in_ok-put_served.ensures
+    (search (rules, c.in_ok-extend_from_slice.ensures.items)) c.in_ok-final_lines.ensures.ok c.in_ok-put_served.ensures

@@ -1,5 +1,5 @@
 use Rattle.std.proofs.Common.{◌≡◌, ◌+◌, ◌++◌, take}
-use Rattle.replica_rows.specs.Sends.{message_count}
+use Rattle.replica_state.specs.Sends.{message_count}
 use Rattle.replica_core.specs.Posting.{posted}
 use Rattle.replica_core.proofs.posting.post_each.Given as goal
 

@@ -8,3 +8,6 @@ pub returns-in-Some : goal.returns-in-Some
 returns-in-Some c =
     let some = fields_are_some c.in-Some.field-0.now in
     (refl, some.0, some.1, ap (λ rest. other_fields (option_copied rest)) c.in-Some.is ∙ some.2)
+
+pub returns-in-None : goal.returns-in-None
+returns-in-None c = ap (λ rest. other_fields (option_copied rest)) c.in-None.is

@@ -1,7 +1,7 @@
 use Rattle.std.proofs.Common.{◌≡◌, ◌≤◌, length}
 use Rattle.replica_rows.specs.Within.{Runs}
-use Rattle.replica_rows.specs.Sends.{then_do}
-use Rattle.replica_rows.specs.Moves.{drain}
+use Rattle.replica_state.specs.Sends.{then_do}
+use Rattle.replica_state.specs.Moves.{drain}
 use Rattle.replica_rows.proofs.member.Member.drain.Given as goal
 
 -- draining from here is draining from the start, and each turn fills a slot

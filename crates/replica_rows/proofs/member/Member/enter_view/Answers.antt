@@ -2,7 +2,7 @@ use Rattle.std.proofs.Common.{◌≡◌, ap, ◌∙◌, ◌++◌, sym, subst, ar
 use Rattle.std.specs.Prelude.{IfSome}
 use Rattle.std.specs.List.{AllByRecursion}
 use Rattle.nop_types.specs.Ranges.{ChangeFits}
-use Rattle.replica_rows.specs.State.{others}
+use Rattle.replica_state.specs.State.{others}
 use Rattle.replica_rows.proofs.Opening.{own, enters_with_others, opens_alone, start_fits, put_back}
 use Rattle.replica_rows.proofs.Running.{on_ok, sent_on}
 use Rattle.replica_rows.proofs.member.Member.enter_view.Goals as goal

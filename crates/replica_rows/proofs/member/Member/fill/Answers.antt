@@ -1,6 +1,17 @@
-use Rattle.std.proofs.Common.{◌∙◌}
+use Rattle.std.proofs.Common.{◌∙◌, [], ◌∷◌, ap, length, length-append, arith}
+use Rattle.nop_types.specs.declared.request.Entry.TheVariants.{Req}
 use Rattle.replica_rows.proofs.Rows.{fill_sends}
 use Rattle.replica_rows.proofs.member.Member.fill.Goals as goal
+
+pub reply_at-requires-clause-there : goal.reply_at-requires-clause-there
+reply_at-requires-clause-there g c = omega (arith, c.len-slot.ensures.len)
+
+pub reply_at-requires-clause-ahead : goal.reply_at-requires-clause-ahead
+reply_at-requires-clause-ahead g c =
+    let run = ap (λ e. length e.undos) c.append.ensures.executor in
+    let longer = ap (λ s. length s.log) c.in_ok-append.ensures.state in
+    let one = length-append c.args.self.now.state.log (Req c.args.request ∷ []) in
+    omega (arith, c.requires.runs.run.within, run, longer, one, c.len-slot.ensures.len)
 
 pub returns : goal.returns
 returns g c = record {

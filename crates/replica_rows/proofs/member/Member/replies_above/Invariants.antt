@@ -1,6 +1,6 @@
 use Rattle.std.proofs.Common.{◌≡◌, ◌≤◌, ◌++◌, length}
 use Rattle.replica_rows.specs.Within.{Runs}
-use Rattle.replica_rows.specs.Replies.{replies_above}
+use Rattle.replica_state.specs.Replies.{replies_above}
 use Rattle.replica_rows.proofs.member.Member.replies_above.Given as goal
 
 -- what was replied, and the replies for the slots that are left

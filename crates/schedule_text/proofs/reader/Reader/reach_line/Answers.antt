@@ -1,10 +1,19 @@
-use Rattle.std.proofs.Common.{◌≡◌, ◌∙◌, false, Err, sym, ap, arith}
+use Rattle.std.proofs.Common.{◌≡◌, ◌∙◌, false, Err, refl, sym, ap, arith, le_refl}
 use Rattle.std.proofs.lemmas.Result.{err_from_is_err_and}
 use Rattle.schedule_text.specs.declared.next_error.NextError.TheVariants.{NoMemory}
 use Rattle.schedule_text.specs.Reading.{Reading}
-use Rattle.schedule_text.proofs.Takings.{then_takes}
+use Rattle.schedule_text.proofs.Takings.{stays, then_takes}
 use Rattle.schedule_text.proofs.Turns.{needs_a_read}
 use Rattle.schedule_text.proofs.reader.Reader.reach_line.Goals as goal
+
+pub loop-first-init : goal.loop-first-init
+loop-first-init g c = record {
+  config = refl;
+  line = refl;
+  takes = stays c.args.self.now (g.S.Source.left c.args.source.now);
+  unread = λ needs. (refl, refl);
+  later = le_refl (g.S.Source.fault_count c.args.source.now);
+}
 
 pub loop-first-preserved : goal.loop-first-preserved
 loop-first-preserved g c =

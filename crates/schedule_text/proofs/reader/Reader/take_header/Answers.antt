@@ -10,6 +10,6 @@ returns-in-Ok-clause-answers c =
     let first = rw (← c.self.view_is) at c.requires.first in
     let none = rw (← c.self.view_is) at c.requires.config in
     let opened = rw none at c.self.invariant.opened in
-    rw (← c.self.view_is, none, c.advance.ensures)
-    (header_taken inside.line inside.buffer inside.ended c.args.first first c.in-Ok.config (opened.0 refl)
+    rw (← c.self.view_is, none, c.advance.ensures.items)
+    (header_taken inside.line inside.buffer.items inside.ended c.args.first first c.in-Ok.config (opened.0 refl)
     (rw c.as_slice.ensures at took))

@@ -1,0 +1,68 @@
+-- How a cluster in one process ends.
+use Rattle.std.proofs.Common.{arith, ◌≡◌, ℕ, List, Bool, true, Option, Some, None, Result, Ok, refl, subst, inl, inr}
+use Rattle.command_line.specs.declared.command.Command.{Command}
+use Rattle.command_line.specs.declared.command.Command.TheVariants.{Replay, Gen, Node, Sequencer, Controller, Client, Cluster}
+use Rattle.command_line.specs.declared.command.Site.{Site}
+use Rattle.one_box.specs.declared.boxed.Boxed.{Boxed}
+use Rattle.one_box.specs.declared.errors.ClusterError.{ClusterError}
+use Rattle.one_box.specs.Boxing.{PollFailed}
+use Rattle.one_box.specs.Showing as boxed
+use Rattle.outside.specs.Causes.{Rose}
+use Rattle.commands.specs.Clusters.{ServesAll, ClusterFinished, ClusterCommandEnds, runs_cluster, ClusterEndsWithoutFault}
+use Rattle.commands.specs.Nodes.{PortsView}
+use Rattle.commands.specs.declared.status.Status.{Status}
+use Rattle.commands.specs.declared.status.Status.TheVariants as statuses
+
+no_rise : ¬ Rose 0 0
+no_rise rose = omega arith
+
+module _ {L : Type 0} (w : boxed.LinkView L) (p : PortsView L) (values : Option (List ℕ)) where
+  -- memory ran out before anything was done
+  pub not_served : (c : Option Command) (h : Option (List ℕ)) → ClusterCommandEnds c w p values statuses.NoMemory h h
+  not_served None h = tt
+  not_served (Some Replay) h = tt
+  not_served (Some (Gen number count)) h = tt
+  not_served (Some (Node id site)) h = tt
+  not_served (Some (Sequencer id site)) h = tt
+  not_served (Some (Controller site session install)) h = tt
+  not_served (Some (Client id site ops)) h = tt
+  not_served (Some (Cluster site ops)) h = inl refl
+
+  -- a cluster ends well where no attach failed, no poll of a link that was given back, and no write
+  pub cluster_ends_well : (c : Option Command) (s : Status) (h i : Option (List ℕ)) (x y : ℕ) → runs_cluster c ≡ true
+      → ClusterCommandEnds c w p values s h i → ¬ Rose p.faults_before p.faults_after → (s ≡ statuses.WriteFault → Rose x y) → ¬ Rose x y
+      → ¬ PollFailed w p.before p.after → ClusterEndsWithoutFault s
+  cluster_ends_well None s h i x y runs ends ports write sink polls = absurd cc
+  cluster_ends_well (Some Replay) s h i x y runs ends ports write sink polls = absurd cc
+  cluster_ends_well (Some (Gen number count)) s h i x y runs ends ports write sink polls = absurd cc
+  cluster_ends_well (Some (Node id site)) s h i x y runs ends ports write sink polls = absurd cc
+  cluster_ends_well (Some (Sequencer id site)) s h i x y runs ends ports write sink polls = absurd cc
+  cluster_ends_well (Some (Controller site session install)) s h i x y runs ends ports write sink polls = absurd cc
+  cluster_ends_well (Some (Client id site ops)) s h i x y runs ends ports write sink polls = absurd cc
+  cluster_ends_well (Some (Cluster site ops)) statuses.Done h i x y runs ends ports write sink polls = tt
+  cluster_ends_well (Some (Cluster site ops)) statuses.Malformed h i x y runs ends ports write sink polls = ends
+  cluster_ends_well (Some (Cluster site ops)) statuses.Usage h i x y runs ends ports write sink polls = ends
+  cluster_ends_well (Some (Cluster site ops)) statuses.ReadFault h i x y runs ends ports write sink polls = ends
+  cluster_ends_well (Some (Cluster site ops)) statuses.WriteFault h i x y runs ends ports write sink polls = sink (write refl)
+  cluster_ends_well (Some (Cluster site ops)) statuses.LinkFault h i x y runs ends ports write sink polls =
+      elim ends.cause [
+        | inl rose ↦ ports rose
+        | inr failed ↦ polls failed
+      ]
+  cluster_ends_well (Some (Cluster site ops)) statuses.NoMemory h i x y runs ends ports write sink polls = tt
+  cluster_ends_well (Some (Cluster site ops)) statuses.Unanswered h i x y runs ends ports write sink polls = tt
+
+  -- links whose polls never fail
+  pub no_poll_failed : ((link : L) → w.faults link ≡ 0) → ¬ PollFailed w p.before p.after
+  no_poll_failed none failed = no_rise (rw (none failed.fault.node.link) at failed.fault.rose)
+
+  -- ---- of equal ops
+
+  module _ (site : Site) (xs ops : List (List ℕ)) (same : xs ≡ ops) where
+    pub serves_same : (result : Result Boxed ClusterError) (h i : Option (List ℕ)) → ServesAll site xs w p values result h i
+        → ServesAll site ops w p values result h i
+    serves_same result h i serves = subst (λ (zs : List (List ℕ)). ServesAll site zs w p values result h i) same serves
+
+    pub finishes : (boxed : Boxed) (done : Bool) (h i : Option (List ℕ)) → boxed.done ≡ done → ServesAll site xs w p values (Ok boxed) h i
+        → ClusterFinished site ops w p values done h i
+    finishes boxed done h i told serves = record { boxed = boxed; told = told; serves = serves_same (Ok boxed) h i serves }

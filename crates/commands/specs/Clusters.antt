@@ -1,0 +1,88 @@
+-- How a cluster in one process ends.
+use Rattle.std.specs.Prelude.{◌≡◌, ℕ, List, Bool, true, false, Option, Some, None, Result, Ok, Err, ◌⊎◌, ⊤}
+use Rattle.command_line.specs.declared.command.Command.{Command}
+use Rattle.command_line.specs.declared.command.Command.TheVariants.{Replay, Gen, Node, Sequencer, Controller, Client, Cluster}
+use Rattle.command_line.specs.declared.command.Site.{Site}
+use Rattle.kv_host.specs.Kv.{kv_meaning}
+use Rattle.one_box.specs.Boxing.{EndsWith, PollFailed}
+use Rattle.one_box.specs.Showing as boxed
+use Rattle.one_box.specs.declared.boxed.Boxed.{Boxed}
+use Rattle.one_box.specs.declared.errors.ClusterError.{ClusterError}
+use Rattle.one_box.specs.declared.errors.ClusterError.TheVariants as errors
+use Rattle.outside.specs.Causes.{Rose}
+use Rattle.commands.specs.Nodes.{PortsView}
+use Rattle.commands.specs.declared.status.Status.{Status}
+use Rattle.commands.specs.declared.status.Status.TheVariants as statuses
+
+module _ {L : Type 0} (site : Site) (ops : List (List ℕ)) (w : boxed.LinkView L) (p : PortsView L) (values : Option (List ℕ)) where
+  -- the cluster was served with this result, over the ports before and after
+  abbrev pub ServesAll : Result Boxed ClusterError → Option (List ℕ) → Option (List ℕ) → Type 0
+  ServesAll result h i =
+      EndsWith kv_meaning w site.config ops site.base site.turns p.to_come values p.before p.after result h i
+
+  -- the run was taken to its end and written; all ops were accepted, or not
+  pub record ClusterFinished (done : Bool) (h i : Option (List ℕ)) : Type 0 where
+    pub boxed : Boxed
+    pub told : boxed.done ≡ done
+    pub serves : ServesAll (Ok boxed) h i
+
+  -- an attach failed, or the poll of a link that was given back
+  pub record ClusterBroke (h i : Option (List ℕ)) : Type 0 where
+    pub serves : ServesAll (Err errors.LinkFault) h i
+    pub cause : Rose p.faults_before p.faults_after ⊎ PollFailed w p.before p.after
+
+  -- by its status
+  abbrev pub ClusterEnds : Status → Option (List ℕ) → Option (List ℕ) → Type 0
+  ClusterEnds statuses.Done h i = ClusterFinished true h i
+  ClusterEnds statuses.Malformed h i = ⊥
+  ClusterEnds statuses.Usage h i = ⊥
+  ClusterEnds statuses.ReadFault h i = ⊥
+  ClusterEnds statuses.WriteFault h i = ServesAll (Err errors.WriteFault) h i
+  ClusterEnds statuses.LinkFault h i = ClusterBroke h i
+  ClusterEnds statuses.NoMemory h i = ServesAll (Err errors.NoMemory) h i
+  ClusterEnds statuses.Unanswered h i = ClusterFinished false h i
+
+-- how a command that runs a cluster ends; nothing is said here of others
+abbrev pub ClusterCommandEnds : {L : Type 0} → Option Command → boxed.LinkView L → PortsView L → Option (List ℕ) → Status
+    → Option (List ℕ) → Option (List ℕ) → Type 0
+ClusterCommandEnds None w p values s h i = ⊤
+ClusterCommandEnds (Some Replay) w p values s h i = ⊤
+ClusterCommandEnds (Some (Gen number count)) w p values s h i = ⊤
+ClusterCommandEnds (Some (Node id site)) w p values s h i = ⊤
+ClusterCommandEnds (Some (Sequencer id site)) w p values s h i = ⊤
+ClusterCommandEnds (Some (Controller site session install)) w p values s h i = ⊤
+ClusterCommandEnds (Some (Client id site ops)) w p values s h i = ⊤
+ClusterCommandEnds (Some (Cluster site ops)) w p values s h i = ClusterEnds site ops w p values s h i
+
+-- whether a command runs a cluster
+abbrev pub runs_cluster : Option Command → Bool
+runs_cluster None = false
+runs_cluster (Some Replay) = false
+runs_cluster (Some (Gen number count)) = false
+runs_cluster (Some (Node id site)) = false
+runs_cluster (Some (Sequencer id site)) = false
+runs_cluster (Some (Controller site session install)) = false
+runs_cluster (Some (Client id site ops)) = false
+runs_cluster (Some (Cluster site ops)) = true
+
+-- whether a command uses ports and the clock
+abbrev pub uses_ports : Option Command → Bool
+uses_ports None = false
+uses_ports (Some Replay) = false
+uses_ports (Some (Gen number count)) = false
+uses_ports (Some (Node id site)) = true
+uses_ports (Some (Sequencer id site)) = true
+uses_ports (Some (Controller site session install)) = true
+uses_ports (Some (Client id site ops)) = true
+uses_ports (Some (Cluster site ops)) = true
+
+-- how a cluster ends where no device failed
+abbrev pub ClusterEndsWithoutFault : Status → Type 0
+ClusterEndsWithoutFault statuses.Done = ⊤
+ClusterEndsWithoutFault statuses.Malformed = ⊥
+ClusterEndsWithoutFault statuses.Usage = ⊥
+ClusterEndsWithoutFault statuses.ReadFault = ⊥
+ClusterEndsWithoutFault statuses.WriteFault = ⊥
+ClusterEndsWithoutFault statuses.LinkFault = ⊥
+ClusterEndsWithoutFault statuses.NoMemory = ⊤
+ClusterEndsWithoutFault statuses.Unanswered = ⊤

@@ -1,0 +1,83 @@
+-- With what status the program ends.
+use Rattle.std.specs.Prelude.{ℕ, List, Option, ⊤}
+use Rattle.std.specs.Io.KnownBytes.{Appends}
+use Rattle.nop_types.specs.Meaning.{Meaning}
+use Rattle.outside.specs.Fronts.{AppendsFront}
+use Rattle.replay.specs.Generated.{drawn_summary}
+use Rattle.replay.specs.Outcome.{IsDone, IsMalformed, IsInterrupted, LeavesSome, WroteFront}
+use Rattle.commands.specs.Words.{usage_line}
+use Rattle.commands.specs.declared.status.Status.{Status}
+use Rattle.commands.specs.declared.status.Status.TheVariants.{Done, Malformed, Usage, ReadFault, WriteFault, LinkFault, NoMemory, Unanswered}
+
+module _ {S : Type 0} (m : Meaning S) where
+  -- some line is bad
+  pub record FoundMalformed (bytes left before now : Option (List ℕ)) : Type 0 where
+    pub line : ℕ
+    pub rule : ℕ
+    pub is : IsMalformed m line rule bytes left before now
+
+  -- how a replay ended, by the bytes before it, those left, and what the sink held before and holds now
+  abbrev pub ReplayEnds : Option (List ℕ) → Option (List ℕ) → Option (List ℕ) → Option (List ℕ) → Status → Type 0
+  ReplayEnds bytes left before now Done = IsDone m bytes left before now
+  ReplayEnds bytes left before now Malformed = FoundMalformed bytes left before now
+  ReplayEnds bytes left before now Usage = ⊥
+  ReplayEnds bytes left before now ReadFault = IsInterrupted m bytes left before now
+  ReplayEnds bytes left before now WriteFault = WroteFront m bytes before now
+  ReplayEnds bytes left before now LinkFault = ⊥
+  ReplayEnds bytes left before now NoMemory = WroteFront m bytes before now
+  ReplayEnds bytes left before now Unanswered = ⊥
+
+  -- how a generation ended: the summary was written, or a front of it that is not all
+  abbrev pub GenEnds : ℕ → ℕ → Option (List ℕ) → Option (List ℕ) → Status → Type 0
+  GenEnds number count before now Done = Appends before now (drawn_summary m number count)
+  GenEnds number count before now Malformed = ⊥
+  GenEnds number count before now Usage = ⊥
+  GenEnds number count before now ReadFault = ⊥
+  GenEnds number count before now WriteFault = LeavesSome before now (drawn_summary m number count)
+  GenEnds number count before now LinkFault = ⊥
+  GenEnds number count before now NoMemory = LeavesSome before now (drawn_summary m number count)
+  GenEnds number count before now Unanswered = ⊥
+
+-- the usage line was written, or only a front of it
+abbrev pub UsageEnds : Option (List ℕ) → Option (List ℕ) → Status → Type 0
+UsageEnds before now Done = ⊥
+UsageEnds before now Malformed = ⊥
+UsageEnds before now Usage = Appends before now usage_line
+UsageEnds before now ReadFault = ⊥
+UsageEnds before now WriteFault = AppendsFront before now usage_line
+UsageEnds before now LinkFault = ⊥
+UsageEnds before now NoMemory = AppendsFront before now usage_line
+UsageEnds before now Unanswered = ⊥
+
+-- how a replay ends where no device failed
+abbrev pub EndsWithoutFault : Status → Type 0
+EndsWithoutFault Done = ⊤
+EndsWithoutFault Malformed = ⊤
+EndsWithoutFault Usage = ⊥
+EndsWithoutFault ReadFault = ⊥
+EndsWithoutFault WriteFault = ⊥
+EndsWithoutFault LinkFault = ⊥
+EndsWithoutFault NoMemory = ⊤
+EndsWithoutFault Unanswered = ⊥
+
+-- how a generation ends where no device failed
+abbrev pub GeneratesWithoutFault : Status → Type 0
+GeneratesWithoutFault Done = ⊤
+GeneratesWithoutFault Malformed = ⊥
+GeneratesWithoutFault Usage = ⊥
+GeneratesWithoutFault ReadFault = ⊥
+GeneratesWithoutFault WriteFault = ⊥
+GeneratesWithoutFault LinkFault = ⊥
+GeneratesWithoutFault NoMemory = ⊤
+GeneratesWithoutFault Unanswered = ⊥
+
+-- how words that are not taken end where no device failed
+abbrev pub RefusesWithoutFault : Status → Type 0
+RefusesWithoutFault Done = ⊥
+RefusesWithoutFault Malformed = ⊥
+RefusesWithoutFault Usage = ⊤
+RefusesWithoutFault ReadFault = ⊥
+RefusesWithoutFault WriteFault = ⊥
+RefusesWithoutFault LinkFault = ⊥
+RefusesWithoutFault NoMemory = ⊤
+RefusesWithoutFault Unanswered = ⊥

@@ -1,0 +1,189 @@
+-- How a command that runs a node ends.
+use Rattle.std.specs.Prelude.{◌≡◌, ℕ, ◌≤◌, List, [], ◌∷◌, ◌++◌, Bool, true, false, decimal, codes, Option, Some, None, option_map, ◌⊎◌, ⊤}
+use Rattle.std.specs.Io.KnownBytes.{Appends}
+use Rattle.nop_types.specs.Given.{Given}
+use Rattle.nop_types.specs.declared.input.Tick.{Tick}
+use Rattle.nop_types.specs.declared.output.Out.{Out}
+use Rattle.outside.specs.Causes.{Rose}
+use Rattle.outside.specs.Ports.{next_link}
+use Rattle.outside.specs.declared.link.PollAnswer.{PollAnswer}
+use Rattle.outside.specs.declared.link.Sent.{Sent}
+use Rattle.udp_node.specs.declared.address.Address.{Address}
+use Rattle.udp_node.specs.Effects.{Effect, Line, effects, Done, Stopped, StoppedInLine}
+use Rattle.udp_node.specs.NodeRun.{NodeRun, run_after, Broke}
+use Rattle.udp_node.specs.Ports.{port_of}
+use Rattle.udp_node.specs.Sends.{LinkSide, side}
+use Rattle.commands.specs.declared.status.Status.{Status}
+use Rattle.commands.specs.declared.status.Status.TheVariants as statuses
+
+-- ---- the last line
+
+abbrev pub served_line : ℕ → ℕ → List ℕ
+served_line turns lost = codes "served " ++ decimal turns ++ codes " lost " ++ decimal lost ++ 10 ∷ []
+
+-- after a poll that failed there is none
+abbrev pub last_effects : Bool → ℕ → ℕ → List Effect
+last_effects true turns lost = []
+last_effects false turns lost = Line (served_line turns lost) ∷ []
+
+-- what a run asks of the outside: what its core gives, and the last line
+abbrev pub all_effects : Address → NodeRun → ℕ → List Effect
+all_effects at r lost = effects at r.outs ++ last_effects r.broken r.turns lost
+
+-- ---- statuses
+
+-- a node that waits for its core to be done ends unanswered where it is not
+abbrev pub end_status : Bool → Bool → Status
+end_status true true = statuses.Done
+end_status true false = statuses.Unanswered
+end_status false done = statuses.Done
+
+-- the statuses of a node
+abbrev pub IsNodeStatus : Bool → Status → Type 0
+IsNodeStatus waits statuses.Done = ⊤
+IsNodeStatus waits statuses.Malformed = ⊥
+IsNodeStatus waits statuses.Usage = ⊥
+IsNodeStatus waits statuses.ReadFault = ⊥
+IsNodeStatus waits statuses.WriteFault = ⊤
+IsNodeStatus waits statuses.LinkFault = ⊤
+IsNodeStatus waits statuses.NoMemory = ⊤
+IsNodeStatus waits statuses.Unanswered = waits ≡ true
+
+-- those without a fault of a device
+abbrev pub EndsNodeWithoutFault : Bool → Status → Type 0
+EndsNodeWithoutFault waits statuses.Done = ⊤
+EndsNodeWithoutFault waits statuses.Malformed = ⊥
+EndsNodeWithoutFault waits statuses.Usage = ⊥
+EndsNodeWithoutFault waits statuses.ReadFault = ⊥
+EndsNodeWithoutFault waits statuses.WriteFault = ⊥
+EndsNodeWithoutFault waits statuses.LinkFault = ⊥
+EndsNodeWithoutFault waits statuses.NoMemory = ⊤
+EndsNodeWithoutFault waits statuses.Unanswered = waits ≡ true
+
+-- the statuses where no link was attached
+abbrev pub IsUnattachedStatus : Status → Type 0
+IsUnattachedStatus statuses.Done = ⊥
+IsUnattachedStatus statuses.Malformed = ⊥
+IsUnattachedStatus statuses.Usage = ⊥
+IsUnattachedStatus statuses.ReadFault = ⊥
+IsUnattachedStatus statuses.WriteFault = ⊥
+IsUnattachedStatus statuses.LinkFault = ⊤
+IsUnattachedStatus statuses.NoMemory = ⊤
+IsUnattachedStatus statuses.Unanswered = ⊥
+
+-- ---- a run and its last line
+
+-- the run was taken to its end, and its line was written
+pub record Finished (at : Address) (waits : Bool) (r : NodeRun) (s : Status) (a b : LinkSide) (h i : Option (List ℕ)) : Type 0 where
+  pub lost : ℕ
+  pub works : r.broken ≡ false
+  pub ends : s ≡ end_status waits r.done
+  pub effects : Done (all_effects at r lost) a (record b { lost = lost }) h i
+
+-- by its status
+abbrev pub RunEnds : Address → Bool → NodeRun → Status → LinkSide → LinkSide → Option (List ℕ) → Option (List ℕ) → Type 0
+RunEnds at waits r statuses.Done a b h i = Finished at waits r statuses.Done a b h i
+RunEnds at waits r statuses.Malformed a b h i = ⊥
+RunEnds at waits r statuses.Usage a b h i = ⊥
+RunEnds at waits r statuses.ReadFault a b h i = ⊥
+RunEnds at waits r statuses.WriteFault a b h i = (lost : ℕ) × StoppedInLine (all_effects at r lost) a (record b { lost = lost }) h i
+RunEnds at waits r statuses.LinkFault a b h i = (lost : ℕ) × Broke at r a (record b { lost = lost }) h i
+RunEnds at waits r statuses.NoMemory a b h i = (lost : ℕ) × Stopped (all_effects at r lost) a (record b { lost = lost }) h i
+RunEnds at waits r statuses.Unanswered a b h i = Finished at waits r statuses.Unanswered a b h i
+
+-- ---- the last line over any link and clock
+
+-- it was written after some text; it says no more turns than there were, and all of them where a client is unanswered
+pub record LastLine (turns : ℕ) (s : Status) (h i : Option (List ℕ)) : Type 0 where
+  pub text : List ℕ
+  pub taken : ℕ
+  pub lost : ℕ
+  pub most : taken ≤ turns
+  pub all : s ≡ statuses.Unanswered → taken ≡ turns
+  pub line : Appends h i (text ++ served_line taken lost)
+
+-- by its status
+abbrev pub EndsInLine : ℕ → Status → Option (List ℕ) → Option (List ℕ) → Type 0
+EndsInLine turns statuses.Done h i = LastLine turns statuses.Done h i
+EndsInLine turns statuses.Malformed h i = ⊤
+EndsInLine turns statuses.Usage h i = ⊤
+EndsInLine turns statuses.ReadFault h i = ⊤
+EndsInLine turns statuses.WriteFault h i = ⊤
+EndsInLine turns statuses.LinkFault h i = ⊤
+EndsInLine turns statuses.NoMemory h i = ⊤
+EndsInLine turns statuses.Unanswered h i = LastLine turns statuses.Unanswered h i
+
+-- ---- what a node runs from
+
+-- its core's step table and opening, its address, the inputs before the first turn, the most turns, and whether it waits for
+-- its core to be done
+pub record NodeTask (S : Type 0) : Type 0 where
+  pub next : S → Given → S × List Out
+  pub is_done : S → Bool
+  pub timers : List (Tick × ℕ)
+  pub opening : S
+  pub at : Address
+  pub first : List Given
+  pub turns : ℕ
+  pub waits : Bool
+
+abbrev pub task_of : {S : Type 0} → (S → Given → S × List Out) → (S → Bool) → List (Tick × ℕ) → S → Address → List Given → ℕ → Bool
+    → NodeTask S
+task_of next is_done timers opening at first turns waits =
+    record { next = next; is_done = is_done; timers = timers; opening = opening; at = at; first = first; turns = turns; waits = waits }
+
+abbrev pub run_of : {S : Type 0} → NodeTask S → List PollAnswer → List ℕ → NodeRun
+run_of k answers values = run_after k.next k.is_done k.first k.timers k.turns k.opening answers values
+
+-- where link and clock tell their content, it is the run over it
+abbrev pub RunTold : {S : Type 0} → NodeTask S → Option (List PollAnswer) → Option (List ℕ) → Status
+    → LinkSide → LinkSide → Option (List ℕ) → Option (List ℕ) → Type 0
+RunTold k None values s a b h i = ⊤
+RunTold k (Some answers) None s a b h i = ⊤
+RunTold k (Some answers) (Some values) s a b h i = RunEnds k.at k.waits (run_of k answers values) s a b h i
+
+-- ---- over ports
+
+-- what is seen of a link
+pub record LinkView (L : Type 0) : Type 0 where
+  pub port : L → ℕ
+  pub sent : L → Option (List Sent)
+  pub losses : L → ℕ
+  pub faults : L → ℕ
+
+-- ports before and after: the polls to come, the links that were given back, and the failed attaches
+pub record PortsView (L : Type 0) : Type 0 where
+  pub to_come : Option (List (List PollAnswer))
+  pub before : List L
+  pub after : List L
+  pub faults_before : ℕ
+  pub faults_after : ℕ
+
+abbrev pub link_view : {L : Type 0} → (L → ℕ) → (L → Option (List Sent)) → (L → ℕ) → (L → ℕ) → LinkView L
+link_view port sent losses faults = record { port = port; sent = sent; losses = losses; faults = faults }
+
+abbrev pub ports_view : {L : Type 0} → Option (List (List PollAnswer)) → List L → List L → ℕ → ℕ → PortsView L
+ports_view to_come before after faults_before faults_after =
+    record { to_come = to_come; before = before; after = after; faults_before = faults_before; faults_after = faults_after }
+
+-- no link was attached, and nothing was written
+pub record Unattached {L : Type 0} (p : PortsView L) (s : Status) (h i : Option (List ℕ)) : Type 0 where
+  pub given_back : p.after ≡ p.before
+  pub status : IsUnattachedStatus s
+  pub cause : s ≡ statuses.LinkFault → Rose p.faults_before p.faults_after
+  pub written : i ≡ h
+
+-- the node ran over a link at its own port, which the ports hold at the end
+pub record Attached {S L : Type 0} (k : NodeTask S) (w : LinkView L) (p : PortsView L) (values : Option (List ℕ)) (s : Status)
+    (h i : Option (List ℕ)) : Type 0 where
+  pub link : L
+  pub given_back : p.after ≡ p.before ++ link ∷ []
+  pub port : w.port link ≡ port_of k.at.base k.at.own
+  pub status : IsNodeStatus k.waits s
+  pub cause : s ≡ statuses.LinkFault → Rose 0 (w.faults link)
+  pub last : EndsInLine k.turns s h i
+  pub run : RunTold k (option_map next_link p.to_come) values s (side (Some []) 0 0) (side (w.sent link) 0 (w.losses link)) h i
+
+abbrev pub NodeEnds : {S L : Type 0} → NodeTask S → LinkView L → PortsView L → Option (List ℕ) → Status → Option (List ℕ) → Option (List ℕ)
+    → Type 0
+NodeEnds k w p values s h i = Unattached p s h i ⊎ Attached k w p values s h i

@@ -1,0 +1,112 @@
+-- What the commands of nodes run, and how each of them ends.
+use Rattle.std.specs.Prelude.{ℕ, List, [], Bool, true, false, Option, Some, None, ⊤}
+use Rattle.client_quorum.specs.ClientSteps as client
+use Rattle.client_quorum.specs.declared.state.ClientState.{ClientState}
+use Rattle.command_line.specs.declared.command.Command.{Command}
+use Rattle.command_line.specs.declared.command.Command.TheVariants.{Replay, Gen, Node, Sequencer, Controller, Client, Cluster}
+use Rattle.command_line.specs.declared.command.Site.{Site}
+use Rattle.kv_host.specs.Kv.{kv_meaning}
+use Rattle.nop_types.specs.declared.input.Tick.{Tick}
+use Rattle.nop_types.specs.declared.input.Tick.TheVariants.{Install}
+use Rattle.nop_types.specs.declared.output.Actor.{Actor}
+use Rattle.nop_types.specs.declared.output.Actor.TheVariants as actors
+use Rattle.replica_core.specs.ReplicaSteps as replica
+use Rattle.sequencer.specs.SequencerSteps as sequencer
+use Rattle.sequencer.specs.declared.state.SequencerState.{SequencerState}
+use Rattle.session_control.specs.ControllerSteps as controller
+use Rattle.session_control.specs.declared.state.ControllerState.{ControllerState}
+use Rattle.udp_node.specs.NodeRun.{first_inputs}
+use Rattle.udp_node.specs.declared.address.Address.{Address}
+use Rattle.commands.specs.Ending.{GenEnds}
+use Rattle.commands.specs.Nodes.{NodeTask, task_of, LinkView, PortsView, NodeEnds}
+use Rattle.commands.specs.declared.status.Status.{Status}
+
+abbrev pub address_of : Site → Actor → Address
+address_of site own = record { base = site.base; own = own; config = site.config }
+
+abbrev pub never_done : {S : Type 0} → S → Bool
+never_done s = false
+
+abbrev pub replica_task : ℕ → Site → NodeTask replica.Replica
+replica_task id site =
+    task_of (replica.next kv_meaning) never_done replica.timers (replica.opening site.config id)
+    (address_of site (actors.Replica id)) (first_inputs None) site.turns false
+
+abbrev pub sequencer_task : ℕ → Site → NodeTask SequencerState
+sequencer_task id site =
+    task_of sequencer.next never_done [] (sequencer.opening id)
+    (address_of site (actors.Sequencer id)) (first_inputs None) site.turns false
+
+abbrev pub install_tick : Option ℕ → Option Tick
+install_tick None = None
+install_tick (Some j) = Some (Install j)
+
+-- the install order is a tick before the first turn
+abbrev pub controller_task : Site → ℕ → Option ℕ → NodeTask ControllerState
+controller_task site session install =
+    task_of controller.next never_done controller.timers (controller.opening site.config session)
+    (address_of site actors.Controller) (first_inputs (install_tick install)) site.turns false
+
+-- the client waits until its ops are accepted
+abbrev pub client_task : ℕ → Site → List (List ℕ) → NodeTask ClientState
+client_task id site ops =
+    task_of client.next client.is_done client.timers (client.opening site.config id ops)
+    (address_of site (actors.Client id)) (first_inputs None) site.turns true
+
+-- how a command that runs a node ends; nothing is said here of others
+abbrev pub CommandEnds : {L : Type 0} → Option Command → LinkView L → PortsView L → Option (List ℕ) → Status
+    → Option (List ℕ) → Option (List ℕ) → Type 0
+CommandEnds None w p values s h i = ⊤
+CommandEnds (Some Replay) w p values s h i = ⊤
+CommandEnds (Some (Gen number count)) w p values s h i = ⊤
+CommandEnds (Some (Node id site)) w p values s h i = NodeEnds (replica_task id site) w p values s h i
+CommandEnds (Some (Sequencer id site)) w p values s h i = NodeEnds (sequencer_task id site) w p values s h i
+CommandEnds (Some (Controller site session install)) w p values s h i = NodeEnds (controller_task site session install) w p values s h i
+CommandEnds (Some (Client id site ops)) w p values s h i = NodeEnds (client_task id site ops) w p values s h i
+CommandEnds (Some (Cluster site ops)) w p values s h i = ⊤
+
+-- whether a command runs a node
+abbrev pub runs_node : Option Command → Bool
+runs_node None = false
+runs_node (Some Replay) = false
+runs_node (Some (Gen number count)) = false
+runs_node (Some (Node id site)) = true
+runs_node (Some (Sequencer id site)) = true
+runs_node (Some (Controller site session install)) = true
+runs_node (Some (Client id site ops)) = true
+runs_node (Some (Cluster site ops)) = false
+
+-- whether it waits until its ops are accepted
+abbrev pub waits_for_ops : Option Command → Bool
+waits_for_ops None = false
+waits_for_ops (Some Replay) = false
+waits_for_ops (Some (Gen number count)) = false
+waits_for_ops (Some (Node id site)) = false
+waits_for_ops (Some (Sequencer id site)) = false
+waits_for_ops (Some (Controller site session install)) = false
+waits_for_ops (Some (Client id site ops)) = true
+waits_for_ops (Some (Cluster site ops)) = false
+
+-- ---- gen
+
+-- how a command that draws a schedule ends; nothing is said here of others
+abbrev pub DrawingEnds : Option Command → Status → Option (List ℕ) → Option (List ℕ) → Type 0
+DrawingEnds None s h i = ⊤
+DrawingEnds (Some Replay) s h i = ⊤
+DrawingEnds (Some (Gen number count)) s h i = GenEnds kv_meaning number count h i s
+DrawingEnds (Some (Node id site)) s h i = ⊤
+DrawingEnds (Some (Sequencer id site)) s h i = ⊤
+DrawingEnds (Some (Controller site session install)) s h i = ⊤
+DrawingEnds (Some (Client id site ops)) s h i = ⊤
+DrawingEnds (Some (Cluster site ops)) s h i = ⊤
+
+-- whether a command draws a schedule
+abbrev pub draws : Option Command → Bool
+draws None = false
+draws (Some Replay) = false
+draws (Some (Gen number count)) = true
+draws (Some (Node id site)) = false
+draws (Some (Sequencer id site)) = false
+draws (Some (Controller site session install)) = false
+draws (Some (Client id site ops)) = false
+draws (Some (Cluster site ops)) = false

@@ -1,0 +1,57 @@
+//! The command that runs all actors in one process.
+
+ghost use Rattle.std.specs.Prelude.{◌≡◌, ◌≤◌, ◌+◌, length};
+ghost use Rattle.one_box.specs.Showing as boxed;
+ghost use Rattle.outside.specs.Causes.{Rose};
+ghost use Rattle.commands.specs.Clusters.{ClusterEnds};
+ghost use Rattle.commands.specs.Nodes.{ports_view};
+
+use crate::status::Status;
+use command_line::{Ops, Site};
+use one_box::{ClusterError, serve_all};
+use outside::{Clock, Ports, Sink};
+use std::alloc::Global;
+
+pub(crate) fn run_cluster<P: Ports, T: Clock, K: Sink>(
+    alloc: Global,
+    site: &Site,
+    ops: Ops,
+    ports: &mut P,
+    clock: &mut T,
+    sink: &mut K,
+) -> Status
+    requires { site.now.base ≤ 65000 }
+    ensures ends { ClusterEnds site.now ops
+        (boxed.link_view P.L.answers P.L.own_port P.L.sent P.L.loss_count P.L.fault_count)
+        (ports_view (P.to_come ports.old) (P.detached ports.old) (P.detached ports.new)
+        (P.fault_count ports.old) (P.fault_count ports.new))
+        (T.values clock.old) result (K.held sink.old) (K.held sink.new) }
+    ensures back { P.attached ports.new + length (P.detached ports.old)
+        ≡ P.attached ports.old + length (P.detached ports.new) }
+    ensures write { result ≡ Status.WriteFault → Rose (K.fault_count sink.old)
+        (K.fault_count sink.new) }
+{
+    let ops = ops.into_vec();
+    let base = site.base;
+    match serve_all(
+        alloc,
+        site.config,
+        &ops,
+        base,
+        site.turns,
+        ports,
+        clock,
+        sink,
+    ) {
+        Ok(boxed) => {
+            if boxed.done {
+                Status::Done
+            } else {
+                Status::Unanswered
+            }
+        }
+        Err(ClusterError::LinkFault) => Status::LinkFault,
+        Err(ClusterError::WriteFault) => Status::WriteFault,
+        Err(ClusterError::NoMemory) => Status::NoMemory,
+    }
+}

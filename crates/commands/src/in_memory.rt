@@ -1,0 +1,59 @@
+ghost use Rattle.std.specs.Prelude.{◌≡◌, ◌≢◌, ◌+◌, length, true, false};
+ghost use Rattle.one_box.specs.Showing as boxed;
+ghost use Rattle.kv_host.specs.Kv.{kv_meaning};
+ghost use Rattle.outside.specs.Memory.{answers_of};
+ghost use Rattle.replay.specs.Safety.{RunsSafelyOf};
+ghost use Rattle.commands.specs.Words.{asked, Taken};
+ghost use Rattle.commands.specs.Clusters.{ClusterCommandEnds, ClusterEndsWithoutFault, runs_cluster, uses_ports};
+ghost use Rattle.commands.specs.Ending.{ReplayEnds, UsageEnds, EndsWithoutFault, GeneratesWithoutFault, RefusesWithoutFault};
+ghost use Rattle.commands.specs.Nodes.{EndsNodeWithoutFault, link_view, ports_view};
+ghost use Rattle.commands.specs.Tasks.{CommandEnds, DrawingEnds, draws, runs_node, waits_for_ops};
+
+use crate::running::run;
+use crate::status::Status;
+use command_line::Command;
+use outside::{ClockMem, PortsMem, ReadMem, WriteMem};
+use std::alloc::Global;
+
+/// Carries out the command that the words name, over devices in memory that never fail. No status tells a fault then, without
+/// a premise on what the devices answer.
+pub fn run_in_memory(
+    alloc: Global,
+    words: &[String],
+    source: &mut ReadMem,
+    sink: &mut WriteMem,
+    ports: &mut PortsMem,
+    clock: &mut ClockMem,
+) -> Status
+    ensures replay { asked words.now ≡ Some Command.Replay →
+        ReplayEnds kv_meaning (Some source.old.left) (Some source.new.left) (Some sink.old.held)
+        (Some sink.new.held) result }
+    ensures safe { asked words.now ≡ Some Command.Replay → result ≡ Status.Done →
+        RunsSafelyOf kv_meaning (Some source.old.left) }
+    ensures drawing { DrawingEnds (asked words.now) result (Some sink.old.held)
+        (Some sink.new.held) }
+    ensures usage { ¬ Taken words.now →
+        UsageEnds (Some sink.old.held) (Some sink.new.held) result }
+    ensures node { CommandEnds (asked words.now)
+        (link_view (λ l. l.port) (λ l. Some l.sent) (λ _. 0) (λ _. 0))
+        (ports_view (Some (answers_of ports.old.links)) ports.old.detached ports.new.detached 0 0)
+        (Some clock.old) result (Some sink.old.held) (Some sink.new.held) }
+    ensures cluster { ClusterCommandEnds (asked words.now)
+        (boxed.link_view (λ l. Some l.answers) (λ l. l.port) (λ l. Some l.sent) (λ _. 0) (λ _. 0))
+        (ports_view (Some (answers_of ports.old.links)) ports.old.detached ports.new.detached 0 0)
+        (Some clock.old) result (Some sink.old.held) (Some sink.new.held) }
+    ensures back { uses_ports (asked words.now) ≡ true → ports.new.attached
+        + length ports.old.detached ≡ ports.old.attached + length ports.new.detached }
+    ensures replay_complete { asked words.now ≡ Some Command.Replay → EndsWithoutFault result }
+    ensures drawing_complete { draws (asked words.now) ≡ true → GeneratesWithoutFault result }
+    ensures usage_complete { ¬ Taken words.now → RefusesWithoutFault result }
+    ensures node_complete { runs_node (asked words.now) ≡ true
+        → EndsNodeWithoutFault (waits_for_ops (asked words.now)) result }
+    ensures cluster_complete { runs_cluster (asked words.now) ≡ true
+        → ClusterEndsWithoutFault result }
+    ensures unread { asked words.now ≢ Some Command.Replay → source.new ≡ source.old }
+    ensures ports { uses_ports (asked words.now) ≡ false → ports.new ≡ ports.old }
+    ensures clock { uses_ports (asked words.now) ≡ false → clock.new ≡ clock.old }
+{
+    run(alloc, words, source, sink, ports, clock)
+}

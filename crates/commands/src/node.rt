@@ -1,0 +1,150 @@
+//! A run of a core over the ports, and its last line.
+
+ghost use Rattle.std.specs.Prelude.{◌≡◌, ◌≤◌, ◌+◌, ◌++◌, decimal, length, OnOk};
+ghost use Rattle.outside.specs.Causes.{Rose, HasCauseFor};
+ghost use Rattle.outside.specs.declared.errors.DeviceError.TheVariants as devices;
+ghost use Rattle.udp_node.specs.Effects.{Writes};
+ghost use Rattle.udp_node.specs.NodeRun.{first_inputs};
+ghost use Rattle.udp_node.specs.Sends.{side};
+ghost use Rattle.commands.specs.Nodes.{served_line, end_status, task_of, RunTold, IsNodeStatus};
+ghost use Rattle.commands.specs.Nodes.{EndsInLine, link_view, ports_view, NodeEnds};
+
+use crate::status::Status;
+use nop_types::{Core, NoMemory, Tick};
+use outside::{AttachError, Clock, Link, Ports, Sink, WriteError, write_all};
+use std::alloc::Global;
+use udp_node::{Address, ServeError, Served, serve};
+
+/// What a node runs: the tick before its first turn, the most turns, and whether it waits for its core to be done.
+#[derive(Clone, Copy)]
+pub(crate) struct Task {
+    pub(crate) first: Option<Tick>,
+    pub(crate) turns: u64,
+    pub(crate) waits: bool,
+}
+
+fn put_number(n: u64, to: &mut Vec<u8>) -> Result<(), NoMemory>
+    ensures { OnOk result (to.new.items ≡ to.old.items ++ decimal n) }
+{
+    let mut buffer = itoa::Buffer::new();
+    to.extend_from_slice(buffer.format(n).as_bytes())?;
+    Ok(())
+}
+
+fn put_served(served: Served, to: &mut Vec<u8>) -> Result<(), NoMemory>
+    ensures { OnOk result (to.new.items ≡ to.old.items ++ served_line served.turns served.lost) }
+{
+    to.extend_from_slice(b"served ")?;
+    put_number(served.turns, to)?;
+    to.extend_from_slice(b" lost ")?;
+    put_number(served.lost, to)?;
+    to.push(b'\n')?;
+    Ok(())
+}
+
+fn write_served<K: Sink>(alloc: Global, served: Served, sink: &mut K) -> Result<(), WriteError>
+    ensures line { Writes (served_line served.turns served.lost) result (K.held sink.old)
+        (K.held sink.new) }
+    ensures cause { HasCauseFor (K.fault_count sink.old) (K.fault_count sink.new)
+        devices.Failed result }
+{
+    let mut line = Vec::new(alloc);
+    put_served(served, &mut line)?;
+    write_all(sink, &line)
+}
+
+fn end_status(waits: bool, done: bool) -> Status
+    ensures { result ≡ end_status waits done }
+{
+    if waits && !done {
+        Status::Unanswered
+    } else {
+        Status::Done
+    }
+}
+
+fn copied(at: &Address) -> Address
+    ensures { result ≡ at.now }
+{
+    Address {
+        base: at.base,
+        own: at.own,
+        config: at.config,
+    }
+}
+
+/// Runs a core over a link, and writes the last line.
+fn run_link<C: Core, L: Link, T: Clock, K: Sink>(
+    alloc: Global,
+    core: &mut C,
+    at: &Address,
+    task: &Task,
+    link: &mut L,
+    clock: &mut T,
+    sink: &mut K,
+) -> Status
+    requires ports { at.now.base ≤ 65000 }
+    requires timers { length C.timers ≤ 255 }
+    ensures run { RunTold (task_of C.next C.is_done C.timers (C.state core.old) at.now
+        (first_inputs task.now.first) task.now.turns task.now.waits)
+        (L.answers link.old) (T.values clock.old) result
+        (side (L.sent link.old) 0 (L.loss_count link.old))
+        (side (L.sent link.new) 0 (L.loss_count link.new)) (K.held sink.old) (K.held sink.new) }
+    ensures status { IsNodeStatus task.now.waits result }
+    ensures last { EndsInLine task.now.turns result (K.held sink.old) (K.held sink.new) }
+    ensures port { L.own_port link.new ≡ L.own_port link.old }
+    ensures poll { result ≡ Status.LinkFault → Rose (L.fault_count link.old)
+        (L.fault_count link.new) }
+    ensures write { result ≡ Status.WriteFault → Rose (K.fault_count sink.old)
+        (K.fault_count sink.new) }
+{
+    let place = copied(at);
+    let first = task.first;
+    let turns = task.turns;
+    match serve(alloc, core, place, first, link, clock, turns, sink) {
+        Ok(served) => match write_served(alloc, served, sink) {
+            Ok(()) => end_status(task.waits, served.done),
+            Err(WriteError::Failed) => Status::WriteFault,
+            Err(WriteError::NoMemory) => Status::NoMemory,
+        },
+        Err(ServeError::LinkFault) => Status::LinkFault,
+        Err(ServeError::WriteFault) => Status::WriteFault,
+        Err(ServeError::NoMemory) => Status::NoMemory,
+    }
+}
+
+/// Runs a core over a link at its own port.
+pub(crate) fn run_core<C: Core, P: Ports, T: Clock, K: Sink>(
+    alloc: Global,
+    core: &mut C,
+    at: &Address,
+    task: &Task,
+    ports: &mut P,
+    clock: &mut T,
+    sink: &mut K,
+) -> Status
+    requires ports { at.now.base ≤ 65000 }
+    requires timers { length C.timers ≤ 255 }
+    ensures ends { NodeEnds (task_of C.next C.is_done C.timers (C.state core.old) at.now
+        (first_inputs task.now.first) task.now.turns task.now.waits)
+        (link_view P.L.own_port P.L.sent P.L.loss_count P.L.fault_count)
+        (ports_view (P.to_come ports.old) (P.detached ports.old) (P.detached ports.new)
+        (P.fault_count ports.old) (P.fault_count ports.new))
+        (T.values clock.old) result (K.held sink.old) (K.held sink.new) }
+    ensures status { IsNodeStatus task.now.waits result }
+    ensures back { P.attached ports.new + length (P.detached ports.old)
+        ≡ P.attached ports.old + length (P.detached ports.new) }
+    ensures write { result ≡ Status.WriteFault → Rose (K.fault_count sink.old)
+        (K.fault_count sink.new) }
+{
+    match ports.attach(at.port_of(at.own)) {
+        Ok(link) => {
+            let mut link = link;
+            let status = run_link(alloc, core, at, task, &mut link, clock, sink);
+            ports.detach(link);
+            status
+        }
+        Err(AttachError::Failed) => Status::LinkFault,
+        Err(AttachError::NoMemory) => Status::NoMemory,
+    }
+}

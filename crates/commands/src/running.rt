@@ -1,0 +1,190 @@
+ghost use Rattle.std.specs.Prelude.{◌≡◌, ◌≢◌, ◌≤◌, ◌+◌, ◌++◌, ◌∷◌, [], length, true, false};
+ghost use Rattle.one_box.specs.Boxing.{PollFailed};
+ghost use Rattle.one_box.specs.Showing as boxed;
+ghost use Rattle.outside.specs.Causes.{Rose};
+ghost use Rattle.kv_host.specs.Kv.{kv_meaning};
+ghost use Rattle.replay.specs.Safety.{RunsSafelyOf};
+ghost use Rattle.command_line.specs.Commands.{IsFit};
+ghost use Rattle.commands.specs.Words.{asked, Taken};
+ghost use Rattle.commands.specs.Clusters.{ClusterCommandEnds, ClusterEndsWithoutFault, runs_cluster, uses_ports};
+ghost use Rattle.commands.specs.Ending.{ReplayEnds, GenEnds, UsageEnds, EndsWithoutFault, GeneratesWithoutFault, RefusesWithoutFault};
+ghost use Rattle.commands.specs.Nodes.{EndsNodeWithoutFault, link_view, ports_view};
+ghost use Rattle.commands.specs.Tasks.{CommandEnds, DrawingEnds, draws, runs_node, waits_for_ops};
+
+use crate::cluster::run_cluster;
+use crate::node_commands::{run_client, run_controller, run_replica, run_sequencer};
+use crate::status::Status;
+use command_line::{Command, read_words};
+use nop_types::NoMemory;
+use outside::{Clock, Ports, Sink, Source, WriteError, write_all};
+use replay::{GenError, ReplayError, generate, replay};
+use std::alloc::Global;
+
+/// The line that is written where the words are not taken.
+pub const USAGE_LINE: &str =
+    "usage: nopaxos replay | gen | node | sequencer | controller | client | cluster\n";
+
+fn run_replay<S: Source, K: Sink>(alloc: Global, source: &mut S, sink: &mut K) -> Status
+    ensures ends { ReplayEnds kv_meaning (S.left source.old) (S.left source.new) (K.held sink.old)
+        (K.held sink.new) result }
+    ensures safe { result ≡ Status.Done → RunsSafelyOf kv_meaning (S.left source.old) }
+    ensures read { result ≡ Status.ReadFault → Rose (S.fault_count source.old)
+        (S.fault_count source.new) }
+    ensures write { result ≡ Status.WriteFault → Rose (K.fault_count sink.old)
+        (K.fault_count sink.new) }
+{
+    match replay(alloc, source, sink) {
+        Ok(()) => Status::Done,
+        Err(ReplayError::Malformed { .. }) => Status::Malformed,
+        Err(ReplayError::ReadFault) => Status::ReadFault,
+        Err(ReplayError::WriteFault) => Status::WriteFault,
+        Err(ReplayError::NoMemory) => Status::NoMemory,
+    }
+}
+
+fn run_gen<K: Sink>(alloc: Global, number: u64, count: u32, sink: &mut K) -> Status
+    requires least { 1 ≤ count }
+    requires limit { count ≤ 100000 }
+    ensures ends { GenEnds kv_meaning number count (K.held sink.old) (K.held sink.new) result }
+    ensures write { result ≡ Status.WriteFault → Rose (K.fault_count sink.old)
+        (K.fault_count sink.new) }
+{
+    match generate(alloc, number, count, sink) {
+        Ok(()) => Status::Done,
+        Err(GenError::WriteFault) => Status::WriteFault,
+        Err(GenError::NoMemory) => Status::NoMemory,
+    }
+}
+
+#[tactic(auto, unfolding(crate::specs::Words::usage_line))]
+fn write_usage<K: Sink>(sink: &mut K) -> Status
+    ensures ends { UsageEnds (K.held sink.old) (K.held sink.new) result }
+    ensures write { result ≡ Status.WriteFault → Rose (K.fault_count sink.old)
+        (K.fault_count sink.new) }
+{
+    match write_all(sink, USAGE_LINE.as_bytes()) {
+        Ok(()) => Status::Usage,
+        Err(WriteError::Failed) => Status::WriteFault,
+        Err(WriteError::NoMemory) => Status::NoMemory,
+    }
+}
+
+/// Carries out a command.
+fn carry_out<S: Source, K: Sink, P: Ports, C: Clock>(
+    alloc: Global,
+    command: Command,
+    source: &mut S,
+    sink: &mut K,
+    ports: &mut P,
+    clock: &mut C,
+) -> Status
+    requires { IsFit command }
+    ensures replay { command ≡ Command.Replay → ReplayEnds kv_meaning (S.left source.old)
+        (S.left source.new) (K.held sink.old) (K.held sink.new) result }
+    ensures safe { command ≡ Command.Replay → result ≡ Status.Done →
+        RunsSafelyOf kv_meaning (S.left source.old) }
+    ensures drawing { DrawingEnds (Some command) result (K.held sink.old) (K.held sink.new) }
+    ensures node { CommandEnds (Some command)
+        (link_view P.L.own_port P.L.sent P.L.loss_count P.L.fault_count)
+        (ports_view (P.to_come ports.old) (P.detached ports.old) (P.detached ports.new)
+        (P.fault_count ports.old) (P.fault_count ports.new))
+        (C.values clock.old) result (K.held sink.old) (K.held sink.new) }
+    ensures cluster { ClusterCommandEnds (Some command)
+        (boxed.link_view P.L.answers P.L.own_port P.L.sent P.L.loss_count P.L.fault_count)
+        (ports_view (P.to_come ports.old) (P.detached ports.old) (P.detached ports.new)
+        (P.fault_count ports.old) (P.fault_count ports.new))
+        (C.values clock.old) result (K.held sink.old) (K.held sink.new) }
+    ensures back { uses_ports (Some command) ≡ true
+        → P.attached ports.new + length (P.detached ports.old)
+        ≡ P.attached ports.old + length (P.detached ports.new) }
+    ensures read { result ≡ Status.ReadFault → Rose (S.fault_count source.old)
+        (S.fault_count source.new) }
+    ensures write { result ≡ Status.WriteFault → Rose (K.fault_count sink.old)
+        (K.fault_count sink.new) }
+    ensures unread { command ≢ Command.Replay → source.new ≡ source.old }
+    ensures ports { uses_ports (Some command) ≡ false → ports.new ≡ ports.old }
+    ensures clock { uses_ports (Some command) ≡ false → clock.new ≡ clock.old }
+{
+    match command {
+        Command::Replay => run_replay(alloc, source, sink),
+        Command::Gen(number, count) => run_gen(alloc, number, count, sink),
+        Command::Node(id, site) => run_replica(alloc, id, &site, ports, clock, sink),
+        Command::Sequencer(id, site) => run_sequencer(alloc, id, &site, ports, clock, sink),
+        Command::Controller(site, session, install) => {
+            run_controller(alloc, &site, session, install, ports, clock, sink)
+        }
+        Command::Client(id, site, ops) => run_client(alloc, id, &site, ops, ports, clock, sink),
+        Command::Cluster(site, ops) => run_cluster(alloc, &site, ops, ports, clock, sink),
+    }
+}
+
+/// Carries out the command that the words name; the first word is the program's name. Words that are not taken are
+/// answered by the usage line.
+pub fn run<S: Source, K: Sink, P: Ports, C: Clock>(
+    alloc: Global,
+    words: &[String],
+    source: &mut S,
+    sink: &mut K,
+    ports: &mut P,
+    clock: &mut C,
+) -> Status
+    ensures replay { asked words.now ≡ Some Command.Replay →
+        ReplayEnds kv_meaning (S.left source.old) (S.left source.new) (K.held sink.old)
+        (K.held sink.new) result }
+    ensures safe { asked words.now ≡ Some Command.Replay → result ≡ Status.Done →
+        RunsSafelyOf kv_meaning (S.left source.old) }
+    ensures drawing { DrawingEnds (asked words.now) result (K.held sink.old) (K.held sink.new) }
+    ensures usage { ¬ Taken words.now → UsageEnds (K.held sink.old) (K.held sink.new) result }
+    ensures node { CommandEnds (asked words.now)
+        (link_view P.L.own_port P.L.sent P.L.loss_count P.L.fault_count)
+        (ports_view (P.to_come ports.old) (P.detached ports.old) (P.detached ports.new)
+        (P.fault_count ports.old) (P.fault_count ports.new))
+        (C.values clock.old) result (K.held sink.old) (K.held sink.new) }
+    ensures cluster { ClusterCommandEnds (asked words.now)
+        (boxed.link_view P.L.answers P.L.own_port P.L.sent P.L.loss_count P.L.fault_count)
+        (ports_view (P.to_come ports.old) (P.detached ports.old) (P.detached ports.new)
+        (P.fault_count ports.old) (P.fault_count ports.new))
+        (C.values clock.old) result (K.held sink.old) (K.held sink.new) }
+    ensures back { uses_ports (asked words.now) ≡ true
+        → P.attached ports.new + length (P.detached ports.old)
+        ≡ P.attached ports.old + length (P.detached ports.new) }
+    ensures read { result ≡ Status.ReadFault → Rose (S.fault_count source.old)
+        (S.fault_count source.new) }
+    ensures write { result ≡ Status.WriteFault → Rose (K.fault_count sink.old)
+        (K.fault_count sink.new) }
+    ensures replay_complete { asked words.now ≡ Some Command.Replay
+        → ¬ Rose (S.fault_count source.old) (S.fault_count source.new)
+        → ¬ Rose (K.fault_count sink.old) (K.fault_count sink.new) → EndsWithoutFault result }
+    ensures drawing_complete { draws (asked words.now) ≡ true → ¬ Rose (K.fault_count sink.old)
+        (K.fault_count sink.new)
+        → GeneratesWithoutFault result }
+    ensures usage_complete { ¬ Taken words.now → ¬ Rose (K.fault_count sink.old)
+        (K.fault_count sink.new)
+        → RefusesWithoutFault result }
+
+    // Where no attach failed, no poll of the link and no write.
+    ensures node_complete { runs_node (asked words.now) ≡ true
+        → ¬ Rose (P.fault_count ports.old) (P.fault_count ports.new)
+        → ¬ Rose (K.fault_count sink.old) (K.fault_count sink.new)
+        → ((link : P.L) → P.detached ports.new ≡ P.detached ports.old ++ link ∷ [] →
+        ¬ Rose 0 (P.L.fault_count link))
+        → EndsNodeWithoutFault (waits_for_ops (asked words.now)) result }
+
+    // The same of all the links of a cluster.
+    ensures cluster_complete { runs_cluster (asked words.now) ≡ true
+        → ¬ Rose (P.fault_count ports.old) (P.fault_count ports.new)
+        → ¬ Rose (K.fault_count sink.old) (K.fault_count sink.new)
+        → ¬ PollFailed
+        (boxed.link_view P.L.answers P.L.own_port P.L.sent P.L.loss_count P.L.fault_count)
+        (P.detached ports.old) (P.detached ports.new)
+        → ClusterEndsWithoutFault result }
+    ensures unread { asked words.now ≢ Some Command.Replay → source.new ≡ source.old }
+    ensures ports { uses_ports (asked words.now) ≡ false → ports.new ≡ ports.old }
+    ensures clock { uses_ports (asked words.now) ≡ false → clock.new ≡ clock.old }
+{
+    match read_words(alloc, words) {
+        Ok(Some(command)) => carry_out(alloc, command, source, sink, ports, clock),
+        Ok(None) => write_usage(sink),
+        Err(NoMemory) => Status::NoMemory,
+    }
+}

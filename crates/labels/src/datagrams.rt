@@ -1,0 +1,196 @@
+//! What a datagram is, in a few words.
+
+use crate::naming::{put_bytes, put_note, put_request, put_view};
+use nop_types::{Body, Datagram, Fragment, NoMemory, Peer, Reply};
+use oum_codec::read_datagram;
+use peer_codec::read_peer;
+use picture::{Mark, Note, Purpose, Text};
+use std::alloc::Global;
+
+/// What a datagram is for, and its text.
+#[derive(Drop)]
+pub struct Label {
+    pub purpose: Purpose,
+    pub text: String,
+    /// The text for a reader who sees the lanes that it was sent between.
+    pub brief: String,
+}
+
+fn put_slot(word: &str, slot: u32, to: &mut Text) {
+    to.numbered(word, u64::from(slot));
+}
+
+fn put_peer(peer: &Peer, to: &mut Text) {
+    match &peer.body {
+        Body::SlotLookup(slot) => put_slot("SlotLookup ", *slot, to),
+        Body::Found(slot, _) => put_slot("Found ", *slot, to),
+        Body::GapCommit(slot) => put_slot("GapCommit ", *slot, to),
+        Body::GapRep(slot) => put_slot("GapRep ", *slot, to),
+        Body::ViewChangeReq => put_view("ViewChangeReq ", peer.view, to),
+        Body::ViewChange { .. } => put_view("ViewChange ", peer.view, to),
+        Body::StartView { .. } => put_view("StartView ", peer.view, to),
+        Body::SyncPrepare(log) => to.numbered("SyncPrepare ", log.as_slice().len() as u64),
+        Body::SyncRep(len) => put_slot("SyncRep ", *len, to),
+        Body::SyncCommit(len) => put_slot("SyncCommit ", *len, to),
+    }
+}
+
+/// A part of a longer message by its number.
+fn put_part(index: u16, count: u16, to: &mut Text) {
+    to.numbered("fragment ", u64::from(index) + 1);
+    to.numbered(" of ", u64::from(count));
+}
+
+fn put_fragment(fragment: &Fragment, peer: &Option<Peer>, to: &mut Text) {
+    match peer {
+        Some(peer) => put_peer(peer, to),
+        None => put_part(fragment.index, fragment.count, to),
+    }
+}
+
+fn put_reply(reply: &Reply, to: &mut Text) {
+    to.put("reply ");
+    put_request(reply.client, reply.id, to);
+    put_slot(" slot ", reply.slot, to);
+    if reply.tag == 1 {
+        to.put(" ");
+        put_bytes(reply.result.as_slice(), to);
+    }
+}
+
+fn put_stamp(session: u32, number: u64, to: &mut Text) {
+    to.number(u64::from(session));
+    to.numbered(":", number);
+}
+
+fn put_stamped(session: u32, number: u64, client: u32, id: u64, to: &mut Text) {
+    to.put("stamped ");
+    put_stamp(session, number, to);
+    to.put(" ");
+    put_request(client, id, to);
+}
+
+fn put_datagram(datagram: &Datagram, peer: &Option<Peer>, to: &mut Text) {
+    match datagram {
+        Datagram::Request(request) => {
+            to.put("request ");
+            put_request(request.client, request.id, to);
+        }
+        Datagram::Stamped(stamped) => {
+            let request = &stamped.request;
+            put_stamped(
+                stamped.session,
+                stamped.number,
+                request.client,
+                request.id,
+                to,
+            );
+        }
+        Datagram::Reply(reply) => put_reply(reply, to),
+        Datagram::Install { session, .. } => put_slot("install session ", *session, to),
+        Datagram::Installed { session, .. } => put_slot("installed session ", *session, to),
+        Datagram::Ping { round, .. } => put_slot("ping ", *round, to),
+        Datagram::Pong { round, .. } => put_slot("pong ", *round, to),
+        Datagram::Fragment(fragment) => put_fragment(fragment, peer, to),
+    }
+}
+
+fn put_brief(datagram: &Datagram, peer: &Option<Peer>, to: &mut Text) {
+    match datagram {
+        Datagram::Request(request) => to.numbered("#", request.id),
+        Datagram::Stamped(stamped) => put_stamp(stamped.session, stamped.number, to),
+        Datagram::Reply(reply) => to.numbered("reply #", reply.id),
+        _ => put_datagram(datagram, peer, to),
+    }
+}
+
+fn purpose_of(datagram: &Datagram) -> Purpose {
+    match datagram {
+        Datagram::Request(_) | Datagram::Stamped(_) => Purpose::Request,
+        Datagram::Reply(_) => Purpose::Reply,
+        Datagram::Fragment(_) => Purpose::Peer,
+        _ => Purpose::Session,
+    }
+}
+
+/// What shows at the actor that sent a datagram: a stamp, or a session that is ordered or confirmed.
+fn put_mark(datagram: &Datagram, to: &mut Text) -> Option<Mark> {
+    match datagram {
+        Datagram::Stamped(stamped) => {
+            put_stamp(stamped.session, stamped.number, to);
+            Some(Mark::Stamped)
+        }
+        Datagram::Install { sequencer, session } => {
+            put_slot("session ", *session, to);
+            to.numbered(" at s", u64::from(*sequencer));
+            Some(Mark::Session)
+        }
+        Datagram::Installed { session, .. } => {
+            put_slot("session ", *session, to);
+            Some(Mark::Session)
+        }
+        _ => None,
+    }
+}
+
+fn put_sent(alloc: Global, datagram: &Datagram, notes: &mut Vec<Note>) -> Result<(), NoMemory> {
+    let mut text = Text::new(alloc);
+    match put_mark(datagram, &mut text) {
+        Some(mark) => put_note(mark, text, notes),
+        None => Ok(()),
+    }
+}
+
+/// The message of a fragment that is the only one.
+fn peer_in(alloc: Global, datagram: &Datagram) -> Result<Option<Peer>, NoMemory> {
+    match datagram {
+        Datagram::Fragment(fragment) if fragment.count == 1 => {
+            read_peer(alloc, fragment.payload.as_slice())
+        }
+        _ => Ok(None),
+    }
+}
+
+fn text_of(alloc: Global, datagram: &Datagram, peer: &Option<Peer>) -> Result<String, NoMemory> {
+    let mut text = Text::new(alloc);
+    put_datagram(datagram, peer, &mut text);
+    text.finish()
+}
+
+fn brief_of(alloc: Global, datagram: &Datagram, peer: &Option<Peer>) -> Result<String, NoMemory> {
+    let mut brief = Text::new(alloc);
+    put_brief(datagram, peer, &mut brief);
+    brief.finish()
+}
+
+fn label_with(alloc: Global, datagram: &Datagram, peer: &Option<Peer>) -> Result<Label, NoMemory> {
+    let text = text_of(alloc, datagram, peer)?;
+    let brief = brief_of(alloc, datagram, peer)?;
+    Ok(Label {
+        purpose: purpose_of(datagram),
+        text,
+        brief,
+    })
+}
+
+fn label_of(alloc: Global, datagram: &Datagram) -> Result<Label, NoMemory> {
+    let peer = peer_in(alloc, datagram)?;
+    label_with(alloc, datagram, &peer)
+}
+
+fn no_label(alloc: Global) -> Result<Label, NoMemory> {
+    Ok(Label {
+        purpose: Purpose::Peer,
+        text: String::from_str(alloc, "no datagram")?,
+        brief: String::new(alloc),
+    })
+}
+
+/// What the bytes of a datagram are for, and their texts. Appends what shows where they were sent.
+pub fn describe(alloc: Global, bytes: &[u8], notes: &mut Vec<Note>) -> Result<Label, NoMemory> {
+    let Some(datagram) = read_datagram(alloc, bytes)? else {
+        return no_label(alloc);
+    };
+    put_sent(alloc, &datagram, notes)?;
+    label_of(alloc, &datagram)
+}

@@ -1,0 +1,10 @@
+//! Short texts for what stands in a picture: datagrams, ops, and what clients did.
+#![tactic(auto)]
+
+mod datagrams;
+mod naming;
+mod said;
+
+pub use datagrams::{Label, describe};
+pub use naming::{put_note, put_op, put_request, put_view};
+pub use said::read_lines;

@@ -1,0 +1,81 @@
+//! The lines that a client's step writes in a transcript, read back.
+
+use crate::naming::{put_bytes, put_note};
+use nop_types::NoMemory;
+use picture::{Mark, Note, Text};
+use std::alloc::Global;
+
+/// A result in hexadecimal as bytes; what is no hexadecimal as it is.
+fn answer_of(alloc: Global, hex: &str) -> Result<Vec<u8>, NoMemory> {
+    match hex::decode(alloc, hex.as_bytes()) {
+        Ok(bytes) => Ok(bytes),
+        Err(hex::FromHexError::OutOfMemory) => Err(NoMemory),
+        Err(_) => Ok(Vec::from_slice(alloc, hex.as_bytes())?),
+    }
+}
+
+fn mark_of(word: &str) -> Option<Mark> {
+    match word {
+        "submit" => Some(Mark::Submitted),
+        "accept" => Some(Mark::Accepted),
+        "busy" | "dead" => Some(Mark::Refused),
+        _ => None,
+    }
+}
+
+fn put_words(word: &str, id: &str, answer: &[u8], to: &mut Text) {
+    match word {
+        "busy" => to.put("busy"),
+        "dead" => to.put("crashed"),
+        _ => {
+            to.put("#");
+            to.put(id);
+        }
+    }
+    if word == "accept" {
+        to.put(" ");
+        put_bytes(answer, to);
+    }
+}
+
+/// The first word of a line, and what follows it.
+fn first_word(line: &str) -> (&str, &str) {
+    match line.split_once(' ') {
+        Some(pair) => pair,
+        None => (line, ""),
+    }
+}
+
+fn put_line(
+    alloc: Global,
+    mark: Mark,
+    word: &str,
+    rest: &str,
+    notes: &mut Vec<Note>,
+) -> Result<(), NoMemory> {
+    let (_client, rest) = first_word(rest);
+    let (id, hex) = first_word(rest);
+    let answer = answer_of(alloc, hex)?;
+    let mut text = Text::new(alloc);
+    put_words(word, id, &answer, &mut text);
+    put_note(mark, text, notes)
+}
+
+fn put_lines(alloc: Global, text: &str, notes: &mut Vec<Note>) -> Result<(), NoMemory> {
+    for line in text.lines() {
+        let (word, rest) = first_word(line);
+        if let Some(mark) = mark_of(word) {
+            put_line(alloc, mark, word, rest, notes)?;
+        }
+    }
+    Ok(())
+}
+
+/// What a client did, by the lines of an event.
+pub fn read_lines(alloc: Global, text: &[u8]) -> Result<Vec<Note>, NoMemory> {
+    let mut notes = Vec::new(alloc);
+    if let Ok(text) = str::from_utf8(text) {
+        put_lines(alloc, text, &mut notes)?;
+    }
+    Ok(notes)
+}

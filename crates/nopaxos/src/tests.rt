@@ -1,6 +1,0 @@
-mod clusters;
-mod devices;
-mod faults;
-mod outcomes;
-mod rows;
-mod runs;

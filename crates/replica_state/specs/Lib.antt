@@ -1,0 +1,7 @@
+pub mod Keeping
+pub mod Moves
+pub mod Replies
+pub mod Sends
+pub mod State
+pub mod Taking
+pub mod Within

@@ -1,0 +1,26 @@
+-- What holds of each replica's state, beside what its parts hold.
+use Rattle.std.specs.Prelude.{◌≡◌, ◌≤◌, ◌<◌, ◌+◌, length, IfSome}
+use Rattle.std.specs.List.{AllByRecursion}
+use Rattle.nop_types.specs.declared.limits.TheConstants.{MAX_SLOTS, MAX_REPLICAS}
+use Rattle.nop_types.specs.declared.replica_state.Phase.TheVariants.{Normal}
+use Rattle.nop_types.specs.Ranges.{ViewFits, LogFits, NextFits, SlotFits, ChangeFits}
+use Rattle.replica_state.specs.declared.state.ReplicaState.{ReplicaState}
+
+-- each field is in its range, and what is sent of it too
+pub record IsWithin (s : ReplicaState) : Type 0 where
+  pub number : s.number < s.config.replicas
+  pub few : s.config.replicas ≤ MAX_REPLICAS
+  pub view : ViewFits s.view
+  pub last_normal : ViewFits s.last_normal
+  pub log : LogFits s.log
+  pub next : NextFits s.next
+  -- the view started with base entries, at a number from 1
+  pub base : s.base ≤ length s.log
+  pub start : length s.log < s.next + s.base
+  -- in Normal the receiver hands up the next number
+  pub receiver : s.status ≡ Normal → s.receiver.next ≡ s.next
+  pub gap : IfSome s.gap (λ g. SlotFits g.slot)
+  pub sync_point : s.sync.sync_point ≤ MAX_SLOTS
+  pub syncing : IfSome s.sync.syncing (λ x. x.len ≤ MAX_SLOTS)
+  pub prepared : s.sync.prepared ≤ MAX_SLOTS
+  pub changes : IfSome s.changes (λ g. AllByRecursion ChangeFits g.changes)

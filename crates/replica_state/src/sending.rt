@@ -1,0 +1,108 @@
+ghost use Rattle.std.specs.Prelude.{◌≡◌, ◌++◌, ◌∷◌, [], OnOk, OnErr};
+ghost use Rattle.std.specs.List.{AllByRecursion};
+ghost use Rattle.nop_types.specs.Ranges.{ReplyFits, PeerFits};
+ghost use Rattle.peer_codec.specs.LogBodies.{log_message};
+ghost use Rattle.replica_state.specs.declared.sending.Sending.TheVariants.{ToClient, ToReplicas};
+ghost use Rattle.replica_state.specs.Sends.{SendingFits};
+
+use nop_types::{Dest, NoMemory, Peer, Reply, View};
+use peer_codec::{EncodedPeer, LogBody};
+use std::alloc::Global;
+use std::marker::Model;
+
+/// What a replica sends: a reply to the client that it names, or a whole message to another replica or to all. A message is
+/// encoded at once, so that a log is copied only into its bytes.
+#[derive(Drop)]
+pub enum Sending {
+    ToClient(Reply),
+    ToReplicas(Dest, EncodedPeer),
+}
+
+/// What a replica sends in one step, in order. Each field of it is in its range.
+#[derive(Drop)]
+pub struct Sends {
+    sends: Vec<Sending>,
+}
+
+impl Model for Sends {
+    ghost use Rattle.std.specs.Prelude.{List};
+    ghost use Rattle.std.specs.List.{AllByRecursion};
+    ghost use Rattle.replica_state.specs.declared.sending.Sending.{Sending};
+    ghost use Rattle.replica_state.specs.Sends.{SendingFits};
+
+    ghost Value = { List Sending };
+
+    ghost view = { λ s. s.sends.items };
+
+    ghost invariant = { λ s. AllByRecursion SendingFits s.sends.items };
+}
+
+impl Sends {
+    /// Nothing is sent yet.
+    pub fn new(alloc: Global) -> Sends
+        ensures { result ≡ [] }
+    {
+        Sends {
+            sends: Vec::new(alloc),
+        }
+    }
+
+    fn push(&mut self, sending: Sending) -> Result<(), NoMemory>
+        requires { SendingFits sending }
+        ensures ok { OnOk result (self.new ≡ self.old ++ sending ∷ []) }
+        ensures err { OnErr result (self.new ≡ self.old) }
+    {
+        self.sends.push(sending)?;
+        Ok(())
+    }
+
+    pub(crate) fn push_reply(&mut self, reply: Reply) -> Result<(), NoMemory>
+        requires { ReplyFits reply }
+        ensures ok { OnOk result (self.new ≡ self.old ++ ToClient reply ∷ []) }
+        ensures err { OnErr result (self.new ≡ self.old) }
+    {
+        self.push(Sending::ToClient(reply))
+    }
+
+    /// Encodes a message.
+    pub(crate) fn push_message(&mut self, dest: Dest, message: &Peer) -> Result<(), NoMemory>
+        requires { PeerFits message.now }
+        ensures ok { OnOk result (self.new ≡ self.old ++ ToReplicas dest message.now ∷ []) }
+        ensures err { OnErr result (self.new ≡ self.old) }
+    {
+        let message = EncodedPeer::new(*self.sends.allocator(), message)?;
+        self.push(Sending::ToReplicas(dest, message))
+    }
+
+    /// Encodes a message with a log, which is borrowed.
+    pub(crate) fn push_with_log(
+        &mut self,
+        dest: Dest,
+        sender: u8,
+        view: View,
+        body: LogBody<'_>,
+    ) -> Result<(), NoMemory>
+        requires { PeerFits (log_message sender view body) }
+        ensures ok { OnOk result (self.new
+            ≡ self.old ++ ToReplicas dest (log_message sender view body.entry) ∷ []) }
+        ensures err { OnErr result (self.new ≡ self.old) }
+    {
+        let message = EncodedPeer::with_log(*self.sends.allocator(), sender, view, body)?;
+        self.push(Sending::ToReplicas(dest, message))
+    }
+
+    /// All of them, in order.
+    pub fn as_slice(&self) -> &[Sending]
+        ensures sends { result.now ≡ self.now }
+        ensures fit { AllByRecursion SendingFits self.now }
+    {
+        &self.sends
+    }
+
+    /// None of them is left, but the room for them.
+    pub fn clear(&mut self)
+        ensures { self.new ≡ [] }
+    {
+        self.sends.clear();
+    }
+}

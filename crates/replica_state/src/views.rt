@@ -1,0 +1,145 @@
+ghost use Rattle.std.specs.Prelude.{◌≡◌, ◌≤◌, true, IsTrue, OnOk, IfOk};
+ghost use Rattle.nop_types.specs.declared.limits.TheConstants.{NUMBER_END};
+ghost use Rattle.nop_types.specs.Configuration.{is_configuration};
+ghost use Rattle.nop_types.specs.Ranges.{StampedFits};
+ghost use Rattle.replica_state.specs.State.{opening};
+ghost use Rattle.replica_state.specs.Moves.{left, entered, enter_as, own_change, adopted, begin_session, queue};
+ghost use Rattle.replica_state.specs.Keeping.{kept_after, step_by};
+
+use crate::{NextNumber, ReplicaState};
+use nop_types::{Change, Config, Log, NoMemory, Phase, Stamped, View};
+use oum_receiver::Receiver;
+use replica_log::ReplicaLog;
+use std::alloc::Global;
+use sync_points::SyncPoints;
+use view_change::{Changes, Step};
+
+impl ReplicaState {
+    /// The state of a replica before its first input.
+    pub fn opening(alloc: Global, config: Config, number: u8) -> Result<ReplicaState, NoMemory>
+        ensures state { IfOk result (λ s. s ≡ opening config number) }
+        ensures limits { IsTrue (is_configuration config) }
+    {
+        let first = View {
+            leader: 0,
+            session: 1,
+        };
+        Ok(ReplicaState {
+            config,
+            number,
+            view: first,
+            status: Phase::Normal,
+            last_normal: first,
+            log: ReplicaLog::new(alloc),
+            next: NextNumber::new(1),
+            base: 0,
+            receiver: Receiver::new(alloc, 1, 1)?,
+            gap: None,
+            sync: SyncPoints::new(config.replicas() / 2),
+            changes: None,
+            asked: 0,
+            heard: true,
+        })
+    }
+
+    /// The receiver begins a greater session with a packet, and the view is left.
+    pub fn begin_session(&mut self, packet: &Stamped) -> Result<(), NoMemory>
+        requires { StampedFits packet.now }
+        ensures { OnOk result (self.new ≡ begin_session self.old packet.now) }
+    {
+        self.status = Phase::Change;
+        self.receiver.reset(packet.session, 1);
+        self.receiver.offer(packet)?;
+        Ok(())
+    }
+
+    /// A packet is offered to the receiver.
+    pub fn queue(&mut self, packet: Stamped) -> Result<(), NoMemory>
+        requires { StampedFits packet }
+        ensures { OnOk result (self.new ≡ (queue self.old packet).0) }
+    {
+        self.receiver.offer_owned(packet)?;
+        Ok(())
+    }
+
+    /// Nothing of the view that is left stays: no gap, no votes, no changes. The replica listens for the leader of the new one.
+    fn leave(&mut self)
+        ensures { self.new ≡ left self.old }
+    {
+        self.gap = None;
+        self.sync.clear();
+        self.changes = None;
+        self.asked = 0;
+        self.heard = true;
+    }
+
+    /// Goes to a greater view, and waits for it to start.
+    pub fn go_to(&mut self, view: View)
+        ensures { self.new ≡ entered self.old view }
+    {
+        if self.view.session < view.session && self.receiver.session() != view.session {
+            self.receiver.reset(view.session, 1);
+        }
+        self.leave();
+        self.view = view;
+        self.status = Phase::Change;
+    }
+
+    /// The replica's own change, which it keeps where it leads the view that it enters.
+    fn own_change(&self) -> Result<Change, NoMemory>
+        ensures { IfOk result (λ c. c ≡ own_change self.now) }
+    {
+        Ok(Change {
+            sender: self.number,
+            last_normal: self.last_normal,
+            next: self.next.get(),
+            log: self.log.copy(self.log.len())?,
+        })
+    }
+
+    /// The leader of the view that is entered gathers changes, its own first.
+    pub fn begin_gathering(&mut self, alloc: Global) -> Result<(), NoMemory>
+        ensures { OnOk result (self.new ≡ (enter_as true self.old).0) }
+    {
+        let own = self.own_change()?;
+        let changes = Changes::enter(alloc, self.view, self.others(), own)?;
+        self.changes = Some(changes);
+        Ok(())
+    }
+
+    /// Keeps a change, where changes are gathered. Says whether the view starts then, and with what; the changes are gone then.
+    pub fn keep_change(&mut self, change: Change) -> Result<Step, NoMemory>
+        ensures kept { IfOk result (λ step. self.new ≡ kept_after step self.old change) }
+        ensures step { IfOk result (λ step. step ≡ step_by self.old.changes change) }
+    {
+        let Some(mut changes) = self.changes.take() else {
+            return Ok(Step::Waiting);
+        };
+        if changes.is_enough_with(&change) {
+            let start = changes.start_with(change)?;
+            return Ok(Step::Started(start));
+        }
+        changes.on_change(change)?;
+        self.changes = Some(changes);
+        Ok(Step::Waiting)
+    }
+
+    /// Takes part in a view from what it starts with.
+    pub fn take_part(&mut self, view: View, next: u64, log: Log)
+        requires { next ≤ NUMBER_END }
+        ensures { self.new ≡ adopted self.old view next log }
+    {
+        if self.receiver.session() < view.session {
+            self.receiver.reset(view.session, next);
+        } else {
+            self.receiver.advance(next);
+        }
+        self.leave();
+        self.view = view;
+        self.status = Phase::Normal;
+        self.last_normal = view;
+        self.log.adopt(log);
+        self.next.set(next);
+        self.base = self.log.len();
+    }
+}

@@ -1,0 +1,263 @@
+use super::outcomes::{ONE_PUT, datagram, outcome_of, put_sent, told, words_of};
+use super::rows::ROWS;
+use commands::run_in_memory;
+use outside::{ClockMem, LinkMem, PollAnswer, PortsMem, ReadMem, WriteMem};
+use std::alloc::Global;
+use std::process::Abort;
+
+/// Runs, and how each one ends. A head has the words, and which calls fail; reads and writes come with the bytes that a call moves at
+/// most. What was written ends at the bar, and below it are the ports and datagrams that were sent.
+const RUNS: &str = "\
+nopaxos replay
+reads 82
+writes 16
+schedule
+nopaxos 1 replicas 3 sequencers 1 clients 1
+crash r0
+=> Done
+transcript 1 replicas 3 sequencers 1 clients 1
+replica r0 crashed normal 0 1 0 0
+replica r1 up normal 0 1 0 0
+replica r2 up normal 0 1 0 0
+end
+|
+----
+nopaxos replay
+reads 82 1
+writes 16
+=> ReadFault
+|
+----
+nopaxos replay
+reads 82 2
+writes 16
+=> ReadFault
+transcript 1 replicas 3 sequencers 1 clients 1
+submit c0 1 5000016b000176
+send 0 c0 s* request 25
+send 1 s0 r* stamped 37
+|
+----
+nopaxos replay
+reads 82
+writes 16 2
+=> WriteFault
+transcript 1 rep|
+----
+nopaxos gen 7 1
+writes 16
+=> Done
+gen 7 1
+sends 1 accepts 0
+view 0 1 length 0 noops 0
+history 0
+|
+----
+nopaxos gen 7 1
+writes 16 2
+=> WriteFault
+gen 7 1
+sends 1 |
+----
+nopaxos stop
+writes 16 2
+=> WriteFault
+usage: nopaxos r|
+----
+nopaxos client --id 0 --replicas 3 --sequencers 1 --turns 3 5000016b000176
+polls reply follower
+=> Done
+submit c0 1 5000016b000176
+accept c0 1 6e6f6e65
+served 2 lost 0
+|
+41008 4e4f010100000000000000000000000100075000016b000176
+----
+nopaxos client --id 0 --replicas 3 --sequencers 1 --turns 3 5000016b000176
+polls reply follower
+sends of 1: 1
+=> Done
+submit c0 1 5000016b000176
+accept c0 1 6e6f6e65
+served 2 lost 1
+|
+----
+nopaxos client --id 0 --replicas 3 --sequencers 1 --turns 2 5000016B000176
+=> Unanswered
+submit c0 1 5000016b000176
+served 2 lost 0
+|
+41008 4e4f010100000000000000000000000100075000016b000176
+----
+nopaxos sequencer --id 0 --replicas 3 --sequencers 1 --turns 1
+polls request
+=> Done
+served 1 lost 0
+|
+41000 4e4f010200000001000000000000000100000000000000000000000100075000016b000176
+41001 4e4f010200000001000000000000000100000000000000000000000100075000016b000176
+41002 4e4f010200000001000000000000000100000000000000000000000100075000016b000176
+----
+nopaxos sequencer --id 0 --replicas 3 --sequencers 1 --turns 1
+polls request
+sends of 1: 2
+=> Done
+served 1 lost 1
+|
+41000 4e4f010200000001000000000000000100000000000000000000000100075000016b000176
+41002 4e4f010200000001000000000000000100000000000000000000000100075000016b000176
+----
+nopaxos node --id 0 --replicas 3 --sequencers 1
+polls nothing failure
+=> LinkFault
+|
+----
+nopaxos controller --replicas 3 --sequencers 1 --install 0 --turns 1
+=> Done
+served 1 lost 0
+|
+41008 4e4f01040000000002
+----
+nopaxos node --id 0 --replicas 3 --sequencers 1 --turns 1
+polls stamped
+=> Done
+served 1 lost 0
+|
+41016 4e4f0103000000000000000001000000010000000000000000000000010100046e6f6e65
+";
+
+/// How words end that are not taken.
+const USAGE: &str = "\
+Usage
+usage: nopaxos replay | gen | node | sequencer | controller | client | cluster
+|
+";
+
+// A line of words each.
+const NOT_TAKEN: &str = "nopaxos
+replay
+nopaxos stop
+nopaxos gen
+nopaxos gen 1
+nopaxos gen 1 0
+nopaxos gen 1 100001
+nopaxos gen 18446744073709551616 1
+nopaxos gen -1 1
+nopaxos gen 1 1 1
+nopaxos replay replay
+nopaxos Replay
+nopaxos replays
+replay nopaxos
+nopaxos help
+nopaxos node --help
+nopaxos node --id 3 --replicas 3 --sequencers 1
+nopaxos node --id 0 --replicas 4 --sequencers 1
+nopaxos node --id 0 --replicas 3 --sequencers 5
+nopaxos node --id +0 --replicas 3 --sequencers 1
+nopaxos node --id 0 --replicas 3
+nopaxos node --id 0 --replicas 3 --sequencers 1 --base 1023
+nopaxos node --id 0 --replicas 3 --sequencers 1 --base 65001
+nopaxos node --id 0 --replicas 3 --sequencers 1 --turns 0
+nopaxos node --id 0 --replicas 3 --sequencers 1 --turns 18446744073709551616
+nopaxos sequencer --id 1 --replicas 3 --sequencers 1
+nopaxos controller --replicas 3 --sequencers 1 --session 0
+nopaxos controller --replicas 3 --sequencers 1 --install 1
+nopaxos controller --id 0 --replicas 3 --sequencers 1
+nopaxos client --id 0 --replicas 3 --sequencers 1
+nopaxos client --id 0 --replicas 3 --sequencers 1 5
+nopaxos client --id 4294967296 --replicas 3 --sequencers 1 50
+nopaxos cluster --replicas 3 --sequencers 1 --clients 1
+nopaxos cluster --replicas 3 --sequencers 1 50
+nopaxos cluster --replicas 3 --sequencers 1 --clients 0 50
+nopaxos cluster --replicas 3 --sequencers 1 --clients 17 50
+nopaxos cluster --replicas 3 --sequencers 1 --clients 1 --turns 0 50
+nopaxos cluster --replicas 3 --sequencers 1 --clients 1 --turns 10001 50";
+
+fn check(rt: &impl Abort, alloc: Global, head: &str, schedule: &str, wanted: &str) {
+    let given = told(rt, alloc, &outcome_of(rt, alloc, head, schedule));
+    assert_eq!(rt; given.as_str(), wanted, "{head}");
+}
+
+/// A run of the table. Where it has no schedule, the source has the one put.
+fn check_run(rt: &impl Abort, alloc: Global, run: &str) {
+    let (head, wanted) = run.split_once("=> ").expect(rt, "a run");
+    let (head, schedule) = head.split_once("schedule\n").unwrap_or((head, ONE_PUT));
+    check(rt, alloc, head, schedule, wanted);
+}
+
+#[test]
+fn runs(rt: HostRuntime) {
+    for run in RUNS.split("----\n") {
+        check_run(&rt, rt.alloc(), run);
+    }
+}
+
+fn check_words(rt: &impl Abort, alloc: Global, words: &str) {
+    let head = format!(in alloc; "{words}\nreads 82\nwrites 16").expect(rt, "memory");
+    check(rt, alloc, &head, ONE_PUT, USAGE);
+}
+
+#[test]
+fn words_that_are_not_taken(rt: HostRuntime) {
+    for words in NOT_TAKEN.lines() {
+        check_words(&rt, rt.alloc(), words);
+    }
+}
+
+/// A schedule and its transcript; one of a schedule with a bad line does not end with `end`.
+fn check_transcript(rt: &impl Abort, alloc: Global, row: &str) {
+    let (schedule, transcript) = row.split_once("=>\n").expect(rt, "a transcript");
+    let status = if transcript.ends_with("end\n") {
+        "Done"
+    } else {
+        "Malformed"
+    };
+    let wanted = format!(in alloc; "{status}\n{transcript}|\n").expect(rt, "memory");
+    check(
+        rt,
+        alloc,
+        "nopaxos replay\nreads 82\nwrites 16",
+        schedule,
+        &wanted,
+    );
+}
+
+#[test]
+fn transcripts(rt: HostRuntime) {
+    for row in ROWS.split("----\n") {
+        check_transcript(&rt, rt.alloc(), row);
+    }
+}
+
+/// A sequencer over devices in memory that never fail.
+#[test]
+fn in_memory(rt: HostRuntime) {
+    let alloc = rt.alloc();
+    let request = PollAnswer::Received(datagram(&rt, alloc, "request"));
+    let answers = vec![in alloc; request].expect(&rt, "memory");
+    let links = vec![in alloc; LinkMem::with_answers(alloc, 0, answers)].expect(&rt, "memory");
+    let mut source = ReadMem::new(Vec::new(alloc));
+    let mut sink = WriteMem::new(alloc);
+    let mut ports = PortsMem::with_links(alloc, links);
+    let mut clock = ClockMem::new(alloc);
+    let words = "nopaxos sequencer --id 0 --replicas 3 --sequencers 1 --turns 1";
+    let words = words_of(&rt, alloc, words);
+    let status = run_in_memory(
+        alloc,
+        &words,
+        &mut source,
+        &mut sink,
+        &mut ports,
+        &mut clock,
+    );
+    let mut lines = String::new(alloc);
+    put_sent(
+        &rt,
+        alloc,
+        ports.detached().first().expect(&rt, "a link").sent(),
+        &mut lines,
+    );
+    assert_eq!(rt; status as u8, 0);
+    assert_eq!(rt; sink.as_slice(), b"served 1 lost 0\n".as_slice());
+    assert_eq!(rt; lines.lines().count(), 3);
+}
