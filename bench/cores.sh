@@ -28,7 +28,8 @@ folder=$(mktemp -d)
 trap 'rm -rf "$folder"' EXIT
 
 for crate in nop_types facts histories gap_agree client_table kv_host log_merge oum_codec fragments oum_receiver replica_log \
-    peer_codec executor slot_lookup sync_points view_change client_quorum replica_rows replica_core; do
+    peer_codec executor slot_lookup sync_points view_change client_quorum replica_state replica_rows \
+    replica_core; do
     mkdir -p "$folder/crates/$crate"
     for part in src specs proofs; do
         [ ! -d "$here/../crates/$crate/$part" ] || cp -R "$here/../crates/$crate/$part" "$folder/crates/$crate/"

@@ -1,21 +1,22 @@
 #!/bin/sh
-# Measures what the gate takes from nothing: one `rt ci --anew` over a clone of what is committed, in a temporary folder, whose
+# Measures what the gate takes from nothing: one `.ci/run --anew` over a clone of what is committed, in a temporary folder, whose
 # processes are watched while it runs. It writes the table docs/GATE-TIMES.md.
 #
 #   bench/gate-times.sh [CRATE..]
 #
-# With names it measures these crates and those below them, and the table goes to standard output. For figures that mean something
-# nothing else runs on the machine.
+# With names it measures `rt ci` alone over these crates and those below them, and the table goes to standard output. For figures that
+# mean something nothing else runs on the machine.
 #
 # A crate has the seconds of all its processes together, each with the last figures that were seen of it, five times a second, and the
 # memory of its largest process. Proof: the crate itself. Tests: the crate proved once more with its tests. Edits: each
-# must-fail edit. What `rt` does beside them, and runs of tests and programs, are in the last line alone. Lines of code have the
-# contracts and no tests.
+# must-fail edit. What `rt` does beside them, runs of tests and programs, and checks/*.sh are in the last line alone. Lines of code have
+# the contracts and no tests.
 set -eu
 
 exec python3 - "$(cd "$(dirname "$0")/.." && pwd)" "$@" <<'PYTHON'
 import glob
 import os
+import re
 import shutil
 import subprocess
 import sys
@@ -65,7 +66,7 @@ def watched(seen, top):
             where = os.readlink(f"/proc/{name}/cwd")
         except OSError:
             continue
-        if above == top and "--crate-name" in words:
+        if above == top and "--crate-name" in words and os.path.basename(words[0]) == "rattle":
             before = seen.get((name, began), (None, 0, 0))
             seen[name, began] = kind_of(words, where), seconds, max(memory, before[2])
 
@@ -92,7 +93,8 @@ try:
     crates = [name.strip() for name, colon, _ in lines if colon]
     seen, began = {}, time.time()
     with open(folder + "/log", "w", encoding="utf-8") as log:
-        gate = subprocess.Popen(["rt", "ci", "--anew", *names], cwd=tree, stdin=subprocess.DEVNULL, stdout=log, stderr=log)
+        words = ["rt", "ci", "--anew", *names] if names else [".ci/run", "--anew"]
+        gate = subprocess.Popen(words, cwd=tree, stdin=subprocess.DEVNULL, stdout=log, stderr=log)
         while gate.returncode is None:
             watched(seen, str(gate.pid))
             done, status, used = os.wait4(gate.pid, os.WNOHANG)
@@ -104,8 +106,9 @@ try:
     if gate.returncode:
         print(table_of(seen, crates))
         sys.exit("\n".join(said[-40:]))
-    whole = f"""The whole run: {(time.time() - began) / 60:.0f} minutes by the clock, {(used.ru_utime + used.ru_stime) / 60:.0f} processor minutes on
-{os.cpu_count()} processors; `{said[-1]}`."""
+    verdict = next(it for it in reversed(said) if re.fullmatch(r"\d+ passed, \d+ failed.*", it))
+    clock, spent = (time.time() - began) / 60, (used.ru_utime + used.ru_stime) / 60
+    whole = f"The whole run: {clock:.0f} minutes by the clock, {spent:.0f} processor minutes on {os.cpu_count()} processors; `{verdict}`."
     if names:
         print(table_of(seen, [it for it in crates if any(key[0] == it for key, _, _ in seen.values())]))
         print("\n" + whole)

@@ -48,7 +48,7 @@ cmp -s "$folder/out" examples/one-put.transcript || differs "the one put has ano
 runs README.md '(cat examples/one-put.schedule; echo "deliver 1 r2") > my.schedule'
 runs README.md '(cd crates/spacetime && rt try) < my.schedule > my.svg'
 is_picture
-runs README.md '(cd crates/nopaxos && rt try -- cluster --replicas 3 --sequencers 1 --clients 1 5000016b000176)'
+runs README.md 'crates/nopaxos/out/nopaxos cluster --replicas 3 --sequencers 1 --clients 1 5000016b000176'
 grep -qx 'accept c0 1 6e6f6e65' "$folder/out" || differs "the cluster accepts no put"
 tail -n 1 "$folder/out" | grep -qx 'served [0-9]* lost 0 stray [0-9]*' || differs "the cluster has another last line"
 # Its schedule is drawn next.
