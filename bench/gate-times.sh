@@ -1,6 +1,6 @@
 #!/bin/sh
-# Measures what the gate takes from nothing: one `.ci/run --anew` over a clone of what is committed, in a temporary folder, whose
-# processes are watched while it runs. It writes the table docs/GATE-TIMES.md.
+# Measures what the gate takes from nothing: what .ci/run does, with `rt ci --anew`, over a clone of what is committed, in a temporary
+# folder, whose processes are watched while it runs. It writes the table docs/GATE-TIMES.md.
 #
 #   bench/gate-times.sh [CRATE..]
 #
@@ -93,7 +93,9 @@ try:
     crates = [name.strip() for name, colon, _ in lines if colon]
     seen, began = {}, time.time()
     with open(folder + "/log", "w", encoding="utf-8") as log:
-        words = ["rt", "ci", "--anew", *names] if names else [".ci/run", "--anew"]
+        words = ["rt", "ci", "--anew", *names]
+        if not names:
+            words = ["sh", "-c", 'rt ci --anew || exit; for check in checks/*.sh; do "$check" || exit; done']
         gate = subprocess.Popen(words, cwd=tree, stdin=subprocess.DEVNULL, stdout=log, stderr=log)
         while gate.returncode is None:
             watched(seen, str(gate.pid))
