@@ -38,6 +38,6 @@ sweep() {
     fi
 }
 
-sweep run_tests failing::a_world_fails_for_good
+sweep world_tests failing::a_world_fails_for_good
 sweep core_tests failing::cores_fail_for_good
 exit "$wrong"

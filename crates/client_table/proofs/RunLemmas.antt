@@ -1,12 +1,12 @@
 -- What a table keeps after answers that were kept one after the other.
-use Rattle.std.proofs.Common.{◌≡◌, ℕ, zero, suc, ◌<◌, ◌≤◌, Bool, true, false, cond, eqb, List, [], ◌∷◌, ◌++◌, length, Option, Some, None}
+use Rattle.std.proofs.Common.{◌≡◌, ℕ, ◌<◌, ◌≤◌, Bool, true, false, cond, eqb, List, [], ◌∷◌, ◌++◌, length, Option, Some, None}
 use Rattle.std.proofs.Common.{refl, sym, ap, subst, ◌∙◌, append_assoc, inl, inr, arith}
-use Rattle.std.specs.Prelude.{◌⊎◌, ◌||◌, ◌==◌, nat_lt, slice_get}
+use Rattle.std.specs.Prelude.{◌==◌, nat_lt}
 use Rattle.std.specs.Ordering.{nat_cmp}
 use Rattle.std.specs.FinMap as finite
-use Rattle.std.proofs.lemmas.Bool.{eqb-true, ltb-true, ltb-false, lt-ltb, eqb-false}
+use Rattle.std.proofs.lemmas.Bool.{eqb-true, ltb-true, ltb-false, eqb-false}
 use Rattle.std.proofs.lemmas.List.{append-nil}
-use Rattle.nop_types.specs.Lists.{Has, IsGreatest, all_below, any_above}
+use Rattle.nop_types.specs.Lists.{Has, IsGreatest}
 use Rattle.nop_types.specs.Execution.{Answered}
 use Rattle.facts.proofs.Places.{slice_get-append_left, slice_get-append_at, slice_get-push_cases}
 use Rattle.facts.proofs.Numbers.{all_below-from, any_above-from}

@@ -1,9 +1,9 @@
 ghost use Rattle.std.specs.Prelude.{◌≤◌};
 
-use crate::rows::{check_shown, check_text, request};
+use crate::rows::{check_shown, check_text};
 use crate::scripts::{play, timers};
 use client_quorum::Client;
-use nop_types::{Config, Core, Op, Outbox};
+use nop_types::{Config, Core, Op, Outbox, Request};
 use sequencer::Sequencer;
 use session_control::Controller;
 use std::alloc::Global;
@@ -49,7 +49,11 @@ fn a_sequencer(rt: HostRuntime) {
     let told = "SequencerState { number: 1, session: 4294967295, next: 1 }";
     check_shown(&rt, alloc, &core.state(), told);
     check_text(&rt, &timers(&rt, alloc, &core), "None None None None");
-    let request = request(&rt, alloc, 7, 5, b"op");
+    let request = Request {
+        client: 7,
+        id: 5,
+        op: Op::new(alloc, b"op").expect(&rt, "memory"),
+    };
     let stamped = core.stamp(&request).expect(&rt, "memory");
     let told =
         "Some(Stamped { session: 4294967295, number: 1, request: Request { client: 7, id: 5, op: Op { bytes: [111, 112] } } })";

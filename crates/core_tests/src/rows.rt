@@ -1,21 +1,6 @@
-ghost use Rattle.std.specs.Prelude.{◌≡◌};
-
-use nop_types::{MAX_OP_BYTES, Op, Request};
 use std::alloc::Global;
 use std::fmt::Debug;
 use std::process::Abort;
-
-/// The numbers of a row, with spaces between them.
-pub fn numbers(rt: &impl Abort, alloc: Global, row: &str) -> Vec<u64> {
-    let mut numbers = Vec::new(alloc);
-    for word in row.split(' ') {
-        if !word.is_empty() {
-            let number = word.parse::<u64>().expect(rt, "a number");
-            numbers.push(number).expect(rt, "memory");
-        }
-    }
-    numbers
-}
 
 fn put_bytes(rt: &impl Abort, alloc: Global, word: &str, bytes: &mut Vec<u8>) {
     let (digits, count) = word.split_once('*').unwrap_or((word, "1"));
@@ -32,18 +17,6 @@ pub fn bytes_of(rt: &impl Abort, alloc: Global, row: &str) -> Vec<u8> {
         put_bytes(rt, alloc, word, &mut bytes);
     }
     bytes
-}
-
-/// The request of a client with this id and this op.
-pub fn request(rt: &impl Abort, alloc: Global, client: u32, id: u64, op: &[u8]) -> Request
-    ensures { result.id ≡ id }
-{
-    assert!(rt; op.len() <= MAX_OP_BYTES);
-    Request {
-        client,
-        id,
-        op: Op::new(alloc, op).expect(rt, "memory"),
-    }
 }
 
 /// Adds a text and a line end.

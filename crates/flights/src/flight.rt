@@ -1,6 +1,6 @@
 //! The datagrams of a run: who sent them, where to, and who took them.
 
-ghost use Rattle.std.specs.Prelude.{◌≡◌, OnOk, IfOk};
+ghost use Rattle.std.specs.Prelude.{◌≡◌, IfOk, OnErr, OnOk};
 ghost use Rattle.flights.specs.Deliveries.{arrow_of, reached_by};
 
 use crate::lane_actors::has;
@@ -31,7 +31,8 @@ pub fn deliver(flight: &mut Flight, to: Actor, taken: usize) -> Result<Arrow, No
         a ≡ arrow_of flight.old.leg flight.old.reached.items to taken) }
     ensures reached { OnOk result (flight.new.reached.items
         ≡ reached_by flight.old.reached.items to) }
-    ensures leg { flight.new.leg ≡ flight.old.leg }
+    ensures err { OnErr result (flight.new.reached.items ≡ flight.old.reached.items) }
+    ensures others { flight.new ≡ record flight.old { reached = flight.new.reached } }
 {
     let again = has(&flight.reached, to);
     if !again {

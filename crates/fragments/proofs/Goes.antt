@@ -1,7 +1,6 @@
 -- A fragment of a message that waits.
 use Rattle.std.proofs.Common.{◌≡◌, suc, ◌≢◌, ℕ, ◌<◌, true, false, eqb, length, get_or, set, replicate, Some, None, refl, arith}
 use Rattle.std.specs.Prelude.{slice_get, remove}
-use Rattle.std.proofs.lemmas.Bool.Decides.{nat_tests}
 use Rattle.nop_types.specs.declared.datagram.Fragment.{Fragment}
 use Rattle.fragments.specs.Parts.{Partial, missing, is_open, whole, with_part}
 use Rattle.fragments.specs.Joining.{Waiting, found, is_in_range}

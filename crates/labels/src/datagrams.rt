@@ -1,6 +1,10 @@
 //! What a datagram is, in a few words.
 
-use crate::naming::{put_bytes, put_note, put_request, put_view};
+ghost use Rattle.std.specs.Prelude.{◌≡◌, IfOk, OnErr};
+ghost use Rattle.oum_codec.specs.Reading.{reading};
+ghost use Rattle.labels.specs.Datagrams.{IsNoDatagram, mark_of, mark_shown, purpose_of};
+
+use crate::naming::{note_of, put_bytes, put_request, put_view};
 use nop_types::{Body, Datagram, Fragment, NoMemory, Peer, Reply};
 use oum_codec::read_datagram;
 use peer_codec::read_peer;
@@ -14,6 +18,8 @@ pub struct Label {
     pub text: String,
     /// The text for a reader who sees the lanes that it was sent between.
     pub brief: String,
+    /// What shows at the actor that sent it.
+    pub note: Option<Note>,
 }
 
 fn put_slot(word: &str, slot: u32, to: &mut Text) {
@@ -104,7 +110,9 @@ fn put_brief(datagram: &Datagram, peer: &Option<Peer>, to: &mut Text) {
     }
 }
 
-fn purpose_of(datagram: &Datagram) -> Purpose {
+fn purpose_of(datagram: &Datagram) -> Purpose
+    ensures { result ≡ purpose_of datagram.now }
+{
     match datagram {
         Datagram::Request(_) | Datagram::Stamped(_) => Purpose::Request,
         Datagram::Reply(_) => Purpose::Reply,
@@ -114,7 +122,9 @@ fn purpose_of(datagram: &Datagram) -> Purpose {
 }
 
 /// What shows at the actor that sent a datagram: a stamp, or a session that is ordered or confirmed.
-fn put_mark(datagram: &Datagram, to: &mut Text) -> Option<Mark> {
+fn put_mark(datagram: &Datagram, to: &mut Text) -> Option<Mark>
+    ensures { result ≡ mark_of datagram.now }
+{
     match datagram {
         Datagram::Stamped(stamped) => {
             put_stamp(stamped.session, stamped.number, to);
@@ -133,11 +143,13 @@ fn put_mark(datagram: &Datagram, to: &mut Text) -> Option<Mark> {
     }
 }
 
-fn put_sent(alloc: Global, datagram: &Datagram, notes: &mut Vec<Note>) -> Result<(), NoMemory> {
+fn sent_note(alloc: Global, datagram: &Datagram) -> Result<Option<Note>, NoMemory>
+    ensures { IfOk result (λ note. mark_shown note ≡ mark_of datagram.now) }
+{
     let mut text = Text::new(alloc);
     match put_mark(datagram, &mut text) {
-        Some(mark) => put_note(mark, text, notes),
-        None => Ok(()),
+        Some(mark) => Ok(Some(note_of(mark, text)?)),
+        None => Ok(None),
     }
 }
 
@@ -163,34 +175,48 @@ fn brief_of(alloc: Global, datagram: &Datagram, peer: &Option<Peer>) -> Result<S
     brief.finish()
 }
 
-fn label_with(alloc: Global, datagram: &Datagram, peer: &Option<Peer>) -> Result<Label, NoMemory> {
+fn label_with(alloc: Global, datagram: &Datagram, peer: &Option<Peer>) -> Result<Label, NoMemory>
+    ensures purpose { IfOk result (λ l. l.purpose ≡ purpose_of datagram.now) }
+    ensures mark { IfOk result (λ l. mark_shown l.note ≡ mark_of datagram.now) }
+{
     let text = text_of(alloc, datagram, peer)?;
     let brief = brief_of(alloc, datagram, peer)?;
     Ok(Label {
         purpose: purpose_of(datagram),
         text,
         brief,
+        note: sent_note(alloc, datagram)?,
     })
 }
 
-fn label_of(alloc: Global, datagram: &Datagram) -> Result<Label, NoMemory> {
+fn label_of(alloc: Global, datagram: &Datagram) -> Result<Label, NoMemory>
+    ensures purpose { IfOk result (λ l. l.purpose ≡ purpose_of datagram.now) }
+    ensures mark { IfOk result (λ l. mark_shown l.note ≡ mark_of datagram.now) }
+{
     let peer = peer_in(alloc, datagram)?;
     label_with(alloc, datagram, &peer)
 }
 
-fn no_label(alloc: Global) -> Result<Label, NoMemory> {
+fn no_label(alloc: Global) -> Result<Label, NoMemory>
+    ensures { IfOk result IsNoDatagram }
+{
     Ok(Label {
         purpose: Purpose::Peer,
         text: String::from_str(alloc, "no datagram")?,
         brief: String::new(alloc),
+        note: None,
     })
 }
 
-/// What the bytes of a datagram are for, and their texts. Appends what shows where they were sent.
-pub fn describe(alloc: Global, bytes: &[u8], notes: &mut Vec<Note>) -> Result<Label, NoMemory> {
-    let Some(datagram) = read_datagram(alloc, bytes)? else {
-        return no_label(alloc);
-    };
-    put_sent(alloc, &datagram, notes)?;
-    label_of(alloc, &datagram)
+/// What the bytes of a datagram are for, their texts, and what shows where they were sent.
+pub fn describe(alloc: Global, bytes: &[u8]) -> Result<Label, NoMemory>
+    ensures purpose { IfOk result (λ l. IfOk (reading bytes.now) (λ d. l.purpose ≡ purpose_of d)) }
+    ensures mark { IfOk result (λ l. IfOk (reading bytes.now) (λ d.
+        mark_shown l.note ≡ mark_of d)) }
+    ensures none { IfOk result (λ l. OnErr (reading bytes.now) (IsNoDatagram l)) }
+{
+    match read_datagram(alloc, bytes)? {
+        Some(datagram) => label_of(alloc, &datagram),
+        None => no_label(alloc),
+    }
 }

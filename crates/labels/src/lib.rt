@@ -6,5 +6,5 @@ mod naming;
 mod said;
 
 pub use datagrams::{Label, describe};
-pub use naming::{put_note, put_op, put_request, put_view};
+pub use naming::{note_of, put_op, put_request, put_view};
 pub use said::read_lines;

@@ -1,5 +1,7 @@
 //! Short texts for what stands in a picture.
 
+ghost use Rattle.std.specs.Prelude.{◌≡◌, IfOk};
+
 use nop_types::{Actor, NoMemory, View};
 use oum_codec::split_u16;
 use picture::{Mark, Note, Text};
@@ -7,11 +9,14 @@ use picture::{Mark, Note, Text};
 /// The most characters of one string of an op or a result.
 const MAX_SHOWN: usize = 12;
 
-/// Appends a note with this text.
-pub fn put_note(mark: Mark, text: Text, notes: &mut Vec<Note>) -> Result<(), NoMemory> {
-    let text = text.finish()?;
-    notes.push(Note { mark, text })?;
-    Ok(())
+/// A note with this text.
+pub fn note_of(mark: Mark, text: Text) -> Result<Note, NoMemory>
+    ensures { IfOk result (λ n. n.mark ≡ mark) }
+{
+    Ok(Note {
+        mark,
+        text: text.finish()?,
+    })
 }
 
 /// A request by its client and its id.

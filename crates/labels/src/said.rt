@@ -1,6 +1,9 @@
 //! The lines that a client's step writes in a transcript, read back.
 
-use crate::naming::{put_bytes, put_note};
+ghost use Rattle.std.specs.Prelude.{◌≡◌, All, IfOk, IfSome};
+ghost use Rattle.labels.specs.Clients.{IsOfClient};
+
+use crate::naming::{note_of, put_bytes};
 use nop_types::NoMemory;
 use picture::{Mark, Note, Text};
 use std::alloc::Global;
@@ -14,7 +17,9 @@ fn answer_of(alloc: Global, hex: &str) -> Result<Vec<u8>, NoMemory> {
     }
 }
 
-fn mark_of(word: &str) -> Option<Mark> {
+fn mark_of(word: &str) -> Option<Mark>
+    ensures { IfSome result IsOfClient }
+{
     match word {
         "submit" => Some(Mark::Submitted),
         "accept" => Some(Mark::Accepted),
@@ -46,36 +51,37 @@ fn first_word(line: &str) -> (&str, &str) {
     }
 }
 
-fn put_line(
-    alloc: Global,
-    mark: Mark,
-    word: &str,
-    rest: &str,
-    notes: &mut Vec<Note>,
-) -> Result<(), NoMemory> {
+fn line_note(alloc: Global, mark: Mark, word: &str, rest: &str) -> Result<Note, NoMemory>
+    ensures { IfOk result (λ n. n.mark ≡ mark) }
+{
     let (_client, rest) = first_word(rest);
     let (id, hex) = first_word(rest);
     let answer = answer_of(alloc, hex)?;
     let mut text = Text::new(alloc);
     put_words(word, id, &answer, &mut text);
-    put_note(mark, text, notes)
+    note_of(mark, text)
 }
 
-fn put_lines(alloc: Global, text: &str, notes: &mut Vec<Note>) -> Result<(), NoMemory> {
+/// The notes of the lines that have one.
+fn line_notes(alloc: Global, text: &str) -> Result<Vec<Note>, NoMemory>
+    ensures { IfOk result (λ notes. All (λ n. IsOfClient n.mark) notes.items) }
+{
+    let mut notes = Vec::new(alloc);
     for line in text.lines() {
         let (word, rest) = first_word(line);
         if let Some(mark) = mark_of(word) {
-            put_line(alloc, mark, word, rest, notes)?;
+            notes.push(line_note(alloc, mark, word, rest)?)?;
         }
     }
-    Ok(())
+    Ok(notes)
 }
 
 /// What a client did, by the lines of an event.
-pub fn read_lines(alloc: Global, text: &[u8]) -> Result<Vec<Note>, NoMemory> {
-    let mut notes = Vec::new(alloc);
-    if let Ok(text) = str::from_utf8(text) {
-        put_lines(alloc, text, &mut notes)?;
+pub fn read_lines(alloc: Global, text: &[u8]) -> Result<Vec<Note>, NoMemory>
+    ensures { IfOk result (λ notes. All (λ n. IsOfClient n.mark) notes.items) }
+{
+    match str::from_utf8(text) {
+        Ok(text) => line_notes(alloc, text),
+        Err(_) => Ok(Vec::new(alloc)),
     }
-    Ok(notes)
 }

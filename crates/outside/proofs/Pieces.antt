@@ -1,9 +1,9 @@
 -- Bytes that are read or written piece by piece.
-use Rattle.std.proofs.Common.{◌≡◌, ℕ, ◌+◌, ◌-◌, ◌≤◌, List, ◌++◌, length, take, drop, Option, refl, arith, sym, ◌∙◌}
+use Rattle.std.proofs.Common.{◌≡◌, ℕ, ◌+◌, ◌-◌, ◌≤◌, List, ◌++◌, length, take, drop, Option, arith, sym}
 use Rattle.std.proofs.KnownBytes.{Appends-trans}
 use Rattle.std.proofs.Math.Seq.{take-add}
 use Rattle.std.proofs.lemmas.Grind.{common_steps}
-use Rattle.std.proofs.lemmas.List.{take-append-drop, drop-take, drop-drop, take_rest, take_at}
+use Rattle.std.proofs.lemmas.List.{take-append-drop, drop-drop, take_rest, take_at}
 use Rattle.std.specs.Io.KnownBytes.{Appends}
 
 -- the front was written, and then some bytes of the rest

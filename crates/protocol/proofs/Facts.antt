@@ -1,7 +1,7 @@
 -- General facts on numbers and lists.
 use Rattle.std.proofs.Common.{◌≡◌, ℕ, ◌+◌, ◌≤◌, Bool, true, false, cond, not, List, [], ◌∷◌, ◌++◌, Some, map, refl, sym, subst, arith, inl}
 use Rattle.std.proofs.Common.{inr, suc, ◌*◌, ap, ◌∙◌, length, length-append, ◌/◌, zero}
-use Rattle.std.specs.Prelude.{◌==◌, if◌then◌else◌, filter, find, slice_get, drop}
+use Rattle.std.specs.Prelude.{◌==◌, if◌then◌else◌, filter, slice_get, drop}
 use Rattle.std.proofs.lemmas.Bool.{cases_eq, cases_lt}
 use Rattle.std.proofs.lemmas.Bool.Decides.{nat_tests}
 use Rattle.nop_types.specs.Lists.{Has, slot_of}

@@ -1,5 +1,5 @@
 -- The actors, what was sent, and the past beside them.
-use Rattle.std.specs.Prelude.{◌==◌, ◌⊎◌, ◌≡◌, ◌+◌, ◌*◌, ℕ, Bool, true, cond, List, [], ◌++◌, Some}
+use Rattle.std.specs.Prelude.{◌⊎◌, ◌≡◌, ◌+◌, ◌*◌, ℕ, Bool, true, List, [], ◌++◌, Some}
 use Rattle.facts.specs.Functions.{put}
 use Rattle.nop_types.specs.Configuration.{Configuration}
 use Rattle.nop_types.specs.declared.view.View.{View}

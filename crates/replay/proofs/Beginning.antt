@@ -1,4 +1,5 @@
 -- The first line of a replay.
+use Rattle.std.proofs.Common.{◌≤◌, ◌<◌, arith}
 use Rattle.std.proofs.Common.{◌≡◌, ℕ, ◌+◌, List, [], ◌∷◌, ◌++◌, Bool, true, false, Option, Some, None, Result, Ok, Err, refl, sym, ap, ◌∙◌}
 use Rattle.std.proofs.KnownBytes.{Appends-nil}
 use Rattle.nop_types.specs.Configuration.{Configuration}
@@ -21,6 +22,13 @@ use Rattle.replay.specs.Steps.{Stops, bad_line}
 use Rattle.replay.proofs.Texts.{output_some}
 use Rattle.replay.proofs.Runs.{begun_is, rest_is, turn_config}
 use Rattle.replay.proofs.Progressing.{refuses_with, interrupts_with, fails_with, unknown_ends, none_follow, turn_keeps}
+
+pub counts_from_one : (n : ℕ) → 0 < n → 1 ≤ n
+counts_from_one n some = omega arith
+
+-- what was written behind nothing
+pub text_first : (old new text : List ℕ) → old ≡ [] → new ≡ old ++ text → new ≡ text
+text_first old new text none is = is ∙ ap (λ (t : List ℕ). t ++ text) none
 
 module _ {S : Type 0} (m : Meaning S) where
   pub output_lines : (ended : Bool) (bytes : List ℕ) → output m ended bytes ≡ output_of_lines m ended (lines_of ended 0 bytes)

@@ -9,6 +9,9 @@ use Rattle.replay.specs.declared.error.ReplayError.{ReplayError}
 use Rattle.replay.specs.declared.error.ReplayError.TheVariants as errors
 use Rattle.replay.specs.Steps.{Writes, Stops, RefusesStep}
 
+pub same_time : (a : ℕ) → a ≤ a
+same_time a = omega arith
+
 rose_since : (a b d : ℕ) → a ≤ b → Rose b d → Rose a d
 rose_since a b d le h = omega (arith, le, h)
 
@@ -57,3 +60,14 @@ stop_writes x a b d le on h = record {
   later = omega (arith, le, on);
   failed = λ told. rose_since a b d le (h (err_is x errors.WriteFault told));
 }
+
+-- want of memory is no fault
+pub starved_reads : {T : Type 0} (a d : ℕ) (r : Result T ReplayError) (e : ReplayError) → r ≡ Err e → e ≡ errors.NoMemory → a ≤ d
+    → HasCauseFor a d errors.ReadFault r
+starved_reads {T} a d r e is none le = rw (is, none) (no_cause a d errors.ReadFault (Err errors.NoMemory) le
+    (λ told. let is = err_is {T = T} errors.NoMemory errors.ReadFault told in absurd cc))
+
+pub starved_writes : {T : Type 0} (a d : ℕ) (r : Result T ReplayError) (e : ReplayError) → r ≡ Err e → e ≡ errors.NoMemory → a ≤ d
+    → HasCauseFor a d errors.WriteFault r
+starved_writes {T} a d r e is none le = rw (is, none) (no_cause a d errors.WriteFault (Err errors.NoMemory) le
+    (λ told. let is = err_is {T = T} errors.NoMemory errors.WriteFault told in absurd cc))

@@ -32,6 +32,9 @@ count_by_both p xs ys = sum_by-append (λ (x : Line). cond (p x) 1 0) xs ys
 
 -- ---- lists of events
 
+pub events_first : (old new : List Event) (e : Event) → old ≡ [] → new ≡ old ++ e ∷ [] → new ≡ e ∷ []
+events_first old new e none is = is ∙ ap (λ (es : List Event). es ++ e ∷ []) none
+
 all_both : (P : Event → Type 0) (es fs : List Event) → AllByRecursion P es → AllByRecursion P fs → AllByRecursion P (es ++ fs)
 all_both P [] fs a b = b
 all_both P (e ∷ es) fs a b = (a.0, all_both P es fs a.1 b)

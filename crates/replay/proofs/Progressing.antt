@@ -230,9 +230,13 @@ module _ {S : Type 0} (m : Meaning S) where
   unknown_ends left before now (Err errors.WriteFault) = tt
   unknown_ends left before now (Err errors.NoMemory) = tt
 
-  pub starved_first : (bytes left before : Option (List ℕ)) → EndsWith m bytes left before before (Err errors.NoMemory)
+  starved_first : (bytes left before : Option (List ℕ)) → EndsWith m bytes left before before (Err errors.NoMemory)
   starved_first None left before = tt
   starved_first (Some bytes) left before = part_nil before (output m true bytes).text (output_some m bytes)
+
+  pub starved_ends : (bytes left before : Option (List ℕ)) (r : Result (Unit {0}) ReplayError) (e : ReplayError) → r ≡ Err e
+      → e ≡ errors.NoMemory → EndsWith m bytes left before before r
+  starved_ends bytes left before r e is none = rw (is, none) (starved_first bytes left before)
 
   pub stopped : (bytes left rest_left : Option (List ℕ)) (before now after : Option (List ℕ)) (pending : List ℕ) (r s : Reading)
       (c : Configuration) (w : WorldState) (e : NextError) (x : ReplayError)

@@ -1,5 +1,5 @@
 -- In each world of a run the datagrams go to actors of the configuration.
-use Rattle.std.proofs.Common.{◌≡◌, ◌≤◌, ◌<◌, ◌+◌, ◌*◌, ℕ, Bool, true, false, Option, Some, None, refl, sym, ap, subst, ◌∙◌, arith, length}
+use Rattle.std.proofs.Common.{◌≡◌, ◌≤◌, ◌<◌, ◌+◌, ◌*◌, ℕ, Bool, true, false, Some, refl, sym, ap, subst, ◌∙◌, arith, length}
 use Rattle.std.proofs.Common.{List, [], ◌∷◌, ◌++◌, inl, inr}
 use Rattle.std.specs.Prelude.{◌⊎◌, ◌/◌, ⊤, Result, Ok, Err, slice_get}
 use Rattle.std.specs.List.{AllByRecursion}
@@ -53,7 +53,7 @@ use Rattle.safety.proofs.Coming.{AllBring, Brings, event_brings}
 use Rattle.safety.proofs.Counts.{counts_from}
 use Rattle.safety.proofs.Moving.{ran_holds}
 use Rattle.safety.proofs.Opening.{first, opening_stands}
-use Rattle.safety.proofs.Steps.{Took, took, steps_lead}
+use Rattle.safety.proofs.Steps.{took, steps_lead}
 use Rattle.replay.specs.Destinations.{IsDestOf}
 use Rattle.replay.proofs.Addressed.{IsReplyTo, Goes, OutsGo, SubmitsOf, sent_goes, lines_are_of, dead_is_of, posted_goes, sequencer_goes}
 use Rattle.replay.proofs.Addressed.{client_goes, controller_goes, controller_keeps_config}

@@ -93,3 +93,8 @@ done_is_safe m short None left before now (Ok x) ends = tt
 done_is_safe m short (Some bytes) None before now (Ok x) ends = absurd ends
 done_is_safe m short (Some bytes) (Some left) before now (Ok x) ends = good_is_safe m short bytes ends.good
 done_is_safe m short bytes left before now (Err e) ends = tt
+
+-- of one that ended with an error nothing is said
+pub failed_is_safe : {S : Type 0} (m : Meaning S) (bytes : Option (List ℕ)) (r : Result (Unit {0}) ReplayError) (e : ReplayError)
+    → r ≡ Err e → OnOk r (RunsSafelyOf m bytes)
+failed_is_safe m bytes r e is = rw is tt

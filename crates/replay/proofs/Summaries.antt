@@ -1,8 +1,9 @@
 -- A summary is not empty.
-use Rattle.std.proofs.Common.{◌≢◌, ℕ, List, [], ◌++◌}
+use Rattle.std.proofs.Common.{◌≡◌, ◌≢◌, ℕ, List, [], ◌++◌}
 use Rattle.std.specs.Prelude.{Option, Result, Ok, Err}
 use Rattle.nop_types.specs.Meaning.{Meaning}
 use Rattle.world.specs.WorldSteps.{Refusal, Happened, run}
+use Rattle.replay.specs.declared.error.GenError.{GenError}
 use Rattle.replay.specs.declared.error.GenError.TheVariants.{NoMemory}
 use Rattle.replay.specs.Generated.{drawn_config, drawn_events, gen_line, tally_text, summary_of, drawn_summary, WritesText}
 use Rattle.replay.proofs.Fronts.{some_left, part_nil}
@@ -21,7 +22,7 @@ of_some number count (Ok h) =
 pub summary_some : {S : Type 0} (m : Meaning S) (number count : ℕ) → drawn_summary m number count ≢ []
 summary_some m number count = of_some number count (run m drawn_config (drawn_events m number count))
 
--- nothing of it was written
-pub unwritten : {S : Type 0} (m : Meaning S) (number count : ℕ) (a : Option (List ℕ))
-    → WritesText a a (drawn_summary m number count) (Err NoMemory)
-unwritten m number count a = part_nil a (drawn_summary m number count) (summary_some m number count)
+-- where memory ran out before, nothing of it was written
+pub starved : {S : Type 0} (m : Meaning S) (number count : ℕ) (a : Option (List ℕ)) (r : Result (Unit {0}) GenError) (e : GenError)
+    → r ≡ Err e → e ≡ NoMemory → WritesText a a (drawn_summary m number count) r
+starved m number count a r e is none = rw (is, none) (part_nil a (drawn_summary m number count) (summary_some m number count))

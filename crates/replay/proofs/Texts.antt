@@ -1,5 +1,5 @@
 -- What is written for a whole input always has a last line.
-use Rattle.std.proofs.Common.{◌≢◌, ℕ, ◌+◌, List, [], ◌∷◌, ◌++◌, true, Option, Some, None, Result, Ok, Err, subst, sym}
+use Rattle.std.proofs.Common.{◌≢◌, ℕ, ◌+◌, List, [], ◌∷◌, ◌++◌, true, Option, Some, None, Result, Ok, Err, subst, sym, ap, ◌∙◌, ◌≡◌}
 use Rattle.nop_types.specs.Configuration.{Configuration}
 use Rattle.nop_types.specs.Meaning.{Meaning}
 use Rattle.schedule_text.specs.declared.rule.Rule.{Rule}
@@ -8,13 +8,19 @@ use Rattle.schedule_text.specs.Cutting.{lines_of}
 use Rattle.schedule_text.specs.Rules.{rule_number, header_of}
 use Rattle.schedule_text.specs.Reading.{Turn, Next, Gives, Refuses, Ends}
 use Rattle.schedule_text.specs.Transcript.{error_line, end_line, lines_text, transcript_line}
+use Rattle.world.specs.declared.lines.Lines.{Lines}
+use Rattle.world.specs.declared.step_error.StepError.{StepError}
+use Rattle.world.specs.declared.step_error.StepError.TheVariants as steps
+use Rattle.world.specs.Actors.{Happens}
+use Rattle.world.specs.SeatOutcomes as world
 use Rattle.world.specs.StateLines.{replicas_text}
 use Rattle.world.specs.WorldSteps.{WorldState, Refusal, Happened, step, opening, history}
 use Rattle.replay.specs.Output.{BadLine, bad_text, refused_line, history_text, final_text, ending, text_after, schedule_from, rest, begun}
 use Rattle.replay.specs.Output.{output_of_lines, output}
 use Rattle.replay.specs.Progress.{after_step, after_next, after_turn}
+use Rattle.replay.specs.declared.error.ReplayError.{ReplayError}
 use Rattle.replay.specs.declared.error.ReplayError.TheVariants as errors
-use Rattle.replay.specs.Steps.{RefusesStep, bad_line}
+use Rattle.replay.specs.Steps.{Fails, Gathers, RefusesFor, RefusesStep, TakesEvent, bad_line}
 use Rattle.replay.specs.Outcome.{LeavesSome}
 use Rattle.replay.proofs.Fronts.{front_nil, part_nil, some_right}
 use Rattle.replay.proofs.Runs.{schedule_runs}
@@ -44,6 +50,29 @@ pub starved_step : (a : Option (List ℕ)) (pending : List ℕ) (line : ℕ) (r 
     → RefusesStep a a pending line r errors.NoMemory
 starved_step a pending line (Ok h) = front_nil a (pending ++ lines_text h.lines)
 starved_step a pending line (Err refusal) = refused_unwritten a pending (refused_line line refusal)
+
+-- the world's error is the refusal, or memory ran out
+pub refused_step : (before now : Option (List ℕ)) (pending : List ℕ) (line : ℕ) (r : Result Happened Refusal) (e : StepError)
+    (same : Type 0) (x : ReplayError) → world.Refuses e r same → RefusesFor before now pending line e x
+    → RefusesStep before now pending line r x
+refused_step before now pending line r steps.NoSuchActor same x h f = rw h.0 f
+refused_step before now pending line r (steps.NoSuchDatagram index sent) same x h f = rw h.0 f
+refused_step before now pending line r steps.Forged same x h f = rw h.0 f
+refused_step before now pending line r steps.NoMemory same x h f = rw (f.0, f.1) (starved_step before pending line r)
+
+-- the event happened, and its lines were gathered
+pub gathered_step : (before now : Option (List ℕ)) (old new : List ℕ) (line : ℕ) (r : Result Happened Refusal) (w : WorldState)
+    (lines : Lines) (text : List ℕ) (x : Result (Unit {0}) ReplayError) → Happens r w lines → text ≡ lines.text
+    → Gathers before now old new text x → TakesEvent before now old new line r w x
+gathered_step before now old new line r w lines text (Ok u) h same g = record {
+  lines = h.are;
+  is = h.is;
+  written = g.written;
+  wrote = g.wrote;
+  text = g.all ∙ ap (λ (t : List ℕ). old ++ t) (same ∙ h.shown.text);
+}
+gathered_step before now old new line r w lines text (Err e) h same g =
+    rw h.is (subst (λ (t : List ℕ). Fails before now (old ++ t) e) (same ∙ h.shown.text) g)
 
 ending_some : (w : WorldState) (bad : Option BadLine) → ending true w bad ≢ []
 ending_some w (Some b) = bad_text_some b

@@ -9,6 +9,8 @@ use Rattle.schedule_text.specs.declared.next_error.NextError.TheVariants as next
 use Rattle.schedule_text.specs.Transcript.{lines_text}
 use Rattle.schedule_text.specs.Reading.{Reading, Turn, Next, Gives, Refuses, Ends, MayFollow, lines_before, turn_of}
 use Rattle.world.specs.WorldSteps.{WorldState, Refusal, Happened, step}
+use Rattle.replay.specs.declared.error.ReplayError.{ReplayError}
+use Rattle.replay.specs.Outcome.{EndsWith}
 use Rattle.replay.specs.Output.{BadLine, Output, bad_text, refused_line, ending, then_text, rest, output}
 use Rattle.replay.specs.Steps.{bad_line}
 
@@ -60,3 +62,10 @@ module _ {S : Type 0} (m : Meaning S) where
   GoingOf None left before now pending r c w = ⊤
   GoingOf (Some bytes) None before now pending r c w = ⊥
   GoingOf (Some bytes) (Some left) before now pending r c w = Going bytes left before now pending r c w
+
+  -- how a replay ends that has come this far, wherever it began
+  abbrev pub EndsFrom : Option (List ℕ) → Option (List ℕ) → Option (List ℕ) → Option (List ℕ) → List ℕ → Reading → WorldState
+      → Result (Unit {0}) ReplayError → Type 0
+  EndsFrom left rest_left now after pending r w x =
+      (bytes before : Option (List ℕ)) (c : Configuration) → GoingOf bytes left before now pending r c w
+      → EndsWith m bytes rest_left before after x

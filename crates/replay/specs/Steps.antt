@@ -5,7 +5,9 @@ use Rattle.nop_types.specs.Lines.{Line}
 use Rattle.schedule_text.specs.declared.next_error.NextError.{NextError}
 use Rattle.schedule_text.specs.declared.next_error.NextError.TheVariants as nexts
 use Rattle.schedule_text.specs.Transcript.{lines_text}
-use Rattle.world.specs.WorldSteps.{WorldState, Refusal, Happened}
+use Rattle.world.specs.declared.step_error.StepError.{StepError}
+use Rattle.world.specs.declared.step_error.StepError.TheVariants as steps
+use Rattle.world.specs.WorldSteps.{WorldState, Refusal, NoSuchActor, NoSuchDatagram, Forged, Happened}
 use Rattle.replay.specs.declared.error.ReplayError.{ReplayError}
 use Rattle.replay.specs.declared.error.ReplayError.TheVariants as errors
 use Rattle.replay.specs.Output.{BadLine, bad_text, refused_line}
@@ -52,6 +54,25 @@ abbrev pub Stops : Option (List ℕ) → Option (List ℕ) → List ℕ → Next
 Stops before now pending (nexts.BadLine line rule) e = Refuses before now pending (bad_line line rule) e
 Stops before now pending nexts.ReadFault e = Interrupts before now pending e
 Stops before now pending nexts.NoMemory e = Fails before now pending e
+
+-- the text was gathered, and what is gathered was written or stays
+pub record Gathered (before now : Option (List ℕ)) (old_pending new_pending text : List ℕ) : Type 0 where
+  pub written : List ℕ
+  pub wrote : Appends before now written
+  pub all : written ++ new_pending ≡ old_pending ++ text
+
+-- or a front of it was written
+abbrev pub Gathers : Option (List ℕ) → Option (List ℕ) → List ℕ → List ℕ → List ℕ → Result (Unit {0}) ReplayError → Type 0
+Gathers before now old_pending new_pending text (Ok x) = Gathered before now old_pending new_pending text
+Gathers before now old_pending new_pending text (Err e) = Fails before now (old_pending ++ text) e
+
+-- the event of this line was refused for this reason, or memory ran out before anything was written
+abbrev pub RefusesFor : Option (List ℕ) → Option (List ℕ) → List ℕ → ℕ → StepError → ReplayError → Type 0
+RefusesFor before now pending line steps.NoSuchActor e = Refuses before now pending (refused_line line NoSuchActor) e
+RefusesFor before now pending line (steps.NoSuchDatagram index sent) e =
+    Refuses before now pending (refused_line line (NoSuchDatagram index sent)) e
+RefusesFor before now pending line steps.Forged e = Refuses before now pending (refused_line line Forged) e
+RefusesFor before now pending line steps.NoMemory e = (e ≡ errors.NoMemory) × (now ≡ before)
 
 -- the event happened; its lines were gathered, and what was gathered is written or stays
 pub record Advances (r : Result Happened Refusal) (new : WorldState) (before now : Option (List ℕ))

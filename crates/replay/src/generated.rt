@@ -1,6 +1,6 @@
 //! The schedule that is drawn from a number, and its run.
 
-ghost use Rattle.std.specs.Prelude.{◌≡◌, ◌≤◌, ◌+◌, ◌++◌, IfOk, OnOk};
+ghost use Rattle.std.specs.Prelude.{◌≡◌, ◌≤◌, ◌+◌, ◌++◌, ◌∷◌, [], IfOk, OnOk};
 ghost use Rattle.kv_host.specs.Kv.{kv_meaning};
 ghost use Rattle.outside.specs.Causes.{HasCauseFor};
 ghost use Rattle.world.specs.Actors.{Happens};
@@ -83,27 +83,49 @@ fn next_drawn<H: Host>(
     Ok(Drawn { event, lines })
 }
 
+/// Keeps an event that was drawn.
+fn keep(drawn: Drawn, events: &mut Vec<Event>) -> Result<(), NoMemory>
+    ensures { OnOk result (events.new.items ≡ events.old.items ++ drawn.event ∷ []) }
+{
+    events.push(drawn.event)?;
+    Ok(())
+}
+
+/// Draws all events of a number, one after the other, and keeps them.
+fn keep_all<H: Host>(
+    alloc: Global,
+    number: u64,
+    count: u32,
+    world: &mut World<H>,
+    events: &mut Vec<Event>,
+) -> Result<(), NoMemory>
+    requires least { 1 ≤ count }
+    requires opening { world.old.state ≡ opening drawn_config }
+    requires none { events.old.items ≡ [] }
+    ensures { OnOk result (KeepsAll H.meaning number count events.new.items) }
+{
+    let mut words = generator(number);
+    keep(first_drawn(alloc, world)?, events)?;
+    for _done in 1..count {
+        keep(next_drawn(alloc, &mut words, world)?, events)?;
+    }
+    Ok(())
+}
+
 /// All events of a number.
 fn all_drawn<H: Host>(alloc: Global, number: u64, count: u32) -> Result<Vec<Event>, NoMemory>
     requires { 1 ≤ count }
     ensures { IfOk result (λ v. KeepsAll H.meaning number count v.items) }
 {
-    let mut words = generator(number);
     let mut world: World<H> = World::new(alloc, drawn_config())?;
     let mut events = Vec::new(alloc);
-    let first = first_drawn(alloc, &mut world)?;
-    events.push(first.event)?;
-    for _done in 1..count {
-        let drawn = next_drawn(alloc, &mut words, &mut world)?;
-        events.push(drawn.event)?;
-    }
+    keep_all(alloc, number, count, &mut world, &mut events)?;
     Ok(events)
 }
 
-/// The world after all events of a number, and how many of their lines are sends and accepts.
-#[derive(Drop)]
-pub struct DrawnRun<H: Host> {
-    pub world: World<H>,
+/// How many lines of a run are sends and accepts.
+#[derive(Clone, Copy)]
+pub struct Counts {
     pub sends: u64,
     pub accepts: u64,
 }
@@ -118,26 +140,37 @@ fn added(sum: u64, more: u32) -> Result<u64, NoMemory>
     }
 }
 
-/// The run of all events of a number, none of which is kept.
-fn run_drawn<H: Host>(alloc: Global, number: u64, count: u32) -> Result<DrawnRun<H>, NoMemory>
-    requires { 1 ≤ count }
-    ensures { IfOk result (λ r. LedAll H.meaning number count r.world.state r.sends r.accepts) }
+/// The counts with the lines of one more event.
+fn counted(counts: Counts, drawn: Drawn) -> Result<Counts, NoMemory>
+    ensures sends { IfOk result (λ c. c.sends ≡ counts.sends + drawn.lines.sends) }
+    ensures accepts { IfOk result (λ c. c.accepts ≡ counts.accepts + drawn.lines.accepts) }
+{
+    let sends = added(counts.sends, drawn.lines.sends)?;
+    let accepts = added(counts.accepts, drawn.lines.accepts)?;
+    Ok(Counts { sends, accepts })
+}
+
+/// The counts of all events of a number, which lead to the world after them; none of them is kept.
+fn count_all<H: Host>(
+    alloc: Global,
+    number: u64,
+    count: u32,
+    world: &mut World<H>,
+) -> Result<Counts, NoMemory>
+    requires least { 1 ≤ count }
+    requires opening { world.old.state ≡ opening drawn_config }
+    ensures { IfOk result (λ c. LedAll H.meaning number count world.new.state c.sends c.accepts) }
 {
     let mut words = generator(number);
-    let mut world: World<H> = World::new(alloc, drawn_config())?;
-    let first = first_drawn(alloc, &mut world)?;
-    let mut sends = u64::from(first.lines.sends);
-    let mut accepts = u64::from(first.lines.accepts);
+    let none = Counts {
+        sends: 0,
+        accepts: 0,
+    };
+    let mut counts = counted(none, first_drawn(alloc, world)?)?;
     for _done in 1..count {
-        let drawn = next_drawn(alloc, &mut words, &mut world)?;
-        sends = added(sends, drawn.lines.sends)?;
-        accepts = added(accepts, drawn.lines.accepts)?;
+        counts = counted(counts, next_drawn(alloc, &mut words, world)?)?;
     }
-    Ok(DrawnRun {
-        world,
-        sends,
-        accepts,
-    })
+    Ok(counts)
 }
 
 /// The configuration and the events of a schedule that is drawn from a number, from 1 to `MAX_DRAWN_EVENTS` of them. None of them is
@@ -162,11 +195,11 @@ fn summarise<H: Host>(
     requires { 1 ≤ count }
     ensures { OnOk result (to.new.items ≡ to.old.items ++ drawn_summary H.meaning number count) }
 {
-    let run: DrawnRun<H> = run_drawn(alloc, number, count)?;
-    put_summary(number, count, &run, to)
+    let mut world: World<H> = World::new(alloc, drawn_config())?;
+    let counts = count_all(alloc, number, count, &mut world)?;
+    put_summary(number, count, &world, counts, to)
 }
 
-#[tactic(auto, using(crate::proofs::Fronts::part_of_front))]
 fn write_text<K: Sink>(text: &[u8], sink: &mut K) -> Result<(), GenError>
     ensures writes { WritesText (K.held sink.old) (K.held sink.new) text.now result }
     ensures cause { HasCauseFor (K.fault_count sink.old) (K.fault_count sink.new)
@@ -181,7 +214,6 @@ fn write_text<K: Sink>(text: &[u8], sink: &mut K) -> Result<(), GenError>
 
 /// Writes the summary of the run of a schedule that is drawn from a number, with from 1 to `MAX_DRAWN_EVENTS` events. What was written
 /// before an error stays.
-#[tactic(auto, using(crate::proofs::Summaries::unwritten))]
 pub fn generate<K: Sink>(
     alloc: Global,
     number: u64,

@@ -1,20 +1,64 @@
-ghost use Rattle.std.specs.Prelude.{OnOk};
+ghost use Rattle.std.specs.Prelude.{◌≡◌, ◌≤◌, ◌++◌, false, IsSome, IfOk, OnOk};
 ghost use Rattle.outside.specs.Causes.{HasCauseFor};
 ghost use Rattle.kv_host.specs.Kv.{kv_meaning};
+ghost use Rattle.schedule_text.specs.Transcript.{transcript_line};
+ghost use Rattle.world.specs.WorldSteps.{opening};
 ghost use Rattle.replay.specs.Outcome.{EndsWith};
+ghost use Rattle.replay.specs.Progress.{EndsFrom};
 ghost use Rattle.replay.specs.Safety.{RunsSafelyOf};
 
 use crate::error::ReplayError;
 use crate::turn::{finish, stop, take_event};
 use kv_host::KvHost;
-use nop_types::{Host, MAX_LINES};
+use nop_types::{Config, Host, MAX_LINES, NoMemory};
 use outside::{Sink, Source};
 use schedule_text::{Reader, transcript_line};
 use std::alloc::Global;
 use world::World;
 
+/// The first line of a transcript, and the world that its events start from.
+fn begin<H: Host>(
+    alloc: Global,
+    config: Config,
+    pending: &mut Vec<u8>,
+) -> Result<World<H>, NoMemory>
+    ensures world { IfOk result (λ w. w ≡ record { failed = false; state = opening config }) }
+    ensures line { OnOk result (pending.new.items ≡ pending.old.items ++ transcript_line config) }
+{
+    transcript_line(config, pending)?;
+    World::new(alloc, config)
+}
+
+/// Takes the events of the lines behind the first, one after the other, up to the end of the input.
+fn take_events<H: Host, S: Source, K: Sink>(
+    reader: &mut Reader,
+    world: &mut World<H>,
+    source: &mut S,
+    pending: &mut Vec<u8>,
+    sink: &mut K,
+) -> Result<(), ReplayError>
+    requires opened { IsSome reader.old.config }
+    requires first { 1 ≤ reader.old.line }
+    requires last { reader.old.line ≤ MAX_LINES }
+    ensures ends { EndsFrom H.meaning (S.left source.old) (S.left source.new) (K.held sink.old)
+        (K.held sink.new) pending.old.items reader.old world.old.state result }
+    ensures read { HasCauseFor (S.fault_count source.old) (S.fault_count source.new)
+        ReplayError.ReadFault result }
+    ensures write { HasCauseFor (K.fault_count sink.old) (K.fault_count sink.new)
+        ReplayError.WriteFault result }
+{
+    // line 1 was taken, each turn takes one more, and the last one finds the end or a line too many
+    for _turn in 0..MAX_LINES {
+        match reader.next(source) {
+            Ok(Some(event)) => take_event(reader.line(), &event, world, pending, sink)?,
+            Ok(None) => return finish(world, pending, sink),
+            Err(e) => return Err(stop(e, pending, sink)),
+        }
+    }
+    unreachable!()
+}
+
 /// Replays a schedule with a host of this type. What was written before an error stays.
-#[tactic(auto, using(crate::proofs::Progressing::starved_first))]
 pub fn replay_with<H: Host, S: Source, K: Sink>(
     alloc: Global,
     source: &mut S,
@@ -34,20 +78,8 @@ pub fn replay_with<H: Host, S: Source, K: Sink>(
         Ok(config) => config,
         Err(e) => return Err(stop(e, &mut pending, sink)),
     };
-    transcript_line(config, &mut pending)?;
-    let mut world: World<H> = World::new(alloc, config)?;
-
-    // line 1 was taken, each turn takes one more, and the last one finds the end or a line too many
-    for _turn in 0..MAX_LINES {
-        match reader.next(source) {
-            Ok(Some(event)) => {
-                take_event(reader.line(), &event, &mut world, &mut pending, sink)?;
-            }
-            Ok(None) => return finish(&world, &mut pending, sink),
-            Err(e) => return Err(stop(e, &mut pending, sink)),
-        }
-    }
-    unreachable!()
+    let mut world: World<H> = begin(alloc, config, &mut pending)?;
+    take_events(&mut reader, &mut world, source, &mut pending, sink)
 }
 
 /// Reads a schedule from the source and writes its transcript, line by line. What was written before an error stays.

@@ -6,8 +6,9 @@ ghost use Rattle.replay.specs.Generated.{counted, is_noop, gen_line, sends_line,
 ghost use Rattle.replay.specs.Generated.{members_line, tally_text};
 ghost use Rattle.schedule_text.specs.Transcript.{line_end};
 
-use crate::generated::DrawnRun;
+use crate::generated::Counts;
 use nop_types::{Entry, Host, NoMemory, View};
+use world::World;
 
 fn put_counted(text: &str, n: u64, to: &mut Vec<u8>) -> Result<(), NoMemory>
     ensures { OnOk result (to.new.items ≡ to.old.items ++ counted text.now n) }
@@ -77,16 +78,17 @@ fn noops(log: &[Entry]) -> usize
 pub fn put_summary<H: Host>(
     number: u64,
     count: u32,
-    run: &DrawnRun<H>,
+    world: &World<H>,
+    counts: Counts,
     to: &mut Vec<u8>,
 ) -> Result<(), NoMemory>
     ensures { OnOk result (to.new.items ≡ to.old.items
-        ++ tally_text number count run.now.world.state run.now.sends run.now.accepts) }
+        ++ tally_text number count world.now.state counts.sends counts.accepts) }
 {
-    let log = run.world.main_log();
-    let history = run.world.history()?;
+    let log = world.main_log();
+    let history = world.history()?;
     put_gen(number, count, to)?;
-    put_sends(run.sends, run.accepts, to)?;
-    put_view(run.world.main_view(), log.len(), noops(log), to)?;
+    put_sends(counts.sends, counts.accepts, to)?;
+    put_view(world.main_view(), log.len(), noops(log), to)?;
     put_members(history.len(), to)
 }

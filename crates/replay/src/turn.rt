@@ -2,7 +2,7 @@ ghost use Rattle.std.specs.Prelude.{◌≡◌, ◌≤◌, ◌++◌};
 ghost use Rattle.outside.specs.Causes.{Rose, HasCauseFor};
 ghost use Rattle.world.specs.WorldSteps.{step};
 ghost use Rattle.replay.specs.Output.{final_text};
-ghost use Rattle.replay.specs.Steps.{Writes, Refuses, Stops, TakesEvent};
+ghost use Rattle.replay.specs.Steps.{Writes, Refuses, Stops, Gathers, RefusesFor, TakesEvent};
 
 use crate::ending::final_lines;
 use crate::error::ReplayError;
@@ -52,8 +52,52 @@ pub fn stop<K: Sink>(error: NextError, pending: &mut Vec<u8>, sink: &mut K) -> R
     }
 }
 
-/// One event; `line` is the number of its line.
+/// Gathers the lines of an event, and writes what was gathered once it is long.
 #[tactic(auto, using(crate::proofs::Fronts::misses_fails))]
+fn gather<K: Sink>(text: &[u8], pending: &mut Vec<u8>, sink: &mut K) -> Result<(), ReplayError>
+    ensures gathers { Gathers (K.held sink.old) (K.held sink.new) pending.old.items
+        pending.new.items text.now result }
+    ensures cause { HasCauseFor (K.fault_count sink.old) (K.fault_count sink.new)
+        ReplayError.WriteFault result }
+{
+    pending.extend_from_slice(text)?;
+    if pending.len() >= GATHERED_BYTES {
+        flush(sink, pending)?;
+    }
+    Ok(())
+}
+
+/// The world did not carry out the event of this line: what was gathered is written, and why the line is bad is told.
+fn refuse_event<K: Sink>(
+    error: StepError,
+    line: u32,
+    pending: &mut Vec<u8>,
+    sink: &mut K,
+) -> ReplayError
+    ensures refuses { RefusesFor (K.held sink.old) (K.held sink.new) pending.old.items line error
+        result }
+    ensures later { K.fault_count sink.old ≤ K.fault_count sink.new }
+    ensures cause { result ≡ ReplayError.WriteFault
+        → Rose (K.fault_count sink.old) (K.fault_count sink.new) }
+{
+    match error {
+        StepError::NoSuchActor => {
+            let rule = Rule::WrongActor.number();
+            refuse(line, rule, None, pending, sink)
+        }
+        StepError::NoSuchDatagram { index, sent } => {
+            let rule = Rule::NoSuchDatagram.number();
+            refuse(line, rule, Some((index, sent)), pending, sink)
+        }
+        StepError::Forged => {
+            let rule = Rule::Forged.number();
+            refuse(line, rule, None, pending, sink)
+        }
+        StepError::NoMemory => ReplayError::NoMemory,
+    }
+}
+
+/// One event; `line` is the number of its line.
 pub fn take_event<H: Host, K: Sink>(
     line: u32,
     event: &Event,
@@ -67,26 +111,8 @@ pub fn take_event<H: Host, K: Sink>(
         ReplayError.WriteFault result }
 {
     match world.step(event) {
-        Ok(lines) => {
-            pending.extend_from_slice(lines.text.as_slice())?;
-            if pending.len() >= GATHERED_BYTES {
-                flush(sink, pending)?;
-            }
-            Ok(())
-        }
-        Err(StepError::NoSuchActor) => {
-            let rule = Rule::WrongActor.number();
-            Err(refuse(line, rule, None, pending, sink))
-        }
-        Err(StepError::NoSuchDatagram { index, sent }) => {
-            let rule = Rule::NoSuchDatagram.number();
-            Err(refuse(line, rule, Some((index, sent)), pending, sink))
-        }
-        Err(StepError::Forged) => {
-            let rule = Rule::Forged.number();
-            Err(refuse(line, rule, None, pending, sink))
-        }
-        Err(StepError::NoMemory) => Err(ReplayError::NoMemory),
+        Ok(lines) => gather(lines.text.as_slice(), pending, sink),
+        Err(e) => Err(refuse_event(e, line, pending, sink)),
     }
 }
 

@@ -19,7 +19,7 @@ use Rattle.replica_state.specs.Sends.{Effect, still, then_do}
 use Rattle.replica_state.specs.Replies.{reply_at, reply_for_any}
 use Rattle.replica_state.specs.Moves.{logged, take_front, appended, fill, open_gap, ask, drain_drop, drain_at, drain_by, drain}
 use Rattle.replica_rows.specs.Draining.{GoesOn, Stops, TakesOne, DrainsByFront}
-use Rattle.replica_state.specs.Taking.{TookFront, TookNone, TakesFront}
+use Rattle.replica_rows.specs.Taking.{TookFront, TookNone, TakesFront}
 
 last_false : (a b c : Bool) → c ≡ false → (a && (b && c)) ≡ false
 last_false true true c e = e

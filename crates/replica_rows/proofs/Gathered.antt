@@ -17,7 +17,7 @@ use Rattle.replica_state.specs.declared.sending.Sending.{Sending}
 use Rattle.replica_state.specs.State.{others}
 use Rattle.replica_state.specs.Sends.{to_all_if}
 use Rattle.replica_state.specs.Moves.{adopt, open_with}
-use Rattle.replica_state.specs.Keeping.{step_by}
+use Rattle.replica_rows.specs.Keeping.{step_by}
 use Rattle.replica_state.specs.Within.{IsWithin}
 use Rattle.replica_rows.specs.Within.{Runs}
 use Rattle.replica_rows.proofs.Opening.{Gathers, gathers}

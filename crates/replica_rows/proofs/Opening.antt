@@ -24,7 +24,7 @@ use Rattle.replica_state.specs.State.{others, leads}
 use Rattle.replica_state.specs.Sends.{Effect, still, then_do, when}
 use Rattle.replica_state.specs.Moves.{entered, enter, enter_as, open_with, open_view, open_if_enough, keep_change}
 use Rattle.replica_rows.specs.Rows.{enter_view, gather}
-use Rattle.replica_state.specs.Keeping.{kept_by, step_by}
+use Rattle.replica_rows.specs.Keeping.{kept_by, step_by}
 use Rattle.replica_state.specs.Within.{IsWithin}
 
 -- ---- ranges

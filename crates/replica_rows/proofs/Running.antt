@@ -29,7 +29,7 @@ use Rattle.replica_log.proofs.InRanges.{append_fits, slot_fits, laid_fits}
 use Rattle.replica_state.specs.declared.state.ReplicaState.{ReplicaState}
 use Rattle.replica_state.specs.State.{may_append, drains, others, waits, is_normal, unless_settled}
 use Rattle.replica_state.specs.Moves.{begin_session, appended, gap_opened, logged, adopted, overlaid}
-use Rattle.replica_state.specs.Keeping.{kept_by}
+use Rattle.replica_rows.specs.Keeping.{kept_by}
 use Rattle.replica_state.specs.Within.{IsWithin}
 use Rattle.replica_state.specs.Sends.{Effect, still, then_do}
 use Rattle.replica_rows.specs.declared.member.Member.{Member}

@@ -1,4 +1,6 @@
 pub mod Draining
+pub mod Keeping
 pub mod Messages
 pub mod Rows
+pub mod Taking
 pub mod Within

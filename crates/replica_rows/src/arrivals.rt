@@ -25,7 +25,7 @@ impl<H: Host> Member<H> {
         requires fits { StampedFits packet.now }
         ensures { OnOk result (Does H.Host self.old self.new (new_session H.meaning packet.now)) }
     {
-        self.state.begin_session(packet)?;
+        self.state.begin_session(self.alloc, packet)?;
         let leader = self.state.view.leader;
         self.enter_and_drain(View {
             leader,
@@ -167,7 +167,8 @@ impl<H: Host> Member<H> {
         }
     }
 
-    /// Takes the row for what arrives, and executes as far as a replica does.
+    /// Takes the row for what arrives, and executes as far as a replica does. An error may leave the member anywhere on the way: it is
+    /// not known to run then, and takes no more rows.
     pub fn take(&mut self, arrival: Arrival) -> Result<(), NoMemory>
         requires runs { IsRunning H.Host self.old }
         requires fits { ArrivalFits (arrival_of arrival) }

@@ -3,11 +3,28 @@ ghost use Rattle.nop_types.specs.Ranges.{EntryFits};
 ghost use Rattle.nop_types.specs.declared.limits.TheConstants.{MAX_SLOTS};
 ghost use Rattle.replica_state.specs.State.{drains, may_append, leads};
 ghost use Rattle.replica_state.specs.Moves.{appended, open_gap, ask, drain};
+ghost use Rattle.replica_state.specs.Within.{IsWithin};
 ghost use Rattle.replica_rows.specs.Within.{IsRunning, Does};
 ghost use Rattle.replica_rows.specs.Draining.{TakesOne};
+ghost use Rattle.replica_rows.specs.Taking.{TakesFront};
 
+use crate::ReplicaState;
 use crate::member::Member;
 use nop_types::{Body, Entry, Host, MAX_SLOTS, NoMemory};
+
+/// Logs the request in front, where one stands there. An error may leave it neither queued nor logged.
+fn take_front(state: &mut ReplicaState) -> Result<bool, NoMemory>
+    requires within { IsWithin state.old }
+    requires drains { drains state.old ≡ true }
+    ensures { IfOk result (TakesFront state.old state.new) }
+{
+    let Some(request) = state.receiver.take_message() else {
+        return Ok(false);
+    };
+    state.log.append(Entry::Req(request))?;
+    state.next.set(state.receiver.next());
+    Ok(true)
+}
 
 impl<H: Host> Member<H> {
     /// The same, with what was executed.
@@ -60,7 +77,7 @@ impl<H: Host> Member<H> {
         if !self.state.drains() {
             return Ok(false);
         }
-        if self.state.take_front()? {
+        if take_front(&mut self.state)? {
             let slot = self.state.log.len();
             self.reply_at(slot)?;
             return Ok(true);

@@ -1,13 +1,33 @@
-ghost use Rattle.std.specs.Prelude.{◌<◌, OnOk};
+ghost use Rattle.std.specs.Prelude.{◌≡◌, ◌<◌, OnOk, IfOk};
 ghost use Rattle.nop_types.specs.Ranges.{ViewFits, NextFits, LogFits, ChangeFits};
 ghost use Rattle.replica_state.specs.Moves.{resend_start};
 ghost use Rattle.replica_rows.specs.Rows.{view_change_request, take_change, gather, view_change, start_view};
 ghost use Rattle.replica_state.specs.State.{may_adopt};
+ghost use Rattle.replica_rows.specs.Keeping.{kept_after, step_by};
 ghost use Rattle.replica_rows.specs.Within.{IsRunning, Does};
 
+use crate::ReplicaState;
 use crate::member::Member;
 use nop_types::{Change, Host, Log, NoMemory, Phase, View};
 use view_change::Step;
+
+/// Keeps a change, where changes are gathered. Says whether the view starts then, and with what; the changes are gone then. An
+/// error may leave none of them.
+fn keep_change(state: &mut ReplicaState, change: Change) -> Result<Step, NoMemory>
+    ensures kept { IfOk result (λ step. state.new ≡ kept_after step state.old change) }
+    ensures step { IfOk result (λ step. step ≡ step_by state.old.changes change) }
+{
+    let Some(mut changes) = state.changes.take() else {
+        return Ok(Step::Waiting);
+    };
+    if changes.is_enough_with(&change) {
+        let start = changes.start_with(change)?;
+        return Ok(Step::Started(start));
+    }
+    changes.on_change(change)?;
+    state.changes = Some(changes);
+    Ok(Step::Waiting)
+}
 
 impl<H: Host> Member<H> {
     /// Another replica asks for a view.
@@ -39,7 +59,7 @@ impl<H: Host> Member<H> {
         ensures { OnOk result (Does H.Host self.old self.new
             (λ s. gather H.meaning s.changes change s)) }
     {
-        match self.state.keep_change(change)? {
+        match keep_change(&mut self.state, change)? {
             Step::Started(start) => self.open_view(start),
             Step::Waiting => Ok(()),
         }

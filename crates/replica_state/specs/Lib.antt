@@ -1,7 +1,5 @@
-pub mod Keeping
 pub mod Moves
 pub mod Replies
 pub mod Sends
 pub mod State
-pub mod Taking
 pub mod Within

@@ -1,11 +1,9 @@
-ghost use Rattle.std.specs.Prelude.{◌≡◌, ◌≤◌, ◌<◌, ◌+◌, ◌-◌, ◌↔◌, length, true, nat_le, IsTrue, OnOk, IfOk, IfSome, IfNone};
+ghost use Rattle.std.specs.Prelude.{◌≡◌, ◌≤◌, ◌<◌, ◌+◌, ◌-◌, ◌↔◌, length, true, nat_le, IsTrue, OnOk, OnErr, IfSome, IfNone};
 ghost use Rattle.nop_types.specs.declared.limits.TheConstants.{MAX_REPLICAS, NUMBER_END};
 ghost use Rattle.oum_receiver.specs.Front.{Dropped};
 ghost use Rattle.oum_receiver.specs.Receiving.{front_of};
-ghost use Rattle.replica_state.specs.State.{drains, may_append, waiting_in};
+ghost use Rattle.replica_state.specs.State.{may_append, waiting_in};
 ghost use Rattle.replica_state.specs.Moves.{appended, gap_opened, count_gap_vote, overlaid, obey};
-ghost use Rattle.replica_state.specs.Taking.{TakesFront};
-ghost use Rattle.replica_state.specs.Within.{IsWithin};
 
 use crate::ReplicaState;
 use gap_agree::Gap;
@@ -26,7 +24,8 @@ impl ReplicaState {
     /// Appends an entry that did not come through the receiver, which goes to the number after it.
     pub fn append(&mut self, entry: Entry) -> Result<(), NoMemory>
         requires { may_append self.old ≡ true }
-        ensures { OnOk result (self.new ≡ appended self.old entry) }
+        ensures ok { OnOk result (self.new ≡ appended self.old entry) }
+        ensures err { OnErr result (self.new ≡ self.old) }
     {
         self.log.append(entry)?;
         let next = self.next.get() + 1;
@@ -38,25 +37,12 @@ impl ReplicaState {
     /// Puts a NO-OP into the next slot, for which votes are then counted.
     pub fn put_gap(&mut self) -> Result<(), NoMemory>
         requires { may_append self.old ≡ true }
-        ensures { OnOk result (self.new ≡ gap_opened self.old) }
+        ensures ok { OnOk result (self.new ≡ gap_opened self.old) }
+        ensures err { OnErr result (self.new ≡ self.old) }
     {
         self.append(Entry::NoOp)?;
         self.gap = gap_in(self.log.len(), self.others());
         Ok(())
-    }
-
-    /// Logs the request in front, where one stands there.
-    pub fn take_front(&mut self) -> Result<bool, NoMemory>
-        requires within { IsWithin self.old }
-        requires drains { drains self.old ≡ true }
-        ensures { IfOk result (TakesFront self.old self.new) }
-    {
-        let Some(request) = self.receiver.take_message() else {
-            return Ok(false);
-        };
-        self.log.append(Entry::Req(request))?;
-        self.next.set(self.receiver.next());
-        Ok(true)
     }
 
     /// Whether the receiver has a drop in front.
@@ -87,7 +73,8 @@ impl ReplicaState {
     pub fn lay_over(&mut self, log: &Log, appended: u64) -> Result<(), NoMemory>
         requires appended { appended ≡ length log.now - length self.old.log }
         requires within { self.old.next + appended ≤ NUMBER_END }
-        ensures { OnOk result (self.new ≡ overlaid self.old log.now) }
+        ensures ok { OnOk result (self.new ≡ overlaid self.old log.now) }
+        ensures err { OnErr result (self.new ≡ self.old) }
     {
         self.log.overlay(log)?;
         let next = self.next.get() + appended;

@@ -35,7 +35,7 @@ impl NextNumber {
         self.number
     }
 
-    pub(crate) fn set(&mut self, number: u64)
+    pub fn set(&mut self, number: u64)
         requires { number ≤ NUMBER_END }
         ensures { self.new ≡ number }
     {

@@ -1,4 +1,4 @@
-ghost use Rattle.std.specs.Prelude.{◌≡◌, ◌≤◌, ◌++◌, [], length, OnOk, IfSome};
+ghost use Rattle.std.specs.Prelude.{◌≡◌, ◌≤◌, ◌++◌, [], length, OnOk, OnErr, IfSome};
 ghost use Rattle.std.specs.Option.{option_copied};
 ghost use Rattle.nop_types.specs.declared.limits.TheConstants.{MAX_RESULT_BYTES};
 ghost use Rattle.nop_types.specs.declared.peer.Body.TheVariants.{SyncPrepare};
@@ -31,7 +31,8 @@ impl ReplicaState {
     pub fn send_to(&self, replica: u8, body: Body, sends: &mut Sends) -> Result<(), NoMemory>
         requires within { IsWithin self.now }
         requires fits { BodyFits body }
-        ensures { OnOk result (sends.new ≡ sends.old ++ to_replica self.now replica body) }
+        ensures ok { OnOk result (sends.new ≡ sends.old ++ to_replica self.now replica body) }
+        ensures err { OnErr result (sends.new ≡ sends.old) }
     {
         let dest = Dest::One(Actor::Replica(replica));
         sends.push_message(dest, &self.message(body))
@@ -41,8 +42,9 @@ impl ReplicaState {
     fn send_log_to(&self, replica: u8, body: LogBody<'_>, sends: &mut Sends) -> Result<(), NoMemory>
         requires within { IsWithin self.now }
         requires fits { BodyFits (with_log body) }
-        ensures { OnOk result (sends.new
+        ensures ok { OnOk result (sends.new
             ≡ sends.old ++ to_replica self.now replica (with_log body.entry)) }
+        ensures err { OnErr result (sends.new ≡ sends.old) }
     {
         let dest = Dest::One(Actor::Replica(replica));
         sends.push_with_log(dest, self.number, self.view, body)
@@ -52,7 +54,8 @@ impl ReplicaState {
     pub fn send_to_all(&self, body: Body, sends: &mut Sends) -> Result<(), NoMemory>
         requires within { IsWithin self.now }
         requires fits { BodyFits body }
-        ensures { OnOk result (sends.new ≡ sends.old ++ to_all self.now body) }
+        ensures ok { OnOk result (sends.new ≡ sends.old ++ to_all self.now body) }
+        ensures err { OnErr result (sends.new ≡ sends.old) }
     {
         if self.others() == 0 {
             return Ok(());
@@ -64,7 +67,8 @@ impl ReplicaState {
     pub fn send_log_to_all(&self, body: LogBody<'_>, sends: &mut Sends) -> Result<(), NoMemory>
         requires within { IsWithin self.now }
         requires fits { BodyFits (with_log body) }
-        ensures { OnOk result (sends.new ≡ sends.old ++ to_all self.now (with_log body.entry)) }
+        ensures ok { OnOk result (sends.new ≡ sends.old ++ to_all self.now (with_log body.entry)) }
+        ensures err { OnErr result (sends.new ≡ sends.old) }
     {
         if self.others() == 0 {
             return Ok(());
@@ -75,7 +79,8 @@ impl ReplicaState {
     /// Tells the leader of the view what the replica had when it entered it.
     pub fn tell_change(&self, sends: &mut Sends) -> Result<(), NoMemory>
         requires { IsWithin self.now }
-        ensures { OnOk result (sends.new ≡ sends.old ++ change_told self.now) }
+        ensures ok { OnOk result (sends.new ≡ sends.old ++ change_told self.now) }
+        ensures err { OnErr result (sends.new ≡ sends.old) }
     {
         let body = LogBody::ViewChange {
             last_normal: self.last_normal,
@@ -88,7 +93,8 @@ impl ReplicaState {
     /// Tells a replica what the view started with.
     pub fn tell_start(&self, replica: u8, sends: &mut Sends) -> Result<(), NoMemory>
         requires { IsWithin self.now }
-        ensures { OnOk result (sends.new ≡ sends.old ++ (resend_start self.now replica).1) }
+        ensures ok { OnOk result (sends.new ≡ sends.old ++ (resend_start self.now replica).1) }
+        ensures err { OnErr result (sends.new ≡ sends.old) }
     {
         let body = LogBody::StartView {
             next: self.start(),
@@ -100,8 +106,9 @@ impl ReplicaState {
     /// Tells all others the log.
     pub fn tell_log(&self, sends: &mut Sends) -> Result<(), NoMemory>
         requires { IsWithin self.now }
-        ensures { OnOk result (sends.new ≡ sends.old
+        ensures ok { OnOk result (sends.new ≡ sends.old
             ++ to_all self.now (SyncPrepare self.now.log)) }
+        ensures err { OnErr result (sends.new ≡ sends.old) }
     {
         self.send_log_to_all(LogBody::SyncPrepare(self.log.as_slice()), sends)
     }
@@ -122,8 +129,9 @@ impl ReplicaState {
         requires tag { tag ≤ 1 }
         requires short { length answer ≤ MAX_RESULT_BYTES }
         requires without { tag ≡ 0 → length answer ≡ 0 }
-        ensures { OnOk result (sends.new
+        ensures ok { OnOk result (sends.new
             ≡ sends.old ++ reply_with self.now slot client id tag answer) }
+        ensures err { OnErr result (sends.new ≡ sends.old) }
     {
         sends.push_reply(Reply {
             replica: self.number,
@@ -148,7 +156,8 @@ impl ReplicaState {
         requires within { IsWithin self.now }
         requires slot { SlotFits slot }
         requires id { 1 ≤ id }
-        ensures { OnOk result (sends.new ≡ sends.old ++ reply_with self.now slot client id 0 []) }
+        ensures ok { OnOk result (sends.new ≡ sends.old ++ reply_with self.now slot client id 0 []) }
+        ensures err { OnErr result (sends.new ≡ sends.old) }
     {
         let none = Bytes::from_vec(Vec::new(alloc));
         self.send_reply(slot, client, id, 0, none, sends)
@@ -167,8 +176,9 @@ impl ReplicaState {
         requires slot { SlotFits slot }
         requires id { 1 ≤ id }
         requires short { IfSome (option_copied answer) (λ bytes. length bytes ≤ MAX_RESULT_BYTES) }
-        ensures { (r : Request) → IsOf client id r → OnOk result (sends.new
+        ensures ok { (r : Request) → IsOf client id r → OnOk result (sends.new
             ≡ sends.old ++ leader_reply self.now slot r (option_copied answer.entry)) }
+        ensures err { OnErr result (sends.new ≡ sends.old) }
     {
         let Some(answer) = answer else {
             return Ok(());

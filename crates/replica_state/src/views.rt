@@ -1,10 +1,9 @@
-ghost use Rattle.std.specs.Prelude.{◌≡◌, ◌≤◌, true, IsTrue, OnOk, IfOk};
+ghost use Rattle.std.specs.Prelude.{◌≡◌, ◌≤◌, true, IsTrue, OnOk, OnErr, IfOk};
 ghost use Rattle.nop_types.specs.declared.limits.TheConstants.{NUMBER_END};
 ghost use Rattle.nop_types.specs.Configuration.{is_configuration};
 ghost use Rattle.nop_types.specs.Ranges.{StampedFits};
 ghost use Rattle.replica_state.specs.State.{opening};
 ghost use Rattle.replica_state.specs.Moves.{left, entered, enter_as, own_change, adopted, begin_session, queue};
-ghost use Rattle.replica_state.specs.Keeping.{kept_after, step_by};
 
 use crate::{NextNumber, ReplicaState};
 use nop_types::{Change, Config, Log, NoMemory, Phase, Stamped, View};
@@ -12,7 +11,7 @@ use oum_receiver::Receiver;
 use replica_log::ReplicaLog;
 use std::alloc::Global;
 use sync_points::SyncPoints;
-use view_change::{Changes, Step};
+use view_change::Changes;
 
 impl ReplicaState {
     /// The state of a replica before its first input.
@@ -43,20 +42,23 @@ impl ReplicaState {
     }
 
     /// The receiver begins a greater session with a packet, and the view is left.
-    pub fn begin_session(&mut self, packet: &Stamped) -> Result<(), NoMemory>
+    pub fn begin_session(&mut self, alloc: Global, packet: &Stamped) -> Result<(), NoMemory>
         requires { StampedFits packet.now }
-        ensures { OnOk result (self.new ≡ begin_session self.old packet.now) }
+        ensures ok { OnOk result (self.new ≡ begin_session self.old packet.now) }
+        ensures err { OnErr result (self.new ≡ self.old) }
     {
+        let mut receiver = Receiver::new(alloc, packet.session, 1)?;
+        receiver.offer(packet)?;
+        self.receiver = receiver;
         self.status = Phase::Change;
-        self.receiver.reset(packet.session, 1);
-        self.receiver.offer(packet)?;
         Ok(())
     }
 
     /// A packet is offered to the receiver.
     pub fn queue(&mut self, packet: Stamped) -> Result<(), NoMemory>
         requires { StampedFits packet }
-        ensures { OnOk result (self.new ≡ (queue self.old packet).0) }
+        ensures ok { OnOk result (self.new ≡ (queue self.old packet).0) }
+        ensures err { OnErr result (self.new ≡ self.old) }
     {
         self.receiver.offer_owned(packet)?;
         Ok(())
@@ -99,29 +101,13 @@ impl ReplicaState {
 
     /// The leader of the view that is entered gathers changes, its own first.
     pub fn begin_gathering(&mut self, alloc: Global) -> Result<(), NoMemory>
-        ensures { OnOk result (self.new ≡ (enter_as true self.old).0) }
+        ensures ok { OnOk result (self.new ≡ (enter_as true self.old).0) }
+        ensures err { OnErr result (self.new ≡ self.old) }
     {
         let own = self.own_change()?;
         let changes = Changes::enter(alloc, self.view, self.others(), own)?;
         self.changes = Some(changes);
         Ok(())
-    }
-
-    /// Keeps a change, where changes are gathered. Says whether the view starts then, and with what; the changes are gone then.
-    pub fn keep_change(&mut self, change: Change) -> Result<Step, NoMemory>
-        ensures kept { IfOk result (λ step. self.new ≡ kept_after step self.old change) }
-        ensures step { IfOk result (λ step. step ≡ step_by self.old.changes change) }
-    {
-        let Some(mut changes) = self.changes.take() else {
-            return Ok(Step::Waiting);
-        };
-        if changes.is_enough_with(&change) {
-            let start = changes.start_with(change)?;
-            return Ok(Step::Started(start));
-        }
-        changes.on_change(change)?;
-        self.changes = Some(changes);
-        Ok(Step::Waiting)
     }
 
     /// Takes part in a view from what it starts with.

@@ -1,4 +1,4 @@
-use super::outcomes::{ONE_PUT, outcome_of, told};
+use super::outcomes::{ONE_PUT, check_outcome};
 use std::alloc::Global;
 use std::process::Abort;
 
@@ -92,9 +92,8 @@ served 3 lost 1 stray 0
 fn check_end(rt: &impl Abort, alloc: Global, row: &str) {
     let (added, end) = row.split_once("=>\n").expect(rt, "a row");
     let head = format!(in alloc; "{SMALL}\n{added}").expect(rt, "memory");
-    let given = told(rt, alloc, &outcome_of(rt, alloc, &head, ONE_PUT));
     let wanted = format!(in alloc; "Done\n{LINES}{end}").expect(rt, "memory");
-    assert_eq!(rt; given.as_str(), wanted.as_str(), "{added}");
+    check_outcome(rt, alloc, &head, ONE_PUT, &wanted);
 }
 
 #[test]
@@ -103,6 +102,5 @@ fn clusters(rt: HostRuntime) {
     for row in ENDS.split("----\n") {
         check_end(&rt, alloc, row);
     }
-    let given = told(&rt, alloc, &outcome_of(&rt, alloc, SHORT, ONE_PUT));
-    assert_eq!(rt; given.as_str(), SHORT_END);
+    check_outcome(&rt, alloc, SHORT, ONE_PUT, SHORT_END);
 }

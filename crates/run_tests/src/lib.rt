@@ -6,16 +6,10 @@ mod clusters;
 #[cfg(test)]
 mod devices;
 #[cfg(test)]
-mod failing;
-#[cfg(test)]
 mod faults;
-#[cfg(test)]
-mod memory;
 #[cfg(test)]
 mod outcomes;
 #[cfg(test)]
 mod rows;
 #[cfg(test)]
 mod runs;
-#[cfg(test)]
-mod worlds;

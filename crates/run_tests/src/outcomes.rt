@@ -6,7 +6,8 @@ ghost use Rattle.outside.specs.Memory.{IsFresh, MayAnswer};
 use commands::{Status, run};
 use nop_types::{Bytes, MAX_DATAGRAM_BYTES};
 use outside::{
-    CallPlan, ClockMem, Failing, LinkMem, PollAnswer, PortsMem, ReadMem, Sent, WriteMem,
+    CallPlan, Clock, ClockMem, Failing, LinkMem, PollAnswer, Ports, PortsMem, ReadMem, Sent, Sink,
+    Source, WriteMem,
 };
 use std::alloc::Global;
 use std::process::Abort;
@@ -31,6 +32,20 @@ pub fn words_of(rt: &impl Abort, alloc: Global, text: &str) -> Vec<String> {
         words.push(word).expect(rt, "memory");
     }
     words
+}
+
+/// Runs the words of a line over these devices.
+pub fn run_line<S: Source, K: Sink, P: Ports, C: Clock>(
+    rt: &impl Abort,
+    alloc: Global,
+    line: &str,
+    source: &mut S,
+    sink: &mut K,
+    ports: &mut P,
+    clock: &mut C,
+) -> Status {
+    let words = words_of(rt, alloc, line);
+    run(alloc, &words, source, sink, ports, clock)
 }
 
 /// What stands behind a key at the begin of a line, nothing where there is none.
@@ -135,7 +150,7 @@ fn ports_of(rt: &impl Abort, alloc: Global, head: &str) -> PortsMem<Failing> {
 }
 
 /// Adds a line for each port and datagram that was sent.
-pub fn put_sent(rt: &impl Abort, alloc: Global, all: &[Sent], lines: &mut String) {
+fn put_sent(rt: &impl Abort, alloc: Global, all: &[Sent], lines: &mut String) {
     for sent in all {
         let digits = hex::encode(alloc, sent.bytes.as_slice()).expect(rt, "memory");
         let line = format!(in alloc; "{} {digits}\n", sent.port).expect(rt, "memory");
@@ -154,14 +169,15 @@ fn sent_lines<P: CallPlan>(rt: &impl Abort, alloc: Global, links: &[LinkMem<P>])
 /// Runs the words of the first line. Each further line says of a device, behind a word, how many bytes a call moves and which fail, or
 /// what it answers.
 pub fn outcome_of(rt: &impl Abort, alloc: Global, head: &str, schedule: &str) -> Outcome {
-    let words = words_of(rt, alloc, head.lines().next().unwrap_or(""));
+    let line = head.lines().next().unwrap_or("");
     let mut source = source_of(rt, alloc, head, schedule);
     let mut sink = sink_of(rt, alloc, head);
     let mut ports = ports_of(rt, alloc, head);
     let mut clock = ClockMem::new(alloc);
-    let status = run(
+    let status = run_line(
+        rt,
         alloc,
-        &words,
+        line,
         &mut source,
         &mut sink,
         &mut ports,
@@ -175,8 +191,14 @@ pub fn outcome_of(rt: &impl Abort, alloc: Global, head: &str, schedule: &str) ->
 }
 
 /// The status, what was written, with a bar behind it, and what was sent.
-pub fn told(rt: &impl Abort, alloc: Global, outcome: &Outcome) -> String {
+fn told(rt: &impl Abort, alloc: Global, outcome: &Outcome) -> String {
     let written = std::str::from_utf8(&outcome.written).expect(rt, "text");
     let text = format!(in alloc; "{:?}\n{written}|\n{}", outcome.status, outcome.sent);
     text.expect(rt, "memory")
+}
+
+/// Compares what a run ends with.
+pub fn check_outcome(rt: &impl Abort, alloc: Global, head: &str, schedule: &str, wanted: &str) {
+    let given = told(rt, alloc, &outcome_of(rt, alloc, head, schedule));
+    assert_eq!(rt; given.as_str(), wanted, "{head}");
 }

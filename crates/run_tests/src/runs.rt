@@ -1,7 +1,10 @@
-use super::outcomes::{ONE_PUT, datagram, outcome_of, put_sent, told, words_of};
+ghost use Rattle.std.specs.Prelude.{◌≤◌};
+
+use super::outcomes::{ONE_PUT, check_outcome, datagram, words_of};
 use super::rows::ROWS;
 use commands::run_in_memory;
 use outside::{ClockMem, LinkMem, PollAnswer, PortsMem, ReadMem, WriteMem};
+use replay::replay;
 use std::alloc::Global;
 use std::process::Abort;
 
@@ -173,16 +176,11 @@ nopaxos cluster --replicas 3 --sequencers 1 --clients 17 50
 nopaxos cluster --replicas 3 --sequencers 1 --clients 1 --turns 0 50
 nopaxos cluster --replicas 3 --sequencers 1 --clients 1 --turns 10001 50";
 
-fn check(rt: &impl Abort, alloc: Global, head: &str, schedule: &str, wanted: &str) {
-    let given = told(rt, alloc, &outcome_of(rt, alloc, head, schedule));
-    assert_eq!(rt; given.as_str(), wanted, "{head}");
-}
-
 /// A run of the table. Where it has no schedule, the source has the one put.
 fn check_run(rt: &impl Abort, alloc: Global, run: &str) {
     let (head, wanted) = run.split_once("=> ").expect(rt, "a run");
     let (head, schedule) = head.split_once("schedule\n").unwrap_or((head, ONE_PUT));
-    check(rt, alloc, head, schedule, wanted);
+    check_outcome(rt, alloc, head, schedule, wanted);
 }
 
 #[test]
@@ -194,7 +192,7 @@ fn runs(rt: HostRuntime) {
 
 fn check_words(rt: &impl Abort, alloc: Global, words: &str) {
     let head = format!(in alloc; "{words}\nreads 82\nwrites 16").expect(rt, "memory");
-    check(rt, alloc, &head, ONE_PUT, USAGE);
+    check_outcome(rt, alloc, &head, ONE_PUT, USAGE);
 }
 
 #[test]
@@ -213,7 +211,7 @@ fn check_transcript(rt: &impl Abort, alloc: Global, row: &str) {
         "Malformed"
     };
     let wanted = format!(in alloc; "{status}\n{transcript}|\n").expect(rt, "memory");
-    check(
+    check_outcome(
         rt,
         alloc,
         "nopaxos replay\nreads 82\nwrites 16",
@@ -227,6 +225,68 @@ fn transcripts(rt: HostRuntime) {
     for row in ROWS.split("----\n") {
         check_transcript(&rt, rt.alloc(), row);
     }
+}
+
+/// A schedule, and its transcript: no events, two crashes of one replica, a refused event, an actor that is not there.
+const REPLAYS: &str = "\
+nopaxos 1 replicas 1 sequencers 1 clients 1
+|
+transcript 1 replicas 1 sequencers 1 clients 1
+replica r0 up normal 0 1 0 0
+end
+----
+nopaxos 1 replicas 1 sequencers 1 clients 1
+crash r0
+crash r0
+|
+transcript 1 replicas 1 sequencers 1 clients 1
+dead r0
+replica r0 crashed normal 0 1 0 0
+end
+----
+nopaxos 1 replicas 1 sequencers 1 clients 1
+submit c0 -
+submit c0 -
+deliver 1 r0
+crash|
+transcript 1 replicas 1 sequencers 1 clients 1
+submit c0 1 -
+send 0 c0 s* request 18
+busy c0
+error line 4 rule 8 index 1 sent 1
+----
+nopaxos 1 replicas 1 sequencers 1 clients 1
+deliver 0 r1
+|
+transcript 1 replicas 1 sequencers 1 clients 1
+error line 2 rule 7
+";
+
+/// Replays what stands before the bar, with reads of at most so many bytes, and compares what is written with what stands below it.
+fn check_replay(rt: &impl Abort, alloc: Global, row: &str, bar: &str, most: usize)
+    requires { 1 ≤ most }
+{
+    let (schedule, transcript) = row.split_once(bar).expect(rt, "a row");
+    let bytes = schedule.as_bytes().to_vec(alloc).expect(rt, "memory");
+    let mut source = ReadMem::with_limit(bytes, most);
+    let mut sink = WriteMem::new(alloc);
+    let end = replay(alloc, &mut source, &mut sink);
+    assert!(rt; end.is_ok() == transcript.ends_with("end\n"));
+    assert!(rt; sink.as_slice() == transcript.as_bytes(), "{row}");
+}
+
+fn check_replays(rt: &impl Abort, alloc: Global, rows: &str, bar: &str) {
+    for row in rows.split("----\n") {
+        check_replay(rt, alloc, row, bar, 1);
+        check_replay(rt, alloc, row, bar, 7);
+        check_replay(rt, alloc, row, bar, 4096);
+    }
+}
+
+#[test]
+fn replays(rt: HostRuntime) {
+    check_replays(&rt, rt.alloc(), ROWS, "=>\n");
+    check_replays(&rt, rt.alloc(), REPLAYS, "|\n");
 }
 
 /// A sequencer over devices in memory that never fail.
@@ -250,14 +310,8 @@ fn in_memory(rt: HostRuntime) {
         &mut ports,
         &mut clock,
     );
-    let mut lines = String::new(alloc);
-    put_sent(
-        &rt,
-        alloc,
-        ports.detached().first().expect(&rt, "a link").sent(),
-        &mut lines,
-    );
-    assert_eq!(rt; status as u8, 0);
-    assert_eq!(rt; sink.as_slice(), b"served 1 lost 0\n".as_slice());
-    assert_eq!(rt; lines.lines().count(), 3);
+    let link = ports.detached().first().expect(&rt, "a link");
+    assert!(rt; status as u8 == 0);
+    assert!(rt; sink.as_slice() == b"served 1 lost 0\n".as_slice());
+    assert!(rt; link.sent().len() == 3);
 }

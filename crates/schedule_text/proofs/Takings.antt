@@ -1,5 +1,5 @@
 -- Steps of a reader, one after the other.
-use Rattle.std.proofs.Common.{◌≡◌, ℕ, Bool, true, false, List, [], ◌∷◌, ◌++◌, Option, Some, None, Result, Err, refl, sym, ap, subst}
+use Rattle.std.proofs.Common.{◌≡◌, ℕ, Bool, true, false, List, [], ◌∷◌, ◌++◌, Option, Some, None, Result, Err, refl, sym, ap}
 use Rattle.std.proofs.Common.{◌∙◌, append_assoc, eqb}
 use Rattle.std.proofs.lemmas.Bool.{false≢true, eqb-true}
 use Rattle.schedule_text.specs.declared.event.Event.{Event}

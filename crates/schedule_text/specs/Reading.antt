@@ -89,7 +89,7 @@ TakesOf old new None after answer = ⊤
 TakesOf old new (Some before) None answer = ⊥
 TakesOf old new (Some before) (Some left) answer = (taken : List ℕ) × (before ≡ taken ++ left) × Takes old new taken left answer
 
--- the same of any source: there are bytes that the call read so that its answer is what the rules say of them
+-- the same of any source: behind what was left over, there are bytes of which the rules say what the call answers
 unfoldable pub Reads : Reading → Reading → Result (Option Event) NextError → Type 0
 Reads old new answer = (taken : List ℕ) × Takes old new taken [] answer
 

@@ -72,13 +72,11 @@ fn put_junk(bytes: &[u8], to: &mut Text) {
     to.put(" bytes");
 }
 
-/// The op that is submitted, or how many bytes of junk come.
-pub fn submitted(alloc: Global, event: &Event) -> Result<String, NoMemory> {
-    let mut text = Text::new(alloc);
+/// Appends the op that is submitted, or how many bytes of junk come.
+pub fn put_submitted(event: &Event, to: &mut Text) {
     match event {
-        Event::Submit(_, op) => put_op(op.as_slice(), &mut text),
-        Event::Junk(_, bytes) => put_junk(bytes.as_slice(), &mut text),
+        Event::Submit(_, op) => put_op(op.as_slice(), to),
+        Event::Junk(_, bytes) => put_junk(bytes.as_slice(), to),
         _ => {}
     }
-    text.finish()
 }

@@ -3,6 +3,7 @@
 
 mod error;
 mod events;
+mod notes;
 mod observing;
 mod recorder;
 mod run;
@@ -25,12 +26,16 @@ fn complain(rt: &HostRuntime, error: DrawError) {
     }
 }
 
+/// Whether there are words on the command line.
+fn has_words(rt: &HostRuntime) -> bool {
+    match std::env::args(rt) {
+        Ok(args) => args.count() > 1,
+        Err(_) => true,
+    }
+}
+
 fn main(rt: HostRuntime) -> ExitCode {
-    let words = match std::env::args(&rt) {
-        Ok(args) => args.count(),
-        Err(_) => 2,
-    };
-    if words > 1 {
+    if has_words(&rt) {
         let _ = rt.eprintln(USAGE_LINE);
         return ExitCode::from(Status::Usage as u8);
     }

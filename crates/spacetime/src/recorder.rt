@@ -1,14 +1,22 @@
 //! What a picture shows of a run, as it goes on.
 
-use crate::events::{actor_of, event_text, submitted};
-use crate::observing::{Observed, Turn};
+use crate::events::{actor_of, event_text, put_submitted};
+use crate::notes::Notes;
 use crate::standing::{Standing, put_changes, role};
-use flights::{Crash, Flight, actors, deliver, lanes, losses};
-use labels::put_note;
-use nop_types::{Actor, Config, NoMemory};
-use picture::{Mark, Note, Picture, Role, Row, Stretch, Text, same};
+use flights::{Crash, Flight, Leg, actors, deliver, lanes, losses};
+use labels::Label;
+use nop_types::{Actor, Config, Dest, NoMemory};
+use picture::{Mark, Note, Picture, Role, Row, Stretch, Text, draw, same};
 use schedule_text::Event;
 use std::alloc::Global;
+
+/// The actor whose step an event is, the row of the event, and how many datagrams were sent before.
+#[derive(Clone, Copy)]
+pub struct Turn {
+    pub actor: Actor,
+    pub row: usize,
+    pub sent_before: u64,
+}
 
 /// A replica as it stands, its role, and since which row it has it, None from the top.
 #[derive(Drop)]
@@ -18,7 +26,7 @@ struct Watched {
     since: Option<usize>,
 }
 
-/// What a picture shows of a run so far.
+/// What a picture shows of a run so far. Want of memory is told at the end of a turn.
 #[derive(Drop)]
 pub struct Recorder {
     alloc: Global,
@@ -26,37 +34,10 @@ pub struct Recorder {
     watched: Vec<Watched>,
     flights: Vec<Flight>,
     crashes: Vec<Crash>,
+    /// The notes of the row that comes next.
+    notes: Notes,
     picture: Picture,
-}
-
-fn watched_from(standing: Standing, replicas: u8) -> Watched {
-    let role = role(&standing, replicas);
-    Watched {
-        standing,
-        role,
-        since: None,
-    }
-}
-
-fn watched_all(
-    alloc: Global,
-    standings: Vec<Standing>,
-    replicas: u8,
-) -> Result<Vec<Watched>, NoMemory> {
-    let mut watched = Vec::new(alloc);
-    for standing in standings {
-        watched.push(watched_from(standing, replicas))?;
-    }
-    Ok(watched)
-}
-
-/// One note at least: whether something was sent.
-fn fill(alloc: Global, sends: bool, notes: &mut Vec<Note>) -> Result<(), NoMemory> {
-    if !notes.is_empty() {
-        return Ok(());
-    }
-    let mark = if sends { Mark::Acted } else { Mark::Idle };
-    put_note(mark, Text::new(alloc), notes)
+    failed: bool,
 }
 
 /// The row in which an actor crashed.
@@ -121,47 +102,24 @@ fn compare(
     row: usize,
     after: Standing,
     watched: &mut Watched,
-    notes: &mut Vec<Note>,
-) -> Result<Option<Stretch>, NoMemory> {
-    put_changes(alloc, &watched.standing, &after, notes)?;
+    notes: &mut Notes,
+) -> Option<Stretch> {
+    put_changes(alloc, &watched.standing, &after, notes);
     let role = role(&after, replicas);
     watched.standing = after;
-    Ok(change_role(role, row, watched))
-}
-
-/// Keeps a crash, unless the actor had crashed before.
-fn crash(
-    alloc: Global,
-    turn: Turn,
-    crashes: &mut Vec<Crash>,
-    notes: &mut Vec<Note>,
-) -> Result<(), NoMemory> {
-    if !notes.is_empty() {
-        return Ok(());
-    }
-    crashes.push(Crash {
-        actor: turn.actor,
-        row: turn.row,
-    })?;
-    let mut text = Text::new(alloc);
-    text.put("crash");
-    put_note(Mark::Crashed, text, notes)
+    change_role(role, row, watched)
 }
 
 impl Recorder {
-    /// The replicas at the top, in order.
-    pub fn new(
-        alloc: Global,
-        config: Config,
-        standings: Vec<Standing>,
-    ) -> Result<Recorder, NoMemory> {
-        let watched = watched_all(alloc, standings, config.replicas())?;
-        Ok(Recorder {
+    /// Nothing happened so far.
+    pub fn new(alloc: Global, config: Config) -> Recorder {
+        Recorder {
             alloc,
             config,
-            watched,
+            watched: Vec::new(alloc),
             flights: Vec::new(alloc),
             crashes: Vec::new(alloc),
+            notes: Notes::new(alloc),
             picture: Picture {
                 lanes: Vec::new(alloc),
                 rows: Vec::new(alloc),
@@ -169,7 +127,19 @@ impl Recorder {
                 losses: Vec::new(alloc),
                 stretches: Vec::new(alloc),
             },
-        })
+            failed: false,
+        }
+    }
+
+    /// The next of the replicas, as it stands at the top.
+    pub fn watch(&mut self, standing: Standing) {
+        let role = role(&standing, self.config.replicas());
+        let watched = Watched {
+            standing,
+            role,
+            since: None,
+        };
+        self.failed |= self.watched.push(watched).is_err();
     }
 
     /// The turn of an event that comes next.
@@ -181,87 +151,125 @@ impl Recorder {
         }
     }
 
-    /// The arrow of a delivery, and what was delivered or submitted.
+    /// The arrow of a delivery. Appends what was delivered.
+    fn deliver(&mut self, index: u64, to: Actor, row: usize, detail: &mut Text) {
+        if let Some(flight) = self.flights.get_mut(index as usize) {
+            detail.put(flight.text.as_str());
+            match deliver(flight, to, row) {
+                Ok(arrow) => self.failed |= self.picture.arrows.push(arrow).is_err(),
+                Err(_) => self.failed = true,
+            }
+        }
+    }
+
+    /// What was delivered or submitted.
     fn detail(&mut self, event: &Event, row: usize) -> Result<String, NoMemory> {
-        let Event::Deliver(index, to) = event else {
-            return submitted(self.alloc, event);
+        let mut detail = Text::new(self.alloc);
+        match event {
+            Event::Deliver(index, to) => self.deliver(*index, *to, row, &mut detail),
+            _ => put_submitted(event, &mut detail),
+        }
+        detail.finish()
+    }
+
+    /// What a client did in a turn.
+    pub fn put_said(&mut self, notes: Vec<Note>) {
+        self.notes.set(notes);
+    }
+
+    /// A datagram that was sent in a turn.
+    pub fn put_sent(&mut self, turn: Turn, dest: Dest, label: Label) {
+        self.notes.extend(label.note);
+        let flight = Flight {
+            leg: Leg {
+                purpose: label.purpose,
+                from: turn.actor,
+                sent: turn.row,
+                dest,
+            },
+            text: label.text,
+            brief: label.brief,
+            reached: Vec::new(self.alloc),
         };
-        match self.flights.get_mut(*index as usize) {
-            Some(flight) => {
-                let arrow = deliver(flight, *to, row)?;
-                self.picture.arrows.push(arrow)?;
-                Ok(String::from_str(self.alloc, flight.text.as_str())?)
-            }
-            None => Ok(String::new(self.alloc)),
-        }
+        self.failed |= self.flights.push(flight).is_err();
     }
 
-    /// What changed at a replica.
-    fn change(
-        &mut self,
-        row: usize,
-        after: Standing,
-        notes: &mut Vec<Note>,
-    ) -> Result<(), NoMemory> {
+    /// How a replica stands after a turn.
+    pub fn put_standing(&mut self, turn: Turn, after: Standing) {
         let replicas = self.config.replicas();
+        let notes = &mut self.notes;
         if let Some(watched) = self.watched.get_mut(after.number as usize) {
-            let stretch = compare(self.alloc, replicas, row, after, watched, notes)?;
+            let stretch = compare(self.alloc, replicas, turn.row, after, watched, notes);
             if let Some(stretch) = stretch {
-                self.picture.stretches.push(stretch)?;
+                self.failed |= self.picture.stretches.push(stretch).is_err();
             }
         }
-        Ok(())
     }
 
-    /// What the step of an actor shows.
-    fn note(&mut self, event: &Event, turn: Turn, observed: &mut Observed) -> Result<(), NoMemory> {
-        let sends = !observed.sent.is_empty();
-        self.flights.append(&mut observed.sent)?;
-        if let Some(after) = observed.after.take() {
-            self.change(turn.row, after, &mut observed.notes)?;
+    /// Keeps a crash, unless the actor had crashed before.
+    fn put_crash(&mut self, turn: Turn) {
+        if self.notes.is_empty() {
+            let crash = Crash {
+                actor: turn.actor,
+                row: turn.row,
+            };
+            self.failed |= self.crashes.push(crash).is_err();
+            let mut text = Text::new(self.alloc);
+            text.put("crash");
+            self.notes.put(Mark::Crashed, text);
         }
+    }
+
+    /// One note at least: whether something was sent.
+    fn fill(&mut self, turn: Turn) {
+        if self.notes.is_empty() {
+            let sends = self.flights.len() as u64 > turn.sent_before;
+            let mark = if sends { Mark::Acted } else { Mark::Idle };
+            self.notes.put(mark, Text::new(self.alloc));
+        }
+    }
+
+    /// The row of a turn, after all that was seen of it.
+    pub fn end(&mut self, line: u32, event: &Event, turn: Turn) -> Result<(), NoMemory> {
         if let Event::Crash(_) = event {
-            crash(self.alloc, turn, &mut self.crashes, &mut observed.notes)?;
+            self.put_crash(turn);
         }
-        fill(self.alloc, sends, &mut observed.notes)
-    }
-
-    /// Keeps what was seen of the event of a line.
-    pub fn keep(
-        &mut self,
-        line: u32,
-        event: &Event,
-        mut observed: Observed,
-    ) -> Result<(), NoMemory> {
-        let turn = self.turn(event);
-        self.note(event, turn, &mut observed)?;
+        self.fill(turn);
         let detail = self.detail(event, turn.row)?;
+        if self.failed {
+            return Err(NoMemory);
+        }
         let words = event_text(self.alloc, event)?;
         self.picture.rows.push(Row {
             line,
             actor: turn.actor,
             event: words,
             detail,
-            notes: observed.notes,
+            notes: self.notes.take()?,
         })?;
         Ok(())
     }
 
-    /// The lanes, and where they end.
-    fn close(&mut self) -> Result<(), NoMemory> {
-        let actors = actors(self.alloc, self.config)?;
-        let losses = losses(self.alloc, &actors, &self.flights, &self.crashes)?;
-        let lanes = lanes(self.alloc, &actors, &self.picture.rows, &losses)?;
-        let stretches = &mut self.picture.stretches;
-        put_last(&lanes, &self.watched, &self.crashes, stretches)?;
-        self.picture.lanes = lanes;
-        self.picture.losses = losses;
-        Ok(())
+    /// The lanes of these actors, and where they end.
+    fn close(&mut self, actors: &[Actor]) -> Result<(), NoMemory> {
+        let picture = &mut self.picture;
+        picture.losses = losses(self.alloc, actors, &self.flights, &self.crashes)?;
+        picture.lanes = lanes(self.alloc, actors, &picture.rows, &picture.losses)?;
+        put_last(
+            &picture.lanes,
+            &self.watched,
+            &self.crashes,
+            &mut picture.stretches,
+        )
     }
 
-    /// The picture of what happened so far.
-    pub fn finish(mut self) -> Result<Picture, NoMemory> {
-        self.close()?;
-        Ok(self.picture)
+    /// The picture of what happened, as SVG.
+    pub fn drawing(&mut self) -> Result<String, NoMemory> {
+        if self.failed {
+            return Err(NoMemory);
+        }
+        let actors = actors(self.alloc, self.config)?;
+        self.close(&actors)?;
+        draw(self.alloc, &self.picture)
     }
 }

@@ -4,11 +4,11 @@ ghost use Rattle.std.specs.Prelude.{◌≡◌, IfErr};
 ghost use Rattle.spacetime.specs.Errors.{IsOfSchedule};
 
 use crate::error::DrawError;
-use crate::observing::{observe, standings, step};
+use crate::observing::{observe, refusal, watch};
 use crate::recorder::Recorder;
 use nop_types::{Config, Host, MAX_LINES, NoMemory};
 use outside::{Sink, Source, write_all};
-use picture::{Picture, Text, draw};
+use picture::Text;
 use schedule_text::{Event, Reader};
 use std::alloc::Global;
 use world::{Lines, World};
@@ -23,8 +23,8 @@ fn keep<H: Host>(
     recorder: &mut Recorder,
 ) -> Result<(), NoMemory> {
     let turn = recorder.turn(event);
-    let observed = observe(alloc, world, turn, lines.text.as_slice())?;
-    recorder.keep(line, event, observed)
+    observe(alloc, world, turn, lines, recorder)?;
+    recorder.end(line, event, turn)
 }
 
 /// Carries out the event of a line.
@@ -35,65 +35,46 @@ fn carry_out<H: Host>(
     event: &Event,
     recorder: &mut Recorder,
 ) -> Result<(), DrawError> {
-    let lines = step(world, line, event)?;
-    keep(alloc, world, line, event, &lines, recorder)?;
-    Ok(())
+    match world.step(event) {
+        Ok(lines) => Ok(keep(alloc, world, line, event, &lines, recorder)?),
+        Err(error) => Err(refusal(line, error)),
+    }
 }
 
-/// Carries out the events of a schedule.
-fn carry_out_all<H: Host, S: Source>(
+/// Carries out the events of a schedule, from a world in its opening state on, and draws what was seen.
+fn record<H: Host, S: Source>(
     alloc: Global,
     reader: &mut Reader,
     source: &mut S,
     world: &mut World<H>,
     recorder: &mut Recorder,
-) -> Result<(), DrawError> {
+) -> Result<String, DrawError> {
+    watch(alloc, world, recorder)?;
     for _turn in 0..MAX_LINES {
         let Some(event) = reader.next(source)? else {
             break;
         };
         carry_out(alloc, world, reader.line(), &event, recorder)?;
     }
-    Ok(())
+    Ok(recorder.drawing()?)
 }
 
-fn recorder_of<H: Host>(alloc: Global, world: &World<H>) -> Result<Recorder, NoMemory> {
-    let standings = standings(alloc, world)?;
-    Recorder::new(alloc, world.config(), standings)
-}
-
-/// The run of a world in its opening state.
-fn record_from<H: Host, S: Source>(
-    alloc: Global,
-    reader: &mut Reader,
-    source: &mut S,
-    world: &mut World<H>,
-) -> Result<Picture, DrawError> {
-    let mut recorder = recorder_of(alloc, world)?;
-    carry_out_all(alloc, reader, source, world, &mut recorder)?;
-    Ok(recorder.finish()?)
-}
-
-fn record_events<H: Host, S: Source>(
+/// The picture of a schedule whose first line was read.
+fn drawing_of<H: Host, S: Source>(
     alloc: Global,
     config: Config,
     reader: &mut Reader,
     source: &mut S,
-) -> Result<Picture, DrawError> {
+) -> Result<String, DrawError> {
     let mut world: World<H> = World::new(alloc, config)?;
-    record_from(alloc, reader, source, &mut world)
-}
-
-/// Reads a schedule and carries it out.
-fn record<H: Host, S: Source>(alloc: Global, source: &mut S) -> Result<Picture, DrawError> {
-    let mut reader = Reader::new(alloc);
-    let config = reader.open(source)?;
-    record_events::<H, S>(alloc, config, &mut reader, source)
+    let mut recorder = Recorder::new(alloc, config);
+    record(alloc, reader, source, &mut world, &mut recorder)
 }
 
 fn drawing<H: Host, S: Source>(alloc: Global, source: &mut S) -> Result<String, DrawError> {
-    let picture = record::<H, S>(alloc, source)?;
-    Ok(draw(alloc, &picture)?)
+    let mut reader = Reader::new(alloc);
+    let config = reader.open(source)?;
+    drawing_of::<H, S>(alloc, config, &mut reader, source)
 }
 
 /// Reads a schedule, carries it out, and writes the picture. Nothing is written where the schedule

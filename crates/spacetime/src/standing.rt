@@ -1,8 +1,9 @@
 //! How a replica stands, and what a step changed.
 
-use labels::{put_note, put_request, put_view};
+use crate::notes::Notes;
+use labels::{put_request, put_view};
 use nop_types::{Entry, Host, NoMemory, Phase, View, leader_of};
-use picture::{Mark, Note, Role, Text};
+use picture::{Mark, Role, Text};
 use replica_core::Replica;
 use std::alloc::Global;
 
@@ -77,18 +78,11 @@ fn role_in(view: View, number: u8, replicas: u8) -> Role {
 }
 
 /// Appends a note, one of whose parts is a number.
-fn put_count(
-    alloc: Global,
-    mark: Mark,
-    before: &str,
-    n: u64,
-    after: &str,
-    notes: &mut Vec<Note>,
-) -> Result<(), NoMemory> {
+fn put_count(alloc: Global, mark: Mark, before: &str, n: u64, after: &str, notes: &mut Notes) {
     let mut text = Text::new(alloc);
     text.numbered(before, n);
     text.put(after);
-    put_note(mark, text, notes)
+    notes.put(mark, text);
 }
 
 fn put_phase(view: View, status: Phase, to: &mut Text) -> Mark {
@@ -105,10 +99,10 @@ fn put_phase(view: View, status: Phase, to: &mut Text) -> Mark {
     }
 }
 
-fn note_view(alloc: Global, after: &Standing, notes: &mut Vec<Note>) -> Result<(), NoMemory> {
+fn note_view(alloc: Global, after: &Standing, notes: &mut Notes) {
     let mut text = Text::new(alloc);
     let mark = put_phase(after.view, after.status, &mut text);
-    put_note(mark, text, notes)
+    notes.put(mark, text);
 }
 
 fn put_held(slot: usize, held: Option<Held>, to: &mut Text) -> Mark {
@@ -126,15 +120,10 @@ fn put_held(slot: usize, held: Option<Held>, to: &mut Text) -> Mark {
     }
 }
 
-fn note_slot(
-    alloc: Global,
-    slot: usize,
-    held: Option<Held>,
-    notes: &mut Vec<Note>,
-) -> Result<(), NoMemory> {
+fn note_slot(alloc: Global, slot: usize, held: Option<Held>, notes: &mut Notes) {
     let mut text = Text::new(alloc);
     let mark = put_held(slot, held, &mut text);
-    put_note(mark, text, notes)
+    notes.put(mark, text);
 }
 
 fn is_same(a: Option<Held>, b: Option<Held>) -> bool {
@@ -158,58 +147,40 @@ fn put_changed(
     alloc: Global,
     before: &[Option<Held>],
     after: &[Option<Held>],
-    notes: &mut Vec<Note>,
-) -> Result<usize, NoMemory> {
+    notes: &mut Notes,
+) -> usize {
     let mut changed = 0usize;
     for (place, held) in after.iter().enumerate() {
         if is_changed(before, place, *held) {
             if changed < MAX_SLOT_NOTES {
-                note_slot(alloc, place.saturating_add(1), *held, notes)?;
+                note_slot(alloc, place.saturating_add(1), *held, notes);
             }
             changed = changed.saturating_add(1);
         }
     }
-    Ok(changed)
+    changed
 }
 
-fn put_log(
-    alloc: Global,
-    before: &[Option<Held>],
-    after: &[Option<Held>],
-    notes: &mut Vec<Note>,
-) -> Result<(), NoMemory> {
-    let changed = put_changed(alloc, before, after, notes)?;
-    let more = changed.saturating_sub(MAX_SLOT_NOTES);
+fn put_log(alloc: Global, before: &[Option<Held>], after: &[Option<Held>], notes: &mut Notes) {
+    let changed = put_changed(alloc, before, after, notes);
+    let more = changed.saturating_sub(MAX_SLOT_NOTES) as u64;
     if more > 0 {
-        put_count(alloc, Mark::Logged, "", more as u64, " more slots", notes)?;
+        put_count(alloc, Mark::Logged, "", more, " more slots", notes);
     }
     if after.len() < before.len() {
-        put_count(
-            alloc,
-            Mark::Logged,
-            "log of ",
-            after.len() as u64,
-            "",
-            notes,
-        )?;
+        let len = after.len() as u64;
+        put_count(alloc, Mark::Logged, "log of ", len, "", notes);
     }
-    Ok(())
 }
 
 /// Appends what changed from one standing of a replica to another.
-pub fn put_changes(
-    alloc: Global,
-    before: &Standing,
-    after: &Standing,
-    notes: &mut Vec<Note>,
-) -> Result<(), NoMemory> {
+pub fn put_changes(alloc: Global, before: &Standing, after: &Standing, notes: &mut Notes) {
     if !before.view.is(after.view) || before.status != after.status {
-        note_view(alloc, after, notes)?;
+        note_view(alloc, after, notes);
     }
-    put_log(alloc, &before.slots, &after.slots, notes)?;
+    put_log(alloc, &before.slots, &after.slots, notes);
     if before.sync_point != after.sync_point {
         let point = u64::from(after.sync_point);
-        put_count(alloc, Mark::Synced, "synced to ", point, "", notes)?;
+        put_count(alloc, Mark::Synced, "synced to ", point, "", notes);
     }
-    Ok(())
 }

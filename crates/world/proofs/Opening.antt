@@ -1,11 +1,21 @@
 -- Actors that are made one after the other.
-use Rattle.std.proofs.Common.{◌≡◌, ℕ, ◌+◌, List, [], ◌∷◌, ◌++◌, sym, ap, ◌∙◌, add-one}
+use Rattle.std.proofs.Common.{◌≡◌, ℕ, ◌+◌, List, [], ◌∷◌, ◌++◌, false, sym, ap, ◌∙◌, add-one}
 use Rattle.std.specs.Prelude.{map}
 use Rattle.std.proofs.lemmas.List.{map-append}
+use Rattle.nop_types.specs.Configuration.{Configuration}
+use Rattle.nop_types.specs.Machine.{Machine}
+use Rattle.client_quorum.specs.declared.state.ClientState.{ClientState}
+use Rattle.replica_core.specs.ReplicaSteps as replica
+use Rattle.replica_core.specs.ReplicaSteps.{Replica}
+use Rattle.sequencer.specs.SequencerSteps as sequencer
+use Rattle.sequencer.specs.declared.state.SequencerState.{SequencerState}
+use Rattle.session_control.specs.ControllerSteps as controller
+use Rattle.session_control.specs.declared.state.ControllerState.{ControllerState}
 use Rattle.world.specs.declared.seat.Seat.{Seat}
+use Rattle.world.specs.Network.{Sent}
 use Rattle.world.specs.Seats.{Seated, seated}
 use Rattle.world.specs.SeatOutcomes.{seated_of}
-use Rattle.world.specs.WorldSteps.{counted}
+use Rattle.world.specs.WorldSteps.{WorldState, counted, opening, opening_client}
 
 -- one more actor
 pub counted_more : {C S : Type 0} (state : C → S) (make : ℕ → S) (n : ℕ) (old new : List (Seat C)) (made : Seat C)
@@ -15,3 +25,14 @@ counted_more {C} {S} state make n old new made so_far pushed opens =
     ap (map (seated_of state)) pushed ∙ map-append (seated_of state) old (made ∷ [])
     ∙ ap (λ (ps : List (Seated S)). ps ++ seated_of state made ∷ []) so_far
     ∙ ap (λ (p : Seated S). counted make n ++ p ∷ []) opens ∙ sym (ap (counted make) (add-one n))
+
+-- all actors in their opening states, and nothing sent
+pub world_opens : (config : Configuration) (rs : List (Seated Replica)) (ss : List (Seated SequencerState)) (cs : List (Seated ClientState))
+    (k : Seat (Machine ControllerState)) (sent : List Sent)
+    → rs ≡ counted (replica.opening config) config.replicas → ss ≡ counted sequencer.opening config.sequencers
+    → cs ≡ counted (opening_client config) config.clients
+    → k ≡ record { core = record { failed = false; state = controller.opening config 1 }; crashed = false } → sent ≡ []
+    → (let w : WorldState = record
+    { config = config; replicas = rs; sequencers = ss; clients = cs; controller = seated_of (λ c. c.state) k; sent = sent } in w)
+    ≡ opening config
+world_opens config rs ss cs k sent a b c d e = cc

@@ -1,4 +1,4 @@
-ghost use Rattle.std.specs.Prelude.{◌≡◌, [], IfOk, IfErr, Ok, length, map};
+ghost use Rattle.std.specs.Prelude.{◌≡◌, IfOk, IfErr, Ok, length, map};
 ghost use Rattle.replica_core.specs.ReplicaSteps as replica;
 ghost use Rattle.sequencer.specs.SequencerSteps as sequencer;
 ghost use Rattle.world.specs.Actors.{world_of, Happens};
@@ -76,8 +76,7 @@ fn clients(alloc: Global, config: Config) -> Result<Vec<Seat<Client>>, NoMemory>
 
 impl<H: Host> Actors<H> {
     /// All actors in their opening states, and nothing sent in the network.
-    pub fn new(alloc: Global, config: Config, network: Network) -> Result<Actors<H>, NoMemory>
-        requires { network ≡ [] }
+    pub fn new(alloc: Global, config: Config) -> Result<Actors<H>, NoMemory>
         ensures opening { IfOk result (λ a. world_of a ≡ opening config) }
         ensures count { IfOk result (λ a. length a.replicas.items ≡ a.config.replicas) }
     {
@@ -87,7 +86,7 @@ impl<H: Host> Actors<H> {
             sequencers: sequencers(alloc, config)?,
             clients: clients(alloc, config)?,
             controller: Seat::new(Controller::new(alloc, config, 1)?),
-            network,
+            network: Network::new(alloc),
         })
     }
 

@@ -1,10 +1,10 @@
-ghost use Rattle.std.specs.Prelude.{◌≡◌, ◌∷◌, [], map, option_map, slice_get};
+ghost use Rattle.std.specs.Prelude.{◌≡◌, ◌∷◌, [], map, slice_get};
 ghost use Rattle.world.specs.Actors.{world_of};
 ghost use Rattle.world.specs.SeatOutcomes.{seated_of};
 ghost use Rattle.world.specs.WorldSteps.{greatest_view, greatest_of, log_of, main_view, main_log};
 
 use crate::actors::Actors;
-use crate::seat::Seat;
+use crate::seat::{Seat, seat_at};
 use nop_types::{Entry, Host, View, leader_of};
 use replica_core::Replica;
 
@@ -49,9 +49,9 @@ pub fn main_view<H: Host>(actors: &Actors<H>) -> View
 /// The log of a replica, empty where there is none.
 fn log_at<H: Host>(seats: &[Seat<Replica<H>>], i: u8) -> &[Entry]
     ensures { result.now
-        ≡ log_of (option_map (seated_of (λ r. r.state)) (slice_get seats.now i)) }
+        ≡ log_of (slice_get (map (seated_of (λ r. r.state)) seats.now) i) }
 {
-    match seats.get(i as usize) {
+    match seat_at(seats, i as usize) {
         Some(seat) => seat.core.log().as_slice(),
         None => &[],
     }

@@ -1,4 +1,17 @@
-ghost use Rattle.std.specs.Prelude.{◌≡◌, OnOk, IfOk, IfErr, false, length, option_map, slice_get, map};
+ghost use Rattle.std.specs.Prelude.{
+  ◌≡◌,
+  ◌↔◌,
+  ◌<◌,
+  IsSome,
+  OnOk,
+  IfOk,
+  IfErr,
+  false,
+  length,
+  option_map,
+  slice_get,
+  map,
+};
 ghost use Rattle.world.specs.Seats.{seat_step};
 ghost use Rattle.world.specs.SeatOutcomes.{seated_of, did_of, owned, Moves, MovesAt, Refuses};
 ghost use Rattle.world.specs.Lookups.{timers_if};
@@ -91,12 +104,24 @@ pub fn take_at<C: Core>(
 }
 
 /// The actor with this number, None where there is none.
-fn seat_at<C: Core>(seats: &[Seat<C>], number: usize) -> Option<&Seat<C>>
+pub fn seat_at<C: Core>(seats: &[Seat<C>], number: usize) -> Option<&Seat<C>>
     ensures { option_map (λ p. seated_of C.state p.now) result
         ≡ slice_get (map (seated_of C.state) seats.now) number }
 {
     match seats.get(number) {
         Some(seat) => Some(seat),
+        None => None,
+    }
+}
+
+/// The core of the actor with this number, None where there is none.
+pub fn core_at<C: Core>(seats: &[Seat<C>], number: usize) -> Option<&C>
+    ensures some { IsSome result ↔ (number < length seats.now) }
+    ensures state { option_map (λ c. C.state c.now) result
+        ≡ option_map (λ p. p.state) (slice_get (map (seated_of C.state) seats.now) number) }
+{
+    match seats.get(number) {
+        Some(seat) => Some(&seat.core),
         None => None,
     }
 }

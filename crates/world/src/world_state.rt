@@ -29,6 +29,7 @@ use crate::history::history_of;
 use crate::lines::Lines;
 use crate::main_log::main_log;
 use crate::network::Network;
+use crate::seat::core_at;
 use crate::state_lines::put_replicas;
 use crate::step_error::StepError;
 use nop_types::{Actor, Config, Host, NoMemory, Request};
@@ -47,7 +48,6 @@ fn limits(event: &Event)
 }
 
 /// All actors and the network. One event is one step of one actor.
-#[derive(Drop)]
 pub struct World<H: Host> {
     alloc: Global,
     failed: bool,
@@ -73,12 +73,23 @@ impl<H: Host> Model for World<H> {
     ghost invariant = { λ w. length w.actors.replicas.items ≡ w.actors.config.replicas };
 }
 
+// By hand, so that a crate with a world proves nothing on how its parts are dropped.
+impl<H: Host> Drop for World<H> {
+    fn drop(self) {
+        let World {
+            alloc: _alloc,
+            failed: _failed,
+            actors: _actors,
+        } = self;
+    }
+}
+
 impl<H: Host> World<H> {
     /// All actors in their opening states, and nothing sent.
     pub fn new(alloc: Global, config: Config) -> Result<World<H>, NoMemory>
         ensures { IfOk result (λ w. w ≡ record { failed = false; state = opening config }) }
     {
-        let actors = Actors::new(alloc, config, Network::new(alloc))?;
+        let actors = Actors::new(alloc, config)?;
         Ok(World {
             alloc,
             failed: false,
@@ -91,7 +102,8 @@ impl<H: Host> World<H> {
     pub fn with_index(alloc: Global, config: Config) -> Result<World<H>, NoMemory>
         ensures { IfOk result (λ w. w ≡ record { failed = false; state = opening config }) }
     {
-        let actors = Actors::new(alloc, config, Network::with_index(alloc))?;
+        let mut actors = Actors::new(alloc, config)?;
+        actors.network = Network::with_index(alloc);
         Ok(World {
             alloc,
             failed: false,
@@ -147,10 +159,7 @@ impl<H: Host> World<H> {
         ensures state { option_map (λ r. r.now.state) result
             ≡ option_map (λ p. p.state) (slice_get self.now.state.replicas i) }
     {
-        match self.actors.replicas.get(i as usize) {
-            Some(seat) => Some(&seat.core),
-            None => None,
-        }
+        core_at(&self.actors.replicas, i as usize)
     }
 
     /// Whether an actor crashed, false for an actor that is not of the configuration.

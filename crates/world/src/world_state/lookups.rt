@@ -5,7 +5,7 @@ ghost use Rattle.world.specs.Finding.{first_index};
 ghost use Rattle.world.specs.Lookups.{timers_of, takes_op};
 
 use super::World;
-use crate::seat::timer_at;
+use crate::seat::{seat_at, timer_at};
 use nop_types::{Actor, Core, Host, Tick};
 
 impl<H: Host> World<H> {
@@ -35,7 +35,7 @@ impl<H: Host> World<H> {
     pub fn takes(&self, client: u32) -> bool
         ensures { result ≡ takes_op self.now.state client }
     {
-        match self.actors.clients.get(client as usize) {
+        match seat_at(&self.actors.clients, client as usize) {
             Some(seat) => !seat.crashed && seat.core.can_submit(),
             None => false,
         }

@@ -1,12 +1,12 @@
-use Rattle.std.proofs.Common.{◌≡◌, refl, ◌∙◌, ◌++◌, List, ℕ, ap, arith}
+use Rattle.std.proofs.Common.{◌≡◌, refl, ◌∙◌, ap}
 use Rattle.std.proofs.lemmas.Result.{err_from_is_err_and}
 use Rattle.schedule_text.specs.Reading.{Reading}
 use Rattle.schedule_text.specs.Transcript.{transcript_line}
 use Rattle.safety.proofs.Results.{results_short}
-use Rattle.replay.proofs.Beginning.{opened, unopened}
-use Rattle.replay.proofs.Causes.{cause_since, no_cause, event_reads_none, end_reads_none, stop_reads, stop_writes}
-use Rattle.replay.proofs.Progressing.{stopped, finished, advanced, refused_event}
-use Rattle.replay.proofs.Safely.{done_is_safe}
+use Rattle.replay.proofs.Beginning.{opened, unopened, text_first, counts_from_one}
+use Rattle.replay.proofs.Causes.{cause_since, stop_reads, stop_writes, starved_reads, starved_writes, same_time}
+use Rattle.replay.proofs.Progressing.{starved_ends}
+use Rattle.replay.proofs.Safely.{done_is_safe, failed_is_safe}
 use Rattle.replay.proofs.replayed.replay_with.Goals as goal
 
 pub returns-in-Err-clause-ends : goal.returns-in-Err-clause-ends
@@ -20,8 +20,11 @@ returns-in-Err-clause-ends g c =
     unopened m (left c.args.source.now) (left c.open.new.source) (held c.args.sink.now) (held c.stop.new.sink) c.open.new.self c.in-Err.e
     c.stop.result takes closed c.in-Err.ensures.none_left stops
 
-pub loop-turn-init : goal.loop-turn-init
-loop-turn-init g c =
+pub take_events-requires-clause-opened : goal.take_events-requires-clause-opened
+take_events-requires-clause-opened g c = rw c.in-Ok.ensures.config refl
+
+pub returns-clause-ends : goal.returns-clause-ends
+returns-clause-ends g c =
     let m = g.H.Host.meaning in
     let left = g.S.Source.left in
     let held = g.K.Sink.held in
@@ -29,124 +32,61 @@ loop-turn-init g c =
     let takes = rw c.new-reader.ensures at c.in-Ok.ensures.takes in
     let going = opened m (left c.args.source.now) (left c.open.new.source) (held c.args.sink.now) c.open.new.self config takes
     c.in-Ok.ensures.config in
-    let text : c.transcript_line.new.to.items ≡ transcript_line config =
-    c.in_ok-transcript_line.ensures.ok ∙ ap (λ (t : List ℕ). t ++ transcript_line config) c.new-pending.ensures.items in
-    record {
-      going = (config, rw (text, c.in_ok-world.ensures) going);
-      opened = rw c.in-Ok.ensures.config refl;
-      lines = omega (arith, c.in-Ok.ensures.line.0);
-      most = c.in-Ok.ensures.line.1;
-      read = c.in-Ok.ensures.cause.later;
-      write = omega arith;
-    }
+    let text : c.begin.new.pending.items ≡ transcript_line config =
+    text_first _ _ (transcript_line config) c.new-pending.ensures.items c.in_ok-world.ensures.line in
+    c.take_events.ensures.ends (left c.args.source.now) (held c.args.sink.now) config (rw (text, c.in_ok-world.ensures.world) going)
 
-pub loop-turn-preserved : goal.loop-turn-preserved
-loop-turn-preserved g c =
+pub returns-clause-safe : goal.returns-clause-safe
+returns-clause-safe g c =
     let m = g.H.Host.meaning in
     let left = g.S.Source.left in
     let held = g.K.Sink.held in
-    let kept = c.loop-turn.invariant in
-    record {
-      going = (
-        kept.going.0,
-        advanced m (left c.args.source.now) (left c.loop-turn.source) (left c.next.new.source) (held c.args.sink.now)
-            (held c.loop-turn.sink) (held c.take_event.new.sink)
-            c.loop-turn.pending.items c.take_event.new.pending.items c.loop-turn.reader c.next.new.self kept.going.0
-            c.loop-turn.world.state c.take_event.new.world.state c.in-Ok-Some.event
-            kept.going.1 (rw c.in-Ok-Some.field-0-is at c.in-Ok-Some.ensures.takes) c.in_ok-take_event-in-Ok-Some.ensures.takes,
-      );
-      opened = rw (c.in-Ok-Some.ensures.config kept.opened) kept.opened;
-      lines = let one = (rw c.in-Ok-Some.field-0-is at c.in-Ok-Some.ensures.line) kept.opened in omega (arith, one, kept.lines);
-      most = rw (← c.line.ensures.value) c.line.ensures.most;
-      read = omega (arith, kept.read, c.in-Ok-Some.ensures.cause.later);
-      write = omega (arith, kept.write, c.in_ok-take_event-in-Ok-Some.ensures.cause.later);
-    }
-
-pub returns-in_err-take_event-in-Ok-Some-clause-ends : goal.returns-in_err-take_event-in-Ok-Some-clause-ends
-returns-in_err-take_event-in-Ok-Some-clause-ends g c =
-    let m = g.H.Host.meaning in
-    let left = g.S.Source.left in
-    let held = g.K.Sink.held in
-    let kept = c.loop-turn.invariant in
-    let e = c.in_err-take_event-in-Ok-Some.field-0 in
-    let refused = rw c.line.ensures.value at c.in_err-take_event-in-Ok-Some.ensures.takes in
-    let p = err_from_is_err_and c.from_residual-in_err-take_event-in-Ok-Some.result c.from_residual-in_err-take_event-in-Ok-Some.ensures.1
-    in
-    rw (p.1, p.2)
-    (refused_event m (left c.args.source.now) (left c.loop-turn.source) (left c.next.new.source) (held c.args.sink.now)
-    (held c.loop-turn.sink) (held c.take_event.new.sink)
-    c.loop-turn.pending.items c.loop-turn.reader c.next.new.self kept.going.0 c.loop-turn.world.state c.in-Ok-Some.event e.0 kept.going.1
-    (rw c.in-Ok-Some.field-0-is at c.in-Ok-Some.ensures.takes) refused)
-
-pub returns-in-Ok-None-clause-ends : goal.returns-in-Ok-None-clause-ends
-returns-in-Ok-None-clause-ends g c =
-    let m = g.H.Host.meaning in
-    let left = g.S.Source.left in
-    let held = g.K.Sink.held in
-    let kept = c.loop-turn.invariant in
-    finished m (left c.args.source.now) (left c.loop-turn.source) (left c.next.new.source) (held c.args.sink.now) (held c.loop-turn.sink)
-    (held c.finish.new.sink)
-    c.loop-turn.pending.items c.loop-turn.reader c.next.new.self kept.going.0 c.loop-turn.world.state c.finish.result kept.going.1
-    (rw c.in-Ok-None.field-0-is at c.in-Ok-None.ensures.takes) c.finish.ensures.writes
-
-pub returns-in-Ok-None-clause-safe : goal.returns-in-Ok-None-clause-safe
-returns-in-Ok-None-clause-safe g c =
-    let m = g.H.Host.meaning in
-    let left = g.S.Source.left in
-    let held = g.K.Sink.held in
-    let kept = c.loop-turn.invariant in
     let short = results_short m g.H.Host.is_sound g.met.H.Host.opens_sound g.met.H.Host.stays_sound g.met.H.Host.answers_short in
-    done_is_safe m short (left c.args.source.now) (left c.next.new.source) (held c.args.sink.now) (held c.finish.new.sink) c.finish.result
-    (finished m (left c.args.source.now) (left c.loop-turn.source) (left c.next.new.source) (held c.args.sink.now) (held c.loop-turn.sink)
-    (held c.finish.new.sink)
-    c.loop-turn.pending.items c.loop-turn.reader c.next.new.self kept.going.0 c.loop-turn.world.state c.finish.result kept.going.1
-    (rw c.in-Ok-None.field-0-is at c.in-Ok-None.ensures.takes) c.finish.ensures.writes)
+    let config = c.in-Ok.config in
+    let takes = rw c.new-reader.ensures at c.in-Ok.ensures.takes in
+    let going = opened m (left c.args.source.now) (left c.open.new.source) (held c.args.sink.now) c.open.new.self config takes
+    c.in-Ok.ensures.config in
+    let text : c.begin.new.pending.items ≡ transcript_line config =
+    text_first _ _ (transcript_line config) c.new-pending.ensures.items c.in_ok-world.ensures.line in
+    done_is_safe m short (left c.args.source.now) (left c.take_events.new.source) (held c.args.sink.now) (held c.take_events.new.sink)
+    c.take_events.result
+    (c.take_events.ensures.ends (left c.args.source.now) (held c.args.sink.now) config (rw (text, c.in_ok-world.ensures.world) going))
 
-pub returns-in-Err-next-clause-ends : goal.returns-in-Err-next-clause-ends
-returns-in-Err-next-clause-ends g c =
-    let m = g.H.Host.meaning in
-    let left = g.S.Source.left in
-    let held = g.K.Sink.held in
-    let kept = c.loop-turn.invariant in
-    stopped m (left c.args.source.now) (left c.loop-turn.source) (left c.next.new.source) (held c.args.sink.now) (held c.loop-turn.sink)
-    (held c.stop-in-Err-next.new.sink)
-    c.loop-turn.pending.items c.loop-turn.reader c.next.new.self kept.going.0 c.loop-turn.world.state c.in-Err-next.e
-    c.stop-in-Err-next.result
-    kept.going.1 c.in-Err-next.ensures.takes c.in-Err-next.ensures.none_left c.stop-in-Err-next.ensures.stops
+pub returns-clause-read : goal.returns-clause-read
+returns-clause-read g c = cause_since _ _ _ _ _ c.in-Ok.ensures.cause.later c.take_events.ensures.read
 
-pub returns-in_err-take_event-in-Ok-Some-clause-read : goal.returns-in_err-take_event-in-Ok-Some-clause-read
-returns-in_err-take_event-in-Ok-Some-clause-read g c =
-    let held = g.K.Sink.held in
-    let kept = c.loop-turn.invariant in
-    let e = c.in_err-take_event-in-Ok-Some.field-0 in
-    let p = err_from_is_err_and c.from_residual-in_err-take_event-in-Ok-Some.result c.from_residual-in_err-take_event-in-Ok-Some.ensures.1
-    in
-    rw (p.1, p.2)
-    (no_cause _ _ _ _ (omega (arith, kept.read, c.in-Ok-Some.ensures.cause.later))
-    (λ told. event_reads_none (held c.loop-turn.sink) (held c.take_event.new.sink) c.loop-turn.pending.items c.line.result _ e.0
-    c.in_err-take_event-in-Ok-Some.ensures.takes (let is = told in cc)))
+pub returns-clause-write : goal.returns-clause-write
+returns-clause-write g c = c.take_events.ensures.write
 
-pub returns-in_err-take_event-in-Ok-Some-clause-write : goal.returns-in_err-take_event-in-Ok-Some-clause-write
-returns-in_err-take_event-in-Ok-Some-clause-write g c =
-    let kept = c.loop-turn.invariant in
-    let p = err_from_is_err_and c.from_residual-in_err-take_event-in-Ok-Some.result c.from_residual-in_err-take_event-in-Ok-Some.ensures.1
-    in
-    rw (p.1, p.2) (cause_since _ _ _ _ _ kept.write c.in_err-take_event-in-Ok-Some.ensures.cause)
+pub take_events-requires-clause-first : goal.take_events-requires-clause-first
+take_events-requires-clause-first g c = counts_from_one _ c.in-Ok.ensures.line.0
 
-pub returns-in-Ok-None-clause-read : goal.returns-in-Ok-None-clause-read
-returns-in-Ok-None-clause-read g c =
-    no_cause _ _ _ _ (omega (arith, c.loop-turn.invariant.read, c.in-Ok-None.ensures.cause.later))
-    (end_reads_none _ _ _ c.finish.result c.finish.ensures.writes)
+pub take_events-requires-clause-last : goal.take_events-requires-clause-last
+take_events-requires-clause-last g c = c.in-Ok.ensures.line.1
 
-pub returns-in-Ok-None-clause-write : goal.returns-in-Ok-None-clause-write
-returns-in-Ok-None-clause-write g c = cause_since _ _ _ _ _ c.loop-turn.invariant.write c.finish.ensures.cause
+pub returns-in-Err-clause-read : goal.returns-in-Err-clause-read
+returns-in-Err-clause-read g c = stop_reads _ _ _ c.in-Err.e c.stop.result _ _ _ c.stop.ensures.stops (same_time _) c.in-Err.ensures.cause
 
-pub returns-in-Err-next-clause-read : goal.returns-in-Err-next-clause-read
-returns-in-Err-next-clause-read g c =
-    stop_reads _ _ _ c.in-Err-next.e c.stop-in-Err-next.result _ _ _ c.stop-in-Err-next.ensures.stops c.loop-turn.invariant.read
-    c.in-Err-next.ensures.cause
+pub returns-in-Err-clause-write : goal.returns-in-Err-clause-write
+returns-in-Err-clause-write g c = stop_writes c.stop.result _ _ _ (same_time _) c.stop.ensures.later c.stop.ensures.cause
 
-pub returns-in-Err-next-clause-write : goal.returns-in-Err-next-clause-write
-returns-in-Err-next-clause-write g c =
-    stop_writes c.stop-in-Err-next.result _ _ _ c.loop-turn.invariant.write c.stop-in-Err-next.ensures.later
-    c.stop-in-Err-next.ensures.cause
+pub returns-in_err-world-clause-ends : goal.returns-in_err-world-clause-ends
+returns-in_err-world-clause-ends g c =
+    let p = err_from_is_err_and c.from_residual.result c.from_residual.ensures.1 in
+    starved_ends g.H.Host.meaning (g.S.Source.left c.args.source.now) (g.S.Source.left c.open.new.source) (g.K.Sink.held c.args.sink.now)
+    c.from_residual.result p.0 p.1 p.2
+
+pub returns-in_err-world-clause-safe : goal.returns-in_err-world-clause-safe
+returns-in_err-world-clause-safe g c =
+    let p = err_from_is_err_and c.from_residual.result c.from_residual.ensures.1 in
+    failed_is_safe g.H.Host.meaning (g.S.Source.left c.args.source.now) c.from_residual.result p.0 p.1
+
+pub returns-in_err-world-clause-read : goal.returns-in_err-world-clause-read
+returns-in_err-world-clause-read g c =
+    let p = err_from_is_err_and c.from_residual.result c.from_residual.ensures.1 in
+    starved_reads _ _ c.from_residual.result p.0 p.1 p.2 c.in-Ok.ensures.cause.later
+
+pub returns-in_err-world-clause-write : goal.returns-in_err-world-clause-write
+returns-in_err-world-clause-write g c =
+    let p = err_from_is_err_and c.from_residual.result c.from_residual.ensures.1 in
+    starved_writes _ _ c.from_residual.result p.0 p.1 p.2 (same_time _)

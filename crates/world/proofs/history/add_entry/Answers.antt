@@ -1,6 +1,6 @@
 use Rattle.std.proofs.Common.{◌++◌, ◌∷◌, [], sym, ap, ◌∙◌}
 use Rattle.nop_types.specs.declared.request.Request.{Request}
-use Rattle.world.proofs.IdLemmas.{adds_noop, adds_old, adds_new}
+use Rattle.world.proofs.IdLemmas.{adds_old, adds_new}
 use Rattle.world.proofs.history.add_entry.Goals as goal
 
 pub returns-then-not-is_new : goal.returns-then-not-is_new

@@ -1,9 +1,12 @@
 use Rattle.std.proofs.Common.{ap, ◌∙◌}
-use Rattle.std.specs.Prelude.{map, option_map, slice_get}
+use Rattle.std.specs.Prelude.{map, slice_get}
 use Rattle.world.specs.SeatOutcomes.{seated_of}
 use Rattle.world.specs.WorldSteps.{greatest_of, log_of}
-use Rattle.world.proofs.MainLog.{main_log_is}
+use Rattle.world.proofs.MainLog.{some_replica, main_log_is}
 use Rattle.world.proofs.main_log.main_log.Goals as goal
+
+pub leader_of-requires : goal.leader_of-requires
+leader_of-requires g c = some_replica c.args.actors.now.config c.replicas.result c.replicas.ensures.count c.replicas.ensures.limits
 
 pub returns : goal.returns
 returns g c =
@@ -12,5 +15,5 @@ returns g c =
     ∙ ap (λ seats. greatest_of (map (λ p. p.core.state.state.last_normal) seats)) c.deref.ensures.value)
     c.replicas.ensures.count
     c.leader_of.ensures.leader
-    (c.log_at.ensures ∙ ap (λ seats. log_of (option_map (seated_of (λ r. r.state)) (slice_get seats c.leader_of.result)))
+    (c.log_at.ensures ∙ ap (λ seats. log_of (slice_get (map (seated_of (λ r. r.state)) seats) c.leader_of.result))
     c.deref-2.ensures.value)

@@ -1,7 +1,6 @@
-use Rattle.std.proofs.Common.{◌≡◌, ◌+◌, length, drop, refl, arith}
+use Rattle.std.proofs.Common.{◌≡◌, length, drop, refl, arith}
 use Rattle.std.specs.Prelude.{sum_by}
 use Rattle.fragments.specs.Parts.{bytes_of}
-use Rattle.fragments.specs.Front.{parts_of}
 use Rattle.fragments.proofs.Held.{split_held}
 use Rattle.fragments.proofs.unfinished.Unfinished.held.Goals as goal
 

@@ -1,4 +1,4 @@
-use Rattle.std.proofs.Common.{◌≡◌, ap, ◌∙◌, ◌++◌, List, ℕ}
+use Rattle.std.proofs.Common.{ap, ◌∙◌, ◌++◌, List, ℕ}
 use Rattle.peer_codec.specs.LogBodies.{log_message}
 use Rattle.peer_codec.specs.Spelling.{spelling}
 use Rattle.peer_codec.proofs.SpelledMessages.{stands_for, stands_spelled}

@@ -1,5 +1,5 @@
 use Rattle.std.proofs.Common.{ap, ◌∙◌, ◌++◌, refl, sym, append-nil}
-use Rattle.replica_state.specs.Keeping.{kept_after}
+use Rattle.replica_rows.specs.Keeping.{kept_after}
 use Rattle.replica_rows.proofs.Gathered.{left_runs, gathers_taken}
 use Rattle.replica_rows.proofs.Opening.{gathers_more}
 use Rattle.replica_rows.proofs.Running.{on_ok, kept_runs}
@@ -8,25 +8,25 @@ use Rattle.replica_rows.proofs.member.Member.gather.Goals as goal
 pub open_view-requires-clause-runs : goal.open_view-requires-clause-runs
 open_view-requires-clause-runs g c =
     let left = c.in_ok-start.ensures.kept ∙ ap (λ step. kept_after step c.args.self.now.state c.args.change) c.in-Started.is in
-    left_runs g.H.Host c.args.self.now.state c.keep_change.new.self _ left c.requires.runs
+    left_runs g.H.Host c.args.self.now.state c.keep_change.new.state _ left c.requires.runs
 
 pub open_view-requires-clause-next : goal.open_view-requires-clause-next
 open_view-requires-clause-next g c =
     let left = c.in_ok-start.ensures.kept ∙ ap (λ step. kept_after step c.args.self.now.state c.args.change) c.in-Started.is in
-    (gathers_taken g.H.Host.meaning c.args.self.now.state c.keep_change.new.self c.args.self.now.state.changes c.args.change
+    (gathers_taken g.H.Host.meaning c.args.self.now.state c.keep_change.new.state c.args.self.now.state.changes c.args.change
     c.in-Started.start refl c.requires.runs.within c.requires.fits left (sym c.in_ok-start.ensures.step ∙ c.in-Started.is)).next
 
 pub open_view-requires-clause-log : goal.open_view-requires-clause-log
 open_view-requires-clause-log g c =
     let left = c.in_ok-start.ensures.kept ∙ ap (λ step. kept_after step c.args.self.now.state c.args.change) c.in-Started.is in
-    (gathers_taken g.H.Host.meaning c.args.self.now.state c.keep_change.new.self c.args.self.now.state.changes c.args.change
+    (gathers_taken g.H.Host.meaning c.args.self.now.state c.keep_change.new.state c.args.self.now.state.changes c.args.change
     c.in-Started.start refl c.requires.runs.within c.requires.fits left (sym c.in_ok-start.ensures.step ∙ c.in-Started.is)).log
 
 pub returns-in-Started : goal.returns-in-Started
 returns-in-Started g c =
     let left = c.in_ok-start.ensures.kept ∙ ap (λ step. kept_after step c.args.self.now.state c.args.change) c.in-Started.is in
     let starts =
-    gathers_taken g.H.Host.meaning c.args.self.now.state c.keep_change.new.self c.args.self.now.state.changes c.args.change
+    gathers_taken g.H.Host.meaning c.args.self.now.state c.keep_change.new.state c.args.self.now.state.changes c.args.change
     c.in-Started.start refl c.requires.runs.within c.requires.fits left (sym c.in_ok-start.ensures.step ∙ c.in-Started.is) in
     on_ok c.open_view.result _ _
     (λ does. record {
@@ -40,11 +40,11 @@ pub returns-in-Waiting : goal.returns-in-Waiting
 returns-in-Waiting g c =
     let kept = c.in_ok-start.ensures.kept ∙ ap (λ step. kept_after step c.args.self.now.state c.args.change) c.in-Waiting.is in
     let waits =
-    gathers_more g.H.Host.meaning c.args.self.now.state c.keep_change.new.self c.args.self.now.state.changes c.args.change refl kept
+    gathers_more g.H.Host.meaning c.args.self.now.state c.keep_change.new.state c.args.self.now.state.changes c.args.change refl kept
     (sym c.in_ok-start.ensures.step ∙ c.in-Waiting.is) in
     record {
       runs =
-          kept_runs g.H.Host c.args.self.now.state c.keep_change.new.self
+          kept_runs g.H.Host c.args.self.now.state c.keep_change.new.state
           _ c.args.self.now.state.changes c.args.change refl kept c.requires.runs c.requires.fits;
       state = ap (λ x. x.0) (sym waits);
       sends = sym (append-nil c.args.self.now.sends) ∙ ap (λ x. c.args.self.now.sends ++ x.1) (sym waits);

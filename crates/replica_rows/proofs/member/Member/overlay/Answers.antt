@@ -12,4 +12,4 @@ replies_above-requires-clause-runs g c =
     let high : c.go_back_to.new.self.state.next + (length c.args.log.now - length c.go_back_to.new.self.state.log) ≤ NUMBER_END =
     omega (arith, c.requires.within, c.requires.appended, ap (λ s. s.next) state, ap (λ s. length s.log) state) in
     overlaid_runs g.H.Host c.go_back_to.new.self.state _
-    _ c.args.log.now c.in_ok-lay_over.ensures c.go_back_to.ensures.runs same c.requires.fits high
+    _ c.args.log.now c.in_ok-lay_over.ensures.ok c.go_back_to.ensures.runs same c.requires.fits high

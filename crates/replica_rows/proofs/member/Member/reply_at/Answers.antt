@@ -29,4 +29,4 @@ returns-clause-sends g c =
     (λ sent. sent
     ∙ ap (λ xs. c.args.self.now.sends ++ xs)
     (follower_replies g.H.Host.meaning s c.args.slot request (sym c.leads.ensures ∙ c.if-leads.false) there))
-    c.send_short.ensures
+    c.send_short.ensures.ok

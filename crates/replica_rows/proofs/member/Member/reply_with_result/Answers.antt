@@ -15,7 +15,7 @@ returns-clause-sends g c = λ request of there.
     answers.last request (ap (slot_of log) executed ∙ there) of ∙ ap (result_at g.H.Host.meaning log) executed in
     on_ok c.send_result.result _ _
     (λ sent. sent ∙ ap (λ o. c.args.self.now.sends ++ leader_reply c.args.self.now.state c.args.slot request o) same)
-    (c.send_result.ensures request of)
+    (c.send_result.ensures.ok request of)
 
 pub send_result-requires-clause-short : goal.send_result-requires-clause-short
 send_result-requires-clause-short g c = c.result-answer.ensures.short c.args.self.now.state.log c.in_ok-run_to.ensures.run

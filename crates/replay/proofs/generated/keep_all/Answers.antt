@@ -1,25 +1,25 @@
-use Rattle.std.proofs.Common.{◌≡◌, ℕ, suc, ◌+◌, ◌-◌, List, [], ◌∷◌, ◌++◌, sym, ap, subst, ◌∙◌, arith}
+use Rattle.std.proofs.Common.{◌≡◌, ℕ, suc, ◌+◌, ◌-◌, List, [], ◌∷◌, ◌++◌, sym, subst, arith}
 use Rattle.rand_pcg.specs.Lcg.{Lcg}
 use Rattle.schedule_text.specs.declared.event.Event.{Event}
 use Rattle.safety.proofs.Results.{results_short}
 use Rattle.replay.specs.Generating.{DrawnTo}
-use Rattle.replay.proofs.Drawn.{begins, drawn_next}
-use Rattle.replay.proofs.generated.all_drawn.Goals as goal
+use Rattle.replay.proofs.Drawn.{begins, drawn_next, events_first}
+use Rattle.replay.proofs.generated.keep_all.Goals as goal
 
 pub loop-done-init : goal.loop-done-init
 loop-done-init g c =
     let m = g.H.Host.meaning in
-    let b = c.in_ok-first.ensures in
-    let e : Event = c.in_ok-first.first.event in
-    let items : c.push.new.self.items ≡ e ∷ [] =
-    c.in_ok-push.ensures.items ∙ ap (λ (xs : List Event). xs ++ e ∷ []) c.new-events.ensures.items in
+    let b = c.in_ok-first_drawn.ensures in
+    let e : Event = c.in_ok-first_drawn.field-0.event in
+    let items : c.keep.new.events.items ≡ e ∷ [] =
+    events_first _ _ e c.requires.none c.in_ok-keep.ensures in
     record {
       lines = b.are;
       to = subst (λ (xs : List Event). DrawnTo m c.args.number c.args.count (c.args.count - 1) xs c.first_drawn.new.world.state
           c.generator-words.result b.are) (sym items)
           (subst (λ (h : Lcg). DrawnTo m c.args.number c.args.count (c.args.count - 1) (e ∷ []) c.first_drawn.new.world.state h b.are)
           (sym c.generator-words.ensures)
-          (begins m c.args.number c.args.count e c.first_drawn.new.world.state b.are c.requires b.event b.happened));
+          (begins m c.args.number c.args.count e c.first_drawn.new.world.state b.are c.requires.least b.event b.happened));
     }
 
 pub loop-done-preserved : goal.loop-done-preserved
@@ -27,8 +27,8 @@ loop-done-preserved g c =
     let m = g.H.Host.meaning in
     let short = results_short m g.H.Host.is_sound g.met.H.Host.opens_sound g.met.H.Host.stays_sound g.met.H.Host.answers_short in
     let k = c.loop-done.invariant in
-    let d = c.in_ok-drawn.ensures in
-    let e : Event = c.in_ok-drawn.drawn.event in
+    let d = c.in_ok-next_drawn.ensures in
+    let e : Event = c.in_ok-next_drawn.field-0.event in
     let left : ℕ = c.args.count - (c.loop-done._done + 1) in
     let more : c.args.count - c.loop-done._done ≡ suc left = omega (arith, c.loop-done-test.true) in
     let to : DrawnTo m c.args.number c.args.count (suc left) c.loop-done.events.items c.loop-done.world.state c.loop-done.words k.lines =
@@ -38,7 +38,7 @@ loop-done-preserved g c =
     record {
       lines = k.lines ++ d.are;
       to = subst (λ (xs : List Event). DrawnTo m c.args.number c.args.count left xs c.next_drawn.new.world.state
-          c.next_drawn.new.words (k.lines ++ d.are)) (sym c.in_ok-push-2.ensures.items)
+          c.next_drawn.new.words (k.lines ++ d.are)) (sym {A = List Event} c.in_ok-keep-2.ensures)
           (drawn_next m short c.args.number c.args.count left c.loop-done.events.items c.loop-done.world.state c.loop-done.words k.lines e
           c.next_drawn.new.world.state c.next_drawn.new.words d.are to d.draws);
     }

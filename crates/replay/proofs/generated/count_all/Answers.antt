@@ -1,25 +1,25 @@
-use Rattle.std.proofs.Common.{◌≡◌, ℕ, suc, ◌+◌, ◌-◌, [], ◌∷◌, ◌++◌, sym, subst, ◌∙◌, arith}
+use Rattle.std.proofs.Common.{◌≡◌, ℕ, suc, ◌+◌, ◌-◌, [], ◌∷◌, ◌++◌, sym, subst, arith}
 use Rattle.rand_pcg.specs.Lcg.{Lcg}
 use Rattle.schedule_text.specs.declared.event.Event.{Event}
 use Rattle.safety.proofs.Results.{results_short}
 use Rattle.world.specs.LineCounts.{is_send, is_accept}
 use Rattle.replay.specs.Generating.{DrawnTo}
 use Rattle.replay.proofs.Drawn.{begins, drawn_next, count_by_both}
-use Rattle.replay.proofs.generated.run_drawn.Goals as goal
+use Rattle.replay.proofs.generated.count_all.Goals as goal
 
 pub loop-done-init : goal.loop-done-init
 loop-done-init g c =
     let m = g.H.Host.meaning in
-    let b = c.in_ok-first.ensures in
-    let e : Event = c.in_ok-first.first.event in
+    let b = c.in_ok-first_drawn.ensures in
+    let e : Event = c.in_ok-first_drawn.field-0.event in
     record {
       events = e ∷ [];
       lines = b.are;
       to = subst (λ (h : Lcg). DrawnTo m c.args.number c.args.count (c.args.count - 1) (e ∷ []) c.first_drawn.new.world.state h b.are)
           (sym c.generator-words.ensures)
-          (begins m c.args.number c.args.count e c.first_drawn.new.world.state b.are c.requires b.event b.happened);
-      sends_are = c.from-sends.ensures ∙ b.shown.sends;
-      accepts_are = c.from-accepts.ensures ∙ b.shown.accepts;
+          (begins m c.args.number c.args.count e c.first_drawn.new.world.state b.are c.requires.least b.event b.happened);
+      sends_are = omega (arith, c.in_ok-counts.ensures.sends, b.shown.sends);
+      accepts_are = omega (arith, c.in_ok-counts.ensures.accepts, b.shown.accepts);
     }
 
 pub loop-done-preserved : goal.loop-done-preserved
@@ -27,8 +27,8 @@ loop-done-preserved g c =
     let m = g.H.Host.meaning in
     let short = results_short m g.H.Host.is_sound g.met.H.Host.opens_sound g.met.H.Host.stays_sound g.met.H.Host.answers_short in
     let k = c.loop-done.invariant in
-    let d = c.in_ok-drawn.ensures in
-    let e : Event = c.in_ok-drawn.drawn.event in
+    let d = c.in_ok-next_drawn.ensures in
+    let e : Event = c.in_ok-next_drawn.field-0.event in
     let left : ℕ = c.args.count - (c.loop-done._done + 1) in
     let more : c.args.count - c.loop-done._done ≡ suc left = omega (arith, c.loop-done-test.true) in
     let to : DrawnTo m c.args.number c.args.count (suc left) k.events c.loop-done.world.state c.loop-done.words k.lines =
@@ -40,6 +40,6 @@ loop-done-preserved g c =
       lines = k.lines ++ d.are;
       to = drawn_next m short c.args.number c.args.count left k.events c.loop-done.world.state c.loop-done.words k.lines e
           c.next_drawn.new.world.state c.next_drawn.new.words d.are to d.draws;
-      sends_are = omega (arith, k.sends_are, c.in_ok-sends.ensures, d.shown.sends, s);
-      accepts_are = omega (arith, k.accepts_are, c.in_ok-accepts.ensures, d.shown.accepts, a);
+      sends_are = omega (arith, k.sends_are, c.in_ok-counts-2.ensures.sends, d.shown.sends, s);
+      accepts_are = omega (arith, k.accepts_are, c.in_ok-counts-2.ensures.accepts, d.shown.accepts, a);
     }

@@ -1,0 +1,9 @@
+//! Tests of worlds that take events and of devices in memory, by the public calls of the crates below. It holds nothing else.
+#![tactic(auto)]
+
+#[cfg(test)]
+mod failing;
+#[cfg(test)]
+mod memory;
+#[cfg(test)]
+mod worlds;
