@@ -1,10 +1,7 @@
-ghost use Rattle.std.specs.Prelude.{◌≤◌};
-
 use super::outcomes::{ONE_PUT, check_outcome, datagram, words_of};
 use super::rows::ROWS;
 use commands::run_in_memory;
 use outside::{ClockMem, LinkMem, PollAnswer, PortsMem, ReadMem, WriteMem};
-use replay::replay;
 use std::alloc::Global;
 use std::process::Abort;
 
@@ -202,91 +199,26 @@ fn words_that_are_not_taken(rt: HostRuntime) {
     }
 }
 
-/// A schedule and its transcript; one of a schedule with a bad line does not end with `end`.
-fn check_transcript(rt: &impl Abort, alloc: Global, row: &str) {
+/// A schedule and its transcript; one of a schedule with a bad line does not end with `end`. A read gives at most so many bytes.
+fn check_transcript(rt: &impl Abort, alloc: Global, row: &str, most: &str) {
     let (schedule, transcript) = row.split_once("=>\n").expect(rt, "a transcript");
     let status = if transcript.ends_with("end\n") {
         "Done"
     } else {
         "Malformed"
     };
+    let head = format!(in alloc; "nopaxos replay\nreads {most}\nwrites 16").expect(rt, "memory");
     let wanted = format!(in alloc; "{status}\n{transcript}|\n").expect(rt, "memory");
-    check_outcome(
-        rt,
-        alloc,
-        "nopaxos replay\nreads 82\nwrites 16",
-        schedule,
-        &wanted,
-    );
+    check_outcome(rt, alloc, &head, schedule, &wanted);
 }
 
 #[test]
 fn transcripts(rt: HostRuntime) {
     for row in ROWS.split("----\n") {
-        check_transcript(&rt, rt.alloc(), row);
+        for most in ["1", "7", "82", "4096"] {
+            check_transcript(&rt, rt.alloc(), row, most);
+        }
     }
-}
-
-/// A schedule, and its transcript: no events, two crashes of one replica, a refused event, an actor that is not there.
-const REPLAYS: &str = "\
-nopaxos 1 replicas 1 sequencers 1 clients 1
-|
-transcript 1 replicas 1 sequencers 1 clients 1
-replica r0 up normal 0 1 0 0
-end
-----
-nopaxos 1 replicas 1 sequencers 1 clients 1
-crash r0
-crash r0
-|
-transcript 1 replicas 1 sequencers 1 clients 1
-dead r0
-replica r0 crashed normal 0 1 0 0
-end
-----
-nopaxos 1 replicas 1 sequencers 1 clients 1
-submit c0 -
-submit c0 -
-deliver 1 r0
-crash|
-transcript 1 replicas 1 sequencers 1 clients 1
-submit c0 1 -
-send 0 c0 s* request 18
-busy c0
-error line 4 rule 8 index 1 sent 1
-----
-nopaxos 1 replicas 1 sequencers 1 clients 1
-deliver 0 r1
-|
-transcript 1 replicas 1 sequencers 1 clients 1
-error line 2 rule 7
-";
-
-/// Replays what stands before the bar, with reads of at most so many bytes, and compares what is written with what stands below it.
-fn check_replay(rt: &impl Abort, alloc: Global, row: &str, bar: &str, most: usize)
-    requires { 1 ≤ most }
-{
-    let (schedule, transcript) = row.split_once(bar).expect(rt, "a row");
-    let bytes = schedule.as_bytes().to_vec(alloc).expect(rt, "memory");
-    let mut source = ReadMem::with_limit(bytes, most);
-    let mut sink = WriteMem::new(alloc);
-    let end = replay(alloc, &mut source, &mut sink);
-    assert!(rt; end.is_ok() == transcript.ends_with("end\n"));
-    assert!(rt; sink.as_slice() == transcript.as_bytes(), "{row}");
-}
-
-fn check_replays(rt: &impl Abort, alloc: Global, rows: &str, bar: &str) {
-    for row in rows.split("----\n") {
-        check_replay(rt, alloc, row, bar, 1);
-        check_replay(rt, alloc, row, bar, 7);
-        check_replay(rt, alloc, row, bar, 4096);
-    }
-}
-
-#[test]
-fn replays(rt: HostRuntime) {
-    check_replays(&rt, rt.alloc(), ROWS, "=>\n");
-    check_replays(&rt, rt.alloc(), REPLAYS, "|\n");
 }
 
 /// A sequencer over devices in memory that never fail.
