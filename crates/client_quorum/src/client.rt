@@ -9,11 +9,21 @@ use std::alloc::Global;
 use std::marker::Model;
 
 /// A client: one request is open at a time, and is accepted at f + 1 matching replies with the leader's.
-#[derive(Drop)]
 pub struct Client {
     alloc: Global,
     failed: bool,
     pub(crate) state: ClientState,
+}
+
+// By hand, so that a crate with a client proves nothing on how its parts are dropped.
+impl Drop for Client {
+    fn drop(self) {
+        let Client {
+            alloc: _alloc,
+            failed: _failed,
+            state: _state,
+        } = self;
+    }
 }
 
 impl Model for Client {

@@ -1,12 +1,13 @@
 use crate::rows::{check_text, request};
 use nop_types::{Actor, Bytes, Config, Dest, Entry, Phase, View};
 use outside::ReadMem;
-use schedule_text::{
-    Event, NextError, Reader, accept_line, busy_line, dead_line, end_line, entry_line, error_line,
-    history_line, replica_line, send_line, submit_line, transcript_line,
-};
+use schedule_text::{Event, NextError, Reader};
 use std::alloc::Global;
 use std::process::Abort;
+use transcript_text::{
+    accept_line, busy_line, dead_line, end_line, entry_line, error_line, history_line,
+    replica_line, send_line, submit_line, transcript_line,
+};
 
 const FIRST: &[u8] = b"nopaxos 1 replicas 3 sequencers 2 clients 2\n";
 

@@ -1,17 +1,16 @@
 -- The ids of a client in a log, and numbers below or above them.
-use Rattle.std.proofs.Common.{◌≡◌, ℕ, zero, suc, ◌<◌, ◌≤◌, Bool, true, false, cond, eqb, ltb, List, [], ◌∷◌, ◌++◌, ◌&&◌, ◌||◌, refl, sym}
-use Rattle.std.proofs.Common.{◌∙◌, arith, inl, inr}
+use Rattle.std.proofs.Common.{◌≡◌, ℕ, zero, suc, ◌<◌, ◌≤◌, Bool, true, false, cond, eqb, List, [], ◌∷◌, ◌++◌, refl, sym}
+use Rattle.std.proofs.Common.{◌∙◌, arith}
 use Rattle.std.proofs.lemmas.Grind.{flat_map-append}
-use Rattle.std.proofs.lemmas.Bool.{ltb-true, ltb-false, lt-ltb, le-ltb, eq-eqb, eqb-true}
+use Rattle.std.proofs.lemmas.Bool.{eq-eqb, eqb-true}
 use Rattle.nop_types.specs.declared.request.Request.{Request}
 use Rattle.nop_types.specs.declared.request.Entry.{Entry}
 use Rattle.nop_types.specs.declared.request.Entry.TheVariants.{NoOp, Req}
-use Rattle.nop_types.specs.Lists.{Has, IsGreatest, all_below, any_above}
+use Rattle.nop_types.specs.Lists.{Has, all_below}
 use Rattle.nop_types.specs.Execution.{id_in, ids_of}
 use Rattle.nop_types.specs.Legality.{IsOf}
-use Rattle.facts.proofs.Numbers.{all_below-true, all_below-from, all_below-false, any_above-false, any_above-true, IsGreatest-push}
-use Rattle.facts.proofs.Numbers.{IsGreatest-push_old, all_below-greatest, IsGreatest-unique}
-use Rattle.facts.proofs.Members.{Has-append_left, Has-append_right, Has-append_cases, Has-one}
+use Rattle.facts.proofs.Numbers.{all_below-true, all_below-from}
+use Rattle.facts.proofs.Members.{Has-append_left, Has-append_right}
 
 pub IsOf-refl : (r : Request) → IsOf r.client r.id r
 IsOf-refl r = record { same_client = refl; same_id = refl }

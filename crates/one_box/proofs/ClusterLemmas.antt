@@ -16,7 +16,7 @@ use Rattle.outside.specs.declared.errors.DeviceError.TheVariants as devices
 use Rattle.outside.specs.declared.link.PollAnswer.{PollAnswer}
 use Rattle.replica_rows.specs.Within.{ResultsShort}
 use Rattle.safety.proofs.Whole.{runs_are_safe}
-use Rattle.schedule_text.specs.Transcript.{lines_text}
+use Rattle.transcript_text.specs.Transcript.{lines_text}
 use Rattle.udp_node.specs.Effects.{WroteFront}
 use Rattle.world.specs.WorldSteps.{Happened}
 use Rattle.one_box.specs.declared.boxed.Boxed.{Boxed}

@@ -20,7 +20,7 @@ use Rattle.schedule_text.specs.declared.event.Event.TheVariants as events
 use Rattle.schedule_text.specs.EventText.{HasLine, HasWord}
 use Rattle.schedule_text.specs.Fits.{EventFits, EventsFit}
 use Rattle.schedule_text.specs.Ticks.{takes_tick}
-use Rattle.schedule_text.specs.Transcript.{line_text, lines_text}
+use Rattle.transcript_text.specs.Transcript.{line_text, lines_text}
 use Rattle.world.specs.Actors as world
 use Rattle.world.specs.declared.lines.Lines.{Lines}
 use Rattle.world.specs.LineCounts.{is_accept}

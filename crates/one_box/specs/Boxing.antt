@@ -11,7 +11,7 @@ use Rattle.outside.specs.declared.errors.DeviceError.TheVariants as devices
 use Rattle.outside.specs.declared.link.PollAnswer.{PollAnswer}
 use Rattle.safety.specs.Safe.{SafelyPassed}
 use Rattle.schedule_text.specs.declared.event.Event.{Event}
-use Rattle.schedule_text.specs.Transcript.{lines_text}
+use Rattle.transcript_text.specs.Transcript.{lines_text}
 use Rattle.udp_node.specs.Effects.{WroteFront}
 use Rattle.world.specs.LineCounts.{is_accept}
 use Rattle.world.specs.WorldSteps.{Happened, run}

@@ -16,7 +16,7 @@ use Rattle.outside.specs.declared.link.PollAnswer.{PollAnswer}
 use Rattle.outside.specs.declared.link.PollAnswer.TheVariants.{Received, Nothing, Failure}
 use Rattle.schedule_text.specs.declared.event.Event.{Event}
 use Rattle.schedule_text.specs.declared.event.Event.TheVariants as events
-use Rattle.schedule_text.specs.Transcript.{lines_text}
+use Rattle.transcript_text.specs.Transcript.{lines_text}
 use Rattle.udp_node.specs.declared.address.Address.{Address}
 use Rattle.udp_node.specs.declared.firing.Timer.{Timer}
 use Rattle.udp_node.specs.Timing.{armed, rearmed}

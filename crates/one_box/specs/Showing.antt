@@ -13,7 +13,7 @@ use Rattle.schedule_text.specs.declared.event.Event.{Event}
 use Rattle.schedule_text.specs.declared.event.Event.TheVariants.{Submit, Deliver, Tick, Install, Crash, Junk}
 use Rattle.schedule_text.specs.EventText.{HasLine}
 use Rattle.schedule_text.specs.Fits.{EventsFit}
-use Rattle.schedule_text.specs.Transcript.{lines_text}
+use Rattle.transcript_text.specs.Transcript.{lines_text}
 use Rattle.udp_node.specs.declared.address.Address.{Address}
 use Rattle.udp_node.specs.Ports.{datagrams_to}
 use Rattle.udp_node.specs.Sends.{Sends, side}

@@ -13,8 +13,9 @@ use crate::serving::Taken;
 use nop_types::{Config, Host, NoMemory};
 use outside::{Sink, WriteError, write_all};
 use replay::final_lines;
-use schedule_text::{Event, event_line, transcript_line};
+use schedule_text::{Event, event_line};
 use std::alloc::Global;
+use transcript_text::transcript_line;
 
 fn put_number(n: u64, to: &mut Vec<u8>) -> Result<(), NoMemory>
     ensures { OnOk result (to.new.items ≡ to.old.items ++ decimal n) }

@@ -12,7 +12,7 @@ use Rattle.schedule_text.specs.declared.rule.Rule.{Rule}
 use Rattle.schedule_text.specs.Rules.{header_of}
 use Rattle.schedule_text.specs.Reading.{Reading, Next, Gives, Refuses, Ends, Turn, Takes, TakesOf, LeavesNone, turn, turn_of, header_turn}
 use Rattle.schedule_text.specs.Reading.{lines_before, opening}
-use Rattle.schedule_text.specs.Transcript.{transcript_line}
+use Rattle.transcript_text.specs.Transcript.{transcript_line}
 use Rattle.world.specs.WorldSteps as world
 use Rattle.replay.specs.declared.error.ReplayError.{ReplayError}
 use Rattle.replay.specs.Output.{Output, then_text, begun, output_of_lines, output}

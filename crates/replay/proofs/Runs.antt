@@ -9,7 +9,7 @@ use Rattle.schedule_text.specs.declared.event.Event.{Event}
 use Rattle.schedule_text.specs.declared.rule.Rule.{Rule}
 use Rattle.schedule_text.specs.Rules.{header_of, event_of}
 use Rattle.schedule_text.specs.Reading.{turn, turn_after, event_turn, header_turn}
-use Rattle.schedule_text.specs.Transcript.{transcript_line, line_text, lines_text}
+use Rattle.transcript_text.specs.Transcript.{transcript_line, line_text, lines_text}
 use Rattle.world.specs.WorldSteps.{WorldState, Refusal, Happened, step, go_on, run_from, opening}
 use Rattle.replay.specs.Output.{Schedule, BadLine, ending, then_text, text_after, stepped, scheduled, schedule_from, written, rest, begun}
 use Rattle.replay.specs.Output.{output_of_lines}

@@ -9,7 +9,7 @@ use Rattle.schedule_text.specs.Cutting.{lines_of}
 use Rattle.schedule_text.specs.Fits.{EventsFit}
 use Rattle.schedule_text.specs.declared.rule.Rule.{Rule}
 use Rattle.schedule_text.specs.Rules.{header_of, event_of}
-use Rattle.schedule_text.specs.Transcript.{transcript_line}
+use Rattle.transcript_text.specs.Transcript.{transcript_line}
 use Rattle.schedule_text.proofs.Fitting.{events_fit, headers_fit}
 use Rattle.world.specs.WorldSteps.{WorldState, Refusal, Happened, step, go_on, run_from, opening}
 use Rattle.replica_rows.specs.Within.{ResultsShort}

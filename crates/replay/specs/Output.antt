@@ -8,7 +8,7 @@ use Rattle.schedule_text.specs.Cutting.{lines_of}
 use Rattle.schedule_text.specs.declared.rule.Rule.{Rule}
 use Rattle.schedule_text.specs.declared.rule.Rule.TheVariants as rules
 use Rattle.schedule_text.specs.Rules.{rule_number, header_of, event_of}
-use Rattle.schedule_text.specs.Transcript.{transcript_line, lines_text, history_line, error_line, end_line}
+use Rattle.transcript_text.specs.Transcript.{transcript_line, lines_text, history_line, error_line, end_line}
 use Rattle.world.specs.StateLines.{replicas_text}
 use Rattle.world.specs.WorldSteps.{WorldState, Refusal, NoSuchActor, NoSuchDatagram, Forged, Happened, step, run_from, opening, history}
 

@@ -6,7 +6,7 @@ use Rattle.nop_types.specs.Meaning.{Meaning}
 use Rattle.schedule_text.specs.declared.event.Event.{Event}
 use Rattle.schedule_text.specs.declared.next_error.NextError.{NextError}
 use Rattle.schedule_text.specs.declared.next_error.NextError.TheVariants as nexts
-use Rattle.schedule_text.specs.Transcript.{lines_text}
+use Rattle.transcript_text.specs.Transcript.{lines_text}
 use Rattle.schedule_text.specs.Reading.{Reading, Turn, Next, Gives, Refuses, Ends, MayFollow, lines_before, turn_of}
 use Rattle.world.specs.WorldSteps.{WorldState, Refusal, Happened, step}
 use Rattle.replay.specs.declared.error.ReplayError.{ReplayError}

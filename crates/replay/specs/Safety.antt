@@ -5,7 +5,7 @@ use Rattle.nop_types.specs.Meaning.{Meaning}
 use Rattle.schedule_text.specs.declared.event.Event.{Event}
 use Rattle.schedule_text.specs.Cutting.{lines_of}
 use Rattle.schedule_text.specs.Rules.{header_of}
-use Rattle.schedule_text.specs.Transcript.{transcript_line, lines_text}
+use Rattle.transcript_text.specs.Transcript.{transcript_line, lines_text}
 use Rattle.world.specs.WorldSteps.{Happened, opening, run}
 use Rattle.safety.specs.Safe.{SafelyPassed}
 use Rattle.replay.specs.Output.{final_text, schedule_from, output}

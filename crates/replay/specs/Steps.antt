@@ -4,7 +4,7 @@ use Rattle.std.specs.Io.KnownBytes.{Appends}
 use Rattle.nop_types.specs.Lines.{Line}
 use Rattle.schedule_text.specs.declared.next_error.NextError.{NextError}
 use Rattle.schedule_text.specs.declared.next_error.NextError.TheVariants as nexts
-use Rattle.schedule_text.specs.Transcript.{lines_text}
+use Rattle.transcript_text.specs.Transcript.{lines_text}
 use Rattle.world.specs.declared.step_error.StepError.{StepError}
 use Rattle.world.specs.declared.step_error.StepError.TheVariants as steps
 use Rattle.world.specs.WorldSteps.{WorldState, Refusal, NoSuchActor, NoSuchDatagram, Forged, Happened}

@@ -1,10 +1,10 @@
 ghost use Rattle.std.specs.Prelude.{◌≡◌, ◌+◌, ◌++◌, IfOk, OnOk, OnErr};
 ghost use Rattle.nop_types.specs.Lists.{IsPrefixOf};
-ghost use Rattle.schedule_text.specs.Transcript.{history_line};
+ghost use Rattle.transcript_text.specs.Transcript.{history_line};
 ghost use Rattle.replay.specs.Output.{history_text, final_text};
 
 use nop_types::{Host, NoMemory, Request};
-use schedule_text::{end_line, history_line};
+use transcript_text::{end_line, history_line};
 use world::World;
 
 /// The number of a member of the history; a number past its type answers NoMemory, since no memory holds that many.

@@ -1,7 +1,7 @@
 ghost use Rattle.std.specs.Prelude.{◌≡◌, ◌≤◌, ◌++◌, false, IsSome, IfOk, OnOk};
 ghost use Rattle.outside.specs.Causes.{HasCauseFor};
 ghost use Rattle.kv_host.specs.Kv.{kv_meaning};
-ghost use Rattle.schedule_text.specs.Transcript.{transcript_line};
+ghost use Rattle.transcript_text.specs.Transcript.{transcript_line};
 ghost use Rattle.world.specs.WorldSteps.{opening};
 ghost use Rattle.replay.specs.Outcome.{EndsWith};
 ghost use Rattle.replay.specs.Progress.{EndsFrom};
@@ -12,8 +12,9 @@ use crate::turn::{finish, stop, take_event};
 use kv_host::KvHost;
 use nop_types::{Config, Host, MAX_LINES, NoMemory};
 use outside::{Sink, Source};
-use schedule_text::{Reader, transcript_line};
+use schedule_text::Reader;
 use std::alloc::Global;
+use transcript_text::transcript_line;
 use world::World;
 
 /// The first line of a transcript, and the world that its events start from.

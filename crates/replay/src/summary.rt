@@ -4,7 +4,7 @@ ghost use Rattle.std.specs.Prelude.{◌≡◌, ◌++◌, OnOk, length, count_by}
 ghost use Rattle.world.specs.WorldSteps.{main_view, main_log, history};
 ghost use Rattle.replay.specs.Generated.{counted, is_noop, gen_line, sends_line, view_line};
 ghost use Rattle.replay.specs.Generated.{members_line, tally_text};
-ghost use Rattle.schedule_text.specs.Transcript.{line_end};
+ghost use Rattle.transcript_text.specs.Transcript.{line_end};
 
 use crate::generated::Counts;
 use nop_types::{Entry, Host, NoMemory, View};

@@ -9,7 +9,8 @@ use crate::error::ReplayError;
 use crate::writing::{GATHERED_BYTES, flush};
 use nop_types::Host;
 use outside::Sink;
-use schedule_text::{Event, NextError, Rule, error_line};
+use schedule_text::{Event, NextError, Rule};
+use transcript_text::error_line;
 use world::{StepError, World};
 
 /// Writes what was gathered and the error line, in which the rule has its number.

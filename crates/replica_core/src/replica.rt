@@ -50,10 +50,19 @@ struct Node<H: Host> {
 
 /// A replica of a service. It logs the requests of its session in the order of their numbers and replies for each; it agrees
 /// with the others on the slots whose requests were lost, on the log that a new view starts with, and on synchronised prefixes.
-#[derive(Drop)]
 pub struct Replica<H: Host> {
     failed: bool,
     node: Node<H>,
+}
+
+// By hand, so that a crate with a replica proves nothing on how its parts are dropped.
+impl<H: Host> Drop for Replica<H> {
+    fn drop(self) {
+        let Replica {
+            failed: _failed,
+            node: _node,
+        } = self;
+    }
 }
 
 impl<H: Host> Model for Replica<H> {

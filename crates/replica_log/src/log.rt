@@ -7,6 +7,7 @@ ghost use Rattle.std.specs.Prelude.{
   ◌≤◌,
   ◌↔◌,
   [],
+  ℕ,
   length,
   take,
   drop,
@@ -60,6 +61,19 @@ fn replace_front(entries: &mut Vec<Entry>, mut front: Vec<Entry>)
 {
     while let Some(entry) = front.pop() {
         entries[front.len()] = entry;
+    }
+}
+
+/// Whether two entries are one.
+fn same_entry(a: &Entry, b: &Entry) -> bool
+    ensures { IsTrue result ↔ (a.now ≡ b.now) }
+{
+    match (a, b) {
+        (Entry::NoOp, Entry::NoOp) => true,
+        (Entry::Req(a), Entry::Req(b)) => {
+            a.client == b.client && a.id == b.id && a.op.as_slice() == b.op.as_slice()
+        }
+        _ => false,
     }
 }
 
@@ -152,6 +166,24 @@ impl ReplicaLog {
             replace_front(&mut self.entries, front);
         }
         Ok(appended as u32)
+    }
+
+    /// How many entries this log and another have in common at their front, of so many at most.
+    pub fn common_front(&self, other: &[Entry], most: usize) -> usize
+        ensures most { result ≤ most }
+        ensures common { take result self.now ≡ take result other.now }
+        ensures longest { (len : ℕ) → len ≤ most → len ≤ length self.now → len ≤ length other.now
+            → take len self.now ≡ take len other.now → len ≤ result }
+    {
+        let end = most.min(self.entries.len()).min(other.len());
+        let mut len = 0;
+        while len < end {
+            if !same_entry(&self.entries[len], &other[len]) {
+                return len;
+            }
+            len += 1;
+        }
+        len
     }
 
     /// A copy of the first `len` entries.

@@ -1,40 +1,9 @@
-ghost use Rattle.std.specs.Prelude.{◌≡◌, ◌≤◌, ◌↔◌, ℕ, IsTrue, length, min, take, OnOk};
+ghost use Rattle.std.specs.Prelude.{◌≡◌, ◌≤◌, ℕ, length, min, take, OnOk};
 ghost use Rattle.replica_state.specs.State.{executed_to};
 ghost use Rattle.replica_rows.specs.Within.{IsRunning};
 
 use crate::member::Member;
 use nop_types::{Entry, Host, NoMemory};
-
-/// Whether two entries are one.
-fn same_entry(a: &Entry, b: &Entry) -> bool
-    ensures { IsTrue result ↔ (a.now ≡ b.now) }
-{
-    match (a, b) {
-        (Entry::NoOp, Entry::NoOp) => true,
-        (Entry::Req(a), Entry::Req(b)) => {
-            a.client == b.client && a.id == b.id && a.op.as_slice() == b.op.as_slice()
-        }
-        _ => false,
-    }
-}
-
-/// How many entries two logs have in common at their front, of so many at most.
-fn common_front(a: &[Entry], b: &[Entry], most: usize) -> usize
-    ensures most { result ≤ most }
-    ensures common { take result a.now ≡ take result b.now }
-    ensures longest { (len : ℕ) → len ≤ most → len ≤ length a.now → len ≤ length b.now
-        → take len a.now ≡ take len b.now → len ≤ result }
-{
-    let end = most.min(a.len()).min(b.len());
-    let mut len = 0;
-    while len < end {
-        if !same_entry(&a[len], &b[len]) {
-            return len;
-        }
-        len += 1;
-    }
-    len
-}
 
 impl<H: Host> Member<H> {
     /// Takes back what was executed above a slot.
@@ -68,7 +37,7 @@ impl<H: Host> Member<H> {
             ≤ length self.new.executor.undos }
     {
         let executed = self.executor.executed() as usize;
-        let common = common_front(self.state.log.as_slice(), log, executed);
+        let common = self.state.log.common_front(log, executed);
         self.executor.rewind(&self.state.log, common as u32);
     }
 

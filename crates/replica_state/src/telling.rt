@@ -156,7 +156,8 @@ impl ReplicaState {
         requires within { IsWithin self.now }
         requires slot { SlotFits slot }
         requires id { 1 ≤ id }
-        ensures ok { OnOk result (sends.new ≡ sends.old ++ reply_with self.now slot client id 0 []) }
+        ensures ok { OnOk result (sends.new
+            ≡ sends.old ++ reply_with self.now slot client id 0 []) }
         ensures err { OnErr result (sends.new ≡ sends.old) }
     {
         let none = Bytes::from_vec(Vec::new(alloc));

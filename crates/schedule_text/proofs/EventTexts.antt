@@ -24,11 +24,11 @@ use Rattle.schedule_text.specs.EventText.{HasWord, HasLine, tick_text, event_tex
 use Rattle.schedule_text.specs.EventText.{IsTyped, event_word, event_fields}
 use Rattle.schedule_text.specs.Fields.{fields, fields_on, is_text, digit_on, number_on, number_of, number_below, numbered, actor_of}
 use Rattle.schedule_text.specs.Fields.{as_option, bytes_of}
-use Rattle.schedule_text.specs.LineText.{after_space, line_of}
+use Rattle.transcript_text.specs.LineText.{after_space, line_of}
 use Rattle.schedule_text.specs.Rules.{is_plain, max_op_text, max_junk_text, event_of_fields, event_of, plain_line, submit_event}
 use Rattle.schedule_text.specs.Rules.{deliver_event, tick_event, install_of, crash_of, junk_event}
 use Rattle.schedule_text.specs.Ticks.{tick_named, takes_tick}
-use Rattle.schedule_text.specs.Transcript.{actor_text, hex_text}
+use Rattle.transcript_text.specs.Transcript.{actor_text, hex_text}
 
 -- ---- the bytes of a field
 

@@ -4,7 +4,6 @@ pub mod EventTexts
 pub mod Firsts
 pub mod Fitting
 pub mod HexLengths
-pub mod LineLemmas
 pub mod Searched
 pub mod SplitLemmas
 pub mod Takings

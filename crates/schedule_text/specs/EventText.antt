@@ -10,10 +10,10 @@ use Rattle.nop_types.specs.declared.output.Actor.{Actor}
 use Rattle.nop_types.specs.declared.output.Actor.TheVariants as actors
 use Rattle.schedule_text.specs.declared.event.Event.{Event}
 use Rattle.schedule_text.specs.declared.event.Event.TheVariants as events
-use Rattle.schedule_text.specs.LineText.{after_space}
+use Rattle.transcript_text.specs.LineText.{after_space}
 use Rattle.schedule_text.specs.Rules.{event_of}
 use Rattle.schedule_text.specs.Ticks.{takes_tick}
-use Rattle.schedule_text.specs.Transcript.{actor_text, hex_text}
+use Rattle.transcript_text.specs.Transcript.{actor_text, hex_text}
 
 -- ---- which events have a line
 

@@ -5,10 +5,8 @@ pub mod Fields
 pub mod Filling
 pub mod Fits
 pub mod LineAnswer
-pub mod LineText
 pub mod Reading
 pub mod Rules
 pub mod Split
 pub mod Stepping
 pub mod Ticks
-pub mod Transcript

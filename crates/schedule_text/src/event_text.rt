@@ -4,11 +4,11 @@ ghost use Rattle.std.specs.Prelude.{◌≡◌, ◌++◌, ◌∷◌, [], OnOk, On
 ghost use Rattle.hex.specs.Hex.{IsBytes};
 ghost use Rattle.schedule_text.specs.EventText.{HasWord, HasLine, tick_text, event_word};
 ghost use Rattle.schedule_text.specs.EventText.{event_fields, event_text, Means, IsTyped};
-ghost use Rattle.schedule_text.specs.LineText.{line_of};
+ghost use Rattle.transcript_text.specs.LineText.{line_of};
 
 use crate::event::Event;
-use crate::field::{Field, write_line};
 use nop_types::{Actor, NoMemory, Tick};
+use transcript_text::{Field, write_line};
 
 fn tick_word(tick: Tick) -> &'static str
     requires { HasWord tick }

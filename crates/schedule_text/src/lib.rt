@@ -1,10 +1,9 @@
-//! Schedules as text, and the lines of a transcript.
+//! Schedules as text.
 #![tactic(auto)]
 
 mod buffer;
 mod event;
 mod event_text;
-mod field;
 mod first_line;
 mod laws;
 mod line_error;
@@ -15,7 +14,6 @@ mod rules;
 mod spelling;
 mod split;
 mod ticks;
-mod transcript;
 mod words;
 
 pub use event::Event;
@@ -25,7 +23,3 @@ pub use next_error::NextError;
 pub use reader::Reader;
 pub use rule::Rule;
 pub use ticks::takes_tick;
-pub use transcript::{
-    accept_line, busy_line, dead_line, end_line, entry_line, error_line, history_line,
-    replica_line, send_line, submit_line, transcript_line,
-};

@@ -1,7 +1,6 @@
 -- What is not for a sequencer changes nothing.
-use Rattle.std.proofs.Common.{◌≡◌, ℕ, List, [], refl, subst, sym, Bool, true, false, Result, Ok, Err}
-use Rattle.std.specs.Prelude.{cond, Some, None}
-use Rattle.nop_types.specs.Given.{Given, Packet, Ticked, Submit}
+use Rattle.std.proofs.Common.{◌≡◌, ℕ, List, [], refl, Bool, true, false, Result, Ok, Err}
+use Rattle.nop_types.specs.Given.{Packet, Ticked, Submit}
 use Rattle.nop_types.specs.declared.input.Tick.{Tick}
 use Rattle.nop_types.specs.declared.output.Out.{Out}
 use Rattle.nop_types.specs.declared.request.Request.{Request}

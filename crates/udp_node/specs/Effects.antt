@@ -8,7 +8,7 @@ use Rattle.outside.specs.Fronts.{AppendsFront}
 use Rattle.outside.specs.declared.errors.DeviceError.{DeviceError}
 use Rattle.outside.specs.declared.errors.DeviceError.TheVariants.{Failed, NoMemory}
 use Rattle.outside.specs.declared.link.Sent.{Sent}
-use Rattle.schedule_text.specs.Transcript.{submit_line, accept_line}
+use Rattle.transcript_text.specs.Transcript.{submit_line, accept_line}
 use Rattle.udp_node.specs.declared.address.Address.{Address}
 use Rattle.udp_node.specs.Ports.{datagrams_to}
 use Rattle.udp_node.specs.Sends.{LinkSide, Sends}

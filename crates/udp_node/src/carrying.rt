@@ -4,7 +4,7 @@ ghost use Rattle.outside.specs.Causes.{HasCauseFor};
 ghost use Rattle.outside.specs.Told.{Stays};
 ghost use Rattle.outside.specs.declared.errors.DeviceError.TheVariants as errors;
 ghost use Rattle.udp_node.specs.Effects.{effects_of, effects, Carries, Writes};
-ghost use Rattle.schedule_text.specs.Transcript as texts;
+ghost use Rattle.transcript_text.specs.Transcript as texts;
 ghost use Rattle.udp_node.specs.Folding.{Runs};
 ghost use Rattle.udp_node.specs.Sends.{side};
 
@@ -12,8 +12,8 @@ use crate::Address;
 use crate::sending::send_to;
 use nop_types::{Bytes, Core, Input, NoMemory, Out, Outbox, Request};
 use outside::{Link, Sink, WriteError, write_all};
-use schedule_text::{accept_line, submit_line};
 use std::alloc::Global;
+use transcript_text::{accept_line, submit_line};
 
 fn write_submit<W: Sink>(alloc: Global, request: &Request, sink: &mut W) -> Result<(), WriteError>
     ensures line { Writes (texts.submit_line request.now) result (W.held sink.old)

@@ -10,7 +10,7 @@ use Rattle.nop_types.specs.Lines.{Line}
 use Rattle.nop_types.specs.declared.output.Actor.{Actor}
 use Rattle.nop_types.specs.declared.output.Out.{Out}
 use Rattle.nop_types.specs.declared.output.Out.TheVariants as outs
-use Rattle.schedule_text.specs.Transcript.{line_text, lines_text}
+use Rattle.transcript_text.specs.Transcript.{line_text, lines_text}
 use Rattle.world.specs.declared.lines.Tally.{Tally}
 use Rattle.world.specs.LineCounts.{is_send, is_accept, Grows}
 use Rattle.world.specs.Network.{Sent, sends_of, lines_from}

@@ -1,7 +1,7 @@
 -- Lines as text, and how many of them are sends and accepts.
 use Rattle.std.specs.Prelude.{◌≡◌, ◌+◌, ◌++◌, List, count_by, Bool, true, false}
 use Rattle.nop_types.specs.Lines.{Line, Dead, Submit, Accept, Busy, Send}
-use Rattle.schedule_text.specs.Transcript.{lines_text}
+use Rattle.transcript_text.specs.Transcript.{lines_text}
 use Rattle.world.specs.declared.lines.Lines.{Lines}
 use Rattle.world.specs.declared.lines.Tally.{Tally}
 

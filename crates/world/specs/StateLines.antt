@@ -1,7 +1,7 @@
 -- The lines that show the replicas at the end of a run.
 use Rattle.std.specs.Prelude.{ℕ, ◌+◌, List, [], ◌∷◌, ◌++◌, length, take}
 use Rattle.nop_types.specs.declared.request.Entry.{Entry}
-use Rattle.schedule_text.specs.Transcript.{replica_line, entry_line}
+use Rattle.transcript_text.specs.Transcript.{replica_line, entry_line}
 use Rattle.replica_state.specs.declared.state.ReplicaState.{ReplicaState}
 use Rattle.replica_core.specs.ReplicaSteps.{Replica}
 use Rattle.world.specs.Seats.{Seated}

@@ -6,8 +6,8 @@ ghost use Rattle.world.specs.SeatOutcomes.{did_of};
 
 use crate::network::Network;
 use nop_types::{Actor, Bytes, Dest, NoMemory, Out, Outbox};
-use schedule_text::{accept_line, busy_line, dead_line, send_line, submit_line};
 use std::alloc::Global;
+use transcript_text::{accept_line, busy_line, dead_line, send_line, submit_line};
 
 /// The lines of an event: their text, and how many of them are sends and accepts.
 #[derive(Debug, Drop)]

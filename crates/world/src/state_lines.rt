@@ -5,7 +5,7 @@ ghost use Rattle.world.specs.StateLines.{entries_text, replica_text, replicas_te
 use crate::seat::Seat;
 use nop_types::{Entry, Host, MAX_REPLICAS, MAX_SLOTS, NoMemory};
 use replica_core::Replica;
-use schedule_text::{entry_line, replica_line};
+use transcript_text::{entry_line, replica_line};
 
 fn put_entries(replica: u8, entries: &[Entry], to: &mut Vec<u8>) -> Result<(), NoMemory>
     requires { length entries.now ≤ MAX_SLOTS }

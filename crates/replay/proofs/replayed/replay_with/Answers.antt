@@ -1,7 +1,7 @@
 use Rattle.std.proofs.Common.{◌≡◌, refl, ◌∙◌, ap}
 use Rattle.std.proofs.lemmas.Result.{err_from_is_err_and}
 use Rattle.schedule_text.specs.Reading.{Reading}
-use Rattle.schedule_text.specs.Transcript.{transcript_line}
+use Rattle.transcript_text.specs.Transcript.{transcript_line}
 use Rattle.safety.proofs.Results.{results_short}
 use Rattle.replay.proofs.Beginning.{opened, unopened, text_first, counts_from_one}
 use Rattle.replay.proofs.Causes.{cause_since, stop_reads, stop_writes, starved_reads, starved_writes, same_time}

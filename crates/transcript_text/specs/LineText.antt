@@ -1,9 +1,9 @@
 -- A line of a transcript as its fields.
 use Rattle.std.specs.Prelude.{ℕ, List, [], ◌∷◌, ◌++◌, decimal, map, slice_index}
 use Rattle.std.specs.List.{flat_map}
-use Rattle.schedule_text.specs.declared.field.Field.{Field}
-use Rattle.schedule_text.specs.declared.field.Field.TheVariants.{Word, Number, Name, To, KindOf, Crashed, Status, Hex}
-use Rattle.schedule_text.specs.Transcript.{actor_text, dest_text, hex_text, kind_text, phase_text, up_text}
+use Rattle.transcript_text.specs.declared.field.Field.{Field}
+use Rattle.transcript_text.specs.declared.field.Field.TheVariants.{Word, Number, Name, To, KindOf, Crashed, Status, Hex}
+use Rattle.transcript_text.specs.Transcript.{actor_text, dest_text, hex_text, kind_text, phase_text, up_text}
 
 abbrev pub field_text : Field → List ℕ
 field_text (Word text) = text.now

@@ -1,7 +1,7 @@
 //! The lines of a transcript. Each function appends one line.
 
 ghost use Rattle.std.specs.Prelude.{◌≡◌, ◌++◌, Some, None, OnOk, OnErr};
-ghost use Rattle.schedule_text.specs.Transcript as texts;
+ghost use Rattle.transcript_text.specs.Transcript as texts;
 
 use crate::field::{Field, write_line};
 use nop_types::{Actor, Bytes, Config, Dest, Entry, NoMemory, Phase, Request, View};

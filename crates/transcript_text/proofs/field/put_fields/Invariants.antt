@@ -1,6 +1,6 @@
 use Rattle.std.proofs.Common.{◌≡◌, ◌++◌, take, flat_map}
-use Rattle.schedule_text.specs.LineText.{after_space, field_texts}
-use Rattle.schedule_text.proofs.field.put_fields.Given as goal
+use Rattle.transcript_text.specs.LineText.{after_space, field_texts}
+use Rattle.transcript_text.proofs.field.put_fields.Given as goal
 
 abbrev pub invariant-loop-field : goal.invariant-loop-field
 invariant-loop-field l = l.to.items ≡ l.fn.to.items ++ flat_map after_space (field_texts (take l.field-index l.fields))

@@ -1,8 +1,8 @@
 use Rattle.std.proofs.Common.{rules, take, flat_map}
 use Rattle.nop_types.specs.Lists.{IsPrefixOf}
 use Rattle.facts.proofs.Prefixes.{IsPrefixOf-trans}
-use Rattle.schedule_text.specs.LineText.{after_space, field_texts}
-use Rattle.schedule_text.proofs.field.put_fields.Goals as goal
+use Rattle.transcript_text.specs.LineText.{after_space, field_texts}
+use Rattle.transcript_text.proofs.field.put_fields.Goals as goal
 
 pub returns-in_err-put_spaced-clause-err : goal.returns-in_err-put_spaced-clause-err
 returns-in_err-put_spaced-clause-err c =

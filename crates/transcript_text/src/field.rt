@@ -2,9 +2,9 @@ ghost use Rattle.std.specs.Prelude.{◌≡◌, ◌++◌, ◌∷◌, [], decimal,
 ghost use Rattle.std.specs.List.{flat_map};
 ghost use Rattle.hex.specs.Hex.{encode_lower};
 ghost use Rattle.nop_types.specs.Lists.{IsPrefixOf};
-ghost use Rattle.schedule_text.specs.LineText.{after_space, field_text, field_texts, line_of};
-ghost use Rattle.schedule_text.specs.Transcript.{actor_text, dest_text, hex_text, kind_text};
-ghost use Rattle.schedule_text.specs.Transcript.{phase_text, up_text};
+ghost use Rattle.transcript_text.specs.LineText.{after_space, field_text, field_texts, line_of};
+ghost use Rattle.transcript_text.specs.Transcript.{actor_text, dest_text, hex_text, kind_text};
+ghost use Rattle.transcript_text.specs.Transcript.{phase_text, up_text};
 
 use nop_types::{Actor, Dest, NoMemory, Phase, kinds};
 
