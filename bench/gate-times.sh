@@ -10,7 +10,8 @@
 # A crate has the seconds of all its processes together, each with the last figures that were seen of it, five times a second, and the
 # memory of its largest process. Proof: the crate itself. Tests: the crate proved once more with its tests. Edits: each
 # must-fail edit. What `rt` does beside them, runs of tests and programs, and checks/*.sh are in the last line alone. Lines of code have
-# the contracts and no tests.
+# the contracts and no tests. Machines differ by half and more: `rt selftest`, which proves and builds one example of the toolchain, runs
+# first, and its seconds stand below the table, so that tables of two machines can be compared.
 set -eu
 
 exec python3 - "$(cd "$(dirname "$0")/.." && pwd)" "$@" <<'PYTHON'
@@ -87,8 +88,23 @@ def row(crate, code, specs, proofs, proof, memory, edits, tests):
     return f"| {crate} | {code} | {specs} | {proofs} | {proof:.0f} | {memory} | {edits:.0f} | {tests:.0f} |"
 
 
+def spent(used):
+    return used.ru_utime + used.ru_stime
+
+
+def yardstick():
+    """The processor seconds of a proof that is the same on each machine."""
+    example = subprocess.Popen(["rt", "selftest"], cwd=folder, stdin=subprocess.DEVNULL, stdout=subprocess.DEVNULL)
+    done, status, used = os.wait4(example.pid, 0)
+    example.returncode = os.waitstatus_to_exitcode(status)
+    if example.returncode:
+        sys.exit("rt selftest failed")
+    return spent(used)
+
+
 try:
     subprocess.run(["git", "clone", "-q", root, tree], check=True)
+    example = yardstick()
     lines = [it.split("#")[0].partition(":") for it in open(tree + "/crates.txt", encoding="utf-8")]
     crates = [name.strip() for name, colon, _ in lines if colon]
     seen, began = {}, time.time()
@@ -109,8 +125,9 @@ try:
         print(table_of(seen, crates))
         sys.exit("\n".join(said[-40:]))
     verdict = next(it for it in reversed(said) if re.fullmatch(r"\d+ passed, \d+ failed.*", it))
-    clock, spent = (time.time() - began) / 60, (used.ru_utime + used.ru_stime) / 60
-    whole = f"The whole run: {clock:.0f} minutes by the clock, {spent:.0f} processor minutes on {os.cpu_count()} processors; `{verdict}`."
+    clock, minutes = (time.time() - began) / 60, spent(used) / 60
+    whole = f"The whole run: {clock:.0f} minutes by the clock, {minutes:.0f} processor minutes on {os.cpu_count()} processors; `{verdict}`."
+    whole += f" On this machine\n`rt selftest`, an example of the toolchain, takes {example:.0f} processor seconds: tables of two machines compare by that."
     if names:
         print(table_of(seen, [it for it in crates if any(key[0] == it for key, _, _ in seen.values())]))
         print("\n" + whole)
