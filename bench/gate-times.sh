@@ -10,8 +10,8 @@
 # A crate has the seconds of all its processes together, each with the last figures that were seen of it, five times a second, and the
 # memory of its largest process. Proof: the crate itself. Tests: the crate proved once more with its tests. Edits: each
 # must-fail edit. What `rt` does beside them, runs of tests and programs, and checks/*.sh are in the last line alone. Lines of code have
-# the contracts and no tests. Machines differ by half and more: `rt selftest`, which proves and builds one example of the toolchain, runs
-# first, and its seconds stand below the table, so that tables of two machines can be compared.
+# the contracts and no tests. `rt selftest`, which proves and builds one example of the toolchain, runs first, and its seconds stand below the
+# table: how fast the machine is by itself. Checks beside each other take each other's time too, so compare crates that did not change.
 set -eu
 
 exec python3 - "$(cd "$(dirname "$0")/.." && pwd)" "$@" <<'PYTHON'
@@ -127,7 +127,7 @@ try:
     verdict = next(it for it in reversed(said) if re.fullmatch(r"\d+ passed, \d+ failed.*", it))
     clock, minutes = (time.time() - began) / 60, spent(used) / 60
     whole = f"The whole run: {clock:.0f} minutes by the clock, {minutes:.0f} processor minutes on {os.cpu_count()} processors; `{verdict}`."
-    whole += f" On this machine\n`rt selftest`, an example of the toolchain, takes {example:.0f} processor seconds: tables of two machines compare by that."
+    whole += f" By itself\n`rt selftest`, an example of the toolchain, takes {example:.0f} processor seconds on this machine."
     if names:
         print(table_of(seen, [it for it in crates if any(key[0] == it for key, _, _ in seen.values())]))
         print("\n" + whole)
