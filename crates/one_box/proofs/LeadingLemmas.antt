@@ -22,9 +22,10 @@ use Rattle.schedule_text.specs.Fits.{EventFits, EventsFit}
 use Rattle.schedule_text.specs.Ticks.{takes_tick}
 use Rattle.transcript_text.specs.Transcript.{line_text, lines_text}
 use Rattle.world.specs.Actors as world
-use Rattle.world.specs.declared.lines.Lines.{Lines}
-use Rattle.world.specs.LineCounts.{is_accept}
-use Rattle.world.specs.Seats.{Seated, Did}
+use Rattle.network.specs.declared.lines.Lines.{Lines}
+use Rattle.network.specs.LineCounts.{is_accept}
+use Rattle.world.specs.Seats.{Seated}
+use Rattle.network.specs.Network.{Did}
 use Rattle.world.specs.WorldSteps.{WorldState, Refusal, Happened, step, step_at, step_of, then_at, tick_if, stimulus_of, go_on, run_from}
 use Rattle.one_box.specs.ClusterRun.{Course, kept}
 use Rattle.one_box.specs.Showing.{IsLedTo, IsNoJunk, Steps, GoesOn}

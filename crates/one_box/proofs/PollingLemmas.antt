@@ -19,7 +19,7 @@ use Rattle.udp_node.specs.Sends.{LinkSide, Sends, side}
 use Rattle.udp_node.specs.Timing.{rearmed, Takes}
 use Rattle.udp_node.proofs.SendLemmas.{sends_then}
 use Rattle.udp_node.proofs.TurnLemmas.{answer_of, polled, poll_failed, quiet}
-use Rattle.world.specs.Finding.{first_index}
+use Rattle.network.specs.Finding.{first_index}
 use Rattle.one_box.specs.declared.node.Node as code
 use Rattle.one_box.specs.ClusterRun as run
 use Rattle.one_box.specs.ClusterRun.{Course, Node, take, deliver, poll, fire_due, node_turn}

@@ -10,7 +10,7 @@ use Rattle.udp_node.specs.declared.address.Address.{Address}
 use Rattle.udp_node.specs.Ports.{datagrams_to}
 use Rattle.udp_node.specs.Sends.{LinkSide, Sends}
 use Rattle.udp_node.proofs.SendLemmas.{sends_then, no_sends}
-use Rattle.world.specs.Network.{Sent}
+use Rattle.network.specs.Network.{Sent}
 use Rattle.one_box.specs.Showing.{posts}
 
 pub posts-append : (at : Address) (xs ys : List Sent) → posts at (xs ++ ys) ≡ posts at xs ++ posts at ys

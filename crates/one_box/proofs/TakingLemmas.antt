@@ -10,7 +10,7 @@ use Rattle.schedule_text.specs.declared.event.Event.{Event}
 use Rattle.udp_node.specs.declared.address.Address.{Address}
 use Rattle.udp_node.specs.Sends.{LinkSide, Sends, side}
 use Rattle.udp_node.proofs.SendLemmas.{sends_then}
-use Rattle.world.specs.Network.{Sent}
+use Rattle.network.specs.Network.{Sent}
 use Rattle.world.specs.SeatOutcomes as world
 use Rattle.world.specs.WorldSteps.{Happened, Refusal, step}
 use Rattle.world.specs.declared.step_error.StepError.{StepError}

@@ -13,7 +13,7 @@ use Rattle.safety.specs.Safe.{SafelyPassed}
 use Rattle.schedule_text.specs.declared.event.Event.{Event}
 use Rattle.transcript_text.specs.Transcript.{lines_text}
 use Rattle.udp_node.specs.Effects.{WroteFront}
-use Rattle.world.specs.LineCounts.{is_accept}
+use Rattle.network.specs.LineCounts.{is_accept}
 use Rattle.world.specs.WorldSteps.{Happened, run}
 use Rattle.one_box.specs.declared.boxed.Boxed.{Boxed}
 use Rattle.one_box.specs.declared.errors.ClusterError.{ClusterError}

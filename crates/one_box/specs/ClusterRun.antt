@@ -20,10 +20,10 @@ use Rattle.transcript_text.specs.Transcript.{lines_text}
 use Rattle.udp_node.specs.declared.address.Address.{Address}
 use Rattle.udp_node.specs.declared.firing.Timer.{Timer}
 use Rattle.udp_node.specs.Timing.{armed, rearmed}
-use Rattle.world.specs.Finding.{first_index}
-use Rattle.world.specs.LineCounts.{is_accept}
+use Rattle.network.specs.Finding.{first_index}
+use Rattle.network.specs.LineCounts.{is_accept}
 use Rattle.world.specs.Lookups.{timers_of, takes_op}
-use Rattle.world.specs.Network.{Sent}
+use Rattle.network.specs.Network.{Sent}
 use Rattle.world.specs.WorldSteps.{WorldState, Happened, Refusal, step, opening}
 use Rattle.one_box.specs.Actors.{actors_of, first_op}
 

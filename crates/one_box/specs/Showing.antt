@@ -17,8 +17,8 @@ use Rattle.transcript_text.specs.Transcript.{lines_text}
 use Rattle.udp_node.specs.declared.address.Address.{Address}
 use Rattle.udp_node.specs.Ports.{datagrams_to}
 use Rattle.udp_node.specs.Sends.{Sends, side}
-use Rattle.world.specs.LineCounts.{is_accept}
-use Rattle.world.specs.Network.{Sent}
+use Rattle.network.specs.LineCounts.{is_accept}
+use Rattle.network.specs.Network.{Sent}
 use Rattle.world.specs.WorldSteps.{Happened, Refusal, step, run}
 use Rattle.world.specs.declared.step_error.StepError.{StepError}
 use Rattle.world.specs.declared.step_error.StepError.TheVariants as steps

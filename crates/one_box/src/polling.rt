@@ -1,7 +1,7 @@
 ghost use Rattle.std.specs.Prelude.{◌≡◌, ◌≤◌, OnOk};
 ghost use Rattle.one_box.specs.ClusterRun.{deliver, poll};
 ghost use Rattle.one_box.specs.Showing.{course_of, link_view, Acts, Serves, place_of};
-ghost use Rattle.world.specs.Finding.{first_index};
+ghost use Rattle.network.specs.Finding.{first_index};
 
 use crate::course::Course;
 use crate::node::Node;

@@ -41,7 +41,7 @@ use Rattle.replica_state.specs.declared.sending.Sending.TheVariants.{ToClient, T
 use Rattle.replica_core.specs.Posting.{posted}
 use Rattle.delivery.specs.Sends.{IsAmong, GoesAmong}
 use Rattle.replica_state.specs.Sends.{SendingFits}
-use Rattle.world.specs.Network.{Sent, sends_of as sent_of, lines_from}
+use Rattle.network.specs.Network.{Sent, sends_of as sent_of, lines_from}
 
 -- ---- outputs
 

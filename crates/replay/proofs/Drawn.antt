@@ -17,8 +17,8 @@ use Rattle.replica_core.specs.ReplicaSteps as replica
 use Rattle.replica_rows.specs.Within.{ResultsShort}
 use Rattle.schedule_text.specs.declared.event.Event.{Event}
 use Rattle.schedule_text.specs.Fits.{EventFits, EventsFit}
-use Rattle.world.specs.Network.{sends_by}
-use Rattle.world.specs.Seats.{Seated, Stimulus, Did}
+use Rattle.network.specs.Network.{sends_by, Did}
+use Rattle.world.specs.Seats.{Seated, Stimulus}
 use Rattle.world.specs.WorldSteps.{WorldState, Happened, Refusal, actor_of, stimulus_of, then_at, step_at, step_of, step, go_on, run_from}
 use Rattle.world.specs.WorldSteps.{at_replica, at_sequencer, at_client, at_controller, opening}
 use Rattle.std.specs.Prelude.{Some, slice_get}

@@ -41,8 +41,8 @@ use Rattle.protocol.specs.Conf.{Conf, opening}
 use Rattle.protocol.specs.Invariant.{Inv}
 use Rattle.protocol.specs.Runs.{run}
 use Rattle.protocol.proofs.Opening.{opening_meets}
-use Rattle.world.specs.Network.{Sent, sends_by, lines_by}
-use Rattle.world.specs.Seats.{Seated, Stimulus, Takes, Crashes, Did, Nothing, Outputs, moved_if, seat_step}
+use Rattle.network.specs.Network.{Sent, sends_by, lines_by, Did, Nothing, Outputs}
+use Rattle.world.specs.Seats.{Seated, Stimulus, Takes, Crashes, moved_if, seat_step}
 use Rattle.world.specs.WorldSteps as world
 use Rattle.world.specs.WorldSteps.{WorldState, Happened, Refusal, actor_of, stimulus_of, at_replica, at_sequencer, at_client, at_controller}
 use Rattle.world.specs.WorldSteps.{then_at, step_at, step_of, step, go_on, run_from}

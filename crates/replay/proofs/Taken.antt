@@ -25,8 +25,8 @@ use Rattle.schedule_text.specs.declared.event.Event.TheVariants as events
 use Rattle.schedule_text.specs.EventText.{HasWord, HasLine, IsActorOf, IsEventOf}
 use Rattle.schedule_text.specs.Fits.{EventFits}
 use Rattle.schedule_text.specs.Ticks.{takes_tick}
-use Rattle.world.specs.Network.{Sent}
-use Rattle.world.specs.Seats.{Seated, Stimulus, Takes, Crashes, Did}
+use Rattle.network.specs.Network.{Sent, Did}
+use Rattle.world.specs.Seats.{Seated, Stimulus, Takes, Crashes}
 use Rattle.world.specs.WorldSteps.{WorldState, Happened, Refusal, tick_if, datagram_at, stimulus_of, then_at, step_at, step_of, step}
 use Rattle.world.specs.WorldSteps.{at_replica, at_sequencer, at_client}
 use Rattle.replay.specs.Drawing.{draw, put_drawn, get_drawn, taker_drawn, delivery_drawn, back_drawn, deliver_drawn}

@@ -8,7 +8,7 @@ use Rattle.schedule_text.specs.Cutting.{lines_of}
 use Rattle.schedule_text.specs.Rules.{rule_number, header_of}
 use Rattle.schedule_text.specs.Reading.{Turn, Next, Gives, Refuses, Ends}
 use Rattle.transcript_text.specs.Transcript.{error_line, end_line, lines_text, transcript_line}
-use Rattle.world.specs.declared.lines.Lines.{Lines}
+use Rattle.network.specs.declared.lines.Lines.{Lines}
 use Rattle.world.specs.declared.step_error.StepError.{StepError}
 use Rattle.world.specs.declared.step_error.StepError.TheVariants as steps
 use Rattle.world.specs.Actors.{Happens}

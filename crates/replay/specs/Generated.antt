@@ -14,7 +14,7 @@ use Rattle.nop_types.specs.declared.view.View.{View}
 use Rattle.schedule_text.specs.EventText.{HasLine, IsEventOf}
 use Rattle.schedule_text.specs.Fits.{EventsFit}
 use Rattle.transcript_text.specs.Transcript.{line_end}
-use Rattle.world.specs.LineCounts.{is_send, is_accept}
+use Rattle.network.specs.LineCounts.{is_send, is_accept}
 use Rattle.world.specs.WorldSteps.{WorldState, Refusal, Happened, opening, step, run, main_view, main_log, history}
 use Rattle.replay.specs.declared.error.GenError.{GenError}
 use Rattle.replay.specs.declared.error.GenError.TheVariants.{WriteFault, NoMemory}

@@ -7,8 +7,8 @@ use Rattle.schedule_text.specs.declared.event.Event.{Event}
 use Rattle.std.specs.List.{AllByRecursion}
 use Rattle.schedule_text.specs.EventText.{HasLine, IsEventOf}
 use Rattle.schedule_text.specs.Fits.{EventsFit}
-use Rattle.world.specs.LineCounts.{Shows, is_send, is_accept}
-use Rattle.world.specs.declared.lines.Lines.{Lines}
+use Rattle.network.specs.LineCounts.{Shows, is_send, is_accept}
+use Rattle.network.specs.declared.lines.Lines.{Lines}
 use Rattle.world.specs.WorldSteps.{WorldState, Refusal, Happened, opening, step, run}
 use Rattle.replay.specs.Drawing.{event_drawn}
 use Rattle.replay.specs.Generated.{drawn_config, first_event, drawn_from, drawn_events, RunsFrom}

@@ -1,7 +1,7 @@
 //! Events that are drawn from a generator of random words.
 
 ghost use Rattle.std.specs.Prelude.{◌≡◌, ◌<◌, ◌≤◌, ◌-◌, length, min, IfOk, slice_get};
-ghost use Rattle.world.specs.Network.{Sent};
+ghost use Rattle.network.specs.Network.{Sent};
 ghost use Rattle.replay.specs.Drawing as drawing;
 
 use nop_types::{Actor, Dest, Host, NoMemory, Op, Tick};

@@ -4,7 +4,7 @@ ghost use Rattle.std.specs.Prelude.{◌≡◌, ◌≤◌, ◌+◌, ◌++◌, ◌
 ghost use Rattle.kv_host.specs.Kv.{kv_meaning};
 ghost use Rattle.outside.specs.Causes.{HasCauseFor};
 ghost use Rattle.world.specs.Actors.{Happens};
-ghost use Rattle.world.specs.LineCounts.{Shows};
+ghost use Rattle.network.specs.LineCounts.{Shows};
 ghost use Rattle.world.specs.WorldSteps.{opening, step};
 ghost use Rattle.replay.specs.Generated.{
   drawn_config,

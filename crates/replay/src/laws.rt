@@ -7,7 +7,7 @@ ghost use Rattle.nop_types.specs.Meaning.{Meaning};
 ghost use Rattle.replica_rows.specs.Within.{ResultsShort};
 ghost use Rattle.schedule_text.specs.declared.event.Event.{Event};
 ghost use Rattle.schedule_text.specs.Fits.{EventsFit};
-ghost use Rattle.world.specs.Network.{Sent};
+ghost use Rattle.network.specs.Network.{Sent};
 ghost use Rattle.world.specs.WorldSteps.{Happened, run};
 ghost use Rattle.replay.specs.Destinations.{IsDestOf};
 ghost use Rattle.replay.specs.Generated.{drawn_config, drawn_events, RunsFrom};

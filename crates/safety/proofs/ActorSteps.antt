@@ -23,8 +23,8 @@ use Rattle.protocol.specs.Evolves.{Keeps}
 use Rattle.protocol.specs.Invariant.{Inv}
 use Rattle.protocol.specs.Said.{Said}
 use Rattle.protocol.proofs.Runs.{moves_keep}
-use Rattle.world.specs.Network.{Sent, sends_of, lines_from}
-use Rattle.world.specs.Seats.{Seated, Outputs, seated}
+use Rattle.network.specs.Network.{Sent, sends_of, lines_from, Outputs}
+use Rattle.world.specs.Seats.{Seated, seated}
 use Rattle.world.specs.WorldSteps.{WorldState, at_client, at_sequencer, at_controller}
 use Rattle.delivery.specs.Network.{bytes_in, Network, SendsNoFragment}
 use Rattle.delivery.specs.Steps.{InNetwork}

@@ -19,7 +19,7 @@ use Rattle.protocol.specs.Conf.{Conf, Install, opening}
 use Rattle.protocol.specs.Moves.{MayTell}
 use Rattle.protocol.specs.Runs.{Move, run, MayAll}
 use Rattle.protocol.specs.Said.{Said}
-use Rattle.world.specs.Network.{Sent}
+use Rattle.network.specs.Network.{Sent}
 use Rattle.world.specs.Seats.{Seated}
 use Rattle.world.specs.WorldSteps.{WorldState, Happened}
 use Rattle.delivery.specs.Network.{Network}

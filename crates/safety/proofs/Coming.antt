@@ -14,7 +14,7 @@ use Rattle.schedule_text.specs.declared.event.Event.TheVariants as events
 use Rattle.schedule_text.specs.Fits.{EventFits}
 use Rattle.schedule_text.specs.Ticks.{takes_tick}
 use Rattle.protocol.specs.Conf.{Conf}
-use Rattle.world.specs.Network.{Sent}
+use Rattle.network.specs.Network.{Sent}
 use Rattle.world.specs.Seats.{Stimulus, Takes, Crashes}
 use Rattle.world.specs.WorldSteps.{tick_if, datagram_at, junk_of, stimulus_of}
 use Rattle.delivery.specs.Network as delivery

@@ -13,7 +13,7 @@ use Rattle.oum_codec.specs.Spelling.{spelling, Spells}
 use Rattle.oum_codec.proofs.Datagrams.{reads_again}
 use Rattle.protocol.specs.Conf.{Conf}
 use Rattle.protocol.specs.Evolves.{Keeps}
-use Rattle.world.specs.Network.{Sent, sends_of}
+use Rattle.network.specs.Network.{Sent, sends_of}
 use Rattle.delivery.specs.Network.{IsDatagram, IsOtherDatagram, SendsNoFragment}
 use Rattle.delivery.specs.PostedFragments.{fragment_read}
 use Rattle.refinement.specs.Datagrams.{WasSent, IsWhole, Arrived, Carries, AllCarry, Sends}

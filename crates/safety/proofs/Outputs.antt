@@ -11,7 +11,7 @@ use Rattle.nop_types.specs.Lists.{Has}
 use Rattle.facts.proofs.Members.{Has-none, Has-first, Has-rest, Has-cases}
 use Rattle.histories.specs.Legality.{IsOtherLine}
 use Rattle.protocol.specs.Moves.{MayTell}
-use Rattle.world.specs.Network.{Sent, sends_of, lines_from}
+use Rattle.network.specs.Network.{Sent, sends_of, lines_from}
 use Rattle.delivery.specs.Network.{bytes_in}
 use Rattle.refinement.specs.Lines.{lines_in, SaysFirst}
 use Rattle.safety.specs.Shows.{bytes_of}

@@ -16,8 +16,8 @@ use Rattle.protocol.specs.Conf.{Conf}
 use Rattle.protocol.specs.Invariant.{Inv}
 use Rattle.protocol.specs.Member.{Member}
 use Rattle.protocol.specs.Moves.{MayTell}
-use Rattle.world.specs.Network.{Sent, lines_by, sends_by}
-use Rattle.world.specs.Seats.{Seated, Did, seated}
+use Rattle.network.specs.Network.{Sent, lines_by, sends_by, Did}
+use Rattle.world.specs.Seats.{Seated, seated}
 use Rattle.world.specs.WorldSteps.{WorldState, Happened, at_replica, at_sequencer, at_client, at_controller}
 use Rattle.safety.specs.Passed.{Passed, noted, standing}
 use Rattle.delivery.specs.Steps.{InNetwork}

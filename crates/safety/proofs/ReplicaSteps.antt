@@ -42,8 +42,8 @@ use Rattle.protocol.specs.Member.{Member}
 use Rattle.protocol.specs.Runs.{run}
 use Rattle.protocol.specs.Said.{Said}
 use Rattle.protocol.proofs.Runs.{moves_keep}
-use Rattle.world.specs.Network.{Sent, sends_of, lines_from}
-use Rattle.world.specs.Seats.{Seated, Outputs, seated}
+use Rattle.network.specs.Network.{Sent, sends_of, lines_from, Outputs}
+use Rattle.world.specs.Seats.{Seated, seated}
 use Rattle.world.specs.WorldSteps.{WorldState, at_replica}
 use Rattle.delivery.specs.Network.{bytes_in, IsReplyIn, IsFragment, Network, PostsReplies}
 use Rattle.delivery.specs.Sends.{peers_in}

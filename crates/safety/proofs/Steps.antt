@@ -20,7 +20,8 @@ use Rattle.schedule_text.specs.declared.event.Event.{Event}
 use Rattle.schedule_text.specs.Fits.{EventFits}
 use Rattle.protocol.specs.Conf.{Conf}
 use Rattle.protocol.specs.Invariant.{Inv}
-use Rattle.world.specs.Seats.{Seated, Stimulus, Takes, Crashes, Did, Nothing, Outputs, moved_if, seat_step}
+use Rattle.world.specs.Seats.{Seated, Stimulus, Takes, Crashes, moved_if, seat_step}
+use Rattle.network.specs.Network.{Did, Nothing, Outputs}
 use Rattle.world.specs.WorldSteps.{WorldState, Happened, Refusal, actor_of, stimulus_of, at_replica, at_sequencer, at_client, at_controller}
 use Rattle.world.specs.WorldSteps.{then_at, step_at, step_of, step}
 use Rattle.safety.specs.Passed.{Passed}

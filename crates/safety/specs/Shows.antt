@@ -20,7 +20,7 @@ use Rattle.sequencer.specs.declared.state.SequencerState.{SequencerState}
 use Rattle.replica_core.specs.ReplicaSteps.{Replica}
 use Rattle.protocol.specs.Conf.{Conf, Install}
 use Rattle.protocol.specs.Said.{Said}
-use Rattle.world.specs.Network.{Sent}
+use Rattle.network.specs.Network.{Sent}
 use Rattle.world.specs.Seats.{Seated}
 use Rattle.world.specs.WorldSteps.{WorldState}
 use Rattle.delivery.specs.Network.{fragments_among, IsDatagram}

@@ -21,8 +21,8 @@ use Rattle.sequencer.specs.declared.state.SequencerState.{SequencerState}
 use Rattle.session_control.specs.declared.state.ControllerState.{ControllerState}
 use Rattle.schedule_text.specs.declared.event.Event.{Event}
 use Rattle.schedule_text.specs.declared.event.Event.TheVariants.{Junk}
-use Rattle.world.specs.Network.{Sent, sends_by}
-use Rattle.world.specs.Seats.{Seated, Stimulus, Takes, Did, Nothing, Outputs, seated, moved_if}
+use Rattle.network.specs.Network.{Sent, sends_by, Did, Nothing, Outputs}
+use Rattle.world.specs.Seats.{Seated, Stimulus, Takes, seated, moved_if}
 use Rattle.world.specs.WorldSteps.{WorldState, Refusal, Happened, actor_of, junk_of, stimulus_of, crashed_in, has_crashed}
 use Rattle.world.specs.WorldSteps.{at_replica, at_sequencer, at_client, at_controller, then_at, step_at, step_of, step}
 use Rattle.world.proofs.Places.{slice_set-found}

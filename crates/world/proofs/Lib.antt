@@ -1,9 +1,6 @@
 pub mod Idle
-pub mod FindLemmas
 pub mod IdLemmas
-pub mod LineLemmas
 pub mod MainLog
-pub mod MarkLemmas
 pub mod Opening
 pub mod Places
 pub mod Refusals

@@ -12,7 +12,7 @@ use Rattle.sequencer.specs.declared.state.SequencerState.{SequencerState}
 use Rattle.session_control.specs.ControllerSteps as controller
 use Rattle.session_control.specs.declared.state.ControllerState.{ControllerState}
 use Rattle.world.specs.declared.seat.Seat.{Seat}
-use Rattle.world.specs.Network.{Sent}
+use Rattle.network.specs.Network.{Sent}
 use Rattle.world.specs.Seats.{Seated, seated}
 use Rattle.world.specs.SeatOutcomes.{seated_of}
 use Rattle.world.specs.WorldSteps.{WorldState, counted, opening, opening_client}

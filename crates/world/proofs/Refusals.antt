@@ -23,8 +23,8 @@ use Rattle.sequencer.specs.SequencerSteps as sequencer
 use Rattle.session_control.specs.ControllerSteps as controller
 use Rattle.schedule_text.specs.declared.event.Event.{Event}
 use Rattle.schedule_text.specs.declared.event.Event.TheVariants as events
-use Rattle.world.specs.Network.{Sent}
-use Rattle.world.specs.Seats.{Seated, Stimulus, Did, seated}
+use Rattle.network.specs.Network.{Sent, Did}
+use Rattle.world.specs.Seats.{Seated, Stimulus, seated}
 use Rattle.world.specs.Refusals.{HasActors, is_actor, has_input, forged_if, later_cause, cause_of, refusal_in}
 use Rattle.world.specs.WorldSteps.{WorldState, Refusal, NoSuchActor, NoSuchDatagram, Happened, actor_of, counted, opening}
 use Rattle.world.specs.WorldSteps.{opening_client, tick_if, datagram_at, junk_of, stimulus_of, step_with, step_at, step_of, step}

@@ -7,7 +7,8 @@ use Rattle.nop_types.specs.declared.output.Out.{Out}
 use Rattle.world.specs.declared.seat.Seat.{Seat}
 use Rattle.world.specs.declared.step_error.StepError.{StepError}
 use Rattle.world.specs.declared.step_error.StepError.TheVariants as errors
-use Rattle.world.specs.Seats.{Seated, Did}
+use Rattle.world.specs.Seats.{Seated}
+use Rattle.network.specs.Network.{Did}
 use Rattle.world.specs.SeatOutcomes.{seated_of, Moves, MovesAt, Refuses}
 use Rattle.world.specs.WorldSteps.{Refusal, crashed_in}
 use Rattle.world.proofs.Places.{slice_set-found}

@@ -2,8 +2,8 @@
 use Rattle.std.specs.Prelude.{◌≡◌, List, map, Result, Ok}
 use Rattle.nop_types.specs.Lines.{Line}
 use Rattle.world.specs.declared.actors.Actors.{Actors}
-use Rattle.world.specs.declared.lines.Lines.{Lines}
-use Rattle.world.specs.LineCounts.{Shows}
+use Rattle.network.specs.declared.lines.Lines.{Lines}
+use Rattle.network.specs.LineCounts.{Shows}
 use Rattle.world.specs.SeatOutcomes.{seated_of}
 use Rattle.world.specs.WorldSteps.{WorldState, Refusal, Happened}
 

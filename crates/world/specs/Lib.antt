@@ -1,11 +1,7 @@
 pub mod Actors
 pub mod Agreement
-pub mod Finding
 pub mod Ids
-pub mod LineCounts
 pub mod Lookups
-pub mod Marks
-pub mod Network
 pub mod Refusals
 pub mod SeatOutcomes
 pub mod Seats

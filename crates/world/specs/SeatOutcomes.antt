@@ -1,5 +1,5 @@
 -- What a call on a seat of the code did.
-use Rattle.std.specs.Prelude.{◌≡◌, ℕ, List, map, Option, Some, None, Result, Ok, Err, slice_set}
+use Rattle.std.specs.Prelude.{◌≡◌, ℕ, List, map, Option, Result, Ok, Err, slice_set}
 use Rattle.nop_types.specs.Given.{given}
 use Rattle.nop_types.specs.declared.output.Out.{Out}
 use Rattle.world.specs.declared.seat.Seat.{Seat}
@@ -7,7 +7,8 @@ use Rattle.world.specs.declared.step_error.StepError.{StepError}
 use Rattle.world.specs.declared.step_error.StepError.TheVariants as errors
 use Rattle.world.specs.declared.stimulus.Stimulus as declared
 use Rattle.world.specs.declared.stimulus.Stimulus.TheVariants as stimuli
-use Rattle.world.specs.Seats.{Seated, Stimulus, Takes, Crashes, Did, Nothing, Outputs}
+use Rattle.world.specs.Seats.{Seated, Stimulus, Takes, Crashes}
+use Rattle.network.specs.Network.{Did, did_of}
 use Rattle.world.specs.WorldSteps.{Refusal, NoSuchActor, NoSuchDatagram, Forged}
 
 abbrev pub seated_of : {C S : Type 0} → (C → S) → Seat C → Seated S
@@ -17,10 +18,6 @@ seated_of state p = record { state = state p.core; crashed = p.crashed }
 abbrev pub owned : declared.Stimulus → Stimulus
 owned (stimuli.Input input) = Takes (given input)
 owned stimuli.Crash = Crashes
-
-abbrev pub did_of : Option (List Out) → Did
-did_of None = Nothing
-did_of (Some outs) = Outputs outs
 
 -- the seat is what the definition says, and so are the outputs
 abbrev pub Moves : {C S : Type 0} → (C → S) → Result (Seated S × Did) Refusal → Seat C → Option (List Out) → Type 0

@@ -2,6 +2,7 @@
 use Rattle.std.specs.Prelude.{Bool, true, false, List, []}
 use Rattle.nop_types.specs.Given.{Given}
 use Rattle.nop_types.specs.declared.output.Out.{Out}
+use Rattle.network.specs.Network.{Did, Nothing, Outputs}
 
 pub record Seated (S : Type 0) : Type 0 where
   pub state : S
@@ -14,11 +15,6 @@ seated s = record { state = s; crashed = false }
 pub data Stimulus : Type 0 where
   Takes : Given → Stimulus
   Crashes : Stimulus
-
--- what an actor did, or that it crashed before
-pub data Did : Type 0 where
-  Nothing : Did
-  Outputs : List Out → Did
 
 -- an actor that has not crashed: after a crash its last state stays
 abbrev pub moved : {S : Type 0} → (S → Given → S × List Out) → S → Stimulus → Seated S × Did

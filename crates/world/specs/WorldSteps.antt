@@ -29,8 +29,8 @@ use Rattle.session_control.specs.ControllerSteps as controller
 use Rattle.schedule_text.specs.declared.event.Event.{Event}
 use Rattle.schedule_text.specs.declared.event.Event.TheVariants as events
 use Rattle.schedule_text.specs.Ticks.{takes_tick}
-use Rattle.world.specs.Seats.{Seated, Stimulus, Takes, Crashes, Did, seated, seat_step}
-use Rattle.world.specs.Network.{Sent, sends_by, lines_by}
+use Rattle.world.specs.Seats.{Seated, Stimulus, Takes, Crashes, seated, seat_step}
+use Rattle.network.specs.Network.{Did, Sent, sends_by, lines_by}
 
 pub record WorldState : Type 0 where
   pub config : Configuration

@@ -1,8 +1,9 @@
-ghost use Rattle.std.specs.Prelude.{◌≡◌, IfOk, IfErr, Ok, length, map};
+ghost use Rattle.std.specs.Prelude.{◌≡◌, [], IfOk, IfErr, Ok, length, map};
 ghost use Rattle.replica_core.specs.ReplicaSteps as replica;
 ghost use Rattle.sequencer.specs.SequencerSteps as sequencer;
 ghost use Rattle.world.specs.Actors.{world_of, Happens};
-ghost use Rattle.world.specs.SeatOutcomes.{seated_of, did_of, Refuses};
+ghost use Rattle.network.specs.Network.{did_of};
+ghost use Rattle.world.specs.SeatOutcomes.{seated_of, Refuses};
 ghost use Rattle.world.specs.WorldSteps.{
   carried,
   counted,
@@ -14,8 +15,7 @@ ghost use Rattle.world.specs.WorldSteps.{
   stimulus_of,
 };
 
-use crate::lines::{Lines, carry_out};
-use crate::network::Network;
+use network::{Lines, Network, carry_out};
 use crate::seat::{Seat, is_crashed, take_at};
 use crate::step_error::StepError;
 use crate::stimulus::actor_of;
@@ -75,8 +75,9 @@ fn clients(alloc: Global, config: Config) -> Result<Vec<Seat<Client>>, NoMemory>
 }
 
 impl<H: Host> Actors<H> {
-    /// All actors in their opening states, and nothing sent in the network.
-    pub fn new(alloc: Global, config: Config) -> Result<Actors<H>, NoMemory>
+    /// All actors in their opening states, around a network in which nothing is sent yet.
+    pub fn new(alloc: Global, config: Config, network: Network) -> Result<Actors<H>, NoMemory>
+        requires { network ≡ [] }
         ensures opening { IfOk result (λ a. world_of a ≡ opening config) }
         ensures count { IfOk result (λ a. length a.replicas.items ≡ a.config.replicas) }
     {
@@ -86,7 +87,7 @@ impl<H: Host> Actors<H> {
             sequencers: sequencers(alloc, config)?,
             clients: clients(alloc, config)?,
             controller: Seat::new(Controller::new(alloc, config, 1)?),
-            network: Network::new(alloc),
+            network,
         })
     }
 

@@ -3,18 +3,15 @@
 
 mod actors;
 mod history;
-mod index;
 mod laws;
-mod lines;
 mod main_log;
-mod network;
 mod seat;
 mod state_lines;
 mod step_error;
 mod stimulus;
 mod world_state;
 
+pub use network::Lines;
 pub use laws::{crashed_actors_take_no_step, junk_changes_nothing, refuses_by_first_cause};
-pub use lines::Lines;
 pub use step_error::StepError;
 pub use world_state::World;

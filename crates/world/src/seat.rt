@@ -13,13 +13,14 @@ ghost use Rattle.std.specs.Prelude.{
   map,
 };
 ghost use Rattle.world.specs.Seats.{seat_step};
-ghost use Rattle.world.specs.SeatOutcomes.{seated_of, did_of, owned, Moves, MovesAt, Refuses};
+ghost use Rattle.network.specs.Network.{did_of};
+ghost use Rattle.world.specs.SeatOutcomes.{seated_of, owned, Moves, MovesAt, Refuses};
 ghost use Rattle.world.specs.Lookups.{timers_if};
 ghost use Rattle.world.specs.WorldSteps.{crashed_in, step_at, step_with, stimulus_of};
 
-use crate::network::Network;
 use crate::step_error::StepError;
 use crate::stimulus::{Stimulus, stimulus_of};
+use network::Network;
 use nop_types::{Config, Core, NoMemory, Outbox, Tick};
 use schedule_text::Event;
 use std::alloc::Global;

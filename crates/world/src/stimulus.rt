@@ -9,8 +9,8 @@ ghost use Rattle.world.specs.WorldSteps.{
   stimulus_of,
 };
 
-use crate::network::Network;
 use crate::step_error::StepError;
+use network::Network;
 use nop_types::{Actor, Config, Input, Tick};
 use oum_codec::read_datagram;
 use schedule_text::{Event, takes_tick};

@@ -26,12 +26,11 @@ mod queries;
 
 use crate::actors::Actors;
 use crate::history::history_of;
-use crate::lines::Lines;
 use crate::main_log::main_log;
-use crate::network::Network;
 use crate::seat::core_at;
 use crate::state_lines::put_replicas;
 use crate::step_error::StepError;
+use network::{Lines, Network};
 use nop_types::{Actor, Config, Host, NoMemory, Request};
 use replica_core::Replica;
 use schedule_text::Event;
@@ -89,7 +88,7 @@ impl<H: Host> World<H> {
     pub fn new(alloc: Global, config: Config) -> Result<World<H>, NoMemory>
         ensures { IfOk result (λ w. w ≡ record { failed = false; state = opening config }) }
     {
-        let actors = Actors::new(alloc, config)?;
+        let actors = Actors::new(alloc, config, Network::new(alloc))?;
         Ok(World {
             alloc,
             failed: false,
@@ -102,8 +101,7 @@ impl<H: Host> World<H> {
     pub fn with_index(alloc: Global, config: Config) -> Result<World<H>, NoMemory>
         ensures { IfOk result (λ w. w ≡ record { failed = false; state = opening config }) }
     {
-        let mut actors = Actors::new(alloc, config)?;
-        actors.network = Network::with_index(alloc);
+        let actors = Actors::new(alloc, config, Network::with_index(alloc))?;
         Ok(World {
             alloc,
             failed: false,

@@ -1,7 +1,7 @@
 //! What is asked of a world by bytes, timers and clients.
 
 ghost use Rattle.std.specs.Prelude.{◌≡◌, slice_get};
-ghost use Rattle.world.specs.Finding.{first_index};
+ghost use Rattle.network.specs.Finding.{first_index};
 ghost use Rattle.world.specs.Lookups.{timers_of, takes_op};
 
 use super::World;

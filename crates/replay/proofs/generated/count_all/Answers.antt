@@ -2,7 +2,7 @@ use Rattle.std.proofs.Common.{◌≡◌, ℕ, suc, ◌+◌, ◌-◌, [], ◌∷�
 use Rattle.rand_pcg.specs.Lcg.{Lcg}
 use Rattle.schedule_text.specs.declared.event.Event.{Event}
 use Rattle.safety.proofs.Results.{results_short}
-use Rattle.world.specs.LineCounts.{is_send, is_accept}
+use Rattle.network.specs.LineCounts.{is_send, is_accept}
 use Rattle.replay.specs.Generating.{DrawnTo}
 use Rattle.replay.proofs.Drawn.{begins, drawn_next, count_by_both}
 use Rattle.replay.proofs.generated.count_all.Goals as goal

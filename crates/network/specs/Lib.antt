@@ -1,0 +1,4 @@
+pub mod Finding
+pub mod LineCounts
+pub mod Marks
+pub mod Network
