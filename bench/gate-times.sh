@@ -1,6 +1,6 @@
 #!/bin/sh
 # Measures what the gate takes from nothing: what .ci/run does, with `rt ci --anew`, over a clone of what is committed, in a temporary
-# folder, whose processes are watched while it runs. It writes the table docs/GATE-TIMES.md.
+# folder, whose processes are watched while it runs. Each check has one job, as there. It writes the table docs/GATE-TIMES.md.
 #
 #   bench/gate-times.sh [CRATE..]
 #
@@ -112,7 +112,8 @@ try:
         words = ["rt", "ci", "--anew", *names]
         if not names:
             words = ["sh", "-c", 'rt ci --anew || exit; for check in checks/*.sh; do "$check" || exit; done']
-        gate = subprocess.Popen(words, cwd=tree, stdin=subprocess.DEVNULL, stdout=log, stderr=log)
+        given = {"RT_JOBS": str(len(os.sched_getaffinity(0))), **os.environ}
+        gate = subprocess.Popen(words, cwd=tree, env=given, stdin=subprocess.DEVNULL, stdout=log, stderr=log)
         while gate.returncode is None:
             watched(seen, str(gate.pid))
             done, status, used = os.wait4(gate.pid, os.WNOHANG)
