@@ -1,4 +1,5 @@
 pub mod Moves
+pub mod Repeating
 pub mod Replies
 pub mod Sends
 pub mod State

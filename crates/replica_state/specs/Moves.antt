@@ -1,7 +1,7 @@
 -- The moves of which the rows of a replica are made. Each says what becomes of the state and what is sent; the rows say when it
 -- is made.
 use Rattle.std.specs.Prelude.{ℕ, zero, suc, ◌+◌, ◌-◌, List, [], ◌∷◌, ◌++◌, length, take, Bool, true, false, cond, not, Option, Some, None}
-use Rattle.std.specs.Prelude.{nat_lt, ◌==◌, ◌&&◌}
+use Rattle.std.specs.Prelude.{nat_le, nat_lt, ◌==◌, ◌&&◌}
 use Rattle.nop_types.specs.declared.limits.TheConstants.{MAX_SLOTS}
 use Rattle.nop_types.specs.Meaning.{Meaning}
 use Rattle.nop_types.specs.Slots.{set_slot, laid}
@@ -29,6 +29,12 @@ use Rattle.replica_state.specs.declared.state.ReplicaState.{ReplicaState}
 use Rattle.replica_state.specs.State.{others, leads, drains, waiting, waiting_in}
 use Rattle.replica_state.specs.Sends.{Effect, still, then_do, when, to_replica, to_leader, to_all}
 use Rattle.replica_state.specs.Replies.{reply_to, replies_above}
+
+-- ---- the leader is heard
+
+-- a row that is taken shows that the leader is there
+abbrev pub hear : ReplicaState → ReplicaState
+hear s = record s { heard = true }
 
 -- ---- the receiver
 
@@ -197,6 +203,10 @@ overlay m s l = (overlaid s l, replies_above m (overlaid s l) (length s.log) ++ 
 -- a follower's sync point rises to what its leader says
 abbrev pub obey : ReplicaState → ℕ → Effect
 obey s k = still (record s { sync = committed s.sync k })
+
+-- where so much is prepared
+unfoldable pub sync_commit : ℕ → ReplicaState → Effect
+sync_commit k s = when (nat_le k s.sync.prepared) (λ t. obey (hear t) k) s
 
 -- a leader tells its log, and waits for votes
 abbrev pub open_sync : ReplicaState → Effect

@@ -3,6 +3,7 @@
 
 mod logging;
 mod number;
+mod repeating;
 mod sending;
 mod state;
 mod telling;

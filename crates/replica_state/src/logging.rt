@@ -1,13 +1,14 @@
-ghost use Rattle.std.specs.Prelude.{◌≡◌, ◌≤◌, ◌<◌, ◌+◌, ◌-◌, ◌↔◌, length, true, nat_le, IsTrue, OnOk, OnErr, IfSome, IfNone};
-ghost use Rattle.nop_types.specs.declared.limits.TheConstants.{MAX_REPLICAS, NUMBER_END};
+ghost use Rattle.std.specs.Prelude.{◌≡◌, ◌≤◌, ◌<◌, ◌+◌, ◌-◌, ◌++◌, ◌↔◌, [], length, true, nat_le, IsTrue, OnOk, OnErr, IfSome, IfNone};
+ghost use Rattle.nop_types.specs.declared.limits.TheConstants.{MAX_REPLICAS, MAX_SLOTS, NUMBER_END};
 ghost use Rattle.oum_receiver.specs.Front.{Dropped};
 ghost use Rattle.oum_receiver.specs.Receiving.{front_of};
 ghost use Rattle.replica_state.specs.State.{may_append, waiting_in};
-ghost use Rattle.replica_state.specs.Moves.{appended, gap_opened, count_gap_vote, overlaid, obey};
+ghost use Rattle.replica_state.specs.Moves.{appended, gap_opened, ask, count_gap_vote, overlaid, obey, sync_commit};
+ghost use Rattle.replica_state.specs.Within.{IsWithin};
 
-use crate::ReplicaState;
+use crate::{ReplicaState, Sends};
 use gap_agree::Gap;
-use nop_types::{Entry, Log, NUMBER_END, NoMemory, Vote};
+use nop_types::{Body, Entry, Log, NUMBER_END, NoMemory, Vote};
 use oum_receiver::Upcall;
 
 /// The gap that waits for votes in a slot, unless nobody has to vote.
@@ -54,6 +55,23 @@ impl ReplicaState {
         matches!(self.receiver.front(), Some(Upcall::Drop))
     }
 
+    /// Asks the leader for the next slot, once. An error leaves the state, and what is sent, as they were.
+    pub fn ask(&mut self, sends: &mut Sends) -> Result<(), NoMemory>
+        requires within { IsWithin self.old }
+        requires room { length self.old.log < MAX_SLOTS }
+        ensures state { OnOk result (self.new ≡ (ask self.old).0) }
+        ensures sends { OnOk result (sends.new ≡ sends.old ++ (ask self.old).1) }
+        ensures err { OnErr result ((self.new ≡ self.old) × (sends.new ≡ sends.old)) }
+    {
+        let slot = self.log.len() + 1;
+        if self.asked == slot {
+            return Ok(());
+        }
+        self.send_to(self.leader(), Body::SlotLookup(slot), sends)?;
+        self.asked = slot;
+        Ok(())
+    }
+
     /// Counts a vote for the gap that waits, and closes it where enough voted.
     pub fn count_gap_vote(&mut self, sender: u8)
         requires { sender < MAX_REPLICAS }
@@ -85,10 +103,21 @@ impl ReplicaState {
     }
 
     /// Lets the sync point rise to what the leader says, where so much is prepared. Says whether it is.
-    pub fn obey(&mut self, slot: u32) -> bool
+    fn obey(&mut self, slot: u32) -> bool
         ensures state { self.new ≡ (obey self.old slot).0 }
         ensures prepared { result ≡ nat_le slot self.old.sync.prepared }
     {
         self.sync.on_commit(slot).is_some()
+    }
+
+    /// The leader says that the slots up to this one are synchronised.
+    #[tactic(auto, unfolding(crate::specs::Moves::sync_commit))]
+    pub fn sync_commit(&mut self, slot: u32)
+        ensures state { self.new ≡ (sync_commit slot self.old).0 }
+        ensures nothing { (sync_commit slot self.old).1 ≡ [] }
+    {
+        if self.obey(slot) {
+            self.heard = true;
+        }
     }
 }

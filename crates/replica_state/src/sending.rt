@@ -1,4 +1,4 @@
-ghost use Rattle.std.specs.Prelude.{◌≡◌, ◌++◌, ◌∷◌, [], OnOk, OnErr};
+ghost use Rattle.std.specs.Prelude.{◌≡◌, ◌++◌, ◌∷◌, [], length, take, OnOk, OnErr};
 ghost use Rattle.std.specs.List.{AllByRecursion};
 ghost use Rattle.nop_types.specs.Ranges.{ReplyFits, PeerFits};
 ghost use Rattle.peer_codec.specs.LogBodies.{log_message};
@@ -89,6 +89,20 @@ impl Sends {
     {
         let message = EncodedPeer::with_log(*self.sends.allocator(), sender, view, body)?;
         self.push(Sending::ToReplicas(dest, message))
+    }
+
+    /// How many they are.
+    pub(crate) fn len(&self) -> usize
+        ensures { result ≡ length self.now }
+    {
+        self.sends.len()
+    }
+
+    /// Takes back what was sent behind the first `len`.
+    pub(crate) fn truncate(&mut self, len: usize)
+        ensures { self.new ≡ take len self.old }
+    {
+        self.sends.truncate(len);
     }
 
     /// All of them, in order.

@@ -104,7 +104,7 @@ impl ReplicaState {
     }
 
     /// Tells all others the log.
-    pub fn tell_log(&self, sends: &mut Sends) -> Result<(), NoMemory>
+    pub(crate) fn tell_log(&self, sends: &mut Sends) -> Result<(), NoMemory>
         requires { IsWithin self.now }
         ensures ok { OnOk result (sends.new ≡ sends.old
             ++ to_all self.now (SyncPrepare self.now.log)) }
