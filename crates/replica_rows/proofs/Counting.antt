@@ -39,7 +39,8 @@ use Rattle.replica_state.specs.Replies.{reply_to, reply_if, leader_reply, reply_
 use Rattle.replica_state.specs.Moves.{ask_if, gap_opened, open_gap, write_gap, add_gap, drain_drop, drain_at, drain_by, drain, entered}
 use Rattle.replica_state.specs.Moves.{enter_as, enter, change_told, adopted, adopt, open_with, open_view, open_if_enough, overlaid, overlay}
 use Rattle.replica_state.specs.Moves.{open_sync, commit_if, count_sync_vote, queue, keep_change, count_gap_vote, logged, appended}
-use Rattle.replica_state.specs.Moves.{begin_session}
+use Rattle.replica_state.specs.Moves.{begin_session, hear, sync_commit}
+use Rattle.replica_state.specs.Repeating.{gap_again, lookup_again, change_again, resend_by, resend, sync_if, sync}
 use Rattle.replica_rows.specs.Rows as rows
 use Rattle.replica_rows.specs.Messages.{Arrival, Packet, Told, Ticked, from_leader, from_follower, by_role, in_view, on_body, on_message, ticked, arrive}
 
@@ -270,9 +271,9 @@ unfolding rows.start_view
 start_view_few m s q v x l = when_few 1 (may_adopt s q v l) _ s (adopt_few m s v x l)
 
 gap_commit_if_few : {S : Type 0} (m : Meaning S) (a b : Bool) (k : ℕ) (s : ReplicaState) → Few 2 s (rows.gap_commit_if m a b k s)
-gap_commit_if_few m true b k s = and_drain m 1 (leader_few s (write_gap (rows.hear s) k).0 (rows.hear s) (bodies.GapRep k) refl)
+gap_commit_if_few m true b k s = and_drain m 1 (leader_few s (write_gap (hear s) k).0 (hear s) (bodies.GapRep k) refl)
 gap_commit_if_few m false true k s =
-    and_drain m 1 (leader_few s (add_gap (rows.hear s)).0 (rows.hear s) (bodies.GapRep (length s.log + 1)) refl)
+    and_drain m 1 (leader_few s (add_gap (hear s)).0 (hear s) (bodies.GapRep (length s.log + 1)) refl)
 gap_commit_if_few m false false k s = still_few 2 s
 
 gap_commit_few : {S : Type 0} (m : Meaning S) (k : ℕ) (s : ReplicaState) → Few 2 s (rows.gap_commit m k s)
@@ -282,7 +283,7 @@ gap_commit_few m k s = gap_commit_if_few m (nat_le k (length s.log)) ((k == leng
 found_few : {S : Type 0} (m : Meaning S) (k : ℕ) (r : Request) (s : ReplicaState) → Few 1 s (rows.found m k r s)
 unfolding rows.found
 found_few m k r s =
-    let t : ReplicaState = appended (rows.hear s) (Req r) in
+    let t : ReplicaState = appended (hear s) (Req r) in
     when_few 1 ((k == length s.log + 1) && may_append s) _ s (and_drain m 0 (replied_few m s t (length s.log + 1) r refl))
 
 overlay_few : {S : Type 0} (m : Meaning S) (s : ReplicaState) (l : List Entry) → Few 1 s (overlay m s l)
@@ -295,11 +296,11 @@ overlay_few m s l =
 prepare_few : {S : Type 0} (m : Meaning S) (l : List Entry) (s : ReplicaState) → Few 2 s (rows.sync_prepare m l s)
 unfolding rows.sync_prepare
 prepare_few m l s =
-    when_few 2 (nat_le (s.next + (length l - length s.log)) NUMBER_END) (λ t. then_do (overlay m (rows.hear t) l) (drain m)) s
-    (and_drain m 1 (same refl (overlay_few m (rows.hear s) l)))
+    when_few 2 (nat_le (s.next + (length l - length s.log)) NUMBER_END) (λ t. then_do (overlay m (hear t) l) (drain m)) s
+    (and_drain m 1 (same refl (overlay_few m (hear s) l)))
 
-commit_few : (k : ℕ) (s : ReplicaState) → Few 0 s (rows.sync_commit k s)
-unfolding rows.sync_commit
+commit_few : (k : ℕ) (s : ReplicaState) → Few 0 s (sync_commit k s)
+unfolding sync_commit
 commit_few k s = when_few 0 (nat_le k s.sync.prepared) _ s (record { few = omega arith; config = refl })
 
 open_gap_few : (s : ReplicaState) → Few 1 s (open_gap s)
@@ -393,36 +394,36 @@ watch_few m true b s = still_few 8 s
 watch_few m false true s = changed_few 8 s (record s { heard = false }) refl
 watch_few m false false s = suspect_few m s
 
-gap_again_few : (o : Option Agreement) (s : ReplicaState) → Few 1 s (rows.gap_again o s)
+gap_again_few : (o : Option Agreement) (s : ReplicaState) → Few 1 s (gap_again o s)
 gap_again_few None s = still_few 1 s
 gap_again_few (Some g) s = all_few s s (bodies.GapCommit g.slot) refl
 
-lookup_again_few : (front : Front) (s : ReplicaState) → Few 1 s (rows.lookup_again front s)
+lookup_again_few : (front : Front) (s : ReplicaState) → Few 1 s (lookup_again front s)
 lookup_again_few Nothing s = still_few 1 s
 lookup_again_few (Message r) s = still_few 1 s
 lookup_again_few Dropped s = when_few 1 (has_room s) _ s (record { few = omega arith; config = refl })
 
-change_again_few : (b : Bool) (s : ReplicaState) → Few 1 s (rows.change_again b s)
+change_again_few : (b : Bool) (s : ReplicaState) → Few 1 s (change_again b s)
 change_again_few true s = still_few 1 s
 change_again_few false s = told_few s
 
-resend_by_few : (status : Phase) (b : Bool) (s : ReplicaState) → Few 2 s (rows.resend_by status b s)
-resend_by_few Change b s = then_few (rows.change_again b) 1 1 2 (omega arith) (all_few s s bodies.ViewChangeReq refl) (change_again_few b s)
+resend_by_few : (status : Phase) (b : Bool) (s : ReplicaState) → Few 2 s (resend_by status b s)
+resend_by_few Change b s = then_few (change_again b) 1 1 2 (omega arith) (all_few s s bodies.ViewChangeReq refl) (change_again_few b s)
 resend_by_few Normal true s = more 1 2 (omega arith) (gap_again_few s.gap s)
 resend_by_few Normal false s = more 1 2 (omega arith) (lookup_again_few (front_of s.receiver) s)
 
-resend_few : (s : ReplicaState) → Few 2 s (rows.resend s)
-unfolding rows.resend
+resend_few : (s : ReplicaState) → Few 2 s (resend s)
+unfolding resend
 resend_few s = resend_by_few s.status (leads s) s
 
-sync_if_few : (b : Bool) (s : ReplicaState) → Few 1 s (rows.sync_if b s)
+sync_if_few : (b : Bool) (s : ReplicaState) → Few 1 s (sync_if b s)
 sync_if_few true s = all_few s (open_sync s).0 (bodies.SyncPrepare s.log) refl
 sync_if_few false s = all_few s s (bodies.SyncCommit s.sync.sync_point) refl
 
-sync_few : (s : ReplicaState) → Few 1 s (rows.sync s)
-unfolding rows.sync
+sync_few : (s : ReplicaState) → Few 1 s (sync s)
+unfolding sync
 sync_few s =
-    when_few 1 (is_normal s.status && (leads s && not (waits s.gap))) (λ t. rows.sync_if (nat_lt t.sync.sync_point (length t.log)) t) s
+    when_few 1 (is_normal s.status && (leads s && not (waits s.gap))) (λ t. sync_if (nat_lt t.sync.sync_point (length t.log)) t) s
     (sync_if_few (nat_lt s.sync.sync_point (length s.log)) s)
 
 tick_few : {S : Type 0} (m : Meaning S) (s : ReplicaState) (tick : Tick) → Few 8 s (ticked m tick s)

@@ -1,5 +1,6 @@
 pub mod Counting
 pub mod Draining
+pub mod Fields
 pub mod Gathered
 pub mod Opening
 pub mod Ready

@@ -1,7 +1,7 @@
 -- Moves keep a replica's state within its ranges, and what was executed.
 use Rattle.std.proofs.Common.{◌≡◌, ◌<◌, ◌≤◌, ◌+◌, ◌-◌, ℕ, zero, suc, Bool, true, false, List, [], ◌∷◌, ◌++◌, length, take, refl, sym, ap}
 use Rattle.std.proofs.Common.{subst, ◌∙◌, arith, append_assoc, append-nil, length-append, inl, inr}
-use Rattle.std.specs.Prelude.{cond, ◌⊎◌, slice_get, slice_set, not, nat_lt, IfSome, Option, Some, None, Result, Ok, Err, OnOk}
+use Rattle.std.specs.Prelude.{cond, ◌⊎◌, slice_get, slice_set, not, ◌==◌, ◌&&◌, nat_le, nat_lt, IfSome, Option, Some, None, Result, Ok, Err, OnOk}
 use Rattle.std.specs.List.{AllByRecursion}
 use Rattle.std.proofs.lemmas.Bool.{ltb-true, and_parts}
 use Rattle.std.proofs.lemmas.Option.{same_Some}
@@ -22,19 +22,22 @@ use Rattle.nop_types.specs.declared.datagram.Stamped.{Stamped}
 use Rattle.nop_types.specs.declared.peer.Change.{Change}
 use Rattle.facts.proofs.Slots.{length-set_slot, length-laid}
 use Rattle.oum_receiver.specs.Receiving.{Receiving}
+use Rattle.sync_points.specs.Synchronisation.{with_round, committed}
 use Rattle.view_change.specs.Gathering.{Gathering, counted}
 use Rattle.executor.specs.Running.{Running}
 use Rattle.executor.proofs.FrontLemmas.{on_front, on_append, on_slot}
 use Rattle.replica_log.proofs.InRanges.{append_fits, slot_fits, laid_fits}
 use Rattle.replica_state.specs.declared.state.ReplicaState.{ReplicaState}
-use Rattle.replica_state.specs.State.{may_append, drains, others, waits, is_normal, unless_settled}
-use Rattle.replica_state.specs.Moves.{begin_session, appended, gap_opened, logged, adopted, overlaid}
+use Rattle.replica_state.specs.State.{may_append, drains, leads, others, waits, is_normal, unless_settled}
+use Rattle.replica_state.specs.Moves.{begin_session, appended, gap_opened, ask_if, ask, logged, adopted, overlaid, hear, obey, sync_commit}
+use Rattle.replica_state.specs.Repeating.{sync_if, sync}
 use Rattle.replica_rows.specs.Keeping.{kept_by}
 use Rattle.replica_state.specs.Within.{IsWithin}
-use Rattle.replica_state.specs.Sends.{Effect, still, then_do}
+use Rattle.replica_state.specs.Sends.{Effect, still, then_do, when}
 use Rattle.replica_rows.specs.declared.member.Member.{Member}
 use Rattle.replica_rows.specs.Within.{Runs, IsRunning, Does}
 use Rattle.replica_rows.proofs.Opening.{counted_fits}
+use Rattle.replica_rows.proofs.Fields.{sync_of, with_asked, with_heard, with_sync, with_round_fits, committed_fits}
 
 -- ---- at Ok
 
@@ -346,3 +349,37 @@ module _ {H U : Type 0} (host : Ghosts H U) where
       gathers_runs s t x (counted g c) is r
       (counted_fits g c (subst (λ (o : Option Gathering). IfSome o (λ g. AllByRecursion ChangeFits g.changes)) (sym e) r.within.changes)
       fits)
+
+  pub ask_runs : (s t : ReplicaState) (x : Running H U) → t ≡ (ask s).0 → Runs host s x → Runs host t x
+  ask_runs s t x is r = rw is (at (s.asked == length s.log + 1))
+    where
+      at : (b : Bool) → Runs host (ask_if b s).0 x
+      at true = r
+      at false = record { within = with_asked s (length s.log + 1) r.within; run = r.run }
+
+  pub sync_runs : (s t : ReplicaState) (x : Running H U) → t ≡ (sync s).0 → Runs host s x → Runs host t x
+  unfolding sync
+  sync_runs s t x is r = rw is (at (is_normal s.status && (leads s && not (waits s.gap))))
+    where
+      by : (b : Bool) → Runs host (sync_if b s).0 x
+      by true = record {
+        within = with_sync s (with_round s.sync (length s.log)) r.within
+            (with_round_fits s.sync (length s.log) (sync_of s r.within) r.within.log.len);
+        run = r.run;
+      }
+      by false = r
+
+      at : (b : Bool) → Runs host (when b (λ t. sync_if (nat_lt t.sync.sync_point (length t.log)) t) s).0 x
+      at true = by (nat_lt s.sync.sync_point (length s.log))
+      at false = r
+
+  pub commit_runs : (k : ℕ) (s t : ReplicaState) (x : Running H U) → t ≡ (sync_commit k s).0 → Runs host s x → Runs host t x
+  unfolding sync_commit
+  commit_runs k s t x is r = rw is (at (nat_le k s.sync.prepared))
+    where
+      at : (b : Bool) → Runs host (when b (λ t. obey (hear t) k) s).0 x
+      at true = record {
+        within = with_sync (hear s) (committed s.sync k) (with_heard s true r.within) (committed_fits s.sync k (sync_of s r.within));
+        run = r.run;
+      }
+      at false = r

@@ -13,6 +13,8 @@ use Rattle.replica_rows.specs.declared.arrivals.Arrival.TheVariants as arrivals
 use Rattle.replica_state.specs.declared.state.ReplicaState.{ReplicaState}
 use Rattle.replica_state.specs.State.{is_other, is_from_leader, is_to_leader}
 use Rattle.replica_state.specs.Sends.{Effect, still, when}
+use Rattle.replica_state.specs.Moves.{sync_commit}
+use Rattle.replica_state.specs.Repeating.{resend, sync}
 use Rattle.replica_rows.specs.Rows as rows
 
 -- what a replica takes: a stamped request, a message of another replica, or a tick
@@ -33,7 +35,7 @@ abbrev pub from_leader : {S : Type 0} → Meaning S → Body → ReplicaState �
 from_leader m (bodies.GapCommit k) s = rows.gap_commit m k s
 from_leader m (bodies.Found k r) s = rows.found m k r s
 from_leader m (bodies.SyncPrepare l) s = rows.sync_prepare m l s
-from_leader m (bodies.SyncCommit k) s = rows.sync_commit k s
+from_leader m (bodies.SyncCommit k) s = sync_commit k s
 from_leader m (bodies.SlotLookup k) s = still s
 from_leader m (bodies.GapRep k) s = still s
 from_leader m (bodies.SyncRep k) s = still s
@@ -81,8 +83,8 @@ on_message m p s = when (is_other s p.sender) (on_body m p p.body) s
 abbrev pub ticked : {S : Type 0} → Meaning S → Tick → ReplicaState → Effect
 ticked m ticks.Suspect s = rows.suspect m s
 ticked m ticks.Watch s = rows.watch m s
-ticked m ticks.Resend s = rows.resend s
-ticked m ticks.Sync s = rows.sync s
+ticked m ticks.Resend s = resend s
+ticked m ticks.Sync s = sync s
 ticked m ticks.Retry s = still s
 ticked m ticks.Next s = still s
 ticked m ticks.Probe s = still s

@@ -12,21 +12,19 @@ use Rattle.nop_types.specs.declared.datagram.Stamped.{Stamped}
 use Rattle.nop_types.specs.declared.peer.Change as peer
 use Rattle.nop_types.specs.declared.peer.Body.TheVariants as bodies
 use Rattle.gap_agree.specs.Agreement.{Agreement}
-use Rattle.oum_receiver.specs.Front.{Front, Nothing, Message, Dropped}
-use Rattle.oum_receiver.specs.Receiving.{front_of}
 use Rattle.slot_lookup.specs.Answer.{Answer, Found, GapAgain, Begin, answer_of}
 use Rattle.slot_lookup.specs.Answer as answers
 use Rattle.view_change.specs.Gathering.{Gathering}
 use Rattle.replica_state.specs.declared.state.ReplicaState.{ReplicaState}
-use Rattle.replica_state.specs.State.{leads, is_normal, waits, has_room, may_append, may_adopt}
-use Rattle.replica_state.specs.Sends.{Effect, still, then_do, when, to_replica, to_leader, to_all}
+use Rattle.replica_state.specs.State.{leads, is_normal, waits, may_append, may_adopt}
+use Rattle.replica_state.specs.Sends.{Effect, still, then_do, when, to_replica}
 use Rattle.replica_state.specs.Moves.{
   queue,
   begin_session,
   session_view,
+  hear,
   drain,
   enter,
-  change_told,
   open_if_enough,
   keep_change,
   resend_start,
@@ -35,11 +33,8 @@ use Rattle.replica_state.specs.Moves.{
   add_gap,
   fill,
   overlay,
-  obey,
   open_gap,
   count_gap_vote,
-  open_sync,
-  repeat_commit,
   count_sync_vote,
 }
 
@@ -92,10 +87,6 @@ start_view m q v x l s = when (may_adopt s q v l) (λ t. adopt m t v x l) s
 
 -- ---- messages of the leader to a follower
 
--- a row that is taken shows that the leader is there
-abbrev pub hear : ReplicaState → ReplicaState
-hear s = record s { heard = true }
-
 abbrev pub gap_commit_if : {S : Type 0} → Meaning S → Bool → Bool → ℕ → ReplicaState → Effect
 gap_commit_if m true next k s = then_do (write_gap (hear s) k) (drain m)
 gap_commit_if m false true k s = then_do (add_gap (hear s)) (drain m)
@@ -110,9 +101,6 @@ found m k r s = when ((k == length s.log + 1) && may_append s) (λ t. then_do (f
 
 unfoldable pub sync_prepare : {S : Type 0} → Meaning S → List Entry → ReplicaState → Effect
 sync_prepare m l s = when (nat_le (s.next + (length l - length s.log)) NUMBER_END) (λ t. then_do (overlay m (hear t) l) (drain m)) s
-
-unfoldable pub sync_commit : ℕ → ReplicaState → Effect
-sync_commit k s = when (nat_le k s.sync.prepared) (λ t. obey (hear t) k) s
 
 -- ---- messages of a follower to the leader
 
@@ -160,33 +148,3 @@ watch_if m false false s = suspect m s
 
 abbrev pub watch : {S : Type 0} → Meaning S → ReplicaState → Effect
 watch m s = watch_if m (is_normal s.status && leads s) s.heard s
-
-abbrev pub gap_again : Option Agreement → ReplicaState → Effect
-gap_again None s = still s
-gap_again (Some g) s = (s, to_all s (bodies.GapCommit g.slot))
-
-abbrev pub lookup_again : Front → ReplicaState → Effect
-lookup_again Nothing s = still s
-lookup_again (Message r) s = still s
-lookup_again Dropped s = when (has_room s) (λ t. (t, to_leader t (bodies.SlotLookup (length t.log + 1)))) s
-
-abbrev pub change_again : Bool → ReplicaState → Effect
-change_again true s = still s
-change_again false s = (s, change_told s)
-
--- by the status, and whether the replica leads
-abbrev pub resend_by : Phase → Bool → ReplicaState → Effect
-resend_by Change leading s = then_do (s, to_all s bodies.ViewChangeReq) (change_again leading)
-resend_by Normal true s = gap_again s.gap s
-resend_by Normal false s = lookup_again (front_of s.receiver) s
-
-unfoldable pub resend : ReplicaState → Effect
-resend s = resend_by s.status (leads s) s
-
-abbrev pub sync_if : Bool → ReplicaState → Effect
-sync_if true s = open_sync s
-sync_if false s = repeat_commit s
-
--- a leader in Normal without a gap
-unfoldable pub sync : ReplicaState → Effect
-sync s = when (is_normal s.status && (leads s && not (waits s.gap))) (λ t. sync_if (nat_lt t.sync.sync_point (length t.log)) t) s

@@ -58,7 +58,7 @@ impl<H: Host> Member<H> {
             Body::Found(slot, request) => self.found(slot, request),
             Body::SyncPrepare(log) => self.sync_prepare(&log),
             Body::SyncCommit(slot) => {
-                self.sync_commit(slot);
+                self.state.sync_commit(slot);
                 Ok(())
             }
             _ => Ok(()),
@@ -139,6 +139,7 @@ impl<H: Host> Member<H> {
     }
 
     /// A tick comes.
+    #[tactic(auto, using(crate::proofs::Running::sync_runs))]
     pub(crate) fn ticked(&mut self, tick: Tick) -> Result<(), NoMemory>
         requires runs { IsRunning H.Host self.old }
         ensures { OnOk result (Does H.Host self.old self.new (ticked H.meaning tick)) }
@@ -146,8 +147,8 @@ impl<H: Host> Member<H> {
         match tick {
             Tick::Suspect => self.suspect(),
             Tick::Watch => self.watch(),
-            Tick::Resend => self.resend(),
-            Tick::Sync => self.sync(),
+            Tick::Resend => self.state.resend(&mut self.sends),
+            Tick::Sync => self.state.sync(&mut self.sends),
             _ => Ok(()),
         }
     }

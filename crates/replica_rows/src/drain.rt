@@ -1,8 +1,7 @@
-ghost use Rattle.std.specs.Prelude.{◌≡◌, ◌<◌, ◌+◌, length, true, OnOk, IfOk};
+ghost use Rattle.std.specs.Prelude.{◌≡◌, true, OnOk, IfOk};
 ghost use Rattle.nop_types.specs.Ranges.{EntryFits};
-ghost use Rattle.nop_types.specs.declared.limits.TheConstants.{MAX_SLOTS};
 ghost use Rattle.replica_state.specs.State.{drains, may_append, leads};
-ghost use Rattle.replica_state.specs.Moves.{appended, open_gap, ask, drain};
+ghost use Rattle.replica_state.specs.Moves.{appended, open_gap, drain};
 ghost use Rattle.replica_state.specs.Within.{IsWithin};
 ghost use Rattle.replica_rows.specs.Within.{IsRunning, Does};
 ghost use Rattle.replica_rows.specs.Draining.{TakesOne};
@@ -52,22 +51,9 @@ impl<H: Host> Member<H> {
         self.to_all(Body::GapCommit(slot))
     }
 
-    /// Asks the leader for the next slot, once.
-    fn ask(&mut self) -> Result<(), NoMemory>
-        requires runs { IsRunning H.Host self.old }
-        requires room { length self.old.state.log < MAX_SLOTS }
-        ensures { OnOk result (Does H.Host self.old self.new ask) }
-    {
-        let slot = self.state.log.len() + 1;
-        if self.state.asked == slot {
-            return Ok(());
-        }
-        self.state.asked = slot;
-        self.to_leader(Body::SlotLookup(slot))
-    }
-
     /// Takes what stands in front, where it may: a request is logged; at a drop a leader opens a gap, and a follower asks for
     /// the slot. Says whether it goes on.
+    #[tactic(auto, using(crate::proofs::Running::ask_runs))]
     fn drain_one(&mut self) -> Result<bool, NoMemory>
         requires runs { IsRunning H.Host self.old }
         ensures runs { OnOk result (IsRunning H.Host self.new) }
@@ -89,7 +75,7 @@ impl<H: Host> Member<H> {
             self.open_gap()?;
             return Ok(true);
         }
-        self.ask()?;
+        self.state.ask(&mut self.sends)?;
         Ok(false)
     }
 

@@ -4,8 +4,8 @@ ghost use Rattle.nop_types.specs.declared.request.Entry.TheVariants.{NoOp};
 ghost use Rattle.nop_types.specs.Lists.{slot_of};
 ghost use Rattle.nop_types.specs.Ranges.{SlotFits, RequestFits, LogFits};
 ghost use Rattle.replica_state.specs.State.{may_append};
-ghost use Rattle.replica_state.specs.Moves.{write_gap, add_gap, fill, overlay, obey};
-ghost use Rattle.replica_rows.specs.Rows.{gap_commit, found, sync_prepare, sync_commit};
+ghost use Rattle.replica_state.specs.Moves.{write_gap, add_gap, fill, overlay};
+ghost use Rattle.replica_rows.specs.Rows.{gap_commit, found, sync_prepare};
 ghost use Rattle.replica_rows.specs.Within.{IsRunning, Does};
 
 use crate::member::Member;
@@ -131,16 +131,5 @@ impl<H: Host> Member<H> {
         self.state.heard = true;
         self.overlay(log, appended)?;
         self.drain()
-    }
-
-    /// The leader says that the slots up to this one are synchronised.
-    #[tactic(auto, unfolding(crate::specs::Rows::sync_commit))]
-    pub(crate) fn sync_commit(&mut self, slot: u32)
-        requires runs { IsRunning H.Host self.old }
-        ensures { Does H.Host self.old self.new (sync_commit slot) }
-    {
-        if self.state.obey(slot) {
-            self.state.heard = true;
-        }
     }
 }
