@@ -1,34 +1,26 @@
--- A state whose fields change stays in its ranges, and so do messages and rounds.
+-- A state that enters a view or hears of its leader stays in its ranges, and so do messages.
 use Rattle.std.proofs.Common.{◌≡◌, ◌≢◌, ◌<◌, ◌≤◌, ℕ, Bool, true, false, cond, Option, Some, None, refl, ap, subst}
 use Rattle.std.proofs.Common.{arith, List, [], ◌∷◌, ◌++◌}
-use Rattle.std.specs.Prelude.{◌==◌, nat_lt, nat_le, max, IfSome}
+use Rattle.std.specs.Prelude.{◌==◌, nat_lt, IfSome}
 use Rattle.std.specs.List.{AllByRecursion}
 use Rattle.std.specs.FinMap as finite
 use Rattle.std.proofs.lemmas.Bool.{ltb-true}
-use Rattle.std.proofs.lemmas.Bool.Decides.{nat_tests}
-use Rattle.nop_types.specs.declared.limits.TheConstants.{MAX_SLOTS}
 use Rattle.nop_types.specs.declared.view.View.{View}
-use Rattle.nop_types.specs.declared.replica_state.Phase.TheVariants.{Normal}
-use Rattle.nop_types.specs.declared.replica_state.Vote.{Vote}
-use Rattle.nop_types.specs.declared.replica_state.Vote.TheVariants.{Settled, Waiting}
 use Rattle.nop_types.specs.declared.request.Request.{Request}
 use Rattle.nop_types.specs.declared.datagram.Stamped.{Stamped}
 use Rattle.nop_types.specs.declared.peer.Body.{Body}
-use Rattle.nop_types.specs.Ranges.{RequestFits, SlotFits, BodyFits, ViewFits, ChangeFits}
-use Rattle.gap_agree.specs.Agreement.{Agreement}
+use Rattle.nop_types.specs.Ranges.{RequestFits, BodyFits, ViewFits, ChangeFits}
 use Rattle.oum_receiver.specs.declared.verdict.Verdict.{Verdict}
 use Rattle.oum_receiver.specs.declared.verdict.Verdict.TheVariants as verdicts
 use Rattle.oum_receiver.specs.Front.{Nothing, Message, front_at}
 use Rattle.oum_receiver.specs.Receiving.{Receiving, QueuedFits, IsSound, judged, front_of}
-use Rattle.sync_points.specs.Synchronisation.{Synchronisation, Round}
-use Rattle.sync_points.specs.Synchronisation as synchronisation
 use Rattle.replica_state.specs.declared.sending.Sending.{Sending}
 use Rattle.replica_state.specs.declared.state.ReplicaState.{ReplicaState}
 use Rattle.replica_state.specs.State.{others}
 use Rattle.replica_state.specs.Sends.{Effect, still, then_do, when, to_replica, to_all, to_all_if, SendingFits}
-use Rattle.replica_state.specs.Moves.{entered, own_change}
-use Rattle.replica_rows.specs.Rows as rows
+use Rattle.replica_state.specs.Moves.{hear, entered, own_change}
 use Rattle.replica_state.specs.Within.{IsWithin}
+use Rattle.replica_rows.proofs.Fields.{with_heard}
 use Rattle.delivery.specs.Ranges.{StaysInRanges}
 
 -- ---- tests
@@ -109,52 +101,7 @@ message_fits x r sound e =
 pub not_nothing : (x : Receiving) (r : Request) → front_of x ≡ Message r → front_of x ≢ Nothing
 not_nothing x r e none = absurd cc
 
--- ---- changes of fields
-
--- the fields of a synchronisation
-pub record SyncFits (x : Synchronisation) : Type 0 where
-  pub sync_point : x.sync_point ≤ MAX_SLOTS
-  pub syncing : IfSome x.syncing (λ r. r.len ≤ MAX_SLOTS)
-  pub prepared : x.prepared ≤ MAX_SLOTS
-
-pub sync_of : (s : ReplicaState) → IsWithin s → SyncFits s.sync
-sync_of s w = record { sync_point = w.sync_point; syncing = w.syncing; prepared = w.prepared }
-
-with_each : (s : ReplicaState) (x : Receiving) (o : Option Agreement) (n : ℕ) (b : Bool) (y : Synchronisation) → IsWithin s
-    → (s.status ≡ Normal → x.next ≡ s.next) → IfSome o (λ g. SlotFits g.slot) → SyncFits y
-    → IsWithin (record s { receiver = x; gap = o; asked = n; heard = b; sync = y })
-with_each s x o n b y w next gap sync = record {
-  number = w.number;
-  few = w.few;
-  view = w.view;
-  last_normal = w.last_normal;
-  log = w.log;
-  next = w.next;
-  base = w.base;
-  start = w.start;
-  receiver = next;
-  gap = gap;
-  sync_point = sync.sync_point;
-  syncing = sync.syncing;
-  prepared = sync.prepared;
-  changes = w.changes;
-}
-
-pub with_receiver : (s : ReplicaState) (x : Receiving) → IsWithin s → (s.status ≡ Normal → x.next ≡ s.next)
-    → IsWithin (record s { receiver = x })
-with_receiver s x w next = with_each s x s.gap s.asked s.heard s.sync w next w.gap (sync_of s w)
-
-pub with_gap : (s : ReplicaState) (o : Option Agreement) → IsWithin s → IfSome o (λ g. SlotFits g.slot) → IsWithin (record s { gap = o })
-with_gap s o w fits = with_each s s.receiver o s.asked s.heard s.sync w w.receiver fits (sync_of s w)
-
-pub with_asked : (s : ReplicaState) (n : ℕ) → IsWithin s → IsWithin (record s { asked = n })
-with_asked s n w = with_each s s.receiver s.gap n s.heard s.sync w w.receiver w.gap (sync_of s w)
-
-pub with_heard : (s : ReplicaState) (b : Bool) → IsWithin s → IsWithin (record s { heard = b })
-with_heard s b w = with_each s s.receiver s.gap s.asked b s.sync w w.receiver w.gap (sync_of s w)
-
-pub with_sync : (s : ReplicaState) (x : Synchronisation) → IsWithin s → SyncFits x → IsWithin (record s { sync = x })
-with_sync s x w fits = with_each s s.receiver s.gap s.asked s.heard x w w.receiver w.gap fits
+-- ---- views and messages of the leader
 
 pub entered_within : (s : ReplicaState) (v : View) → IsWithin s → ViewFits v → IsWithin (entered s v)
 entered_within s v w view = record {
@@ -174,45 +121,5 @@ entered_within s v w view = record {
   changes = tt;
 }
 
-pub hears : (s : ReplicaState) → IsGood s → IsGood (rows.hear s)
+pub hears : (s : ReplicaState) → IsGood s → IsGood (hear s)
 hears s g = record { within = with_heard s true g.within; sound = g.sound }
-
--- ---- rounds
-
-pub with_round_fits : (s : Synchronisation) (len : ℕ) → SyncFits s → len ≤ MAX_SLOTS → SyncFits (synchronisation.with_round s len)
-with_round_fits s len fits le = at (nat_lt s.sync_point len)
-  where
-    alone : (b : Bool) → SyncFits (synchronisation.begun b s len)
-    alone true = record { sync_point = le; syncing = tt; prepared = fits.prepared }
-    alone false = record { sync_point = fits.sync_point; syncing = le; prepared = fits.prepared }
-
-    at : (b : Bool) → SyncFits (cond b (synchronisation.begun (s.f == 0) s len) s)
-    at true = alone (s.f == 0)
-    at false = fits
-
-pub committed_fits : (s : Synchronisation) (len : ℕ) → SyncFits s → SyncFits (synchronisation.committed s len)
-committed_fits s len fits = at (nat_le len s.prepared) refl
-  where
-    at : (b : Bool) → nat_le len s.prepared ≡ b → SyncFits (cond b (record s { sync_point = max s.sync_point len }) s)
-    at true e =
-        let low = fits.sync_point in
-        let high = fits.prepared in
-        record { sync_point = grind (arith, nat_tests, e, low, high); syncing = fits.syncing; prepared = fits.prepared }
-    at false e = fits
-
-round_fits : (x : Round) (q len : ℕ) → x.len ≤ MAX_SLOTS → (synchronisation.with_vote_for x q len).len ≤ MAX_SLOTS
-round_fits x q len le = at (x.len == len)
-  where
-    at : (b : Bool) → (cond b (record x { votes = Rattle.gap_agree.specs.Votes.with_vote x.votes q }) x).len ≤ MAX_SLOTS
-    at true = le
-    at false = le
-
-closed_fits : (s : Synchronisation) (x : Round) (v : Vote) → SyncFits s → x.len ≤ MAX_SLOTS → SyncFits (synchronisation.closed s x v)
-closed_fits s x Settled fits le = record { sync_point = le; syncing = tt; prepared = fits.prepared }
-closed_fits s x Waiting fits le = record { sync_point = fits.sync_point; syncing = le; prepared = fits.prepared }
-
-pub counted_in_fits : (s : Synchronisation) (o : Option Round) (q len : ℕ) → SyncFits s → IfSome o (λ r. r.len ≤ MAX_SLOTS)
-    → SyncFits (synchronisation.counted_in s o q len)
-counted_in_fits s None q len fits le = fits
-counted_in_fits s (Some x) q len fits le =
-    closed_fits s (synchronisation.with_vote_for x q len) (synchronisation.round_vote s.f x q len) fits (round_fits x q len le)

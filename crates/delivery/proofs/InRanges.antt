@@ -50,7 +50,8 @@ use Rattle.replica_state.specs.Replies.{leader_reply, reply_if, reply_to, reply_
 use Rattle.replica_state.specs.Moves.{queue, begin_session, logged, take_front, appended, fill, ask_if, gap_opened, open_gap, write_gap}
 use Rattle.replica_state.specs.Moves.{add_gap, count_gap_vote, drain_drop, drain_at, drain_by, drain, listening, entered, own_change}
 use Rattle.replica_state.specs.Moves.{change_told, enter_as, enter, adopted, adopt, open_with, open_view, open_if_enough, keep_change}
-use Rattle.replica_state.specs.Moves.{resend_start, overlaid, overlay, obey, open_sync, repeat_commit, commit_if}
+use Rattle.replica_state.specs.Moves.{resend_start, overlaid, overlay, hear, obey, sync_commit, open_sync, repeat_commit, commit_if}
+use Rattle.replica_state.specs.Repeating.{gap_again, lookup_again, change_again, resend_by, resend, sync_if, sync}
 use Rattle.replica_rows.specs.Rows as rows
 use Rattle.replica_rows.specs.Messages.{Arrival, Packet, Told, Ticked, from_leader, from_follower, by_role, in_view, on_body, on_message, ticked, arrive}
 use Rattle.replica_state.specs.Within.{IsWithin}
@@ -69,6 +70,17 @@ use Rattle.replica_rows.proofs.Running.{
 use Rattle.replica_rows.proofs.Opening.{opened_next_fits, opened_log_fits, counted_fits}
 use Rattle.replica_rows.proofs.Ready.{opens_within}
 use Rattle.delivery.specs.Ranges.{StaysInRanges}
+use Rattle.replica_rows.proofs.Fields.{
+  with_receiver,
+  with_gap,
+  with_asked,
+  with_heard,
+  with_sync,
+  sync_of,
+  with_round_fits,
+  committed_fits,
+  counted_in_fits,
+}
 use Rattle.delivery.proofs.FieldRanges.{
   below,
   IsGood,
@@ -86,16 +98,7 @@ use Rattle.delivery.proofs.FieldRanges.{
   cond_sound,
   message_fits,
   not_nothing,
-  with_receiver,
-  with_gap,
-  with_asked,
-  with_heard,
-  sync_of,
-  with_sync,
   hears,
-  with_round_fits,
-  committed_fits,
-  counted_in_fits,
   entered_within,
 }
 
@@ -465,8 +468,8 @@ module _ {S : Type 0} (m : Meaning S) (short : ResultsShort m) where
 
   gap_commit_if_stays : (a b : Bool) (k : ℕ) (s : ReplicaState) → IsGood s → SlotFits k → (b ≡ true → may_append s ≡ true)
       → StaysInRanges (rows.gap_commit_if m a b k s)
-  gap_commit_if_stays true b k s g fits may = and_drain (write_gap (rows.hear s) k) (write_gap_stays (rows.hear s) k (hears s g) fits)
-  gap_commit_if_stays false true k s g fits may = and_drain (add_gap (rows.hear s)) (add_gap_stays (rows.hear s) (hears s g) (may refl))
+  gap_commit_if_stays true b k s g fits may = and_drain (write_gap (hear s) k) (write_gap_stays (hear s) k (hears s g) fits)
+  gap_commit_if_stays false true k s g fits may = and_drain (add_gap (hear s)) (add_gap_stays (hear s) (hears s g) (may refl))
   gap_commit_if_stays false false k s g fits may = still_stays s g
 
   gap_commit_stays : (k : ℕ) (s : ReplicaState) → IsGood s → SlotFits k → StaysInRanges (rows.gap_commit m k s)
@@ -478,9 +481,9 @@ module _ {S : Type 0} (m : Meaning S) (short : ResultsShort m) where
   found_stays : (k : ℕ) (r : Request) (s : ReplicaState) → IsGood s → RequestFits r → StaysInRanges (rows.found m k r s)
   unfolding rows.found
   found_stays k r s g fits =
-      when_stays ((k == length s.log + 1) && may_append s) (λ t. then_do (fill m (rows.hear t) r) (drain m)) s g
-      (λ e. and_drain (fill m (rows.hear s) r)
-      (fill_stays (rows.hear s) r (hears s g) fits (and_parts (k == length s.log + 1) (may_append s) e).1))
+      when_stays ((k == length s.log + 1) && may_append s) (λ t. then_do (fill m (hear t) r) (drain m)) s g
+      (λ e. and_drain (fill m (hear s) r)
+      (fill_stays (hear s) r (hears s g) fits (and_parts (k == length s.log + 1) (may_append s) e).1))
 
   overlay_stays : (s : ReplicaState) (l : List Entry) → IsGood s → LogFits l → s.next + (length l - length s.log) ≤ NUMBER_END
       → StaysInRanges (overlay m s l)
@@ -499,17 +502,17 @@ module _ {S : Type 0} (m : Meaning S) (short : ResultsShort m) where
   prepare_stays : (l : List Entry) (s : ReplicaState) → IsGood s → LogFits l → StaysInRanges (rows.sync_prepare m l s)
   unfolding rows.sync_prepare
   prepare_stays l s g fits =
-      when_stays (nat_le (s.next + (length l - length s.log)) NUMBER_END) (λ t. then_do (overlay m (rows.hear t) l) (drain m)) s g
-      (λ e. and_drain (overlay m (rows.hear s) l) (overlay_stays (rows.hear s) l (hears s g) fits (at_most _ _ e)))
+      when_stays (nat_le (s.next + (length l - length s.log)) NUMBER_END) (λ t. then_do (overlay m (hear t) l) (drain m)) s g
+      (λ e. and_drain (overlay m (hear s) l) (overlay_stays (hear s) l (hears s g) fits (at_most _ _ e)))
 
-  commit_stays : (k : ℕ) (s : ReplicaState) → IsGood s → StaysInRanges (rows.sync_commit k s)
-  unfolding rows.sync_commit
+  commit_stays : (k : ℕ) (s : ReplicaState) → IsGood s → StaysInRanges (sync_commit k s)
+  unfolding sync_commit
   commit_stays k s g =
       let h = hears s g in
-      when_stays (nat_le k s.sync.prepared) (λ t. obey (rows.hear t) k) s g
-      (λ _. still_stays (record (rows.hear s) { sync = synchronisation.committed s.sync k })
+      when_stays (nat_le k s.sync.prepared) (λ t. obey (hear t) k) s g
+      (λ _. still_stays (record (hear s) { sync = synchronisation.committed s.sync k })
       (record {
-        within = with_sync (rows.hear s) (synchronisation.committed s.sync k) h.within (committed_fits s.sync k (sync_of s g.within));
+        within = with_sync (hear s) (synchronisation.committed s.sync k) h.within (committed_fits s.sync k (sync_of s g.within));
         sound = g.sound;
       }))
 
@@ -652,11 +655,11 @@ module _ {S : Type 0} (m : Meaning S) (short : ResultsShort m) where
   watch_stays false false s g = suspect_stays s g
 
   gap_again_stays : (o : Option Agreement) (s : ReplicaState) → IsGood s → IfSome o (λ g. SlotFits g.slot)
-      → StaysInRanges (rows.gap_again o s)
+      → StaysInRanges (gap_again o s)
   gap_again_stays None s h fits = still_stays s h
-  gap_again_stays (Some g) s h fits = good (rows.gap_again (Some g) s) h (to_all_fits s (bodies.GapCommit g.slot) h.within fits)
+  gap_again_stays (Some g) s h fits = good (gap_again (Some g) s) h (to_all_fits s (bodies.GapCommit g.slot) h.within fits)
 
-  lookup_again_stays : (front : Front) (s : ReplicaState) → IsGood s → StaysInRanges (rows.lookup_again front s)
+  lookup_again_stays : (front : Front) (s : ReplicaState) → IsGood s → StaysInRanges (lookup_again front s)
   lookup_again_stays Nothing s g = still_stays s g
   lookup_again_stays (Message r) s g = still_stays s g
   lookup_again_stays Dropped s g =
@@ -664,24 +667,24 @@ module _ {S : Type 0} (m : Meaning S) (short : ResultsShort m) where
       (λ e. good (s, to_leader s (bodies.SlotLookup (length s.log + 1))) g
       (to_replica_fits s (leader s) (bodies.SlotLookup (length s.log + 1)) g.within (next_slot s (below _ _ e))))
 
-  change_again_stays : (b : Bool) (s : ReplicaState) → IsGood s → StaysInRanges (rows.change_again b s)
+  change_again_stays : (b : Bool) (s : ReplicaState) → IsGood s → StaysInRanges (change_again b s)
   change_again_stays true s g = still_stays s g
   change_again_stays false s g =
       good (s, change_told s) g
       (to_replica_fits s (leader s) (bodies.ViewChange s.last_normal s.next s.log) g.within (own_change_fits s g.within).rest)
 
-  resend_by_stays : (status : Phase) (b : Bool) (s : ReplicaState) → IsGood s → StaysInRanges (rows.resend_by status b s)
+  resend_by_stays : (status : Phase) (b : Bool) (s : ReplicaState) → IsGood s → StaysInRanges (resend_by status b s)
   resend_by_stays Change b s g =
-      then_stays (s, to_all s bodies.ViewChangeReq) (rows.change_again b)
+      then_stays (s, to_all s bodies.ViewChangeReq) (change_again b)
       (good (s, to_all s bodies.ViewChangeReq) g (to_all_fits s bodies.ViewChangeReq g.within tt)) (change_again_stays b s g)
   resend_by_stays Normal true s g = gap_again_stays s.gap s g g.within.gap
   resend_by_stays Normal false s g = lookup_again_stays (front_of s.receiver) s g
 
-  resend_stays : (s : ReplicaState) → IsGood s → StaysInRanges (rows.resend s)
-  unfolding rows.resend
+  resend_stays : (s : ReplicaState) → IsGood s → StaysInRanges (resend s)
+  unfolding resend
   resend_stays s g = resend_by_stays s.status (leads s) s g
 
-  sync_if_stays : (b : Bool) (s : ReplicaState) → IsGood s → StaysInRanges (rows.sync_if b s)
+  sync_if_stays : (b : Bool) (s : ReplicaState) → IsGood s → StaysInRanges (sync_if b s)
   sync_if_stays true s g =
       good (open_sync s)
       (record {
@@ -692,10 +695,10 @@ module _ {S : Type 0} (m : Meaning S) (short : ResultsShort m) where
       (to_all_fits s (bodies.SyncPrepare s.log) g.within g.within.log)
   sync_if_stays false s g = good (repeat_commit s) g (to_all_fits s (bodies.SyncCommit s.sync.sync_point) g.within g.within.sync_point)
 
-  sync_stays : (s : ReplicaState) → IsGood s → StaysInRanges (rows.sync s)
-  unfolding rows.sync
+  sync_stays : (s : ReplicaState) → IsGood s → StaysInRanges (sync s)
+  unfolding sync
   sync_stays s g =
-      when_stays (is_normal s.status && (leads s && not (waits s.gap))) (λ t. rows.sync_if (nat_lt t.sync.sync_point (length t.log)) t) s g
+      when_stays (is_normal s.status && (leads s && not (waits s.gap))) (λ t. sync_if (nat_lt t.sync.sync_point (length t.log)) t) s g
       (λ _. sync_if_stays (nat_lt s.sync.sync_point (length s.log)) s g)
 
   ticked_stays : (s : ReplicaState) (tick : Tick) → IsGood s → StaysInRanges (ticked m tick s)

@@ -38,7 +38,8 @@ use Rattle.replica_state.specs.Sends.{Effect, still, then_do, when, to_leader, t
 use Rattle.replica_state.specs.Replies.{reply_to, reply_if, leader_reply, reply_for, replies_to, replies_above}
 use Rattle.replica_state.specs.Moves.{ask_if, open_gap, write_gap, add_gap, drain_drop, drain_at, drain_by, drain, entered, logged}
 use Rattle.replica_state.specs.Moves.{enter_as, enter, change_told, adopted, adopt, open_with, open_view, open_if_enough, overlaid, overlay}
-use Rattle.replica_state.specs.Moves.{commit_if, queue, keep_change, count_gap_vote, appended, begin_session}
+use Rattle.replica_state.specs.Moves.{commit_if, queue, keep_change, count_gap_vote, appended, begin_session, hear, sync_commit}
+use Rattle.replica_state.specs.Repeating.{gap_again, lookup_again, change_again, resend_by, resend, sync_if, sync}
 use Rattle.replica_rows.specs.Rows as rows
 use Rattle.replica_rows.specs.Messages.{Arrival, Packet, Told, Ticked, from_leader, from_follower, by_role, in_view, on_body, on_message, ticked, arrive}
 use Rattle.delivery.specs.Sends.{IsBy, GoesAmong}
@@ -248,10 +249,10 @@ start_view_own m s q v x l = when_own (may_adopt s q v l) _ s (adopt_own m s v x
 
 gap_commit_if_own : {S : Type 0} (m : Meaning S) (a b : Bool) (k : ℕ) (s : ReplicaState) → Own s (rows.gap_commit_if m a b k s)
 gap_commit_if_own m true b k s =
-    and_drain m (leader_own s (write_gap (rows.hear s) k).0 (rows.hear s) (bodies.GapRep k) (changed_own s _ refl refl)
+    and_drain m (leader_own s (write_gap (hear s) k).0 (hear s) (bodies.GapRep k) (changed_own s _ refl refl)
     (changed_own s _ refl refl))
 gap_commit_if_own m false true k s =
-    and_drain m (leader_own s (add_gap (rows.hear s)).0 (rows.hear s) (bodies.GapRep (length s.log + 1)) (changed_own s _ refl refl)
+    and_drain m (leader_own s (add_gap (hear s)).0 (hear s) (bodies.GapRep (length s.log + 1)) (changed_own s _ refl refl)
     (changed_own s _ refl refl))
 gap_commit_if_own m false false k s = still_own s
 
@@ -262,7 +263,7 @@ gap_commit_own m k s = gap_commit_if_own m (nat_le k (length s.log)) ((k == leng
 found_own : {S : Type 0} (m : Meaning S) (k : ℕ) (r : Request) (s : ReplicaState) → Own s (rows.found m k r s)
 unfolding rows.found
 found_own m k r s =
-    let t : ReplicaState = appended (rows.hear s) (Req r) in
+    let t : ReplicaState = appended (hear s) (Req r) in
     when_own ((k == length s.log + 1) && may_append s) _ s
     (and_drain m (record { number = refl; count = refl; sends = reply_by m t (length s.log + 1) r }))
 
@@ -278,12 +279,12 @@ overlay_own m s l = record {
 prepare_own : {S : Type 0} (m : Meaning S) (l : List Entry) (s : ReplicaState) → Own s (rows.sync_prepare m l s)
 unfolding rows.sync_prepare
 prepare_own m l s =
-    let h = overlay_own m (rows.hear s) l in
-    when_own (nat_le (s.next + (length l - length s.log)) NUMBER_END) (λ t. then_do (overlay m (rows.hear t) l) (drain m)) s
+    let h = overlay_own m (hear s) l in
+    when_own (nat_le (s.next + (length l - length s.log)) NUMBER_END) (λ t. then_do (overlay m (hear t) l) (drain m)) s
     (and_drain m (record { number = h.number; count = h.count; sends = h.sends }))
 
-commit_own : (k : ℕ) (s : ReplicaState) → Own s (rows.sync_commit k s)
-unfolding rows.sync_commit
+commit_own : (k : ℕ) (s : ReplicaState) → Own s (sync_commit k s)
+unfolding sync_commit
 commit_own k s = when_own (nat_le k s.sync.prepared) _ s (record { number = refl; count = refl; sends = tt })
 
 lookup_by_own : {S : Type 0} (m : Meaning S) (a : Answer) (q k : ℕ) (s : ReplicaState) → q < s.config.replicas
@@ -387,38 +388,38 @@ watch_own m true b s = still_own s
 watch_own m false true s = record { number = refl; count = refl; sends = tt }
 watch_own m false false s = suspect_own m s
 
-gap_again_own : (o : Option Agreement) (s : ReplicaState) → Own s (rows.gap_again o s)
+gap_again_own : (o : Option Agreement) (s : ReplicaState) → Own s (gap_again o s)
 gap_again_own None s = still_own s
 gap_again_own (Some g) s = record { number = refl; count = refl; sends = all_by s (bodies.GapCommit g.slot) }
 
-lookup_again_own : (front : Front) (s : ReplicaState) → Own s (rows.lookup_again front s)
+lookup_again_own : (front : Front) (s : ReplicaState) → Own s (lookup_again front s)
 lookup_again_own Nothing s = still_own s
 lookup_again_own (Message r) s = still_own s
 lookup_again_own Dropped s =
     when_own (has_room s) _ s (record { number = refl; count = refl; sends = (record { by = refl; to = leads_among s }, tt) })
 
-change_again_own : (b : Bool) (s : ReplicaState) → Own s (rows.change_again b s)
+change_again_own : (b : Bool) (s : ReplicaState) → Own s (change_again b s)
 change_again_own true s = still_own s
 change_again_own false s = record { number = refl; count = refl; sends = (record { by = refl; to = leads_among s }, tt) }
 
-resend_by_own : (status : Phase) (b : Bool) (s : ReplicaState) → Own s (rows.resend_by status b s)
+resend_by_own : (status : Phase) (b : Bool) (s : ReplicaState) → Own s (resend_by status b s)
 resend_by_own Change b s =
-    then_own (rows.change_again b) (record { number = refl; count = refl; sends = all_by s bodies.ViewChangeReq }) (change_again_own b s)
+    then_own (change_again b) (record { number = refl; count = refl; sends = all_by s bodies.ViewChangeReq }) (change_again_own b s)
 resend_by_own Normal true s = gap_again_own s.gap s
 resend_by_own Normal false s = lookup_again_own (front_of s.receiver) s
 
-resend_own : (s : ReplicaState) → Own s (rows.resend s)
-unfolding rows.resend
+resend_own : (s : ReplicaState) → Own s (resend s)
+unfolding resend
 resend_own s = resend_by_own s.status (leads s) s
 
-sync_if_own : (b : Bool) (s : ReplicaState) → Own s (rows.sync_if b s)
+sync_if_own : (b : Bool) (s : ReplicaState) → Own s (sync_if b s)
 sync_if_own true s = record { number = refl; count = refl; sends = all_by s (bodies.SyncPrepare s.log) }
 sync_if_own false s = record { number = refl; count = refl; sends = all_by s (bodies.SyncCommit s.sync.sync_point) }
 
-sync_own : (s : ReplicaState) → Own s (rows.sync s)
-unfolding rows.sync
+sync_own : (s : ReplicaState) → Own s (sync s)
+unfolding sync
 sync_own s =
-    when_own (is_normal s.status && (leads s && not (waits s.gap))) (λ t. rows.sync_if (nat_lt t.sync.sync_point (length t.log)) t) s
+    when_own (is_normal s.status && (leads s && not (waits s.gap))) (λ t. sync_if (nat_lt t.sync.sync_point (length t.log)) t) s
     (sync_if_own (nat_lt s.sync.sync_point (length s.log)) s)
 
 tick_own : {S : Type 0} (m : Meaning S) (s : ReplicaState) (tick : Tick) → Own s (ticked m tick s)

@@ -10,8 +10,8 @@ use Rattle.nop_types.specs.Meaning.{Meaning}
 use Rattle.nop_types.specs.Slots.{laid, set_slot}
 use Rattle.replica_state.specs.declared.state.ReplicaState.{ReplicaState}
 use Rattle.replica_state.specs.State.{may_append}
-use Rattle.replica_state.specs.Moves.{write_gap, add_gap, fill, overlay, obey, drain}
-use Rattle.replica_rows.specs.Rows.{hear, gap_commit_if, gap_commit, found, sync_prepare, sync_commit}
+use Rattle.replica_state.specs.Moves.{hear, write_gap, add_gap, fill, overlay, obey, sync_commit, drain}
+use Rattle.replica_rows.specs.Rows.{gap_commit_if, gap_commit, found, sync_prepare}
 use Rattle.protocol.specs.Conf.{Conf}
 use Rattle.protocol.specs.Member.{standing}
 use Rattle.protocol.specs.Moves.{MayFollow}

@@ -15,7 +15,7 @@ use Rattle.replica_state.specs.declared.state.ReplicaState.{ReplicaState}
 use Rattle.replica_state.specs.State.{others, leads, is_normal, waits, has_room}
 use Rattle.replica_state.specs.Sends.{to_all_if, to_all, to_leader}
 use Rattle.replica_state.specs.Moves.{change_told, open_sync, repeat_commit}
-use Rattle.replica_rows.specs.Rows.{gap_again, lookup_again, change_again, resend_by, resend, sync_if, sync}
+use Rattle.replica_state.specs.Repeating.{gap_again, lookup_again, change_again, resend_by, resend, sync_if, sync}
 use Rattle.protocol.specs.Conf.{Conf}
 use Rattle.protocol.specs.Member.{standing}
 use Rattle.protocol.specs.Moves.{MaySay, MayLead}

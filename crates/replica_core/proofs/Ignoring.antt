@@ -23,7 +23,8 @@ use Rattle.replica_core.specs.declared.replica.TheConstants.{LAST_MESSAGE}
 use Rattle.replica_core.specs.Ignoring.{is_for, IsIgnored, IgnoresPacket, is_of_view, Rests, IgnoresMessage}
 use Rattle.replica_rows.specs.Messages.{Arrival, by_role, in_view, on_body, on_message, arrive}
 use Rattle.replica_core.specs.ReplicaSteps.{Replica, row_if, row, fragment_if, fragment, on_datagram, next}
-use Rattle.replica_rows.specs.Rows.{gap_commit_if, gap_commit, found, sync_prepare, sync_commit, begin_gap, suspect, last_leader}
+use Rattle.replica_rows.specs.Rows.{gap_commit_if, gap_commit, found, sync_prepare, begin_gap, suspect, last_leader}
+use Rattle.replica_state.specs.Moves.{sync_commit}
 use Rattle.replica_state.specs.Sends.{Effect, still, when}
 use Rattle.replica_state.specs.State.{may_append, is_current, is_from_leader, is_to_leader, is_other}
 use Rattle.replica_rows.proofs.Counting.{arrive_sends_few}
