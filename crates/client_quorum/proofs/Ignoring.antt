@@ -1,6 +1,6 @@
 -- What is not for a client changes nothing.
 use Rattle.std.proofs.Common.{◌≡◌, ℕ, List, [], refl, Bool, true, false, Result, Ok, Err}
-use Rattle.nop_types.specs.Given.{Given, Packet, Ticked}
+use Rattle.nop_types.specs.Given.{Packet, Ticked}
 use Rattle.nop_types.specs.declared.input.Tick.{Tick}
 use Rattle.nop_types.specs.declared.input.Tick.TheVariants as ticks
 use Rattle.nop_types.specs.declared.output.Out.{Out}

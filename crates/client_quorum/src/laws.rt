@@ -13,7 +13,8 @@ ghost use Rattle.client_quorum.specs.declared.state.ClientState.{ClientState};
 ghost use Rattle.client_quorum.specs.ClientSteps.{opening, next, reply, is_expected};
 ghost use Rattle.client_quorum.specs.Ignoring.{is_tick_for, IsIgnored, IgnoresPacket};
 ghost use Rattle.client_quorum.specs.KeptReplies.{HasOneEach, keep_reply};
-ghost use Rattle.client_quorum.specs.Runs.{after, gave, replies_of, ops_of, HasNoSubmit, HasQuorum, IsAgreed, EndsWith, Stands, TakesTurns};
+ghost use Rattle.client_quorum.specs.Runs.{after, gave, replies_of, ops_of, HasNoSubmit, HasQuorum, IsAgreed};
+ghost use Rattle.client_quorum.specs.Runs.{EndsWith, Stands, TakesTurns};
 
 /// A reply for the pending client and id makes the client accept a result exactly where f + 1 kept replies, this one with
 /// them, are of its view and slot, and the leader's is one of them with that result.

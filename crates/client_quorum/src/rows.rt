@@ -1,7 +1,8 @@
 ghost use Rattle.std.specs.Prelude.{◌≡◌, ◌++◌, ◌∷◌, ◌<◌, ◌^◌, ◌+◌, [], OnOk};
 ghost use Rattle.nop_types.specs.Given.{given};
 ghost use Rattle.nop_types.specs.Ranges.{ReplyFits, RequestFits};
-ghost use Rattle.client_quorum.specs.ClientSteps.{AcceptFits, begin, can_submit, is_expected, next, on_tick, reply, retry, sent, submit, submit_waiting};
+ghost use Rattle.client_quorum.specs.ClientSteps.{AcceptFits, begin, can_submit, is_expected, next, on_tick, reply};
+ghost use Rattle.client_quorum.specs.ClientSteps.{retry, sent, submit, submit_waiting};
 
 use crate::{ClientState, Pending};
 use nop_types::{Accept, Datagram, Dest, Input, NoMemory, Op, Out, Outbox, Reply, Request, Tick};

@@ -1,7 +1,8 @@
 ghost use Rattle.std.specs.Prelude.{◌≡◌, ◌==◌, ℕ, List, Option, Some, IsSome, if◌then◌else◌};
 ghost use Rattle.std.specs.FinMap as finite;
 ghost use Rattle.nop_types.specs.Execution.{Answered, is_above_kept, result_kept};
-ghost use Rattle.client_table.specs.Table.{Table, Former, kept_for, verdict_on, is_fresh, result_in, with_answer, former_of, put_back, unkept};
+ghost use Rattle.client_table.specs.Table.{Table, Former, kept_for, verdict_on, is_fresh, result_in, with_answer};
+ghost use Rattle.client_table.specs.Table.{former_of, put_back, unkept};
 ghost use Rattle.client_table.specs.Runs.{Given, kept_after, EachIsFresh, IsVerdict};
 
 /// A table is what it keeps for each client.

@@ -1,7 +1,10 @@
 ghost use Rattle.std.specs.Prelude.{◌≡◌, ◌≤◌, IfOk, IfSome, MatchOption};
 ghost use Rattle.clap.specs.Words.{app_of, found_of, rows_of, subcommand_rows_of};
 ghost use Rattle.command_line.specs.Program.{program_app};
-ghost use Rattle.command_line.specs.Commands.{IsFit, gen_by, gen_in, node_by, node_in, sequencer_by, sequencer_in, install_by, controller_by, controller_in, client_by, client_in, cluster_by, cluster_in, ops_of, texts_in, served_by, command_by, command_from, command_of, texts_of, IsRefused, HasFound};
+ghost use Rattle.command_line.specs.Commands.{IsFit, gen_by, gen_in, node_by, node_in, sequencer_by, sequencer_in};
+ghost use Rattle.command_line.specs.Commands.{install_by, controller_by, controller_in, client_by, client_in};
+ghost use Rattle.command_line.specs.Commands.{cluster_by, cluster_in, ops_of, texts_in, served_by, command_by};
+ghost use Rattle.command_line.specs.Commands.{command_from, command_of, texts_of, IsRefused, HasFound};
 
 use crate::command::{Command, Site};
 use crate::ops::read_ops;

@@ -7,7 +7,8 @@ use Rattle.replay.specs.Generated.{drawn_summary}
 use Rattle.replay.specs.Outcome.{IsDone, IsMalformed, IsInterrupted, LeavesSome, WroteFront}
 use Rattle.commands.specs.Words.{usage_line}
 use Rattle.commands.specs.declared.status.Status.{Status}
-use Rattle.commands.specs.declared.status.Status.TheVariants.{Done, Malformed, Usage, ReadFault, WriteFault, LinkFault, NoMemory, Unanswered}
+use Rattle.commands.specs.declared.status.Status.TheVariants.{Done, Malformed, Usage, ReadFault, WriteFault, LinkFault, NoMemory}
+use Rattle.commands.specs.declared.status.Status.TheVariants.{Unanswered}
 
 module _ {S : Type 0} (m : Meaning S) where
   -- some line is bad

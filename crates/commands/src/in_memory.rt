@@ -5,7 +5,8 @@ ghost use Rattle.outside.specs.Memory.{answers_of};
 ghost use Rattle.replay.specs.Safety.{RunsSafelyOf};
 ghost use Rattle.commands.specs.Words.{asked, Taken};
 ghost use Rattle.commands.specs.Clusters.{ClusterCommandEnds, ClusterEndsWithoutFault, runs_cluster, uses_ports};
-ghost use Rattle.commands.specs.Ending.{ReplayEnds, UsageEnds, EndsWithoutFault, GeneratesWithoutFault, RefusesWithoutFault};
+ghost use Rattle.commands.specs.Ending.{ReplayEnds, UsageEnds, EndsWithoutFault, GeneratesWithoutFault};
+ghost use Rattle.commands.specs.Ending.{RefusesWithoutFault};
 ghost use Rattle.commands.specs.Nodes.{EndsNodeWithoutFault, link_view, ports_view};
 ghost use Rattle.commands.specs.Tasks.{CommandEnds, DrawingEnds, draws, runs_node, waits_for_ops};
 

@@ -44,7 +44,8 @@ use Rattle.sync_points.specs.Synchronisation as synchronisation
 use Rattle.view_change.specs.Gathering.{Gathering}
 use Rattle.view_change.specs.Gathering as gathering
 use Rattle.replica_state.specs.declared.state.ReplicaState.{ReplicaState}
-use Rattle.replica_state.specs.State.{opening, others, leader, leads, is_normal, drains, waits, waiting, has_room, may_append, is_from_leader, is_to_leader, is_other, may_adopt}
+use Rattle.replica_state.specs.State.{opening, others, leader, leads, is_normal, drains, waits, waiting, has_room, may_append}
+use Rattle.replica_state.specs.State.{is_from_leader, is_to_leader, is_other, may_adopt}
 use Rattle.replica_state.specs.Sends.{Effect, then_do, to_leader, to_all, SendingFits}
 use Rattle.replica_state.specs.Replies.{leader_reply, reply_if, reply_to, reply_for, replies_to, replies_above}
 use Rattle.replica_state.specs.Moves.{queue, begin_session, logged, take_front, appended, fill, ask_if, gap_opened, open_gap, write_gap}
@@ -53,7 +54,8 @@ use Rattle.replica_state.specs.Moves.{change_told, enter_as, enter, adopted, ado
 use Rattle.replica_state.specs.Moves.{resend_start, overlaid, overlay, hear, obey, sync_commit, open_sync, repeat_commit, commit_if}
 use Rattle.replica_state.specs.Repeating.{gap_again, lookup_again, change_again, resend_by, resend, sync_if, sync}
 use Rattle.replica_rows.specs.Rows as rows
-use Rattle.replica_rows.specs.Messages.{Arrival, Packet, Told, Ticked, from_leader, from_follower, by_role, in_view, on_body, on_message, ticked, arrive}
+use Rattle.replica_rows.specs.Messages.{Arrival, Packet, Told, Ticked, from_leader, from_follower, by_role, in_view, on_body}
+use Rattle.replica_rows.specs.Messages.{on_message, ticked, arrive}
 use Rattle.replica_state.specs.Within.{IsWithin}
 use Rattle.replica_rows.specs.Within.{ArrivalFits, ResultsShort}
 use Rattle.replica_rows.proofs.Running.{

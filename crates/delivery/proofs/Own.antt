@@ -33,7 +33,8 @@ use Rattle.sync_points.specs.Synchronisation.{vote_for}
 use Rattle.view_change.specs.Gathering.{Gathering}
 use Rattle.replica_state.specs.declared.sending.Sending.{Sending}
 use Rattle.replica_state.specs.declared.state.ReplicaState.{ReplicaState}
-use Rattle.replica_state.specs.State.{others, leader, leads, is_normal, drains, waits, has_room, may_append, is_from_leader, is_to_leader, is_other, may_adopt}
+use Rattle.replica_state.specs.State.{others, leader, leads, is_normal, drains, waits, has_room, may_append, is_from_leader}
+use Rattle.replica_state.specs.State.{is_to_leader, is_other, may_adopt}
 use Rattle.replica_state.specs.Sends.{Effect, still, then_do, when, to_leader, to_all, to_all_if}
 use Rattle.replica_state.specs.Replies.{reply_to, reply_if, leader_reply, reply_for, replies_to, replies_above}
 use Rattle.replica_state.specs.Moves.{ask_if, open_gap, write_gap, add_gap, drain_drop, drain_at, drain_by, drain, entered, logged}
@@ -41,7 +42,8 @@ use Rattle.replica_state.specs.Moves.{enter_as, enter, change_told, adopted, ado
 use Rattle.replica_state.specs.Moves.{commit_if, queue, keep_change, count_gap_vote, appended, begin_session, hear, sync_commit}
 use Rattle.replica_state.specs.Repeating.{gap_again, lookup_again, change_again, resend_by, resend, sync_if, sync}
 use Rattle.replica_rows.specs.Rows as rows
-use Rattle.replica_rows.specs.Messages.{Arrival, Packet, Told, Ticked, from_leader, from_follower, by_role, in_view, on_body, on_message, ticked, arrive}
+use Rattle.replica_rows.specs.Messages.{Arrival, Packet, Told, Ticked, from_leader, from_follower, by_role, in_view, on_body}
+use Rattle.replica_rows.specs.Messages.{on_message, ticked, arrive}
 use Rattle.delivery.specs.Sends.{IsBy, GoesAmong}
 
 -- sent under a number, and where it is a message, to replicas of so many

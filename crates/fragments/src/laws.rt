@@ -6,7 +6,8 @@ ghost use Rattle.nop_types.specs.Lists.{Has};
 ghost use Rattle.nop_types.specs.Ranges.{FragmentFits};
 ghost use Rattle.fragments.specs.Cutting.{fragments_of, piece_count, HasNoCut};
 ghost use Rattle.fragments.specs.Joining.{Waiting, is_in_range, opening, taken};
-ghost use Rattle.fragments.specs.Runs.{AllCame, CameInParts, StepKeeps, after, answered, Sent, AreDistinct, AreCutFrom, WasSent, WaitingFits, CanBeCut};
+ghost use Rattle.fragments.specs.Runs.{AllCame, CameInParts, StepKeeps, after, answered, Sent, AreDistinct};
+ghost use Rattle.fragments.specs.Runs.{AreCutFrom, WasSent, WaitingFits, CanBeCut};
 
 use nop_types::{FRAGMENT_BYTES, MAX_FRAGMENTS};
 

@@ -1,4 +1,5 @@
-ghost use Rattle.std.specs.Prelude.{◌≡◌, ◌+◌, ◌*◌, ◌<◌, ◌≤◌, ◌^◌, ◌++◌, true, length, replicate, set, take, sum_by, IfOk, OnOk, OnErr, None, Some};
+ghost use Rattle.std.specs.Prelude.{◌≡◌, ◌+◌, ◌*◌, ◌<◌, ◌≤◌, ◌^◌, ◌++◌, true, length, replicate, set, take, sum_by};
+ghost use Rattle.std.specs.Prelude.{IfOk, OnOk, OnErr, None, Some};
 ghost use Rattle.fragments.specs.Parts.{missing, is_open, bytes_of, whole, with_part};
 ghost use Rattle.fragments.specs.Front.{parts_of};
 ghost use Rattle.fragments.specs.Held.{held_in};

@@ -1,5 +1,6 @@
 ghost use Rattle.std.specs.Prelude.{◌≡◌, ◌⊎◌, option_map};
-ghost use Rattle.kv_host.specs.Op.{Bad, field_at, key_at, value_at, read_get, read_put, read_delete, read_swap, read_op, at_end};
+ghost use Rattle.kv_host.specs.Op.{Bad, field_at, key_at, value_at, read_get, read_put, read_delete, read_swap};
+ghost use Rattle.kv_host.specs.Op.{read_op, at_end};
 ghost use Rattle.kv_host.specs.Spelling.{IsBytes, Spells};
 ghost use Rattle.kv_host.specs.View.{op_of};
 

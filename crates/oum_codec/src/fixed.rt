@@ -1,7 +1,9 @@
 //! The fields of a fixed size of each kind, up to an op, a result or a payload.
 
 ghost use Rattle.std.specs.Prelude.{◌≡◌, option_map};
-ghost use Rattle.oum_codec.specs.Fixed.{request_fields_at, request_in_range, stamped_fields_at, stamped_in_range, reply_fields_at, reply_in_range, tag_fits, signal_fields_at, signal_in_range, fragment_fields_at, fragment_in_range, least_payload};
+ghost use Rattle.oum_codec.specs.Fixed.{request_fields_at, request_in_range, stamped_fields_at, stamped_in_range};
+ghost use Rattle.oum_codec.specs.Fixed.{reply_fields_at, reply_in_range, tag_fits, signal_fields_at};
+ghost use Rattle.oum_codec.specs.Fixed.{signal_in_range, fragment_fields_at, fragment_in_range, least_payload};
 
 use crate::fields::{split_u8, split_u16, split_u32, split_u64, split_view};
 use nop_types::{

@@ -1,7 +1,8 @@
 ghost use Rattle.std.specs.Prelude.{◌≡◌, ◌⊎◌, IfOk, IfSome};
 ghost use Rattle.nop_types.specs.declared.datagram.Datagram.{Datagram};
 ghost use Rattle.oum_codec.specs.Spelling.{Spells};
-ghost use Rattle.oum_codec.specs.Reading.{Finds, Gives, GivesBy, sized, request_of, stamped_of, reply_of, signal_of, fragment_of, body_of, reading};
+ghost use Rattle.oum_codec.specs.Reading.{Finds, Gives, GivesBy, sized, request_of, stamped_of, reply_of};
+ghost use Rattle.oum_codec.specs.Reading.{signal_of, fragment_of, body_of, reading};
 
 use crate::Bad;
 use crate::fixed::{FragmentFields, ReplyFields, RequestFields, SignalFields, StampedFields};

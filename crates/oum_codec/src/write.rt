@@ -2,7 +2,8 @@ ghost use Rattle.std.specs.Prelude.{◌≡◌, ◌++◌, ◌<◌, ◌≤◌, ◌
 ghost use Rattle.std.specs.Int.{w16, w32, w64};
 ghost use Rattle.nop_types.specs.Ranges.{DatagramFits, ReplyFits};
 ghost use Rattle.oum_codec.specs.Numbers.{be_bytes};
-ghost use Rattle.oum_codec.specs.Spelling.{view_bytes, counted_bytes, request_bytes, stamped_bytes, reply_bytes, signal_bytes, header, spelling};
+ghost use Rattle.oum_codec.specs.Spelling.{view_bytes, counted_bytes, request_bytes, stamped_bytes, reply_bytes};
+ghost use Rattle.oum_codec.specs.Spelling.{signal_bytes, header, spelling};
 
 use nop_types::{Datagram, MAX_RESULT_BYTES, NoMemory, Reply, Request, Stamped, View, kinds};
 use std::alloc::Global;

@@ -6,7 +6,8 @@ ghost use Rattle.nop_types.specs.Ranges.{StampedFits};
 ghost use Rattle.oum_receiver.specs.Front.{Nothing, Message};
 ghost use Rattle.oum_receiver.specs.Receiving.{Receiving, IsSound, opened, offered, front_of, front_taken, advanced};
 ghost use Rattle.nop_types.specs.Stamps.{WasStamped};
-ghost use Rattle.oum_receiver.specs.Runs.{Call, HandedUp, handed_up, packets_of, IsUninterrupted, IsConsecutive, IsStampedBy, HaveOneRequest};
+ghost use Rattle.oum_receiver.specs.Runs.{Call, HandedUp, handed_up, packets_of, IsUninterrupted, IsConsecutive};
+ghost use Rattle.oum_receiver.specs.Runs.{IsStampedBy, HaveOneRequest};
 
 use nop_types::NUMBER_END;
 

@@ -34,7 +34,8 @@ impl Model for Receiver {
 
 impl Receiver {
     ghost use Rattle.oum_receiver.specs.Front.{Nothing, front_given, request_in};
-    ghost use Rattle.oum_receiver.specs.Receiving.{IsSound, opened, verdict_of, offered, front_of, front_taken, advanced};
+    ghost use Rattle.oum_receiver.specs.Receiving.{IsSound, opened, verdict_of, offered, front_of, front_taken};
+    ghost use Rattle.oum_receiver.specs.Receiving.{advanced};
 
     /// A receiver with an empty queue.
     pub fn new(alloc: Global, session: u32, next: u64) -> Result<Receiver, NoMemory>

@@ -1,4 +1,5 @@
-ghost use Rattle.std.specs.Prelude.{◌≡◌, ◌≤◌, ◌++◌, ◌∷◌, [], drop, length, All, IfOk, IfSome, OnOk, OnErr, IsErrOf, Some, Ok, true, false};
+ghost use Rattle.std.specs.Prelude.{◌≡◌, ◌≤◌, ◌++◌, ◌∷◌, [], drop, length, All, IfOk, IfSome, OnOk, OnErr, IsErrOf};
+ghost use Rattle.std.specs.Prelude.{Some, Ok, true, false};
 ghost use Rattle.outside.specs.Causes.{HasCauseFor};
 ghost use Rattle.outside.specs.Links.{Polls, next_poll, poll_result};
 ghost use Rattle.outside.specs.Told.{Adds, Stays};

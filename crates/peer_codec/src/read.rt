@@ -3,7 +3,8 @@ ghost use Rattle.nop_types.specs.declared.peer.Peer.{Peer};
 ghost use Rattle.oum_codec.specs.Reading.{Finds};
 ghost use Rattle.peer_codec.specs.Answers.{Gives, GivesBy};
 ghost use Rattle.peer_codec.specs.Spelling.{Spells};
-ghost use Rattle.peer_codec.specs.Reading.{found_at, view_change_at, start_view_at, sync_prepare_at, body_at, message_of, reading};
+ghost use Rattle.peer_codec.specs.Reading.{found_at, view_change_at, start_view_at, sync_prepare_at, body_at};
+ghost use Rattle.peer_codec.specs.Reading.{message_of, reading};
 
 use crate::BadPeer;
 use crate::fields::{

@@ -1,6 +1,7 @@
 ghost use Rattle.std.specs.Prelude.{◌≡◌, ◌≤◌, ◌<◌, ◌*◌, ◌++◌, false, OnOk, OnErr, IfOk};
 ghost use Rattle.fragments.specs.Held.{held};
-ghost use Rattle.nop_types.specs.declared.limits.TheConstants.{MAX_SLOTS, MAX_UNFINISHED, MAX_FRAGMENTS, FRAGMENT_BYTES};
+ghost use Rattle.nop_types.specs.declared.limits.TheConstants.{MAX_SLOTS, MAX_UNFINISHED, MAX_FRAGMENTS};
+ghost use Rattle.nop_types.specs.declared.limits.TheConstants.{FRAGMENT_BYTES};
 ghost use Rattle.nop_types.specs.Given.{given};
 ghost use Rattle.nop_types.specs.Ranges.{ViewFits, LogFits};
 ghost use Rattle.peer_codec.specs.Reading as peer;

@@ -3,7 +3,8 @@ ghost use Rattle.nop_types.specs.declared.limits.TheConstants.{MAX_REPLICAS};
 ghost use Rattle.nop_types.specs.Ranges.{StampedFits, PeerFits, BodyFits};
 ghost use Rattle.replica_state.specs.Moves.{begin_session, queue};
 ghost use Rattle.replica_rows.specs.Rows.{new_session, stamped};
-ghost use Rattle.replica_rows.specs.Messages.{from_leader, from_follower, in_view, on_body, on_message, ticked, arrival_of, arrive};
+ghost use Rattle.replica_rows.specs.Messages.{from_leader, from_follower, in_view, on_body, on_message, ticked};
+ghost use Rattle.replica_rows.specs.Messages.{arrival_of, arrive};
 ghost use Rattle.replica_state.specs.State.{executed_to, is_from_leader, is_to_leader, is_other};
 ghost use Rattle.replica_rows.specs.Within.{ArrivalFits, IsRunning, Does};
 

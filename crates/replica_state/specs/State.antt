@@ -1,5 +1,6 @@
 -- Words on the state of a replica.
-use Rattle.std.specs.Prelude.{ℕ, ◌/◌, List, [], length, min, cond, Bool, true, false, Option, Some, None, nat_le, nat_lt, not, ◌==◌, ◌&&◌, ◌||◌}
+use Rattle.std.specs.Prelude.{ℕ, ◌/◌, List, [], length, min, cond, Bool, true, false, Option, Some, None, nat_le, nat_lt, not, ◌==◌}
+use Rattle.std.specs.Prelude.{◌&&◌, ◌||◌}
 use Rattle.nop_types.specs.declared.limits.TheConstants.{MAX_SLOTS, NUMBER_END}
 use Rattle.nop_types.specs.declared.replica_state.Phase.{Phase}
 use Rattle.nop_types.specs.declared.replica_state.Phase.TheVariants.{Normal, Change}

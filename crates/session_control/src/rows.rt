@@ -1,6 +1,7 @@
 ghost use Rattle.std.specs.Prelude.{◌≡◌, ◌<◌, ◌++◌, OnOk};
 ghost use Rattle.nop_types.specs.Given.{given};
-ghost use Rattle.session_control.specs.ControllerSteps.{IsWithin, install_of, move_to, ask, probe, resend_install, order_move, pong, installed, on_tick, next};
+ghost use Rattle.session_control.specs.ControllerSteps.{IsWithin, install_of, move_to, ask, probe, resend_install};
+ghost use Rattle.session_control.specs.ControllerSteps.{order_move, pong, installed, on_tick, next};
 
 use crate::{ControllerState, MISSED_END};
 use nop_types::{Actor, Datagram, Dest, Input, NoMemory, Outbox, Tick};

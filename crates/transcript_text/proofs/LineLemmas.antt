@@ -7,7 +7,8 @@ use Rattle.nop_types.specs.declared.output.Dest.{Dest}
 use Rattle.nop_types.specs.declared.replica_state.Phase.{Phase}
 use Rattle.nop_types.specs.declared.view.View.{View}
 use Rattle.transcript_text.specs.LineText.{line_of}
-use Rattle.transcript_text.specs.Transcript.{actor_text, dest_text, kind_text, phase_text, up_text, send_line, replica_line, transcript_line}
+use Rattle.transcript_text.specs.Transcript.{actor_text, dest_text, kind_text, phase_text, up_text, send_line, replica_line}
+use Rattle.transcript_text.specs.Transcript.{transcript_line}
 
 pub transcript_fields : (c : Configuration) →
     line_of (codes "transcript") (codes "1" ∷ codes "replicas" ∷ decimal c.replicas ∷ codes "sequencers" ∷ decimal c.sequencers ∷ codes

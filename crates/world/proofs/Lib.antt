@@ -5,3 +5,4 @@ pub mod Opening
 pub mod Places
 pub mod Refusals
 pub mod SeatLemmas
+pub mod StateLines

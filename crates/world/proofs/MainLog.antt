@@ -1,9 +1,10 @@
 -- The log from which the history is read, in the code.
-use Rattle.std.proofs.Common.{◌≡◌, ◌≤◌, ℕ, List, [], ◌∷◌, refl, ap, ◌∙◌, arith}
-use Rattle.std.specs.Prelude.{map, slice_get, IsTrue}
+use Rattle.std.proofs.Common.{◌≡◌, ◌≤◌, ◌<◌, ℕ, ◌+◌, List, [], ◌∷◌, length, drop, get_or, refl, sym, ap, ◌∙◌, arith}
+use Rattle.std.specs.Prelude.{map, slice_get, IsTrue, if◌then◌else◌}
+use Rattle.std.proofs.lemmas.List.{drop_more, drop_all}
 use Rattle.nop_types.specs.Configuration.{Configuration, is_configuration}
 use Rattle.nop_types.specs.Machine.{Machine}
-use Rattle.nop_types.specs.Views.{leader_of}
+use Rattle.nop_types.specs.Views.{leader_of, outranks}
 use Rattle.nop_types.specs.declared.view.View.{View}
 use Rattle.nop_types.specs.declared.request.Entry.{Entry}
 use Rattle.replica_core.specs.ReplicaSteps.{Replica}
@@ -12,7 +13,20 @@ use Rattle.world.specs.declared.seat.Seat.{Seat}
 use Rattle.world.specs.Actors.{world_of}
 use Rattle.world.specs.Seats.{Seated}
 use Rattle.world.specs.SeatOutcomes.{seated_of}
-use Rattle.world.specs.WorldSteps.{greatest_of, main_view, main_log, log_of}
+use Rattle.world.specs.WorldSteps.{greatest_view, greatest_of, main_view, main_log, log_of}
+
+-- where all is the greatest of what came before and what is left, it is so after one more
+pub greatest_next : {X : Type 0} (f : X → View) (i : ℕ) (xs : List X) (x : X) (view new all : View) → i < length xs → x ≡ get_or xs i x
+    → new ≡ (if outranks (f x) view then f x else view) → greatest_view view (map f (drop i xs)) ≡ all
+    → greatest_view new (map f (drop (i + 1) xs)) ≡ all
+greatest_next {X} f i xs x view new all lt is greater so_far =
+    let next : drop i xs ≡ x ∷ drop (i + 1) xs = drop_more xs i x lt ∙ ap (λ (y : X). y ∷ drop (i + 1) xs) (sym is) in
+    ap (λ (v : View). greatest_view v (map f (drop (i + 1) xs))) greater
+    ∙ ap (λ (ys : List X). greatest_view view (map f ys)) (sym next) ∙ so_far
+
+pub greatest_end : {X : Type 0} (f : X → View) (i : ℕ) (xs : List X) (view all : View) → length xs ≤ i
+    → greatest_view view (map f (drop i xs)) ≡ all → view ≡ all
+greatest_end {X} f i xs view all le so_far = ap (λ (ys : List X). greatest_view view (map f ys)) (sym (drop_all i xs le)) ∙ so_far
 
 -- a configuration has a replica
 pub some_replica : (c : Configuration) (n : ℕ) → n ≡ c.replicas → IsTrue (is_configuration c) → 1 ≤ n

@@ -15,11 +15,11 @@ ghost use Rattle.world.specs.WorldSteps.{
   stimulus_of,
 };
 
-use network::{Lines, Network, carry_out};
 use crate::seat::{Seat, is_crashed, take_at};
 use crate::step_error::StepError;
 use crate::stimulus::actor_of;
 use client_quorum::Client;
+use network::{Lines, Network, carry_out};
 use nop_types::{Actor, Config, Host, NoMemory, Outbox};
 use replica_core::Replica;
 use schedule_text::Event;

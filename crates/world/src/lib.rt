@@ -11,7 +11,7 @@ mod step_error;
 mod stimulus;
 mod world_state;
 
-pub use network::Lines;
 pub use laws::{crashed_actors_take_no_step, junk_changes_nothing, refuses_by_first_cause};
+pub use network::Lines;
 pub use step_error::StepError;
 pub use world_state::World;
