@@ -127,8 +127,9 @@ try:
         sys.exit("\n".join(said[-40:]))
     verdict = next(it for it in reversed(said) if re.fullmatch(r"\d+ passed, \d+ failed.*", it))
     clock, minutes = (time.time() - began) / 60, spent(used) / 60
-    whole = f"The whole run: {clock:.0f} minutes by the clock, {minutes:.0f} processor minutes on {os.cpu_count()} processors; `{verdict}`."
-    whole += f" By itself\n`rt selftest`, an example of the toolchain, takes {example:.0f} processor seconds on this machine."
+    whole = f"The whole run: {clock:.0f} minutes by the clock, {minutes:.0f} processor minutes on {os.cpu_count()} processors,\n"
+    whole += f"with {given['RT_JOBS']} checks beside each other, each with one job; `{verdict}`. By itself\n"
+    whole += f"`rt selftest`, an example of the toolchain, takes {example:.0f} processor seconds on this machine."
     if names:
         print(table_of(seen, [it for it in crates if any(key[0] == it for key, _, _ in seen.values())]))
         print("\n" + whole)
