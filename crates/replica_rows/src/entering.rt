@@ -1,6 +1,6 @@
-ghost use Rattle.std.specs.Prelude.{◌≡◌, OnOk};
+ghost use Rattle.std.specs.Prelude.{OnOk};
 ghost use Rattle.nop_types.specs.Ranges.{ViewFits};
-ghost use Rattle.replica_state.specs.Moves.{enter, change_told};
+ghost use Rattle.replica_state.specs.Moves.{enter};
 ghost use Rattle.replica_rows.specs.Rows.{enter_view, enter_and_drain};
 ghost use Rattle.replica_rows.specs.Within.{IsRunning, Does};
 
@@ -8,17 +8,7 @@ use crate::member::Member;
 use nop_types::{Body, Host, NoMemory, View};
 
 impl<H: Host> Member<H> {
-    /// Sends its own change to the leader of the view.
-    pub(crate) fn send_change(&mut self) -> Result<(), NoMemory>
-        requires runs { IsRunning H.Host self.old }
-        ensures state { self.new.state ≡ self.old.state }
-        ensures executor { self.new.executor ≡ self.old.executor }
-        ensures does { OnOk result (Does H.Host self.old self.new (λ s. (s, change_told s))) }
-    {
-        self.state.tell_change(&mut self.sends)?;
-        Ok(())
-    }
-
+    /// Leaves the view: all others are asked for the greater one, and its leader is told the change, or gathers changes.
     #[tactic(auto, unfolding(replica_state::specs::Moves::enter))]
     fn enter(&mut self, view: View) -> Result<(), NoMemory>
         requires runs { IsRunning H.Host self.old }
@@ -28,7 +18,7 @@ impl<H: Host> Member<H> {
         self.state.go_to(view);
         self.to_all(Body::ViewChangeReq)?;
         if !self.state.leads() {
-            return self.send_change();
+            return self.state.tell_change(&mut self.sends);
         }
         self.state.begin_gathering(self.alloc)
     }

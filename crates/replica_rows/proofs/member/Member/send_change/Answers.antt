@@ -1,5 +1,0 @@
-use Rattle.std.proofs.Common.{refl}
-use Rattle.replica_rows.proofs.member.Member.send_change.Goals as goal
-
-pub returns-clause-does : goal.returns-clause-does
-returns-clause-does g c = record { runs = c.requires.runs; state = refl; sends = c.in_ok-tell_change.ensures.ok }
