@@ -5,13 +5,14 @@
 #   bench/gate-times.sh [CRATE..]
 #
 # With names it measures `rt ci` alone over these crates and those below them, and the table goes to standard output. For figures that
-# mean something nothing else runs on the machine.
+# mean something nothing else runs on the machine. Checks beside each other slow each other down, since they share the memory: under
+# `taskset -c 0,1` two go on at a time, as on a machine with two processors.
 #
 # A crate has the seconds of all its processes together, each with the last figures that were seen of it, five times a second, and the
 # memory of its largest process. Proof: the crate itself. Tests: the crate proved once more with its tests. Edits: each
 # must-fail edit. What `rt` does beside them, runs of tests and programs, and checks/*.sh are in the last line alone. Lines of code have
 # the contracts and no tests. `rt selftest`, which proves and builds one example of the toolchain, runs first, and its seconds stand below the
-# table: how fast the machine is by itself. Checks beside each other take each other's time too, so compare crates that did not change.
+# table: how fast the machine is by itself.
 set -eu
 
 exec python3 - "$(cd "$(dirname "$0")/.." && pwd)" "$@" <<'PYTHON'
@@ -107,12 +108,12 @@ try:
     example = yardstick()
     lines = [it.split("#")[0].partition(":") for it in open(tree + "/crates.txt", encoding="utf-8")]
     crates = [name.strip() for name, colon, _ in lines if colon]
-    seen, began = {}, time.time()
+    seen, began, processors = {}, time.time(), len(os.sched_getaffinity(0))
     with open(folder + "/log", "w", encoding="utf-8") as log:
         words = ["rt", "ci", "--anew", *names]
         if not names:
             words = ["sh", "-c", 'rt ci --anew || exit; for check in checks/*.sh; do "$check" || exit; done']
-        given = {"RT_JOBS": str(len(os.sched_getaffinity(0))), **os.environ}
+        given = {"RT_JOBS": str(processors), **os.environ}
         gate = subprocess.Popen(words, cwd=tree, env=given, stdin=subprocess.DEVNULL, stdout=log, stderr=log)
         while gate.returncode is None:
             watched(seen, str(gate.pid))
@@ -127,7 +128,7 @@ try:
         sys.exit("\n".join(said[-40:]))
     verdict = next(it for it in reversed(said) if re.fullmatch(r"\d+ passed, \d+ failed.*", it))
     clock, minutes = (time.time() - began) / 60, spent(used) / 60
-    whole = f"The whole run: {clock:.0f} minutes by the clock, {minutes:.0f} processor minutes on {os.cpu_count()} processors,\n"
+    whole = f"The whole run: {clock:.0f} minutes by the clock, {minutes:.0f} processor minutes on {processors} processors,\n"
     whole += f"with {given['RT_JOBS']} checks beside each other, each with one job; `{verdict}`. By itself\n"
     whole += f"`rt selftest`, an example of the toolchain, takes {example:.0f} processor seconds on this machine."
     if names:
