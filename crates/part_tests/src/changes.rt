@@ -1,56 +1,62 @@
-use crate::logs::{log_of, put_ids};
-use crate::rows::{check_text, numbers};
+use crate::logs::{is_log, log_of};
 use log_merge::{merge, merge_of_view};
 use nop_types::{Change, Log, View};
 use std::alloc::Global;
 use std::process::Abort;
 use view_change::{Changes, Start, Step};
 
-fn view_of(rt: &impl Abort, leader: u64, session: u64) -> View {
-    View {
-        leader: u32::try_from(leader).expect(rt, "a leader"),
-        session: u32::try_from(session).expect(rt, "a session"),
-    }
-}
+/// A change in numbers: its sender, leader and session of its last normal view, its next number, and the ids of its log.
+type Told = (u8, u32, u32, u64, &'static [u64]);
 
-/// A change in numbers: its sender, leader and session of its last normal view, its next number, and its log.
-fn change(rt: &impl Abort, alloc: Global, row: &str) -> Change {
-    let numbers = numbers(rt, alloc, row);
-    let [sender, leader, session, next, log @ ..] = numbers.as_slice() else {
-        panic!(rt; "a change")
-    };
+fn change(rt: &impl Abort, alloc: Global, told: &Told) -> Change {
+    let (sender, leader, session, next, log) = *told;
     Change {
-        sender: u8::try_from(*sender).expect(rt, "a sender"),
-        last_normal: view_of(rt, *leader, *session),
-        next: *next,
+        sender,
+        last_normal: View { leader, session },
+        next,
         log: log_of(rt, alloc, log),
     }
 }
 
-/// Changes, and the merge of their logs.
-const MERGES: &str = "\
-1 0 1 1 1 2 | 2 0 1 1 1 0 3 | 4 0 1 1 1 2 4 5 = 1 0 3 5
-4 0 1 1 1 2 4 5 | 2 0 1 1 1 0 3 | 1 0 1 1 1 2 = 1 0 3 5
-1 0 1 1 0 | 2 0 1 1 6 7 | 4 0 1 1 = 0 7
-1 0 1 1 3 3 | 2 0 1 1 2 2 2 | 4 0 1 1 1 1 1 = 3 3 2
-4 0 1 1 1 1 1 | 2 0 1 1 2 2 2 | 1 0 1 1 3 3 = 3 3 2
-1 0 1 1 | 2 0 1 1 | 4 0 1 1 =
-";
+/// Senders of changes with their logs, and the merge of the logs.
+const MERGES: [(&[(u8, &[u64])], &[u64]); 6] = [
+    (
+        &[(1, &[1, 2]), (2, &[1, 0, 3]), (4, &[1, 2, 4, 5])],
+        &[1, 0, 3, 5],
+    ),
+    (
+        &[(4, &[1, 2, 4, 5]), (2, &[1, 0, 3]), (1, &[1, 2])],
+        &[1, 0, 3, 5],
+    ),
+    (&[(1, &[0]), (2, &[6, 7]), (4, &[])], &[0, 7]),
+    (
+        &[(1, &[3, 3]), (2, &[2, 2, 2]), (4, &[1, 1, 1])],
+        &[3, 3, 2],
+    ),
+    (
+        &[(4, &[1, 1, 1]), (2, &[2, 2, 2]), (1, &[3, 3])],
+        &[3, 3, 2],
+    ),
+    (&[(1, &[]), (2, &[]), (4, &[])], &[]),
+];
 
-fn changes_of(rt: &impl Abort, alloc: Global, row: &str) -> Vec<Change> {
+/// Changes of one view.
+fn changes_of(rt: &impl Abort, alloc: Global, told: &[(u8, &'static [u64])]) -> Vec<Change> {
     let mut changes = Vec::new(alloc);
-    for part in row.split('|') {
-        let change = change(rt, alloc, part);
+    for (sender, log) in told {
+        let change = change(rt, alloc, &(*sender, 0, 1, 1, *log));
         changes.push(change).expect(rt, "memory");
     }
     changes
 }
 
-/// What two merges give: of the changes, and of those and one of another view, of which neither the NO-OPs nor the length count.
-fn merged(rt: &impl Abort, alloc: Global, row: &str) -> (Log, Log) {
-    let mut changes = changes_of(rt, alloc, row);
+/// A change of another view, of which neither the NO-OPs nor the length count.
+const OTHER: Told = (0, 1, 1, 1, &[0, 0, 0, 0, 0]);
+
+/// The log of the changes, and that of those and one of another view.
+fn merged(rt: &impl Abort, alloc: Global, mut changes: Vec<Change>) -> (Log, Log) {
     let first = merge(alloc, &changes).expect(rt, "memory");
-    let other = change(rt, alloc, "0 1 1 1 0 0 0 0 0");
+    let other = change(rt, alloc, &OTHER);
     changes.push(other).expect(rt, "memory");
     let view = View {
         leader: 0,
@@ -60,107 +66,114 @@ fn merged(rt: &impl Abort, alloc: Global, row: &str) -> (Log, Log) {
     (first, second)
 }
 
-fn check_merge(rt: &impl Abort, alloc: Global, row: &str) {
-    let (changes, told) = row.split_once(" =").expect(rt, "a row");
-    let (first, second) = merged(rt, alloc, changes);
-    let mut given = String::new(alloc);
-    put_ids(rt, alloc, first.as_slice(), &mut given);
-    check_text(rt, &given, told);
-    let mut given = String::new(alloc);
-    put_ids(rt, alloc, second.as_slice(), &mut given);
-    check_text(rt, &given, told);
-}
-
 #[test]
 fn merges(rt: HostRuntime) {
-    for row in MERGES.lines() {
-        check_merge(&rt, rt.alloc(), row);
+    for (row, (changes, log)) in MERGES.iter().enumerate() {
+        let changes = changes_of(&rt, rt.alloc(), changes);
+        let (first, second) = merged(&rt, rt.alloc(), changes);
+        assert!(rt; is_log(first.as_slice(), log), "row {row}");
+        assert!(rt; is_log(second.as_slice(), log), "row {row}");
     }
 }
 
 /// The leader, the session and the count of the others that the start waits for; then the changes, of which only the last one starts
 /// the view; then the next number that it starts with, and the log.
-///
+type Case = (u32, u32, u8, &'static [Told], u64, &'static [u64]);
+
 /// Of five replicas a change of an older view counts, and its log does not; a second one of a sender does not count. Of three: in one
 /// session next is the greater one; in a new session numbers begin at 1; sessions rank before leader numbers; in a session the greater
 /// leader number ranks higher. Then a leader alone.
-const STARTS: &str = "\
-2 1 2 | 2 1 1 4 1 2 3 | 0 0 1 9 0 | 0 1 1 8 4 4 4 4 | 2 1 1 8 4 4 4 4 | 4 1 1 3 1 0 = 4 1 0 3
-1 1 1 | 1 0 1 3 1 2 | 2 0 1 5 1 0 3 4 = 5 1 0 3 4
-1 2 1 | 1 0 1 3 1 2 | 2 0 1 2 1 = 1 1 2
-6 2 1 | 0 5 1 3 1 | 1 0 2 7 2 = 7 2
-9 2 1 | 0 8 2 1 | 1 7 2 7 2 3 = 1
-9 3 1 | 0 6 2 9 0 0 | 1 7 2 7 2 3 = 1 2 3
-1 1 0 | 0 0 1 3 1 0 = 3 1 0
-1 2 0 | 0 0 1 3 1 0 = 1 1 0
-";
+const STARTS: [Case; 8] = [
+    (
+        2,
+        1,
+        2,
+        &[
+            (2, 1, 1, 4, &[1, 2, 3]),
+            (0, 0, 1, 9, &[0]),
+            (0, 1, 1, 8, &[4, 4, 4, 4]),
+            (2, 1, 1, 8, &[4, 4, 4, 4]),
+            (4, 1, 1, 3, &[1, 0]),
+        ],
+        4,
+        &[1, 0, 3],
+    ),
+    (
+        1,
+        1,
+        1,
+        &[(1, 0, 1, 3, &[1, 2]), (2, 0, 1, 5, &[1, 0, 3, 4])],
+        5,
+        &[1, 0, 3, 4],
+    ),
+    (
+        1,
+        2,
+        1,
+        &[(1, 0, 1, 3, &[1, 2]), (2, 0, 1, 2, &[1])],
+        1,
+        &[1, 2],
+    ),
+    (6, 2, 1, &[(0, 5, 1, 3, &[1]), (1, 0, 2, 7, &[2])], 7, &[2]),
+    (9, 2, 1, &[(0, 8, 2, 1, &[]), (1, 7, 2, 7, &[2, 3])], 1, &[]),
+    (
+        9,
+        3,
+        1,
+        &[(0, 6, 2, 9, &[0, 0]), (1, 7, 2, 7, &[2, 3])],
+        1,
+        &[2, 3],
+    ),
+    (1, 1, 0, &[(0, 0, 1, 3, &[1, 0])], 3, &[1, 0]),
+    (1, 2, 0, &[(0, 0, 1, 3, &[1, 0])], 1, &[1, 0]),
+];
 
-/// Adds the next number of a start, and its log.
-fn put_start(rt: &impl Abort, alloc: Global, start: &Start, to: &mut String) {
-    let text = format!(in alloc; " {}", start.next).expect(rt, "memory");
-    to.push_str(&text).expect(rt, "memory");
-    put_ids(rt, alloc, start.log.as_slice(), to);
-}
-
-/// The view, the count of the others, and its own change.
-fn entered(rt: &impl Abort, alloc: Global, view: &str, own: &str) -> Changes {
-    let numbers = numbers(rt, alloc, view);
-    let [leader, session, f] = numbers.as_slice() else {
-        panic!(rt; "a view")
+/// What a view is started with by the last of these changes, of which the first is the leader's own; none before it starts the view.
+fn started(rt: &impl Abort, alloc: Global, view: View, f: u8, told: &[Told]) -> Option<Start> {
+    let [own, waiting @ .., last] = told else {
+        return None;
     };
-    let f = u8::try_from(*f).expect(rt, "a count");
-    let view = view_of(rt, *leader, *session);
-    Changes::enter(alloc, view, f, change(rt, alloc, own)).expect(rt, "memory")
-}
-
-/// Adds what the last of these changes starts the view with; none before it does.
-fn put_started(
-    rt: &impl Abort,
-    alloc: Global,
-    changes: &mut Changes,
-    others: &str,
-    to: &mut String,
-) {
-    for part in others.split('|') {
-        assert!(rt; to.is_empty());
-        let change = change(rt, alloc, part);
-        match changes.on_change(change).expect(rt, "memory") {
-            Step::Started(start) => put_start(rt, alloc, &start, to),
-            Step::Waiting => {}
+    let own = change(rt, alloc, own);
+    let mut changes = Changes::enter(alloc, view, f, own).expect(rt, "memory");
+    for told in waiting {
+        let change = change(rt, alloc, told);
+        if let Step::Started(_) = changes.on_change(change).expect(rt, "memory") {
+            return None;
         }
+    }
+    let change = change(rt, alloc, last);
+    match changes.on_change(change).expect(rt, "memory") {
+        Step::Started(start) => Some(start),
+        Step::Waiting => None,
     }
 }
 
 /// What a leader alone starts its view with.
-fn put_start_alone(rt: &impl Abort, alloc: Global, view: &str, own: &str, to: &mut String) {
-    let numbers = numbers(rt, alloc, view);
-    let [leader, session, 0] = numbers.as_slice() else {
-        panic!(rt; "a view")
-    };
-    let view = view_of(rt, *leader, *session);
+fn started_alone(rt: &impl Abort, alloc: Global, view: View, own: &Told) -> Option<Start> {
     let own = change(rt, alloc, own);
     let mut changes = Changes::enter(alloc, view, 0, own).expect(rt, "memory");
-    let start = changes.start_now().expect(rt, "memory");
-    put_start(rt, alloc, &start, to);
+    Some(changes.start_now().expect(rt, "memory"))
 }
 
-fn check_start(rt: &impl Abort, alloc: Global, row: &str) {
-    let (row, told) = row.split_once(" =").expect(rt, "a row");
-    let (view, changes) = row.split_once('|').expect(rt, "a view");
-    let mut given = String::new(alloc);
-    match changes.split_once('|') {
-        None => put_start_alone(rt, alloc, view, changes, &mut given),
-        Some((own, others)) => {
-            let mut changes = entered(rt, alloc, view, own);
-            put_started(rt, alloc, &mut changes, others, &mut given);
-        }
-    }
-    check_text(rt, &given, told);
+fn check_start(rt: &impl Abort, alloc: Global, row: usize, case: &Case) {
+    let (leader, session, f, told, next, log) = *case;
+    let view = View { leader, session };
+    let start = match told {
+        [own] => started_alone(rt, alloc, view, own),
+        _ => started(rt, alloc, view, f, told),
+    };
+    let Some(start) = start else {
+        panic!(rt; "row {row}")
+    };
+    assert!(rt;
+        start.next == next && is_log(start.log.as_slice(), log),
+        "row {row}"
+    );
 }
 
 #[test]
 fn starts(rt: HostRuntime) {
-    for row in STARTS.lines() {
-        check_start(&rt, rt.alloc(), row);
+    for (row, case) in STARTS.iter().enumerate() {
+        check_start(&rt, rt.alloc(), row, case);
     }
 }

@@ -1,4 +1,4 @@
-use crate::rows::{bytes_of, request};
+use crate::requests::request;
 use client_table::{ClientTable, Judged};
 use executor::Executor;
 use kv_host::KvHost;
@@ -41,44 +41,40 @@ fn last_answers(rt: HostRuntime) {
 }
 
 /// A log: a NO-OP, or a client, an id and an op.
-const SLOTS: &str = "\
-noop
-1 2 5000016b000176
-noop
-1 2 5000016b000176
-1 1 4400016b
-2 1 4700016b
-3 1 4400016b
-4 1 4700016b";
+const SLOTS: [Option<(u32, u64, &[u8])>; 8] = [
+    None,
+    Some((1, 2, b"P\0\x01k\0\x01v")),
+    None,
+    Some((1, 2, b"P\0\x01k\0\x01v")),
+    Some((1, 1, b"D\0\x01k")),
+    Some((2, 1, b"G\0\x01k")),
+    Some((3, 1, b"D\0\x01k")),
+    Some((4, 1, b"G\0\x01k")),
+];
 
 /// The last answers: an id that is not the last one of its client has none.
-const RESULTS: [(u32, u64, Option<&str>); 7] = [
-    (1, 2, Some("none")),
+const RESULTS: [(u32, u64, Option<&[u8]>); 7] = [
+    (1, 2, Some(b"none")),
     (1, 1, None),
     (1, 3, None),
-    (2, 1, Some("=v")),
-    (3, 1, Some("=v")),
-    (4, 1, Some("none")),
+    (2, 1, Some(b"=v")),
+    (3, 1, Some(b"=v")),
+    (4, 1, Some(b"none")),
     (0, 0, None),
 ];
 
-fn entry(rt: &impl Abort, alloc: Global, row: &str) -> Entry {
-    if row == "noop" {
-        return Entry::NoOp;
+fn entry(rt: &impl Abort, alloc: Global, slot: &Option<(u32, u64, &[u8])>) -> Entry {
+    match slot {
+        None => Entry::NoOp,
+        Some((client, id, op)) => Entry::Req(request(rt, alloc, *client, *id, op)),
     }
-    let (client, rest) = row.split_once(' ').expect(rt, "a client");
-    let (id, op) = rest.split_once(' ').expect(rt, "an id");
-    let client = client.parse::<u32>().expect(rt, "a number");
-    let id = id.parse::<u64>().expect(rt, "a number");
-    let op = bytes_of(rt, alloc, op);
-    Entry::Req(request(rt, alloc, client, id, &op))
 }
 
 fn log_of_slots(rt: &impl Abort, alloc: Global) -> ReplicaLog {
     let mut log = ReplicaLog::new(alloc);
-    for row in SLOTS.lines() {
+    for slot in &SLOTS {
         assert!(rt; log.has_room());
-        log.append(entry(rt, alloc, row)).expect(rt, "memory");
+        log.append(entry(rt, alloc, slot)).expect(rt, "memory");
     }
     log
 }
@@ -94,10 +90,12 @@ fn executed_again<H: Host>(rt: &impl Abort, alloc: Global, log: &ReplicaLog) -> 
     executor
 }
 
-fn check_answer(rt: &impl Abort, given: Option<&Bytes>, told: Option<&str>) {
-    assert!(rt; given.is_some() == told.is_some());
-    if let Some(answer) = given {
-        assert!(rt; answer.as_slice() == told.unwrap_or("").as_bytes());
+/// The answer is the one that is told.
+fn is_told(answer: Option<&Bytes>, told: Option<&[u8]>) -> bool {
+    match (answer, told) {
+        (Some(answer), Some(told)) => answer.as_slice() == told,
+        (None, None) => true,
+        _ => false,
     }
 }
 
@@ -105,7 +103,8 @@ fn check_results<H: Host>(rt: &impl Abort, alloc: Global) {
     let log = log_of_slots(rt, alloc);
     let executor: Executor<H> = executed_again(rt, alloc, &log);
     for (client, id, told) in &RESULTS {
-        check_answer(rt, executor.result(*client, *id), *told);
+        let answer = executor.result(*client, *id);
+        assert!(rt; is_told(answer, *told), "{id} of {client}");
     }
 }
 

@@ -1,133 +1,125 @@
-use crate::rows::bytes_of;
 use kv_host::KvHost;
 use nop_types::Host;
 use std::alloc::Global;
 use std::process::Abort;
 
-/// An op, and the answer to it, one after the other. An op is its letter and its fields; `k*64` is a field of 64 bytes, and a dash
-/// one without bytes.
-const OPS: &str = "\
-G k = none
-D k = none
-C k - v = no
-G k = none
-P k v = none
-G k = =v
-G K = none
-G kk = none
-P k ww = =v
-C k v x = no
-G k = =ww
-C k ww x = yes
-G k = =x
-C k x - = yes
-G k = =
-C k - y = yes
-P j - = none
-G j = =
-P j z = =
-D k = =y
-D k = none
-G k = none
-C k y x = no
-P k v = none
-G j = =z
-g k = bad
-G - = bad
-G = bad
-G k v = bad
-P k = bad
-P - v = bad
-P k v - = bad
-C k v = bad
-C k v w - = bad
-G k = =v
-P k*64 v*256 = none
-G k*65 = bad
-P k*65 v = bad
-D k*65 = bad
-C k*65 v w = bad
-P k*64 v*257 = bad
-C k*64 v*257 w = bad
-C k*64 v*256 w*257 = bad
-C k*64 v*256 w*256 = yes
-C k*64 w*256 v = yes
-G k*64 = =v";
+/// An op, and the answer to it, one after the other. An op is its letter and its fields, each after its length in two bytes.
+const OPS: [(&[u8], &[u8]); 40] = [
+    (b"G\0\x01k", b"none"),
+    (b"D\0\x01k", b"none"),
+    (b"C\0\x01k\0\0\0\x01v", b"no"),
+    (b"G\0\x01k", b"none"),
+    (b"P\0\x01k\0\x01v", b"none"),
+    (b"G\0\x01k", b"=v"),
+    (b"G\0\x01K", b"none"),
+    (b"G\0\x02kk", b"none"),
+    (b"P\0\x01k\0\x02ww", b"=v"),
+    (b"C\0\x01k\0\x01v\0\x01x", b"no"),
+    (b"G\0\x01k", b"=ww"),
+    (b"C\0\x01k\0\x02ww\0\x01x", b"yes"),
+    (b"G\0\x01k", b"=x"),
+    (b"C\0\x01k\0\x01x\0\0", b"yes"),
+    (b"G\0\x01k", b"="),
+    (b"C\0\x01k\0\0\0\x01y", b"yes"),
+    (b"P\0\x01j\0\0", b"none"),
+    (b"G\0\x01j", b"="),
+    (b"P\0\x01j\0\x01z", b"="),
+    (b"D\0\x01k", b"=y"),
+    (b"D\0\x01k", b"none"),
+    (b"G\0\x01k", b"none"),
+    (b"C\0\x01k\0\x01y\0\x01x", b"no"),
+    (b"P\0\x01k\0\x01v", b"none"),
+    (b"G\0\x01j", b"=z"),
+    (b"g\0\x01k", b"bad"),
+    (b"G\0\0", b"bad"),
+    (b"G", b"bad"),
+    (b"G\0\x01k\0\x01v", b"bad"),
+    (b"P\0\x01k", b"bad"),
+    (b"P\0\0\0\x01v", b"bad"),
+    (b"P\0\x01k\0\x01v\0\0", b"bad"),
+    (b"C\0\x01k\0\x01v", b"bad"),
+    (b"C\0\x01k\0\x01v\0\x01w\0\0", b"bad"),
+    (b"G\0\x01k", b"=v"),
+    // Bytes that no op spells: none, and these.
+    (b"", b"bad"),
+    (b"G", b"bad"),
+    (b"G\0\x02k", b"bad"),
+    (b"G\0\x01k\0", b"bad"),
+    (b"P\0\x01k\0\x01vv", b"bad"),
+];
 
-/// Bytes that no op spells: none, and these.
-const SHORT: &str = "\
-47
-47 0002 6b
-47 0001 6b 00
-50 0001 6b 0001 76 76";
-
-/// Adds the length of a field.
-fn put_len(rt: &impl Abort, len: usize, to: &mut Vec<u8>) {
-    let len = u16::try_from(len).expect(rt, "a short field");
-    to.extend_from_slice(&len.to_be_bytes())
-        .expect(rt, "memory");
-}
+/// Ops with long fields, which come after those, and the answers to them. A field is a byte, and how often it stands there.
+const LONG: [(u8, &[(u8, u16)], &[u8]); 11] = [
+    (b'P', &[(b'k', 64), (b'v', 256)], b"none"),
+    (b'G', &[(b'k', 65)], b"bad"),
+    (b'P', &[(b'k', 65), (b'v', 1)], b"bad"),
+    (b'D', &[(b'k', 65)], b"bad"),
+    (b'C', &[(b'k', 65), (b'v', 1), (b'w', 1)], b"bad"),
+    (b'P', &[(b'k', 64), (b'v', 257)], b"bad"),
+    (b'C', &[(b'k', 64), (b'v', 257), (b'w', 1)], b"bad"),
+    (b'C', &[(b'k', 64), (b'v', 256), (b'w', 257)], b"bad"),
+    (b'C', &[(b'k', 64), (b'v', 256), (b'w', 256)], b"yes"),
+    (b'C', &[(b'k', 64), (b'w', 256), (b'v', 1)], b"yes"),
+    (b'G', &[(b'k', 64)], b"=v"),
+];
 
 /// Adds a field, which begins with its length.
-fn put_field(rt: &impl Abort, word: &str, to: &mut Vec<u8>) {
-    let (piece, count) = word.split_once('*').unwrap_or((word, "1"));
-    let count = count.parse::<usize>().expect(rt, "a number");
-    put_len(rt, count.saturating_mul(piece.len()), to);
-    for _ in 0..count {
-        to.extend_from_slice(piece.as_bytes()).expect(rt, "memory");
+fn put_field(rt: &impl Abort, byte: u8, len: u16, to: &mut Vec<u8>) {
+    to.extend_from_slice(&len.to_be_bytes())
+        .expect(rt, "memory");
+    for _ in 0..len {
+        to.push(byte).expect(rt, "memory");
     }
 }
 
 /// The bytes of an op.
-fn spelled(rt: &impl Abort, alloc: Global, op: &str) -> Vec<u8> {
-    let (letter, fields) = op.split_once(' ').unwrap_or((op, ""));
-    let mut bytes = letter.as_bytes().to_vec(alloc).expect(rt, "memory");
-    for word in fields.split(' ') {
-        match word {
-            "" => {}
-            "-" => put_len(rt, 0, &mut bytes),
-            _ => put_field(rt, word, &mut bytes),
-        }
+fn spelled(rt: &impl Abort, alloc: Global, letter: u8, fields: &[(u8, u16)]) -> Vec<u8> {
+    let mut bytes = Vec::new(alloc);
+    bytes.push(letter).expect(rt, "memory");
+    for (byte, len) in fields {
+        put_field(rt, *byte, *len, &mut bytes);
     }
     bytes
 }
 
-fn check_answer<H: Host>(rt: &impl Abort, host: &mut H, op: &[u8], told: &str) {
+/// The host gives this answer to an op.
+fn answers<H: Host>(rt: &impl Abort, host: &mut H, op: &[u8], told: &[u8]) -> bool {
     let (answer, _undo) = host.apply(op).expect(rt, "memory");
-    assert!(rt; answer.as_slice() == told.as_bytes(), "{told}");
+    answer.as_slice() == told
 }
 
-fn check_op<H: Host>(rt: &impl Abort, alloc: Global, host: &mut H, row: &str) {
-    let (op, told) = row.split_once(" = ").expect(rt, "a row");
-    check_answer(rt, host, &spelled(rt, alloc, op), told);
+fn check_ops<H: Host>(rt: &impl Abort, host: &mut H) {
+    for (row, (op, told)) in OPS.iter().enumerate() {
+        assert!(rt; answers(rt, host, op, told), "row {row}");
+    }
 }
 
-fn check_ops<H: Host>(rt: &impl Abort, alloc: Global) {
+fn check_long<H: Host>(rt: &impl Abort, alloc: Global, host: &mut H) {
+    for (row, (letter, fields, told)) in LONG.iter().enumerate() {
+        let op = spelled(rt, alloc, *letter, fields);
+        assert!(rt; answers(rt, host, &op, told), "row {row}");
+    }
+}
+
+fn check_host<H: Host>(rt: &impl Abort, alloc: Global) {
     let mut host = H::fresh(alloc).expect(rt, "memory");
-    for row in OPS.lines() {
-        check_op(rt, alloc, &mut host, row);
-    }
-    check_answer(rt, &mut host, b"", "bad");
-    for row in SHORT.lines() {
-        check_answer(rt, &mut host, &bytes_of(rt, alloc, row), "bad");
-    }
+    check_ops(rt, &mut host);
+    check_long(rt, alloc, &mut host);
 }
 
 #[test]
-fn answers(rt: HostRuntime) {
-    check_ops::<KvHost>(&rt, rt.alloc());
+fn ops(rt: HostRuntime) {
+    check_host::<KvHost>(&rt, rt.alloc());
 }
 
 /// An op is undone in a host, and not in a copy of it: what both then answer to another one.
 fn check_undo<H: Host>(rt: &impl Abort, alloc: Global) {
     let mut host = H::fresh(alloc).expect(rt, "memory");
-    let (_answer, undo) = host
-        .apply(&spelled(rt, alloc, "P k v"))
-        .expect(rt, "memory");
+    let (_answer, undo) = host.apply(b"P\0\x01k\0\x01v").expect(rt, "memory");
     let mut copy = host.copy().expect(rt, "memory");
     host.undo(undo);
-    check_op(rt, alloc, &mut host, "G k = none");
-    check_op(rt, alloc, &mut copy, "G k = =v");
+    assert!(rt; answers(rt, &mut host, b"G\0\x01k", b"none"));
+    assert!(rt; answers(rt, &mut copy, b"G\0\x01k", b"=v"));
 }
 
 #[test]

@@ -12,6 +12,6 @@ mod logs;
 #[cfg(test)]
 mod receiving;
 #[cfg(test)]
-mod rows;
+mod requests;
 #[cfg(test)]
 mod votes;

@@ -1,4 +1,4 @@
-use crate::rows::{check_text, numbers, put_line, request};
+use crate::requests::request;
 use nop_types::{Entry, Log, MAX_SLOTS, Request};
 use replica_log::ReplicaLog;
 use slot_lookup::{Answer, answer};
@@ -24,22 +24,27 @@ pub fn log_of(rt: &impl Abort, alloc: Global, ids: &[u64]) -> Log {
     Log::from_vec(entries)
 }
 
-/// Adds the ids of entries, 0 for a NO-OP, each with a space before it.
-pub fn put_ids(rt: &impl Abort, alloc: Global, entries: &[Entry], to: &mut String) {
-    for entry in entries {
-        let id = match entry {
-            Entry::NoOp => 0,
-            Entry::Req(request) => request.id,
-        };
-        let text = format!(in alloc; " {id}").expect(rt, "memory");
-        to.push_str(&text).expect(rt, "memory");
+/// The entries have these ids, 0 for a NO-OP.
+pub fn is_log(entries: &[Entry], ids: &[u64]) -> bool {
+    if entries.len() != ids.len() {
+        return false;
     }
+    for (entry, id) in entries.iter().zip(ids) {
+        let same = match entry {
+            Entry::NoOp => *id == 0,
+            Entry::Req(request) => request.id == *id,
+        };
+        if !same {
+            return false;
+        }
+    }
+    true
 }
 
 /// A replica's log with these ids.
-fn adopted(rt: &impl Abort, alloc: Global, row: &str) -> ReplicaLog {
+fn adopted(rt: &impl Abort, alloc: Global, ids: &[u64]) -> ReplicaLog {
     let mut log = ReplicaLog::new(alloc);
-    log.adopt(log_of(rt, alloc, &numbers(rt, alloc, row)));
+    log.adopt(log_of(rt, alloc, ids));
     log
 }
 
@@ -48,51 +53,36 @@ fn entries(rt: HostRuntime) {
     let alloc = rt.alloc();
     let empty = ReplicaLog::new(alloc);
     assert!(rt; empty.is_empty() && empty.has_room());
-    let mut log = adopted(&rt, alloc, "1 2");
+    let mut log = adopted(&rt, alloc, &[1, 2]);
     assert!(rt; log.has_room());
     log.append(entry(&rt, alloc, 3)).expect(&rt, "memory");
     assert!(rt; log.len() == 3);
     log.put_noop(2);
     assert!(rt; log.at(0).is_none() && matches!(log.at(2), Some(Entry::NoOp)));
-    let mut ids = String::new(alloc);
-    put_ids(
-        &rt,
-        alloc,
-        log.copy(2).expect(&rt, "memory").as_slice(),
-        &mut ids,
-    );
-    check_text(&rt, &ids, " 1 0");
+    let copy = log.copy(2).expect(&rt, "memory");
+    assert!(rt; is_log(copy.as_slice(), &[1, 0]));
 }
 
 /// An own log, another one, how many slots are appended where that is laid over, and what the log is then.
-const OVERLAYS: &str = "\
-1 2 3 | 4 0 = 0 4 0 3
-1 2 | 4 5 = 0 4 5
-1 | 4 5 0 = 2 4 5 0
- | 4 = 1 4
-1 0 | = 0 1 0
-";
-
-/// Adds two logs as they are written, and what came of them.
-fn put_overlay(rt: &impl Abort, alloc: Global, row: &str, to: &mut String) {
-    let (logs, _told) = row.split_once(" =").expect(rt, "a row");
-    let (own, other) = logs.split_once('|').expect(rt, "two logs");
-    let mut log = adopted(rt, alloc, own);
-    let other = log_of(rt, alloc, &numbers(rt, alloc, other));
-    let added = log.overlay(&other).expect(rt, "memory");
-    let text = format!(in alloc; "{logs} = {added}").expect(rt, "memory");
-    to.push_str(&text).expect(rt, "memory");
-    put_ids(rt, alloc, log.as_slice(), to);
-    put_line(rt, "", to);
-}
+const OVERLAYS: [(&[u64], &[u64], u32, &[u64]); 5] = [
+    (&[1, 2, 3], &[4, 0], 0, &[4, 0, 3]),
+    (&[1, 2], &[4, 5], 0, &[4, 5]),
+    (&[1], &[4, 5, 0], 2, &[4, 5, 0]),
+    (&[], &[4], 1, &[4]),
+    (&[1, 0], &[], 0, &[1, 0]),
+];
 
 #[test]
 fn overlays(rt: HostRuntime) {
-    let mut given = String::new(rt.alloc());
-    for row in OVERLAYS.lines() {
-        put_overlay(&rt, rt.alloc(), row, &mut given);
+    for (row, (own, other, added, told)) in OVERLAYS.iter().enumerate() {
+        let mut log = adopted(&rt, rt.alloc(), own);
+        let other = log_of(&rt, rt.alloc(), other);
+        let given = log.overlay(&other).expect(&rt, "memory");
+        assert!(rt;
+            given == *added && is_log(log.as_slice(), told),
+            "row {row}"
+        );
     }
-    check_text(&rt, &given, OVERLAYS);
 }
 
 fn name(answer: Answer<'_>) -> &'static str {
@@ -106,23 +96,19 @@ fn name(answer: Answer<'_>) -> &'static str {
 }
 
 /// The slot that is asked for, the answer with two entries in the log, and the answer where votes for a gap are waited for.
-const LOOKUPS: &str = "\
-0 nothing nothing
-1 found found
-2 gap again gap again
-3 begin nothing
-4 nothing nothing
-";
+const LOOKUPS: [(u32, &str, &str); 5] = [
+    (0, "nothing", "nothing"),
+    (1, "found", "found"),
+    (2, "gap again", "gap again"),
+    (3, "begin", "nothing"),
+    (4, "nothing", "nothing"),
+];
 
 #[test]
 fn lookups(rt: HostRuntime) {
-    let log = adopted(&rt, rt.alloc(), "9 0");
-    let mut given = String::new(rt.alloc());
-    for slot in 0..5 {
-        let first = name(answer(&log, false, slot));
-        let second = name(answer(&log, true, slot));
-        let line = format!(in rt.alloc(); "{slot} {first} {second}");
-        put_line(&rt, &line.expect(&rt, "memory"), &mut given);
+    let log = adopted(&rt, rt.alloc(), &[9, 0]);
+    for (slot, first, second) in &LOOKUPS {
+        assert!(rt; name(answer(&log, false, *slot)) == *first, "slot {slot}");
+        assert!(rt; name(answer(&log, true, *slot)) == *second, "slot {slot}");
     }
-    check_text(&rt, &given, LOOKUPS);
 }

@@ -1,6 +1,6 @@
 ghost use Rattle.nop_types.specs.Ranges.{StampedFits};
 
-use crate::rows::{check_text, put_line, request};
+use crate::requests::request;
 use nop_types::{MAX_QUEUED, NUMBER_END, Stamped};
 use oum_receiver::{Receiver, Upcall, Verdict};
 use std::alloc::Global;
@@ -39,24 +39,34 @@ fn take_front(rt: &impl Abort, receiver: &mut Receiver) {
     receiver.take_front();
 }
 
-/// Carries out a call; a packet is offered, and its verdict is told.
-fn carry_out(
-    rt: &impl Abort,
-    alloc: Global,
-    receiver: &mut Receiver,
-    call: &str,
-    session: u32,
-    number: u64,
-) -> Option<Verdict> {
-    assert!(rt; number <= NUMBER_END);
+/// A call of a receiver, with its arguments. A packet is offered by its session and its number, with the verdict on it.
+#[derive(Clone, Copy)]
+enum Call {
+    Offer(u32, u64, Verdict),
+    Message,
+    Front,
+    Advance(u64),
+    Reset(u32, u64),
+}
+
+/// Carries out a call, and tells whether a packet has the verdict that is told.
+fn carry_out(rt: &impl Abort, alloc: Global, receiver: &mut Receiver, call: Call) -> bool {
     match call {
-        "offer" => return Some(offer(rt, alloc, receiver, session, number)),
-        "message" => drop(receiver.take_message()),
-        "advance" => receiver.advance(number),
-        "reset" => receiver.reset(session, number),
-        _ => take_front(rt, receiver),
+        Call::Offer(session, number, told) => {
+            return offer(rt, alloc, receiver, session, number) == told;
+        }
+        Call::Message => drop(receiver.take_message()),
+        Call::Front => take_front(rt, receiver),
+        Call::Advance(next) => {
+            assert!(rt; next <= NUMBER_END);
+            receiver.advance(next);
+        }
+        Call::Reset(session, next) => {
+            assert!(rt; next <= NUMBER_END);
+            receiver.reset(session, next);
+        }
     }
-    None
+    true
 }
 
 /// The id of the request in front, 0 at a drop.
@@ -67,65 +77,60 @@ fn front(receiver: &Receiver) -> Option<u64> {
     }
 }
 
-/// A call with a session and a number, and the verdict, the session, the next number and the front then: in order, out of order with a
-/// packet that comes twice, other sessions, a drop, down and up past some of what is queued, another session, the last number.
-const CALLS: &str = "\
-message 0 0 = None (2, 1) None
-offer 2 1 = Some(Queued) (2, 1) Some(1)
-front 0 0 = None (2, 2) None
-offer 2 4 = Some(Queued) (2, 2) Some(0)
-offer 2 3 = Some(Queued) (2, 2) Some(0)
-offer 2 4 = Some(Old) (2, 2) Some(0)
-message 0 0 = None (2, 2) Some(0)
-offer 2 2 = Some(Queued) (2, 2) Some(2)
-message 0 0 = None (2, 3) Some(3)
-offer 2 2 = Some(Old) (2, 3) Some(3)
-message 0 0 = None (2, 4) Some(4)
-offer 1 9 = Some(Old) (2, 4) Some(4)
-offer 3 1 = Some(Terminated(3)) (2, 4) Some(4)
-offer 2 6 = Some(Queued) (2, 4) Some(4)
-front 0 0 = None (2, 5) Some(0)
-front 0 0 = None (2, 6) Some(6)
-offer 2 5 = Some(Old) (2, 6) Some(6)
-advance 0 5 = None (2, 5) Some(0)
-offer 2 5 = Some(Queued) (2, 5) Some(5)
-offer 2 8 = Some(Queued) (2, 5) Some(5)
-advance 0 7 = None (2, 7) Some(0)
-offer 2 6 = Some(Old) (2, 7) Some(0)
-advance 0 6 = None (2, 6) Some(0)
-offer 2 6 = Some(Queued) (2, 6) Some(6)
-advance 0 9 = None (2, 9) None
-offer 2 9 = Some(Queued) (2, 9) Some(9)
-reset 3 9 = None (3, 9) None
-offer 2 9 = Some(Old) (3, 9) None
-offer 3 9 = Some(Queued) (3, 9) Some(9)
-advance 0 281474976710655 = None (3, 281474976710655) None
-offer 3 281474976710655 = Some(Queued) (3, 281474976710655) Some(281474976710655)
-front 0 0 = None (3, 281474976710656) None
-";
+/// The last message number of a session.
+const LAST: u64 = 281_474_976_710_655;
 
-/// A call as it is written, and what came of it.
-fn put_call(rt: &impl Abort, alloc: Global, receiver: &mut Receiver, row: &str, to: &mut String) {
-    let (written, _told) = row.split_once(" = ").expect(rt, "a row");
-    let (call, numbers) = written.split_once(' ').expect(rt, "a call");
-    let (session, number) = numbers.split_once(' ').expect(rt, "two numbers");
-    let session = session.parse::<u32>().expect(rt, "a number");
-    let number = number.parse::<u64>().expect(rt, "a number");
-    let verdict = carry_out(rt, alloc, receiver, call, session, number);
-    let (session, next) = (receiver.session(), receiver.next());
-    let front = front(receiver);
-    let text = format!(in alloc; "{written} = {verdict:?} ({session}, {next}) {front:?}");
-    put_line(rt, &text.expect(rt, "memory"), to);
-}
+/// A call, and the session, the next number and the front then: in order, out of order with a packet that comes twice, other sessions,
+/// a drop, down and up past some of what is queued, another session, the last number.
+const CALLS: [(Call, u32, u64, Option<u64>); 32] = [
+    (Call::Message, 2, 1, None),
+    (Call::Offer(2, 1, Verdict::Queued), 2, 1, Some(1)),
+    (Call::Front, 2, 2, None),
+    (Call::Offer(2, 4, Verdict::Queued), 2, 2, Some(0)),
+    (Call::Offer(2, 3, Verdict::Queued), 2, 2, Some(0)),
+    (Call::Offer(2, 4, Verdict::Old), 2, 2, Some(0)),
+    (Call::Message, 2, 2, Some(0)),
+    (Call::Offer(2, 2, Verdict::Queued), 2, 2, Some(2)),
+    (Call::Message, 2, 3, Some(3)),
+    (Call::Offer(2, 2, Verdict::Old), 2, 3, Some(3)),
+    (Call::Message, 2, 4, Some(4)),
+    (Call::Offer(1, 9, Verdict::Old), 2, 4, Some(4)),
+    (Call::Offer(3, 1, Verdict::Terminated(3)), 2, 4, Some(4)),
+    (Call::Offer(2, 6, Verdict::Queued), 2, 4, Some(4)),
+    (Call::Front, 2, 5, Some(0)),
+    (Call::Front, 2, 6, Some(6)),
+    (Call::Offer(2, 5, Verdict::Old), 2, 6, Some(6)),
+    (Call::Advance(5), 2, 5, Some(0)),
+    (Call::Offer(2, 5, Verdict::Queued), 2, 5, Some(5)),
+    (Call::Offer(2, 8, Verdict::Queued), 2, 5, Some(5)),
+    (Call::Advance(7), 2, 7, Some(0)),
+    (Call::Offer(2, 6, Verdict::Old), 2, 7, Some(0)),
+    (Call::Advance(6), 2, 6, Some(0)),
+    (Call::Offer(2, 6, Verdict::Queued), 2, 6, Some(6)),
+    (Call::Advance(9), 2, 9, None),
+    (Call::Offer(2, 9, Verdict::Queued), 2, 9, Some(9)),
+    (Call::Reset(3, 9), 3, 9, None),
+    (Call::Offer(2, 9, Verdict::Old), 3, 9, None),
+    (Call::Offer(3, 9, Verdict::Queued), 3, 9, Some(9)),
+    (Call::Advance(LAST), 3, LAST, None),
+    (Call::Offer(3, LAST, Verdict::Queued), 3, LAST, Some(LAST)),
+    (Call::Front, 3, LAST + 1, None),
+];
 
 #[test]
 fn calls(rt: HostRuntime) {
     let mut receiver = Receiver::new(rt.alloc(), 2, 1).expect(&rt, "memory");
-    let mut given = String::new(rt.alloc());
-    for row in CALLS.lines() {
-        put_call(&rt, rt.alloc(), &mut receiver, row, &mut given);
+    for (row, (call, session, next, told)) in CALLS.iter().enumerate() {
+        assert!(rt;
+            carry_out(&rt, rt.alloc(), &mut receiver, *call),
+            "row {row}"
+        );
+        assert!(rt;
+            receiver.session() == *session && receiver.next() == *next,
+            "row {row}"
+        );
+        assert!(rt; front(&receiver) == *told, "row {row}");
     }
-    check_text(&rt, &given, CALLS);
 }
 
 #[test]
