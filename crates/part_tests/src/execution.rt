@@ -7,49 +7,50 @@ use replica_log::ReplicaLog;
 use std::alloc::Global;
 use std::process::Abort;
 
-/// What a verdict says, and the answer that it has.
-fn said<'a>(verdict: Judged<'a>) -> (&'static str, &'a [u8]) {
-    match verdict {
-        Judged::Fresh => ("fresh", b""),
-        Judged::Same(answer) => ("same", answer.as_slice()),
-        Judged::Stale => ("stale", b""),
+/// The answer is the one that is told.
+fn is_told(answer: Option<&Bytes>, told: Option<&[u8]>) -> bool {
+    match (answer, told) {
+        (Some(answer), Some(told)) => answer.as_slice() == told,
+        (None, None) => true,
+        _ => false,
     }
 }
 
-fn check_verdict(rt: &impl Abort, table: &ClientTable, client: u32, id: u64, told: (&str, &[u8])) {
-    let (name, answer) = said(table.judge(client, id));
-    assert!(rt; name == told.0 && answer == told.1, "{id} of {client}");
+fn is_fresh(table: &ClientTable, client: u32, id: u64) -> bool {
+    matches!(table.judge(client, id), Judged::Fresh)
 }
 
 /// A client, an id, and the verdict, where the last id of client 7 is 5.
 #[test]
 fn last_answers(rt: HostRuntime) {
     let mut table = ClientTable::new(rt.alloc());
-    check_verdict(&rt, &table, 7, 5, ("fresh", b""));
     let Judged::Fresh = table.judge(7, 5) else {
         panic!(rt; "not fresh")
     };
     let answer = Bytes::new(rt.alloc(), b"=v").expect(&rt, "memory");
     let kept = table.keep(7, 5, answer).expect(&rt, "memory");
-    check_verdict(&rt, &table, 7, 4, ("stale", b""));
-    check_verdict(&rt, &table, 7, 5, ("same", b"=v"));
-    check_verdict(&rt, &table, 7, 6, ("fresh", b""));
-    check_verdict(&rt, &table, 6, 5, ("fresh", b""));
-    check_verdict(&rt, &table, u32::MAX, u64::MAX, ("fresh", b""));
+    assert!(rt; matches!(table.judge(7, 4), Judged::Stale));
+    let Judged::Same(answer) = table.judge(7, 5) else {
+        panic!(rt; "not the same")
+    };
+    assert!(rt; is_told(Some(answer), Some(b"=v")));
+    assert!(rt; is_fresh(&table, 7, 6));
+    assert!(rt; is_fresh(&table, 6, 5));
+    assert!(rt; is_fresh(&table, u32::MAX, u64::MAX));
     table.unkeep(kept);
-    check_verdict(&rt, &table, 7, 5, ("fresh", b""));
+    assert!(rt; is_fresh(&table, 7, 5));
 }
 
-/// A log: a NO-OP, or a client, an id and an op.
-const SLOTS: [Option<(u32, u64, &[u8])>; 8] = [
-    None,
-    Some((1, 2, b"P\0\x01k\0\x01v")),
-    None,
-    Some((1, 2, b"P\0\x01k\0\x01v")),
-    Some((1, 1, b"D\0\x01k")),
-    Some((2, 1, b"G\0\x01k")),
-    Some((3, 1, b"D\0\x01k")),
-    Some((4, 1, b"G\0\x01k")),
+/// The entries of a log: a client, an id and an op, or a NO-OP for the id 0.
+const SLOTS: [(u32, u64, &[u8]); 8] = [
+    (0, 0, b""),
+    (1, 2, b"P\0\x01k\0\x01v"),
+    (0, 0, b""),
+    (1, 2, b"P\0\x01k\0\x01v"),
+    (1, 1, b"D\0\x01k"),
+    (2, 1, b"G\0\x01k"),
+    (3, 1, b"D\0\x01k"),
+    (4, 1, b"G\0\x01k"),
 ];
 
 /// The last answers: an id that is not the last one of its client has none.
@@ -63,18 +64,19 @@ const RESULTS: [(u32, u64, Option<&[u8]>); 7] = [
     (0, 0, None),
 ];
 
-fn entry(rt: &impl Abort, alloc: Global, slot: &Option<(u32, u64, &[u8])>) -> Entry {
-    match slot {
-        None => Entry::NoOp,
-        Some((client, id, op)) => Entry::Req(request(rt, alloc, *client, *id, op)),
+fn entry(rt: &impl Abort, alloc: Global, client: u32, id: u64, op: &[u8]) -> Entry {
+    if id == 0 {
+        return Entry::NoOp;
     }
+    Entry::Req(request(rt, alloc, client, id, op))
 }
 
 fn log_of_slots(rt: &impl Abort, alloc: Global) -> ReplicaLog {
     let mut log = ReplicaLog::new(alloc);
-    for slot in &SLOTS {
+    for (client, id, op) in &SLOTS {
         assert!(rt; log.has_room());
-        log.append(entry(rt, alloc, slot)).expect(rt, "memory");
+        log.append(entry(rt, alloc, *client, *id, op))
+            .expect(rt, "memory");
     }
     log
 }
@@ -88,15 +90,6 @@ fn executed_again<H: Host>(rt: &impl Abort, alloc: Global, log: &ReplicaLog) -> 
     assert!(rt; executor.executed() == 1 && executor.result(2, 1).is_none());
     executor.run_to(log, log.len()).expect(rt, "memory");
     executor
-}
-
-/// The answer is the one that is told.
-fn is_told(answer: Option<&Bytes>, told: Option<&[u8]>) -> bool {
-    match (answer, told) {
-        (Some(answer), Some(told)) => answer.as_slice() == told,
-        (None, None) => true,
-        _ => false,
-    }
 }
 
 fn check_results<H: Host>(rt: &impl Abort, alloc: Global) {

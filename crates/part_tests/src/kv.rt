@@ -49,7 +49,7 @@ const OPS: [(&[u8], &[u8]); 40] = [
 ];
 
 /// Ops with long fields, which come after those, and the answers to them. A field is a byte, and how often it stands there.
-const LONG: [(u8, &[(u8, u16)], &[u8]); 11] = [
+const LONG: [(u8, &[(u8, u64)], &[u8]); 11] = [
     (b'P', &[(b'k', 64), (b'v', 256)], b"none"),
     (b'G', &[(b'k', 65)], b"bad"),
     (b'P', &[(b'k', 65), (b'v', 1)], b"bad"),
@@ -63,17 +63,17 @@ const LONG: [(u8, &[(u8, u16)], &[u8]); 11] = [
     (b'G', &[(b'k', 64)], b"=v"),
 ];
 
-/// Adds a field, which begins with its length.
-fn put_field(rt: &impl Abort, byte: u8, len: u16, to: &mut Vec<u8>) {
-    to.extend_from_slice(&len.to_be_bytes())
-        .expect(rt, "memory");
+/// Adds a field, which begins with its length in two bytes.
+fn put_field(rt: &impl Abort, byte: u8, len: u64, to: &mut Vec<u8>) {
+    to.push((len / 256 % 256) as u8).expect(rt, "memory");
+    to.push((len % 256) as u8).expect(rt, "memory");
     for _ in 0..len {
         to.push(byte).expect(rt, "memory");
     }
 }
 
 /// The bytes of an op.
-fn spelled(rt: &impl Abort, alloc: Global, letter: u8, fields: &[(u8, u16)]) -> Vec<u8> {
+fn spelled(rt: &impl Abort, alloc: Global, letter: u8, fields: &[(u8, u64)]) -> Vec<u8> {
     let mut bytes = Vec::new(alloc);
     bytes.push(letter).expect(rt, "memory");
     for (byte, len) in fields {
