@@ -95,9 +95,9 @@ fn executed_again<H: Host>(rt: &impl Abort, alloc: Global, log: &ReplicaLog) -> 
 fn check_results<H: Host>(rt: &impl Abort, alloc: Global) {
     let log = log_of_slots(rt, alloc);
     let executor: Executor<H> = executed_again(rt, alloc, &log);
-    for (client, id, told) in &RESULTS {
+    for (row, (client, id, told)) in RESULTS.iter().enumerate() {
         let answer = executor.result(*client, *id);
-        assert!(rt; is_told(answer, *told), "{id} of {client}");
+        assert!(rt; is_told(answer, *told), "row {row}");
     }
 }
 

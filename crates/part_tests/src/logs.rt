@@ -107,8 +107,8 @@ const LOOKUPS: [(u32, &str, &str); 5] = [
 #[test]
 fn lookups(rt: HostRuntime) {
     let log = adopted(&rt, rt.alloc(), &[9, 0]);
-    for (slot, first, second) in &LOOKUPS {
-        assert!(rt; name(answer(&log, false, *slot)) == *first, "slot {slot}");
-        assert!(rt; name(answer(&log, true, *slot)) == *second, "slot {slot}");
+    for (row, (slot, first, second)) in LOOKUPS.iter().enumerate() {
+        assert!(rt; name(answer(&log, false, *slot)) == *first, "row {row}");
+        assert!(rt; name(answer(&log, true, *slot)) == *second, "row {row}");
     }
 }
