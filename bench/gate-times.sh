@@ -9,8 +9,8 @@
 # `taskset -c 0,1` two go on at a time, as on a machine with two processors.
 #
 # A crate has the seconds of all its processes together, each with the last figures that were seen of it, five times a second, and the
-# memory of its largest process. Proof: the crate itself. Tests: the crate proved once more with its tests. Edits: each
-# must-fail edit. What `rt` does beside them, runs of tests and programs, and checks/*.sh are in the last line alone. Lines of code have
+# memory of its largest process. Proof: the crate itself, and what builds a program. Tests: the crate proved once more with its tests, and
+# what builds them. Edits: each must-fail edit. What `rt` does beside them, runs of tests and programs, and checks/*.sh are in the last line alone. Lines of code have
 # the contracts and no tests. `rt selftest`, which proves and builds one example of the toolchain, runs first, and its seconds stand below the
 # table: how fast the machine is by itself.
 set -eu
@@ -139,8 +139,8 @@ try:
             file.write(f"""# Times of the gate
 
 Lines, and what the gate takes for each crate from nothing, in seconds of all processors together, as `bench/gate-times.sh`
-saw it: the proof of the crate; its must-fail edits; its tests, with the crate proved once more. Lines of code have
-the contracts and no tests.
+saw it: the proof of the crate, for a program (`nopaxos`, `spacetime`) with what builds it twice; its must-fail edits; its
+tests, with the crate proved once more and what builds them. Lines of code have the contracts and no tests.
 
 {table_of(seen, crates)}
 
