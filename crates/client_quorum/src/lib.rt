@@ -1,4 +1,24 @@
-//! The client: one request is open at a time, and is accepted at f + 1 matching replies with the leader's.
+//! The client core: one request is open at a time, and is accepted at f + 1 matching replies with
+//! the leader's.
+//!
+//! `Client` meets `Core` with the step table `next`, from `opening` on; its state stays in its
+//! ranges. Whatever the inputs:
+//!
+//! - A reply to the open request makes it accept a result exactly where f + 1 kept replies, this
+//!   one with them, are of one view and slot, the leader's among them with that result
+//!   (`accepts_exactly_at_a_quorum`); so many replicas had replied so
+//!   (`accepts_what_replicas_replied`). What is kept is no quorum (`keeps_no_quorum`).
+//! - Each id is submitted once, in turn, and accepted at most once (`takes_turns`,
+//!   `uses_each_id_once`). Ops that wait are submitted in order; where no other op comes, none is
+//!   lost (`submits_waiting_ops_in_order`). `accepted` is the acceptance of the last request, or
+//!   None (`knows_the_last_request`).
+//! - What is not for it changes and sends nothing (`ignores_what_is_for_others`): malformed bytes,
+//!   a datagram that is no reply of a replica to its open request, and a tick for others.
+//!
+//! Calls: `Client::new`, `step` and others by the trait, `state`, `accepted`, `can_submit`.
+//!
+//! Files: `state`, `replies`, `rows`, `client`. Definitions: `specs/ClientSteps` (`next`),
+//! `KeptReplies`.
 #![tactic(auto)]
 
 mod client;

@@ -1,4 +1,14 @@
-//! The words of the command line, and the command that they ask for.
+//! The arguments of the command line, and the command that they ask for.
+//!
+//! `read_words` gives `command_of`: what the library `clap` finds in the arguments, with numbers
+//! and ranges read on top. It is None where `clap` refuses them or a value is out of its range.
+//! Each number of a command is in its range (`IsFit`).
+//!
+//! Calls, for `commands`: `read_words`; `Command`, `Site` (configuration, base port, turns) and
+//! `Ops::into_vec`.
+//!
+//! Files: `command`, `program` (the table that `clap` reads by), `reading`; `options`, `number` and
+//! `ops` below it. Definitions: `specs/Program`, `Commands`.
 #![tactic(auto)]
 
 mod command;

@@ -12,6 +12,9 @@ use nop_types::Config;
 /// The most turns of a cluster, which keeps each event.
 pub const MAX_CLUSTER_TURNS: u64 = 10_000;
 
+// A number that both code and definitions name would be proved whatever it was; so here it stands once more.
+const _: () = prove!(MAX_CLUSTER_TURNS == 10_000);
+
 /// The number that an option has, from a least to a greatest one. Where it is left out, what stands for it.
 fn value(
     matches: &ArgMatches<'_>,

@@ -1,2 +1,12 @@
-//! Facts on lists, slots, numbers, functions and views, for the proofs of the crates above.
+//! Lemmas for the proofs of the crates above: on members, places and prefixes of lists, on slots of
+//! logs, on numbers, on the order and the rank of views, and on a function of which one place
+//! changes (`put`, in `specs/Functions`). There is no code here, and no contract.
+//!
+//! A lemma that speaks of nothing else and serves in two files is here once; what std has is cited
+//! from std. An equation is named by its left side (`length-laid`), another lemma by what it gives.
+//! Tactics take the rule sets `order_of_views`, `rank_of_views`, `written_slots`, `laid_slots` and
+//! `laid_parts`.
+//!
+//! Files, in `proofs/`: `Members`, `Places`, `Prefixes`, `Slots`, `Numbers`, `Views`, `Functions`;
+//! `Limits` of a configuration, `Bools`, `Options`.
 #![tactic(auto)]

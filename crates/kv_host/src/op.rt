@@ -18,6 +18,9 @@ pub const DELETE: u8 = b'D';
 /// The first byte of a swap.
 pub const SWAP: u8 = b'C';
 
+// A byte that both code and definitions name would be proved whatever it was; so here each stands once more.
+const _: () = prove!(GET == 0x47 && PUT == 0x50 && DELETE == 0x44 && SWAP == 0x43);
+
 /// An op as it was read.
 #[derive(Clone, Copy)]
 pub enum KvOp<'a> {

@@ -7,7 +7,8 @@ use crate::{Input, NoMemory, Outbox, Tick};
 
 /// A state machine: one step takes one input and gives a new state and outputs. No clock, socket or thread is inside.
 pub trait Core {
-    /// What the step table speaks of.
+    /// What the step table speaks of. Of a core that has failed no clause says what it is: a step that runs out of memory may stop
+    /// anywhere.
     ghost State: { Type 0 };
 
     ghost state: { Self → State };

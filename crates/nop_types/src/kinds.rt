@@ -46,3 +46,30 @@ pub const SYNC_PREPARE: u8 = 23;
 pub const SYNC_REP: u8 = 24;
 
 pub const SYNC_COMMIT: u8 = 25;
+
+// A number that both code and definitions name would be proved whatever it was; so here each stands once more.
+const _: () = prove!(FIRST_MAGIC == 0x4e && SECOND_MAGIC == 0x4f && VERSION == 1);
+
+const _: () = prove!(
+    REQUEST == 1
+        && STAMPED == 2
+        && REPLY == 3
+        && INSTALL == 4
+        && INSTALLED == 5
+        && PING == 6
+        && PONG == 7
+        && FRAGMENT == 8
+);
+
+const _: () = prove!(
+    SLOT_LOOKUP == 16
+        && FOUND == 17
+        && GAP_COMMIT == 18
+        && GAP_REP == 19
+        && VIEW_CHANGE_REQ == 20
+        && VIEW_CHANGE == 21
+        && START_VIEW == 22
+        && SYNC_PREPARE == 23
+        && SYNC_REP == 24
+        && SYNC_COMMIT == 25
+);

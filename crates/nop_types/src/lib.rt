@@ -1,4 +1,23 @@
-//! The types that the crates share: messages, logs, inputs and outputs, and the traits of a core and a host.
+//! The types, limits and traits that crates share, and the definitions that several of them cite.
+//!
+//! `Core` is the contract of the four state machines. A `step` that answers Ok leaves the state,
+//! and appends the outputs, that the step table `next` gives for state and input. After a step that
+//! ran out of memory the outputs are as before, and each later step gives that answer again.
+//! `timer` and `done` are the table's.
+//!
+//! `Host` is the contract of a service. Its answers and states are those of `meaning`; an answer
+//! has at most `MAX_RESULT_BYTES` bytes; `undo` gives the state before an op, and `copy` a host in
+//! the same state.
+//!
+//! Besides, an `Op` has at most `MAX_OP_BYTES` bytes and a `Log` at most `MAX_SLOTS` entries;
+//! `Config::new` is None exactly outside the limits; `View::le` is the order of views by both
+//! parts, `View::join` the least view above two (law `join_is_least`), and `leader_of` one of the n
+//! replicas. In each crate, a call that takes memory may answer `NoMemory` instead.
+//!
+//! Files: `view`, `request`, `datagram`, `peer`, `output`, `core_trait`, `host`, `limits`.
+//! Definitions: `specs/Execution` (`exec`, what the execution of a log leaves), `Histories`
+//! (`history_of`: the requests that are executed), `Legality` (`Legal`: when lines agree with a
+//! history), `Ranges` (of each field of a message).
 #![tactic(auto)]
 
 mod bytes;

@@ -47,3 +47,23 @@ pub const MAX_LINE_BYTES: usize = 4096;
 
 /// The most lines of a schedule.
 pub const MAX_LINES: u32 = 1_000_000;
+
+// A number that both code and definitions name would be proved whatever it was; so here each stands once more.
+const _: () = prove!(
+    MAX_OP_BYTES == 640
+        && MAX_KEY_BYTES == 64
+        && MAX_VALUE_BYTES == 256
+        && MAX_RESULT_BYTES == 257
+        && MAX_SLOTS == 4096
+        && NUMBER_END == 281_474_976_710_656
+        && MAX_QUEUED == 1024
+        && MAX_FRAGMENTS == 2048
+        && FRAGMENT_BYTES == 1400
+        && MAX_UNFINISHED == 4
+        && MAX_DATAGRAM_BYTES == 1500
+        && MAX_REPLICAS == 7
+        && MAX_SEQUENCERS == 4
+        && MAX_CLIENTS == 16
+        && MAX_LINE_BYTES == 4096
+        && MAX_LINES == 1_000_000
+);

@@ -1,4 +1,18 @@
-//! Datagrams as bytes.
+//! The eight kinds of datagrams as bytes.
+//!
+//! `decode` answers the datagram that the bytes spell, with each field in its range, and for other
+//! bytes the first test, in the order of the format, that they fail; `read_datagram` answers None
+//! for these. `encode` appends the one spelling of a datagram that is in its ranges, and nothing on
+//! an error. What is spelled is read, what is read is spelled so, and different datagrams have
+//! different spellings (`spelled_is_read`, `read_is_spelled`, `spelling_is_injective`). `read_u16`
+//! and the other readers give the field at a place (`fields_are_read`, `read_fields_stand`).
+//!
+//! Calls: `read_datagram` and `send_datagram` for the cores; `encode_reply` and `put_fragment`,
+//! spellings in one piece; `put_..` and `split_..`, the fields that `peer_codec` has too.
+//!
+//! Files: `read`, `write`, `send`; `fields`, `fixed`; `bad` (the tests). Definitions:
+//! `specs/Spelling` (`Spells`, `spelling`), `Reading` (`reading`), `Fixed` (the fields of each
+//! kind), `Numbers`, `Places`.
 #![tactic(auto)]
 
 mod bad;

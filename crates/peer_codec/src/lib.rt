@@ -1,4 +1,17 @@
-//! Messages between replicas as bytes.
+//! The ten kinds of messages between replicas as bytes.
+//!
+//! `decode_peer` answers the message that the bytes spell, with each field in its range, and for
+//! other bytes the first test, in the order of the format, that they fail; `read_peer` answers None
+//! for these. `encode_peer` appends the one spelling of a message that is in its ranges, and
+//! nothing on an error; `encode_with_log` does so for a log that is borrowed. The three laws are
+//! those of `oum_codec`, said of messages: `spelled_is_read`, `read_is_spelled`,
+//! `spelling_is_injective`.
+//!
+//! Calls: `decode_peer`; `EncodedPeer`, a message that is kept by its spelling, with `new`,
+//! `with_log`, `sender`, `as_slice`; `LogBody`.
+//!
+//! Files: `read`, `write`, `encoded`; `fields`, `logs`, `lengths` and `log_body` below them;
+//! `bad_peer` (the tests). Definitions: `specs/Spelling`, `Reading`, `LogBodies`.
 #![tactic(auto)]
 
 mod bad_peer;

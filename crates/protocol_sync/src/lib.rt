@@ -1,5 +1,19 @@
-//! What the protocol's runs promise: replicas agree as far as they are synchronised, the lines are
-//! legal of one history, and all that was said is sound.
+//! What each run of the protocol promises, over any host.
+//!
+//! Of each run of moves from the initial configuration: any two replicas have the same entries up
+//! to both sync points, what a replica has up to its own begins the log from which the history is
+//! read, and the lines are legal of that history (`runs_are_safe`); all that was stamped, sent,
+//! logged, replied and accepted is sound (`runs_are_sound`); and no later move takes back what a
+//! run has reached (`runs_go_on`).
+//!
+//! It goes on where `protocol` ends: sync points have an invariant `Sync` of their own above `Inv`
+//! (`opening_is_synced`, `syncs_keep`), and they never fall (`sync_points_never_fall`). The parts
+//! of `runs_are_safe` are laws too: `synchronised_prefixes_agree`, `synchronised_prefixes_begin`,
+//! `lines_are_legal`. Where each StartView that is sent again has the start of its view, all have
+//! (`starts_stay_whole`).
+//!
+//! Files: `laws`. Definitions: `specs/Laws` (`Safe`, what the laws say), `Sound` (soundness part by
+//! part, `GoesOn`), `Synced` (`Sync`), `Whole`.
 #![tactic(auto)]
 
 mod laws;

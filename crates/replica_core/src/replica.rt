@@ -37,8 +37,13 @@ pub const WATCH_MILLIS: u64 = 1000;
 /// A replica that used this message number, or a greater one, takes no row any more. A step uses at most eight.
 pub const LAST_MESSAGE: u64 = u64::MAX - 8;
 
-// its value as STEPS.md has it, which no contract pins
-const _: () = prove!(LAST_MESSAGE == 18_446_744_073_709_551_607);
+// A number that both code and definitions name would be proved whatever it was; so here each stands once more.
+const _: () = prove!(
+    RESEND_MILLIS == 50
+        && SYNC_MILLIS == 100
+        && WATCH_MILLIS == 1000
+        && LAST_MESSAGE == 18_446_744_073_709_551_607
+);
 
 /// A replica with what its messages need, while it has not failed.
 #[derive(Drop)]

@@ -1,4 +1,13 @@
-//! The log that a replica keeps: a list of entries, by slots that count from 1.
+//! The log that a replica keeps: a list of at most 4,096 entries, by slots that count from 1.
+//!
+//! Each call gives what the list operation of its name gives: `append`, `at`, `put_noop`
+//! (`set_slot`), `adopt`, `overlay` (`laid`), `copy`. `common_front` is the length of the longest
+//! prefix, up to the most that is asked for, that two logs share. On an error the log is as before.
+//!
+//! Laws: `set_slot_by_slot` and `laid_by_slot` say what each slot has then, and
+//! `log_stays_in_ranges` that entries stay in their ranges.
+//!
+//! Files: `log`, `laws`. The definitions are those of `nop_types`: `Slots`, `Lists`.
 #![tactic(auto)]
 
 mod laws;

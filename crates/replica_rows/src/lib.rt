@@ -1,4 +1,23 @@
-//! The rows of a replica's step table over whole messages: its state, the execution of its log, and what it sends.
+//! The rows of a replica's step table over whole messages and over any host: stamped requests, gap
+//! agreement, view changes, synchronisation and ticks.
+//!
+//! Each row is a method of `Member` with one contract. Before it the member `IsRunning`: its state
+//! is in its ranges, and the executor has executed the first entries of its log. At Ok it `Does`
+//! the row: it runs on, its state is the one that the row's definition gives, and what the
+//! definition sends is appended. A leader's reply has the result of the log at its slot. After
+//! `take` the host has executed as many entries as `executed_to` says: a leader in Normal all of
+//! the log, any other replica those up to the sync point. After an error a member is not known to
+//! run.
+//!
+//! Laws: a row sends at most eight messages (`rows_send_few_messages`); a replica takes from its
+//! receiver only in Normal, with no gap that waits and with room in the log, and what is next there
+//! decides what it does (`drains_by_front`).
+//!
+//! Calls, for `replica_core`: `Member::new`; `Member::take`, which finds the row of an `Arrival`.
+//!
+//! Files: `member`, `arrivals` (which row), `leader`, `follower`, `view_changes`, `ticks`; what
+//! rows share is in `drain`, `entering`, `adopting`, `reply`, `execution`. Definitions:
+//! `specs/Rows`, one a row, `Messages` (`arrive`), `Within` (`IsRunning`, `Does`).
 #![tactic(auto)]
 
 mod adopting;

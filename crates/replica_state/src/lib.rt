@@ -1,4 +1,20 @@
-//! The state of a replica, what it sends, and what each of its moves makes of the state.
+//! The state of a replica, apart from the execution of its log and from how its messages travel;
+//! what it sends; and the moves of which its rows are made: queue, take, open a gap, enter a view,
+//! adopt a log and others.
+//!
+//! Each call that changes the state leaves, at Ok, what the definition of the move gives, and each
+//! call that sends appends what its definition says. On an error the state is as it was, and
+//! nothing more is sent. What is sent of a state that is in its ranges (`IsWithin`) is in its
+//! ranges. `may_adopt` takes what a view starts with only from the leader of that view.
+//!
+//! Calls, for `replica_rows`: `ReplicaState::opening`; `append`, `put_gap`, `ask`,
+//! `count_gap_vote`, `lay_over` (the log); `begin_session`, `queue`, `go_to`, `begin_gathering`,
+//! `take_part` (views); `send_to`, `send_to_all`, `tell_change`, `tell_start`, `send_short`,
+//! `send_result` (messages); the rows `sync_commit`, `resend` and `sync`, which neither execute nor
+//! drain. `Sends` is what one step sends, in order.
+//!
+//! Files: `state`, `sending`, `number`; `logging`, `views`, `telling`, `repeating`. Definitions:
+//! `specs/State`, `Sends` (`Effect`, `then_do`), `Moves`, `Repeating`, `Replies`, `Within`.
 #![tactic(auto)]
 
 mod logging;

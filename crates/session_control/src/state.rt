@@ -9,6 +9,9 @@ pub const RESEND_MILLIS: u64 = 100;
 /// The time between two probes.
 pub const PROBE_MILLIS: u64 = 300;
 
+// A number that both code and definitions name would be proved whatever it was; so here each stands once more.
+const _: () = prove!(MISSED_END == 3 && RESEND_MILLIS == 100 && PROBE_MILLIS == 300);
+
 /// What the controller knows: the greatest session, the current sequencer and whether that confirmed its session, the round of
 /// the last probe (0 is none) and whether it was answered, and how many in a row were not.
 #[derive(Clone, Copy, Debug, PartialEq, Eq)]

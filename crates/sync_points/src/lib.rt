@@ -1,4 +1,15 @@
-//! Sync points: up to which slot the logs of the replicas are synchronised, and how a leader and its followers move that.
+//! Sync points: up to which slot the log of a replica is synchronised, and what moves that.
+//!
+//! Each call is a definition of `specs/Synchronisation`. A round of the leader begins for a log
+//! that is longer than its sync point; a vote for another length counts for nothing, and f votes
+//! move the sync point to the round's length. A follower moves its own only up to a length that it
+//! took from the leader of its view.
+//!
+//! Calls, for the state of a replica: `SyncPoints::new`, `prepare` and `on_rep` (leader),
+//! `on_prepare` and `on_commit` (follower), `clear` (another view), `sync_point`, `prepared`,
+//! `syncing`.
+//!
+//! Files: `synchronisation`; `specs/Synchronisation`.
 #![tactic(auto)]
 
 mod synchronisation;

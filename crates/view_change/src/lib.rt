@@ -1,4 +1,15 @@
-//! View changes: what the leader of a new view gathers from the replicas, and what it starts the view with.
+//! View changes at the new leader: what it gathers from the replicas, and what it starts the view
+//! with.
+//!
+//! `Changes` has one change of each sender, the first that came (`senders_count_once`). The view is
+//! started exactly where f + 1 senders are there, its own among them, with what the starting rule
+//! `start_of` of `log_merge` gives for their changes.
+//!
+//! Calls, for the state and the rows of a replica: `Changes::enter`, `on_change`, `is_enough_with`,
+//! `as_slice`; `start_with` moves the entries of the logs instead of copying them, and `start_now`
+//! is for a leader without others.
+//!
+//! Files: `changes`, `starting`; `specs/Gathering` (`with_change`, `step_of`).
 #![tactic(auto)]
 
 mod changes;

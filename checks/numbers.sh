@@ -1,0 +1,112 @@
+#!/bin/bash
+# The numbers of formats, limits, timers and turns. Where code and definitions name the same constant, a proof holds at any number; so each
+# such constant stands once more in a `prove!` of its crate, and here is the list of them all, as docs/FORMATS.md, docs/STEPS.md and
+# docs/PROTOCOL.md have them. The script looks whether each is proved at its number, and whether a constant is missing here. It takes a
+# second, and ends with status 1 at any difference.
+set -u
+cd "$(dirname "$0")/.." || exit 2
+made=0
+wrong=0
+
+numbers() {
+    cat << 'END'
+nop_types MAX_OP_BYTES 640
+nop_types MAX_KEY_BYTES 64
+nop_types MAX_VALUE_BYTES 256
+nop_types MAX_RESULT_BYTES 257
+nop_types MAX_SLOTS 4096
+nop_types NUMBER_END 281_474_976_710_656
+nop_types MAX_QUEUED 1024
+nop_types MAX_FRAGMENTS 2048
+nop_types FRAGMENT_BYTES 1400
+nop_types MAX_UNFINISHED 4
+nop_types MAX_DATAGRAM_BYTES 1500
+nop_types MAX_REPLICAS 7
+nop_types MAX_SEQUENCERS 4
+nop_types MAX_CLIENTS 16
+nop_types MAX_LINE_BYTES 4096
+nop_types MAX_LINES 1_000_000
+nop_types FIRST_MAGIC 0x4e
+nop_types SECOND_MAGIC 0x4f
+nop_types VERSION 1
+nop_types REQUEST 1
+nop_types STAMPED 2
+nop_types REPLY 3
+nop_types INSTALL 4
+nop_types INSTALLED 5
+nop_types PING 6
+nop_types PONG 7
+nop_types FRAGMENT 8
+nop_types SLOT_LOOKUP 16
+nop_types FOUND 17
+nop_types GAP_COMMIT 18
+nop_types GAP_REP 19
+nop_types VIEW_CHANGE_REQ 20
+nop_types VIEW_CHANGE 21
+nop_types START_VIEW 22
+nop_types SYNC_PREPARE 23
+nop_types SYNC_REP 24
+nop_types SYNC_COMMIT 25
+kv_host GET 0x47
+kv_host PUT 0x50
+kv_host DELETE 0x44
+kv_host SWAP 0x43
+session_control MISSED_END 3
+session_control RESEND_MILLIS 100
+session_control PROBE_MILLIS 300
+replica_core RESEND_MILLIS 50
+replica_core SYNC_MILLIS 100
+replica_core WATCH_MILLIS 1000
+replica_core LAST_MESSAGE 18_446_744_073_709_551_607
+schedule_text PIECE_BYTES 4096
+lines PIECE_BYTES 4096
+transcript_reader MAX_TRANSCRIPT_LINES 4_294_967_294
+transcript_rows MAX_SENT_BYTES 1417
+command_line MAX_CLUSTER_TURNS 10_000
+replay MAX_DRAWN_EVENTS 100_000
+END
+}
+
+# apart: constants whose number no definition names and no user meets (how much is gathered or reserved), or that are made of others.
+apart() {
+    cat << 'END'
+peer_codec HEAD_BYTES
+peer_codec SENDER_AT
+fragments PARTS_AHEAD
+fragments FIELD_BYTES
+schedule_text MAX_OP_TEXT
+schedule_text MAX_JUNK_TEXT
+transcript_rows MAX_OP_TEXT
+replay GATHERED_BYTES
+flights MAX_ACTORS
+END
+}
+
+while read -r name constant number; do
+    made=$((made + 1))
+    if ! cat "crates/$name"/src/*.rt | tr -s ' \n' ' ' | grep -oE 'const _: \(\) = prove!\([^;]*\);' |
+        grep -qE "[( ]$constant == $number[ )]"; then
+        echo "numbers: $name does not prove that $constant is $number"
+        wrong=$((wrong + 1))
+    fi
+done < <(numbers)
+
+# pictures have layout alone, real devices are measured
+while IFS=: read -r file constant; do
+    name=${file#crates/}
+    name=${name%%/*}
+    case $name in
+    picture | labels | spacetime | udp_ports | *_tests) continue ;;
+    esac
+    if ! { numbers; apart; } | grep -qE "^$name $constant( |$)"; then
+        echo "numbers: $constant of $name is not in the list"
+        wrong=$((wrong + 1))
+    fi
+done < <(grep -rHoE --include='*.rt' 'const [A-Z_]+: (u8|u16|u32|u64|usize) =' crates/*/src |
+    sed -E 's/^([^:]+):const ([A-Z_]+): .*/\1:\2/')
+
+if [ "$wrong" != 0 ]; then
+    echo "numbers: $wrong of $made are not as they should be"
+    exit 1
+fi
+echo "numbers: $made are proved"
