@@ -1,4 +1,14 @@
-//! Short texts for what stands in a picture: datagrams, ops, and what clients did.
+//! Short texts for what a picture shows: datagrams, ops, and the lines of clients.
+//!
+//! `describe` goes by the datagram that the bytes spell: what it is for (`purpose_of`), and which
+//! mark shows at the actor that sent it (`mark_of`). Bytes that spell none are called "no
+//! datagram", and have no mark (`IsNoDatagram`). `read_lines` gives the notes of a client's lines,
+//! with marks of clients alone (`IsOfClient`). The texts themselves are tested.
+//!
+//! Calls, for `spacetime`: `describe`, `read_lines`, `note_of`, `put_op`, `put_request`,
+//! `put_view`.
+//!
+//! Files: `datagrams`, `said` (clients), `naming`; `specs/Datagrams`, `Clients`.
 #![tactic(auto)]
 
 mod datagrams;

@@ -1,4 +1,15 @@
-//! The program: a schedule on standard input, a picture of its run as SVG on standard output.
+//! The program that draws the run of a schedule: a schedule on standard input, a picture as SVG on
+//! standard output.
+//!
+//! It steps the same `world` as the replay does, and is outside the theorem. What is proved:
+//! nothing is written where the schedule is bad or cannot be read (`run`), each error has its
+//! status (`status_of`), and a row is of the actor whose step it is, as the world has it
+//! (`actor_of`). That the record goes with the world's network, and the picture as a whole, are
+//! tested (`checks/stories.sh`).
+//!
+//! Files: `run` steps the world; `observing` tells `recorder` what a step shows, in the words of
+//! `labels`; `recorder` keeps it, and sees no world; `standing` (how replicas stand in their
+//! views), `events`, `notes`; `error`, `status`. `specs/Errors`.
 #![tactic(auto)]
 
 mod error;

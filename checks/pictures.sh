@@ -1,0 +1,123 @@
+#!/bin/bash
+# Pictures whose texts are known: of characters that SVG spells in its own way, of strings at and past the length that shows, of messages in
+# several fragments, of crosses that stand for more than one datagram, of long schedules, of changed slots and views; and how `spacetime` ends
+# at a bad line and at an argument. It takes a second or two, leaves nothing behind, and ends with status 1 at any difference.
+#
+#   checks/pictures.sh           the program is crates/spacetime/out/spacetime, or the file that SPACETIME names
+set -u
+cd "$(dirname "$0")/.." || exit 2
+program=${SPACETIME:-crates/spacetime/out/spacetime}
+if [ ! -x "$program" ]; then
+    (cd crates/spacetime && rt run < stdin > /dev/null 2>&1)
+fi
+[ -x "$program" ] || { echo "pictures: there is no program file $program"; exit 1; }
+
+folder=$(mktemp -d) || exit 2
+trap 'rm -rf "$folder"' EXIT
+made=0
+wrong=0
+
+# differs WORDS..: one more difference.
+differs() {
+    echo "pictures: $*"
+    wrong=$((wrong + 1))
+}
+
+# drawn NAME LINE..: draws the picture of a schedule with these lines.
+drawn() {
+    name=$1
+    shift
+    printf '%s\n' "$@" > "$folder/schedule"
+    "$program" < "$folder/schedule" > "$folder/out" 2> "$folder/err"
+    local status=$?
+    made=$((made + 1))
+    if [ "$status" != 0 ] || [ -s "$folder/err" ]; then
+        differs "$name: status $status, and on standard error '$(head -c 300 "$folder/err")'"
+    fi
+}
+
+# shows COUNT TEXT: so many texts of the picture are this one.
+shows() {
+    local count
+    count=$(grep -o '>[^<>]*</text>' "$folder/out" | grep -cxF -- ">$2</text>")
+    made=$((made + 1))
+    [ "$count" = "$1" ] || differs "$name: '$2' stands there $count times and not $1"
+}
+
+# ends STATUS LINE: nothing was drawn, and standard error has the line.
+ends() {
+    made=$((made + 1))
+    if [ "$status" != "$1" ] || [ "$(cat "$folder/err")" != "$2" ] || [ -s "$folder/out" ]; then
+        differs "$name: status $status, '$(head -c 300 "$folder/err")' and not $1, '$2'"
+    fi
+}
+
+two='nopaxos 1 replicas 3 sequencers 1 clients 2'
+
+# the key a&" and the value <v>
+drawn 'characters of markup' "$two" 'submit c0 50000361262200033c763e' 'deliver 0 s0' 'deliver 1 r0' 'deliver 1 r1' \
+    'deliver 2 c0' 'deliver 3 c0' 'submit c0 470003612622' 'deliver 4 s0' 'deliver 5 r0' 'deliver 5 r1' 'deliver 6 c0' 'deliver 7 c0'
+shows 1 'put a&amp;" &lt;v&gt;'
+shows 1 'get a&amp;"'
+shows 1 '#2 =&lt;v&gt;'
+shows 1 'reply c0#2 slot 2 =&lt;v&gt;'
+
+# 12 and 13 letters; 6 and 7 bytes that are no letters
+drawn 'strings of some length' "$two" 'submit c0 43000c6162636465666768696a6b6c000d6162636465666768696a6b6c6d000178' \
+    'submit c1 5000060102030405060007000102030405ff'
+shows 1 'compare-and-set abcdefghijkl abcdefghijkl.. x'
+shows 1 'put 010203040506 000102030405..'
+drawn 'a delete, and no op of the service' "$two" 'submit c0 4400016b' 'submit c1 0102030405060708'
+shows 1 'delete k'
+shows 1 '010203040506'
+
+# a log of three requests with ops of 640 bytes: 1,979 bytes in two fragments to each follower, neither of which is delivered
+big=$(printf 'ff%.0s' $(seq 640))
+drawn 'fragments of a longer message' 'nopaxos 1 replicas 3 sequencers 1 clients 3' "submit c0 $big" "submit c1 $big" "submit c2 $big" \
+    'deliver 0 s0' 'deliver 1 s0' 'deliver 2 s0' 'deliver 3 r0' 'deliver 4 r0' 'deliver 5 r0' 'tick r0 sync'
+shows 3 'ffffffffffff'
+shows 2 'fragment 1 of 2 +1'
+drawn 'the second fragment is delivered' 'nopaxos 1 replicas 3 sequencers 1 clients 3' "submit c0 $big" "submit c1 $big" "submit c2 $big" \
+    'deliver 0 s0' 'deliver 1 s0' 'deliver 2 s0' 'deliver 3 r0' 'deliver 4 r0' 'deliver 5 r0' 'tick r0 sync' 'deliver 10 r1'
+shows 1 'fragment 2 of 2'
+shows 1 'fragment 1 of 2'
+shows 1 'fragment 1 of 2 +1'
+
+# r1 misses the request for the view and the change that r2 sends it, r0 the request alone
+drawn 'a cross for two datagrams' "$two" 'tick r2 suspect'
+shows 1 'ViewChangeReq (1,1)'
+shows 1 'ViewChangeReq (1,1) +1'
+shows 1 'enters view (1,1)'
+
+mapfile -t retries < <(yes 'tick c0 retry' | head -n 120)
+drawn 'more than 100 events' "$two" "${retries[@]}"
+shows 120 'tick c0 retry'
+shows 1 121
+
+# r0 logs a request of c0 that nobody else gets; r1 and r2 begin the next session with one of c1 that has the same id, and a view later
+# r0 takes their log: the request in its first slot has another client
+drawn 'a slot that changes its client' 'nopaxos 1 replicas 3 sequencers 2 clients 2' 'submit c0 5000016b000176' 'deliver 0 s0' \
+    'deliver 1 r0' 'install s1' 'deliver 3 s1' 'submit c1 4700016b' 'deliver 5 s1' 'tick r1 suspect' 'deliver 6 r1' 'deliver 6 r2' \
+    'deliver 8 r2' 'deliver 12 r1' 'deliver 13 r2' 'tick r2 suspect' 'deliver 16 r1' 'deliver 18 r2' 'deliver 19 r0'
+shows 1 '1: c0#1'
+shows 3 '1: c1#1'
+shows 2 'view (2,2) starts'
+
+drawn 'a change of view within a session' "$two" 'tick r1 suspect' 'deliver 0 r2' 'deliver 2 r1' 'deliver 3 r2'
+shows 2 'enters view (1,1)'
+shows 2 'view (1,1) starts'
+
+name='a datagram that was not sent'
+printf '%s\n' "$two" 'submit c0 4700016b' 'deliver 7 s0' | "$program" > "$folder/out" 2> "$folder/err"
+status=$?
+ends 1 'error line 3 rule 8 index 7 sent 1'
+name='an argument that is no text'
+"$program" $'\xff' < examples/one-put.schedule > "$folder/out" 2> "$folder/err"
+status=$?
+ends 2 'usage: spacetime < SCHEDULE > PICTURE'
+
+if [ "$wrong" != 0 ]; then
+    echo "pictures: $wrong differences in $made"
+    exit 1
+fi
+echo "pictures: $made as they must be"
