@@ -1,23 +1,24 @@
 -- A run of a node, its last line, and the ports that it ran over.
-use Rattle.std.proofs.Common.{◌≡◌, ℕ, ◌≤◌, List, [], ◌∷◌, ◌++◌, Bool, true, false, Option, Some, None, Ok, Err, option_map, refl, ap}
-use Rattle.std.proofs.Common.{sym, ◌∙◌, inl, inr}
+use Rattle.std.proofs.Common.{◌≡◌, ℕ, ◌≤◌, ◌+◌, min, List, [], ◌∷◌, ◌++◌, Bool, true, false, Option, Some, None, Ok, Err, option_map, refl, ap}
+use Rattle.std.proofs.Common.{sym, ◌∙◌, inl, inr, arith}
 use Rattle.std.proofs.KnownBytes.{Appends-trans}
 use Rattle.std.specs.Io.KnownBytes.{Appends}
-use Rattle.outside.specs.Causes.{Rose}
+use Rattle.outside.specs.Causes.{Rose, next_count}
 use Rattle.outside.specs.Fronts.{AppendsFront}
 use Rattle.outside.specs.Ports.{GivesNext, next_link}
 use Rattle.outside.specs.declared.errors.DeviceError.TheVariants as devices
 use Rattle.outside.specs.declared.link.PollAnswer.{PollAnswer}
-use Rattle.outside.specs.declared.link.Sent.{Sent}
-use Rattle.udp_node.specs.Effects.{Line, effects, WroteFront, WroteText}
+use Rattle.outside.specs.declared.link.LinkCall.{LinkCall}
+use Rattle.udp_node.specs.Effects.{Line, effects, lines, WroteFront}
+use Rattle.udp_node.specs.Folding.{folded, TookSome}
 use Rattle.udp_node.specs.Ports.{port_of}
 use Rattle.udp_node.specs.NodeRun.{NodeRun, ServedRun, ServesAfter}
-use Rattle.udp_node.specs.Sends.{LinkSide, side}
+use Rattle.udp_node.specs.Sends.{LinkSide, side, last_count}
 use Rattle.udp_node.specs.declared.errors.ServeError.TheVariants as serve_errors
 use Rattle.udp_node.specs.declared.serving.Served.{Served}
 use Rattle.udp_node.proofs.EffectLemmas.{done_then, stops_then, stops_more, wrote_line}
 use Rattle.commands.specs.Nodes.{served_line, last_effects, end_status, IsNodeStatus, IsUnattachedStatus, EndsNodeWithoutFault}
-use Rattle.commands.specs.Nodes.{LastLine, EndsInLine}
+use Rattle.commands.specs.Nodes.{LastLine, EndsInLine, writes_after}
 use Rattle.commands.specs.Nodes.{Finished, RunEnds, NodeTask, run_of, RunTold, LinkView, PortsView, NodeEnds}
 use Rattle.commands.specs.declared.status.Status.{Status}
 use Rattle.commands.specs.declared.status.Status.TheVariants as statuses
@@ -29,50 +30,51 @@ last_is : (r : NodeRun) (turns lost : ℕ) → r.broken ≡ false → turns ≡ 
 last_is r turns lost works same =
     ap (λ b. last_effects b r.turns lost) works ∙ ap (λ n. Line (served_line n lost) ∷ []) (sym same)
 
-last_line : (turns taken lost : ℕ) (s : Status) (h i j : Option (List ℕ)) → taken ≤ turns → (s ≡ statuses.Unanswered → taken ≡ turns)
-    → WroteText h i → Appends i j (served_line taken lost) → LastLine turns s h j
-last_line turns taken lost s h i j most all one wrote = record {
-  text = one.0;
-  taken = taken;
-  lost = lost;
-  most = most;
-  all = all;
-  line = Appends-trans h i j one.0 (served_line taken lost) one.1 wrote;
-}
+module _ {S : Type 0} (k : NodeTask S) (losses losses_now : ℕ) (served : Served) (last : S) (h i j : Option (List ℕ))
+    (most : served.turns ≤ k.turns) (spent : served.done ≡ false → served.turns ≡ k.turns)
+    (counted : min (losses + served.lost) last_count ≤ losses_now) (told : served.done ≡ k.is_done last)
+    (took : TookSome k.next k.at k.opening last h i) (wrote : Appends i j (served_line served.turns served.lost)) where
+  last_line : (s : Status) → s ≡ end_status k.waits served.done → (s ≡ statuses.Unanswered → served.turns ≡ k.turns)
+      → LastLine k losses losses_now s h j
+  last_line s is all = record {
+    inputs = took.inputs;
+    outside = took.outside;
+    taken = served.turns;
+    lost = served.lost;
+    most = most;
+    all = all;
+    counted = counted;
+    ends = is ∙ ap (end_status k.waits) (told ∙ ap k.is_done took.state);
+    line = Appends-trans h i j (lines (effects k.at (folded k.next k.opening took.inputs).1)) (served_line served.turns served.lost)
+        took.written wrote;
+  }
 
-in_line : (waits done : Bool) (turns taken lost : ℕ) (h i j : Option (List ℕ)) → taken ≤ turns → (done ≡ false → taken ≡ turns)
-    → WroteText h i → Appends i j (served_line taken lost) → EndsInLine turns (end_status waits done) h j
-in_line true true turns taken lost h i j most spent one wrote =
-    last_line turns taken lost statuses.Done h i j most (λ is. absurd cc) one wrote
-in_line true false turns taken lost h i j most spent one wrote =
-    last_line turns taken lost statuses.Unanswered h i j most (λ is. spent refl) one wrote
-in_line false true turns taken lost h i j most spent one wrote =
-    last_line turns taken lost statuses.Done h i j most (λ is. absurd cc) one wrote
-in_line false false turns taken lost h i j most spent one wrote =
-    last_line turns taken lost statuses.Done h i j most (λ is. absurd cc) one wrote
+  in_line : (waits done : Bool) → waits ≡ k.waits → done ≡ served.done
+      → EndsInLine k losses losses_now (end_status waits done) h j
+  in_line true true w d = last_line statuses.Done (rw (← w, ← d) refl) (λ is. absurd cc)
+  in_line true false w d = last_line statuses.Unanswered (rw (← w, ← d) refl) (λ is. spent (sym d))
+  in_line false true w d = last_line statuses.Done (rw (← w) refl) (λ is. absurd cc)
+  in_line false false w d = last_line statuses.Done (rw (← w) refl) (λ is. absurd cc)
 
-pub ends_in_last : (waits : Bool) (turns : ℕ) (served : Served) (s : Status) (h i j : Option (List ℕ)) → served.turns ≤ turns
-    → (served.done ≡ false → served.turns ≡ turns) → WroteText h i → Appends i j (served_line served.turns served.lost)
-    → s ≡ end_status waits served.done → EndsInLine turns s h j
-ends_in_last waits turns served s h i j most spent one wrote is =
-    rw is (in_line waits served.done turns served.turns served.lost h i j most spent one wrote)
+  pub ends_in_last : (s : Status) → s ≡ end_status k.waits served.done → EndsInLine k losses losses_now s h j
+  ends_in_last s is = rw is (in_line k.waits served.done refl refl)
 
 module _ {S : Type 0} (k : NodeTask S) where
   finished : (r : NodeRun) (served : Served) (a b : LinkSide) (h i j : Option (List ℕ))
-      → ServedRun k.at r served a (record b { lost = served.lost }) h i → Appends i j (served_line served.turns served.lost)
-      → Finished k.at k.waits r (end_status k.waits served.done) a b h j
+      → ServedRun r served a (record b { lost = served.lost }) h i → Appends i j (served_line served.turns served.lost)
+      → Finished k.waits r (end_status k.waits served.done) a b h j
   finished r served a b h i j one wrote = record {
     lost = served.lost;
     works = one.works;
     ends = ap (end_status k.waits) one.done;
     effects = rw (last_is r served.turns served.lost one.works one.turns)
-        (done_then (effects k.at r.outs) (Line (served_line served.turns served.lost) ∷ []) a
+        (done_then r.effects (Line (served_line served.turns served.lost) ∷ []) a
         (record b { lost = served.lost }) (record b { lost = served.lost }) h i j one.effects
         (wrote_line {T = Unit {0}} (served_line served.turns served.lost) (Ok tt) (record b { lost = served.lost }) i j wrote));
   }
 
   as_finished : (w d : Bool) (r : NodeRun) (a b : LinkSide) (h i : Option (List ℕ))
-      → Finished k.at w r (end_status w d) a b h i → RunEnds k.at w r (end_status w d) a b h i
+      → Finished w r (end_status w d) a b h i → RunEnds w r (end_status w d) a b h i
   as_finished true true r a b h i one = one
   as_finished true false r a b h i one = one
   as_finished false true r a b h i one = one
@@ -94,7 +96,7 @@ module _ {S : Type 0} (k : NodeTask S) where
   ends_in_line (Some x) (Some y) served a b h i j serves wrote = (
     served.lost,
     rw (last_is (run_of k x y) served.turns served.lost serves.works serves.turns)
-        (stops_then (effects k.at (run_of k x y).outs) (Line (served_line served.turns served.lost) ∷ []) devices.Failed a
+        (stops_then (run_of k x y).effects (Line (served_line served.turns served.lost) ∷ []) devices.Failed a
         (record b { lost = served.lost }) (record b { lost = served.lost }) h i j serves.effects
         (wrote_line {T = Unit {0}} (served_line served.turns served.lost) (Err devices.Failed)
         (record b { lost = served.lost }) i j wrote)),
@@ -108,7 +110,7 @@ module _ {S : Type 0} (k : NodeTask S) where
   ends_short (Some x) (Some y) served a b h i j serves wrote = (
     served.lost,
     rw (last_is (run_of k x y) served.turns served.lost serves.works serves.turns)
-        (stops_then (effects k.at (run_of k x y).outs) (Line (served_line served.turns served.lost) ∷ []) devices.NoMemory a
+        (stops_then (run_of k x y).effects (Line (served_line served.turns served.lost) ∷ []) devices.NoMemory a
         (record b { lost = served.lost }) (record b { lost = served.lost }) h i j serves.effects
         (wrote_line {T = Unit {0}} (served_line served.turns served.lost) (Err devices.NoMemory)
         (record b { lost = served.lost }) i j wrote)),
@@ -128,7 +130,7 @@ module _ {S : Type 0} (k : NodeTask S) where
   ends_writing (Some x) None a b h i serves = tt
   ends_writing (Some x) (Some y) a b h i serves = (
     serves.0,
-    stops_more (effects k.at (run_of k x y).outs) (last_effects (run_of k x y).broken (run_of k x y).turns serves.0)
+    stops_more (run_of k x y).effects (last_effects (run_of k x y).broken (run_of k x y).turns serves.0)
         devices.Failed a (record b { lost = serves.0 }) h i serves.1,
   )
 
@@ -139,33 +141,33 @@ module _ {S : Type 0} (k : NodeTask S) where
   ends_without_memory (Some x) None a b h i serves = tt
   ends_without_memory (Some x) (Some y) a b h i serves = (
     serves.0,
-    stops_more (effects k.at (run_of k x y).outs) (last_effects (run_of k x y).broken (run_of k x y).turns serves.0)
+    stops_more (run_of k x y).effects (last_effects (run_of k x y).broken (run_of k x y).turns serves.0)
         devices.NoMemory a (record b { lost = serves.0 }) h i serves.1,
   )
 
   -- ---- from the attach on
 
   pub from_attach : (links later : Option (List (List PollAnswer))) (o : Option (List PollAnswer)) (v : Option (List ℕ))
-      (sent : Option (List Sent)) (losses : ℕ) (s : Status) (b : LinkSide) (h i : Option (List ℕ)) → GivesNext links later o sent
-      → losses ≡ 0 → RunTold k o v s (side sent 0 losses) b h i → RunTold k (option_map next_link links) v s (side (Some []) 0 0) b h i
-  from_attach None later o v sent losses s b h i gives none run = tt
-  from_attach (Some links) later o v sent losses s b h i gives none run = rw (gives.1, gives.2, none) at run
+      (trace : Option (List LinkCall)) (losses : ℕ) (s : Status) (b : LinkSide) (h i : Option (List ℕ)) → GivesNext links later o trace
+      → losses ≡ 0 → RunTold k o v s (side trace 0 losses) b h i → RunTold k (option_map next_link links) v s (side (Some []) 0 0) b h i
+  from_attach None later o v trace losses s b h i gives none run = tt
+  from_attach (Some links) later o v trace losses s b h i gives none run = rw (gives.1, gives.2, none) at run
 
 -- the node ran over this link
 pub attached_ends : {S L : Type 0} (k : NodeTask S) (w : LinkView L) (p : PortsView L) (values : Option (List ℕ)) (s : Status)
     (h i : Option (List ℕ)) (link : L) (later : Option (List (List PollAnswer))) (o : Option (List PollAnswer))
-    (sent : Option (List Sent)) (losses faults : ℕ) → p.after ≡ p.before ++ link ∷ [] → w.port link ≡ port_of k.at.base k.at.own
-    → IsNodeStatus k.waits s → (s ≡ statuses.LinkFault → Rose faults (w.faults link)) → EndsInLine k.turns s h i → faults ≡ 0 → losses ≡ 0
-    → GivesNext p.to_come later o sent → RunTold k o values s (side sent 0 losses) (side (w.sent link) 0 (w.losses link)) h i
+    (trace : Option (List LinkCall)) (losses faults : ℕ) → p.after ≡ p.before ++ link ∷ [] → w.port link ≡ port_of k.at.base k.at.own
+    → IsNodeStatus k.waits s → (s ≡ statuses.LinkFault → Rose faults (w.faults link)) → EndsInLine k losses (w.losses link) s h i → faults ≡ 0 → losses ≡ 0
+    → GivesNext p.to_come later o trace → RunTold k o values s (side trace 0 losses) (side (w.trace link) 0 (w.losses link)) h i
     → NodeEnds k w p values s h i
-attached_ends k w p values s h i link later o sent losses faults back port may cause last none no_losses gives run = inr (record {
+attached_ends k w p values s h i link later o trace losses faults back port may cause last none no_losses gives run = inr (record {
   link = link;
   given_back = back;
   port = port;
   status = may;
   cause = λ is. rw none at (cause is);
-  last = last;
-  run = from_attach k p.to_come later o values sent losses s (side (w.sent link) 0 (w.losses link)) h i gives no_losses run;
+  last = rw no_losses at last;
+  run = from_attach k p.to_come later o values trace losses s (side (w.trace link) 0 (w.losses link)) h i gives no_losses run;
 })
 
 pub unattached_ends : {S L : Type 0} (k : NodeTask S) (w : LinkView L) (p : PortsView L) (values : Option (List ℕ)) (s : Status)
@@ -196,3 +198,14 @@ module _ {S L : Type 0} (k : NodeTask S) (w : LinkView L) (p : PortsView L) (val
   pub reads_nothing : (s : Status) (P : Type 0) → NodeEnds k w p values s h i → s ≡ statuses.ReadFault → P
   reads_nothing s P (inl u) is = let no : ⊥ = rw is at u.status in absurd no
   reads_nothing s P (inr a) is = let no : ⊥ = rw is at a.status in absurd no
+
+-- a count that rose by one rose
+pub rose_at : (a b : ℕ) → b ≡ next_count a → Rose a b
+rose_at a b is = omega (arith, is)
+
+-- a run that is served to its end met no failed write
+pub end_writes : (waits done : Bool) (n : ℕ) (s : Status) → s ≡ end_status waits done → writes_after s n ≡ n
+end_writes true true n s is = rw is refl
+end_writes true false n s is = rw is refl
+end_writes false true n s is = rw is refl
+end_writes false false n s is = rw is refl

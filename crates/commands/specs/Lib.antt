@@ -1,3 +1,4 @@
+pub mod Answers
 pub mod Clusters
 pub mod Ending
 pub mod Nodes

@@ -1,18 +1,19 @@
 -- How a command that runs a node ends.
-use Rattle.std.specs.Prelude.{◌≡◌, ℕ, ◌≤◌, List, [], ◌∷◌, ◌++◌, Bool, true, false, decimal, codes, Option, Some, None, option_map, ◌⊎◌, ⊤}
+use Rattle.std.specs.Prelude.{◌≡◌, ℕ, ◌≤◌, ◌+◌, min, List, [], ◌∷◌, ◌++◌, Bool, true, false, decimal, codes, Option, Some, None, option_map, ◌⊎◌, ⊤}
 use Rattle.std.specs.Io.KnownBytes.{Appends}
 use Rattle.nop_types.specs.Given.{Given}
 use Rattle.nop_types.specs.declared.input.Tick.{Tick}
 use Rattle.nop_types.specs.declared.output.Out.{Out}
-use Rattle.outside.specs.Causes.{Rose}
+use Rattle.outside.specs.Causes.{Rose, next_count}
 use Rattle.outside.specs.Ports.{next_link}
 use Rattle.outside.specs.declared.link.PollAnswer.{PollAnswer}
-use Rattle.outside.specs.declared.link.Sent.{Sent}
+use Rattle.outside.specs.declared.link.LinkCall.{LinkCall}
 use Rattle.udp_node.specs.declared.address.Address.{Address}
-use Rattle.udp_node.specs.Effects.{Effect, Line, effects, Done, Stopped, StoppedInLine}
+use Rattle.udp_node.specs.Effects.{Effect, Line, effects, lines, Done, Stopped, StoppedInLine}
+use Rattle.udp_node.specs.Folding.{folded, AllOutside}
 use Rattle.udp_node.specs.NodeRun.{NodeRun, run_after, Broke}
 use Rattle.udp_node.specs.Ports.{port_of}
-use Rattle.udp_node.specs.Sends.{LinkSide, side}
+use Rattle.udp_node.specs.Sends.{LinkSide, side, last_count}
 use Rattle.commands.specs.declared.status.Status.{Status}
 use Rattle.commands.specs.declared.status.Status.TheVariants as statuses
 
@@ -26,9 +27,9 @@ abbrev pub last_effects : Bool → ℕ → ℕ → List Effect
 last_effects true turns lost = []
 last_effects false turns lost = Line (served_line turns lost) ∷ []
 
--- what a run asks of the outside: what its core gives, and the last line
-abbrev pub all_effects : Address → NodeRun → ℕ → List Effect
-all_effects at r lost = effects at r.outs ++ last_effects r.broken r.turns lost
+-- what a run does outside, and the last line
+abbrev pub all_effects : NodeRun → ℕ → List Effect
+all_effects r lost = r.effects ++ last_effects r.broken r.turns lost
 
 -- ---- statuses
 
@@ -60,6 +61,17 @@ EndsNodeWithoutFault waits statuses.LinkFault = ⊥
 EndsNodeWithoutFault waits statuses.NoMemory = ⊤
 EndsNodeWithoutFault waits statuses.Unanswered = waits ≡ true
 
+-- a count of failed writes: it rises by one exactly where the status is a fault of a write
+abbrev pub writes_after : Status → ℕ → ℕ
+writes_after statuses.Done n = n
+writes_after statuses.Malformed n = n
+writes_after statuses.Usage n = n
+writes_after statuses.ReadFault n = n
+writes_after statuses.WriteFault n = next_count n
+writes_after statuses.LinkFault n = n
+writes_after statuses.NoMemory n = n
+writes_after statuses.Unanswered n = n
+
 -- the statuses where no link was attached
 abbrev pub IsUnattachedStatus : Status → Type 0
 IsUnattachedStatus statuses.Done = ⊥
@@ -74,44 +86,22 @@ IsUnattachedStatus statuses.Unanswered = ⊥
 -- ---- a run and its last line
 
 -- the run was taken to its end, and its line was written
-pub record Finished (at : Address) (waits : Bool) (r : NodeRun) (s : Status) (a b : LinkSide) (h i : Option (List ℕ)) : Type 0 where
+pub record Finished (waits : Bool) (r : NodeRun) (s : Status) (a b : LinkSide) (h i : Option (List ℕ)) : Type 0 where
   pub lost : ℕ
   pub works : r.broken ≡ false
   pub ends : s ≡ end_status waits r.done
-  pub effects : Done (all_effects at r lost) a (record b { lost = lost }) h i
+  pub effects : Done (all_effects r lost) a (record b { lost = lost }) h i
 
 -- by its status
-abbrev pub RunEnds : Address → Bool → NodeRun → Status → LinkSide → LinkSide → Option (List ℕ) → Option (List ℕ) → Type 0
-RunEnds at waits r statuses.Done a b h i = Finished at waits r statuses.Done a b h i
-RunEnds at waits r statuses.Malformed a b h i = ⊥
-RunEnds at waits r statuses.Usage a b h i = ⊥
-RunEnds at waits r statuses.ReadFault a b h i = ⊥
-RunEnds at waits r statuses.WriteFault a b h i = (lost : ℕ) × StoppedInLine (all_effects at r lost) a (record b { lost = lost }) h i
-RunEnds at waits r statuses.LinkFault a b h i = (lost : ℕ) × Broke at r a (record b { lost = lost }) h i
-RunEnds at waits r statuses.NoMemory a b h i = (lost : ℕ) × Stopped (all_effects at r lost) a (record b { lost = lost }) h i
-RunEnds at waits r statuses.Unanswered a b h i = Finished at waits r statuses.Unanswered a b h i
-
--- ---- the last line over any link and clock
-
--- it was written after some text; it says no more turns than there were, and all of them where a client is unanswered
-pub record LastLine (turns : ℕ) (s : Status) (h i : Option (List ℕ)) : Type 0 where
-  pub text : List ℕ
-  pub taken : ℕ
-  pub lost : ℕ
-  pub most : taken ≤ turns
-  pub all : s ≡ statuses.Unanswered → taken ≡ turns
-  pub line : Appends h i (text ++ served_line taken lost)
-
--- by its status
-abbrev pub EndsInLine : ℕ → Status → Option (List ℕ) → Option (List ℕ) → Type 0
-EndsInLine turns statuses.Done h i = LastLine turns statuses.Done h i
-EndsInLine turns statuses.Malformed h i = ⊤
-EndsInLine turns statuses.Usage h i = ⊤
-EndsInLine turns statuses.ReadFault h i = ⊤
-EndsInLine turns statuses.WriteFault h i = ⊤
-EndsInLine turns statuses.LinkFault h i = ⊤
-EndsInLine turns statuses.NoMemory h i = ⊤
-EndsInLine turns statuses.Unanswered h i = LastLine turns statuses.Unanswered h i
+abbrev pub RunEnds : Bool → NodeRun → Status → LinkSide → LinkSide → Option (List ℕ) → Option (List ℕ) → Type 0
+RunEnds waits r statuses.Done a b h i = Finished waits r statuses.Done a b h i
+RunEnds waits r statuses.Malformed a b h i = ⊥
+RunEnds waits r statuses.Usage a b h i = ⊥
+RunEnds waits r statuses.ReadFault a b h i = ⊥
+RunEnds waits r statuses.WriteFault a b h i = (lost : ℕ) × StoppedInLine (all_effects r lost) a (record b { lost = lost }) h i
+RunEnds waits r statuses.LinkFault a b h i = (lost : ℕ) × Broke r a (record b { lost = lost }) h i
+RunEnds waits r statuses.NoMemory a b h i = (lost : ℕ) × Stopped (all_effects r lost) a (record b { lost = lost }) h i
+RunEnds waits r statuses.Unanswered a b h i = Finished waits r statuses.Unanswered a b h i
 
 -- ---- what a node runs from
 
@@ -133,21 +123,48 @@ task_of next is_done timers opening at first turns waits =
     record { next = next; is_done = is_done; timers = timers; opening = opening; at = at; first = first; turns = turns; waits = waits }
 
 abbrev pub run_of : {S : Type 0} → NodeTask S → List PollAnswer → List ℕ → NodeRun
-run_of k answers values = run_after k.next k.is_done k.first k.timers k.turns k.opening answers values
+run_of k answers values = run_after k.next k.is_done k.at k.first k.timers k.turns k.opening answers values
 
 -- where link and clock tell their content, it is the run over it
 abbrev pub RunTold : {S : Type 0} → NodeTask S → Option (List PollAnswer) → Option (List ℕ) → Status
     → LinkSide → LinkSide → Option (List ℕ) → Option (List ℕ) → Type 0
 RunTold k None values s a b h i = ⊤
 RunTold k (Some answers) None s a b h i = ⊤
-RunTold k (Some answers) (Some values) s a b h i = RunEnds k.at k.waits (run_of k answers values) s a b h i
+RunTold k (Some answers) (Some values) s a b h i = RunEnds k.waits (run_of k answers values) s a b h i
+
+-- ---- the last line over any link and clock
+
+-- The core took some packets and ticks, the lines of what it gave were written, and then the last line. That says no more turns than
+-- there were, and all of them where a client is unanswered, and no more losses than the link counted in the run, unless its count
+-- stands at the end of 64 bits. The status tells whether the core is done.
+pub record LastLine {S : Type 0} (k : NodeTask S) (losses losses_now : ℕ) (s : Status) (h i : Option (List ℕ)) : Type 0 where
+  pub inputs : List Given
+  pub outside : AllOutside inputs
+  pub taken : ℕ
+  pub lost : ℕ
+  pub most : taken ≤ k.turns
+  pub all : s ≡ statuses.Unanswered → taken ≡ k.turns
+  pub counted : min (losses + lost) last_count ≤ losses_now
+  pub ends : s ≡ end_status k.waits (k.is_done (folded k.next k.opening inputs).0)
+  pub line : Appends h i (lines (effects k.at (folded k.next k.opening inputs).1) ++ served_line taken lost)
+
+-- by its status
+abbrev pub EndsInLine : {S : Type 0} → NodeTask S → ℕ → ℕ → Status → Option (List ℕ) → Option (List ℕ) → Type 0
+EndsInLine k losses losses_now statuses.Done h i = LastLine k losses losses_now statuses.Done h i
+EndsInLine k losses losses_now statuses.Malformed h i = ⊤
+EndsInLine k losses losses_now statuses.Usage h i = ⊤
+EndsInLine k losses losses_now statuses.ReadFault h i = ⊤
+EndsInLine k losses losses_now statuses.WriteFault h i = ⊤
+EndsInLine k losses losses_now statuses.LinkFault h i = ⊤
+EndsInLine k losses losses_now statuses.NoMemory h i = ⊤
+EndsInLine k losses losses_now statuses.Unanswered h i = LastLine k losses losses_now statuses.Unanswered h i
 
 -- ---- over ports
 
 -- what is seen of a link
 pub record LinkView (L : Type 0) : Type 0 where
   pub port : L → ℕ
-  pub sent : L → Option (List Sent)
+  pub trace : L → Option (List LinkCall)
   pub losses : L → ℕ
   pub faults : L → ℕ
 
@@ -159,8 +176,8 @@ pub record PortsView (L : Type 0) : Type 0 where
   pub faults_before : ℕ
   pub faults_after : ℕ
 
-abbrev pub link_view : {L : Type 0} → (L → ℕ) → (L → Option (List Sent)) → (L → ℕ) → (L → ℕ) → LinkView L
-link_view port sent losses faults = record { port = port; sent = sent; losses = losses; faults = faults }
+abbrev pub link_view : {L : Type 0} → (L → ℕ) → (L → Option (List LinkCall)) → (L → ℕ) → (L → ℕ) → LinkView L
+link_view port trace losses faults = record { port = port; trace = trace; losses = losses; faults = faults }
 
 abbrev pub ports_view : {L : Type 0} → Option (List (List PollAnswer)) → List L → List L → ℕ → ℕ → PortsView L
 ports_view to_come before after faults_before faults_after =
@@ -181,8 +198,8 @@ pub record Attached {S L : Type 0} (k : NodeTask S) (w : LinkView L) (p : PortsV
   pub port : w.port link ≡ port_of k.at.base k.at.own
   pub status : IsNodeStatus k.waits s
   pub cause : s ≡ statuses.LinkFault → Rose 0 (w.faults link)
-  pub last : EndsInLine k.turns s h i
-  pub run : RunTold k (option_map next_link p.to_come) values s (side (Some []) 0 0) (side (w.sent link) 0 (w.losses link)) h i
+  pub last : EndsInLine k 0 (w.losses link) s h i
+  pub run : RunTold k (option_map next_link p.to_come) values s (side (Some []) 0 0) (side (w.trace link) 0 (w.losses link)) h i
 
 abbrev pub NodeEnds : {S L : Type 0} → NodeTask S → LinkView L → PortsView L → Option (List ℕ) → Status → Option (List ℕ) → Option (List ℕ)
     → Type 0

@@ -1,6 +1,8 @@
 -- What the commands of nodes run, and how each of them ends.
-use Rattle.std.specs.Prelude.{ℕ, List, [], Bool, true, false, Option, Some, None, ⊤}
+use Rattle.std.specs.Prelude.{◌≡◌, ℕ, ◌<◌, List, [], ◌++◌, length, Bool, true, false, Option, Some, None, ⊤}
+use Rattle.std.specs.Io.KnownBytes.{Appends}
 use Rattle.client_quorum.specs.ClientSteps as client
+use Rattle.commands.specs.Answers.{accept_count}
 use Rattle.client_quorum.specs.declared.state.ClientState.{ClientState}
 use Rattle.command_line.specs.declared.command.Command.{Command}
 use Rattle.command_line.specs.declared.command.Command.TheVariants.{Replay, Gen, Node, Sequencer, Controller, Client, Cluster}
@@ -10,16 +12,19 @@ use Rattle.nop_types.specs.declared.input.Tick.{Tick}
 use Rattle.nop_types.specs.declared.input.Tick.TheVariants.{Install}
 use Rattle.nop_types.specs.declared.output.Actor.{Actor}
 use Rattle.nop_types.specs.declared.output.Actor.TheVariants as actors
+use Rattle.nop_types.specs.declared.output.Out.{Out}
 use Rattle.replica_core.specs.ReplicaSteps as replica
 use Rattle.sequencer.specs.SequencerSteps as sequencer
 use Rattle.sequencer.specs.declared.state.SequencerState.{SequencerState}
 use Rattle.session_control.specs.ControllerSteps as controller
 use Rattle.session_control.specs.declared.state.ControllerState.{ControllerState}
+use Rattle.udp_node.specs.Effects.{effects, lines}
 use Rattle.udp_node.specs.NodeRun.{first_inputs}
 use Rattle.udp_node.specs.declared.address.Address.{Address}
 use Rattle.commands.specs.Ending.{GenEnds}
-use Rattle.commands.specs.Nodes.{NodeTask, task_of, LinkView, PortsView, NodeEnds}
+use Rattle.commands.specs.Nodes.{NodeTask, task_of, served_line, LinkView, PortsView, NodeEnds}
 use Rattle.commands.specs.declared.status.Status.{Status}
+use Rattle.commands.specs.declared.status.Status.TheVariants as statuses
 
 abbrev pub address_of : Site → Actor → Address
 address_of site own = record { base = site.base; own = own; config = site.config }
@@ -64,6 +69,38 @@ CommandEnds (Some (Sequencer id site)) w p values s h i = NodeEnds (sequencer_ta
 CommandEnds (Some (Controller site session install)) w p values s h i = NodeEnds (controller_task site session install) w p values s h i
 CommandEnds (Some (Client id site ops)) w p values s h i = NodeEnds (client_task id site ops) w p values s h i
 CommandEnds (Some (Cluster site ops)) w p values s h i = ⊤
+
+-- ---- the answers of a client
+
+-- the lines of some outputs were written, with so many accept lines among them, and then the last line
+pub record WroteAccepts (at : Address) (count : ℕ) (h i : Option (List ℕ)) : Type 0 where
+  pub outs : List Out
+  pub taken : ℕ
+  pub lost : ℕ
+  pub accepts : accept_count outs ≡ count
+  pub line : Appends h i (lines (effects at outs) ++ served_line taken lost)
+
+-- by its status: an accept line was written for each of its ops, or one lacks
+abbrev pub AnswersOps : Address → ℕ → Status → Option (List ℕ) → Option (List ℕ) → Type 0
+AnswersOps at count statuses.Done h i = WroteAccepts at count h i
+AnswersOps at count statuses.Malformed h i = ⊤
+AnswersOps at count statuses.Usage h i = ⊤
+AnswersOps at count statuses.ReadFault h i = ⊤
+AnswersOps at count statuses.WriteFault h i = ⊤
+AnswersOps at count statuses.LinkFault h i = ⊤
+AnswersOps at count statuses.NoMemory h i = ⊤
+AnswersOps at count statuses.Unanswered h i = (fewer : ℕ) × (fewer < count) × WroteAccepts at fewer h i
+
+-- of a command that runs a client; nothing is said here of others
+abbrev pub ClientAnswers : Option Command → Status → Option (List ℕ) → Option (List ℕ) → Type 0
+ClientAnswers None s h i = ⊤
+ClientAnswers (Some Replay) s h i = ⊤
+ClientAnswers (Some (Gen number count)) s h i = ⊤
+ClientAnswers (Some (Node id site)) s h i = ⊤
+ClientAnswers (Some (Sequencer id site)) s h i = ⊤
+ClientAnswers (Some (Controller site session install)) s h i = ⊤
+ClientAnswers (Some (Client id site ops)) s h i = AnswersOps (address_of site (actors.Client id)) (length ops) s h i
+ClientAnswers (Some (Cluster site ops)) s h i = ⊤
 
 -- whether a command runs a node
 abbrev pub runs_node : Option Command → Bool

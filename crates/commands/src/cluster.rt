@@ -4,7 +4,7 @@ ghost use Rattle.std.specs.Prelude.{◌≡◌, ◌≤◌, ◌+◌, length};
 ghost use Rattle.one_box.specs.Showing as boxed;
 ghost use Rattle.outside.specs.Causes.{Rose};
 ghost use Rattle.commands.specs.Clusters.{ClusterEnds};
-ghost use Rattle.commands.specs.Nodes.{ports_view};
+ghost use Rattle.commands.specs.Nodes.{ports_view, writes_after};
 
 use crate::status::Status;
 use command_line::{Ops, Site};
@@ -22,7 +22,7 @@ pub(crate) fn run_cluster<P: Ports, T: Clock, K: Sink>(
 ) -> Status
     requires { site.now.base ≤ 65000 }
     ensures ends { ClusterEnds site.now ops
-        (boxed.link_view P.L.answers P.L.own_port P.L.sent P.L.loss_count P.L.fault_count)
+        (boxed.link_view P.L.answers P.L.own_port P.L.trace P.L.loss_count P.L.fault_count)
         (ports_view (P.to_come ports.old) (P.detached ports.old) (P.detached ports.new)
         (P.fault_count ports.old) (P.fault_count ports.new))
         (T.values clock.old) result (K.held sink.old) (K.held sink.new) }
@@ -30,6 +30,7 @@ pub(crate) fn run_cluster<P: Ports, T: Clock, K: Sink>(
         ≡ P.attached ports.old + length (P.detached ports.new) }
     ensures write { result ≡ Status.WriteFault → Rose (K.fault_count sink.old)
         (K.fault_count sink.new) }
+    ensures writes { K.fault_count sink.new ≡ writes_after result (K.fault_count sink.old) }
 {
     let ops = ops.into_vec();
     let base = site.base;

@@ -8,7 +8,7 @@ ghost use Rattle.commands.specs.Clusters.{ClusterCommandEnds, ClusterEndsWithout
 ghost use Rattle.commands.specs.Ending.{ReplayEnds, UsageEnds, EndsWithoutFault, GeneratesWithoutFault};
 ghost use Rattle.commands.specs.Ending.{RefusesWithoutFault};
 ghost use Rattle.commands.specs.Nodes.{EndsNodeWithoutFault, link_view, ports_view};
-ghost use Rattle.commands.specs.Tasks.{CommandEnds, DrawingEnds, draws, runs_node, waits_for_ops};
+ghost use Rattle.commands.specs.Tasks.{ClientAnswers, CommandEnds, DrawingEnds, draws, runs_node, waits_for_ops};
 
 use crate::running::run;
 use crate::status::Status;
@@ -36,11 +36,13 @@ pub fn run_in_memory(
     ensures usage { ¬ Taken words.now →
         UsageEnds (Some sink.old.held) (Some sink.new.held) result }
     ensures node { CommandEnds (asked words.now)
-        (link_view (λ l. l.port) (λ l. Some l.sent) (λ _. 0) (λ _. 0))
+        (link_view (λ l. l.port) (λ l. Some l.trace) (λ _. 0) (λ _. 0))
         (ports_view (Some (answers_of ports.old.links)) ports.old.detached ports.new.detached 0 0)
         (Some clock.old) result (Some sink.old.held) (Some sink.new.held) }
+    ensures client { ClientAnswers (asked words.now) result (Some sink.old.held)
+        (Some sink.new.held) }
     ensures cluster { ClusterCommandEnds (asked words.now)
-        (boxed.link_view (λ l. Some l.answers) (λ l. l.port) (λ l. Some l.sent) (λ _. 0) (λ _. 0))
+        (boxed.link_view (λ l. Some l.answers) (λ l. l.port) (λ l. Some l.trace) (λ _. 0) (λ _. 0))
         (ports_view (Some (answers_of ports.old.links)) ports.old.detached ports.new.detached 0 0)
         (Some clock.old) result (Some sink.old.held) (Some sink.new.held) }
     ensures back { uses_ports (asked words.now) ≡ true → ports.new.attached

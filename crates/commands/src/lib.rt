@@ -1,5 +1,26 @@
-//! What each command of the program does, over any devices, and with which status it ends; the devices of the system for datagrams
-//! and time.
+//! What each command of the program does, over any devices, and with which status it ends. `run` is
+//! the function that `main` calls.
+//!
+//! Clauses of `run`:
+//! - `replay`, `safe`: a replay ends as `replay::replay` says, and at Done, of an observable
+//!   source, the run of its bytes is safe. These two are the theorem (docs/THEOREMS.md, "The
+//!   headline").
+//! - `drawing`: `gen` writes `drawn_summary` at Done, and otherwise a proper prefix of it.
+//! - `node`, `cluster`, `back`: a node runs its core from its initial state over one link, as
+//!   `udp_node` says, and writes its last line; a cluster ends as `one_box` says; each link is
+//!   given back. `client`: over any link, a client that ends Done wrote an accept line for each of
+//!   its ops, and one that ends Unanswered fewer.
+//! - `usage`: arguments that ask for no command are answered by the usage line, or a proper prefix
+//!   of it. `read`, `write`: ReadFault and WriteFault come only where a call on that device failed.
+//!   `writes`, `usage_writes`: of nodes, clusters and the usage line, WriteFault exactly there.
+//! - `.._complete`: where no call failed, the status reports no fault. `unread`, `ports`, `clock`:
+//!   what a command does not use is as before.
+//!
+//! `run_in_memory` is `run` over devices in memory that never fail, where the clauses `.._complete`
+//! have no premise.
+//!
+//! Files: `running`; `node_commands`, `node`, `cluster`; `in_memory`. Definitions: `specs/Words`
+//! (`asked`), `Ending`, `Tasks`, `Nodes`, `Clusters`, `Answers`.
 #![tactic(auto)]
 
 mod cluster;
@@ -7,12 +28,8 @@ mod in_memory;
 mod node;
 mod node_commands;
 mod running;
-mod sockets;
 mod status;
-mod system_clock;
 
 pub use in_memory::run_in_memory;
 pub use running::{USAGE_LINE, run};
-pub use sockets::{UdpLink, UdpPorts};
 pub use status::Status;
-pub use system_clock::SystemClock;

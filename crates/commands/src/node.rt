@@ -1,12 +1,11 @@
 //! A run of a core over the ports, and its last line.
 
 ghost use Rattle.std.specs.Prelude.{◌≡◌, ◌≤◌, ◌+◌, ◌++◌, decimal, length, OnOk};
-ghost use Rattle.outside.specs.Causes.{Rose, HasCauseFor};
-ghost use Rattle.outside.specs.declared.errors.DeviceError.TheVariants as devices;
+ghost use Rattle.outside.specs.Causes.{Counts, Rose};
 ghost use Rattle.udp_node.specs.Effects.{Writes};
 ghost use Rattle.udp_node.specs.NodeRun.{first_inputs};
 ghost use Rattle.udp_node.specs.Sends.{side};
-ghost use Rattle.commands.specs.Nodes.{served_line, end_status, task_of, RunTold, IsNodeStatus};
+ghost use Rattle.commands.specs.Nodes.{served_line, end_status, task_of, RunTold, IsNodeStatus, writes_after};
 ghost use Rattle.commands.specs.Nodes.{EndsInLine, link_view, ports_view, NodeEnds};
 
 use crate::status::Status;
@@ -45,8 +44,7 @@ fn put_served(served: Served, to: &mut Vec<u8>) -> Result<(), NoMemory>
 fn write_served<K: Sink>(alloc: Global, served: Served, sink: &mut K) -> Result<(), WriteError>
     ensures line { Writes (served_line served.turns served.lost) result (K.held sink.old)
         (K.held sink.new) }
-    ensures cause { HasCauseFor (K.fault_count sink.old) (K.fault_count sink.new)
-        devices.Failed result }
+    ensures count { Counts (K.fault_count sink.old) (K.fault_count sink.new) result }
 {
     let mut line = Vec::new(alloc);
     put_served(served, &mut line)?;
@@ -88,15 +86,19 @@ fn run_link<C: Core, L: Link, T: Clock, K: Sink>(
     ensures run { RunTold (task_of C.next C.is_done C.timers (C.state core.old) at.now
         (first_inputs task.now.first) task.now.turns task.now.waits)
         (L.answers link.old) (T.values clock.old) result
-        (side (L.sent link.old) 0 (L.loss_count link.old))
-        (side (L.sent link.new) 0 (L.loss_count link.new)) (K.held sink.old) (K.held sink.new) }
+        (side (L.trace link.old) 0 (L.loss_count link.old))
+        (side (L.trace link.new) 0 (L.loss_count link.new)) (K.held sink.old) (K.held sink.new) }
     ensures status { IsNodeStatus task.now.waits result }
-    ensures last { EndsInLine task.now.turns result (K.held sink.old) (K.held sink.new) }
+    ensures last { EndsInLine (task_of C.next C.is_done C.timers (C.state core.old) at.now
+        (first_inputs task.now.first) task.now.turns task.now.waits)
+        (L.loss_count link.old) (L.loss_count link.new) result
+        (K.held sink.old) (K.held sink.new) }
     ensures port { L.own_port link.new ≡ L.own_port link.old }
     ensures poll { result ≡ Status.LinkFault → Rose (L.fault_count link.old)
         (L.fault_count link.new) }
     ensures write { result ≡ Status.WriteFault → Rose (K.fault_count sink.old)
         (K.fault_count sink.new) }
+    ensures writes { K.fault_count sink.new ≡ writes_after result (K.fault_count sink.old) }
 {
     let place = copied(at);
     let first = task.first;
@@ -127,7 +129,7 @@ pub(crate) fn run_core<C: Core, P: Ports, T: Clock, K: Sink>(
     requires timers { length C.timers ≤ 255 }
     ensures ends { NodeEnds (task_of C.next C.is_done C.timers (C.state core.old) at.now
         (first_inputs task.now.first) task.now.turns task.now.waits)
-        (link_view P.L.own_port P.L.sent P.L.loss_count P.L.fault_count)
+        (link_view P.L.own_port P.L.trace P.L.loss_count P.L.fault_count)
         (ports_view (P.to_come ports.old) (P.detached ports.old) (P.detached ports.new)
         (P.fault_count ports.old) (P.fault_count ports.new))
         (T.values clock.old) result (K.held sink.old) (K.held sink.new) }
@@ -136,6 +138,7 @@ pub(crate) fn run_core<C: Core, P: Ports, T: Clock, K: Sink>(
         ≡ P.attached ports.old + length (P.detached ports.new) }
     ensures write { result ≡ Status.WriteFault → Rose (K.fault_count sink.old)
         (K.fault_count sink.new) }
+    ensures writes { K.fault_count sink.new ≡ writes_after result (K.fault_count sink.old) }
 {
     match ports.attach(at.port_of(at.own)) {
         Ok(link) => {

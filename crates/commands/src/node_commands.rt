@@ -3,7 +3,7 @@
 ghost use Rattle.std.specs.Prelude.{◌≡◌, ◌≤◌, ◌<◌, ◌+◌, false, length, true};
 ghost use Rattle.nop_types.specs.declared.limits.TheConstants.{MAX_SEQUENCERS};
 ghost use Rattle.outside.specs.Causes.{Rose};
-ghost use Rattle.commands.specs.Nodes.{IsNodeStatus, link_view, ports_view, NodeEnds};
+ghost use Rattle.commands.specs.Nodes.{IsNodeStatus, link_view, ports_view, NodeEnds, writes_after};
 ghost use Rattle.commands.specs.Tasks.{install_tick, replica_task, sequencer_task, controller_task, client_task};
 
 use crate::node::{Task, run_core};
@@ -52,7 +52,7 @@ pub(crate) fn run_replica<P: Ports, T: Clock, K: Sink>(
     requires id { id < site.now.config.replicas }
     requires base { site.now.base ≤ 65000 }
     ensures ends { NodeEnds (replica_task id site.now)
-        (link_view P.L.own_port P.L.sent P.L.loss_count P.L.fault_count)
+        (link_view P.L.own_port P.L.trace P.L.loss_count P.L.fault_count)
         (ports_view (P.to_come ports.old) (P.detached ports.old) (P.detached ports.new)
         (P.fault_count ports.old) (P.fault_count ports.new))
         (T.values clock.old) result (K.held sink.old) (K.held sink.new) }
@@ -61,6 +61,7 @@ pub(crate) fn run_replica<P: Ports, T: Clock, K: Sink>(
         ≡ P.attached ports.old + length (P.detached ports.new) }
     ensures write { result ≡ Status.WriteFault → Rose (K.fault_count sink.old)
         (K.fault_count sink.new) }
+    ensures writes { K.fault_count sink.new ≡ writes_after result (K.fault_count sink.old) }
 {
     match Replica::<KvHost>::new(alloc, site.config, id) {
         Ok(core) => {
@@ -84,7 +85,7 @@ pub(crate) fn run_sequencer<P: Ports, T: Clock, K: Sink>(
     requires id { id < MAX_SEQUENCERS }
     requires base { site.now.base ≤ 65000 }
     ensures ends { NodeEnds (sequencer_task id site.now)
-        (link_view P.L.own_port P.L.sent P.L.loss_count P.L.fault_count)
+        (link_view P.L.own_port P.L.trace P.L.loss_count P.L.fault_count)
         (ports_view (P.to_come ports.old) (P.detached ports.old) (P.detached ports.new)
         (P.fault_count ports.old) (P.fault_count ports.new))
         (T.values clock.old) result (K.held sink.old) (K.held sink.new) }
@@ -93,6 +94,7 @@ pub(crate) fn run_sequencer<P: Ports, T: Clock, K: Sink>(
         ≡ P.attached ports.old + length (P.detached ports.new) }
     ensures write { result ≡ Status.WriteFault → Rose (K.fault_count sink.old)
         (K.fault_count sink.new) }
+    ensures writes { K.fault_count sink.new ≡ writes_after result (K.fault_count sink.old) }
 {
     match Sequencer::new(alloc, id) {
         Ok(core) => {
@@ -127,7 +129,7 @@ pub(crate) fn run_controller<P: Ports, T: Clock, K: Sink>(
     requires session { 1 ≤ session }
     requires base { site.now.base ≤ 65000 }
     ensures ends { NodeEnds (controller_task site.now session j)
-        (link_view P.L.own_port P.L.sent P.L.loss_count P.L.fault_count)
+        (link_view P.L.own_port P.L.trace P.L.loss_count P.L.fault_count)
         (ports_view (P.to_come ports.old) (P.detached ports.old) (P.detached ports.new)
         (P.fault_count ports.old) (P.fault_count ports.new))
         (T.values clock.old) result (K.held sink.old) (K.held sink.new) }
@@ -136,6 +138,7 @@ pub(crate) fn run_controller<P: Ports, T: Clock, K: Sink>(
         ≡ P.attached ports.old + length (P.detached ports.new) }
     ensures write { result ≡ Status.WriteFault → Rose (K.fault_count sink.old)
         (K.fault_count sink.new) }
+    ensures writes { K.fault_count sink.new ≡ writes_after result (K.fault_count sink.old) }
 {
     match Controller::new(alloc, site.config, session) {
         Ok(core) => {
@@ -159,7 +162,7 @@ pub(crate) fn run_client<P: Ports, T: Clock, K: Sink>(
 ) -> Status
     requires { site.now.base ≤ 65000 }
     ensures ends { NodeEnds (client_task id site.now ops)
-        (link_view P.L.own_port P.L.sent P.L.loss_count P.L.fault_count)
+        (link_view P.L.own_port P.L.trace P.L.loss_count P.L.fault_count)
         (ports_view (P.to_come ports.old) (P.detached ports.old) (P.detached ports.new)
         (P.fault_count ports.old) (P.fault_count ports.new))
         (T.values clock.old) result (K.held sink.old) (K.held sink.new) }
@@ -168,6 +171,7 @@ pub(crate) fn run_client<P: Ports, T: Clock, K: Sink>(
         ≡ P.attached ports.old + length (P.detached ports.new) }
     ensures write { result ≡ Status.WriteFault → Rose (K.fault_count sink.old)
         (K.fault_count sink.new) }
+    ensures writes { K.fault_count sink.new ≡ writes_after result (K.fault_count sink.old) }
 {
     match Client::new(alloc, site.config, id, ops.into_vec()) {
         Ok(core) => {

@@ -9,8 +9,8 @@ ghost use Rattle.commands.specs.Words.{asked, Taken};
 ghost use Rattle.commands.specs.Clusters.{ClusterCommandEnds, ClusterEndsWithoutFault, runs_cluster, uses_ports};
 ghost use Rattle.commands.specs.Ending.{ReplayEnds, GenEnds, UsageEnds, EndsWithoutFault, GeneratesWithoutFault};
 ghost use Rattle.commands.specs.Ending.{RefusesWithoutFault};
-ghost use Rattle.commands.specs.Nodes.{EndsNodeWithoutFault, link_view, ports_view};
-ghost use Rattle.commands.specs.Tasks.{CommandEnds, DrawingEnds, draws, runs_node, waits_for_ops};
+ghost use Rattle.commands.specs.Nodes.{EndsNodeWithoutFault, link_view, ports_view, writes_after};
+ghost use Rattle.commands.specs.Tasks.{ClientAnswers, CommandEnds, DrawingEnds, draws, runs_node, waits_for_ops};
 
 use crate::cluster::run_cluster;
 use crate::node_commands::{run_client, run_controller, run_replica, run_sequencer};
@@ -62,6 +62,7 @@ fn write_usage<K: Sink>(sink: &mut K) -> Status
     ensures ends { UsageEnds (K.held sink.old) (K.held sink.new) result }
     ensures write { result ≡ Status.WriteFault → Rose (K.fault_count sink.old)
         (K.fault_count sink.new) }
+    ensures writes { K.fault_count sink.new ≡ writes_after result (K.fault_count sink.old) }
 {
     match write_all(sink, USAGE_LINE.as_bytes()) {
         Ok(()) => Status::Usage,
@@ -86,15 +87,16 @@ fn carry_out<S: Source, K: Sink, P: Ports, C: Clock>(
         RunsSafelyOf kv_meaning (S.left source.old) }
     ensures drawing { DrawingEnds (Some command) result (K.held sink.old) (K.held sink.new) }
     ensures node { CommandEnds (Some command)
-        (link_view P.L.own_port P.L.sent P.L.loss_count P.L.fault_count)
+        (link_view P.L.own_port P.L.trace P.L.loss_count P.L.fault_count)
         (ports_view (P.to_come ports.old) (P.detached ports.old) (P.detached ports.new)
         (P.fault_count ports.old) (P.fault_count ports.new))
         (C.values clock.old) result (K.held sink.old) (K.held sink.new) }
     ensures cluster { ClusterCommandEnds (Some command)
-        (boxed.link_view P.L.answers P.L.own_port P.L.sent P.L.loss_count P.L.fault_count)
+        (boxed.link_view P.L.answers P.L.own_port P.L.trace P.L.loss_count P.L.fault_count)
         (ports_view (P.to_come ports.old) (P.detached ports.old) (P.detached ports.new)
         (P.fault_count ports.old) (P.fault_count ports.new))
         (C.values clock.old) result (K.held sink.old) (K.held sink.new) }
+    ensures client { ClientAnswers (Some command) result (K.held sink.old) (K.held sink.new) }
     ensures back { uses_ports (Some command) ≡ true
         → P.attached ports.new + length (P.detached ports.old)
         ≡ P.attached ports.old + length (P.detached ports.new) }
@@ -102,6 +104,8 @@ fn carry_out<S: Source, K: Sink, P: Ports, C: Clock>(
         (S.fault_count source.new) }
     ensures write { result ≡ Status.WriteFault → Rose (K.fault_count sink.old)
         (K.fault_count sink.new) }
+    ensures writes { uses_ports (Some command) ≡ true → K.fault_count sink.new
+        ≡ writes_after result (K.fault_count sink.old) }
     ensures unread { command ≢ Command.Replay → source.new ≡ source.old }
     ensures ports { uses_ports (Some command) ≡ false → ports.new ≡ ports.old }
     ensures clock { uses_ports (Some command) ≡ false → clock.new ≡ clock.old }
@@ -137,12 +141,12 @@ pub fn run<S: Source, K: Sink, P: Ports, C: Clock>(
     ensures drawing { DrawingEnds (asked words.now) result (K.held sink.old) (K.held sink.new) }
     ensures usage { ¬ Taken words.now → UsageEnds (K.held sink.old) (K.held sink.new) result }
     ensures node { CommandEnds (asked words.now)
-        (link_view P.L.own_port P.L.sent P.L.loss_count P.L.fault_count)
+        (link_view P.L.own_port P.L.trace P.L.loss_count P.L.fault_count)
         (ports_view (P.to_come ports.old) (P.detached ports.old) (P.detached ports.new)
         (P.fault_count ports.old) (P.fault_count ports.new))
         (C.values clock.old) result (K.held sink.old) (K.held sink.new) }
     ensures cluster { ClusterCommandEnds (asked words.now)
-        (boxed.link_view P.L.answers P.L.own_port P.L.sent P.L.loss_count P.L.fault_count)
+        (boxed.link_view P.L.answers P.L.own_port P.L.trace P.L.loss_count P.L.fault_count)
         (ports_view (P.to_come ports.old) (P.detached ports.old) (P.detached ports.new)
         (P.fault_count ports.old) (P.fault_count ports.new))
         (C.values clock.old) result (K.held sink.old) (K.held sink.new) }
@@ -153,6 +157,15 @@ pub fn run<S: Source, K: Sink, P: Ports, C: Clock>(
         (S.fault_count source.new) }
     ensures write { result ≡ Status.WriteFault → Rose (K.fault_count sink.old)
         (K.fault_count sink.new) }
+
+    // A client over any link: Done with an accept line for each op, Unanswered with fewer.
+    ensures client { ClientAnswers (asked words.now) result (K.held sink.old) (K.held sink.new) }
+
+    // Of a node, a cluster and words that are not taken: a write that fails is told.
+    ensures writes { uses_ports (asked words.now) ≡ true → K.fault_count sink.new
+        ≡ writes_after result (K.fault_count sink.old) }
+    ensures usage_writes { ¬ Taken words.now → K.fault_count sink.new
+        ≡ writes_after result (K.fault_count sink.old) }
     ensures replay_complete { asked words.now ≡ Some Command.Replay
         → ¬ Rose (S.fault_count source.old) (S.fault_count source.new)
         → ¬ Rose (K.fault_count sink.old) (K.fault_count sink.new) → EndsWithoutFault result }
@@ -176,7 +189,7 @@ pub fn run<S: Source, K: Sink, P: Ports, C: Clock>(
         → ¬ Rose (P.fault_count ports.old) (P.fault_count ports.new)
         → ¬ Rose (K.fault_count sink.old) (K.fault_count sink.new)
         → ¬ PollFailed
-        (boxed.link_view P.L.answers P.L.own_port P.L.sent P.L.loss_count P.L.fault_count)
+        (boxed.link_view P.L.answers P.L.own_port P.L.trace P.L.loss_count P.L.fault_count)
         (P.detached ports.old) (P.detached ports.new)
         → ClusterEndsWithoutFault result }
     ensures unread { asked words.now ≢ Some Command.Replay → source.new ≡ source.old }

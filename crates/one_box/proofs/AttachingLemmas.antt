@@ -8,13 +8,13 @@ use Rattle.facts.proofs.Places.{Splits-at}
 use Rattle.nop_types.specs.Configuration.{Configuration}
 use Rattle.nop_types.specs.declared.output.Actor.{Actor}
 use Rattle.nop_types.specs.declared.output.Actor.TheVariants as kinds
-use Rattle.outside.specs.Causes.{Rose, HasCauseFor}
+use Rattle.outside.specs.Causes.{Rose, HasCauseFor, count_after}
 use Rattle.outside.specs.Ports.{GivesNext, next_link}
 use Rattle.nop_types.specs.declared.input.Tick.{Tick}
 use Rattle.outside.specs.declared.errors.DeviceError.{DeviceError}
 use Rattle.outside.specs.declared.errors.DeviceError.TheVariants.{Failed, NoMemory}
 use Rattle.outside.specs.declared.link.PollAnswer.{PollAnswer}
-use Rattle.outside.specs.declared.link.Sent as links
+use Rattle.outside.specs.declared.link.LinkCall.{LinkCall}
 use Rattle.udp_node.specs.declared.address.Address.{Address}
 use Rattle.udp_node.specs.declared.firing.Timer.{Timer}
 use Rattle.udp_node.specs.Sends.{LinkSide, Sends, side}
@@ -27,7 +27,7 @@ use Rattle.one_box.specs.declared.node.Node as code
 use Rattle.one_box.specs.Actors.{numbered}
 use Rattle.one_box.specs.Attaching.{IsFresh, AttachesOne, AttachesAll, AttachingOn, Holds, HasRoom, place_for}
 use Rattle.one_box.specs.ClusterRun.{Node, opening_node, opening_nodes}
-use Rattle.one_box.specs.Showing.{LinkView, Shows, AllShow, BasesFit, place_of}
+use Rattle.one_box.specs.Showing.{LinkView, Shows, AllShow, AllLostFit, BasesFit, place_of}
 
 -- ---- the actors of a kind
 
@@ -79,23 +79,23 @@ module _ {L : Type 0} (v : LinkView L) (base : ℕ) (config : Configuration) (no
   shown_push (k ∷ ns) [] n x all one = absurd all
   shown_push (k ∷ ns) (y ∷ xs) n x all one = (all.0, shown_push ns xs n x all.1 one)
 
-  fresh_side : (sent : Option (List links.Sent)) (lost losses : ℕ) → sent ≡ Some [] → lost ≡ 0 → losses ≡ 0
+  fresh_side : (sent : Option (List LinkCall)) (lost losses : ℕ) → sent ≡ Some [] → lost ≡ 0 → losses ≡ 0
       → Sends [] (side (Some []) 0 0) (side sent lost losses)
   fresh_side sent lost losses s l k =
       let same : side (Some []) 0 0 ≡ side sent lost losses =
-      sym (ap (λ (o : Option (List links.Sent)). side o lost losses) s ∙ ap (λ (n : ℕ). side (Some []) n losses) l
+      sym (ap (λ (o : Option (List LinkCall)). side o lost losses) s ∙ ap (λ (n : ℕ). side (Some []) n losses) l
       ∙ ap (side (Some []) 0) k) in
       subst (λ (b : LinkSide). Sends [] (side (Some []) 0 0) b) same (no_sends (side (Some []) 0 0))
 
   fresh_shows : (a : Actor) (polls : List (List PollAnswer)) (x : code.Node L) (new : Option (List (List PollAnswer)))
       → IsFresh v (record { base = base; own = a; config = config }) (map (armed now) (timers_of (opening config) a)) x
-      → GivesNext (Some polls) new (v.answers x.link) (v.sent x.link) → Shows v (opening_node base config now a (next_link polls)) x
+      → GivesNext (Some polls) new (v.answers x.link) (v.trace x.link) → Shows v (opening_node base config now a (next_link polls)) x
   fresh_shows a polls x new fresh gives = record {
     at = fresh.at;
     next_op = fresh.next_op;
     timers = fresh.timers;
     answers = gives.1;
-    sends = fresh_side (v.sent x.link) x.lost (v.losses x.link) gives.2 fresh.lost fresh.losses;
+    sends = fresh_side (v.trace x.link) x.lost (v.losses x.link) gives.2 fresh.lost fresh.losses;
   }
 
   pub attaching_first : (to_come : Option (List (List PollAnswer))) (xs : List (code.Node L)) → xs ≡ []
@@ -112,8 +112,8 @@ module _ {L : Type 0} (v : LinkView L) (base : ℕ) (config : Configuration) (no
       let actors : List Actor = take i all in
       let front : take (i + 1) all ≡ actors ++ a ∷ [] = ap (λ (k : ℕ). take k all) (add-one i) ∙ (Splits-at all i a there).front in
       let left : List (List PollAnswer) = drop (length actors) polls in
-      let gives : GivesNext (Some left) new (v.answers one.node.link) (v.sent one.node.link) =
-      subst (λ (o : Option (List (List PollAnswer))). GivesNext o new (v.answers one.node.link) (v.sent one.node.link)) before.0
+      let gives : GivesNext (Some left) new (v.answers one.node.link) (v.trace one.node.link) =
+      subst (λ (o : Option (List (List PollAnswer))). GivesNext o new (v.answers one.node.link) (v.trace one.node.link)) before.0
       one.content in
       let place : Address = record { base = base; own = a; config = config } in
       let fresh : IsFresh v place (map (armed now) (timers_of (opening config) a)) one.node =
@@ -154,6 +154,15 @@ module _ {L : Type 0} (v : LinkView L) (base : ℕ) (config : Configuration) (no
       → map (place_of v) xs ≡ map (place_for base config) (take i all) → map (place_of v) xs ≡ map (place_for base config) all
   places_all all i xs past places = places ∙ ap (map (place_for base config)) (take_all i all past)
 
+-- what was counted as lost stays counted where a fresh link comes
+pub lost_push : {L : Type 0} (v : LinkView L) (xs ys : List (code.Node L)) (x : code.Node L) → ys ≡ xs ++ x ∷ [] → x.lost ≡ 0
+    → AllLostFit v xs → AllLostFit v ys
+lost_push {L} v xs ys x added none all = subst (AllLostFit v) (sym added) (behind xs all)
+  where
+    behind : (zs : List (code.Node L)) → AllLostFit v zs → AllLostFit v (zs ++ x ∷ [])
+    behind [] fits = (omega (arith, none), tt)
+    behind (z ∷ zs) fits = (fits.0, behind zs fits.1)
+
 -- ---- how many links are held
 
 rose_from : (a b c : ℕ) → a ≤ b → Rose b c → Rose a c
@@ -163,12 +172,11 @@ rose_from a b c le rose = omega (arith, le, rose)
 pub cause_since : {T E : Type 0} (a b c : ℕ) (error : E) (r : Result T E) → a ≤ b → HasCauseFor b c error r → HasCauseFor a c error r
 cause_since a b c error r le h = record { later = omega (arith, le, h.later); failed = λ is. rose_from a b c le (h.failed is) }
 
--- an error is the same whatever the result was to be
-pub cause_as : {T U : Type 0} (a b : ℕ) (e : DeviceError) → HasCauseFor {T = T} a b Failed (Err e) → HasCauseFor {T = U} a b Failed (Err e)
-cause_as {T} {U} a b e h = record { later = h.later; failed = λ is. h.failed (ap Err (same is)) }
-  where
-    same : (let r : Result U DeviceError = Err e in r ≡ Err Failed) → e ≡ Failed
-    same is = cc
+-- the count of one call tells a cause
+pub counted_cause : {T : Type 0} (a b : ℕ) (e : DeviceError) → a ≤ b → b ≡ count_after {T = Unit {0}} (Err e) a
+    → HasCauseFor {T = T} a b Failed (Err e)
+counted_cause a b Failed later is = record { later = later; failed = λ told. omega (arith, is) }
+counted_cause a b NoMemory later is = record { later = later; failed = λ told. absurd cc }
 
 pub memory_cause : {T : Type 0} (a b : ℕ) → a ≤ b → HasCauseFor {T = T} a b Failed (Err NoMemory)
 memory_cause a b le = record { later = le; failed = λ is. absurd cc }

@@ -1,8 +1,9 @@
 -- A cluster from its links to what it wrote.
-use Rattle.std.proofs.Common.{◌≡◌, ◌≤◌, ℕ, ◌+◌, List, [], ◌++◌, length, map, true, Option, Some, None, Result, Ok, Err}
+use Rattle.std.proofs.Common.{◌≡◌, ◌≤◌, ℕ, ◌+◌, ◌-◌, ◌^◌, min, List, [], ◌∷◌, ◌++◌, length, map, true, Option, Some, None, Result, Ok, Err}
 use Rattle.std.proofs.Common.{refl, sym, ap, subst, ◌∙◌, arith, inl, inr, length-append}
 use Rattle.std.proofs.lemmas.List.{length-map}
-use Rattle.std.specs.Prelude.{◌⊎◌, ◌==◌, IsErrOf}
+use Rattle.std.proofs.lemmas.List.Sums.{sum_by-cons}
+use Rattle.std.specs.Prelude.{◌⊎◌, ◌==◌, sum, IsErrOf}
 use Rattle.std.specs.Io.KnownBytes.{Appends}
 use Rattle.std.proofs.lemmas.Grind.{common_steps}
 use Rattle.nop_types.specs.Configuration.{Configuration, is_configuration}
@@ -25,12 +26,12 @@ use Rattle.one_box.specs.declared.errors.ClusterError.TheVariants as errors
 use Rattle.one_box.specs.declared.node.Node as code
 use Rattle.one_box.specs.declared.serving.Taken.{Taken}
 use Rattle.one_box.specs.Actors.{actors_of}
-use Rattle.one_box.specs.Attaching.{AttachesAll, Holds, HasRoom, place_for, lost_by}
+use Rattle.one_box.specs.Attaching.{AttachesAll, Holds, HasRoom, place_for, lost_after, lost_by}
 use Rattle.one_box.specs.Boxing.{WritesRun, IsToldRun, IsNoRun, RanTurns, BreaksOff, RunsOr, Tells, TellsOf}
 use Rattle.one_box.specs.Boxing.{Ran, text_of, EndsWith, PollFailed, error_of}
 use Rattle.one_box.specs.ClusterRun.{Course, Node, ClusterRun, turns_from, opening_course, opening_nodes, cluster_run}
 use Rattle.one_box.specs.Running.{IsRunIf, EndsAs, RunsTold, Runs}
-use Rattle.one_box.specs.Showing.{LinkView, IsLedTo, AllShow, place_of}
+use Rattle.one_box.specs.Showing.{LinkView, IsLedTo, AllShow, AllLostFit, place_of}
 use Rattle.one_box.specs.Text.{cluster_text}
 
 -- ---- the turns
@@ -79,20 +80,21 @@ module _ {S L : Type 0} (m : Meaning S) (v : LinkView L) (config : Configuration
 
     -- the turns after all links were attached
     pub turns_run : (r : Result Taken DeviceError) (faults faults_now : ℕ) (det here : List L)
-        → RunsTold v m ops turns now later r c xs d ys → Runs v m ops turns r c d ys
+        → RunsTold v m ops turns now later r c xs d ys → Runs v m ops turns r c xs d ys → AllLostFit v xs
         → map (place_of v) ys ≡ map (place_for base config) (actors_of config) → here ≡ det
         → RunsOr m v config ops base turns to_come first faults faults_now det here r d ys
-    turns_run (Ok taken) faults faults_now det here told runs places given = record {
+    turns_run (Ok taken) faults faults_now det here told runs fits places given = record {
       told = told_run taken told;
       led = runs.goes config (subst (IsLedTo m config) (sym opens) (led_opening m config));
       done = runs.done;
       spent = runs.spent;
+      lost = runs.lost fits;
       places = places;
       given = given;
     }
-    turns_run (Err Failed) faults faults_now det here told runs places given =
+    turns_run (Err Failed) faults faults_now det here told runs fits places given =
         inr (record { given = given; fault = runs; none = told_none told })
-    turns_run (Err devices.NoMemory) faults faults_now det here told runs places given = tt
+    turns_run (Err devices.NoMemory) faults faults_now det here told runs fits places given = tt
 
   -- a link that was not attached
   pub unattached : (e : DeviceError) (polls : Option (List (List PollAnswer))) (values : Option (List ℕ)) (faults faults_now : ℕ)
@@ -129,6 +131,18 @@ all_back {L} first mid last det here there xs holds same back =
     let count : length there ≡ length here + length xs =
     ap length back ∙ length-append here links ∙ ap (λ (n : ℕ). length here + n) (length-map xs (λ (x : code.Node L). x.link)) in
     omega (arith, holds, same, count)
+
+-- no more is lost than the links counted
+lost_most : {L : Type 0} (v : LinkView L) (n : ℕ) (xs : List (code.Node L)) → AllLostFit v xs
+    → lost_after n xs ≤ n + sum (map (λ x. v.losses x.link) xs)
+lost_most {L} v n [] fits = omega arith
+lost_most {L} v n (x ∷ xs) fits =
+    let rest = lost_most v (min (n + x.lost) (2 ^ 64 - 1)) xs fits.1 in
+    let one : min x.lost (2 ^ 64 - 1) ≤ v.losses x.link = fits.0 in
+    let others : List ℕ = map (λ (y : code.Node L). v.losses y.link) xs in
+    let all = sum_by-cons (λ (k : ℕ). k) (v.losses x.link) others in
+    let goal : lost_after (min (n + x.lost) (2 ^ 64 - 1)) xs ≤ n + sum (v.losses x.link ∷ others) = omega (arith, rest, one, all) in
+    goal
 
 -- ---- how it ends
 
@@ -178,6 +192,7 @@ module _ {S L : Type 0} (m : Meaning S) (v : LinkView L) (config : Configuration
       back = given ∙ ap (λ (ls : List L). ls ++ map (λ x. x.link) xs) t.given;
       places = t.places;
       lost = lost_is;
+      most = let all = lost_most v 0 xs t.lost in omega (arith, all, lost_is);
       tells = tells_of polls values t.told;
     }
 

@@ -145,6 +145,7 @@ module _ {S L : Type 0} (m : Meaning S) (v : LinkView L) (ops : List (List ℕ))
         let here : Reaches v (take_event m None c n) c x = record { course = refl; node = shown } in
         subst (λ (p : Course × Node). Reaches v p c x) (sym (is_fired n shown ∙ ap (λ (p : Option Event). take_event m p c n) none)) here;
     goes = λ config led. led;
+    lost = λ fits. fits;
   }
 
   pub fired_some : (e : Event) (place : ℕ) (r : Result (Unit {0}) NoMemory) → o ≡ Some e
@@ -166,4 +167,5 @@ module _ {S L : Type 0} (m : Meaning S) (v : LinkView L) (ops : List (List ℕ))
         let here : Reaches v (take_event m (Some e) c n) d y = acts.does k shows in
         subst (λ (p : Course × Node). Reaches v p d y) (sym (is_fired n shown ∙ ap (λ (p : Option Event). take_event m p c n) some)) here;
     goes = acts.goes;
+    lost = acts.lost;
   }

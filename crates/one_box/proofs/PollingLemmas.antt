@@ -1,30 +1,29 @@
 -- One poll of an actor.
-use Rattle.std.proofs.Common.{◌≡◌, ℕ, List, [], ◌++◌, drop, map, Option, Some, None, Result, Ok, Err, OnOk}
-use Rattle.std.proofs.Common.{refl, sym, ap, subst, ◌∙◌, append-nil, arith}
+use Rattle.std.proofs.Common.{◌≡◌, ℕ, List, [], ◌∷◌, drop, map, Option, Some, None, Result, Ok, Err, OnOk}
+use Rattle.std.proofs.Common.{refl, sym, ap, subst, ◌∙◌, arith}
 use Rattle.nop_types.specs.Configuration.{Configuration}
 use Rattle.nop_types.specs.Meaning.{Meaning}
-use Rattle.outside.specs.Causes.{Rose, HasCauseFor}
+use Rattle.outside.specs.Causes.{Counts, next_count}
 use Rattle.outside.specs.Links.{next_poll, Polls}
-use Rattle.outside.specs.Plans.{next_count}
-use Rattle.outside.specs.Told.{Stays}
 use Rattle.outside.specs.declared.errors.DeviceError.{DeviceError}
 use Rattle.outside.specs.declared.errors.DeviceError.TheVariants as devices
 use Rattle.nop_types.specs.declared.memory.NoMemory.{NoMemory}
 use Rattle.outside.specs.declared.link.PollAnswer.{PollAnswer}
 use Rattle.outside.specs.declared.link.PollAnswer.TheVariants.{Received, Nothing, Failure}
-use Rattle.outside.specs.declared.link.Sent as links
+use Rattle.outside.specs.declared.link.LinkCall.TheVariants.{Polled}
 use Rattle.schedule_text.specs.declared.event.Event.TheVariants as events
 use Rattle.udp_node.specs.declared.address.Address.{Address}
 use Rattle.udp_node.specs.Sends.{LinkSide, Sends, side}
 use Rattle.udp_node.specs.Timing.{rearmed, Takes}
 use Rattle.udp_node.proofs.SendLemmas.{sends_then}
-use Rattle.udp_node.proofs.TurnLemmas.{answer_of, polled, poll_failed, quiet}
+use Rattle.udp_node.proofs.TurnLemmas.{answer_of, poll_taken, poll_failed}
 use Rattle.network.specs.Finding.{first_index}
 use Rattle.one_box.specs.declared.node.Node as code
 use Rattle.one_box.specs.ClusterRun as run
-use Rattle.one_box.specs.ClusterRun.{Course, Node, take, deliver, poll, fire_due, node_turn}
-use Rattle.one_box.specs.Showing.{LinkView, IsLedTo, Shows, Reaches, ReachesIf, Acts, Served, Serves, posts}
+use Rattle.one_box.specs.ClusterRun.{Course, Node, take, deliver, poll, after_poll, fire_due, node_turn}
+use Rattle.one_box.specs.Showing.{LinkView, IsLedTo, Shows, Reaches, ReachesIf, Acts, Served, Serves}
 use Rattle.one_box.proofs.LeadingLemmas.{goes_through}
+use Rattle.one_box.proofs.SendingLemmas.{lost_fits}
 
 -- what is led to by events does not depend on what was dropped
 led_with_stray : {S : Type 0} (m : Meaning S) (config : Configuration) (c : Course) (n : ℕ) → IsLedTo m config c
@@ -45,6 +44,7 @@ module _ {S L : Type 0} (m : Meaning S) (v : LinkView L) (c d : Course) (x y : c
         subst (λ (a : Address). Reaches v (take m c n (events.Deliver index a.own)) d y) shown.at (acts.does n shown) in
         subst (λ (o : Option ℕ). Reaches v (deliver m o c n) d y) is here;
     goes = acts.goes;
+    lost = acts.lost;
   }
 
   -- it equals none
@@ -56,76 +56,77 @@ module _ {S L : Type 0} (m : Meaning S) (v : LinkView L) (c d : Course) (x y : c
         let here : Reaches v (deliver m None c n) d x = record { course = sym strays; node = shown } in
         subst (λ (o : Option ℕ). Reaches v (deliver m o c n) d x) is here;
     goes = λ config led. subst (IsLedTo m config) (sym strays) (led_with_stray m config c (next_count c.stray) led);
+    lost = λ fits. fits;
   }
 
 -- the link after a poll, with the timers that were due
 module _ {S L : Type 0} (m : Meaning S) (v : LinkView L) (now : ℕ) (c d : Course) (x z y : code.Node L) (at : z.at ≡ x.at)
-    (next_op : z.next_op ≡ x.next_op) (timers : z.timers.items ≡ map (rearmed now) x.timers.items) (lost : z.lost ≡ x.lost)
-    (sent : Stays (v.sent x.link) (v.sent z.link)) (losses : v.losses z.link ≡ v.losses x.link) where
-  after : Node → Node
-  after n = record n { timers = map (rearmed now) n.timers; answers = drop 1 n.answers }
+    (next_op : z.next_op ≡ x.next_op) (timers : z.timers.items ≡ map (rearmed now) x.timers.items) where
+  abbrev before : LinkSide
+  before = side (v.trace x.link) x.lost (v.losses x.link)
 
-  shows_after : (n : Node) → Shows v n x → v.answers z.link ≡ Some (drop 1 n.answers)
-      → Shows v (record n { timers = map (rearmed now) n.timers; answers = drop 1 n.answers }) z
-  shows_after n shown answers =
-      let a : LinkSide = side (Some []) 0 0 in
-      let b : LinkSide = side (v.sent x.link) x.lost (v.losses x.link) in
-      let e : LinkSide = side (v.sent z.link) z.lost (v.losses z.link) in
-      let all : Sends (posts n.at n.sent ++ []) a e = sends_then (posts n.at n.sent) [] a b e shown.sends (quiet b e sent lost losses) in
-      record {
-        at = at ∙ shown.at;
-        next_op = next_op ∙ shown.next_op;
-        timers = timers ∙ ap (map (rearmed now)) shown.timers;
-        answers = answers;
-        sends = subst (λ (ds : List links.Sent). Sends ds a e) (append-nil (posts n.at n.sent)) all;
-      }
+  abbrev after : LinkSide
+  after = side (v.trace z.link) z.lost (v.losses z.link)
+
+  shows_after : (n : Node) → Sends (Polled ∷ []) before after → Shows v n x → v.answers z.link ≡ Some (drop 1 n.answers)
+      → Shows v (after_poll m now n) z
+  shows_after n polled shown answers = record {
+    at = at ∙ shown.at;
+    next_op = next_op ∙ shown.next_op;
+    timers = timers ∙ ap (map (rearmed now)) shown.timers;
+    answers = answers;
+    sends = sends_then n.trace (Polled ∷ []) (side (Some []) 0 0) before after shown.sends polled;
+  }
 
   taken : (n : Node) (r : Option (List ℕ)) → Shows v n x → Polls (v.answers x.link) (v.answers z.link) (Ok r)
       → Takes (Some n.answers) (v.answers z.link) (answer_of (Ok r))
   taken n r shown polls =
-      polled (Some n.answers) (v.answers x.link) (v.answers z.link) r shown.answers polls
+      poll_taken (Some n.answers) (v.answers x.link) (v.answers z.link) r shown.answers polls
 
   -- no datagram came
-  pub silent : Polls (v.answers x.link) (v.answers z.link) (Ok None) → Served v m (poll m now) c x c z
+  pub silent : Polls (v.answers x.link) (v.answers z.link) (Ok None) → Sends (Polled ∷ []) before after → Served v m (poll m now) c x c z
   unfolding poll run.polled
-  silent polls = record {
+  silent polls sends = record {
     does = λ n shown.
         let took = taken n None shown polls in
-        let k : Node = record n { timers = map (rearmed now) n.timers; answers = drop 1 n.answers } in
-        let here : ReachesIf v (run.polled m Nothing c k) c z = record { course = refl; node = shows_after n shown took.1 } in
+        let k : Node = after_poll m now n in
+        let here : ReachesIf v (run.polled m Nothing c k) c z = record { course = refl; node = shows_after n sends shown took.1 } in
         subst (λ (p : PollAnswer). ReachesIf v (run.polled m p c k) c z) took.0 here;
     goes = λ config led. led;
+    lost = lost_fits (Polled ∷ []) before after sends;
   }
 
   -- a datagram came
   pub received : (datagram shows : List ℕ) → shows ≡ datagram → Polls (v.answers x.link) (v.answers z.link) (Ok (Some datagram))
-      → Acts v m (λ a n. deliver m (first_index shows a.world.sent) a n) c z d y → Served v m (poll m now) c x d y
+      → Sends (Polled ∷ []) before after → Acts v m (λ a n. deliver m (first_index shows a.world.sent) a n) c z d y
+      → Served v m (poll m now) c x d y
   unfolding poll run.polled
-  received datagram shows same polls acts = record {
+  received datagram shows same polls sends acts = record {
     does = λ n shown.
         let took = taken n (Some datagram) shown polls in
-        let k : Node = record n { timers = map (rearmed now) n.timers; answers = drop 1 n.answers } in
-        let reach : Reaches v (deliver m (first_index shows c.world.sent) c k) d y = acts.does k (shows_after n shown took.1) in
+        let k : Node = after_poll m now n in
+        let reach : Reaches v (deliver m (first_index shows c.world.sent) c k) d y = acts.does k (shows_after n sends shown took.1) in
         let here : ReachesIf v (run.polled m (Received datagram) c k) d y =
         subst (λ (bytes : List ℕ). Reaches v (deliver m (first_index bytes c.world.sent) c k) d y) same reach in
         subst (λ (p : PollAnswer). ReachesIf v (run.polled m p c k) d y) took.0 here;
     goes = acts.goes;
+    lost = λ fits. acts.lost (lost_fits (Polled ∷ []) before after sends fits);
   }
 
   -- the poll failed, or memory ran out
   pub unpolled : (e : DeviceError) → Polls (v.answers x.link) (v.answers z.link) (Err e)
-      → HasCauseFor {T = Option (List ℕ)} (v.faults x.link) (v.faults z.link) devices.Failed (Err e)
+      → Counts {T = Option (List ℕ)} (v.faults x.link) (v.faults z.link) (Err e)
       → Serves v m (poll m now) (Err e) c x d z
   unfolding poll run.polled
-  unpolled devices.Failed polls cause = record {
+  unpolled devices.Failed polls counts = record {
     none = λ n shown.
         let gives : Failure ≡ next_poll n.answers =
         poll_failed (Some n.answers) (v.answers x.link) (v.answers z.link) shown.answers polls in
-        let k : Node = record n { timers = map (rearmed now) n.timers; answers = drop 1 n.answers } in
+        let k : Node = after_poll m now n in
         ap (λ (p : PollAnswer). run.polled m p c k) (sym gives);
-    rose = let rose : Rose (v.faults x.link) (v.faults z.link) = cause.failed refl in omega (arith, rose);
+    rose = omega (arith, counts.is);
   }
-  unpolled devices.NoMemory polls cause = tt
+  unpolled devices.NoMemory polls counts = tt
 
 -- the timers and then the poll
 module _ {S L : Type 0} (m : Meaning S) (v : LinkView L) (ops : List (List ℕ)) (now : ℕ) (c d e : Course) (x y z : code.Node L)
@@ -139,6 +140,7 @@ module _ {S L : Type 0} (m : Meaning S) (v : LinkView L) (ops : List (List ℕ))
         let reach : Reaches v p d y = fires.does n shown in
         subst (λ (a : Course). ReachesIf v (poll m now a p.1) e z) (sym reach.course) (polls.does p.1 reach.node);
     goes = goes_through m c d e fires.goes polls.goes;
+    lost = λ fits. polls.lost (fires.lost fits);
   }
   fired_and_polled (Err devices.Failed) polls = record {
     none = λ n shown.

@@ -172,7 +172,7 @@ module _ {S L : Type 0} (m : Meaning S) (v : LinkView L) (ops : List (List ℕ))
 
 -- a poll that failed
 pub runs_fail : {S L : Type 0} (m : Meaning S) (v : LinkView L) (f : Course → List Node → Option (Course × List Node)) (ops : List (List ℕ))
-    (turns : ℕ) (c d e : Course) (ys zs : List (code.Node L)) (error : DeviceError) → Turns v m f (Err error) d ys e zs
-    → Runs v m ops turns (Err error) c e zs
-runs_fail m v f ops turns c d e ys zs Failed stops = stops.fault
-runs_fail m v f ops turns c d e ys zs NoMemory stops = tt
+    (turns : ℕ) (c d e : Course) (xs ys zs : List (code.Node L)) (error : DeviceError) → Turns v m f (Err error) d ys e zs
+    → Runs v m ops turns (Err error) c xs e zs
+runs_fail m v f ops turns c d e xs ys zs Failed stops = stops.fault
+runs_fail m v f ops turns c d e xs ys zs NoMemory stops = tt

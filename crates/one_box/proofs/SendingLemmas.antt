@@ -1,5 +1,5 @@
 -- What an actor sent in a step, over its link.
-use Rattle.std.proofs.Common.{◌≡◌, ℕ, zero, suc, ◌+◌, ◌-◌, ◌≤◌, List, [], ◌∷◌, ◌++◌, length, take, drop, Option, Some, None}
+use Rattle.std.proofs.Common.{◌≡◌, ℕ, zero, suc, ◌+◌, ◌-◌, ◌≤◌, min, List, [], ◌∷◌, ◌++◌, length, take, drop, Option, Some, None}
 use Rattle.std.proofs.Common.{refl, sym, ap, subst, ◌∙◌, arith, append-nil, length-drop}
 use Rattle.std.specs.Prelude.{option_map, slice_get, slice_range}
 use Rattle.std.specs.Option.{option_to_list}
@@ -8,13 +8,23 @@ use Rattle.std.proofs.lemmas.List.{take_all}
 use Rattle.nop_types.specs.declared.output.Dest.{Dest}
 use Rattle.udp_node.specs.declared.address.Address.{Address}
 use Rattle.udp_node.specs.Ports.{datagrams_to}
-use Rattle.udp_node.specs.Sends.{LinkSide, Sends}
+use Rattle.outside.specs.declared.link.LinkCall.{LinkCall}
+use Rattle.udp_node.specs.Sends.{LinkSide, Sends, last_count}
+use Rattle.udp_node.proofs.RunLemmas.{lost_more}
 use Rattle.udp_node.proofs.SendLemmas.{sends_then, no_sends}
 use Rattle.network.specs.Network.{Sent}
-use Rattle.one_box.specs.Showing.{posts}
+use Rattle.one_box.specs.ClusterRun.{posts}
 
 pub posts-append : (at : Address) (xs ys : List Sent) → posts at (xs ++ ys) ≡ posts at xs ++ posts at ys
 posts-append at xs ys = flat_map-append (λ (s : Sent). datagrams_to at s.dest s.bytes) xs ys
+
+-- what was counted as lost, the link counted too
+pub lost_fits : (cs : List LinkCall) (a b : LinkSide) → Sends cs a b → min a.lost last_count ≤ a.losses
+    → min b.lost last_count ≤ b.losses
+lost_fits cs a b sends fits =
+    let one : min (0 + (a.lost - 0)) last_count ≤ a.losses = omega (arith, fits) in
+    let two = lost_more 0 0 cs a b one sends in
+    omega (arith, two)
 
 -- ---- one datagram
 

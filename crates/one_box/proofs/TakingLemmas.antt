@@ -5,6 +5,7 @@ use Rattle.std.proofs.lemmas.List.{drop_all}
 use Rattle.nop_types.specs.Meaning.{Meaning}
 use Rattle.nop_types.specs.declared.memory.NoMemory.{NoMemory}
 use Rattle.outside.specs.Told.{Stays}
+use Rattle.outside.specs.declared.link.LinkCall.{LinkCall}
 use Rattle.outside.specs.declared.link.PollAnswer.{PollAnswer}
 use Rattle.schedule_text.specs.declared.event.Event.{Event}
 use Rattle.udp_node.specs.declared.address.Address.{Address}
@@ -16,9 +17,9 @@ use Rattle.world.specs.WorldSteps.{Happened, Refusal, step}
 use Rattle.world.specs.declared.step_error.StepError.{StepError}
 use Rattle.world.specs.declared.step_error.StepError.TheVariants as steps
 use Rattle.one_box.specs.declared.node.Node as code
-use Rattle.one_box.specs.ClusterRun.{Course, Node, kept_if, take}
-use Rattle.one_box.specs.Showing.{LinkView, Shows, Reaches, Does, Acts, IsRefusal, Happens, Refuses, Steps, GoesOn, posts}
-use Rattle.one_box.proofs.SendingLemmas.{posts-append}
+use Rattle.one_box.specs.ClusterRun.{Course, Node, kept_if, take, posts}
+use Rattle.one_box.specs.Showing.{LinkView, Shows, Reaches, Does, Acts, IsRefusal, Happens, Refuses, Steps, GoesOn}
+use Rattle.one_box.proofs.SendingLemmas.{lost_fits}
 
 -- ---- an event that is refused
 
@@ -50,27 +51,27 @@ module _ {S L : Type 0} (m : Meaning S) (v : LinkView L) (c d : Course) (e : Eve
     (counted : count ≡ length c.world.sent) (at : y.at ≡ x.at) (next_op : y.next_op ≡ x.next_op)
     (timers : y.timers.items ≡ x.timers.items) (answers : Stays (v.answers x.link) (v.answers y.link)) where
   abbrev before : LinkSide
-  before = side (v.sent x.link) x.lost (v.losses x.link)
+  before = side (v.trace x.link) x.lost (v.losses x.link)
 
   abbrev after : LinkSide
-  after = side (v.sent y.link) y.lost (v.losses y.link)
+  after = side (v.trace y.link) y.lost (v.losses y.link)
 
   abbrev more : List Sent
   more = drop count d.world.sent
 
   module _ (sends : Sends (posts x.at more) before after) where
-    shows_more : (n : Node) → Shows v n x → Shows v (record n { sent = n.sent ++ more }) y
+    shows_more : (n : Node) → Shows v n x → Shows v (record n { trace = n.trace ++ posts n.at more }) y
     shows_more n shown =
         let there : Sends (posts n.at more) before after =
         subst (λ (a : Address). Sends (posts a more) before after) shown.at sends in
-        let all : Sends (posts n.at n.sent ++ posts n.at more) (side (Some []) 0 0) after =
-        sends_then (posts n.at n.sent) (posts n.at more) (side (Some []) 0 0) before after shown.sends there in
+        let all : Sends (n.trace ++ posts n.at more) (side (Some []) 0 0) after =
+        sends_then n.trace (posts n.at more) (side (Some []) 0 0) before after shown.sends there in
         record {
           at = at ∙ shown.at;
           next_op = next_op ∙ shown.next_op;
           timers = timers ∙ shown.timers;
           answers = subst (λ (o : Option (List PollAnswer)). Stays o (v.answers y.link)) shown.answers answers;
-          sends = rw (posts-append n.at n.sent more) all;
+          sends = all;
         }
 
     taken : Happens m e c d → Does v (λ a n. take m a n e) c x d y
@@ -78,8 +79,8 @@ module _ {S L : Type 0} (m : Meaning S) (v : LinkView L) (c d : Course) (e : Eve
     taken h n shown =
         let same : more ≡ drop (length c.world.sent) h.happened.world.sent =
         ap (λ (k : ℕ). drop k d.world.sent) counted ∙ ap (λ (a : Course). drop (length c.world.sent) a.world.sent) h.keeps in
-        let shows : Shows v (record n { sent = n.sent ++ drop (length c.world.sent) h.happened.world.sent }) y =
-        subst (λ (ss : List Sent). Shows v (record n { sent = n.sent ++ ss }) y) same (shows_more n shown) in
+        let shows : Shows v (record n { trace = n.trace ++ posts n.at (drop (length c.world.sent) h.happened.world.sent) }) y =
+        subst (λ (ss : List Sent). Shows v (record n { trace = n.trace ++ posts n.at ss }) y) same (shows_more n shown) in
         let reach : Reaches v (kept_if c n e (Ok h.happened)) d y = record { course = sym h.keeps; node = shows } in
         subst (λ (r : Result Happened Refusal). Reaches v (kept_if c n e r) d y) (sym h.is) reach
 
@@ -90,8 +91,8 @@ module _ {S L : Type 0} (m : Meaning S) (v : LinkView L) (c d : Course) (e : Eve
         ap (λ (k : ℕ). drop k d.world.sent) counted ∙ ap (λ (a : Course). drop (length c.world.sent) a.world.sent) r.same
         ∙ drop_all (length c.world.sent) c.world.sent (omega arith) in
         let shows : Shows v n y =
-        subst (λ (ss : List Sent). Shows v (record n { sent = ss }) y)
-        (ap (λ (ss : List Sent). n.sent ++ ss) none ∙ append-nil n.sent) (shows_more n shown) in
+        subst (λ (cs : List LinkCall). Shows v (record n { trace = cs }) y)
+        (ap (λ (ss : List Sent). n.trace ++ posts n.at ss) none ∙ append-nil n.trace) (shows_more n shown) in
         let reach : Reaches v (kept_if c n e (Err r.refusal)) d y = record { course = sym r.same; node = shows } in
         subst (λ (o : Result Happened Refusal). Reaches v (kept_if c n e o) d y) (sym r.is) reach
 
@@ -101,5 +102,6 @@ module _ {S L : Type 0} (m : Meaning S) (v : LinkView L) (c d : Course) (e : Eve
 
   pub takes : (r : Result (Unit {0}) NoMemory) → Steps m e c d → GoesOn m c d → OnOk r (Sends (posts x.at more) before after)
       → OnOk r (Acts v m (λ a n. take m a n e) c x d y)
-  takes (Ok t) steps goes sends = record { does = stepped sends steps; goes = goes }
+  takes (Ok t) steps goes sends =
+      record { does = stepped sends steps; goes = goes; lost = lost_fits (posts x.at more) before after sends }
   takes (Err error) steps goes sends = tt

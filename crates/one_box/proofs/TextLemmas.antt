@@ -2,9 +2,9 @@
 use Rattle.std.proofs.Common.{◌≡◌, ℕ, List, ◌++◌, append_assoc, ap, ◌∙◌}
 use Rattle.std.specs.List.{flat_map}
 use Rattle.nop_types.specs.Configuration.{Configuration}
-use Rattle.replay.specs.Output.{final_text}
 use Rattle.schedule_text.specs.declared.event.Event.{Event}
 use Rattle.transcript_text.specs.Transcript.{transcript_line}
+use Rattle.world.specs.Ending.{final_text}
 use Rattle.world.specs.WorldSteps.{WorldState}
 use Rattle.one_box.specs.Text.{header_line, event_line, schedule_text, transcript_of, served_line, cluster_text}
 

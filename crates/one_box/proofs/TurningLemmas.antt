@@ -12,7 +12,7 @@ use Rattle.udp_node.specs.declared.address.Address.{Address}
 use Rattle.outside.specs.declared.errors.DeviceError.{DeviceError}
 use Rattle.outside.specs.declared.errors.DeviceError.TheVariants.{Failed, NoMemory}
 use Rattle.one_box.specs.Showing.{LinkView, Shows, ReachesIf, Serves, AllShow, AllReach, AllReachIf, Turns, BasesFit, HasFault}
-use Rattle.one_box.specs.Showing.{place_of}
+use Rattle.one_box.specs.Showing.{LostFits, AllLostFit, place_of}
 use Rattle.one_box.specs.Progress.{TurningOn}
 
 module _ {L : Type 0} (v : LinkView L) where
@@ -171,6 +171,13 @@ module _ {L : Type 0} (v : LinkView L) where
       by (Some x) is h =
           let same : place_of v x ≡ place_of v y = cc in
           subst (λ (p : Address × ℕ). p.0.base ≤ 65000) same (fits i x is)
+
+  -- one actor's losses stay counted, and so do all
+  pub lost_set : (ys : List (code.Node L)) (i : ℕ) (x z : code.Node L) → slice_get ys i ≡ Some x → (LostFits v x → LostFits v z)
+      → AllLostFit v ys → AllLostFit v (slice_set ys i z)
+  lost_set [] i x z found keeps all = absurd cc
+  lost_set (y ∷ ys) zero x z found keeps all = let here : y ≡ x = cc in (keeps (subst (LostFits v) here all.0), all.1)
+  lost_set (y ∷ ys) (suc i) x z found keeps all = (all.0, lost_set ys i x z found keeps all.1)
 
   pub fault_set : (ys : List (code.Node L)) (i : ℕ) (x z : code.Node L) → slice_get ys i ≡ Some x → Rose 0 (v.faults z.link)
       → HasFault v (slice_set ys i z)

@@ -12,7 +12,7 @@ use Rattle.udp_node.specs.Ports.{port_of}
 use Rattle.one_box.specs.declared.node.Node as code_node
 use Rattle.one_box.specs.Actors.{first_op}
 use Rattle.one_box.specs.ClusterRun.{opening_nodes}
-use Rattle.one_box.specs.Showing.{LinkView, AllShow, place_of}
+use Rattle.one_box.specs.Showing.{LinkView, AllShow, AllLostFit, place_of}
 
 -- where an actor is, with its port
 abbrev pub place_for : ℕ → Configuration → Actor → Address × ℕ
@@ -43,7 +43,7 @@ module _ {L : Type 0} (v : LinkView L) where
     pub node : code_node.Node L
     pub added : ys ≡ xs ++ node ∷ []
     pub fresh : IsFresh place ts node
-    pub content : GivesNext old new (v.answers node.link) (v.sent node.link)
+    pub content : GivesNext old new (v.answers node.link) (v.trace node.link)
 
   -- the link is held behind the others
   pub record Attached (place : Address) (ts : List Timer) (old new : PortsSide L) (xs ys : List (code_node.Node L)) : Type 0 where
@@ -73,6 +73,7 @@ module _ {L : Type 0} (v : LinkView L) where
     pub told : AttachesAll base c now actors old.to_come xs
     pub places : map (place_of v) xs ≡ map (place_for base c) actors
     pub given : new.given_back ≡ old.given_back
+    pub lost : AllLostFit v xs
 
   -- so far, and the links to come
   abbrev pub AttachingOn : ℕ → Configuration → ℕ → List Actor → Option (List (List PollAnswer)) → Option (List (List PollAnswer))

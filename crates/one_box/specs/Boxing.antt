@@ -1,9 +1,9 @@
 -- How a cluster in one process ends.
-use Rattle.std.specs.Prelude.{◌≡◌, ◌++◌, ◌==◌, ◌⊎◌, ℕ, List, length, map, count_by, false, ⊤, Option, Some, None, Result, Ok, Err}
+use Rattle.std.specs.Prelude.{◌≡◌, ◌≤◌, ◌++◌, ◌==◌, ◌⊎◌, ℕ, List, length, map, sum, count_by, false, ⊤, Option, Some, None, Result, Ok, Err}
 use Rattle.std.specs.Io.KnownBytes.{Appends}
 use Rattle.nop_types.specs.Configuration.{Configuration}
 use Rattle.nop_types.specs.Meaning.{Meaning}
-use Rattle.outside.specs.Causes.{Rose}
+use Rattle.outside.specs.Causes.{Rose, next_count}
 use Rattle.outside.specs.Fronts.{AppendsFront}
 use Rattle.outside.specs.declared.errors.DeviceError.{DeviceError}
 use Rattle.outside.specs.declared.errors.DeviceError.TheVariants.{Failed}
@@ -24,7 +24,7 @@ use Rattle.one_box.specs.Actors.{actors_of}
 use Rattle.one_box.specs.Attaching.{place_for, lost_by}
 use Rattle.one_box.specs.ClusterRun.{Course, ClusterRun, all_accepted, cluster_run}
 use Rattle.one_box.specs.Running.{IsRunIf}
-use Rattle.one_box.specs.Showing.{LinkView, AllShow, HasFault, IsLedTo, place_of}
+use Rattle.one_box.specs.Showing.{LinkView, AllShow, AllLostFit, HasFault, IsLedTo, place_of}
 use Rattle.one_box.specs.Text.{cluster_text}
 
 -- a port that has no link and a poll that failed are told alike
@@ -33,6 +33,13 @@ error_of Failed = LinkFault
 error_of devices.NoMemory = NoMemory
 
 -- ---- writing
+
+-- the sink's count of faults after the call: it rises by one exactly where a write ended it
+abbrev pub writes_after : {T : Type 0} → Result T ClusterError → ℕ → ℕ
+writes_after (Ok t) n = n
+writes_after (Err LinkFault) n = n
+writes_after (Err WriteFault) n = next_count n
+writes_after (Err NoMemory) n = n
 
 -- the text was written and the run told, or a front of the text was written
 abbrev pub WritesRun : List ℕ → Boxed → Result Boxed ClusterError → Option (List ℕ) → Option (List ℕ) → Type 0
@@ -64,6 +71,7 @@ module _ {S L : Type 0} (m : Meaning S) (v : LinkView L) (c : Configuration) (op
     pub led : IsLedTo m c course
     pub done : taken.done ≡ all_accepted ops course
     pub spent : taken.done ≡ false → taken.turns ≡ turns
+    pub lost : AllLostFit v xs
     pub places : map (place_of v) xs ≡ map (place_for base c) (actors_of c)
     pub given : given_back_now ≡ given_back
 
@@ -100,7 +108,7 @@ module _ {S L : Type 0} (m : Meaning S) (v : LinkView L) (c : Configuration) (op
   TellsOf (Some polls) (Some values) events boxed xs = Tells values polls events boxed xs
 
   -- The events that were kept are not refused, and what they lead to is safe. Each actor had a link at its port, which was given
-  -- back, and the failed sends of all links are told.
+  -- back, and the failed sends of all links are told: no more than the links counted, whatever they tell.
   pub record Ran (polls : Option (List (List PollAnswer))) (values : Option (List ℕ)) (given_back given_back_now : List L) (boxed : Boxed)
       : Type 0 where
     pub events : List Event
@@ -113,6 +121,7 @@ module _ {S L : Type 0} (m : Meaning S) (v : LinkView L) (c : Configuration) (op
     pub back : given_back_now ≡ given_back ++ map (λ x. x.link) nodes
     pub places : map (place_of v) nodes ≡ map (place_for base c) (actors_of c)
     pub lost : boxed.lost ≡ lost_by nodes
+    pub most : boxed.lost ≤ sum (map (λ x. v.losses x.link) nodes)
     pub tells : TellsOf polls values events boxed nodes
 
   -- what is written: the schedule of these events, its transcript, and the last line

@@ -1,6 +1,7 @@
 -- The run of a cluster in one process, over what its clock and its links tell.
 use Rattle.std.specs.Prelude.{ℕ, zero, suc, ◌+◌, ◌==◌, max, nat_le, List, [], ◌∷◌, ◌++◌, length, map, drop, count_by, Bool, true, false}
 use Rattle.std.specs.Prelude.{Option, Some, None, Result, Ok, Err, option_map, slice_get}
+use Rattle.std.specs.List.{flat_map}
 use Rattle.std.specs.Option.{option_and_then}
 use Rattle.nop_types.specs.Configuration.{Configuration}
 use Rattle.nop_types.specs.Meaning.{Meaning}
@@ -10,8 +11,10 @@ use Rattle.nop_types.specs.declared.output.Actor.{Actor}
 use Rattle.nop_types.specs.declared.output.Actor.TheVariants as actors
 use Rattle.outside.specs.Clocks.{next_value, later_values}
 use Rattle.outside.specs.Links.{next_poll}
-use Rattle.outside.specs.Plans.{next_count}
+use Rattle.outside.specs.Causes.{next_count}
 use Rattle.outside.specs.Ports.{next_link}
+use Rattle.outside.specs.declared.link.LinkCall.{LinkCall}
+use Rattle.outside.specs.declared.link.LinkCall.TheVariants.{Polled}
 use Rattle.outside.specs.declared.link.PollAnswer.{PollAnswer}
 use Rattle.outside.specs.declared.link.PollAnswer.TheVariants.{Received, Nothing, Failure}
 use Rattle.schedule_text.specs.declared.event.Event.{Event}
@@ -19,6 +22,7 @@ use Rattle.schedule_text.specs.declared.event.Event.TheVariants as events
 use Rattle.transcript_text.specs.Transcript.{lines_text}
 use Rattle.udp_node.specs.declared.address.Address.{Address}
 use Rattle.udp_node.specs.declared.firing.Timer.{Timer}
+use Rattle.udp_node.specs.Ports.{datagrams_to}
 use Rattle.udp_node.specs.Timing.{armed, rearmed}
 use Rattle.network.specs.Finding.{first_index}
 use Rattle.network.specs.LineCounts.{is_accept}
@@ -36,13 +40,13 @@ pub record Course : Type 0 where
   pub accepts : ℕ
   pub stray : ℕ
 
--- an actor: where it is, its timers, the number of its next op, what the polls of its link answer, and what it sent
+-- an actor: where it is, its timers, the number of its next op, what the polls of its link answer, and the calls on its link
 pub record Node : Type 0 where
   pub at : Address
   pub timers : List Timer
   pub next_op : ℕ
   pub answers : List PollAnswer
-  pub sent : List Sent
+  pub trace : List LinkCall
 
 -- how a run ended: the turns taken, and whether all ops were accepted
 pub record ClusterRun : Type 0 where
@@ -52,6 +56,10 @@ pub record ClusterRun : Type 0 where
   pub done : Bool
 
 -- ---- one event
+
+-- the datagrams of an actor to the ports of their destinations, in order
+abbrev pub posts : Address → List Sent → List LinkCall
+posts at sent = flat_map (λ s. datagrams_to at s.dest s.bytes) sent
 
 -- it is kept, and so is what it did; an event that is refused would do nothing
 abbrev pub kept : Course → Event → Happened → Course
@@ -64,7 +72,7 @@ kept c e h = record c {
 
 abbrev pub kept_if : Course → Node → Event → Result Happened Refusal → Course × Node
 kept_if c n e (Err refusal) = (c, n)
-kept_if c n e (Ok h) = (kept c e h, record n { sent = n.sent ++ drop (length c.world.sent) h.world.sent })
+kept_if c n e (Ok h) = (kept c e h, record n { trace = n.trace ++ posts n.at (drop (length c.world.sent) h.world.sent) })
 
 -- all ops were accepted
 abbrev pub all_accepted : List (List ℕ) → Course → Bool
@@ -102,8 +110,13 @@ module _ {S : Type 0} (m : Meaning S) where
   polled Nothing c n = Some (c, n)
   polled Failure c n = None
 
+  -- the timers that were due are due again a period later; the link was polled
+  abbrev pub after_poll : ℕ → Node → Node
+  after_poll now n =
+      record n { timers = map (rearmed now) n.timers; answers = drop 1 n.answers; trace = n.trace ++ Polled ∷ [] }
+
   unfoldable pub poll : ℕ → Course → Node → Option (Course × Node)
-  poll now c n = polled (next_poll n.answers) c (record n { timers = map (rearmed now) n.timers; answers = drop 1 n.answers })
+  poll now c n = polled (next_poll n.answers) c (after_poll now n)
 
 module _ {S : Type 0} (m : Meaning S) (ops : List (List ℕ)) where
   -- ---- timers
@@ -170,7 +183,7 @@ opening_node base c now actor answers = record {
   timers = map (armed now) (timers_of (opening c) actor);
   next_op = first_op actor;
   answers = answers;
-  sent = [];
+  trace = [];
 }
 
 -- the links in order, and after the last one links without datagrams

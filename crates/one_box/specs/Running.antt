@@ -6,7 +6,7 @@ use Rattle.outside.specs.declared.errors.DeviceError.TheVariants.{Failed, NoMemo
 use Rattle.one_box.specs.declared.node.Node as code_node
 use Rattle.one_box.specs.declared.serving.Taken.{Taken}
 use Rattle.one_box.specs.ClusterRun.{Course, Node, ClusterRun, all_accepted, turns_from}
-use Rattle.one_box.specs.Showing.{LinkView, AllShow, GoesOn, HasFault}
+use Rattle.one_box.specs.Showing.{LinkView, AllShow, AllLostFit, GoesOn, HasFault}
 
 -- so many turns before a run
 abbrev pub after_turns : ℕ → ClusterRun → ClusterRun
@@ -38,16 +38,18 @@ module _ {L : Type 0} (v : LinkView L) where
       (ns : List Node) → AllShow v ns xs → EndsAs (turns_from m ops turns c ns now values) result d ys
 
   -- so many turns were taken, and all ops were accepted or no turn is left
-  pub record Completes {S : Type 0} (m : Meaning S) (ops : List (List ℕ)) (turns : ℕ) (taken : Taken) (c d : Course) : Type 0 where
+  pub record Completes {S : Type 0} (m : Meaning S) (ops : List (List ℕ)) (turns : ℕ) (taken : Taken) (c : Course) (xs : List (code_node.Node L)) (d : Course)
+      (ys : List (code_node.Node L)) : Type 0 where
     pub done : taken.done ≡ all_accepted ops d
     pub spent : taken.done ≡ false → taken.turns ≡ turns
     pub goes : GoesOn m c d
+    pub lost : AllLostFit v xs → AllLostFit v ys
 
-  abbrev pub Runs : {S : Type 0} → Meaning S → List (List ℕ) → ℕ → Result Taken DeviceError → Course → Course
-      → List (code_node.Node L) → Type 0
-  Runs m ops turns (Ok taken) c d ys = Completes m ops turns taken c d
-  Runs m ops turns (Err Failed) c d ys = HasFault v ys
-  Runs m ops turns (Err NoMemory) c d ys = ⊤
+  abbrev pub Runs : {S : Type 0} → Meaning S → List (List ℕ) → ℕ → Result Taken DeviceError → Course → List (code_node.Node L)
+      → Course → List (code_node.Node L) → Type 0
+  Runs m ops turns (Ok taken) c xs d ys = Completes m ops turns taken c xs d ys
+  Runs m ops turns (Err Failed) c xs d ys = HasFault v ys
+  Runs m ops turns (Err NoMemory) c xs d ys = ⊤
 
   -- the whole run is the run from here, after so many turns
   pub record GoingFrom {S : Type 0} (m : Meaning S) (ops : List (List ℕ)) (turns now : ℕ) (values : List ℕ) (c : Course) (ns : List Node)

@@ -1,6 +1,6 @@
 -- What the values of the code stand for.
-use Rattle.std.specs.Prelude.{◌≡◌, ◌≤◌, ℕ, List, [], ◌∷◌, slice_get, count_by, ◌⊎◌, ⊤, Option, Some, None, Result, Ok, Err}
-use Rattle.std.specs.List.{All, flat_map}
+use Rattle.std.specs.Prelude.{◌≡◌, ◌≤◌, ℕ, min, List, [], ◌∷◌, slice_get, count_by, ◌⊎◌, ⊤, Option, Some, None, Result, Ok, Err}
+use Rattle.std.specs.List.{All}
 use Rattle.nop_types.specs.Configuration.{Configuration}
 use Rattle.nop_types.specs.Lines.{Line}
 use Rattle.nop_types.specs.Meaning.{Meaning}
@@ -8,17 +8,15 @@ use Rattle.outside.specs.Causes.{Rose}
 use Rattle.outside.specs.declared.errors.DeviceError.{DeviceError}
 use Rattle.outside.specs.declared.errors.DeviceError.TheVariants.{Failed, NoMemory}
 use Rattle.outside.specs.declared.link.PollAnswer.{PollAnswer}
-use Rattle.outside.specs.declared.link.Sent as links
+use Rattle.outside.specs.declared.link.LinkCall.{LinkCall}
 use Rattle.schedule_text.specs.declared.event.Event.{Event}
 use Rattle.schedule_text.specs.declared.event.Event.TheVariants.{Submit, Deliver, Tick, Install, Crash, Junk}
 use Rattle.schedule_text.specs.EventText.{HasLine}
 use Rattle.schedule_text.specs.Fits.{EventsFit}
 use Rattle.transcript_text.specs.Transcript.{lines_text}
 use Rattle.udp_node.specs.declared.address.Address.{Address}
-use Rattle.udp_node.specs.Ports.{datagrams_to}
-use Rattle.udp_node.specs.Sends.{Sends, side}
+use Rattle.udp_node.specs.Sends.{Sends, side, last_count}
 use Rattle.network.specs.LineCounts.{is_accept}
-use Rattle.network.specs.Network.{Sent}
 use Rattle.world.specs.WorldSteps.{Happened, Refusal, step, run}
 use Rattle.world.specs.declared.step_error.StepError.{StepError}
 use Rattle.world.specs.declared.step_error.StepError.TheVariants as steps
@@ -87,27 +85,31 @@ GoesOn m c d = (config : Configuration) → IsLedTo m config c → IsLedTo m con
 pub record LinkView (L : Type 0) : Type 0 where
   pub answers : L → Option (List PollAnswer)
   pub port : L → ℕ
-  pub sent : L → Option (List links.Sent)
+  pub trace : L → Option (List LinkCall)
   pub losses : L → ℕ
   pub faults : L → ℕ
 
-abbrev pub link_view : {L : Type 0} → (L → Option (List PollAnswer)) → (L → ℕ) → (L → Option (List links.Sent)) → (L → ℕ) → (L → ℕ)
+abbrev pub link_view : {L : Type 0} → (L → Option (List PollAnswer)) → (L → ℕ) → (L → Option (List LinkCall)) → (L → ℕ) → (L → ℕ)
     → LinkView L
-link_view answers port sent losses faults =
-    record { answers = answers; port = port; sent = sent; losses = losses; faults = faults }
-
--- the datagrams of an actor to the ports of their destinations, in order
-abbrev pub posts : Address → List Sent → List links.Sent
-posts at sent = flat_map (λ s. datagrams_to at s.dest s.bytes) sent
+link_view answers port trace losses faults =
+    record { answers = answers; port = port; trace = trace; losses = losses; faults = faults }
 
 module _ {L : Type 0} (v : LinkView L) where
-  -- the link tells its content, and sent what the actor sent, but for the sends that failed
+  -- the link tells its content, and took the calls of the actor, but for the sends that failed
   pub record Shows (n : Node) (x : code_node.Node L) : Type 0 where
     pub at : x.at ≡ n.at
     pub next_op : x.next_op ≡ n.next_op
     pub timers : x.timers.items ≡ n.timers
     pub answers : v.answers x.link ≡ Some n.answers
-    pub sends : Sends (posts n.at n.sent) (side (Some []) 0 0) (side (v.sent x.link) x.lost (v.losses x.link))
+    pub sends : Sends n.trace (side (Some []) 0 0) (side (v.trace x.link) x.lost (v.losses x.link))
+
+  -- what was counted as lost, the link counted too
+  abbrev pub LostFits : code_node.Node L → Type 0
+  LostFits x = min x.lost last_count ≤ v.losses x.link
+
+  abbrev pub AllLostFit : List (code_node.Node L) → Type 0
+  AllLostFit [] = ⊤
+  AllLostFit (x ∷ xs) = LostFits x × AllLostFit xs
 
   -- the course and the actor of the definition
   pub record Reaches (p : Course × Node) (c : Course) (x : code_node.Node L) : Type 0 where
@@ -122,17 +124,19 @@ module _ {L : Type 0} (v : LinkView L) where
   ReachesIf None c x = ⊥
   ReachesIf (Some p) c x = Reaches p c x
 
-  -- and what is led to by events still is
+  -- and what is led to by events still is, and what is lost is counted
   pub record Acts {S : Type 0} (m : Meaning S) (f : Course → Node → Course × Node) (c : Course) (x : code_node.Node L) (d : Course)
       (y : code_node.Node L) : Type 0 where
     pub does : Does f c x d y
     pub goes : GoesOn m c d
+    pub lost : LostFits x → LostFits y
 
   -- the same of a call that polls
   pub record Served {S : Type 0} (m : Meaning S) (f : Course → Node → Option (Course × Node)) (c : Course) (x : code_node.Node L)
       (d : Course) (y : code_node.Node L) : Type 0 where
     pub does : (n : Node) → Shows n x → ReachesIf (f c n) d y
     pub goes : GoesOn m c d
+    pub lost : LostFits x → LostFits y
 
   -- the poll failed: there is no run
   pub record Broken (f : Course → Node → Option (Course × Node)) (c : Course) (x y : code_node.Node L) : Type 0 where
@@ -180,6 +184,7 @@ module _ {L : Type 0} (v : LinkView L) where
       (xs : List (code_node.Node L)) (d : Course) (ys : List (code_node.Node L)) : Type 0 where
     pub does : (ns : List Node) → AllShow ns xs → AllReachIf (f c ns) d ys
     pub goes : GoesOn m c d
+    pub lost : AllLostFit xs → AllLostFit ys
 
   -- a poll failed: there is no run
   pub record SomeBroken (f : Course → List Node → Option (Course × List Node)) (c : Course)

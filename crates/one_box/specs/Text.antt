@@ -2,10 +2,10 @@
 use Rattle.std.specs.Prelude.{ℕ, List, [], ◌∷◌, ◌++◌, codes, decimal}
 use Rattle.std.specs.List.{flat_map}
 use Rattle.nop_types.specs.Configuration.{Configuration}
-use Rattle.replay.specs.Output.{final_text}
 use Rattle.schedule_text.specs.declared.event.Event.{Event}
 use Rattle.schedule_text.specs.EventText.{event_text}
 use Rattle.transcript_text.specs.Transcript.{transcript_line}
+use Rattle.world.specs.Ending.{final_text}
 use Rattle.world.specs.WorldSteps.{WorldState}
 
 -- three numbers, each behind its word

@@ -134,7 +134,7 @@ fn attach_one<P: Ports>(
 ) -> Result<(), AttachError>
     requires base { at.base ≤ 65000 }
     ensures attaches { Attaches
-        (link_view P.L.answers P.L.own_port P.L.sent P.L.loss_count P.L.fault_count)
+        (link_view P.L.answers P.L.own_port P.L.trace P.L.loss_count P.L.fault_count)
         at timers.items result
         (ports_side (P.to_come ports.old) (P.attached ports.old) (P.detached ports.old))
         (ports_side (P.to_come ports.new) (P.attached ports.new) (P.detached ports.new))
@@ -177,7 +177,7 @@ fn attach_actor<H: Host, P: Ports>(
 ) -> Result<(), AttachError>
     requires base { at.base ≤ 65000 }
     ensures attaches { Attaches
-        (link_view P.L.answers P.L.own_port P.L.sent P.L.loss_count P.L.fault_count)
+        (link_view P.L.answers P.L.own_port P.L.trace P.L.loss_count P.L.fault_count)
         at (map (armed now) (timers_of world.now.state at.own)) result
         (ports_side (P.to_come ports.old) (P.attached ports.old) (P.detached ports.old))
         (ports_side (P.to_come ports.new) (P.attached ports.new) (P.detached ports.new))
@@ -213,7 +213,7 @@ pub(crate) fn attach_all<H: Host, P: Ports>(
     requires empty { nodes.old.items ≡ [] }
     requires world { world.now.state ≡ opening config }
     ensures attaches { OnOk result (AllAttached
-        (link_view P.L.answers P.L.own_port P.L.sent P.L.loss_count P.L.fault_count)
+        (link_view P.L.answers P.L.own_port P.L.trace P.L.loss_count P.L.fault_count)
         base config now actors.now
         (ports_side (P.to_come ports.old) (P.attached ports.old) (P.detached ports.old))
         (ports_side (P.to_come ports.new) (P.attached ports.new) (P.detached ports.new))

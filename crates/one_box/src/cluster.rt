@@ -2,7 +2,7 @@ ghost use Rattle.std.specs.Prelude.{◌≡◌, ◌≤◌, ◌+◌, ◌⊎◌, []
 ghost use Rattle.kv_host.specs.Kv.{kv_meaning};
 ghost use Rattle.outside.specs.Causes.{Rose};
 ghost use Rattle.one_box.specs.Attaching.{HasRoom, Holds};
-ghost use Rattle.one_box.specs.Boxing.{error_of, EndsWith, IsNoRun, PollFailed, RunsOr};
+ghost use Rattle.one_box.specs.Boxing.{error_of, EndsWith, IsNoRun, PollFailed, RunsOr, writes_after};
 ghost use Rattle.one_box.specs.ClusterRun.{opening_course};
 ghost use Rattle.one_box.specs.Showing.{course_of, link_view};
 ghost use Rattle.one_box.specs.declared.errors.ClusterError.TheVariants as errors;
@@ -35,7 +35,7 @@ fn run_turns<H: Host, P: Ports, C: Clock>(
     requires empty { nodes.old.items ≡ [] }
     requires opens { course_of course.old ≡ opening_course config }
     ensures runs { RunsOr H.meaning
-        (link_view P.L.answers P.L.own_port P.L.sent P.L.loss_count P.L.fault_count)
+        (link_view P.L.answers P.L.own_port P.L.trace P.L.loss_count P.L.fault_count)
         config ops.now base turns (P.to_come ports.old) (C.values clock.old)
         (P.fault_count ports.old) (P.fault_count ports.new)
         (P.detached ports.old) (P.detached ports.new) result (course_of course.new)
@@ -87,20 +87,21 @@ pub fn serve_all_with<H: Host, P: Ports, C: Clock, K: Sink>(
 ) -> Result<Boxed, ClusterError>
     requires { base ≤ 65000 }
     ensures ends { EndsWith H.meaning
-        (link_view P.L.answers P.L.own_port P.L.sent P.L.loss_count P.L.fault_count)
+        (link_view P.L.answers P.L.own_port P.L.trace P.L.loss_count P.L.fault_count)
         config ops.now base turns (P.to_come ports.old) (C.values clock.old)
         (P.detached ports.old) (P.detached ports.new) result (K.held sink.old) (K.held sink.new) }
     ensures back { P.attached ports.new + length (P.detached ports.old)
         ≡ P.attached ports.old + length (P.detached ports.new) }
     ensures link { IsErrOf result errors.LinkFault
         → Rose (P.fault_count ports.old) (P.fault_count ports.new) ⊎ PollFailed
-        (link_view P.L.answers P.L.own_port P.L.sent P.L.loss_count P.L.fault_count)
+        (link_view P.L.answers P.L.own_port P.L.trace P.L.loss_count P.L.fault_count)
         (P.detached ports.old) (P.detached ports.new) }
     ensures none { IsErrOf result errors.LinkFault
         → Rose (P.fault_count ports.old) (P.fault_count ports.new) ⊎ IsNoRun H.meaning config
         ops.now base turns (P.to_come ports.old) (C.values clock.old) }
     ensures write { IsErrOf result errors.WriteFault
         → Rose (K.fault_count sink.old) (K.fault_count sink.new) }
+    ensures writes { K.fault_count sink.new ≡ writes_after result (K.fault_count sink.old) }
 {
     // for the limits of a configuration
     let _ = config.replicas();
@@ -142,20 +143,21 @@ pub fn serve_all<P: Ports, C: Clock, K: Sink>(
 ) -> Result<Boxed, ClusterError>
     requires { base ≤ 65000 }
     ensures ends { EndsWith kv_meaning
-        (link_view P.L.answers P.L.own_port P.L.sent P.L.loss_count P.L.fault_count)
+        (link_view P.L.answers P.L.own_port P.L.trace P.L.loss_count P.L.fault_count)
         config ops.now base turns (P.to_come ports.old) (C.values clock.old)
         (P.detached ports.old) (P.detached ports.new) result (K.held sink.old) (K.held sink.new) }
     ensures back { P.attached ports.new + length (P.detached ports.old)
         ≡ P.attached ports.old + length (P.detached ports.new) }
     ensures link { IsErrOf result errors.LinkFault
         → Rose (P.fault_count ports.old) (P.fault_count ports.new) ⊎ PollFailed
-        (link_view P.L.answers P.L.own_port P.L.sent P.L.loss_count P.L.fault_count)
+        (link_view P.L.answers P.L.own_port P.L.trace P.L.loss_count P.L.fault_count)
         (P.detached ports.old) (P.detached ports.new) }
     ensures none { IsErrOf result errors.LinkFault
         → Rose (P.fault_count ports.old) (P.fault_count ports.new) ⊎ IsNoRun kv_meaning config
         ops.now base turns (P.to_come ports.old) (C.values clock.old) }
     ensures write { IsErrOf result errors.WriteFault
         → Rose (K.fault_count sink.old) (K.fault_count sink.new) }
+    ensures writes { K.fault_count sink.new ≡ writes_after result (K.fault_count sink.old) }
 {
     serve_all_with::<KvHost, P, C, K>(alloc, config, ops, base, turns, ports, clock, sink)
 }

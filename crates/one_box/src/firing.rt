@@ -114,13 +114,13 @@ fn fire<H: Host, L: Link>(
 ) -> Result<(), NoMemory>
     requires { node.old.at.base ≤ 65000 }
     ensures acts { OnOk result (Acts
-        (link_view L.answers L.own_port L.sent L.loss_count L.fault_count) H.meaning
+        (link_view L.answers L.own_port L.trace L.loss_count L.fault_count) H.meaning
         (λ c n. fire_if H.meaning ops.now (nat_le timer.due now) c n timer.tick)
         (course_of course.old) node.old (course_of course.new) node.new) }
     ensures timers { node.new.timers.items ≡ node.old.timers.items }
     ensures place { place_of
-        (link_view L.answers L.own_port L.sent L.loss_count L.fault_count) node.new
-        ≡ place_of (link_view L.answers L.own_port L.sent L.loss_count L.fault_count) node.old }
+        (link_view L.answers L.own_port L.trace L.loss_count L.fault_count) node.new
+        ≡ place_of (link_view L.answers L.own_port L.trace L.loss_count L.fault_count) node.old }
 {
     let op = op_at(ops, node.next_op);
     let Some(event) = timer_event(&course.world, node.at.own, op, timer, now)? else {
@@ -139,13 +139,13 @@ pub(crate) fn fire_due<H: Host, L: Link>(
 ) -> Result<(), NoMemory>
     requires { node.old.at.base ≤ 65000 }
     ensures acts { OnOk result (Acts
-        (link_view L.answers L.own_port L.sent L.loss_count L.fault_count) H.meaning
+        (link_view L.answers L.own_port L.trace L.loss_count L.fault_count) H.meaning
         (λ c n. fire_due H.meaning ops.now now n.timers c n)
         (course_of course.old) node.old (course_of course.new) node.new) }
     ensures timers { node.new.timers.items ≡ node.old.timers.items }
     ensures place { place_of
-        (link_view L.answers L.own_port L.sent L.loss_count L.fault_count) node.new
-        ≡ place_of (link_view L.answers L.own_port L.sent L.loss_count L.fault_count) node.old }
+        (link_view L.answers L.own_port L.trace L.loss_count L.fault_count) node.new
+        ≡ place_of (link_view L.answers L.own_port L.trace L.loss_count L.fault_count) node.old }
 {
     for i in 0..node.timers.len() {
         let timer = timer_at(node, i);

@@ -1,5 +1,24 @@
-//! A cluster in one process: all actors in one world, each with a link of its own. What comes is delivered only where it was sent in
-//! this world, so that a run is a schedule, which is written with its transcript.
+//! A cluster in one process: all actors in one world, each with a link of its own. Timers, what
+//! clients submit, and what links deliver are events of the world; a datagram that came is
+//! delivered where equal bytes were sent in this world, and otherwise dropped and counted as a
+//! stray.
+//!
+//! `serve_all`, by its clause `ends`: at Ok some events happened, none of which the world refuses,
+//! and what they lead to is safe (`SafelyPassed`). Each actor had a link at its port, which was
+//! given back. The sink has the schedule of these events, its transcript, and the line
+//! `served TURNS lost LOST stray STRAY`, where LOST is at most what all links together counted as
+//! lost; a proper prefix of that on WriteFault, and nothing on LinkFault.
+//!
+//! Over observable ports and clock the events are those of `cluster_run`, with its turns and
+//! strays, and the calls on each link are those of its actor, in order, without the sends that
+//! failed; on LinkFault without a failed attach `cluster_run` has no value. `back`: as many links
+//! are given back as were attached. `link`: LinkFault comes only where an attach or a poll failed;
+//! `write`, `writes`: WriteFault comes exactly where a write failed.
+//!
+//! Calls, for `commands`: `serve_all`, and `serve_all_with` over any host.
+//!
+//! Files: `cluster`, `attaching`, `serving`, `turn`, `firing`, `polling`, `taking`, `sending`,
+//! `writing`. Definitions: `specs/Boxing` (`EndsWith`), `ClusterRun`, `Text`.
 #![tactic(auto)]
 
 mod attaching;

@@ -1,6 +1,6 @@
 use udp_node::{Address, Timer};
 
-/// An actor of the cluster: where it is, its timers, the number of its next op, and its link with how many sends failed.
+/// An actor of the cluster: where it is, its timers, the number of its next op, and its link with how many datagrams were lost.
 pub(crate) struct Node<L> {
     pub(crate) at: Address,
     pub(crate) timers: Vec<Timer>,

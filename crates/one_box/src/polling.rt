@@ -9,7 +9,7 @@ use crate::taking::take;
 use nop_types::{Host, NoMemory};
 use outside::{Link, LinkError};
 use schedule_text::Event;
-use udp_node::rearm_due;
+use udp_node::{poll_link, rearm_due};
 
 /// A datagram came: where it equals one that was sent it is delivered, else it is dropped and counted.
 fn deliver<H: Host, L: Link>(
@@ -19,12 +19,12 @@ fn deliver<H: Host, L: Link>(
 ) -> Result<(), NoMemory>
     requires { node.old.at.base ≤ 65000 }
     ensures acts { OnOk result (Acts
-        (link_view L.answers L.own_port L.sent L.loss_count L.fault_count) H.meaning
+        (link_view L.answers L.own_port L.trace L.loss_count L.fault_count) H.meaning
         (λ c n. deliver H.meaning (first_index datagram.now c.world.sent) c n)
         (course_of course.old) node.old (course_of course.new) node.new) }
     ensures place { place_of
-        (link_view L.answers L.own_port L.sent L.loss_count L.fault_count) node.new
-        ≡ place_of (link_view L.answers L.own_port L.sent L.loss_count L.fault_count) node.old }
+        (link_view L.answers L.own_port L.trace L.loss_count L.fault_count) node.new
+        ≡ place_of (link_view L.answers L.own_port L.trace L.loss_count L.fault_count) node.old }
 {
     match course.world.find(datagram) {
         Some(index) => take(course, node, Event::Deliver(index, node.at.own)),
@@ -43,15 +43,15 @@ pub(crate) fn poll<H: Host, L: Link>(
 ) -> Result<(), LinkError>
     requires { node.old.at.base ≤ 65000 }
     ensures serves { Serves
-        (link_view L.answers L.own_port L.sent L.loss_count L.fault_count) H.meaning
+        (link_view L.answers L.own_port L.trace L.loss_count L.fault_count) H.meaning
         (λ c n. poll H.meaning now c n) result
         (course_of course.old) node.old (course_of course.new) node.new }
     ensures place { place_of
-        (link_view L.answers L.own_port L.sent L.loss_count L.fault_count) node.new
-        ≡ place_of (link_view L.answers L.own_port L.sent L.loss_count L.fault_count) node.old }
+        (link_view L.answers L.own_port L.trace L.loss_count L.fault_count) node.new
+        ≡ place_of (link_view L.answers L.own_port L.trace L.loss_count L.fault_count) node.old }
 {
     rearm_due(&mut node.timers, now);
-    match node.link.poll() {
+    match poll_link(&mut node.link, &mut node.lost) {
         Ok(None) => Ok(()),
         Ok(Some(datagram)) => match deliver(course, node, datagram.as_slice()) {
             Ok(()) => Ok(()),

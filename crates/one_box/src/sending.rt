@@ -2,7 +2,7 @@ ghost use Rattle.std.specs.Prelude.{◌≡◌, ◌≤◌, drop, slice_get, OnOk}
 ghost use Rattle.std.specs.Option.{option_to_list};
 ghost use Rattle.outside.specs.Told.{Stays};
 ghost use Rattle.udp_node.specs.Sends.{side, Sends};
-ghost use Rattle.one_box.specs.Showing.{posts};
+ghost use Rattle.one_box.specs.ClusterRun.{posts};
 
 use nop_types::{Host, NoMemory};
 use outside::Link;
@@ -20,8 +20,8 @@ fn send_one<H: Host, L: Link>(
     requires { at.now.base ≤ 65000 }
     ensures sends { OnOk result (Sends
         (posts at.now (option_to_list (slice_get world.now.state.sent index)))
-        (side (L.sent link.old) lost.old (L.loss_count link.old))
-        (side (L.sent link.new) lost.new (L.loss_count link.new))) }
+        (side (L.trace link.old) lost.old (L.loss_count link.old))
+        (side (L.trace link.new) lost.new (L.loss_count link.new))) }
     ensures answers { Stays (L.answers link.old) (L.answers link.new) }
     ensures faults { L.fault_count link.new ≡ L.fault_count link.old }
     ensures port { L.own_port link.new ≡ L.own_port link.old }
@@ -45,8 +45,8 @@ pub(crate) fn send_since<H: Host, L: Link>(
 ) -> Result<(), NoMemory>
     requires { at.now.base ≤ 65000 }
     ensures sends { OnOk result (Sends (posts at.now (drop count world.now.state.sent))
-        (side (L.sent link.old) lost.old (L.loss_count link.old))
-        (side (L.sent link.new) lost.new (L.loss_count link.new))) }
+        (side (L.trace link.old) lost.old (L.loss_count link.old))
+        (side (L.trace link.new) lost.new (L.loss_count link.new))) }
     ensures answers { Stays (L.answers link.old) (L.answers link.new) }
     ensures faults { L.fault_count link.new ≡ L.fault_count link.old }
     ensures port { L.own_port link.new ≡ L.own_port link.old }

@@ -31,18 +31,19 @@ pub(crate) fn take_turns<H: Host, L: Link, C: Clock>(
     now: u64,
     clock: &mut C,
 ) -> Result<Taken, LinkError>
-    requires { BasesFit (link_view L.answers L.own_port L.sent L.loss_count L.fault_count)
+    requires { BasesFit (link_view L.answers L.own_port L.trace L.loss_count L.fault_count)
         nodes.old.items }
     ensures told { RunsTold
-        (link_view L.answers L.own_port L.sent L.loss_count L.fault_count)
+        (link_view L.answers L.own_port L.trace L.loss_count L.fault_count)
         H.meaning ops.now turns now (C.values clock.old) result
         (course_of course.old) nodes.old.items (course_of course.new) nodes.new.items }
     ensures runs { Runs
-        (link_view L.answers L.own_port L.sent L.loss_count L.fault_count) H.meaning
-        ops.now turns result (course_of course.old) (course_of course.new) nodes.new.items }
+        (link_view L.answers L.own_port L.trace L.loss_count L.fault_count) H.meaning
+        ops.now turns result (course_of course.old) nodes.old.items (course_of course.new)
+        nodes.new.items }
     ensures places { map (place_of
-        (link_view L.answers L.own_port L.sent L.loss_count L.fault_count)) nodes.new.items
-        ≡ map (place_of (link_view L.answers L.own_port L.sent L.loss_count L.fault_count))
+        (link_view L.answers L.own_port L.trace L.loss_count L.fault_count)) nodes.new.items
+        ≡ map (place_of (link_view L.answers L.own_port L.trace L.loss_count L.fault_count))
         nodes.old.items }
 {
     let mut now = now;

@@ -52,13 +52,13 @@ pub(crate) fn take<H: Host, L: Link>(
     requires base { node.old.at.base ≤ 65000 }
     requires event { IsNoJunk event }
     ensures acts { OnOk result (Acts
-        (link_view L.answers L.own_port L.sent L.loss_count L.fault_count) H.meaning
+        (link_view L.answers L.own_port L.trace L.loss_count L.fault_count) H.meaning
         (λ c n. take H.meaning c n event)
         (course_of course.old) node.old (course_of course.new) node.new) }
     ensures timers { node.new.timers.items ≡ node.old.timers.items }
     ensures place { place_of
-        (link_view L.answers L.own_port L.sent L.loss_count L.fault_count) node.new
-        ≡ place_of (link_view L.answers L.own_port L.sent L.loss_count L.fault_count) node.old }
+        (link_view L.answers L.own_port L.trace L.loss_count L.fault_count) node.new
+        ≡ place_of (link_view L.answers L.own_port L.trace L.loss_count L.fault_count) node.old }
 {
     let count = course.world.sent_count();
     match keep_step(course, event) {

@@ -18,12 +18,12 @@ fn node_turn<H: Host, L: Link>(
 ) -> Result<(), LinkError>
     requires { node.old.at.base ≤ 65000 }
     ensures serves { Serves
-        (link_view L.answers L.own_port L.sent L.loss_count L.fault_count) H.meaning
+        (link_view L.answers L.own_port L.trace L.loss_count L.fault_count) H.meaning
         (λ c n. node_turn H.meaning ops.now now c n) result
         (course_of course.old) node.old (course_of course.new) node.new }
     ensures place { place_of
-        (link_view L.answers L.own_port L.sent L.loss_count L.fault_count) node.new
-        ≡ place_of (link_view L.answers L.own_port L.sent L.loss_count L.fault_count) node.old }
+        (link_view L.answers L.own_port L.trace L.loss_count L.fault_count) node.new
+        ≡ place_of (link_view L.answers L.own_port L.trace L.loss_count L.fault_count) node.old }
 {
     match fire_due(course, node, ops, now) {
         Ok(()) => poll(course, node, now),
@@ -38,15 +38,15 @@ pub(crate) fn turn<H: Host, L: Link>(
     ops: &[Op],
     now: u64,
 ) -> Result<(), LinkError>
-    requires { BasesFit (link_view L.answers L.own_port L.sent L.loss_count L.fault_count)
+    requires { BasesFit (link_view L.answers L.own_port L.trace L.loss_count L.fault_count)
         nodes.old.items }
     ensures turns { Turns
-        (link_view L.answers L.own_port L.sent L.loss_count L.fault_count) H.meaning
+        (link_view L.answers L.own_port L.trace L.loss_count L.fault_count) H.meaning
         (λ c ns. turn H.meaning ops.now now c ns) result
         (course_of course.old) nodes.old.items (course_of course.new) nodes.new.items }
     ensures places { map (place_of
-        (link_view L.answers L.own_port L.sent L.loss_count L.fault_count)) nodes.new.items
-        ≡ map (place_of (link_view L.answers L.own_port L.sent L.loss_count L.fault_count))
+        (link_view L.answers L.own_port L.trace L.loss_count L.fault_count)) nodes.new.items
+        ≡ map (place_of (link_view L.answers L.own_port L.trace L.loss_count L.fault_count))
         nodes.old.items }
 {
     for i in 0..nodes.len() {

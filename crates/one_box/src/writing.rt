@@ -1,6 +1,6 @@
 ghost use Rattle.std.specs.Prelude.{◌≡◌, ◌++◌, decimal, OnOk, IsErrOf};
 ghost use Rattle.outside.specs.Causes.{Rose};
-ghost use Rattle.one_box.specs.Boxing.{WritesRun};
+ghost use Rattle.one_box.specs.Boxing.{WritesRun, writes_after};
 ghost use Rattle.one_box.specs.declared.errors.ClusterError.TheVariants as errors;
 ghost use Rattle.std.specs.List.{All, flat_map};
 ghost use Rattle.schedule_text.specs.EventText.{HasLine};
@@ -12,10 +12,10 @@ use crate::errors::ClusterError;
 use crate::serving::Taken;
 use nop_types::{Config, Host, NoMemory};
 use outside::{Sink, WriteError, write_all};
-use replay::final_lines;
 use schedule_text::{Event, event_line};
 use std::alloc::Global;
 use transcript_text::transcript_line;
+use world::final_lines;
 
 fn put_number(n: u64, to: &mut Vec<u8>) -> Result<(), NoMemory>
     ensures { OnOk result (to.new.items ≡ to.old.items ++ decimal n) }
@@ -130,6 +130,7 @@ pub(crate) fn write_run<H: Host, K: Sink>(
         result (K.held sink.old) (K.held sink.new) }
     ensures cause { IsErrOf result errors.WriteFault
         → Rose (K.fault_count sink.old) (K.fault_count sink.new) }
+    ensures count { K.fault_count sink.new ≡ writes_after result (K.fault_count sink.old) }
 {
     let mut text = Vec::new(alloc);
     if put_all(config, course, taken.turns, lost, &mut text).is_err() {

@@ -1,16 +1,34 @@
--- A fault is told only where a count of faults rose.
-use Rattle.std.specs.Prelude.{ℕ, ◌+◌, ◌-◌, ◌^◌, ◌≤◌, min, Result, OnErr, IsErrOf}
+-- What a fault does to a count of faults, and that a fault is answered only where the count rose.
+use Rattle.std.specs.Prelude.{◌≡◌, ℕ, ◌+◌, ◌-◌, ◌^◌, ◌≤◌, min, Result, Ok, Err, IsErrOf}
+use Rattle.outside.specs.declared.errors.DeviceError.{DeviceError}
+use Rattle.outside.specs.declared.errors.DeviceError.TheVariants as errors
+use Rattle.outside.specs.declared.errors.Failed.{Failed}
+
+-- counts go up to the greatest number of 64 bits
+abbrev pub next_count : ℕ → ℕ
+next_count n = min (n + 1) (2 ^ 64 - 1)
+
+-- a count after a call: it rises by one where the call failed
+abbrev pub count_after : {T : Type 0} → Result T DeviceError → ℕ → ℕ
+count_after (Ok t) n = n
+count_after (Err errors.Failed) n = next_count n
+count_after (Err errors.NoMemory) n = n
+
+-- the same of a call that takes no memory
+abbrev pub count_after_read : {T : Type 0} → Result T Failed → ℕ → ℕ
+count_after_read (Ok t) n = n
+count_after_read (Err e) n = next_count n
 
 -- the count rose, or stands at the greatest number of 64 bits, where it stays
 abbrev pub Rose : ℕ → ℕ → Type 0
 Rose before now = min (before + 1) (2 ^ 64 - 1) ≤ now
 
--- the count does not fall, and an error comes only where it rose
-pub record HasCause {T E : Type 0} (before now : ℕ) (result : Result T E) : Type 0 where
-  pub later : before ≤ now
-  pub failed : OnErr result (Rose before now)
-
 -- the count does not fall, and this error comes only where it rose
 pub record HasCauseFor {T E : Type 0} (before now : ℕ) (error : E) (result : Result T E) : Type 0 where
   pub later : before ≤ now
   pub failed : IsErrOf result error → Rose before now
+
+-- the count of a device over a call that makes calls on it until one fails: it rises by one exactly where that is the answer
+pub record Counts {T : Type 0} (before now : ℕ) (result : Result T DeviceError) : Type 0 where
+  pub later : before ≤ now
+  pub is : now ≡ count_after result before

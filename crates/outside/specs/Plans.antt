@@ -1,6 +1,7 @@
 -- Which calls on a form in memory fail, and how many bytes the others move.
-use Rattle.std.specs.Prelude.{◌≡◌, ℕ, ◌+◌, ◌-◌, ◌^◌, ◌==◌, ◌&&◌, ◌||◌, min, nat_lt, Bool, if◌then◌else◌, List, Result, Ok, Err, IsOk, ⊤}
+use Rattle.std.specs.Prelude.{◌≡◌, ℕ, ◌==◌, ◌&&◌, ◌||◌, min, nat_lt, Bool, if◌then◌else◌, List, Result, Ok, Err, IsOk, ⊤}
 use Rattle.std.specs.List.{list_any}
+use Rattle.outside.specs.Causes.{next_count}
 use Rattle.outside.specs.declared.errors.Failed.{Failed}
 use Rattle.outside.specs.declared.errors.DeviceError.{DeviceError}
 use Rattle.outside.specs.declared.errors.DeviceError.TheVariants as errors
@@ -15,10 +16,6 @@ pub record FailingPlan : Type 0 where
 -- no call was made
 abbrev pub new_plan : ℕ → List ℕ → FailingPlan
 new_plan most failing = record { most = most; failing = failing; made = 0; faults = 0 }
-
--- counts go up to the greatest number of 64 bits
-abbrev pub next_count : ℕ → ℕ
-next_count n = min (n + 1) (2 ^ 64 - 1)
 
 -- the next call fails: by its number, or since it may move none of `count` bytes
 abbrev pub fails : FailingPlan → ℕ → Bool

@@ -1,5 +1,5 @@
 -- What a device tells of its content, or that it tells nothing.
-use Rattle.std.specs.Prelude.{◌≡◌, List, [], ◌∷◌, ◌++◌, Option, Some, None, ⊤}
+use Rattle.std.specs.Prelude.{◌≡◌, ℕ, List, [], ◌∷◌, ◌++◌, Option, Some, None, ⊤}
 
 -- what is told stays as it was
 abbrev pub Stays : {A : Type 0} → Option A → Option A → Type 0
@@ -10,3 +10,8 @@ Stays (Some x) new = new ≡ Some x
 abbrev pub Adds : {A : Type 0} → Option (List A) → Option (List A) → A → Type 0
 Adds None new x = ⊤
 Adds (Some xs) new x = new ≡ Some (xs ++ x ∷ [])
+
+-- a number stays as it was where content is told
+abbrev pub StaysIfTold : {A : Type 0} → Option A → ℕ → ℕ → Type 0
+StaysIfTold None old new = ⊤
+StaysIfTold (Some x) old new = new ≡ old

@@ -1,11 +1,11 @@
-ghost use Rattle.std.specs.Prelude.{◌≡◌, ◌≤◌, List, ℕ, Option, length, IfOk, IfSome, OnOk, OnErr, IsErrOf};
+ghost use Rattle.std.specs.Prelude.{◌≡◌, ◌≤◌, List, ℕ, Option, length, IfOk, IfSome, OnOk, OnErr};
 ghost use Rattle.nop_types.specs.declared.limits.TheConstants.{MAX_DATAGRAM_BYTES};
-ghost use Rattle.outside.specs.Causes.{HasCauseFor};
-ghost use Rattle.outside.specs.Links.{Polls};
-ghost use Rattle.outside.specs.Told.{Stays, Adds};
-ghost use Rattle.outside.specs.declared.errors.DeviceError.TheVariants as errors;
+ghost use Rattle.outside.specs.Causes.{count_after};
+ghost use Rattle.outside.specs.Links.{Polls, TracesPoll};
+ghost use Rattle.outside.specs.Told.{Stays, Adds, StaysIfTold};
 ghost use Rattle.outside.specs.declared.link.PollAnswer.{PollAnswer};
-ghost use Rattle.outside.specs.declared.link.Sent.{Sent};
+ghost use Rattle.outside.specs.declared.link.LinkCall.{LinkCall};
+ghost use Rattle.outside.specs.declared.link.LinkCall.TheVariants as calls;
 
 use crate::LinkError;
 use nop_types::Bytes;
@@ -18,11 +18,11 @@ pub enum PollAnswer {
     Failure,
 }
 
-/// A datagram that was sent, and the port that it was sent to.
+/// A call on a link: a poll, whatever it answered, or a datagram that was sent, with the port that it was sent to.
 #[derive(Debug, Drop)]
-pub struct Sent {
-    pub port: u16,
-    pub bytes: Bytes,
+pub enum LinkCall {
+    Polled,
+    Sent { port: u16, bytes: Bytes },
 }
 
 /// A node's connection to the network: it sends datagrams to ports, and receives those that were sent to its own port.
@@ -30,8 +30,8 @@ pub trait Link {
     /// What the polls to come answer, where the link tells it. After the last answer there is no datagram.
     ghost answers: { Self → Option (List PollAnswer) };
 
-    /// What was sent, in order, where the link tells it.
-    ghost sent: { Self → Option (List Sent) };
+    /// The polls that were made and the datagrams that were sent, in order, where the link tells them.
+    ghost trace: { Self → Option (List LinkCall) };
 
     /// Its own port, which no call changes.
     ghost own_port: { Self → ℕ };
@@ -39,33 +39,31 @@ pub trait Link {
     /// How many polls failed.
     ghost fault_count: { Self → ℕ };
 
-    /// How many sends failed.
+    /// How many datagrams could not be sent.
     ghost loss_count: { Self → ℕ };
 
     /// The next datagram, of at most `MAX_DATAGRAM_BYTES` bytes. None where this poll has none. `Failed` where the link failed:
-    /// the count of faults rises. `NoMemory` where no memory is left for the datagram, which may be lost then.
+    /// the count of faults rises. `NoMemory` where no memory is left for the datagram, which may be lost then. A link that
+    /// doesn't tell its content may find at a poll that datagrams given to it before could not be sent: it counts them then.
     fn poll(&mut self) -> Result<Option<Bytes>, LinkError>
         ensures short { IfOk result (λ r. IfSome r (λ datagram. length datagram
             ≤ MAX_DATAGRAM_BYTES)) }
         ensures answer { Polls (answers self.old) (answers self.new) result }
-        ensures cause { HasCauseFor (fault_count self.old) (fault_count self.new)
-            errors.Failed result }
-        ensures no_memory { IsErrOf result errors.NoMemory → fault_count self.new
-            ≡ fault_count self.old }
-        ensures losses { loss_count self.new ≡ loss_count self.old }
-        ensures sent { Stays (sent self.old) (sent self.new) }
+        ensures trace { TracesPoll (trace self.old) (trace self.new) result }
+        ensures later { fault_count self.old ≤ fault_count self.new }
+        ensures count { fault_count self.new ≡ count_after result (fault_count self.old) }
+        ensures losses { loss_count self.old ≤ loss_count self.new }
+        ensures told { StaysIfTold (trace self.old) (loss_count self.old) (loss_count self.new) }
         ensures port { own_port self.new ≡ own_port self.old };
 
-    /// Sends the bytes to a port. `Failed` where they could not be sent: the count of losses rises, and not that of faults.
-    /// `NoMemory` raises neither. At an error nothing was sent.
+    /// Sends the bytes to a port. `Failed` where they could not be sent: the count of losses rises by one, and not that of
+    /// faults. At Ok and `NoMemory` neither does. At an error nothing was sent.
     fn send(&mut self, port: u16, bytes: &[u8]) -> Result<(), LinkError>
         ensures ok { OnOk result
-            (Adds (sent self.old) (sent self.new) (record { port = port; bytes = bytes.now })) }
-        ensures err { OnErr result (Stays (sent self.old) (sent self.new)) }
-        ensures cause { HasCauseFor (loss_count self.old) (loss_count self.new)
-            errors.Failed result }
-        ensures no_memory { IsErrOf result errors.NoMemory → loss_count self.new
-            ≡ loss_count self.old }
+            (Adds (trace self.old) (trace self.new) (calls.Sent port bytes.now)) }
+        ensures err { OnErr result (Stays (trace self.old) (trace self.new)) }
+        ensures later { loss_count self.old ≤ loss_count self.new }
+        ensures count { loss_count self.new ≡ count_after result (loss_count self.old) }
         ensures faults { fault_count self.new ≡ fault_count self.old }
         ensures answers { Stays (answers self.old) (answers self.new) }
         ensures port { own_port self.new ≡ own_port self.old };
@@ -78,7 +76,7 @@ pub trait Link {
     fn faults(&self) -> u64
         ensures { result ≡ fault_count self.now };
 
-    /// How many sends failed, up to the greatest number of 64 bits.
+    /// How many datagrams could not be sent, up to the greatest number of 64 bits.
     fn losses(&self) -> u64
         ensures { result ≡ loss_count self.now };
 }

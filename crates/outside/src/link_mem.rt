@@ -1,20 +1,21 @@
 ghost use Rattle.std.specs.Prelude.{◌≡◌, ◌≤◌, ◌++◌, ◌∷◌, [], drop, length, All, IfOk, IfSome, OnOk, OnErr, IsErrOf};
 ghost use Rattle.std.specs.Prelude.{Some, Ok, true, false};
-ghost use Rattle.outside.specs.Causes.{HasCauseFor};
-ghost use Rattle.outside.specs.Links.{Polls, next_poll, poll_result};
-ghost use Rattle.outside.specs.Told.{Adds, Stays};
+ghost use Rattle.outside.specs.Causes.{count_after};
+ghost use Rattle.outside.specs.Links.{Polls, TracesPoll, next_poll, poll_result};
+ghost use Rattle.outside.specs.Told.{Adds, Stays, StaysIfTold};
 ghost use Rattle.outside.specs.Memory.{MayAnswer, counted};
 ghost use Rattle.outside.specs.Plans.{new_plan, IsPlannedCall, plan_after_call};
 ghost use Rattle.outside.specs.declared.errors.DeviceError.TheVariants as errors;
+ghost use Rattle.outside.specs.declared.link.LinkCall.TheVariants as calls;
 ghost use Rattle.outside.specs.declared.link.PollAnswer.TheVariants.{Failure};
 
-use crate::{CallPlan, Failed, Failing, Link, LinkError, PollAnswer, Sent, Unfailing};
+use crate::{CallPlan, Failed, Failing, Link, LinkCall, LinkError, PollAnswer, Unfailing};
 use nop_types::{Bytes, MAX_DATAGRAM_BYTES, NoMemory};
 use std::alloc::Global;
 use std::marker::Model;
 
-/// A link in memory. Its polls answer what they were given, and after that there is no datagram; it keeps what is sent. Its
-/// plan says which sends fail. Where calls never fail, no poll was given a failure either.
+/// A link in memory. Its polls answer what they were given, and after that there is no datagram; it keeps the calls that are
+/// made. Its plan says which sends fail. Where calls never fail, no poll was given a failure either.
 #[derive(Debug, Drop)]
 pub struct LinkMem<P: CallPlan = Unfailing> {
     alloc: Global,
@@ -22,7 +23,7 @@ pub struct LinkMem<P: CallPlan = Unfailing> {
     answers: Vec<PollAnswer>,
     at: usize,
     faults: u64,
-    sent: Vec<Sent>,
+    trace: Vec<LinkCall>,
     sends: P,
 }
 
@@ -36,7 +37,7 @@ impl<P: CallPlan> Model for LinkMem<P> {
       port = s.port;
       answers = drop s.at s.answers.items;
       faults = s.faults;
-      sent = s.sent.items;
+      trace = s.trace.items;
       sends = s.sends;
     } };
 
@@ -52,7 +53,7 @@ impl LinkMem<Unfailing> {
           port = port;
           answers = [];
           faults = 0;
-          sent = [];
+          trace = [];
           sends = usize.MAX;
         } }
     {
@@ -66,7 +67,7 @@ impl LinkMem<Unfailing> {
           port = port;
           answers = answers.items;
           faults = 0;
-          sent = [];
+          trace = [];
           sends = usize.MAX;
         } }
     {
@@ -76,7 +77,7 @@ impl LinkMem<Unfailing> {
             answers,
             at: 0,
             faults: 0,
-            sent: Vec::new(alloc),
+            trace: Vec::new(alloc),
             sends: Unfailing::new(usize::MAX),
         }
     }
@@ -96,7 +97,7 @@ impl LinkMem<Failing> {
               port = port;
               answers = answers.items;
               faults = 0;
-              sent = [];
+              trace = [];
               sends = new_plan
                   usize.MAX failing.now;
             }) }
@@ -107,7 +108,7 @@ impl LinkMem<Failing> {
             answers,
             at: 0,
             faults: 0,
-            sent: Vec::new(alloc),
+            trace: Vec::new(alloc),
             sends: Failing::new(alloc, usize::MAX, failing)?,
         })
     }
@@ -121,7 +122,7 @@ impl<P: CallPlan> LinkMem<P> {
               port = port;
               answers = [];
               faults = 0;
-              sent = [];
+              trace = [];
               sends = P.opening;
             }) }
         ensures count { IfOk result (λ l. P.fault_count l.sends ≡ 0) }
@@ -132,7 +133,7 @@ impl<P: CallPlan> LinkMem<P> {
             answers: Vec::new(alloc),
             at: 0,
             faults: 0,
-            sent: Vec::new(alloc),
+            trace: Vec::new(alloc),
             sends: P::new_opening(alloc)?,
         })
     }
@@ -169,23 +170,34 @@ impl<P: CallPlan> LinkMem<P> {
         }
     }
 
-    /// Keeps what was sent.
-    fn keep(&mut self, port: u16, bytes: &[u8]) -> Result<(), NoMemory>
+    /// Keeps a poll.
+    fn keep_poll(&mut self) -> Result<(), NoMemory>
         ensures ok { OnOk result (self.new ≡ record self.old {
-          sent = self.old.sent ++ record { port = port; bytes = bytes.now } ∷ [];
+          trace = self.old.trace ++ calls.Polled ∷ [];
+        }) }
+        ensures err { OnErr result (self.new ≡ self.old) }
+    {
+        self.trace.push(LinkCall::Polled)?;
+        Ok(())
+    }
+
+    /// Keeps what was sent.
+    fn keep_sent(&mut self, port: u16, bytes: &[u8]) -> Result<(), NoMemory>
+        ensures ok { OnOk result (self.new ≡ record self.old {
+          trace = self.old.trace ++ calls.Sent port bytes.now ∷ [];
         }) }
         ensures err { OnErr result (self.new ≡ self.old) }
     {
         let bytes = Bytes::new(self.alloc, bytes)?;
-        self.sent.push(Sent { port, bytes })?;
+        self.trace.push(LinkCall::Sent { port, bytes })?;
         Ok(())
     }
 
-    /// What was sent, in order.
-    pub fn sent(&self) -> &[Sent]
-        ensures { result.now ≡ self.now.sent }
+    /// The polls that were made and the datagrams that were sent, in order.
+    pub fn trace(&self) -> &[LinkCall]
+        ensures { result.now ≡ self.now.trace }
     {
-        &self.sent
+        &self.trace
     }
 }
 
@@ -195,7 +207,7 @@ impl<P: CallPlan> Link for LinkMem<P> {
 
     ghost answers = { λ s. Some s.answers };
 
-    ghost sent = { λ s. Some s.sent };
+    ghost trace = { λ s. Some s.trace };
 
     ghost own_port = { λ s. s.port };
 
@@ -207,12 +219,13 @@ impl<P: CallPlan> Link for LinkMem<P> {
         ensures short { IfOk result (λ r. IfSome r (λ datagram. length datagram
             ≤ MAX_DATAGRAM_BYTES)) }
         ensures answer { Polls (Some self.old.answers) (Some self.new.answers) result }
-        ensures cause { HasCauseFor (counted P.may_fail self.old.faults)
-            (counted P.may_fail self.new.faults) errors.Failed result }
-        ensures no_memory { IsErrOf result errors.NoMemory → counted P.may_fail self.new.faults
-            ≡ counted P.may_fail self.old.faults }
-        ensures losses { P.fault_count self.new.sends ≡ P.fault_count self.old.sends }
-        ensures sent { Stays (Some self.old.sent) (Some self.new.sent) }
+        ensures trace { TracesPoll (Some self.old.trace) (Some self.new.trace) result }
+        ensures later { counted P.may_fail self.old.faults ≤ counted P.may_fail self.new.faults }
+        ensures count { counted P.may_fail self.new.faults
+            ≡ count_after result (counted P.may_fail self.old.faults) }
+        ensures losses { P.fault_count self.old.sends ≤ P.fault_count self.new.sends }
+        ensures told { StaysIfTold (Some self.old.trace) (P.fault_count self.old.sends)
+            (P.fault_count self.new.sends) }
         ensures port { self.new.port ≡ self.old.port }
 
         // The plan of the sends stays.
@@ -220,10 +233,12 @@ impl<P: CallPlan> Link for LinkMem<P> {
     {
         match self.peek() {
             Ok(datagram) => {
+                self.keep_poll()?;
                 self.pass();
                 Ok(datagram)
             }
             Err(LinkError::Failed) => {
+                self.keep_poll()?;
                 self.pass();
                 self.faults = self.faults.saturating_add(1);
                 Err(LinkError::Failed)
@@ -233,13 +248,12 @@ impl<P: CallPlan> Link for LinkMem<P> {
     }
 
     fn send(&mut self, port: u16, bytes: &[u8]) -> Result<(), LinkError>
-        ensures ok { OnOk result (Adds (Some self.old.sent) (Some self.new.sent)
-            (record { port = port; bytes = bytes.now })) }
-        ensures err { OnErr result (Stays (Some self.old.sent) (Some self.new.sent)) }
-        ensures cause { HasCauseFor (P.fault_count self.old.sends) (P.fault_count self.new.sends)
-            errors.Failed result }
-        ensures no_memory { IsErrOf result errors.NoMemory → P.fault_count self.new.sends
-            ≡ P.fault_count self.old.sends }
+        ensures ok { OnOk result (Adds (Some self.old.trace) (Some self.new.trace)
+            (calls.Sent port bytes.now)) }
+        ensures err { OnErr result (Stays (Some self.old.trace) (Some self.new.trace)) }
+        ensures later { P.fault_count self.old.sends ≤ P.fault_count self.new.sends }
+        ensures count { P.fault_count self.new.sends
+            ≡ count_after result (P.fault_count self.old.sends) }
         ensures faults { counted P.may_fail self.new.faults ≡ counted P.may_fail self.old.faults }
         ensures answers { Stays (Some self.old.answers) (Some self.new.answers) }
         ensures port { self.new.port ≡ self.old.port }
@@ -251,7 +265,7 @@ impl<P: CallPlan> Link for LinkMem<P> {
     {
         let answer = self.sends.answer(0);
         if answer.is_ok() {
-            self.keep(port, bytes)?;
+            self.keep_sent(port, bytes)?;
         }
         self.sends.advance(0);
         match answer {

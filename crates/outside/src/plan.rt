@@ -1,5 +1,5 @@
 ghost use Rattle.std.specs.Prelude.{◌≡◌, ◌≤◌, ◌<◌, ℕ, Bool, Result, IfOk};
-ghost use Rattle.outside.specs.Causes.{HasCause, Rose};
+ghost use Rattle.outside.specs.Causes.{Rose, count_after_read};
 ghost use Rattle.outside.specs.declared.errors.Failed.{Failed};
 
 use crate::{Failed, Link, LinkMem, Ports, PortsMem, ReadMem, Sink, Source, WriteMem};
@@ -39,8 +39,9 @@ pub trait CallPlan: Drop {
     /// Counts that call as made.
     fn advance(&mut self, count: usize)
         ensures after { self.new ≡ after_call self.old count }
-        ensures cause { HasCause (fault_count self.old) (fault_count self.new)
-            (next_answer self.old count) };
+        ensures later { fault_count self.old ≤ fault_count self.new }
+        ensures count { fault_count self.new
+            ≡ count_after_read (next_answer self.old count) (fault_count self.old) };
 
     /// How many calls failed so far.
     fn faults(&self) -> u64

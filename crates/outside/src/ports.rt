@@ -1,8 +1,7 @@
-ghost use Rattle.std.specs.Prelude.{◌≡◌, ◌+◌, ◌++◌, ◌∷◌, ◌<◌, [], List, ℕ, Option, length, IfOk, OnOk, OnErr, IsErrOf};
-ghost use Rattle.outside.specs.Causes.{HasCauseFor};
+ghost use Rattle.std.specs.Prelude.{◌≡◌, ◌+◌, ◌++◌, ◌∷◌, ◌<◌, ◌≤◌, [], List, ℕ, Option, length, IfOk, OnOk, OnErr};
+ghost use Rattle.outside.specs.Causes.{count_after};
 ghost use Rattle.outside.specs.Ports.{GivesNext};
 ghost use Rattle.outside.specs.Told.{Stays};
-ghost use Rattle.outside.specs.declared.errors.DeviceError.TheVariants as errors;
 ghost use Rattle.outside.specs.declared.link.PollAnswer.{PollAnswer};
 
 use crate::{AttachError, Link};
@@ -24,24 +23,22 @@ pub trait Ports {
     /// How many attaches failed.
     ghost fault_count: { Self → ℕ };
 
-    /// A link at this port, which has sent nothing. It makes the room for the link to be given back. `Failed` where the port
-    /// could not be opened: the count of faults rises. `NoMemory` does not raise it. At an error no link is attached.
+    /// A link at this port, on which no call was made. It makes the room for the link to be given back. `Failed` where the port
+    /// could not be opened: the count of faults rises by one. At Ok and `NoMemory` it stays. At an error no link is attached.
     fn attach(&mut self, port: u16) -> Result<Self::L, AttachError>
         ensures port { IfOk result (λ link. Self.L.own_port link ≡ port) }
         ensures faults { IfOk result (λ link. Self.L.fault_count link ≡ 0) }
         ensures losses { IfOk result (λ link. Self.L.loss_count link ≡ 0) }
         ensures content { IfOk result (λ link.
             GivesNext (to_come self.old) (to_come self.new) (Self.L.answers link)
-            (Self.L.sent link)) }
+            (Self.L.trace link)) }
         ensures attached { OnOk result (attached self.new ≡ attached self.old + 1) }
         ensures room { OnOk result (length (detached self.new) < attached self.new) }
         ensures err { OnErr result (attached self.new ≡ attached self.old) }
         ensures kept { OnErr result (Stays (to_come self.old) (to_come self.new)) }
         ensures detached { detached self.new ≡ detached self.old }
-        ensures cause { HasCauseFor (fault_count self.old) (fault_count self.new)
-            errors.Failed result }
-        ensures no_memory { IsErrOf result errors.NoMemory → fault_count self.new
-            ≡ fault_count self.old };
+        ensures later { fault_count self.old ≤ fault_count self.new }
+        ensures count { fault_count self.new ≡ count_after result (fault_count self.old) };
 
     /// Gives a link back, which the ports then hold. It takes no memory.
     fn detach(&mut self, link: Self::L)

@@ -1,10 +1,9 @@
-ghost use Rattle.std.specs.Prelude.{◌≡◌, ◌+◌, ◌<◌, ◌≤◌, [], length, drop, All, IfOk, OnOk, OnErr, IsErrOf, Some};
-ghost use Rattle.outside.specs.Causes.{HasCauseFor};
+ghost use Rattle.std.specs.Prelude.{◌≡◌, ◌+◌, ◌<◌, ◌≤◌, [], length, drop, All, IfOk, IsOk, OnOk, OnErr, Some};
+ghost use Rattle.outside.specs.Causes.{count_after};
 ghost use Rattle.outside.specs.Told.{Stays};
 ghost use Rattle.outside.specs.Ports.{GivesNext};
 ghost use Rattle.outside.specs.Memory.{IsFresh, answers_of, counted, link_at};
 ghost use Rattle.outside.specs.Plans.{new_plan, IsPlannedCall, plan_after_call};
-ghost use Rattle.outside.specs.declared.errors.DeviceError.TheVariants as errors;
 
 use crate::{AttachError, CallPlan, Failing, LinkMem, Ports, Unfailing};
 use nop_types::NoMemory;
@@ -101,8 +100,10 @@ impl PortsMem<Failing> {
 }
 
 impl<P: CallPlan> PortsMem<P> {
-    /// The next link, with the room for it to be given back.
+    /// The next link, with the room for it to be given back, where the plan lets an attach succeed.
+    #[tactic(auto, using(crate::proofs::Counts::ok_counts_nothing))]
     fn give(&mut self, port: u16) -> Result<LinkMem<P>, NoMemory>
+        requires { IsOk (P.next_answer self.old.attaches 0) }
         ensures link { IfOk result (λ link. link ≡ link_at P.opening port self.old.links) }
         ensures fresh { IfOk result (IsFresh P.fault_count) }
         ensures ok { OnOk result (self.new ≡ record {
@@ -112,7 +113,7 @@ impl<P: CallPlan> PortsMem<P> {
           attaches = P.after_call self.old.attaches 0;
         }) }
         ensures room { OnOk result (length self.new.detached < self.new.attached) }
-        ensures count { P.fault_count self.old.attaches ≤ P.fault_count self.new.attaches }
+        ensures count { P.fault_count self.new.attaches ≡ P.fault_count self.old.attaches }
         ensures err { OnErr result (self.new ≡ self.old) }
     {
         let waiting = self.attached - self.detached.len();
@@ -151,17 +152,16 @@ impl<P: CallPlan> Ports for PortsMem<P> {
         ensures losses { IfOk result (λ link. P.fault_count link.sends ≡ 0) }
         ensures content { IfOk result (λ link.
             GivesNext (Some (answers_of self.old.links)) (Some (answers_of self.new.links))
-            (Some link.answers) (Some link.sent)) }
+            (Some link.answers) (Some link.trace)) }
         ensures attached { OnOk result (self.new.attached ≡ self.old.attached + 1) }
         ensures room { OnOk result (length self.new.detached < self.new.attached) }
         ensures err { OnErr result (self.new.attached ≡ self.old.attached) }
         ensures kept { OnErr result (Stays (Some (answers_of self.old.links))
             (Some (answers_of self.new.links))) }
         ensures detached { self.new.detached ≡ self.old.detached }
-        ensures cause { HasCauseFor (P.fault_count self.old.attaches)
-            (P.fault_count self.new.attaches) errors.Failed result }
-        ensures no_memory { IsErrOf result errors.NoMemory → P.fault_count self.new.attaches
-            ≡ P.fault_count self.old.attaches }
+        ensures later { P.fault_count self.old.attaches ≤ P.fault_count self.new.attaches }
+        ensures count { P.fault_count self.new.attaches
+            ≡ count_after result (P.fault_count self.old.attaches) }
 
         // What the plan says, or that memory ran out: then the attach does not count.
         ensures answer { IsPlannedCall (P.next_answer self.old.attaches 0) result }

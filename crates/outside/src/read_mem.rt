@@ -1,7 +1,7 @@
 ghost use Rattle.std.specs.Prelude.{◌≡◌, ◌≤◌, ◌++◌, drop, length, take, IfOk};
 ghost use Rattle.std.specs.Io.KnownBytes.{ReadConsumes};
 ghost use Rattle.std.specs.Result.{result_unwrap_or};
-ghost use Rattle.outside.specs.Causes.{HasCause};
+ghost use Rattle.outside.specs.Causes.{count_after_read};
 ghost use Rattle.outside.specs.Memory.{fitting};
 ghost use Rattle.outside.specs.Plans.{new_plan};
 
@@ -93,8 +93,9 @@ impl<P: CallPlan> Source for ReadMem<P> {
     fn read(&mut self, buf: &mut [u8]) -> Result<usize, Failed>
         ensures most { IfOk result (λ n. n ≤ length buf.old) }
         ensures bytes { ReadConsumes (Some self.old.left) (Some self.new.left) result buf.new }
-        ensures cause { HasCause (P.fault_count self.old.plan)
-            (P.fault_count self.new.plan) result }
+        ensures later { P.fault_count self.old.plan ≤ P.fault_count self.new.plan }
+        ensures count { P.fault_count self.new.plan
+            ≡ count_after_read result (P.fault_count self.old.plan) }
 
         // Exactly what the plan says.
         ensures answer { result ≡ P.next_answer self.old.plan (fitting self.old.left buf.old) }

@@ -1,6 +1,6 @@
-ghost use Rattle.std.specs.Prelude.{◌≡◌, ◌≤◌, ◌<◌, List, ℕ, Option, length, IfOk, OnOk, OnErr, IsErrOf, IsOkUnless};
+ghost use Rattle.std.specs.Prelude.{◌≡◌, ◌≤◌, ◌<◌, List, ℕ, Option, length, IfOk, OnOk, OnErr, IsOkUnless};
 ghost use Rattle.std.specs.Io.KnownBytes.{WriteAppends, Appends};
-ghost use Rattle.outside.specs.Causes.{Rose, HasCauseFor};
+ghost use Rattle.outside.specs.Causes.{Rose, HasCauseFor, count_after};
 ghost use Rattle.outside.specs.Fronts.{AppendsFront};
 ghost use Rattle.outside.specs.declared.errors.DeviceError.TheVariants as errors;
 
@@ -14,15 +14,14 @@ pub trait Sink {
     /// How often it failed.
     ghost fault_count: { Self → ℕ };
 
-    /// Adds bytes from the front of the piece, and says how many. On an error it added nothing.
+    /// Adds bytes from the front of the piece, and says how many. On an error it added nothing. The count rises by one where
+    /// it failed, and else stays.
     fn write(&mut self, piece: &[u8]) -> Result<usize, WriteError>
         ensures most { IfOk result (λ n. n ≤ length piece.now) }
         ensures some { IfOk result (λ n. 0 < length piece.now → 0 < n) }
         ensures bytes { WriteAppends (held self.old) (held self.new) result piece.now }
-        ensures cause { HasCauseFor (fault_count self.old) (fault_count self.new)
-            errors.Failed result }
-        ensures no_memory { IsErrOf result errors.NoMemory → fault_count self.new
-            ≡ fault_count self.old };
+        ensures later { fault_count self.old ≤ fault_count self.new }
+        ensures count { fault_count self.new ≡ count_after result (fault_count self.old) };
 
     /// How often it failed, up to the greatest number of 64 bits.
     fn faults(&self) -> u64
@@ -36,6 +35,7 @@ pub fn write_all<K: Sink>(sink: &mut K, bytes: &[u8]) -> Result<(), WriteError>
     ensures err { OnErr result (AppendsFront (K.held sink.old) (K.held sink.new) bytes.now) }
     ensures cause { HasCauseFor (K.fault_count sink.old) (K.fault_count sink.new)
         errors.Failed result }
+    ensures count { K.fault_count sink.new ≡ count_after result (K.fault_count sink.old) }
     ensures succeeds { ¬ Rose (K.fault_count sink.old) (K.fault_count sink.new)
         → IsOkUnless result errors.NoMemory }
 {

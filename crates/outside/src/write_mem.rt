@@ -1,8 +1,7 @@
-ghost use Rattle.std.specs.Prelude.{◌≡◌, ◌≤◌, ◌<◌, [], length, IfOk, IsErrOf};
+ghost use Rattle.std.specs.Prelude.{◌≡◌, ◌≤◌, ◌<◌, [], length, IfOk};
 ghost use Rattle.std.specs.Io.KnownBytes.{WriteAppends};
-ghost use Rattle.outside.specs.Causes.{HasCauseFor};
+ghost use Rattle.outside.specs.Causes.{count_after};
 ghost use Rattle.outside.specs.Plans.{new_plan, IsPlanned, plan_after_call};
-ghost use Rattle.outside.specs.declared.errors.DeviceError.TheVariants as errors;
 
 use crate::{CallPlan, Failed, Failing, Sink, Unfailing, WriteError};
 use nop_types::NoMemory;
@@ -88,10 +87,9 @@ impl<P: CallPlan> Sink for WriteMem<P> {
         ensures most { IfOk result (λ n. n ≤ length piece.now) }
         ensures some { IfOk result (λ n. 0 < length piece.now → 0 < n) }
         ensures bytes { WriteAppends (Some self.old.held) (Some self.new.held) result piece.now }
-        ensures cause { HasCauseFor (P.fault_count self.old.plan) (P.fault_count self.new.plan)
-            errors.Failed result }
-        ensures no_memory { IsErrOf result errors.NoMemory
-            → P.fault_count self.new.plan ≡ P.fault_count self.old.plan }
+        ensures later { P.fault_count self.old.plan ≤ P.fault_count self.new.plan }
+        ensures count { P.fault_count self.new.plan
+            ≡ count_after result (P.fault_count self.old.plan) }
 
         // What the plan says, or that memory ran out: then nothing changed.
         ensures answer { IsPlanned (P.next_answer self.old.plan (length piece.now)) result }

@@ -1,4 +1,11 @@
-//! Standard input as a source and standard output as a sink.
+//! Standard input as a `Source` and standard output as a `Sink`: `StandardIn` around any reader of
+//! std, `StandardOut` around any writer.
+//!
+//! Both meet the traits of `outside`. They hand on what std tells contracts of the content, and
+//! count errors; a write that takes nothing of a piece is one. docs/THEOREMS.md says under "A run
+//! in a shell" what std tells of the real standard input and output.
+//!
+//! Calls, for the two `main`s: `StandardIn::new`, `StandardOut::new`. It is all in this file.
 #![tactic(auto)]
 
 ghost use Rattle.std.specs.Prelude.{◌≡◌};

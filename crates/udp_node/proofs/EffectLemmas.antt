@@ -10,36 +10,37 @@ use Rattle.udp_node.specs.Ports.{datagrams_to}
 use Rattle.nop_types.specs.declared.output.Out.{Out}
 use Rattle.outside.specs.declared.errors.DeviceError.{DeviceError}
 use Rattle.outside.specs.declared.errors.DeviceError.TheVariants.{Failed, NoMemory}
-use Rattle.outside.specs.declared.link.Sent.{Sent}
+use Rattle.outside.specs.declared.link.LinkCall.{LinkCall}
+use Rattle.outside.specs.declared.link.LinkCall.TheVariants.{Polled}
 use Rattle.udp_node.specs.declared.address.Address.{Address}
-use Rattle.udp_node.specs.Effects.{Effect, Post, Line, effects, effects_of, posts, lines, first_line, Done, Stopped, StoppedInLine, Stops}
+use Rattle.udp_node.specs.Effects.{Effect, Call, Line, effects, effects_of, calls, lines, first_line, Done, Stopped, StoppedInLine, Stops}
 use Rattle.udp_node.specs.Effects.{Carries, Writes}
 use Rattle.udp_node.specs.Sends.{LinkSide, Sends, SendsFront}
 use Rattle.udp_node.proofs.SendLemmas.{sends_then, no_sends}
 
-pub posts_append : (xs ys : List Effect) → posts (xs ++ ys) ≡ posts xs ++ posts ys
-posts_append [] ys = refl
-posts_append (Post d ∷ xs) ys = ap (λ ds. d ∷ ds) (posts_append xs ys)
-posts_append (Line l ∷ xs) ys = posts_append xs ys
+pub calls_append : (xs ys : List Effect) → calls (xs ++ ys) ≡ calls xs ++ calls ys
+calls_append [] ys = refl
+calls_append (Call d ∷ xs) ys = ap (λ ds. d ∷ ds) (calls_append xs ys)
+calls_append (Line l ∷ xs) ys = calls_append xs ys
 
 pub lines_append : (xs ys : List Effect) → lines (xs ++ ys) ≡ lines xs ++ lines ys
 lines_append [] ys = refl
-lines_append (Post d ∷ xs) ys = lines_append xs ys
+lines_append (Call d ∷ xs) ys = lines_append xs ys
 lines_append (Line l ∷ xs) ys = ap (λ ls. l ++ ls) (lines_append xs ys) ∙ sym (append_assoc l (lines xs) (lines ys))
 
-pub posts_map : (ds : List Sent) → posts (map Post ds) ≡ ds
-posts_map [] = refl
-posts_map (d ∷ ds) = ap (λ es. d ∷ es) (posts_map ds)
+pub calls_map : (ds : List LinkCall) → calls (map Call ds) ≡ ds
+calls_map [] = refl
+calls_map (d ∷ ds) = ap (λ es. d ∷ es) (calls_map ds)
 
-pub lines_map : (ds : List Sent) → lines (map Post ds) ≡ []
+pub lines_map : (ds : List LinkCall) → lines (map Call ds) ≡ []
 lines_map [] = refl
 lines_map (d ∷ ds) = lines_map ds
 
-pub map_append : (xs ys : List Sent) → map Post (xs ++ ys) ≡ map Post xs ++ map Post ys
+pub map_append : (xs ys : List LinkCall) → map Call (xs ++ ys) ≡ map Call xs ++ map Call ys
 map_append [] ys = refl
-map_append (x ∷ xs) ys = ap (λ es. Post x ∷ es) (map_append xs ys)
+map_append (x ∷ xs) ys = ap (λ es. Call x ∷ es) (map_append xs ys)
 
-pub first_line_map : (ds : List Sent) → first_line (map Post ds) ≡ []
+pub first_line_map : (ds : List LinkCall) → first_line (map Call ds) ≡ []
 first_line_map [] = refl
 first_line_map (d ∷ ds) = refl
 
@@ -55,7 +56,7 @@ effects_append at (x ∷ xs) ys =
 pub done_then : (xs ys : List Effect) (a b c : LinkSide) (h i j : Option (List ℕ)) → Done xs a b h i → Done ys b c i j
     → Done (xs ++ ys) a c h j
 done_then xs ys a b c h i j one two = record {
-  sends = rw (posts_append xs ys) (sends_then (posts xs) (posts ys) a b c one.sends two.sends);
+  sends = rw (calls_append xs ys) (sends_then (calls xs) (calls ys) a b c one.sends two.sends);
   lines = rw (lines_append xs ys) (Appends-trans h i j (lines xs) (lines ys) one.lines two.lines);
 }
 
@@ -66,7 +67,7 @@ stopped_then xs ys a b c h i j one two = record {
   rest = two.rest;
   split = ap (λ zs. xs ++ zs) two.split ∙ sym (append_assoc xs two.front two.rest);
   count = two.count;
-  sends = rw (posts_append xs two.front) (sends_then (posts xs) (posts two.front) a b c one.sends two.sends);
+  sends = rw (calls_append xs two.front) (sends_then (calls xs) (calls two.front) a b c one.sends two.sends);
   lines =
       rw (lines_append xs two.front, append_assoc (lines xs))
       (Appends-trans h i j (lines xs) (lines two.front ++ take two.count (first_line two.rest)) one.lines two.lines);
@@ -90,7 +91,7 @@ no_line h i xs l count one =
 
 -- the line that comes next stays, where there is one
 stopped_by : (xs ys front rest : List Effect) (count : ℕ) (a b : LinkSide) (h i : Option (List ℕ)) → xs ≡ front ++ rest
-    → Sends (posts front) a b → Appends h i (lines front ++ take count (first_line rest)) → Stopped (xs ++ ys) a b h i
+    → Sends (calls front) a b → Appends h i (lines front ++ take count (first_line rest)) → Stopped (xs ++ ys) a b h i
 stopped_by xs ys front [] count a b h i split sends wrote = record {
   front = front;
   rest = ys;
@@ -99,10 +100,10 @@ stopped_by xs ys front [] count a b h i split sends wrote = record {
   sends = sends;
   lines = no_line h i (lines front) (first_line ys) count wrote;
 }
-stopped_by xs ys front (Post d ∷ rest) count a b h i split sends wrote = record {
+stopped_by xs ys front (Call d ∷ rest) count a b h i split sends wrote = record {
   front = front;
-  rest = Post d ∷ (rest ++ ys);
-  split = rw split (append_assoc front (Post d ∷ rest) ys);
+  rest = Call d ∷ (rest ++ ys);
+  split = rw split (append_assoc front (Call d ∷ rest) ys);
   count = count;
   sends = sends;
   lines = wrote;
@@ -120,10 +121,10 @@ pub stopped_more : (xs ys : List Effect) (a b : LinkSide) (h i : Option (List �
 stopped_more xs ys a b h i one = stopped_by xs ys one.front one.rest one.count a b h i one.split one.sends one.lines
 
 in_line_by : (xs ys front rest : List Effect) (count : ℕ) (a b : LinkSide) (h i : Option (List ℕ)) → xs ≡ front ++ rest
-    → Sends (posts front) a b → Appends h i (lines front ++ take count (first_line rest)) → count < length (first_line rest)
+    → Sends (calls front) a b → Appends h i (lines front ++ take count (first_line rest)) → count < length (first_line rest)
     → StoppedInLine (xs ++ ys) a b h i
 in_line_by xs ys front [] count a b h i split sends wrote below = absurd (omega (arith, below))
-in_line_by xs ys front (Post d ∷ rest) count a b h i split sends wrote below = absurd (omega (arith, below))
+in_line_by xs ys front (Call d ∷ rest) count a b h i split sends wrote below = absurd (omega (arith, below))
 in_line_by xs ys front (Line l ∷ rest) count a b h i split sends wrote below = record {
   stopped = record {
     front = front;
@@ -145,19 +146,19 @@ stops_more xs ys NoMemory a b h i one = stopped_more xs ys a b h i one
 
 -- ---- one output
 
-pub posted : (ds : List Sent) (a b : LinkSide) (h : Option (List ℕ)) → Sends ds a b → Done (map Post ds) a b h h
+pub posted : (ds : List LinkCall) (a b : LinkSide) (h : Option (List ℕ)) → Sends ds a b → Done (map Call ds) a b h h
 posted ds a b h sends = record {
-  sends = rw (posts_map ds) sends;
+  sends = rw (calls_map ds) sends;
   lines = rw (lines_map ds) (Appends_none h);
 }
 
-pub posted_front : (ds : List Sent) (a b : LinkSide) (h : Option (List ℕ)) → SendsFront ds a b → Stopped (map Post ds) a b h h
+pub posted_front : (ds : List LinkCall) (a b : LinkSide) (h : Option (List ℕ)) → SendsFront ds a b → Stopped (map Call ds) a b h h
 posted_front ds a b h one = record {
-  front = map Post one.before;
-  rest = map Post one.rest;
+  front = map Call one.before;
+  rest = map Call one.rest;
   split = rw (one.split) (map_append one.before one.rest);
   count = 0;
-  sends = rw (posts_map one.before) one.sends;
+  sends = rw (calls_map one.before) one.sends;
   lines = rw (lines_map one.before) (Appends_none h);
 }
 
@@ -179,6 +180,16 @@ pub posted_as : (at : Address) (out : Out) (dest : Dest) (shown bytes : List ℕ
 posted_as at out dest shown bytes a b h is same sends =
     let here : Sends (datagrams_to at dest bytes) a b = rw same at sends in
     rw is (posted (datagrams_to at dest bytes) a b h here)
+
+-- the link was polled
+pub polled_done : (a b : LinkSide) (h : Option (List ℕ)) → Sends (Polled ∷ []) a b → Done (Call Polled ∷ []) a b h h
+polled_done a b h sends = record { sends = sends; lines = Appends_none h }
+
+-- losses were found, and nothing else happened
+pub done_quiet : (es : List Effect) (a b c : LinkSide) (h i : Option (List ℕ)) → Done es a b h i → Sends [] b c → Done es a c h i
+done_quiet es a b c h i one two =
+    let none : calls es ++ [] ≡ calls es = append-nil (calls es) in
+    record { sends = rw none at (sends_then (calls es) [] a b c one.sends two); lines = one.lines }
 
 -- ---- outputs in order
 

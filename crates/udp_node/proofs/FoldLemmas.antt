@@ -1,22 +1,28 @@
 -- Inputs one after another.
 use Rattle.std.proofs.Common.{◌≡◌, ℕ, ◌+◌, ◌<◌, List, [], ◌∷◌, ◌++◌, length, get_or, take, drop, Option, refl, ap, sym, ◌∙◌, append_assoc}
 use Rattle.std.proofs.Common.{arith}
-use Rattle.std.specs.Prelude.{nat_le, slice_get, map, Some, None}
+use Rattle.std.proofs.KnownBytes.{Appends-trans}
+use Rattle.std.specs.Io.KnownBytes.{Appends}
+use Rattle.std.specs.Prelude.{nat_le, slice_get, map, Some, None, Bool, true, false}
 use Rattle.std.proofs.lemmas.Grind.{common_steps}
 use Rattle.std.proofs.lemmas.List.{take_more, take-append-drop, map_more}
 use Rattle.std.proofs.lemmas.Option.{slice_get_within, get_or_from_slice_get, slice_get-get_or, slice_get_cases}
 use Rattle.nop_types.specs.declared.input.Tick.{Tick}
 use Rattle.nop_types.specs.declared.input.Tick.TheVariants.{Suspect}
-use Rattle.nop_types.specs.Given.{Given}
+use Rattle.nop_types.specs.Given.{Given, Packet, Ticked, Submit}
 use Rattle.nop_types.specs.declared.output.Out.{Out}
 use Rattle.outside.specs.declared.errors.DeviceError.{DeviceError}
 use Rattle.udp_node.specs.declared.address.Address.{Address}
 use Rattle.udp_node.specs.declared.firing.Timer.{Timer}
-use Rattle.udp_node.specs.Effects.{effects, Done, Stops}
-use Rattle.udp_node.specs.Folding.{folded, Ran}
+use Rattle.outside.specs.declared.link.PollAnswer.{PollAnswer}
+use Rattle.outside.specs.declared.link.PollAnswer.TheVariants.{Received, Nothing, Failure}
+use Rattle.udp_node.specs.NodeRun.{first_inputs}
+use Rattle.udp_node.specs.Effects.{effects, lines, Done, Stops}
+use Rattle.udp_node.specs.Folding.{folded, Ran, AllOutside, TookSome}
 use Rattle.udp_node.specs.Sends.{LinkSide}
-use Rattle.udp_node.specs.Timing.{due_ticks, tick_if, armed}
-use Rattle.udp_node.proofs.EffectLemmas.{effects_append, done_then, stops_then, stops_more as effects_stop, Appends_none}
+use Rattle.udp_node.specs.Timing.{due_ticks, packet_of, tick_if, armed}
+use Rattle.udp_node.specs.Turns.{Turned, ticked, polled}
+use Rattle.udp_node.proofs.EffectLemmas.{effects_append, lines_append, done_then, stops_then, stops_more as effects_stop, Appends_none}
 use Rattle.udp_node.proofs.SendLemmas.{no_sends}
 
 pub state_append : {S : Type 0} (next : S → Given → S × List Out) (s : S) (xs ys : List Given)
@@ -68,6 +74,69 @@ pub stops_more : {S : Type 0} (next : S → Given
 stops_more next at s e xs ys a b h i one =
     rw (effects_then next at s xs ys)
     (effects_stop (effects at (folded next s xs).1) (effects at (folded next (folded next s xs).0 ys).1) e a b h i one)
+
+-- ---- inputs, whatever link and clock tell
+
+pub outside_append : (xs ys : List Given) → AllOutside xs → AllOutside ys → AllOutside (xs ++ ys)
+outside_append [] ys one two = two
+outside_append (Packet bytes ∷ xs) ys one two = outside_append xs ys one two
+outside_append (Ticked tick ∷ xs) ys one two = outside_append xs ys one two
+outside_append (Submit op ∷ xs) ys one two = absurd one
+
+tick_outside : (b : Bool) (tick : Tick) → AllOutside (tick_if b tick)
+tick_outside true tick = tt
+tick_outside false tick = tt
+
+pub due_outside : (now : ℕ) (ts : List Timer) → AllOutside (due_ticks now ts)
+due_outside now [] = tt
+due_outside now (t ∷ ts) =
+    outside_append (tick_if (nat_le t.due now) t.tick) (due_ticks now ts) (tick_outside (nat_le t.due now) t.tick) (due_outside now ts)
+
+pub packet_outside : (p : PollAnswer) → AllOutside (packet_of p)
+packet_outside (Received datagram) = tt
+packet_outside Nothing = tt
+packet_outside Failure = tt
+
+pub first_outside : (tick : Option Tick) → AllOutside (first_inputs tick)
+first_outside None = tt
+first_outside (Some tick) = tt
+
+pub took_nothing : {S : Type 0} (next : S → Given → S × List Out) (at : Address) (s : S) (h : Option (List ℕ)) → TookSome next at s s h h
+took_nothing next at s h = record { inputs = []; outside = tt; state = refl; written = Appends_none h }
+
+pub took_then : {S : Type 0} (next : S → Given → S × List Out) (at : Address) (s t u : S) (h i j : Option (List ℕ))
+    → TookSome next at s t h i → TookSome next at t u i j → TookSome next at s u h j
+took_then next at s t u h i j one two =
+    let state : u ≡ (folded next (folded next s one.inputs).0 two.inputs).0 = rw one.state at two.state in
+    let written : Appends i j (lines (effects at (folded next (folded next s one.inputs).0 two.inputs).1)) = rw one.state at two.written in
+    record {
+      inputs = one.inputs ++ two.inputs;
+      outside = outside_append one.inputs two.inputs one.outside two.outside;
+      state = rw (state_append next s one.inputs two.inputs) state;
+      written =
+          rw (effects_then next at s one.inputs two.inputs, lines_append (effects at (folded next s one.inputs).1))
+          (Appends-trans h i j (lines (effects at (folded next s one.inputs).1))
+          (lines (effects at (folded next (folded next s one.inputs).0 two.inputs).1)) one.written written);
+    }
+
+pub ran_took : {S : Type 0} (next : S → Given → S × List Out) (at : Address) (s t : S) (is : List Given) (a b : LinkSide)
+    (h i : Option (List ℕ)) → AllOutside is → Ran next at s t is a b h i → TookSome next at s t h i
+ran_took next at s t is a b h i out ran = record { inputs = is; outside = out; state = ran.state; written = ran.done.lines }
+
+pub turn_took : {S : Type 0} (next : S → Given → S × List Out) (at : Address) (s t : S) (now : ℕ) (ts us : List Timer)
+    (o later : Option (List PollAnswer)) (a b : LinkSide) (h i : Option (List ℕ)) → Turned next at s t now ts us o later a b h i
+    → TookSome next at s t h i
+turn_took next at s t now ts us o later a b h i turn = record {
+  inputs = due_ticks now ts ++ packet_of turn.answer;
+  outside = outside_append (due_ticks now ts) (packet_of turn.answer) (due_outside now ts) (packet_outside turn.answer);
+  state = rw (state_append next s (due_ticks now ts) (packet_of turn.answer)) turn.state;
+  written =
+      rw (
+        effects_then next at s (due_ticks now ts) (packet_of turn.answer),
+        lines_append (effects at (folded next s (due_ticks now ts)).1),
+      )
+      (rw (lines_append (ticked next at s now ts).1 (polled next at (ticked next at s now ts).0 turn.answer).1) at turn.done.lines);
+}
 
 -- ---- timers
 

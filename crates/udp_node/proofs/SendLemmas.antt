@@ -2,25 +2,34 @@
 use Rattle.std.proofs.Common.{◌≡◌, ℕ, zero, suc, ◌+◌, ◌-◌, ◌≤◌, ◌<◌, min, List, [], ◌∷◌, ◌++◌, Bool, true, false, Option, Some, None}
 use Rattle.std.proofs.Common.{Result, Ok, Err, refl, ap, sym, ◌∙◌, append_assoc, append-nil, arith}
 use Rattle.nop_types.specs.declared.memory.NoMemory.{NoMemory}
-use Rattle.outside.specs.declared.link.Sent.{Sent}
-use Rattle.outside.specs.Causes.{Rose}
-use Rattle.outside.specs.Plans.{next_count}
-use Rattle.outside.specs.Told.{Stays, Adds}
+use Rattle.outside.specs.Causes.{next_count}
+use Rattle.outside.specs.Links.{TracesPoll}
+use Rattle.outside.specs.Told.{Stays, StaysIfTold, Adds}
+use Rattle.outside.specs.declared.errors.DeviceError.{DeviceError}
+use Rattle.outside.specs.declared.errors.DeviceError.TheVariants as links
+use Rattle.outside.specs.declared.link.LinkCall.{LinkCall}
+use Rattle.outside.specs.declared.link.LinkCall.TheVariants.{Polled, Sent}
 use Rattle.udp_node.specs.Ports.{is_skipped, unless, datagrams_from}
-use Rattle.udp_node.specs.Sends.{LinkSide, Grows, tried, kept, kept_if, failures, counted, count_if, last_count, Sends, SendsFront}
-use Rattle.udp_node.specs.Sends.{SendsAll}
+use Rattle.udp_node.specs.Sends.{LinkSide, Grows, Try, Made, Lost, Found, tried, made, found, counted, last_count}
+use Rattle.udp_node.specs.Sends.{Sends, SendsFront, SendsAll, PollsLink}
 
-pub tried_append : (xs ys : List (Sent × Bool)) → tried (xs ++ ys) ≡ tried xs ++ tried ys
+pub tried_append : (xs ys : List Try) → tried (xs ++ ys) ≡ tried xs ++ tried ys
 tried_append [] ys = refl
-tried_append (x ∷ xs) ys = ap (λ ts. x.0 ∷ ts) (tried_append xs ys)
+tried_append (Made c ∷ xs) ys = ap (λ cs. c ∷ cs) (tried_append xs ys)
+tried_append (Lost port bytes ∷ xs) ys = ap (λ cs. Sent port bytes ∷ cs) (tried_append xs ys)
+tried_append (Found k ∷ xs) ys = tried_append xs ys
 
-pub kept_append : (xs ys : List (Sent × Bool)) → kept (xs ++ ys) ≡ kept xs ++ kept ys
-kept_append [] ys = refl
-kept_append (x ∷ xs) ys = ap (λ ts. kept_if x.1 x.0 ++ ts) (kept_append xs ys) ∙ sym (append_assoc (kept_if x.1 x.0) (kept xs) (kept ys))
+pub made_append : (xs ys : List Try) → made (xs ++ ys) ≡ made xs ++ made ys
+made_append [] ys = refl
+made_append (Made c ∷ xs) ys = ap (λ cs. c ∷ cs) (made_append xs ys)
+made_append (Lost port bytes ∷ xs) ys = made_append xs ys
+made_append (Found k ∷ xs) ys = made_append xs ys
 
-pub failures_append : (xs ys : List (Sent × Bool)) → failures (xs ++ ys) ≡ failures xs + failures ys
-failures_append [] ys = omega arith
-failures_append (x ∷ xs) ys = let rest = failures_append xs ys in omega arith
+pub found_append : (xs ys : List Try) → found (xs ++ ys) ≡ found xs + found ys
+found_append [] ys = omega arith
+found_append (Made c ∷ xs) ys = found_append xs ys
+found_append (Lost port bytes ∷ xs) ys = found_append xs ys
+found_append (Found k ∷ xs) ys = let rest = found_append xs ys in omega arith
 
 pub Grows_trans : {A : Type 0} (a b c : Option (List A)) (xs ys : List A) → Grows a b xs → Grows b c ys → Grows a c (xs ++ ys)
 Grows_trans None b c xs ys one two = tt
@@ -32,25 +41,31 @@ pub Stays_trans : {A : Type 0} (a b c : Option A) → Stays a b → Stays b c �
 Stays_trans None b c one two = tt
 Stays_trans (Some x) b c one two = rw one at two
 
-pub counted_append : (n : ℕ) (xs ys : List (Sent × Bool)) → counted n (xs ++ ys) ≡ counted (counted n xs) ys
+pub counted_append : (n : ℕ) (xs ys : List Try) → counted n (xs ++ ys) ≡ counted (counted n xs) ys
 counted_append n [] ys = refl
-counted_append n (x ∷ xs) ys = counted_append (count_if x.1 n) xs ys
+counted_append n (Made c ∷ xs) ys = counted_append n xs ys
+counted_append n (Lost port bytes ∷ xs) ys = counted_append (next_count n) xs ys
+counted_append n (Found k ∷ xs) ys = counted_append (min (n + k) last_count) xs ys
 
-pub losses_then : (a b c m n : ℕ) → min (a + m) last_count ≤ b → min (b + n) last_count ≤ c → min (a + (m + n)) last_count ≤ c
-losses_then a b c m n one two = omega arith
+found_none : (a b : Option (List LinkCall)) (xs ys : List Try) → Grows a b (made xs) → StaysIfTold a 0 (found xs)
+    → StaysIfTold b 0 (found ys) → StaysIfTold a 0 (found (xs ++ ys))
+found_none None b xs ys grows one two = tt
+found_none (Some old) b xs ys grows one two =
+    let here : found ys ≡ 0 = rw grows at two in
+    let both = found_append xs ys in
+    omega (arith, one, here, both)
 
-pub sends_then : (xs ys : List Sent) (a b c : LinkSide) → Sends xs a b → Sends ys b c → Sends (xs ++ ys) a c
+pub sends_then : (xs ys : List LinkCall) (a b c : LinkSide) → Sends xs a b → Sends ys b c → Sends (xs ++ ys) a c
 sends_then xs ys a b c one two = record {
   tries = one.tries ++ two.tries;
   all = rw (tried_append one.tries two.tries, one.all, two.all) refl;
-  sent = rw (kept_append one.tries two.tries) (Grows_trans a.sent b.sent c.sent (kept one.tries) (kept two.tries) one.sent two.sent);
+  trace = rw (made_append one.tries two.tries) (Grows_trans a.trace b.trace c.trace (made one.tries) (made two.tries) one.trace two.trace);
   lost = rw (counted_append a.lost one.tries two.tries, ← one.lost) two.lost;
-  losses =
-      rw (failures_append one.tries two.tries)
-      (losses_then a.losses b.losses c.losses (failures one.tries) (failures two.tries) one.losses two.losses);
+  losses = rw (counted_append a.losses one.tries two.tries, ← one.losses) two.losses;
+  told = found_none a.trace b.trace one.tries two.tries one.trace one.told two.told;
 }
 
-pub front_then : (xs ys : List Sent) (a b c : LinkSide) → Sends xs a b → SendsFront ys b c → SendsFront (xs ++ ys) a c
+pub front_then : (xs ys : List LinkCall) (a b c : LinkSide) → Sends xs a b → SendsFront ys b c → SendsFront (xs ++ ys) a c
 front_then xs ys a b c one two = record {
   before = xs ++ two.before;
   rest = two.rest;
@@ -58,7 +73,7 @@ front_then xs ys a b c one two = record {
   sends = sends_then xs two.before a b c one two.sends;
 }
 
-pub front_more : (xs ys : List Sent) (a b : LinkSide) → SendsFront xs a b → SendsFront (xs ++ ys) a b
+pub front_more : (xs ys : List LinkCall) (a b : LinkSide) → SendsFront xs a b → SendsFront (xs ++ ys) a b
 front_more xs ys a b one = record {
   before = one.before;
   rest = one.rest ++ ys;
@@ -66,7 +81,7 @@ front_more xs ys a b one = record {
   sends = one.sends;
 }
 
-unless_append : (b : Bool) (d : Sent) (xs ys : List Sent) → unless b d (xs ++ ys) ≡ unless b d xs ++ ys
+unless_append : (b : Bool) (d : LinkCall) (xs ys : List LinkCall) → unless b d (xs ++ ys) ≡ unless b d xs ++ ys
 unless_append true d xs ys = refl
 unless_append false d xs ys = refl
 
@@ -79,16 +94,20 @@ datagrams_add bytes skipped first zero n =
 datagrams_add bytes skipped first (suc m) n =
     let a : suc m + n ≡ suc (m + n) = omega arith in
     let b : first + suc m ≡ (first + 1) + m = omega arith in
-    rw (a, b) (ap (unless (is_skipped skipped first) (record { port = first; bytes = bytes })) (datagrams_add bytes skipped (first + 1) m n)
-    ∙ unless_append (is_skipped skipped first) (record { port = first; bytes = bytes })
+    rw (a, b) (ap (unless (is_skipped skipped first) (Sent first bytes)) (datagrams_add bytes skipped (first + 1) m n)
+    ∙ unless_append (is_skipped skipped first) (Sent first bytes)
     (datagrams_from bytes skipped (first + 1) m) (datagrams_from bytes skipped ((first + 1) + m) n))
 
 pub Grows_none : {A : Type 0} (s : Option (List A)) → Grows s s []
 Grows_none None = tt
 Grows_none (Some xs) = ap Some (sym (append-nil xs))
 
+told_none : {A : Type 0} (o : Option A) → StaysIfTold o 0 0
+told_none None = tt
+told_none (Some x) = refl
+
 pub no_sends : (a : LinkSide) → Sends [] a a
-no_sends a = record { tries = []; all = refl; sent = Grows_none a.sent; lost = refl; losses = omega arith }
+no_sends a = record { tries = []; all = refl; trace = Grows_none a.trace; lost = refl; losses = refl; told = told_none a.trace }
 
 pub Adds_Grows : {A : Type 0} (a b : Option (List A)) (x : A) → Adds a b x → Grows a b (x ∷ [])
 Adds_Grows None b x one = tt
@@ -98,59 +117,106 @@ pub Stays_Grows : {A : Type 0} (a b : Option (List A)) → Stays a b → Grows a
 Stays_Grows None b one = tt
 Stays_Grows (Some xs) b one = one ∙ ap Some (sym (append-nil xs))
 
-pub sent_one : (d : Sent) (a b : LinkSide) → Adds a.sent b.sent d → b.lost ≡ a.lost → a.losses ≤ b.losses → Sends (d ∷ []) a b
-sent_one d a b sent lost losses = record {
-  tries = (d, true) ∷ [];
+pub sent_one : (c : LinkCall) (a b : LinkSide) → Adds a.trace b.trace c → b.lost ≡ a.lost → b.losses ≡ a.losses → Sends (c ∷ []) a b
+sent_one c a b trace lost losses = record {
+  tries = Made c ∷ [];
   all = refl;
-  sent = Adds_Grows a.sent b.sent d sent;
+  trace = Adds_Grows a.trace b.trace c trace;
   lost = lost;
-  losses = omega (arith, losses);
+  losses = losses;
+  told = told_none a.trace;
 }
 
-pub lost_one : (d : Sent) (a b : LinkSide) → Stays a.sent b.sent → b.lost ≡ next_count a.lost → Rose a.losses b.losses → Sends (d ∷ []) a b
-lost_one d a b sent lost losses = record {
-  tries = (d, false) ∷ [];
+pub lost_one : (port : ℕ) (bytes : List ℕ) (a b : LinkSide) → Stays a.trace b.trace → b.lost ≡ next_count a.lost
+    → b.losses ≡ next_count a.losses → Sends (Sent port bytes ∷ []) a b
+lost_one port bytes a b trace lost losses = record {
+  tries = Lost port bytes ∷ [];
   all = refl;
-  sent = Stays_Grows a.sent b.sent sent;
+  trace = Stays_Grows a.trace b.trace trace;
   lost = lost;
-  losses = omega (arith, losses);
+  losses = losses;
+  told = told_none a.trace;
 }
 
-pub untried : (ds : List Sent) (a b : LinkSide) → Stays a.sent b.sent → b.lost ≡ a.lost → a.losses ≤ b.losses → SendsFront ds a b
-untried ds a b sent lost losses = record {
+pub untried : (cs : List LinkCall) (a b : LinkSide) → Stays a.trace b.trace → b.lost ≡ a.lost → b.losses ≡ a.losses → SendsFront cs a b
+untried cs a b trace lost losses = record {
   before = [];
-  rest = ds;
+  rest = cs;
   split = refl;
-  sends = record { tries = []; all = refl; sent = Stays_Grows a.sent b.sent sent; lost = lost; losses = omega (arith, losses) };
+  sends =
+      record {
+        tries = [];
+        all = refl;
+        trace = Stays_Grows a.trace b.trace trace;
+        lost = lost;
+        losses = losses;
+        told = told_none a.trace;
+      };
 }
 
-pub then_all : {T : Type 0} (xs ys : List Sent) (r : Result T NoMemory) (a b c : LinkSide) → Sends xs a b → SendsAll ys r b c
+-- ---- a poll
+
+found_late : {A : Type 0} (o : Option A) (before now k : ℕ) → StaysIfTold o before now → now ≡ before + k → StaysIfTold o 0 (k + 0)
+found_late None before now k stays is = tt
+found_late (Some x) before now k stays is = omega (arith, stays, is)
+
+pub polled_link : {T : Type 0} (r : Result T DeviceError) (a b : LinkSide) → TracesPoll a.trace b.trace r → a.losses ≤ b.losses
+    → StaysIfTold a.trace a.losses b.losses → b.losses ≤ last_count → b.lost ≡ min (a.lost + (b.losses - a.losses)) last_count
+    → PollsLink r a b
+polled_link (Ok t) a b trace later stays most lost = record {
+  tries = Made Polled ∷ Found (b.losses - a.losses) ∷ [];
+  all = refl;
+  trace = Adds_Grows a.trace b.trace Polled trace;
+  lost = lost;
+  losses = omega (arith, later, most);
+  told = found_late a.trace a.losses b.losses (b.losses - a.losses) stays (omega (arith, later));
+}
+polled_link (Err links.Failed) a b trace later stays most lost = record {
+  tries = Made Polled ∷ Found (b.losses - a.losses) ∷ [];
+  all = refl;
+  trace = Adds_Grows a.trace b.trace Polled trace;
+  lost = lost;
+  losses = omega (arith, later, most);
+  told = found_late a.trace a.losses b.losses (b.losses - a.losses) stays (omega (arith, later));
+}
+polled_link (Err links.NoMemory) a b trace later stays most lost = record {
+  tries = Found (b.losses - a.losses) ∷ [];
+  all = refl;
+  trace = Stays_Grows a.trace b.trace trace;
+  lost = lost;
+  losses = omega (arith, later, most);
+  told = found_late a.trace a.losses b.losses (b.losses - a.losses) stays (omega (arith, later));
+}
+
+-- ---- many sends
+
+pub then_all : {T : Type 0} (xs ys : List LinkCall) (r : Result T NoMemory) (a b c : LinkSide) → Sends xs a b → SendsAll ys r b c
     → SendsAll (xs ++ ys) r a c
 then_all xs ys (Ok t) a b c one two = sends_then xs ys a b c one two
 then_all xs ys (Err e) a b c one two = front_then xs ys a b c one two
 
 -- one more of so many datagrams
 pub one_more : (bytes : List ℕ) (skipped : Option ℕ) (first i : ℕ) (a b c : LinkSide) → Sends (datagrams_from bytes skipped first i) a b
-    → Sends (unless (is_skipped skipped (first + i)) (record { port = first + i; bytes = bytes }) []) b c
+    → Sends (unless (is_skipped skipped (first + i)) (Sent (first + i) bytes) []) b c
     → Sends (datagrams_from bytes skipped first (i + 1)) a c
 one_more bytes skipped first i a b c one two =
     rw (datagrams_add bytes skipped first i 1) (sends_then (datagrams_from bytes skipped first i)
-    (unless (is_skipped skipped (first + i)) (record { port = first + i; bytes = bytes }) []) a b c one two)
+    (unless (is_skipped skipped (first + i)) (Sent (first + i) bytes) []) a b c one two)
 
 -- the next of so many datagrams was not tried
 one_less_of : (bytes : List ℕ) (skipped : Option ℕ) (first i rest : ℕ) (a b c : LinkSide) → Sends (datagrams_from bytes skipped first i) a b
-    → SendsFront (unless (is_skipped skipped (first + i)) (record { port = first + i; bytes = bytes }) []) b c
+    → SendsFront (unless (is_skipped skipped (first + i)) (Sent (first + i) bytes) []) b c
     → SendsFront (datagrams_from bytes skipped first (i + (1 + rest))) a c
 one_less_of bytes skipped first i rest a b c one two =
     rw (datagrams_add bytes skipped first i (1 + rest), datagrams_add bytes skipped (first + i) 1 rest)
     (front_then (datagrams_from bytes skipped first i)
     (datagrams_from bytes skipped (first + i) 1 ++ datagrams_from bytes skipped (first + i + 1) rest) a b c one
-    (front_more (unless (is_skipped skipped (first + i)) (record { port = first + i; bytes = bytes }) [])
+    (front_more (unless (is_skipped skipped (first + i)) (Sent (first + i) bytes) [])
     (datagrams_from bytes skipped (first + i + 1) rest) b c two))
 
 pub one_less : (bytes : List ℕ) (skipped : Option ℕ) (first count i : ℕ) (a b c : LinkSide) → i < count
     → Sends (datagrams_from bytes skipped first i) a b
-    → SendsFront (unless (is_skipped skipped (first + i)) (record { port = first + i; bytes = bytes }) []) b c
+    → SendsFront (unless (is_skipped skipped (first + i)) (Sent (first + i) bytes) []) b c
     → SendsFront (datagrams_from bytes skipped first count) a c
 one_less bytes skipped first count i a b c within one two =
     let total : i + (1 + (count - (i + 1))) ≡ count = omega (arith, within) in

@@ -39,7 +39,7 @@ module _ {S T : Type 0} (next : S → Given → S × List Out) (at : Address) (s
 
   pub turn_wrote : (now : ℕ) (ts us : List Timer) (o later : Option (List PollAnswer)) (result : Result T ServeError)
       → TurnEnds next at s t now ts us o later result a b h i → WroteText h i
-  turn_wrote now ts us o later (Ok r) turn = done_wrote _ a b h i turn.ran.done
+  turn_wrote now ts us o later (Ok r) turn = done_wrote _ a b h i turn.done
   turn_wrote now ts us o later (Err LinkFault) turn = done_wrote _ a b h i turn.done
   turn_wrote now ts us o later (Err WriteFault) turn = stopped_wrote _ a b h i turn.stopped.stopped
   turn_wrote now ts us o later (Err NoMemory) turn = stopped_wrote _ a b h i turn.stopped

@@ -1,4 +1,4 @@
--- What a node does outside, in order: datagrams that it sends, and lines that it writes.
+-- What a node does outside, in order: the calls on its link, and the lines that it writes.
 use Rattle.std.specs.Prelude.{◌≡◌, ℕ, ◌<◌, List, [], ◌∷◌, ◌++◌, length, map, take, Option, Result, Ok, Err}
 use Rattle.std.specs.List.{flat_map}
 use Rattle.std.specs.Io.KnownBytes.{Appends}
@@ -7,7 +7,7 @@ use Rattle.nop_types.specs.declared.output.Out.TheVariants as outs
 use Rattle.outside.specs.Fronts.{AppendsFront}
 use Rattle.outside.specs.declared.errors.DeviceError.{DeviceError}
 use Rattle.outside.specs.declared.errors.DeviceError.TheVariants.{Failed, NoMemory}
-use Rattle.outside.specs.declared.link.Sent.{Sent}
+use Rattle.outside.specs.declared.link.LinkCall.{LinkCall}
 use Rattle.transcript_text.specs.Transcript.{submit_line, accept_line}
 use Rattle.udp_node.specs.declared.address.Address.{Address}
 use Rattle.udp_node.specs.Ports.{datagrams_to}
@@ -29,12 +29,12 @@ Writes line (Err Failed) before now = AppendsFront before now line
 Writes line (Err NoMemory) before now = WroteFront line before now
 
 pub data Effect : Type 0 where
-  Post : Sent → Effect
+  Call : LinkCall → Effect
   Line : List ℕ → Effect
 
 -- what an output asks of the outside
 abbrev pub effects_of : Address → Out → List Effect
-effects_of at (outs.Send dest bytes) = map Post (datagrams_to at dest bytes)
+effects_of at (outs.Send dest bytes) = map Call (datagrams_to at dest bytes)
 effects_of at (outs.Submitted r) = Line (submit_line r) ∷ []
 effects_of at (outs.Accepted client id result) = Line (accept_line client id result) ∷ []
 effects_of at (outs.Busy client) = []
@@ -42,27 +42,27 @@ effects_of at (outs.Busy client) = []
 abbrev pub effects : Address → List Out → List Effect
 effects at os = flat_map (effects_of at) os
 
--- the datagrams, in order
-abbrev pub posts : List Effect → List Sent
-posts [] = []
-posts (Post d ∷ es) = d ∷ posts es
-posts (Line l ∷ es) = posts es
+-- the calls on the link, in order
+abbrev pub calls : List Effect → List LinkCall
+calls [] = []
+calls (Call c ∷ es) = c ∷ calls es
+calls (Line l ∷ es) = calls es
 
 -- the lines, one after another
 abbrev pub lines : List Effect → List ℕ
 lines [] = []
-lines (Post d ∷ es) = lines es
+lines (Call c ∷ es) = lines es
 lines (Line l ∷ es) = l ++ lines es
 
 -- the line that comes first, if one does
 abbrev pub first_line : List Effect → List ℕ
 first_line [] = []
-first_line (Post d ∷ es) = []
+first_line (Call c ∷ es) = []
 first_line (Line l ∷ es) = l
 
 -- all of it was done, from what the sink held before to what it holds now
 pub record Done (es : List Effect) (a b : LinkSide) (before now : Option (List ℕ)) : Type 0 where
-  pub sends : Sends (posts es) a b
+  pub sends : Sends (calls es) a b
   pub lines : Appends before now (lines es)
 
 -- only a front of it was done, and of the line that comes next some bytes were written
@@ -71,7 +71,7 @@ pub record Stopped (es : List Effect) (a b : LinkSide) (before now : Option (Lis
   pub rest : List Effect
   pub split : es ≡ front ++ rest
   pub count : ℕ
-  pub sends : Sends (posts front) a b
+  pub sends : Sends (calls front) a b
   pub lines : Appends before now (lines front ++ take count (first_line rest))
 
 -- a line comes next, and not all of it was written

@@ -1,11 +1,19 @@
 -- A core over several inputs.
-use Rattle.std.specs.Prelude.{◌≡◌, ℕ, List, [], ◌∷◌, ◌++◌, Option, Result, Ok, Err}
-use Rattle.nop_types.specs.Given.{Given}
+use Rattle.std.specs.Io.KnownBytes.{Appends}
+use Rattle.std.specs.Prelude.{◌≡◌, ℕ, List, [], ◌∷◌, ◌++◌, Option, Result, Ok, Err, ⊤}
+use Rattle.nop_types.specs.Given.{Given, Packet, Ticked, Submit}
 use Rattle.nop_types.specs.declared.output.Out.{Out}
 use Rattle.outside.specs.declared.errors.DeviceError.{DeviceError}
 use Rattle.udp_node.specs.declared.address.Address.{Address}
-use Rattle.udp_node.specs.Effects.{effects, Done, Stops}
+use Rattle.udp_node.specs.Effects.{effects, lines, Done, Stops}
 use Rattle.udp_node.specs.Sends.{LinkSide}
+
+-- an input from outside is a packet or a tick
+abbrev pub AllOutside : List Given → Type 0
+AllOutside [] = ⊤
+AllOutside (Packet bytes ∷ is) = AllOutside is
+AllOutside (Ticked tick ∷ is) = AllOutside is
+AllOutside (Submit op ∷ is) = ⊥
 
 module _ {S : Type 0} (next : S → Given → S × List Out) where
   -- the state after some inputs, and all outputs in order
@@ -22,3 +30,10 @@ module _ {S : Type 0} (next : S → Given → S × List Out) where
       → Option (List ℕ) → Type 0
   Runs at s t inputs (Ok r) a b before now = Ran at s t inputs a b before now
   Runs at s t inputs (Err e) a b before now = Stops (effects at (folded s inputs).1) e a b before now
+
+  -- whatever the link and the clock tell: the core took some packets and ticks, and the lines of what it gave were written
+  pub record TookSome (at : Address) (s t : S) (before now : Option (List ℕ)) : Type 0 where
+    pub inputs : List Given
+    pub outside : AllOutside inputs
+    pub state : t ≡ (folded s inputs).0
+    pub written : Appends before now (lines (effects at (folded s inputs).1))

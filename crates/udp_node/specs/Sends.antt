@@ -1,75 +1,94 @@
--- What a link took of the datagrams that were to be sent.
-use Rattle.std.specs.Prelude.{◌≡◌, ℕ, ◌+◌, ◌-◌, ◌^◌, ◌≤◌, min, List, [], ◌∷◌, ◌++◌, Bool, true, false, Option, Some, None, Result, Ok, Err}
-use Rattle.std.specs.Prelude.{⊤}
+-- What a link took of the calls that were to be made on it.
+use Rattle.std.specs.Prelude.{◌≡◌, ℕ, ◌+◌, ◌-◌, ◌^◌, min, List, [], ◌∷◌, ◌++◌, Option, Some, None, Result, Ok, Err, ⊤}
 use Rattle.nop_types.specs.declared.memory.NoMemory.{NoMemory}
-use Rattle.outside.specs.Plans.{next_count}
-use Rattle.outside.specs.declared.link.Sent.{Sent}
+use Rattle.outside.specs.Causes.{next_count}
+use Rattle.outside.specs.Told.{StaysIfTold}
+use Rattle.outside.specs.declared.errors.DeviceError.{DeviceError}
+use Rattle.outside.specs.declared.errors.DeviceError.TheVariants as links
+use Rattle.outside.specs.declared.link.LinkCall.{LinkCall}
+use Rattle.outside.specs.declared.link.LinkCall.TheVariants.{Polled, Sent}
 
--- what was sent, where the link tells it; how many sends the node counted as lost, and how many the link
+-- the calls that the link tells; how many datagrams the node counted as lost, and how many the link
 pub record LinkSide : Type 0 where
-  pub sent : Option (List Sent)
+  pub trace : Option (List LinkCall)
   pub lost : ℕ
   pub losses : ℕ
 
-abbrev pub side : Option (List Sent) → ℕ → ℕ → LinkSide
-side sent lost losses = record { sent = sent; lost = lost; losses = losses }
+abbrev pub side : Option (List LinkCall) → ℕ → ℕ → LinkSide
+side trace lost losses = record { trace = trace; lost = lost; losses = losses }
 
 -- told content grows by xs
 abbrev pub Grows : {A : Type 0} → Option (List A) → Option (List A) → List A → Type 0
 Grows None new xs = ⊤
 Grows (Some old) new xs = new ≡ Some (old ++ xs)
 
--- the datagrams that were tried
-abbrev pub tried : List (Sent × Bool) → List Sent
+-- a call that was made, a datagram that could not be sent, or so many losses that the link found at a poll
+pub data Try : Type 0 where
+  Made : LinkCall → Try
+  Lost : ℕ → List ℕ → Try
+  Found : ℕ → Try
+
+-- the calls that were tried
+abbrev pub tried : List Try → List LinkCall
 tried [] = []
-tried (t ∷ ts) = t.0 ∷ tried ts
+tried (Made c ∷ ts) = c ∷ tried ts
+tried (Lost port bytes ∷ ts) = Sent port bytes ∷ tried ts
+tried (Found k ∷ ts) = tried ts
 
--- one datagram, where its send did not fail
-abbrev pub kept_if : Bool → Sent → List Sent
-kept_if true d = d ∷ []
-kept_if false d = []
+-- those that were made
+abbrev pub made : List Try → List LinkCall
+made [] = []
+made (Made c ∷ ts) = c ∷ made ts
+made (Lost port bytes ∷ ts) = made ts
+made (Found k ∷ ts) = made ts
 
--- those whose send did not fail
-abbrev pub kept : List (Sent × Bool) → List Sent
-kept [] = []
-kept (t ∷ ts) = kept_if t.1 t.0 ++ kept ts
-
-abbrev pub one_if_false : Bool → ℕ
-one_if_false true = 0
-one_if_false false = 1
-
--- how many sends failed
-abbrev pub failures : List (Sent × Bool) → ℕ
+-- how many datagrams could not be sent
+abbrev pub failures : List Try → ℕ
 failures [] = 0
-failures (t ∷ ts) = one_if_false t.1 + failures ts
+failures (Made c ∷ ts) = failures ts
+failures (Lost port bytes ∷ ts) = 1 + failures ts
+failures (Found k ∷ ts) = k + failures ts
 
-abbrev pub count_if : Bool → ℕ → ℕ
-count_if true n = n
-count_if false n = next_count n
-
--- a count of 64 bits after these tries
-abbrev pub counted : ℕ → List (Sent × Bool) → ℕ
-counted n [] = n
-counted n (t ∷ ts) = counted (count_if t.1 n) ts
+-- how many of them the link found at polls
+abbrev pub found : List Try → ℕ
+found [] = 0
+found (Made c ∷ ts) = found ts
+found (Lost port bytes ∷ ts) = found ts
+found (Found k ∷ ts) = k + found ts
 
 abbrev pub last_count : ℕ
 last_count = 2 ^ 64 - 1
 
--- each datagram was tried in order: those whose send did not fail were sent, the others are counted
-pub record Sends (ds : List Sent) (a b : LinkSide) : Type 0 where
-  pub tries : List (Sent × Bool)
-  pub all : tried tries ≡ ds
-  pub sent : Grows a.sent b.sent (kept tries)
+-- a count of 64 bits after these tries
+abbrev pub counted : ℕ → List Try → ℕ
+counted n [] = n
+counted n (Made c ∷ ts) = counted n ts
+counted n (Lost port bytes ∷ ts) = counted (next_count n) ts
+counted n (Found k ∷ ts) = counted (min (n + k) last_count) ts
+
+-- each call was tried in order: those that did not fail were made, the others are counted by the node and by the link. A link
+-- that tells its calls finds no losses at polls.
+pub record Sends (cs : List LinkCall) (a b : LinkSide) : Type 0 where
+  pub tries : List Try
+  pub all : tried tries ≡ cs
+  pub trace : Grows a.trace b.trace (made tries)
   pub lost : b.lost ≡ counted a.lost tries
-  pub losses : min (a.losses + failures tries) last_count ≤ b.losses
+  pub losses : b.losses ≡ counted a.losses tries
+  pub told : StaysIfTold a.trace 0 (found tries)
 
 -- only a front of them was tried
-pub record SendsFront (ds : List Sent) (a b : LinkSide) : Type 0 where
-  pub before : List Sent
-  pub rest : List Sent
-  pub split : ds ≡ before ++ rest
+pub record SendsFront (cs : List LinkCall) (a b : LinkSide) : Type 0 where
+  pub before : List LinkCall
+  pub rest : List LinkCall
+  pub split : cs ≡ before ++ rest
   pub sends : Sends before a b
 
-abbrev pub SendsAll : {T : Type 0} → List Sent → Result T NoMemory → LinkSide → LinkSide → Type 0
-SendsAll ds (Ok t) a b = Sends ds a b
-SendsAll ds (Err e) a b = SendsFront ds a b
+abbrev pub SendsAll : {T : Type 0} → List LinkCall → Result T NoMemory → LinkSide → LinkSide → Type 0
+SendsAll cs (Ok t) a b = Sends cs a b
+SendsAll cs (Err e) a b = SendsFront cs a b
+
+-- the link was polled, unless memory ran out
+abbrev pub PollsLink : {T : Type 0} → Result T DeviceError → LinkSide → LinkSide → Type 0
+PollsLink (Ok t) a b = Sends (Polled ∷ []) a b
+PollsLink (Err links.Failed) a b = Sends (Polled ∷ []) a b
+PollsLink (Err links.NoMemory) a b = Sends [] a b

@@ -1,8 +1,7 @@
 ghost use Rattle.std.specs.Prelude.{◌≡◌, ◌≤◌, ◌∷◌, []};
 ghost use Rattle.nop_types.specs.Given.{given};
-ghost use Rattle.outside.specs.Causes.{HasCauseFor};
+ghost use Rattle.outside.specs.Causes.{Counts};
 ghost use Rattle.outside.specs.Told.{Stays};
-ghost use Rattle.outside.specs.declared.errors.DeviceError.TheVariants as errors;
 ghost use Rattle.udp_node.specs.Effects.{effects_of, effects, Carries, Writes};
 ghost use Rattle.transcript_text.specs.Transcript as texts;
 ghost use Rattle.udp_node.specs.Folding.{Runs};
@@ -18,8 +17,7 @@ use transcript_text::{accept_line, submit_line};
 fn write_submit<W: Sink>(alloc: Global, request: &Request, sink: &mut W) -> Result<(), WriteError>
     ensures line { Writes (texts.submit_line request.now) result (W.held sink.old)
         (W.held sink.new) }
-    ensures cause { HasCauseFor (W.fault_count sink.old) (W.fault_count sink.new)
-        errors.Failed result }
+    ensures count { Counts (W.fault_count sink.old) (W.fault_count sink.new) result }
 {
     let mut line = Vec::new(alloc);
     submit_line(request, &mut line)?;
@@ -35,8 +33,7 @@ fn write_accept<W: Sink>(
 ) -> Result<(), WriteError>
     ensures line { Writes (texts.accept_line client id answer.now) result (W.held sink.old)
         (W.held sink.new) }
-    ensures cause { HasCauseFor (W.fault_count sink.old) (W.fault_count sink.new)
-        errors.Failed result }
+    ensures count { Counts (W.fault_count sink.old) (W.fault_count sink.new) result }
 {
     let mut line = Vec::new(alloc);
     accept_line(client, id, answer, &mut line)?;
@@ -55,11 +52,10 @@ fn carry_out<L: Link, W: Sink>(
 ) -> Result<(), WriteError>
     requires { at.now.base ≤ 65000 }
     ensures carries { Carries (effects_of at.now out.now) result
-        (side (L.sent link.old) lost.old (L.loss_count link.old))
-        (side (L.sent link.new) lost.new (L.loss_count link.new))
+        (side (L.trace link.old) lost.old (L.loss_count link.old))
+        (side (L.trace link.new) lost.new (L.loss_count link.new))
         (W.held sink.old) (W.held sink.new) }
-    ensures cause { HasCauseFor (W.fault_count sink.old) (W.fault_count sink.new)
-        errors.Failed result }
+    ensures count { Counts (W.fault_count sink.old) (W.fault_count sink.new) result }
     ensures answers { Stays (L.answers link.old) (L.answers link.new) }
     ensures faults { L.fault_count link.new ≡ L.fault_count link.old }
     ensures port { L.own_port link.new ≡ L.own_port link.old }
@@ -86,11 +82,10 @@ fn carry_out_all<L: Link, W: Sink>(
 ) -> Result<(), WriteError>
     requires { at.now.base ≤ 65000 }
     ensures carries { Carries (effects at.now outs.now) result
-        (side (L.sent link.old) lost.old (L.loss_count link.old))
-        (side (L.sent link.new) lost.new (L.loss_count link.new))
+        (side (L.trace link.old) lost.old (L.loss_count link.old))
+        (side (L.trace link.new) lost.new (L.loss_count link.new))
         (W.held sink.old) (W.held sink.new) }
-    ensures cause { HasCauseFor (W.fault_count sink.old) (W.fault_count sink.new)
-        errors.Failed result }
+    ensures count { Counts (W.fault_count sink.old) (W.fault_count sink.new) result }
     ensures answers { Stays (L.answers link.old) (L.answers link.new) }
     ensures faults { L.fault_count link.new ≡ L.fault_count link.old }
     ensures port { L.own_port link.new ≡ L.own_port link.old }
@@ -117,11 +112,10 @@ pub(crate) fn take_step<C: Core, L: Link, W: Sink>(
     requires { at.now.base ≤ 65000 }
     ensures runs { Runs C.next at.now (C.state core.old) (C.state core.new)
         (given input.entry ∷ []) result
-        (side (L.sent link.old) lost.old (L.loss_count link.old))
-        (side (L.sent link.new) lost.new (L.loss_count link.new))
+        (side (L.trace link.old) lost.old (L.loss_count link.old))
+        (side (L.trace link.new) lost.new (L.loss_count link.new))
         (W.held sink.old) (W.held sink.new) }
-    ensures cause { HasCauseFor (W.fault_count sink.old) (W.fault_count sink.new)
-        errors.Failed result }
+    ensures count { Counts (W.fault_count sink.old) (W.fault_count sink.new) result }
     ensures answers { Stays (L.answers link.old) (L.answers link.new) }
     ensures faults { L.fault_count link.new ≡ L.fault_count link.old }
     ensures port { L.own_port link.new ≡ L.own_port link.old }

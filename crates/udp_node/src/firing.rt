@@ -1,7 +1,6 @@
 ghost use Rattle.std.specs.Prelude.{◌≡◌, ◌≤◌, ◌∷◌, [], map, length, IfOk, OnOk};
-ghost use Rattle.outside.specs.Causes.{HasCauseFor};
+ghost use Rattle.outside.specs.Causes.{Counts};
 ghost use Rattle.outside.specs.Told.{Stays};
-ghost use Rattle.outside.specs.declared.errors.DeviceError.TheVariants as errors;
 ghost use Rattle.udp_node.specs.Folding.{Runs};
 ghost use Rattle.udp_node.specs.Timing.{armed, due_ticks, rearmed};
 ghost use Rattle.udp_node.specs.Sends.{side};
@@ -56,11 +55,10 @@ fn fire<C: Core, L: Link, W: Sink>(
     requires { at.now.base ≤ 65000 }
     ensures runs { Runs C.next at.now (C.state core.old) (C.state core.new) (due_ticks now (timer
         ∷ [])) result
-        (side (L.sent link.old) lost.old (L.loss_count link.old))
-        (side (L.sent link.new) lost.new (L.loss_count link.new))
+        (side (L.trace link.old) lost.old (L.loss_count link.old))
+        (side (L.trace link.new) lost.new (L.loss_count link.new))
         (W.held sink.old) (W.held sink.new) }
-    ensures cause { HasCauseFor (W.fault_count sink.old) (W.fault_count sink.new)
-        errors.Failed result }
+    ensures count { Counts (W.fault_count sink.old) (W.fault_count sink.new) result }
     ensures answers { Stays (L.answers link.old) (L.answers link.new) }
     ensures faults { L.fault_count link.new ≡ L.fault_count link.old }
     ensures port { L.own_port link.new ≡ L.own_port link.old }
@@ -86,11 +84,10 @@ pub(crate) fn fire_due<C: Core, L: Link, W: Sink>(
     requires { at.now.base ≤ 65000 }
     ensures runs { Runs C.next at.now (C.state core.old) (C.state core.new)
         (due_ticks now timers.now) result
-        (side (L.sent link.old) lost.old (L.loss_count link.old))
-        (side (L.sent link.new) lost.new (L.loss_count link.new))
+        (side (L.trace link.old) lost.old (L.loss_count link.old))
+        (side (L.trace link.new) lost.new (L.loss_count link.new))
         (W.held sink.old) (W.held sink.new) }
-    ensures cause { HasCauseFor (W.fault_count sink.old) (W.fault_count sink.new)
-        errors.Failed result }
+    ensures count { Counts (W.fault_count sink.old) (W.fault_count sink.new) result }
     ensures answers { Stays (L.answers link.old) (L.answers link.new) }
     ensures faults { L.fault_count link.new ≡ L.fault_count link.old }
     ensures port { L.own_port link.new ≡ L.own_port link.old }

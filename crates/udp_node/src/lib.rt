@@ -1,5 +1,23 @@
-//! A node: one core over one link, one clock and one sink. Its turns fire the timers that are due, poll the link, and carry
-//! out what the core gives.
+//! A node: one loop that serves any core over a link, a clock and a sink. In each turn it fires the
+//! timers that are due, polls the link once, and carries out what the core gives after each step,
+//! in order.
+//!
+//! Clauses of `serve`:
+//! - `run`: over an observable link and clock, its calls on the link and what it prints are exactly
+//!   those of `node_run`, the fold of the core over its turns, in order and without the sends that
+//!   failed; after an error a prefix of that.
+//! - `turns`, `done`, `spent`, `took`: it took at most its turns, and all of them where the core is
+//!   not done; over any devices, the lines are those of some inputs that the core took.
+//! - `lost`, and the law `counts_failed_sends`: LOST is no more than the link's losses rose by
+//!   (unless they are at their end, 2^64 - 1), and over an observable link exactly that.
+//! - `poll`, `polls`, `write`, `writes`: LinkFault comes where a poll failed and WriteFault where a
+//!   write failed, and only there. `wrote`, `port`: a sink keeps what it held, and a link its port.
+//!
+//! Calls: `serve` with `Address` and `Served`, for `commands`; `send_to`, `poll_link`, `Timer` and
+//! `rearm_due`, for `one_box`.
+//!
+//! Files: `serving`, `turn`, `polling`, `firing`, `carrying`, `sending`, `address`. Definitions, in
+//! this order: `specs/Ports`, `Sends`, `Effects`, `Folding`, `Timing`, `Turns`, `NodeRun`.
 #![tactic(auto)]
 
 mod address;
@@ -7,6 +25,7 @@ mod carrying;
 mod errors;
 mod firing;
 mod laws;
+mod polling;
 mod sending;
 mod serving;
 mod turn;
@@ -15,5 +34,6 @@ pub use address::Address;
 pub use errors::ServeError;
 pub use firing::{Timer, rearm_due};
 pub use laws::counts_failed_sends;
+pub use polling::poll_link;
 pub use sending::send_to;
 pub use serving::{Served, serve};

@@ -1,5 +1,6 @@
 ghost use Rattle.std.specs.Prelude.{◌≡◌, ◌≤◌, ◌+◌, ◌∷◌, []};
 ghost use Rattle.outside.specs.Told.{Stays};
+ghost use Rattle.outside.specs.declared.link.LinkCall.TheVariants as calls;
 ghost use Rattle.udp_node.specs.Ports.{is_skipped, unless, datagrams_to, datagrams_from};
 ghost use Rattle.udp_node.specs.Sends.{side, SendsAll};
 
@@ -15,9 +16,9 @@ pub(crate) fn send_one<L: Link>(
     link: &mut L,
     lost: &mut u64,
 ) -> Result<(), NoMemory>
-    ensures sends { SendsAll (record { port = port; bytes = bytes.now } ∷ []) result
-        (side (L.sent link.old) lost.old (L.loss_count link.old))
-        (side (L.sent link.new) lost.new (L.loss_count link.new)) }
+    ensures sends { SendsAll (calls.Sent port bytes.now ∷ []) result
+        (side (L.trace link.old) lost.old (L.loss_count link.old))
+        (side (L.trace link.new) lost.new (L.loss_count link.new)) }
     ensures answers { Stays (L.answers link.old) (L.answers link.new) }
     ensures faults { L.fault_count link.new ≡ L.fault_count link.old }
     ensures port { L.own_port link.new ≡ L.own_port link.old }
@@ -42,9 +43,9 @@ fn send_unless_skipped<L: Link>(
     lost: &mut u64,
 ) -> Result<(), NoMemory>
     ensures sends { SendsAll (unless (is_skipped skipped port)
-        (record { port = port; bytes = bytes.now }) []) result
-        (side (L.sent link.old) lost.old (L.loss_count link.old))
-        (side (L.sent link.new) lost.new (L.loss_count link.new)) }
+        (calls.Sent port bytes.now) []) result
+        (side (L.trace link.old) lost.old (L.loss_count link.old))
+        (side (L.trace link.new) lost.new (L.loss_count link.new)) }
     ensures answers { Stays (L.answers link.old) (L.answers link.new) }
     ensures faults { L.fault_count link.new ≡ L.fault_count link.old }
     ensures port { L.own_port link.new ≡ L.own_port link.old }
@@ -70,8 +71,8 @@ fn send_each<L: Link>(
     requires { targets.first + targets.count ≤ 65535 }
     ensures sends { SendsAll (datagrams_from bytes.now targets.skipped targets.first
         targets.count) result
-        (side (L.sent link.old) lost.old (L.loss_count link.old))
-        (side (L.sent link.new) lost.new (L.loss_count link.new)) }
+        (side (L.trace link.old) lost.old (L.loss_count link.old))
+        (side (L.trace link.new) lost.new (L.loss_count link.new)) }
     ensures answers { Stays (L.answers link.old) (L.answers link.new) }
     ensures faults { L.fault_count link.new ≡ L.fault_count link.old }
     ensures port { L.own_port link.new ≡ L.own_port link.old }
@@ -93,8 +94,8 @@ pub fn send_to<L: Link>(
 ) -> Result<(), NoMemory>
     requires { at.now.base ≤ 65000 }
     ensures sends { SendsAll (datagrams_to at.now dest bytes.now) result
-        (side (L.sent link.old) lost.old (L.loss_count link.old))
-        (side (L.sent link.new) lost.new (L.loss_count link.new)) }
+        (side (L.trace link.old) lost.old (L.loss_count link.old))
+        (side (L.trace link.new) lost.new (L.loss_count link.new)) }
     ensures answers { Stays (L.answers link.old) (L.answers link.new) }
     ensures faults { L.fault_count link.new ≡ L.fault_count link.old }
     ensures port { L.own_port link.new ≡ L.own_port link.old }

@@ -1,5 +1,6 @@
 use Rattle.kv_host.specs.Kv.{kv_meaning}
 use Rattle.one_box.specs.Showing as boxed
+use Rattle.commands.proofs.AnswerLemmas.{no_answers}
 use Rattle.commands.proofs.ClusterLemmas.{not_served}
 use Rattle.commands.proofs.CommandLemmas.{no_drawing, no_front, no_usage}
 use Rattle.commands.specs.Nodes.{ports_view}
@@ -17,7 +18,10 @@ returns-in-Err-clause-usage g c = λ refused. no_usage (g.K.Sink.held c.args.sin
 
 pub returns-in-Err-clause-cluster : goal.returns-in-Err-clause-cluster
 returns-in-Err-clause-cluster g c =
-    not_served (boxed.link_view g.P.L.Link.answers g.P.L.Link.own_port g.P.L.Link.sent g.P.L.Link.loss_count g.P.L.Link.fault_count)
+    not_served (boxed.link_view g.P.L.Link.answers g.P.L.Link.own_port g.P.L.Link.trace g.P.L.Link.loss_count g.P.L.Link.fault_count)
     (ports_view (g.P.Ports.to_come c.args.ports.now) (g.P.Ports.detached c.args.ports.now) (g.P.Ports.detached c.args.ports.now)
     (g.P.Ports.fault_count c.args.ports.now) (g.P.Ports.fault_count c.args.ports.now))
     (g.C.Clock.values c.args.clock.now) (asked c.args.words.now) (g.K.Sink.held c.args.sink.now)
+
+pub returns-in-Err-clause-client : goal.returns-in-Err-clause-client
+returns-in-Err-clause-client g c = no_answers (asked c.args.words.now) (g.K.Sink.held c.args.sink.now)

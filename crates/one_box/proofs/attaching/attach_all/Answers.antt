@@ -1,19 +1,20 @@
-use Rattle.std.proofs.Common.{◌≡◌, ◌∙◌, refl, ap, arith, length, map, Some, Err}
+use Rattle.std.proofs.Common.{◌≡◌, ◌∙◌, refl, sym, subst, ap, arith, length, map, Some, Err}
 use Rattle.std.specs.Prelude.{slice_get}
 use Rattle.outside.specs.declared.errors.DeviceError.TheVariants.{Failed}
-use Rattle.one_box.specs.Showing.{link_view, place_of}
-use Rattle.one_box.proofs.AttachingLemmas.{attaching_first, attaching_more, attached_all, places_more, places_all}
+use Rattle.one_box.specs.Showing.{link_view, AllLostFit, place_of}
+use Rattle.one_box.proofs.AttachingLemmas.{attaching_first, attaching_more, attached_all, places_more, places_all, lost_push}
 use Rattle.one_box.proofs.AttachingLemmas.{room_stays, room_more, holds_stays, holds_more, cause_since, no_cause}
 use Rattle.one_box.proofs.attaching.attach_all.Goals as goal
 
 pub loop-i-init : goal.loop-i-init
 loop-i-init g c =
-    let v = link_view g.P.L.Link.answers g.P.L.Link.own_port g.P.L.Link.sent g.P.L.Link.loss_count g.P.L.Link.fault_count in
+    let v = link_view g.P.L.Link.answers g.P.L.Link.own_port g.P.L.Link.trace g.P.L.Link.loss_count g.P.L.Link.fault_count in
     let none : length c.args.nodes.now.items ≡ 0 = ap length c.requires.empty in
     record {
       on = attaching_first v
           c.args.base c.args.config c.args.now (g.P.Ports.to_come c.args.ports.now) c.args.nodes.now.items c.requires.empty;
       places = ap (map (place_of v)) c.requires.empty;
+      lost = subst (AllLostFit v) (sym c.requires.empty) tt;
       holds = omega (arith, none);
       room = λ some. absurd (omega (arith, some, none));
       given = refl;
@@ -41,7 +42,7 @@ returns-in-Err-clause-cause g c =
 
 pub loop-i-preserved : goal.loop-i-preserved
 loop-i-preserved g c =
-    let v = link_view g.P.L.Link.answers g.P.L.Link.own_port g.P.L.Link.sent g.P.L.Link.loss_count g.P.L.Link.fault_count in
+    let v = link_view g.P.L.Link.answers g.P.L.Link.own_port g.P.L.Link.trace g.P.L.Link.loss_count g.P.L.Link.fault_count in
     let actors = c.args.actors.now in
     let i = c.loop-i.i in
     let a = c.actor_at-own.result in
@@ -56,6 +57,7 @@ loop-i-preserved g c =
       places = places_more v
           c.args.base c.args.config c.args.now actors i a (g.P.Ports.to_come c.loop-i.ports) (g.P.Ports.to_come c.attach_actor.new.ports)
           c.loop-i.nodes.items c.attach_actor.new.nodes.items _ there one c.loop-i.invariant.places;
+      lost = lost_push v c.loop-i.nodes.items c.attach_actor.new.nodes.items one.node one.added one.fresh.lost c.loop-i.invariant.lost;
       holds = holds_more (g.P.Ports.attached c.args.ports.now) (g.P.Ports.attached c.loop-i.ports)
           (g.P.Ports.attached c.attach_actor.new.ports) (g.P.Ports.detached c.args.ports.now) (g.P.Ports.detached c.loop-i.ports)
           (g.P.Ports.detached c.attach_actor.new.ports) c.loop-i.nodes.items c.attach_actor.new.nodes.items one.node one.added
@@ -70,7 +72,7 @@ loop-i-preserved g c =
 
 pub returns-clause-attaches : goal.returns-clause-attaches
 returns-clause-attaches g c =
-    let v = link_view g.P.L.Link.answers g.P.L.Link.own_port g.P.L.Link.sent g.P.L.Link.loss_count g.P.L.Link.fault_count in
+    let v = link_view g.P.L.Link.answers g.P.L.Link.own_port g.P.L.Link.trace g.P.L.Link.loss_count g.P.L.Link.fault_count in
     let all = c.args.actors.now in
     let xs = c.loop-i.nodes.items in
     let past = c.loop-i-test.false in
@@ -79,6 +81,7 @@ returns-clause-attaches g c =
           (g.P.Ports.to_come c.loop-i.ports) xs past c.loop-i.invariant.on;
       places = places_all v c.args.base c.args.config c.args.now all c.loop-i.i xs past c.loop-i.invariant.places;
       given = c.loop-i.invariant.given;
+      lost = c.loop-i.invariant.lost;
     }
 
 pub returns-clause-holds : goal.returns-clause-holds

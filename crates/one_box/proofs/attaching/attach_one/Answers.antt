@@ -1,6 +1,6 @@
 use Rattle.std.proofs.Common.{refl, ◌∙◌, ap, arith, length}
 use Rattle.outside.specs.declared.errors.DeviceError.TheVariants.{Failed}
-use Rattle.one_box.proofs.AttachingLemmas.{no_cause, memory_cause, cause_as, given_back}
+use Rattle.one_box.proofs.AttachingLemmas.{no_cause, memory_cause, counted_cause, given_back}
 use Rattle.one_box.proofs.attaching.attach_one.Goals as goal
 
 pub returns-in-Ok-push-clause-attaches : goal.returns-in-Ok-push-clause-attaches
@@ -24,7 +24,7 @@ returns-in-Ok-push-clause-attaches g c = record {
 }
 
 pub returns-in-Ok-push-clause-cause : goal.returns-in-Ok-push-clause-cause
-returns-in-Ok-push-clause-cause g c = no_cause _ _ Failed tt c.in-Ok.ensures.cause.later
+returns-in-Ok-push-clause-cause g c = no_cause _ _ Failed tt c.in-Ok.ensures.later
 
 pub returns-in-Err-push-clause-attaches : goal.returns-in-Err-push-clause-attaches
 returns-in-Err-push-clause-attaches g c = record {
@@ -38,7 +38,7 @@ returns-in-Err-push-clause-attaches g c = record {
 pub returns-in-Err-push-clause-cause : goal.returns-in-Err-push-clause-cause
 returns-in-Err-push-clause-cause g c =
     memory_cause (g.P.Ports.fault_count c.args.ports.now) (g.P.Ports.fault_count c.detach_one.new.ports)
-    (omega (arith, c.in-Ok.ensures.cause.later, c.detach_one.ensures.faults))
+    (omega (arith, c.in-Ok.ensures.later, c.detach_one.ensures.faults))
 
 pub returns-in-Err-clause-attaches : goal.returns-in-Err-clause-attaches
 returns-in-Err-clause-attaches g c = record {
@@ -48,4 +48,5 @@ returns-in-Err-clause-attaches g c = record {
 
 pub returns-in-Err-clause-cause : goal.returns-in-Err-clause-cause
 returns-in-Err-clause-cause g c =
-    cause_as (g.P.Ports.fault_count c.args.ports.now) (g.P.Ports.fault_count c.attach.new.self) c.in-Err.e c.in-Err.ensures.cause
+    counted_cause (g.P.Ports.fault_count c.args.ports.now) (g.P.Ports.fault_count c.attach.new.self) c.in-Err.e
+    c.in-Err.ensures.later c.in-Err.ensures.count

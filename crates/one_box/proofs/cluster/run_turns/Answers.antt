@@ -8,13 +8,13 @@ use Rattle.one_box.proofs.cluster.run_turns.Goals as goal
 
 pub take_turns-requires : goal.take_turns-requires
 take_turns-requires g c =
-    let v = link_view g.P.L.Link.answers g.P.L.Link.own_port g.P.L.Link.sent g.P.L.Link.loss_count g.P.L.Link.fault_count in
+    let v = link_view g.P.L.Link.answers g.P.L.Link.own_port g.P.L.Link.trace g.P.L.Link.loss_count g.P.L.Link.fault_count in
     bases_placed v c.args.base c.args.config c.now-now.result c.deref.result.now c.attach_all-attached.new.nodes.items c.requires.base
     c.in-Ok-attached.ensures.attaches.places
 
 pub returns-in-Ok-attached-clause-runs : goal.returns-in-Ok-attached-clause-runs
 returns-in-Ok-attached-clause-runs g c =
-    let v = link_view g.P.L.Link.answers g.P.L.Link.own_port g.P.L.Link.sent g.P.L.Link.loss_count g.P.L.Link.fault_count in
+    let v = link_view g.P.L.Link.answers g.P.L.Link.own_port g.P.L.Link.trace g.P.L.Link.loss_count g.P.L.Link.fault_count in
     let attached = c.in-Ok-attached.ensures.attaches in
     let actors = c.deref.ensures.value ∙ c.in-Ok.ensures in
     turns_run g.H.Host.meaning v c.args.config c.args.ops.now c.args.base c.args.turns c.now-now.result (g.P.Ports.to_come c.args.ports.now)
@@ -24,26 +24,26 @@ returns-in-Ok-attached-clause-runs g c =
     c.attach_all-attached.new.nodes.items) actors attached.told) c.requires.opens c.take_turns.result
     (g.P.Ports.fault_count c.args.ports.now) (g.P.Ports.fault_count c.attach_all-attached.new.ports)
     (g.P.Ports.detached c.args.ports.now) (g.P.Ports.detached c.attach_all-attached.new.ports) c.take_turns.ensures.told
-    c.take_turns.ensures.runs
+    c.take_turns.ensures.runs attached.lost
     (c.take_turns.ensures.places ∙ attached.places ∙ ap (map (place_for c.args.base c.args.config)) actors) attached.given
 
 pub returns-in-Ok-attached-clause-holds : goal.returns-in-Ok-attached-clause-holds
 returns-in-Ok-attached-clause-holds g c =
-    let v = link_view g.P.L.Link.answers g.P.L.Link.own_port g.P.L.Link.sent g.P.L.Link.loss_count g.P.L.Link.fault_count in
+    let v = link_view g.P.L.Link.answers g.P.L.Link.own_port g.P.L.Link.trace g.P.L.Link.loss_count g.P.L.Link.fault_count in
     holds_same v c.attach_all-attached.new.nodes.items c.take_turns.new.nodes.items c.take_turns.ensures.places
     (g.P.Ports.attached c.args.ports.now) (g.P.Ports.attached c.attach_all-attached.new.ports)
     (g.P.Ports.detached c.args.ports.now) (g.P.Ports.detached c.attach_all-attached.new.ports) c.attach_all-attached.ensures.holds
 
 pub returns-in-Ok-attached-clause-room : goal.returns-in-Ok-attached-clause-room
 returns-in-Ok-attached-clause-room g c =
-    let v = link_view g.P.L.Link.answers g.P.L.Link.own_port g.P.L.Link.sent g.P.L.Link.loss_count g.P.L.Link.fault_count in
+    let v = link_view g.P.L.Link.answers g.P.L.Link.own_port g.P.L.Link.trace g.P.L.Link.loss_count g.P.L.Link.fault_count in
     room_same v c.attach_all-attached.new.nodes.items c.take_turns.new.nodes.items c.take_turns.ensures.places
     (g.P.Ports.attached c.attach_all-attached.new.ports) (g.P.Ports.detached c.attach_all-attached.new.ports)
     c.attach_all-attached.ensures.room
 
 pub returns-clause-runs : goal.returns-clause-runs
 returns-clause-runs g c =
-    let v = link_view g.P.L.Link.answers g.P.L.Link.own_port g.P.L.Link.sent g.P.L.Link.loss_count g.P.L.Link.fault_count in
+    let v = link_view g.P.L.Link.answers g.P.L.Link.own_port g.P.L.Link.trace g.P.L.Link.loss_count g.P.L.Link.fault_count in
     unattached g.H.Host.meaning v c.args.config c.args.ops.now c.args.base c.args.turns c.in-Err.e
     (g.P.Ports.to_come c.args.ports.now) (g.C.Clock.values c.args.clock.now) (g.P.Ports.fault_count c.args.ports.now)
     (g.P.Ports.fault_count c.attach_all-attached.new.ports) (g.P.Ports.detached c.args.ports.now)

@@ -8,18 +8,19 @@ use Rattle.one_box.proofs.firing.fire_due.Goals as goal
 
 pub loop-i-init : goal.loop-i-init
 loop-i-init g c =
-    let v = link_view g.L.Link.answers g.L.Link.own_port g.L.Link.sent g.L.Link.loss_count g.L.Link.fault_count in
+    let v = link_view g.L.Link.answers g.L.Link.own_port g.L.Link.trace g.L.Link.loss_count g.L.Link.fault_count in
     record {
       fires = λ n shown. none_fired g.H.Host.meaning v
           c.args.ops.now c.args.now c.args.node.now.timers.items (course_of c.args.course.now) n c.args.node.now shown;
       goes = λ config led. led;
+      lost = λ fits. fits;
       timers = refl;
       place = refl;
     }
 
 pub loop-i-preserved : goal.loop-i-preserved
 loop-i-preserved g c =
-    let v = link_view g.L.Link.answers g.L.Link.own_port g.L.Link.sent g.L.Link.loss_count g.L.Link.fault_count in
+    let v = link_view g.L.Link.answers g.L.Link.own_port g.L.Link.trace g.L.Link.loss_count g.L.Link.fault_count in
     let all = c.args.node.now.timers.items in
     let i = c.loop-i.invariant in
     let there : slice_get all c.loop-i.i ≡ Some c.timer_at-timer.result =
@@ -30,18 +31,20 @@ loop-i-preserved g c =
           (course_of c.fire.new.course) n c.loop-i.node c.fire.new.node there (i.fires n shown) c.in_ok-fire.ensures.acts.does;
       goes = goes_through g.H.Host.meaning (course_of c.args.course.now) (course_of c.loop-i.course) (course_of c.fire.new.course) i.goes
           c.in_ok-fire.ensures.acts.goes;
+      lost = λ fits. c.in_ok-fire.ensures.acts.lost (i.lost fits);
       timers = c.fire.ensures.timers ∙ i.timers;
       place = c.fire.ensures.place ∙ i.place;
     }
 
 pub returns-clause-acts : goal.returns-clause-acts
 returns-clause-acts g c =
-    let v = link_view g.L.Link.answers g.L.Link.own_port g.L.Link.sent g.L.Link.loss_count g.L.Link.fault_count in
+    let v = link_view g.L.Link.answers g.L.Link.own_port g.L.Link.trace g.L.Link.loss_count g.L.Link.fault_count in
     record {
       does = λ n shown. all_fired_at g.H.Host.meaning v c.args.ops.now c.args.now c.args.node.now.timers.items c.loop-i.i
           (course_of c.args.course.now) (course_of c.loop-i.course) n c.loop-i.node (omega arith) shown.timers
           (c.loop-i.invariant.fires n shown);
       goes = c.loop-i.invariant.goes;
+      lost = c.loop-i.invariant.lost;
     }
 
 pub returns-clause-timers : goal.returns-clause-timers

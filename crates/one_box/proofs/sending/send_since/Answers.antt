@@ -6,9 +6,9 @@ use Rattle.one_box.proofs.sending.send_since.Goals as goal
 
 pub loop-i-preserved : goal.loop-i-preserved
 loop-i-preserved g c =
-    let a = side (g.L.Link.sent c.args.link.now) c.args.lost.now (g.L.Link.loss_count c.args.link.now) in
-    let b = side (g.L.Link.sent c.loop-i.link) c.loop-i.lost (g.L.Link.loss_count c.loop-i.link) in
-    let d = side (g.L.Link.sent c.send_one.new.link) c.send_one.new.lost (g.L.Link.loss_count c.send_one.new.link) in
+    let a = side (g.L.Link.trace c.args.link.now) c.args.lost.now (g.L.Link.loss_count c.args.link.now) in
+    let b = side (g.L.Link.trace c.loop-i.link) c.loop-i.lost (g.L.Link.loss_count c.loop-i.link) in
+    let d = side (g.L.Link.trace c.send_one.new.link) c.send_one.new.lost (g.L.Link.loss_count c.send_one.new.link) in
     record {
       sends = one_since c.args.at.now c.args.world.now.state.sent c.args.count c.loop-i.i a b d c.loop-i.auto.i c.loop-i.invariant.sends
           c.in_ok-send_one.ensures.sends;

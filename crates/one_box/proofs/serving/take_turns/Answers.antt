@@ -7,14 +7,14 @@ use Rattle.one_box.proofs.serving.take_turns.Goals as goal
 
 pub turn-requires : goal.turn-requires
 turn-requires g c =
-    let v = link_view g.L.Link.answers g.L.Link.own_port g.L.Link.sent g.L.Link.loss_count g.L.Link.fault_count in
+    let v = link_view g.L.Link.answers g.L.Link.own_port g.L.Link.trace g.L.Link.loss_count g.L.Link.fault_count in
     λ i y found.
     base_at v
     c.args.nodes.now.items c.loop-taken.nodes.items i y c.requires c.loop-taken.invariant.places found
 
 pub returns-in-Err-clause-told : goal.returns-in-Err-clause-told
 returns-in-Err-clause-told g c =
-    let v = link_view g.L.Link.answers g.L.Link.own_port g.L.Link.sent g.L.Link.loss_count g.L.Link.fault_count in
+    let v = link_view g.L.Link.answers g.L.Link.own_port g.L.Link.trace g.L.Link.loss_count g.L.Link.fault_count in
     run_stops g.H.Host.meaning v
     c.args.ops.now c.args.turns c.args.now c.loop-taken.taken c.loop-taken.now (g.C.Clock.values c.loop-taken.clock)
     (g.C.Clock.values c.args.clock.now) (course_of c.args.course.now) (course_of c.loop-taken.course) (course_of c.turn.new.course)
@@ -23,7 +23,7 @@ returns-in-Err-clause-told g c =
 
 pub returns-then-all_accepted-clause-told : goal.returns-then-all_accepted-clause-told
 returns-then-all_accepted-clause-told g c =
-    let v = link_view g.L.Link.answers g.L.Link.own_port g.L.Link.sent g.L.Link.loss_count g.L.Link.fault_count in
+    let v = link_view g.L.Link.answers g.L.Link.own_port g.L.Link.trace g.L.Link.loss_count g.L.Link.fault_count in
     turn_done g.H.Host.meaning v
     c.args.ops.now c.args.turns c.args.now c.loop-taken.taken c.loop-taken.now (g.C.Clock.values c.loop-taken.clock)
     (g.C.Clock.values c.args.clock.now) (course_of c.args.course.now) (course_of c.loop-taken.course) (course_of c.turn.new.course)
@@ -32,7 +32,7 @@ returns-then-all_accepted-clause-told g c =
 
 pub loop-taken-preserved : goal.loop-taken-preserved
 loop-taken-preserved g c =
-    let v = link_view g.L.Link.answers g.L.Link.own_port g.L.Link.sent g.L.Link.loss_count g.L.Link.fault_count in
+    let v = link_view g.L.Link.answers g.L.Link.own_port g.L.Link.trace g.L.Link.loss_count g.L.Link.fault_count in
     let later : c.max-now.result ≡ max c.loop-taken.now c.now.result = search rules in
     let goes_on = going_on g.H.Host.meaning v
     c.args.ops.now c.args.turns c.args.now c.loop-taken.taken c.loop-taken.now (g.C.Clock.values c.loop-taken.clock)
@@ -44,13 +44,14 @@ loop-taken-preserved g c =
       going = rw later goes_on;
       goes = goes_through g.H.Host.meaning (course_of c.args.course.now) (course_of c.loop-taken.course) (course_of c.turn.new.course)
           c.loop-taken.invariant.goes c.in_default.ensures.turns.goes;
+      lost = λ fits. c.in_default.ensures.turns.lost (c.loop-taken.invariant.lost fits);
       places = c.turn.ensures.places ∙ c.loop-taken.invariant.places;
       within = omega (arith, c.loop-taken-test.true);
     }
 
 pub returns-clause-told : goal.returns-clause-told
 returns-clause-told g c =
-    let v = link_view g.L.Link.answers g.L.Link.own_port g.L.Link.sent g.L.Link.loss_count g.L.Link.fault_count in
+    let v = link_view g.L.Link.answers g.L.Link.own_port g.L.Link.trace g.L.Link.loss_count g.L.Link.fault_count in
     turns_over g.H.Host.meaning v
     c.args.ops.now c.args.turns c.args.now c.loop-taken.taken c.loop-taken.now (g.C.Clock.values c.loop-taken.clock)
     (g.C.Clock.values c.args.clock.now) (course_of c.args.course.now) (course_of c.loop-taken.course)
@@ -59,9 +60,9 @@ returns-clause-told g c =
 
 pub returns-in-Err-clause-runs : goal.returns-in-Err-clause-runs
 returns-in-Err-clause-runs g c =
-    let v = link_view g.L.Link.answers g.L.Link.own_port g.L.Link.sent g.L.Link.loss_count g.L.Link.fault_count in
+    let v = link_view g.L.Link.answers g.L.Link.own_port g.L.Link.trace g.L.Link.loss_count g.L.Link.fault_count in
     runs_fail g.H.Host.meaning v _ c.args.ops.now c.args.turns (course_of c.args.course.now) (course_of c.loop-taken.course)
-    (course_of c.turn.new.course) c.loop-taken.nodes.items c.turn.new.nodes.items c.in-Err.e c.in-Err.ensures.turns
+    (course_of c.turn.new.course) c.args.nodes.now.items c.loop-taken.nodes.items c.turn.new.nodes.items c.in-Err.e c.in-Err.ensures.turns
 
 pub returns-in-Err-clause-places : goal.returns-in-Err-clause-places
 returns-in-Err-clause-places g c = c.turn.ensures.places ∙ c.loop-taken.invariant.places
@@ -72,6 +73,7 @@ returns-then-all_accepted-clause-runs g c = record {
   spent = λ is. absurd cc;
   goes = goes_through g.H.Host.meaning (course_of c.args.course.now) (course_of c.loop-taken.course) (course_of c.turn.new.course)
       c.loop-taken.invariant.goes c.in_default.ensures.turns.goes;
+  lost = λ fits. c.in_default.ensures.turns.lost (c.loop-taken.invariant.lost fits);
 }
 
 pub returns-then-all_accepted-clause-places : goal.returns-then-all_accepted-clause-places
@@ -82,6 +84,7 @@ returns-clause-runs g c = record {
   done = c.all_accepted-done.ensures;
   spent = λ is. omega (arith, c.loop-taken-test.false, c.loop-taken.invariant.within);
   goes = c.loop-taken.invariant.goes;
+  lost = c.loop-taken.invariant.lost;
 }
 
 pub returns-clause-places : goal.returns-clause-places

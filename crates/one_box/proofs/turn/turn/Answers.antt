@@ -4,23 +4,24 @@ use Rattle.std.proofs.lemmas.List.{length-set}
 use Rattle.std.proofs.lemmas.Option.{slice_get_read}
 use Rattle.one_box.specs.Showing.{course_of, link_view}
 use Rattle.one_box.proofs.LeadingLemmas.{goes_through}
-use Rattle.one_box.proofs.TurningLemmas.{none_turned, turned, all_turned, turn_stops, same_places, base_at}
+use Rattle.one_box.proofs.TurningLemmas.{none_turned, turned, all_turned, turn_stops, same_places, base_at, lost_set}
 use Rattle.one_box.proofs.turn.turn.Goals as goal
 
 pub loop-i-init : goal.loop-i-init
 loop-i-init g c =
-    let v = link_view g.L.Link.answers g.L.Link.own_port g.L.Link.sent g.L.Link.loss_count g.L.Link.fault_count in
+    let v = link_view g.L.Link.answers g.L.Link.own_port g.L.Link.trace g.L.Link.loss_count g.L.Link.fault_count in
     record {
       turns = λ ns shown. none_turned g.H.Host.meaning v
           c.args.ops.now c.args.now (course_of c.args.course.now) ns c.args.nodes.now.items shown;
       goes = λ config led. led;
+      lost = λ fits. fits;
       places = refl;
       len = refl;
     }
 
 pub node_turn-requires : goal.node_turn-requires
 node_turn-requires g c =
-    let v = link_view g.L.Link.answers g.L.Link.own_port g.L.Link.sent g.L.Link.loss_count g.L.Link.fault_count in
+    let v = link_view g.L.Link.answers g.L.Link.own_port g.L.Link.trace g.L.Link.loss_count g.L.Link.fault_count in
     let ys = c.loop-i.nodes.items in
     let within : c.loop-i.i < length ys =
     omega (arith, c.loop-i-test.true, c.len-i-end.ensures, c.args.nodes.now.ok.0, c.loop-i.invariant.len) in
@@ -30,7 +31,7 @@ node_turn-requires g c =
 
 pub returns-in-Err-clause-turns : goal.returns-in-Err-clause-turns
 returns-in-Err-clause-turns g c =
-    let v = link_view g.L.Link.answers g.L.Link.own_port g.L.Link.sent g.L.Link.loss_count g.L.Link.fault_count in
+    let v = link_view g.L.Link.answers g.L.Link.own_port g.L.Link.trace g.L.Link.loss_count g.L.Link.fault_count in
     let ys = c.loop-i.nodes.items in
     let x = c.index_mut-node.result.now in
     let within : c.loop-i.i < length ys =
@@ -42,7 +43,7 @@ returns-in-Err-clause-turns g c =
 
 pub returns-in-Err-clause-places : goal.returns-in-Err-clause-places
 returns-in-Err-clause-places g c =
-    let v = link_view g.L.Link.answers g.L.Link.own_port g.L.Link.sent g.L.Link.loss_count g.L.Link.fault_count in
+    let v = link_view g.L.Link.answers g.L.Link.own_port g.L.Link.trace g.L.Link.loss_count g.L.Link.fault_count in
     let ys = c.loop-i.nodes.items in
     let x = c.index_mut-node.result.now in
     let within : c.loop-i.i < length ys =
@@ -53,7 +54,7 @@ returns-in-Err-clause-places g c =
 
 pub loop-i-preserved : goal.loop-i-preserved
 loop-i-preserved g c =
-    let v = link_view g.L.Link.answers g.L.Link.own_port g.L.Link.sent g.L.Link.loss_count g.L.Link.fault_count in
+    let v = link_view g.L.Link.answers g.L.Link.own_port g.L.Link.trace g.L.Link.loss_count g.L.Link.fault_count in
     let ys = c.loop-i.nodes.items in
     let x = c.index_mut-node.result.now in
     let within : c.loop-i.i < length ys =
@@ -65,6 +66,7 @@ loop-i-preserved g c =
           (course_of c.node_turn.new.course) c.node_turn.new.node (c.loop-i.invariant.turns ns shown) c.in_default.ensures.serves.does;
       goes = goes_through g.H.Host.meaning (course_of c.args.course.now) (course_of c.loop-i.course) (course_of c.node_turn.new.course)
           c.loop-i.invariant.goes c.in_default.ensures.serves.goes;
+      lost = λ fits. lost_set v ys c.loop-i.i x c.node_turn.new.node found c.in_default.ensures.serves.lost (c.loop-i.invariant.lost fits);
       places = same_places v
           ys c.loop-i.i x c.node_turn.new.node found c.node_turn.ensures.place ∙ c.loop-i.invariant.places;
       len = length-set ys c.loop-i.i c.node_turn.new.node ∙ c.loop-i.invariant.len;
@@ -72,13 +74,14 @@ loop-i-preserved g c =
 
 pub returns-clause-turns : goal.returns-clause-turns
 returns-clause-turns g c =
-    let v = link_view g.L.Link.answers g.L.Link.own_port g.L.Link.sent g.L.Link.loss_count g.L.Link.fault_count in
+    let v = link_view g.L.Link.answers g.L.Link.own_port g.L.Link.trace g.L.Link.loss_count g.L.Link.fault_count in
     let past : length c.loop-i.nodes.items ≤ c.loop-i.i =
     omega (arith, c.loop-i-test.false, c.len-i-end.ensures, c.args.nodes.now.ok.0, c.loop-i.invariant.len) in
     record {
       does = λ ns shown. all_turned g.H.Host.meaning v c.args.ops.now c.args.now (course_of c.args.course.now) ns c.loop-i.i
           (course_of c.loop-i.course) c.loop-i.nodes.items past (c.loop-i.invariant.turns ns shown);
       goes = c.loop-i.invariant.goes;
+      lost = c.loop-i.invariant.lost;
     }
 
 pub returns-clause-places : goal.returns-clause-places

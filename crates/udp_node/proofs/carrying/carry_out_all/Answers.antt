@@ -1,4 +1,4 @@
-use Rattle.std.proofs.Common.{◌∙◌, arith}
+use Rattle.std.proofs.Common.{◌∙◌}
 use Rattle.udp_node.proofs.SendLemmas.{Stays_trans}
 use Rattle.udp_node.proofs.EffectLemmas.{out_done, out_stopped}
 use Rattle.udp_node.proofs.carrying.carry_out_all.Goals as goal
@@ -13,7 +13,7 @@ loop-out-preserved g c = record {
   done =
       out_done c.args.at.now _ _ _ _ _ _ _ _ _ c.loop-out-test.true c.out-item.is c.loop-out.invariant.done
       c.in_default.ensures.carries;
-  later = omega (arith, c.loop-out.invariant.later, c.carry_out.ensures.cause.later);
+  count = c.in_default.ensures.count.is ∙ c.loop-out.invariant.count;
   answers = Stays_trans _ _ _ c.loop-out.invariant.answers c.carry_out.ensures.answers;
   faults = c.carry_out.ensures.faults ∙ c.loop-out.invariant.faults;
   port = c.carry_out.ensures.port ∙ c.loop-out.invariant.port;

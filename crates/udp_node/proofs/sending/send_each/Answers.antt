@@ -8,9 +8,9 @@ loop-i-init g c = record { sends = no_sends _; answers = search rules; faults = 
 
 pub returns-in_err-send_unless_skipped-clause-sends : goal.returns-in_err-send_unless_skipped-clause-sends
 returns-in_err-send_unless_skipped-clause-sends g c =
-    let a = side (g.L.Link.sent c.args.link.now) c.args.lost.now (g.L.Link.loss_count c.args.link.now) in
-    let b = side (g.L.Link.sent c.loop-i.link) c.loop-i.lost (g.L.Link.loss_count c.loop-i.link) in
-    let d = side (g.L.Link.sent c.send_unless_skipped.new.link) c.send_unless_skipped.new.lost
+    let a = side (g.L.Link.trace c.args.link.now) c.args.lost.now (g.L.Link.loss_count c.args.link.now) in
+    let b = side (g.L.Link.trace c.loop-i.link) c.loop-i.lost (g.L.Link.loss_count c.loop-i.link) in
+    let d = side (g.L.Link.trace c.send_unless_skipped.new.link) c.send_unless_skipped.new.lost
     (g.L.Link.loss_count c.send_unless_skipped.new.link) in
     let h = one_less c.args.bytes.now c.args.targets.skipped c.args.targets.first c.args.targets.count c.loop-i.i a b d
     c.loop-i-test.true c.loop-i.invariant.sends c.in_err-send_unless_skipped.ensures.sends in
@@ -18,9 +18,9 @@ returns-in_err-send_unless_skipped-clause-sends g c =
 
 pub loop-i-preserved : goal.loop-i-preserved
 loop-i-preserved g c =
-    let a = side (g.L.Link.sent c.args.link.now) c.args.lost.now (g.L.Link.loss_count c.args.link.now) in
-    let b = side (g.L.Link.sent c.loop-i.link) c.loop-i.lost (g.L.Link.loss_count c.loop-i.link) in
-    let d = side (g.L.Link.sent c.send_unless_skipped.new.link) c.send_unless_skipped.new.lost
+    let a = side (g.L.Link.trace c.args.link.now) c.args.lost.now (g.L.Link.loss_count c.args.link.now) in
+    let b = side (g.L.Link.trace c.loop-i.link) c.loop-i.lost (g.L.Link.loss_count c.loop-i.link) in
+    let d = side (g.L.Link.trace c.send_unless_skipped.new.link) c.send_unless_skipped.new.lost
     (g.L.Link.loss_count c.send_unless_skipped.new.link) in
     record {
       sends = one_more c.args.bytes.now c.args.targets.skipped c.args.targets.first c.loop-i.i a b d

@@ -1,0 +1,114 @@
+-- A client's accept lines, whatever its link tells.
+use Rattle.std.proofs.Common.{◌≡◌, ℕ, ◌<◌, Bool, true, false, List, [], ◌∷◌, ◌++◌, Option, Some, None, refl, ap, ◌∙◌, arith, length, inl, inr}
+use Rattle.client_quorum.specs.ClientSteps as client
+use Rattle.client_quorum.specs.Runs.{after, gave, HasNoSubmit}
+use Rattle.client_quorum.specs.declared.state.ClientState.{ClientState}
+use Rattle.commands.specs.Answers.{accept_count, open_count}
+use Rattle.commands.proofs.OpenOps.{all_accepted, some_open}
+use Rattle.command_line.specs.declared.command.Command.{Command}
+use Rattle.command_line.specs.declared.command.Command.TheVariants.{Replay, Gen, Node, Sequencer, Controller, Client, Cluster}
+use Rattle.command_line.specs.declared.command.Site.{Site}
+use Rattle.nop_types.specs.Given.{Given, Packet, Ticked, Submit}
+use Rattle.nop_types.specs.declared.output.Actor.TheVariants as actors
+use Rattle.udp_node.specs.Folding.{folded, AllOutside}
+use Rattle.commands.specs.Nodes.{LastLine, LinkView, PortsView, NodeEnds, end_status}
+use Rattle.commands.specs.Tasks.{CommandEnds, client_task, address_of, WroteAccepts, AnswersOps, ClientAnswers}
+use Rattle.commands.specs.declared.status.Status.{Status}
+use Rattle.commands.specs.declared.status.Status.TheVariants as statuses
+
+free : (xs : List Given) → AllOutside xs → HasNoSubmit xs
+free [] out = tt
+free (Packet bytes ∷ xs) out = free xs out
+free (Ticked tick ∷ xs) out = free xs out
+free (Submit op ∷ xs) out = absurd out
+
+state_is : (s : ClientState) (xs : List Given) → (folded client.next s xs).0 ≡ after s xs
+state_is s [] = refl
+state_is s (x ∷ xs) = state_is (client.next s x).0 xs
+
+outs_are : (s : ClientState) (xs : List Given) → (folded client.next s xs).1 ≡ gave s xs
+outs_are s [] = refl
+outs_are s (x ∷ xs) = ap (λ os. (client.next s x).1 ++ os) (outs_are (client.next s x).0 xs)
+
+was_done : (b : Bool) → statuses.Done ≡ end_status true b → b ≡ true
+was_done true is = refl
+was_done false is = absurd cc
+
+was_open : (b : Bool) → statuses.Unanswered ≡ end_status true b → b ≡ false
+was_open true is = absurd cc
+was_open false is = refl
+
+module _ (id : ℕ) (site : Site) (ops : List (List ℕ)) where
+  opens : open_count (client.opening site.config id ops) ≡ length ops
+  opens = omega arith
+
+  accepted : (losses losses_now : ℕ) (h i : Option (List ℕ)) → LastLine (client_task id site ops) losses losses_now statuses.Done h i
+      → WroteAccepts (address_of site (actors.Client id)) (length ops) h i
+  accepted losses losses_now h i l =
+      let s : ClientState = client.opening site.config id ops in
+      let done : client.is_done (after s l.inputs) ≡ true = rw (state_is s l.inputs) at (was_done _ l.ends) in
+      let count = all_accepted s l.inputs (free l.inputs l.outside) done in
+      record {
+        outs = (folded client.next s l.inputs).1;
+        taken = l.taken;
+        lost = l.lost;
+        accepts = ap accept_count (outs_are s l.inputs) ∙ count ∙ opens;
+        line = l.line;
+      }
+
+  lacking : (losses losses_now : ℕ) (h i : Option (List ℕ)) → LastLine (client_task id site ops) losses losses_now statuses.Unanswered h i
+      → (fewer : ℕ) × (fewer < length ops) × WroteAccepts (address_of site (actors.Client id)) fewer h i
+  lacking losses losses_now h i l =
+      let s : ClientState = client.opening site.config id ops in
+      let open_ : client.is_done (after s l.inputs) ≡ false = rw (state_is s l.inputs) at (was_open _ l.ends) in
+      let count = some_open s l.inputs (free l.inputs l.outside) open_ in
+      let all = opens in (
+        accept_count (gave s l.inputs),
+        omega (arith, count, all),
+        record {
+          outs = (folded client.next s l.inputs).1;
+          taken = l.taken;
+          lost = l.lost;
+          accepts = ap accept_count (outs_are s l.inputs);
+          line = l.line;
+        },
+      )
+
+  module _ {L : Type 0} (w : LinkView L) (p : PortsView L) (values : Option (List ℕ)) (h i : Option (List ℕ)) where
+    answers_ops : (s : Status) → NodeEnds (client_task id site ops) w p values s h i
+        → AnswersOps (address_of site (actors.Client id)) (length ops) s h i
+    answers_ops statuses.Done (inl u) = absurd u.status
+    answers_ops statuses.Done (inr a) = accepted 0 (w.losses a.link) h i a.last
+    answers_ops statuses.Malformed ends = tt
+    answers_ops statuses.Usage ends = tt
+    answers_ops statuses.ReadFault ends = tt
+    answers_ops statuses.WriteFault ends = tt
+    answers_ops statuses.LinkFault ends = tt
+    answers_ops statuses.NoMemory ends = tt
+    answers_ops statuses.Unanswered (inl u) = absurd u.status
+    answers_ops statuses.Unanswered (inr a) = lacking 0 (w.losses a.link) h i a.last
+
+module _ {L : Type 0} (w : LinkView L) (p : PortsView L) (values : Option (List ℕ)) where
+  pub client_answers : (c : Option Command) (s : Status) (h i : Option (List ℕ)) → CommandEnds c w p values s h i → ClientAnswers c s h i
+  client_answers None s h i ends = tt
+  client_answers (Some Replay) s h i ends = tt
+  client_answers (Some (Gen number count)) s h i ends = tt
+  client_answers (Some (Node id site)) s h i ends = tt
+  client_answers (Some (Sequencer id site)) s h i ends = tt
+  client_answers (Some (Controller site session install)) s h i ends = tt
+  client_answers (Some (Client id site ops)) s h i ends = answers_ops id site ops w p values h i s ends
+  client_answers (Some (Cluster site ops)) s h i ends = tt
+
+pub no_answers : (c : Option Command) (h : Option (List ℕ)) → ClientAnswers c statuses.NoMemory h h
+no_answers None h = tt
+no_answers (Some Replay) h = tt
+no_answers (Some (Gen number count)) h = tt
+no_answers (Some (Node id site)) h = tt
+no_answers (Some (Sequencer id site)) h = tt
+no_answers (Some (Controller site session install)) h = tt
+no_answers (Some (Client id site ops)) h = tt
+no_answers (Some (Cluster site ops)) h = tt
+
+-- words that ask for no command
+pub none_answers : (c : Option Command) (s : Status) (h i : Option (List ℕ)) → c ≡ None → ClientAnswers c s h i
+none_answers c s h i is = rw is tt
