@@ -1,11 +1,15 @@
-//! The program: `nopaxos replay` reads a schedule and writes its transcript, and `gen` draws schedules; `cluster` runs all actors
-//! in one process, and the other commands one of them, over datagram sockets.
+//! The program. `main` reads the arguments, makes the devices of the system (standard input and
+//! output, sockets, clock), calls `commands::run` and ends with its status as a number.
+//!
+//! `main` has no contract; `checks/processes.sh` sees what real processes do. What `run` does, with
+//! the theorem, is said at the head of `commands`.
 #![tactic(auto)]
 
-use commands::{Status, SystemClock, UdpPorts, run};
+use commands::{Status, run};
 use standard_io::{StandardIn, StandardOut};
 use std::io::ErrorKind;
 use std::process::ExitCode;
+use udp_ports::{SystemClock, UdpPorts};
 
 fn main(rt: HostRuntime) -> ExitCode {
     let words = match std::env::args(&rt) {

@@ -1,0 +1,117 @@
+ghost use Rattle.std.specs.Prelude.{◌≡◌, ◌≤◌, length, IfOk, IfSome};
+ghost use Rattle.nop_types.specs.declared.limits.TheConstants.{MAX_DATAGRAM_BYTES};
+
+use nop_types::{Bytes, MAX_DATAGRAM_BYTES, NoMemory};
+use outside::LinkError;
+use std::alloc::Global;
+use std::io::ErrorKind;
+use std::net::{Ipv4Addr, Net, UdpSocket};
+use std::time::{Clock, Duration};
+use std::{io, mem, thread};
+
+/// How long a receive waits at most, in milliseconds. The system rounds it up to its own ticks, of some milliseconds.
+const WAIT_MILLIS: u64 = 1;
+
+/// How long a receive sleeps in place of a wait that would be too long, in microseconds.
+const NAP_MICROS: u64 = 200;
+
+/// How long a receive may take where nothing comes.
+#[derive(Clone, Copy, Debug, PartialEq, Eq)]
+pub(crate) enum Patience {
+    Waits,
+    Naps,
+    Returns,
+}
+
+/// A datagram socket at a port of the loopback address.
+#[derive(Drop)]
+pub(crate) struct Socket<'a, R: Clock> {
+    clock: &'a R,
+    alloc: Global,
+    socket: UdpSocket,
+    // Whether the system lets a receive wait.
+    is_waiting: bool,
+    // Space for the next datagram, so that none is received without.
+    space: Vec<u8>,
+}
+
+/// Whether a receive ended without a datagram, and nothing is wrong.
+pub(crate) fn is_silence(kind: ErrorKind) -> bool {
+    matches!(
+        kind,
+        ErrorKind::WouldBlock | ErrorKind::TimedOut | ErrorKind::Interrupted
+    )
+}
+
+impl<'a, R: Clock> Socket<'a, R> {
+    pub(crate) fn open<N: Net>(
+        net: &N,
+        clock: &'a R,
+        alloc: Global,
+        port: u16,
+    ) -> io::Result<Socket<'a, R>> {
+        let socket = UdpSocket::bind(net, (Ipv4Addr::LOCALHOST, port))?;
+        socket.set_read_timeout(Some(Duration::from_millis(WAIT_MILLIS)))?;
+        Ok(Socket {
+            clock,
+            alloc,
+            socket,
+            is_waiting: true,
+            space: Vec::new(alloc),
+        })
+    }
+
+    /// Whether the system took the datagram, which goes to a port of the loopback address.
+    pub(crate) fn has_sent(&self, port: u16, bytes: &[u8]) -> bool {
+        self.socket
+            .send_to(bytes, (Ipv4Addr::LOCALHOST, port))
+            .is_ok()
+    }
+
+    /// Lets a receive wait, or not. Where the system refuses, it stays as it was.
+    fn set_waiting(&mut self, is_waiting: bool) {
+        if is_waiting != self.is_waiting && self.socket.set_nonblocking(!is_waiting).is_ok() {
+            self.is_waiting = is_waiting;
+        }
+    }
+
+    /// What was received, in the space that was made for it.
+    fn take_space(&mut self, received: &[u8]) -> Result<Bytes, NoMemory>
+        ensures { IfOk result (λ datagram. datagram ≡ received.now) }
+    {
+        let mut bytes = mem::replace(&mut self.space, Vec::new(self.alloc));
+        bytes.clear();
+        bytes.extend_from_slice(received)?;
+        Ok(Bytes::from_vec(bytes))
+    }
+
+    /// The next datagram, if one comes; of a longer one its first `MAX_DATAGRAM_BYTES` bytes. `NoMemory` where there is no space
+    /// for one, before any is received.
+    pub(crate) fn receive(&mut self, patience: Patience) -> Result<Option<Bytes>, LinkError>
+        ensures { IfOk result (λ r. IfSome r (λ datagram. length datagram ≤ MAX_DATAGRAM_BYTES)) }
+    {
+        self.space.reserve(MAX_DATAGRAM_BYTES)?;
+        self.set_waiting(patience == Patience::Waits);
+        let mut buf = [0u8; MAX_DATAGRAM_BYTES];
+        match self.socket.recv_from(&mut buf) {
+            Ok((count, _from)) => Ok(Some(self.take_space(&buf[..count])?)),
+            Err(e) => {
+                if !is_silence(e.kind()) {
+                    return Err(LinkError::Failed);
+                }
+                if patience == Patience::Naps {
+                    thread::sleep(self.clock, Duration::from_micros(NAP_MICROS));
+                }
+                Ok(None)
+            }
+        }
+    }
+
+    /// The time in microseconds from a start of the clock's own. Where it cannot be read, the greatest number: each time is over then.
+    pub(crate) fn micros(&self) -> u64 {
+        match self.clock.monotonic() {
+            Ok(time) => u64::try_from(time.as_micros()).unwrap_or(u64::MAX),
+            Err(_) => u64::MAX,
+        }
+    }
+}
