@@ -1,0 +1,4 @@
+pub mod Digits
+pub mod FieldTexts
+pub mod HexLengths
+pub mod SplitLemmas

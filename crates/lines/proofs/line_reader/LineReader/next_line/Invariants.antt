@@ -1,0 +1,19 @@
+use Rattle.std.proofs.Common.{◌≡◌, ◌≤◌, ◌-◌, ℕ, Bool, true, false, length}
+use Rattle.lines.specs.Reading.{NeedsNoRead, TakesFrom}
+use Rattle.lines.proofs.line_reader.LineReader.next_line.Given as goal
+
+abbrev pub invariant-loop-first : goal.invariant-loop-first
+invariant-loop-first g l =
+    record {
+      takes : TakesFrom l.fn.self l.self (g.S.Source.left l.fn.source) (g.S.Source.left l.source);
+      unread : NeedsNoRead l.fn.self → (l.source ≡ l.fn.source) × (l.self ≡ l.fn.self);
+      later : g.S.Source.fault_count l.fn.source ≤ g.S.Source.fault_count l.source;
+    }
+
+-- what is missing to the bytes that decide a line
+abbrev pub missing : Bool → ℕ → ℕ
+missing true count = 0
+missing false count = 4098 - count
+
+abbrev pub decreases-loop-first : goal.decreases-loop-first
+decreases-loop-first g l = missing l.self.ended (length l.self.pending)

@@ -1,0 +1,4 @@
+pub mod Cutting
+pub mod Deciding
+pub mod Filling
+pub mod Reading

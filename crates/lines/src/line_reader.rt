@@ -1,0 +1,145 @@
+ghost use Rattle.std.specs.Prelude.{◌≡◌, ◌+◌, ◌≤◌, ◌<◌, ◌⊎◌, false, true, length, take, drop};
+ghost use Rattle.std.specs.Prelude.{IfOk, OnOk, OnErr, MatchOption};
+ghost use Rattle.nop_types.specs.declared.limits.TheConstants.{MAX_LINE_BYTES};
+ghost use Rattle.outside.specs.Causes.{HasCauseFor};
+ghost use Rattle.lines.specs.Deciding.{IsUndecided};
+ghost use Rattle.lines.specs.Reading.{opening, IsFirst, LeavesNone, NeedsNoRead, Reaches};
+ghost use Rattle.lines.specs.Reading.{TakesFrom};
+
+use crate::buffer::fill;
+use crate::first_line::{FirstLine, first_line};
+use crate::read_error::ReadError;
+use bytes::BytesMut;
+use outside::Source;
+use std::alloc::Global;
+use std::marker::Model;
+
+/// Reads lines, of which there may be `most`. It asks a source for pieces of at most 4,096 bytes, and only while no further line
+/// is decided: a line is decided by its end, by a byte more than a line or a line more than there may be, or by the end of
+/// the source.
+#[derive(Drop)]
+pub struct LineReader {
+    buffer: BytesMut,
+    searched: usize,
+    most: u32,
+    line: u32,
+    ended: bool,
+}
+
+impl Model for LineReader {
+    ghost use Rattle.lines.specs.Reading.{Reading, IsReader};
+
+    ghost Value = { Reading };
+
+    ghost view = { λ r. record {
+      most = r.most;
+      line = r.line;
+      pending = r.buffer.items;
+      ended = r.ended;
+    } };
+
+    ghost invariant = { λ r. IsReader r.searched r.most r.line r.buffer.items };
+}
+
+impl LineReader {
+    /// A reader that took nothing. It takes no memory.
+    pub fn new(alloc: Global, most: u32) -> LineReader
+        ensures { result ≡ opening most }
+    {
+        LineReader {
+            buffer: BytesMut::new(alloc),
+            searched: 0,
+            most,
+            line: 0,
+            ended: false,
+        }
+    }
+
+    /// The number of lines taken.
+    pub fn line(&self) -> u32
+        ensures value { result ≡ self.now.line }
+        ensures most { result ≤ self.now.most }
+    {
+        self.line
+    }
+
+    /// Where the next line lies, None at the end of the source. After ReadFault and NoMemory nothing that was read is lost, and
+    /// the next call goes on.
+    pub fn next_line<S: Source>(&mut self, source: &mut S) -> Result<Option<FirstLine>, ReadError>
+        ensures first { IfOk result (Reaches self.new) }
+        ensures takes { TakesFrom self.old self.new (S.left source.old) (S.left source.new) }
+        ensures none_left { LeavesNone self.new result }
+        ensures cause { HasCauseFor (S.fault_count source.old) (S.fault_count source.new)
+            ReadError.ReadFault result }
+        ensures unread { NeedsNoRead self.old → (source.new ≡ source.old)
+            × (self.new ≡ self.old) }
+    {
+        loop {
+            if let Some(first) = self.first_line() {
+                return Ok(Some(first));
+            }
+            if self.ended {
+                return Ok(None);
+            }
+            self.read_piece(source)?;
+        }
+    }
+
+    fn first_line(&self) -> Option<FirstLine>
+        ensures { MatchOption result
+            (IsUndecided self.now.most self.now.line self.now.ended self.now.pending)
+            (IsFirst self.now) }
+    {
+        first_line(
+            self.most,
+            self.line,
+            self.ended,
+            self.searched,
+            self.buffer.as_slice(),
+        )
+    }
+
+    fn read_piece<S: Source>(&mut self, source: &mut S) -> Result<(), ReadError>
+        requires undecided { IsUndecided self.old.most self.old.line self.old.ended
+            self.old.pending }
+        requires going { self.old.ended ≡ false }
+        ensures more { OnOk result ((self.new.ended ≡ true)
+            ⊎ (length self.old.pending < length self.new.pending)) }
+        ensures takes { TakesFrom self.old self.new (S.left source.old) (S.left source.new) }
+        ensures kept { OnErr result (self.new ≡ self.old) }
+        ensures cause { HasCauseFor (S.fault_count source.old) (S.fault_count source.new)
+            ReadError.ReadFault result }
+    {
+        let searched = self.buffer.len();
+        match fill(&mut self.buffer, source) {
+            Ok(count) => {
+                self.searched = searched;
+                self.ended = count == 0;
+                Ok(())
+            }
+            Err(e) => Err(e),
+        }
+    }
+
+    /// The next line, without its end.
+    pub fn text(&self, first: FirstLine) -> &[u8]
+        requires { IsFirst self.now first }
+        ensures { result.now ≡ take first.len self.now.pending }
+    {
+        &self.buffer.as_slice()[..first.len]
+    }
+
+    /// Takes the next line.
+    pub fn take(&mut self, first: FirstLine)
+        requires first { IsFirst self.old first }
+        requires fits { self.old.line < self.old.most }
+        ensures most { self.new.most ≡ self.old.most }
+        ensures line { self.new.line ≡ self.old.line + 1 }
+        ensures pending { self.new.pending ≡ drop first.end self.old.pending }
+        ensures ended { self.new.ended ≡ self.old.ended }
+    {
+        self.buffer.advance(first.end);
+        self.searched = 0;
+        self.line += 1;
+    }
+}

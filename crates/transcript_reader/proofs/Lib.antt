@@ -1,0 +1,4 @@
+pub mod Behinds
+pub mod Readings
+pub mod RowLemmas
+pub mod Shapes

@@ -1,0 +1,4 @@
+pub mod Claims
+pub mod Reading
+pub mod Steps
+pub mod Transcripts

@@ -1,0 +1,190 @@
+-- What reading a transcript from a source answers.
+use Rattle.std.specs.Prelude.{◌≡◌, ◌⊎◌, ◌<◌, ◌≤◌, ℕ, ◌+◌, ⊤, List, [], ◌∷◌, ◌++◌, length, map, Bool, true, false, Option, Some, None}
+use Rattle.std.specs.Prelude.{Result, Ok, Err, drop}
+use Rattle.std.specs.List.{flat_map}
+use Rattle.std.specs.Io.KnownBytes.{Consumes}
+use Rattle.lines.specs.Cutting.{Cut, with_end, lines_of}
+use Rattle.lines.specs.Deciding.{Follows, cut_of, is_closed}
+use Rattle.lines.specs.Reading.{Reading, IsEnd}
+use Rattle.lines.specs.declared.first_line.FirstLine.{FirstLine}
+use Rattle.nop_types.specs.Configuration.{Configuration, is_configuration}
+use Rattle.nop_types.specs.declared.limits.TheConstants.{MAX_LINE_BYTES}
+use Rattle.transcript_reader.specs.Steps.{SoFar, nothing_yet, so_far, step, run}
+use Rattle.transcript_reader.specs.Transcripts.{AllFit, Transcript, Spells, places_of, said, transcript_lines}
+use Rattle.transcript_reader.specs.declared.check_error.CheckError.{CheckError}
+use Rattle.transcript_reader.specs.declared.check_error.CheckError.TheVariants.{Refuted, ReadFault, NoMemory}
+use Rattle.transcript_reader.specs.declared.part.Part.TheVariants.{Over}
+use Rattle.transcript_reader.specs.declared.limits.TheConstants.{MAX_TRANSCRIPT_LINES}
+use Rattle.transcript_reader.specs.declared.taken.Taken.{Taken}
+use Rattle.transcript_rows.specs.declared.row.Row.{Row}
+use Rattle.transcript_rows.specs.Rows.{RowFits, row_text}
+use Rattle.transcript_text.specs.Transcript.{transcript_line}
+
+abbrev pub whole : List ℕ → List ℕ
+whole text = text ++ 10 ∷ []
+
+-- ---- the lines so far
+
+-- the lines of these texts were taken, and the reader is behind them
+pub record Behind (texts : List (List ℕ)) (all : List ℕ) (r : Reading) : Type 0 where
+  pub most : r.most ≡ MAX_TRANSCRIPT_LINES
+  pub line : r.line ≡ length texts
+  pub bytes : all ≡ flat_map whole texts ++ r.pending
+  pub lines : (ended : Bool) (more : List ℕ) → Follows r.ended ended more
+      → lines_of MAX_TRANSCRIPT_LINES ended 0 (all ++ more)
+      ≡ map with_end texts ++ lines_of MAX_TRANSCRIPT_LINES ended r.line (r.pending ++ more)
+
+-- they are a first line and these rows, each in its place
+pub record Admits (texts : List (List ℕ)) (config : Configuration) (rows : List Row) (s : SoFar) : Type 0 where
+  pub counts : is_configuration config ≡ true
+  pub lines : map whole texts ≡ transcript_line config ∷ map row_text rows
+  pub fit : AllFit rows
+  pub ran : run rows ≡ Some s
+
+-- before the first line, or behind it
+pub data Place : Type 0 where
+  First : Place
+  After : SoFar → Place
+
+abbrev pub IsAt : List (List ℕ) → Place → Type 0
+IsAt texts First = texts ≡ []
+IsAt texts (After s) = (config : Configuration) × (rows : List Row) × Admits texts config rows s
+
+-- ---- what is refused
+
+-- a line more than there may be, or a byte more than a line may have
+abbrev pub IsTooMuch : ℕ → Cut → Type 0
+IsTooMuch before cut = (MAX_TRANSCRIPT_LINES ≤ before) ⊎ (MAX_LINE_BYTES < length cut.text)
+
+-- the text is no line that may come here
+abbrev pub IsMisplaced : ℕ → Place → List ℕ → Type 0
+IsMisplaced line First text = (c : Configuration) → is_configuration c ≡ true → transcript_line c ≡ whole text → ⊥
+IsMisplaced line (After s) text = (row : Row) → RowFits row → row_text row ≡ whole text → step line s row ≡ None
+
+-- the line behind `before` lines breaks clause 1, or it does not and breaks clause 2
+abbrev pub RefusesCut : ℕ → Place → Cut → ℕ → Type 0
+RefusesCut before place cut clause =
+    ((clause ≡ 1) × IsTooMuch before cut)
+    ⊎ ((clause ≡ 2) × (IsTooMuch before cut → ⊥) × (cut.closed ≡ true → IsMisplaced (before + 1) place cut.text))
+
+-- the last line is missing
+abbrev pub IsUnfinished : Place → Type 0
+IsUnfinished First = ⊤
+IsUnfinished (After s) = s.part ≡ Over → ⊥
+
+-- whatever follows, these lines come first
+abbrev pub StartsWith : List ℕ → Bool → List Cut → Type 0
+StartsWith all was_ended cuts = (ended : Bool) (more : List ℕ) → Follows was_ended ended more
+    → (rest : List Cut) × (lines_of MAX_TRANSCRIPT_LINES ended 0 (all ++ more) ≡ cuts ++ rest)
+
+abbrev pub RefusesNext : List ℕ → Bool → List (List ℕ) → Place → ℕ → Type 0
+RefusesNext all was_ended texts place clause =
+    ((cut : Cut) × StartsWith all was_ended (map with_end texts ++ cut ∷ []) × RefusesCut (length texts) place cut clause)
+    ⊎ ((clause ≡ 2) × (was_ended ≡ true) × (lines_of MAX_TRANSCRIPT_LINES true 0 all ≡ map with_end texts) × IsUnfinished place)
+
+-- the lines before this one are in their places, and it is the first that breaks a clause
+pub record RefusesLine (all : List ℕ) (was_ended : Bool) (line clause : ℕ) : Type 0 where
+  pub texts : List (List ℕ)
+  pub place : Place
+  pub at : IsAt texts place
+  pub number : line ≡ length texts + 1
+  pub refuses : RefusesNext all was_ended texts place clause
+
+-- ---- steps
+
+-- a text is the row that comes next, or no row that may
+abbrev pub IsTaken : ℕ → List ℕ → SoFar → SoFar → Bool → Type 0
+IsTaken line text old new true = (row : Row) × RowFits row × (row_text row ≡ whole text) × (step line old row ≡ Some new)
+IsTaken line text old new false = IsMisplaced line (After old) text
+
+-- a line that is whole was taken
+pub record Advances (old new : Reading) (first : FirstLine) : Type 0 where
+  pub fits : old.line < MAX_TRANSCRIPT_LINES
+  pub short : first.len ≤ MAX_LINE_BYTES
+  pub closed : is_closed first ≡ true
+  pub most : new.most ≡ old.most
+  pub line : new.line ≡ old.line + 1
+  pub pending : new.pending ≡ drop first.end old.pending
+  pub ended : new.ended ≡ old.ended
+
+abbrev pub RefusesFirst : Reading → FirstLine → Place → CheckError → Type 0
+RefusesFirst r first place (Refuted line clause) = (line ≡ r.line + 1) × RefusesCut r.line place (cut_of first r.pending) clause
+RefusesFirst r first place ReadFault = ⊥
+RefusesFirst r first place NoMemory = ⊤
+
+-- ---- the whole
+
+-- bytes went from the source, and the source has none left where it ended
+pub record Went (before left : Option (List ℕ)) (all : List ℕ) (ended : Bool) : Type 0 where
+  pub source : Consumes before left all
+  pub end : ended ≡ true → IsEnd before left
+
+-- what was read behind the first line
+pub record Reads (before left : Option (List ℕ)) (r : Reading) (s : SoFar) : Type 0 where
+  pub all : List ℕ
+  pub went : Went before left all r.ended
+  pub texts : List (List ℕ)
+  pub behind : Behind texts all r
+  pub config : Configuration
+  pub rows : List Row
+  pub admits : Admits texts config rows s
+
+-- before it
+pub record ReadsNone (before left : Option (List ℕ)) (r : Reading) : Type 0 where
+  pub all : List ℕ
+  pub went : Went before left all r.ended
+  pub behind : Behind [] all r
+
+pub record IsRefused (before left : Option (List ℕ)) (line clause : ℕ) : Type 0 where
+  pub all : List ℕ
+  pub ended : Bool
+  pub went : Went before left all ended
+  pub refuses : RefusesLine all ended line clause
+
+-- the source has none left, its bytes spell a transcript, and this is what it says
+pub record IsTranscript (before left : Option (List ℕ)) (s : SoFar) (count : ℕ) : Type 0 where
+  pub all : List ℕ
+  pub went : Went before left all true
+  pub whole : Transcript
+  pub spells : Spells whole all
+  pub claims : s.said ≡ said whole
+  pub places : s.places ≡ places_of 2 whole.events
+  pub history : s.history ≡ whole.history
+  pub lines : count ≡ length (transcript_lines whole)
+
+abbrev pub IsError : Option (List ℕ) → Option (List ℕ) → CheckError → Type 0
+IsError before left (Refuted line clause) = IsRefused before left line clause
+IsError before left ReadFault = ⊤
+IsError before left NoMemory = ⊤
+
+abbrev pub IsRead : Option (List ℕ) → Option (List ℕ) → Result (Taken × ℕ) CheckError → Type 0
+IsRead before left (Ok p) = IsTranscript before left (so_far p.0) p.1
+IsRead before left (Err e) = IsError before left e
+
+-- the clause that a line behind `before` lines breaks by its number, its length or its end
+abbrev pub LengthRefused : ℕ → FirstLine → Option ℕ → Type 0
+LengthRefused before first None = (before < MAX_TRANSCRIPT_LINES) × (first.len ≤ MAX_LINE_BYTES) × (is_closed first ≡ true)
+LengthRefused before first (Some clause) =
+    ((clause ≡ 1) × ((MAX_TRANSCRIPT_LINES ≤ before) ⊎ (MAX_LINE_BYTES < first.len)))
+    ⊎ ((clause ≡ 2) × (before < MAX_TRANSCRIPT_LINES) × (first.len ≤ MAX_LINE_BYTES) × (is_closed first ≡ false))
+
+-- a text is a first line
+abbrev pub IsHeader : List ℕ → Type 0
+IsHeader text = (c : Configuration) × (is_configuration c ≡ true) × (transcript_line c ≡ whole text)
+
+-- a call that found no line refutes nothing
+abbrev pub IsNoLine : CheckError → Type 0
+IsNoLine (Refuted line clause) = ⊥
+IsNoLine ReadFault = ⊤
+IsNoLine NoMemory = ⊤
+
+-- the first line was taken
+abbrev pub ReadsFirst : Option (List ℕ) → Option (List ℕ) → Reading → Type 0
+ReadsFirst before left r = Reads before left r nothing_yet
+
+-- the transcript is whole, or its last line is missing
+abbrev pub IsFinished : SoFar → ℕ → Result (Taken × ℕ) CheckError → Type 0
+IsFinished s lines (Ok p) = (so_far p.0 ≡ s) × (p.1 ≡ lines) × (s.part ≡ Over)
+IsFinished s lines (Err (Refuted line clause)) = (line ≡ lines + 1) × (clause ≡ 2) × (s.part ≡ Over → ⊥)
+IsFinished s lines (Err ReadFault) = ⊥
+IsFinished s lines (Err NoMemory) = ⊥

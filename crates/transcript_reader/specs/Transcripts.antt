@@ -1,0 +1,97 @@
+-- A whole transcript: its text, and what it says.
+use Rattle.std.specs.Prelude.{◌≡◌, ℕ, ◌+◌, ◌≤◌, ⊤, List, [], ◌∷◌, ◌++◌, length, map, Bool, true, false}
+use Rattle.std.specs.List.{flat_map, list_all}
+use Rattle.nop_types.specs.Configuration.{Configuration, is_configuration}
+use Rattle.nop_types.specs.Lines.{Line}
+use Rattle.nop_types.specs.Lines as lines
+use Rattle.nop_types.specs.declared.request.Request.{Request}
+use Rattle.transcript_reader.specs.declared.limits.TheConstants.{MAX_TRANSCRIPT_LINES}
+use Rattle.transcript_rows.specs.declared.row.Row.{Row}
+use Rattle.transcript_rows.specs.declared.row.Row.TheVariants.{Dead, Submit, Accept, Busy, Sent, State, Slot, Member, End}
+use Rattle.transcript_rows.specs.Rows.{RowFits, row_text}
+use Rattle.transcript_text.specs.Transcript.{transcript_line}
+
+-- the lines of events, then those of the replicas' states, then the history
+pub record Transcript : Type 0 where
+  pub config : Configuration
+  pub events : List Row
+  pub states : List Row
+  pub history : List Request
+
+abbrev pub is_event : Row → Bool
+is_event (Dead actor) = true
+is_event (Submit request) = true
+is_event (Accept client id result) = true
+is_event (Busy client) = true
+is_event (Sent index from dest kind len) = true
+is_event (State replica crashed status view len sync_point) = false
+is_event (Slot replica slot entry) = false
+is_event (Member place request) = false
+is_event End = false
+
+abbrev pub is_state : Row → Bool
+is_state (Dead actor) = false
+is_state (Submit request) = false
+is_state (Accept client id result) = false
+is_state (Busy client) = false
+is_state (Sent index from dest kind len) = false
+is_state (State replica crashed status view len sync_point) = true
+is_state (Slot replica slot entry) = true
+is_state (Member place request) = false
+is_state End = false
+
+-- the history, numbered from a place on
+abbrev pub members : ℕ → List Request → List Row
+members place [] = []
+members place (r ∷ rs) = Member place r ∷ members (place + 1) rs
+
+-- all lines behind the first one
+abbrev pub body : Transcript → List Row
+body t = t.events ++ (t.states ++ (members 1 t.history ++ End ∷ []))
+
+-- its lines, each with its end
+abbrev pub transcript_lines : Transcript → List (List ℕ)
+transcript_lines t = transcript_line t.config ∷ map row_text (body t)
+
+abbrev pub transcript_text : Transcript → List ℕ
+transcript_text t = flat_map (λ line. line) (transcript_lines t)
+
+abbrev pub AllFit : List Row → Type 0
+AllFit [] = ⊤
+AllFit (row ∷ rows) = RowFits row × AllFit rows
+
+-- each line is the grammar's
+pub record TranscriptFits (t : Transcript) : Type 0 where
+  pub config : is_configuration t.config ≡ true
+  pub events : list_all is_event t.events ≡ true
+  pub states : list_all is_state t.states ≡ true
+  pub rows : AllFit (body t)
+
+-- the bytes are the text of the transcript, which has no line too many
+pub record Spells (t : Transcript) (bytes : List ℕ) : Type 0 where
+  pub text : bytes ≡ transcript_text t
+  pub fits : TranscriptFits t
+  pub most : length (transcript_lines t) ≤ MAX_TRANSCRIPT_LINES
+
+-- ---- what it says
+
+-- what a row claims, if anything
+abbrev pub said_by : Row → List Line
+said_by (Dead actor) = []
+said_by (Submit request) = lines.Submit request ∷ []
+said_by (Accept client id result) = lines.Accept client id result ∷ []
+said_by (Busy client) = []
+said_by (Sent index from dest kind len) = []
+said_by (State replica crashed status view len sync_point) = []
+said_by (Slot replica slot entry) = []
+said_by (Member place request) = []
+said_by End = []
+
+-- what is submitted and accepted, in the order of the lines
+abbrev pub said : Transcript → List Line
+said t = flat_map said_by t.events
+
+-- the numbers of these lines, where the first row has the number `line`
+abbrev pub places_of : ℕ → List Row → List ℕ
+places_of line [] = []
+places_of line (row ∷ rows) = map (λ l. line) (said_by row) ++ places_of (line + 1) rows

@@ -1,0 +1,12 @@
+/// Where in a transcript the next line is.
+#[derive(Clone, Copy, Debug, PartialEq, Eq)]
+pub enum Part {
+    /// The lines of events.
+    Events,
+    /// How the replicas stand at the end.
+    States,
+    /// The history.
+    Members,
+    /// Behind the last line.
+    Over,
+}

@@ -1,0 +1,389 @@
+-- Reading the text of a row gives the row again.
+use Rattle.std.proofs.Common.{◌≡◌, ℕ, zero, suc, ◌^◌, ◌<◌, ◌≤◌, Bool, true, false, Option, Some, None, refl, sym, ap, ◌∙◌, subst}
+use Rattle.std.proofs.Common.{arith, length, List, [], ◌∷◌, ◌++◌, decimal, codes, nat_lt, nat_le}
+use Rattle.std.specs.Prelude.{◌&&◌, nat_eq}
+use Rattle.std.specs.Cmp.Lexicographic.{pointwise}
+use Rattle.std.specs.List.{flat_map, list_all}
+use Rattle.std.proofs.lemmas.Bool.{le-leb, leb-true, ltb-true, ne_eqb, and_parts, and_left}
+use Rattle.std.proofs.lemmas.List.{append_cancel_right}
+use Rattle.hex.specs.Hex.{IsBytes}
+use Rattle.line_fields.specs.Fields.{fields, actor_of, client_number, IsActorOf}
+use Rattle.line_fields.proofs.FieldTexts.{is_mark, decimal_marked, number_again, small_again, Small, actor_again, bytes_again}
+use Rattle.line_fields.proofs.FieldTexts.{hex_marked, hex_within, AllMarked, line_fields, actor_marked}
+use Rattle.line_fields.proofs.FieldTexts.{starts_with_digit}
+use Rattle.nop_types.specs.declared.limits.TheConstants.{MAX_CLIENTS, MAX_OP_BYTES, MAX_REPLICAS, MAX_RESULT_BYTES, MAX_SEQUENCERS}
+use Rattle.nop_types.specs.declared.limits.TheConstants.{MAX_SLOTS}
+use Rattle.nop_types.specs.declared.output.Actor.{Actor}
+use Rattle.nop_types.specs.declared.output.Actor.TheVariants as actors
+use Rattle.nop_types.specs.declared.output.Dest.{Dest}
+use Rattle.nop_types.specs.declared.output.Dest.TheVariants.{Replicas, Sequencers, One}
+use Rattle.nop_types.specs.declared.request.Request.{Request}
+use Rattle.nop_types.specs.declared.request.Entry.{Entry}
+use Rattle.nop_types.specs.declared.request.Entry.TheVariants.{NoOp, Req}
+use Rattle.nop_types.specs.declared.replica_state.Phase.{Phase}
+use Rattle.nop_types.specs.declared.replica_state.Phase.TheVariants.{Normal, Change}
+use Rattle.transcript_rows.specs.declared.row.Row.{Row}
+use Rattle.transcript_rows.specs.declared.row.Row.TheVariants.{Dead, Submit, Accept, Busy, Sent, State, Slot, Member, End}
+use Rattle.transcript_rows.specs.declared.row.TheConstants.{MAX_SENT_BYTES}
+use Rattle.transcript_rows.specs.Reading.{limits, client_of, replica_of, replica_number, word_of, to_one, dest_of, kind_of, crashed_of}
+use Rattle.transcript_rows.specs.Reading.{status_of, op_of, request_of, row_of_fields, config_of_fields, IsRowOf, IsConfigOf}
+use Rattle.transcript_rows.specs.Rows.{row_word, row_fields, row_text, row_fits, actor_fits, dest_fits, pair_fits, request_fits}
+use Rattle.transcript_rows.specs.Rows.{entry_fits, request_fields, entry_fields, IsTypedRequest, IsTypedEntry, IsTyped, RowFits}
+use Rattle.transcript_text.specs.LineText.{after_space}
+use Rattle.transcript_text.specs.Transcript.{actor_text, client_text, dest_text, hex_text, kind_text, phase_text, up_text, transcript_line}
+use Rattle.transcript_text.proofs.LineLemmas.{transcript_fields}
+use Rattle.nop_types.specs.Configuration.{Configuration, is_configuration}
+use Rattle.line_fields.proofs.FieldTexts.{small_counts}
+
+-- ---- actors
+
+small : Small limits
+small = record { replicas = omega arith; sequencers = omega arith; clients = omega arith }
+
+actor_there : (a : Actor) → actor_fits a ≡ true → IsActorOf limits a
+actor_there (actors.Replica i) e = ltb-true i MAX_REPLICAS e
+actor_there (actors.Sequencer i) e = ltb-true i MAX_SEQUENCERS e
+actor_there (actors.Client i) e = ltb-true i MAX_CLIENTS e
+actor_there actors.Controller e = tt
+
+actor_read : (a : Actor) → actor_fits a ≡ true → actor_of limits (actor_text a) ≡ Some a
+actor_read a e = actor_again limits small a (actor_there a e)
+
+client_read : (i : ℕ) → nat_lt i MAX_CLIENTS ≡ true → client_of (client_text i) ≡ Some i
+client_read i e = ap client_number (actor_read (actors.Client i) e)
+
+replica_read : (i : ℕ) → nat_lt i MAX_REPLICAS ≡ true → replica_of (actor_text (actors.Replica i)) ≡ Some i
+replica_read i e = ap replica_number (actor_read (actors.Replica i) e)
+
+name_marked : (a : Actor) → actor_fits a ≡ true → list_all is_mark (actor_text a) ≡ true
+name_marked a e = actor_marked limits small a (actor_there a e)
+
+-- a number is no star
+no_star : (i : ℕ) → i < 2 ^ 64 → pointwise nat_eq (decimal i) (codes "*") ≡ false
+no_star i fits =
+    let h = starts_with_digit i fits in
+    let high = h.high in
+    rw h.is (and_left (nat_eq h.first 42) _ (ne_eqb h.first 42 (λ same. omega arith)))
+
+one_read : (a : Actor) → actor_fits a ≡ true → dest_of (actor_text a) ≡ Some (One a)
+unfolding dest_of
+one_read (actors.Replica i) e =
+    rw (no_star i (let low = ltb-true i MAX_REPLICAS e in omega arith)) (ap to_one (actor_read (actors.Replica i) e))
+one_read (actors.Sequencer i) e =
+    rw (no_star i (let low = ltb-true i MAX_SEQUENCERS e in omega arith)) (ap to_one (actor_read (actors.Sequencer i) e))
+one_read (actors.Client i) e = ap to_one (actor_read (actors.Client i) e)
+one_read actors.Controller e = ap to_one (actor_read actors.Controller e)
+
+dest_read : (d : Dest) → dest_fits d ≡ true → dest_of (dest_text d) ≡ Some d
+unfolding dest_of
+dest_read Replicas e = refl
+dest_read Sequencers e = refl
+dest_read (One a) e = one_read a e
+
+dest_marked : (d : Dest) → dest_fits d ≡ true → list_all is_mark (dest_text d) ≡ true
+dest_marked Replicas e = refl
+dest_marked Sequencers e = refl
+dest_marked (One a) e = name_marked a e
+
+-- ---- kinds
+
+record IsKindRead (k : ℕ) : Type 0 where
+  read : kind_of (kind_text k) ≡ Some k
+  marked : list_all is_mark (kind_text k) ≡ true
+  short : length (kind_text k) ≤ 9
+
+kind_read : (k : ℕ) → 1 ≤ k → k ≤ 8 → IsKindRead k
+unfolding kind_of kind_text
+kind_read zero low high = absurd (omega arith)
+kind_read (suc zero) low high = record { read = refl; marked = refl; short = omega arith }
+kind_read (suc (suc zero)) low high = record { read = refl; marked = refl; short = omega arith }
+kind_read (suc (suc (suc zero))) low high = record { read = refl; marked = refl; short = omega arith }
+kind_read (suc (suc (suc (suc zero)))) low high = record { read = refl; marked = refl; short = omega arith }
+kind_read (suc (suc (suc (suc (suc zero))))) low high = record { read = refl; marked = refl; short = omega arith }
+kind_read (suc (suc (suc (suc (suc (suc zero)))))) low high = record { read = refl; marked = refl; short = omega arith }
+kind_read (suc (suc (suc (suc (suc (suc (suc zero))))))) low high = record { read = refl; marked = refl; short = omega arith }
+kind_read (suc (suc (suc (suc (suc (suc (suc (suc zero)))))))) low high = record { read = refl; marked = refl; short = omega arith }
+kind_read (suc (suc (suc (suc (suc (suc (suc (suc (suc k))))))))) low high = absurd (omega arith)
+
+-- ---- words and numbers
+
+word_read : (n : ℕ) → n < 2 ^ 32 → word_of (decimal n) ≡ Some n
+word_read n fits = small_again (2 ^ 32) n fits (omega arith)
+
+crashed_read : (b : Bool) → crashed_of (up_text b) ≡ b
+crashed_read true = refl
+crashed_read false = refl
+
+up_marked : (b : Bool) → list_all is_mark (up_text b) ≡ true
+up_marked true = refl
+up_marked false = refl
+
+status_read : (p : Phase) → status_of (phase_text p) ≡ p
+status_read Normal = refl
+status_read Change = refl
+
+phase_marked : (p : Phase) → list_all is_mark (phase_text p) ≡ true
+phase_marked Normal = refl
+phase_marked Change = refl
+
+-- ---- requests
+
+op_read : (op : List ℕ) → length op ≤ MAX_OP_BYTES → IsBytes op → op_of (hex_text op) ≡ Some op
+op_read op short bytes =
+    let room : nat_le (length (hex_text op)) 1280 ≡ true = le-leb (length (hex_text op)) 1280 (hex_within op MAX_OP_BYTES (omega arith) short) in
+    rw room (bytes_again op bytes)
+
+pub request_read : (r : Request) → request_fits r ≡ true → IsTypedRequest r → request_of (request_fields r) ≡ Some r
+request_read r e typed =
+    let p = and_parts (nat_lt r.client MAX_CLIENTS) (nat_le 1 r.id) e in
+    rw (client_read r.client p.0) (rw (number_again r.id typed.id) (rw (op_read r.op typed.short typed.bytes) refl))
+
+request_marked : (r : Request) → request_fits r ≡ true → IsTypedRequest r → AllMarked (request_fields r)
+request_marked r e typed =
+    let p = and_parts (nat_lt r.client MAX_CLIENTS) (nat_le 1 r.id) e in
+    (name_marked (actors.Client r.client) p.0, (decimal_marked r.id typed.id, (hex_marked r.op typed.bytes, tt)))
+
+-- ---- rows
+
+word_marked : (row : Row) → list_all is_mark (row_word row) ≡ true
+word_marked (Dead actor) = refl
+word_marked (Submit request) = refl
+word_marked (Accept client id result) = refl
+word_marked (Busy client) = refl
+word_marked (Sent index from dest kind len) = refl
+word_marked (State replica crashed status view len sync_point) = refl
+word_marked (Slot replica slot entry) = refl
+word_marked (Member place request) = refl
+word_marked End = refl
+
+-- what the ranges of a send line are, one by one
+record SentParts (from : Actor) (dest : Dest) (kind len : ℕ) : Type 0 where
+  from_fits : actor_fits from ≡ true
+  to_fits : dest_fits dest ≡ true
+  low : 1 ≤ kind
+  high : kind ≤ 8
+  len_fits : len ≤ 1417
+
+sent_parts : (from : Actor) (dest : Dest) (kind len : ℕ)
+    → (actor_fits from && (dest_fits dest && (nat_le 1 kind && (nat_le kind 8 && nat_le len MAX_SENT_BYTES)))) ≡ true
+    → SentParts from dest kind len
+sent_parts from dest kind len e =
+    let a = and_parts (actor_fits from) (dest_fits dest && (nat_le 1 kind && (nat_le kind 8 && nat_le len MAX_SENT_BYTES))) e in
+    let b = and_parts (dest_fits dest) (nat_le 1 kind && (nat_le kind 8 && nat_le len MAX_SENT_BYTES)) a.1 in
+    let d = and_parts (nat_le 1 kind) (nat_le kind 8 && nat_le len MAX_SENT_BYTES) b.1 in
+    let g = and_parts (nat_le kind 8) (nat_le len MAX_SENT_BYTES) d.1 in
+    record {
+      from_fits = a.0;
+      to_fits = b.0;
+      low = leb-true 1 kind d.0;
+      high = leb-true kind 8 g.0;
+      len_fits = leb-true len MAX_SENT_BYTES g.1;
+    }
+
+record StateParts (replica session len sync_point : ℕ) : Type 0 where
+  named : nat_lt replica MAX_REPLICAS ≡ true
+  len_fits : len ≤ 4096
+  sync_fits : sync_point ≤ 4096
+
+state_parts : (replica session len sync_point : ℕ)
+    → (nat_lt replica MAX_REPLICAS && (nat_le 1 session && (nat_le len MAX_SLOTS && nat_le sync_point MAX_SLOTS))) ≡ true
+    → StateParts replica session len sync_point
+state_parts replica session len sync_point e =
+    let a = and_parts (nat_lt replica MAX_REPLICAS) (nat_le 1 session && (nat_le len MAX_SLOTS && nat_le sync_point MAX_SLOTS)) e in
+    let b = and_parts (nat_le 1 session) (nat_le len MAX_SLOTS && nat_le sync_point MAX_SLOTS) a.1 in
+    let d = and_parts (nat_le len MAX_SLOTS) (nat_le sync_point MAX_SLOTS) b.1 in
+    record { named = a.0; len_fits = leb-true len MAX_SLOTS d.0; sync_fits = leb-true sync_point MAX_SLOTS d.1 }
+
+record SlotParts (replica slot : ℕ) (entry : Entry) : Type 0 where
+  named : nat_lt replica MAX_REPLICAS ≡ true
+  slot_fits : slot ≤ 4096
+  fits : entry_fits entry ≡ true
+
+slot_parts : (replica slot : ℕ) (entry : Entry)
+    → (nat_lt replica MAX_REPLICAS && (nat_le 1 slot && (nat_le slot MAX_SLOTS && entry_fits entry))) ≡ true
+    → SlotParts replica slot entry
+slot_parts replica slot entry e =
+    let a = and_parts (nat_lt replica MAX_REPLICAS) (nat_le 1 slot && (nat_le slot MAX_SLOTS && entry_fits entry)) e in
+    let b = and_parts (nat_le 1 slot) (nat_le slot MAX_SLOTS && entry_fits entry) a.1 in
+    let d = and_parts (nat_le slot MAX_SLOTS) (entry_fits entry) b.1 in
+    record { named = a.0; slot_fits = leb-true slot MAX_SLOTS d.0; fits = d.1 }
+
+-- the word of a client is no word of an entry
+slot_read : (replica slot : ℕ) (entry : Entry) → SlotParts replica slot entry → IsTypedEntry entry
+    → row_of_fields (codes "entry" ∷ row_fields (Slot replica slot entry)) ≡ Some (Slot replica slot entry)
+unfolding row_of_fields
+slot_read replica slot NoOp parts typed =
+    let low = parts.slot_fits in
+    rw (replica_read replica parts.named, word_read slot (omega arith)) refl
+slot_read replica slot (Req r) parts typed =
+    let low = parts.slot_fits in
+    rw (replica_read replica parts.named, word_read slot (omega arith), request_read r parts.fits typed) refl
+
+row_read : (row : Row) → row_fits row ≡ true → IsTyped row → row_of_fields (row_word row ∷ row_fields row) ≡ Some row
+unfolding row_of_fields
+row_read (Dead actor) e typed = rw (actor_read actor e) refl
+row_read (Submit request) e typed = rw (request_read request e typed) refl
+row_read (Accept client id result) e typed =
+    let p = and_parts (pair_fits client id) (nat_le (length result) MAX_RESULT_BYTES) e in
+    let q = and_parts (nat_lt client MAX_CLIENTS) (nat_le 1 id) p.0 in
+    rw (client_read client q.0) (rw (number_again id typed.0) (rw (bytes_again result typed.1) refl))
+row_read (Busy client) e typed = rw (client_read client e) refl
+row_read (Sent index from dest kind len) e typed =
+    let p = sent_parts from dest kind len e in
+    let short = p.len_fits in
+    rw (number_again index typed)
+    (rw (actor_read from p.from_fits)
+    (rw (dest_read dest p.to_fits) (rw ((kind_read kind p.low p.high).read) (rw (word_read len (omega arith)) refl))))
+row_read (State replica crashed status view len sync_point) e typed =
+    let p = state_parts replica view.session len sync_point e in
+    let short = p.len_fits in
+    let point = p.sync_fits in
+    rw (replica_read replica p.named)
+    (rw (word_read view.leader typed.0)
+    (rw (word_read view.session typed.1)
+    (rw (word_read len (omega arith))
+    (rw (word_read sync_point (omega arith)) (rw (crashed_read crashed, status_read status) refl)))))
+row_read (Slot replica slot entry) e typed = slot_read replica slot entry (slot_parts replica slot entry e) typed
+row_read (Member place request) e typed =
+    let p = and_parts (nat_le 1 place) (request_fits request) e in
+    rw (word_read place typed.0) (rw (request_read request p.1 typed.1) refl)
+row_read End e typed = refl
+
+entry_marked : (entry : Entry) → entry_fits entry ≡ true → IsTypedEntry entry → AllMarked (entry_fields entry)
+entry_marked NoOp e typed = (refl, tt)
+entry_marked (Req r) e typed = request_marked r e typed
+
+fields_marked : (row : Row) → row_fits row ≡ true → IsTyped row → AllMarked (row_fields row)
+fields_marked (Dead actor) e typed = (name_marked actor e, tt)
+fields_marked (Submit request) e typed = request_marked request e typed
+fields_marked (Accept client id result) e typed =
+    let p = and_parts (pair_fits client id) (nat_le (length result) MAX_RESULT_BYTES) e in
+    let q = and_parts (nat_lt client MAX_CLIENTS) (nat_le 1 id) p.0 in
+    (name_marked (actors.Client client) q.0, (decimal_marked id typed.0, (hex_marked result typed.1, tt)))
+fields_marked (Busy client) e typed = (name_marked (actors.Client client) e, tt)
+fields_marked (Sent index from dest kind len) e typed =
+    let p = sent_parts from dest kind len e in
+    let short = p.len_fits in (
+      decimal_marked index typed,
+      (
+        name_marked from p.from_fits,
+        (dest_marked dest p.to_fits, ((kind_read kind p.low p.high).marked, (decimal_marked len (omega arith), tt))),
+      ),
+    )
+fields_marked (State replica crashed status view len sync_point) e typed =
+    let p = state_parts replica view.session len sync_point e in
+    let short = p.len_fits in
+    let point = p.sync_fits in
+    let leader = typed.0 in
+    let session = typed.1 in (
+      name_marked (actors.Replica replica) p.named,
+      (
+        up_marked crashed,
+        (
+          phase_marked status,
+          (
+            decimal_marked view.leader (omega arith),
+            (decimal_marked view.session (omega arith), (decimal_marked len (omega arith), (decimal_marked sync_point (omega arith), tt))),
+          ),
+        ),
+      ),
+    )
+fields_marked (Slot replica slot entry) e typed =
+    let p = slot_parts replica slot entry e in
+    let low = p.slot_fits in
+    (name_marked (actors.Replica replica) p.named, (decimal_marked slot (omega arith), entry_marked entry p.fits typed))
+fields_marked (Member place request) e typed =
+    let p = and_parts (nat_le 1 place) (request_fits request) e in
+    let low = typed.0 in
+    (decimal_marked place (omega arith), request_marked request p.1 typed.1)
+fields_marked End e typed = tt
+
+-- the line of a row, without its end
+abbrev pub spelled : Row → List ℕ
+spelled row = row_word row ++ flat_map after_space (row_fields row)
+
+pub whole : (row : Row) → row_text row ≡ spelled row ++ 10 ∷ []
+unfolding row_text
+whole row = refl
+
+-- a line that is the text of a row is read as that row
+pub row_again : (row : Row) (line : List ℕ) → RowFits row → row_text row ≡ line ++ 10 ∷ [] → row_of_fields (fields line) ≡ Some row
+row_again row line h is =
+    let same : spelled row ≡ line = append_cancel_right (spelled row) line (10 ∷ []) (sym (whole row) ∙ is) in
+    ap (λ (xs : List ℕ). row_of_fields (fields xs)) (sym same)
+    ∙ ap row_of_fields (line_fields (row_word row) (row_fields row) (word_marked row) (fields_marked row h.ranges h.typed))
+    ∙ row_read row h.ranges h.typed
+
+-- ---- what reading a line answers
+
+pub not_that : (line : List ℕ) (read : Option Row) → row_of_fields (fields line) ≡ read
+    → ((r : Row) → read ≡ Some r → RowFits r → row_text r ≡ line ++ 10 ∷ [] → ⊥) → IsRowOf line None
+not_that line read e none = λ r h is. none r (sym e ∙ row_again r line h is) h is
+
+pub nothing_read : (line : List ℕ) (read : Option Row) → read ≡ row_of_fields (fields line) → read ≡ None → IsRowOf line None
+nothing_read line read e empty = not_that line read (sym e) (λ r is h same. absurd (let x : None ≡ Some r = sym empty ∙ is in cc))
+
+-- the row that was read does not fit, or has another text
+pub another_read : (line : List ℕ) (row : Row) (read : Option Row) → read ≡ row_of_fields (fields line) → read ≡ Some row
+    → (RowFits row → row_text row ≡ line ++ 10 ∷ [] → ⊥) → IsRowOf line None
+another_read line row read e is other = not_that line read (sym e)
+    (λ r found h same. let it : row ≡ r = (let x : Some row ≡ Some r = sym is ∙ found in cc) in
+    let back : r ≡ row = sym it in
+    other (subst (λ (x : Row). RowFits x) back h) (ap row_text it ∙ same))
+
+-- ---- the first line
+
+header_fields : Configuration → List (List ℕ)
+header_fields c =
+    codes "1" ∷ codes "replicas" ∷ decimal c.replicas ∷ codes "sequencers" ∷ decimal c.sequencers ∷ codes "clients" ∷ decimal c.clients ∷ []
+
+pub spelled_header : Configuration → List ℕ
+spelled_header c = codes "transcript" ++ flat_map after_space (header_fields c)
+
+pub whole_header : (c : Configuration) → transcript_line c ≡ spelled_header c ++ 10 ∷ []
+unfolding spelled_header header_fields
+whole_header c = sym (transcript_fields c)
+
+header_read : (c : Configuration) → is_configuration c ≡ true → config_of_fields (codes "transcript" ∷ header_fields c) ≡ Some c
+unfolding config_of_fields header_fields
+header_read c e =
+    let s = small_counts c e in
+    let replicas = s.replicas in
+    let sequencers = s.sequencers in
+    let clients = s.clients in
+    rw (small_again 256 c.replicas (omega arith) (omega arith))
+    (rw (small_again 256 c.sequencers (omega arith) (omega arith)) (rw (small_again 256 c.clients (omega arith) (omega arith)) (rw e refl)))
+
+header_marked : (c : Configuration) → is_configuration c ≡ true → AllMarked (header_fields c)
+unfolding header_fields
+header_marked c e =
+    let s = small_counts c e in
+    let replicas = s.replicas in
+    let sequencers = s.sequencers in
+    let clients = s.clients in (
+      refl,
+      (
+        refl,
+        (
+          decimal_marked c.replicas (omega arith),
+          (refl, (decimal_marked c.sequencers (omega arith), (refl, (decimal_marked c.clients (omega arith), tt)))),
+        ),
+      ),
+    )
+
+pub config_again : (c : Configuration) (line : List ℕ) → is_configuration c ≡ true → transcript_line c ≡ line ++ 10 ∷ []
+    → config_of_fields (fields line) ≡ Some c
+unfolding spelled_header
+config_again c line e is =
+    let same : spelled_header c ≡ line = append_cancel_right (spelled_header c) line (10 ∷ []) (sym (whole_header c) ∙ is) in
+    ap (λ (xs : List ℕ). config_of_fields (fields xs)) (sym same)
+    ∙ ap config_of_fields (line_fields (codes "transcript") (header_fields c) refl (header_marked c e)) ∙ header_read c e
+
+pub no_config_read : (line : List ℕ) (read : Option Configuration) → read ≡ config_of_fields (fields line) → read ≡ None → IsConfigOf line None
+no_config_read line read e empty = λ c h is. absurd (let x : None ≡ Some c = sym empty ∙ (e ∙ config_again c line h is) in cc)
+
+pub another_config : (line : List ℕ) (c : Configuration) (read : Option Configuration) → read ≡ config_of_fields (fields line) → read ≡ Some c
+    → (transcript_line c ≡ line ++ 10 ∷ [] → ⊥) → IsConfigOf line None
+another_config line c read e is other = λ d h same.
+    let it : c ≡ d = (let x : Some c ≡ Some d = sym is ∙ (e ∙ config_again d line h same) in cc) in
+    other (ap transcript_line it ∙ same)

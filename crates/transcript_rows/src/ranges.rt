@@ -1,0 +1,155 @@
+//! Whether the numbers of a row are in their ranges.
+
+ghost use Rattle.std.specs.Prelude.{◌≡◌, ◌<◌, ◌^◌};
+ghost use Rattle.hex.specs.Hex.{IsBytes};
+ghost use Rattle.transcript_rows.specs.Rows.{actor_fits, dest_fits, pair_fits, request_fits};
+ghost use Rattle.transcript_rows.specs.Rows.{entry_fits, row_fits, IsTypedRequest, IsTypedEntry};
+ghost use Rattle.transcript_rows.specs.Rows.{IsTyped};
+
+use crate::row::{MAX_SENT_BYTES, Row};
+use nop_types::{
+    Actor, Dest, Entry, MAX_CLIENTS, MAX_REPLICAS, MAX_RESULT_BYTES, MAX_SEQUENCERS, MAX_SLOTS,
+    Request, View, kinds,
+};
+
+fn actor_fits(actor: Actor) -> bool
+    ensures { result ≡ actor_fits actor }
+{
+    match actor {
+        Actor::Replica(i) => i < MAX_REPLICAS,
+        Actor::Sequencer(i) => i < MAX_SEQUENCERS,
+        Actor::Client(i) => i < u32::from(MAX_CLIENTS),
+        Actor::Controller => true,
+    }
+}
+
+fn dest_fits(dest: Dest) -> bool
+    ensures { result ≡ dest_fits dest }
+{
+    match dest {
+        Dest::Replicas | Dest::Sequencers => true,
+        Dest::One(actor) => actor_fits(actor),
+    }
+}
+
+fn pair_fits(client: u32, id: u64) -> bool
+    ensures { result ≡ pair_fits client id }
+{
+    client < u32::from(MAX_CLIENTS) && 1 <= id
+}
+
+fn request_fits(request: &Request) -> bool
+    ensures { result ≡ request_fits request.now }
+{
+    pair_fits(request.client, request.id)
+}
+
+fn entry_fits(entry: &Entry) -> bool
+    ensures { result ≡ entry_fits entry.now }
+{
+    match entry {
+        Entry::NoOp => true,
+        Entry::Req(request) => request_fits(request),
+    }
+}
+
+pub(crate) fn row_fits(row: &Row) -> bool
+    ensures { result ≡ row_fits row.now }
+{
+    match row {
+        Row::Dead(actor) => actor_fits(*actor),
+        Row::Submit(request) => request_fits(request),
+        Row::Accept { client, id, result } => {
+            pair_fits(*client, *id) && result.as_slice().len() <= MAX_RESULT_BYTES
+        }
+        Row::Busy(client) => *client < u32::from(MAX_CLIENTS),
+        Row::Sent {
+            from,
+            dest,
+            kind,
+            len,
+            ..
+        } => {
+            actor_fits(*from)
+                && dest_fits(*dest)
+                && kinds::REQUEST <= *kind
+                && *kind <= kinds::FRAGMENT
+                && *len <= MAX_SENT_BYTES
+        }
+        Row::State {
+            replica,
+            view,
+            len,
+            sync_point,
+            ..
+        } => {
+            *replica < MAX_REPLICAS
+                && 1 <= view.session
+                && *len as usize <= MAX_SLOTS
+                && *sync_point as usize <= MAX_SLOTS
+        }
+        Row::Slot {
+            replica,
+            slot,
+            entry,
+        } => {
+            *replica < MAX_REPLICAS
+                && 1 <= *slot
+                && *slot as usize <= MAX_SLOTS
+                && entry_fits(entry)
+        }
+        Row::Member { place, request } => 1 <= *place && request_fits(request),
+        Row::End => true,
+    }
+}
+
+fn are_bytes(bytes: &[u8])
+    ensures { IsBytes bytes.now }
+{
+    let _bytes = bytes;
+}
+
+fn typed_request(request: &Request)
+    ensures { IsTypedRequest request.now }
+{
+    let _id = request.id;
+    are_bytes(request.op.as_slice());
+}
+
+fn typed_entry(entry: &Entry)
+    ensures { IsTypedEntry entry.now }
+{
+    if let Entry::Req(request) = entry {
+        typed_request(request);
+    }
+}
+
+fn typed_view(view: View)
+    ensures { (view.leader < 2 ^ 32) × (view.session < 2 ^ 32) }
+{
+    let _leader = view.leader;
+    let _session = view.session;
+}
+
+/// What the types of a row keep.
+pub(crate) fn typed(row: &Row)
+    ensures { IsTyped row.now }
+{
+    match row {
+        Row::Submit(request) => typed_request(request),
+        Row::Accept { id, result, .. } => {
+            let _id = *id;
+            are_bytes(result.as_slice());
+        }
+        Row::Sent { index, .. } => {
+            let _index = *index;
+        }
+        Row::State { view, .. } => typed_view(*view),
+        Row::Slot { entry, .. } => typed_entry(entry),
+        Row::Member { place, request } => {
+            let _place = *place;
+            typed_request(request);
+        }
+        Row::Dead(_) | Row::Busy(_) | Row::End => {}
+    }
+}
