@@ -1,5 +1,5 @@
 -- An error of a device is told only where a count of faults rose.
-use Rattle.std.proofs.Common.{◌≡◌, ℕ, ◌≤◌, Option, List, refl, subst, ap, arith}
+use Rattle.std.proofs.Common.{◌≡◌, ℕ, ◌≤◌, Option, List, [], ◌++◌, refl, subst, ap, arith}
 use Rattle.std.specs.Prelude.{Result, Ok, Err, IsErrOf}
 use Rattle.outside.specs.Causes.{Rose, HasCauseFor}
 use Rattle.schedule_text.specs.declared.next_error.NextError.{NextError}
@@ -7,7 +7,7 @@ use Rattle.schedule_text.specs.declared.next_error.NextError.TheVariants as next
 use Rattle.world.specs.WorldSteps.{Refusal, Happened}
 use Rattle.replay.specs.declared.error.ReplayError.{ReplayError}
 use Rattle.replay.specs.declared.error.ReplayError.TheVariants as errors
-use Rattle.replay.specs.Steps.{Writes, Stops, RefusesStep}
+use Rattle.replay.specs.Steps.{Fails, Writes, Stops, RefusesStep}
 
 pub same_time : (a : ℕ) → a ≤ a
 same_time a = omega arith
@@ -33,6 +33,10 @@ pub event_reads_none : (before now : Option (List ℕ)) (pending : List ℕ) (li
 event_reads_none before now pending line (Ok h) x is e = subst (λ (y : ReplayError). RefusesStep before now pending line (Ok h) y) e is
 event_reads_none before now pending line (Err refusal) x is e =
     subst (λ (y : ReplayError). RefusesStep before now pending line (Err refusal) y) e is
+
+pub write_reads_none : (before now : Option (List ℕ)) (pending : List ℕ) (x : ReplayError) → Fails before now (pending ++ []) x
+    → x ≡ errors.ReadFault → ⊥
+write_reads_none before now pending x is e = subst (λ (y : ReplayError). Fails before now (pending ++ []) y) e is
 
 pub end_reads_none : (before now : Option (List ℕ)) (text : List ℕ) (r : Result (Unit {0}) ReplayError) → Writes before now text r
     → IsErrOf r errors.ReadFault → ⊥

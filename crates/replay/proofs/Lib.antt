@@ -2,6 +2,7 @@ pub mod Addressed
 pub mod Asked
 pub mod Beginning
 pub mod Causes
+pub mod Decided
 pub mod Drawn
 pub mod Fronts
 pub mod Progressing

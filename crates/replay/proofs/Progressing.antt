@@ -10,10 +10,11 @@ use Rattle.schedule_text.specs.declared.next_error.NextError.{NextError}
 use Rattle.schedule_text.specs.declared.next_error.NextError.TheVariants as nexts
 use Rattle.schedule_text.specs.Reading.{Reading, Turn, Takes, TakesOf, IsTurn, LeavesNone, MayFollow, turn, turn_of, lines_before}
 use Rattle.transcript_text.specs.Transcript.{lines_text}
+use Rattle.world.specs.Ending.{final_text}
 use Rattle.world.specs.WorldSteps.{WorldState, Refusal, Happened, step}
 use Rattle.replay.specs.declared.error.ReplayError.{ReplayError}
 use Rattle.replay.specs.declared.error.ReplayError.TheVariants as errors
-use Rattle.replay.specs.Output.{BadLine, Output, bad_text, refused_line, ending, then_text, final_text, rest, output}
+use Rattle.replay.specs.Output.{BadLine, Output, bad_text, refused_line, ending, then_text, rest, output}
 use Rattle.replay.specs.Outcome.{LeavesSome, EndsWith}
 use Rattle.replay.specs.Progress.{Progress, Going, GoingOf, refused, after_step, after_turn, after_answer}
 use Rattle.replay.specs.Steps.{Fails, Misses, Writes, Refuses, Interrupts, Stops, Advances, RefusesStep, bad_line}

@@ -19,7 +19,7 @@ use Rattle.nop_types.specs.declared.output.Dest.TheVariants.{Replicas, Sequencer
 use Rattle.nop_types.specs.declared.output.Out.{Out}
 use Rattle.oum_codec.specs.Reading.{reading}
 use Rattle.oum_codec.proofs.Datagrams.{reads_again}
-use Rattle.facts.proofs.Members.{Has-none, Has-append_cases}
+use Rattle.facts.proofs.Members.{Has-none, Has-append_cases, Has-from_filter}
 use Rattle.client_quorum.specs.declared.state.ClientState.{ClientState}
 use Rattle.client_quorum.specs.ClientSteps as client
 use Rattle.sequencer.specs.declared.state.SequencerState.{SequencerState}
@@ -29,31 +29,36 @@ use Rattle.session_control.specs.ControllerSteps as controller
 use Rattle.replica_core.specs.ReplicaSteps as replica
 use Rattle.replica_core.specs.ReplicaSteps.{Replica}
 use Rattle.replica_state.specs.Sends as effects
-use Rattle.replica_state.specs.Sends.{SendingFits, still}
+use Rattle.replica_state.specs.Sends.{still}
 use Rattle.replica_rows.specs.Within.{ResultsShort}
 use Rattle.schedule_text.specs.declared.event.Event.{Event}
 use Rattle.schedule_text.specs.Fits.{EventFits, EventsFit}
+use Rattle.delivery.specs.Network.{MayCome}
 use Rattle.delivery.specs.Steps.{Delivers, TakesRow}
 use Rattle.delivery.proofs.Own.{arrive_goes_among}
 use Rattle.delivery.proofs.Steps.{step_delivers}
 use Rattle.delivery.specs.Sends.{GoesAmong}
 use Rattle.protocol.specs.Conf.{Conf, opening}
 use Rattle.protocol.specs.Invariant.{Inv}
-use Rattle.protocol.specs.Runs.{run}
 use Rattle.protocol.proofs.Opening.{opening_meets}
 use Rattle.network.specs.Network.{Sent, sends_by, lines_by, Did, Nothing, Outputs}
 use Rattle.world.specs.Seats.{Seated, Stimulus, Takes, Crashes, moved_if, seat_step}
 use Rattle.world.specs.WorldSteps as world
 use Rattle.world.specs.WorldSteps.{WorldState, Happened, Refusal, actor_of, stimulus_of, at_replica, at_sequencer, at_client, at_controller}
-use Rattle.world.specs.WorldSteps.{then_at, step_at, step_of, step, go_on, run_from}
+use Rattle.world.specs.WorldSteps.{step_of, step, go_on, run_from}
 use Rattle.safety.specs.Passed.{Passed, passes}
-use Rattle.safety.specs.Shows.{bytes_of, ShowsActors}
-use Rattle.safety.proofs.At.{At, Talks, Later}
-use Rattle.safety.proofs.Coming.{AllBring, Brings, event_brings}
-use Rattle.safety.proofs.Counts.{counts_from}
-use Rattle.safety.proofs.Moving.{ran_holds}
-use Rattle.safety.proofs.Opening.{first, opening_stands}
-use Rattle.safety.proofs.Steps.{took, steps_lead}
+use Rattle.whole_world.specs.Shows as whole
+use Rattle.whole_world.specs.Whole.{WholeReplica}
+use Rattle.whole_world.proofs.Counts.{counts_from}
+use Rattle.whole_world.proofs.Moving.{ran_holds}
+use Rattle.safety.specs.Following.{is_spoken, plain}
+use Rattle.safety.specs.Shows.{bytes_of}
+use Rattle.safety.proofs.At.{At, first, opening_at, event_leads}
+use Rattle.safety.proofs.Beside.{Alike, Travels}
+use Rattle.safety.proofs.Coming.{AllMayCome, event_comes}
+use Rattle.safety.proofs.Replicas.{plain_found}
+use Rattle.safety.proofs.Shown.{carried}
+use Rattle.safety.proofs.Taking.{took}
 use Rattle.replay.specs.Destinations.{IsDestOf}
 use Rattle.replay.proofs.Addressed.{IsReplyTo, Goes, OutsGo, SubmitsOf, sent_goes, lines_are_of, dead_is_of, posted_goes, sequencer_goes}
 use Rattle.replay.proofs.Addressed.{client_goes, controller_goes, controller_keeps_config}
@@ -112,33 +117,49 @@ seat_goes c next p true what go = tt
 seat_goes c next p false (Takes i) go = go i refl
 seat_goes c next p false Crashes go = tt
 
-module _ {S : Type 0} (m : Meaning S) (f : ℕ) (config : Configuration) (short : ResultsShort m) (p : Passed) (c : Conf) (inv : Inv m f c)
-    (at : At m f config p c) where
+module _ {S : Type 0} (m : Meaning S) (config : Configuration) (short : ResultsShort m)
+    (count : config.replicas ≡ 2 * (config.replicas / 2) + 1) (p : Passed) (at : At m config p) where
+  abbrev f : ℕ
+  f = config.replicas / 2
+
   abbrev w : WorldState
   w = p.world
 
-  abbrev shown : ShowsActors f w c
-  shown = at.stands.actors
+  abbrev c : Conf
+  c = at.conf
 
-  abbrev talks : Talks w.sent w.replicas c.said
-  talks = at.stands.talks
+  abbrev shown : whole.ShowsActors f at.whole.world c
+  shown = at.at.stands.actors
+
+  abbrev alike : Alike w p.lines at.whole.world
+  alike = at.both.beside.alike
+
+  abbrev travels : Travels w.sent w.replicas at.whole.world.letters
+  travels = at.both.beside.travels
+
+  inv : Inv m f c
+  inv = ran_holds m f config count c at.at.ran
 
   -- ---- replicas
 
-  module _ (r : ℕ) (old : Seated Replica) (there : slice_get w.replicas r ≡ Some old) (i : Given) (brings : Brings w.sent i) where
-    delivers : Delivers m talks.told (bytes_of w.sent) talks.used r old.state (replica.next m old.state i)
-    delivers = step_delivers m short talks.told (bytes_of w.sent) talks.used r old.state i talks.network (talks.members r old there)
-        brings.may
+  module _ (r : ℕ) (old : Seated Replica) (there : slice_get w.replicas r ≡ Some old) (i : Given) (may : MayCome (bytes_of w.sent) i) where
+    delivers : Delivers m travels.posts.told (bytes_of w.sent) travels.used r old.state (replica.next m old.state i)
+    delivers = step_delivers m short travels.posts.told (bytes_of w.sent) travels.used r old.state i travels.posts.network
+        (travels.members r old there) may
+
+    found : slice_get at.whole.world.replicas r ≡ Some (plain old)
+    found = ap (λ (rs : List (Seated WholeReplica)). slice_get rs r) (sym alike.replicas) ∙ plain_found w.replicas r old there
 
     -- a replica knows how many there are
     counts : old.state.state.config.replicas ≡ config.replicas
     counts =
-        let within : r < 2 * f + 1 = omega (arith, slice_get_within w.replicas r old there, shown.replica_count, shown.config) in
+        let within : r < 2 * f + 1 =
+        omega (arith, slice_get_within at.whole.world.replicas r (plain old) found, shown.replica_count, shown.config) in
         let own = (inv.own r within).replicas in
-        let same = ap (λ (q : _). q.replicas) (shown.replicas r old there) in
-        sym same ∙ own ∙ sym shown.config ∙ ap (λ (k : Configuration). k.replicas) at.stands.same
+        let same = ap (λ (q : _). q.replicas) (shown.replicas r (plain old) found) in
+        sym same ∙ own ∙ sym shown.config ∙ ap (λ (k : Configuration). k.replicas) at.at.stands.same
 
-    row_among : (e : effects.Effect) → TakesRow m talks.told (bytes_of w.sent) old.state.state e ⊎ (e ≡ still old.state.state)
+    row_among : (e : effects.Effect) → TakesRow m travels.posts.told (bytes_of w.sent) old.state.state e ⊎ (e ≡ still old.state.state)
         → AllByRecursion (GoesAmong config.replicas) e.1
     row_among e (inl row) =
         subst (λ (n : ℕ). AllByRecursion (GoesAmong n) e.1) counts
@@ -147,7 +168,7 @@ module _ {S : Type 0} (m : Meaning S) (f : ℕ) (config : Configuration) (short 
     row_among e (inr same) = subst (λ (x : effects.Effect). AllByRecursion (GoesAmong config.replicas) x.1) (sym same) tt
 
     some : 1 ≤ config.replicas
-    some = omega (arith, ap (λ (k : Configuration). k.replicas) at.stands.same, shown.config)
+    some = omega (arith, count)
 
     replica_goes : OutsGo config (replica.next m old.state i).1
     replica_goes = subst (OutsGo config) (sym delivers.outs)
@@ -155,13 +176,13 @@ module _ {S : Type 0} (m : Meaning S) (f : ℕ) (config : Configuration) (short 
 
   -- ---- all actors
 
-  replica_keeps : (i : ℕ) (old : Seated Replica) (what : Stimulus) → slice_get w.replicas i ≡ Some old → AllBring w.sent what
+  replica_keeps : (i : ℕ) (old : Seated Replica) (what : Stimulus) → slice_get w.replicas i ≡ Some old → AllMayCome (bytes_of w.sent) what
       → Keeps config w (at_replica w i (seat_step (replica.next m) old what))
   replica_keeps i old what there brings = record {
     from = actors.Replica i;
     did = (seat_step (replica.next m) old what).1;
     goes = seat_goes config (replica.next m) old old.crashed what
-        (λ given is. replica_goes i old there given (subst (AllBring w.sent) is brings));
+        (λ given is. replica_goes i old there given (subst (AllMayCome (bytes_of w.sent)) is brings));
     sent = refl;
     lines = refl;
     controller = refl;
@@ -180,8 +201,16 @@ module _ {S : Type 0} (m : Meaning S) (f : ℕ) (config : Configuration) (short 
 
   own_number : (k : ℕ) (old : Seated ClientState) → slice_get w.clients k ≡ Some old → old.state.number < config.clients
   own_number k old there =
-      let is : old.state.number ≡ k = ap (λ (s : ClientState). s.number) (sym (shown.clients k old there)) ∙ (inv.clients k).number in
-      omega (arith, is, slice_get_within w.clients k old there, shown.client_count, ap (λ (q : Configuration). q.clients) at.stands.same)
+      let found : slice_get at.whole.world.clients k ≡ Some old =
+      ap (λ (xs : List (Seated ClientState)). slice_get xs k) (sym alike.clients) ∙ there in
+      let is : old.state.number ≡ k = ap (λ (s : ClientState). s.number) (sym (shown.clients k old found)) ∙ (inv.clients k).number in
+      omega (
+        arith,
+        is,
+        slice_get_within at.whole.world.clients k old found,
+        shown.client_count,
+        ap (λ (q : Configuration). q.clients) at.at.stands.same,
+      )
 
   client_keeps : (k : ℕ) (old : Seated ClientState) (what : Stimulus) → slice_get w.clients k ≡ Some old
       → Keeps config w (at_client w k (seat_step client.next old what))
@@ -212,7 +241,7 @@ module _ {S : Type 0} (m : Meaning S) (f : ℕ) (config : Configuration) (short 
 
   -- ---- events
 
-  actor_keeps : (a : Actor) (r : Result Stimulus Refusal) (h : Happened) → ((what : Stimulus) → r ≡ Ok what → AllBring w.sent what)
+  actor_keeps : (a : Actor) (r : Result Stimulus Refusal) (h : Happened) → ((what : Stimulus) → r ≡ Ok what → AllMayCome (bytes_of w.sent) what)
       → controller.IsWithin h.world.controller.state → w.controller.state.config ≡ config → step_of m w a r ≡ Ok h → Keeps config w h
   actor_keeps (actors.Replica i) r h brings within same e =
       let t = took (at_replica w i) (replica.next m) (slice_get w.replicas i) r h e in
@@ -232,95 +261,100 @@ module _ {S : Type 0} (m : Meaning S) (f : ℕ) (config : Configuration) (short 
       (controller_keeps w.controller.crashed t.what
       (subst (λ (x : Happened). controller.IsWithin x.world.controller.state) (sym gives) within) same)
 
-  step_keeps : (x : Event) (h : Happened) → EventFits x → controller.IsWithin h.world.controller.state → w.controller.state.config ≡ config
+  step_keeps : (x : Event) (h : Happened) → controller.IsWithin h.world.controller.state → w.controller.state.config ≡ config
       → step m w x ≡ Ok h → Keeps config w h
   unfolding step
-  step_keeps x h fits within same e =
-      actor_keeps (actor_of x) (stimulus_of w.config w.sent x) h (λ what is. event_brings w.sent w.config x what fits is) within same e
+  step_keeps x h within same e =
+      actor_keeps (actor_of x) (stimulus_of w.config w.sent x) h (event_comes w.sent w.config x) within same e
 
 -- ---- lists of events
 
 -- where events lead, as the protocol shows it
-pub record Reached {S : Type 0} (m : Meaning S) (f : ℕ) (config : Configuration) (h : Happened) : Type 0 where
+pub record Reached {S : Type 0} (m : Meaning S) (config : Configuration) (h : Happened) : Type 0 where
   pub passed : Passed
-  pub conf : Conf
-  pub at : At m f config passed conf
+  pub at : At m config passed
   pub world : passed.world ≡ h.world
   pub lines : passed.lines ≡ h.lines
   pub sent : (s : Sent) → Has h.world.sent s → Goes config s.dest s.bytes
   pub submits : SubmitsOf config h.lines
 
-module _ {S : Type 0} (m : Meaning S) (f : ℕ) (config : Configuration) (short : ResultsShort m) (count : config.replicas ≡ 2 * f + 1) where
-  one_good : (p : Passed) (c : Conf) (x : Event) (h : Happened) → At m f config p c → EventFits x → step m p.world x ≡ Ok h
-      → Good config p.world p.lines → (next : Later m f config c (passes p h)) → Good config h.world (p.lines ++ h.lines)
-  one_good p c x h at fits is good next =
-      let inv : Inv m f c = ran_holds m f config count c at.ran in
+module _ {S : Type 0} (m : Meaning S) (config : Configuration) (short : ResultsShort m)
+    (count : config.replicas ≡ 2 * (config.replicas / 2) + 1) where
+  one_good : (p : Passed) (x : Event) (h : Happened) → At m config p → step m p.world x ≡ Ok h → Good config p.world p.lines
+      → (next : At m config (passes p h)) → Good config h.world (p.lines ++ h.lines)
+  one_good p x h at is good next =
       kept_good config p.world p.lines h good
-      (step_keeps m f config short p c inv at x h fits next.at.stands.ranges.controller good.controller is)
+      (step_keeps m config short count p at x h
+      (subst (λ (q : Seated ControllerState). controller.IsWithin q.state) (sym next.both.beside.alike.controller)
+      next.at.stands.ranges.controller) good.controller is)
 
-  reach_then : (x : Event) (es : List Event) (p : Passed) (c : Conf) (h : Happened) → At m f config p c → EventFits x
+  reach_then : (x : Event) (es : List Event) (p : Passed) (h : Happened) → At m config p → EventFits x
       → Good config p.world p.lines
-      → ((q : Passed) (d : Conf) → At m f config q d → Good config q.world q.lines → run_from m q.lines q.world es ≡ Ok h
-      → Reached m f config h)
+      → ((q : Passed) → At m config q → Good config q.world q.lines → run_from m q.lines q.world es ≡ Ok h → Reached m config h)
       → (r : Result Happened Refusal) → step m p.world x ≡ r → go_on m p.lines r (λ more v. run_from m more v es) ≡ Ok h
-      → Reached m f config h
-  reach_then x es p c h at fits good rest (Err refusal) is e = absurd cc
-  reach_then x es p c h at fits good rest (Ok g) is e =
-      let next : Later m f config c (passes p g) = steps_lead m f config short p c x g at fits is in
-      rest (passes p g) (run m f c next.moves) next.at (one_good p c x g at fits is good next) e
+      → Reached m config h
+  reach_then x es p h at fits good rest (Err refusal) is e = absurd cc
+  reach_then x es p h at fits good rest (Ok g) is e =
+      let next : At m config (passes p g) = event_leads m short config p x g at fits is in
+      rest (passes p g) next (one_good p x g at is good next) e
 
-  reach : (es : List Event) (p : Passed) (c : Conf) (h : Happened) → At m f config p c → EventsFit es → Good config p.world p.lines
-      → run_from m p.lines p.world es ≡ Ok h → Reached m f config h
-  reach [] p c h at fit good e =
+  reach : (es : List Event) (p : Passed) (h : Happened) → At m config p → EventsFit es → Good config p.world p.lines
+      → run_from m p.lines p.world es ≡ Ok h → Reached m config h
+  reach [] p h at fit good e =
       let same : record { world = p.world; lines = p.lines } ≡ h = cc in
       let world : p.world ≡ h.world = ap (λ (t : Happened). t.world) same in
       let lines : p.lines ≡ h.lines = ap (λ (t : Happened). t.lines) same in
       record {
         passed = p;
-        conf = c;
         at = at;
         world = world;
         lines = lines;
         sent = subst (λ (v : WorldState). (s : Sent) → Has v.sent s → Goes config s.dest s.bytes) world good.sent;
         submits = subst (SubmitsOf config) lines good.submits;
       }
-  reach (x ∷ es) p c h at fit good e =
-      reach_then x es p c h at fit.0 good (λ q d at_q good_q g. reach es q d h at_q fit.1 good_q g) (step m p.world x) refl e
+  reach (x ∷ es) p h at fit good e =
+      reach_then x es p h at fit.0 good (λ q at_q good_q g. reach es q h at_q fit.1 good_q g) (step m p.world x) refl e
 
   nothing_sent : Good config (world.opening config) []
   nothing_sent = record { sent = λ s h. absurd (Has-none s h); submits = λ r h. absurd (Has-none _ h); controller = refl }
 
 pub events_reach : {S : Type 0} (m : Meaning S) (config : Configuration) → ResultsShort m → is_configuration config ≡ true
-    → (es : List Event) (h : Happened) → EventsFit es → world.run m config es ≡ Ok h → Reached m (config.replicas / 2) config h
+    → (es : List Event) (h : Happened) → EventsFit es → world.run m config es ≡ Ok h → Reached m config h
 events_reach m config short is_one es h fit e =
-    let f : ℕ = config.replicas / 2 in
-    let count : config.replicas ≡ 2 * f + 1 = (counts_from config is_one).replicas in
-    reach m f config short count es (first config) (opening config) h (opening_stands m f config is_one count) fit
-    (nothing_sent m f config short count) e
+    let count = (counts_from config is_one).replicas in
+    reach m config short count es (first config) h (opening_at m config is_one count) fit (nothing_sent m config short count) e
 
 -- ---- destinations
 
-module _ {S : Type 0} (m : Meaning S) (config : Configuration) (h : Happened) (r : Reached m (config.replicas / 2) config h)
+module _ {S : Type 0} (m : Meaning S) (config : Configuration) (h : Happened) (r : Reached m config h)
     (is_one : is_configuration config ≡ true) where
-  abbrev f : ℕ
-  f = config.replicas / 2
+  abbrev half : ℕ
+  half = config.replicas / 2
 
-  asked : AllAsked r.conf
-  asked = subst AllAsked r.at.ran.is
-      (moves_asked m f (opening config) r.at.ran.moves (opening_meets m f config (counts_from config is_one).replicas) r.at.ran.may
+  abbrev same_worlds : Alike r.passed.world r.passed.lines r.at.whole.world
+  same_worlds = r.at.both.beside.alike
+
+  asked : AllAsked r.at.conf
+  asked = subst AllAsked r.at.at.ran.ends
+      (moves_asked m half (opening config) r.at.at.ran.moves (opening_meets m half config (counts_from config is_one).replicas) r.at.at.ran.may
       (none_asked config))
 
-  replied : (s : Sent) (y : Reply) → Has h.world.sent s → reading s.bytes ≡ Ok (datagrams.Reply y) → HasAsked r.conf.lines y.client
+  replied : (s : Sent) (y : Reply) → Has h.world.sent s → reading s.bytes ≡ Ok (datagrams.Reply y) → HasAsked r.at.conf.lines y.client
   replied s y i e =
-      asked y (r.at.stands.carries.only s (datagrams.Reply y) (subst (λ (w : WorldState). Has w.sent s) (sym r.world) i) e)
+      asked y (carried r.at.conf r.passed.world.sent r.at.whole.world.sent same_worlds.sent r.at.at.stands.carries s (datagrams.Reply y)
+      (subst (λ (w : WorldState). Has w.sent s) (sym r.world) i) e)
+
+  -- what the configuration says is among the lines
+  said_there : (l : Line) → Has r.at.conf.lines l → Has h.lines l
+  said_there l i = subst (λ (ls : List Line). Has ls l) r.lines
+      (Has-from_filter is_spoken l r.passed.lines (subst (λ (ls : List Line). Has ls l) (sym (same_worlds.lines ∙ r.at.at.lines)) i)).0
 
   -- who is sent a reply submitted a request
   client_there : (k : ℕ) (s : Sent) → Has h.world.sent s → IsReplyTo k s.bytes → k < config.clients
   client_there k s i is =
       let e : reading s.bytes ≡ Ok (datagrams.Reply is.reply) = ap reading is.spelled ∙ reads_again (datagrams.Reply is.reply) is.fits in
       let q = replied s is.reply i e in
-      let there : Has h.lines (lines.Submit q.request) =
-      subst (λ (ls : List Line). Has ls (lines.Submit q.request)) (sym r.at.lines ∙ r.lines) q.submitted in
+      let there : Has h.lines (lines.Submit q.request) = said_there (lines.Submit q.request) q.submitted in
       subst (λ (n : ℕ). n < config.clients) (q.of ∙ is.to) (r.submits q.request there)
 
   dest_of : (s : Sent) → Has h.world.sent s → (dest : Dest) → Goes config dest s.bytes → IsDestOf config dest

@@ -1,7 +1,7 @@
 -- An event that is drawn is not refused.
 use Rattle.std.proofs.Common.{◌≡◌, ◌≤◌, ◌<◌, ◌-◌, ℕ, Bool, true, false, Option, Some, None, refl, sym, ap, subst, ◌∙◌, arith}
 use Rattle.std.proofs.Common.{length, List, min}
-use Rattle.std.specs.Prelude.{⊤, ◌/◌, nat_lt, nat_le, ◌==◌, if◌then◌else◌, Result, Ok, slice_get}
+use Rattle.std.specs.Prelude.{⊤, nat_lt, nat_le, ◌==◌, if◌then◌else◌, Result, Ok, slice_get}
 use Rattle.std.proofs.lemmas.Bool.{lt-ltb}
 use Rattle.rand_pcg.specs.Lcg.{Lcg}
 use Rattle.nop_types.specs.Configuration.{Configuration}
@@ -22,7 +22,8 @@ use Rattle.replica_core.specs.ReplicaSteps as replica
 use Rattle.replica_rows.specs.Within.{ResultsShort}
 use Rattle.schedule_text.specs.declared.event.Event.{Event}
 use Rattle.schedule_text.specs.declared.event.Event.TheVariants as events
-use Rattle.schedule_text.specs.EventText.{HasWord, HasLine, IsActorOf, IsEventOf}
+use Rattle.line_fields.specs.Fields.{IsActorOf}
+use Rattle.schedule_text.specs.EventText.{HasWord, HasLine, IsEventOf}
 use Rattle.schedule_text.specs.Fits.{EventFits}
 use Rattle.schedule_text.specs.Ticks.{takes_tick}
 use Rattle.network.specs.Network.{Sent, Did}
@@ -35,6 +36,7 @@ use Rattle.replay.specs.Drawing.{often_drawn, seldom_drawn, event_drawn}
 use Rattle.replay.specs.Generated.{drawn_config}
 use Rattle.replay.specs.Generating.{IsTaken, Led, MayDraw}
 use Rattle.replay.specs.Destinations.{IsDestOf}
+use Rattle.safety.proofs.At.{actors_at, config_at}
 use Rattle.replay.proofs.Reaching.{Reached, events_reach, sent_to_actors}
 
 -- ---- events that are not refused
@@ -199,18 +201,20 @@ pub record GoesOn {S : Type 0} (m : Meaning S) (w : WorldState) (e : Event) : Ty
 
 module _ {S : Type 0} (m : Meaning S) (short : ResultsShort m) where
   reached : (es : List Event) (w : WorldState) (ls : List _) → Led m es w ls
-      → Reached m (drawn_config.replicas / 2) drawn_config (record { world = w; lines = ls })
+      → Reached m drawn_config (record { world = w; lines = ls })
   reached es w ls led = events_reach m drawn_config short refl es (record { world = w; lines = ls }) led.fit led.is
 
-  has_actors : (h : Happened) → (r : Reached m (drawn_config.replicas / 2) drawn_config h) → HasActors h.world
-  has_actors h r = subst HasActors r.world (record {
-    replicas = r.at.stands.actors.replica_count;
-    sequencers = r.at.stands.actors.sequencer_count;
-    clients = r.at.stands.actors.client_count;
-  })
+  has_actors : (h : Happened) → (r : Reached m drawn_config h) → HasActors h.world
+  has_actors h r =
+      let shown = actors_at m drawn_config r.passed r.at in
+      subst HasActors r.world (record {
+        replicas = shown.replica_count;
+        sequencers = shown.sequencer_count;
+        clients = shown.client_count;
+      })
 
-  config_is : (h : Happened) → (r : Reached m (drawn_config.replicas / 2) drawn_config h) → h.world.config ≡ drawn_config
-  config_is h r = ap (λ (w : WorldState). w.config) (sym r.world) ∙ r.at.stands.same
+  config_is : (h : Happened) → (r : Reached m drawn_config h) → h.world.config ≡ drawn_config
+  config_is h r = ap (λ (w : WorldState). w.config) (sym r.world) ∙ config_at m drawn_config r.passed r.at
 
   pub taken_there : (es : List Event) (w : WorldState) (ls : List _) (e : Event) → Led m es w ls → IsEventOf drawn_config e
       → IsSent w.sent e

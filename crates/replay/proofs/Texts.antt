@@ -13,9 +13,10 @@ use Rattle.world.specs.declared.step_error.StepError.{StepError}
 use Rattle.world.specs.declared.step_error.StepError.TheVariants as steps
 use Rattle.world.specs.Actors.{Happens}
 use Rattle.world.specs.SeatOutcomes as world
+use Rattle.world.specs.Ending.{history_text, final_text}
 use Rattle.world.specs.StateLines.{replicas_text}
 use Rattle.world.specs.WorldSteps.{WorldState, Refusal, Happened, step, opening, history}
-use Rattle.replay.specs.Output.{BadLine, bad_text, refused_line, history_text, final_text, ending, text_after, schedule_from, rest, begun}
+use Rattle.replay.specs.Output.{BadLine, bad_text, refused_line, ending, text_after, schedule_from, rest, begun}
 use Rattle.replay.specs.Output.{output_of_lines, output}
 use Rattle.replay.specs.Progress.{after_step, after_next, after_turn}
 use Rattle.replay.specs.declared.error.ReplayError.{ReplayError}

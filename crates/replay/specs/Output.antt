@@ -2,24 +2,14 @@
 use Rattle.std.specs.Prelude.{ℕ, ◌+◌, List, [], ◌∷◌, ◌++◌, Bool, true, false, Option, Some, None, Result, Ok, Err}
 use Rattle.nop_types.specs.Configuration.{Configuration}
 use Rattle.nop_types.specs.Meaning.{Meaning}
-use Rattle.nop_types.specs.declared.request.Request.{Request}
 use Rattle.schedule_text.specs.declared.event.Event.{Event}
 use Rattle.schedule_text.specs.Cutting.{lines_of}
 use Rattle.schedule_text.specs.declared.rule.Rule.{Rule}
 use Rattle.schedule_text.specs.declared.rule.Rule.TheVariants as rules
 use Rattle.schedule_text.specs.Rules.{rule_number, header_of, event_of}
-use Rattle.transcript_text.specs.Transcript.{transcript_line, lines_text, history_line, error_line, end_line}
-use Rattle.world.specs.StateLines.{replicas_text}
-use Rattle.world.specs.WorldSteps.{WorldState, Refusal, NoSuchActor, NoSuchDatagram, Forged, Happened, step, run_from, opening, history}
-
--- ---- the lines at the end of the input
-
-abbrev pub history_text : ℕ → List Request → List ℕ
-history_text i [] = []
-history_text i (r ∷ rs) = history_line i r ++ history_text (i + 1) rs
-
-unfoldable pub final_text : WorldState → List ℕ
-final_text w = replicas_text 0 w.replicas ++ history_text 1 (history w) ++ end_line
+use Rattle.transcript_text.specs.Transcript.{transcript_line, lines_text, error_line}
+use Rattle.world.specs.Ending.{final_text}
+use Rattle.world.specs.WorldSteps.{WorldState, Refusal, NoSuchActor, NoSuchDatagram, Forged, Happened, step, run_from, opening}
 
 -- ---- a schedule
 

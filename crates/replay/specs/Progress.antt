@@ -9,10 +9,18 @@ use Rattle.schedule_text.specs.declared.next_error.NextError.TheVariants as next
 use Rattle.transcript_text.specs.Transcript.{lines_text}
 use Rattle.schedule_text.specs.Reading.{Reading, Turn, Next, Gives, Refuses, Ends, MayFollow, lines_before, turn_of}
 use Rattle.world.specs.WorldSteps.{WorldState, Refusal, Happened, step}
-use Rattle.replay.specs.declared.error.ReplayError.{ReplayError}
-use Rattle.replay.specs.Outcome.{EndsWith}
+use Rattle.schedule_text.specs.Stepping.{NeedsNoRead}
+use Rattle.replay.specs.Outcome.{IsInterrupted}
 use Rattle.replay.specs.Output.{BadLine, Output, bad_text, refused_line, ending, then_text, rest, output}
 use Rattle.replay.specs.Steps.{bad_line}
+
+-- what the source had left and what the sink held where a replay began
+pub record Start : Type 0 where
+  pub bytes : Option (List ℕ)
+  pub held : Option (List ℕ)
+
+abbrev pub begins : Option (List ℕ) → Option (List ℕ) → Start
+begins left held = record { bytes = left; held = held }
 
 abbrev pub refused : BadLine → Output
 refused b = record { text = bad_text b; bad = Some b }
@@ -63,9 +71,12 @@ module _ {S : Type 0} (m : Meaning S) where
   GoingOf (Some bytes) None before now pending r c w = ⊥
   GoingOf (Some bytes) (Some left) before now pending r c w = Going bytes left before now pending r c w
 
-  -- how a replay ends that has come this far, wherever it began
-  abbrev pub EndsFrom : Option (List ℕ) → Option (List ℕ) → Option (List ℕ) → Option (List ℕ) → List ℕ → Reading → WorldState
-      → Result (Unit {0}) ReplayError → Type 0
-  EndsFrom left rest_left now after pending r w x =
-      (bytes before : Option (List ℕ)) (c : Configuration) → GoingOf bytes left before now pending r c w
-      → EndsWith m bytes rest_left before after x
+  -- the same since a start, with the configuration that line 1 says
+  pub record GoesOn (start : Start) (left now : Option (List ℕ)) (pending : List ℕ) (r : Reading) (w : WorldState) : Type 0 where
+    pub config : Configuration
+    pub going : GoingOf start.bytes left start.held now pending r config w
+
+  -- The source may be asked: where it will be, no bad line is decided by the bytes that were taken since the start, and what was written
+  -- since then is the transcript line with the lines of all lines that they decide.
+  unfoldable pub MayRead : Start → Reading → Option (List ℕ) → Option (List ℕ) → Type 0
+  MayRead start r left now = ¬ NeedsNoRead r → IsInterrupted m start.bytes left start.held now

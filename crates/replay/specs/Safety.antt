@@ -6,9 +6,10 @@ use Rattle.schedule_text.specs.declared.event.Event.{Event}
 use Rattle.schedule_text.specs.Cutting.{lines_of}
 use Rattle.schedule_text.specs.Rules.{header_of}
 use Rattle.transcript_text.specs.Transcript.{transcript_line, lines_text}
+use Rattle.world.specs.Ending.{final_text}
 use Rattle.world.specs.WorldSteps.{Happened, opening, run}
 use Rattle.safety.specs.Safe.{SafelyPassed}
-use Rattle.replay.specs.Output.{final_text, schedule_from, output}
+use Rattle.replay.specs.Output.{schedule_from, output}
 
 -- the bytes are a header and the lines of these events. What the events lead to is safe: replicas agree as far as they are synchronised,
 -- and the accepted replies are those of the one history. The text that is written for the bytes has the lines of the events, and that

@@ -30,6 +30,9 @@ use world::{Lines, StepError, World};
 /// The most events of a schedule that is drawn.
 pub const MAX_DRAWN_EVENTS: u32 = 100_000;
 
+// A number that both code and contracts name would be proved whatever it was; so here it stands once more.
+const _: () = prove!(MAX_DRAWN_EVENTS == 100_000);
+
 fn drawn_config() -> Config
     ensures { result ≡ drawn_config }
 {

@@ -1,17 +1,40 @@
-//! A schedule in, a transcript out.
+//! A schedule in, a transcript out; and schedules that are drawn from a number.
+//!
+//! How `replay` ends, over an observable source and sink (clause `ends`):
+//! - Ok: all bytes were taken, no line is bad, and the sink's new bytes are `output` of them.
+//! - Malformed: the bytes taken decide this first bad line, whatever follows; the output up to it
+//!   was written, with its error line.
+//! - ReadFault: the bytes taken decide no bad line, and the lines that they decide were written.
+//! - WriteFault, NoMemory: a proper prefix of the output of the whole input was written.
+//!
+//! Each read goes through `open` or `next_event` of `reading`, which require that all is written
+//! that the bytes taken so far decide (`MayRead`): an answer is out before the program waits.
+//!
+//! At Ok, of an observable source, the run of the bytes is safe (clause `safe`, `RunsSafely`).
+//! ReadFault and WriteFault come only where that device failed. `replay_with` has the same clauses
+//! over any host.
+//!
+//! `events` gives the configuration and the events that are drawn from a number; each is carried
+//! out in its turn (law `drawn_schedules_run`). `generate` writes the summary of their run, or a
+//! proper prefix of it on an error. Each datagram of a run goes to an actor of its configuration
+//! (law `datagrams_go_to_actors`).
+//!
+//! Calls: `replay` and `generate`, for `commands`.
+//!
+//! Files: `replayed`, `reading`, `turn`, `writing`; `generated`, `drawing`, `summary`. Definitions:
+//! `specs/Output`, `Outcome` (`EndsWith`), `Safety`, `Generated`.
 #![tactic(auto)]
 
 mod drawing;
-mod ending;
 mod error;
 mod generated;
 mod laws;
+mod reading;
 mod replayed;
 mod summary;
 mod turn;
 mod writing;
 
-pub use ending::final_lines;
 pub use error::{GenError, ReplayError};
 pub use generated::{MAX_DRAWN_EVENTS, events, generate};
 pub use laws::{datagrams_go_to_actors, drawn_schedules_run};

@@ -4,11 +4,13 @@ ghost use Rattle.kv_host.specs.Kv.{kv_meaning};
 ghost use Rattle.transcript_text.specs.Transcript.{transcript_line};
 ghost use Rattle.world.specs.WorldSteps.{opening};
 ghost use Rattle.replay.specs.Outcome.{EndsWith};
-ghost use Rattle.replay.specs.Progress.{EndsFrom};
+ghost use Rattle.replay.specs.Progress.{begins, GoesOn, Start};
 ghost use Rattle.replay.specs.Safety.{RunsSafelyOf};
 
 use crate::error::ReplayError;
+use crate::reading::{next_event, open};
 use crate::turn::{finish, stop, take_event};
+use crate::writing::write_decided;
 use kv_host::KvHost;
 use nop_types::{Config, Host, MAX_LINES, NoMemory};
 use outside::{Sink, Source};
@@ -30,7 +32,8 @@ fn begin<H: Host>(
     World::new(alloc, config)
 }
 
-/// Takes the events of the lines behind the first, one after the other, up to the end of the input.
+/// Takes the events of the lines behind the first, one after the other, up to the end of the input. What was gathered is written
+/// before the source is asked.
 fn take_events<H: Host, S: Source, K: Sink>(
     reader: &mut Reader,
     world: &mut World<H>,
@@ -38,11 +41,14 @@ fn take_events<H: Host, S: Source, K: Sink>(
     pending: &mut Vec<u8>,
     sink: &mut K,
 ) -> Result<(), ReplayError>
+    ghost start: { Start }
+    requires going { GoesOn H.meaning start (S.left source.old) (K.held sink.old) pending.old.items
+        reader.old world.old.state }
     requires opened { IsSome reader.old.config }
     requires first { 1 ≤ reader.old.line }
     requires last { reader.old.line ≤ MAX_LINES }
-    ensures ends { EndsFrom H.meaning (S.left source.old) (S.left source.new) (K.held sink.old)
-        (K.held sink.new) pending.old.items reader.old world.old.state result }
+    ensures ends { EndsWith H.meaning start.bytes (S.left source.new) start.held
+        (K.held sink.new) result }
     ensures read { HasCauseFor (S.fault_count source.old) (S.fault_count source.new)
         ReplayError.ReadFault result }
     ensures write { HasCauseFor (K.fault_count sink.old) (K.fault_count sink.new)
@@ -50,13 +56,40 @@ fn take_events<H: Host, S: Source, K: Sink>(
 {
     // line 1 was taken, each turn takes one more, and the last one finds the end or a line too many
     for _turn in 0..MAX_LINES {
-        match reader.next(source) {
+        write_decided(reader, pending, sink)?;
+        match next_event::<H, S, K>(reader, source, sink) {
             Ok(Some(event)) => take_event(reader.line(), &event, world, pending, sink)?,
             Ok(None) => return finish(world, pending, sink),
             Err(e) => return Err(stop(e, pending, sink)),
         }
     }
     unreachable!()
+}
+
+/// Replays a schedule from its start, which is now.
+fn replay_from<H: Host, S: Source, K: Sink>(
+    alloc: Global,
+    source: &mut S,
+    sink: &mut K,
+) -> Result<(), ReplayError>
+    ghost start: { Start }
+    requires { start ≡ begins (S.left source.old) (K.held sink.old) }
+    ensures ends { EndsWith H.meaning (S.left source.old) (S.left source.new) (K.held sink.old)
+        (K.held sink.new) result }
+    ensures safe { OnOk result (RunsSafelyOf H.meaning (S.left source.old)) }
+    ensures read { HasCauseFor (S.fault_count source.old) (S.fault_count source.new)
+        ReplayError.ReadFault result }
+    ensures write { HasCauseFor (K.fault_count sink.old) (K.fault_count sink.new)
+        ReplayError.WriteFault result }
+{
+    let mut reader = Reader::new(alloc);
+    let mut pending = Vec::new(alloc);
+    let config = match open::<H, S, K>(&mut reader, source, sink) {
+        Ok(config) => config,
+        Err(e) => return Err(stop(e, &mut pending, sink)),
+    };
+    let mut world: World<H> = begin(alloc, config, &mut pending)?;
+    take_events(&mut reader, &mut world, source, &mut pending, sink)
 }
 
 /// Replays a schedule with a host of this type. What was written before an error stays.
@@ -73,14 +106,7 @@ pub fn replay_with<H: Host, S: Source, K: Sink>(
     ensures write { HasCauseFor (K.fault_count sink.old) (K.fault_count sink.new)
         ReplayError.WriteFault result }
 {
-    let mut reader = Reader::new(alloc);
-    let mut pending = Vec::new(alloc);
-    let config = match reader.open(source) {
-        Ok(config) => config,
-        Err(e) => return Err(stop(e, &mut pending, sink)),
-    };
-    let mut world: World<H> = begin(alloc, config, &mut pending)?;
-    take_events(&mut reader, &mut world, source, &mut pending, sink)
+    replay_from::<H, S, K>(alloc, source, sink)
 }
 
 /// Reads a schedule from the source and writes its transcript, line by line. What was written before an error stays.

@@ -1,17 +1,16 @@
 ghost use Rattle.std.specs.Prelude.{◌≡◌, ◌≤◌, ◌++◌};
 ghost use Rattle.outside.specs.Causes.{Rose, HasCauseFor};
+ghost use Rattle.world.specs.Ending.{final_text};
 ghost use Rattle.world.specs.WorldSteps.{step};
-ghost use Rattle.replay.specs.Output.{final_text};
 ghost use Rattle.replay.specs.Steps.{Writes, Refuses, Stops, Gathers, RefusesFor, TakesEvent};
 
-use crate::ending::final_lines;
 use crate::error::ReplayError;
 use crate::writing::{GATHERED_BYTES, flush};
 use nop_types::Host;
 use outside::Sink;
 use schedule_text::{Event, NextError, Rule};
 use transcript_text::error_line;
-use world::{StepError, World};
+use world::{StepError, World, final_lines};
 
 /// Writes what was gathered and the error line, in which the rule has its number.
 fn refuse<K: Sink>(

@@ -1,9 +1,11 @@
 ghost use Rattle.std.specs.Prelude.{◌≡◌, [], OnOk};
 ghost use Rattle.outside.specs.Causes.{HasCauseFor};
-ghost use Rattle.replay.specs.Steps.{Writes};
+ghost use Rattle.schedule_text.specs.Stepping.{NeedsNoRead};
+ghost use Rattle.replay.specs.Steps.{Gathers, Writes};
 
 use crate::error::ReplayError;
 use outside::{Sink, WriteError, write_all};
+use schedule_text::Reader;
 
 /// So many bytes are gathered before they are written.
 pub const GATHERED_BYTES: usize = 0x1_0000;
@@ -23,4 +25,23 @@ pub fn flush<K: Sink>(sink: &mut K, pending: &mut Vec<u8>) -> Result<(), ReplayE
         Err(WriteError::Failed) => Err(ReplayError::WriteFault),
         Err(WriteError::NoMemory) => Err(ReplayError::NoMemory),
     }
+}
+
+/// Writes what was gathered, unless the next line is there already: a reader that will not read keeps nobody waiting.
+#[tactic(auto, using(crate::proofs::Fronts::misses_fails))]
+pub fn write_decided<K: Sink>(
+    reader: &Reader,
+    pending: &mut Vec<u8>,
+    sink: &mut K,
+) -> Result<(), ReplayError>
+    ensures gathers { Gathers (K.held sink.old) (K.held sink.new) pending.old.items
+        pending.new.items [] result }
+    ensures written { OnOk result (¬ NeedsNoRead reader.now → pending.new.items ≡ []) }
+    ensures cause { HasCauseFor (K.fault_count sink.old) (K.fault_count sink.new)
+        ReplayError.WriteFault result }
+{
+    if !reader.has_line() {
+        flush(sink, pending)?;
+    }
+    Ok(())
 }

@@ -7,7 +7,7 @@ use Rattle.nop_types.specs.declared.output.Actor.{Actor}
 use Rattle.nop_types.specs.Configuration.{Configuration, is_configuration}
 use Rattle.schedule_text.specs.declared.event.Event.{Event}
 use Rattle.schedule_text.specs.declared.event.Event.TheVariants.{Submit, Deliver, Tick, Install, Crash, Junk}
-use Rattle.schedule_text.specs.Fields.{is_text, number_of, actor_of, client_number, sequencer_number, bytes_of, fields}
+use Rattle.line_fields.specs.Fields.{is_text, number_of, actor_of, client_number, sequencer_number, bytes_of, fields}
 use Rattle.schedule_text.specs.Fits.{EventFits}
 use Rattle.schedule_text.specs.Ticks.{tick_named, takes_tick}
 use Rattle.schedule_text.specs.declared.rule.Rule.{Rule}
@@ -16,7 +16,7 @@ use Rattle.schedule_text.specs.Rules.{Read, ◌>>=◌, or_rule, keeps_rule, max_
 use Rattle.schedule_text.specs.Rules.{submit_of, deliver_event, deliver_of, tick_event, tick_of, install_of, crash_of, junk_event, junk_of}
 use Rattle.schedule_text.specs.Rules.{event_of_fields}
 use Rattle.schedule_text.specs.Rules.{configuration_of, count_of, header_rest, header_of_fields, plain_line, header_of, event_of}
-use Rattle.schedule_text.proofs.HexLengths.{bytes_short}
+use Rattle.line_fields.proofs.HexLengths.{bytes_short}
 
 -- a step that gave a value, and what came of it
 then_ok : {A B : Type 0} (r : Read A) (f : A → Read B) (y : B) → (r >>= f) ≡ Ok y → (x : A) × (r ≡ Ok x) × (f x ≡ Ok y)

@@ -1,9 +1,7 @@
 pub mod Cuts
-pub mod Digits
 pub mod EventTexts
 pub mod Firsts
 pub mod Fitting
-pub mod HexLengths
 pub mod Searched
 pub mod SplitLemmas
 pub mod Takings

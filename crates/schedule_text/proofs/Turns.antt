@@ -12,7 +12,7 @@ use Rattle.schedule_text.specs.declared.rule.Rule.{Rule}
 use Rattle.schedule_text.specs.declared.rule.Rule.TheVariants.{LineTooLong, TooManyLines, WrongByte, WrongWord}
 use Rattle.schedule_text.specs.Rules.{Read, is_plain, rule_number, ◌>>=◌, plain_line}
 use Rattle.schedule_text.specs.Rules.{header_of, header_of_fields, event_of, event_of_fields}
-use Rattle.schedule_text.specs.Fields.{fields}
+use Rattle.line_fields.specs.Fields.{fields}
 use Rattle.schedule_text.specs.Cutting.{lines_of}
 use Rattle.schedule_text.specs.Deciding.{IsFirstLine, IsUndecided, Follows}
 use Rattle.schedule_text.specs.Reading.{Reading, MayFollow, lines_before, turn, turn_after, event_turn, header_turn}

@@ -6,8 +6,8 @@ use Rattle.nop_types.specs.Configuration.{Configuration, is_configuration}
 use Rattle.nop_types.specs.declared.input.Tick.{Tick}
 use Rattle.nop_types.specs.declared.input.Tick.TheVariants as ticks
 use Rattle.nop_types.specs.declared.limits.TheConstants.{MAX_DATAGRAM_BYTES, MAX_LINES, MAX_OP_BYTES}
-use Rattle.nop_types.specs.declared.output.Actor.{Actor}
 use Rattle.nop_types.specs.declared.output.Actor.TheVariants as actors
+use Rattle.line_fields.specs.Fields.{IsActorOf}
 use Rattle.schedule_text.specs.declared.event.Event.{Event}
 use Rattle.schedule_text.specs.declared.event.Event.TheVariants as events
 use Rattle.transcript_text.specs.LineText.{after_space}
@@ -71,13 +71,6 @@ unfoldable pub event_text : Event → List ℕ
 event_text e = event_word e ++ flat_map after_space (event_fields e)
 
 -- ---- what the line means
-
--- the actor is of the configuration
-abbrev pub IsActorOf : Configuration → Actor → Type 0
-IsActorOf c (actors.Replica i) = i < c.replicas
-IsActorOf c (actors.Sequencer i) = i < c.sequencers
-IsActorOf c (actors.Client i) = i < c.clients
-IsActorOf c actors.Controller = ⊤
 
 -- each actor that the event names is of the configuration, and takes its tick
 abbrev pub IsEventOf : Configuration → Event → Type 0

@@ -1,12 +1,10 @@
 pub mod Cutting
 pub mod Deciding
 pub mod EventText
-pub mod Fields
 pub mod Filling
 pub mod Fits
 pub mod LineAnswer
 pub mod Reading
 pub mod Rules
-pub mod Split
 pub mod Stepping
 pub mod Ticks

@@ -9,7 +9,7 @@ use Rattle.schedule_text.specs.declared.event.Event.TheVariants.{Submit, Deliver
 use Rattle.schedule_text.specs.declared.rule.Rule.{Rule}
 use Rattle.schedule_text.specs.declared.rule.Rule.TheVariants.{LineTooLong, WrongByte, WrongWord, WrongFieldCount, WrongField, WrongHex}
 use Rattle.schedule_text.specs.declared.rule.Rule.TheVariants.{WrongActor, NoSuchDatagram, Forged, TooManyLines}
-use Rattle.schedule_text.specs.Fields.{fields, is_text, number_of, number_below, actor_of, client_number, sequencer_number, bytes_of}
+use Rattle.line_fields.specs.Fields.{fields, is_text, number_of, number_below, actor_of, client_number, sequencer_number, bytes_of}
 use Rattle.schedule_text.specs.Ticks.{tick_named, takes_tick}
 
 -- the number of a rule, as an error line has it

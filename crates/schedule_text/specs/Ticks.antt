@@ -4,7 +4,7 @@ use Rattle.nop_types.specs.declared.input.Tick.{Tick}
 use Rattle.nop_types.specs.declared.input.Tick.TheVariants.{Suspect, Watch, Resend, Sync, Retry, Probe}
 use Rattle.nop_types.specs.declared.output.Actor.{Actor}
 use Rattle.nop_types.specs.declared.output.Actor.TheVariants.{Replica, Client, Controller}
-use Rattle.schedule_text.specs.Fields.{is_text}
+use Rattle.line_fields.specs.Fields.{is_text}
 
 -- the tick that the field names
 unfoldable pub tick_named : List ℕ → Option Tick

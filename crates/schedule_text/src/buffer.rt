@@ -8,6 +8,9 @@ use outside::Source;
 /// The most bytes of one read.
 const PIECE_BYTES: usize = 4096;
 
+// No contract says it, so here it stands once more.
+const _: () = prove!(PIECE_BYTES == 4096);
+
 /// Puts a piece of the source behind the bytes, and says how many bytes it has; 0 is the end.
 pub fn fill<S: Source>(bytes: &mut BytesMut, source: &mut S) -> Result<usize, NextError>
     ensures fills { FillsFrom (S.left source.old) (S.left source.new) bytes.old.items

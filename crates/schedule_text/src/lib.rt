@@ -1,4 +1,23 @@
-//! Schedules as text.
+//! Schedules as text: their reader, and the line of an event.
+//!
+//! `Reader::next` answers the event of the next line, the first rule that it breaks, or that there
+//! is none, however the source cuts its bytes: for an observable source of its bytes (clause
+//! `takes`), for any other of some bytes behind those that were left over (`reads`). A line that
+//! breaks a rule is not taken, and is refused again; after a fault or NoMemory nothing that was
+//! taken is lost. A fault comes only where the source failed, which is read only while no further
+//! line is decided. What is read is in its ranges (laws `read_events_fit`, `read_headers_fit`,
+//! `read_junk_fits`).
+//!
+//! `event_line` appends the line of an event, and nothing on an error; in each configuration that
+//! has the actors of the event and takes its tick, this line means the event (clause `means`).
+//!
+//! Calls: `Reader::new`, `open` (line 1), `next`, `has_line` (whether `next` will leave the source
+//! as it is), `config`, `line`; `Event`; `Rule::number`;
+//! `event_line`; `takes_tick`, which ticks a schedule may give.
+//!
+//! Files: `event`, `reader`, `first_line`, `rules`, `words`; `event_text`, `ticks`. Definitions:
+//! `specs/Cutting` (`lines_of`), `Rules` (`header_of`, `event_of`), `Reading` (`TakesOf`),
+//! `EventText` (`Means`), `Ticks`.
 #![tactic(auto)]
 
 mod buffer;
@@ -11,7 +30,6 @@ mod next_error;
 mod reader;
 mod rule;
 mod rules;
-mod spelling;
 mod split;
 mod ticks;
 mod words;

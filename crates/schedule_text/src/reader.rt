@@ -1,6 +1,6 @@
 ghost use Rattle.std.specs.Prelude.{◌≡◌, ◌≢◌, ◌+◌, ◌≤◌, ◌<◌, ◌↔◌, ◌⊎◌, false, true, []};
 ghost use Rattle.std.specs.Prelude.{length, Some, None, Err, IsNone, IsSome, IfOk, OnOk, OnErr};
-ghost use Rattle.std.specs.Prelude.{MatchOption};
+ghost use Rattle.std.specs.Prelude.{IsTrue, MatchOption};
 ghost use Rattle.nop_types.specs.declared.limits.TheConstants.{MAX_LINES};
 ghost use Rattle.outside.specs.Causes.{HasCauseFor};
 ghost use Rattle.schedule_text.specs.Deciding.{IsUndecided};
@@ -81,6 +81,14 @@ impl Reader {
         ensures most { result ≤ MAX_LINES }
     {
         self.line
+    }
+
+    /// Whether the next line or the end of the source is there already: for line 1 exactly where `open` does not ask its source,
+    /// and behind it exactly where `next` does not.
+    pub fn has_line(&self) -> bool
+        ensures { IsTrue result ↔ NeedsNoRead self.now }
+    {
+        self.ended || self.first_line().is_some()
     }
 
     /// The event of the next line, None at the end of the source. A line that breaks a rule is not

@@ -3,18 +3,18 @@
 ghost use Rattle.std.specs.Prelude.{◌≡◌, ◌&&◌, codes, Ok, Err, MatchResult};
 ghost use Rattle.std.specs.List.{list_all};
 ghost use Rattle.std.specs.Option.{option_copied};
-ghost use Rattle.schedule_text.specs.Fields.{fields, is_text};
+ghost use Rattle.line_fields.specs.Fields.{fields, is_text};
 ghost use Rattle.schedule_text.specs.LineAnswer.{IsAnswer};
 ghost use Rattle.schedule_text.specs.Rules.{is_plain, plain_line, header_of, header_rest};
 ghost use Rattle.schedule_text.specs.Rules.{configuration_of, count_of, event_of, event_of_fields};
-ghost use Rattle.schedule_text.specs.Split.{other_fields};
+ghost use Rattle.line_fields.specs.Split.{other_fields};
 
 use crate::event::Event;
 use crate::line_error::LineError;
 use crate::rule::Rule;
-use crate::spelling::small_number;
-use crate::split::{cut, is_word, next_field, no_field};
+use crate::split::{next_field, no_field};
 use crate::words::{crash, deliver, install, junk, submit, tick};
+use line_fields::{cut, is_word, small_number};
 use nop_types::{Config, MAX_LINE_BYTES, MAX_LINES};
 use std::alloc::Global;
 

@@ -3,7 +3,7 @@
 ghost use Rattle.std.specs.Prelude.{◌≡◌};
 ghost use Rattle.schedule_text.specs.Ticks.{tick_named, takes_tick};
 
-use crate::split::is_word;
+use line_fields::is_word;
 use nop_types::{Actor, Tick};
 
 /// The tick that the field names.

@@ -7,14 +7,14 @@ ghost use Rattle.schedule_text.specs.LineAnswer.{IsAnswer};
 ghost use Rattle.schedule_text.specs.Rules.{submit_event, submit_of, deliver_event, deliver_of};
 ghost use Rattle.schedule_text.specs.Rules.{tick_event, tick_of, install_of, crash_of, junk_event};
 ghost use Rattle.schedule_text.specs.Rules.{junk_of};
-ghost use Rattle.schedule_text.specs.Split.{other_fields};
+ghost use Rattle.line_fields.specs.Split.{other_fields};
 
 use crate::event::Event;
 use crate::line_error::LineError;
 use crate::rule::Rule;
-use crate::spelling::{actor, bytes, number, op};
 use crate::split::{one_field, two_fields};
 use crate::ticks::{takes_tick, tick_named};
+use line_fields::{actor, bytes, number, op};
 use nop_types::{Actor, Config, MAX_DATAGRAM_BYTES, MAX_OP_BYTES};
 use std::alloc::Global;
 

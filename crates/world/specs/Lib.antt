@@ -1,5 +1,6 @@
 pub mod Actors
 pub mod Agreement
+pub mod Ending
 pub mod Ids
 pub mod Lookups
 pub mod Refusals

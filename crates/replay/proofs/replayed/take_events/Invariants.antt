@@ -1,18 +1,16 @@
-use Rattle.std.proofs.Common.{◌≤◌, ◌<◌, List, ℕ, Option}
+use Rattle.std.proofs.Common.{◌≤◌, ◌<◌}
 use Rattle.std.specs.Prelude.{IsSome}
 use Rattle.nop_types.specs.declared.limits.TheConstants.{MAX_LINES}
-use Rattle.nop_types.specs.Configuration.{Configuration}
-use Rattle.replay.specs.Progress.{GoingOf}
+use Rattle.replay.specs.Progress.{GoesOn}
 use Rattle.replay.proofs.replayed.take_events.Given as goal
+
+abbrev pub ghost-next_event : goal.ghost-next_event
+ghost-next_event g a = g.start
 
 abbrev pub invariant-loop-turn : goal.invariant-loop-turn
 invariant-loop-turn g l =
     record {
-      going : (bytes before : Option (List ℕ)) (c : Configuration)
-          → GoingOf g.H.Host.meaning bytes (g.S.Source.left l.fn.source) before (g.K.Sink.held l.fn.sink) l.fn.pending.items l.fn.reader c
-          l.fn.world.state
-          → GoingOf g.H.Host.meaning bytes (g.S.Source.left l.source) before (g.K.Sink.held l.sink) l.pending.items l.reader c
-          l.world.state;
+      going : GoesOn g.H.Host.meaning g.start (g.S.Source.left l.source) (g.K.Sink.held l.sink) l.pending.items l.reader l.world.state;
       opened : IsSome l.reader.config;
       lines : l._turn < l.reader.line;
       most : l.reader.line ≤ MAX_LINES;

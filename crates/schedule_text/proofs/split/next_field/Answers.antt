@@ -1,6 +1,6 @@
 use Rattle.std.proofs.Common.{refl, ap, ◌∙◌}
 use Rattle.std.specs.Option.{option_copied}
-use Rattle.schedule_text.specs.Split.{other_fields}
+use Rattle.line_fields.specs.Split.{other_fields}
 use Rattle.schedule_text.proofs.split.next_field.Goals as goal
 
 pub returns-in-Some : goal.returns-in-Some

@@ -1,6 +1,6 @@
 use Rattle.std.proofs.Common.{ap}
 use Rattle.std.specs.Option.{option_copied}
-use Rattle.schedule_text.specs.Split.{other_fields}
+use Rattle.line_fields.specs.Split.{other_fields}
 use Rattle.schedule_text.proofs.SplitLemmas.{more_than_one}
 use Rattle.schedule_text.proofs.split.one_field.Goals as goal
 

@@ -2,7 +2,7 @@ use Rattle.std.proofs.Common.{rules}
 use Rattle.nop_types.specs.Lists.{IsPrefixOf}
 use Rattle.facts.proofs.Prefixes.{IsPrefixOf-trans}
 use Rattle.world.specs.StateLines.{replicas_text}
-use Rattle.replay.proofs.ending.put_final.Goals as goal
+use Rattle.world.proofs.ending.put_final.Goals as goal
 
 pub returns-in_err-history_lines-clause-err : goal.returns-in_err-history_lines-clause-err
 returns-in_err-history_lines-clause-err g c =

@@ -1,6 +1,6 @@
 use Rattle.std.proofs.Common.{rules}
 use Rattle.nop_types.specs.Lists.{IsPrefixOf}
-use Rattle.replay.proofs.ending.history_lines.Goals as goal
+use Rattle.world.proofs.ending.history_lines.Goals as goal
 
 pub returns-in_err-member_line-clause-err : goal.returns-in_err-member_line-clause-err
 returns-in_err-member_line-clause-err c =

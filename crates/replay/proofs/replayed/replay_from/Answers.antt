@@ -1,13 +1,17 @@
-use Rattle.std.proofs.Common.{◌≡◌, refl, ◌∙◌, ap}
+use Rattle.std.proofs.Common.{◌≡◌, ◌≤◌, refl, ◌∙◌, ap, rules}
+use Rattle.std.specs.Prelude.{IsSome}
 use Rattle.std.proofs.lemmas.Result.{err_from_is_err_and}
+use Rattle.nop_types.specs.declared.limits.TheConstants.{MAX_LINES}
 use Rattle.schedule_text.specs.Reading.{Reading}
 use Rattle.transcript_text.specs.Transcript.{transcript_line}
+use Rattle.replay.specs.Progress.{begins, GoesOn}
 use Rattle.safety.proofs.Results.{results_short}
 use Rattle.replay.proofs.Beginning.{opened, unopened, text_first, counts_from_one}
 use Rattle.replay.proofs.Causes.{cause_since, stop_reads, stop_writes, starved_reads, starved_writes, same_time}
+use Rattle.replay.proofs.Decided.{may_begin}
 use Rattle.replay.proofs.Progressing.{starved_ends}
 use Rattle.replay.proofs.Safely.{done_is_safe, failed_is_safe}
-use Rattle.replay.proofs.replayed.replay_with.Goals as goal
+use Rattle.replay.proofs.replayed.replay_from.Goals as goal
 
 pub returns-in-Err-clause-ends : goal.returns-in-Err-clause-ends
 returns-in-Err-clause-ends g c =
@@ -17,24 +21,44 @@ returns-in-Err-clause-ends g c =
     let takes = rw c.new-reader.ensures at c.in-Err.ensures.takes in
     let closed = c.in-Err.ensures.closed ∙ ap (λ (r : Reading). r.config) c.new-reader.ensures in
     let stops = rw c.new-pending.ensures.items at c.stop.ensures.stops in
-    unopened m (left c.args.source.now) (left c.open.new.source) (held c.args.sink.now) (held c.stop.new.sink) c.open.new.self c.in-Err.e
+    unopened m (left c.args.source.now) (left c.open.new.source) (held c.args.sink.now) (held c.stop.new.sink) c.open.new.reader c.in-Err.e
     c.stop.result takes closed c.in-Err.ensures.none_left stops
 
-pub take_events-requires-clause-opened : goal.take_events-requires-clause-opened
-take_events-requires-clause-opened g c = rw c.in-Ok.ensures.config refl
+pub open-requires : goal.open-requires
+open-requires g c =
+    let left = g.S.Source.left in
+    let held = g.K.Sink.held in
+    let is : g.start ≡ begins (left c.args.source.now) (held c.args.sink.now) = search (rules, c.requires) in
+    let written = may_begin g.H.Host.meaning g.start (left c.args.source.now) (held c.args.sink.now) c.new-reader.result is in
+    search (rules, written)
 
-pub returns-clause-ends : goal.returns-clause-ends
-returns-clause-ends g c =
+pub take_events-requires : goal.take_events-requires
+take_events-requires g c =
     let m = g.H.Host.meaning in
     let left = g.S.Source.left in
     let held = g.K.Sink.held in
     let config = c.in-Ok.config in
+    let is : g.start ≡ begins (left c.args.source.now) (held c.args.sink.now) = search (rules, c.requires) in
     let takes = rw c.new-reader.ensures at c.in-Ok.ensures.takes in
-    let going = opened m (left c.args.source.now) (left c.open.new.source) (held c.args.sink.now) c.open.new.self config takes
-    c.in-Ok.ensures.config in
     let text : c.begin.new.pending.items ≡ transcript_line config =
     text_first _ _ (transcript_line config) c.new-pending.ensures.items c.in_ok-world.ensures.line in
-    c.take_events.ensures.ends (left c.args.source.now) (held c.args.sink.now) config (rw (text, c.in_ok-world.ensures.world) going)
+    let going : GoesOn m g.start (left c.open.new.source) (held c.args.sink.now) c.begin.new.pending.items c.open.new.reader
+    c.in_ok-world.world.state =
+    rw (is, text, c.in_ok-world.ensures.world)
+    (record {
+      config = config;
+      going = opened m (left c.args.source.now) (left c.open.new.source) (held c.args.sink.now)
+          c.open.new.reader config takes c.in-Ok.ensures.config;
+    }) in
+    let some : IsSome c.open.new.reader.config = rw c.in-Ok.ensures.config refl in
+    let first : 1 ≤ c.open.new.reader.line = counts_from_one _ c.in-Ok.ensures.line.0 in
+    let last : c.open.new.reader.line ≤ MAX_LINES = c.in-Ok.ensures.line.1 in
+    search (rules, going, some, first, last)
+
+pub returns-clause-ends : goal.returns-clause-ends
+returns-clause-ends g c =
+    let is : g.start ≡ begins (g.S.Source.left c.args.source.now) (g.K.Sink.held c.args.sink.now) = search (rules, c.requires) in
+    rw is at c.take_events.ensures.ends
 
 pub returns-clause-safe : goal.returns-clause-safe
 returns-clause-safe g c =
@@ -42,27 +66,15 @@ returns-clause-safe g c =
     let left = g.S.Source.left in
     let held = g.K.Sink.held in
     let short = results_short m g.H.Host.is_sound g.met.H.Host.opens_sound g.met.H.Host.stays_sound g.met.H.Host.answers_short in
-    let config = c.in-Ok.config in
-    let takes = rw c.new-reader.ensures at c.in-Ok.ensures.takes in
-    let going = opened m (left c.args.source.now) (left c.open.new.source) (held c.args.sink.now) c.open.new.self config takes
-    c.in-Ok.ensures.config in
-    let text : c.begin.new.pending.items ≡ transcript_line config =
-    text_first _ _ (transcript_line config) c.new-pending.ensures.items c.in_ok-world.ensures.line in
+    let is : g.start ≡ begins (left c.args.source.now) (held c.args.sink.now) = search (rules, c.requires) in
     done_is_safe m short (left c.args.source.now) (left c.take_events.new.source) (held c.args.sink.now) (held c.take_events.new.sink)
-    c.take_events.result
-    (c.take_events.ensures.ends (left c.args.source.now) (held c.args.sink.now) config (rw (text, c.in_ok-world.ensures.world) going))
+    c.take_events.result (rw is at c.take_events.ensures.ends)
 
 pub returns-clause-read : goal.returns-clause-read
 returns-clause-read g c = cause_since _ _ _ _ _ c.in-Ok.ensures.cause.later c.take_events.ensures.read
 
 pub returns-clause-write : goal.returns-clause-write
 returns-clause-write g c = c.take_events.ensures.write
-
-pub take_events-requires-clause-first : goal.take_events-requires-clause-first
-take_events-requires-clause-first g c = counts_from_one _ c.in-Ok.ensures.line.0
-
-pub take_events-requires-clause-last : goal.take_events-requires-clause-last
-take_events-requires-clause-last g c = c.in-Ok.ensures.line.1
 
 pub returns-in-Err-clause-read : goal.returns-in-Err-clause-read
 returns-in-Err-clause-read g c = stop_reads _ _ _ c.in-Err.e c.stop.result _ _ _ c.stop.ensures.stops (same_time _) c.in-Err.ensures.cause

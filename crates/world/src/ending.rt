@@ -1,11 +1,11 @@
 ghost use Rattle.std.specs.Prelude.{◌≡◌, ◌+◌, ◌++◌, IfOk, OnOk, OnErr};
 ghost use Rattle.nop_types.specs.Lists.{IsPrefixOf};
 ghost use Rattle.transcript_text.specs.Transcript.{history_line};
-ghost use Rattle.replay.specs.Output.{history_text, final_text};
+ghost use Rattle.world.specs.Ending.{history_text, final_text};
 
+use crate::World;
 use nop_types::{Host, NoMemory, Request};
 use transcript_text::{end_line, history_line};
-use world::World;
 
 /// The number of a member of the history; a number past its type answers NoMemory, since no memory holds that many.
 fn numbered(i: usize) -> Result<u32, NoMemory>
@@ -37,7 +37,7 @@ fn history_lines(requests: &[Request], to: &mut Vec<u8>) -> Result<(), NoMemory>
 }
 
 /// Appends the lines at the end of the input: replicas, entries, history, end. After an error some of them stand there.
-#[tactic(auto, unfolding(crate::specs::Output::final_text))]
+#[tactic(auto, unfolding(crate::specs::Ending::final_text))]
 fn put_final<H: Host>(world: &World<H>, to: &mut Vec<u8>) -> Result<(), NoMemory>
     ensures ok { OnOk result (to.new.items ≡ to.old.items ++ final_text world.now.state) }
     ensures err { OnErr result (IsPrefixOf to.old.items to.new.items) }

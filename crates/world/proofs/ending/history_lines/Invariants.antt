@@ -1,7 +1,7 @@
 use Rattle.std.proofs.Common.{◌≡◌, ◌+◌, ◌++◌, drop}
 use Rattle.nop_types.specs.Lists.{IsPrefixOf}
-use Rattle.replay.specs.Output.{history_text}
-use Rattle.replay.proofs.ending.history_lines.Given as goal
+use Rattle.world.specs.Ending.{history_text}
+use Rattle.world.proofs.ending.history_lines.Given as goal
 
 -- what was put and what is left are all
 abbrev pub invariant-loop-i : goal.invariant-loop-i
