@@ -1,5 +1,5 @@
 -- What is joined was told, and what is posted is carried too.
-use Rattle.std.proofs.Common.{◌≡◌, ◌≤◌, ◌<◌, ◌+◌, ◌^◌, ℕ, Some, sym, ap, subst, ◌∙◌, arith, inl, inr, List, [], ◌++◌}
+use Rattle.std.proofs.Common.{◌≡◌, ◌≤◌, ◌<◌, ◌+◌, ◌^◌, ℕ, Some, refl, sym, ap, subst, ◌∙◌, arith, inl, inr, List, [], ◌++◌}
 use Rattle.std.specs.Prelude.{Result, Ok}
 use Rattle.std.specs.List.{AllByRecursion}
 use Rattle.nop_types.specs.Lists.{Has}
@@ -128,12 +128,24 @@ module _ (told : List Peer) (net : List Fragment) (used : ℕ → ℕ) (r : ℕ)
         record { number = under.number; all = λ f i. Has-append_left net (fragments_of_all new) f (under.all f i) }
   ]
 
-  carries : Carried (peers_in sends ++ told) (net ++ fragments_of_all new) used_then
-  carries = record { sent = new ++ c.sent; distinct = distinct; numbered = numbered; cut = cut; spelled = spelled; whole = whole }
+  carries : (d : Carried (peers_in sends ++ told) (net ++ fragments_of_all new) used_then) × (d.sent ≡ new ++ c.sent)
+  carries = (
+    record { sent = new ++ c.sent; distinct = distinct; numbered = numbered; cut = cut; spelled = spelled; whole = whole },
+    refl,
+  )
+
+-- under the numbers above the one that was used last
+pub posting_carries_under : (told : List Peer) (net : List Fragment) (used : ℕ → ℕ) (r : ℕ) (sends : List Sending)
+    → (c : Carried told net used) → AllByRecursion SendingFits sends → AllByRecursion (IsBy r) sends → used r + message_count sends < 2 ^ 64
+    → (d : Carried (peers_in sends ++ told) (net ++ fragments_in (posted (used r) sends)) (put used r (used r + message_count sends)))
+    × (d.sent ≡ messages_from (used r) sends ++ c.sent)
+posting_carries_under told net used r sends c fits by high =
+    subst
+    (λ (fs : List Fragment). (d : Carried (peers_in sends ++ told) (net ++ fs) (put used r (used r + message_count sends)))
+    × (d.sent ≡ messages_from (used r) sends ++ c.sent))
+    (sym (posts_fragments (used r) sends fits high).fragments) (carries told net used r sends c fits by)
 
 pub posting_carries : (told : List Peer) (net : List Fragment) (used : ℕ → ℕ) (r : ℕ) (sends : List Sending) → Carried told net used
     → AllByRecursion SendingFits sends → AllByRecursion (IsBy r) sends → used r + message_count sends < 2 ^ 64
     → Carried (peers_in sends ++ told) (net ++ fragments_in (posted (used r) sends)) (put used r (used r + message_count sends))
-posting_carries told net used r sends c fits by high =
-    subst (λ (fs : List Fragment). Carried (peers_in sends ++ told) (net ++ fs) (put used r (used r + message_count sends)))
-    (sym (posts_fragments (used r) sends fits high).fragments) (carries told net used r sends c fits by)
+posting_carries told net used r sends c fits by high = (posting_carries_under told net used r sends c fits by high).0

@@ -1,111 +1,65 @@
--- What holds of each world that events lead to, and of the protocol's configuration that shows it.
-use Rattle.std.specs.Prelude.{◌≡◌, ◌++◌, ℕ, List, Some, Ok, slice_get}
-use Rattle.nop_types.specs.Configuration.{Configuration}
-use Rattle.nop_types.specs.Lines.{Line}
-use Rattle.nop_types.specs.Lists.{Has}
+-- What the proofs above keep of a world that events lead to: a whole world that goes beside it, and the configuration that shows that one.
+use Rattle.std.proofs.Common.{◌≡◌, ◌+◌, ◌*◌, true, refl, ◌∙◌, []}
+use Rattle.std.specs.Prelude.{◌/◌, Ok}
+use Rattle.nop_types.specs.Configuration.{Configuration, is_configuration}
 use Rattle.nop_types.specs.Meaning.{Meaning}
-use Rattle.nop_types.specs.Ranges.{PeerFits}
-use Rattle.nop_types.specs.declared.datagram.Datagram.{Datagram}
-use Rattle.nop_types.specs.declared.datagram.Datagram.TheVariants as datagrams
-use Rattle.nop_types.specs.declared.datagram.Reply.{Reply}
-use Rattle.nop_types.specs.declared.datagram.Stamped.{Stamped}
-use Rattle.nop_types.specs.declared.peer.Peer.{Peer}
-use Rattle.nop_types.specs.declared.request.Request.{Request}
-use Rattle.oum_codec.specs.Reading.{reading}
-use Rattle.client_quorum.specs.declared.state.ClientState.{ClientState}
-use Rattle.session_control.specs.ControllerSteps as controller
-use Rattle.replica_core.specs.ReplicaSteps.{Replica}
-use Rattle.protocol.specs.Conf.{Conf, Install, opening}
-use Rattle.protocol.specs.Moves.{MayTell}
-use Rattle.protocol.specs.Runs.{Move, run, MayAll}
-use Rattle.protocol.specs.Said.{Said}
-use Rattle.network.specs.Network.{Sent}
-use Rattle.world.specs.Seats.{Seated}
-use Rattle.world.specs.WorldSteps.{WorldState, Happened}
-use Rattle.delivery.specs.Network.{Network}
-use Rattle.delivery.specs.Steps.{InNetwork}
-use Rattle.refinement.specs.Datagrams.{WasSent}
-use Rattle.refinement.specs.Projection.{said_of}
-use Rattle.refinement.specs.Ranges.{ClientFits}
-use Rattle.safety.specs.Passed.{Passed, noted}
-use Rattle.safety.specs.Shows.{bytes_of, IsThere, ShowsActors}
+use Rattle.replica_rows.specs.Within.{ResultsShort}
+use Rattle.schedule_text.specs.declared.event.Event.{Event}
+use Rattle.schedule_text.specs.Fits.{EventFits}
+use Rattle.started_views.specs.Past.{first_past}
+use Rattle.protocol.specs.Conf.{Conf, opening}
+use Rattle.protocol.specs.Runs.{run}
+use Rattle.world.specs.WorldSteps as world
+use Rattle.world.specs.WorldSteps.{Happened, actor_of, step}
+use Rattle.whole_world.specs.Passed as whole_passed
+use Rattle.whole_world.proofs.At as whole_at
+use Rattle.whole_world.proofs.Opening.{opening_stands}
+use Rattle.whole_world.proofs.Steps.{steps_lead}
+use Rattle.safety.specs.Following.{brought}
+use Rattle.safety.specs.Passed.{Passed, passes}
+use Rattle.safety.proofs.Following.{Both, then_whole, both_then, opening_beside}
+use Rattle.safety.specs.Shows.{ShowsActors}
+use Rattle.safety.proofs.Relining.{relined}
+use Rattle.safety.proofs.Shown.{actors_shown}
+use Rattle.safety.proofs.Steps.{brought_fits}
 
--- ---- messages
+pub record At {S : Type 0} (m : Meaning S) (config : Configuration) (p : Passed) : Type 0 where
+  pub whole : whole_passed.Passed
+  pub conf : Conf
+  pub at : whole_at.At m (config.replicas / 2) config whole conf
+  pub both : Both p whole
 
--- a message that says this was told
-pub record WasTold (told : List Peer) (x : Said) : Type 0 where
-  pub peer : Peer
-  pub has : Has told peer
-  pub says : said_of peer ≡ x
+abbrev pub first : Configuration → Passed
+first config = record { world = world.opening config; lines = []; past = first_past }
 
--- what was said is what was told, in its ranges
-pub record Tells (told : List Peer) (said : List Said) : Type 0 where
-  pub fits : (p : Peer) → Has told p → PeerFits p
-  pub all : (p : Peer) → Has told p → Has said (said_of p)
-  pub only : (x : Said) → Has said x → WasTold told x
+pub opening_at : {S : Type 0} (m : Meaning S) (config : Configuration) → is_configuration config ≡ true
+    → config.replicas ≡ 2 * (config.replicas / 2) + 1 → At m config (first config)
+opening_at m config is count = record {
+  whole = whole_passed.first config;
+  conf = opening config;
+  at = opening_stands m (config.replicas / 2) config is count;
+  both = record { beside = opening_beside config is; past = refl };
+}
 
--- the network carries the messages that were told, which say all that was said; and each replica is one of the network
-pub record Talks (sent : List Sent) (replicas : List (Seated Replica)) (said : List Said) : Type 0 where
-  pub told : List Peer
-  pub used : ℕ → ℕ
-  pub tells : Tells told said
-  pub network : Network told (bytes_of sent) used
-  pub members : (i : ℕ) (q : Seated Replica) → slice_get replicas i ≡ Some q → InNetwork (bytes_of sent) used i q.state
+-- each event leads on
+pub event_leads : {S : Type 0} (m : Meaning S) → ResultsShort m → (config : Configuration) (p : Passed) (x : Event) (h : Happened)
+    → At m config p → EventFits x → step m p.world x ≡ Ok h → At m config (passes p h)
+event_leads m short config p x h a fits is =
+    let later = steps_lead m (config.replicas / 2) config short a.whole a.conf (actor_of x) (brought p.world x) a.at
+    (brought_fits p.world x fits) in
+    record {
+      whole = then_whole m short config p a.whole x;
+      conf = run m (config.replicas / 2) a.conf later.moves;
+      at = later.at;
+      both = both_then m short config p a.whole a.conf (run m (config.replicas / 2) a.conf later.moves) x h a.at later.at a.both is;
+    }
 
--- ---- all other datagrams
+-- ---- what it shows
 
--- what is read was sent, and what was sent is in the network
-pub record Carries (sent : List Sent) (c : Conf) : Type 0 where
-  pub only : (s : Sent) (d : Datagram) → Has sent s → reading s.bytes ≡ Ok d → WasSent c d
-  pub requests : (r : Request) → Has c.requests r → IsThere sent (datagrams.Request r)
-  pub stamps : (p : Stamped) → Has c.stamps p → IsThere sent (datagrams.Stamped p)
-  pub replies : (y : Reply) → Has c.replies y → IsThere sent (datagrams.Reply y)
-  pub installs : (x : Install) → Has c.installs x → IsThere sent (datagrams.Install x.sequencer x.session)
+pub actors_at : {S : Type 0} (m : Meaning S) (config : Configuration) (p : Passed) → (a : At m config p)
+    → ShowsActors (config.replicas / 2) p.world (relined a.conf p.lines)
+actors_at m config p a =
+    actors_shown (config.replicas / 2) p.world p.lines a.whole.world a.conf a.both.beside.alike a.at.stands.actors
 
--- ---- ranges
-
-pub record InRanges (w : WorldState) : Type 0 where
-  pub clients : (k : ℕ) (q : Seated ClientState) → slice_get w.clients k ≡ Some q → ClientFits q.state
-  pub controller : controller.IsWithin w.controller.state
-
--- ---- all of it
-
--- the configuration stands for the world, but for lines and past
-pub record Stands (f : ℕ) (config : Configuration) (w : WorldState) (c : Conf) : Type 0 where
-  pub same : w.config ≡ config
-  pub actors : ShowsActors f w c
-  pub carries : Carries w.sent c
-  pub talks : Talks w.sent w.replicas c.said
-  pub ranges : InRanges w
-
--- moves lead there from the opening
-pub record Ran {S : Type 0} (m : Meaning S) (f : ℕ) (config : Configuration) (c : Conf) : Type 0 where
-  pub moves : List Move
-  pub may : MayAll m f (opening config) moves
-  pub is : run m f (opening config) moves ≡ c
-
-pub record At {S : Type 0} (m : Meaning S) (f : ℕ) (config : Configuration) (p : Passed) (c : Conf) : Type 0 where
-  pub ran : Ran m f config c
-  pub stands : Stands f config p.world c
-  pub lines : p.lines ≡ c.lines
-  pub past : p.past ≡ c.past
-
--- moves lead on to what shows the later world
-pub record Later {S : Type 0} (m : Meaning S) (f : ℕ) (config : Configuration) (c : Conf) (q : Passed) : Type 0 where
-  pub moves : List Move
-  pub may : MayAll m f c moves
-  pub at : At m f config q (run m f c moves)
-
--- ---- one step of an actor
-
--- moves lead to what stands for the world after an event; the event's lines are what was said, and others that neither submit nor accept
-pub record Goes {S : Type 0} (m : Meaning S) (f : ℕ) (config : Configuration) (p : Passed) (c : Conf) (h : Happened) : Type 0 where
-  pub moves : List Move
-  pub may : MayAll m f c moves
-  pub stands : Stands f config h.world (run m f c moves)
-  pub said : List Line
-  pub others : List Line
-  pub lines : (run m f c moves).lines ≡ c.lines ++ said
-  pub are : h.lines ≡ said ++ others
-  pub tells : MayTell others
-  pub past : noted f p.past 0 p.world.replicas h.world.replicas ≡ (run m f c moves).past
+pub config_at : {S : Type 0} (m : Meaning S) (config : Configuration) (p : Passed) → At m config p → p.world.config ≡ config
+config_at m config p a = a.both.beside.alike.config ∙ a.at.stands.same

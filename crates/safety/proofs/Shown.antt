@@ -1,21 +1,42 @@
 -- What holds of a world shows it.
-use Rattle.std.proofs.Common.{◌≡◌, ℕ, sym, ap, subst, ◌∙◌, List}
-use Rattle.nop_types.specs.Configuration.{Configuration}
+use Rattle.std.proofs.Common.{◌≡◌, ℕ, true, false, refl, sym, ap, subst, ◌∙◌, List, length}
+use Rattle.std.specs.Prelude.{Ok, not, slice_get}
+use Rattle.std.proofs.lemmas.List.{length-map}
+use Rattle.nop_types.specs.Configuration.{Configuration, is_configuration}
+use Rattle.nop_types.specs.Lines.{Line}
 use Rattle.nop_types.specs.Lists.{Has}
-use Rattle.nop_types.specs.Meaning.{Meaning}
+use Rattle.nop_types.specs.declared.datagram.Datagram.{Datagram}
+use Rattle.nop_types.specs.declared.datagram.Datagram.TheVariants as datagrams
 use Rattle.nop_types.specs.declared.datagram.Fragment.{Fragment}
 use Rattle.fragments.specs.Cutting.{piece_count, fragments_of}
 use Rattle.fragments.specs.Runs.{AreDistinct, AreCutFrom, IsCutFrom}
 use Rattle.fragments.specs.Runs as fragments
 use Rattle.fragments.proofs.Whole.{is_at}
 use Rattle.peer_codec.specs.Spelling.{spelling}
+use Rattle.facts.proofs.Members.{Has-filter, Has-from_filter}
+use Rattle.oum_codec.specs.Reading.{reading}
+use Rattle.client_quorum.specs.declared.state.ClientState.{ClientState}
+use Rattle.sequencer.specs.declared.state.SequencerState.{SequencerState}
+use Rattle.session_control.specs.declared.state.ControllerState.{ControllerState}
 use Rattle.protocol.specs.Conf.{Conf}
 use Rattle.protocol.specs.Said.{Said}
+use Rattle.network.specs.Network.{Sent}
+use Rattle.world.specs.Seats.{Seated}
+use Rattle.world.specs.WorldSteps.{WorldState}
 use Rattle.delivery.specs.Network.{fragments_among}
+use Rattle.refinement.specs.Controllers.{control_of}
+use Rattle.refinement.specs.Datagrams.{WasSent}
+use Rattle.whole_world.specs.Passed as whole_passed
+use Rattle.whole_world.specs.Shows as whole
+use Rattle.whole_world.specs.Shows.{IsThere, Carries}
+use Rattle.whole_world.specs.Whole.{WholeReplica, WholeWorld}
+use Rattle.safety.specs.Following.{is_fragment, other_datagrams, plain}
 use Rattle.safety.specs.Passed.{Passed}
-use Rattle.safety.specs.Shows.{bytes_of, IsTold, IsPart, Shows}
-use Rattle.safety.proofs.At.{Talks, At}
+use Rattle.safety.specs.Shows.{bytes_of, IsTold, IsPart, ShowsActors, Shows}
+use Rattle.safety.proofs.Beside.{Alike, Travels, Beside}
 use Rattle.safety.proofs.Outputs.{bytes_there}
+use Rattle.safety.proofs.Relining.{relined}
+use Rattle.safety.proofs.Replicas.{plain_found}
 use Rattle.safety.proofs.Told.{whole_was_told, whole_are_distinct}
 
 -- ---- fragments of one message
@@ -48,39 +69,103 @@ cut_from_one sent net x g distinct cuts has here is =
     λ i. fragments_of (sender i) (number i) (bytes i) in
     subst (λ (fs : List Fragment). Has fs g) same from.cut
 
+-- ---- datagrams that are no fragments
+
+relined_sent : (c : Conf) (ls : List Line) (d : Datagram) → WasSent c d → WasSent (relined c ls) d
+relined_sent c ls (datagrams.Request r) h = h
+relined_sent c ls (datagrams.Stamped p) h = h
+relined_sent c ls (datagrams.Reply y) h = h
+relined_sent c ls (datagrams.Install sequencer session) h = h
+relined_sent c ls (datagrams.Installed sequencer session) h = h
+relined_sent c ls (datagrams.Ping sequencer round) h = h
+relined_sent c ls (datagrams.Pong sequencer round) h = h
+relined_sent c ls (datagrams.Fragment p) h = h
+
+module _ (c : Conf) (sent : List Sent) (others : List Sent) (same : other_datagrams sent ≡ others) (carries : Carries others c) where
+  -- it is a datagram of the whole world
+  other_there : (s : Sent) → Has sent s → is_fragment (reading s.bytes) ≡ false → Has others s
+  other_there s h e = subst (λ (xs : List Sent). Has xs s) same
+      (Has-filter (λ (x : Sent). not (is_fragment (reading x.bytes))) s sent h (ap not e))
+
+  read_other : (s : Sent) (d : Datagram) → Has sent s → reading s.bytes ≡ Ok d → is_fragment (Ok d) ≡ false → WasSent c d
+  read_other s d h e none = carries.only s d (other_there s h (ap is_fragment e ∙ none)) e
+
+  pub carried : (s : Sent) (d : Datagram) → Has sent s → reading s.bytes ≡ Ok d → WasSent c d
+  carried s (datagrams.Request r) h e = read_other s (datagrams.Request r) h e refl
+  carried s (datagrams.Stamped p) h e = read_other s (datagrams.Stamped p) h e refl
+  carried s (datagrams.Reply y) h e = read_other s (datagrams.Reply y) h e refl
+  carried s (datagrams.Install j n) h e = read_other s (datagrams.Install j n) h e refl
+  carried s (datagrams.Installed j n) h e = read_other s (datagrams.Installed j n) h e refl
+  carried s (datagrams.Ping j n) h e = read_other s (datagrams.Ping j n) h e refl
+  carried s (datagrams.Pong j n) h e = read_other s (datagrams.Pong j n) h e refl
+  carried s (datagrams.Fragment p) h e = tt
+
+  -- and what is there in the whole world is there
+  there : (d : Datagram) → IsThere others d → IsThere sent d
+  there d h = record {
+    datagram = h.datagram;
+    has = (Has-from_filter (λ (x : Sent). not (is_fragment (reading x.bytes))) h.datagram sent
+        (subst (λ (xs : List Sent). Has xs h.datagram) (sym same) h.has)).0;
+    spells = h.spells;
+  }
+
 -- ---- a world
 
-pub at_shows : {S : Type 0} (m : Meaning S) (f : ℕ) (config : Configuration) (p : Passed) (c : Conf) → At m f config p c → Shows f p c
-at_shows m f config p c at = record {
-  actors = at.stands.actors;
+pub actors_shown : (f : ℕ) (t : WorldState) (ls : List Line) (w : WholeWorld) (c : Conf) → Alike t ls w → whole.ShowsActors f w c
+    → ShowsActors f t (relined c ls)
+actors_shown f t ls w c alike shown = record {
+  is_configuration = subst (λ (k : Configuration). is_configuration k ≡ true) (sym alike.config) shown.is_configuration;
+  config = ap (λ (k : Configuration). k.replicas) alike.config ∙ shown.config;
+  replica_count = sym (length-map t.replicas plain) ∙ ap length alike.replicas ∙ shown.replica_count
+      ∙ ap (λ (k : Configuration). k.replicas) (sym alike.config);
+  sequencer_count = ap length alike.sequencers ∙ shown.sequencer_count ∙ ap (λ (k : Configuration). k.sequencers) (sym alike.config);
+  client_count = ap length alike.clients ∙ shown.client_count ∙ ap (λ (k : Configuration). k.clients) (sym alike.config);
+  replicas = λ i p e. shown.replicas i (plain p)
+      (ap (λ (rs : List (Seated WholeReplica)). slice_get rs i) (sym alike.replicas) ∙ plain_found t.replicas i p e);
+  sequencers = λ j p e. shown.sequencers j p (ap (λ (xs : List (Seated SequencerState)). slice_get xs j) (sym alike.sequencers) ∙ e);
+  clients = λ k p e. shown.clients k p (ap (λ (xs : List (Seated ClientState)). slice_get xs k) (sym alike.clients) ∙ e);
+  controller = shown.controller ∙ ap (λ (x : Seated ControllerState). control_of x.state) (sym alike.controller);
+}
+
+pub beside_shows : (f : ℕ) (p : Passed) (q : whole_passed.Passed) (c : Conf) → Beside p.world p.lines q.world → p.past ≡ q.past
+    → whole.Shows f q c → Shows f p (relined c p.lines)
+beside_shows f p q c beside past shows = record {
+  actors = actors_shown f p.world p.lines q.world c beside.alike shows.actors;
   network = record {
-    spelled = λ s h. talks.network.datagrams s.bytes (bytes_there p.world.sent s h);
-    carries = at.stands.carries.only;
-    requests = at.stands.carries.requests;
-    stamps = at.stands.carries.stamps;
-    replies = at.stands.carries.replies;
-    installs = at.stands.carries.installs;
+    spelled = λ s h. travels.posts.network.datagrams s.bytes (bytes_there p.world.sent s h);
+    carries = λ s d h e. relined_sent c p.lines d (carried c p.world.sent q.world.sent beside.alike.sent shows.carries s d h e);
+    requests = λ r h. there c p.world.sent q.world.sent beside.alike.sent shows.carries _ (shows.carries.requests r h);
+    stamps = λ x h. there c p.world.sent q.world.sent beside.alike.sent shows.carries _ (shows.carries.stamps x h);
+    replies = λ y h. there c p.world.sent q.world.sent beside.alike.sent shows.carries _ (shows.carries.replies y h);
+    installs = λ x h. there c p.world.sent q.world.sent beside.alike.sent shows.carries _ (shows.carries.installs x h);
     said = said_there;
     parts = part_of;
-    told = λ q fits whole. talks.tells.all q (whole_was_told talks.told (bytes_of p.world.sent) talks.used q talks.network fits whole);
-    distinct = λ q r q_fits r_fits a b sender number.
-        whole_are_distinct talks.told (bytes_of p.world.sent) talks.used q r talks.network q_fits r_fits a b sender number;
+    told = λ r fits is. shows.tells.all r (travels.posts.peers.to r (whole_was_told travels.posts.told (bytes_of p.world.sent)
+        travels.used r travels.posts.network fits is));
+    distinct = λ r s r_fits s_fits a b sender number.
+        whole_are_distinct travels.posts.told (bytes_of p.world.sent) travels.used r s travels.posts.network r_fits s_fits a b sender number;
   };
-  kept = λ i q e. (talks.members i q e).came;
-  lines = at.lines;
-  past = at.past;
+  kept = λ i r e. (travels.members i r e).came;
+  lines = refl;
+  past = past ∙ shows.past;
 }
   where
-    talks : Talks p.world.sent p.world.replicas c.said
-    talks = at.stands.talks
+    travels : Travels p.world.sent p.world.replicas q.world.letters
+    travels = beside.travels
 
     said_there : (x : Said) → Has c.said x → IsTold p.world.sent x
-    said_there x h = let t = talks.tells.only x h in
-        record { peer = t.peer; fits = talks.tells.fits t.peer t.has; whole = talks.network.carried.whole t.peer t.has; says = t.says }
+    said_there x h = let t = shows.tells.only x h in
+        record {
+          peer = t.peer;
+          fits = shows.tells.fits t.peer t.has;
+          whole = travels.posts.network.carried.whole t.peer (travels.posts.peers.from t.peer t.has);
+          says = t.says;
+        }
 
-    part_of : (g : Fragment) → Has (fragments_among (bytes_of p.world.sent)) g → IsPart (fragments_among (bytes_of p.world.sent)) c g
+    part_of : (g : Fragment) → Has (fragments_among (bytes_of p.world.sent)) g
+        → IsPart (fragments_among (bytes_of p.world.sent)) (relined c p.lines) g
     part_of g h =
-        let carried = talks.network.carried in
+        let carried = travels.posts.network.carried in
         let from = carried.cut g h in
         let x : fragments.Sent = from.message in
         let is = carried.spelled x from.was_sent in
@@ -91,7 +176,7 @@ at_shows m f config p c at = record {
           peer = is.peer;
           fits = is.fits;
           sender = is.sender ∙ of.sender;
-          said = talks.tells.all is.peer is.has;
+          said = shows.tells.all is.peer (travels.posts.peers.to is.peer is.has);
           cut = subst (λ (fs : List Fragment). Has fs g) same from.cut;
           others = λ o there replica message.
               subst (λ (fs : List Fragment). Has fs o) same

@@ -1,123 +1,176 @@
--- One event is one step of one actor.
-use Rattle.std.proofs.Common.{◌≡◌, ℕ, ◌+◌, ◌*◌, List, [], Bool, true, false, Option, Some, None, refl, sym, ap, subst, ◌∙◌}
-use Rattle.std.specs.Prelude.{Result, Ok, Err, slice_get}
-use Rattle.nop_types.specs.Configuration.{Configuration}
-use Rattle.nop_types.specs.Given.{Given}
+-- One event: the real world follows the whole one.
+use Rattle.std.proofs.Common.{◌≡◌, ℕ, Bool, true, false, List, ◌++◌, Option, Some, None, refl, sym, ap, subst, ◌∙◌}
+use Rattle.std.specs.Prelude.{not, ◌&&◌, Result, Ok, Err, slice_get}
+use Rattle.nop_types.specs.Lines.{Line}
+use Rattle.nop_types.specs.Lists.{Has}
 use Rattle.nop_types.specs.Meaning.{Meaning}
+use Rattle.nop_types.specs.declared.datagram.Datagram.{Datagram}
+use Rattle.nop_types.specs.declared.datagram.Datagram.TheVariants as datagrams
+use Rattle.nop_types.specs.declared.datagram.Fragment.{Fragment}
 use Rattle.nop_types.specs.declared.output.Actor.{Actor}
 use Rattle.nop_types.specs.declared.output.Actor.TheVariants as actors
-use Rattle.nop_types.specs.declared.output.Out.{Out}
+use Rattle.facts.proofs.Members.{Has-filter, Has-append_right}
+use Rattle.oum_codec.specs.declared.bad.Bad.{Bad}
+use Rattle.oum_codec.specs.Reading.{reading}
 use Rattle.client_quorum.specs.declared.state.ClientState.{ClientState}
-use Rattle.client_quorum.specs.ClientSteps as client
 use Rattle.sequencer.specs.declared.state.SequencerState.{SequencerState}
-use Rattle.sequencer.specs.SequencerSteps as sequencer
-use Rattle.session_control.specs.declared.state.ControllerState.{ControllerState}
-use Rattle.session_control.specs.ControllerSteps as controller
+use Rattle.fragments.specs.Joining.{taken}
+use Rattle.replica_state.specs.State.{is_other}
+use Rattle.replica_rows.specs.Within.{ResultsShort}
 use Rattle.replica_core.specs.ReplicaSteps as replica
 use Rattle.replica_core.specs.ReplicaSteps.{Replica}
-use Rattle.replica_rows.specs.Within.{ResultsShort}
 use Rattle.schedule_text.specs.declared.event.Event.{Event}
+use Rattle.schedule_text.specs.declared.event.Event.TheVariants as events
 use Rattle.schedule_text.specs.Fits.{EventFits}
 use Rattle.protocol.specs.Conf.{Conf}
-use Rattle.protocol.specs.Invariant.{Inv}
-use Rattle.world.specs.Seats.{Seated, Stimulus, Takes, Crashes, moved_if, seat_step}
-use Rattle.network.specs.Network.{Did, Nothing, Outputs}
-use Rattle.world.specs.WorldSteps.{WorldState, Happened, Refusal, actor_of, stimulus_of, at_replica, at_sequencer, at_client, at_controller}
-use Rattle.world.specs.WorldSteps.{then_at, step_at, step_of, step}
-use Rattle.safety.specs.Passed.{Passed}
-use Rattle.safety.proofs.At.{At, Goes}
-use Rattle.safety.proofs.ActorSteps.{client_goes, sequencer_goes, controller_goes}
-use Rattle.safety.proofs.Coming.{AllBring, event_brings}
-use Rattle.safety.proofs.Events.{StepsLead}
-use Rattle.safety.proofs.Moving.{ran_holds, goes_later}
-use Rattle.safety.proofs.Outputs.{no_line, dead_line}
-use Rattle.safety.proofs.Quiet.{quiet_replica, quiet_sequencer, quiet_client, quiet_controller}
-use Rattle.safety.proofs.ReplicaSteps.{replica_goes}
+use Rattle.network.specs.Network.{Sent}
+use Rattle.world.specs.Seats.{Seated}
+use Rattle.world.specs.WorldSteps.{WorldState, Happened, actor_of, at_replica, step, step_at, step_of, stimulus_of, then_at}
+use Rattle.delivery.specs.Network.{IsDatagram}
+use Rattle.whole_world.specs.Safe.{BringsFits}
+use Rattle.whole_world.specs.Shows.{Carries, Tells, peers_of}
+use Rattle.whole_world.specs.Whole.{WholeWorld, Brings, arrival_of, step_client, step_sequencer, whole_step}
+use Rattle.whole_world.proofs.Coming.{arrives}
+use Rattle.whole_world.proofs.Mapped.{slice_get-from_map}
+use Rattle.whole_world.proofs.RowRanges.{row_fits}
+use Rattle.safety.specs.Following.{brought, sent_to, datagram_to, fragment_at, fragment_if, fragment_to, completes, is_fragment}
+use Rattle.safety.specs.Shows.{bytes_of}
+use Rattle.safety.proofs.Beside.{Alike, Travels, Beside, is_replica, whole_of}
+use Rattle.safety.proofs.Coming.{event_comes}
+use Rattle.safety.proofs.Others.{others_follow}
+use Rattle.safety.proofs.OtherSends.{SentOthers, others_send}
+use Rattle.safety.proofs.Outputs.{bytes_there}
+use Rattle.safety.proofs.Replicas.{replica_follows}
+use Rattle.safety.proofs.Travels.{travels_others, joins_letter}
 
--- ---- where a step comes from
+-- ---- what an event brings is in its ranges
 
--- an actor that is there was brought something, and this is what its step makes of the world
-pub record Took {S : Type 0} (act : Seated S × Did → Happened) (next : S → Given → S × List Out) (o : Option (Seated S))
-    (r : Result Stimulus Refusal) (h : Happened) : Type 0 where
-  pub seat : Seated S
-  pub there : o ≡ Some seat
-  pub what : Stimulus
-  pub brought : r ≡ Ok what
-  pub gives : act (seat_step next seat what) ≡ h
+completes_fit : (f : Fragment) (o : Option (List ℕ)) → BringsFits (completes f o)
+completes_fit f None = tt
+completes_fit f (Some bytes) = tt
 
-pub took : {S : Type 0} (act : Seated S × Did → Happened) (next : S → Given → S × List Out) (o : Option (Seated S))
-    (r : Result Stimulus Refusal) (h : Happened) → then_at act (step_at next o r) ≡ Ok h → Took act next o r h
-took act next None r h e = absurd cc
-took act next (Some p) (Err refusal) h e = absurd cc
-took act next (Some p) (Ok what) h e = record { seat = p; there = refl; what = what; brought = refl; gives = cc }
+if_fits : (b : Bool) (s : Replica) (f : Fragment) → BringsFits (fragment_if b s f)
+if_fits true s f = completes_fit f (taken s.reassembly f).1
+if_fits false s f = tt
 
-module _ {S : Type 0} (m : Meaning S) (f : ℕ) (config : Configuration) (short : ResultsShort m) (p : Passed) (c : Conf) (inv : Inv m f c)
-    (at : At m f config p c) where
-  abbrev w : WorldState
-  w = p.world
+at_fits : (o : Option (Seated Replica)) (f : Fragment) → BringsFits (fragment_at o f)
+at_fits None f = tt
+at_fits (Some p) f = if_fits (not p.crashed && is_other p.state.state f.replica) p.state f
 
-  -- ---- each actor, crashed or not
+module _ (t : WorldState) where
+  to_fits : (a : Actor) (f : Fragment) → BringsFits (fragment_to t a f)
+  to_fits (actors.Replica i) f = at_fits (slice_get t.replicas i) f
+  to_fits (actors.Sequencer i) f = tt
+  to_fits (actors.Client i) f = tt
+  to_fits actors.Controller f = tt
 
-  replica_moves : (i : ℕ) (old : Seated Replica) (b : Bool) (what : Stimulus) → slice_get w.replicas i ≡ Some old
-      → AllBring w.sent what → Goes m f config p c (at_replica w i (moved_if (replica.next m) b old what))
-  replica_moves i old true what there brings =
-      quiet_replica m f config p c inv at i old old Nothing there refl refl (dead_line (actors.Replica i))
-  replica_moves i old false (Takes given) there brings = replica_goes m f config p c inv at short i old there given brings
-  replica_moves i old false Crashes there brings =
-      quiet_replica m f config p c inv at i old (record { state = old.state; crashed = true }) (Outputs []) there refl refl no_line
+  datagram_fits : (a : Actor) (bytes : List ℕ) (r : Result Datagram Bad) → BringsFits (datagram_to t a bytes r)
+  datagram_fits a bytes (Ok (datagrams.Fragment f)) = to_fits a f
+  datagram_fits a bytes (Ok (datagrams.Stamped p)) = tt
+  datagram_fits a bytes (Ok (datagrams.Request r)) = tt
+  datagram_fits a bytes (Ok (datagrams.Reply p)) = tt
+  datagram_fits a bytes (Ok (datagrams.Install j s)) = tt
+  datagram_fits a bytes (Ok (datagrams.Installed j s)) = tt
+  datagram_fits a bytes (Ok (datagrams.Ping j s)) = tt
+  datagram_fits a bytes (Ok (datagrams.Pong j s)) = tt
+  datagram_fits a bytes (Err e) = tt
 
-  sequencer_moves : (j : ℕ) (old : Seated SequencerState) (b : Bool) (what : Stimulus) → slice_get w.sequencers j ≡ Some old
-      → AllBring w.sent what → Goes m f config p c (at_sequencer w j (moved_if sequencer.next b old what))
-  sequencer_moves j old true what there brings =
-      quiet_sequencer m f config p c inv at j old old Nothing there refl refl (dead_line (actors.Sequencer j))
-  sequencer_moves j old false (Takes given) there brings = sequencer_goes m f config p c inv at j old there given brings
-  sequencer_moves j old false Crashes there brings =
-      quiet_sequencer m f config p c inv at j old (record { state = old.state; crashed = true }) (Outputs []) there refl refl no_line
+  sent_fits : (a : Actor) (o : Option Sent) → BringsFits (sent_to t a o)
+  sent_fits a None = tt
+  sent_fits a (Some s) = datagram_fits a s.bytes (reading s.bytes)
 
-  client_moves : (k : ℕ) (old : Seated ClientState) (b : Bool) (what : Stimulus) → slice_get w.clients k ≡ Some old
-      → AllBring w.sent what → Goes m f config p c (at_client w k (moved_if client.next b old what))
-  client_moves k old true what there brings =
-      quiet_client m f config p c inv at k old old Nothing there refl refl (dead_line (actors.Client k))
-  client_moves k old false (Takes given) there brings = client_goes m f config p c inv at k old there given brings
-  client_moves k old false Crashes there brings =
-      quiet_client m f config p c inv at k old (record { state = old.state; crashed = true }) (Outputs []) there refl refl no_line
+  pub brought_fits : (e : Event) → EventFits e → BringsFits (brought t e)
+  brought_fits (events.Submit client op) fits = fits
+  brought_fits (events.Deliver index actor) fits = sent_fits actor (slice_get t.sent index)
+  brought_fits (events.Tick actor tick) fits = tt
+  brought_fits (events.Install number) fits = tt
+  brought_fits (events.Crash actor) fits = tt
+  brought_fits (events.Junk actor bytes) fits = tt
 
-  controller_moves : (b : Bool) (what : Stimulus) → AllBring w.sent what
-      → Goes m f config p c (at_controller w (moved_if controller.next b w.controller what))
-  controller_moves true what brings =
-      quiet_controller m f config p c inv at w.controller Nothing refl refl (dead_line actors.Controller)
-  controller_moves false (Takes given) brings = controller_goes m f config p c inv at given brings
-  controller_moves false Crashes brings =
-      quiet_controller m f config p c inv at (record { state = w.controller.state; crashed = true }) (Outputs []) refl refl no_line
+-- ---- one event
 
-  -- ---- events
+module _ {S : Type 0} (m : Meaning S) (short : ResultsShort m) (t : WorldState) (ls : List Line) (w : WholeWorld) (c : Conf)
+    (carries : Carries w.sent c) (tells : Tells (peers_of w.letters) c.said) (beside : Beside t ls w) (e : Event) (h : Happened)
+    (is : step m t e ≡ Ok h) where
+  abbrev After : WholeWorld → Type 0
+  After v = Beside h.world (ls ++ h.lines) v
 
-  actor_goes : (a : Actor) (r : Result Stimulus Refusal) (h : Happened) → ((what : Stimulus) → r ≡ Ok what → AllBring w.sent what)
-      → step_of m w a r ≡ Ok h → Goes m f config p c h
-  actor_goes (actors.Replica i) r h brings e =
-      let t = took (at_replica w i) (replica.next m) (slice_get w.replicas i) r h e in
-      subst (Goes m f config p c) t.gives (replica_moves i t.seat t.seat.crashed t.what t.there (brings t.what t.brought))
-  actor_goes (actors.Sequencer j) r h brings e =
-      let t = took (at_sequencer w j) sequencer.next (slice_get w.sequencers j) r h e in
-      subst (Goes m f config p c) t.gives (sequencer_moves j t.seat t.seat.crashed t.what t.there (brings t.what t.brought))
-  actor_goes (actors.Client k) r h brings e =
-      let t = took (at_client w k) client.next (slice_get w.clients k) r h e in
-      subst (Goes m f config p c) t.gives (client_moves k t.seat t.seat.crashed t.what t.there (brings t.what t.brought))
-  actor_goes actors.Controller r h brings e =
-      let t = took (at_controller w) controller.next (Some w.controller) r h e in
-      let same : w.controller ≡ t.seat = (let g : Some w.controller ≡ Some t.seat = t.there in cc) in
-      subst (Goes m f config p c)
-      (ap (λ (q : Seated ControllerState). at_controller w (seat_step controller.next q t.what)) same ∙ t.gives)
-      (controller_moves w.controller.crashed t.what (brings t.what t.brought))
+  abbrev travels : Travels t.sent t.replicas w.letters
+  travels = beside.travels
 
-  step_goes : (x : Event) (h : Happened) → EventFits x → step m w x ≡ Ok h → Goes m f config p c h
+  -- an event of a replica that is not there is refused
+  absent : (i : ℕ) → actor_of e ≡ actors.Replica i → slice_get t.replicas i ≡ None → ⊥
   unfolding step
-  step_goes x h fits e =
-      actor_goes (actor_of x) (stimulus_of w.config w.sent x) h (λ what is. event_brings w.sent w.config x what fits is) e
+  absent i at none =
+      let got : then_at (at_replica t i) (step_at (replica.next m) None (stimulus_of t.config t.sent e)) ≡ Ok h =
+      ap (λ (o : Option (Seated Replica)). then_at (at_replica t i) (step_at (replica.next m) o (stimulus_of t.config t.sent e))) (sym none)
+      ∙ ap (λ (a : Actor). step_of m t a (stimulus_of t.config t.sent e)) (sym at) ∙ is in
+      cc
 
--- each event leads on
-pub steps_lead : {S : Type 0} (m : Meaning S) (f : ℕ) (config : Configuration) → ResultsShort m → StepsLead m f config
-steps_lead m f config short p c x h at fits e =
-    let count : config.replicas ≡ 2 * f + 1 = ap (λ (k : Configuration). k.replicas) (sym at.stands.same) ∙ at.stands.actors.config in
-    let inv : Inv m f c = ran_holds m f config count c at.ran in
-    goes_later m f config p c h at (step_goes m f config short p c inv at x h fits e)
+  replica_step : (i : ℕ) (o : Option (Seated Replica)) → slice_get t.replicas i ≡ o → actor_of e ≡ actors.Replica i
+      → After (whole_step m w (actor_of e) (brought t e))
+  replica_step i None found at = absurd (absent i at found)
+  replica_step i (Some p) found at =
+      let member = travels.members i p found in
+      replica_follows m t ls w beside.alike i p found short travels e at
+      (λ k x f bytes there read gave. joins_letter w (bytes_of t.sent) travels.used p.state x.bytes f bytes travels.posts tells.fits
+      member.came (bytes_there t.sent x (k, there)) read gave)
+      (row_fits m short i (whole_of p.state)
+      (record { number = member.number; range = member.range; within = member.within; receiver = member.receiver })
+      (arrival_of w (brought t e)) (λ a arrived. (arrives c w carries tells (brought t e) a arrived).fits))
+      (event_comes t.sent t.config e) h is
+
+  module _ (spelled : (s : Sent) → Has (whole_step m w (actor_of e) (brought t e)).sent s → IsDatagram s.bytes)
+      (same : (whole_step m w (actor_of e) (brought t e)).letters ≡ w.letters) where
+    other_step : is_replica (actor_of e) ≡ false → After (whole_step m w (actor_of e) (brought t e))
+    other_step other =
+        let v : WholeWorld = whole_step m w (actor_of e) (brought t e) in
+        let alike : Alike h.world (ls ++ h.lines) v = others_follow m t ls w e h beside.alike other is in
+        let s : SentOthers t h = others_send m t h e other is in
+        let one : (x : Sent) → Has s.more x → IsDatagram x.bytes =
+        λ x i. spelled x (subst (λ (xs : List Sent). Has xs x) alike.sent
+        (Has-filter (λ (y : Sent). not (is_fragment (reading y.bytes))) x h.world.sent
+        (subst (λ (xs : List Sent). Has xs x) (sym s.sent) (Has-append_right t.sent s.more x i)) (ap not (s.none.each x i)))) in
+        let all : (b : List ℕ) → Has (bytes_of s.more) b → IsDatagram b =
+        λ b i. (let from = slice_get-from_map (λ (x : Sent). x.bytes) s.more i.0 b i.1 in
+        subst IsDatagram from.is (one from.from (i.0, from.there))) in
+        record {
+          alike = alike;
+          travels = subst (λ (xs : List Sent). Travels xs h.world.replicas v.letters) (sym s.sent)
+              (subst (λ (rs : List (Seated Replica)). Travels (t.sent ++ s.more) rs v.letters) (sym s.replicas)
+              (subst (Travels (t.sent ++ s.more) t.replicas) (sym same)
+              (travels_others t.sent s.more t.replicas w.letters s.none.each all travels)));
+        }
+
+-- ---- letters are of replicas
+
+module _ {S : Type 0} (m : Meaning S) (w : WholeWorld) (b : Brings) where
+  client_writes : (k : ℕ) (o : Option (Seated ClientState)) → (step_client w k o b).letters ≡ w.letters
+  client_writes k None = refl
+  client_writes k (Some p) = refl
+
+  sequencer_writes : (j : ℕ) (o : Option (Seated SequencerState)) → (step_sequencer w j o b).letters ≡ w.letters
+  sequencer_writes j None = refl
+  sequencer_writes j (Some p) = refl
+
+  pub others_write : (a : Actor) → is_replica a ≡ false → (whole_step m w a b).letters ≡ w.letters
+  others_write (actors.Replica i) other = absurd cc
+  others_write (actors.Sequencer j) other = sequencer_writes j (slice_get w.sequencers j)
+  others_write (actors.Client k) other = client_writes k (slice_get w.clients k)
+  others_write actors.Controller other = refl
+
+-- each event is followed, where what the whole world sends for it is in its ranges
+pub event_follows : {S : Type 0} (m : Meaning S) → ResultsShort m → (t : WorldState) (ls : List Line) (w : WholeWorld) (c : Conf)
+    → Carries w.sent c → Tells (peers_of w.letters) c.said → Beside t ls w → (e : Event) (h : Happened) → step m t e ≡ Ok h
+    → ((s : Sent) → Has (whole_step m w (actor_of e) (brought t e)).sent s → IsDatagram s.bytes)
+    → Beside h.world (ls ++ h.lines) (whole_step m w (actor_of e) (brought t e))
+event_follows m short t ls w c carries tells beside e h is spelled = by (actor_of e) refl
+  where
+    other : is_replica (actor_of e) ≡ false → Beside h.world (ls ++ h.lines) (whole_step m w (actor_of e) (brought t e))
+    other none = other_step m short t ls w c carries tells beside e h is spelled (others_write m w (brought t e) (actor_of e) none) none
+
+    by : (a : Actor) → actor_of e ≡ a → Beside h.world (ls ++ h.lines) (whole_step m w (actor_of e) (brought t e))
+    by (actors.Replica i) at = replica_step m short t ls w c carries tells beside e h is i (slice_get t.replicas i) refl at
+    by (actors.Sequencer j) at = other (ap is_replica at)
+    by (actors.Client k) at = other (ap is_replica at)
+    by actors.Controller at = other (ap is_replica at)

@@ -24,7 +24,7 @@ use Rattle.replica_core.proofs.Lengths.{message_is_cut}
 use Rattle.delivery.specs.Carried.{IsWhole, IsMessage}
 use Rattle.delivery.specs.Network.{fragments_among, Network}
 use Rattle.delivery.specs.PostedFragments.{fragment_read}
-use Rattle.safety.proofs.Fitting.{read_as}
+use Rattle.whole_world.proofs.Fitting.{read_as}
 
 -- ---- the fragment that completes a message
 

@@ -1,82 +1,232 @@
--- Each run is safe.
-use Rattle.std.proofs.Common.{◌≡◌, ℕ, zero, suc, ◌+◌, ◌*◌, ◌≤◌, true, Some, sym, ap, subst, ◌∙◌, arith, length, List, [], ◌∷◌, ◌++◌}
+-- Each run is safe: the whole world is, and the real one follows it.
+use Rattle.std.proofs.Common.{◌≡◌, ℕ, zero, suc, ◌+◌, ◌*◌, ◌≤◌, true, Some, refl, sym, ap, subst, ◌∙◌, arith, length, List, [], ◌∷◌, ◌++◌}
 use Rattle.std.proofs.Common.{take, drop}
-use Rattle.std.specs.Prelude.{◌/◌, Result, Ok, Err, slice_get}
+use Rattle.std.specs.Prelude.{◌/◌, map, Result, Ok, Err, slice_get}
 use Rattle.std.proofs.lemmas.List.{drop_all}
+use Rattle.std.proofs.lemmas.List.Elements.{filter-append}
 use Rattle.nop_types.specs.Configuration.{Configuration, is_configuration}
+use Rattle.nop_types.specs.Histories.{history_of}
 use Rattle.nop_types.specs.Legality.{Legal}
 use Rattle.nop_types.specs.Lines.{Line}
+use Rattle.nop_types.specs.Lists.{IsPrefixOf}
 use Rattle.nop_types.specs.Meaning.{Meaning}
+use Rattle.nop_types.specs.Views.{leader_of}
+use Rattle.nop_types.specs.declared.output.Actor.{Actor}
+use Rattle.nop_types.specs.declared.request.Entry.{Entry}
+use Rattle.nop_types.specs.declared.view.View.{View}
 use Rattle.facts.proofs.Places.{Splits-at}
 use Rattle.replica_rows.specs.Within.{ResultsShort}
+use Rattle.replica_core.specs.ReplicaSteps.{Replica}
 use Rattle.schedule_text.specs.declared.event.Event.{Event}
 use Rattle.schedule_text.specs.Fits.{EventFits, EventsFit}
+use Rattle.started_views.specs.Past.{first_past}
 use Rattle.protocol.specs.Conf.{Conf, opening}
-use Rattle.protocol_sync.specs.Sound.{GoesOn}
+use Rattle.protocol.specs.Invariant.{Inv}
+use Rattle.protocol_sync.specs.Sound.{Sound, GoesOn}
 use Rattle.protocol.specs.Runs.{run, MayAll}
-use Rattle.protocol_sync.proofs.Sounding.{runs_go_on}
+use Rattle.protocol.proofs.Opening.{opening_meets}
+use Rattle.protocol.proofs.Runs.{moves_keep}
+use Rattle.protocol_sync.proofs.Concluding.{lines_are_legal}
+use Rattle.protocol_sync.proofs.Sounding.{runs_are_sound, runs_go_on}
 use Rattle.world.specs.Agreement.{Agreed}
 use Rattle.world.specs.SeatOutcomes.{Refuses}
+use Rattle.world.specs.Seats.{Seated}
+use Rattle.world.specs.StateLines as state_lines
 use Rattle.world.specs.declared.step_error.StepError.{StepError}
 use Rattle.world.specs.declared.step_error.StepError.TheVariants as errors
 use Rattle.world.specs.WorldSteps as world
-use Rattle.world.specs.WorldSteps.{WorldState, Refusal, Happened, step, go_on, run_from, history}
+use Rattle.world.specs.WorldSteps.{WorldState, Refusal, Happened, step, go_on, run_from, history, greatest_of, main_view, main_log}
+use Rattle.whole_world.specs.Passed as whole_passed
+use Rattle.whole_world.specs.Safe.{Leads, IsSafe, WasSafe, IsSafeThroughout}
+use Rattle.whole_world.specs.Whole as whole
+use Rattle.whole_world.specs.Whole.{WholeReplica, WholeWorld, Brings, whole_run}
+use Rattle.whole_world.proofs.Counts.{counts_from}
+use Rattle.whole_world.proofs.MainLogs.{is_main_log}
+use Rattle.whole_world.proofs.Opening.{opening_stands}
+use Rattle.whole_world.proofs.Safe.{whole_runs_are_safe}
+use Rattle.safety.specs.Following.{spoken, is_spoken, plain, all_brought, whole_after, FollowsWhole, RunsFollowWhole}
 use Rattle.safety.specs.Passed.{Passed, passed}
 use Rattle.safety.specs.Shows.{Shows}
 use Rattle.safety.specs.Safe.{SoundlyPassed, WasSound, SafelyPassed, RunsAreSafe, LeadTo, IsRefusedBy, Running}
-use Rattle.safety.proofs.At.{Ran, At}
-use Rattle.safety.proofs.Concluding.{ran_sound, agreed, legal}
-use Rattle.safety.proofs.Counts.{counts_from}
-use Rattle.safety.proofs.Events.{Leads, Before, Reached, StepsLead, events_reach, run_passes}
-use Rattle.safety.proofs.Opening.{first, opening_stands}
-use Rattle.safety.proofs.Shown.{at_shows}
-use Rattle.safety.proofs.Steps.{steps_lead}
+use Rattle.safety.proofs.Beside.{Alike}
+use Rattle.safety.proofs.Following.{Both, Front, Follows, opening_beside, events_follow}
+use Rattle.safety.proofs.Relining.{relined, Woven, woven}
+use Rattle.safety.proofs.Replicas.{plain_found}
+use Rattle.safety.proofs.Shown.{beside_shows}
+
+-- ---- what is read from both worlds
+
+plain_text : (i : ℕ) (ps : List (Seated Replica)) → state_lines.replicas_text i ps ≡ whole.replicas_text i (map plain ps)
+plain_text i [] = refl
+plain_text i (p ∷ ps) = ap (λ (xs : List ℕ). state_lines.replica_text i p ++ xs) (plain_text (i + 1) ps)
+
+plain_views : (ps : List (Seated Replica))
+    → map (λ (p : Seated Replica). p.state.state.last_normal) ps
+    ≡ map (λ (p : Seated WholeReplica). p.state.state.last_normal) (map plain ps)
+plain_views [] = refl
+plain_views (p ∷ ps) = ap (λ (vs : List View). p.state.state.last_normal ∷ vs) (plain_views ps)
+
+plain_log : (ps : List (Seated Replica)) (i : ℕ) → world.log_of (slice_get ps i) ≡ whole.log_of (slice_get (map plain ps) i)
+plain_log [] i = refl
+plain_log (p ∷ ps) zero = refl
+plain_log (p ∷ ps) (suc i) = plain_log ps i
+
+abbrev leading : Configuration → List View → ℕ
+leading c vs = leader_of (greatest_of vs) c.replicas
+
+main_same : (t : WorldState) (ls : List Line) (w : WholeWorld) → Alike t ls w → main_log t ≡ whole.main_log w
+unfolding main_log main_view
+main_same t ls w alike =
+    plain_log t.replicas (leading t.config (map (λ (p : Seated Replica). p.state.state.last_normal) t.replicas))
+    ∙ ap (λ (vs : List View). whole.log_of (slice_get (map plain t.replicas) (leading t.config vs))) (plain_views t.replicas)
+    ∙ ap (λ (c : Configuration). whole.log_of (slice_get (map plain t.replicas) (leading c
+    (map (λ (p : Seated WholeReplica). p.state.state.last_normal) (map plain t.replicas))))) alike.config
+    ∙ ap (λ (qs : List (Seated WholeReplica)). whole.log_of (slice_get qs (leading w.config
+    (map (λ (p : Seated WholeReplica). p.state.state.last_normal) qs)))) alike.replicas
+
+agreed_beside : (t : WorldState) (ls : List Line) (w : WholeWorld) → Alike t ls w → whole.Agreed w → Agreed t
+agreed_beside t ls w alike agreed = record {
+  pairs = λ i j slot a b e g. agreed.pairs i j slot (plain a) (plain b) (found i a e) (found j b g);
+  main = λ i a e. subst (λ (l : List Entry). IsPrefixOf (take a.state.state.sync.sync_point a.state.state.log) l)
+      (sym (main_same t ls w alike)) (agreed.main i (plain a) (found i a e));
+}
+  where
+    found : (i : ℕ) (a : Seated Replica) → slice_get t.replicas i ≡ Some a → slice_get w.replicas i ≡ Some (plain a)
+    found i a e = ap (λ (rs : List (Seated WholeReplica)). slice_get rs i) (sym alike.replicas) ∙ plain_found t.replicas i a e
 
 -- ---- what the events passed
 
-module _ {S : Type 0} (m : Meaning S) (config : Configuration) where
+module _ {S : Type 0} (m : Meaning S) (config : Configuration) (count : config.replicas ≡ 2 * (config.replicas / 2) + 1) where
   abbrev f : ℕ
   f = config.replicas / 2
 
-  module _ (count : config.replicas ≡ 2 * f + 1) (shown : (p : Passed) (c : Conf) → At m f config p c → Shows f p c) where
-    abbrev soundly : (es : List Event) (p : Passed) (c : Conf) → passed m config es ≡ Ok p → At m f config p c → SoundlyPassed m config es
-    soundly es p c is at = record { passed = p; is = is; conf = c; shows = shown p c at; sound = ran_sound m f config count c at.ran }
+  module _ (p : Passed) (es : List (Actor × Brings)) (safe : IsSafe m config es) (both : Both p (whole_passed.passed m config es)) where
+    abbrev w : WholeWorld
+    w = (whole_passed.passed m config es).world
 
-    -- moves lead on from each time before
-    goes_on : (c last : Conf) → Ran m f config c → Leads m f config c last → GoesOn f c last
-    goes_on c last ran on =
-        let may = subst (λ (d : Conf). MayAll m f d on.moves) (sym ran.is) on.may in
-        subst (GoesOn f c) on.ends
-        (subst (λ (d : Conf). GoesOn f d (run m f d on.moves)) ran.is (runs_go_on m f config ran.moves on.moves count ran.may may))
+    abbrev alike : Alike p.world p.lines w
+    alike = both.beside.alike
 
-    was_sound : (front : List Event) (last : Conf) → Before m f config (first config) front last → WasSound m config front last
-    was_sound front last h = record {
-      then = soundly front h.passed h.conf h.is h.at;
-      goes_on = goes_on h.conf last h.at.ran h.leads;
+    -- with the other lines that were told in between
+    pub led : Woven m f (opening config) [] safe.conf p.lines
+    led = woven m f safe.ran.moves (opening config) safe.conf [] p.lines safe.ran.may safe.ran.ends
+        (sym safe.shows.lines ∙ sym alike.lines)
+
+    abbrev conf : Conf
+    conf = relined safe.conf p.lines
+
+    inv : Inv m f conf
+    inv = subst (Inv m f) led.ends (moves_keep m f (opening config) led.moves (opening_meets m f config count) led.may).0
+
+    pub shown : Shows f p conf
+    shown = beside_shows f p (whole_passed.passed m config es) safe.conf both.beside both.past safe.shows
+
+    abbrev pub soundly : (events : List Event) → passed m config events ≡ Ok p → SoundlyPassed m config events
+    soundly events is = record {
+      passed = p;
+      is = is;
+      conf = conf;
+      shows = shown;
+      sound = subst (λ (c : Conf). Sound m f c) led.ends (runs_are_sound m f config led.moves count led.may);
     }
 
-    safely : (es : List Event) (h : Happened) → EventsFit es → is_configuration config ≡ true → StepsLead m f config
-        → world.run m config es ≡ Ok h → SafelyPassed m config es h
-    safely es h fit is_one lead e =
-        let t = run_passes m es (first config) h e in
-        let r : Reached m f config (first config) (opening config) es t.passed =
-        events_reach m f config lead es (first config) t.passed (opening config) fit (opening_stands m f config is_one count) t.is in
-        record {
-          at_last = soundly es t.passed r.last t.is r.at;
-          world = t.world;
-          lines = t.lines;
-          before = λ front rest split. was_sound front r.last (r.before front rest split);
-          safe = record {
-            agreed = subst Agreed t.world (agreed m f config count r.last t.passed r.at);
-            legal = subst (λ (ls : List Line). Legal m ls (history h.world)) t.lines
-                (subst (λ (w : WorldState). Legal m t.passed.lines (history w)) t.world (legal m f config count r.last t.passed r.at));
-          };
-        }
+    pub legal : Legal m p.lines (history p.world)
+    legal = subst (λ (l : List Entry). Legal m p.lines (history_of l)) (sym (main_same p.world p.lines w alike))
+        (lines_are_legal m f conf inv (whole.main_view w) (whole.main_log w) (is_main_log m f w safe.conf safe.inv safe.shows.actors))
+
+    pub agreed : Agreed p.world
+    agreed = agreed_beside p.world p.lines w alike safe.agreed
+
+  -- nothing is taken back
+  goes_on : (p q : Passed) (front es : List (Actor × Brings)) (last : Conf) (then : IsSafe m config front)
+      (both : Both p (whole_passed.passed m config front)) → Leads m f then.conf last → (more : List Line)
+      → q.lines ≡ p.lines ++ more → last.lines ≡ spoken q.lines → GoesOn f (relined then.conf p.lines) (relined last q.lines)
+  goes_on p q front es last then both leads more lines spoke =
+      let start = led p front then both in
+      let e : last.lines ≡ then.conf.lines ++ spoken more =
+      spoke ∙ ap spoken lines ∙ filter-append is_spoken p.lines more
+      ∙ ap (λ (ls : List Line). ls ++ spoken more) (both.beside.alike.lines ∙ then.shows.lines) in
+      let on : Woven m f then.conf p.lines last more =
+      woven m f leads.moves then.conf last p.lines more leads.may leads.ends e in
+      let may : MayAll m f (run m f (opening config) start.moves) on.moves =
+      subst (λ (d : Conf). MayAll m f d on.moves) (sym start.ends) on.may in
+      subst (λ (ls : List Line). GoesOn f (relined then.conf p.lines) (relined last ls)) (sym lines)
+      (subst (GoesOn f (relined then.conf p.lines)) on.ends
+      (subst (λ (d : Conf). GoesOn f d (run m f d on.moves)) start.ends (runs_go_on m f config start.moves on.moves count start.may may)))
+
+module _ {S : Type 0} (m : Meaning S) (short : ResultsShort m) (config : Configuration) (is : is_configuration config ≡ true)
+    (es : List Event) (h : Happened) (fit : EventsFit es) (e : world.run m config es ≡ Ok h) where
+  abbrev half : ℕ
+  half = config.replicas / 2
+
+  abbrev start : Passed
+  start = record { world = world.opening config; lines = []; past = first_past }
+
+  count : config.replicas ≡ 2 * (config.replicas / 2) + 1
+  count = (counts_from config is).replicas
+
+  follows : Follows m start (whole_passed.first config) es h
+  follows = events_follow m short config es start (whole_passed.first config) (opening config) h fit (opening_stands m half config is count)
+      (record { beside = opening_beside config is; past = refl }) e
+
+  safe : IsSafeThroughout m config (all_brought m config es)
+  safe = whole_runs_are_safe m short config (all_brought m config es) is follows.fits
+
+  was_sound : (front rest : List Event) → es ≡ front ++ rest
+      → WasSound m config front (relined safe.at_last.conf follows.passed.lines)
+  was_sound front rest split =
+      let t : Front m start (whole_passed.first config) es front follows.passed.lines = follows.before front rest split in
+      let w : WasSafe m config (all_brought m config front) safe.at_last.conf = safe.before (all_brought m config front) t.rest t.split in
+      record {
+        then = soundly m config count t.passed (all_brought m config front) w.then t.both front t.is;
+        goes_on = goes_on m config count t.passed follows.passed (all_brought m config front) (all_brought m config es) safe.at_last.conf
+            w.then t.both w.leads t.more t.lines
+            (sym safe.at_last.shows.lines ∙ sym follows.both.beside.alike.lines);
+      }
+
+  pub safely : SafelyPassed m config es h
+  safely = record {
+    at_last = soundly m config count follows.passed (all_brought m config es) safe.at_last follows.both es follows.is;
+    world = follows.world;
+    lines = follows.lines;
+    before = was_sound;
+    safe = record {
+      agreed = subst Agreed follows.world (agreed m config count follows.passed (all_brought m config es) safe.at_last follows.both);
+      legal = subst (λ (ls : List Line). Legal m ls (history h.world)) follows.lines
+          (subst (λ (w : WorldState). Legal m follows.passed.lines (history w)) follows.world
+          (legal m config count follows.passed (all_brought m config es) safe.at_last follows.both));
+    };
+  }
+
+  whole_world : (q : whole_passed.Passed) (bs : List (Actor × Brings)) → (whole_passed.passed_from m q bs).world ≡ whole_run m q.world bs
+  whole_world q [] = refl
+  whole_world q (b ∷ bs) = whole_world (whole_passed.passes q (whole.whole_step m q.world b.0 b.1)) bs
+
+  follows_alike : (ls : List Line) (t : WorldState) (w : WholeWorld) → Alike t ls w → FollowsWhole (record { world = t; lines = ls }) w
+  follows_alike ls t w alike = record {
+    lines = alike.lines;
+    sent = alike.sent;
+    config = alike.config;
+    replicas = alike.replicas;
+    sequencers = alike.sequencers;
+    clients = alike.clients;
+    controller = alike.controller;
+    text = plain_text 0 t.replicas ∙ ap (whole.replicas_text 0) alike.replicas;
+    history = ap history_of (main_same t ls w alike);
+  }
+
+  pub follows_whole : FollowsWhole h (whole_after m config es)
+  follows_whole =
+      let same : record { world = follows.passed.world; lines = follows.passed.lines } ≡ h = λ i. record { world = follows.world i; lines = follows.lines i } in
+      subst (λ (w : WholeWorld). FollowsWhole h w) (whole_world (whole_passed.first config) (all_brought m config es))
+      (subst (λ (g : Happened). FollowsWhole g (whole_passed.passed m config (all_brought m config es)).world) same
+      (follows_alike follows.passed.lines follows.passed.world (whole_passed.passed m config (all_brought m config es)).world follows.both.beside.alike))
 
 pub runs_are_safe : {S : Type 0} (m : Meaning S) → RunsAreSafe m
-runs_are_safe m short config es h is_one fit e =
-    let half : ℕ = config.replicas / 2 in
-    safely m config (counts_from config is_one).replicas (at_shows m half config) es h fit is_one (steps_lead m half config short) e
+runs_are_safe m short config es h is fit e = safely m short config is es h fit e
+
+pub runs_follow_whole : {S : Type 0} (m : Meaning S) → RunsFollowWhole m
+runs_follow_whole m short config es h is fit e = follows_whole m short config is es h fit e
 
 -- ---- the loop over the events
 

@@ -1,3 +1,4 @@
+pub mod Following
 pub mod Passed
 pub mod Shows
 pub mod Safe

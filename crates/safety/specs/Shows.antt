@@ -11,7 +11,6 @@ use Rattle.nop_types.specs.declared.request.Request.{Request}
 use Rattle.nop_types.specs.Ranges.{PeerFits}
 use Rattle.nop_types.specs.declared.peer.Peer.{Peer}
 use Rattle.oum_codec.specs.Reading.{reading}
-use Rattle.oum_codec.specs.Spelling.{Spells}
 use Rattle.fragments.specs.Cutting.{fragments_of}
 use Rattle.fragments.specs.Runs.{AllCame}
 use Rattle.peer_codec.specs.Spelling.{spelling}
@@ -28,17 +27,12 @@ use Rattle.delivery.specs.Carried.{IsWhole}
 use Rattle.refinement.specs.Controllers.{control_of}
 use Rattle.refinement.specs.Datagrams.{WasSent}
 use Rattle.refinement.specs.Projection.{member_of, said_of}
+use Rattle.whole_world.specs.Shows.{IsThere}
 use Rattle.safety.specs.Passed.{Passed}
 
 -- the bytes of all datagrams, the oldest first
 abbrev pub bytes_of : List Sent → List (List ℕ)
 bytes_of sent = map (λ s. s.bytes) sent
-
--- the network has the datagram, with each field in its range
-pub record IsThere (sent : List Sent) (d : Datagram) : Type 0 where
-  pub datagram : Sent
-  pub has : Has sent datagram
-  pub spells : Spells d datagram.bytes
 
 -- all fragments of a message are in the network, under one number; it is in its ranges, and says this
 pub record IsTold (sent : List Sent) (x : Said) : Type 0 where

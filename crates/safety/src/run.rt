@@ -1,6 +1,7 @@
 ghost use Rattle.std.specs.Prelude.{◌≡◌, IfOk, IfErr, false};
 ghost use Rattle.nop_types.specs.Meaning.{Meaning};
 ghost use Rattle.world.specs.WorldSteps.{run};
+ghost use Rattle.safety.specs.Following.{RunsFollowWhole};
 ghost use Rattle.safety.specs.Safe.{RunsAreSafe, LeadTo, IsRefusedBy};
 
 use nop_types::{Config, Host};
@@ -34,4 +35,10 @@ pub fn run_events<H: Host>(
 #[tactic(auto, using(crate::proofs::Whole::runs_are_safe))]
 pub fn runs_are_safe<S>()
     ensures { (m : Meaning S) → RunsAreSafe m }
+{}
+
+/// Each run follows the whole world: over any such host and events, the world in which replicas keep all of their logs and
+/// messages travel whole has the same actors, datagrams, lines and history after what the events bring.
+pub fn runs_follow_whole<S>()
+    ensures { (m : Meaning S) → RunsFollowWhole m }
 {}

@@ -1,4 +1,4 @@
--- The opening of the protocol stands for the opening of the world.
+-- The opening of the protocol stands for the opening of the whole world.
 use Rattle.std.proofs.Common.{◌≡◌, ℕ, zero, suc, ◌+◌, ◌*◌, ◌<◌, Some, refl, ap, subst, ◌∙◌, arith, inl, inr, length, length-append}
 use Rattle.std.proofs.Common.{[], ◌∷◌}
 use Rattle.std.specs.Prelude.{slice_get, IsTrue}
@@ -7,23 +7,18 @@ use Rattle.nop_types.specs.Configuration.{Configuration, is_configuration}
 use Rattle.nop_types.specs.Meaning.{Meaning}
 use Rattle.facts.proofs.Members.{Has-none}
 use Rattle.facts.proofs.Places.{slice_get-push_cases}
-use Rattle.replica_core.specs.ReplicaSteps as replica
-use Rattle.replica_core.specs.ReplicaSteps.{Replica}
 use Rattle.sequencer.specs.SequencerSteps as sequencer
 use Rattle.session_control.specs.ControllerSteps as controller
-use Rattle.started_views.specs.Past.{first_past}
 use Rattle.protocol.specs.Conf.{opening}
 use Rattle.world.specs.Seats.{Seated, seated}
-use Rattle.world.specs.WorldSteps as world
 use Rattle.world.specs.WorldSteps.{counted, opening_client}
-use Rattle.delivery.proofs.Networks.{opening_network}
-use Rattle.delivery.proofs.Replicas.{opening_in_network}
-use Rattle.delivery.specs.Steps.{InNetwork}
+use Rattle.delivery.proofs.InRanges.{opens_in_ranges}
 use Rattle.refinement.specs.Projection.{member_of}
 use Rattle.refinement.specs.Ranges.{ClientFits}
-use Rattle.safety.specs.Passed.{Passed}
-use Rattle.safety.proofs.At.{At}
-use Rattle.safety.proofs.Counts.{counts_from}
+use Rattle.whole_world.specs.Whole.{WholeReplica, opening_replica}
+use Rattle.whole_world.specs.Passed.{first}
+use Rattle.whole_world.proofs.At.{ReplicaFits, At}
+use Rattle.whole_world.proofs.Counts.{counts_from}
 
 some_sequencer : (config : Configuration) → IsTrue (is_configuration config) → 0 < config.sequencers
 some_sequencer config is = grind (arith, is)
@@ -40,14 +35,14 @@ counted_length : {S : Type 0} (make : ℕ → S) (n : ℕ) → length (counted m
 counted_length make zero = refl
 counted_length make (suc n) = omega (arith, length-append (counted make n) (seated (make n) ∷ []), counted_length make n)
 
-counted_get : {S : Type 0} (make : ℕ → S) (n i : ℕ) (p : Seated S) → slice_get (counted make n) i ≡ Some p → make i ≡ p.state
+pub counted_get : {S : Type 0} (make : ℕ → S) (n i : ℕ) (p : Seated S) → slice_get (counted make n) i ≡ Some p → make i ≡ p.state
 counted_get make zero i p e = absurd cc
 counted_get make (suc n) i p e = elim (slice_get-push_cases (counted make n) (seated (make n)) i p e) [
   | inl h ↦ counted_get make n i p h.1
   | inr (a, b) ↦ ap make (a ∙ counted_length make n) ∙ ap (λ (q : Seated _). q.state) b
 ]
 
-counted_within : {S : Type 0} (make : ℕ → S) (n i : ℕ) (p : Seated S) → slice_get (counted make n) i ≡ Some p → i < n
+pub counted_within : {S : Type 0} (make : ℕ → S) (n i : ℕ) (p : Seated S) → slice_get (counted make n) i ≡ Some p → i < n
 counted_within make n i p e = omega (arith, slice_get_within (counted make n) i p e, counted_length make n)
 
 client_opens : (config : Configuration) → IsTrue (is_configuration config) → (k : ℕ) → k < config.clients
@@ -56,47 +51,45 @@ client_opens config is k l =
     let few = counts_from config is in
     record { number = omega (arith, l, few.clients); waiting = λ op h. absurd (Has-none op h) }
 
-abbrev pub first : Configuration → Passed
-first config = record { world = world.opening config; lines = []; past = first_past }
+replica_opens : (config : Configuration) → IsTrue (is_configuration config) → (i : ℕ) → i < config.replicas
+    → ReplicaFits i (opening_replica config i)
+replica_opens config is i l =
+    let ranges = opens_in_ranges config i is l in
+    record { number = refl; range = omega arith; within = ranges.0; receiver = ranges.1 }
 
 pub opening_stands : {S : Type 0} (m : Meaning S) (f : ℕ) (config : Configuration) → IsTrue (is_configuration config)
     → config.replicas ≡ 2 * f + 1 → At m f config (first config) (opening config)
 opening_stands m f config is count = record {
-  ran = record { moves = []; may = tt; is = refl };
+  ran = record { moves = []; may = tt; ends = refl };
   stands = record {
     same = refl;
     actors = record {
       is_configuration = is;
       config = count;
-      replica_count = counted_length (replica.opening config) config.replicas;
+      replica_count = counted_length (opening_replica config) config.replicas;
       sequencer_count = counted_length sequencer.opening config.sequencers;
       client_count = counted_length (opening_client config) config.clients;
-      replicas = λ i q e. ap (λ (r : Replica). member_of r.state) (counted_get (replica.opening config) config.replicas i q e);
+      replicas = λ i q e. ap (λ (r : WholeReplica). member_of r.state) (counted_get (opening_replica config) config.replicas i q e);
       sequencers = counted_get sequencer.opening config.sequencers;
       clients = counted_get (opening_client config) config.clients;
       controller = refl;
     };
     carries = record {
+      spelled = λ s h. absurd (Has-none s h);
       only = λ s d h. absurd (Has-none s h);
       requests = λ r h. absurd (Has-none r h);
       stamps = λ x h. absurd (Has-none x h);
       replies = λ y h. absurd (Has-none y h);
       installs = λ x h. absurd (Has-none x h);
     };
-    talks = record {
-      told = [];
-      used = λ (r : ℕ). 0;
-      tells = record {
-        fits = λ q h. absurd (Has-none q h);
-        all = λ q h. absurd (Has-none q h);
-        only = λ x h. absurd (Has-none x h);
-      };
-      network = opening_network;
-      members = λ i q e.
-          subst (InNetwork [] (λ (r : ℕ). 0) i) (counted_get (replica.opening config) config.replicas i q e)
-          (opening_in_network config i is (counted_within (replica.opening config) config.replicas i q e));
+    tells = record {
+      fits = λ q h. absurd (Has-none q h);
+      all = λ q h. absurd (Has-none q h);
+      only = λ x h. absurd (Has-none x h);
     };
     ranges = record {
+      replicas = λ i q e. subst (ReplicaFits i) (counted_get (opening_replica config) config.replicas i q e) (replica_opens config is i
+          (counted_within (opening_replica config) config.replicas i q e));
       clients = λ k q e. subst ClientFits (counted_get (opening_client config) config.clients k q e) (client_opens config is k
           (counted_within (opening_client config) config.clients k q e));
       controller = controller_opens config is;

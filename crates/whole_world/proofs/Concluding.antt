@@ -7,7 +7,6 @@ use Rattle.nop_types.specs.Legality.{Legal}
 use Rattle.nop_types.specs.Lines.{Line}
 use Rattle.nop_types.specs.Lists.{IsPrefixOf, slot_of}
 use Rattle.nop_types.specs.Meaning.{Meaning}
-use Rattle.replica_core.specs.ReplicaSteps.{Replica}
 use Rattle.protocol.specs.Conf.{Conf, opening}
 use Rattle.protocol.specs.Invariant.{Inv}
 use Rattle.protocol.specs.Member.{Member}
@@ -19,45 +18,45 @@ use Rattle.protocol_sync.proofs.Concluding.{lines_are_legal}
 use Rattle.protocol_sync.proofs.Opening.{opening_is_synced}
 use Rattle.protocol_sync.proofs.Runs.{syncs_keep}
 use Rattle.protocol_sync.proofs.Sounding.{runs_are_sound}
-use Rattle.world.specs.Agreement.{Agreed}
 use Rattle.world.specs.Seats.{Seated}
-use Rattle.world.specs.WorldSteps.{WorldState, main_view, main_log, history}
-use Rattle.safety.specs.Passed.{Passed}
-use Rattle.safety.specs.Shows.{ShowsActors}
-use Rattle.safety.proofs.At.{Ran, At}
-use Rattle.safety.proofs.MainLogs.{is_main_log}
-use Rattle.safety.proofs.Moving.{ran_holds}
+use Rattle.whole_world.specs.Whole.{WholeReplica, WholeWorld, Agreed, main_view, main_log, history}
+use Rattle.whole_world.specs.Passed.{Passed}
+use Rattle.whole_world.specs.Safe.{Leads}
+use Rattle.whole_world.specs.Shows.{ShowsActors}
+use Rattle.whole_world.proofs.At.{At}
+use Rattle.whole_world.proofs.MainLogs.{is_main_log}
+use Rattle.whole_world.proofs.Moving.{ran_holds}
 
 module _ {S : Type 0} (m : Meaning S) (f : ℕ) (config : Configuration) (count : config.replicas ≡ 2 * f + 1) (c : Conf) where
-  pub ran_synced : Ran m f config c → Sync f c
-  ran_synced ran = subst (Sync f) ran.is
+  pub ran_synced : Leads m f (opening config) c → Sync f c
+  ran_synced ran = subst (Sync f) ran.ends
       (syncs_keep m f (opening config) ran.moves (opening_meets m f config count) (opening_is_synced f config count) ran.may)
 
-  pub ran_sound : Ran m f config c → Sound m f c
-  ran_sound ran = subst (Sound m f) ran.is (runs_are_sound m f config ran.moves count ran.may)
+  pub ran_sound : Leads m f (opening config) c → Sound m f c
+  ran_sound ran = subst (Sound m f) ran.ends (runs_are_sound m f config ran.moves count ran.may)
 
   module _ (p : Passed) (at : At m f config p c) where
-    abbrev w : WorldState
+    abbrev w : WholeWorld
     w = p.world
 
     shown : ShowsActors f w c
     shown = at.stands.actors
 
-    inv : Inv m f c
+    pub inv : Inv m f c
     inv = ran_holds m f config count c at.ran
 
-    sync : Sync f c
+    pub sync : Sync f c
     sync = ran_synced at.ran
 
-    within : (i : ℕ) (q : Seated Replica) → slice_get w.replicas i ≡ Some q → i < 2 * f + 1
+    within : (i : ℕ) (q : Seated WholeReplica) → slice_get w.replicas i ≡ Some q → i < 2 * f + 1
     within i q e = omega (arith, slice_get_within w.replicas i q e, shown.replica_count, shown.config)
 
-    begins : (i : ℕ) (q : Seated Replica) → slice_get w.replicas i ≡ Some q
+    begins : (i : ℕ) (q : Seated WholeReplica) → slice_get w.replicas i ≡ Some q
         → IsPrefixOf (take q.state.state.sync.sync_point q.state.state.log) (main_log w)
     begins i q e = subst (λ (s : Member). IsPrefixOf (take s.sync.sync_point s.log) (main_log w)) (shown.replicas i q e)
         (synchronised_begin m f c inv sync i (within i q e) (main_view w) (main_log w) (is_main_log m f w c inv shown))
 
-    agree : (i j slot : ℕ) (a b : Seated Replica) → slice_get w.replicas i ≡ Some a → slice_get w.replicas j ≡ Some b
+    agree : (i j slot : ℕ) (a b : Seated WholeReplica) → slice_get w.replicas i ≡ Some a → slice_get w.replicas j ≡ Some b
         → slot ≤ a.state.state.sync.sync_point → slot ≤ b.state.state.sync.sync_point
         → slot_of a.state.state.log slot ≡ slot_of b.state.state.log slot
     agree i j slot a b e g low other =
@@ -70,6 +69,6 @@ module _ {S : Type 0} (m : Meaning S) (f : ℕ) (config : Configuration) (count 
     pub agreed : Agreed w
     agreed = record { pairs = λ i j slot a b e g. agree i j slot a b e g; main = begins }
 
-    pub legal : Legal m p.lines (history w)
+    pub legal : Legal m p.world.lines (history w)
     legal = subst (λ (t : List Line). Legal m t (history w)) (sym at.lines)
         (lines_are_legal m f c inv (main_view w) (main_log w) (is_main_log m f w c inv shown))

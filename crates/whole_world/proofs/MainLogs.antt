@@ -13,15 +13,15 @@ use Rattle.facts.proofs.Places.{slice_get-some}
 use Rattle.facts.proofs.Views.{RanksAtMost, RanksAtMost-refl, RanksAtMost-trans, outranks-true, outranks-false, outranks-from_ranks}
 use Rattle.started_views.specs.Past.{HadLog}
 use Rattle.started_views.proofs.Quorums.{leader_within}
-use Rattle.replica_core.specs.ReplicaSteps.{Replica}
 use Rattle.protocol.specs.Conf.{Conf, last_normals}
 use Rattle.protocol.specs.Invariant.{Inv}
 use Rattle.protocol.specs.Member.{Member}
 use Rattle.protocol_sync.specs.Laws.{IsMainLog}
 use Rattle.world.specs.Seats.{Seated}
-use Rattle.world.specs.WorldSteps.{WorldState, greatest_view, greatest_of, main_view, log_of, main_log}
-use Rattle.safety.specs.Shows.{ShowsActors}
-use Rattle.safety.proofs.Mapped.{slice_get-into_map, slice_get-from_map}
+use Rattle.world.specs.WorldSteps.{greatest_view, greatest_of}
+use Rattle.whole_world.specs.Whole.{WholeReplica, WholeWorld, main_view, log_of, main_log}
+use Rattle.whole_world.specs.Shows.{ShowsActors}
+use Rattle.whole_world.proofs.Mapped.{slice_get-into_map, slice_get-from_map}
 
 -- the greatest of a first view and others is one of them, and none outranks it
 pub record Greatest (v : View) (ws : List View) (g : View) : Type 0 where
@@ -55,18 +55,18 @@ greatest_is : (v : View) (ws : List View) → Greatest v ws (greatest_view v ws)
 greatest_is v [] = record { is = inl refl; first = RanksAtMost-refl v; rest = λ w i. absurd (Has-none w i) }
 greatest_is v (w ∷ ws) = greatest_by v w ws (λ u. greatest_is u ws) (outranks w v) refl
 
-abbrev view_of : Seated Replica → View
+abbrev view_of : Seated WholeReplica → View
 view_of p = p.state.state.last_normal
 
 -- the last normal view of one of the replicas, which none outranks
-pub record GreatestOf (ps : List (Seated Replica)) (g : View) : Type 0 where
+pub record GreatestOf (ps : List (Seated WholeReplica)) (g : View) : Type 0 where
   pub place : ℕ
-  pub seat : Seated Replica
+  pub seat : Seated WholeReplica
   pub there : slice_get ps place ≡ Some seat
   pub is : view_of seat ≡ g
-  pub most : (i : ℕ) (p : Seated Replica) → slice_get ps i ≡ Some p → RanksAtMost (view_of p) g
+  pub most : (i : ℕ) (p : Seated WholeReplica) → slice_get ps i ≡ Some p → RanksAtMost (view_of p) g
 
-greatest_of_is : (ps : List (Seated Replica)) → 0 < length ps → GreatestOf ps (greatest_of (map view_of ps))
+greatest_of_is : (ps : List (Seated WholeReplica)) → 0 < length ps → GreatestOf ps (greatest_of (map view_of ps))
 greatest_of_is [] l = absurd (omega (arith, l))
 greatest_of_is (p ∷ ps) l =
     let g = greatest_is (view_of p) (map view_of ps) in
@@ -76,18 +76,17 @@ greatest_of_is (p ∷ ps) l =
           record { place = suc i.0; seat = q.from; there = q.there; is = q.is; most = most g })
     ]
   where
-    most : Greatest (view_of p) (map view_of ps) (greatest_view (view_of p) (map view_of ps)) → (i : ℕ) (q : Seated Replica)
+    most : Greatest (view_of p) (map view_of ps) (greatest_view (view_of p) (map view_of ps)) → (i : ℕ) (q : Seated WholeReplica)
         → slice_get (p ∷ ps) i ≡ Some q → RanksAtMost (view_of q) (greatest_view (view_of p) (map view_of ps))
     most g zero q e = let s : p ≡ q = cc in
-        subst (λ (x : Seated Replica). RanksAtMost (view_of x) (greatest_view (view_of p) (map view_of ps))) s g.first
+        subst (λ (x : Seated WholeReplica). RanksAtMost (view_of x) (greatest_view (view_of p) (map view_of ps))) s g.first
     most g (suc i) q e = g.rest (view_of q) (i, slice_get-into_map view_of ps i q e)
 
-module _ {S : Type 0} (m : Meaning S) (f : ℕ) (w : WorldState) (c : Conf) (inv : Inv m f c) (shown : ShowsActors f w c) where
+module _ {S : Type 0} (m : Meaning S) (f : ℕ) (w : WholeWorld) (c : Conf) (inv : Inv m f c) (shown : ShowsActors f w c) where
   count : length w.replicas ≡ 2 * f + 1
   count = shown.replica_count ∙ shown.config
 
   found : GreatestOf w.replicas (main_view w)
-  unfolding main_view
   found = greatest_of_is w.replicas (omega (arith, count))
 
   abbrev leader : ℕ
@@ -97,11 +96,10 @@ module _ {S : Type 0} (m : Meaning S) (f : ℕ) (w : WorldState) (c : Conf) (inv
   within = leader_within f (main_view w)
 
   -- the leader's seat
-  its_seat : (p : Seated Replica) × (slice_get w.replicas leader ≡ Some p)
+  its_seat : (p : Seated WholeReplica) × (slice_get w.replicas leader ≡ Some p)
   its_seat = slice_get-some w.replicas leader (omega (arith, within, count))
 
   log_is : main_log w ≡ (c.replicas leader).log
-  unfolding main_log
   log_is =
       ap (λ (n : ℕ). log_of (slice_get w.replicas (leader_of (main_view w) n))) shown.config
       ∙ ap log_of its_seat.1

@@ -1,25 +1,18 @@
 -- What a replica sends: replies to clients, and messages that say something.
-use Rattle.std.proofs.Common.{◌≡◌, ℕ, ◌+◌, refl, ap, subst, sym, inl, inr, List, [], ◌∷◌, ◌++◌}
+use Rattle.std.proofs.Common.{◌≡◌, refl, ap, subst, sym, inl, inr, List, [], ◌∷◌}
 use Rattle.std.specs.List.{AllByRecursion}
 use Rattle.nop_types.specs.Lists.{Has}
 use Rattle.nop_types.specs.Ranges.{PeerFits, ReplyFits}
-use Rattle.nop_types.specs.declared.datagram.Fragment.{Fragment}
 use Rattle.nop_types.specs.declared.datagram.Reply.{Reply}
-use Rattle.nop_types.specs.declared.output.Dest.{Dest}
-use Rattle.nop_types.specs.declared.output.Out.{Out}
 use Rattle.nop_types.specs.declared.peer.Peer.{Peer}
 use Rattle.facts.proofs.Members.{Has-none, Has-first, Has-rest, Has-cases}
-use Rattle.fragments.specs.Cutting.{fragments_of, sends_of}
-use Rattle.peer_codec.specs.Spelling.{spelling}
 use Rattle.replica_state.specs.declared.sending.Sending.{Sending}
 use Rattle.replica_state.specs.declared.sending.Sending.TheVariants.{ToClient, ToReplicas}
-use Rattle.replica_core.specs.Posting.{posted}
 use Rattle.replica_state.specs.Sends.{SendingFits}
 use Rattle.protocol.specs.Said.{Said}
 use Rattle.delivery.specs.Sends.{peers_in}
-use Rattle.refinement.specs.Lines.{lines_in}
 use Rattle.refinement.specs.Projection.{said_of, said_in, replied_in}
-use Rattle.safety.proofs.At.{WasTold}
+use Rattle.whole_world.specs.Shows.{WasTold}
 
 -- ---- replies
 
@@ -75,17 +68,3 @@ said_by_peers (ToReplicas dest q ∷ sends) x h = elim (Has-cases x (said_of q) 
   | inr j ↦ (let t = said_by_peers sends x j in
       record { peer = t.peer; has = Has-rest t.peer q (peers_in sends) t.has; says = t.says })
 ]
-
--- ---- what is posted
-
--- it submits and accepts nothing
-pub posted_quiet : (number : ℕ) (sends : List Sending) → lines_in (posted number sends) ≡ []
-unfolding posted
-posted_quiet number [] = refl
-posted_quiet number (ToClient r ∷ sends) = posted_quiet number sends
-posted_quiet number (ToReplicas dest p ∷ sends) =
-    fragments_quiet dest (fragments_of p.sender (number + 1) (spelling p)) (posted (number + 1) sends) (posted_quiet (number + 1) sends)
-  where
-    fragments_quiet : (dest : Dest) (fs : List Fragment) (rest : List Out) → lines_in rest ≡ [] → lines_in (sends_of dest fs ++ rest) ≡ []
-    fragments_quiet dest [] rest h = h
-    fragments_quiet dest (f ∷ fs) rest h = fragments_quiet dest fs rest h

@@ -1,42 +1,33 @@
--- Events that leave each actor in its state: a crash, or what comes to a crashed actor.
-use Rattle.std.proofs.Common.{◌≡◌, ℕ, ◌+◌, ◌*◌, ◌<◌, Some, refl, sym, ap, subst, ◌∙◌, arith, List, [], ◌++◌, length}
+-- Events that leave each actor in its state: a crash, or where nothing is taken.
+use Rattle.std.proofs.Common.{◌≡◌, ℕ, ◌+◌, ◌*◌, ◌<◌, Some, refl, sym, ap, subst, ◌∙◌, arith, []}
 use Rattle.std.specs.Prelude.{slice_get, slice_set}
 use Rattle.std.proofs.lemmas.List.{append-nil, length-set}
 use Rattle.std.proofs.lemmas.Option.{slice_get_within}
 use Rattle.nop_types.specs.Configuration.{Configuration}
 use Rattle.nop_types.specs.Meaning.{Meaning}
-use Rattle.nop_types.specs.declared.output.Actor.TheVariants as actors
 use Rattle.client_quorum.specs.declared.state.ClientState.{ClientState}
 use Rattle.sequencer.specs.declared.state.SequencerState.{SequencerState}
 use Rattle.session_control.specs.declared.state.ControllerState.{ControllerState}
 use Rattle.session_control.specs.ControllerSteps as controller
-use Rattle.replica_core.specs.ReplicaSteps.{Replica}
 use Rattle.started_views.specs.Past.{note}
 use Rattle.protocol.specs.Conf.{Conf}
 use Rattle.protocol.specs.Invariant.{Inv}
 use Rattle.protocol.specs.Member.{Member}
-use Rattle.protocol.specs.Moves.{MayTell}
-use Rattle.network.specs.Network.{Sent, lines_by, sends_by, Did}
 use Rattle.world.specs.Seats.{Seated, seated}
-use Rattle.world.specs.WorldSteps.{WorldState, Happened, at_replica, at_sequencer, at_client, at_controller}
-use Rattle.safety.specs.Passed.{Passed, noted, standing}
-use Rattle.delivery.specs.Steps.{InNetwork}
+use Rattle.whole_world.specs.Passed.{Passed, noted, standing}
 use Rattle.refinement.specs.Controllers.{control_of}
 use Rattle.refinement.specs.Projection.{member_of}
 use Rattle.refinement.specs.Ranges.{ClientFits}
-use Rattle.safety.specs.Shows.{bytes_of, ShowsActors}
-use Rattle.safety.proofs.At.{Stands, At, Goes}
-use Rattle.safety.proofs.Pasts.{HasLogs, note_idle, noted_idle, noted_one}
-use Rattle.safety.proofs.Seats.{seats_same}
-
--- what holds of the same world without new datagrams
-nothing_sent : (f : ℕ) (config : Configuration) (w : WorldState) (sent : List Sent) (c : Conf) → sent ≡ w.sent → Stands f config w c
-    → Stands f config (record w { sent = sent }) c
-nothing_sent f config w sent c same h = subst (λ (t : List Sent). Stands f config (record w { sent = t }) c) (sym same) h
+use Rattle.whole_world.specs.Whole.{WholeReplica, WholeWorld}
+use Rattle.whole_world.specs.Shows.{ShowsActors}
+use Rattle.whole_world.proofs.At.{ReplicaFits, Stands, At, Goes}
+use Rattle.whole_world.proofs.Outputs.{no_line}
+use Rattle.whole_world.proofs.Pasts.{HasLogs, note_idle, noted_idle, noted_one}
+use Rattle.whole_world.proofs.Seats.{seats_same}
 
 module _ {S : Type 0} (m : Meaning S) (f : ℕ) (config : Configuration) (p : Passed) (c : Conf) (inv : Inv m f c)
     (at : At m f config p c) where
-  abbrev w : WorldState
+  abbrev w : WholeWorld
   w = p.world
 
   abbrev shown : ShowsActors f w c
@@ -53,23 +44,27 @@ module _ {S : Type 0} (m : Meaning S) (f : ℕ) (config : Configuration) (p : Pa
   pub idle_past : noted f p.past 0 w.replicas w.replicas ≡ c.past
   idle_past = noted_idle f p.past 0 w.replicas has_logs ∙ at.past
 
-  quiet_goes : (h : Happened) → Stands f config h.world c → MayTell h.lines → noted f p.past 0 w.replicas h.world.replicas ≡ c.past
-      → Goes m f config p c h
-  quiet_goes h stands tells past = record {
+  quiet_goes : (v : WholeWorld) → Stands f config v c → v.lines ≡ w.lines → noted f p.past 0 w.replicas v.replicas ≡ c.past
+      → Goes m f config p c v
+  quiet_goes v stands lines past = record {
     moves = [];
     may = tt;
     stands = stands;
     said = [];
-    others = h.lines;
+    others = [];
     lines = sym (append-nil c.lines);
-    are = refl;
-    tells = tells;
+    are = lines ∙ sym (append-nil w.lines);
+    tells = no_line;
     past = past;
   }
 
+  -- nothing happens
+  pub nothing_goes : Goes m f config p c w
+  nothing_goes = quiet_goes w at.stands refl idle_past
+
   -- ---- replicas
 
-  replica_stands : (i : ℕ) (old new : Seated Replica) → slice_get w.replicas i ≡ Some old → new.state ≡ old.state
+  replica_stands : (i : ℕ) (old new : Seated WholeReplica) → slice_get w.replicas i ≡ Some old → new.state ≡ old.state
       → Stands f config (record w { replicas = slice_set w.replicas i new }) c
   replica_stands i old new there same = record {
     same = at.stands.same;
@@ -85,34 +80,28 @@ module _ {S : Type 0} (m : Meaning S) (f : ℕ) (config : Configuration) (p : Pa
       controller = shown.controller;
     };
     carries = at.stands.carries;
-    talks = record {
-      told = at.stands.talks.told;
-      used = at.stands.talks.used;
-      tells = at.stands.talks.tells;
-      network = at.stands.talks.network;
-      members = seats_same (λ j s. InNetwork (bytes_of w.sent) at.stands.talks.used j s) w.replicas i old new there same
-          at.stands.talks.members;
+    tells = at.stands.tells;
+    ranges = record {
+      replicas = seats_same ReplicaFits w.replicas i old new there same at.stands.ranges.replicas;
+      clients = at.stands.ranges.clients;
+      controller = at.stands.ranges.controller;
     };
-    ranges = record { clients = at.stands.ranges.clients; controller = at.stands.ranges.controller };
   }
 
   -- one replica's state is as before
-  quiet_past : (i : ℕ) (old new : Seated Replica) → slice_get w.replicas i ≡ Some old → new.state ≡ old.state
+  quiet_past : (i : ℕ) (old new : Seated WholeReplica) → slice_get w.replicas i ≡ Some old → new.state ≡ old.state
       → noted f p.past 0 w.replicas (slice_set w.replicas i new) ≡ c.past
   quiet_past i old new there same =
       noted_one f p.past 0 w.replicas i old new has_logs there
-      ∙ ap (λ (t : Replica). note f p.past (0 + i) (standing old) (standing (seated t))) same
+      ∙ ap (λ (t : WholeReplica). note f p.past (0 + i) (standing old) (standing (seated t))) same
       ∙ note_idle f p.past (0 + i) (standing old) (has_logs i old there)
       ∙ at.past
 
-  pub quiet_replica : (i : ℕ) (old new : Seated Replica) (did : Did) → slice_get w.replicas i ≡ Some old → new.state ≡ old.state
-      → sends_by (actors.Replica i) did ≡ [] → MayTell (lines_by (actors.Replica i) (length w.sent) did)
-      → Goes m f config p c (at_replica w i (new, did))
-  quiet_replica i old new did there same none tells =
-      quiet_goes (at_replica w i (new, did))
-      (nothing_sent f config (record w { replicas = slice_set w.replicas i new }) (w.sent ++ sends_by (actors.Replica i) did) c
-      (ap (λ (t : List Sent). w.sent ++ t) none ∙ append-nil w.sent) (replica_stands i old new there same))
-      tells (quiet_past i old new there same)
+  pub quiet_replica : (i : ℕ) (old new : Seated WholeReplica) → slice_get w.replicas i ≡ Some old → new.state ≡ old.state
+      → Goes m f config p c (record w { replicas = slice_set w.replicas i new })
+  quiet_replica i old new there same =
+      quiet_goes (record w { replicas = slice_set w.replicas i new }) (replica_stands i old new there same) refl
+      (quiet_past i old new there same)
 
   -- ---- sequencers
 
@@ -132,18 +121,14 @@ module _ {S : Type 0} (m : Meaning S) (f : ℕ) (config : Configuration) (p : Pa
       controller = shown.controller;
     };
     carries = at.stands.carries;
-    talks = at.stands.talks;
-    ranges = record { clients = at.stands.ranges.clients; controller = at.stands.ranges.controller };
+    tells = at.stands.tells;
+    ranges = record { replicas = at.stands.ranges.replicas; clients = at.stands.ranges.clients; controller = at.stands.ranges.controller };
   }
 
-  pub quiet_sequencer : (j : ℕ) (old new : Seated SequencerState) (did : Did) → slice_get w.sequencers j ≡ Some old
-      → new.state ≡ old.state → sends_by (actors.Sequencer j) did ≡ []
-      → MayTell (lines_by (actors.Sequencer j) (length w.sent) did) → Goes m f config p c (at_sequencer w j (new, did))
-  quiet_sequencer j old new did there same none tells =
-      quiet_goes (at_sequencer w j (new, did))
-      (nothing_sent f config (record w { sequencers = slice_set w.sequencers j new }) (w.sent ++ sends_by (actors.Sequencer j) did) c
-      (ap (λ (t : List Sent). w.sent ++ t) none ∙ append-nil w.sent) (sequencer_stands j old new there same))
-      tells idle_past
+  pub quiet_sequencer : (j : ℕ) (old new : Seated SequencerState) → slice_get w.sequencers j ≡ Some old → new.state ≡ old.state
+      → Goes m f config p c (record w { sequencers = slice_set w.sequencers j new })
+  quiet_sequencer j old new there same =
+      quiet_goes (record w { sequencers = slice_set w.sequencers j new }) (sequencer_stands j old new there same) refl idle_past
 
   -- ---- clients
 
@@ -163,21 +148,18 @@ module _ {S : Type 0} (m : Meaning S) (f : ℕ) (config : Configuration) (p : Pa
       controller = shown.controller;
     };
     carries = at.stands.carries;
-    talks = at.stands.talks;
+    tells = at.stands.tells;
     ranges = record {
+      replicas = at.stands.ranges.replicas;
       clients = seats_same (λ j s. ClientFits s) w.clients k old new there same at.stands.ranges.clients;
       controller = at.stands.ranges.controller;
     };
   }
 
-  pub quiet_client : (k : ℕ) (old new : Seated ClientState) (did : Did) → slice_get w.clients k ≡ Some old → new.state ≡ old.state
-      → sends_by (actors.Client k) did ≡ [] → MayTell (lines_by (actors.Client k) (length w.sent) did)
-      → Goes m f config p c (at_client w k (new, did))
-  quiet_client k old new did there same none tells =
-      quiet_goes (at_client w k (new, did))
-      (nothing_sent f config (record w { clients = slice_set w.clients k new }) (w.sent ++ sends_by (actors.Client k) did) c
-      (ap (λ (t : List Sent). w.sent ++ t) none ∙ append-nil w.sent) (client_stands k old new there same))
-      tells idle_past
+  pub quiet_client : (k : ℕ) (old new : Seated ClientState) → slice_get w.clients k ≡ Some old → new.state ≡ old.state
+      → Goes m f config p c (record w { clients = slice_set w.clients k new })
+  quiet_client k old new there same =
+      quiet_goes (record w { clients = slice_set w.clients k new }) (client_stands k old new there same) refl idle_past
 
   -- ---- the controller
 
@@ -196,18 +178,13 @@ module _ {S : Type 0} (m : Meaning S) (f : ℕ) (config : Configuration) (p : Pa
       controller = shown.controller ∙ ap control_of (sym same);
     };
     carries = at.stands.carries;
-    talks = at.stands.talks;
+    tells = at.stands.tells;
     ranges = record {
+      replicas = at.stands.ranges.replicas;
       clients = at.stands.ranges.clients;
       controller = subst controller.IsWithin (sym same) at.stands.ranges.controller;
     };
   }
 
-  pub quiet_controller : (new : Seated ControllerState) (did : Did) → new.state ≡ w.controller.state
-      → sends_by actors.Controller did ≡ [] → MayTell (lines_by actors.Controller (length w.sent) did)
-      → Goes m f config p c (at_controller w (new, did))
-  quiet_controller new did same none tells =
-      quiet_goes (at_controller w (new, did))
-      (nothing_sent f config (record w { controller = new }) (w.sent ++ sends_by actors.Controller did) c
-      (ap (λ (t : List Sent). w.sent ++ t) none ∙ append-nil w.sent) (controller_stands new same))
-      tells idle_past
+  pub quiet_controller : (new : Seated ControllerState) → new.state ≡ w.controller.state → Goes m f config p c (record w { controller = new })
+  quiet_controller new same = quiet_goes (record w { controller = new }) (controller_stands new same) refl idle_past

@@ -10,11 +10,12 @@ use Rattle.protocol.specs.Moves.{tell}
 use Rattle.protocol.specs.Runs.{Move, Tell, run, MayAll}
 use Rattle.protocol.proofs.Opening.{opening_meets}
 use Rattle.protocol.proofs.Runs.{moves_keep}
-use Rattle.world.specs.WorldSteps.{WorldState, Happened}
 use Rattle.refinement.proofs.Runs.{run-append, may_all-append}
-use Rattle.safety.specs.Passed.{Passed, faults, noted, passes}
-use Rattle.safety.proofs.At.{Stands, Ran, At, Later, Goes}
-use Rattle.safety.proofs.Fitting.{sent_lasts}
+use Rattle.whole_world.specs.Whole.{WholeWorld}
+use Rattle.whole_world.specs.Passed.{Passed, faults, noted, passes}
+use Rattle.whole_world.specs.Safe.{Leads}
+use Rattle.whole_world.proofs.At.{Stands, At, Later, Goes}
+use Rattle.whole_world.proofs.Fitting.{sent_lasts}
 
 -- ---- lines that neither submit nor accept
 
@@ -28,7 +29,7 @@ keeps_told c more = record {
   lines = (more, refl);
 }
 
-stands_told : (f : ℕ) (config : Configuration) (w : WorldState) (c : Conf) (more : List Line) → Stands f config w c
+stands_told : (f : ℕ) (config : Configuration) (w : WholeWorld) (c : Conf) (more : List Line) → Stands f config w c
     → Stands f config w (tell c more)
 stands_told f config w c more h = record {
   same = h.same;
@@ -44,34 +45,35 @@ stands_told f config w c more h = record {
     controller = h.actors.controller;
   };
   carries = record {
+    spelled = h.carries.spelled;
     only = λ s x i e. sent_lasts c (tell c more) (keeps_told c more) x (h.carries.only s x i e);
     requests = h.carries.requests;
     stamps = h.carries.stamps;
     replies = h.carries.replies;
     installs = h.carries.installs;
   };
-  talks = h.talks;
+  tells = h.tells;
   ranges = h.ranges;
 }
 
 module _ {S : Type 0} (m : Meaning S) (f : ℕ) (config : Configuration) where
   -- ---- from the opening
 
-  pub ran_holds : config.replicas ≡ 2 * f + 1 → (c : Conf) → Ran m f config c → Inv m f c
+  pub ran_holds : config.replicas ≡ 2 * f + 1 → (c : Conf) → Leads m f (opening config) c → Inv m f c
   ran_holds count c ran =
-      subst (Inv m f) ran.is (moves_keep m f (opening config) ran.moves (opening_meets m f config count) ran.may).0
+      subst (Inv m f) ran.ends (moves_keep m f (opening config) ran.moves (opening_meets m f config count) ran.may).0
 
-  pub ran_on : (c : Conf) (xs : List Move) → Ran m f config c → MayAll m f c xs → Ran m f config (run m f c xs)
+  pub ran_on : (c : Conf) (xs : List Move) → Leads m f (opening config) c → MayAll m f c xs → Leads m f (opening config) (run m f c xs)
   ran_on c xs ran may = record {
     moves = ran.moves ++ xs;
-    may = may_all-append m f (opening config) ran.moves xs ran.may (subst (λ (d : Conf). MayAll m f d xs) (sym ran.is) may);
-    is = run-append m f (opening config) ran.moves xs ∙ ap (λ (d : Conf). run m f d xs) ran.is;
+    may = may_all-append m f (opening config) ran.moves xs ran.may (subst (λ (d : Conf). MayAll m f d xs) (sym ran.ends) may);
+    ends = run-append m f (opening config) ran.moves xs ∙ ap (λ (d : Conf). run m f d xs) ran.ends;
   }
 
   -- ---- one event
 
-  pub goes_later : (p : Passed) (c : Conf) (h : Happened) → At m f config p c → Goes m f config p c h → Later m f config c (passes p h)
-  goes_later p c h at go =
+  pub goes_later : (p : Passed) (c : Conf) (v : WholeWorld) → At m f config p c → Goes m f config p c v → Later m f config c (passes p v)
+  goes_later p c v at go =
       let d = run m f c go.moves in
       let told : List Move = Tell go.others ∷ [] in
       let may : MayAll m f c (go.moves ++ told) = may_all-append m f c go.moves told go.may (go.tells, tt) in
@@ -82,11 +84,11 @@ module _ {S : Type 0} (m : Meaning S) (f : ℕ) (config : Configuration) where
         may = may;
         at = record {
           ran = ran_on c (go.moves ++ told) at.ran may;
-          stands = subst (Stands f config h.world) (sym is) (stands_told f config h.world d go.others go.stands);
-          lines = ap (λ (t : List Line). p.lines ++ t) go.are ∙ ap (λ (t : List Line). t ++ (go.said ++ go.others)) at.lines
+          stands = subst (Stands f config v) (sym is) (stands_told f config v d go.others go.stands);
+          lines = go.are ∙ ap (λ (t : List Line). t ++ (go.said ++ go.others)) at.lines
               ∙ sym (append_assoc c.lines go.said go.others) ∙ ap (λ (t : List Line). t ++ go.others) (sym go.lines)
               ∙ ap (λ (e : Conf). e.lines) (sym is);
-          past = ap (λ (n : ℕ). noted n p.past 0 p.world.replicas h.world.replicas) half ∙ go.past
+          past = ap (λ (n : ℕ). noted n p.past 0 p.world.replicas v.replicas) half ∙ go.past
               ∙ ap (λ (e : Conf). e.past) (sym is);
         };
       }

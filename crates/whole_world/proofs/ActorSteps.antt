@@ -1,9 +1,10 @@
 -- Steps of clients, sequencers and the controller.
-use Rattle.std.proofs.Common.{◌≡◌, ℕ, Some, refl, sym, ap, subst, ◌∙◌, length, List, ◌++◌}
-use Rattle.std.specs.Prelude.{slice_get}
+use Rattle.std.proofs.Common.{◌≡◌, ℕ, Some, refl, sym, ap, subst, ◌∙◌, List, ◌++◌}
+use Rattle.std.specs.Prelude.{slice_get, slice_set}
 use Rattle.std.proofs.lemmas.List.{length-set}
 use Rattle.nop_types.specs.Configuration.{Configuration}
 use Rattle.nop_types.specs.Given.{Given}
+use Rattle.nop_types.specs.Lines.{Line}
 use Rattle.nop_types.specs.Meaning.{Meaning}
 use Rattle.nop_types.specs.declared.datagram.Datagram.TheVariants as datagrams
 use Rattle.nop_types.specs.declared.output.Actor.{Actor}
@@ -17,22 +18,15 @@ use Rattle.sequencer.specs.SequencerSteps as sequencer
 use Rattle.sequencer.specs.Runs.{stamp_in}
 use Rattle.session_control.specs.declared.state.ControllerState.{ControllerState}
 use Rattle.session_control.specs.ControllerSteps as controller
-use Rattle.replica_core.specs.ReplicaSteps.{Replica}
 use Rattle.protocol.specs.Conf.{Conf}
 use Rattle.protocol.specs.Evolves.{Keeps}
 use Rattle.protocol.specs.Invariant.{Inv}
-use Rattle.protocol.specs.Said.{Said}
 use Rattle.protocol.proofs.Runs.{moves_keep}
-use Rattle.network.specs.Network.{Sent, sends_of, lines_from, Outputs}
+use Rattle.network.specs.Network.{Sent, sends_of}
 use Rattle.world.specs.Seats.{Seated, seated}
-use Rattle.world.specs.WorldSteps.{WorldState, at_client, at_sequencer, at_controller}
-use Rattle.delivery.specs.Network.{bytes_in, Network, SendsNoFragment}
-use Rattle.delivery.specs.Steps.{InNetwork}
-use Rattle.delivery.proofs.Networks.{others_network}
-use Rattle.delivery.proofs.Replicas.{stays_in_network}
 use Rattle.refinement.specs.Clients.{with_client, ClientReaches}
 use Rattle.refinement.specs.Controllers.{given_out, with_controller, control_of, ControllerReaches}
-use Rattle.refinement.specs.Datagrams.{MayCome, AllCarry, OnlySends}
+use Rattle.refinement.specs.Datagrams.{AllCarry, OnlySends}
 use Rattle.refinement.specs.Lines.{lines_in}
 use Rattle.refinement.specs.Ranges.{AllFit, ClientFits}
 use Rattle.refinement.specs.Sequencers.{with_sequencer, SequencerReaches}
@@ -43,14 +37,15 @@ use Rattle.refinement.proofs.ControllerRanges.{controllers_stay_in_ranges}
 use Rattle.refinement.proofs.Controllers.{controllers_reach}
 use Rattle.refinement.proofs.SequencerRanges.{sequencers_stay_in_ranges}
 use Rattle.refinement.proofs.Sequencers.{sequencers_reach}
-use Rattle.safety.specs.Passed.{Passed, noted}
-use Rattle.safety.specs.Shows.{bytes_of, ShowsActors}
-use Rattle.safety.proofs.At.{Talks, Carries, Stands, At, Goes}
-use Rattle.safety.proofs.Coming.{Brings, may_come}
-use Rattle.safety.proofs.Fitting.{carries_after, there_after, other_datagrams}
-use Rattle.safety.proofs.Outputs.{bytes_after, lines_told}
-use Rattle.safety.proofs.Quiet.{idle_past}
-use Rattle.safety.proofs.Seats.{seats_shown, seats_hold}
+use Rattle.whole_world.specs.Passed.{Passed, noted}
+use Rattle.whole_world.specs.Whole.{WholeReplica, WholeWorld, gave, lines_of}
+use Rattle.whole_world.specs.Shows.{Carries, ShowsActors}
+use Rattle.whole_world.proofs.At.{Stands, At, Goes}
+use Rattle.whole_world.proofs.Coming.{Comes}
+use Rattle.whole_world.proofs.Fitting.{carries_after, there_after, spelled_after}
+use Rattle.whole_world.proofs.Outputs.{lines_told}
+use Rattle.whole_world.proofs.Quiet.{idle_past}
+use Rattle.whole_world.proofs.Seats.{seats_shown, seats_hold}
 
 -- ---- the network
 
@@ -66,6 +61,7 @@ carried_fit sent c h = record {
 pub carries_on : (c d : Conf) (sent : List Sent) (from : Actor) (xs : List Out) → Keeps c d → AllFit d → AllCarry d xs
     → OnlySends c d xs → Carries sent c → Carries (sent ++ sends_of from xs) d
 carries_on c d sent from xs keeps all carry only old = record {
+  spelled = spelled_after d sent from xs all carry old.spelled;
   only = carries_after c d sent from xs keeps all carry old.only;
   requests = λ r i. there_after c sent from xs (datagrams.Request r) (all.requests r i) (old.requests r) (only (datagrams.Request r) i);
   stamps = λ p i. there_after c sent from xs (datagrams.Stamped p) (all.stamps p i) (old.stamps p) (only (datagrams.Stamped p) i);
@@ -74,26 +70,11 @@ carries_on c d sent from xs keeps all carry only old = record {
       (only (datagrams.Install x.sequencer x.session) i);
 }
 
--- replicas go on where no fragments are sent
-pub talks_on : (sent : List Sent) (replicas : List (Seated Replica)) (said : List Said) (from : Actor) (xs : List Out)
-    → SendsNoFragment xs → Talks sent replicas said → Talks (sent ++ sends_of from xs) replicas said
-talks_on sent replicas said from xs none old =
-    let after = bytes_after sent from xs in
-    record {
-      told = old.told;
-      used = old.used;
-      tells = old.tells;
-      network = subst (λ (b : List (List ℕ)). Network old.told b old.used) (sym after)
-          (others_network old.told (bytes_of sent) (bytes_in xs) old.used old.network none);
-      members = λ i q e. subst (λ (b : List (List ℕ)). InNetwork b old.used i q.state) (sym after)
-          (stays_in_network (bytes_of sent) (bytes_in xs) old.used i q.state (old.members i q e));
-    }
-
 -- ---- one step
 
 module _ {S : Type 0} (m : Meaning S) (f : ℕ) (config : Configuration) (p : Passed) (c : Conf) (inv : Inv m f c)
     (at : At m f config p c) where
-  abbrev w : WorldState
+  abbrev w : WholeWorld
   w = p.world
 
   abbrev shown : ShowsActors f w c
@@ -102,25 +83,17 @@ module _ {S : Type 0} (m : Meaning S) (f : ℕ) (config : Configuration) (p : Pa
   all_fit : AllFit c
   all_fit = carried_fit w.sent c at.stands.carries
 
-  came : (i : Given) → Brings w.sent i → MayCome c i
-  came i brings = may_come c w.sent at.stands.talks.network.datagrams at.stands.carries.only i brings.may
-
   keeps_by : (d : Conf) (xs : List Out) → LeadsTo m f c d xs → Keeps c d
   keeps_by d xs by = subst (Keeps c) by.ends (moves_keep m f c by.moves inv by.may).1.sent
 
   carries_by : (d : Conf) (from : Actor) (xs : List Out) → LeadsTo m f c d xs → AllFit d → Carries (w.sent ++ sends_of from xs) d
   carries_by d from xs by fit = carries_on c d w.sent from xs (keeps_by d xs by) fit by.sends by.only at.stands.carries
 
-  talks_by : (d : Conf) (from : Actor) (xs : List Out) → LeadsTo m f c d xs → AllFit d
-      → Talks (w.sent ++ sends_of from xs) w.replicas c.said
-  talks_by d from xs by fit = talks_on w.sent w.replicas c.said from xs (other_datagrams d xs fit by.sends) at.stands.talks
-
   -- the lines are those of the outputs, and the replicas stay
-  goes_by : (new : WorldState) (d : Conf) (from : Actor) (xs : List Out) → LeadsTo m f c d xs → new.replicas ≡ w.replicas
-      → d.past ≡ c.past → Stands f config new d
-      → Goes m f config p c (record { world = new; lines = lines_from from (length w.sent) xs })
-  goes_by new d from xs by same past stands =
-      let tells = lines_told from (length w.sent) xs by.first in
+  goes_by : (new : WholeWorld) (d : Conf) (from : Actor) (xs : List Out) → LeadsTo m f c d xs → new.lines ≡ w.lines ++ lines_of xs
+      → new.replicas ≡ w.replicas → d.past ≡ c.past → Stands f config new d → Goes m f config p c new
+  goes_by new d from xs by lines same past stands =
+      let tells = lines_told xs by.first in
       record {
         moves = by.moves;
         may = by.may;
@@ -128,33 +101,36 @@ module _ {S : Type 0} (m : Meaning S) (f : ℕ) (config : Configuration) (p : Pa
         said = lines_in xs;
         others = tells.others;
         lines = ap (λ (e : Conf). e.lines) by.ends ∙ by.lines;
-        are = tells.are;
+        are = lines ∙ ap (λ (t : List Line). w.lines ++ t) tells.are;
         tells = tells.may;
-        past = ap (λ (t : List (Seated Replica)). noted f p.past 0 w.replicas t) same ∙ idle_past m f config p c inv at
+        past = ap (λ (t : List (Seated WholeReplica)). noted f p.past 0 w.replicas t) same ∙ idle_past m f config p c inv at
             ∙ sym (ap (λ (e : Conf). e.past) by.ends ∙ past);
       }
 
   -- ---- clients
 
-  module _ (k : ℕ) (old : Seated ClientState) (there : slice_get w.clients k ≡ Some old) (i : Given) (brings : Brings w.sent i) where
+  module _ (k : ℕ) (old : Seated ClientState) (there : slice_get w.clients k ≡ Some old) (i : Given) (comes : Comes c i) where
     abbrev client_step : ClientState × List Out
     client_step = client.next old.state i
+
+    abbrev client_world : WholeWorld
+    client_world = gave w (actors.Client k) client_step.1 (record w { clients = slice_set w.clients k (seated client_step.0) })
 
     abbrev client_after : Conf
     client_after = with_client c k client_step
 
     client_reaches : ClientReaches m f c k client_step
     client_reaches = subst (λ (s : ClientState). ClientReaches m f c k (client.next s i)) (shown.clients k old there)
-        (clients_reach m f c k i inv (came i brings))
+        (clients_reach m f c k i inv comes.may)
 
     client_in_ranges : AllFit client_after × ClientFits client_step.0
     client_in_ranges =
         let same = shown.clients k old there in
         let fits : ClientFits (c.clients k) = subst ClientFits (sym same) (at.stands.ranges.clients k old there) in
         subst (λ (s : ClientState). AllFit (with_client c k (client.next s i)) × ClientFits (client.next s i).0) same
-        (clients_stay_in_ranges c k i all_fit fits brings.fits)
+        (clients_stay_in_ranges c k i all_fit fits comes.fits)
 
-    client_stands : Stands f config (at_client w k (seated client_step.0, Outputs client_step.1)).world client_after
+    client_stands : Stands f config client_world client_after
     client_stands = record {
       same = at.stands.same;
       actors = record {
@@ -169,36 +145,40 @@ module _ {S : Type 0} (m : Meaning S) (f : ℕ) (config : Configuration) (p : Pa
         controller = shown.controller;
       };
       carries = carries_by client_after (actors.Client k) client_step.1 client_reaches client_in_ranges.0;
-      talks = talks_by client_after (actors.Client k) client_step.1 client_reaches client_in_ranges.0;
+      tells = at.stands.tells;
       ranges = record {
+        replicas = at.stands.ranges.replicas;
         clients = seats_hold ClientFits w.clients k (seated client_step.0) client_in_ranges.1 at.stands.ranges.clients;
         controller = at.stands.ranges.controller;
       };
     }
 
-    pub client_goes : Goes m f config p c (at_client w k (seated client_step.0, Outputs client_step.1))
-    client_goes = goes_by (at_client w k (seated client_step.0, Outputs client_step.1)).world client_after (actors.Client k) client_step.1
-        client_reaches refl refl client_stands
+    pub client_goes : Goes m f config p c client_world
+    client_goes = goes_by client_world client_after (actors.Client k) client_step.1
+        client_reaches refl refl refl client_stands
 
   -- ---- sequencers
 
-  module _ (j : ℕ) (old : Seated SequencerState) (there : slice_get w.sequencers j ≡ Some old) (i : Given) (brings : Brings w.sent i) where
+  module _ (j : ℕ) (old : Seated SequencerState) (there : slice_get w.sequencers j ≡ Some old) (i : Given) (comes : Comes c i) where
     abbrev sequencer_step : SequencerState × List Out
     sequencer_step = sequencer.next old.state i
+
+    abbrev sequencer_world : WholeWorld
+    sequencer_world = gave w (actors.Sequencer j) sequencer_step.1 (record w { sequencers = slice_set w.sequencers j (seated sequencer_step.0) })
 
     abbrev sequencer_after : Conf
     sequencer_after = with_sequencer c j sequencer_step.0 (stamp_in old.state i)
 
     sequencer_reaches : SequencerReaches m f c j (stamp_in old.state i) sequencer_step
     sequencer_reaches = subst (λ (s : SequencerState). SequencerReaches m f c j (stamp_in s i) (sequencer.next s i))
-        (shown.sequencers j old there) (sequencers_reach m f c j i inv (came i brings))
+        (shown.sequencers j old there) (sequencers_reach m f c j i inv comes.may)
 
     sequencer_all_fit : AllFit sequencer_after
     sequencer_all_fit =
         subst (λ (s : SequencerState). AllFit (with_sequencer c j (sequencer.next s i).0 (stamp_in s i))) (shown.sequencers j old there)
-        (sequencers_stay_in_ranges m f c j i inv all_fit (came i brings))
+        (sequencers_stay_in_ranges m f c j i inv all_fit comes.may)
 
-    sequencer_stands : Stands f config (at_sequencer w j (seated sequencer_step.0, Outputs sequencer_step.1)).world sequencer_after
+    sequencer_stands : Stands f config sequencer_world sequencer_after
     sequencer_stands = record {
       same = at.stands.same;
       actors = record {
@@ -213,31 +193,34 @@ module _ {S : Type 0} (m : Meaning S) (f : ℕ) (config : Configuration) (p : Pa
         controller = shown.controller;
       };
       carries = carries_by sequencer_after (actors.Sequencer j) sequencer_step.1 sequencer_reaches sequencer_all_fit;
-      talks = talks_by sequencer_after (actors.Sequencer j) sequencer_step.1 sequencer_reaches sequencer_all_fit;
-      ranges = record { clients = at.stands.ranges.clients; controller = at.stands.ranges.controller };
+      tells = at.stands.tells;
+      ranges = record { replicas = at.stands.ranges.replicas; clients = at.stands.ranges.clients; controller = at.stands.ranges.controller };
     }
 
-    pub sequencer_goes : Goes m f config p c (at_sequencer w j (seated sequencer_step.0, Outputs sequencer_step.1))
-    sequencer_goes = goes_by (at_sequencer w j (seated sequencer_step.0, Outputs sequencer_step.1)).world sequencer_after
-        (actors.Sequencer j) sequencer_step.1 sequencer_reaches refl refl sequencer_stands
+    pub sequencer_goes : Goes m f config p c sequencer_world
+    sequencer_goes = goes_by sequencer_world sequencer_after
+        (actors.Sequencer j) sequencer_step.1 sequencer_reaches refl refl refl sequencer_stands
 
   -- ---- the controller
 
-  module _ (i : Given) (brings : Brings w.sent i) where
+  module _ (i : Given) (comes : Comes c i) where
     abbrev controller_step : ControllerState × List Out
     controller_step = controller.next w.controller.state i
+
+    abbrev controller_world : WholeWorld
+    controller_world = gave w actors.Controller controller_step.1 (record w { controller = seated controller_step.0 })
 
     abbrev controller_after : Conf
     controller_after = with_controller c 0 controller_step.0 (given_out w.controller.state controller_step.0)
 
     controller_reaches : ControllerReaches m f c 0 w.controller.state controller_step
     controller_reaches =
-        controllers_reach m f c 0 w.controller.state i inv (λ session. refl) shown.controller at.stands.ranges.controller (came i brings)
+        controllers_reach m f c 0 w.controller.state i inv (λ session. refl) shown.controller at.stands.ranges.controller comes.may
 
     controller_in_ranges : AllFit controller_after × controller.IsWithin controller_step.0
     controller_in_ranges = controllers_stay_in_ranges c 0 w.controller.state i all_fit at.stands.ranges.controller
 
-    controller_stands : Stands f config (at_controller w (seated controller_step.0, Outputs controller_step.1)).world controller_after
+    controller_stands : Stands f config controller_world controller_after
     controller_stands = record {
       same = at.stands.same;
       actors = record {
@@ -252,10 +235,10 @@ module _ {S : Type 0} (m : Meaning S) (f : ℕ) (config : Configuration) (p : Pa
         controller = put-here c.controllers 0 (control_of controller_step.0);
       };
       carries = carries_by controller_after actors.Controller controller_step.1 controller_reaches controller_in_ranges.0;
-      talks = talks_by controller_after actors.Controller controller_step.1 controller_reaches controller_in_ranges.0;
-      ranges = record { clients = at.stands.ranges.clients; controller = controller_in_ranges.1 };
+      tells = at.stands.tells;
+      ranges = record { replicas = at.stands.ranges.replicas; clients = at.stands.ranges.clients; controller = controller_in_ranges.1 };
     }
 
-    pub controller_goes : Goes m f config p c (at_controller w (seated controller_step.0, Outputs controller_step.1))
-    controller_goes = goes_by (at_controller w (seated controller_step.0, Outputs controller_step.1)).world controller_after
-        actors.Controller controller_step.1 controller_reaches refl refl controller_stands
+    pub controller_goes : Goes m f config p c controller_world
+    controller_goes = goes_by controller_world controller_after
+        actors.Controller controller_step.1 controller_reaches refl refl refl controller_stands

@@ -1,5 +1,5 @@
 -- What is read of the network was sent, and what was sent is there.
-use Rattle.std.proofs.Common.{◌≡◌, ℕ, refl, sym, ap, subst, ◌∙◌, inl, inr, List, [], ◌++◌}
+use Rattle.std.proofs.Common.{◌≡◌, ℕ, refl, sym, ap, subst, ◌∙◌, inl, inr, List, ◌++◌}
 use Rattle.std.specs.Prelude.{◌⊎◌, Ok}
 use Rattle.nop_types.specs.Lists.{Has}
 use Rattle.nop_types.specs.Ranges.{DatagramFits}
@@ -14,13 +14,12 @@ use Rattle.oum_codec.proofs.Datagrams.{reads_again}
 use Rattle.protocol.specs.Conf.{Conf}
 use Rattle.protocol.specs.Evolves.{Keeps}
 use Rattle.network.specs.Network.{Sent, sends_of}
-use Rattle.delivery.specs.Network.{IsDatagram, IsOtherDatagram, SendsNoFragment}
-use Rattle.delivery.specs.PostedFragments.{fragment_read}
-use Rattle.refinement.specs.Datagrams.{WasSent, IsWhole, Arrived, Carries, AllCarry, Sends}
+use Rattle.delivery.specs.Network.{IsDatagram}
+use Rattle.refinement.specs.Datagrams.{WasSent, Arrived, Carries, AllCarry, Sends}
 use Rattle.refinement.specs.Ranges.{AllFit}
 use Rattle.refinement.proofs.SentRanges.{datagrams_fit}
-use Rattle.safety.specs.Shows.{IsThere}
-use Rattle.safety.proofs.Outputs.{all_bytes, sends_there, sends_are_outputs}
+use Rattle.whole_world.specs.Shows.{IsThere}
+use Rattle.whole_world.proofs.Outputs.{sends_there, sends_are_outputs}
 
 -- ---- what is read
 
@@ -51,24 +50,8 @@ sent_lasts c d keeps (datagrams.Fragment p) h = h
 
 -- ---- what an actor sends that is no replica
 
-no_fragment : (d : Datagram) → IsWhole d → fragment_read (Ok d) ≡ []
-no_fragment (datagrams.Request r) whole = refl
-no_fragment (datagrams.Stamped p) whole = refl
-no_fragment (datagrams.Reply y) whole = refl
-no_fragment (datagrams.Install sequencer session) whole = refl
-no_fragment (datagrams.Installed sequencer session) whole = refl
-no_fragment (datagrams.Ping sequencer round) whole = refl
-no_fragment (datagrams.Pong sequencer round) whole = refl
-no_fragment (datagrams.Fragment p) whole = absurd whole
-
-carried_spells : (c : Conf) → AllFit c → (bytes : List ℕ) → (h : Carries c bytes) → Spells h.datagram bytes
+pub carried_spells : (c : Conf) → AllFit c → (bytes : List ℕ) → (h : Carries c bytes) → Spells h.datagram bytes
 carried_spells c all bytes h = record { fits = datagrams_fit c h.datagram all h.whole h.sent; spelled = h.spelled }
-
--- it sends no fragment
-pub other_datagrams : (c : Conf) (xs : List Out) → AllFit c → AllCarry c xs → SendsNoFragment xs
-other_datagrams c xs all carry = all_bytes IsOtherDatagram xs (λ dest bytes h.
-    let t = carry dest bytes h in
-    record { datagram = t.datagram; spells = carried_spells c all bytes t; other = no_fragment t.datagram t.whole })
 
 -- whatever is read of the network afterwards was sent
 pub carries_after : (c d : Conf) (sent : List Sent) (from : Actor) (xs : List Out) → Keeps c d → AllFit d → AllCarry d xs
@@ -96,4 +79,14 @@ there_after c sent from xs x fits old h = elim h [
     has = Has-append_right sent (sends_of from xs) _ (sends_there from xs g.0 (spelling x) g.1);
     spells = record { fits = fits; spelled = refl };
   }
+]
+
+-- and each datagram is in its ranges afterwards
+pub spelled_after : (c : Conf) (sent : List Sent) (from : Actor) (xs : List Out) → AllFit c → AllCarry c xs
+    → ((s : Sent) → Has sent s → IsDatagram s.bytes) → (s : Sent) → Has (sent ++ sends_of from xs) s → IsDatagram s.bytes
+spelled_after c sent from xs all carry old s h = elim (Has-append_cases sent (sends_of from xs) s h) [
+  | inl i ↦ old s i
+  | inr i ↦ (
+      let o = sends_are_outputs from xs s i in
+      let t = carry o.dest s.bytes o.has in record { datagram = t.datagram; spells = carried_spells c all s.bytes t })
 ]

@@ -1,0 +1,84 @@
+-- What an actor that is no replica sends has no fragments, and the replicas stay.
+use Rattle.std.proofs.Common.{◌≡◌, Bool, true, false, List, [], ◌∷◌, ◌++◌, Option, Some, None, refl, ap, subst, ◌∙◌, inl, inr}
+use Rattle.std.specs.Prelude.{Result, Ok, Err, slice_get}
+use Rattle.nop_types.specs.Given.{Given}
+use Rattle.nop_types.specs.Lists.{Has}
+use Rattle.nop_types.specs.Meaning.{Meaning}
+use Rattle.nop_types.specs.declared.output.Actor.{Actor}
+use Rattle.nop_types.specs.declared.output.Actor.TheVariants as actors
+use Rattle.nop_types.specs.declared.output.Out.{Out}
+use Rattle.nop_types.specs.declared.output.Out.TheVariants as outs
+use Rattle.facts.proofs.Members.{Has-none, Has-cases}
+use Rattle.oum_codec.specs.Reading.{reading}
+use Rattle.client_quorum.specs.ClientSteps as client
+use Rattle.sequencer.specs.SequencerSteps as sequencer
+use Rattle.session_control.specs.ControllerSteps as controller
+use Rattle.schedule_text.specs.declared.event.Event.{Event}
+use Rattle.network.specs.Network.{Sent, Did, sends_of, sends_by}
+use Rattle.world.specs.Seats.{Seated, Stimulus, Takes, Crashes, moved_if, seat_step}
+use Rattle.world.specs.WorldSteps.{WorldState, Happened, Refusal, actor_of, stimulus_of, at_sequencer, at_client, at_controller}
+use Rattle.world.specs.WorldSteps.{then_at, step_at, step_of, step}
+use Rattle.safety.specs.Following.{is_fragment}
+use Rattle.safety.proofs.Beside.{is_replica}
+use Rattle.safety.proofs.Sends.{AreOther, client_sends, sequencer_sends, controller_sends}
+
+-- each of these datagrams is no fragment
+pub record NoFragments (more : List Sent) : Type 0 where
+  pub each : (s : Sent) → Has more s → is_fragment (reading s.bytes) ≡ false
+
+-- the world after the event has these datagrams more, and the same replicas
+pub record SentOthers (t : WorldState) (h : Happened) : Type 0 where
+  pub more : List Sent
+  pub none : NoFragments more
+  pub sent : h.world.sent ≡ t.sent ++ more
+  pub replicas : h.world.replicas ≡ t.replicas
+
+none_sent : NoFragments []
+none_sent = record { each = λ s h. absurd (Has-none s h) }
+
+others_in : (from : Actor) (os : List Out) → AreOther os → NoFragments (sends_of from os)
+others_in from [] all = none_sent
+others_in from (outs.Send dest bytes ∷ rest) all = record {
+  each = λ s h. elim (Has-cases s (record { from = from; dest = dest; bytes = bytes }) (sends_of from rest) h) [
+    | inl e ↦ ap (λ (x : Sent). is_fragment (reading x.bytes)) e ∙ all.0
+    | inr j ↦ (others_in from rest all.1).each s j
+  ];
+}
+others_in from (outs.Submitted r ∷ rest) all = others_in from rest all
+others_in from (outs.Accepted client id result ∷ rest) all = others_in from rest all
+others_in from (outs.Busy client ∷ rest) all = others_in from rest all
+
+module _ {A : Type 0} (next : A → Given → A × List Out) (sends : (s : A) (g : Given) → AreOther (next s g).1) (from : Actor) where
+  moved_others : (p : Seated A) (b : Bool) (what : Stimulus) → NoFragments (sends_by from (moved_if next b p what).1)
+  moved_others p true what = none_sent
+  moved_others p false (Takes g) = others_in from (next p.state g).1 (sends p.state g)
+  moved_others p false Crashes = none_sent
+
+  seat_others : (t : WorldState) (act : Seated A × Did → Happened) (o : Option (Seated A)) (r : Result Stimulus Refusal) (h : Happened)
+      → ((x : Seated A × Did) → ((act x).world.sent ≡ t.sent ++ sends_by from x.1) × ((act x).world.replicas ≡ t.replicas))
+      → then_at act (step_at next o r) ≡ Ok h → SentOthers t h
+  seat_others t act None r h is e = absurd cc
+  seat_others t act (Some p) (Err refusal) h is e = absurd cc
+  seat_others t act (Some p) (Ok what) h is e =
+      let same : act (seat_step next p what) ≡ h = cc in
+      subst (SentOthers t) same (record {
+        more = sends_by from (seat_step next p what).1;
+        none = moved_others p p.crashed what;
+        sent = (is (seat_step next p what)).0;
+        replicas = (is (seat_step next p what)).1;
+      })
+
+module _ {S : Type 0} (m : Meaning S) (t : WorldState) (h : Happened) where
+  actor_sends : (a : Actor) (r : Result Stimulus Refusal) → is_replica a ≡ false → step_of m t a r ≡ Ok h → SentOthers t h
+  actor_sends (actors.Replica i) r other e = absurd cc
+  actor_sends (actors.Sequencer j) r other e =
+      seat_others sequencer.next sequencer_sends (actors.Sequencer j) t (at_sequencer t j) (slice_get t.sequencers j) r h
+      (λ x. (refl, refl)) e
+  actor_sends (actors.Client k) r other e =
+      seat_others client.next client_sends (actors.Client k) t (at_client t k) (slice_get t.clients k) r h (λ x. (refl, refl)) e
+  actor_sends actors.Controller r other e =
+      seat_others controller.next controller_sends actors.Controller t (at_controller t) (Some t.controller) r h (λ x. (refl, refl)) e
+
+  pub others_send : (e : Event) → is_replica (actor_of e) ≡ false → step m t e ≡ Ok h → SentOthers t h
+  unfolding step
+  others_send e other is = actor_sends (actor_of e) (stimulus_of t.config t.sent e) other is

@@ -1,0 +1,398 @@
+-- An event of a replica: its row is that of the whole replica, and what it posts are the letters.
+use Rattle.std.proofs.Common.{◌≡◌, ℕ, zero, suc, ◌+◌, Bool, true, false, List, [], ◌∷◌, ◌++◌, length, Option, Some, None}
+use Rattle.std.proofs.Common.{refl, sym, ap, subst, ◌∙◌, arith}
+use Rattle.std.specs.Prelude.{Result, Ok, Err, ◌&&◌, not, filter, map, slice_get, slice_set, nat_lt}
+use Rattle.std.proofs.lemmas.Bool.{eq-eqb}
+use Rattle.std.proofs.lemmas.List.{append-nil}
+use Rattle.nop_types.specs.Given.{Given, Packet, Ticked}
+use Rattle.nop_types.specs.Lines.{Line}
+use Rattle.nop_types.specs.Meaning.{Meaning}
+use Rattle.nop_types.specs.declared.datagram.Datagram.{Datagram}
+use Rattle.nop_types.specs.declared.datagram.Datagram.TheVariants as datagrams
+use Rattle.nop_types.specs.declared.datagram.Fragment.{Fragment}
+use Rattle.nop_types.specs.declared.input.Tick.{Tick}
+use Rattle.nop_types.specs.declared.input.Tick.TheVariants as ticks
+use Rattle.nop_types.specs.declared.output.Actor.{Actor}
+use Rattle.nop_types.specs.declared.output.Actor.TheVariants as actors
+use Rattle.nop_types.specs.declared.output.Dest.{Dest}
+use Rattle.nop_types.specs.declared.output.Out.{Out}
+use Rattle.nop_types.specs.declared.output.Out.TheVariants as outs
+use Rattle.nop_types.specs.declared.peer.Peer.{Peer}
+use Rattle.oum_codec.specs.declared.bad.Bad.{Bad}
+use Rattle.oum_codec.specs.Reading.{reading}
+use Rattle.peer_codec.specs.declared.bad_peer.BadPeer.{BadPeer}
+use Rattle.peer_codec.specs.Reading as peers
+use Rattle.peer_codec.specs.Spelling as peer
+use Rattle.fragments.specs.Cutting as cutting
+use Rattle.fragments.specs.Joining.{Waiting, taken}
+use Rattle.replica_state.specs.State.{is_other}
+use Rattle.replica_state.specs.Sends.{Effect, still, message_count}
+use Rattle.replica_state.specs.declared.sending.Sending.{Sending}
+use Rattle.replica_state.specs.declared.sending.Sending.TheVariants.{ToClient, ToReplicas}
+use Rattle.replica_state.specs.declared.state.ReplicaState.{ReplicaState}
+use Rattle.replica_rows.specs.Messages as messages
+use Rattle.replica_core.specs.declared.replica.TheConstants.{LAST_MESSAGE}
+use Rattle.replica_core.specs.Posting.{posted}
+use Rattle.replica_core.specs.ReplicaSteps as replica
+use Rattle.replica_core.specs.ReplicaSteps.{Replica}
+use Rattle.replica_rows.specs.Within.{ResultsShort}
+use Rattle.delivery.specs.Network.{MayCome}
+use Rattle.delivery.proofs.Steps.{step_delivers}
+use Rattle.schedule_text.specs.Ticks.{takes_tick}
+use Rattle.schedule_text.specs.declared.event.Event.{Event}
+use Rattle.schedule_text.specs.declared.event.Event.TheVariants as events
+use Rattle.network.specs.Network.{Sent, Did, Nothing, Outputs, sends_of, sends_by, lines_by}
+use Rattle.world.specs.Seats.{Seated, Stimulus, Takes, Crashes, seated, moved_if, seat_step}
+use Rattle.world.specs.WorldSteps.{WorldState, Happened, Refusal, actor_of, tick_if, datagram_at, junk_of, stimulus_of, then_at, step_at}
+use Rattle.world.specs.WorldSteps.{step_of, step, at_replica}
+use Rattle.world.proofs.Places.{slice_set-found}
+use Rattle.safety.specs.Following.{brought, sent_to, datagram_to, fragment_at, fragment_if, completes, is_spoken, is_fragment, other_datagrams, plain}
+use Rattle.safety.specs.Shows.{bytes_of}
+use Rattle.safety.proofs.Beside.{Alike, Travels, Beside, JoinsLetter, whole_of}
+use Rattle.safety.proofs.Coming.{AllMayCome}
+use Rattle.whole_world.proofs.RowRanges.{RowFits}
+use Rattle.whole_world.specs.Whole as whole
+use Rattle.whole_world.specs.Whole.{WholeReplica, WholeWorld, Letter, Brings, given_if, junk_if, is_crash, lines_of}
+use Rattle.whole_world.specs.Whole.{whole_step, step_replica, effect_of, arrival_of, arrival_given, arrival_read, told_if}
+use Rattle.safety.proofs.Others.{other_was_sent, lines_go_on, sends_go_on}
+use Rattle.safety.proofs.Posted.{posted_others}
+use Rattle.safety.proofs.Sends.{lines_spoken}
+use Rattle.safety.proofs.Travels.{travels_quiet, travels_row}
+
+-- ---- the lists of replicas
+
+abbrev made : ReplicaState → ℕ → Bool → Seated WholeReplica
+made s n c = record { state = record { state = s; messages = n }; crashed = c }
+
+plain_set : (ps : List (Seated Replica)) (i : ℕ) (p : Seated Replica) → map plain (slice_set ps i p) ≡ slice_set (map plain ps) i (plain p)
+plain_set [] i p = refl
+plain_set (x ∷ ps) zero p = refl
+plain_set (x ∷ ps) (suc i) p = ap (λ (qs : List (Seated WholeReplica)). plain x ∷ qs) (plain_set ps i p)
+
+pub plain_found : (ps : List (Seated Replica)) (i : ℕ) (p : Seated Replica) → slice_get ps i ≡ Some p → slice_get (map plain ps) i ≡ Some (plain p)
+plain_found [] i p e = absurd cc
+plain_found (x ∷ ps) zero p e = let same : x ≡ p = cc in ap (λ (y : Seated Replica). Some (plain y)) same
+plain_found (x ∷ ps) (suc i) p e = plain_found ps i p e
+
+-- ---- what is posted has no lines
+
+lines_append : (xs ys : List Out) → lines_of xs ≡ [] → lines_of ys ≡ [] → lines_of (xs ++ ys) ≡ []
+lines_append [] ys a b = b
+lines_append (outs.Send dest bytes ∷ xs) ys a b = lines_append xs ys a b
+lines_append (outs.Submitted r ∷ xs) ys a b = absurd cc
+lines_append (outs.Accepted client id result ∷ xs) ys a b = absurd cc
+lines_append (outs.Busy client ∷ xs) ys a b = absurd cc
+
+fragments_silent : (dest : Dest) (fs : List Fragment) → lines_of (cutting.sends_of dest fs) ≡ []
+fragments_silent dest [] = refl
+fragments_silent dest (f ∷ fs) = fragments_silent dest fs
+
+posted_silent : (n : ℕ) (sends : List Sending) → lines_of (posted n sends) ≡ []
+unfolding posted
+posted_silent n [] = refl
+posted_silent n (ToClient r ∷ sends) = posted_silent n sends
+posted_silent n (ToReplicas dest p ∷ sends) =
+    lines_append (cutting.sends_of dest (cutting.fragments_of p.sender (n + 1) (peer.spelling p))) (posted (n + 1) sends)
+    (fragments_silent dest (cutting.fragments_of p.sender (n + 1) (peer.spelling p))) (posted_silent (n + 1) sends)
+
+-- ---- a row
+
+-- a step with the effect of a row over whole messages
+record Does (s : Replica) (result : Replica × List Out) (e : Effect) : Type 0 where
+  pub state : result.0.state ≡ e.0
+  pub messages : result.0.messages ≡ s.messages + message_count e.1
+  pub outs : result.1 ≡ posted s.messages e.1
+
+rests : (s t : Replica) → t.state ≡ s.state → t.messages ≡ s.messages → Does s (t, []) (still s.state)
+unfolding posted
+rests s t a b = record { state = a; messages = b ∙ (let more : s.messages ≡ s.messages + 0 = omega arith in more); outs = refl }
+
+module _ {S : Type 0} (m : Meaning S) where
+  row_if_does : (b : Bool) (s : Replica) (waiting : List Waiting) (a : messages.Arrival)
+      → Does s (replica.row_if m b (record s { reassembly = waiting }) a) (whole.row_if m b s.state a)
+  row_if_does true s waiting a = record { state = refl; messages = refl; outs = refl }
+  row_if_does false s waiting a = rests s (record s { reassembly = waiting }) refl refl
+
+  row_does : (s : Replica) (waiting : List Waiting) (a : messages.Arrival)
+      → Does s (replica.row m (record s { reassembly = waiting }) a) (effect_of m (whole_of s) (Some a))
+  row_does s waiting a = row_if_does (nat_lt s.messages LAST_MESSAGE) s waiting a
+
+  module _ (w : WholeWorld) (s : Replica) where
+    abbrev DoesOf : Replica × List Out → Brings → Type 0
+    DoesOf result g = Does s result (effect_of m (whole_of s) (arrival_of w g))
+
+    letter_does : (f : Fragment) (bytes : List ℕ) (waiting : List Waiting) → JoinsLetter w f bytes
+        → DoesOf (replica.read m (record s { reassembly = waiting }) f.replica (peers.reading bytes)) (whole.Message f.replica f.message)
+    letter_does f bytes waiting j =
+        let told : arrival_of w (whole.Message f.replica f.message) ≡ Some (messages.Told j.peer) =
+        ap told_if j.letter in
+        let took : replica.read m (record s { reassembly = waiting }) f.replica (peers.reading bytes)
+        ≡ replica.row m (record s { reassembly = waiting }) (messages.Told j.peer) =
+        ap (λ (r : Result Peer BadPeer). replica.read m (record s { reassembly = waiting }) f.replica r) j.read
+        ∙ ap (λ (x : Bool). replica.of_sender_if m x (record s { reassembly = waiting }) j.peer) (eq-eqb j.peer.sender f.replica j.sender) in
+        subst (λ (r : Replica × List Out). DoesOf r (whole.Message f.replica f.message)) (sym took)
+        (subst (λ (o : Option messages.Arrival). Does s (replica.row m (record s { reassembly = waiting }) (messages.Told j.peer))
+        (effect_of m (whole_of s) o)) (sym told) (row_does s waiting (messages.Told j.peer)))
+
+    joined_does : (f : Fragment) (waiting : List Waiting) (o : Option (List ℕ))
+        → ((bytes : List ℕ) → o ≡ Some bytes → JoinsLetter w f bytes)
+        → DoesOf (replica.joined m (record s { reassembly = waiting }) f.replica o) (completes f o)
+    joined_does f waiting None j = rests s (record s { reassembly = waiting }) refl refl
+    joined_does f waiting (Some bytes) j = letter_does f bytes waiting (j bytes refl)
+
+    fragment_if_does : (f : Fragment) (c : Bool) → ((bytes : List ℕ) → (taken s.reassembly f).1 ≡ Some bytes → JoinsLetter w f bytes)
+        → DoesOf (replica.fragment_if m c s f) (fragment_if c s f)
+    fragment_if_does f true j = joined_does f (taken s.reassembly f).0 (taken s.reassembly f).1 j
+    fragment_if_does f false j = rests s s refl refl
+
+    -- what is read of bytes that both worlds have
+    read_does : (g : Brings) (bytes : List ℕ) (r : Result Datagram Bad) → reading bytes ≡ r → is_fragment r ≡ false
+        → arrival_of w g ≡ arrival_read (reading bytes) → DoesOf (replica.on_datagram m s r) g
+    read_does g bytes (Ok (datagrams.Fragment f)) is c a = absurd cc
+    read_does g bytes r is c a =
+        subst (λ (o : Option messages.Arrival). Does s (replica.on_datagram m s r) (effect_of m (whole_of s) o))
+        (sym (a ∙ ap arrival_read is)) (by r c)
+      where
+        by : (x : Result Datagram Bad) → is_fragment x ≡ false
+            → Does s (replica.on_datagram m s x) (effect_of m (whole_of s) (arrival_read x))
+        by (Ok (datagrams.Stamped p)) d = row_does s s.reassembly (messages.Packet p)
+        by (Ok (datagrams.Fragment f)) d = absurd cc
+        by (Ok (datagrams.Request q)) d = rests s s refl refl
+        by (Ok (datagrams.Reply q)) d = rests s s refl refl
+        by (Ok (datagrams.Install j n)) d = rests s s refl refl
+        by (Ok (datagrams.Installed j n)) d = rests s s refl refl
+        by (Ok (datagrams.Ping j n)) d = rests s s refl refl
+        by (Ok (datagrams.Pong j n)) d = rests s s refl refl
+        by (Err bad) d = rests s s refl refl
+
+-- ---- by the event
+
+completes_is : (f : Fragment) (o : Option (List ℕ)) → is_crash (completes f o) ≡ false
+completes_is f None = refl
+completes_is f (Some bytes) = refl
+
+fragment_is : (c : Bool) (s : Replica) (f : Fragment) → is_crash (fragment_if c s f) ≡ false
+fragment_is true s f = completes_is f (taken s.reassembly f).1
+fragment_is false s f = refl
+
+module _ {S : Type 0} (m : Meaning S) (t : WorldState) (ls : List Line) (v : WholeWorld) (follows : Alike t ls v) (i : ℕ)
+    (p : Seated Replica) (found : slice_get t.replicas i ≡ Some p) where
+  abbrev s : Replica
+  s = p.state
+
+  -- what fragments complete here is the letter of their sender and number
+  abbrev pub Joins : Type 0
+  Joins = (k : ℕ) (x : Sent) (f : Fragment) (bytes : List ℕ) → slice_get t.sent k ≡ Some x → reading x.bytes ≡ Ok (datagrams.Fragment f)
+      → (taken s.reassembly f).1 ≡ Some bytes → JoinsLetter v f bytes
+
+  abbrev Goes : Given → Brings → Type 0
+  Goes g x = (is_crash x ≡ false) × Does s (replica.next m s g) (effect_of m (whole_of s) (arrival_of v x))
+
+  module _ (live : p.crashed ≡ false) where
+    bytes_go : (x : Brings) (bytes : List ℕ) (r : Result Datagram Bad) → reading bytes ≡ r → is_fragment r ≡ false → is_crash x ≡ false
+        → arrival_of v x ≡ arrival_read (reading bytes) → Goes (Packet bytes) x
+    unfolding replica.next
+    bytes_go x bytes r is c crash a = (
+      crash,
+      subst (λ (y : Result Datagram Bad). Does s (replica.on_datagram m s y) (effect_of m (whole_of s) (arrival_of v x)))
+          (sym is) (read_does m v s x bytes r is c a),
+    )
+
+    equal_goes : (k : ℕ) (x : Sent) → slice_get t.sent k ≡ Some x → (r : Result Datagram Bad) → reading x.bytes ≡ r
+        → is_fragment r ≡ false → Goes (Packet x.bytes) (whole.Equal x.bytes)
+    equal_goes k x at r is c =
+        bytes_go (whole.Equal x.bytes) x.bytes r is c refl
+        (ap (λ (y : Bool). arrival_given (given_if y x.bytes))
+        (other_was_sent t.sent v.sent k x follows.sent at (ap is_fragment is ∙ c)))
+
+    fragment_goes : (x : Sent) (f : Fragment) → reading x.bytes ≡ Ok (datagrams.Fragment f)
+        → ((bytes : List ℕ) → (taken s.reassembly f).1 ≡ Some bytes → JoinsLetter v f bytes)
+        → Goes (Packet x.bytes) (datagram_to t (actors.Replica i) x.bytes (Ok (datagrams.Fragment f)))
+    unfolding replica.next replica.fragment
+    fragment_goes x f is joins =
+        let here : datagram_to t (actors.Replica i) x.bytes (Ok (datagrams.Fragment f)) ≡ fragment_if (is_other s.state f.replica) s f =
+        ap (λ (o : Option (Seated Replica)). fragment_at o f) found
+        ∙ ap (λ (c : Bool). fragment_if (not c && is_other s.state f.replica) s f) live in
+        subst (λ (y : Brings). Goes (Packet x.bytes) y) (sym here) (
+          fragment_is (is_other s.state f.replica) s f,
+          subst (λ (y : Result Datagram Bad). Does s (replica.on_datagram m s y)
+              (effect_of m (whole_of s) (arrival_of v (fragment_if (is_other s.state f.replica) s f)))) (sym is)
+              (fragment_if_does m v s f (is_other s.state f.replica) joins),
+        )
+
+    packet_goes : (k : ℕ) (x : Sent) → slice_get t.sent k ≡ Some x → (r : Result Datagram Bad) → reading x.bytes ≡ r
+        → ((f : Fragment) (bytes : List ℕ) → reading x.bytes ≡ Ok (datagrams.Fragment f) → (taken s.reassembly f).1 ≡ Some bytes
+        → JoinsLetter v f bytes) → Goes (Packet x.bytes) (datagram_to t (actors.Replica i) x.bytes r)
+    packet_goes k x at (Ok (datagrams.Fragment f)) is joins = fragment_goes x f is (λ bytes. joins f bytes is)
+    packet_goes k x at (Ok (datagrams.Stamped q)) is joins = equal_goes k x at (Ok (datagrams.Stamped q)) is refl
+    packet_goes k x at (Ok (datagrams.Request q)) is joins = equal_goes k x at (Ok (datagrams.Request q)) is refl
+    packet_goes k x at (Ok (datagrams.Reply q)) is joins = equal_goes k x at (Ok (datagrams.Reply q)) is refl
+    packet_goes k x at (Ok (datagrams.Install j n)) is joins = equal_goes k x at (Ok (datagrams.Install j n)) is refl
+    packet_goes k x at (Ok (datagrams.Installed j n)) is joins = equal_goes k x at (Ok (datagrams.Installed j n)) is refl
+    packet_goes k x at (Ok (datagrams.Ping j n)) is joins = equal_goes k x at (Ok (datagrams.Ping j n)) is refl
+    packet_goes k x at (Ok (datagrams.Pong j n)) is joins = equal_goes k x at (Ok (datagrams.Pong j n)) is refl
+    packet_goes k x at (Err bad) is joins = equal_goes k x at (Err bad) is refl
+
+    sent_goes : (k : ℕ) (o : Option Sent) → slice_get t.sent k ≡ o → (g : Given) → datagram_at k (length t.sent) o ≡ Ok (Takes g)
+        → ((x : Sent) (f : Fragment) (bytes : List ℕ) → slice_get t.sent k ≡ Some x → reading x.bytes ≡ Ok (datagrams.Fragment f)
+        → (taken s.reassembly f).1 ≡ Some bytes → JoinsLetter v f bytes) → Goes g (sent_to t (actors.Replica i) o)
+    sent_goes k None at g is joins = absurd cc
+    sent_goes k (Some x) at g is joins =
+        let same : Packet x.bytes ≡ g = cc in
+        subst (λ (y : Given). Goes y (sent_to t (actors.Replica i) (Some x))) same
+        (packet_goes k x at (reading x.bytes) refl (λ f bytes. joins x f bytes at))
+
+    tick_goes : (c : Bool) (tick : Tick) (g : Given) → tick_if c tick ≡ Ok (Takes g) → Goes g (whole.Timer tick)
+    unfolding replica.next
+    tick_goes false tick g is = absurd cc
+    tick_goes true tick g is =
+        let same : Ticked tick ≡ g = cc in
+        subst (λ (y : Given). Goes y (whole.Timer tick)) same (refl, row_does m s s.reassembly (messages.Ticked tick))
+
+    junk_goes : (bytes : List ℕ) (r : Result Datagram Bad) → reading bytes ≡ r → (g : Given) → junk_of bytes r ≡ Ok (Takes g)
+        → Goes g (whole.Junk bytes)
+    junk_goes bytes (Ok d) is g e = absurd cc
+    junk_goes bytes (Err bad) is g e =
+        let same : Packet bytes ≡ g = cc in
+        subst (λ (y : Given). Goes y (whole.Junk bytes)) same
+        (bytes_go (whole.Junk bytes) bytes (Err bad) is refl refl
+        (ap (λ (y : Result Datagram Bad). arrival_given (junk_if y bytes)) is))
+
+    event_goes : (e : Event) → actor_of e ≡ actors.Replica i → Joins → (g : Given)
+        → stimulus_of t.config t.sent e ≡ Ok (Takes g) → Goes g (brought t e)
+    unfolding stimulus_of
+    event_goes (events.Submit number op) at joins g is = absurd cc
+    event_goes (events.Deliver k actor) at joins g is =
+        subst (λ (a : Actor). Goes g (sent_to t a (slice_get t.sent k))) (sym at)
+        (sent_goes k (slice_get t.sent k) refl g is (joins k))
+    event_goes (events.Tick actor tick) at joins g is = tick_goes (takes_tick actor tick) tick g is
+    event_goes (events.Install number) at joins g is = absurd cc
+    event_goes (events.Crash actor) at joins g is = absurd cc
+    event_goes (events.Junk actor bytes) at joins g is = junk_goes bytes (reading bytes) refl g is
+
+  -- a crash brings a crash
+  sent_crashes : (k : ℕ) (n : ℕ) (o : Option Sent) → datagram_at k n o ≡ Ok Crashes → ⊥
+  sent_crashes k n None is = absurd cc
+  sent_crashes k n (Some x) is = absurd cc
+
+  tick_crashes : (c : Bool) (tick : Tick) → tick_if c tick ≡ Ok Crashes → ⊥
+  tick_crashes true tick is = absurd cc
+  tick_crashes false tick is = absurd cc
+
+  junk_crashes : (bytes : List ℕ) (r : Result Datagram Bad) → junk_of bytes r ≡ Ok Crashes → ⊥
+  junk_crashes bytes (Ok d) is = absurd cc
+  junk_crashes bytes (Err bad) is = absurd cc
+
+  crash_brings : (e : Event) → stimulus_of t.config t.sent e ≡ Ok Crashes → is_crash (brought t e) ≡ true
+  unfolding stimulus_of
+  crash_brings (events.Submit number op) is = absurd cc
+  crash_brings (events.Deliver k actor) is = absurd (sent_crashes k (length t.sent) (slice_get t.sent k) is)
+  crash_brings (events.Tick actor tick) is = absurd (tick_crashes (takes_tick actor tick) tick is)
+  crash_brings (events.Install number) is = absurd (tick_crashes (nat_lt number t.config.sequencers) (ticks.Install number) is)
+  crash_brings (events.Crash actor) is = refl
+  crash_brings (events.Junk actor bytes) is = absurd (junk_crashes bytes (reading bytes) is)
+
+  -- ---- the worlds afterwards
+
+  module _ (short : ResultsShort m) (travels : Travels t.sent t.replicas v.letters) where
+    abbrev from : Actor
+    from = actors.Replica i
+
+    abbrev After : Happened → WholeWorld → Type 0
+    After h u = Beside h.world (ls ++ h.lines) u
+
+    abbrev row_of : Event → Effect
+    row_of e = effect_of m (whole_of s) (arrival_of v (brought t e))
+
+    set_plain : (x : Seated Replica) (q : Seated WholeReplica) → plain x ≡ q
+        → map plain (slice_set t.replicas i x) ≡ slice_set v.replicas i q
+    set_plain x q e = plain_set t.replicas i x
+        ∙ ap (λ (qs : List (Seated WholeReplica)). slice_set qs i (plain x)) follows.replicas
+        ∙ ap (λ (y : Seated WholeReplica). slice_set v.replicas i y) e
+
+    -- where the real replica is x, and the whole ones are plain
+    settles : (x : Seated Replica × Did) (qs : List (Seated WholeReplica)) (more : List Sent) (letters : List Letter)
+        → map plain (slice_set t.replicas i x.0) ≡ qs → other_datagrams (sends_by from x.1) ≡ more
+        → filter is_spoken (lines_by from (length t.sent) x.1) ≡ [] → Travels (t.sent ++ sends_by from x.1) (slice_set t.replicas i x.0) letters
+        → After (at_replica t i x) (record v { replicas = qs; sent = v.sent ++ more; letters = letters })
+    settles x qs more letters same sent silent carries = record {
+      alike = record {
+        lines = lines_go_on m t ls v follows (lines_by from (length t.sent) x.1) [] silent ∙ append-nil v.lines;
+        sent = sends_go_on m t ls v follows (sends_by from x.1) more sent;
+        config = follows.config;
+        replicas = same;
+        sequencers = follows.sequencers;
+        clients = follows.clients;
+        controller = follows.controller;
+      };
+      travels = carries;
+    }
+
+    -- the whole world where nothing is sent
+    nothing_more : (x : Seated Replica) (did : Did) (qs : List (Seated WholeReplica)) → map plain (slice_set t.replicas i x) ≡ qs
+        → sends_by from did ≡ [] → filter is_spoken (lines_by from (length t.sent) did) ≡ [] → x.state ≡ s
+        → After (at_replica t i (x, did)) (record v { replicas = qs })
+    nothing_more x did qs same none silent keeps =
+        subst (λ (ss : List Sent). After (at_replica t i (x, did)) (record v { replicas = qs; sent = ss })) (append-nil v.sent)
+        (settles (x, did) qs [] v.letters same (ap other_datagrams none) silent
+        (subst (λ (ss : List Sent). Travels (t.sent ++ ss) (slice_set t.replicas i x) v.letters) (sym none)
+        (travels_quiet t.sent t.replicas v.letters i p x found keeps travels)))
+
+    row_after : (g : Given) (e : Effect) → Does s (replica.next m s g) e → RowFits i (whole_of s) e → MayCome (bytes_of t.sent) g
+        → After (at_replica t i (seated (replica.next m s g).0, Outputs (replica.next m s g).1)) (whole.posts v i (whole_of s) e)
+    row_after g e does fits may =
+        let r : Replica × List Out = replica.next m s g in
+        let delivers = step_delivers m short travels.posts.told (bytes_of t.sent) travels.used i s g travels.posts.network
+        (travels.members i p found) may in
+        settles (seated r.0, Outputs r.1) (slice_set v.replicas i (seated (whole.after_row (whole_of s) e)))
+        (sends_of from (whole.replies_in e.1)) (v.letters ++ whole.letters_in s.messages e.1)
+        (set_plain (seated r.0) (seated (whole.after_row (whole_of s) e))
+        (ap (λ (y : ReplicaState). made y r.0.messages false) does.state ∙ ap (λ (n : ℕ). made e.0 n false) does.messages))
+        (ap (λ (os : List Out). other_datagrams (sends_of from os)) does.outs
+        ∙ posted_others from s.messages e.1 fits.ranges.sends fits.high)
+        (lines_spoken from (length t.sent) r.1 ∙ ap lines_of does.outs ∙ posted_silent s.messages e.1)
+        (travels_row t.sent t.replicas v.letters i p (seated r.0) r.1 e.1 found fits.ranges.sends fits.by fits.high does.outs does.messages
+        travels delivers.replica)
+
+    acts : (e : Event) → actor_of e ≡ actors.Replica i → Joins → RowFits i (whole_of s) (row_of e) → (what : Stimulus)
+        → stimulus_of t.config t.sent e ≡ Ok what → AllMayCome (bytes_of t.sent) what → (c : Bool) → p.crashed ≡ c
+        → After (at_replica t i (moved_if (replica.next m) c p what)) (whole.at_replica m v i (plain p) c (brought t e))
+    acts e at joins fits what is may true c =
+        nothing_more p Nothing v.replicas
+        (ap (map plain) (slice_set-found t.replicas i p found) ∙ follows.replicas) refl refl refl
+    acts e at joins fits Crashes is may false c =
+        let gone : Seated Replica = record { state = s; crashed = true } in
+        subst (λ (y : Bool). After (at_replica t i (gone, Outputs [])) (whole.live_replica m v i (plain p) y (brought t e)))
+        (sym (crash_brings e is))
+        (nothing_more gone (Outputs []) (slice_set v.replicas i (made s.state s.messages true))
+        (set_plain gone (made s.state s.messages true) refl) refl refl refl)
+    acts e at joins fits (Takes g) is may false c =
+        let goes : Goes g (brought t e) = event_goes c e at joins g is in
+        subst (λ (y : Bool). After (at_replica t i (seated (replica.next m s g).0, Outputs (replica.next m s g).1))
+        (whole.live_replica m v i (plain p) y (brought t e))) (sym goes.0)
+        (row_after g (row_of e) goes.1 fits may)
+
+    steps : (e : Event) → actor_of e ≡ actors.Replica i → Joins → RowFits i (whole_of s) (row_of e)
+        → ((what : Stimulus) → stimulus_of t.config t.sent e ≡ Ok what → AllMayCome (bytes_of t.sent) what)
+        → (h : Happened) (r : Result Stimulus Refusal)
+        → stimulus_of t.config t.sent e ≡ r → then_at (at_replica t i) (step_at (replica.next m) (Some p) r) ≡ Ok h
+        → After h (step_replica m v i (Some (plain p)) (brought t e))
+    steps e at joins fits may h (Err refusal) is got = absurd cc
+    steps e at joins fits may h (Ok what) is got =
+        let same : at_replica t i (seat_step (replica.next m) p what) ≡ h = cc in
+        subst (λ (y : Happened). After y (step_replica m v i (Some (plain p)) (brought t e))) same
+        (acts e at joins fits what is (may what is) p.crashed refl)
+
+    pub replica_follows : (e : Event) → actor_of e ≡ actors.Replica i → Joins → RowFits i (whole_of s) (row_of e)
+        → ((what : Stimulus) → stimulus_of t.config t.sent e ≡ Ok what → AllMayCome (bytes_of t.sent) what)
+        → (h : Happened) → step m t e ≡ Ok h → After h (whole_step m v (actor_of e) (brought t e))
+    unfolding step
+    replica_follows e at joins fits may h is =
+        let there : slice_get v.replicas i ≡ Some (plain p) =
+        ap (λ (qs : List (Seated WholeReplica)). slice_get qs i) (sym follows.replicas) ∙ plain_found t.replicas i p found in
+        let real : then_at (at_replica t i) (step_at (replica.next m) (Some p) (stimulus_of t.config t.sent e)) ≡ Ok h =
+        ap (λ (o : Option (Seated Replica)). then_at (at_replica t i) (step_at (replica.next m) o (stimulus_of t.config t.sent e)))
+        (sym found) ∙ ap (λ (a : Actor). step_of m t a (stimulus_of t.config t.sent e)) (sym at) ∙ is in
+        subst (λ (a : Actor). After h (whole_step m v a (brought t e))) (sym at)
+        (subst (λ (o : Option (Seated WholeReplica)). After h (step_replica m v i o (brought t e))) (sym there)
+        (steps e at joins fits may h (stimulus_of t.config t.sent e) refl real))

@@ -1,0 +1,295 @@
+-- What an actor that is no replica sends is no fragment, and its lines are those of which the whole world speaks.
+use Rattle.std.proofs.Common.{◌≡◌, ℕ, ◌+◌, Bool, true, false, cond, List, [], ◌∷◌, Option, Some, None, refl, ap}
+use Rattle.std.specs.Prelude.{Result, Ok, Err, not, filter, ⊤}
+use Rattle.nop_types.specs.Given.{Given, Packet, Ticked, Submit}
+use Rattle.nop_types.specs.Lines.{Line}
+use Rattle.nop_types.specs.Lines as lines
+use Rattle.nop_types.specs.declared.datagram.Datagram.{Datagram}
+use Rattle.nop_types.specs.declared.datagram.Datagram.TheVariants as datagrams
+use Rattle.nop_types.specs.declared.datagram.Fragment.{Fragment}
+use Rattle.nop_types.specs.declared.datagram.Reply.{Reply}
+use Rattle.nop_types.specs.declared.datagram.Stamped.{Stamped}
+use Rattle.nop_types.specs.declared.input.Tick.{Tick}
+use Rattle.nop_types.specs.declared.input.Tick.TheVariants as ticks
+use Rattle.nop_types.specs.declared.output.Actor.{Actor}
+use Rattle.nop_types.specs.declared.output.Out.{Out}
+use Rattle.nop_types.specs.declared.output.Out.TheVariants as outs
+use Rattle.nop_types.specs.declared.request.Request.{Request}
+use Rattle.oum_codec.specs.declared.bad.Bad.{Bad}
+use Rattle.oum_codec.specs.Fixed.{request_fields_at, request_in_range, stamped_fields_at, stamped_in_range, reply_fields_at, reply_in_range}
+use Rattle.oum_codec.specs.Reading.{◌>>=◌, fields_of, sized, reading, request_of, stamped_of, reply_of, signal_of}
+use Rattle.oum_codec.specs.Spelling.{spelling, request_bytes, stamped_bytes, reply_bytes, signal_bytes}
+use Rattle.client_quorum.specs.ClientSteps as client
+use Rattle.client_quorum.specs.KeptReplies.{quorum_of}
+use Rattle.client_quorum.specs.declared.state.ClientState.{ClientState}
+use Rattle.sequencer.specs.SequencerSteps as sequencer
+use Rattle.sequencer.specs.declared.state.SequencerState.{SequencerState}
+use Rattle.session_control.specs.ControllerSteps as controller
+use Rattle.session_control.specs.declared.state.ControllerState.{ControllerState}
+use Rattle.network.specs.Network.{Sent, sends_of, lines_from}
+use Rattle.safety.specs.Following.{is_spoken, is_fragment, other_datagrams}
+use Rattle.whole_world.specs.Whole.{lines_of}
+
+-- ---- datagrams of the other kinds are no fragments, in whatever ranges
+
+abbrev IsOther : Result Datagram Bad → Type 0
+IsOther r = is_fragment r ≡ false
+
+then_other : {A : Type 0} (r : Result A Bad) (next : A → Result Datagram Bad) → ((x : A) → IsOther (next x)) → IsOther (r >>= next)
+then_other (Ok x) next h = h x
+then_other (Err e) next h = refl
+
+-- fields, a part of some size, and a datagram of both
+parts_other : {F : Type 0} (r : Result (F × List ℕ) Bad) (size : F × List ℕ → Result (List ℕ) Bad)
+    (make : F × List ℕ → List ℕ → Datagram) → ((f : F × List ℕ) (x : List ℕ) → IsOther (Ok (make f x)))
+    → IsOther (r >>= λ f. size f >>= λ x. Ok (make f x))
+parts_other r size make h =
+    then_other r (λ f. size f >>= λ x. Ok (make f x)) (λ f. then_other (size f) (λ x. Ok (make f x)) (h f))
+
+request_other : (bytes : List ℕ) → IsOther (request_of bytes)
+unfolding request_of
+request_other bytes =
+    parts_other (fields_of (request_fields_at bytes) request_in_range) (λ f. sized f.0.op_len f.0.op_len f.1)
+    (λ f op. datagrams.Request (record { client = f.0.client; id = f.0.id; op = op })) (λ f x. refl)
+
+stamped_other : (bytes : List ℕ) → IsOther (stamped_of bytes)
+unfolding stamped_of
+stamped_other bytes =
+    parts_other (fields_of (stamped_fields_at bytes) stamped_in_range) (λ f. sized f.0.request.op_len f.0.request.op_len f.1)
+    (λ f op. datagrams.Stamped (record {
+      session = f.0.session;
+      number = f.0.number;
+      request = record { client = f.0.request.client; id = f.0.request.id; op = op };
+    })) (λ f x. refl)
+
+reply_other : (bytes : List ℕ) → IsOther (reply_of bytes)
+unfolding reply_of
+reply_other bytes =
+    parts_other (fields_of (reply_fields_at bytes) reply_in_range) (λ f. sized f.0.result_len f.0.result_len f.1)
+    (λ f x. datagrams.Reply (record {
+      replica = f.0.replica;
+      view = f.0.view;
+      slot = f.0.slot;
+      client = f.0.client;
+      id = f.0.id;
+      tag = f.0.tag;
+      result = x;
+    })) (λ f x. refl)
+
+pub request_is : (r : Request) → IsOther (reading (spelling (datagrams.Request r)))
+unfolding reading
+request_is r = request_other (request_bytes r)
+
+pub stamped_is : (p : Stamped) → IsOther (reading (spelling (datagrams.Stamped p)))
+unfolding reading
+stamped_is p = stamped_other (stamped_bytes p)
+
+pub reply_is : (p : Reply) → IsOther (reading (spelling (datagrams.Reply p)))
+unfolding reading
+reply_is p = reply_other (reply_bytes p)
+
+pub install_is : (j s : ℕ) → IsOther (reading (spelling (datagrams.Install j s)))
+unfolding reading
+install_is j s = then_other (signal_of (signal_bytes j s)) (λ f. Ok (datagrams.Install f.sequencer f.number)) (λ f. refl)
+
+pub installed_is : (j s : ℕ) → IsOther (reading (spelling (datagrams.Installed j s)))
+unfolding reading
+installed_is j s = then_other (signal_of (signal_bytes j s)) (λ f. Ok (datagrams.Installed f.sequencer f.number)) (λ f. refl)
+
+pub ping_is : (j s : ℕ) → IsOther (reading (spelling (datagrams.Ping j s)))
+unfolding reading
+ping_is j s = then_other (signal_of (signal_bytes j s)) (λ f. Ok (datagrams.Ping f.sequencer f.number)) (λ f. refl)
+
+pub pong_is : (j s : ℕ) → IsOther (reading (spelling (datagrams.Pong j s)))
+unfolding reading
+pong_is j s = then_other (signal_of (signal_bytes j s)) (λ f. Ok (datagrams.Pong f.sequencer f.number)) (λ f. refl)
+
+-- ---- outputs without fragments
+
+abbrev pub AreOther : List Out → Type 0
+AreOther [] = ⊤
+AreOther (outs.Send dest bytes ∷ rest) = IsOther (reading bytes) × AreOther rest
+AreOther (outs.Submitted r ∷ rest) = AreOther rest
+AreOther (outs.Accepted client id result ∷ rest) = AreOther rest
+AreOther (outs.Busy client ∷ rest) = AreOther rest
+
+pub one_kept : (s : Sent) (b : Bool) (xs ys : List Sent) → b ≡ false → xs ≡ ys → cond (not b) (s ∷ xs) xs ≡ s ∷ ys
+one_kept s true xs ys e same = absurd cc
+one_kept s false xs ys e same = ap (λ (zs : List Sent). s ∷ zs) same
+
+pub others_kept : (from : Actor) (os : List Out) → AreOther os → other_datagrams (sends_of from os) ≡ sends_of from os
+others_kept from [] h = refl
+others_kept from (outs.Send dest bytes ∷ rest) h =
+    one_kept (record { from = from; dest = dest; bytes = bytes }) (is_fragment (reading bytes)) (other_datagrams (sends_of from rest))
+    (sends_of from rest) h.0 (others_kept from rest h.1)
+others_kept from (outs.Submitted r ∷ rest) h = others_kept from rest h
+others_kept from (outs.Accepted client id result ∷ rest) h = others_kept from rest h
+others_kept from (outs.Busy client ∷ rest) h = others_kept from rest h
+
+pub lines_spoken : (from : Actor) (n : ℕ) (os : List Out) → filter is_spoken (lines_from from n os) ≡ lines_of os
+lines_spoken from n [] = refl
+lines_spoken from n (outs.Send dest bytes ∷ rest) = lines_spoken from (n + 1) rest
+lines_spoken from n (outs.Submitted r ∷ rest) = ap (λ (l : List Line). lines.Submit r ∷ l) (lines_spoken from n rest)
+lines_spoken from n (outs.Accepted client id result ∷ rest) =
+    ap (λ (l : List Line). lines.Accept client id result ∷ l) (lines_spoken from n rest)
+lines_spoken from n (outs.Busy client ∷ rest) = ap (λ (l : List Line). lines.Busy client ∷ l) (lines_spoken from n rest)
+
+-- ---- the client
+
+begun : (s : ClientState) (r : Request) → AreOther (client.begin s r).1
+begun s r = (request_is r, tt)
+
+submits : (b : Bool) (s : ClientState) (r : Request) → AreOther (client.submit_if b s r).1
+submits true s r = begun s r
+submits false s r = tt
+
+first_sends : (o : Option (List ℕ)) (s : ClientState) → AreOther (client.submit_first o s).1
+first_sends None s = tt
+first_sends (Some op) s = (request_is _, tt)
+
+waiting_sends : (b : Bool) (s : ClientState) → AreOther (client.submit_waiting_if b s).1
+waiting_sends true s = first_sends (client.first_of s.waiting) s
+waiting_sends false s = tt
+
+accept_sends : (s : ClientState) (id : ℕ) (o : Option Reply) → AreOther (client.accept_if s id o).1
+accept_sends s id None = tt
+accept_sends s id (Some p) = tt
+
+reply_sends : (b : Bool) (s : ClientState) (p : Reply) → AreOther (client.reply_if b s p).1
+reply_sends true s p = accept_sends (client.kept s p) p.id (quorum_of s.config.replicas (client.kept s p).replies p.view p.slot)
+reply_sends false s p = tt
+
+retry_sends : (o : Option Request) → AreOther (client.retry_of o)
+retry_sends None = tt
+retry_sends (Some r) = (request_is r, tt)
+
+client_reads : (s : ClientState) (r : Result Datagram Bad) → AreOther (client.on_datagram s r).1
+client_reads s (Ok (datagrams.Reply p)) = reply_sends (client.is_expected s p) s p
+client_reads s (Ok (datagrams.Request r)) = tt
+client_reads s (Ok (datagrams.Stamped p)) = tt
+client_reads s (Ok (datagrams.Install j n)) = tt
+client_reads s (Ok (datagrams.Installed j n)) = tt
+client_reads s (Ok (datagrams.Ping j n)) = tt
+client_reads s (Ok (datagrams.Pong j n)) = tt
+client_reads s (Ok (datagrams.Fragment f)) = tt
+client_reads s (Err e) = tt
+
+client_ticks : (s : ClientState) (tick : Tick) → AreOther (client.on_tick s tick).1
+client_ticks s ticks.Next = waiting_sends (client.can_submit s) s
+client_ticks s ticks.Retry = retry_sends s.pending
+client_ticks s ticks.Suspect = tt
+client_ticks s ticks.Watch = tt
+client_ticks s ticks.Resend = tt
+client_ticks s ticks.Sync = tt
+client_ticks s ticks.Probe = tt
+client_ticks s (ticks.Install j) = tt
+
+pub client_sends : (s : ClientState) (i : Given) → AreOther (client.next s i).1
+unfolding client.next
+client_sends s (Packet bytes) = client_reads s (reading bytes)
+client_sends s (Ticked tick) = client_ticks s tick
+client_sends s (Submit op) = submits (client.can_submit s) s (client.request_of s op)
+
+-- ---- the sequencer
+
+packet_sends : (o : Option Stamped) → AreOther (sequencer.send_packet o)
+packet_sends None = tt
+packet_sends (Some p) = (stamped_is p, tt)
+
+install_sends : (b : Bool) (s : SequencerState) (n : ℕ) → AreOther (sequencer.install_if b s n).1
+install_sends true s n = (installed_is s.number n, tt)
+install_sends false s n = tt
+
+ping_sends : (b : Bool) (s : SequencerState) (n : ℕ) → AreOther (sequencer.ping_if b s n).1
+ping_sends true s n = (pong_is s.number n, tt)
+ping_sends false s n = tt
+
+sequencer_reads : (s : SequencerState) (r : Result Datagram Bad) → AreOther (sequencer.on_datagram s r).1
+sequencer_reads s (Ok (datagrams.Request r)) = packet_sends (sequencer.stamped_by s r)
+sequencer_reads s (Ok (datagrams.Reply p)) = tt
+sequencer_reads s (Ok (datagrams.Stamped p)) = tt
+sequencer_reads s (Ok (datagrams.Install j n)) = install_sends (sequencer.can_install s j n) s n
+sequencer_reads s (Ok (datagrams.Installed j n)) = tt
+sequencer_reads s (Ok (datagrams.Ping j n)) = ping_sends _ s n
+sequencer_reads s (Ok (datagrams.Pong j n)) = tt
+sequencer_reads s (Ok (datagrams.Fragment f)) = tt
+sequencer_reads s (Err e) = tt
+
+pub sequencer_sends : (s : SequencerState) (i : Given) → AreOther (sequencer.next s i).1
+unfolding sequencer.next
+sequencer_sends s (Packet bytes) = sequencer_reads s (reading bytes)
+sequencer_sends s (Ticked tick) = tt
+sequencer_sends s (Submit op) = tt
+
+-- ---- the controller
+
+installs : (s : ControllerState) → AreOther (controller.install_of s)
+installs s = (install_is s.current s.session, tt)
+
+move_sends : (b : Bool) (s : ControllerState) (j : ℕ) → AreOther (controller.move_if b s j).1
+move_sends true s j = installs (controller.moved s j)
+move_sends false s j = tt
+
+order_sends : (b : Bool) (s : ControllerState) (j : ℕ) → AreOther (controller.order_if b s j).1
+order_sends true s j = move_sends _ s j
+order_sends false s j = tt
+
+ask_sends : (b : Bool) (s : ControllerState) → AreOther (controller.ask_if b s).1
+ask_sends true s = (ping_is s.current (s.round + 1), tt)
+ask_sends false s = tt
+
+miss_sends : (b : Bool) (s : ControllerState) → AreOther (controller.miss_if b s).1
+miss_sends true s = move_sends _ s (controller.following s)
+miss_sends false s = ask_sends _ (record s { missed = s.missed + 1 })
+
+probe_sends : (b : Bool) (s : ControllerState) → AreOther (controller.probe_if b s).1
+probe_sends true s = ask_sends _ s
+probe_sends false s = miss_sends _ s
+
+resend_sends : (b : Bool) (s : ControllerState) → AreOther (controller.resend_if b s).1
+resend_sends true s = tt
+resend_sends false s = installs s
+
+controller_ticks : (s : ControllerState) (tick : Tick) → AreOther (controller.on_tick s tick).1
+controller_ticks s ticks.Probe = probe_sends s.heard s
+controller_ticks s ticks.Resend = resend_sends s.confirmed s
+controller_ticks s (ticks.Install j) = order_sends _ s j
+controller_ticks s ticks.Suspect = tt
+controller_ticks s ticks.Watch = tt
+controller_ticks s ticks.Sync = tt
+controller_ticks s ticks.Retry = tt
+controller_ticks s ticks.Next = tt
+
+controller_reads : (s : ControllerState) (r : Result Datagram Bad) → AreOther (controller.on_datagram s r).1
+controller_reads s (Ok (datagrams.Pong j n)) = tt
+controller_reads s (Ok (datagrams.Installed j n)) = tt
+controller_reads s (Ok (datagrams.Request r)) = tt
+controller_reads s (Ok (datagrams.Stamped p)) = tt
+controller_reads s (Ok (datagrams.Reply p)) = tt
+controller_reads s (Ok (datagrams.Install j n)) = tt
+controller_reads s (Ok (datagrams.Ping j n)) = tt
+controller_reads s (Ok (datagrams.Fragment f)) = tt
+controller_reads s (Err e) = tt
+
+pub controller_sends : (s : ControllerState) (i : Given) → AreOther (controller.next s i).1
+unfolding controller.next
+controller_sends s (Packet bytes) = controller_reads s (reading bytes)
+controller_sends s (Ticked tick) = controller_ticks s tick
+controller_sends s (Submit op) = tt
+
+-- ---- a fragment changes nothing at them
+
+pub client_ignores : (bytes : List ℕ) (f : Fragment) → reading bytes ≡ Ok (datagrams.Fragment f) → (s : ClientState)
+    → client.next s (Packet bytes) ≡ (s, [])
+unfolding client.next
+client_ignores bytes f e s = ap (client.on_datagram s) e
+
+pub sequencer_ignores : (bytes : List ℕ) (f : Fragment) → reading bytes ≡ Ok (datagrams.Fragment f) → (s : SequencerState)
+    → sequencer.next s (Packet bytes) ≡ (s, [])
+unfolding sequencer.next
+sequencer_ignores bytes f e s = ap (sequencer.on_datagram s) e
+
+pub controller_ignores : (bytes : List ℕ) (f : Fragment) → reading bytes ≡ Ok (datagrams.Fragment f) → (s : ControllerState)
+    → controller.next s (Packet bytes) ≡ (s, [])
+unfolding controller.next
+controller_ignores bytes f e s = ap (controller.on_datagram s) e

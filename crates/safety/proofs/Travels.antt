@@ -1,0 +1,287 @@
+-- The network goes on to carry the letters.
+use Rattle.std.proofs.Common.{◌≡◌, ◌<◌, ◌+◌, ◌^◌, ℕ, Bool, true, false, cond, Some, refl, sym, ap, subst, ◌∙◌, inl, inr, List, [], ◌∷◌}
+use Rattle.std.proofs.Common.{◌++◌}
+use Rattle.std.specs.Prelude.{◌==◌, ◌&&◌, Result, Ok, Err, slice_get, slice_set}
+use Rattle.std.specs.List.{AllByRecursion}
+use Rattle.std.proofs.lemmas.Bool.{eqb-true, eq-eqb, and_parts}
+use Rattle.std.proofs.lemmas.List.{append-nil, map-append}
+use Rattle.nop_types.specs.Lists.{Has}
+use Rattle.nop_types.specs.Ranges.{PeerFits}
+use Rattle.nop_types.specs.declared.datagram.Datagram.{Datagram}
+use Rattle.nop_types.specs.declared.datagram.Datagram.TheVariants as datagrams
+use Rattle.nop_types.specs.declared.datagram.Fragment.{Fragment}
+use Rattle.nop_types.specs.declared.output.Actor.{Actor}
+use Rattle.nop_types.specs.declared.output.Actor.TheVariants as actors
+use Rattle.nop_types.specs.declared.output.Out.{Out}
+use Rattle.nop_types.specs.declared.peer.Peer.{Peer}
+use Rattle.facts.specs.Functions.{put}
+use Rattle.facts.proofs.Members.{Has-none, Has-first, Has-rest, Has-cases, Has-append_left, Has-append_right, Has-append_cases}
+use Rattle.oum_codec.specs.declared.bad.Bad.{Bad}
+use Rattle.oum_codec.specs.Reading.{reading}
+use Rattle.fragments.specs.Joining.{taken}
+use Rattle.fragments.specs.Runs.{AllCame}
+use Rattle.fragments.specs.Runs as fragments
+use Rattle.fragments.proofs.Came.{keeps_what_came}
+use Rattle.fragments.proofs.Whole.{joins_what_was_sent}
+use Rattle.peer_codec.specs.Reading as peers
+use Rattle.peer_codec.specs.Spelling.{spelling}
+use Rattle.peer_codec.proofs.Peers.{spelling_is_injective, reads_again}
+use Rattle.replica_core.specs.Posting.{posted}
+use Rattle.replica_core.specs.ReplicaSteps.{Replica}
+use Rattle.replica_state.specs.Sends.{SendingFits, message_count}
+use Rattle.replica_state.specs.declared.sending.Sending.{Sending}
+use Rattle.replica_state.specs.declared.sending.Sending.TheVariants.{ToClient, ToReplicas}
+use Rattle.network.specs.Network.{Sent, sends_of}
+use Rattle.world.specs.Seats.{Seated}
+use Rattle.delivery.specs.Carried.{Carried}
+use Rattle.delivery.specs.Network.{bytes_in, fragments_among, IsDatagram, Network}
+use Rattle.delivery.specs.PostedFragments.{fragment_read, fragments_in, messages_from}
+use Rattle.delivery.specs.Sends.{peers_in, IsBy}
+use Rattle.delivery.specs.Steps.{InNetwork}
+use Rattle.delivery.proofs.Carrying.{posting_carries_under}
+use Rattle.delivery.proofs.Networks.{among_append, among_outs, among_has, posting_network}
+use Rattle.delivery.proofs.Replicas.{stays_in_network, other_in_network}
+use Rattle.whole_world.specs.Shows.{peers_of}
+use Rattle.whole_world.specs.Whole.{WholeWorld, Letter, letters_in, letter_of}
+use Rattle.whole_world.proofs.Mapped.{slice_get-from_map, Has-map}
+use Rattle.whole_world.proofs.ReplicaSteps.{letters_peers}
+use Rattle.whole_world.proofs.Seats.{seats_become, seats_same}
+use Rattle.safety.specs.Following.{is_fragment}
+use Rattle.safety.specs.Shows.{bytes_of}
+use Rattle.safety.proofs.Beside.{message_of, messages_of, SameMembers, Posts, Travels, JoinsLetter}
+use Rattle.safety.proofs.Outputs.{bytes_after}
+
+-- ---- members of lists
+
+-- what comes in front of one list comes behind the other
+joined_members : {A : Type 0} (more xs ys zs : List A) → zs ≡ ys ++ more → SameMembers xs ys → SameMembers (more ++ xs) zs
+joined_members more xs ys zs is h = record {
+  to = λ x i. subst (λ (t : List _). Has t x) (sym is) (elim (Has-append_cases more xs x i) [
+    | inl a ↦ Has-append_right ys more x a
+    | inr b ↦ Has-append_left ys more x (h.to x b)
+  ]);
+  from = λ x i. elim (Has-append_cases ys more x (subst (λ (t : List _). Has t x) is i)) [
+    | inl b ↦ Has-append_right more xs x (h.from x b)
+    | inr a ↦ Has-append_left more xs x a
+  ];
+}
+
+-- ---- the letters of a row
+
+letters_messages : (number : ℕ) (sends : List Sending) → messages_of (letters_in number sends) ≡ messages_from number sends
+letters_messages number [] = refl
+letters_messages number (ToClient r ∷ sends) = letters_messages number sends
+letters_messages number (ToReplicas dest p ∷ sends) =
+    ap (λ (xs : List fragments.Sent). record { sender = p.sender; number = number + 1; bytes = spelling p } ∷ xs)
+    (letters_messages (number + 1) sends)
+
+-- ---- what others send has no fragments
+
+other_none : (r : Result Datagram Bad) → is_fragment r ≡ false → fragment_read r ≡ []
+other_none (Ok (datagrams.Fragment f)) e = absurd cc
+other_none (Ok (datagrams.Request r)) e = refl
+other_none (Ok (datagrams.Stamped p)) e = refl
+other_none (Ok (datagrams.Reply r)) e = refl
+other_none (Ok (datagrams.Install j s)) e = refl
+other_none (Ok (datagrams.Installed j s)) e = refl
+other_none (Ok (datagrams.Ping j s)) e = refl
+other_none (Ok (datagrams.Pong j s)) e = refl
+other_none (Err bad) e = refl
+
+pub none_among : (more : List Sent) → ((s : Sent) → Has more s → is_fragment (reading s.bytes) ≡ false)
+    → fragments_among (bytes_of more) ≡ []
+none_among [] all = refl
+none_among (s ∷ more) all =
+    ap (λ (fs : List Fragment). fs ++ fragments_among (bytes_of more)) (other_none (reading s.bytes) (all s (Has-first s s more refl)))
+    ∙ none_among more (λ x h. all x (Has-rest x s more h))
+
+-- the network, and what was sent under which number
+record Under (told : List Peer) (bytes : List (List ℕ)) (used : ℕ → ℕ) (sent : List fragments.Sent) : Type 0 where
+  network : Network told bytes used
+  is : network.carried.sent ≡ sent
+
+-- what is carried, likewise
+record CarriedAs (told : List Peer) (net : List Fragment) (used : ℕ → ℕ) (sent : List fragments.Sent) : Type 0 where
+  carried : Carried told net used
+  is : carried.sent ≡ sent
+
+under : (told : List Peer) (bytes : List (List ℕ)) (used : ℕ → ℕ) (sent : List fragments.Sent)
+    → ((b : List ℕ) → Has bytes b → IsDatagram b) → CarriedAs told (fragments_among bytes) used sent → Under told bytes used sent
+under told bytes used sent all h = record { network = record { datagrams = all; carried = h.carried }; is = h.is }
+
+posts_by : (bytes : List (List ℕ)) (used : ℕ → ℕ) (letters : List Letter) (told : List Peer) (sent : List fragments.Sent)
+    → Under told bytes used sent → SameMembers told (peers_of letters) → SameMembers sent (messages_of letters) → Posts bytes used letters
+posts_by bytes used letters told sent h peers messages = record {
+  told = told;
+  network = h.network;
+  peers = peers;
+  messages = subst (λ (xs : List fragments.Sent). SameMembers xs (messages_of letters)) (sym h.is) messages;
+}
+
+module _ (bytes : List (List ℕ)) (used : ℕ → ℕ) (letters : List Letter) (h : Posts bytes used letters) where
+  -- datagrams that are no fragments
+  pub posts_others : (more : List (List ℕ)) → fragments_among more ≡ [] → ((b : List ℕ) → Has more b → IsDatagram b)
+      → Posts (bytes ++ more) used letters
+  posts_others more none all =
+      let same : fragments_among (bytes ++ more) ≡ fragments_among bytes =
+      among_append bytes more ∙ ap (λ (fs : List Fragment). fragments_among bytes ++ fs) none ∙ append-nil (fragments_among bytes) in
+      posts_by (bytes ++ more) used letters h.told h.network.carried.sent
+      (under h.told (bytes ++ more) used h.network.carried.sent
+      (λ b i. elim (Has-append_cases bytes more b i) [ inl old ↦ h.network.datagrams b old | inr fresh ↦ all b fresh ])
+      (subst (λ (fs : List Fragment). CarriedAs h.told fs used h.network.carried.sent) (sym same)
+      (record { carried = h.network.carried; is = refl }))) h.peers h.messages
+
+  -- what a replica posts
+  pub posts_row : (r : ℕ) (sends : List Sending) → AllByRecursion SendingFits sends → AllByRecursion (IsBy r) sends
+      → used r + message_count sends < 2 ^ 64
+      → Posts (bytes ++ bytes_in (posted (used r) sends)) (put used r (used r + message_count sends)) (letters ++ letters_in (used r) sends)
+  posts_row r sends fits by high =
+      let os : List Out = posted (used r) sends in
+      let told : List Peer = peers_in sends ++ h.told in
+      let used_then : ℕ → ℕ = put used r (used r + message_count sends) in
+      let sent : List fragments.Sent = messages_from (used r) sends ++ h.network.carried.sent in
+      let all : List Letter = letters ++ letters_in (used r) sends in
+      let more : fragments_among (bytes ++ bytes_in os) ≡ fragments_among bytes ++ fragments_in os =
+      among_append bytes (bytes_in os) ∙ ap (λ (fs : List Fragment). fragments_among bytes ++ fs) (among_outs os) in
+      let c = posting_carries_under h.told (fragments_among bytes) used r sends h.network.carried fits by high in
+      posts_by (bytes ++ bytes_in os) used_then all told sent
+      (under told (bytes ++ bytes_in os) used_then sent
+      (posting_network h.told bytes used r sends h.network fits by high).datagrams
+      (subst (λ (fs : List Fragment). CarriedAs told fs used_then sent) (sym more) (record { carried = c.0; is = c.1 })))
+      (joined_members (peers_in sends) h.told (peers_of letters) (peers_of all)
+      (map-append (λ (x : Letter). x.peer) letters (letters_in (used r) sends)
+      ∙ ap (λ (ps : List Peer). peers_of letters ++ ps) (letters_peers (used r) sends)) h.peers)
+      (joined_members (messages_from (used r) sends) h.network.carried.sent (messages_of letters) (messages_of all)
+      (map-append message_of letters (letters_in (used r) sends)
+      ∙ ap (λ (xs : List fragments.Sent). messages_of letters ++ xs) (letters_messages (used r) sends)) h.messages)
+
+-- ---- with the replicas
+
+-- a replica keeps its state, and nothing is sent
+pub travels_quiet : (sent : List Sent) (replicas : List (Seated Replica)) (letters : List Letter) (i : ℕ) (old new : Seated Replica)
+    → slice_get replicas i ≡ Some old → new.state ≡ old.state → Travels sent replicas letters
+    → Travels (sent ++ []) (slice_set replicas i new) letters
+travels_quiet sent replicas letters i old new there same h =
+    subst (λ (ss : List Sent). Travels ss (slice_set replicas i new) letters) (sym (append-nil sent))
+    (record {
+      used = h.used;
+      posts = h.posts;
+      members = seats_same (λ j s. InNetwork (bytes_of sent) h.used j s) replicas i old new there same h.members;
+    })
+
+-- another actor sends
+pub travels_others : (sent more : List Sent) (replicas : List (Seated Replica)) (letters : List Letter)
+    → ((s : Sent) → Has more s → is_fragment (reading s.bytes) ≡ false) → ((b : List ℕ) → Has (bytes_of more) b → IsDatagram b)
+    → Travels sent replicas letters → Travels (sent ++ more) replicas letters
+travels_others sent more replicas letters others all h =
+    let after : bytes_of (sent ++ more) ≡ bytes_of sent ++ bytes_of more = map-append (λ (s : Sent). s.bytes) sent more in
+    record {
+      used = h.used;
+      posts = subst (λ (b : List (List ℕ)). Posts b h.used letters) (sym after)
+          (posts_others (bytes_of sent) h.used letters h.posts (bytes_of more) (none_among more others) all);
+      members = λ i q e. subst (λ (b : List (List ℕ)). InNetwork b h.used i q.state) (sym after)
+          (stays_in_network (bytes_of sent) (bytes_of more) h.used i q.state (h.members i q e));
+    }
+
+-- a replica posts what its row sends
+pub travels_row : (sent : List Sent) (replicas : List (Seated Replica)) (letters : List Letter) (i : ℕ) (old new : Seated Replica)
+    (outs : List Out) (sends : List Sending) → slice_get replicas i ≡ Some old → AllByRecursion SendingFits sends
+    → AllByRecursion (IsBy i) sends → old.state.messages + message_count sends < 2 ^ 64 → outs ≡ posted old.state.messages sends
+    → new.state.messages ≡ old.state.messages + message_count sends
+    → (h : Travels sent replicas letters)
+    → InNetwork (bytes_of sent ++ bytes_in outs) (put h.used i new.state.messages) i new.state
+    → Travels (sent ++ sends_of (actors.Replica i) outs) (slice_set replicas i new) (letters ++ letters_in old.state.messages sends)
+travels_row sent replicas letters i old new outs sends there fits by high are counts h fresh =
+    let from : Actor = actors.Replica i in
+    let after : bytes_of (sent ++ sends_of from outs) ≡ bytes_of sent ++ bytes_in outs = bytes_after sent from outs in
+    let used : ℕ → ℕ = put h.used i new.state.messages in
+    let last : old.state.messages ≡ h.used i = (h.members i old there).messages in
+    let count : new.state.messages ≡ h.used i + message_count sends =
+    counts ∙ ap (λ (n : ℕ). n + message_count sends) last in
+    let posts : Posts (bytes_of sent ++ bytes_in outs) used (letters ++ letters_in old.state.messages sends) =
+    subst (λ (n : ℕ). Posts (bytes_of sent ++ bytes_in outs) (put h.used i n) (letters ++ letters_in old.state.messages sends)) (sym count)
+    (subst (λ (n : ℕ). Posts (bytes_of sent ++ bytes_in outs) (put h.used i (h.used i + message_count sends)) (letters ++ letters_in n sends))
+    (sym last)
+    (subst (λ (os : List Out). Posts (bytes_of sent ++ bytes_in os) (put h.used i (h.used i + message_count sends))
+    (letters ++ letters_in (h.used i) sends)) (sym (are ∙ ap (λ (n : ℕ). posted n sends) last))
+    (posts_row (bytes_of sent) h.used letters h.posts i sends fits by (subst (λ (n : ℕ). n + message_count sends < 2 ^ 64) last high)))) in
+    record {
+      used = used;
+      posts = subst (λ (b : List (List ℕ)). Posts b used (letters ++ letters_in old.state.messages sends)) (sym after) posts;
+      members = seats_become (λ j s. InNetwork (bytes_of sent) h.used j s) (λ j s. InNetwork (bytes_of (sent ++ sends_of from outs)) used j s)
+          replicas i new
+          (subst (λ (b : List (List ℕ)). InNetwork b used i new.state) (sym after) fresh)
+          (λ j s other g. subst (λ (b : List (List ℕ)). InNetwork b used j s) (sym after)
+          (other_in_network (bytes_of sent) (bytes_in outs) h.used i j new.state.messages s other g))
+          h.members;
+    }
+
+-- ---- what is joined
+
+-- a letter with this sender, number and bytes
+record IsLetter (letters : List Letter) (q n : ℕ) (bytes : List ℕ) : Type 0 where
+  letter : Letter
+  has : Has letters letter
+  sender : letter.peer.sender ≡ q
+  number : letter.number ≡ n
+  spelled : spelling letter.peer ≡ bytes
+
+-- where all letters of the sender and number have these bytes, and one of them is there, it is found
+letter_is : (letters : List Letter) (q n : ℕ) (p : Peer)
+    → ((x : Letter) → Has letters x → x.peer.sender ≡ q → x.number ≡ n → x.peer ≡ p)
+    → (x : Letter) → Has letters x → x.peer.sender ≡ q → x.number ≡ n → letter_of letters q n ≡ Some p
+letter_is [] q n p same x h sender number = absurd (Has-none x h)
+letter_is (y ∷ letters) q n p same x h sender number =
+    by ((y.peer.sender == q) && (y.number == n)) refl
+    (λ i. letter_is letters q n p (λ z j. same z (Has-rest z y letters j)) x i sender number)
+  where
+    -- the first letter is the one that is sought
+    not_first : ((y.peer.sender == q) && (y.number == n)) ≡ false → x ≡ y → ⊥
+    not_first e first =
+        let a : (y.peer.sender == q) ≡ true = eq-eqb y.peer.sender q (ap (λ (z : Letter). z.peer.sender) (sym first) ∙ sender) in
+        let b : (y.number == n) ≡ true = eq-eqb y.number n (ap (λ (z : Letter). z.number) (sym first) ∙ number) in
+        let both : ((y.peer.sender == q) && (y.number == n)) ≡ true = ap (λ (t : Bool). t && (y.number == n)) a ∙ b in
+        cc
+
+    by : (t : Bool) → ((y.peer.sender == q) && (y.number == n)) ≡ t → (Has letters x → letter_of letters q n ≡ Some p)
+        → cond t (Some y.peer) (letter_of letters q n) ≡ Some p
+    by true e rest =
+        let parts = and_parts (y.peer.sender == q) (y.number == n) e in
+        ap Some (same y (Has-first y y letters refl) (eqb-true y.peer.sender q parts.0) (eqb-true y.number n parts.1))
+    by false e rest = elim (Has-cases x y letters h) [ inl first ↦ absurd (not_first e first) | inr later ↦ rest later ]
+
+found_message : (letters : List Letter) (q n : ℕ) (bytes : List ℕ)
+    → Has (messages_of letters) (record { sender = q; number = n; bytes = bytes }) → IsLetter letters q n bytes
+found_message letters q n bytes h =
+    let t = slice_get-from_map message_of letters h.0 (record { sender = q; number = n; bytes = bytes }) h.1 in
+    record {
+      letter = t.from;
+      has = (h.0, t.there);
+      sender = ap (λ (x : fragments.Sent). x.sender) t.is;
+      number = ap (λ (x : fragments.Sent). x.number) t.is;
+      spelled = ap (λ (x : fragments.Sent). x.bytes) t.is;
+    }
+
+pub joins_letter : (w : WholeWorld) (bytes : List (List ℕ)) (used : ℕ → ℕ) (s : Replica) (k : List ℕ) (f : Fragment) (joined : List ℕ)
+    → Posts bytes used w.letters → ((p : Peer) → Has (peers_of w.letters) p → PeerFits p) → AllCame (fragments_among bytes) s.reassembly
+    → Has bytes k → reading k ≡ Ok (datagrams.Fragment f) → (taken s.reassembly f).1 ≡ Some joined → JoinsLetter w f joined
+joins_letter w bytes used s k f joined posts fit came has read is =
+    let net : List Fragment = fragments_among bytes in
+    let here : Has net f = among_has bytes k f has read in
+    let parts = (keeps_what_came net s.reassembly f here came).gave joined is in
+    let carried : Carried posts.told net used = posts.network.carried in
+    let sent = joins_what_was_sent carried.sent net f joined carried.distinct carried.cut here parts in
+    let x = found_message w.letters f.replica f.message joined (posts.messages.to _ sent) in
+    let fits : PeerFits x.letter.peer = fit x.letter.peer (Has-map (λ (y : Letter). y.peer) w.letters x.letter x.has) in
+    record {
+      peer = x.letter.peer;
+      read = ap peers.reading (sym x.spelled) ∙ reads_again x.letter.peer fits;
+      sender = x.sender;
+      letter = letter_is w.letters f.replica f.message x.letter.peer
+          (λ y i sender number. spelling_is_injective y.peer x.letter.peer
+          (fit y.peer (Has-map (λ (z : Letter). z.peer) w.letters y i)) fits
+          (carried.distinct (message_of y) (message_of x.letter) (posts.messages.from (message_of y) (Has-map message_of w.letters y i))
+          (posts.messages.from (message_of x.letter) (Has-map message_of w.letters x.letter x.has))
+          (sender ∙ sym x.sender) (number ∙ sym x.number)))
+          x.letter x.has x.sender x.number;
+    }

@@ -1,0 +1,37 @@
+-- What comes to an actor of the whole world was sent there, or spells no datagram.
+use Rattle.std.specs.Prelude.{◌≡◌, ℕ, List, Some}
+use Rattle.nop_types.specs.Given.{Given, Packet}
+use Rattle.nop_types.specs.Lists.{Has}
+use Rattle.nop_types.specs.declared.peer.Peer.{Peer}
+use Rattle.replica_rows.specs.Messages.{Arrival, Told}
+use Rattle.network.specs.Network.{Sent}
+use Rattle.delivery.specs.Network.{IsNoDatagram}
+use Rattle.whole_world.specs.Whole.{WholeWorld, Letter, Junk, Equal, Message, input_of, arrival_of}
+
+-- a datagram with these bytes was sent
+pub record IsBytesOf (sent : List Sent) (bytes : List ℕ) : Type 0 where
+  pub datagram : Sent
+  pub has : Has sent datagram
+  pub same : datagram.bytes ≡ bytes
+
+-- a letter of this sender and number has the message
+pub record IsLetter (letters : List Letter) (q n : ℕ) (p : Peer) : Type 0 where
+  pub letter : Letter
+  pub has : Has letters letter
+  pub peer : letter.peer ≡ p
+  pub sender : p.sender ≡ q
+  pub number : letter.number ≡ n
+
+-- ---- laws
+
+abbrev pub DatagramsWereSent : Type 0
+DatagramsWereSent = (sent : List Sent) (bytes : List ℕ) (i : Given) → input_of sent (Equal bytes) ≡ Some i
+    → (i ≡ Packet bytes) × IsBytesOf sent bytes
+
+abbrev pub JunkIsNoDatagram : Type 0
+JunkIsNoDatagram = (sent : List Sent) (bytes : List ℕ) (i : Given) → input_of sent (Junk bytes) ≡ Some i
+    → (i ≡ Packet bytes) × IsNoDatagram bytes
+
+abbrev pub MessagesWereSent : Type 0
+MessagesWereSent = (w : WholeWorld) (q n : ℕ) (a : Arrival) → arrival_of w (Message q n) ≡ Some a
+    → (p : Peer) × (a ≡ Told p) × IsLetter w.letters q n p

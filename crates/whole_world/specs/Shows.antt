@@ -1,0 +1,76 @@
+-- How the protocol shows a whole world: its actors, all that was sent, the lines and the past.
+use Rattle.std.specs.Prelude.{◌≡◌, ◌+◌, ◌*◌, ℕ, List, length, map, Some, Ok, IsTrue, slice_get}
+use Rattle.nop_types.specs.Configuration.{is_configuration}
+use Rattle.nop_types.specs.Lists.{Has}
+use Rattle.nop_types.specs.declared.datagram.Datagram.{Datagram}
+use Rattle.nop_types.specs.declared.datagram.Datagram.TheVariants as datagrams
+use Rattle.nop_types.specs.declared.datagram.Reply.{Reply}
+use Rattle.nop_types.specs.declared.datagram.Stamped.{Stamped}
+use Rattle.nop_types.specs.declared.request.Request.{Request}
+use Rattle.nop_types.specs.Ranges.{PeerFits}
+use Rattle.nop_types.specs.declared.peer.Peer.{Peer}
+use Rattle.oum_codec.specs.Reading.{reading}
+use Rattle.oum_codec.specs.Spelling.{Spells}
+use Rattle.client_quorum.specs.declared.state.ClientState.{ClientState}
+use Rattle.sequencer.specs.declared.state.SequencerState.{SequencerState}
+use Rattle.protocol.specs.Conf.{Conf, Install}
+use Rattle.protocol.specs.Said.{Said}
+use Rattle.network.specs.Network.{Sent}
+use Rattle.world.specs.Seats.{Seated}
+use Rattle.delivery.specs.Network.{IsDatagram}
+use Rattle.refinement.specs.Controllers.{control_of}
+use Rattle.refinement.specs.Datagrams.{WasSent}
+use Rattle.refinement.specs.Projection.{member_of, said_of}
+use Rattle.whole_world.specs.Whole.{WholeReplica, WholeWorld, Letter}
+use Rattle.whole_world.specs.Passed.{Passed}
+
+-- the datagrams have this one, with each field in its range
+pub record IsThere (sent : List Sent) (d : Datagram) : Type 0 where
+  pub datagram : Sent
+  pub has : Has sent datagram
+  pub spells : Spells d datagram.bytes
+
+-- the messages of the letters
+abbrev pub peers_of : List Letter → List Peer
+peers_of letters = map (λ x. x.peer) letters
+
+-- a message that says this was told
+pub record WasTold (told : List Peer) (x : Said) : Type 0 where
+  pub peer : Peer
+  pub has : Has told peer
+  pub says : said_of peer ≡ x
+
+-- what was said is what was told, in its ranges
+pub record Tells (told : List Peer) (said : List Said) : Type 0 where
+  pub fits : (p : Peer) → Has told p → PeerFits p
+  pub all : (p : Peer) → Has told p → Has said (said_of p)
+  pub only : (x : Said) → Has said x → WasTold told x
+
+-- each datagram that was sent is in its ranges and says what was sent, and nothing else was
+pub record Carries (sent : List Sent) (c : Conf) : Type 0 where
+  pub spelled : (s : Sent) → Has sent s → IsDatagram s.bytes
+  pub only : (s : Sent) (d : Datagram) → Has sent s → reading s.bytes ≡ Ok d → WasSent c d
+  pub requests : (r : Request) → Has c.requests r → IsThere sent (datagrams.Request r)
+  pub stamps : (p : Stamped) → Has c.stamps p → IsThere sent (datagrams.Stamped p)
+  pub replies : (y : Reply) → Has c.replies y → IsThere sent (datagrams.Reply y)
+  pub installs : (x : Install) → Has c.installs x → IsThere sent (datagrams.Install x.sequencer x.session)
+
+-- each actor of the world has the state that is shown
+pub record ShowsActors (f : ℕ) (w : WholeWorld) (c : Conf) : Type 0 where
+  pub is_configuration : IsTrue (is_configuration w.config)
+  pub config : w.config.replicas ≡ 2 * f + 1
+  pub replica_count : length w.replicas ≡ w.config.replicas
+  pub sequencer_count : length w.sequencers ≡ w.config.sequencers
+  pub client_count : length w.clients ≡ w.config.clients
+  pub replicas : (i : ℕ) (p : Seated WholeReplica) → slice_get w.replicas i ≡ Some p → c.replicas i ≡ member_of p.state.state
+  pub sequencers : (j : ℕ) (p : Seated SequencerState) → slice_get w.sequencers j ≡ Some p → c.sequencers j ≡ p.state
+  pub clients : (k : ℕ) (p : Seated ClientState) → slice_get w.clients k ≡ Some p → c.clients k ≡ p.state
+  pub controller : c.controllers 0 ≡ control_of w.controller.state
+
+-- actors, datagrams and letters are shown, and lines and past are the same
+pub record Shows (f : ℕ) (p : Passed) (c : Conf) : Type 0 where
+  pub actors : ShowsActors f p.world c
+  pub carries : Carries p.world.sent c
+  pub tells : Tells (peers_of p.world.letters) c.said
+  pub lines : p.world.lines ≡ c.lines
+  pub past : p.past ≡ c.past

@@ -1,0 +1,24 @@
+//! Laws on the whole world: replicas keep all of their logs, and peer messages travel whole. Over any host, whatever list of
+//! events is taken, it is safe.
+//!
+//! `WholeWorld` has the actors, all datagrams that are no fragments, and letters: a peer message, whole, with its sender, its
+//! number and its destination. An event says what it brings to its actor (`Brings`): a tick, an op, malformed bytes, a crash; the
+//! datagram with these bytes; or the message of this sender and number. The last two are looked up, so nothing comes that was
+//! not sent (`what_comes_was_sent`); a crashed replica takes no step (`crashed_replicas_stay`). `whole_step` is one event,
+//! `whole_run` a list of them, and both are total. A replica's row is that of the step table (`arrive`).
+//!
+//! `whole_runs_are_safe`: after any list of events in their ranges a configuration of the protocol shows the world, and moves
+//! lead to it from the initial state. So what was stamped, sent, logged, replied and accepted is sound, replicas agree as far as
+//! they are synchronised, and the lines are legal of the one history. The same held after every prefix of the events; moves
+//! lead on from there, and nothing was undone. `safe_runs_can_trim`: sync points are within the logs, and any two replicas have
+//! the same up to them. The premise on the service is `ResultsShort`: each result fits a reply.
+//!
+//! Files: `laws`. Definitions: `specs/Whole` (the world), `Passed`, `Shows`, `Safe` (the claims); `Coming`, `Trimming`. The proof of
+//! `safety` shows that the world of the program follows this one. More in docs/ARCHITECTURE.md, "The proof of safety".
+#![tactic(auto)]
+
+mod laws;
+
+pub use laws::{
+    crashed_replicas_stay, safe_runs_can_trim, what_comes_was_sent, whole_runs_are_safe,
+};
