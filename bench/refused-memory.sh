@@ -1,7 +1,8 @@
 #!/bin/bash
 # Runs the program once for each allocation that it makes, with that one refused. Each run has to end NoMemory (status 6) with a
 # front of the output that it has with all its memory, and not all of it, or with that output and its status; and to write nothing
-# to standard error. It prints the runs by outcome, and ends with status 1 where one ends otherwise.
+# to standard error. It prints the runs by outcome, and ends with status 1 where one ends otherwise, and where nothing was refused: the
+# run with the first allocation refused has to end NoMemory, and so has at least one run of each kind.
 #
 #   bench/refused-memory.sh        NOPAXOS  the program file (crates/nopaxos/out/nopaxos);  BASE  a port (44000)
 #
@@ -75,7 +76,18 @@ sweep() {
         fi
     done
     printf '%-34s %6d %10d %15d %6d\n' "$name" $((number - 1)) "$memory" "$whole" "$wrong"
+    if [ "$memory" = 0 ]; then
+        echo "$name: no run ended for want of memory"
+        failed=1
+    fi
 }
+
+# The allocator is loaded, and refuses.
+runs 1 examples/one-put.schedule replay
+if [ ! -e "$folder/refused" ] || [ "$status" != 6 ] || ! is_front examples/one-put.transcript; then
+    differs 'the allocator refuses nothing' 1
+    exit 1
+fi
 
 printf '%-34s %6s %10s %15s %6s\n' run number 'no memory' 'whole output' wrong
 for name in one-put retry-in-two-sessions sync-commit-first; do
@@ -110,7 +122,7 @@ echo "$served" > "$folder/served"
     sweep 'controller, with an install' 0 "$folder/served" /dev/null controller $site --turns 2 --install 0
 }
 
-# ---- all actors in one process, where the program has that command
+# ---- all actors in one process
 cat > "$folder/cluster" << CLUSTER
 nopaxos 1 replicas 1 sequencers 1 clients 1
 submit c0 $put
@@ -130,11 +142,5 @@ $served stray 0
 CLUSTER
 words="cluster --replicas 1 --sequencers 1 --clients 1 --base $((base + 100)) --turns 200 $put"
 # shellcheck disable=SC2086
-runs 0 /dev/null $words
-if [ "$status" = 2 ]; then
-    echo 'cluster: left out, the program does not take the word'
-else
-    # shellcheck disable=SC2086
-    sweep 'cluster' 0 "$folder/cluster" /dev/null $words
-fi
+sweep 'cluster' 0 "$folder/cluster" /dev/null $words
 exit "$failed"

@@ -70,6 +70,10 @@ if examples/cluster.sh > "$folder/out" 2> "$folder/err"; then
 else
     differs "examples/cluster.sh ends with status $?: $(tail -n 3 "$folder/err")"
 fi
+# With an argument that is not taken it starts nothing.
+made=$((made + 1))
+examples/cluster.sh 4 > "$folder/out" 2> "$folder/err"
+[ $? = 2 ] && [ ! -s "$folder/out" ] || differs "examples/cluster.sh takes 4 replicas"
 
 for document in README.md examples/README.md; do
     while IFS= read -r command; do

@@ -39,6 +39,17 @@ same() {
     : > "$folder/err"
 }
 
+# answered NAME WANTED: the process that is running writes this and no more, within ten seconds.
+answered() {
+    made=$((made + 1))
+    for _ in $(seq 200); do
+        [ "$(cat "$folder/out")" = "$2" ] && return
+        sleep 0.05
+    done
+    echo "processes: $1: after ten seconds it had written '$(head -c 300 "$folder/out")' and not '$2'"
+    wrong=$((wrong + 1))
+}
+
 # ---- replay
 "$program" replay < "$schedule" > "$folder/out" 2> "$folder/err"
 same 'a schedule' $? 0 "$(cat "$transcript")"
@@ -54,6 +65,34 @@ same 'a full disk' $? 4 ''
 same 'no output' $? 4 ''
 { (trap '' PIPE; sleep 0.2; "$program" replay < "$schedule" 2> "$folder/err"; echo $? > "$folder/status"); } | :
 same 'a closed pipe' "$(cat "$folder/status")" 4 ''
+
+# Each line is answered before the next one is sent, also one whose end comes later than its beginning.
+mkfifo "$folder/lines"
+"$program" replay < "$folder/lines" > "$folder/out" 2> "$folder/err" &
+server=$!
+exec 3> "$folder/lines"
+echo 'nopaxos 1 replicas 3 sequencers 1 clients 1' >&3
+answers='transcript 1 replicas 3 sequencers 1 clients 1'
+answered 'line 1' "$answers"
+printf 'submit c0 5000016b' >&3
+sleep 0.2
+answered 'half a line' "$answers"
+echo '000176' >&3
+answers="$answers
+submit c0 1 5000016b000176
+send 0 c0 s* request 25"
+answered 'the other half' "$answers"
+printf 'deliver 0 s0\ndeliver 1 r0\n' >&3
+answers="$answers
+send 1 s0 r* stamped 37
+send 2 r0 c0 reply 36"
+answered 'two lines at once' "$answers"
+echo 'deliver 9 r0' >&3
+wait "$server"
+same 'a bad line while the input goes on' $? 1 "$answers
+error line 5 rule 8 index 9 sent 3"
+server=
+exec 3>&-
 
 # 300,000 datagrams do not fit into 10 MB: what was written then begins what is written where there is room.
 { head -n 2 "$schedule"; yes 'deliver 0 s0' | head -n 300000; } > "$folder/long"
@@ -73,16 +112,27 @@ history 0'
 "$program" gen 7 20000 > "$folder/whole" 2> "$folder/err"
 "$program" gen 7 20000 > "$folder/out" 2> "$folder/err"
 same 'a schedule drawn twice' $? 0 "$(cat "$folder/whole")"
+# As two other programs for the same protocol have it.
+"$program" gen 7 100000 > "$folder/out" 2> "$folder/err"
+same 'the longest schedule' $? 0 'gen 7 100000
+sends 40214 accepts 36
+view 222 381 length 293 noops 126
+history 39'
 "$program" gen 7 1 > /dev/full 2> "$folder/err"
 same 'a summary on a full disk' $? 4 ''
 
-# ---- words
-for words in '' 'stop' 'replay replay' 'gen 1 0' 'node' 'node --help' \
+# ---- words; the last ones have an op of 641 bytes, and 65 ops
+big=$(printf '78%.0s' {1..640})
+for words in '' 'stop' 'replay replay' 'gen 1 0' 'gen 1 100001' 'node' 'node --help' \
+    'node --id 0 --replicas 3 --sequencers 1 --id 0' \
+    'node --id 0 --replicas 3 --replicas 3 --sequencers 1' \
     'node --id 3 --replicas 3 --sequencers 1' \
     'node --id 0 --replicas 2 --sequencers 1' \
     'node --id 0 --replicas 3 --sequencers 1 --base 65001' \
     'client --id 0 --replicas 3 --sequencers 1' \
-    'client --id 0 --replicas 3 --sequencers 1 5x'; do
+    'client --id 0 --replicas 3 --sequencers 1 5x' \
+    "client --id 0 --replicas 3 --sequencers 1 ${big}78" \
+    "client --id 0 --replicas 3 --sequencers 1 $(printf '50 %.0s' {1..65})"; do
     # shellcheck disable=SC2086
     "$program" $words < /dev/null > "$folder/out" 2> "$folder/err"
     same "the words '$words'" $? 2 "$usage"
@@ -106,6 +156,9 @@ same 'the usage line on a full disk' $? 4 ''
     "$program" client --id 7 $site --turns 2 5000016b000176 > "$folder/out" 2> "$folder/err"
     same 'a client without an answer' $? 7 "submit c7 1 5000016b000176
 served 2 lost 0"
+    "$program" client --id 4294967295 $site --turns 1 "$big" > "$folder/out" 2> "$folder/err"
+    same 'the last client with the longest op' $? 7 "submit c4294967295 1 $big
+served 1 lost 0"
     "$program" node --id 0 $site --turns 2 > /dev/full 2> "$folder/err"
     same 'a replica on a full disk' $? 4 ''
     "$program" sequencer --id 0 $site > "$folder/server" 2>&1 &

@@ -1,6 +1,6 @@
 #!/bin/bash
 # Replays each schedule of examples/ and compares the output and the exit status with the transcript beside it; then schedules
-# that are too long to store. It takes a few seconds, leaves nothing behind, and ends with status 1 at any difference.
+# with a line that is too long to store. It takes a few seconds, leaves nothing behind, and ends with status 1 at any difference.
 #
 #   checks/transcripts.sh        the program is crates/nopaxos/out/nopaxos, or the file that NOPAXOS names
 set -u
@@ -49,28 +49,6 @@ for schedule in examples/*.schedule; do
     row=$(cat "$schedule" - "$transcript" <<< '=>')
     [[ $table == *[\\-]$'\n'"$row"$'\n'[-\"]* ]] || differs "$name is not in the table of the test"
 done
-
-# ---- a log of 4,096 slots: the 4,097th stamped request is not logged, and gets no reply
-{
-    echo 'nopaxos 1 replicas 1 sequencers 1 clients 1'
-    for ((i = 0; i < 4096; i++)); do
-        printf 'submit c0 4700016b\ndeliver %d s0\ndeliver %d r0\ndeliver %d c0\n' $((3 * i)) $((3 * i + 1)) $((3 * i + 2))
-    done
-    printf 'submit c0 4700016b\ndeliver 12288 s0\ndeliver 12289 r0\n'
-} > "$folder/schedule"
-{
-    echo 'transcript 1 replicas 1 sequencers 1 clients 1'
-    for ((i = 0; i < 4096; i++)); do
-        printf 'submit c0 %d 4700016b\nsend %d c0 s* request 22\n' $((i + 1)) $((3 * i))
-        printf 'send %d s0 r* stamped 34\nsend %d r0 c0 reply 36\n' $((3 * i + 1)) $((3 * i + 2))
-        printf 'accept c0 %d 6e6f6e65\n' $((i + 1))
-    done
-    printf 'submit c0 4097 4700016b\nsend 12288 c0 s* request 22\nsend 12289 s0 r* stamped 34\n'
-    echo 'replica r0 up normal 0 1 4096 0'
-    for ((i = 1; i <= 4096; i++)); do echo "history $i c0 $i 4700016b"; done
-    echo end
-} > "$folder/transcript"
-same 'a full log' "$folder/schedule" "$folder/transcript"
 
 # ---- a line of 4,097 bytes without an end, and one of 4,096 bytes with its end
 header='replicas 3 sequencers 1 clients 1'

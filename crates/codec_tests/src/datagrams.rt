@@ -34,7 +34,8 @@ const LIMITS: &str = "\
 4e4f0108 06 ffffffffffffffff 07ff 0800 ff*1400 = Fragment(Fragment { replica: 6, message: 18446744073709551615, index: 2047, count: 2048, payload: Bytes { bytes: [255, 255..";
 
 /// Bytes, and the first test that they fail. Among them are an op of 641 bytes, a message number of 2^48, a sequencer out of range
-/// with a byte of the round missing, a payload that is not the last and is not full, one too many, none, and an index at the count.
+/// with a byte of the round missing, a payload that is not the last and is not full, one too many, none, and an index at the count. The
+/// last ones have a stamped op of 641 bytes, an op of 640 with a byte behind it, and a result of 258 bytes.
 const REFUSALS: &str = "\
 4e4f01 = Short
 4e4e0101 = Magic
@@ -51,7 +52,10 @@ const REFUSALS: &str = "\
 4e4f0108 00 0000000000000001 0000 0002 ff*1399 = Short
 4e4f0108 00 0000000000000001 0000 0002 ff*1401 = Trailing
 4e4f0108 00 0000000000000001 0000 0001 = Short
-4e4f0108 00 0000000000000001 0001 0001 00 = Field";
+4e4f0108 00 0000000000000001 0001 0001 00 = Field
+4e4f0102 00000001 0000000000000001 00000000 0000000000000001 0281 ff*641 = Field
+4e4f0101 00000000 0000000000000001 0280 ff*641 = Trailing
+4e4f0103 00 00000000 00000001 00000001 00000000 0000000000000001 01 0102 ff*258 = Field";
 
 /// The bytes that a datagram is written as.
 fn spelled(rt: &impl Abort, alloc: Global, datagram: &Datagram) -> Vec<u8>

@@ -1,5 +1,5 @@
-//! Tests of the formats, of schedules and transcripts, and of the shared types, by the public calls of the crates below. It holds
-//! nothing else.
+//! Tests alone, by the public calls of the crates below: shared types, datagrams and peer messages,
+//! fragments, lines of schedules and transcripts. Expected bytes and texts are written out by hand.
 #![tactic(auto)]
 
 #[cfg(test)]

@@ -46,7 +46,8 @@ fn letters(rt: &impl Abort, alloc: Global, text: Vec<u8>, most: usize, calls: us
 
 /// A row for each text: whether the first line stands before it (`+`), its front, a byte that follows that so many times, and a letter
 /// for each of four answers, for a rule its digit. A line that is refused is refused again. A line feed is written `;`, a carriage
-/// return `^`, and a byte of 127 `~`.
+/// return `^`, and a byte of 127 `~`. The longest line that is taken has 3,000 digits of junk, so one of 4,096 bytes breaks a rule of its
+/// words or of its digits.
 const READ: &str = "\
 +|submit c0 5000016b000176;deliver 0 s0;crash r1|;|0|sdc.
 +|crash ctl;submit c1 -;crash c2|;|2|cs77
@@ -70,6 +71,8 @@ const READ: &str = "\
 +|junk c2 |0|2|7777
 +||x|4096|3333
 +||x|4097|1111
++|junk ctl |0|4087|5555
++|junk ctl |0|4088|1111
 +|crash r0|^|1|2222
 +|crash r0|~|1|2222
 +|nopaxos 1 replicas 3 sequencers 2 clients 2|;|1|3333

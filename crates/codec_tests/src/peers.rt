@@ -6,7 +6,7 @@ use peer_codec::{EncodedPeer, LogBody, decode_peer, encode_peer, encode_with_log
 use std::alloc::Global;
 use std::process::Abort;
 
-/// The examples of the formats: bytes, and the message that they spell. The last three have fields and a log at their greatest.
+/// The examples of the formats: bytes, and the message that they spell. The last five have fields and a log at their greatest.
 const EXAMPLES: &str = "\
 10 01 00000000 00000001 00000001 = Peer { sender: 1, view: View { leader: 0, session: 1 }, body: SlotLookup(1) }
 11 00 00000000 00000001 00000001 00000000 0000000000000001 0007 5000016b000176 = Peer { sender: 0, view: View { leader: 0, session: 1 }, body: Found(1, Request { client: 0, id: 1, op: Op { bytes: [80, 0, 1, 107, 0, 1, 118] } }) }
@@ -22,7 +22,9 @@ const EXAMPLES: &str = "\
 18 01 00000000 00000001 00000000 = Peer { sender: 1, view: View { leader: 0, session: 1 }, body: SyncRep(0) }
 10 06 ffffffff ffffffff 00001000 = Peer { sender: 6, view: View { leader: 4294967295, session: 4294967295 }, body: SlotLookup(4096) }
 17 06 ffffffff ffffffff 00001000 00*4096 = Peer { sender: 6, view: View { leader: 4294967295, session: 4294967295 }, body: SyncPrepare(Log { entries: [NoOp, NoOp..
-17 00 00000000 00000001 00000001 01 ffffffff ffffffffffffffff 0280 ff*640 = Peer { sender: 0, view: View { leader: 0, session: 1 }, body: SyncPrepare(Log { entries: [Req(Request { client: 4294967295, id: 18446744073709551615, op: Op { bytes: [255, 255..";
+17 00 00000000 00000001 00000001 01 ffffffff ffffffffffffffff 0280 ff*640 = Peer { sender: 0, view: View { leader: 0, session: 1 }, body: SyncPrepare(Log { entries: [Req(Request { client: 4294967295, id: 18446744073709551615, op: Op { bytes: [255, 255..
+11 00 00000000 00000001 00001000 ffffffff ffffffffffffffff 0280 ff*640 = Peer { sender: 0, view: View { leader: 0, session: 1 }, body: Found(4096, Request { client: 4294967295, id: 18446744073709551615, op: Op { bytes: [255, 255..
+15 06 ffffffff ffffffff ffffffff ffffffff 0001000000000000 00001000 01ffffffffffffffffffffffff0000*4096 = Peer { sender: 6, view: View { leader: 4294967295, session: 4294967295 }, body: ViewChange { last_normal: View { leader: 4294967295, session: 4294967295 }, next: 281474976710656, log: Log { entries: [Req(Request { client: 4294967295, id: 18446744073709551615, op: Op { bytes: [] } }), Req..";
 
 /// Bytes, and the first test that they fail: no bytes, other kinds, a sender of 7, a session of 0, a slot of 4,097, a next number of
 /// 2^48 + 1, a log of 4,097 entries, a tag of 2, an op of 641 bytes, and bytes that are missing or too many.
@@ -41,7 +43,10 @@ const REFUSALS: &str = "\
 17 00 00000000 00000001 00001001 = Field
 17 00 00000000 00000001 00000001 = Short
 17 00 00000000 00000001 00000001 02 = Field
-17 00 00000000 00000001 00000001 01 00000000 0000000000000001 0281 = Field";
+17 00 00000000 00000001 00000001 01 00000000 0000000000000001 0281 = Field
+11 00 00000000 00000001 00000001 00000000 0000000000000001 0281 ff*641 = Field
+11 00 00000000 00000001 00000001 00000000 0000000000000001 0280 ff*641 = Trailing
+11 00 00000000 00000001 00000001 00000000 0000000000000001 0280 ff*639 = Short";
 
 /// The bytes that a message is written as.
 fn spelled(rt: &impl Abort, alloc: Global, message: &Peer) -> Vec<u8>

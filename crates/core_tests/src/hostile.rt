@@ -13,38 +13,90 @@ use std::alloc::Global;
 use std::process::Abort;
 use std::slice::from_mut;
 
-/// A request, the same stamped, a leader's and a follower's reply for it, a fragment, and the request stamped in session 2.
+/// Datagrams of all kinds, each of which one of the cores below takes: a request, the same stamped, the same stamped in session 2, a
+/// leader's and a follower's reply to it, an order and its answer, a probe and its answer, and a question for a slot.
 const DATAGRAMS: &str = "\
 4e4f0101 00000000 0000000000000001 0007 5000016b000176
 4e4f0102 00000001 0000000000000001 00000000 0000000000000001 0007 5000016b000176
+4e4f0102 00000002 0000000000000002 00000000 0000000000000001 0007 5000016b000176
 4e4f0103 00 00000000 00000001 00000001 00000000 0000000000000001 01 0004 6e6f6e65
 4e4f0103 01 00000000 00000001 00000001 00000000 0000000000000001 00 0000
-4e4f0108 01 0000000000000001 0000 0001 1001000000000000000100000001
-4e4f0102 00000002 0000000000000002 00000000 0000000000000001 0007 5000016b000176";
+4e4f0104 00 00000002
+4e4f0105 01 00000002
+4e4f0106 00 00000001
+4e4f0107 01 00000001
+4e4f0108 01 0000000000000001 0000 0001 1001000000000000000100000001";
 
-/// A core takes each front of these bytes but the whole of them, and gives nothing.
-fn ignores_fronts_of<C: Core>(rt: &impl Abort, alloc: Global, core: &mut C, bytes: &[u8]) {
-    for len in 0..bytes.len() {
-        let mut out = Outbox::new(alloc);
-        let input = Input::Packet(&bytes[..len]);
-        core.step(input, &mut out).expect(rt, "memory");
-        assert!(rt; out.as_slice().is_empty());
-    }
+/// The same with a field out of its range: ids, sessions, rounds and a message of 0, a message number of 2^48, ops of 641 bytes, replicas
+/// 7, a slot of 4,097, a tag of 2, a result without a tag, one of 258 bytes, sequencers 4, a count of 0 and one of 2,049.
+const OUT_OF_RANGE: &str = "\
+4e4f0101 00000000 0000000000000000 0007 5000016b000176
+4e4f0101 00000000 0000000000000001 0281 78*641
+4e4f0102 00000000 0000000000000001 00000000 0000000000000001 0007 5000016b000176
+4e4f0102 00000001 0001000000000000 00000000 0000000000000001 0007 5000016b000176
+4e4f0102 00000001 0000000000000001 00000000 0000000000000001 0281 78*641
+4e4f0103 07 00000000 00000001 00000001 00000000 0000000000000001 01 0004 6e6f6e65
+4e4f0103 00 00000000 00000001 00001001 00000000 0000000000000001 01 0004 6e6f6e65
+4e4f0103 00 00000000 00000001 00000001 00000000 0000000000000001 02 0004 6e6f6e65
+4e4f0103 00 00000000 00000001 00000001 00000000 0000000000000001 00 0004 6e6f6e65
+4e4f0103 00 00000000 00000001 00000001 00000000 0000000000000001 01 0102 3d*258
+4e4f0104 00 00000000
+4e4f0104 04 00000002
+4e4f0105 01 00000000
+4e4f0106 00 00000000
+4e4f0107 04 00000001
+4e4f0108 07 0000000000000001 0000 0001 1001000000000000000100000001
+4e4f0108 01 0000000000000000 0000 0001 1001000000000000000100000001
+4e4f0108 01 0000000000000001 0000 0000 1001000000000000000100000001
+4e4f0108 01 0000000000000001 0000 0801 00*1400";
+
+/// Places in a datagram, and bytes there: no such magic, version or kind.
+const CHANGES: [(usize, u8); 6] = [(0, 0x4f), (1, 0x4e), (2, 0), (2, 2), (3, 0), (3, 9)];
+
+/// A core takes these bytes, and gives nothing.
+fn ignores<C: Core>(rt: &impl Abort, alloc: Global, core: &mut C, bytes: &[u8]) {
+    let mut out = Outbox::new(alloc);
+    core.step(Input::Packet(bytes), &mut out)
+        .expect(rt, "memory");
+    assert!(rt; out.as_slice().is_empty());
 }
 
-/// A core ignores the fronts of all these datagrams.
-fn ignores_fronts<C: Core>(rt: &impl Abort, alloc: Global, core: &mut C) {
+/// A core ignores each front of these bytes but the whole of them, them with another byte in one place, and with one more.
+fn ignores_bad<C: Core>(rt: &impl Abort, alloc: Global, core: &mut C, bytes: &[u8]) {
+    for len in 0..bytes.len() {
+        ignores(rt, alloc, core, &bytes[..len]);
+    }
+    for (place, byte) in &CHANGES {
+        let mut changed = bytes.to_vec(alloc).expect(rt, "memory");
+        assert!(rt; *place < changed.len());
+        changed[*place] = *byte;
+        ignores(rt, alloc, core, &changed);
+    }
+    let mut longer = bytes.to_vec(alloc).expect(rt, "memory");
+    longer.push(0).expect(rt, "memory");
+    ignores(rt, alloc, core, &longer);
+}
+
+/// A core ignores what is no datagram, and the datagrams that do not begin with one of these fronts.
+fn takes_only<C: Core>(rt: &impl Abort, alloc: Global, core: &mut C, taken: &str) {
     for row in DATAGRAMS.lines() {
         let bytes = bytes_of(rt, alloc, row);
-        ignores_fronts_of(rt, alloc, core, &bytes);
+        ignores_bad(rt, alloc, core, &bytes);
+        let (front, _rest) = row.split_once(' ').expect(rt, "a row");
+        if !taken.contains(front) {
+            ignores(rt, alloc, core, &bytes);
+        }
+    }
+    for row in OUT_OF_RANGE.lines() {
+        ignores(rt, alloc, core, &bytes_of(rt, alloc, row));
     }
 }
 
-/// Three replicas take the fronts, and then the stamped request as if nothing had come.
-fn replicas_ignore_fronts<H: Host>(rt: &impl Abort, alloc: Global) {
+/// Three replicas ignore them, and take the stamped request as if nothing had come.
+fn replicas_take_only<H: Host>(rt: &impl Abort, alloc: Global) {
     let mut cores: Vec<Replica<H>> = opened(rt, alloc);
     for core in &mut cores {
-        ignores_fronts(rt, alloc, core);
+        takes_only(rt, alloc, core, "4e4f0102 4e4f0108");
         assert!(rt; core.held(1) == 0);
     }
     play(rt, alloc, &mut cores, &mut Outbox::new(alloc), AS_BEFORE);
@@ -58,33 +110,44 @@ const AS_BEFORE: &str = "\
 ";
 
 #[test]
-fn replicas_ignore_what_is_cut(rt: HostRuntime) {
-    replicas_ignore_fronts::<KvHost>(&rt, rt.alloc());
+fn replicas_ignore_what_is_no_datagram(rt: HostRuntime) {
+    replicas_take_only::<KvHost>(&rt, rt.alloc());
 }
 
-/// A sequencer takes the fronts, and stamps the first request with the first number.
+/// A sequencer stamps the first request with the first number.
 const STAMPED: &str = "\
 0 packet 4e4f0101 00000000 0000000000000001 0007 5000016b000176
   0 Replicas 4e4f010200000001000000000000000100000000000000000000000100075000016b000176
 ";
 
 #[test]
-fn a_sequencer_ignores_what_is_cut(rt: HostRuntime) {
+fn a_sequencer_ignores_what_is_no_datagram(rt: HostRuntime) {
     let alloc = rt.alloc();
     let mut core = Sequencer::new(alloc, 0).expect(&rt, "memory");
-    ignores_fronts(&rt, alloc, &mut core);
+    takes_only(&rt, alloc, &mut core, "4e4f0101 4e4f0104 4e4f0106");
     let told = "SequencerState { number: 0, session: 1, next: 1 }";
     check_shown(&rt, alloc, &core.state(), told);
     let mut sent = Outbox::new(alloc);
     play(&rt, alloc, from_mut(&mut core), &mut sent, STAMPED);
 }
 
+/// A controller waits for answers to an order and to a probe.
+const ORDERED: &str = "\
+0 tick install 1
+  0 One(Sequencer(1)) 4e4f01040100000002
+0 tick probe
+  1 One(Sequencer(1)) 4e4f01060100000001
+";
+
 #[test]
-fn a_controller_ignores_what_is_cut(rt: HostRuntime) {
+fn a_controller_ignores_what_is_no_datagram(rt: HostRuntime) {
+    let alloc = rt.alloc();
     let config = Config::new(3, 2, 1).expect(&rt, "a group");
-    let mut core = Controller::new(rt.alloc(), config, 1).expect(&rt, "memory");
+    let mut core = Controller::new(alloc, config, 1).expect(&rt, "memory");
+    let mut sent = Outbox::new(alloc);
+    play(&rt, alloc, from_mut(&mut core), &mut sent, ORDERED);
     let before = core.state();
-    ignores_fronts(&rt, rt.alloc(), &mut core);
+    takes_only(&rt, alloc, &mut core, "4e4f0105 4e4f0107");
     assert!(rt; core.state() == before);
 }
 
@@ -113,18 +176,23 @@ fn a_client_ignores_replies_of_others(rt: HostRuntime) {
     let mut core = client(&rt, alloc);
     let mut sent = Outbox::new(alloc);
     play(&rt, alloc, from_mut(&mut core), &mut sent, SUBMITTED);
-    ignores_fronts(&rt, alloc, &mut core);
+    takes_only(&rt, alloc, &mut core, "4e4f0103");
     play(&rt, alloc, from_mut(&mut core), &mut sent, REPLIES);
     assert!(rt; core.state().last_id == 1);
 }
 
-/// At the leader: fragments of replica 6 and of its own number. At a follower: a commit of 4,096 slots where nothing is prepared, a
+/// At the leader: fragments of replica 6 and of its own number, and starts of view (1, 1) whose log has an entry more and one less than
+/// it says. At a follower: a commit of 4,096 slots where nothing is prepared, a
 /// commit of a slot past the limit, the first request from a replica that does not lead. At another one that has left the view: the
 /// first request from the leader of the view that it enters.
 const FORGED: &str = "\
 0 packet 4e4f0108 06 0000000000000001 0000 0001 14 06 00000007 00000001
 0 packet 4e4f0108 00 0000000000000001 0000 0001 14 00 00000007 00000001
 0 packet 4e4f0108 06 0000000000000001 0000 0002 00*1400
+0 packet 4e4f0108 01 0000000000000001 0000 0002 16 01 00000001 00000001 0000000000000001 00000562 00*1378
+0 packet 4e4f0108 01 0000000000000001 0001 0002 00
+0 packet 4e4f0108 01 0000000000000002 0000 0002 16 01 00000001 00000001 0000000000000001 00000564 00*1378
+0 packet 4e4f0108 01 0000000000000002 0001 0002 00
 1 packet 4e4f0108 00 0000000000000001 0000 0001 19 00 00000000 00000001 00001000
 1 packet 4e4f0108 00 0000000000000001 0000 0001 12 00 00000000 00000001 00001001
 1 packet 4e4f0108 02 0000000000000001 0000 0001 11 02 00000000 00000001 00000001 00000000 0000000000000001 0000
@@ -144,21 +212,48 @@ Change (1, 1, 0, 1) (0, 0)
     play_three::<KvHost>(&rt, rt.alloc(), FORGED, told);
 }
 
-/// A view with the greatest numbers is asked for, which replica 0 leads. A tick and a packet of its session change no view then.
+/// A view with the greatest numbers is asked for, which replica 0 leads. A tick and a packet of its session change no view then. A packet
+/// of the last session brings another replica there.
 const LAST_VIEW: &str = "\
 0 packet 4e4f0108 01 0000000000000001 0000 0001 14 01 ffffffff ffffffff
   0 Replicas 4e4f0108000000000000000001000000011400ffffffffffffffff
 0 tick suspect
+0 packet 4e4f0102 ffffffff 0000000000000001 00000000 0000000000000001 0007 5000016b000176
+1 packet 4e4f0102 ffffffff 0000000000000001 00000000 0000000000000001 0007 5000016b000176
+  1 Replicas 4e4f010801000000000000000100000001140100000000ffffffff
+  2 One(Replica(0)) 4e4f010801000000000000000200000001150100000000ffffffff0000000000000001000000000000000100000000
 ";
 
 #[test]
 fn the_last_view(rt: HostRuntime) {
     let told = "\
 Change (4294967295, 4294967295, 0, 1) (0, 0)
-Normal (0, 1, 0, 1) (0, 0)
+Change (0, 4294967295, 0, 1) (0, 0)
 Normal (0, 1, 0, 1) (0, 0)
 ";
     play_three::<KvHost>(&rt, rt.alloc(), LAST_VIEW, told);
+}
+
+/// A view starts at the last number. Its packet, of the last client with the last id, is taken; no slot is filled after it, and the
+/// replica tells the number past it when it leaves the view.
+const LAST_NUMBER: &str = "\
+0 packet 4e4f0108 01 0000000000000001 0000 0001 16 01 00000001 00000001 0000ffffffffffff 00000000
+0 packet 4e4f0102 00000001 0000ffffffffffff ffffffff ffffffffffffffff 0000
+  0 One(Client(4294967295)) 4e4f010300000000010000000100000001ffffffffffffffffffffffff000000
+0 packet 4e4f0108 01 0000000000000002 0000 0001 12 01 00000001 00000001 00000002
+0 tick suspect
+  1 Replicas 4e4f01080000000000000000010000000114000000000200000001
+  2 One(Replica(2)) 4e4f01080000000000000000020000000115000000000200000001000000010000000100010000000000000000000101ffffffffffffffffffffffff0000
+";
+
+#[test]
+fn the_last_number(rt: HostRuntime) {
+    let told = "\
+Change (2, 1, 1, 1) (0, 0) (4294967295, 18446744073709551615)
+Normal (0, 1, 0, 1) (0, 0)
+Normal (0, 1, 0, 1) (0, 0)
+";
+    play_three::<KvHost>(&rt, rt.alloc(), LAST_NUMBER, told);
 }
 
 /// A view starts at the number past the last one. No packet is taken in it, and the replica tells that number when it leaves the view.

@@ -1,4 +1,5 @@
-//! Tests of the cores, alone and in groups, by the public calls of the crates below. It holds nothing else.
+//! Tests alone, by the public calls of the crates below: the cores one by one, and groups of
+//! replicas that are driven by hand-written deliveries, forged ones too.
 #![tactic(auto)]
 
 #[cfg(test)]

@@ -1,4 +1,4 @@
-use crate::logs::{is_log, log_of};
+use crate::logs::{full, is_full, is_log, log_of};
 use log_merge::{merge, merge_of_view};
 use nop_types::{Change, Log, View};
 use std::alloc::Global;
@@ -176,4 +176,20 @@ fn starts(rt: HostRuntime) {
     for (row, case) in STARTS.iter().enumerate() {
         check_start(&rt, rt.alloc(), row, case);
     }
+}
+
+/// Full logs of two changes, of which a third one has less, are merged.
+#[test]
+fn full_logs_are_merged(rt: HostRuntime) {
+    let mut changes = Vec::new(rt.alloc());
+    for sender in 0..3 {
+        let mut change = change(&rt, rt.alloc(), &(sender, 0, 1, 1, &[1]));
+        if sender > 0 {
+            change.log = full(&rt, rt.alloc());
+        }
+        changes.push(change).expect(&rt, "memory");
+    }
+    let (first, second) = merged(&rt, rt.alloc(), changes);
+    assert!(rt; is_full(first.as_slice()));
+    assert!(rt; is_full(second.as_slice()));
 }

@@ -1,8 +1,9 @@
+use crate::logs::full_log;
 use crate::requests::request;
 use client_table::{ClientTable, Judged};
 use executor::Executor;
 use kv_host::KvHost;
-use nop_types::{Bytes, Entry, Host};
+use nop_types::{Bytes, Entry, Host, MAX_SLOTS};
 use replica_log::ReplicaLog;
 use std::alloc::Global;
 use std::process::Abort;
@@ -42,7 +43,7 @@ fn last_answers(rt: HostRuntime) {
 }
 
 /// The entries of a log: a client, an id and an op, or a NO-OP for the id 0.
-const SLOTS: [(u32, u64, &[u8]); 8] = [
+const SLOTS: [(u32, u64, &[u8]); 9] = [
     (0, 0, b""),
     (1, 2, b"P\0\x01k\0\x01v"),
     (0, 0, b""),
@@ -51,16 +52,18 @@ const SLOTS: [(u32, u64, &[u8]); 8] = [
     (2, 1, b"G\0\x01k"),
     (3, 1, b"D\0\x01k"),
     (4, 1, b"G\0\x01k"),
+    (u32::MAX, u64::MAX, b""),
 ];
 
 /// The last answers: an id that is not the last one of its client has none.
-const RESULTS: [(u32, u64, Option<&[u8]>); 7] = [
+const RESULTS: [(u32, u64, Option<&[u8]>); 8] = [
     (1, 2, Some(b"none")),
     (1, 1, None),
     (1, 3, None),
     (2, 1, Some(b"=v")),
     (3, 1, Some(b"=v")),
     (4, 1, Some(b"none")),
+    (u32::MAX, u64::MAX, Some(b"bad")),
     (0, 0, None),
 ];
 
@@ -104,4 +107,18 @@ fn check_results<H: Host>(rt: &impl Abort, alloc: Global) {
 #[test]
 fn executed_and_undone(rt: HostRuntime) {
     check_results::<KvHost>(&rt, rt.alloc());
+}
+
+/// A full log is executed at once, undone down to slot 1, and executed again; each op of it is no op of the service.
+fn check_full<H: Host>(rt: &impl Abort, alloc: Global) {
+    let log = full_log(rt, alloc);
+    let executor: Executor<H> = executed_again(rt, alloc, &log);
+    assert!(rt; executor.executed() == log.len());
+    let answer = executor.result(7, MAX_SLOTS as u64);
+    assert!(rt; is_told(answer, Some(b"bad")));
+}
+
+#[test]
+fn a_full_log_is_executed(rt: HostRuntime) {
+    check_full::<KvHost>(&rt, rt.alloc());
 }

@@ -49,7 +49,7 @@ const OPS: [(&[u8], &[u8]); 40] = [
 ];
 
 /// Ops with long fields, which come after those, and the answers to them. A field is a byte, and how often it stands there.
-const LONG: [(u8, &[(u8, u64)], &[u8]); 11] = [
+const LONG: [(u8, &[(u8, u64)], &[u8]); 17] = [
     (b'P', &[(b'k', 64), (b'v', 256)], b"none"),
     (b'G', &[(b'k', 65)], b"bad"),
     (b'P', &[(b'k', 65), (b'v', 1)], b"bad"),
@@ -61,6 +61,13 @@ const LONG: [(u8, &[(u8, u64)], &[u8]); 11] = [
     (b'C', &[(b'k', 64), (b'v', 256), (b'w', 256)], b"yes"),
     (b'C', &[(b'k', 64), (b'w', 256), (b'v', 1)], b"yes"),
     (b'G', &[(b'k', 64)], b"=v"),
+    // The longest ops, and the longest answers.
+    (b'P', &[(b'k', 64), (b'v', 571)], b"bad"),
+    (b'P', &[(b'k', 64), (b'v', 572)], b"bad"),
+    (b'P', &[(b'k', 64), (b'=', 256)], b"=v"),
+    (b'G', &[(b'k', 64)], &[b'='; 257]),
+    (b'P', &[(b'k', 64), (b'=', 256)], &[b'='; 257]),
+    (b'D', &[(b'k', 64)], &[b'='; 257]),
 ];
 
 /// Adds a field, which begins with its length in two bytes.

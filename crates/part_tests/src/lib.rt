@@ -1,4 +1,5 @@
-//! Tests of the parts of a replica and of the key-value service, by the public calls of the crates below. It holds nothing else.
+//! Tests alone, by the public calls of the crates below: the key-value service, and the parts of a
+//! replica (log, merge, execution, client table, receiver, votes, changes).
 #![tactic(auto)]
 
 #[cfg(test)]

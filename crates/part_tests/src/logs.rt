@@ -112,3 +112,43 @@ fn lookups(rt: HostRuntime) {
         assert!(rt; name(answer(&log, true, *slot)) == *second, "row {row}");
     }
 }
+
+/// As many requests as a log holds, whose ids count from 1.
+pub fn full(rt: &impl Abort, alloc: Global) -> Log {
+    let mut log = Log::new(alloc);
+    for id in 1..=MAX_SLOTS as u64 {
+        assert!(rt; log.as_slice().len() < MAX_SLOTS);
+        log.push(entry(rt, alloc, id)).expect(rt, "memory");
+    }
+    log
+}
+
+/// A replica's log without room: all of it but the last slot was appended, and that one came with another log.
+pub fn full_log(rt: &impl Abort, alloc: Global) -> ReplicaLog {
+    let mut log = ReplicaLog::new(alloc);
+    for id in 1..MAX_SLOTS as u64 {
+        assert!(rt; log.has_room());
+        log.append(entry(rt, alloc, id)).expect(rt, "memory");
+    }
+    let other = full(rt, alloc);
+    assert!(rt; log.overlay(&other).expect(rt, "memory") == 1);
+    log
+}
+
+/// The log ends with its last slot, which has the request of that id.
+pub fn is_full(entries: &[Entry]) -> bool {
+    entries.len() == MAX_SLOTS && is_log(&entries[MAX_SLOTS - 1..], &[MAX_SLOTS as u64])
+}
+
+#[test]
+fn full_logs(rt: HostRuntime) {
+    let alloc = rt.alloc();
+    let mut log = full_log(&rt, alloc);
+    assert!(rt; is_full(log.as_slice()) && !log.has_room());
+    let other = full(&rt, alloc);
+    assert!(rt; log.overlay(&other).expect(&rt, "memory") == 0);
+    let copy = log.copy(log.len()).expect(&rt, "memory");
+    assert!(rt; is_full(copy.as_slice()));
+    assert!(rt; is_full(copy.try_clone().expect(&rt, "memory").as_slice()));
+    assert!(rt; name(answer(&log, false, MAX_SLOTS as u32 + 1)) == "nothing");
+}

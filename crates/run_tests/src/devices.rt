@@ -1,52 +1,45 @@
 use super::outcomes::run_line;
-use commands::{Status, SystemClock, UdpPorts};
-use outside::{Clock, Link, Ports, ReadMem, WriteMem};
+use commands::Status;
+use outside::{Clock, ClockMem, Ports, ReadMem, WriteMem};
+use std::alloc::Global;
+use std::process::Abort;
+use udp_ports::{SystemClock, UdpPorts};
 
-const PORT: u16 = 40961;
-
-/// A socket sends to itself, and no second one is attached to its port. The clock doesn't go back.
-#[test]
-fn a_socket_and_the_clock(rt: HostRuntime) {
-    let mut clock = SystemClock::new(&rt);
-    let first = clock.now();
-    let mut ports = UdpPorts::new(&rt, rt.alloc());
-    let mut link = ports.attach(PORT).expect(&rt, "a port");
-    assert!(rt; link.poll().expect(&rt, "a poll").is_none());
-    link.send(PORT, b"NO").expect(&rt, "a send");
-    let mut received = None;
-    for _ in 0..1000usize {
-        if received.is_none() {
-            received = link.poll().expect(&rt, "a poll");
-        }
-    }
-    let datagram = received.expect(&rt, "a datagram");
-    assert!(rt; datagram.as_slice() == b"NO".as_slice());
-    assert!(rt; ports.attach(PORT).is_err());
-    assert!(rt; ports.faults() == 1 && link.faults() == 0 && link.losses() == 0);
-    ports.detach(link);
-    assert!(rt; clock.now() >= first);
-}
-
-/// A cluster over sockets accepts its op.
-#[test]
-fn a_cluster_over_sockets(rt: HostRuntime) {
-    let alloc = rt.alloc();
+/// What a cluster of three replicas over sockets writes. It accepts all of its ops.
+fn cluster<P: Ports, C: Clock>(
+    rt: &impl Abort,
+    alloc: Global,
+    ends: &str,
+    ports: &mut P,
+    clock: &mut C,
+) -> String {
     let mut source = ReadMem::new(Vec::new(alloc));
     let mut sink = WriteMem::new(alloc);
-    let mut ports = UdpPorts::new(&rt, alloc);
-    let mut clock = SystemClock::new(&rt);
-    let words =
-        "nopaxos cluster --replicas 3 --sequencers 1 --clients 1 --base 43210 5000016b000176";
-    let status = run_line(
-        &rt,
-        alloc,
-        words,
-        &mut source,
-        &mut sink,
-        &mut ports,
-        &mut clock,
-    );
+    let words = format!(in alloc; "nopaxos cluster --replicas 3 --sequencers 1 {ends}");
+    let words = words.expect(rt, "memory");
+    let status = run_line(rt, alloc, &words, &mut source, &mut sink, ports, clock);
     assert!(rt; status == Status::Done);
-    let written = std::str::from_utf8(sink.as_slice()).expect(&rt, "text");
+    String::from_utf8(sink.into_vec()).expect(rt, "text")
+}
+
+#[test]
+fn a_cluster_over_sockets(rt: HostRuntime) {
+    let mut ports = UdpPorts::new(&rt, rt.alloc());
+    let mut clock = SystemClock::new(&rt);
+    let ends = "--clients 1 --base 43210 5000016b000176";
+    let written = cluster(&rt, rt.alloc(), ends, &mut ports, &mut clock);
     assert!(rt; written.contains("\nhistory 1 c0 1 5000016b000176\n"));
+}
+
+/// Sixteen clients have four ops each. The clock stands still, so that no request is sent again.
+#[test]
+fn the_most_clients_and_ops(rt: HostRuntime) {
+    let mut ports = UdpPorts::new(&rt, rt.alloc());
+    let mut clock = ClockMem::new(rt.alloc());
+    let mut ends = String::from_str(rt.alloc(), "--clients 16 --base 43240").expect(&rt, "memory");
+    for _ in 0..64usize {
+        ends.push_str(" 5000016b000176").expect(&rt, "memory");
+    }
+    let written = cluster(&rt, rt.alloc(), &ends, &mut ports, &mut clock);
+    assert!(rt; written.contains("\nhistory 64 c15 4 5000016b000176\n"));
 }

@@ -1,4 +1,5 @@
-//! Tests of whole runs, by the public calls of the crates below. It holds nothing else.
+//! Tests alone, by the public calls of the crates below: whole runs and commands over devices in
+//! memory, with each call failing in turn; the schedules of `examples/`; sockets and clock.
 #![tactic(auto)]
 
 #[cfg(test)]

@@ -6,8 +6,8 @@ ghost use Rattle.outside.specs.Memory.{IsFresh, MayAnswer};
 use commands::{Status, run};
 use nop_types::{Bytes, MAX_DATAGRAM_BYTES};
 use outside::{
-    CallPlan, Clock, ClockMem, Failing, LinkMem, PollAnswer, Ports, PortsMem, ReadMem, Sent, Sink,
-    Source, WriteMem,
+    CallPlan, Clock, ClockMem, Failing, LinkCall, LinkMem, PollAnswer, Ports, PortsMem, ReadMem,
+    Sink, Source, WriteMem,
 };
 use std::alloc::Global;
 use std::process::Abort;
@@ -150,18 +150,20 @@ fn ports_of(rt: &impl Abort, alloc: Global, head: &str) -> PortsMem<Failing> {
 }
 
 /// Adds a line for each port and datagram that was sent.
-fn put_sent(rt: &impl Abort, alloc: Global, all: &[Sent], lines: &mut String) {
-    for sent in all {
-        let digits = hex::encode(alloc, sent.bytes.as_slice()).expect(rt, "memory");
-        let line = format!(in alloc; "{} {digits}\n", sent.port).expect(rt, "memory");
-        lines.push_str(line.as_str()).expect(rt, "memory");
+fn put_sent(rt: &impl Abort, alloc: Global, all: &[LinkCall], lines: &mut String) {
+    for call in all {
+        if let LinkCall::Sent { port, bytes } = call {
+            let digits = hex::encode(alloc, bytes.as_slice()).expect(rt, "memory");
+            let line = format!(in alloc; "{} {digits}\n", *port).expect(rt, "memory");
+            lines.push_str(line.as_str()).expect(rt, "memory");
+        }
     }
 }
 
 fn sent_lines<P: CallPlan>(rt: &impl Abort, alloc: Global, links: &[LinkMem<P>]) -> String {
     let mut lines = String::new(alloc);
     for link in links {
-        put_sent(rt, alloc, link.sent(), &mut lines);
+        put_sent(rt, alloc, link.trace(), &mut lines);
     }
     lines
 }

@@ -154,6 +154,8 @@ nopaxos node --id 3 --replicas 3 --sequencers 1
 nopaxos node --id 0 --replicas 4 --sequencers 1
 nopaxos node --id 0 --replicas 3 --sequencers 5
 nopaxos node --id +0 --replicas 3 --sequencers 1
+nopaxos node --id 0 --id 0 --replicas 3 --sequencers 1
+nopaxos node --id 0 --replicas 3 --replicas 3 --sequencers 1
 nopaxos node --id 0 --replicas 3
 nopaxos node --id 0 --replicas 3 --sequencers 1 --base 1023
 nopaxos node --id 0 --replicas 3 --sequencers 1 --base 65001
@@ -245,5 +247,5 @@ fn in_memory(rt: HostRuntime) {
     let link = ports.detached().first().expect(&rt, "a link");
     assert!(rt; status as u8 == 0);
     assert!(rt; sink.as_slice() == b"served 1 lost 0\n".as_slice());
-    assert!(rt; link.sent().len() == 3);
+    assert!(rt; link.trace().len() == 4);
 }

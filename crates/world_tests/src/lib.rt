@@ -1,8 +1,11 @@
-//! Tests of worlds that take events, of replay, and of devices in memory, by the public calls of the crates below. It holds nothing else.
+//! Tests alone, by the public calls of the crates below: worlds that take events, replays, also
+//! of long and of drawn schedules, and devices in memory.
 #![tactic(auto)]
 
 #[cfg(test)]
 mod failing;
+#[cfg(test)]
+mod long;
 #[cfg(test)]
 mod memory;
 #[cfg(test)]

@@ -1,0 +1,279 @@
+#!/bin/bash
+# Replays schedules that meet the limits of logs, queues, messages and groups, and compares the output with a transcript that is written
+# out beside the schedule, event by event, from the rules of the protocol and from its formats. It takes a few seconds, leaves nothing
+# behind, and ends with status 1 at any difference.
+#
+#   checks/limits.sh             the program is crates/nopaxos/out/nopaxos, or the file that NOPAXOS names
+set -u
+cd "$(dirname "$0")/.." || exit 2
+program=${NOPAXOS:-crates/nopaxos/out/nopaxos}
+if [ ! -x "$program" ]; then
+    (cd crates/nopaxos && rt run -- replay < stdin > /dev/null 2>&1)
+fi
+[ -x "$program" ] || { echo "limits: there is no program file $program"; exit 1; }
+
+folder=$(mktemp -d) || exit 2
+trap 'rm -rf "$folder"' EXIT
+made=0
+wrong=0
+
+# begins NAME REPLICAS SEQUENCERS CLIENTS: a schedule, of which nothing was sent.
+begins() {
+    name=$1
+    sent=0
+    exec 3> "$folder/schedule" 4> "$folder/transcript"
+    event "nopaxos 1 replicas $2 sequencers $3 clients $4"
+    line "transcript 1 replicas $2 sequencers $3 clients $4"
+}
+
+# event LINE: one more line of the schedule.
+event() {
+    echo "$1" >&3
+}
+
+# line LINE: one more line of the transcript.
+line() {
+    echo "$1" >&4
+}
+
+# sends FROM TO KIND LENGTH: one more datagram.
+sends() {
+    echo "send $sent $1 $2 $3 $4" >&4
+    sent=$((sent + 1))
+}
+
+# tells FROM TO LENGTH: a peer message of so many bytes, in fragments.
+tells() {
+    local left=$3
+    while ((left > 1400)); do
+        sends "$1" "$2" fragment 1417
+        left=$((left - 1400))
+    done
+    sends "$1" "$2" fragment $((left + 17))
+}
+
+# delivers FIRST LAST ACTOR: these datagrams, one after the other.
+delivers() {
+    local i
+    for ((i = $1; i <= $2; i++)); do event "deliver $i $3"; done
+}
+
+# bytes BYTE COUNT: a byte in hexadecimal, so many times.
+bytes() {
+    printf "$1%.0s" $(seq "$2")
+}
+
+# same: the schedule ends here, and its transcript is the one that was written out.
+same() {
+    local status
+    line end
+    made=$((made + 1))
+    "$program" replay < "$folder/schedule" > "$folder/out" 2> "$folder/err"
+    status=$?
+    cmp "$folder/out" "$folder/transcript" > "$folder/differ" 2>&1
+    if [ "$status" != 0 ] || [ -s "$folder/differ" ] || [ -s "$folder/err" ]; then
+        echo "limits: $name: status $status, $(cat "$folder/differ" "$folder/err")"
+        wrong=$((wrong + 1))
+    fi
+}
+
+put=5000016b000176
+get=4700016b
+
+# ---- One replica alone, whose log gets full: the 4,097th request is not logged, and gets no reply. Its next view begins with the full
+# log, of which it answers each request again; then all slots are synchronised.
+begins 'a full log' 1 1 1
+for ((slot = 1; slot <= 4096; slot++)); do
+    event "submit c0 $get"
+    line "submit c0 $slot $get"
+    sends c0 's*' request 22
+    event "deliver $((sent - 1)) s0"
+    sends s0 'r*' stamped 34
+    event "deliver $((sent - 1)) r0"
+    sends r0 c0 reply 36
+    event "deliver $((sent - 1)) c0"
+    line "accept c0 $slot 6e6f6e65"
+done
+event "submit c0 $get"
+line "submit c0 4097 $get"
+sends c0 's*' request 22
+event "deliver $((sent - 1)) s0"
+sends s0 'r*' stamped 34
+event "deliver $((sent - 1)) r0"
+event 'tick r0 suspect'
+for ((slot = 1; slot <= 4096; slot++)); do sends r0 c0 reply 36; done
+event 'tick r0 sync'
+line 'replica r0 up normal 1 1 4096 4096'
+for ((slot = 1; slot <= 4096; slot++)); do line "entry r0 $slot c0 $slot $get"; done
+for ((slot = 1; slot <= 4096; slot++)); do line "history $slot c0 $slot $get"; done
+same
+
+# ---- Sixteen clients have a put each, and the sequencer stamps them in turn, 4,097 times. The leader misses number 1. While its gap
+# waits, numbers 2 to 1,025 fill its queue, and 1,026 is dropped, as it does not come again in time; the vote lets it take all of the
+# queue at once. Then its log gets full. It is told to both followers, of which one has slot 1 and one nothing, and is synchronised.
+begins 'a full queue and a full log' 3 1 16
+for ((c = 0; c < 16; c++)); do
+    event "submit c$c $put"
+    line "submit c$c 1 $put"
+    sends "c$c" 's*' request 25
+done
+# Number n is datagram 15 + n, and has the request of client (n - 1) % 16.
+for ((n = 1; n <= 4097; n++)); do
+    event "deliver $(((n - 1) % 16)) s0"
+    sends s0 'r*' stamped 37
+done
+event 'deliver 17 r0'
+sends r0 'r*' fragment 31
+delivers 18 1041 r0
+event "deliver $((sent - 1)) r1"
+sends r1 r0 fragment 31
+event "deliver $((sent - 1)) r0"
+# The first put found nothing, and the others v. It is that of client 1, in slot 2.
+lengths=(34 36 34 34 34 34 34 34 34 34 34 34 34 34 34 34)
+for ((n = 2; n <= 1025; n++)); do
+    c=$(((n - 1) % 16))
+    sends r0 "c$c" reply "${lengths[c]}"
+done
+for ((n = 1026; n <= 4096; n++)); do
+    c=$(((n - 1) % 16))
+    event "deliver $((15 + n)) r0"
+    sends r0 "c$c" reply "${lengths[c]}"
+done
+event 'deliver 4112 r0'
+# A log of a NO-OP and 4,095 puts, in 65 fragments.
+event 'tick r0 sync'
+first=$sent
+tells r0 'r*' $((14 + 1 + 4095 * 22))
+last=$((sent - 1))
+for follower in r2 r1; do
+    delivers "$first" "$last" "$follower"
+    for ((n = 2; n <= 4096; n++)); do sends "$follower" "c$(((n - 1) % 16))" reply 32; done
+    sends "$follower" r0 fragment 31
+    vote[${follower#r}]=$((sent - 1))
+done
+delivers "$first" "$last" r1
+sends r1 r0 fragment 31
+event "deliver ${vote[2]} r0"
+sends r0 'r*' fragment 31
+event "deliver $((sent - 1)) r2"
+event "deliver ${vote[1]} r0"
+for replica in 0 1 2; do
+    point=4096
+    [ "$replica" = 1 ] && point=0
+    line "replica r$replica up normal 0 1 4096 $point"
+    [ "$point" = 0 ] && continue
+    line "entry r$replica 1 noop"
+    for ((n = 2; n <= 4096; n++)); do line "entry r$replica $n c$(((n - 1) % 16)) 1 $put"; done
+done
+for ((n = 2; n <= 17; n++)); do line "history $((n - 1)) c$(((n - 1) % 16)) 1 $put"; done
+same
+
+# ---- The longest peer messages: a request with 640 bytes is stamped 4,096 times, and two of three replicas log all of it. Replica 1
+# leads the next view, merges two full logs, executes them at once, and answers each slot; so do the others, whom it tells the log.
+big=$(bytes 78 640)
+begins 'the longest messages' 3 1 1
+event "submit c0 $big"
+line "submit c0 1 $big"
+sends c0 's*' request 658
+for ((n = 1; n <= 4096; n++)); do
+    event 'deliver 0 s0'
+    sends s0 'r*' stamped 670
+done
+for follower in r1 r2; do
+    delivers 1 4096 "$follower"
+    for ((n = 1; n <= 4096; n++)); do sends "$follower" c0 reply 32; done
+done
+event 'tick r1 suspect'
+sends r1 'r*' fragment 27
+event "deliver $((sent - 1)) r2"
+sends r2 'r*' fragment 27
+first=$sent
+tells r2 r1 $((30 + 4096 * 655))
+delivers "$first" $((sent - 1)) r1
+first=$sent
+tells r1 'r*' $((22 + 4096 * 655))
+last=$((sent - 1))
+for ((n = 1; n <= 4096; n++)); do sends r1 c0 reply 35; done
+for follower in r2 r0; do
+    delivers "$first" "$last" "$follower"
+    for ((n = 1; n <= 4096; n++)); do sends "$follower" c0 reply 32; done
+done
+for replica in 0 1 2; do line "replica r$replica up normal 1 1 4096 0"; done
+line "history 1 c0 1 $big"
+same
+
+# ---- The greatest group: seven replicas, four sequencers, sixteen clients. The last client puts the longest value at the longest key,
+# twice. Sequencer 3 gets the next session, and stamps the longest op, which is no op of the service. The sequencer's packet brings a
+# view change, for which the leader waits for four logs.
+put=500040$(bytes 6b 64)0100$(bytes 76 256)
+begins 'the greatest group' 7 4 16
+for id in 1 2; do
+    event "submit c15 $put"
+    line "submit c15 $id $put"
+    sends c15 's*' request 343
+    event "deliver $((sent - 1)) s0"
+    sends s0 'r*' stamped 355
+    stamped=$((sent - 1))
+    event "deliver $stamped r0"
+    # none, and then the value
+    if [ "$id" = 1 ]; then sends r0 c15 reply 36; else sends r0 c15 reply 289; fi
+    for replica in r1 r2 r3 r4 r5 r6; do
+        event "deliver $stamped $replica"
+        sends "$replica" c15 reply 32
+    done
+    delivers $((stamped + 2)) $((stamped + 4)) c15
+    event "deliver $((stamped + 1)) c15"
+    if [ "$id" = 1 ]; then line 'accept c15 1 6e6f6e65'; else line "accept c15 2 3d$(bytes 76 256)"; fi
+done
+event 'install s3'
+sends ctl s3 install 9
+event 'deliver 18 s3'
+sends s3 ctl installed 9
+event "submit c0 $big"
+line "submit c0 1 $big"
+sends c0 's*' request 658
+event 'deliver 20 s3'
+sends s3 'r*' stamped 670
+# Each change has both puts.
+event 'deliver 21 r6'
+sends r6 'r*' fragment 27
+tells r6 r0 $((30 + 2 * 340))
+for replica in r1 r2 r3 r4 r5; do
+    event "deliver 22 $replica"
+    sends "$replica" 'r*' fragment 27
+    tells "$replica" r0 $((30 + 2 * 340))
+done
+event 'deliver 23 r0'
+sends r0 'r*' fragment 27
+event 'deliver 25 r0'
+event 'deliver 27 r0'
+tells r0 'r*' $((22 + 2 * 340))
+start=$((sent - 1))
+sends r0 c15 reply 36
+sends r0 c15 reply 289
+# Replica 6 has the packet of the new session already.
+for replica in r6 r1 r2; do
+    event "deliver $start $replica"
+    sends "$replica" c15 reply 32
+    sends "$replica" c15 reply 32
+    [ "$replica" = r6 ] || event "deliver 21 $replica"
+    sends "$replica" c0 reply 32
+    event "deliver $((sent - 1)) c0"
+done
+event 'deliver 21 r0'
+sends r0 c0 reply 35
+event "deliver $((sent - 1)) c0"
+line 'accept c0 1 626164'
+for replica in 0 1 2; do line "replica r$replica up normal 0 2 3 0"; done
+for replica in 3 4 5; do line "replica r$replica up change 0 2 2 0"; done
+line 'replica r6 up normal 0 2 3 0'
+line "history 1 c15 1 $put"
+line "history 2 c15 2 $put"
+line "history 3 c0 1 $big"
+same
+
+if [ "$wrong" != 0 ]; then
+    echo "limits: $wrong of $made differ"
+    exit 1
+fi
+echo "limits: $made as they must be"

@@ -1,0 +1,108 @@
+ghost use Rattle.std.specs.Prelude.{◌≤◌};
+ghost use Rattle.std.specs.List.{AllByRecursion};
+ghost use Rattle.schedule_text.specs.EventText.{HasLine};
+
+use outside::{ReadMem, WriteMem};
+use replay::{MAX_DRAWN_EVENTS, events, generate, replay};
+use schedule_text::{Event, event_line};
+use std::alloc::Global;
+use std::process::Abort;
+
+/// The transcript of a schedule without a bad line.
+fn transcript_of(rt: &impl Abort, alloc: Global, schedule: Vec<u8>) -> String {
+    let mut source = ReadMem::new(schedule);
+    let mut sink = WriteMem::new(alloc);
+    let end = replay(alloc, &mut source, &mut sink);
+    assert!(rt; end.is_ok());
+    let bytes = sink.as_slice().to_vec(alloc).expect(rt, "memory");
+    String::from_utf8(bytes).ok().expect(rt, "text")
+}
+
+/// A request, and then the same request stamped in each line.
+fn stampings(rt: &impl Abort, alloc: Global, lines: u32) -> Vec<u8> {
+    let mut text = Vec::new(alloc);
+    let first = b"nopaxos 1 replicas 1 sequencers 1 clients 1\nsubmit c0 -\n";
+    text.extend_from_slice(first).expect(rt, "memory");
+    for _ in 2..lines {
+        text.extend_from_slice(b"deliver 0 s0\n")
+            .expect(rt, "memory");
+    }
+    text
+}
+
+/// What they send: a request of 18 bytes, and datagrams of 30 bytes.
+fn stamped(rt: &impl Abort, alloc: Global, lines: u32) -> String {
+    let mut text = String::new(alloc);
+    let first =
+        "transcript 1 replicas 1 sequencers 1 clients 1\nsubmit c0 1 -\nsend 0 c0 s* request 18\n";
+    text.push_str(first).expect(rt, "memory");
+    for index in 1..lines.saturating_sub(1) {
+        let line = format!(in alloc; "send {index} s0 r* stamped 30\n").expect(rt, "memory");
+        text.push_str(&line).expect(rt, "memory");
+    }
+    text.push_str("replica r0 up normal 0 1 0 0\nend\n")
+        .expect(rt, "memory");
+    text
+}
+
+#[test]
+fn a_long_schedule(rt: HostRuntime) {
+    let alloc = rt.alloc();
+    let given = transcript_of(&rt, alloc, stampings(&rt, alloc, 101_000));
+    assert!(rt; given.as_str() == stamped(&rt, alloc, 101_000).as_str());
+}
+
+/// The summary of a number.
+fn summary_of(rt: &impl Abort, alloc: Global, number: u64, count: u32) -> String
+    requires least { 1 ≤ count }
+    requires limit { count ≤ MAX_DRAWN_EVENTS }
+{
+    let mut sink = WriteMem::new(alloc);
+    let end = generate(alloc, number, count, &mut sink);
+    assert!(rt; end.is_ok());
+    let bytes = sink.as_slice().to_vec(alloc).expect(rt, "memory");
+    String::from_utf8(bytes).ok().expect(rt, "text")
+}
+
+/// The schedule of the events.
+fn schedule_of(rt: &impl Abort, alloc: Global, events: &[Event]) -> Vec<u8>
+    requires { AllByRecursion HasLine events.now }
+{
+    let mut text = Vec::new(alloc);
+    let first = b"nopaxos 1 replicas 5 sequencers 2 clients 4\n";
+    text.extend_from_slice(first).expect(rt, "memory");
+    for event in events {
+        event_line(event, &mut text).ok().expect(rt, "memory");
+    }
+    text
+}
+
+/// How many lines begin with the word.
+fn count(text: &str, word: &str) -> usize {
+    text.lines().filter(|line| line.starts_with(word)).count()
+}
+
+/// The replay of the events of a number sends, accepts and keeps as much as the summary says.
+fn check_drawn(rt: &impl Abort, alloc: Global, number: u64, events_count: u32)
+    requires least { 1 ≤ events_count }
+    requires limit { events_count ≤ MAX_DRAWN_EVENTS }
+{
+    let (_config, drawn) = events(alloc, number, events_count)
+        .ok()
+        .expect(rt, "memory");
+    let transcript = transcript_of(rt, alloc, schedule_of(rt, alloc, &drawn));
+    let (sends, accepts) = (count(&transcript, "send "), count(&transcript, "accept "));
+    let members = count(&transcript, "history ");
+    let head = format!(in alloc;
+        "gen {number} {events_count}\nsends {sends} accepts {accepts}\nview "
+    ).expect(rt, "memory");
+    let tail = format!(in alloc; "\nhistory {members}\n").expect(rt, "memory");
+    let summary = summary_of(rt, alloc, number, events_count);
+    assert!(rt; summary.starts_with(head.as_str()), "{summary}");
+    assert!(rt; summary.ends_with(tail.as_str()), "{summary}");
+}
+
+#[test]
+fn drawn_events(rt: HostRuntime) {
+    check_drawn(&rt, rt.alloc(), 7, 20_000);
+}
