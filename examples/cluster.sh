@@ -1,22 +1,42 @@
 #!/bin/bash
-# A cluster on the loopback address: replicas, two sequencers and the controller, each a process of its own. Clients put and get;
-# then the leader is killed, and a client still gets its answers. Only processes that were started here are ended, by their ids.
+# A cluster on the loopback address: replicas, two sequencers and the controller, each a process of its own. Two clients
+# put and get; then the leader is killed, and a third client still gets its answers. Only processes that were started
+# here are ended, by their ids. docs/FORMATS.md says what the lines mean, docs/RUNNING.md what else there is to know.
 #
-#   examples/cluster.sh [REPLICAS]       3 replicas, or 1, 5 or 7
-#   NOPAXOS  the program file (crates/nopaxos/out/nopaxos, which `rt run` leaves); BASE  the port of replica 0 (47000)
+#   examples/cluster.sh [REPLICAS]       3 replicas, or 1, 5 or 7; with 1, nothing is killed
+#   NOPAXOS  the program file (crates/nopaxos/out/nopaxos, which `rt run` leaves)
+#   BASE     the port of replica 0, 1024 to 65000 (47000): the ports from there to BASE + 31 belong to the cluster
+#
+# Status 0: all ops were accepted; 1: not so, or a node did not start; 2: arguments that are not taken, nothing started.
 set -u
 cd "$(dirname "$0")/.." || exit 2
+
+# usage REASON: the arguments are not taken.
+usage() {
+    echo "cluster.sh: $1" >&2
+    echo "usage: [NOPAXOS=FILE] [BASE=PORT] examples/cluster.sh [1 | 3 | 5 | 7]" >&2
+    exit 2
+}
+
 program=${NOPAXOS:-crates/nopaxos/out/nopaxos}
-replicas=${1:-3}
+replicas=${1-3}
 base=${BASE:-47000}
+[ $# -le 1 ] || usage "more than one argument"
+case $replicas in
+1 | 3 | 5 | 7) ;;
+*) usage "there can be 1, 3, 5 or 7 replicas, and not '$replicas'" ;;
+esac
+if ! [[ $base =~ ^[1-9][0-9]{3,4}$ ]] || [ "$base" -lt 1024 ] || [ "$base" -gt 65000 ]; then
+    usage "BASE is from 1024 to 65000, and not '$base'"
+fi
 site="--replicas $replicas --sequencers 2 --base $base"
 if [ ! -x "$program" ]; then
     (cd crates/nopaxos && rt run -- replay < stdin > /dev/null 2>&1)
 fi
-[ -x "$program" ] || { echo "there is no program file $program"; exit 1; }
+[ -x "$program" ] || { echo "cluster.sh: there is no program file $program" >&2; exit 1; }
 
-folder=$(mktemp -d) || exit 2
-pids=()
+folder=$(mktemp -d) || exit 1
+declare -A pids=()
 stop() {
     for pid in "${pids[@]}"; do kill "$pid" 2> /dev/null; done
     for pid in "${pids[@]}"; do wait "$pid" 2> /dev/null; done
@@ -25,44 +45,55 @@ stop() {
 trap stop EXIT
 trap 'exit 130' INT TERM
 
-# start NAME WORDS..: a node whose lines go to a file of its name.
+# start NAME ARGUMENTS..: a node whose lines go to a file of its name.
 start() {
     local name=$1
     shift
-    "$program" "$@" > "$folder/$name" 2>&1 &
-    pids+=($!)
+    # shellcheck disable=SC2086
+    "$program" "$@" $site > "$folder/$name" 2>&1 &
+    pids[$name]=$!
 }
 
-# client NUMBER OPS..: its lines, and its exit status.
+# runs NAME: the node is still running. One that is not tells why by its status.
+runs() {
+    kill -0 "${pids[$1]}" 2> /dev/null && return
+    wait "${pids[$1]}"
+    echo "cluster.sh: $1 did not start: status $? (5: its port is in use), '$(head -n 1 "$folder/$1")'" >&2
+    exit 1
+}
+
+# client NUMBER WHAT OPS..: what it does, its lines, and its exit status.
 client() {
     local number=$1
-    shift
-    echo "client $number:"
+    echo
+    echo "client $number: $2"
+    shift 2
     # shellcheck disable=SC2086
     timeout 60 "$program" client --id "$number" $site "$@"
     local status=$?
     echo "status $status"
     [ "$status" = 0 ] || failed=1
+    [ "$status" != 124 ] || echo "client $number had no answer within a minute, and was ended"
 }
 
 failed=0
-# shellcheck disable=SC2086
-{
-    for ((i = 0; i < 2; i++)); do start "s$i" sequencer --id $i $site; done
-    for ((i = 0; i < replicas; i++)); do start "r$i" node --id $i $site; done
-    start ctl controller $site
-}
+for ((i = 0; i < 2; i++)); do start "s$i" sequencer --id $i; done
+for ((i = 0; i < replicas; i++)); do start "r$i" node --id $i; done
+start ctl controller
 sleep 0.5
+for name in "${!pids[@]}"; do runs "$name"; done
 
-echo "== $replicas replicas at ports $base to $((base + replicas - 1))"
-# Put v at the key k, get it, and put w there.
-client 0 5000016b000176 4700016b 5000016b000177
-client 1 4700016b
+echo "== $replicas replicas at ports $base to $((base + replicas - 1)); replica 0 leads"
+client 0 "put k v, get k, put k w; the answers are 'none', '=v', '=v', in hexadecimal" \
+    5000016b000176 4700016b 5000016b000177
+client 1 "get k; the answer is '=w'" 4700016b
 
 if [ "$replicas" -gt 1 ]; then
-    echo "== the leader is killed, and another client goes on"
-    kill -9 "${pids[2]}"
-    wait "${pids[2]}" 2> /dev/null
-    client 2 5000016b000178 4700016b
+    echo
+    echo "== replica 0, the leader, is killed; the others suspect it after a second or two, and one of them leads then"
+    kill -9 "${pids[r0]}"
+    wait "${pids[r0]}" 2> /dev/null
+    unset 'pids[r0]'
+    client 2 "put k x, get k; the answers are '=w', as it was put while replica 0 led, and '=x'" 5000016b000178 4700016b
 fi
 [ "$failed" = 0 ] || exit 1
