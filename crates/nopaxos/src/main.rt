@@ -1,8 +1,16 @@
-//! The program. `main` reads the arguments, makes the devices of the system (standard input and
-//! output, sockets, clock), calls `commands::run` and ends with its status as a number.
+//! The program `nopaxos`: a replay of schedules, drawn schedules, single nodes and a cluster over UDP.
 //!
-//! `main` has no contract; `checks/processes.sh` sees what real processes do. What `run` does, with
-//! the theorem, is said at the head of `commands`.
+//! `main` reads the arguments, makes the devices of the system (standard input and output, sockets,
+//! clock), calls `commands::run` and ends with its status as a number. An argument that is no text
+//! is answered as no arguments are, by the usage line.
+//!
+//! Proved of `main` is that it is safe and ends where `run` does; it has no contract. What `run`
+//! does, with the theorem, is said at the head of `commands`; what is handed on by the devices, at
+//! the heads of `standard_io` and `udp_ports`. That the status becomes the exit status, and that
+//! nothing is written to standard error, is seen on real processes by `checks/processes.sh`. The
+//! stored run `stdin` and `stdout` beside `src/` is a schedule of 6,001 lines with its transcript.
+//!
+//! Read next: `commands/src/running.rt`, then `replay/src/replayed.rt`.
 #![tactic(auto)]
 
 use commands::{Status, run};

@@ -1,11 +1,14 @@
 ghost use Rattle.std.specs.Prelude.{◌≡◌, ◌++◌, OnOk, OnErr};
-ghost use Rattle.transcript_rows.specs.Rows.{row_text, row_word, row_fields};
-ghost use Rattle.transcript_text.specs.LineText.{line_of};
+ghost use Rattle.transcript_rows.specs.Rows.{row_text};
+ghost use Rattle.transcript_rows.specs.declared.row.Row.TheVariants as rows;
 ghost use Rattle.transcript_text.specs.Transcript.{kind_text};
 
 use crate::row::Row;
-use nop_types::{Actor, Entry, NoMemory, Phase, Request, View, kinds};
-use transcript_text::{Field, write_line};
+use nop_types::{Actor, Dest, Entry, NoMemory, Phase, View, kinds};
+use transcript_text::{
+    Field, accept_line, busy_line, dead_line, end_line, entry_line, history_line, submit_line,
+    write_line,
+};
 
 #[tactic(auto, unfolding(transcript_text::specs::Transcript::kind_text))]
 fn kind_word(kind: u8) -> &'static str
@@ -23,46 +26,88 @@ fn kind_word(kind: u8) -> &'static str
     }
 }
 
-fn put_row(row: &Row, to: &mut Vec<u8>) -> Result<(), NoMemory>
+/// The line of a datagram that was sent, of which its kind and its length are known.
+#[tactic(auto, unfolding(crate::specs::Rows::row_text))]
+fn put_sent(
+    index: u64,
+    from: Actor,
+    dest: Dest,
+    kind: u8,
+    len: u32,
+    to: &mut Vec<u8>,
+) -> Result<(), NoMemory>
     ensures ok { OnOk result (to.new.items
-        ≡ to.old.items ++ line_of (row_word row.now) (row_fields row.now)) }
+        ≡ to.old.items ++ row_text (rows.Sent index from dest kind len)) }
+    ensures err { OnErr result (to.new.items ≡ to.old.items) }
+{
+    let fields = [
+        Field::Number(index),
+        Field::Name(from),
+        Field::To(dest),
+        Field::Word(kind_word(kind)),
+        Field::Number(u64::from(len)),
+    ];
+    write_line("send", &fields, to)
+}
+
+/// How a replica stands at the end.
+#[tactic(auto, unfolding(crate::specs::Rows::row_text))]
+fn put_state(
+    replica: u8,
+    crashed: bool,
+    status: Phase,
+    view: View,
+    len: u32,
+    sync_point: u32,
+    to: &mut Vec<u8>,
+) -> Result<(), NoMemory>
+    ensures ok { OnOk result (to.new.items
+        ≡ to.old.items ++ row_text (rows.State replica crashed status view len sync_point)) }
+    ensures err { OnErr result (to.new.items ≡ to.old.items) }
+{
+    let fields = [
+        Field::Name(Actor::Replica(replica)),
+        Field::Crashed(crashed),
+        Field::Status(status),
+        Field::Number(u64::from(view.leader)),
+        Field::Number(u64::from(view.session)),
+        Field::Number(u64::from(len)),
+        Field::Number(u64::from(sync_point)),
+    ];
+    write_line("replica", &fields, to)
+}
+
+/// A slot of a replica's log.
+#[tactic(auto, unfolding(crate::specs::Rows::row_text, transcript_text::specs::Transcript::entry_line))]
+fn put_slot(replica: u8, slot: u32, entry: &Entry, to: &mut Vec<u8>) -> Result<(), NoMemory>
+    ensures ok { OnOk result (to.new.items
+        ≡ to.old.items ++ row_text (rows.Slot replica slot entry.now)) }
+    ensures err { OnErr result (to.new.items ≡ to.old.items) }
+{
+    match entry {
+        Entry::NoOp => entry_line(replica, slot, entry, to),
+        Entry::Req(_) => entry_line(replica, slot, entry, to),
+    }
+}
+
+/// Appends the line of a row, by the writers of transcripts.
+#[tactic(auto, unfolding(crate::specs::Rows::row_text, transcript_text::specs::Transcript::dead_line, transcript_text::specs::Transcript::submit_line, transcript_text::specs::Transcript::accept_line, transcript_text::specs::Transcript::busy_line, transcript_text::specs::Transcript::history_line, transcript_text::specs::Transcript::end_line))]
+pub fn write_row(row: &Row, to: &mut Vec<u8>) -> Result<(), NoMemory>
+    ensures ok { OnOk result (to.new.items ≡ to.old.items ++ row_text row.now) }
     ensures err { OnErr result (to.new.items ≡ to.old.items) }
 {
     match row {
-        Row::Dead(actor) => write_line("dead", &[Field::Name(*actor)], to),
-        Row::Submit(request) => {
-            let fields = [
-                Field::Name(Actor::Client(request.client)),
-                Field::Number(request.id),
-                Field::Hex(request.op.as_slice()),
-            ];
-            write_line("submit", &fields, to)
-        }
-        Row::Accept { client, id, result } => {
-            let fields = [
-                Field::Name(Actor::Client(*client)),
-                Field::Number(*id),
-                Field::Hex(result.as_slice()),
-            ];
-            write_line("accept", &fields, to)
-        }
-        Row::Busy(client) => write_line("busy", &[Field::Name(Actor::Client(*client))], to),
+        Row::Dead(actor) => dead_line(*actor, to),
+        Row::Submit(request) => submit_line(request, to),
+        Row::Accept { client, id, result } => accept_line(*client, *id, result, to),
+        Row::Busy(client) => busy_line(*client, to),
         Row::Sent {
             index,
             from,
             dest,
             kind,
             len,
-        } => {
-            let fields = [
-                Field::Number(*index),
-                Field::Name(*from),
-                Field::To(*dest),
-                Field::Word(kind_word(*kind)),
-                Field::Number(u64::from(*len)),
-            ];
-            write_line("send", &fields, to)
-        }
+        } => put_sent(*index, *from, *dest, *kind, *len, to),
         Row::State {
             replica,
             crashed,
@@ -70,62 +115,13 @@ fn put_row(row: &Row, to: &mut Vec<u8>) -> Result<(), NoMemory>
             view,
             len,
             sync_point,
-        } => {
-            let fields = [
-                Field::Name(Actor::Replica(*replica)),
-                Field::Crashed(*crashed),
-                Field::Status(*status),
-                Field::Number(u64::from(view.leader)),
-                Field::Number(u64::from(view.session)),
-                Field::Number(u64::from(*len)),
-                Field::Number(u64::from(*sync_point)),
-            ];
-            write_line("replica", &fields, to)
-        }
+        } => put_state(*replica, *crashed, *status, *view, *len, *sync_point, to),
         Row::Slot {
             replica,
             slot,
-            entry: Entry::NoOp,
-        } => {
-            let fields = [
-                Field::Name(Actor::Replica(*replica)),
-                Field::Number(u64::from(*slot)),
-                Field::Word("noop"),
-            ];
-            write_line("entry", &fields, to)
-        }
-        Row::Slot {
-            replica,
-            slot,
-            entry: Entry::Req(request),
-        } => {
-            let fields = [
-                Field::Name(Actor::Replica(*replica)),
-                Field::Number(u64::from(*slot)),
-                Field::Name(Actor::Client(request.client)),
-                Field::Number(request.id),
-                Field::Hex(request.op.as_slice()),
-            ];
-            write_line("entry", &fields, to)
-        }
-        Row::Member { place, request } => {
-            let fields = [
-                Field::Number(u64::from(*place)),
-                Field::Name(Actor::Client(request.client)),
-                Field::Number(request.id),
-                Field::Hex(request.op.as_slice()),
-            ];
-            write_line("history", &fields, to)
-        }
-        Row::End => write_line("end", &[], to),
+            entry,
+        } => put_slot(*replica, *slot, entry, to),
+        Row::Member { place, request } => history_line(*place, request, to),
+        Row::End => end_line(to),
     }
-}
-
-/// Appends the line of a row.
-#[tactic(auto, unfolding(crate::specs::Rows::row_text))]
-pub fn write_row(row: &Row, to: &mut Vec<u8>) -> Result<(), NoMemory>
-    ensures ok { OnOk result (to.new.items ≡ to.old.items ++ row_text row.now) }
-    ensures err { OnErr result (to.new.items ≡ to.old.items) }
-{
-    put_row(row, to)
 }
