@@ -1,2 +1,4 @@
+pub mod OneResult
 pub mod RunLemmas
+pub mod SavedLemmas
 pub mod TableLemmas

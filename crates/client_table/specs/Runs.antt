@@ -1,10 +1,11 @@
--- Answers that were kept one after the other.
+-- Results that were kept one after the other.
 use Rattle.std.specs.Prelude.{◌≡◌, ℕ, List, [], ◌∷◌, IsTrue, if◌then◌else◌, ◌==◌, ⊤}
 use Rattle.std.specs.List.{flat_map}
-use Rattle.std.specs.FinMap as finite
-use Rattle.nop_types.specs.Lists.{Has, IsGreatest, all_below, any_above}
-use Rattle.nop_types.specs.Execution.{Answered}
-use Rattle.client_table.specs.Table.{Table, Verdict, Fresh, Same, Stale, kept_for, verdict_on}
+use Rattle.nop_types.specs.declared.limits.TheConstants.{WINDOW}
+use Rattle.nop_types.specs.Lists.{Has}
+use Rattle.nop_types.specs.Windows.{is_new, is_stale}
+use Rattle.nop_types.specs.Tables.{Answered, Table, kept_for, with_result}
+use Rattle.client_table.specs.Table.{Verdict, Fresh, Same, Stale, verdict_on}
 
 -- a client, and an answer to it
 abbrev pub Given : Type 0
@@ -12,13 +13,13 @@ Given = ℕ × Answered
 
 abbrev pub kept_after : Table → List Given → Table
 kept_after table [] = table
-kept_after table (given ∷ later) = kept_after (finite.insert table given.0 given.1) later
+kept_after table (given ∷ later) = kept_after (with_result WINDOW table given.0 given.1) later
 
--- each id was greater than the one that its client had
+-- each id was new to what its client had
 abbrev pub EachIsFresh : Table → List Given → Type 0
 EachIsFresh table [] = ⊤
 EachIsFresh table (given ∷ later) =
-    (verdict_on (kept_for table given.0) given.1.id ≡ Fresh) × EachIsFresh (finite.insert table given.0 given.1) later
+    (verdict_on (kept_for table given.0) given.1.id ≡ Fresh) × EachIsFresh (with_result WINDOW table given.0 given.1) later
 
 abbrev pub id_for : ℕ → Given → List ℕ
 id_for client given = if given.0 == client then given.1.id ∷ [] else []
@@ -27,8 +28,8 @@ id_for client given = if given.0 == client then given.1.id ∷ [] else []
 abbrev pub ids_for : ℕ → List Given → List ℕ
 ids_for client givens = flat_map (id_for client) givens
 
--- fresh: each id of the client is below; the same: it is the greatest, with that result; stale: some id is above
+-- fresh: the id is new among those of the client; the same: it was given, with that result; stale: it is a window behind
 abbrev pub IsVerdict : List Given → ℕ → ℕ → Verdict → Type 0
-IsVerdict givens client id Fresh = IsTrue (all_below (ids_for client givens) id)
-IsVerdict givens client id (Same result) = IsGreatest (ids_for client givens) id × Has givens (client, record { id = id; result = result })
-IsVerdict givens client id Stale = IsTrue (any_above (ids_for client givens) id)
+IsVerdict givens client id Fresh = IsTrue (is_new WINDOW (ids_for client givens) id)
+IsVerdict givens client id (Same result) = Has givens (client, record { id = id; result = result })
+IsVerdict givens client id Stale = IsTrue (is_stale WINDOW (ids_for client givens) id)

@@ -1,59 +1,47 @@
--- The table of each client's last executed id, with its result.
-use Rattle.std.specs.Prelude.{ℕ, List, Option, Some, None, Bool, true, false, nat_lt, ◌==◌, refl, if◌then◌else◌}
-use Rattle.std.specs.Ordering.{nat_cmp}
-use Rattle.std.specs.Coded.{Coded, code_by, coded×, coded_ℕ, coded_list}
+-- What the client table says of an id, and what takes a kept result out again.
+use Rattle.std.specs.Prelude.{ℕ, List, Option, Some, None, Bool, true, false, cond}
 use Rattle.std.specs.FinMap as finite
-use Rattle.nop_types.specs.Execution.{Answered}
+use Rattle.nop_types.specs.declared.limits.TheConstants.{WINDOW}
+use Rattle.nop_types.specs.Tables.{Account, Table, kept_for, result_kept, is_new_to}
 
--- a client that is not in it has executed nothing
-abbrev pub Table : Type 0
-Table = finite.FinMap nat_cmp Answered
-
-abbrev pub answered_code : Coded Answered
-answered_code =
-    code_by (ℕ × List ℕ) (coded× coded_ℕ (coded_list coded_ℕ)) (λ a. (a.id, a.result)) (λ p. record { id = p.0; result = p.1 }) (λ _. refl)
-
-abbrev pub kept_for : Table → ℕ → Option Answered
-kept_for table client = finite.get table client
-
--- how an id stands to the last one of its client
+-- how an id stands to what is kept for its client
 pub data Verdict : Type 0 where
-  -- it is greater, or there is none
+  -- it is new
   Fresh : Verdict
-  -- it is the same, and this is its result
+  -- it was executed, and this is its result
   Same : (result : List ℕ) → Verdict
-  -- it is smaller
+  -- it is not new, and no result is kept with it
   Stale : Verdict
 
-abbrev pub verdict_on : Option Answered → ℕ → Verdict
-verdict_on None id = Fresh
-verdict_on (Some last) id = if nat_lt last.id id then Fresh else (if last.id == id then Same last.result else Stale)
+abbrev pub verdict_by_result : Option (List ℕ) → Verdict
+verdict_by_result None = Stale
+verdict_by_result (Some result) = Same result
+
+abbrev pub verdict_on : Option Account → ℕ → Verdict
+verdict_on kept id = cond (is_new_to WINDOW kept id) Fresh (verdict_by_result (result_kept kept id))
 
 abbrev pub is_fresh : Verdict → Bool
 is_fresh Fresh = true
 is_fresh (Same result) = false
 is_fresh Stale = false
 
-abbrev pub result_in : Verdict → Option (List ℕ)
-result_in Fresh = None
-result_in (Same result) = Some result
-result_in Stale = None
+abbrev pub result_of : Verdict → Option (List ℕ)
+result_of Fresh = None
+result_of (Same result) = Some result
+result_of Stale = None
 
-abbrev pub with_answer : Table → ℕ → ℕ → List ℕ → Table
-with_answer table client id result = finite.insert table client (record { id = id; result = result })
-
--- what takes an answer out of the table again: its client, and what was kept for the client before
+-- what takes a result out of the table again: its client, and what was kept for the client before
 pub record Former : Type 0 where
   pub client : ℕ
-  pub answer : Option Answered
+  pub account : Option Account
 
 abbrev pub former_of : Table → ℕ → Former
-former_of table client = record { client = client; answer = kept_for table client }
+former_of table client = record { client = client; account = kept_for table client }
 
 -- the client has again what it had before
-abbrev pub put_back : Table → ℕ → Option Answered → Table
+abbrev pub put_back : Table → ℕ → Option Account → Table
 put_back table client None = finite.remove table client
-put_back table client (Some answer) = finite.insert table client answer
+put_back table client (Some account) = finite.insert table client account
 
 abbrev pub unkept : Table → Former → Table
-unkept table former = put_back table former.client former.answer
+unkept table former = put_back table former.client former.account

@@ -1,21 +1,30 @@
-ghost use Rattle.std.specs.Prelude.{◌≡◌, IsSome, OnOk, OnErr, IfOk, option_map};
+ghost use Rattle.std.specs.Prelude.{◌≡◌, map, IsSome, IsTrue, OnOk, OnErr, IfOk, option_map};
 ghost use Rattle.std.specs.Option.{option_copied};
 ghost use Rattle.std.specs.FinMap as finite;
-ghost use Rattle.client_table.specs.Table.{kept_for};
-ghost use Rattle.client_table.specs.Answers.{answered, table_of};
+ghost use Rattle.nop_types.specs.Tables.{kept_for, serves};
+ghost use Rattle.nop_types.specs.Checkpoints.{saved_account, are_saved};
+ghost use Rattle.client_table.specs.Answers.{account_of, table_of};
 
 use crate::answer::Answer;
-use nop_types::NoMemory;
+use nop_types::{MAX_SERVED, NoMemory, SavedClient};
+use std::alloc::Global;
 use std::collections::BTreeMap;
 
 pub type Answers = BTreeMap<u32, Answer>;
 
 /// What is kept for a client.
 pub fn find(answers: &Answers, client: u32) -> Option<&Answer>
-    ensures { option_map answered (option_copied result)
+    ensures { option_map account_of (option_copied result)
         ≡ kept_for (table_of answers.now) client }
 {
     answers.get(&client)
+}
+
+/// Whether the client has an answer, or there is room for one more client.
+pub fn serves(answers: &Answers, client: u32) -> bool
+    ensures { result ≡ serves (table_of answers.now) client }
+{
+    answers.get(&client).is_some() || answers.len() < MAX_SERVED
 }
 
 /// Keeps an answer for a client, and gives the one before it.
@@ -25,8 +34,8 @@ pub fn insert(
     answer: Answer,
 ) -> Result<Option<Answer>, NoMemory>
     ensures ok { OnOk result (table_of answers.new ≡ finite.insert (table_of answers.old) client
-        (answered answer)) }
-    ensures former { IfOk result (λ former. option_map answered former
+        (account_of answer)) }
+    ensures former { IfOk result (λ former. option_map account_of former
         ≡ kept_for (table_of answers.old) client) }
     ensures err { OnErr result (table_of answers.new ≡ table_of answers.old) }
 {
@@ -37,7 +46,7 @@ pub fn insert(
 pub fn replace(answers: &mut Answers, client: u32, answer: Answer)
     requires { IsSome (kept_for (table_of answers.old) client) }
     ensures { table_of answers.new ≡ finite.insert (table_of answers.old) client
-        (answered answer) }
+        (account_of answer) }
 {
     *answers.get_mut(&client).unwrap() = answer;
 }
@@ -47,4 +56,34 @@ pub fn remove(answers: &mut Answers, client: u32)
     ensures { table_of answers.new ≡ finite.remove (table_of answers.old) client }
 {
     let _answer = answers.remove(&client);
+}
+
+/// The clients with their answers, clients ascending.
+pub fn saved(alloc: Global, answers: &Answers) -> Result<Vec<SavedClient>, NoMemory>
+    ensures { IfOk result (λ clients. map saved_account clients.items
+        ≡ finite.entries (table_of answers.now)) }
+{
+    let mut clients = Vec::with_capacity(alloc, answers.len())?;
+    for (client, answer) in answers {
+        clients.push(SavedClient {
+            client: *client,
+            id: answer.id,
+            result: answer.result.try_clone()?,
+        })?;
+    }
+    Ok(clients)
+}
+
+/// The answers of saved clients, which ascend.
+pub fn load(alloc: Global, clients: Vec<SavedClient>) -> Result<Answers, NoMemory>
+    requires { IsTrue (are_saved 0 (map saved_account clients.items)) }
+    ensures { IfOk result (λ answers. table_of answers
+        ≡ finite.from_entries (map saved_account clients.items)) }
+{
+    let mut answers = BTreeMap::new(alloc);
+    for saved in clients {
+        let SavedClient { client, id, result } = saved;
+        insert(&mut answers, client, Answer { id, result })?;
+    }
+    Ok(answers)
 }

@@ -11,9 +11,9 @@ pub struct Kept {
 impl Model for Kept {
     ghost use Rattle.std.specs.Prelude.{option_map};
     ghost use Rattle.client_table.specs.Table.{Former};
-    ghost use Rattle.client_table.specs.Answers.{answered};
+    ghost use Rattle.client_table.specs.Answers.{account_of};
 
     ghost Value = { Former };
 
-    ghost view = { λ k. record { client = k.client; answer = option_map answered k.former } };
+    ghost view = { λ k. record { client = k.client; account = option_map account_of k.former } };
 }

@@ -1,18 +1,21 @@
-ghost use Rattle.std.specs.Prelude.{◌≡◌, IsSome, OnOk, OnErr, IfOk};
+ghost use Rattle.std.specs.Prelude.{◌≡◌, map, IsSome, IsTrue, OnOk, OnErr, IfOk};
 ghost use Rattle.std.specs.FinMap as finite;
-ghost use Rattle.client_table.specs.Table.{Fresh, kept_for, verdict_on, with_answer, former_of, unkept};
+ghost use Rattle.nop_types.specs.declared.limits.TheConstants.{WINDOW};
+ghost use Rattle.nop_types.specs.Tables.{kept_for, serves, with_result};
+ghost use Rattle.nop_types.specs.Checkpoints.{saved_account, are_saved};
+ghost use Rattle.client_table.specs.Table.{Fresh, verdict_on, former_of, unkept};
 ghost use Rattle.client_table.specs.Judged.{verdict_of};
 
 use crate::answer::Answer;
 use crate::answers::{self, Answers};
 use crate::judged::Judged;
 use crate::kept::Kept;
-use nop_types::{Bytes, NoMemory};
+use nop_types::{Bytes, NoMemory, SavedClient};
 use std::alloc::Global;
 use std::collections::BTreeMap;
 use std::marker::Model;
 
-/// The last executed id of each client, with its result. A clause sees the finite map from clients to these.
+/// The greatest executed id of each client, with its result. A clause sees the finite map from clients to their accounts.
 #[derive(Debug, Drop)]
 pub struct ClientTable {
     answers: Answers,
@@ -21,12 +24,12 @@ pub struct ClientTable {
 impl Model for ClientTable {
     ghost use Rattle.std.specs.Coded.{coded_ℕ};
     ghost use Rattle.std.specs.FinMap as finite;
-    ghost use Rattle.client_table.specs.Table.{Table, answered_code};
+    ghost use Rattle.nop_types.specs.Tables.{Table, account_code};
     ghost use Rattle.client_table.specs.Answers.{table_of};
 
     ghost Value = { Table };
 
-    ghost coded = { finite.code coded_ℕ answered_code };
+    ghost coded = { finite.code coded_ℕ account_code };
 
     ghost view = { λ t. table_of t.answers };
 }
@@ -41,7 +44,14 @@ impl ClientTable {
         }
     }
 
-    /// Compares an id with the last executed one of its client.
+    /// Whether requests of the client may be executed: it has an answer, or fewer than `MAX_SERVED` clients have one.
+    pub fn serves(&self, client: u32) -> bool
+        ensures { result ≡ serves self.now client }
+    {
+        answers::serves(&self.answers, client)
+    }
+
+    /// Compares an id with the greatest executed one of its client.
     pub fn judge(&self, client: u32, id: u64) -> Judged<'_>
         ensures { verdict_of result ≡ verdict_on (kept_for self.now client) id }
     {
@@ -51,10 +61,12 @@ impl ClientTable {
         }
     }
 
-    /// Keeps the answer to a request whose id is greater than the last one of its client. What is given back undoes this.
+    /// Keeps the answer to a request whose id is new for its client, which is served. What is given back undoes this.
     pub fn keep(&mut self, client: u32, id: u64, answer: Bytes) -> Result<Kept, NoMemory>
-        requires { verdict_on (kept_for self.old client) id ≡ Fresh }
-        ensures table { OnOk result (self.new ≡ with_answer self.old client id answer) }
+        requires fresh { verdict_on (kept_for self.old client) id ≡ Fresh }
+        requires served { IsTrue (serves self.old client) }
+        ensures table { OnOk result (self.new
+            ≡ with_result WINDOW self.old client (record { id = id; result = answer })) }
         ensures former { IfOk result (λ kept. kept ≡ former_of self.old client) }
         ensures fits { OnOk result (IsSome (kept_for self.new client)) }
         ensures err { OnErr result (self.new ≡ self.old) }
@@ -73,5 +85,24 @@ impl ClientTable {
             Some(answer) => answers::replace(&mut self.answers, client, answer),
             None => answers::remove(&mut self.answers, client),
         }
+    }
+
+    /// The clients with what is kept for them, ascending.
+    pub fn saved(&self, alloc: Global) -> Result<Vec<SavedClient>, NoMemory>
+        ensures { IfOk result (λ clients. map saved_account clients.items
+            ≡ finite.entries self.now) }
+    {
+        answers::saved(alloc, &self.answers)
+    }
+
+    /// The table of saved clients, which ascend.
+    pub fn load(alloc: Global, clients: Vec<SavedClient>) -> Result<ClientTable, NoMemory>
+        requires { IsTrue (are_saved 0 (map saved_account clients.items)) }
+        ensures { IfOk result (λ table. table
+            ≡ finite.from_entries (map saved_account clients.items)) }
+    {
+        Ok(ClientTable {
+            answers: answers::load(alloc, clients)?,
+        })
     }
 }

@@ -7,6 +7,7 @@ use Rattle.std.proofs.lemmas.Bool.Decides.{eqb_tells}
 use Rattle.std.proofs.lemmas.List.{length_push}
 use Rattle.nop_types.specs.declared.request.Entry.{Entry}
 use Rattle.nop_types.specs.Meaning.{Meaning}
+use Rattle.nop_types.specs.Tables.{kept_for}
 use Rattle.nop_types.specs.Execution.{Executed, opening, exec, enter_kept}
 use Rattle.facts.proofs.Places.{slice_get-some, slice_get-append_within, slice_get-append_at}
 use Rattle.histories.proofs.Results.{exec_of_next_slot}
@@ -68,13 +69,13 @@ module _ {S U : Type 0} (m : Meaning S) (undo_of : S → List ℕ → U) where
 
   -- the client of the last slot has an answer
   pub last_is_kept : (log : List Entry) (x : Executed S) (undos : List (Option (SlotUndo U))) (s : Option (SlotUndo U))
-      → IsExecuted m undo_of log x (undos ++ s ∷ []) → IfSome s (λ t. IsSome (x.kept t.kept.client))
+      → IsExecuted m undo_of log x (undos ++ s ∷ []) → IfSome s (λ t. IsSome (kept_for x.table t.kept.client))
   last_is_kept log x undos s h =
       let l = last log x undos s h in
       kept_along x _ s _ l.here l.slot_undo (has_kept m undo_of (exec m (take (length undos) log)) l.entry)
     where
-      kept_along : (x y : Executed S) (s t : Option (SlotUndo U)) → x ≡ y → s ≡ t → IfSome t (λ u. IsSome (y.kept u.kept.client))
-          → IfSome s (λ u. IsSome (x.kept u.kept.client))
+      kept_along : (x y : Executed S) (s t : Option (SlotUndo U)) → x ≡ y → s ≡ t → IfSome t (λ u. IsSome (kept_for y.table u.kept.client))
+          → IfSome s (λ u. IsSome (kept_for x.table u.kept.client))
       kept_along x y s t e f h = rw (e, f) h
 
   -- one slot back

@@ -1,3 +1,4 @@
+pub mod CheckpointLemmas
 pub mod ExecutedLemmas
 pub mod FrontLemmas
 pub mod ResultLemmas

@@ -1,111 +1,127 @@
 -- What is kept after an execution, and the results at its slots.
-use Rattle.std.proofs.Common.{◌≡◌, ℕ, ◌≤◌, Bool, true, false, cond, eqb, List, [], ◌∷◌, length, take, Option, Some, None, refl, sym, ap}
-use Rattle.std.proofs.Common.{subst, ◌∙◌, take-take}
-use Rattle.std.specs.Prelude.{IfSome, IsSome}
-use Rattle.std.proofs.lemmas.Bool.{eqb-true}
-use Rattle.nop_types.specs.declared.limits.TheConstants.{MAX_RESULT_BYTES}
+use Rattle.std.proofs.Common.{◌≡◌, ℕ, zero, suc, ◌+◌, ◌-◌, ◌≤◌, Bool, true, false, cond, eqb, List, length, take, Option, Some, None}
+use Rattle.std.proofs.Common.{refl, sym, ap, subst, ◌∙◌, inl, inr, arith, take-take}
+use Rattle.std.specs.Prelude.{IfSome}
+use Rattle.std.proofs.lemmas.Bool.{eqb-true, and_parts, cases_lt}
+use Rattle.std.proofs.lemmas.List.{take_all}
+use Rattle.nop_types.specs.declared.limits.TheConstants.{MAX_RESULT_BYTES, WINDOW}
 use Rattle.nop_types.specs.declared.request.Request.{Request}
 use Rattle.nop_types.specs.declared.request.Entry.{Entry}
 use Rattle.nop_types.specs.declared.request.Entry.TheVariants.{NoOp, Req}
 use Rattle.nop_types.specs.Meaning.{Meaning}
-use Rattle.nop_types.specs.Lists.{IsPrefixOf, IsGreatest, slot_of}
-use Rattle.nop_types.specs.Execution.{Answered, Executed, opening, ids_of, execute, exec, enter_kept, exec_kept, is_above_kept, result_kept}
+use Rattle.nop_types.specs.Lists.{Has, IsPrefixOf, slot_of}
+use Rattle.nop_types.specs.Windows.{is_new}
+use Rattle.nop_types.specs.Tables.{Answered, Account, kept_for, result_kept, account_with}
+use Rattle.nop_types.specs.Execution.{Executed, ids_of, is_executed, execute, exec, takes, enter_kept}
 use Rattle.nop_types.specs.Execution.{result_at}
-use Rattle.nop_types.specs.Histories.{history_of}
-use Rattle.nop_types.specs.Legality.{IsAnswered}
+use Rattle.facts.proofs.Places.{slice_get-some}
 use Rattle.facts.proofs.Prefixes.{IsPrefixOf-take, Has-prefix}
 use Rattle.facts.proofs.Slots.{Has-slot_of}
-use Rattle.histories.specs.Execution.{KeepsGreatest}
-use Rattle.histories.proofs.Ids.{ids_of-append, has_id}
-use Rattle.histories.proofs.Members.{history_of_prefix, answer_stays, answers_are_equal}
-use Rattle.histories.proofs.Steps.{kept_is_answered}
-use Rattle.histories.proofs.Results.{kept_is_greatest, exec_is_by_kept, result_is_kept, result_is_answered, greatest_has_result}
+use Rattle.histories.proofs.Ids.{has_id}
+use Rattle.histories.proofs.Windows.{repeated_is_old}
+use Rattle.histories.proofs.Accounts.{kept_is_new_or_old}
+use Rattle.histories.proofs.Shortness.{kept_result_fits}
+use Rattle.histories.proofs.Tables.{table_tells_executed}
+use Rattle.histories.proofs.Results.{exec_of_next_slot, result_is_kept}
+use Rattle.client_table.specs.Laws.{kept_of_with_result}
 use Rattle.executor.specs.declared.slot_undo.SlotUndo.{SlotUndo}
 use Rattle.executor.specs.Undoing.{IsExecuted}
 use Rattle.executor.specs.Results.{IsResult}
 
 -- ---- results
 
--- a kept answer that a request finds
-record Found (kept : Option Answered) (id : ℕ) (bytes : List ℕ) : Type 0 where
-  answered : Answered
-  is : kept ≡ Some answered
-  same_id : answered.id ≡ id
-  same_result : answered.result ≡ bytes
+module _ {S : Type 0} (m : Meaning S) (log : List Entry) where
+  -- an id that its client has before is not executed
+  repeated : (before : List Entry) (r : Request) (id : ℕ) → Has (ids_of r.client before) id → r.id ≡ id
+      → takes (exec m before).table r ≡ true → ⊥
+  repeated before r id has same taken =
+      let executed : is_executed before r ≡ true = sym (table_tells_executed m before r) ∙ taken in
+      let new : is_new WINDOW (ids_of r.client before) r.id ≡ true = (and_parts _ (is_new WINDOW (ids_of r.client before) r.id) executed).1 in
+      let old : is_new WINDOW (ids_of r.client before) r.id ≡ false =
+      repeated_is_old WINDOW (ids_of r.client before) r.id (subst (Has (ids_of r.client before)) (sym same) has) in
+      cc
 
-found : (kept : Option Answered) (id : ℕ) (bytes : List ℕ) → result_kept kept id ≡ Some bytes → Found kept id bytes
-found None id bytes h = absurd cc
-found (Some k) id bytes h = here (eqb k.id id) refl h
-  where
-    here : (b : Bool) → eqb k.id id ≡ b → cond b (Some k.result) None ≡ Some bytes → Found (Some k) id bytes
-    here true e g = record { answered = k; is = refl; same_id = eqb-true k.id id e; same_result = cc }
-    here false e g = absurd cc
+  -- so nothing new is kept with it
+  nothing_new : (before : List Entry) (e : Entry) (client id : ℕ) (bytes : List ℕ) → Has (ids_of client before) id
+      → result_kept (kept_for (enter_kept m (exec m before) e).table client) id ≡ Some bytes
+      → result_kept (kept_for (exec m before).table client) id ≡ Some bytes
+  nothing_new before NoOp client id bytes has h = h
+  nothing_new before (Req r) client id bytes has h = by_test (takes (exec m before).table r) refl h
+    where
+      by_client : (b : Bool) → eqb r.client client ≡ b → takes (exec m before).table r ≡ true
+          → result_kept (cond b (Some (account_with WINDOW (kept_for (exec m before).table r.client)
+          (record { id = r.id; result = m.answer (exec m before).host r.op }))) (kept_for (exec m before).table client)) id ≡ Some bytes
+          → result_kept (kept_for (exec m before).table client) id ≡ Some bytes
+      by_client false e taken g = g
+      by_client true e taken g =
+          let same : r.client ≡ client = eqb-true r.client client e in
+          let a : Answered = record { id = r.id; result = m.answer (exec m before).host r.op } in
+          elim (kept_is_new_or_old WINDOW (kept_for (exec m before).table r.client) a id bytes g) [
+            | inl new ↦
+                absurd (repeated before r id (subst (λ (c : ℕ). Has (ids_of c before) id) (sym same) has) new.same_id taken)
+            | inr old ↦ subst (λ (c : ℕ). result_kept (kept_for (exec m before).table c) id ≡ Some bytes) same old
+          ]
 
-ids_prefix : (client : ℕ) (xs ys : List Entry) → IsPrefixOf xs ys → IsPrefixOf (ids_of client xs) (ids_of client ys)
-ids_prefix client xs ys p = (ids_of client p.0, rw (p.1) (ids_of-append client xs p.0))
+      by_test : (b : Bool) → takes (exec m before).table r ≡ b
+          → result_kept (kept_for (cond b (execute m (exec m before) r) (exec m before)).table client) id ≡ Some bytes
+          → result_kept (kept_for (exec m before).table client) id ≡ Some bytes
+      by_test false e g = g
+      by_test true e g =
+          by_client (eqb r.client client) refl e
+          (sym (ap (λ (o : Option Account). result_kept o id) (kept_of_with_result (exec m before).table r.client
+          (record { id = r.id; result = m.answer (exec m before).host r.op }) client)) ∙ g)
 
-there : {A : Type 0} (o : Option A) → IsSome o → (x : A) × (o ≡ Some x)
-there None h = absurd cc
-there (Some x) h = (x, refl)
-
-module _ {S : Type 0} (m : Meaning S) (log : List Entry) (n : ℕ) where
   -- a front is a front of a longer front
-  front : (slot : ℕ) → slot ≤ n → IsPrefixOf (take slot log) (take n log)
-  front slot l = subst (λ (t : List Entry). IsPrefixOf t (take n log)) (take-take slot n log l) (IsPrefixOf-take slot (take n log))
+  front : (slot n : ℕ) → slot ≤ n → IsPrefixOf (take slot log) (take n log)
+  front slot n l = subst (λ (t : List Entry). IsPrefixOf t (take n log)) (take-take slot n log l) (IsPrefixOf-take slot (take n log))
 
-  module _ (slot : ℕ) (r : Request) (within : slot ≤ n) (at : slot_of log slot ≡ Some (Req r)) (bytes : List ℕ)
-      (kept : result_kept ((exec m (take n log)).kept r.client) r.id ≡ Some bytes) where
-    greatest : (f : Found ((exec m (take n log)).kept r.client) r.id bytes) → IsGreatest (ids_of r.client (take n log)) r.id
-    greatest f =
-        let all : KeepsGreatest (ids_of r.client (take n log)) (Some f.answered) =
-        subst (λ (o : Option Answered). KeepsGreatest (ids_of r.client (take n log)) o) f.is
-        (kept_is_greatest m (take n log) r.client) in
-        subst (λ (k : ℕ). IsGreatest (ids_of r.client (take n log)) k) f.same_id all
+  module _ (slot : ℕ) (r : Request) (at : slot_of log slot ≡ Some (Req r)) (bytes : List ℕ) where
+    has_then : (i : ℕ) → slot ≤ i → Has (ids_of r.client (take i log)) r.id
+    has_then i l =
+        has_id (take i log) r r.client refl
+        (Has-prefix (take slot log) (take i log) (Req r) (front slot i l) (Has-slot_of log slot (Req r) at))
 
-    greatest_at : IsGreatest (ids_of r.client (take slot log)) r.id
-    greatest_at =
-        let g = greatest (found ((exec m (take n log)).kept r.client) r.id bytes kept) in
-        record {
-          has = has_id (take slot log) r r.client refl (Has-slot_of log slot (Req r) at);
-          most =
-              λ k h.
-              g.most k
-              (Has-prefix (ids_of r.client (take slot log)) (ids_of r.client (take n log)) k
-              (ids_prefix r.client (take slot log) (take n log) (front slot within)) h);
-        }
+    -- what is kept for a request was kept at each slot since the one where it stands
+    kept_before : (i : ℕ) → slot ≤ i → result_kept (kept_for (exec m (take (i + 1) log)).table r.client) r.id ≡ Some bytes
+        → result_kept (kept_for (exec m (take i log)).table r.client) r.id ≡ Some bytes
+    kept_before i l h = elim (cases_lt i (length log)) [
+      | inl less ↦
+          let e = slice_get-some log i less in
+          nothing_new (take i log) e.0 r.client r.id bytes (has_then i l)
+          (subst (λ (x : Executed S). result_kept (kept_for x.table r.client) r.id ≡ Some bytes) (exec_of_next_slot m log i e.0 e.1) h)
+      | inr past ↦
+          let same : take (i + 1) log ≡ take i log = take_all (i + 1) log (omega (arith, past)) ∙ sym (take_all i log past) in
+          subst (λ (t : List Entry). result_kept (kept_for (exec m t).table r.client) r.id ≡ Some bytes) same h
+    ]
 
-    answered_then : (f : Found ((exec m (take n log)).kept r.client) r.id bytes)
-        → IsAnswered m (history_of (take n log)) r.client r.id bytes
-    answered_then f =
-        let a : IsAnswered m (history_of (take n log)) r.client f.answered.id f.answered.result =
-        kept_is_answered m (take n log) r.client f.answered f.is in
-        let b : IsAnswered m (history_of (take n log)) r.client r.id f.answered.result =
-        subst (λ (k : ℕ). IsAnswered m (history_of (take n log)) r.client k f.answered.result) f.same_id a in
-        subst (λ (bs : List ℕ). IsAnswered m (history_of (take n log)) r.client r.id bs) f.same_result b
+    kept_since : (d n : ℕ) → n ≡ slot + d → result_kept (kept_for (exec m (take n log)).table r.client) r.id ≡ Some bytes
+        → result_kept (kept_for (exec m (take slot log)).table r.client) r.id ≡ Some bytes
+    kept_since zero n e h =
+        let same : n ≡ slot = omega (arith, e) in
+        subst (λ (k : ℕ). result_kept (kept_for (exec m (take k log)).table r.client) r.id ≡ Some bytes) same h
+    kept_since (suc d) n e h =
+        let next : n ≡ (slot + d) + 1 = omega (arith, e) in
+        kept_since d (slot + d) refl
+        (kept_before (slot + d) (omega arith)
+        (subst (λ (k : ℕ). result_kept (kept_for (exec m (take k log)).table r.client) r.id ≡ Some bytes) next h))
 
     -- a kept result is the result at each slot before where the request stands
-    pub kept_is_result : result_at m log slot ≡ Some bytes
-    kept_is_result =
-        let a = there (result_at m log slot) ((greatest_has_result m log slot r at).1 greatest_at) in
-        let first : IsAnswered m (history_of (take n log)) r.client r.id a.0 =
-        answer_stays m (history_of (take slot log)) (history_of (take n log)) r.client r.id a.0
-        (history_of_prefix (take slot log) (take n log) (front slot within)) (result_is_answered m log slot r a.0 at a.1) in
-        let same : a.0 ≡ bytes =
-        answers_are_equal m (take n log) r.client r.id a.0 bytes first
-        (answered_then (found ((exec m (take n log)).kept r.client) r.id bytes kept)) in
-        a.1 ∙ ap Some same
+    pub kept_is_result : (n : ℕ) → slot ≤ n → result_kept (kept_for (exec m (take n log)).table r.client) r.id ≡ Some bytes
+        → result_at m log slot ≡ Some bytes
+    kept_is_result n within kept = result_is_kept m log slot r at ∙ kept_since (n - slot) n (omega (arith, within)) kept
 
   -- the kept answer to a request
-  pub kept_results : (client id : ℕ) → IsResult m log n client id (result_kept ((exec m (take n log)).kept client) id)
-  kept_results client id = record {
+  pub kept_results : (n client id : ℕ) → IsResult m log n client id (result_kept (kept_for (exec m (take n log)).table client) id)
+  kept_results n client id = record {
     last =
-        λ r at of. (λ i. result_kept ((exec m (take n log)).kept (sym of.same_client i)) (sym of.same_id i))
+        λ r at of. (λ i. result_kept (kept_for (exec m (take n log)).table (sym of.same_client i)) (sym of.same_id i))
         ∙ sym (result_is_kept m log n r at);
     each =
         λ slot r within at of.
-        some (result_kept ((exec m (take n log)).kept client) id)
+        some (result_kept (kept_for (exec m (take n log)).table client) id)
         (λ bytes e.
-        kept_is_result slot r within at bytes ((λ i. result_kept ((exec m (take n log)).kept (of.same_client i)) (of.same_id i)) ∙ e));
+        kept_is_result slot r at bytes n within
+        ((λ i. result_kept (kept_for (exec m (take n log)).table (of.same_client i)) (of.same_id i)) ∙ e));
   }
     where
       some : {A : Type 0} (o : Option A) {P : A → Type 0} → ((x : A) → o ≡ Some x → P x) → IfSome o P
@@ -115,64 +131,26 @@ module _ {S : Type 0} (m : Meaning S) (log : List Entry) (n : ℕ) where
 -- the kept answer of an executor
 pub result_of_executed : {S U : Type 0} (m : Meaning S) (undo_of : S → List ℕ
     → U) (log : List Entry) (x : Executed S) (undos : List (Option (SlotUndo U))) → IsExecuted m undo_of log x undos
-    → (client id : ℕ) (o : Option (List ℕ)) → o ≡ result_kept (x.kept client) id → IsResult m log (length undos) client id o
+    → (client id : ℕ) (o : Option (List ℕ)) → o ≡ result_kept (kept_for x.table client) id → IsResult m log (length undos) client id o
 result_of_executed m undo_of log x undos h client id o e =
-    let same : result_kept ((exec m (take (length undos) log)).kept client) id ≡ o =
-    sym (e ∙ ap (λ (y : Executed _). result_kept (y.kept client) id) h.execution) in
+    let same : result_kept (kept_for (exec m (take (length undos) log)).table client) id ≡ o =
+    sym (e ∙ ap (λ (y : Executed _). result_kept (kept_for y.table client) id) h.execution) in
     subst (IsResult m log (length undos) client id) same (kept_results m log (length undos) client id)
 
 -- ---- short results
 
-module _ {S : Type 0} (m : Meaning S) (sound : S → Type 0) (stays : (s : S) (op : List ℕ) → sound s
-    → sound (m.after s op)) (short : (s : S) (op : List ℕ) → sound s → length (m.answer s op) ≤ MAX_RESULT_BYTES) where
-  record IsShort (x : Executed S) : Type 0 where
-    host : sound x.host
-    kept : (client : ℕ) → IfSome (x.kept client) (λ k. length k.result ≤ MAX_RESULT_BYTES)
+pub short_of_executed : {S U : Type 0} (m : Meaning S) (sound : S → Type 0) → sound m.opening
+    → ((s : S) (op : List ℕ) → sound s → sound (m.after s op))
+    → ((s : S) (op : List ℕ) → sound s → length (m.answer s op) ≤ MAX_RESULT_BYTES)
+    → (undo_of : S → List ℕ → U) (log : List Entry) (x : Executed S) (undos : List (Option (SlotUndo U)))
+    → IsExecuted m undo_of log x undos → (client id : ℕ) (o : Option (List ℕ)) → o ≡ result_kept (kept_for x.table client) id
+    → IfSome o (λ bytes. length bytes ≤ MAX_RESULT_BYTES)
+short_of_executed m sound opens stays short undo_of log x undos h client id o e = some o (e ∙ same)
+  where
+    same : result_kept (kept_for x.table client) id ≡ result_kept (kept_for (exec m (take (length undos) log)).table client) id
+    same = ap (λ (y : Executed _). result_kept (kept_for y.table client) id) h.execution
 
-  either : (b : Bool) (k : Answered) (o : Option Answered) → length k.result ≤ MAX_RESULT_BYTES
-      → IfSome o (λ j. length j.result ≤ MAX_RESULT_BYTES) → IfSome (cond b (Some k) o) (λ j. length j.result ≤ MAX_RESULT_BYTES)
-  either true k o h g = h
-  either false k o h g = g
-
-  entered : (x : Executed S) (e : Entry) → IsShort x → IsShort (enter_kept m x e)
-  entered x NoOp h = h
-  entered x (Req r) h = here (is_above_kept (x.kept r.client) r.id)
-    where
-      here : (b : Bool) → IsShort (cond b (execute m x r) x)
-      here true = record {
-        host = stays x.host r.op h.host;
-        kept =
-            λ c.
-            either (eqb r.client c) (record { id = r.id; result = m.answer x.host r.op }) (x.kept c) (short x.host r.op h.host) (h.kept c);
-      }
-      here false = h
-
-  executed : (x : Executed S) (log : List Entry) → IsShort x → IsShort (exec_kept m x log)
-  executed x [] h = h
-  executed x (e ∷ log) h = executed (enter_kept m x e) log (entered x e h)
-
-  short_at : (o : Option Answered) (id : ℕ) → IfSome o (λ k. length k.result ≤ MAX_RESULT_BYTES)
-      → IfSome (result_kept o id) (λ bytes. length bytes ≤ MAX_RESULT_BYTES)
-  short_at None id h = tt
-  short_at (Some k) id h = here (eqb k.id id)
-    where
-      here : (b : Bool) → IfSome (cond b (Some k.result) None) (λ bytes. length bytes ≤ MAX_RESULT_BYTES)
-      here true = h
-      here false = tt
-
-  -- each kept result is short
-  pub kept_is_short : sound m.opening → (log : List Entry) (client id : ℕ)
-      → IfSome (result_kept ((exec m log).kept client) id) (λ bytes. length bytes ≤ MAX_RESULT_BYTES)
-  kept_is_short opens log client id =
-      let all : IsShort (exec m log) = rw (exec_is_by_kept m log) (executed (opening m) log (record { host = opens; kept = λ c. tt })) in
-      short_at ((exec m log).kept client) id (all.kept client)
-
-  pub short_of_executed : {U : Type 0} → sound m.opening
-      → (undo_of : S → List ℕ → U) (log : List Entry) (x : Executed S) (undos : List (Option (SlotUndo U)))
-      → IsExecuted m undo_of log x undos → (client id : ℕ) (o : Option (List ℕ)) → o ≡ result_kept (x.kept client) id
-      → IfSome o (λ bytes. length bytes ≤ MAX_RESULT_BYTES)
-  short_of_executed opens undo_of log x undos h client id o e =
-      let same : result_kept ((exec m (take (length undos) log)).kept client) id ≡ o =
-      sym (e ∙ ap (λ (y : Executed S). result_kept (y.kept client) id) h.execution) in
-      subst (λ (p : Option (List ℕ)). IfSome p (λ bytes. length bytes ≤ MAX_RESULT_BYTES)) same
-      (kept_is_short opens (take (length undos) log) client id)
+    some : (o : Option (List ℕ)) → o ≡ result_kept (kept_for (exec m (take (length undos) log)).table client) id
+        → IfSome o (λ bytes. length bytes ≤ MAX_RESULT_BYTES)
+    some None g = tt
+    some (Some bytes) g = kept_result_fits m sound opens stays short (take (length undos) log) client id bytes (sym g)

@@ -2,8 +2,9 @@
 use Rattle.std.specs.Prelude.{ℕ, List, Option, Bool, refl}
 use Rattle.std.specs.Coded.{Coded, code_by, coded×, coded_ℕ, coded_list, coded_option, coded_bool}
 use Rattle.std.specs.FinMap as finite
-use Rattle.nop_types.specs.Execution.{Answered, Executed}
-use Rattle.client_table.specs.Table.{Table, Former, answered_code, kept_for}
+use Rattle.nop_types.specs.Tables.{Account, Table, account_code}
+use Rattle.nop_types.specs.Execution.{Executed}
+use Rattle.client_table.specs.Table.{Former}
 use Rattle.executor.specs.declared.slot_undo.SlotUndo.{SlotUndo}
 
 -- a slot whose entry did nothing keeps nothing
@@ -15,9 +16,9 @@ pub record Running (H U : Type 0) : Type 0 where
 
 abbrev pub former_code : Coded Former
 former_code =
-    code_by (ℕ × Option Answered) (coded× coded_ℕ (coded_option answered_code)) (λ f. (f.client, f.answer)) (λ p. record {
+    code_by (ℕ × Option Account) (coded× coded_ℕ (coded_option account_code)) (λ f. (f.client, f.account)) (λ p. record {
       client = p.0;
-      answer = p.1;
+      account = p.1;
     }) (λ _. refl)
 
 abbrev pub slot_undo_code : {U : Type 0} → Coded U → Coded (SlotUndo U)
@@ -27,11 +28,11 @@ slot_undo_code {U} u =
 abbrev pub running_code : {H U : Type 0} → Coded H → Coded U → Coded (Running H U)
 running_code {H} {U} h u =
     code_by (H × (Table × (List (Option (SlotUndo U)) × Bool)))
-    (coded× h (coded× (finite.code coded_ℕ answered_code) (coded× (coded_list (coded_option (slot_undo_code u))) coded_bool)))
+    (coded× h (coded× (finite.code coded_ℕ account_code) (coded× (coded_list (coded_option (slot_undo_code u))) coded_bool)))
     (λ r. (r.host, (r.table, (r.undos, r.failed))))
     (λ p. record { host = p.0; table = p.1.0; undos = p.1.1.0; failed = p.1.1.1 })
     (λ _. refl)
 
 -- a host's state and a table as an execution has them
 abbrev pub execution : {S : Type 0} → S → Table → Executed S
-execution state table = record { host = state; kept = kept_for table }
+execution state table = record { host = state; table = table }

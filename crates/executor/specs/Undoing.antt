@@ -1,11 +1,12 @@
 -- What undoes the slots of an execution.
-use Rattle.std.specs.Prelude.{◌≡◌, ◌<◌, ◌≤◌, ◌==◌, ℕ, List, Option, Some, None, length, take, slice_get, if◌then◌else◌, IfSome, IsSome}
+use Rattle.std.specs.Prelude.{◌≡◌, ◌<◌, ◌≤◌, ℕ, List, Option, Some, None, length, take, slice_get, if◌then◌else◌, IfSome, IsSome}
 use Rattle.std.specs.List.{AllByRecursion}
 use Rattle.nop_types.specs.declared.request.Entry.{Entry}
 use Rattle.nop_types.specs.declared.request.Entry.TheVariants.{NoOp, Req}
 use Rattle.nop_types.specs.Meaning.{Meaning}
-use Rattle.nop_types.specs.Execution.{Executed, exec, is_above_kept}
-use Rattle.client_table.specs.Table.{Table, kept_for}
+use Rattle.nop_types.specs.Tables.{Table, kept_for}
+use Rattle.nop_types.specs.Execution.{Executed, exec, takes}
+use Rattle.client_table.specs.Table.{former_of, unkept}
 use Rattle.executor.specs.declared.slot_undo.SlotUndo.{SlotUndo}
 use Rattle.executor.specs.Running.{Running, execution}
 
@@ -13,18 +14,12 @@ use Rattle.executor.specs.Running.{Running, execution}
 abbrev pub slot_undo_of : {S U : Type 0} → (S → List ℕ → U) → Executed S → Entry → Option (SlotUndo U)
 slot_undo_of undo_of x NoOp = None
 slot_undo_of undo_of x (Req r) =
-    if is_above_kept (x.kept r.client) r.id then Some (record {
-      undo = undo_of x.host r.op;
-      kept = record { client = r.client; answer = x.kept r.client };
-    }) else None
+    if takes x.table r then Some (record { undo = undo_of x.host r.op; kept = former_of x.table r.client }) else None
 
 -- the execution before a slot, by what undoes it
 abbrev pub undone_by : {S U : Type 0} → (S → U → S) → Executed S → Option (SlotUndo U) → Executed S
 undone_by undone x None = x
-undone_by undone x (Some slot_undo) = record {
-  host = undone x.host slot_undo.undo;
-  kept = λ client. if slot_undo.kept.client == client then slot_undo.kept.answer else x.kept client;
-}
+undone_by undone x (Some slot_undo) = record { host = undone x.host slot_undo.undo; table = unkept x.table slot_undo.kept }
 
 -- as many first entries of the log as there are undos were executed: x is their execution, and each slot has what undoes its entry
 pub record IsExecuted {S U : Type 0} (m : Meaning S) (undo_of : S → List ℕ

@@ -1,20 +1,21 @@
 ghost use Rattle.std.specs.Prelude.{◌≡◌, ◌≤◌, ℕ, List, [], true, false, length, OnOk, OnErr, IfOk, IsErr, IfSome};
 ghost use Rattle.std.specs.Option.{option_copied};
 ghost use Rattle.nop_types.specs.declared.request.Entry.{Entry};
-ghost use Rattle.nop_types.specs.Execution.{result_kept};
-ghost use Rattle.client_table.specs.Table.{kept_for};
+ghost use Rattle.nop_types.specs.Tables.{kept_for, result_kept};
+ghost use Rattle.nop_types.specs.Checkpoints.{checkpoint_of};
+ghost use Rattle.executor.specs.Running.{execution};
 ghost use Rattle.executor.specs.Undoing.{HasExecuted};
 ghost use Rattle.executor.specs.Results.{IsResult};
 
 use crate::moves::{advance, go_back};
 use crate::slot_undo::SlotUndo;
 use client_table::{ClientTable, Judged};
-use nop_types::{Bytes, Host, MAX_RESULT_BYTES, NoMemory};
+use nop_types::{Bytes, Checkpoint, Host, MAX_RESULT_BYTES, NoMemory};
 use replica_log::ReplicaLog;
 use std::alloc::Global;
 use std::marker::Model;
 
-/// The execution of the first slots of a log: a host's state, and the last answer to each client. For each executed slot it
+/// The execution of the first slots of a log: a host's state, and what is kept for each client. For each executed slot it
 /// keeps what undoes it. Where a call ran out of memory it has failed, and executes nothing more.
 #[derive(Drop)]
 pub struct Executor<H: Host> {
@@ -134,5 +135,17 @@ impl<H: Host> Executor<H> {
             → IfSome (option_copied result) (λ bytes. length bytes ≤ MAX_RESULT_BYTES) }
     {
         kept_result(&self.table, client, id)
+    }
+
+    /// The execution as a checkpoint.
+    pub fn checkpoint(&self) -> Result<Checkpoint, NoMemory>
+        requires run { (log : List Entry)
+            × HasExecuted H.state H.meaning H.undo_of log self.now }
+        ensures { IfOk result (λ c. c
+            ≡ checkpoint_of H.meaning (execution (H.state self.now.host) self.now.table)) }
+    {
+        let host = self.host.save()?;
+        let clients = self.table.saved(*self.undos.allocator())?;
+        Ok(Checkpoint::new(host, clients).unwrap())
     }
 }

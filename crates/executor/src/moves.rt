@@ -1,6 +1,5 @@
-ghost use Rattle.std.specs.Prelude.{◌≡◌, ◌≤◌, length, OnOk, OnErr, IfOk, IsSome, List, Some};
+ghost use Rattle.std.specs.Prelude.{◌≡◌, ◌≤◌, length, OnOk, OnErr, IfOk};
 ghost use Rattle.nop_types.specs.Execution.{enter_kept};
-ghost use Rattle.client_table.specs.Table.{kept_for};
 ghost use Rattle.executor.specs.Running.{execution};
 ghost use Rattle.executor.specs.Undoing.{slot_undo_of, undone_by, IsExecuted, UndoFits, UndosFit, ClientIsKept};
 
@@ -8,7 +7,7 @@ use crate::slot_undo::SlotUndo;
 use client_table::{ClientTable, Judged};
 use nop_types::{Entry, Host, NoMemory};
 
-/// Executes an entry, and says how to undo that.
+/// Executes an entry, where its client is served and its id is new, and says how to undo that.
 fn enter<H: Host>(
     host: &mut H,
     table: &mut ClientTable,
@@ -27,6 +26,9 @@ fn enter<H: Host>(
         Entry::NoOp => return Ok(None),
         Entry::Req(request) => request,
     };
+    if !table.serves(request.client) {
+        return Ok(None);
+    }
     let Judged::Fresh = table.judge(request.client, request.id) else {
         return Ok(None);
     };

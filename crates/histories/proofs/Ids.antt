@@ -1,16 +1,18 @@
--- The ids of a client in a log, and numbers below or above them.
-use Rattle.std.proofs.Common.{◌≡◌, ℕ, zero, suc, ◌<◌, ◌≤◌, Bool, true, false, cond, eqb, List, [], ◌∷◌, ◌++◌, refl, sym}
-use Rattle.std.proofs.Common.{◌∙◌, arith}
+-- The ids of a client in a log.
+use Rattle.std.proofs.Common.{◌≡◌, ℕ, zero, suc, ◌+◌, ◌≤◌, Bool, true, false, cond, eqb, List, [], ◌∷◌, ◌++◌, append-nil, refl, sym, ap}
+use Rattle.std.proofs.Common.{subst, ◌∙◌}
 use Rattle.std.proofs.lemmas.Grind.{flat_map-append}
-use Rattle.std.proofs.lemmas.Bool.{eq-eqb, eqb-true}
+use Rattle.std.proofs.lemmas.Bool.{and_right, eq-eqb}
+use Rattle.nop_types.specs.declared.limits.TheConstants.{WINDOW}
 use Rattle.nop_types.specs.declared.request.Request.{Request}
 use Rattle.nop_types.specs.declared.request.Entry.{Entry}
 use Rattle.nop_types.specs.declared.request.Entry.TheVariants.{NoOp, Req}
-use Rattle.nop_types.specs.Lists.{Has, all_below}
-use Rattle.nop_types.specs.Execution.{id_in, ids_of}
+use Rattle.nop_types.specs.Lists.{Has}
+use Rattle.nop_types.specs.Windows.{is_new}
+use Rattle.nop_types.specs.Execution.{id_in, ids_of, clients_of, is_served, is_executed}
 use Rattle.nop_types.specs.Legality.{IsOf}
-use Rattle.facts.proofs.Numbers.{all_below-true, all_below-from}
 use Rattle.facts.proofs.Members.{Has-append_left, Has-append_right}
+use Rattle.histories.proofs.Windows.{repeated_is_old, stale_is_old}
 
 pub IsOf-refl : (r : Request) → IsOf r.client r.id r
 IsOf-refl r = record { same_client = refl; same_id = refl }
@@ -25,6 +27,25 @@ IsOf-both client id p q a b = record { same_client = b.same_client ∙ sym a.sam
 pub ids_of-append : (c : ℕ) (xs ys : List Entry) → ids_of c (xs ++ ys) ≡ ids_of c xs ++ ids_of c ys
 ids_of-append c xs ys = flat_map-append (id_in c) xs ys
 
+-- after one more entry
+pub ids_of-noop : (c : ℕ) (log : List Entry) → ids_of c (log ++ NoOp ∷ []) ≡ ids_of c log
+ids_of-noop c log = ids_of-append c log (NoOp ∷ []) ∙ append-nil (ids_of c log)
+
+pub ids_of-push : (c : ℕ) (log : List Entry) (r : Request) (b : Bool) → eqb r.client c ≡ b
+    → ids_of c (log ++ Req r ∷ []) ≡ ids_of c log ++ cond b (r.id ∷ []) []
+ids_of-push c log r b e =
+    ids_of-append c log (Req r ∷ [])
+    ∙ ap (λ (t : List ℕ). ids_of c log ++ t)
+    (append-nil (cond (eqb r.client c) (r.id ∷ []) []) ∙ ap (λ (t : Bool). cond t (r.id ∷ []) []) e)
+
+-- of the request's own client
+pub ids_of-push_own : (log : List Entry) (r : Request) → ids_of r.client (log ++ Req r ∷ []) ≡ ids_of r.client log ++ r.id ∷ []
+ids_of-push_own log r = ids_of-push r.client log r true (eq-eqb r.client r.client refl)
+
+-- of another client
+pub ids_of-push_other : (c : ℕ) (log : List Entry) (r : Request) → eqb r.client c ≡ false → ids_of c (log ++ Req r ∷ []) ≡ ids_of c log
+ids_of-push_other c log r e = ids_of-push c log r false e ∙ append-nil (ids_of c log)
+
 -- a request of the log has its id among its client's
 pub has_id : (log : List Entry) (r : Request) (c : ℕ) → r.client ≡ c → Has log (Req r) → Has (ids_of c log) r.id
 has_id [] r c own h = absurd (let e = h.1 in cc)
@@ -33,34 +54,15 @@ has_id (e ∷ log) r c own (zero, h) =
     Has-append_left (id_in c e) (ids_of c log) r.id (rw (same, eq-eqb r.client c own) (zero, refl))
 has_id (e ∷ log) r c own (suc i, h) = Has-append_right (id_in c e) (ids_of c log) r.id (has_id log r c own (i, h))
 
--- a client's id is that of a request of the log
-pub id_has : (log : List Entry) (c n : ℕ) → Has (ids_of c log) n → (r : Request) × Has log (Req r) × IsOf c n r
-id_has [] c n h = absurd (let e = h.1 in cc)
-id_has (NoOp ∷ log) c n h = let s = id_has log c n h in (s.0, (suc s.1.0, s.1.1), s.2)
-id_has (Req r ∷ log) c n h = here (eqb r.client c) refl h (λ g. id_has log c n g)
-  where
-    here : (b : Bool) → eqb r.client c ≡ b → Has (cond b (r.id ∷ []) [] ++ ids_of c log) n
-        → (Has (ids_of c log) n → (r : Request) × Has log (Req r) × IsOf c n r) → (q : Request) × Has (Req r ∷ log) (Req q) × IsOf c n q
-    here true e (zero, g) more = (r, (zero, refl), record { same_client = eqb-true r.client c e; same_id = cc })
-    here true e (suc i, g) more = let s = more (i, g) in (s.0, (suc s.1.0, s.1.1), s.2)
-    here false e g more = let s = more g in (s.0, (suc s.1.0, s.1.1), s.2)
+-- a request is not executed where its client has the same id before it
+pub repeat_is_old : (log : List Entry) (q r : Request) → Has log (Req q) → q.client ≡ r.client → q.id ≡ r.id → is_executed log r ≡ false
+repeat_is_old log q r h own same =
+    and_right (is_served (clients_of (log ++ Req r ∷ [])) r.client) (is_new WINDOW (ids_of r.client log) r.id)
+    (repeated_is_old WINDOW (ids_of r.client log) r.id (subst (Has (ids_of r.client log)) same (has_id log q r.client own h)))
 
--- the test of a client's ids, said of its requests
-pub exceeds_each : (log : List Entry) (r q : Request) → all_below (ids_of r.client log) r.id ≡ true → Has log (Req q) → q.client ≡ r.client
-    → q.id < r.id
-exceeds_each log r q t h same = all_below-true (ids_of r.client log) r.id q.id t (has_id log q r.client same h)
-
-pub all_below_from_requests : (log : List Entry) (r : Request) → ((q : Request) → Has log (Req q) → q.client ≡ r.client → q.id < r.id)
-    → all_below (ids_of r.client log) r.id ≡ true
-all_below_from_requests log r h =
-    all_below-from (ids_of r.client log) r.id
-    (λ k g. let s = id_has log r.client k g in omega (arith, s.2.same_id, h s.0 s.1 s.2.same_client))
-
--- a request of the client with an id as great or greater stands before
-pub not_above : (log : List Entry) (q r : Request) → Has log (Req q) → q.client ≡ r.client → r.id ≤ q.id
-    → all_below (ids_of r.client log) r.id ≡ false
-not_above log q r h same le = here (all_below (ids_of r.client log) r.id) refl
-  where
-    here : (b : Bool) → all_below (ids_of r.client log) r.id ≡ b → b ≡ false
-    here false e = refl
-    here true e = absurd (omega (arith, le, exceeds_each log r q e h same))
+-- nor where one is a window ahead
+pub far_is_old : (log : List Entry) (q r : Request) → Has log (Req q) → q.client ≡ r.client → r.id + WINDOW ≤ q.id
+    → is_executed log r ≡ false
+far_is_old log q r h own far =
+    and_right (is_served (clients_of (log ++ Req r ∷ [])) r.client) (is_new WINDOW (ids_of r.client log) r.id)
+    (stale_is_old WINDOW (ids_of r.client log) r.id q.id (has_id log q r.client own h) far)

@@ -1,7 +1,13 @@
 pub mod Ids
-pub mod Members
+pub mod Windows
+pub mod Clients
+pub mod Accounts
 pub mod Steps
+pub mod Tables
+pub mod Members
 pub mod Results
 pub mod Lines
 pub mod Legal
 pub mod Worked
+pub mod Shortness
+pub mod Saving

@@ -1,22 +1,23 @@
 -- The members of a history, where they stand in the log, and their answers.
 use Rattle.std.proofs.Common.{◌≡◌, ℕ, zero, suc, ◌+◌, ◌<◌, ◌≤◌, Bool, true, false, cond, List, [], ◌∷◌, ◌++◌, length, take, Some, refl, sym}
-use Rattle.std.proofs.Common.{ap, ◌∙◌, append_assoc, arith, inl, inr}
+use Rattle.std.proofs.Common.{ap, subst, ◌∙◌, append_assoc, arith, inl, inr}
 use Rattle.std.specs.Prelude.{◌⊎◌, ◌↔◌, slice_get}
 use Rattle.std.proofs.lemmas.Bool.{cases_order}
 use Rattle.std.proofs.lemmas.List.{append-nil}
 use Rattle.std.proofs.lemmas.Option.{slice_get_within}
+use Rattle.nop_types.specs.declared.limits.TheConstants.{WINDOW}
 use Rattle.nop_types.specs.declared.request.Request.{Request}
 use Rattle.nop_types.specs.declared.request.Entry.{Entry}
 use Rattle.nop_types.specs.declared.request.Entry.TheVariants.{NoOp, Req}
 use Rattle.nop_types.specs.Meaning.{Meaning}
-use Rattle.nop_types.specs.Lists.{Has, IsPrefixOf, all_below}
-use Rattle.nop_types.specs.Execution.{ids_of}
+use Rattle.nop_types.specs.Lists.{Has, IsPrefixOf}
+use Rattle.nop_types.specs.Execution.{is_executed}
 use Rattle.nop_types.specs.Histories.{new_in, history_from, history_of, answer_from, answer_at}
 use Rattle.nop_types.specs.Legality.{IsOf, IsAnswered}
 use Rattle.facts.proofs.Places.{slice_get-append_left, slice_get-append_cases, slice_get-append_at, slice_get-take, take-append_past}
 use Rattle.facts.proofs.Members.{Has-append_right}
 use Rattle.histories.specs.Histories.{IsNewIn, StandsBefore}
-use Rattle.histories.proofs.Ids.{IsOf-trans, IsOf-both, not_above, exceeds_each, all_below_from_requests}
+use Rattle.histories.proofs.Ids.{IsOf-trans, IsOf-both, repeat_is_old, far_is_old}
 
 history_from-append : (b xs ys : List Entry) → history_from b (xs ++ ys) ≡ history_from b xs ++ history_from (b ++ xs) ys
 history_from-append b [] ys = let e : b ++ [] ≡ b = append-nil b in rw e refl
@@ -32,10 +33,18 @@ history_of_append xs ys = history_from-append [] xs ys
 pub history_of_next_entry : (log : List Entry) (e : Entry) → history_of (log ++ e ∷ []) ≡ history_of log ++ new_in log e
 history_of_next_entry log e = history_of_append log (e ∷ []) ∙ ap (λ t. history_of log ++ t) (append-nil (new_in log e))
 
-pub repeat_is_no_member : (log : List Entry) (q r : Request) → Has log (Req q) → q.client ≡ r.client → r.id ≤ q.id
+unexecuted : (log : List Entry) (r : Request) → is_executed log r ≡ false → history_of (log ++ Req r ∷ []) ≡ history_of log
+unexecuted log r old =
+    history_of_next_entry log (Req r)
+    ∙ (ap (λ (b : Bool). history_of log ++ cond b (r ∷ []) []) old ∙ append-nil (history_of log))
+
+pub repeat_is_no_member : (log : List Entry) (q r : Request) → Has log (Req q) → q.client ≡ r.client → q.id ≡ r.id
     → history_of (log ++ Req r ∷ []) ≡ history_of log
-repeat_is_no_member log q r h same le =
-    history_of_next_entry log (Req r) ∙ rw (not_above log q r h same le, append-nil (history_of log)) refl
+repeat_is_no_member log q r h own same = unexecuted log r (repeat_is_old log q r h own same)
+
+pub stale_is_no_member : (log : List Entry) (q r : Request) → Has log (Req q) → q.client ≡ r.client → r.id + WINDOW ≤ q.id
+    → history_of (log ++ Req r ∷ []) ≡ history_of log
+stale_is_no_member log q r h own far = unexecuted log r (far_is_old log q r h own far)
 
 -- the history of a prefix begins that of the whole
 pub history_of_prefix : (xs ys : List Entry) → IsPrefixOf xs ys → IsPrefixOf (history_of xs) (history_of ys)
@@ -45,14 +54,14 @@ history_of_prefix xs ys p = (history_from xs p.0, rw (p.1) (history_of_append xs
 record IsAdded (b : List Entry) (e : Entry) (i : ℕ) (r : Request) : Type 0 where
   at_once : i ≡ 0
   entry : e ≡ Req r
-  above : all_below (ids_of r.client b) r.id ≡ true
+  executed : is_executed b r ≡ true
 
 added : (b : List Entry) (e : Entry) (i : ℕ) (r : Request) → slice_get (new_in b e) i ≡ Some r → IsAdded b e i r
 added b NoOp i r h = absurd cc
-added b (Req q) i r h = here (all_below (ids_of q.client b) q.id) refl i h
+added b (Req q) i r h = here (is_executed b q) refl i h
   where
-    here : (t : Bool) → all_below (ids_of q.client b) q.id ≡ t → (i : ℕ) → slice_get (cond t (q ∷ []) []) i ≡ Some r → IsAdded b (Req q) i r
-    here true e zero h = let same : q ≡ r = cc in record { at_once = refl; entry = ap Req same; above = rw (← same) e }
+    here : (t : Bool) → is_executed b q ≡ t → (i : ℕ) → slice_get (cond t (q ∷ []) []) i ≡ Some r → IsAdded b (Req q) i r
+    here true e zero h = let same : q ≡ r = cc in record { at_once = refl; entry = ap Req same; executed = ap (is_executed b) (sym same) ∙ e }
     here true e (suc i) h = absurd cc
     here false e i h = absurd cc
 
@@ -61,7 +70,7 @@ pub record Stands (b log : List Entry) (i : ℕ) (r : Request) : Type 0 where
   pub before : List Entry
   pub rest : List Entry
   pub log_is : log ≡ before ++ Req r ∷ rest
-  pub above : all_below (ids_of r.client (b ++ before)) r.id ≡ true
+  pub executed : is_executed (b ++ before) r ≡ true
   pub history_is : history_from b before ≡ take i (history_from b log)
 
 pub member_stands : (b log : List Entry) (i : ℕ) (r : Request) → slice_get (history_from b log) i ≡ Some r → Stands b log i r
@@ -77,14 +86,14 @@ member_stands b (e ∷ log) i r h =
       before = [];
       rest = log;
       log_is = ap (λ t. t ∷ log) a.entry;
-      above = rw append-nil a.above;
+      executed = ap (λ (t : List Entry). is_executed t r) (append-nil b) ∙ a.executed;
       history_is = rw (a.at_once) refl;
     }
     here (inr s) more = let u = more s.0 s.2 in record {
       before = e ∷ u.before;
       rest = u.rest;
       log_is = ap (λ t. e ∷ t) u.log_is;
-      above = rw append_assoc at u.above;
+      executed = ap (λ (t : List Entry). is_executed t r) (sym (append_assoc b (e ∷ []) u.before)) ∙ u.executed;
       history_is = rw (s.1, take-append_past) (ap (λ t. new_in b e ++ t) u.history_is);
     }
 
@@ -96,15 +105,15 @@ members_are_logged log r h =
 member_is_new : (log : List Entry) (r : Request) → Has (history_of log) r → IsNewIn log r
 member_is_new log r h =
     let s = member_stands [] log h.0 r h.1 in
-    record { before = s.before; rest = s.rest; log_is = s.log_is; exceeds = λ q g same. exceeds_each s.before r q s.above g same }
+    record { before = s.before; rest = s.rest; log_is = s.log_is; executed = s.executed }
 
 new_is_member : (log : List Entry) (r : Request) → IsNewIn log r → Has (history_of log) r
 new_is_member log r n =
-    let above : all_below (ids_of r.client n.before) r.id ≡ true = all_below_from_requests n.before r n.exceeds in
-    let one : Has (history_from n.before (Req r ∷ n.rest)) r = rw above (zero, refl) in
+    let one : Has (history_from n.before (Req r ∷ n.rest)) r =
+    subst (λ (b : Bool). Has (cond b (r ∷ []) [] ++ history_from (n.before ++ Req r ∷ []) n.rest) r) (sym n.executed) (zero, refl) in
     rw (n.log_is, history_of_append) (Has-append_right (history_of n.before) (history_from n.before (Req r ∷ n.rest)) r one)
 
--- the members are the requests whose id exceeds each earlier one of their client
+-- the members are the requests that are executed where they stand
 pub members_are_new : (log : List Entry) (r : Request) → Has (history_of log) r ↔ IsNewIn log r
 members_are_new log r = (member_is_new log r, new_is_member log r)
 
@@ -128,11 +137,14 @@ members_keep_order log i j p q g h l =
       later_entry = ap (λ (t : List Entry). slice_get t (length s.before)) s.log_is ∙ slice_get-append_at s.before (Req q) s.rest;
     }
 
--- a client's later members have greater ids
-pub ids_rise : (log : List Entry) (i j : ℕ) (p q : Request) → slice_get (history_of log) i ≡ Some p → slice_get (history_of log) j ≡ Some q
-    → p.client ≡ q.client → i < j → p.id < q.id
-ids_rise log i j p q g h same l =
-    let s = member_stands [] log j q h in exceeds_each s.before q p s.above (earlier_is_logged log i j p q g s l) same
+later_is_other : (log : List Entry) (i j : ℕ) (p q : Request) → slice_get (history_of log) i ≡ Some p → slice_get (history_of log) j ≡ Some q
+    → IsOf p.client p.id q → i < j → ⊥
+later_is_other log i j p q g h same l =
+    let s = member_stands [] log j q h in
+    let old : is_executed s.before q ≡ false =
+    repeat_is_old s.before p q (earlier_is_logged log i j p q g s l) (sym same.same_client) (sym same.same_id) in
+    let new : is_executed s.before q ≡ true = s.executed in
+    cc
 
 -- no client and id stands twice in a history
 pub members_are_distinct : (log : List Entry) (i j : ℕ) (p q : Request) → slice_get (history_of log) i ≡ Some p
@@ -140,8 +152,8 @@ pub members_are_distinct : (log : List Entry) (i j : ℕ) (p q : Request) → sl
 members_are_distinct log i j p q g h same = elim (cases_order i j) [
   | inl e ↦ e
   | inr o ↦ elim o [
-    | inl l ↦ absurd (omega (arith, ids_rise log i j p q g h (sym same.same_client) l, same.same_id))
-    | inr l ↦ absurd (omega (arith, ids_rise log j i q p h g same.same_client l, same.same_id))
+    | inl l ↦ absurd (later_is_other log i j p q g h same l)
+    | inr l ↦ absurd (later_is_other log j i q p h g (record { same_client = sym same.same_client; same_id = sym same.same_id }) l)
   ]
 ]
 

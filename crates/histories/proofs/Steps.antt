@@ -1,24 +1,26 @@
 -- The steps of an execution: of a longer log, of one more entry, of each member of the history.
-use Rattle.std.proofs.Common.{◌≡◌, ℕ, zero, suc, ◌+◌, ◌≤◌, Bool, true, false, cond, eqb, List, [], ◌∷◌, ◌++◌, length, take, drop, Some}
+use Rattle.std.proofs.Common.{◌≡◌, ℕ, zero, suc, ◌+◌, ◌≤◌, Bool, true, false, cond, eqb, List, [], ◌∷◌, ◌++◌, length, take, drop, Option}
+use Rattle.std.proofs.Common.{Some, None}
 use Rattle.std.proofs.Common.{refl, sym, ap, ◌∙◌, append_assoc, add-one, inl, inr}
 use Rattle.std.specs.Prelude.{◌⊎◌, slice_get}
+use Rattle.std.specs.FinMap as finite
+use Rattle.std.specs.Ordering.{nat_cmp}
 use Rattle.std.proofs.lemmas.Bool.{eqb-true}
 use Rattle.std.proofs.lemmas.List.{append-nil, drop_all}
+use Rattle.nop_types.specs.declared.limits.TheConstants.{WINDOW}
 use Rattle.nop_types.specs.declared.request.Request.{Request}
 use Rattle.nop_types.specs.declared.request.Entry.{Entry}
 use Rattle.nop_types.specs.declared.request.Entry.TheVariants.{NoOp, Req}
 use Rattle.nop_types.specs.Meaning.{Meaning}
-use Rattle.nop_types.specs.Lists.{Has, all_below}
-use Rattle.nop_types.specs.Execution.{Answered, Executed, opening, ids_of, execute, enter, exec_from, exec, enter_kept, exec_kept}
+use Rattle.nop_types.specs.Lists.{Has}
+use Rattle.nop_types.specs.Tables.{Answered, Account, kept_for, result_kept, account_with}
+use Rattle.nop_types.specs.Execution.{Executed, opening, is_executed, execute, enter, exec_from, exec, enter_kept, exec_kept}
 use Rattle.nop_types.specs.Histories.{new_in, history_from, history_of, answer_from, answer_at}
 use Rattle.nop_types.specs.Legality.{IsOf, IsAnswered}
 use Rattle.facts.proofs.Places.{Splits-at}
 use Rattle.histories.specs.Execution.{execute_all}
-use Rattle.histories.proofs.Ids.{not_above}
-
--- an execution is its host's state and what is kept for each client
-pub executed_is_parts : {S : Type 0} (x y : Executed S) → x.host ≡ y.host → ((c : ℕ) → x.kept c ≡ y.kept c) → x ≡ y
-executed_is_parts x y h k = λ i. record { host = h i; kept = λ c. k c i }
+use Rattle.histories.proofs.Ids.{repeat_is_old, far_is_old}
+use Rattle.histories.proofs.Accounts.{kept_for-insert, kept_is_new_or_old}
 
 module _ {S : Type 0} (m : Meaning S) where
   pub exec_from-append : (b : List Entry) (x : Executed S) (xs ys : List Entry)
@@ -35,10 +37,17 @@ module _ {S : Type 0} (m : Meaning S) where
   pub exec_of_next_entry : (log : List Entry) (e : Entry) → exec m (log ++ e ∷ []) ≡ enter m log (exec m log) e
   exec_of_next_entry log e = exec_of_append log (e ∷ [])
 
-  -- a request is not executed where its client has the same id or a greater one before it
-  pub repeat_is_not_executed : (log : List Entry) (q r : Request) → Has log (Req q) → q.client ≡ r.client → r.id ≤ q.id
+  -- a request is not executed where its client has the same id before it, or one that is a window ahead
+  unexecuted : (log : List Entry) (r : Request) → is_executed log r ≡ false → exec m (log ++ Req r ∷ []) ≡ exec m log
+  unexecuted log r old = exec_of_next_entry log (Req r) ∙ ap (λ (b : Bool). cond b (execute m (exec m log) r) (exec m log)) old
+
+  pub repeat_is_not_executed : (log : List Entry) (q r : Request) → Has log (Req q) → q.client ≡ r.client → q.id ≡ r.id
       → exec m (log ++ Req r ∷ []) ≡ exec m log
-  repeat_is_not_executed log q r h same le = exec_of_next_entry log (Req r) ∙ rw (not_above log q r h same le) refl
+  repeat_is_not_executed log q r h own same = unexecuted log r (repeat_is_old log q r h own same)
+
+  pub stale_is_not_executed : (log : List Entry) (q r : Request) → Has log (Req q) → q.client ≡ r.client → r.id + WINDOW ≤ q.id
+      → exec m (log ++ Req r ∷ []) ≡ exec m log
+  stale_is_not_executed log q r h own far = unexecuted log r (far_is_old log q r h own far)
 
   pub exec_kept_of_append : (x : Executed S) (xs ys : List Entry) → exec_kept m x (xs ++ ys) ≡ exec_kept m (exec_kept m x xs) ys
   exec_kept_of_append x [] ys = refl
@@ -58,7 +67,7 @@ module _ {S : Type 0} (m : Meaning S) where
 
   enter_is_of_new : (b : List Entry) (x : Executed S) (e : Entry) → enter m b x e ≡ execute_all m x (new_in b e)
   enter_is_of_new b x NoOp = refl
-  enter_is_of_new b x (Req r) = here (all_below (ids_of r.client b) r.id)
+  enter_is_of_new b x (Req r) = here (is_executed b r)
     where
       here : (t : Bool) → cond t (execute m x r) x ≡ execute_all m x (cond t (r ∷ []) [])
       here true = refl
@@ -85,40 +94,53 @@ module _ {S : Type 0} (m : Meaning S) where
       → answer_at m rs i ≡ Some (m.answer (execute_all m (opening m) (take i rs)).host r.op)
   answer_of_member rs i r h = answer_is_after_front (opening m) rs i r h
 
-  -- what is kept for a client is an answer to one of its requests
-  record IsAnswer (s : S) (rs : List Request) (client : ℕ) (k : Answered) : Type 0 where
+  -- a result that is kept answers one of the requests
+  record IsAnswer (s : S) (rs : List Request) (client id : ℕ) (result : List ℕ) : Type 0 where
     place : ℕ
     request : Request
     member : slice_get rs place ≡ Some request
-    same : IsOf client k.id request
-    answer : answer_from m s rs place ≡ Some k.result
+    same : IsOf client id request
+    answer : answer_from m s rs place ≡ Some result
 
-  kept_is_old_or_answer : (x : Executed S) (rs : List Request) (c : ℕ) (k : Answered) → (execute_all m x rs).kept c ≡ Some k
-      → (x.kept c ≡ Some k) ⊎ IsAnswer x.host rs c k
-  kept_is_old_or_answer x [] c k h = inl h
-  kept_is_old_or_answer x (r ∷ rs) c k h = elim (kept_is_old_or_answer (execute m x r) rs c k h) [
-    | inl e ↦ here (eqb r.client c) refl e
+  abbrev answered : Executed S → Request → Answered
+  answered x r = record { id = r.id; result = m.answer x.host r.op }
+
+  abbrev account_then : Executed S → Request → Account
+  account_then x r = account_with WINDOW (kept_for x.table r.client) (answered x r)
+
+  kept_is_old_or_answer : (x : Executed S) (rs : List Request) (c id : ℕ) (result : List ℕ)
+      → result_kept (kept_for (execute_all m x rs).table c) id ≡ Some result
+      → (result_kept (kept_for x.table c) id ≡ Some result) ⊎ IsAnswer x.host rs c id result
+  kept_is_old_or_answer x [] c id result h = inl h
+  kept_is_old_or_answer x (r ∷ rs) c id result h = elim (kept_is_old_or_answer (execute m x r) rs c id result h) [
+    | inl e ↦
+        here (eqb r.client c) refl
+        (sym (ap (λ (o : Option Account). result_kept o id) (kept_for-insert x.table r.client (account_then x r) c)) ∙ e)
     | inr a ↦ inr (record { place = suc a.place; request = a.request; member = a.member; same = a.same; answer = a.answer })
   ]
     where
-      here : (t : Bool) → eqb r.client c ≡ t → cond t (Some (record { id = r.id; result = m.answer x.host r.op })) (x.kept c) ≡ Some k
-          → (x.kept c ≡ Some k) ⊎ IsAnswer x.host (r ∷ rs) c k
+      here : (t : Bool) → eqb r.client c ≡ t → result_kept (cond t (Some (account_then x r)) (kept_for x.table c)) id ≡ Some result
+          → (result_kept (kept_for x.table c) id ≡ Some result) ⊎ IsAnswer x.host (r ∷ rs) c id result
       here false e g = inl g
       here true e g =
-          let same : record { id = r.id; result = m.answer x.host r.op } ≡ k = cc in
-          inr (record {
-            place = 0;
-            request = r;
-            member = refl;
-            same = record { same_client = eqb-true r.client c e; same_id = ap (λ (t : Answered). t.id) same };
-            answer =
-                ap (λ (t : Answered). Some t.result) same;
-          })
+          let same : r.client ≡ c = eqb-true r.client c e in
+          elim (kept_is_new_or_old WINDOW (kept_for x.table r.client) (answered x r) id result g) [
+            | inl is ↦ inr (record {
+              place = 0;
+              request = r;
+              member = refl;
+              same = record { same_client = same; same_id = is.same_id };
+              answer = ap (λ (t : List ℕ). Some t) is.same_result;
+            })
+            | inr old ↦ inl (ap (λ (d : ℕ). result_kept (kept_for x.table d) id) (sym same) ∙ old)
+          ]
 
-  -- what is kept for a client is the answer to a member of the history
-  pub kept_is_answered : (log : List Entry) (c : ℕ) (k : Answered) → (exec m log).kept c ≡ Some k
-      → IsAnswered m (history_of log) c k.id k.result
-  kept_is_answered log c k h = elim (kept_is_old_or_answer (opening m) (history_of log) c k (rw (exec_is_of_history log) at h)) [
-    | inl e ↦ absurd cc
-    | inr a ↦ record { place = a.place; request = a.request; member = a.member; same = a.same; answer = a.answer }
-  ]
+  -- a kept result is the answer to a member of the history
+  pub kept_is_answered : (log : List Entry) (c id : ℕ) (result : List ℕ)
+      → result_kept (kept_for (exec m log).table c) id ≡ Some result → IsAnswered m (history_of log) c id result
+  kept_is_answered log c id result h =
+      elim (kept_is_old_or_answer (opening m) (history_of log) c id result (rw (exec_is_of_history log) at h)) [
+        | inl e ↦ absurd (let none : kept_for (opening m).table c ≡ None = finite.get-empty nat_cmp c in
+            let f : result_kept None id ≡ Some result = rw none at e in cc)
+        | inr a ↦ record { place = a.place; request = a.request; member = a.member; same = a.same; answer = a.answer }
+      ]

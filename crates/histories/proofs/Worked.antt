@@ -1,16 +1,19 @@
 -- Lines worked by hand.
 use Rattle.std.proofs.Common.{◌≡◌, ℕ, zero, suc, List, [], ◌∷◌, Some, refl, ap, sym, ◌∙◌, arith, inl, inr}
 use Rattle.std.specs.Prelude.{◌⊎◌, slice_get}
+use Rattle.std.specs.FinMap as finite
 use Rattle.nop_types.specs.declared.request.Request.{Request}
 use Rattle.nop_types.specs.declared.request.Entry.TheVariants.{Req}
 use Rattle.nop_types.specs.Lists.{Has}
 use Rattle.nop_types.specs.Lines.{Line, Submit, Accept}
+use Rattle.nop_types.specs.Execution.{result_at}
 use Rattle.nop_types.specs.Histories.{answer_at}
 use Rattle.nop_types.specs.Legality.{IsOf, IsSubmittedBefore, Legal}
 use Rattle.histories.specs.Legality.{IsUnsubmitted, IsUnaccepted, IsNoMember, Grounded}
 use Rattle.histories.specs.Worked.{appending, first_request, second_request, retried_log, retried_lines, concurrent_lines, early_lines}
 use Rattle.histories.specs.Worked.{wrong_lines, repeated_lines, swapped_lines}
 use Rattle.histories.proofs.Ids.{IsOf-refl}
+use Rattle.histories.proofs.Accounts.{kept_for-insert}
 use Rattle.histories.proofs.Legal.{legal_at_first, legal_with_submit, legal_with_accept, legal_with_member, legal_from_grounds}
 
 is_of_same : (p q r : Request) → p ≡ r → q ≡ r → IsOf p.client p.id q
@@ -54,6 +57,9 @@ retried_before r e k f =
       same = is_of_same r first_request first_request e refl;
     }
 
+retried_result : result_at appending retried_log 3 ≡ Some (10 ∷ [])
+retried_result = simp (kept_for-insert, finite.get-empty)
+
 pub retried : Grounded appending retried_lines retried_log
 retried = record {
   submitted = λ r h. (0, ap (λ (t : Request). Some (Submit t)) (sym (retried_known h.0 r h.1)));
@@ -66,7 +72,7 @@ retried = record {
         request = first_request;
         entry = refl;
         same = record { same_client = sym t.of_client; same_id = sym t.of_id };
-        gives = ap (λ (r : List ℕ). Some r) (sym t.gives);
+        gives = retried_result ∙ ap (λ (r : List ℕ). Some r) (sym t.gives);
         known = λ r g. retried_before r (retried_known g.0 r g.1) k t.place;
       };
 }

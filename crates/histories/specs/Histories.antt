@@ -1,19 +1,19 @@
 -- What the laws on histories speak of.
-use Rattle.std.specs.Prelude.{◌≡◌, ℕ, ◌<◌, List, [], ◌∷◌, ◌++◌, take, Some}
+use Rattle.std.specs.Prelude.{◌≡◌, ℕ, ◌<◌, List, [], ◌∷◌, ◌++◌, take, Some, true}
 use Rattle.nop_types.specs.declared.request.Request.{Request}
 use Rattle.nop_types.specs.declared.request.Entry.{Entry}
 use Rattle.nop_types.specs.declared.request.Entry.TheVariants.{Req}
 use Rattle.nop_types.specs.Meaning.{Meaning}
-use Rattle.nop_types.specs.Lists.{Has, slot_of}
-use Rattle.nop_types.specs.Execution.{execute, exec}
+use Rattle.nop_types.specs.Lists.{slot_of}
+use Rattle.nop_types.specs.Execution.{is_executed, execute, exec}
 use Rattle.nop_types.specs.Histories.{history_of, answer_at}
 
--- the log has the request at a place where its id exceeds that of each request of its client before
+-- the log has the request at a place where it is executed
 pub record IsNewIn (log : List Entry) (r : Request) : Type 0 where
   pub before : List Entry
   pub rest : List Entry
   pub log_is : log ≡ before ++ Req r ∷ rest
-  pub exceeds : (q : Request) → Has before (Req q) → q.client ≡ r.client → q.id < r.id
+  pub executed : is_executed before r ≡ true
 
 -- the log has p at a slot, and q at a later one
 pub record StandsBefore (log : List Entry) (p q : Request) : Type 0 where

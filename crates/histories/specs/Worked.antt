@@ -1,14 +1,16 @@
 -- A log and lines worked by hand.
-use Rattle.std.specs.Prelude.{ℕ, List, [], ◌∷◌, ◌++◌}
+use Rattle.std.specs.Prelude.{ℕ, List, [], ◌∷◌, ◌++◌, map, Some}
+use Rattle.std.specs.List.{range_with_len}
 use Rattle.nop_types.specs.declared.request.Request.{Request}
 use Rattle.nop_types.specs.declared.request.Entry.{Entry}
 use Rattle.nop_types.specs.declared.request.Entry.TheVariants.{NoOp, Req}
 use Rattle.nop_types.specs.Meaning.{Meaning}
+use Rattle.nop_types.specs.Tables.{Answered, Account}
 use Rattle.nop_types.specs.Lines.{Line, Submit, Accept, Busy}
 
 -- a host that keeps all bytes that it was given, and answers with them
 abbrev pub appending : Meaning (List ℕ)
-appending = record { opening = []; after = λ s op. s ++ op; answer = λ s op. s ++ op }
+appending = record { opening = []; after = λ s op. s ++ op; answer = λ s op. s ++ op; saved = λ s. s; loaded = λ bytes. Some bytes }
 
 -- a request with an op of one byte
 abbrev pub request_of : ℕ → ℕ → ℕ → Request
@@ -21,9 +23,23 @@ first_request = request_of 1 1 10
 abbrev pub second_request : Request
 second_request = request_of 2 1 20
 
--- slot 4 repeats slot 1, and slot 6 has an id below that of slot 5
+-- slot 4 repeats slot 1, and slot 6 has an id far below that of slot 5
 abbrev pub worked_log : List Entry
-worked_log = Req first_request ∷ NoOp ∷ Req second_request ∷ Req first_request ∷ Req (request_of 1 3 30) ∷ Req (request_of 1 2 40) ∷ []
+worked_log = Req first_request ∷ NoOp ∷ Req second_request ∷ Req first_request ∷ Req (request_of 1 100 30) ∷ Req (request_of 1 2 40) ∷ []
+
+abbrev pub answered : ℕ → List ℕ → Answered
+answered id result = record { id = id; result = result }
+
+-- an id with itself as the result
+abbrev pub echoed : ℕ → Answered
+echoed id = answered id (id ∷ [])
+
+abbrev pub account_of : List Answered → ℕ → Account
+account_of kept greatest = record { greatest = greatest; kept = kept }
+
+-- one request of each of so many clients, from client 0 on
+abbrev pub crowd : ℕ → List Entry
+crowd n = map (λ client. Req (request_of client 1 0)) (range_with_len 0 n)
 
 -- slot 3 repeats slot 2
 abbrev pub retried_log : List Entry

@@ -1,4 +1,20 @@
-ghost use Rattle.std.specs.Prelude.{◌≡◌, ◌++◌, ◌∷◌, [], ◌<◌, ◌≤◌, ◌↔◌, ℕ, List, Some, length, take, slice_get};
+ghost use Rattle.std.specs.Prelude.{
+  ◌≡◌,
+  ◌++◌,
+  ◌∷◌,
+  [],
+  ◌+◌,
+  ◌<◌,
+  ◌≤◌,
+  ◌↔◌,
+  ℕ,
+  List,
+  Some,
+  length,
+  take,
+  slice_get,
+};
+ghost use Rattle.nop_types.specs.declared.limits.TheConstants.{WINDOW};
 ghost use Rattle.nop_types.specs.declared.request.Request.{Request};
 ghost use Rattle.nop_types.specs.declared.request.Entry.{Entry};
 ghost use Rattle.nop_types.specs.declared.request.Entry.TheVariants.{Req};
@@ -17,17 +33,19 @@ pub fn history_of_append()
         ++ history_from xs ys }
 {}
 
-/// One more entry adds its request, where that is new.
+/// One more entry adds its request, where that is executed.
 #[tactic(auto, using(crate::proofs::Members::history_of_next_entry))]
 pub fn history_of_next_entry()
     ensures { (log : List Entry) (e : Entry)
         → history_of (log ++ e ∷ []) ≡ history_of log ++ new_in log e }
 {}
 
-/// A request adds nothing where its client has the same id or a greater one before it.
+/// A request adds nothing where its client has the same id before it, or one a window ahead.
 pub fn repeat_is_no_member()
-    ensures { (log : List Entry) (q r : Request) → Has log (Req q) → q.client ≡ r.client
-        → r.id ≤ q.id → history_of (log ++ Req r ∷ []) ≡ history_of log }
+    ensures repeated { (log : List Entry) (q r : Request) → Has log (Req q) → q.client ≡ r.client
+        → q.id ≡ r.id → history_of (log ++ Req r ∷ []) ≡ history_of log }
+    ensures stale { (log : List Entry) (q r : Request) → Has log (Req q) → q.client ≡ r.client
+        → r.id + WINDOW ≤ q.id → history_of (log ++ Req r ∷ []) ≡ history_of log }
 {}
 
 /// The history of a prefix begins that of the whole log.
@@ -43,7 +61,7 @@ pub fn members_are_logged()
     ensures { (log : List Entry) (r : Request) → Has (history_of log) r → Has log (Req r) }
 {}
 
-/// The members are exactly the requests whose id exceeds that of each earlier one of their client.
+/// The members are exactly the requests that are executed where they stand.
 pub fn members_are_new()
     ensures { (log : List Entry) (r : Request) → (Has (history_of log) r ↔ IsNewIn log r) }
 {}
@@ -54,14 +72,6 @@ pub fn members_keep_order()
     ensures { (log : List Entry) (i j : ℕ) (p q : Request) →
         slice_get (history_of log) i ≡ Some p
         → slice_get (history_of log) j ≡ Some q → i < j → StandsBefore log p q }
-{}
-
-/// A client's later members have greater ids.
-#[tactic(auto, using(crate::proofs::Members::ids_rise))]
-pub fn ids_rise()
-    ensures { (log : List Entry) (i j : ℕ) (p q : Request) →
-        slice_get (history_of log) i ≡ Some p
-        → slice_get (history_of log) j ≡ Some q → p.client ≡ q.client → i < j → p.id < q.id }
 {}
 
 /// No client and id stands twice in a history.

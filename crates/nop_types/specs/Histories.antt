@@ -4,19 +4,18 @@ use Rattle.nop_types.specs.declared.request.Request.{Request}
 use Rattle.nop_types.specs.declared.request.Entry.{Entry}
 use Rattle.nop_types.specs.declared.request.Entry.TheVariants.{NoOp, Req}
 use Rattle.nop_types.specs.Meaning.{Meaning}
-use Rattle.nop_types.specs.Lists.{all_below}
-use Rattle.nop_types.specs.Execution.{ids_of}
+use Rattle.nop_types.specs.Execution.{is_executed}
 
--- the request of an entry, if its id exceeds each that its client has before
+-- the request of an entry after these, if it is executed
 abbrev pub new_in : List Entry → Entry → List Request
 new_in before NoOp = []
-new_in before (Req r) = cond (all_below (ids_of r.client before) r.id) (r ∷ []) []
+new_in before (Req r) = cond (is_executed before r) (r ∷ []) []
 
 abbrev pub history_from : List Entry → List Entry → List Request
 history_from before [] = []
 history_from before (e ∷ log) = new_in before e ++ history_from (before ++ e ∷ []) log
 
--- the requests whose id exceeds each earlier id of the same client
+-- the requests that are executed, in order
 abbrev pub history_of : List Entry → List Request
 history_of log = history_from [] log
 

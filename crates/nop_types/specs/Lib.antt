@@ -1,3 +1,5 @@
+pub mod CheckpointedLogs
+pub mod Checkpoints
 pub mod Configuration
 pub mod Execution
 pub mod Given
@@ -5,9 +7,12 @@ pub mod Histories
 pub mod Legality
 pub mod Lines
 pub mod Lists
+pub mod Logs
 pub mod Machine
 pub mod Meaning
 pub mod Ranges
 pub mod Slots
 pub mod Stamps
+pub mod Tables
 pub mod Views
+pub mod Windows

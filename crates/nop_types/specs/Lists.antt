@@ -1,6 +1,7 @@
 -- Words on lists.
 use Rattle.std.specs.Prelude.{◌≡◌, ℕ, zero, suc, ◌≤◌, List, [], ◌∷◌, ◌++◌, Bool, true, false, ◌&&◌, ◌||◌, nat_lt, Option, Some, None}
-use Rattle.std.specs.Prelude.{slice_get}
+use Rattle.std.specs.Prelude.{slice_get, ◌==◌}
+use Rattle.std.specs.List.{list_any}
 
 -- x stands at some place of the list
 abbrev pub Has : {A : Type 0} → List A → A → Type 0
@@ -18,6 +19,10 @@ slot_of xs (suc i) = slice_get xs i
 pub record IsGreatest (ns : List ℕ) (n : ℕ) : Type 0 where
   pub has : Has ns n
   pub most : (k : ℕ) → Has ns k → k ≤ n
+
+-- whether the number stands in the list
+abbrev pub is_in : List ℕ → ℕ → Bool
+is_in ns n = list_any (λ k. k == n) ns
 
 -- whether each number of the list is below n
 abbrev pub all_below : List ℕ → ℕ → Bool

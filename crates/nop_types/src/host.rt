@@ -1,11 +1,12 @@
-ghost use Rattle.std.specs.Prelude.{◌≡◌, ◌≤◌, ℕ, List, length, IfOk, OnOk, OnErr};
+ghost use Rattle.std.specs.Prelude.{◌≡◌, ◌≤◌, ℕ, List, length, Some, IfOk, OnOk, OnErr, option_map};
 ghost use Rattle.nop_types.specs.Meaning.{Meaning};
-ghost use Rattle.nop_types.specs.declared.limits.TheConstants.{MAX_RESULT_BYTES};
+ghost use Rattle.nop_types.specs.declared.limits.TheConstants.{MAX_RESULT_BYTES, MAX_HOST_BYTES};
 
 use crate::{Bytes, NoMemory};
 use std::alloc::Global;
 
-/// A deterministic service: its answer and its next state are functions of state and op, and each op can be undone.
+/// A deterministic service: its answer and its next state are functions of state and op, each op can be undone, and a state
+/// can be saved as bytes.
 pub trait Host: Sized + Drop {
     /// What undoes an op.
     type Undo: Drop;
@@ -49,6 +50,14 @@ pub trait Host: Sized + Drop {
     fn copy(&self) -> Result<Self, NoMemory>
         ensures { IfOk result (λ host. state host ≡ state self.now) };
 
+    /// The state as bytes, at most `MAX_HOST_BYTES`.
+    fn save(&self) -> Result<Bytes, NoMemory>
+        ensures saved { IfOk result (λ bytes. bytes ≡ meaning.saved (state self.now)) };
+
+    /// A host in the state that was saved as these bytes; None exactly where they are no saved state.
+    fn load(alloc: Global, bytes: &[u8]) -> Result<Option<Self>, NoMemory>
+        ensures { IfOk result (λ host. option_map state host ≡ meaning.loaded bytes.now) };
+
     ghost undoes: { (s : State) (op : List ℕ) → undone (meaning.after s op) (undo_of s op) ≡ s };
 
     ghost opens_sound: { is_sound meaning.opening };
@@ -57,4 +66,11 @@ pub trait Host: Sized + Drop {
 
     ghost answers_short: { (s : State) (op : List ℕ) → is_sound s
         → length (meaning.answer s op) ≤ MAX_RESULT_BYTES };
+
+    ghost saves_short: { (s : State) → is_sound s → length (meaning.saved s) ≤ MAX_HOST_BYTES };
+
+    ghost loads_saved: { (s : State) → is_sound s → meaning.loaded (meaning.saved s) ≡ Some s };
+
+    ghost loads_only: { (bytes : List ℕ) (s : State) → meaning.loaded bytes ≡ Some s
+        → is_sound s × (meaning.saved s ≡ bytes) };
 }

@@ -7,20 +7,25 @@
 //!
 //! `Host` is the contract of a service. Its answers and states are those of `meaning`; an answer
 //! has at most `MAX_RESULT_BYTES` bytes; `undo` gives the state before an op, and `copy` a host in
-//! the same state.
+//! the same state. What `save` gives has at most `MAX_HOST_BYTES` bytes, and `load` of it gives a
+//! host in the same state; `load` is None exactly where bytes are no saved state.
 //!
 //! Besides, an `Op` has at most `MAX_OP_BYTES` bytes and a `Log` at most `MAX_SLOTS` entries;
-//! `Config::new` is None exactly outside the limits; `View::le` is the order of views by both
-//! parts, `View::join` the least view above two (law `join_is_least`), and `leader_of` one of the n
-//! replicas. In each crate, a call that takes memory may answer `NoMemory` instead.
+//! `Config::new` and `Checkpoint::new` are None exactly outside the limits; `View::le` is the order
+//! of views by both parts, `View::join` the least view above two (law `join_is_least`), and
+//! `leader_of` one of the n replicas. In each crate, a call that takes memory may answer `NoMemory`
+//! instead.
 //!
-//! Files: `view`, `request`, `datagram`, `peer`, `output`, `core_trait`, `host`, `limits`.
-//! Definitions: `specs/Execution` (`exec`, what the execution of a log leaves), `Histories`
-//! (`history_of`: the requests that are executed), `Legality` (`Legal`: when lines agree with a
-//! history), `Ranges` (of each field of a message).
+//! Files: `view`, `request`, `datagram`, `peer`, `output`, `checkpoint`, `core_trait`, `host`,
+//! `limits`. Definitions: `specs/Execution` (`exec`, what the execution of a log leaves;
+//! `is_executed`, by `Windows` and the first clients of the log), `Tables` (what is kept for a
+//! client), `Checkpoints`, `Histories` (`history_of`: the requests that are executed), `Legality`
+//! (`Legal`: when lines agree with a history), `Ranges` (of each field of a message); `Logs` and
+//! `CheckpointedLogs` (logs that are kept whole or trimmed; nothing that runs trims one yet).
 #![tactic(auto)]
 
 mod bytes;
+mod checkpoint;
 mod config;
 mod core_trait;
 mod datagram;
@@ -39,6 +44,7 @@ mod request;
 mod view;
 
 pub use bytes::Bytes;
+pub use checkpoint::{Checkpoint, SavedClient};
 pub use config::Config;
 pub use core_trait::Core;
 pub use datagram::{Datagram, Fragment, Reply, Stamped};
@@ -46,9 +52,9 @@ pub use ending::end_step;
 pub use host::Host;
 pub use input::{Input, Tick};
 pub use limits::{
-    FRAGMENT_BYTES, MAX_CLIENTS, MAX_DATAGRAM_BYTES, MAX_FRAGMENTS, MAX_KEY_BYTES, MAX_LINE_BYTES,
-    MAX_LINES, MAX_OP_BYTES, MAX_QUEUED, MAX_REPLICAS, MAX_RESULT_BYTES, MAX_SEQUENCERS, MAX_SLOTS,
-    MAX_UNFINISHED, MAX_VALUE_BYTES, NUMBER_END,
+    FRAGMENT_BYTES, MAX_CLIENTS, MAX_DATAGRAM_BYTES, MAX_FRAGMENTS, MAX_HOST_BYTES, MAX_KEY_BYTES,
+    MAX_LINE_BYTES, MAX_LINES, MAX_OP_BYTES, MAX_QUEUED, MAX_REPLICAS, MAX_RESULT_BYTES,
+    MAX_SEQUENCERS, MAX_SERVED, MAX_SLOTS, MAX_UNFINISHED, MAX_VALUE_BYTES, NUMBER_END, WINDOW,
 };
 pub use log::Log;
 pub use memory::NoMemory;

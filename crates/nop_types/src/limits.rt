@@ -12,6 +12,15 @@ pub const MAX_VALUE_BYTES: usize = 256;
 /// The most bytes of a result: `=` and a value.
 pub const MAX_RESULT_BYTES: usize = 257;
 
+/// The most bytes of a host's saved state.
+pub const MAX_HOST_BYTES: usize = 1_400_000;
+
+/// The most clients that a log serves: the first different ones in it.
+pub const MAX_SERVED: usize = 256;
+
+/// How far a client's requests may be apart: one is executed where its id plus the window exceeds the greatest id of its client.
+pub const WINDOW: u64 = 1;
+
 /// The most slots of a log.
 pub const MAX_SLOTS: usize = 4096;
 
@@ -54,6 +63,9 @@ const _: () = prove!(
         && MAX_KEY_BYTES == 64
         && MAX_VALUE_BYTES == 256
         && MAX_RESULT_BYTES == 257
+        && MAX_HOST_BYTES == 1_400_000
+        && MAX_SERVED == 256
+        && WINDOW == 1
         && MAX_SLOTS == 4096
         && NUMBER_END == 281_474_976_710_656
         && MAX_QUEUED == 1024

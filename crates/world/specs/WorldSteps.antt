@@ -188,7 +188,7 @@ log_of (Some p) = p.state.state.log
 unfoldable pub main_log : WorldState → List Entry
 main_log w = log_of (slice_get w.replicas (leader_of (main_view w) w.config.replicas))
 
--- its requests whose id exceeds each earlier id of the same client there
+-- its requests that are executed, in order
 abbrev pub history : WorldState → List Request
 history w = history_of (main_log w)
 

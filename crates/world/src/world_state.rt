@@ -181,8 +181,7 @@ impl<H: Host> World<H> {
         Ok(())
     }
 
-    /// The history: the requests of one log whose id exceeds each earlier id of the same client
-    /// there. It is the log of the leader of the greatest last normal view, by session and then by
+    /// The history: the requests of one log that are executed, in order. It is the log of the leader of the greatest last normal view, by session and then by
     /// leader number, among all replicas, crashed ones too.
     pub fn history(&self) -> Result<Vec<Request>, NoMemory>
         ensures { IfOk result (λ v. v.items ≡ history self.now.state) }

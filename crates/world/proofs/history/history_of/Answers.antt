@@ -1,10 +1,13 @@
-use Rattle.std.proofs.Common.{◌≡◌, ◌+◌, ◌++◌, ◌∷◌, [], List, take, sym, ap, subst, ◌∙◌}
+use Rattle.std.proofs.Common.{◌≡◌, ◌+◌, ◌++◌, ◌∷◌, [], List, take, sym, ap, subst, ◌∙◌, rules}
 use Rattle.nop_types.specs.declared.request.Request.{Request}
 use Rattle.nop_types.specs.Histories.{history_of, new_in}
 use Rattle.histories.proofs.Members.{history_of_next_entry}
 use Rattle.world.specs.Ids.{HasGreatest}
-use Rattle.world.proofs.IdLemmas.{take_next}
+use Rattle.world.proofs.IdLemmas.{take_next, opening_has}
 use Rattle.world.proofs.history.history_of.Goals as goal
+
+pub loop-entry-init : goal.loop-entry-init
+loop-entry-init c = record { requests = search rules; greatest = opening_has c.new-greatest.result c.new-greatest.ensures.empty }
 
 pub loop-entry-preserved : goal.loop-entry-preserved
 loop-entry-preserved c =

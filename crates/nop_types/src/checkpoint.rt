@@ -1,0 +1,93 @@
+ghost use Rattle.std.specs.Prelude.{◌≡◌, map, IsTrue, is_some, IfSome};
+ghost use Rattle.nop_types.specs.Checkpoints.{saved_account, are_saved, is_checkpoint};
+
+use crate::{Bytes, MAX_HOST_BYTES, MAX_RESULT_BYTES, MAX_SERVED};
+use std::marker::Model;
+
+/// A client with its greatest executed id and that id's result.
+#[derive(Debug, Drop)]
+pub struct SavedClient {
+    pub client: u32,
+    pub id: u64,
+    pub result: Bytes,
+}
+
+/// An execution as values: the host's state as at most `MAX_HOST_BYTES` bytes, and at most `MAX_SERVED` clients, ascending, each
+/// with a result of at most `MAX_RESULT_BYTES` bytes.
+#[derive(Debug, Drop)]
+pub struct Checkpoint {
+    host: Bytes,
+    clients: Vec<SavedClient>,
+}
+
+impl Model for Checkpoint {
+    ghost use Rattle.std.specs.Prelude.{map, IsTrue};
+    ghost use Rattle.nop_types.specs.Checkpoints.{saved_account, is_checkpoint};
+    ghost use Rattle.nop_types.specs.Checkpoints as saved;
+
+    ghost Value = { saved.Checkpoint };
+
+    ghost view = { λ c. record { host = c.host; clients = map saved_account c.clients.items } };
+
+    ghost invariant = { λ c. IsTrue (is_checkpoint (record {
+      host = c.host;
+      clients = map saved_account c.clients.items;
+    })) };
+}
+
+/// Whether the clients ascend, each with a short result.
+fn are_saved(clients: &[SavedClient]) -> bool
+    ensures { result ≡ are_saved 0 (map saved_account clients.now) }
+{
+    let mut least = 0u64;
+    for saved in clients {
+        if u64::from(saved.client) < least || saved.result.as_slice().len() > MAX_RESULT_BYTES {
+            return false;
+        }
+        least = u64::from(saved.client) + 1;
+    }
+    true
+}
+
+impl Checkpoint {
+    /// None exactly outside the limits, or where the clients do not ascend.
+    pub fn new(host: Bytes, clients: Vec<SavedClient>) -> Option<Checkpoint>
+        ensures some { is_some result
+            ≡ is_checkpoint (record { host = host; clients = map saved_account clients.items }) }
+        ensures value { IfSome result (λ c.
+            c ≡ record { host = host; clients = map saved_account clients.items }) }
+    {
+        if host.as_slice().len() > MAX_HOST_BYTES {
+            return None;
+        }
+        if clients.len() > MAX_SERVED || !are_saved(&clients) {
+            return None;
+        }
+        Some(Checkpoint { host, clients })
+    }
+
+    pub fn host(&self) -> &Bytes
+        ensures host { result.now ≡ self.now.host }
+        ensures limits { IsTrue (is_checkpoint self.now) }
+    {
+        &self.host
+    }
+
+    pub fn clients(&self) -> &[SavedClient]
+        ensures clients { map saved_account result.now ≡ self.now.clients }
+        ensures limits { IsTrue (is_checkpoint self.now) }
+    {
+        &self.clients
+    }
+
+    /// The parts, without a copy. The clients ascend, each with a short result.
+    pub fn into_parts(self) -> (Bytes, Vec<SavedClient>)
+        ensures host { result.0 ≡ self.host }
+        ensures clients { map saved_account result.1.items ≡ self.clients }
+        ensures limits { IsTrue (is_checkpoint self) }
+        ensures saved { IsTrue (are_saved 0 (map saved_account result.1.items)) }
+    {
+        let Checkpoint { host, clients } = self;
+        (host, clients)
+    }
+}
