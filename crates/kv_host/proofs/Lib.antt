@@ -1,3 +1,5 @@
+pub mod LoadLemmas
 pub mod PlacesLemmas
 pub mod ReadLemmas
+pub mod RowLemmas
 pub mod TableLemmas

@@ -4,6 +4,9 @@ pub mod Laws
 pub mod Op
 pub mod Places
 pub mod Reading
+pub mod Saved
+pub mod SavedLaws
 pub mod Spelling
 pub mod Undo
+pub mod Values
 pub mod View

@@ -3,6 +3,7 @@ use Rattle.std.specs.Prelude.{ℕ, List, [], ◌∷◌, length, take, drop, Opti
 use Rattle.std.specs.Prelude.{if◌then◌else◌}
 use Rattle.std.specs.Int.{w16, from_be_bytes}
 use Rattle.nop_types.specs.declared.limits.TheConstants.{MAX_KEY_BYTES, MAX_VALUE_BYTES}
+use Rattle.nop_types.specs.Lists.{all_below}
 use Rattle.kv_host.specs.declared.op.TheConstants.{GET, PUT, DELETE, SWAP}
 
 pub data Op : Type 0 where
@@ -25,7 +26,9 @@ Field = List ℕ × List ℕ
 unfoldable pub field_at : ℕ → ℕ → List ℕ → Option Field
 field_at least most (high ∷ low ∷ rest) =
     let len = from_be_bytes w16 (high ∷ low ∷ []) in
-    if nat_le least len && (nat_le len most && nat_le len (length rest)) then Some (take len rest, drop len rest) else None
+    if all_below (high ∷ low ∷ []) 256 && (nat_le least len && (nat_le len most && nat_le len (length rest))) then
+    Some (take len rest, drop len rest)
+    else None
 field_at least most bytes = None
 
 abbrev pub key_at : List ℕ → Option Field

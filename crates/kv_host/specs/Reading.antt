@@ -1,29 +1,26 @@
 -- An op that is read has its fields within their limits, and is spelled by the bytes.
 use Rattle.std.proofs.Common.{◌≡◌, ℕ, ◌<◌, ◌⊎◌, inl, inr, Bool, true, false, cond, List, [], ◌∷◌, ◌++◌, length, take, drop, get_or, zero}
-use Rattle.std.proofs.Common.{suc, Option, Some, None, refl, sym, ap, subst, ◌∙◌, arith, eqb}
+use Rattle.std.proofs.Common.{suc, ◌^◌, Option, Some, None, refl, sym, ap, subst, ◌∙◌, arith, eqb}
 use Rattle.std.specs.Prelude.{IfSome, nat_le, ◌&&◌}
 use Rattle.std.specs.Option.{unwrap_or, option_and_then}
 use Rattle.std.specs.Int.{w16, from_be_bytes}
 use Rattle.std.proofs.lemmas.Bool.Decides.{nat_tests}
-use Rattle.std.proofs.lemmas.List.{length-take, take-append-drop, append-nil}
-use Rattle.std.proofs.lemmas.Nat.{be_bytes_2}
+use Rattle.std.proofs.lemmas.List.{length-take, length-append, take-append-drop, append-nil}
+use Rattle.std.proofs.Math.Nat.{mod-lt}
+use Rattle.std.proofs.Math.Seq.{take-append_seam, drop-append_seam}
+use Rattle.std.proofs.lemmas.Nat.{be_bytes_2, from_be_bytes-to_be_bytes_2}
 use borrow.Author.Tests.{eqb-true}
 use Rattle.nop_types.specs.declared.limits.TheConstants.{MAX_KEY_BYTES, MAX_VALUE_BYTES}
+use Rattle.nop_types.specs.Lists.{all_below}
 use Rattle.kv_host.specs.declared.op.TheConstants.{GET, PUT, DELETE, SWAP}
 use Rattle.kv_host.specs.Op.{Op, Get, Put, Delete, Swap, Bad, Field, field_at, key_at, value_at, at_end, read_get, read_put, read_delete}
 use Rattle.kv_host.specs.Op.{read_swap, read_fields, read_op}
-use Rattle.kv_host.specs.Spelling.{FieldFits, OpFits, IsBytes, field, Spells}
+use Rattle.kv_host.specs.Spelling.{FieldFits, KeyFits, ValueFits, OpFits, field, Spells}
 
 -- the bytes begin with the field, which has a length from low to high
-record Begins (low high : ℕ) (bytes : List ℕ) (f : Field) : Type 0 where
-  fits : FieldFits low high f.0
-  spelled : IsBytes bytes → bytes ≡ field f.0 ++ f.1
-  rest : IsBytes bytes → IsBytes f.1
-
-IsBytes-drop : (n : ℕ) (bytes : List ℕ) → IsBytes bytes → IsBytes (drop n bytes)
-IsBytes-drop zero bytes h = h
-IsBytes-drop (suc n) [] h = h
-IsBytes-drop (suc n) (b ∷ bytes) h = IsBytes-drop n bytes h.1
+pub record Begins (low high : ℕ) (bytes : List ℕ) (f : Field) : Type 0 where
+  pub fits : FieldFits low high f.0
+  pub spelled : bytes ≡ field f.0 ++ f.1
 
 each_byte : (high low : ℕ) → high < 256 → low < 256 → (i : ℕ) → get_or (high ∷ low ∷ []) i 0 < 256
 each_byte high low h l zero = h
@@ -31,31 +28,69 @@ each_byte high low h l (suc zero) = l
 each_byte high low h l (suc (suc i)) = omega arith
 
 first_field : (b : Bool) (least most high low : ℕ) (rest : List ℕ) → let len = from_be_bytes w16 (high ∷ low ∷ []) in
-    nat_le least len && (nat_le len most && nat_le len (length rest)) ≡ b
+    all_below (high ∷ low ∷ []) 256 && (nat_le least len && (nat_le len most && nat_le len (length rest))) ≡ b
     → IfSome (cond b (Some (take len rest, drop len rest)) None) (Begins least most (high ∷ low ∷ rest))
 unfolding field
 first_field true least most high low rest e =
     let len = from_be_bytes w16 (high ∷ low ∷ []) in
     let t = length-take len rest in
+    let h : high < 256 = grind (arith, nat_tests) in
+    let l : low < 256 = grind (arith, nat_tests) in
     let whole : length (take len rest) ≡ len = grind (arith, nat_tests) in
     record {
       fits = record { least = grind (arith, nat_tests); most = grind (arith, nat_tests) };
-      spelled = λ h.
+      spelled =
           sym
           (ap (λ (front : List ℕ). front ++ (take len rest ++ drop len rest))
-          (be_bytes_2 (high ∷ low ∷ []) (length (take len rest)) refl (each_byte high low h.0 h.1.0) whole)
+          (be_bytes_2 (high ∷ low ∷ []) (length (take len rest)) refl (each_byte high low h l) whole)
           ∙ ap (λ (tail : List ℕ). high ∷ low ∷ tail) (take-append-drop len rest));
-      rest = λ h. IsBytes-drop len rest h.1.1;
     }
 first_field false least most high low rest e = tt
 
-field_at-begins : (least most : ℕ) (bytes : List ℕ) → IfSome (field_at least most bytes) (Begins least most bytes)
+pub field_at-begins : (least most : ℕ) (bytes : List ℕ) → IfSome (field_at least most bytes) (Begins least most bytes)
 unfolding field_at
 field_at-begins least most [] = tt
 field_at-begins least most (high ∷ []) = tt
 field_at-begins least most (high ∷ low ∷ rest) = first_field _ least most high low rest refl
 
-then_holds : {A B : Type 0} (P : A → Type 0) (Q : B → Type 0) (o : Option A) (f : A → Option B) → IfSome o P
+-- ---- a field that is spelled is read
+
+split : (low high a b : ℕ) (f rest : List ℕ) → let len = from_be_bytes w16 (a ∷ b ∷ []) in
+    a < 256 → b < 256 → len ≡ length f → FieldFits low high f → field_at low high (a ∷ b ∷ (f ++ rest)) ≡ Some (f, rest)
+unfolding field_at
+split low high a b f rest x y e fits =
+    let both = f ++ rest in
+    let len = from_be_bytes w16 (a ∷ b ∷ []) in
+    let l = length-append f rest in
+    let small = fits.least in
+    let large = fits.most in
+    let test : all_below (a ∷ b ∷ []) 256 && (nat_le low len && (nat_le len high && nat_le len (length both))) ≡ true =
+    grind (arith, nat_tests) in
+    rw (test, e, take-append_seam f rest, drop-append_seam f rest) refl
+
+pub field_at-field : (low high : ℕ) (f rest : List ℕ) → FieldFits low high f → high < 2 ^ 16
+    → field_at low high (field f ++ rest) ≡ Some (f, rest)
+unfolding field
+field_at-field low high f rest fits small =
+    split low high _ _ f rest (mod-lt _ (omega arith)) (mod-lt _ (omega arith))
+    (from_be_bytes-to_be_bytes_2 (length f) (omega (arith, fits.most))) fits
+
+-- a key and what follows it, or with nothing after it; the same of a value
+pub first_key : (key rest : List ℕ) → KeyFits key → key_at (field key ++ rest) ≡ Some (key, rest)
+first_key key rest fits = field_at-field 1 MAX_KEY_BYTES key rest fits (omega arith)
+
+pub last_key : (key : List ℕ) → KeyFits key → key_at (field key) ≡ Some (key, [])
+last_key key fits = ap key_at (sym (append-nil (field key))) ∙ first_key key [] fits
+
+pub first_value : (value rest : List ℕ) → ValueFits value → value_at (field value ++ rest) ≡ Some (value, rest)
+first_value value rest fits = field_at-field 0 MAX_VALUE_BYTES value rest fits (omega arith)
+
+pub last_value : (value : List ℕ) → ValueFits value → value_at (field value) ≡ Some (value, [])
+last_value value fits = ap value_at (sym (append-nil (field value))) ∙ first_value value [] fits
+
+-- ---- an op that is read
+
+pub then_holds : {A B : Type 0} (P : A → Type 0) (Q : B → Type 0) (o : Option A) (f : A → Option B) → IfSome o P
     → ((x : A) → P x → IfSome (f x) Q) → IfSome (option_and_then f o) Q
 then_holds P Q None f h k = tt
 then_holds P Q (Some x) f h k = k x h
@@ -63,7 +98,7 @@ then_holds P Q (Some x) f h k = k x h
 -- the op has its fields within their limits, and the bytes spell it
 record IsRead (kind : ℕ) (bytes : List ℕ) (op : Op) : Type 0 where
   fits : OpFits op
-  spelled : IsBytes bytes → Spells op (kind ∷ bytes)
+  spelled : Spells op (kind ∷ bytes)
 
 module _ (kind : ℕ) (all : List ℕ) where
   after_key : (bytes : List ℕ) (f : Field → Option Op)
@@ -93,13 +128,13 @@ read_get-is : (bytes : List ℕ) → IfSome (read_get bytes) (IsRead GET bytes)
 unfolding read_get
 read_get-is bytes =
     after_key GET bytes bytes _ (λ key k. ends GET bytes key.1 (Get key.0) (λ none.
-    record { fits = k.fits; spelled = λ h. (k.fits, ap (λ (b : List ℕ). GET ∷ b) (last bytes key.0 key.1 (k.spelled h) none)) }))
+    record { fits = k.fits; spelled = (k.fits, ap (λ (b : List ℕ). GET ∷ b) (last bytes key.0 key.1 k.spelled none)) }))
 
 read_delete-is : (bytes : List ℕ) → IfSome (read_delete bytes) (IsRead DELETE bytes)
 unfolding read_delete
 read_delete-is bytes =
     after_key DELETE bytes bytes _ (λ key k. ends DELETE bytes key.1 (Delete key.0) (λ none.
-    record { fits = k.fits; spelled = λ h. (k.fits, ap (λ (b : List ℕ). DELETE ∷ b) (last bytes key.0 key.1 (k.spelled h) none)) }))
+    record { fits = k.fits; spelled = (k.fits, ap (λ (b : List ℕ). DELETE ∷ b) (last bytes key.0 key.1 k.spelled none)) }))
 
 read_put-is : (bytes : List ℕ) → IfSome (read_put bytes) (IsRead PUT bytes)
 unfolding read_put
@@ -107,12 +142,11 @@ read_put-is bytes =
     after_key PUT bytes bytes _ (λ key k. after_value PUT bytes key.1 _ (λ value v. ends PUT bytes value.1 (Put key.0 value.0) (λ none.
     record {
       fits = (k.fits, v.fits);
-      spelled =
-          λ h. (
-            k.fits,
-            v.fits,
-            ap (λ (b : List ℕ). PUT ∷ b) (more bytes key.0 key.1 _ (k.spelled h) (last key.1 value.0 value.1 (v.spelled (k.rest h)) none)),
-          );
+      spelled = (
+        k.fits,
+        v.fits,
+        ap (λ (b : List ℕ). PUT ∷ b) (more bytes key.0 key.1 _ k.spelled (last key.1 value.0 value.1 v.spelled none)),
+      );
     })))
 
 read_swap-is : (bytes : List ℕ) → IfSome (read_swap bytes) (IsRead SWAP bytes)
@@ -124,13 +158,12 @@ read_swap-is bytes =
     (λ old o. after_value SWAP bytes old.1 _ (λ new n. ends SWAP bytes new.1 (Swap key.0 old.0 new.0) (λ none.
     record {
       fits = (k.fits, o.fits, n.fits);
-      spelled = λ h. (
+      spelled = (
         k.fits,
         o.fits,
         n.fits,
         ap (λ (b : List ℕ). SWAP ∷ b)
-            (more bytes key.0 key.1 _ (k.spelled h)
-            (more key.1 old.0 old.1 _ (o.spelled (k.rest h)) (last old.1 new.0 new.1 (n.spelled (o.rest (k.rest h))) none))),
+            (more bytes key.0 key.1 _ k.spelled (more key.1 old.0 old.1 _ o.spelled (last old.1 new.0 new.1 n.spelled none))),
       );
     }))))
 
@@ -155,12 +188,12 @@ unfolding read_op
 read_fits [] = tt
 read_fits (kind ∷ bytes) = or_bad (read_fields kind bytes) kind bytes (read_fields-is kind bytes)
 
-or_spelled : (o : Option Op) (kind : ℕ) (bytes : List ℕ) → IfSome o (IsRead kind bytes) → IsBytes bytes
+or_spelled : (o : Option Op) (kind : ℕ) (bytes : List ℕ) → IfSome o (IsRead kind bytes)
     → (unwrap_or o Bad ≡ Bad) ⊎ Spells (unwrap_or o Bad) (kind ∷ bytes)
-or_spelled None kind bytes h all = inl refl
-or_spelled (Some op) kind bytes h all = inr (h.spelled all)
+or_spelled None kind bytes h = inl refl
+or_spelled (Some op) kind bytes h = inr h.spelled
 
-pub read_spelled : (bytes : List ℕ) → IsBytes bytes → (read_op bytes ≡ Bad) ⊎ Spells (read_op bytes) bytes
+pub read_spelled : (bytes : List ℕ) → (read_op bytes ≡ Bad) ⊎ Spells (read_op bytes) bytes
 unfolding read_op
-read_spelled [] all = inl refl
-read_spelled (kind ∷ bytes) all = or_spelled (read_fields kind bytes) kind bytes (read_fields-is kind bytes) all.1
+read_spelled [] = inl refl
+read_spelled (kind ∷ bytes) = or_spelled (read_fields kind bytes) kind bytes (read_fields-is kind bytes)

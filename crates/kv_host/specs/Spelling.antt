@@ -1,6 +1,5 @@
 -- How an op is spelled in bytes.
-use Rattle.std.specs.Prelude.{◌≡◌, ℕ, ◌<◌, ◌≤◌, List, ◌∷◌, ◌++◌, length, ⊤}
-use Rattle.std.specs.List.{AllByRecursion}
+use Rattle.std.specs.Prelude.{◌≡◌, ℕ, ◌≤◌, List, ◌∷◌, ◌++◌, length, ⊤}
 use Rattle.std.specs.Int.{w16, to_be_bytes}
 use Rattle.nop_types.specs.declared.limits.TheConstants.{MAX_KEY_BYTES, MAX_VALUE_BYTES}
 use Rattle.kv_host.specs.declared.op.TheConstants.{GET, PUT, DELETE, SWAP}
@@ -24,9 +23,6 @@ OpFits (Put key value) = KeyFits key × ValueFits value
 OpFits (Delete key) = KeyFits key
 OpFits (Swap key old new) = KeyFits key × ValueFits old × ValueFits new
 OpFits Bad = ⊤
-
-abbrev pub IsBytes : List ℕ → Type 0
-IsBytes bytes = AllByRecursion (λ b. b < 256) bytes
 
 -- a field: its length in two bytes, and its bytes
 unfoldable pub field : List ℕ → List ℕ

@@ -11,7 +11,7 @@ ghost use Rattle.kv_host.specs.Places.{places, HasPlace, IsPlaceOf};
 
 use crate::key::KvKey;
 use crate::op::KvOp;
-use crate::table::{Table, look_up, replace, write};
+use crate::table::Table;
 use crate::undo::KvUndo;
 use crate::value::KvValue;
 use nop_types::{Bytes, MAX_KEY_BYTES, MAX_VALUE_BYTES, NoMemory};
@@ -76,7 +76,7 @@ fn set(
     ensures err { OnErr result (places table.new ≡ places table.old) }
 {
     let value = KvValue::new(alloc, value)?;
-    let former = write(alloc, table, place, key, value)?;
+    let former = table.write(place, key, value)?;
     let undo = KvUndo {
         key: KvKey::new(key),
         value: former,
@@ -92,7 +92,7 @@ fn clear(table: &mut Table, place: Option<usize>, key: &[u8]) -> Option<KvUndo>
     ensures { IsCleared (places table.old) (places table.new) key.now result }
 {
     match place {
-        Some(index) => match replace(table, index, None) {
+        Some(index) => match table.replace(index, None) {
             Some(value) => Some(KvUndo {
                 key: KvKey::new(key),
                 value: Some(value),
@@ -108,14 +108,15 @@ pub fn get(alloc: Global, table: &Table, key: &[u8]) -> Done
     ensures { IfOk result (λ r. IsDone (Get key.now) (places table.now) (places table.now) r.0
         r.1) }
 {
-    let (_place, value) = look_up(table, key);
+    let (_place, value) = table.look_up(key);
     match show(alloc, value) {
         Ok(answer) => Ok((answer, None)),
         Err(e) => Err(e),
     }
 }
 
-/// Gives a key a value, and answers with the former value.
+/// Gives a key a value, and answers with the former value; or answers `full`, where it would be one
+/// key too many.
 pub fn put(alloc: Global, table: &mut Table, key: &[u8], value: &[u8]) -> Done
     requires key { length key.now ≤ MAX_KEY_BYTES }
     requires value { length value.now ≤ MAX_VALUE_BYTES }
@@ -123,7 +124,10 @@ pub fn put(alloc: Global, table: &mut Table, key: &[u8], value: &[u8]) -> Done
         (places table.new) r.0 r.1) }
     ensures err { OnErr result (places table.new ≡ places table.old) }
 {
-    let (place, former) = look_up(table, key);
+    let (place, former) = table.look_up(key);
+    if former.is_none() && table.is_full() {
+        return say(alloc, b"full");
+    }
     match show(alloc, former) {
         Ok(answer) => set(alloc, table, place, key, value, answer),
         Err(e) => Err(e),
@@ -137,7 +141,7 @@ pub fn delete(alloc: Global, table: &mut Table, key: &[u8]) -> Done
         (places table.new) r.0 r.1) }
     ensures err { OnErr result (places table.new ≡ places table.old) }
 {
-    let (place, former) = look_up(table, key);
+    let (place, former) = table.look_up(key);
     match show(alloc, former) {
         Ok(answer) => Ok((answer, clear(table, place, key))),
         Err(e) => Err(e),
@@ -168,7 +172,7 @@ pub fn swap(alloc: Global, table: &mut Table, key: &[u8], old: &[u8], new: &[u8]
         (places table.new) r.0 r.1) }
     ensures err { OnErr result (places table.new ≡ places table.old) }
 {
-    let (place, former) = look_up(table, key);
+    let (place, former) = table.look_up(key);
     if is_same(former, old) {
         exchange(alloc, table, place, key, new)
     } else {
@@ -197,6 +201,6 @@ pub fn undo(table: &mut Table, undo: KvUndo)
     requires { HasPlace (places table.old) (Some undo) }
     ensures { places table.new ≡ finite.insert (places table.old) undo.key undo.value }
 {
-    let (place, _value) = look_up(table, undo.key.as_slice());
-    drop(replace(table, place.unwrap(), undo.value));
+    let (place, _value) = table.look_up(undo.key.as_slice());
+    drop(table.replace(place.unwrap(), undo.value));
 }

@@ -1,8 +1,7 @@
-use crate::apply;
 use crate::op::read;
 use crate::table::Table;
 use crate::undo::KvUndo;
-use indexmap::IndexMap;
+use crate::{apply, saved};
 use nop_types::{Bytes, Host, NoMemory};
 use std::alloc::Global;
 use std::marker::Model;
@@ -37,9 +36,11 @@ impl Model for KvHost {
 
 impl Host for KvHost {
     ghost use Rattle.kv_host.specs.Op.{read_op};
-    ghost use Rattle.kv_host.specs.Kv.{Kv, kv_meaning, IsSound};
+    ghost use Rattle.kv_host.specs.Kv.{kv_meaning, IsSound};
+    ghost use Rattle.kv_host.specs.Values.{Kv};
     ghost use Rattle.kv_host.specs.Undo.{undo_of, undone};
     ghost use Rattle.kv_host.specs.Places.{values_of, HasPlace};
+    ghost use Rattle.kv_host.specs.SavedLaws.{saves_short, loads_saved, loads_only};
     ghost use Rattle.kv_host.specs.Laws.{undoes, opens_sound, stays_sound, answers_short};
 
     type Undo = Option<KvUndo>;
@@ -66,14 +67,20 @@ impl Host for KvHost {
 
     ghost answers_short = { answers_short };
 
+    ghost saves_short = { saves_short };
+
+    ghost loads_saved = { loads_saved };
+
+    ghost loads_only = { loads_only };
+
     fn fresh(alloc: Global) -> Result<KvHost, NoMemory> {
         Ok(KvHost {
-            table: IndexMap::new(alloc),
+            table: Table::new(alloc),
         })
     }
 
     fn apply(&mut self, op: &[u8]) -> Result<(Bytes, Option<KvUndo>), NoMemory> {
-        apply::apply(*self.table.allocator(), &mut self.table, read(op))
+        apply::apply(self.table.alloc(), &mut self.table, read(op))
     }
 
     #[tactic(auto, using(crate::proofs::PlacesLemmas::place_writes))]
@@ -84,7 +91,19 @@ impl Host for KvHost {
     }
 
     fn copy(&self) -> Result<KvHost, NoMemory> {
-        let table = self.table.clone()?;
+        let table = self.table.copy()?;
         Ok(KvHost { table })
+    }
+
+    fn save(&self) -> Result<Bytes, NoMemory> {
+        saved::save(self.table.alloc(), &self.table)
+    }
+
+    fn load(alloc: Global, bytes: &[u8]) -> Result<Option<KvHost>, NoMemory> {
+        match saved::load(alloc, bytes) {
+            Ok(Some(table)) => Ok(Some(KvHost { table })),
+            Ok(None) => Ok(None),
+            Err(e) => Err(e),
+        }
     }
 }

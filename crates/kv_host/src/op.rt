@@ -1,7 +1,7 @@
 ghost use Rattle.std.specs.Prelude.{◌≡◌, ◌⊎◌, option_map};
 ghost use Rattle.kv_host.specs.Op.{Bad, field_at, key_at, value_at, read_get, read_put, read_delete, read_swap};
 ghost use Rattle.kv_host.specs.Op.{read_op, at_end};
-ghost use Rattle.kv_host.specs.Spelling.{IsBytes, Spells};
+ghost use Rattle.kv_host.specs.Spelling.{Spells};
 ghost use Rattle.kv_host.specs.View.{op_of};
 
 use nop_types::{MAX_KEY_BYTES, MAX_VALUE_BYTES};
@@ -51,13 +51,15 @@ fn field(bytes: &[u8], least: usize, most: usize) -> Option<(&[u8], &[u8])>
     Some(rest.split_at(len))
 }
 
-fn key(bytes: &[u8]) -> Option<(&[u8], &[u8])>
+/// A key, and what follows it.
+pub fn key(bytes: &[u8]) -> Option<(&[u8], &[u8])>
     ensures { option_map (λ p. (p.0.now, p.1.now)) result ≡ key_at bytes.now }
 {
     field(bytes, 1, MAX_KEY_BYTES)
 }
 
-fn value(bytes: &[u8]) -> Option<(&[u8], &[u8])>
+/// A value, and what follows it.
+pub fn value(bytes: &[u8]) -> Option<(&[u8], &[u8])>
     ensures { option_map (λ p. (p.0.now, p.1.now)) result ≡ value_at bytes.now }
 {
     field(bytes, 0, MAX_VALUE_BYTES)
@@ -137,6 +139,5 @@ pub fn read(op: &[u8]) -> KvOp<'_>
 /// An op is read from the bytes that spell it, and from no others.
 pub fn ops_are_read_as_spelled()
     ensures read { (op : _) (bytes : _) → Spells op bytes → read_op bytes ≡ op }
-    ensures spelled { (bytes : _) → IsBytes bytes → (read_op bytes ≡ Bad)
-        ⊎ Spells (read_op bytes) bytes }
+    ensures spelled { (bytes : _) → (read_op bytes ≡ Bad) ⊎ Spells (read_op bytes) bytes }
 {}
