@@ -51,6 +51,7 @@ use Rattle.replica_state.specs.Replies.{leader_reply, reply_if, reply_to, reply_
 use Rattle.replica_state.specs.Moves.{queue, begin_session, logged, take_front, appended, fill, ask_if, gap_opened, open_gap, write_gap}
 use Rattle.replica_state.specs.Moves.{add_gap, count_gap_vote, drain_drop, drain_at, drain_by, drain, listening, entered, own_change}
 use Rattle.replica_state.specs.Moves.{change_told, enter_as, enter, adopted, adopt, open_with, open_view, open_if_enough, keep_change}
+use Rattle.replica_state.specs.Moves.{start_len, tell_synced, count_sync_vote}
 use Rattle.replica_state.specs.Moves.{resend_start, overlaid, overlay, hear, obey, sync_commit, open_sync, repeat_commit, commit_if}
 use Rattle.replica_state.specs.Repeating.{gap_again, lookup_again, change_again, resend_by, resend, sync_if, sync}
 use Rattle.replica_rows.specs.Rows as rows
@@ -180,6 +181,10 @@ module _ {S : Type 0} (m : Meaning S) (short : ResultsShort m) where
       let len = length-drop k s.log in
       let most = w.log.len in
       replies_fit s (k + 1) (drop k s.log) w (omega arith) (omega (arith, len, most, le)) (dropped_fit k s.log w.log.each)
+
+  -- what is synchronised is in the log
+  synced_few : (s : ReplicaState) → IsWithin s → s.sync.sync_point ≤ MAX_SLOTS
+  synced_few s w = let low = w.sync_point in let most = w.log.len in omega (arith, low, most)
 
   -- ---- the next slot
 
@@ -312,6 +317,12 @@ module _ {S : Type 0} (m : Meaning S) (short : ResultsShort m) where
   unfolding drain
   drain_stays s g = (drain_by_stays (MAX_SLOTS - length s.log)).at s g
 
+  -- where the sync point rose
+  and_drain_if_risen : (n : ℕ) (e : Effect) → StaysInRanges e → StaysInRanges (then_do e (rows.drain_if_risen m n))
+  and_drain_if_risen n e h =
+      then_stays e (rows.drain_if_risen m n) h
+      (when_stays (nat_lt n e.0.sync.sync_point) (drain m) e.0 (after e h) (λ _. drain_stays e.0 (after e h)))
+
   and_drain : (e : Effect) → StaysInRanges e → StaysInRanges (then_do e (drain m))
   and_drain e h = then_stays e (drain m) h (drain_stays e.0 (after e h))
 
@@ -354,7 +365,7 @@ module _ {S : Type 0} (m : Meaning S) (short : ResultsShort m) where
   adopt_stays s v x l g view next log =
       let a = adopted_good s v x l g view next log in
       and_drain (adopted s v x l, replies_above m (adopted s v x l) s.sync.sync_point)
-      (good _ a (above_fit (adopted s v x l) s.sync.sync_point a.within g.within.sync_point))
+      (good _ a (above_fit (adopted s v x l) s.sync.sync_point a.within (synced_few s g.within)))
 
   open_with_stays : (s : ReplicaState) (x : ℕ) (l : List Entry) → IsGood s → NextFits x → LogFits l → StaysInRanges (open_with m s x l)
   open_with_stays s x l g next log =
@@ -396,10 +407,10 @@ module _ {S : Type 0} (m : Meaning S) (short : ResultsShort m) where
       let base = w.base in
       let high = w.next.high in
       good (resend_start s q) g
-      (to_replica_fits s q (bodies.StartView (s.next - (length s.log - s.base)) (take s.base s.log)) w
+      (to_replica_fits s q (bodies.StartView (s.next - (length s.log - start_len s)) (take (start_len s) s.log)) w
       (record {
         number = record { low = omega (arith, start, base); high = omega (arith, high) };
-        entries = front_fits s.log s.base w.log;
+        entries = front_fits s.log (start_len s) w.log;
       }))
 
   -- ---- rows of packets and view changes
@@ -514,9 +525,14 @@ module _ {S : Type 0} (m : Meaning S) (short : ResultsShort m) where
       when_stays (nat_le k s.sync.prepared) (λ t. obey (hear t) k) s g
       (λ _. still_stays (record (hear s) { sync = synchronisation.committed s.sync k })
       (record {
-        within = with_sync (hear s) (synchronisation.committed s.sync k) h.within (committed_fits s.sync k (sync_of s g.within));
+        within = with_sync (hear s) (synchronisation.committed s.sync k) h.within
+            (committed_fits (length s.log) s.sync k (sync_of s g.within));
         sound = g.sound;
       }))
+
+  commit_row_stays : (k : ℕ) (s : ReplicaState) → IsGood s → StaysInRanges (rows.sync_commit m k s)
+  unfolding rows.sync_commit
+  commit_row_stays k s g = and_drain_if_risen s.sync.sync_point (sync_commit k s) (commit_stays k s g)
 
   -- ---- rows of followers' messages
 
@@ -562,9 +578,15 @@ module _ {S : Type 0} (m : Meaning S) (short : ResultsShort m) where
   lookup_by_stays Begin q k s g place fits = begin_gap_stays s g (fits.room refl)
   lookup_by_stays answers.Nothing q k s g place fits = still_stays s g
 
+  lookup_if_stays : (b : Bool) (q k : ℕ) (s : ReplicaState) → IsGood s → SlotFits k → StaysInRanges (rows.slot_lookup_if m b q k s)
+  lookup_if_stays true q k s g fits =
+      good (tell_synced s q) g
+      (to_replica_fits s q (bodies.SyncPrepare (take s.sync.sync_point s.log)) g.within (front_fits s.log s.sync.sync_point g.within.log))
+  lookup_if_stays false q k s g fits = lookup_by_stays (answer_of s.log (waits s.gap) k) q k s g fits (answer_fits s k g.within)
+
   lookup_stays : (q k : ℕ) (s : ReplicaState) → IsGood s → SlotFits k → StaysInRanges (rows.slot_lookup m q k s)
   unfolding rows.slot_lookup
-  lookup_stays q k s g fits = lookup_by_stays (answer_of s.log (waits s.gap) k) q k s g fits (answer_fits s k g.within)
+  lookup_stays q k s g fits = lookup_if_stays (nat_le k s.sync.sync_point) q k s g fits
 
   gap_reply_at_stays : (o : Option Agreement) (q k : ℕ) (s : ReplicaState) → IsGood s → IfSome o (λ g. SlotFits g.slot)
       → StaysInRanges (rows.gap_reply_at m o q k s)
@@ -581,15 +603,17 @@ module _ {S : Type 0} (m : Meaning S) (short : ResultsShort m) where
   commit_if_fits s k Settled w le = to_all_fits s (bodies.SyncCommit k) w le
   commit_if_fits s k Waiting w le = tt
 
-  sync_reply_stays : (q k : ℕ) (s : ReplicaState) → IsGood s → k ≤ MAX_SLOTS → StaysInRanges (rows.sync_reply q k s)
+  sync_reply_stays : (q k : ℕ) (s : ReplicaState) → IsGood s → k ≤ MAX_SLOTS → StaysInRanges (rows.sync_reply m q k s)
+  unfolding rows.sync_reply
   sync_reply_stays q k s g le =
-      good (rows.sync_reply q k s)
+      and_drain_if_risen s.sync.sync_point (count_sync_vote s q k)
+      (good (count_sync_vote s q k)
       (record {
         within = with_sync s (synchronisation.counted s.sync q k) g.within
-            (counted_in_fits s.sync s.sync.syncing q k (sync_of s g.within) g.within.syncing);
+            (counted_in_fits (length s.log) s.sync s.sync.syncing q k (sync_of s g.within) g.within.syncing);
         sound = g.sound;
       })
-      (commit_if_fits s k (synchronisation.vote_for s.sync q k) g.within le)
+      (commit_if_fits s k (synchronisation.vote_for s.sync q k) g.within le))
 
   -- ---- all messages
 
@@ -597,7 +621,7 @@ module _ {S : Type 0} (m : Meaning S) (short : ResultsShort m) where
   from_leader_stays (bodies.GapCommit k) s g fits = gap_commit_stays k s g fits
   from_leader_stays (bodies.Found k r) s g fits = found_stays k r s g fits.request
   from_leader_stays (bodies.SyncPrepare l) s g fits = prepare_stays l s g fits
-  from_leader_stays (bodies.SyncCommit k) s g fits = commit_stays k s g
+  from_leader_stays (bodies.SyncCommit k) s g fits = commit_row_stays k s g
   from_leader_stays (bodies.SlotLookup k) s g fits = still_stays s g
   from_leader_stays (bodies.GapRep k) s g fits = still_stays s g
   from_leader_stays (bodies.SyncRep k) s g fits = still_stays s g
@@ -691,11 +715,12 @@ module _ {S : Type 0} (m : Meaning S) (short : ResultsShort m) where
       good (open_sync s)
       (record {
         within = with_sync s (synchronisation.with_round s.sync (length s.log)) g.within
-            (with_round_fits s.sync (length s.log) (sync_of s g.within) g.within.log.len);
+            (with_round_fits (length s.log) s.sync (length s.log) (sync_of s g.within) (omega arith));
         sound = g.sound;
       })
       (to_all_fits s (bodies.SyncPrepare s.log) g.within g.within.log)
-  sync_if_stays false s g = good (repeat_commit s) g (to_all_fits s (bodies.SyncCommit s.sync.sync_point) g.within g.within.sync_point)
+  sync_if_stays false s g =
+      good (repeat_commit s) g (to_all_fits s (bodies.SyncCommit s.sync.sync_point) g.within (synced_few s g.within))
 
   sync_stays : (s : ReplicaState) → IsGood s → StaysInRanges (sync s)
   unfolding sync
@@ -703,11 +728,15 @@ module _ {S : Type 0} (m : Meaning S) (short : ResultsShort m) where
       when_stays (is_normal s.status && (leads s && not (waits s.gap))) (λ t. sync_if (nat_lt t.sync.sync_point (length t.log)) t) s g
       (λ _. sync_if_stays (nat_lt s.sync.sync_point (length s.log)) s g)
 
+  sync_row_stays : (s : ReplicaState) → IsGood s → StaysInRanges (rows.sync m s)
+  unfolding rows.sync
+  sync_row_stays s g = and_drain_if_risen s.sync.sync_point (sync s) (sync_stays s g)
+
   ticked_stays : (s : ReplicaState) (tick : Tick) → IsGood s → StaysInRanges (ticked m tick s)
   ticked_stays s ticks.Suspect g = suspect_stays s g
   ticked_stays s ticks.Watch g = watch_stays (is_normal s.status && leads s) s.heard s g
   ticked_stays s ticks.Resend g = resend_stays s g
-  ticked_stays s ticks.Sync g = sync_stays s g
+  ticked_stays s ticks.Sync g = sync_row_stays s g
   ticked_stays s ticks.Retry g = still_stays s g
   ticked_stays s ticks.Next g = still_stays s g
   ticked_stays s ticks.Probe g = still_stays s g

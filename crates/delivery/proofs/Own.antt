@@ -172,6 +172,12 @@ drain_own m s = (drain_by_own m _).at s
 and_drain : {S : Type 0} (m : Meaning S) {s : ReplicaState} {e : Effect} → Own s e → Own s (then_do e (drain m))
 and_drain m {s} {e} h = then_own (drain m) h (drain_own m e.0)
 
+-- where the sync point rose
+and_drain_if_risen : {S : Type 0} (m : Meaning S) (n : ℕ) {s : ReplicaState} {e : Effect} → Own s e
+    → Own s (then_do e (rows.drain_if_risen m n))
+and_drain_if_risen m n {s} {e} h =
+    then_own (rows.drain_if_risen m n) h (when_own (nat_lt n e.0.sync.sync_point) (drain m) e.0 (drain_own m e.0))
+
 -- ---- views
 
 enter_as_own : (b : Bool) (s : ReplicaState) → Own s (enter_as b s)
@@ -289,6 +295,10 @@ commit_own : (k : ℕ) (s : ReplicaState) → Own s (sync_commit k s)
 unfolding sync_commit
 commit_own k s = when_own (nat_le k s.sync.prepared) _ s (record { number = refl; count = refl; sends = tt })
 
+commit_row_own : {S : Type 0} (m : Meaning S) (k : ℕ) (s : ReplicaState) → Own s (rows.sync_commit m k s)
+unfolding rows.sync_commit
+commit_row_own m k s = and_drain_if_risen m s.sync.sync_point (commit_own k s)
+
 lookup_by_own : {S : Type 0} (m : Meaning S) (a : Answer) (q k : ℕ) (s : ReplicaState) → q < s.config.replicas
     → Own s (rows.slot_lookup_by m a q k s)
 lookup_by_own m (Found r) q k s h = record { number = refl; count = refl; sends = (record { by = refl; to = λ some. h }, tt) }
@@ -296,9 +306,14 @@ lookup_by_own m GapAgain q k s h = record { number = refl; count = refl; sends =
 lookup_by_own m Begin q k s h = when_own (nat_lt s.next NUMBER_END) (λ t. then_do (open_gap t) (drain m)) s (and_drain m (open_gap_own s))
 lookup_by_own m answers.Nothing q k s h = still_own s
 
+lookup_if_own : {S : Type 0} (m : Meaning S) (b : Bool) (q k : ℕ) (s : ReplicaState) → q < s.config.replicas
+    → Own s (rows.slot_lookup_if m b q k s)
+lookup_if_own m true q k s h = record { number = refl; count = refl; sends = (record { by = refl; to = λ some. h }, tt) }
+lookup_if_own m false q k s h = lookup_by_own m (answer_of s.log (waits s.gap) k) q k s h
+
 lookup_own : {S : Type 0} (m : Meaning S) (q k : ℕ) (s : ReplicaState) → q < s.config.replicas → Own s (rows.slot_lookup m q k s)
 unfolding rows.slot_lookup
-lookup_own m q k s h = lookup_by_own m (answer_of s.log (waits s.gap) k) q k s h
+lookup_own m q k s h = lookup_if_own m (nat_le k s.sync.sync_point) q k s h
 
 gap_reply_at_own : {S : Type 0} (m : Meaning S) (o : Option Agreement) (q k : ℕ) (s : ReplicaState) → Own s (rows.gap_reply_at m o q k s)
 gap_reply_at_own m None q k s = still_own s
@@ -312,8 +327,10 @@ commit_if_by : (s : ReplicaState) (k : ℕ) (v : Vote) → AllBy s (commit_if s 
 commit_if_by s k Settled = all_by s (bodies.SyncCommit k)
 commit_if_by s k Waiting = tt
 
-sync_reply_own : (q k : ℕ) (s : ReplicaState) → Own s (rows.sync_reply q k s)
-sync_reply_own q k s = record { number = refl; count = refl; sends = commit_if_by s k (vote_for s.sync q k) }
+sync_reply_own : {S : Type 0} (m : Meaning S) (q k : ℕ) (s : ReplicaState) → Own s (rows.sync_reply m q k s)
+unfolding rows.sync_reply
+sync_reply_own m q k s =
+    and_drain_if_risen m s.sync.sync_point (record { number = refl; count = refl; sends = commit_if_by s k (vote_for s.sync q k) })
 
 -- ---- messages
 
@@ -321,7 +338,7 @@ from_leader_own : {S : Type 0} (m : Meaning S) (body : Body) (s : ReplicaState) 
 from_leader_own m (bodies.GapCommit k) s = gap_commit_own m k s
 from_leader_own m (bodies.Found k r) s = found_own m k r s
 from_leader_own m (bodies.SyncPrepare l) s = prepare_own m l s
-from_leader_own m (bodies.SyncCommit k) s = commit_own k s
+from_leader_own m (bodies.SyncCommit k) s = commit_row_own m k s
 from_leader_own m (bodies.SlotLookup k) s = still_own s
 from_leader_own m (bodies.GapRep k) s = still_own s
 from_leader_own m (bodies.SyncRep k) s = still_own s
@@ -333,7 +350,7 @@ from_follower_own : {S : Type 0} (m : Meaning S) (q : ℕ) (body : Body) (s : Re
     → Own s (from_follower m q body s)
 from_follower_own m q (bodies.SlotLookup k) s h = lookup_own m q k s h
 from_follower_own m q (bodies.GapRep k) s h = gap_reply_own m q k s
-from_follower_own m q (bodies.SyncRep k) s h = sync_reply_own q k s
+from_follower_own m q (bodies.SyncRep k) s h = sync_reply_own m q k s
 from_follower_own m q (bodies.GapCommit k) s h = still_own s
 from_follower_own m q (bodies.Found k r) s h = still_own s
 from_follower_own m q (bodies.SyncPrepare l) s h = still_own s
@@ -424,11 +441,15 @@ sync_own s =
     when_own (is_normal s.status && (leads s && not (waits s.gap))) (λ t. sync_if (nat_lt t.sync.sync_point (length t.log)) t) s
     (sync_if_own (nat_lt s.sync.sync_point (length s.log)) s)
 
+sync_row_own : {S : Type 0} (m : Meaning S) (s : ReplicaState) → Own s (rows.sync m s)
+unfolding rows.sync
+sync_row_own m s = and_drain_if_risen m s.sync.sync_point (sync_own s)
+
 tick_own : {S : Type 0} (m : Meaning S) (s : ReplicaState) (tick : Tick) → Own s (ticked m tick s)
 tick_own m s ticks.Suspect = suspect_own m s
 tick_own m s ticks.Watch = watch_own m (is_normal s.status && leads s) s.heard s
 tick_own m s ticks.Resend = resend_own s
-tick_own m s ticks.Sync = sync_own s
+tick_own m s ticks.Sync = sync_row_own m s
 tick_own m s ticks.Retry = still_own s
 tick_own m s ticks.Next = still_own s
 tick_own m s ticks.Probe = still_own s

@@ -1,9 +1,11 @@
 -- The worked runs: each move may be made, and they end where they should.
 use Rattle.std.proofs.Common.{◌≡◌, ℕ, zero, suc, ◌<◌, false, refl, ap, arith}
+use Rattle.std.specs.FinMap as finite
 use Rattle.nop_types.specs.declared.view.View.{View}
 use Rattle.nop_types.specs.Meaning.{Meaning}
 use Rattle.nop_types.specs.Views.{AtMost, Below, first_view, outranks}
 use Rattle.gap_agree.specs.Votes.{with_vote}
+use Rattle.histories.proofs.Accounts.{kept_for-insert}
 use Rattle.protocol.specs.Conf.{opening, last_normals}
 use Rattle.protocol.specs.Runs.{run, MayAll}
 use Rattle.protocol.specs.Worked.{three, view, put_request, get_request, gap_run, GapRun, GapRunEnds, session_run, SessionRun}
@@ -68,8 +70,8 @@ module _ {S : Type 0} (m : Meaning S) where
       (also (one_of, record { normal = refl; follows = refl; said = (0, refl) })
       (also (zero_of, record { waits = refl; vote = record { said = (0, refl); within = one_of; apart = λ e. omega (arith, e) } })
       (also (zero_of, record { normal = refl; no_gap = refl; front = front_passed 1 1 get_request })
-      (also (record { sent = (0, refl); expected = refl })
-      (also (record { sent = (1, refl); expected = refl })
+      (also (record { sent = (0, simp (kept_for-insert, finite.get-empty)); expected = refl })
+      (also (record { sent = (1, simp (kept_for-insert, finite.get-empty)); expected = refl })
       (also (record { kept = (1, refl); enough = refl })
       (also (one_of, to_leader)
       (also (two_of, to_leader)
@@ -115,8 +117,8 @@ module _ {S : Type 0} (m : Meaning S) where
       (also (two_of, record { normal = refl; no_gap = refl; front = front_early 2 1 put_request })
       (also (one_of, (0, refl))
       (also (one_of, record { normal = refl; no_gap = refl; front = front_late 2 1 put_request })
-      (also (record { sent = (1, refl); expected = refl })
-      (also (record { sent = (0, refl); expected = refl })
+      (also (record { sent = (1, simp (kept_for-insert, finite.get-empty)); expected = refl })
+      (also (record { sent = (0, simp (kept_for-insert, finite.get-empty)); expected = refl })
       (also (record { kept = (1, refl); enough = refl })
       tt)))))))))))))))))
 

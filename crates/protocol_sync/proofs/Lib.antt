@@ -1,3 +1,4 @@
+pub mod Above
 pub mod Agreeing
 pub mod Concluding
 pub mod Facts
@@ -14,4 +15,3 @@ pub mod SoundStamps
 pub mod SoundViews
 pub mod SoundVotes
 pub mod Sounding
-pub mod Whole

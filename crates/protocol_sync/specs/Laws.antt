@@ -13,7 +13,6 @@ use Rattle.protocol.specs.Invariant.{Inv}
 use Rattle.protocol.specs.Runs.{Move, run, MayAll}
 use Rattle.protocol_sync.specs.Sound.{Sound, GoesOn}
 use Rattle.protocol_sync.specs.Synced.{Sync, SyncRises}
-use Rattle.protocol_sync.specs.Whole.{AllSayStarts, StartsAreWhole}
 
 -- a is the log from which the history is read, that of the leader of v
 abbrev pub IsMainLog : ℕ → Conf → View → List Entry → Type 0
@@ -74,8 +73,3 @@ abbrev pub RunsGoOn : {S : Type 0} → Meaning S → Type 0
 RunsGoOn m = (f : ℕ) (config : Configuration) (xs ys : List Move) → config.replicas ≡ 2 * f + 1
     → MayAll m f (opening config) xs → MayAll m f (run m f (opening config) xs) ys
     → GoesOn f (run m f (opening config) xs) (run m f (run m f (opening config) xs) ys)
-
--- where each StartView that is said again tells the start of its view, each that was sent does
-abbrev pub StartsStayWhole : {S : Type 0} → Meaning S → Type 0
-StartsStayWhole m = (f : ℕ) (config : Configuration) (xs : List Move) → config.replicas ≡ 2 * f + 1 → MayAll m f (opening config) xs
-    → AllSayStarts m f (opening config) xs → StartsAreWhole (run m f (opening config) xs)

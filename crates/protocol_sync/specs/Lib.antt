@@ -1,4 +1,4 @@
+pub mod Above
 pub mod Laws
 pub mod Sound
 pub mod Synced
-pub mod Whole

@@ -1,4 +1,5 @@
 ghost use Rattle.nop_types.specs.Meaning.{Meaning};
+ghost use Rattle.protocol_sync.specs.Above.{GapsOpenAbove, GapsStayAbove, SyncedIsPrepared};
 ghost use Rattle.protocol_sync.specs.Laws.{
   OpeningIsSynced,
   SyncsKeep,
@@ -9,7 +10,6 @@ ghost use Rattle.protocol_sync.specs.Laws.{
   RunsAreSafe,
   RunsAreSound,
   RunsGoOn,
-  StartsStayWhole,
 };
 
 /// The opening meets what holds of sync points.
@@ -25,6 +25,14 @@ pub fn syncs_keep<S>()
 /// No replica's sync point ever falls, and what it has up to there stays.
 pub fn sync_points_never_fall<S>()
     ensures { (m : Meaning S) → SyncPointsNeverFall m }
+{}
+
+/// A gap that waits is above what is synchronised. So a leader may tell what it has synchronised: a
+/// NO-OP at its end is settled.
+pub fn gaps_stay_above<S>()
+    ensures open { GapsOpenAbove }
+    ensures stay { (m : Meaning S) → GapsStayAbove m }
+    ensures prepared { (m : Meaning S) → SyncedIsPrepared m }
 {}
 
 /// What a replica has up to its sync point begins the log from which the history is read.
@@ -57,10 +65,4 @@ pub fn runs_are_sound<S>()
 /// a leader's log only grows.
 pub fn runs_go_on<S>()
     ensures { (m : Meaning S) → RunsGoOn m }
-{}
-
-/// Where replicas say a StartView again only as the start of their view, each StartView that was
-/// sent tells that start.
-pub fn starts_stay_whole<S>()
-    ensures { (m : Meaning S) → StartsStayWhole m }
 {}

@@ -9,17 +9,16 @@
 //! It goes on where `protocol` ends: sync points have an invariant `Sync` of their own above `Inv`
 //! (`opening_is_synced`, `syncs_keep`), and they never fall (`sync_points_never_fall`). The parts
 //! of `runs_are_safe` are laws too: `synchronised_prefixes_agree`, `synchronised_prefixes_begin`,
-//! `lines_are_legal`. Where each StartView that is sent again has the start of its view, all have
-//! (`starts_stay_whole`).
+//! `lines_are_legal`. A gap that waits is above the sync point, so a leader may tell what it has
+//! synchronised (`gaps_stay_above`).
 //!
 //! Files: `laws`. Definitions: `specs/Laws` (`Safe`, what the laws say), `Sound` (soundness part by
-//! part, `GoesOn`), `Synced` (`Sync`), `Whole`.
+//! part, `GoesOn`), `Synced` (`Sync`), `Above`.
 #![tactic(auto)]
 
 mod laws;
 
 pub use laws::{
-    lines_are_legal, opening_is_synced, runs_are_safe, runs_are_sound, runs_go_on,
-    starts_stay_whole, sync_points_never_fall, synchronised_prefixes_agree,
-    synchronised_prefixes_begin, syncs_keep,
+    gaps_stay_above, lines_are_legal, opening_is_synced, runs_are_safe, runs_are_sound, runs_go_on,
+    sync_points_never_fall, synchronised_prefixes_agree, synchronised_prefixes_begin, syncs_keep,
 };

@@ -1,5 +1,5 @@
 -- What a view starts with is adopted by moves.
-use Rattle.std.proofs.Common.{◌≡◌, ℕ, Bool, true, false, refl, sym, subst, ◌∙◌, List}
+use Rattle.std.proofs.Common.{◌≡◌, ℕ, Bool, true, false, refl, sym, ap, subst, ◌∙◌, List}
 use Rattle.std.specs.Prelude.{◌==◌, ◌||◌, not, nat_le}
 use Rattle.std.proofs.lemmas.Bool.{and_parts, eqb-true, leb-true}
 use Rattle.nop_types.specs.Meaning.{Meaning}
@@ -10,12 +10,14 @@ use Rattle.nop_types.specs.declared.replica_state.Phase.TheVariants.{Normal, Cha
 use Rattle.nop_types.specs.declared.request.Entry.{Entry}
 use Rattle.facts.proofs.Views.{is_view-same}
 use Rattle.replica_state.specs.declared.state.ReplicaState.{ReplicaState}
-use Rattle.replica_state.specs.Moves.{adopted, adopt, drain}
+use Rattle.replica_state.specs.Moves.{joined, adopted, adopt, drain}
 use Rattle.replica_state.specs.Replies.{replies_above}
 use Rattle.replica_rows.specs.Rows.{start_view}
 use Rattle.replica_state.specs.State.{is_normal, is_other, is_at_most, may_adopt}
 use Rattle.protocol.specs.Conf.{Conf, DidSay}
+use Rattle.protocol.specs.Member.{Member}
 use Rattle.protocol.specs.Moves.{MayAdopt}
+use Rattle.protocol.specs.Replies as replies
 use Rattle.protocol.specs.Runs.{Adopt}
 use Rattle.protocol.specs.Said.{StartView}
 use Rattle.refinement.specs.Projection.{member_of}
@@ -24,6 +26,7 @@ use Rattle.refinement.proofs.Composing.{move_reaches, reaches_then_in_view, when
 use Rattle.refinement.proofs.Draining.{drain_in_view}
 use Rattle.refinement.proofs.RoleRows.{IsOther, other_from}
 use Rattle.refinement.proofs.Same.{said_above, replied_above}
+use Rattle.refinement.proofs.Splices.{adopt_splices}
 
 at_most_from : (a b : View) → is_at_most a b ≡ true → AtMost a b
 at_most_from a b e =
@@ -41,11 +44,13 @@ module _ {S : Type 0} (m : Meaning S) (f : ℕ) (r : ℕ) where
   unfolding adopt
   adopt_reaches c s v x l h may =
       let t : ReplicaState = adopted s v x l in
-      reaches_then_in_view m f r c s (t, replies_above m t s.sync.sync_point) (drain m) h
-      (move_reaches m f r c s (t, replies_above m t s.sync.sync_point) (Adopt v x l) h may (record {
-        state = refl;
-        said = said_above m t s.sync.sync_point;
-        replies = replied_above m t s.sync.sync_point;
+      let n : ℕ = s.sync.sync_point in
+      let state = ap (λ (k : List Entry). member_of (joined s v x k)) (adopt_splices m f c r s h v x l may) in
+      reaches_then_in_view m f r c s (t, replies_above m t n) (drain m) h
+      (move_reaches m f r c s (t, replies_above m t n) (Adopt v x l) h may (record {
+        state = state;
+        said = said_above m t n;
+        replies = replied_above m t n ∙ ap (λ (p : Member). replies.replies_above m p n) state;
       }))
       (λ d g. drain_in_view m f r d t g)
 

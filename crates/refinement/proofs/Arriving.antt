@@ -18,7 +18,7 @@ use Rattle.refinement.specs.Replicas.{Matches, ReplicaReaches, Came}
 use Rattle.refinement.proofs.Adopting.{start_view_reaches}
 use Rattle.refinement.proofs.Composing.{nothing_reaches, when_reaches}
 use Rattle.refinement.proofs.EnteringRows.{view_change_request_reaches, suspect_reaches, watch_reaches}
-use Rattle.refinement.proofs.ResendRows.{resend_in_view, sync_in_view}
+use Rattle.refinement.proofs.ResendRows.{resend_in_view, sync_row_in_view}
 use Rattle.refinement.proofs.RoleRows.{other_from, message_in_view}
 use Rattle.refinement.proofs.StampedRow.{stamped_reaches}
 use Rattle.refinement.proofs.ViewChanges.{view_change_reaches}
@@ -51,7 +51,7 @@ module _ {S : Type 0} (m : Meaning S) (f : ℕ) (c : Conf) (r : ℕ) (s : Replic
   tick_reaches ticks.Suspect = suspect_reaches m f r c s h
   tick_reaches ticks.Watch = watch_reaches m f r c s h
   tick_reaches ticks.Resend = (resend_in_view m f c r s h).reaches
-  tick_reaches ticks.Sync = (sync_in_view m f c r s h).reaches
+  tick_reaches ticks.Sync = (sync_row_in_view m f c r s h).reaches
   tick_reaches ticks.Retry = nothing_reaches m f r c s s h refl
   tick_reaches ticks.Next = nothing_reaches m f r c s s h refl
   tick_reaches ticks.Probe = nothing_reaches m f r c s s h refl

@@ -15,6 +15,8 @@ use Rattle.protocol.specs.Runs.{Act, Acts, effect, MayAct, run}
 use Rattle.protocol.specs.Said.{Said}
 use Rattle.nop_types.specs.declared.datagram.Reply.{Reply}
 use Rattle.protocol.proofs.Runs.{run_keeps}
+use Rattle.protocol_sync.proofs.Above.{gaps_stay_above}
+use Rattle.protocol_sync.proofs.Runs.{run_syncs}
 use Rattle.refinement.specs.Projection.{member_of, said_in, replied_in}
 use Rattle.refinement.specs.Replicas.{Matches, SameBut, Adds, AddsSends, ReplicaReaches}
 use Rattle.refinement.proofs.Matching.{current}
@@ -75,7 +77,13 @@ module _ {S : Type 0} (m : Meaning S) (f : ℕ) (r : ℕ) where
   -- where the moves end
   pub matches_end : (c : Conf) (s : ReplicaState) (e : Effect) → Matches m f c r s → (one : ReplicaReaches m f c r s e)
       → Matches m f (run m f c one.moves) r e.0
-  matches_end c s e h one = record { within = h.within; inv = (run_keeps m f c one.moves h.inv one.may).0; state = one.state }
+  matches_end c s e h one = record {
+    within = h.within;
+    inv = (run_keeps m f c one.moves h.inv one.may).0;
+    sync = run_syncs m f c one.moves h.inv h.sync one.may;
+    above = gaps_stay_above m f c one.moves h.inv h.sync h.above one.may;
+    state = one.state;
+  }
 
   -- nothing is done, but to what the protocol does not see
   pub nothing_reaches : (c : Conf) (s t : ReplicaState) → Matches m f c r s → member_of t ≡ member_of s → ReplicaReaches m f c r s (still t)

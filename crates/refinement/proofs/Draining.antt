@@ -1,6 +1,6 @@
 -- What stands in front of a receiver is taken by moves.
 use Rattle.std.proofs.Common.{◌≡◌, ℕ, zero, suc, ◌+◌, ◌-◌, Bool, true, false, None, refl, length}
-use Rattle.std.specs.Prelude.{◌&&◌, ◌==◌, not}
+use Rattle.std.specs.Prelude.{◌&&◌, ◌==◌, not, nat_lt}
 use Rattle.std.proofs.lemmas.Bool.{and_parts}
 use Rattle.nop_types.specs.declared.limits.TheConstants.{MAX_SLOTS}
 use Rattle.nop_types.specs.declared.replica_state.Phase.TheVariants.{Normal}
@@ -13,13 +13,14 @@ use Rattle.replica_state.specs.declared.state.ReplicaState.{ReplicaState}
 use Rattle.replica_state.specs.State.{is_normal, waits, has_room, drains, leads}
 use Rattle.replica_state.specs.Sends.{Effect}
 use Rattle.replica_state.specs.Moves.{take_front, open_gap, ask_if, drain_drop, drain_at, drain_by, drain}
+use Rattle.replica_rows.specs.Rows.{drain_if_risen}
 use Rattle.protocol.specs.Conf.{Conf}
 use Rattle.protocol.specs.Member.{standing}
 use Rattle.protocol.specs.Runs.{TakeFront, OpenGap, Say}
 use Rattle.protocol.specs.Said.{Plain}
 use Rattle.refinement.specs.Projection.{member_of}
 use Rattle.refinement.specs.Replicas.{Matches}
-use Rattle.refinement.proofs.Composing.{InView, in_view_then, nothing_in_view, move_in_view}
+use Rattle.refinement.proofs.Composing.{InView, in_view_then, nothing_in_view, move_in_view, when_in_view}
 use Rattle.refinement.proofs.Parts.{Stays, stays_still}
 use Rattle.refinement.proofs.Same.{take_front_same, open_gap_same}
 use Rattle.refinement.proofs.Staying.{normal_from, no_gap_from, append_stays}
@@ -86,3 +87,7 @@ module _ {S : Type 0} (m : Meaning S) (f : ℕ) (r : ℕ) where
   pub drain_in_view : (c : Conf) (s : ReplicaState) → Matches m f c r s → InView m f c r s (drain m s)
   unfolding drain
   drain_in_view c s h = drain_by_in_view (MAX_SLOTS - length s.log) c s h
+
+  -- where the sync point rose above n
+  pub risen_in_view : (n : ℕ) (c : Conf) (s : ReplicaState) → Matches m f c r s → InView m f c r s (drain_if_risen m n s)
+  risen_in_view n c s h = when_in_view m f r c s (nat_lt n s.sync.sync_point) (drain m) h (λ e. drain_in_view c s h)

@@ -1,5 +1,5 @@
 -- The rows of a follower that its leader speaks to.
-use Rattle.std.proofs.Common.{◌≡◌, ℕ, ◌+◌, Bool, true, false, refl, subst, length, List}
+use Rattle.std.proofs.Common.{◌≡◌, ℕ, ◌+◌, Bool, true, false, refl, ap, subst, length, List}
 use Rattle.std.specs.Prelude.{◌-◌, ◌&&◌, ◌==◌, nat_le}
 use Rattle.std.proofs.lemmas.Bool.{and_parts, eqb-true, leb-true}
 use Rattle.nop_types.specs.declared.limits.TheConstants.{NUMBER_END}
@@ -7,23 +7,26 @@ use Rattle.nop_types.specs.declared.request.Request.{Request}
 use Rattle.nop_types.specs.declared.request.Entry.{Entry}
 use Rattle.nop_types.specs.declared.request.Entry.TheVariants.{NoOp, Req}
 use Rattle.nop_types.specs.Meaning.{Meaning}
-use Rattle.nop_types.specs.Slots.{laid, set_slot}
+use Rattle.nop_types.specs.Slots.{laid}
+use Rattle.replica_log.specs.Splices.{spliced, noop_above}
 use Rattle.replica_state.specs.declared.state.ReplicaState.{ReplicaState}
 use Rattle.replica_state.specs.State.{may_append}
 use Rattle.replica_state.specs.Moves.{hear, write_gap, add_gap, fill, overlay, obey, sync_commit, drain}
-use Rattle.replica_rows.specs.Rows.{gap_commit_if, gap_commit, found, sync_prepare}
+use Rattle.replica_rows.specs.Rows.{gap_commit_if, gap_commit, found, sync_prepare, drain_if_risen}
+use Rattle.replica_rows.specs.Rows as rows
 use Rattle.protocol.specs.Conf.{Conf}
 use Rattle.protocol.specs.Member.{standing}
-use Rattle.protocol.specs.Moves.{MayFollow}
+use Rattle.protocol.specs.Moves.{MayFollow, MayWriteGap}
 use Rattle.protocol.specs.Runs.{Fill, WriteGap, AddGap, Overlay, Obey}
 use Rattle.protocol.specs.Said.{Found, GapCommit, SyncPrepare, SyncCommit}
 use Rattle.refinement.specs.Projection.{member_of}
 use Rattle.refinement.specs.Replicas.{Matches}
 use Rattle.refinement.proofs.Composing.{InView, in_view_then, nothing_in_view, move_in_view, when_in_view}
-use Rattle.refinement.proofs.Draining.{drain_in_view}
+use Rattle.refinement.proofs.Draining.{drain_in_view, risen_in_view}
 use Rattle.refinement.proofs.Matching.{follows_last}
 use Rattle.refinement.proofs.Parts.{Stays, stays_still}
 use Rattle.refinement.proofs.Same.{fill_same, overlay_same}
+use Rattle.refinement.proofs.Splices.{overlay_splices, gap_splices}
 use Rattle.refinement.proofs.Staying.{append_stays, follower_stays}
 
 module _ {S : Type 0} (m : Meaning S) (f : ℕ) (c : Conf) (r : ℕ) (s : ReplicaState) (h : Matches m f c r s) where
@@ -32,10 +35,15 @@ module _ {S : Type 0} (m : Meaning S) (f : ℕ) (c : Conf) (r : ℕ) (s : Replic
   write_gap_in_view : (k : ℕ) → MayFollow c (member_of s) (GapCommit k) → nat_le k (length s.log) ≡ true
       → InView m f c r s (write_gap (hear s) k)
   write_gap_in_view k may within =
-      move_in_view m f r c s (write_gap (hear s) k) (WriteGap k) h
-      (record { may_follow = may; within = leb-true k (length s.log) within })
-      (record { state = refl; said = refl; replies = refl })
-      (follower_stays f r (standing (member_of s)) s.next (set_slot s.log k NoOp) (follows_last m f c r s h may.normal may.follows))
+      let may_write : MayWriteGap c (member_of s) k = record { may_follow = may; within = leb-true k (length s.log) within } in
+      move_in_view m f r c s (write_gap (hear s) k) (WriteGap k) h may_write
+      (record {
+        state = ap (λ (l : List Entry). member_of (record (hear s) { log = l })) (gap_splices m f c r s h k may_write);
+        said = refl;
+        replies = refl;
+      })
+      (follower_stays f r (standing (member_of s)) s.next (noop_above s.sync.sync_point s.log k)
+      (follows_last m f c r s h may.normal may.follows))
 
   add_gap_in_view : MayFollow c (member_of s) (GapCommit (length s.log + 1)) → InView m f c r s (add_gap (hear s))
   add_gap_in_view may =
@@ -79,20 +87,27 @@ module _ {S : Type 0} (m : Meaning S) (f : ℕ) (c : Conf) (r : ℕ) (s : Replic
       → Stays f r (standing (member_of s)) (standing (member_of (overlay m (hear s) l).0))
   unfolding overlay
   overlaid_stays l may =
-      follower_stays f r (standing (member_of s)) (s.next + (length l - length s.log)) (laid l s.log)
+      follower_stays f r (standing (member_of s)) (s.next + (length l - length s.log)) (laid (spliced s.sync.sync_point s.log l) s.log)
       (follows_last m f c r s h may.normal may.follows)
 
   pub sync_prepare_in_view : (l : List Entry) → MayFollow c (member_of s) (SyncPrepare l) → InView m f c r s (sync_prepare m l s)
   unfolding sync_prepare
   sync_prepare_in_view l may = when_in_view m f r c s (nat_le (s.next + (length l - length s.log)) NUMBER_END) _ h (λ e.
       in_view_then m f r c s (overlay m (hear s) l) (drain m) h
-      (move_in_view m f r c s (overlay m (hear s) l) (Overlay l) h may (overlay_same m (hear s) l) (overlaid_stays l may))
+      (move_in_view m f r c s (overlay m (hear s) l) (Overlay l) h may
+      (overlay_same m (hear s) l (overlay_splices m f c r s h l may)) (overlaid_stays l may))
       (λ d g. drain_in_view m f r d (overlay m (hear s) l).0 g))
 
-  pub sync_commit_in_view : (k : ℕ) → MayFollow c (member_of s) (SyncCommit k) → InView m f c r s (sync_commit k s)
+  obey_in_view : (k : ℕ) → MayFollow c (member_of s) (SyncCommit k) → InView m f c r s (sync_commit k s)
   unfolding sync_commit
-  sync_commit_in_view k may = when_in_view m f r c s (nat_le k s.sync.prepared) _ h (λ e.
+  obey_in_view k may = when_in_view m f r c s (nat_le k s.sync.prepared) _ h (λ e.
       move_in_view m f r c s (obey (hear s) k) (Obey k) h
       (record { may_follow = may; within = leb-true k s.sync.prepared e })
       (record { state = refl; said = refl; replies = refl })
       (stays_still f r (standing (member_of s))))
+
+  pub sync_commit_in_view : (k : ℕ) → MayFollow c (member_of s) (SyncCommit k) → InView m f c r s (rows.sync_commit m k s)
+  unfolding rows.sync_commit
+  sync_commit_in_view k may =
+      in_view_then m f r c s (sync_commit k s) (drain_if_risen m s.sync.sync_point) h (obey_in_view k may)
+      (λ d g. risen_in_view m f r s.sync.sync_point d (sync_commit k s).0 g)

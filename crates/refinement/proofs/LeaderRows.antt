@@ -1,6 +1,6 @@
 -- The rows of a leader that its followers speak to.
 use Rattle.std.proofs.Common.{◌≡◌, ℕ, ◌+◌, Bool, true, false, Option, None, Some, refl, sym, subst, length}
-use Rattle.std.specs.Prelude.{◌&&◌, ◌==◌, not, nat_lt}
+use Rattle.std.specs.Prelude.{◌&&◌, ◌==◌, not, nat_lt, nat_le, take}
 use Rattle.std.proofs.lemmas.Bool.{and_parts, eqb-true}
 use Rattle.nop_types.specs.declared.limits.TheConstants.{MAX_SLOTS, NUMBER_END}
 use Rattle.nop_types.specs.declared.peer.Body.TheVariants as bodies
@@ -13,18 +13,19 @@ use Rattle.slot_lookup.specs.Answer.{answer_by, may_begin}
 use Rattle.replica_state.specs.declared.state.ReplicaState.{ReplicaState}
 use Rattle.replica_state.specs.State.{waits}
 use Rattle.replica_state.specs.Sends.{to_replica}
-use Rattle.replica_state.specs.Moves.{open_gap, count_gap_vote, count_sync_vote, drain}
-use Rattle.replica_rows.specs.Rows.{begin_gap, slot_lookup_by, slot_lookup, gap_reply_at, gap_reply, sync_reply}
+use Rattle.replica_state.specs.Moves.{open_gap, count_gap_vote, count_sync_vote, tell_synced, drain}
+use Rattle.replica_rows.specs.Rows.{begin_gap, slot_lookup_by, slot_lookup_if, slot_lookup, gap_reply_at, gap_reply}
+use Rattle.replica_rows.specs.Rows.{sync_reply, drain_if_risen}
 use Rattle.protocol.specs.Conf.{Conf}
 use Rattle.protocol.specs.Member.{standing}
 use Rattle.protocol.specs.Moves.{MayLead, DidAnother}
 use Rattle.protocol.specs.Runs.{Say, CountGapVote, CountSyncVote}
-use Rattle.protocol.specs.Said.{Found, GapCommit, GapRep, SyncRep}
+use Rattle.protocol.specs.Said.{Found, GapCommit, GapRep, SyncPrepare, SyncRep}
 use Rattle.refinement.specs.Projection.{member_of}
 use Rattle.refinement.specs.Replicas.{Matches}
 use Rattle.refinement.proofs.Composing.{InView, in_view_then, nothing_in_view, move_in_view, when_in_view}
-use Rattle.refinement.proofs.Draining.{open_gap_in_view, drain_in_view}
-use Rattle.refinement.proofs.Matching.{leader_has}
+use Rattle.refinement.proofs.Draining.{open_gap_in_view, drain_in_view, risen_in_view}
+use Rattle.refinement.proofs.Matching.{leader_has, synced_prepared}
 use Rattle.refinement.proofs.Parts.{stays_still}
 use Rattle.refinement.proofs.Same.{count_sync_vote_same}
 use Rattle.refinement.proofs.Staying.{no_gap_from}
@@ -52,9 +53,15 @@ module _ {S : Type 0} (m : Meaning S) (f : ℕ) (c : Conf) (r : ℕ) (s : Replic
       begin_gap_in_view may (no_gap_from s.gap free.0)
   answer_in_view None false q k may at begins = nothing_in_view m f r c s s h refl
 
+  lookup_if_in_view : (b : Bool) (q k : ℕ) → MayLead (member_of s) → InView m f c r s (slot_lookup_if m b q k s)
+  lookup_if_in_view true q k may =
+      move_in_view m f r c s (tell_synced s q) (Say (SyncPrepare (take s.sync.sync_point s.log))) h (synced_prepared m f c r s h may)
+      (record { state = refl; said = refl; replies = refl }) (stays_still f r (standing (member_of s)))
+  lookup_if_in_view false q k may = answer_in_view (slot_of s.log k) (may_begin s.log (waits s.gap) k) q k may refl refl
+
   pub slot_lookup_in_view : (q k : ℕ) → MayLead (member_of s) → InView m f c r s (slot_lookup m q k s)
   unfolding slot_lookup
-  slot_lookup_in_view q k may = answer_in_view (slot_of s.log k) (may_begin s.log (waits s.gap) k) q k may refl refl
+  slot_lookup_in_view q k may = lookup_if_in_view (nat_le k s.sync.sync_point) q k may
 
   -- ---- a follower votes
 
@@ -74,7 +81,10 @@ module _ {S : Type 0} (m : Meaning S) (f : ℕ) (c : Conf) (r : ℕ) (s : Replic
   gap_reply_in_view q k vote = gap_reply_at_in_view s.gap q k refl vote
 
   pub sync_reply_in_view : (q k : ℕ) → MayLead (member_of s) → DidAnother f c (member_of s) q (SyncRep k)
-      → InView m f c r s (sync_reply q k s)
+      → InView m f c r s (sync_reply m q k s)
+  unfolding sync_reply
   sync_reply_in_view q k may vote =
-      move_in_view m f r c s (count_sync_vote s q k) (CountSyncVote q k) h (record { may_lead = may; vote = vote })
-      (count_sync_vote_same s q k) (stays_still f r (standing (member_of s)))
+      in_view_then m f r c s (count_sync_vote s q k) (drain_if_risen m s.sync.sync_point) h
+      (move_in_view m f r c s (count_sync_vote s q k) (CountSyncVote q k) h (record { may_lead = may; vote = vote })
+      (count_sync_vote_same s q k) (stays_still f r (standing (member_of s))))
+      (λ d g. risen_in_view m f r s.sync.sync_point d (count_sync_vote s q k).0 g)

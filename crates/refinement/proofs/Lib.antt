@@ -25,6 +25,7 @@ pub mod Sends
 pub mod SentRanges
 pub mod SequencerRanges
 pub mod Sequencers
+pub mod Splices
 pub mod StampedRow
 pub mod Staying
 pub mod ViewChanges

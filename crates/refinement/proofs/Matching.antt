@@ -15,12 +15,14 @@ use Rattle.log_merge.specs.Starting.{Start}
 use Rattle.started_views.specs.Past.{HadLog, LeaderHad, IsStart, entered_with}
 use Rattle.replica_state.specs.declared.state.ReplicaState.{ReplicaState}
 use Rattle.replica_state.specs.State.{leads, leader}
+use Rattle.replica_state.specs.Moves.{start_len}
 use Rattle.protocol.specs.Conf.{Conf}
 use Rattle.protocol.specs.Invariant.{GoodLog, Own}
 use Rattle.protocol.specs.Member.{Member, standing}
 use Rattle.protocol.specs.Moves.{MayLead}
-use Rattle.protocol.specs.Truth.{LeaderHas, Begun}
+use Rattle.protocol.specs.Truth.{LeaderHas, Begun, Prepared}
 use Rattle.protocol.proofs.Replying.{leads_from}
+use Rattle.protocol_sync.proofs.Above.{synced_is_prepared}
 use Rattle.refinement.specs.Projection.{member_of}
 use Rattle.refinement.specs.Replicas.{Matches}
 
@@ -76,14 +78,20 @@ module _ {S : Type 0} (m : Meaning S) (f : ℕ) (c : Conf) (r : ℕ) (s : Replic
   pub leader_has : (k : ℕ) (x : Entry) → MayLead (member_of s) → slot_of s.log k ≡ Some x → LeaderHas f c s.number s.view k x
   leader_has k x may at = record { sender = own.number ∙ leads_it may.leads; lead = s.log; leads = leader_log may; entry = at }
 
-  -- what its view started with
-  pub begun : MayLead (member_of s) → Begun f c s.number s.view (s.next - (length s.log - s.base)) (take s.base s.log)
-  begun may =
+  -- what is synchronised is in the log
+  pub synced_within : s.sync.sync_point ≤ length s.log
+  synced_within =
+      subst (λ (p : Member). p.sync.sync_point ≤ length p.log) h.state (h.sync.own r h.within).agrees.same.left
+
+  -- the first b entries, where the view started with no more
+  begun_with : (b : ℕ) → MayLead (member_of s) → s.base ≤ b → b ≤ length s.log
+      → Begun f c s.number s.view (s.next - (length s.log - b)) (take b s.log)
+  begun_with b may above high =
       let leader : r ≡ leader_of s.view (2 * f + 1) = leads_it may.leads in
       let at : s.last_normal ≡ s.view = own.place.normal may.normal in
       let base = base_is (leader ∙ ap (λ (w : View). leader_of w (2 * f + 1)) (sym at)) in
       let low = length-prefix log.start.log s.log log.begins in
-      let taken = length-take s.base s.log in
+      let taken = length-take b s.log in
       let count = counted in
       record {
         sender = own.number ∙ leader;
@@ -91,10 +99,27 @@ module _ {S : Type 0} (m : Meaning S) (f : ℕ) (c : Conf) (r : ℕ) (s : Replic
         is_start = subst (λ (w : View). IsStart c.past w log.start) at log.is_start;
         lead = s.log;
         leads = leader_log may;
-        within = omega (arith, base, low, taken);
-        begins = IsPrefixOf-take s.base s.log;
-        counted = omega (arith, base, low, taken, count);
+        within = omega (arith, base, low, taken, above, high);
+        begins = IsPrefixOf-take b s.log;
+        counted = omega (arith, base, low, taken, count, above, high);
       }
+
+  -- what its view started with, and what is synchronised
+  pub begun : MayLead (member_of s) → Begun f c s.number s.view (s.next - (length s.log - start_len s)) (take (start_len s) s.log)
+  begun may =
+      let leader : r ≡ leader_of s.view (2 * f + 1) = leads_it may.leads in
+      let at : s.last_normal ≡ s.view = own.place.normal may.normal in
+      let base = base_within (leader ∙ ap (λ (w : View). leader_of w (2 * f + 1)) (sym at)) in
+      let synced = synced_within in
+      begun_with (start_len s) may (omega arith) (omega (arith, base, synced))
+
+  -- what is synchronised
+  pub synced_prepared : MayLead (member_of s) → Prepared f c s.number s.view (take s.sync.sync_point s.log)
+  synced_prepared may =
+      let here : MayLead (c.replicas r) = subst MayLead (sym h.state) may in
+      let all = synced_is_prepared m f c r h.inv h.sync h.above h.within here in
+      subst (λ (q : ℕ). Prepared f c q s.view (take s.sync.sync_point s.log)) (sym own.number)
+      (subst (λ (p : Member). Prepared f c r p.view (take p.sync.sync_point p.log)) h.state all)
 
   -- what a replica entered its view with
   pub entered_with_it : s.status ≡ Change → c.past.entry s.number s.view ≡ Some (entered_with (standing (member_of s)))

@@ -9,14 +9,17 @@ use Rattle.nop_types.specs.declared.request.Entry.{Entry}
 use Rattle.nop_types.specs.declared.peer.Body.TheVariants as bodies
 use Rattle.log_merge.specs.Starting.{start_of}
 use Rattle.view_change.specs.Gathering.{Gathering}
+use Rattle.replica_log.specs.Splices.{spliced}
 use Rattle.replica_state.specs.declared.sending.Sending.{Sending}
 use Rattle.replica_state.specs.declared.state.ReplicaState.{ReplicaState}
-use Rattle.replica_state.specs.Moves.{adopted, adopt, open_view, open_if_enough, drain}
+use Rattle.replica_state.specs.Moves.{joined, adopted, adopt, open_view, open_if_enough, drain}
 use Rattle.replica_state.specs.Replies.{replies_above}
 use Rattle.replica_state.specs.Sends.{Effect, then_do, when, to_all}
 use Rattle.replica_state.specs.State.{others}
 use Rattle.protocol.specs.Conf.{Conf}
+use Rattle.protocol.specs.Member.{Member}
 use Rattle.protocol.specs.Moves as moves
+use Rattle.protocol.specs.Replies as replying
 use Rattle.protocol.specs.Moves.{MayOpenView, say_all}
 use Rattle.protocol.specs.Runs.{OpenView, run}
 use Rattle.protocol.specs.Said.{Said, StartView}
@@ -25,6 +28,7 @@ use Rattle.refinement.specs.Replicas.{Matches, ReplicaReaches}
 use Rattle.refinement.proofs.Composing.{matches_end, move_reaches, nothing_reaches, reaches_then_in_view}
 use Rattle.refinement.proofs.Draining.{drain_in_view}
 use Rattle.refinement.proofs.Same.{Same, said_above, replied_above}
+use Rattle.refinement.proofs.Splices.{open_splices}
 use Rattle.refinement.proofs.Sends.{said_in-append, replied_in-append, said_in-to_all, replied_in-to_all}
 
 -- moves do the step, and it enters no view
@@ -50,13 +54,17 @@ module _ {S : Type 0} (m : Meaning S) where
     abbrev replies : List Sending
     replies = replies_above m start s.sync.sync_point
 
+    -- where the own log begins as the new one does, that is the log
+    started : spliced s.sync.sync_point s.log log ≡ log → member_of start ≡ moves.adopted (member_of s) s.view next log
+    started splices = ap (λ (k : List Entry). member_of (joined s s.view next k)) splices
+
     -- before what stands in front is taken
     abbrev pub opened : Effect
     opened = (start, told ++ replies)
 
-    pub opened_same : Same opened (moves.open_view m (member_of s) g)
-    opened_same = record {
-      state = refl;
+    pub opened_same : spliced s.sync.sync_point s.log log ≡ log → Same opened (moves.open_view m (member_of s) g)
+    opened_same splices = record {
+      state = started splices;
       said =
           said_in-append told replies
           ∙ ap (λ (xs : List Said). xs ++ said_in replies) (said_in-to_all (others s == 0) s (bodies.StartView next log))
@@ -65,7 +73,8 @@ module _ {S : Type 0} (m : Meaning S) where
       replies =
           replied_in-append told replies
           ∙ ap (λ (xs : List Reply). xs ++ replied_in replies) (replied_in-to_all (others s == 0) s (bodies.StartView next log))
-          ∙ replied_above m start s.sync.sync_point;
+          ∙ replied_above m start s.sync.sync_point
+          ∙ ap (λ (p : Member). replying.replies_above m p s.sync.sync_point) (started splices);
     }
 
     pub open_view_is : open_view m g s ≡ then_do opened (drain m)
@@ -76,7 +85,7 @@ module _ {S : Type 0} (m : Meaning S) (f : ℕ) (r : ℕ) where
   pub open_view_reaches : (c : Conf) (s : ReplicaState) (g : Gathering) → Matches m f c r s → MayOpenView (member_of s) g
       → EntersNone m f c r s (open_view m g s)
   open_view_reaches c s g h may =
-      let one = move_reaches m f r c s (opened m s g) (OpenView g) h may (opened_same m s g) in
+      let one = move_reaches m f r c s (opened m s g) (OpenView g) h may (opened_same m s g (open_splices m f c r s h g may)) in
       let two = drain_in_view m f r (run m f c one.moves) (opened m s g).0 (matches_end m f r c s (opened m s g) h one) in
       subst (EntersNone m f c r s) (sym (open_view_is m s g)) (record {
         reaches = reaches_then_in_view m f r c s (opened m s g) (drain m) h one (λ d i. drain_in_view m f r d (opened m s g).0 i);

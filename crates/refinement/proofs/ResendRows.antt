@@ -16,6 +16,7 @@ use Rattle.replica_state.specs.State.{others, leads, is_normal, waits, has_room}
 use Rattle.replica_state.specs.Sends.{to_all_if, to_all, to_leader}
 use Rattle.replica_state.specs.Moves.{change_told, open_sync, repeat_commit}
 use Rattle.replica_state.specs.Repeating.{gap_again, lookup_again, change_again, resend_by, resend, sync_if, sync}
+use Rattle.replica_rows.specs.Rows as rows
 use Rattle.protocol.specs.Conf.{Conf}
 use Rattle.protocol.specs.Member.{standing}
 use Rattle.protocol.specs.Moves.{MaySay, MayLead}
@@ -24,6 +25,7 @@ use Rattle.protocol.specs.Said.{Plain, ViewChange}
 use Rattle.refinement.specs.Projection.{member_of, word_of}
 use Rattle.refinement.specs.Replicas.{Matches}
 use Rattle.refinement.proofs.Composing.{InView, in_view_then, nothing_in_view, move_in_view, when_in_view}
+use Rattle.refinement.proofs.Draining.{risen_in_view}
 use Rattle.refinement.proofs.Matching.{own, leader_has, entered_with_it}
 use Rattle.refinement.proofs.Parts.{stays_still}
 use Rattle.refinement.proofs.Same.{open_sync_same, repeat_commit_same}
@@ -69,13 +71,19 @@ module _ {S : Type 0} (m : Meaning S) (f : ℕ) (c : Conf) (r : ℕ) (s : Replic
   sync_if_in_view false longer may none =
       move_in_view m f r c s (repeat_commit s) RepeatCommit h may (repeat_commit_same s) (stays_still f r (standing (member_of s)))
 
-  pub sync_in_view : InView m f c r s (sync s)
+  sync_in_view : InView m f c r s (sync s)
   unfolding sync
   sync_in_view = when_in_view m f r c s (is_normal s.status && (leads s && not (waits s.gap))) _ h (λ e.
       let one = and_parts (is_normal s.status) (leads s && not (waits s.gap)) e in
       let two = and_parts (leads s) (not (waits s.gap)) one.1 in
       sync_if_in_view (nat_lt s.sync.sync_point (length s.log)) refl
       (record { normal = normal_from s.status one.0; leads = two.0 }) (no_gap_from s.gap two.1))
+
+  pub sync_row_in_view : InView m f c r s (rows.sync m s)
+  unfolding rows.sync
+  sync_row_in_view =
+      in_view_then m f r c s (sync s) (rows.drain_if_risen m s.sync.sync_point) h sync_in_view
+      (λ d g. risen_in_view m f r s.sync.sync_point d (sync s).0 g)
 
 -- ---- what was not answered
 

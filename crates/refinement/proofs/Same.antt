@@ -12,7 +12,9 @@ use Rattle.nop_types.specs.declared.replica_state.Vote.{Vote}
 use Rattle.nop_types.specs.declared.replica_state.Vote.TheVariants.{Settled, Waiting}
 use Rattle.nop_types.specs.declared.peer.Body.TheVariants as bodies
 use Rattle.nop_types.specs.declared.view.View.{View}
+use Rattle.nop_types.specs.Slots.{laid}
 use Rattle.sync_points.specs.Synchronisation.{vote_for}
+use Rattle.replica_log.specs.Splices.{spliced}
 use Rattle.replica_state.specs.declared.sending.Sending.{Sending}
 use Rattle.replica_state.specs.declared.state.ReplicaState.{ReplicaState}
 use Rattle.replica_state.specs.State as core_state
@@ -23,6 +25,7 @@ use Rattle.replica_state.specs.Replies.{reply_to}
 use Rattle.replica_state.specs.Moves as core
 use Rattle.replica_state.specs.Moves.{open_gap, enter, overlay}
 use Rattle.protocol.specs.Conf.{Effect}
+use Rattle.protocol.specs.Member.{Member}
 use Rattle.protocol.specs.Said.{Said}
 use Rattle.protocol.specs.Replies as replies
 use Rattle.protocol.specs.Moves as moves
@@ -112,19 +115,28 @@ module _ {S : Type 0} (m : Meaning S) where
     replies = reply_replied (core.appended s (Req r)) (length s.log + 1) r;
   }
 
-  pub overlay_same : (s : ReplicaState) (l : List Entry) → Same (overlay m s l) (moves.overlay m (member_of s) l)
+  -- with this log after it
+  abbrev overlaid_with : ReplicaState → List Entry → List Entry → ReplicaState
+  overlaid_with s l k = record (core.overlaid s l) { log = k }
+
+  -- where to keep the own entries up to the sync point is to take all
+  pub overlay_same : (s : ReplicaState) (l : List Entry) → laid (spliced s.sync.sync_point s.log l) s.log ≡ laid l s.log
+      → Same (overlay m s l) (moves.overlay m (member_of s) l)
   unfolding overlay
-  overlay_same s l =
+  overlay_same s l splices =
+      let state : member_of (core.overlaid s l) ≡ moves.overlaid (member_of s) l =
+      ap (λ (k : List Entry). member_of (overlaid_with s l k)) splices in
       let t : ReplicaState = core.overlaid s l in
       let above : List Sending = core_replies.replies_above m t (length s.log) in
       let told : List Sending = to_leader s (bodies.SyncRep (length l)) in
       record {
-        state = refl;
+        state = state;
         said = said_in-append above told ∙ ap (λ (xs : List Said). xs ++ said_in told) (said_above t (length s.log));
         replies =
             replied_in-append above told
             ∙ append-nil (replied_in above)
-            ∙ replied_above t (length s.log);
+            ∙ replied_above t (length s.log)
+            ∙ ap (λ (p : Member). replies.replies_above m p (length s.log)) state;
       }
 
 -- ---- moves of one place

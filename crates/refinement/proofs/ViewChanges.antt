@@ -11,7 +11,7 @@ use Rattle.nop_types.specs.declared.peer.Change as peer
 use Rattle.facts.proofs.Views.{is_view-true}
 use Rattle.view_change.specs.Gathering.{Gathering}
 use Rattle.replica_state.specs.declared.state.ReplicaState.{ReplicaState}
-use Rattle.replica_state.specs.Moves.{keep_change, resend_start, open_if_enough}
+use Rattle.replica_state.specs.Moves.{keep_change, start_len, resend_start, open_if_enough}
 use Rattle.replica_rows.specs.Rows.{enter_and_drain, view_change_request, gather, gather_by, take_change, view_change}
 use Rattle.replica_state.specs.Sends.{Effect, when}
 use Rattle.replica_state.specs.State.{leads, others, is_other}
@@ -95,7 +95,7 @@ module _ {S : Type 0} (m : Meaning S) (f : ℕ) (r : ℕ) where
   take_by Change c s x h told leading e = gather_by_moves s.changes c s x h told refl
   take_by Normal c s x h told leading e = record {
     reaches = move_reaches m f r c s (resend_start s x.sender)
-        (Say (StartView (s.next - (length s.log - s.base)) (take s.base s.log))) h
+        (Say (StartView (s.next - (length s.log - start_len s)) (take (start_len s) s.log))) h
         (begun m f c r s h (record { normal = e; leads = leading }))
         (record { state = refl; said = refl; replies = refl });
     view = refl;

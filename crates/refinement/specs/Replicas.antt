@@ -11,12 +11,16 @@ use Rattle.protocol.specs.Conf.{Conf}
 use Rattle.protocol.specs.Invariant.{Inv}
 use Rattle.protocol.specs.Member.{standing}
 use Rattle.protocol.specs.Runs.{Move, run, MayAll}
+use Rattle.protocol_sync.specs.Above.{GapsAreAbove}
+use Rattle.protocol_sync.specs.Synced.{Sync}
 use Rattle.refinement.specs.Projection.{member_of, said_of, said_in, replied_in}
 
--- the configuration meets the invariant, and has the replica r in this state
+-- the configuration meets the invariants, and has the replica r in this state
 pub record Matches {S : Type 0} (m : Meaning S) (f : ℕ) (c : Conf) (r : ℕ) (s : ReplicaState) : Type 0 where
   pub within : r < 2 * f + 1
   pub inv : Inv m f c
+  pub sync : Sync f c
+  pub above : GapsAreAbove f c
   pub state : c.replicas r ≡ member_of s
 
 -- all but one replica, what replicas send, and the past

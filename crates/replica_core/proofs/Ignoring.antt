@@ -1,5 +1,5 @@
 -- What changes nothing at a replica.
-use Rattle.std.proofs.Common.{◌≡◌, ℕ, ◌<◌, ◌≤◌, ◌+◌, ◌-◌, List, [], length, refl, Bool, true, false, Result, Ok, Err, arith}
+use Rattle.std.proofs.Common.{◌≡◌, ℕ, ◌<◌, ◌≤◌, ◌+◌, ◌-◌, List, [], length, refl, ap, ◌∙◌, Bool, true, false, Result, Ok, Err, arith}
 use Rattle.std.specs.Prelude.{nat_lt, nat_le, ◌==◌, ◌&&◌}
 use Rattle.std.proofs.lemmas.Bool.{ltb-true}
 use Rattle.std.proofs.lemmas.Bool.Decides.{nat_tests}
@@ -23,9 +23,11 @@ use Rattle.replica_core.specs.declared.replica.TheConstants.{LAST_MESSAGE}
 use Rattle.replica_core.specs.Ignoring.{is_for, IsIgnored, IgnoresPacket, is_of_view, Rests, IgnoresMessage}
 use Rattle.replica_rows.specs.Messages.{Arrival, by_role, in_view, on_body, on_message, arrive}
 use Rattle.replica_core.specs.ReplicaSteps.{Replica, row_if, row, fragment_if, fragment, on_datagram, next}
-use Rattle.replica_rows.specs.Rows.{gap_commit_if, gap_commit, found, sync_prepare, begin_gap, suspect, last_leader}
-use Rattle.replica_state.specs.Moves.{sync_commit}
-use Rattle.replica_state.specs.Sends.{Effect, still, when}
+use Rattle.replica_rows.specs.Rows.{gap_commit_if, gap_commit, found, sync_prepare, sync_commit, drain_if_risen, begin_gap}
+use Rattle.replica_rows.specs.Rows.{suspect, last_leader}
+use Rattle.replica_state.specs.Moves as moves
+use Rattle.replica_state.specs.Moves.{drain}
+use Rattle.replica_state.specs.Sends.{Effect, still, then_do, when}
 use Rattle.replica_state.specs.State.{may_append, is_current, is_from_leader, is_to_leader, is_other}
 use Rattle.replica_rows.proofs.Counting.{arrive_sends_few}
 
@@ -154,9 +156,17 @@ prepare_rests m s l past =
 pub begin_rests : {S : Type 0} (m : Meaning S) (s : ReplicaState) → NUMBER_END ≤ s.next → begin_gap m s ≡ still s
 begin_rests m s past = no_message s _ (nat_lt s.next NUMBER_END) (not_below s.next NUMBER_END past)
 
-pub commit_rests : (s : ReplicaState) (k : ℕ) → s.sync.prepared < k → sync_commit k s ≡ still s
+-- nothing is obeyed, so no sync point rises
+obey_rests : (s : ReplicaState) (k : ℕ) → s.sync.prepared < k → moves.sync_commit k s ≡ still s
+unfolding moves.sync_commit
+obey_rests s k past = no_message s _ (nat_le k s.sync.prepared) (above s.sync.prepared k past)
+
+pub commit_rests : {S : Type 0} (m : Meaning S) (s : ReplicaState) (k : ℕ) → s.sync.prepared < k → sync_commit m k s ≡ still s
 unfolding sync_commit
-commit_rests s k past = no_message s _ (nat_le k s.sync.prepared) (above s.sync.prepared k past)
+commit_rests m s k past =
+    let n : ℕ = s.sync.sync_point in
+    ap (λ (e : Effect). then_do e (drain_if_risen m n)) (obey_rests s k past)
+    ∙ no_message s (drain m) (nat_lt n n) (not_below n n (omega arith))
 
 pub leader_rests : {S : Type 0} (m : Meaning S) (s : ReplicaState) → last_leader ≤ s.view.leader → suspect m s ≡ still s
 leader_rests m s past = no_message s _ (nat_lt s.view.leader last_leader) (not_below s.view.leader last_leader past)

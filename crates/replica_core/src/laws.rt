@@ -9,8 +9,8 @@ ghost use Rattle.nop_types.specs.declared.request.Request.{Request};
 ghost use Rattle.fragments.specs.Cutting.{HasNoCut};
 ghost use Rattle.peer_codec.specs.Spelling.{spelling};
 ghost use Rattle.replica_state.specs.declared.state.ReplicaState.{ReplicaState};
-ghost use Rattle.replica_rows.specs.Rows.{gap_commit, found, sync_prepare, begin_gap, suspect, last_leader};
-ghost use Rattle.replica_state.specs.Moves.{sync_commit};
+ghost use Rattle.replica_rows.specs.Rows.{gap_commit, found, sync_prepare, sync_commit, begin_gap};
+ghost use Rattle.replica_rows.specs.Rows.{suspect, last_leader};
 ghost use Rattle.replica_state.specs.Sends.{still};
 ghost use Rattle.replica_state.specs.State.{may_append};
 ghost use Rattle.replica_rows.specs.Messages.{Arrival};
@@ -43,8 +43,8 @@ pub fn rows_rest_at_limits<S>()
         NUMBER_END < s.next + (length l - length s.log) → sync_prepare m l s ≡ still s }
     ensures begin { (m : Meaning S) (s : ReplicaState) → NUMBER_END ≤ s.next →
         begin_gap m s ≡ still s }
-    ensures commit { (s : ReplicaState) (k : ℕ) → s.sync.prepared < k →
-        sync_commit k s ≡ still s }
+    ensures commit { (m : Meaning S) (s : ReplicaState) (k : ℕ) → s.sync.prepared < k →
+        sync_commit m k s ≡ still s }
     ensures leader { (m : Meaning S) (s : ReplicaState) → last_leader ≤ s.view.leader →
         suspect m s ≡ still s }
 {}

@@ -1,5 +1,5 @@
 -- The entries of a log stay in their ranges.
-use Rattle.std.proofs.Common.{ℕ, zero, suc, ◌<◌, ◌≤◌, List, [], ◌∷◌, ◌++◌, length, take, arith, length-append, length-take}
+use Rattle.std.proofs.Common.{ℕ, zero, suc, ◌<◌, ◌≤◌, List, [], ◌∷◌, ◌++◌, length, take, drop, arith, length-append, length-take}
 use Rattle.std.specs.List.{AllByRecursion}
 use Rattle.std.specs.Prelude.{slice_set}
 use Rattle.nop_types.specs.declared.limits.TheConstants.{MAX_SLOTS}
@@ -7,6 +7,8 @@ use Rattle.nop_types.specs.declared.request.Entry.{Entry}
 use Rattle.nop_types.specs.Ranges.{EntryFits, LogFits}
 use Rattle.nop_types.specs.Slots.{set_slot, laid}
 use Rattle.facts.proofs.Slots.{length-laid}
+use Rattle.replica_log.specs.Splices.{spliced}
+use Rattle.replica_log.proofs.Splices.{length-spliced}
 
 each-push : (l : List Entry) (e : Entry) → AllByRecursion EntryFits l → EntryFits e → AllByRecursion EntryFits (l ++ e ∷ [])
 each-push [] e h fits = (fits, tt)
@@ -27,6 +29,15 @@ each-take zero l h = tt
 each-take (suc n) [] h = tt
 each-take (suc n) (x ∷ l) h = (h.0, each-take n l h.1)
 
+each-drop : (n : ℕ) (l : List Entry) → AllByRecursion EntryFits l → AllByRecursion EntryFits (drop n l)
+each-drop zero l h = h
+each-drop (suc n) [] h = tt
+each-drop (suc n) (x ∷ l) h = each-drop n l h.1
+
+each-both : (k l : List Entry) → AllByRecursion EntryFits k → AllByRecursion EntryFits l → AllByRecursion EntryFits (k ++ l)
+each-both [] l h g = g
+each-both (x ∷ k) l h g = (h.0, each-both k l h.1 g)
+
 length-set : (l : List Entry) (i : ℕ) (e : Entry) → length (slice_set l i e) ≤ length l
 length-set [] i e = omega arith
 length-set (x ∷ l) zero e = omega arith
@@ -44,3 +55,9 @@ laid_fits l k h g = record { len = let a = h.len in let b = g.len in omega (arit
 
 pub front_fits : (l : List Entry) (n : ℕ) → LogFits l → LogFits (take n l)
 front_fits l n h = record { len = let most = h.len in omega (arith, length-take n l); each = each-take n l h.each }
+
+pub spliced_fits : (n : ℕ) (own l : List Entry) → n ≤ length own → LogFits own → LogFits l → LogFits (spliced n own l)
+spliced_fits n own l h g k = record {
+  len = let a = g.len in let b = k.len in omega (arith, length-spliced n own l h, a, b, h);
+  each = each-both (take n own) (drop n l) (each-take n own g.each) (each-drop n l k.each);
+}

@@ -1,1 +1,2 @@
 pub mod InRanges
+pub mod Splices

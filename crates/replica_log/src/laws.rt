@@ -1,9 +1,10 @@
-ghost use Rattle.std.specs.Prelude.{◌≡◌, ◌≢◌, ◌<◌, ◌≤◌, ◌+◌, ◌++◌, ◌∷◌, [], ℕ, List, Some, length, max, take};
+ghost use Rattle.std.specs.Prelude.{◌≡◌, ◌≢◌, ◌<◌, ◌≤◌, ◌+◌, ◌-◌, ◌++◌, ◌∷◌, [], ℕ, List, Some, length, max, take};
 ghost use Rattle.nop_types.specs.declared.request.Entry.{Entry};
 ghost use Rattle.nop_types.specs.declared.request.Entry.TheVariants.{NoOp};
 ghost use Rattle.nop_types.specs.Lists.{slot_of};
 ghost use Rattle.nop_types.specs.Ranges.{EntryFits, LogFits};
 ghost use Rattle.nop_types.specs.Slots.{set_slot, laid};
+ghost use Rattle.replica_log.specs.Splices.{spliced};
 
 use nop_types::MAX_SLOTS;
 
@@ -25,11 +26,23 @@ pub fn laid_by_slot()
         ≡ slot_of k i }
 {}
 
+/// The slots of the own log up to slot n, and above it those of the other.
+pub fn spliced_by_slot()
+    ensures len { (n : ℕ) (own l : List Entry) → n ≤ length own → length (spliced n own l)
+        ≡ n + (length l - n) }
+    ensures below { (n : ℕ) (own l : List Entry) (i : ℕ) → n ≤ length own → i ≤ n →
+        slot_of (spliced n own l) i ≡ slot_of own i }
+    ensures above { (n : ℕ) (own l : List Entry) (i : ℕ) → n ≤ length own → n < i →
+        slot_of (spliced n own l) i ≡ slot_of l i }
+{}
+
 /// A log whose entries are in their ranges stays so, whatever entries in their ranges come in.
 pub fn log_stays_in_ranges()
     ensures append { (l : List Entry) (e : Entry) → LogFits l → EntryFits e → length l
         < MAX_SLOTS → LogFits (l ++ e ∷ []) }
     ensures noop { (l : List Entry) (k : ℕ) → LogFits l → LogFits (set_slot l k NoOp) }
     ensures overlay { (l k : List Entry) → LogFits l → LogFits k → LogFits (laid l k) }
+    ensures splice { (n : ℕ) (own l : List Entry) → n ≤ length own → LogFits own → LogFits l →
+        LogFits (spliced n own l) }
     ensures copy { (l : List Entry) (n : ℕ) → LogFits l → LogFits (take n l) }
 {}

@@ -2,6 +2,7 @@ ghost use Rattle.std.specs.Prelude.{
   ◌≡◌,
   ◌++◌,
   ◌∷◌,
+  ◌+◌,
   ◌-◌,
   ◌<◌,
   ◌≤◌,
@@ -21,10 +22,12 @@ ghost use Rattle.std.specs.Prelude.{
 ghost use Rattle.nop_types.specs.declared.request.Entry.TheVariants.{NoOp};
 ghost use Rattle.nop_types.specs.Lists.{slot_of};
 ghost use Rattle.nop_types.specs.Slots.{set_slot, laid};
+ghost use Rattle.replica_log.specs.Splices.{spliced};
 
 use nop_types::{Entry, Log, MAX_SLOTS, NoMemory};
 use std::alloc::Global;
 use std::marker::Model;
+use std::mem;
 
 /// A list of at most `MAX_SLOTS` entries. Slots count from 1.
 #[derive(Debug, Drop)]
@@ -54,26 +57,14 @@ fn cloned(alloc: Global, entries: &[Entry]) -> Result<Vec<Entry>, NoMemory>
     Ok(copy)
 }
 
-/// Puts the entries of `front` in the place of as many first ones.
-fn replace_front(entries: &mut Vec<Entry>, mut front: Vec<Entry>)
-    requires { length front.items ≤ length entries.old.items }
-    ensures { entries.new.items ≡ front.items ++ drop (length front.items) entries.old.items }
+/// Puts the entries of `more` in the place of as many after the first `at`.
+fn replace_at(entries: &mut Vec<Entry>, at: usize, mut more: Vec<Entry>)
+    requires { length more.items + at ≤ length entries.old.items }
+    ensures { entries.new.items
+        ≡ take at entries.old.items ++ more.items ++ drop (length more.items + at) entries.old.items }
 {
-    while let Some(entry) = front.pop() {
-        entries[front.len()] = entry;
-    }
-}
-
-/// Whether two entries are one.
-fn same_entry(a: &Entry, b: &Entry) -> bool
-    ensures { IsTrue result ↔ (a.now ≡ b.now) }
-{
-    match (a, b) {
-        (Entry::NoOp, Entry::NoOp) => true,
-        (Entry::Req(a), Entry::Req(b)) => {
-            a.client == b.client && a.id == b.id && a.op.as_slice() == b.op.as_slice()
-        }
-        _ => false,
+    while let Some(entry) = more.pop() {
+        entries[more.len() + at] = entry;
     }
 }
 
@@ -150,6 +141,22 @@ impl ReplicaLog {
         self.entries = log.into_vec();
     }
 
+    /// Takes another log in place of all entries above a slot, without a copy. The own entries
+    /// up to that slot stay.
+    #[tactic(auto, using(crate::proofs::Splices::all_kept, crate::proofs::Splices::kept_in_front))]
+    pub fn adopt_above(&mut self, slot: u32, log: Log)
+        requires { slot ≤ length self.old }
+        ensures { self.new ≡ spliced slot self.old log }
+    {
+        let mut entries = log.into_vec();
+        self.entries.truncate(slot as usize);
+        if entries.len() <= slot as usize {
+            return;
+        }
+        mem::swap(&mut self.entries, &mut entries);
+        replace_at(&mut self.entries, 0, entries);
+    }
+
     /// Takes the entries of another log over the own ones, and keeps the own ones above it. The answer is how many slots more
     /// there are.
     #[tactic(auto, using(facts::proofs::Slots::laid_parts))]
@@ -163,27 +170,30 @@ impl ReplicaLog {
         if appended > 0 {
             self.entries = front;
         } else {
-            replace_front(&mut self.entries, front);
+            replace_at(&mut self.entries, 0, front);
         }
         Ok(appended as u32)
     }
 
-    /// How many entries this log and another have in common at their front, of so many at most.
-    pub fn common_front(&self, other: &[Entry], most: usize) -> usize
-        ensures most { result ≤ most }
-        ensures common { take result self.now ≡ take result other.now }
-        ensures longest { (len : ℕ) → len ≤ most → len ≤ length self.now → len ≤ length other.now
-            → take len self.now ≡ take len other.now → len ≤ result }
+    /// Takes the entries of another log above a slot over the own ones. The own entries up to that
+    /// slot stay, and so do those above the other log.
+    #[tactic(auto, using(crate::proofs::Splices::laid_longer, crate::proofs::Splices::laid_none))]
+    pub fn overlay_above(&mut self, slot: u32, log: &Log) -> Result<(), NoMemory>
+        requires { slot ≤ length self.old }
+        ensures ok { OnOk result (self.new ≡ laid (spliced slot self.old log.now) self.old) }
+        ensures err { OnErr result (self.new ≡ self.old) }
     {
-        let end = most.min(self.entries.len()).min(other.len());
-        let mut len = 0;
-        while len < end {
-            if !same_entry(&self.entries[len], &other[len]) {
-                return len;
-            }
-            len += 1;
+        let len = log.as_slice().len();
+        if len > self.entries.len() {
+            self.adopt_above(slot, log.try_clone()?);
+            return Ok(());
         }
-        len
+        let slot = slot as usize;
+        if len > slot {
+            let above = cloned(*self.entries.allocator(), &log.as_slice()[slot..])?;
+            replace_at(&mut self.entries, slot, above);
+        }
+        Ok(())
     }
 
     /// A copy of the first `len` entries.

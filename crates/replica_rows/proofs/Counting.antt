@@ -197,6 +197,12 @@ drain_few m s = (drain_by_few m _).at s
 and_drain : {S : Type 0} (m : Meaning S) {s : ReplicaState} {e : Effect} (i : ℕ) → Few i s e → Few (i + 1) s (then_do e (drain m))
 and_drain m {s} {e} i h = then_few (drain m) i 1 (i + 1) (omega arith) h (drain_few m e.0)
 
+-- what waits is taken where the sync point rose
+and_drain_if_risen : {S : Type 0} (m : Meaning S) {s : ReplicaState} {e : Effect} (i n : ℕ) → Few i s e
+    → Few (i + 1) s (then_do e (rows.drain_if_risen m n))
+and_drain_if_risen m {s} {e} i n h =
+    then_few (rows.drain_if_risen m n) i 1 (i + 1) (omega arith) h (when_few 1 (nat_lt n e.0.sync.sync_point) (drain m) e.0 (drain_few m e.0))
+
 -- ---- views
 
 told_few : (s : ReplicaState) → Few 1 s (s, change_told s)
@@ -305,6 +311,10 @@ commit_few : (k : ℕ) (s : ReplicaState) → Few 0 s (sync_commit k s)
 unfolding sync_commit
 commit_few k s = when_few 0 (nat_le k s.sync.prepared) _ s (record { few = omega arith; config = refl })
 
+commit_row_few : {S : Type 0} (m : Meaning S) (k : ℕ) (s : ReplicaState) → Few 1 s (rows.sync_commit m k s)
+unfolding rows.sync_commit
+commit_row_few m k s = and_drain_if_risen m 0 s.sync.sync_point (commit_few k s)
+
 open_gap_few : (s : ReplicaState) → Few 1 s (open_gap s)
 unfolding open_gap
 open_gap_few s = all_few s (gap_opened s) (bodies.GapCommit (length s.log + 1)) refl
@@ -315,9 +325,13 @@ lookup_by_few m GapAgain q k s = record { few = omega arith; config = refl }
 lookup_by_few m Begin q k s = when_few 2 (nat_lt s.next NUMBER_END) (λ t. then_do (open_gap t) (drain m)) s (and_drain m 1 (open_gap_few s))
 lookup_by_few m answers.Nothing q k s = still_few 2 s
 
+lookup_if_few : {S : Type 0} (m : Meaning S) (b : Bool) (q k : ℕ) (s : ReplicaState) → Few 2 s (rows.slot_lookup_if m b q k s)
+lookup_if_few m true q k s = record { few = omega arith; config = refl }
+lookup_if_few m false q k s = lookup_by_few m (answer_of s.log (waits s.gap) k) q k s
+
 lookup_few : {S : Type 0} (m : Meaning S) (q k : ℕ) (s : ReplicaState) → Few 2 s (rows.slot_lookup m q k s)
 unfolding rows.slot_lookup
-lookup_few m q k s = lookup_by_few m (answer_of s.log (waits s.gap) k) q k s
+lookup_few m q k s = lookup_if_few m (nat_le k s.sync.sync_point) q k s
 
 gap_reply_at_few : {S : Type 0} (m : Meaning S) (o : Option Agreement) (q k : ℕ) (s : ReplicaState) → Few 1 s (rows.gap_reply_at m o q k s)
 gap_reply_at_few m None q k s = still_few 1 s
@@ -331,8 +345,10 @@ commit_if_few : (s t : ReplicaState) (k : ℕ) (v : Vote) → t.config ≡ s.con
 commit_if_few s t k Settled e = all_few s t (bodies.SyncCommit k) e
 commit_if_few s t k Waiting e = record { few = omega arith; config = e }
 
-sync_reply_few : (q k : ℕ) (s : ReplicaState) → Few 1 s (rows.sync_reply q k s)
-sync_reply_few q k s = commit_if_few s (count_sync_vote s q k).0 k (vote_for s.sync q k) refl
+sync_reply_few : {S : Type 0} (m : Meaning S) (q k : ℕ) (s : ReplicaState) → Few 2 s (rows.sync_reply m q k s)
+unfolding rows.sync_reply
+sync_reply_few m q k s =
+    and_drain_if_risen m 1 s.sync.sync_point (commit_if_few s (count_sync_vote s q k).0 k (vote_for s.sync q k) refl)
 
 -- ---- messages
 
@@ -340,7 +356,7 @@ from_leader_few : {S : Type 0} (m : Meaning S) (body : Body) (s : ReplicaState) 
 from_leader_few m (bodies.GapCommit k) s = gap_commit_few m k s
 from_leader_few m (bodies.Found k r) s = more 1 2 (omega arith) (found_few m k r s)
 from_leader_few m (bodies.SyncPrepare l) s = prepare_few m l s
-from_leader_few m (bodies.SyncCommit k) s = more 0 2 (omega arith) (commit_few k s)
+from_leader_few m (bodies.SyncCommit k) s = more 1 2 (omega arith) (commit_row_few m k s)
 from_leader_few m (bodies.SlotLookup k) s = still_few 2 s
 from_leader_few m (bodies.GapRep k) s = still_few 2 s
 from_leader_few m (bodies.SyncRep k) s = still_few 2 s
@@ -351,7 +367,7 @@ from_leader_few m (bodies.StartView x l) s = still_few 2 s
 from_follower_few : {S : Type 0} (m : Meaning S) (q : ℕ) (body : Body) (s : ReplicaState) → Few 2 s (from_follower m q body s)
 from_follower_few m q (bodies.SlotLookup k) s = lookup_few m q k s
 from_follower_few m q (bodies.GapRep k) s = more 1 2 (omega arith) (gap_reply_few m q k s)
-from_follower_few m q (bodies.SyncRep k) s = more 1 2 (omega arith) (sync_reply_few q k s)
+from_follower_few m q (bodies.SyncRep k) s = sync_reply_few m q k s
 from_follower_few m q (bodies.GapCommit k) s = still_few 2 s
 from_follower_few m q (bodies.Found k r) s = still_few 2 s
 from_follower_few m q (bodies.SyncPrepare l) s = still_few 2 s
@@ -428,11 +444,15 @@ sync_few s =
     when_few 1 (is_normal s.status && (leads s && not (waits s.gap))) (λ t. sync_if (nat_lt t.sync.sync_point (length t.log)) t) s
     (sync_if_few (nat_lt s.sync.sync_point (length s.log)) s)
 
+sync_row_few : {S : Type 0} (m : Meaning S) (s : ReplicaState) → Few 2 s (rows.sync m s)
+unfolding rows.sync
+sync_row_few m s = and_drain_if_risen m 1 s.sync.sync_point (sync_few s)
+
 tick_few : {S : Type 0} (m : Meaning S) (s : ReplicaState) (tick : Tick) → Few 8 s (ticked m tick s)
 tick_few m s ticks.Suspect = suspect_few m s
 tick_few m s ticks.Watch = watch_few m (is_normal s.status && leads s) s.heard s
 tick_few m s ticks.Resend = more 2 8 (omega arith) (resend_few s)
-tick_few m s ticks.Sync = more 1 8 (omega arith) (sync_few s)
+tick_few m s ticks.Sync = more 2 8 (omega arith) (sync_row_few m s)
 tick_few m s ticks.Retry = still_few 8 s
 tick_few m s ticks.Next = still_few 8 s
 tick_few m s ticks.Probe = still_few 8 s

@@ -1,8 +1,7 @@
 -- A state of which fields change stays in its ranges, and so do its sync point and rounds.
-use Rattle.std.proofs.Common.{◌≡◌, ◌≤◌, ℕ, Bool, true, false, cond, Option, Some, None, refl, arith}
+use Rattle.std.proofs.Common.{◌≡◌, ◌≤◌, ℕ, Bool, true, false, cond, Option, Some, None, refl, arith, length}
 use Rattle.std.specs.Prelude.{◌==◌, nat_lt, nat_le, max, IfSome}
 use Rattle.std.proofs.lemmas.Bool.Decides.{nat_tests}
-use Rattle.nop_types.specs.declared.limits.TheConstants.{MAX_SLOTS}
 use Rattle.nop_types.specs.declared.replica_state.Phase.TheVariants.{Normal}
 use Rattle.nop_types.specs.declared.replica_state.Vote.{Vote}
 use Rattle.nop_types.specs.declared.replica_state.Vote.TheVariants.{Settled, Waiting}
@@ -16,17 +15,28 @@ use Rattle.replica_state.specs.Within.{IsWithin}
 
 -- ---- changes of fields
 
--- the fields of a synchronisation
-pub record SyncFits (x : Synchronisation) : Type 0 where
-  pub sync_point : x.sync_point ≤ MAX_SLOTS
-  pub syncing : IfSome x.syncing (λ r. r.len ≤ MAX_SLOTS)
-  pub prepared : x.prepared ≤ MAX_SLOTS
+-- what a synchronisation says is of a log of length n
+pub record SyncFits (n : ℕ) (x : Synchronisation) : Type 0 where
+  pub sync_point : x.sync_point ≤ n
+  pub syncing : IfSome x.syncing (λ r. r.len ≤ n)
+  pub prepared : x.prepared ≤ n
 
-pub sync_of : (s : ReplicaState) → IsWithin s → SyncFits s.sync
+pub sync_of : (s : ReplicaState) → IsWithin s → SyncFits (length s.log) s.sync
 sync_of s w = record { sync_point = w.sync_point; syncing = w.syncing; prepared = w.prepared }
 
+-- and so of a longer one
+pub sync_longer : (n k : ℕ) (x : Synchronisation) → n ≤ k → SyncFits n x → SyncFits k x
+sync_longer n k x le fits =
+    let low = fits.sync_point in
+    let high = fits.prepared in
+    record { sync_point = omega (arith, le, low); syncing = at x.syncing fits.syncing; prepared = omega (arith, le, high) }
+  where
+    at : (o : Option Round) → IfSome o (λ r. r.len ≤ n) → IfSome o (λ r. r.len ≤ k)
+    at None h = tt
+    at (Some r) h = omega (arith, le, h)
+
 with_each : (s : ReplicaState) (x : Receiving) (o : Option Agreement) (n : ℕ) (b : Bool) (y : Synchronisation) → IsWithin s
-    → (s.status ≡ Normal → x.next ≡ s.next) → IfSome o (λ g. SlotFits g.slot) → SyncFits y
+    → (s.status ≡ Normal → x.next ≡ s.next) → IfSome o (λ g. SlotFits g.slot) → SyncFits (length s.log) y
     → IsWithin (record s { receiver = x; gap = o; asked = n; heard = b; sync = y })
 with_each s x o n b y w next gap sync = record {
   number = w.number;
@@ -58,45 +68,45 @@ with_asked s n w = with_each s s.receiver s.gap n s.heard s.sync w w.receiver w.
 pub with_heard : (s : ReplicaState) (b : Bool) → IsWithin s → IsWithin (record s { heard = b })
 with_heard s b w = with_each s s.receiver s.gap s.asked b s.sync w w.receiver w.gap (sync_of s w)
 
-pub with_sync : (s : ReplicaState) (x : Synchronisation) → IsWithin s → SyncFits x → IsWithin (record s { sync = x })
+pub with_sync : (s : ReplicaState) (x : Synchronisation) → IsWithin s → SyncFits (length s.log) x → IsWithin (record s { sync = x })
 with_sync s x w fits = with_each s s.receiver s.gap s.asked s.heard x w w.receiver w.gap fits
 
 -- ---- rounds
 
-pub with_round_fits : (s : Synchronisation) (len : ℕ) → SyncFits s → len ≤ MAX_SLOTS → SyncFits (synchronisation.with_round s len)
-with_round_fits s len fits le = at (nat_lt s.sync_point len)
+pub with_round_fits : (n : ℕ) (s : Synchronisation) (len : ℕ) → SyncFits n s → len ≤ n → SyncFits n (synchronisation.with_round s len)
+with_round_fits n s len fits le = at (nat_lt s.sync_point len)
   where
-    alone : (b : Bool) → SyncFits (synchronisation.begun b s len)
+    alone : (b : Bool) → SyncFits n (synchronisation.begun b s len)
     alone true = record { sync_point = le; syncing = tt; prepared = fits.prepared }
     alone false = record { sync_point = fits.sync_point; syncing = le; prepared = fits.prepared }
 
-    at : (b : Bool) → SyncFits (cond b (synchronisation.begun (s.f == 0) s len) s)
+    at : (b : Bool) → SyncFits n (cond b (synchronisation.begun (s.f == 0) s len) s)
     at true = alone (s.f == 0)
     at false = fits
 
-pub committed_fits : (s : Synchronisation) (len : ℕ) → SyncFits s → SyncFits (synchronisation.committed s len)
-committed_fits s len fits = at (nat_le len s.prepared) refl
+pub committed_fits : (n : ℕ) (s : Synchronisation) (len : ℕ) → SyncFits n s → SyncFits n (synchronisation.committed s len)
+committed_fits n s len fits = at (nat_le len s.prepared) refl
   where
-    at : (b : Bool) → nat_le len s.prepared ≡ b → SyncFits (cond b (record s { sync_point = max s.sync_point len }) s)
+    at : (b : Bool) → nat_le len s.prepared ≡ b → SyncFits n (cond b (record s { sync_point = max s.sync_point len }) s)
     at true e =
         let low = fits.sync_point in
         let high = fits.prepared in
         record { sync_point = grind (arith, nat_tests, e, low, high); syncing = fits.syncing; prepared = fits.prepared }
     at false e = fits
 
-round_fits : (x : Round) (q len : ℕ) → x.len ≤ MAX_SLOTS → (synchronisation.with_vote_for x q len).len ≤ MAX_SLOTS
-round_fits x q len le = at (x.len == len)
+round_fits : (n : ℕ) (x : Round) (q len : ℕ) → x.len ≤ n → (synchronisation.with_vote_for x q len).len ≤ n
+round_fits n x q len le = at (x.len == len)
   where
-    at : (b : Bool) → (cond b (record x { votes = Rattle.gap_agree.specs.Votes.with_vote x.votes q }) x).len ≤ MAX_SLOTS
+    at : (b : Bool) → (cond b (record x { votes = Rattle.gap_agree.specs.Votes.with_vote x.votes q }) x).len ≤ n
     at true = le
     at false = le
 
-closed_fits : (s : Synchronisation) (x : Round) (v : Vote) → SyncFits s → x.len ≤ MAX_SLOTS → SyncFits (synchronisation.closed s x v)
-closed_fits s x Settled fits le = record { sync_point = le; syncing = tt; prepared = fits.prepared }
-closed_fits s x Waiting fits le = record { sync_point = fits.sync_point; syncing = le; prepared = fits.prepared }
+closed_fits : (n : ℕ) (s : Synchronisation) (x : Round) (v : Vote) → SyncFits n s → x.len ≤ n → SyncFits n (synchronisation.closed s x v)
+closed_fits n s x Settled fits le = record { sync_point = le; syncing = tt; prepared = fits.prepared }
+closed_fits n s x Waiting fits le = record { sync_point = fits.sync_point; syncing = le; prepared = fits.prepared }
 
-pub counted_in_fits : (s : Synchronisation) (o : Option Round) (q len : ℕ) → SyncFits s → IfSome o (λ r. r.len ≤ MAX_SLOTS)
-    → SyncFits (synchronisation.counted_in s o q len)
-counted_in_fits s None q len fits le = fits
-counted_in_fits s (Some x) q len fits le =
-    closed_fits s (synchronisation.with_vote_for x q len) (synchronisation.round_vote s.f x q len) fits (round_fits x q len le)
+pub counted_in_fits : (n : ℕ) (s : Synchronisation) (o : Option Round) (q len : ℕ) → SyncFits n s → IfSome o (λ r. r.len ≤ n)
+    → SyncFits n (synchronisation.counted_in s o q len)
+counted_in_fits n s None q len fits le = fits
+counted_in_fits n s (Some x) q len fits le =
+    closed_fits n s (synchronisation.with_vote_for x q len) (synchronisation.round_vote s.f x q len) fits (round_fits n x q len le)

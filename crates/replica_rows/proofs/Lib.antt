@@ -7,3 +7,4 @@ pub mod Ready
 pub mod Replying
 pub mod Rows
 pub mod Running
+pub mod Synchronised

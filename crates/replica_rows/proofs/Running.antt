@@ -1,17 +1,16 @@
 -- Moves keep a replica's state within its ranges, and what was executed.
 use Rattle.std.proofs.Common.{◌≡◌, ◌<◌, ◌≤◌, ◌+◌, ◌-◌, ℕ, zero, suc, Bool, true, false, List, [], ◌∷◌, ◌++◌, length, take, refl, sym, ap}
-use Rattle.std.proofs.Common.{subst, ◌∙◌, arith, append_assoc, append-nil, length-append, inl, inr}
-use Rattle.std.specs.Prelude.{cond, ◌⊎◌, slice_get, slice_set, not, ◌==◌, ◌&&◌, nat_le, nat_lt, IfSome}
+use Rattle.std.proofs.Common.{subst, ◌∙◌, arith, append_assoc, append-nil, length-append}
+use Rattle.std.specs.Prelude.{cond, not, ◌==◌, ◌&&◌, nat_le, nat_lt, IfSome}
 use Rattle.std.specs.Prelude.{Option, Some, None, Result, Ok, Err, OnOk}
 use Rattle.std.specs.List.{AllByRecursion}
 use Rattle.std.proofs.lemmas.Bool.{ltb-true, and_parts}
-use Rattle.std.proofs.lemmas.Option.{same_Some}
+use Rattle.std.proofs.lemmas.Bool.Decides.{nat_tests}
 use Rattle.nop_types.specs.declared.host.Host.{Ghosts}
 use Rattle.nop_types.specs.declared.limits.TheConstants.{MAX_SLOTS, NUMBER_END}
 use Rattle.nop_types.specs.declared.request.Request.{Request}
 use Rattle.nop_types.specs.declared.request.Entry.{Entry}
 use Rattle.nop_types.specs.declared.request.Entry.TheVariants.{NoOp, Req}
-use Rattle.nop_types.specs.Lists.{slot_of}
 use Rattle.nop_types.specs.Slots.{set_slot, laid}
 use Rattle.nop_types.specs.Ranges.{EntryFits, RequestFits, LogFits, SlotFits, ViewFits, NextFits, ChangeFits}
 use Rattle.gap_agree.specs.Agreement.{Agreement, begun}
@@ -27,10 +26,13 @@ use Rattle.sync_points.specs.Synchronisation.{with_round, committed}
 use Rattle.view_change.specs.Gathering.{Gathering, counted}
 use Rattle.executor.specs.Running.{Running}
 use Rattle.executor.proofs.FrontLemmas.{on_front, on_append, on_slot}
-use Rattle.replica_log.proofs.InRanges.{append_fits, slot_fits, laid_fits}
+use Rattle.replica_log.proofs.InRanges.{append_fits, slot_fits, laid_fits, spliced_fits}
+use Rattle.replica_log.proofs.Splices.{length-spliced}
+use Rattle.replica_log.specs.Splices.{spliced, noop_above}
 use Rattle.replica_state.specs.declared.state.ReplicaState.{ReplicaState}
 use Rattle.replica_state.specs.State.{may_append, drains, leads, others, waits, is_normal, unless_settled}
-use Rattle.replica_state.specs.Moves.{begin_session, appended, gap_opened, ask_if, ask, logged, adopted, overlaid, hear, obey, sync_commit}
+use Rattle.replica_state.specs.Moves.{begin_session, appended, gap_opened, gap_written, ask_if, ask, logged, adopted, overlaid}
+use Rattle.replica_state.specs.Moves.{hear, obey, sync_commit}
 use Rattle.replica_state.specs.Repeating.{sync_if, sync}
 use Rattle.replica_rows.specs.Keeping.{kept_by}
 use Rattle.replica_state.specs.Within.{IsWithin}
@@ -38,7 +40,7 @@ use Rattle.replica_state.specs.Sends.{Effect, still, then_do, when}
 use Rattle.replica_rows.specs.declared.member.Member.{Member}
 use Rattle.replica_rows.specs.Within.{Runs, IsRunning, Does}
 use Rattle.replica_rows.proofs.Opening.{counted_fits}
-use Rattle.replica_rows.proofs.Fields.{sync_of, with_asked, with_heard, with_sync, with_round_fits, committed_fits}
+use Rattle.replica_rows.proofs.Fields.{sync_of, sync_longer, with_asked, with_heard, with_sync, with_round_fits, committed_fits}
 
 -- ---- at Ok
 
@@ -93,6 +95,7 @@ append_within s e w fits may =
     let base = w.base in
     let start = w.start in
     let len = length-append s.log (e ∷ []) in
+    let sync = sync_longer (length s.log) (length (s.log ++ e ∷ [])) s.sync (omega (arith, len)) (sync_of s w) in
     record {
       number = w.number;
       few = w.few;
@@ -104,9 +107,9 @@ append_within s e w fits may =
       start = omega arith;
       receiver = λ _. refl;
       gap = w.gap;
-      sync_point = w.sync_point;
-      syncing = w.syncing;
-      prepared = w.prepared;
+      sync_point = sync.sync_point;
+      syncing = sync.syncing;
+      prepared = sync.prepared;
       changes = w.changes;
     }
 
@@ -140,6 +143,7 @@ logged_within s r w fits d more =
     let base = w.base in
     let start = w.start in
     let len = length-append s.log (Req r ∷ []) in
+    let sync = sync_longer (length s.log) (length (s.log ++ Req r ∷ [])) s.sync (omega (arith, len)) (sync_of s w) in
     record {
       number = w.number;
       few = w.few;
@@ -151,42 +155,47 @@ logged_within s r w fits d more =
       start = omega arith;
       receiver = λ e. ap (λ n. n + 1) (w.receiver e);
       gap = w.gap;
-      sync_point = w.sync_point;
-      syncing = w.syncing;
-      prepared = w.prepared;
+      sync_point = sync.sync_point;
+      syncing = sync.syncing;
+      prepared = sync.prepared;
       changes = w.changes;
     }
 
 -- ---- a slot becomes a NO-OP
 
-set_same : (l : List Entry) (i : ℕ) (e : Entry) → slice_get l i ≡ Some e → slice_set l i e ≡ l
-set_same [] i e h = refl
-set_same (x ∷ l) zero e h = ap (λ y. y ∷ l) (sym (same_Some _ _ h))
-set_same (x ∷ l) (suc i) e h = ap (λ k. x ∷ k) (set_same l i e h)
+-- a log in its ranges, of the same length
+record Fits (n : ℕ) (l : List Entry) : Type 0 where
+  log : LogFits l
+  len : length l ≡ n
 
-slot_same : (l : List Entry) (k : ℕ) (e : Entry) → slot_of l k ≡ Some e → set_slot l k e ≡ l
-slot_same l zero e h = refl
-slot_same l (suc i) e h = set_same l i e h
+noop_fits : (n k : ℕ) (l : List Entry) → LogFits l → Fits (length l) (noop_above n l k)
+noop_fits n k l fits = at (nat_le k n)
+  where
+    at : (b : Bool) → Fits (length l) (cond b l (set_slot l k NoOp))
+    at true = record { log = fits; len = refl }
+    at false = record { log = slot_fits l k NoOp fits tt; len = length-set_slot l k NoOp }
 
-pub noop_within : (s : ReplicaState) (k : ℕ) → IsWithin s → IsWithin (record s { log = set_slot s.log k NoOp })
+pub noop_within : (s : ReplicaState) (k : ℕ) → IsWithin s → IsWithin (gap_written s k)
 noop_within s k w =
-    let same = length-set_slot s.log k NoOp in
+    let new = noop_fits s.sync.sync_point k s.log w.log in
+    let same = new.len in
     let base = w.base in
     let start = w.start in
+    let sync = sync_longer (length s.log) (length (gap_written s k).log) s.sync (omega (arith, same)) (sync_of s w) in
     record {
       number = w.number;
       few = w.few;
       view = w.view;
       last_normal = w.last_normal;
-      log = slot_fits s.log k NoOp w.log tt;
+      log = new.log;
       next = w.next;
-      base = omega arith;
-      start = omega arith;
+      base = omega (arith, same, base);
+      start = omega (arith, same, start);
       receiver = w.receiver;
       gap = w.gap;
-      sync_point = w.sync_point;
-      syncing = w.syncing;
-      prepared = w.prepared;
+      sync_point = sync.sync_point;
+      syncing = sync.syncing;
+      prepared = sync.prepared;
       changes = w.changes;
     }
 
@@ -200,18 +209,19 @@ pub adopted_within : (s : ReplicaState) (v : View) (x : ℕ) (l : List Entry) �
     → IsWithin (adopted s v x l)
 adopted_within s v x l w view next log =
     let low = next.low in
+    let len = length-spliced s.sync.sync_point s.log l w.sync_point in
     record {
       number = w.number;
       few = w.few;
       view = view;
       last_normal = view;
-      log = log;
+      log = spliced_fits s.sync.sync_point s.log l w.sync_point w.log log;
       next = next;
       base = omega arith;
       start = omega arith;
       receiver = λ _. from_next (nat_lt s.receiver.session v.session) _ _ x refl refl;
       gap = tt;
-      sync_point = w.sync_point;
+      sync_point = omega (arith, len);
       syncing = tt;
       prepared = omega arith;
       changes = tt;
@@ -258,10 +268,26 @@ pub gathers_within : (s : ReplicaState) (g : Gathering) → IsWithin s → AllBy
     → IsWithin (record s { changes = Some g })
 gathers_within s g w fits = with_changes s (Some g) w fits
 
+taken_front : (i n : ℕ) (l : List Entry) → i ≤ n → take i (take n l) ≡ take i l
+taken_front zero n l h = refl
+taken_front (suc i) zero l h = absurd (omega (arith, h))
+taken_front (suc i) (suc n) [] h = refl
+taken_front (suc i) (suc n) (x ∷ l) h = ap (λ (t : List Entry). x ∷ t) (taken_front i n l (omega (arith, h)))
+
+-- what is kept in front of another log
+pub spliced_front : (i n : ℕ) (own l : List Entry) → i ≤ n → n ≤ length own → take i (spliced n own l) ≡ take i own
+spliced_front zero n own l low high = refl
+spliced_front (suc i) zero own l low high = absurd (omega (arith, low))
+spliced_front (suc i) (suc n) [] l low high = absurd (omega (arith, high))
+spliced_front (suc i) (suc n) (y ∷ own) [] low high =
+    ap (λ (t : List Entry). y ∷ take i t) (append-nil (take n own)) ∙ ap (λ (t : List Entry). y ∷ t) (taken_front i n own (omega (arith, low)))
+spliced_front (suc i) (suc n) (y ∷ own) (x ∷ l) low high =
+    ap (λ (t : List Entry). y ∷ t) (spliced_front i n own l (omega (arith, low)) (omega (arith, high)))
+
 -- ---- the leader's log is laid over
 
 -- where both logs agree, so does what is laid over
-laid_front : (l k : List Entry) (n : ℕ) → take n l ≡ take n k → n ≤ length k → take n (laid l k) ≡ take n k
+pub laid_front : (l k : List Entry) (n : ℕ) → take n l ≡ take n k → n ≤ length k → take n (laid l k) ≡ take n k
 laid_front [] k n same le = refl
 laid_front (x ∷ l) [] n same le = same
 laid_front (x ∷ l) (y ∷ k) zero same le = refl
@@ -273,26 +299,29 @@ laid_front (x ∷ l) (y ∷ k) (suc n) same le =
 pub overlaid_within : (s : ReplicaState) (l : List Entry) → IsWithin s → LogFits l → s.next + (length l - length s.log) ≤ NUMBER_END
     → IsWithin (overlaid s l)
 overlaid_within s l w fits high =
-    let len = length-laid l s.log in
+    let new : List Entry = spliced s.sync.sync_point s.log l in
+    let some = w.sync_point in
+    let first = length-spliced s.sync.sync_point s.log l some in
+    let len = length-laid new s.log in
     let low = w.next.low in
     let base = w.base in
     let start = w.start in
-    let most = fits.len in
     let prepared = w.prepared in
+    let sync = sync_longer (length s.log) (length (laid new s.log)) s.sync (omega (arith, len)) (sync_of s w) in
     record {
       number = w.number;
       few = w.few;
       view = w.view;
       last_normal = w.last_normal;
-      log = laid_fits l s.log fits w.log;
+      log = laid_fits new s.log (spliced_fits s.sync.sync_point s.log l some w.log fits) w.log;
       next = record { low = omega arith; high = high };
-      base = grind (arith, len, base);
-      start = grind (arith, len, base, start);
+      base = omega (arith, len, base);
+      start = omega (arith, len, first, some, base, start);
       receiver = λ _. refl;
       gap = w.gap;
-      sync_point = w.sync_point;
-      syncing = w.syncing;
-      prepared = grind (arith, most, prepared);
+      sync_point = sync.sync_point;
+      syncing = sync.syncing;
+      prepared = omega (arith, len, first, some, prepared);
       changes = w.changes;
     }
 
@@ -315,29 +344,38 @@ module _ {H U : Type 0} (host : Ghosts H U) where
       })
 
   pub noop_runs : (s t : ReplicaState) (x : Running H U) (k : ℕ) → t ≡ record s { log = set_slot s.log k NoOp } → Runs host s x
-      → (length x.undos < k) ⊎ (slot_of s.log k ≡ Some NoOp) → Runs host t x
-  noop_runs s t x k is r (inl less) =
-      rw is (record { within = noop_within s k r.within; run = on_slot host.meaning host.undo_of s.log k NoOp _ _ r.run less })
-  noop_runs s t x k is r (inr there) = rw is (record { within = noop_within s k r.within; run = rw (slot_same s.log k NoOp there) r.run })
+      → length x.undos ≤ s.sync.sync_point → s.sync.sync_point < k → Runs host t x
+  noop_runs s t x k is r behind above =
+      let free : nat_le k s.sync.sync_point ≡ false = grind (arith, nat_tests, above) in
+      let same : gap_written s k ≡ record s { log = set_slot s.log k NoOp } =
+      ap (λ (b : Bool). record s { log = cond b s.log (set_slot s.log k NoOp) }) free in
+      rw is (record {
+        within = subst IsWithin same (noop_within s k r.within);
+        run = on_slot host.meaning host.undo_of s.log k NoOp _ _ r.run (omega (arith, behind, above));
+      })
 
   pub gathers_runs : (s t : ReplicaState) (x : Running H U) (g : Gathering) → t ≡ record s { changes = Some g } → Runs host s x
       → AllByRecursion ChangeFits g.changes → Runs host t x
   gathers_runs s t x g is r fits = rw is (record { within = gathers_within s g r.within fits; run = r.run })
 
   pub adopted_runs : (s t : ReplicaState) (x : Running H U) (v : View) (n : ℕ) (l : List Entry) → t ≡ adopted s v n l → Runs host s x
-      → take (length x.undos) l ≡ take (length x.undos) s.log → ViewFits v → NextFits n → LogFits l → Runs host t x
-  adopted_runs s t x v n l is r same view next log =
+      → length x.undos ≤ s.sync.sync_point → ViewFits v → NextFits n → LogFits l → Runs host t x
+  adopted_runs s t x v n l is r behind view next log =
       rw is (record {
         within = adopted_within s v n l r.within view next log;
-        run = on_front host.meaning host.undo_of s.log l _ _ r.run same;
+        run = on_front host.meaning host.undo_of s.log (spliced s.sync.sync_point s.log l) _ _ r.run
+            (spliced_front (length x.undos) s.sync.sync_point s.log l behind r.within.sync_point);
       })
 
   pub overlaid_runs : (s t : ReplicaState) (x : Running H U) (l : List Entry) → t ≡ overlaid s l → Runs host s x
-      → take (length x.undos) l ≡ take (length x.undos) s.log → LogFits l → s.next + (length l - length s.log) ≤ NUMBER_END → Runs host t x
-  overlaid_runs s t x l is r same fits high =
+      → length x.undos ≤ s.sync.sync_point → LogFits l → s.next + (length l - length s.log) ≤ NUMBER_END → Runs host t x
+  overlaid_runs s t x l is r behind fits high =
+      let new : List Entry = spliced s.sync.sync_point s.log l in
       rw is (record {
         within = overlaid_within s l r.within fits high;
-        run = on_front host.meaning host.undo_of s.log (laid l s.log) _ _ r.run (laid_front l s.log (length x.undos) same r.run.within);
+        run = on_front host.meaning host.undo_of s.log (laid new s.log) _ _ r.run
+            (laid_front new s.log (length x.undos) (spliced_front (length x.undos) s.sync.sync_point s.log l behind r.within.sync_point)
+            r.run.within);
       })
 
   pub begun_runs : (s t : ReplicaState) (x : Running H U) (p : Stamped) → t ≡ begin_session s p → Runs host s x → Runs host t x
@@ -365,7 +403,7 @@ module _ {H U : Type 0} (host : Ghosts H U) where
       by : (b : Bool) → Runs host (sync_if b s).0 x
       by true = record {
         within = with_sync s (with_round s.sync (length s.log)) r.within
-            (with_round_fits s.sync (length s.log) (sync_of s r.within) r.within.log.len);
+            (with_round_fits (length s.log) s.sync (length s.log) (sync_of s r.within) (omega arith));
         run = r.run;
       }
       by false = r
@@ -380,7 +418,7 @@ module _ {H U : Type 0} (host : Ghosts H U) where
     where
       at : (b : Bool) → Runs host (when b (λ t. obey (hear t) k) s).0 x
       at true = record {
-        within = with_sync (hear s) (committed s.sync k) (with_heard s true r.within) (committed_fits s.sync k (sync_of s r.within));
+        within = with_sync (hear s) (committed s.sync k) (with_heard s true r.within) (committed_fits (length s.log) s.sync k (sync_of s r.within));
         run = r.run;
       }
       at false = r

@@ -13,8 +13,7 @@ use Rattle.replica_rows.specs.declared.arrivals.Arrival.TheVariants as arrivals
 use Rattle.replica_state.specs.declared.state.ReplicaState.{ReplicaState}
 use Rattle.replica_state.specs.State.{is_other, is_from_leader, is_to_leader}
 use Rattle.replica_state.specs.Sends.{Effect, still, when}
-use Rattle.replica_state.specs.Moves.{sync_commit}
-use Rattle.replica_state.specs.Repeating.{resend, sync}
+use Rattle.replica_state.specs.Repeating.{resend}
 use Rattle.replica_rows.specs.Rows as rows
 
 -- what a replica takes: a stamped request, a message of another replica, or a tick
@@ -35,7 +34,7 @@ abbrev pub from_leader : {S : Type 0} → Meaning S → Body → ReplicaState �
 from_leader m (bodies.GapCommit k) s = rows.gap_commit m k s
 from_leader m (bodies.Found k r) s = rows.found m k r s
 from_leader m (bodies.SyncPrepare l) s = rows.sync_prepare m l s
-from_leader m (bodies.SyncCommit k) s = sync_commit k s
+from_leader m (bodies.SyncCommit k) s = rows.sync_commit m k s
 from_leader m (bodies.SlotLookup k) s = still s
 from_leader m (bodies.GapRep k) s = still s
 from_leader m (bodies.SyncRep k) s = still s
@@ -46,7 +45,7 @@ from_leader m (bodies.StartView x l) s = still s
 abbrev pub from_follower : {S : Type 0} → Meaning S → ℕ → Body → ReplicaState → Effect
 from_follower m q (bodies.SlotLookup k) s = rows.slot_lookup m q k s
 from_follower m q (bodies.GapRep k) s = rows.gap_reply m q k s
-from_follower m q (bodies.SyncRep k) s = rows.sync_reply q k s
+from_follower m q (bodies.SyncRep k) s = rows.sync_reply m q k s
 from_follower m q (bodies.GapCommit k) s = still s
 from_follower m q (bodies.Found k r) s = still s
 from_follower m q (bodies.SyncPrepare l) s = still s
@@ -84,7 +83,7 @@ abbrev pub ticked : {S : Type 0} → Meaning S → Tick → ReplicaState → Eff
 ticked m ticks.Suspect s = rows.suspect m s
 ticked m ticks.Watch s = rows.watch m s
 ticked m ticks.Resend s = resend s
-ticked m ticks.Sync s = sync s
+ticked m ticks.Sync s = rows.sync m s
 ticked m ticks.Retry s = still s
 ticked m ticks.Next s = still s
 ticked m ticks.Probe s = still s

@@ -18,6 +18,8 @@ use Rattle.view_change.specs.Gathering.{Gathering}
 use Rattle.replica_state.specs.declared.state.ReplicaState.{ReplicaState}
 use Rattle.replica_state.specs.State.{leads, is_normal, waits, may_append, may_adopt}
 use Rattle.replica_state.specs.Sends.{Effect, still, then_do, when, to_replica}
+use Rattle.replica_state.specs.Moves as moves
+use Rattle.replica_state.specs.Repeating as repeating
 use Rattle.replica_state.specs.Moves.{
   queue,
   begin_session,
@@ -36,7 +38,14 @@ use Rattle.replica_state.specs.Moves.{
   open_gap,
   count_gap_vote,
   count_sync_vote,
+  tell_synced,
 }
+
+-- ---- the sync point rises
+
+-- where it rose above n, what waits is taken
+abbrev pub drain_if_risen : {S : Type 0} → Meaning S → ℕ → ReplicaState → Effect
+drain_if_risen m n s = when (nat_lt n s.sync.sync_point) (drain m) s
 
 -- ---- a greater view
 
@@ -102,6 +111,10 @@ found m k r s = when ((k == length s.log + 1) && may_append s) (λ t. then_do (f
 unfoldable pub sync_prepare : {S : Type 0} → Meaning S → List Entry → ReplicaState → Effect
 sync_prepare m l s = when (nat_le (s.next + (length l - length s.log)) NUMBER_END) (λ t. then_do (overlay m (hear t) l) (drain m)) s
 
+-- up to a length that is prepared
+unfoldable pub sync_commit : {S : Type 0} → Meaning S → ℕ → ReplicaState → Effect
+sync_commit m k s = then_do (moves.sync_commit k s) (drain_if_risen m s.sync.sync_point)
+
 -- ---- messages of a follower to the leader
 
 -- a gap agreement begins where there is a number after it
@@ -114,8 +127,13 @@ slot_lookup_by m GapAgain q k s = (s, to_replica s q (bodies.GapCommit k))
 slot_lookup_by m Begin q k s = begin_gap m s
 slot_lookup_by m answers.Nothing q k s = still s
 
+abbrev pub slot_lookup_if : {S : Type 0} → Meaning S → Bool → ℕ → ℕ → ReplicaState → Effect
+slot_lookup_if m true q k s = tell_synced s q
+slot_lookup_if m false q k s = slot_lookup_by m (answer_of s.log (waits s.gap) k) q k s
+
+-- of a slot that is synchronised, or of another
 unfoldable pub slot_lookup : {S : Type 0} → Meaning S → ℕ → ℕ → ReplicaState → Effect
-slot_lookup m q k s = slot_lookup_by m (answer_of s.log (waits s.gap) k) q k s
+slot_lookup m q k s = slot_lookup_if m (nat_le k s.sync.sync_point) q k s
 
 abbrev pub gap_reply_at : {S : Type 0} → Meaning S → Option Agreement → ℕ → ℕ → ReplicaState → Effect
 gap_reply_at m None q k s = still s
@@ -125,8 +143,9 @@ gap_reply_at m (Some g) q k s = when (g.slot == k) (λ t. then_do (count_gap_vot
 unfoldable pub gap_reply : {S : Type 0} → Meaning S → ℕ → ℕ → ReplicaState → Effect
 gap_reply m q k s = gap_reply_at m s.gap q k s
 
-abbrev pub sync_reply : ℕ → ℕ → ReplicaState → Effect
-sync_reply q k s = count_sync_vote s q k
+-- a vote for the round under way
+unfoldable pub sync_reply : {S : Type 0} → Meaning S → ℕ → ℕ → ReplicaState → Effect
+sync_reply m q k s = then_do (count_sync_vote s q k) (drain_if_risen m s.sync.sync_point)
 
 -- ---- ticks
 
@@ -148,3 +167,7 @@ watch_if m false false s = suspect m s
 
 abbrev pub watch : {S : Type 0} → Meaning S → ReplicaState → Effect
 watch m s = watch_if m (is_normal s.status && leads s) s.heard s
+
+-- a leader that is alone has its whole log synchronised at once
+unfoldable pub sync : {S : Type 0} → Meaning S → ReplicaState → Effect
+sync m s = then_do (repeating.sync s) (drain_if_risen m s.sync.sync_point)

@@ -9,7 +9,8 @@ use peer_codec::LogBody;
 use view_change::Start;
 
 impl<H: Host> Member<H> {
-    /// Takes part in a view from what it starts with, and replies again for each request above the sync point.
+    /// Takes part in a view from what it starts with above the sync point, and replies again for
+    /// each request there.
     #[tactic(auto, unfolding(replica_state::specs::Moves::adopt))]
     pub(crate) fn adopt(&mut self, view: View, next: u64, log: Log) -> Result<(), NoMemory>
         requires runs { IsRunning H.Host self.old }
@@ -21,7 +22,6 @@ impl<H: Host> Member<H> {
     {
         let sync_point = self.state.sync.sync_point();
         self.go_back(sync_point);
-        self.go_back_to(log.as_slice());
         self.state.take_part(view, next, log);
         self.replies_above(sync_point)?;
         self.drain()

@@ -58,10 +58,7 @@ impl<H: Host> Member<H> {
             Body::GapCommit(slot) => self.gap_commit(slot),
             Body::Found(slot, request) => self.found(slot, request),
             Body::SyncPrepare(log) => self.sync_prepare(&log),
-            Body::SyncCommit(slot) => {
-                self.state.sync_commit(slot);
-                Ok(())
-            }
+            Body::SyncCommit(slot) => self.sync_commit(slot),
             _ => Ok(()),
         }
     }
@@ -140,7 +137,6 @@ impl<H: Host> Member<H> {
     }
 
     /// A tick comes.
-    #[tactic(auto, using(crate::proofs::Running::sync_runs))]
     pub(crate) fn ticked(&mut self, tick: Tick) -> Result<(), NoMemory>
         requires runs { IsRunning H.Host self.old }
         ensures { OnOk result (Does H.Host self.old self.new (ticked H.meaning tick)) }
@@ -149,7 +145,7 @@ impl<H: Host> Member<H> {
             Tick::Suspect => self.suspect(),
             Tick::Watch => self.watch(),
             Tick::Resend => self.state.resend(&mut self.sends),
-            Tick::Sync => self.state.sync(&mut self.sends),
+            Tick::Sync => self.sync(),
             _ => Ok(()),
         }
     }

@@ -4,6 +4,7 @@ ghost use Rattle.replica_state.specs.State.{drains, may_append, leads};
 ghost use Rattle.replica_state.specs.Moves.{appended, open_gap, drain};
 ghost use Rattle.replica_state.specs.Within.{IsWithin};
 ghost use Rattle.replica_rows.specs.Within.{IsRunning, Does};
+ghost use Rattle.replica_rows.specs.Rows.{drain_if_risen};
 ghost use Rattle.replica_rows.specs.Draining.{TakesOne};
 ghost use Rattle.replica_rows.specs.Taking.{TakesFront};
 
@@ -77,6 +78,17 @@ impl<H: Host> Member<H> {
         }
         self.state.ask(&mut self.sends)?;
         Ok(false)
+    }
+
+    /// Takes what stands in front, where the sync point rose above a slot.
+    pub(crate) fn drain_if_risen(&mut self, slot: u32) -> Result<(), NoMemory>
+        requires runs { IsRunning H.Host self.old }
+        ensures { OnOk result (Does H.Host self.old self.new (drain_if_risen H.meaning slot)) }
+    {
+        if self.state.sync.sync_point() <= slot {
+            return Ok(());
+        }
+        self.drain()
     }
 
     /// Takes what stands in front, one after the other.

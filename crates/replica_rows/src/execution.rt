@@ -1,9 +1,9 @@
-ghost use Rattle.std.specs.Prelude.{◌≡◌, ◌≤◌, ℕ, length, min, take, OnOk};
+ghost use Rattle.std.specs.Prelude.{◌≡◌, ◌≤◌, length, min, OnOk};
 ghost use Rattle.replica_state.specs.State.{executed_to};
 ghost use Rattle.replica_rows.specs.Within.{IsRunning};
 
 use crate::member::Member;
-use nop_types::{Entry, Host, NoMemory};
+use nop_types::{Host, NoMemory};
 
 impl<H: Host> Member<H> {
     /// Takes back what was executed above a slot.
@@ -20,25 +20,6 @@ impl<H: Host> Member<H> {
             return;
         }
         self.executor.rewind(&self.state.log, slot);
-    }
-
-    /// Takes back what was executed of entries that are not those of this log.
-    pub(crate) fn go_back_to(&mut self, log: &[Entry])
-        requires runs { IsRunning H.Host self.old }
-        ensures state { self.new.state ≡ self.old.state }
-        ensures sends { self.new.sends ≡ self.old.sends }
-        ensures runs { IsRunning H.Host self.new }
-        ensures fewer { length self.new.executor.undos ≤ length self.old.executor.undos }
-        ensures same { take (length self.new.executor.undos) log.now
-            ≡ take (length self.new.executor.undos) self.old.state.log }
-        ensures kept { (len : ℕ) → len ≤ length self.old.executor.undos → len
-            ≤ length log.now
-            → take len self.old.state.log ≡ take len log.now → len
-            ≤ length self.new.executor.undos }
-    {
-        let executed = self.executor.executed() as usize;
-        let common = self.state.log.common_front(log, executed);
-        self.executor.rewind(&self.state.log, common as u32);
     }
 
     /// Executes as far as a replica does: a leader in Normal the whole log, another up to the sync point.

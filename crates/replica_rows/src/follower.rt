@@ -1,42 +1,40 @@
-ghost use Rattle.std.specs.Prelude.{◌≡◌, ◌≤◌, ◌<◌, ◌+◌, ◌-◌, ◌⊎◌, length, true, Some, OnOk};
+ghost use Rattle.std.specs.Prelude.{◌≡◌, ◌≤◌, ◌+◌, ◌-◌, length, true, OnOk};
 ghost use Rattle.nop_types.specs.declared.limits.TheConstants.{NUMBER_END};
-ghost use Rattle.nop_types.specs.declared.request.Entry.TheVariants.{NoOp};
-ghost use Rattle.nop_types.specs.Lists.{slot_of};
 ghost use Rattle.nop_types.specs.Ranges.{SlotFits, RequestFits, LogFits};
 ghost use Rattle.replica_state.specs.State.{may_append};
-ghost use Rattle.replica_state.specs.Moves.{write_gap, add_gap, fill, overlay};
-ghost use Rattle.replica_rows.specs.Rows.{gap_commit, found, sync_prepare};
+ghost use Rattle.replica_state.specs.Moves.{gap_written, write_gap, add_gap, fill, overlay};
+ghost use Rattle.replica_rows.specs.Rows.{gap_commit, found, sync_prepare, sync_commit};
 ghost use Rattle.replica_rows.specs.Within.{IsRunning, Does};
 
 use crate::member::Member;
 use nop_types::{Body, Entry, Host, Log, NUMBER_END, NoMemory, Request};
 
 impl<H: Host> Member<H> {
-    /// Takes back what was executed from a slot on, unless a NO-OP stands there already.
-    fn make_way(&mut self, slot: u32)
+    /// Puts a NO-OP into a slot of the log, unless the slot is synchronised.
+    fn put_noop(&mut self, slot: u32)
         requires runs { IsRunning H.Host self.old }
         requires from_one { 1 ≤ slot }
-        ensures state { self.new.state ≡ self.old.state }
+        requires there { slot ≤ length self.old.state.log }
+        ensures state { self.new.state ≡ gap_written self.old.state slot }
         ensures sends { self.new.sends ≡ self.old.sends }
         ensures runs { IsRunning H.Host self.new }
-        ensures way { (length self.new.executor.undos < slot)
-            ⊎ (slot_of self.new.state.log slot ≡ Some NoOp) }
     {
-        if let Some(Entry::NoOp) = self.state.log.at(slot) {
+        let sync_point = self.state.sync.sync_point();
+        if slot <= sync_point {
             return;
         }
-        self.go_back(slot - 1);
+        self.go_back(sync_point);
+        self.state.log.put_noop(slot);
     }
 
-    /// Puts a NO-OP into a slot of the log, and tells the leader so.
+    /// The same, and the leader is told so.
     fn write_gap(&mut self, slot: u32) -> Result<(), NoMemory>
         requires runs { IsRunning H.Host self.old }
         requires fits { SlotFits slot }
         requires there { slot ≤ length self.old.state.log }
         ensures { OnOk result (Does H.Host self.old self.new (λ s. write_gap s slot)) }
     {
-        self.make_way(slot);
-        self.state.log.put_noop(slot);
+        self.put_noop(slot);
         self.to_leader(Body::GapRep(slot))
     }
 
@@ -100,7 +98,8 @@ impl<H: Host> Member<H> {
         self.drain()
     }
 
-    /// Takes the entries of the leader's log, replies for those that are new, and tells the leader so.
+    /// Takes the entries of the leader's log above the sync point, replies for those that are new,
+    /// and tells the leader so.
     #[tactic(auto, unfolding(replica_state::specs::Moves::overlay))]
     fn overlay(&mut self, log: &Log, appended: u64) -> Result<(), NoMemory>
         requires runs { IsRunning H.Host self.old }
@@ -110,10 +109,22 @@ impl<H: Host> Member<H> {
         ensures { OnOk result (Does H.Host self.old self.new (λ s. overlay H.meaning s log.now)) }
     {
         let len = self.state.log.len();
-        self.go_back_to(log.as_slice());
+        let sync_point = self.state.sync.sync_point();
+        self.go_back(sync_point);
         self.state.lay_over(log, appended)?;
         self.replies_above(len)?;
         self.to_leader(Body::SyncRep(log.as_slice().len() as u32))
+    }
+
+    /// The leader says that the slots up to this one are synchronised.
+    #[tactic(auto, unfolding(crate::specs::Rows::sync_commit))]
+    pub(crate) fn sync_commit(&mut self, slot: u32) -> Result<(), NoMemory>
+        requires runs { IsRunning H.Host self.old }
+        ensures { OnOk result (Does H.Host self.old self.new (sync_commit H.meaning slot)) }
+    {
+        let sync_point = self.state.sync.sync_point();
+        self.state.sync_commit(slot);
+        self.drain_if_risen(sync_point)
     }
 
     /// The leader tells its log.

@@ -1,4 +1,4 @@
-ghost use Rattle.std.specs.Prelude.{◌≡◌, ◌≤◌};
+ghost use Rattle.std.specs.Prelude.{◌≡◌, ◌≤◌, length, take};
 ghost use Rattle.nop_types.specs.Meaning.{Meaning};
 ghost use Rattle.replica_state.specs.declared.state.ReplicaState.{ReplicaState};
 ghost use Rattle.replica_state.specs.Sends.{message_count};
@@ -13,6 +13,14 @@ pub fn rows_send_few_messages<S>()
         → message_count (arrive m s a).1 ≤ 8 }
     ensures config { (m : Meaning S) (s : ReplicaState) (a : Arrival)
         → (arrive m s a).0.config ≡ s.config }
+{}
+
+/// Whatever arrives, forged messages too, the entries up to the sync point stay as they are.
+#[tactic(auto, using(crate::proofs::Synchronised::synchronised_stays))]
+pub fn synchronised_entries_stay<S>()
+    ensures { (m : Meaning S) (s : ReplicaState) (a : Arrival)
+        → s.sync.sync_point ≤ length s.log
+        → take s.sync.sync_point (arrive m s a).0.log ≡ take s.sync.sync_point s.log }
 {}
 
 /// A drain takes a request, opens a gap, asks or ends, by what stands in front.

@@ -2,7 +2,7 @@ ghost use Rattle.std.specs.Prelude.{◌<◌, length, OnOk};
 ghost use Rattle.nop_types.specs.Ranges.{SlotFits};
 ghost use Rattle.nop_types.specs.declared.limits.TheConstants.{MAX_REPLICAS, MAX_SLOTS};
 ghost use Rattle.replica_state.specs.State.{waits};
-ghost use Rattle.replica_state.specs.Moves.{count_gap_vote};
+ghost use Rattle.replica_state.specs.Moves.{count_gap_vote, count_sync_vote, tell_synced};
 ghost use Rattle.replica_rows.specs.Rows.{begin_gap, slot_lookup, gap_reply, sync_reply};
 ghost use Rattle.replica_rows.specs.Within.{IsRunning, Does};
 
@@ -24,13 +24,25 @@ impl<H: Host> Member<H> {
         self.drain()
     }
 
-    /// Another replica asks for a slot.
+    /// Tells a replica what is synchronised.
+    fn tell_synced(&mut self, replica: u8) -> Result<(), NoMemory>
+        requires runs { IsRunning H.Host self.old }
+        ensures { OnOk result (Does H.Host self.old self.new (λ s. tell_synced s replica)) }
+    {
+        self.state.tell_synced(replica, &mut self.sends)?;
+        Ok(())
+    }
+
+    /// Another replica asks for a slot: for one that is synchronised, or for another.
     #[tactic(auto, unfolding(crate::specs::Rows::slot_lookup))]
     pub(crate) fn slot_lookup(&mut self, sender: u8, slot: u32) -> Result<(), NoMemory>
         requires runs { IsRunning H.Host self.old }
         requires fits { SlotFits slot }
         ensures { OnOk result (Does H.Host self.old self.new (slot_lookup H.meaning sender slot)) }
     {
+        if slot <= self.state.sync.sync_point() {
+            return self.tell_synced(sender);
+        }
         let waits = self.state.waits();
         match answer(&self.state.log, waits, slot) {
             Answer::Found(request) => {
@@ -60,11 +72,24 @@ impl<H: Host> Member<H> {
         self.drain()
     }
 
-    /// Another replica votes for a length of the log; at enough votes the sync point rises, and all others are told.
+    /// Another replica votes for a length of the log.
+    #[tactic(auto, unfolding(crate::specs::Rows::sync_reply))]
     pub(crate) fn sync_reply(&mut self, sender: u8, len: u32) -> Result<(), NoMemory>
         requires runs { IsRunning H.Host self.old }
         requires sender { sender < MAX_REPLICAS }
-        ensures { OnOk result (Does H.Host self.old self.new (sync_reply sender len)) }
+        ensures { OnOk result (Does H.Host self.old self.new (sync_reply H.meaning sender len)) }
+    {
+        let sync_point = self.state.sync.sync_point();
+        self.count_sync_vote(sender, len)?;
+        self.drain_if_risen(sync_point)
+    }
+
+    /// Counts a vote for a length of the log; at enough votes the sync point rises, and all others
+    /// are told.
+    fn count_sync_vote(&mut self, sender: u8, len: u32) -> Result<(), NoMemory>
+        requires runs { IsRunning H.Host self.old }
+        requires sender { sender < MAX_REPLICAS }
+        ensures { OnOk result (Does H.Host self.old self.new (λ s. count_sync_vote s sender len)) }
     {
         match self.state.sync.on_rep(sender, len) {
             Vote::Settled => self.to_all(Body::SyncCommit(len)),

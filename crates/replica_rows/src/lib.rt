@@ -9,9 +9,10 @@
 //! the log, any other replica those up to the sync point. After an error a member is not known to
 //! run.
 //!
-//! Laws: a row sends at most eight messages (`rows_send_few_messages`); a replica takes from its
-//! receiver only in Normal, with no gap that waits and with room in the log, and what is next there
-//! decides what it does (`drains_by_front`).
+//! Laws: a row sends at most eight messages (`rows_send_few_messages`); it leaves the entries up to
+//! the sync point as they are, whatever arrives (`synchronised_entries_stay`); a replica takes from
+//! its receiver only in Normal, with no gap that waits and with room in the log, and what is next
+//! there decides what it does (`drains_by_front`).
 //!
 //! Calls, for `replica_core`: `Member::new`; `Member::take`, which finds the row of an `Arrival`.
 //!
@@ -34,6 +35,6 @@ mod ticks;
 mod view_changes;
 
 pub use arrivals::Arrival;
-pub use laws::{drains_by_front, rows_send_few_messages};
+pub use laws::{drains_by_front, rows_send_few_messages, synchronised_entries_stay};
 pub use member::Member;
 pub use replica_state::{NextNumber, ReplicaState, Sending, Sends};

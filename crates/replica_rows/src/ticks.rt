@@ -1,5 +1,5 @@
 ghost use Rattle.std.specs.Prelude.{OnOk};
-ghost use Rattle.replica_rows.specs.Rows.{suspect, watch};
+ghost use Rattle.replica_rows.specs.Rows.{suspect, watch, sync};
 ghost use Rattle.replica_rows.specs.Within.{IsRunning, Does};
 
 use crate::member::Member;
@@ -34,5 +34,16 @@ impl<H: Host> Member<H> {
             return Ok(());
         }
         self.suspect()
+    }
+
+    /// A leader without a gap has its log synchronised, or says again how far it is.
+    #[tactic(auto, unfolding(crate::specs::Rows::sync))]
+    pub(crate) fn sync(&mut self) -> Result<(), NoMemory>
+        requires runs { IsRunning H.Host self.old }
+        ensures { OnOk result (Does H.Host self.old self.new (sync H.meaning)) }
+    {
+        let sync_point = self.state.sync.sync_point();
+        self.state.sync(&mut self.sends)?;
+        self.drain_if_risen(sync_point)
     }
 }

@@ -1,10 +1,10 @@
 -- The moves of which the rows of a replica are made. Each says what becomes of the state and what is sent; the rows say when it
 -- is made.
 use Rattle.std.specs.Prelude.{ℕ, zero, suc, ◌+◌, ◌-◌, List, [], ◌∷◌, ◌++◌, length, take, Bool, true, false, cond, not, Option, Some, None}
-use Rattle.std.specs.Prelude.{nat_le, nat_lt, ◌==◌, ◌&&◌}
+use Rattle.std.specs.Prelude.{nat_le, nat_lt, max, ◌==◌, ◌&&◌}
 use Rattle.nop_types.specs.declared.limits.TheConstants.{MAX_SLOTS}
 use Rattle.nop_types.specs.Meaning.{Meaning}
-use Rattle.nop_types.specs.Slots.{set_slot, laid}
+use Rattle.nop_types.specs.Slots.{laid}
 use Rattle.nop_types.specs.declared.view.View.{View}
 use Rattle.nop_types.specs.declared.replica_state.Phase.TheVariants.{Normal, Change}
 use Rattle.nop_types.specs.declared.replica_state.Vote.{Vote}
@@ -20,6 +20,7 @@ use Rattle.log_merge.specs.Starting.{start_of}
 use Rattle.oum_receiver.specs.Front.{Front, Nothing, Message, Dropped}
 use Rattle.oum_receiver.specs.Receiving as receiving
 use Rattle.oum_receiver.specs.Receiving.{Receiving, offered, front_of, front_taken, advanced}
+use Rattle.replica_log.specs.Splices.{spliced, noop_above}
 use Rattle.sync_points.specs.Synchronisation as synchronisation
 use Rattle.sync_points.specs.Synchronisation.{cleared, with_round, committed, vote_for}
 use Rattle.view_change.specs.Gathering as gathering
@@ -84,9 +85,12 @@ gap_opened s = record (appended s NoOp) { gap = waiting_in (length s.log + 1) (o
 unfoldable pub open_gap : ReplicaState → Effect
 open_gap s = (gap_opened s, to_all s (bodies.GapCommit (length s.log + 1)))
 
--- a follower puts a NO-OP into a slot that it has
+-- a follower puts a NO-OP into a slot that it has, unless the slot is synchronised
+abbrev pub gap_written : ReplicaState → ℕ → ReplicaState
+gap_written s k = record s { log = noop_above s.sync.sync_point s.log k }
+
 abbrev pub write_gap : ReplicaState → ℕ → Effect
-write_gap s k = (record s { log = set_slot s.log k NoOp }, to_leader s (bodies.GapRep k))
+write_gap s k = (gap_written s k, to_leader s (bodies.GapRep k))
 
 -- or into the next one
 abbrev pub add_gap : ReplicaState → Effect
@@ -151,8 +155,9 @@ enter s v = enter_as (leads (entered s v)) (entered s v)
 abbrev pub listening_from : ReplicaState → View → ℕ → Receiving
 listening_from s v x = cond (nat_lt s.receiver.session v.session) (receiving.opened v.session x) (advanced s.receiver x)
 
-abbrev pub adopted : ReplicaState → View → ℕ → List Entry → ReplicaState
-adopted s v x l = record (left s) {
+-- part is taken in a view with this log
+abbrev pub joined : ReplicaState → View → ℕ → List Entry → ReplicaState
+joined s v x l = record (left s) {
   view = v;
   status = Normal;
   last_normal = v;
@@ -161,6 +166,10 @@ adopted s v x l = record (left s) {
   base = length l;
   receiver = listening_from s v x;
 }
+
+-- the own entries up to the sync point stay
+abbrev pub adopted : ReplicaState → View → ℕ → List Entry → ReplicaState
+adopted s v x l = joined s v x (spliced s.sync.sync_point s.log l)
 
 -- each request above the sync point is answered once more
 unfoldable pub adopt : {S : Type 0} → Meaning S → ReplicaState → View → ℕ → List Entry → Effect
@@ -182,16 +191,20 @@ open_if_enough m (Some g) s = when (nat_lt g.f (length g.changes)) (open_view m 
 abbrev pub keep_change : ReplicaState → Gathering → peer.Change → Effect
 keep_change s g c = still (record s { changes = Some (gathering.counted g c) })
 
--- the leader tells again what the view started with
+-- how many entries a late replica is told: those that the view started with, and those that are synchronised
+abbrev pub start_len : ReplicaState → ℕ
+start_len s = max s.base s.sync.sync_point
+
+-- the leader tells a late replica what the view started with
 abbrev pub resend_start : ReplicaState → ℕ → Effect
-resend_start s q = (s, to_replica s q (bodies.StartView (s.next - (length s.log - s.base)) (take s.base s.log)))
+resend_start s q = (s, to_replica s q (bodies.StartView (s.next - (length s.log - start_len s)) (take (start_len s) s.log)))
 
 -- ---- sync points
 
--- a follower takes the entries of its leader's log
+-- a follower takes the entries of its leader's log above its sync point
 abbrev pub overlaid : ReplicaState → List Entry → ReplicaState
 overlaid s l = record s {
-  log = laid l s.log;
+  log = laid (spliced s.sync.sync_point s.log l) s.log;
   next = s.next + (length l - length s.log);
   receiver = advanced s.receiver (s.next + (length l - length s.log));
   sync = synchronisation.taken s.sync (length l);
@@ -215,6 +228,10 @@ open_sync s = (record s { sync = with_round s.sync (length s.log) }, to_all s (b
 -- or says again what is synchronised
 abbrev pub repeat_commit : ReplicaState → Effect
 repeat_commit s = (s, to_all s (bodies.SyncCommit s.sync.sync_point))
+
+-- a leader tells a replica that asks for a synchronised slot all that is synchronised
+abbrev pub tell_synced : ReplicaState → ℕ → Effect
+tell_synced s q = (s, to_replica s q (bodies.SyncPrepare (take s.sync.sync_point s.log)))
 
 abbrev pub commit_if : ReplicaState → ℕ → Vote → List Sending
 commit_if s k Settled = to_all s (bodies.SyncCommit k)

@@ -1,5 +1,5 @@
 -- What a replica does at the ticks Resend and Sync: it sends again what was not answered, and has its log synchronised.
-use Rattle.std.specs.Prelude.{ℕ, ◌+◌, length, Bool, true, false, Option, Some, None, not, nat_lt, ◌&&◌}
+use Rattle.std.specs.Prelude.{◌+◌, length, Bool, true, false, Option, Some, None, not, nat_lt, ◌&&◌}
 use Rattle.nop_types.specs.declared.replica_state.Phase.{Phase}
 use Rattle.nop_types.specs.declared.replica_state.Phase.TheVariants.{Normal, Change}
 use Rattle.nop_types.specs.declared.peer.Body.TheVariants as bodies

@@ -1,7 +1,7 @@
 -- What holds of each replica's state, beside what its parts hold.
 use Rattle.std.specs.Prelude.{◌≡◌, ◌≤◌, ◌<◌, ◌+◌, length, IfSome}
 use Rattle.std.specs.List.{AllByRecursion}
-use Rattle.nop_types.specs.declared.limits.TheConstants.{MAX_SLOTS, MAX_REPLICAS}
+use Rattle.nop_types.specs.declared.limits.TheConstants.{MAX_REPLICAS}
 use Rattle.nop_types.specs.declared.replica_state.Phase.TheVariants.{Normal}
 use Rattle.nop_types.specs.Ranges.{ViewFits, LogFits, NextFits, SlotFits, ChangeFits}
 use Rattle.replica_state.specs.declared.state.ReplicaState.{ReplicaState}
@@ -20,7 +20,8 @@ pub record IsWithin (s : ReplicaState) : Type 0 where
   -- in Normal the receiver hands up the next number
   pub receiver : s.status ≡ Normal → s.receiver.next ≡ s.next
   pub gap : IfSome s.gap (λ g. SlotFits g.slot)
-  pub sync_point : s.sync.sync_point ≤ MAX_SLOTS
-  pub syncing : IfSome s.sync.syncing (λ x. x.len ≤ MAX_SLOTS)
-  pub prepared : s.sync.prepared ≤ MAX_SLOTS
+  -- what is synchronised, under way or prepared is in the log
+  pub sync_point : s.sync.sync_point ≤ length s.log
+  pub syncing : IfSome s.sync.syncing (λ x. x.len ≤ length s.log)
+  pub prepared : s.sync.prepared ≤ length s.log
   pub changes : IfSome s.changes (λ g. AllByRecursion ChangeFits g.changes)

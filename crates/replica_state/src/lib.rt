@@ -5,13 +5,14 @@
 //! Each call that changes the state leaves, at Ok, what the definition of the move gives, and each
 //! call that sends appends what its definition says. On an error the state is as it was, and
 //! nothing more is sent. What is sent of a state that is in its ranges (`IsWithin`) is in its
-//! ranges. `may_adopt` takes what a view starts with only from the leader of that view.
+//! ranges. `may_adopt` takes what a view starts with only from the leader of that view. Nothing is
+//! written at or below the sync point: a log that is taken is taken above it.
 //!
 //! Calls, for `replica_rows`: `ReplicaState::opening`; `append`, `put_gap`, `ask`,
 //! `count_gap_vote`, `lay_over` (the log); `begin_session`, `queue`, `go_to`, `begin_gathering`,
-//! `take_part` (views); `send_to`, `send_to_all`, `tell_change`, `tell_start`, `send_short`,
-//! `send_result` (messages); the rows `sync_commit`, `resend` and `sync`, which neither execute nor
-//! drain. `Sends` is what one step sends, in order.
+//! `take_part` (views); `send_to`, `send_to_all`, `tell_change`, `tell_start`, `tell_synced`,
+//! `send_short`, `send_result` (messages); `sync_commit` and `sync`, which move the sync point; and
+//! the row `resend`. None of them executes or drains. `Sends` is what one step sends, in order.
 //!
 //! Files: `state`, `sending`, `number`; `logging`, `views`, `telling`, `repeating`. Definitions:
 //! `specs/State`, `Sends` (`Effect`, `then_do`), `Moves`, `Repeating`, `Replies`, `Within`.

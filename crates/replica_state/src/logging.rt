@@ -88,14 +88,15 @@ impl ReplicaState {
         }
     }
 
-    /// Takes the entries of the leader's log, of which so many are new.
+    /// Takes the entries of the leader's log above the sync point, of which so many are new.
     pub fn lay_over(&mut self, log: &Log, appended: u64) -> Result<(), NoMemory>
         requires appended { appended ≡ length log.now - length self.old.log }
         requires within { self.old.next + appended ≤ NUMBER_END }
+        requires synced { self.old.sync.sync_point ≤ length self.old.log }
         ensures ok { OnOk result (self.new ≡ overlaid self.old log.now) }
         ensures err { OnErr result (self.new ≡ self.old) }
     {
-        self.log.overlay(log)?;
+        self.log.overlay_above(self.sync.sync_point(), log)?;
         let next = self.next.get() + appended;
         self.next.set(next);
         self.receiver.advance(next);

@@ -2,6 +2,7 @@ ghost use Rattle.std.specs.Prelude.{◌≡◌, ◌≤◌, ◌<◌, ◌-◌, leng
 ghost use Rattle.replica_state.specs.State.{others, leader, leads, is_normal, may_append, drains};
 ghost use Rattle.replica_state.specs.State.{is_other, is_current, is_from_leader, is_to_leader, may_adopt};
 ghost use Rattle.replica_state.specs.State as words;
+ghost use Rattle.replica_state.specs.Moves.{start_len};
 ghost use Rattle.replica_state.specs.Within.{IsWithin};
 
 use crate::NextNumber;
@@ -84,13 +85,27 @@ impl ReplicaState {
         self.is_normal() && !self.waits() && self.log.has_room()
     }
 
-    /// The number at which the view started.
-    pub fn start(&self) -> u64
+    /// How many entries a late replica is told: those that the view started with, and those that
+    /// are synchronised.
+    pub(crate) fn start_len(&self) -> u32
         requires { IsWithin self.now }
-        ensures value { result ≡ self.now.next - (length self.now.log - self.now.base) }
+        ensures value { result ≡ start_len self.now }
+        ensures low { self.now.base ≤ result }
+        ensures within { result ≤ length self.now.log }
+    {
+        self.base.max(self.sync.sync_point())
+    }
+
+    /// The number of the request after the first `len` entries, which are no fewer than the view
+    /// started with.
+    pub(crate) fn number_after(&self, len: u32) -> u64
+        requires within { IsWithin self.now }
+        requires low { self.now.base ≤ len }
+        requires high { len ≤ length self.now.log }
+        ensures value { result ≡ self.now.next - (length self.now.log - len) }
         ensures low { 1 ≤ result }
     {
-        self.next.get() - u64::from(self.log.len() - self.base)
+        self.next.get() - u64::from(self.log.len() - len)
     }
 
     /// Whether this is another replica of the group.

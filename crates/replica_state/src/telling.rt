@@ -8,7 +8,7 @@ ghost use Rattle.nop_types.specs.Ranges.{SlotFits, BodyFits};
 ghost use Rattle.peer_codec.specs.LogBodies.{with_log};
 ghost use Rattle.replica_state.specs.Sends.{message, to_replica, to_all};
 ghost use Rattle.replica_state.specs.Replies.{reply_with, leader_reply};
-ghost use Rattle.replica_state.specs.Moves.{change_told, resend_start};
+ghost use Rattle.replica_state.specs.Moves.{change_told, resend_start, tell_synced};
 ghost use Rattle.replica_state.specs.Within.{IsWithin};
 
 use crate::{ReplicaState, Sends};
@@ -90,16 +90,28 @@ impl ReplicaState {
         self.send_log_to(self.leader(), body, sends)
     }
 
-    /// Tells a replica what the view started with.
+    /// Tells a late replica what the view started with, and what is synchronised beyond that.
     pub fn tell_start(&self, replica: u8, sends: &mut Sends) -> Result<(), NoMemory>
         requires { IsWithin self.now }
         ensures ok { OnOk result (sends.new ≡ sends.old ++ (resend_start self.now replica).1) }
         ensures err { OnErr result (sends.new ≡ sends.old) }
     {
+        let len = self.start_len();
         let body = LogBody::StartView {
-            next: self.start(),
-            log: &self.log.as_slice()[..self.base as usize],
+            next: self.number_after(len),
+            log: &self.log.as_slice()[..len as usize],
         };
+        self.send_log_to(replica, body, sends)
+    }
+
+    /// Tells a replica what is synchronised.
+    pub fn tell_synced(&self, replica: u8, sends: &mut Sends) -> Result<(), NoMemory>
+        requires { IsWithin self.now }
+        ensures ok { OnOk result (sends.new ≡ sends.old ++ (tell_synced self.now replica).1) }
+        ensures err { OnErr result (sends.new ≡ sends.old) }
+    {
+        let sync_point = self.sync.sync_point() as usize;
+        let body = LogBody::SyncPrepare(&self.log.as_slice()[..sync_point]);
         self.send_log_to(replica, body, sends)
     }
 

@@ -1,4 +1,4 @@
-ghost use Rattle.std.specs.Prelude.{◌≡◌, ◌≤◌, true, IsTrue, OnOk, OnErr, IfOk};
+ghost use Rattle.std.specs.Prelude.{◌≡◌, ◌≤◌, length, true, IsTrue, OnOk, OnErr, IfOk};
 ghost use Rattle.nop_types.specs.declared.limits.TheConstants.{NUMBER_END};
 ghost use Rattle.nop_types.specs.Configuration.{is_configuration};
 ghost use Rattle.nop_types.specs.Ranges.{StampedFits};
@@ -110,9 +110,10 @@ impl ReplicaState {
         Ok(())
     }
 
-    /// Takes part in a view from what it starts with.
+    /// Takes part in a view from what it starts with. The own entries up to the sync point stay.
     pub fn take_part(&mut self, view: View, next: u64, log: Log)
-        requires { next ≤ NUMBER_END }
+        requires next { next ≤ NUMBER_END }
+        requires synced { self.old.sync.sync_point ≤ length self.old.log }
         ensures { self.new ≡ adopted self.old view next log }
     {
         if self.receiver.session() < view.session {
@@ -124,7 +125,7 @@ impl ReplicaState {
         self.view = view;
         self.status = Phase::Normal;
         self.last_normal = view;
-        self.log.adopt(log);
+        self.log.adopt_above(self.sync.sync_point(), log);
         self.next.set(next);
         self.base = self.log.len();
     }

@@ -31,13 +31,19 @@ use Rattle.replica_state.specs.Sends.{Effect, SendingFits, still}
 use Rattle.replica_rows.specs.Messages.{Arrival}
 use Rattle.replica_rows.specs.Within.{ResultsShort}
 use Rattle.started_views.specs.Past.{Past, note}
-use Rattle.protocol.specs.Conf.{Conf, Control, Install}
+use Rattle.protocol.specs.Conf.{Conf, Control, Install, opening}
 use Rattle.protocol.specs.Evolves.{Keeps}
 use Rattle.protocol.specs.Invariant.{Inv}
 use Rattle.protocol.specs.Member.{Member}
 use Rattle.protocol.specs.Runs.{run}
 use Rattle.protocol.specs.Said.{Said}
+use Rattle.protocol.proofs.Opening.{opening_meets}
 use Rattle.protocol.proofs.Runs.{moves_keep}
+use Rattle.protocol_sync.specs.Above.{GapsAreAbove}
+use Rattle.protocol_sync.specs.Synced.{Sync}
+use Rattle.protocol_sync.proofs.Above.{gaps_open_above, gaps_stay_above}
+use Rattle.protocol_sync.proofs.Opening.{opening_is_synced}
+use Rattle.protocol_sync.proofs.Runs.{syncs_keep}
 use Rattle.network.specs.Network.{Sent, sends_of}
 use Rattle.world.specs.Seats.{Seated, seated}
 use Rattle.refinement.specs.Datagrams.{WasSent}
@@ -196,8 +202,22 @@ module _ {S : Type 0} (m : Meaning S) (f : ℕ) (config : Configuration) (p : Pa
   within : r < 2 * f + 1
   within = omega (arith, slice_get_within w.replicas r old there, shown.replica_count, shown.config)
 
+  count : config.replicas ≡ 2 * f + 1
+  count = ap (λ (x : Configuration). x.replicas) (sym at.stands.same) ∙ shown.config
+
   matches : refinement.Matches m f c r old.state.state
-  matches = record { within = within; inv = inv; state = shown.replicas r old there }
+  matches =
+      let ran = at.ran in
+      let start = opening_meets m f config count in
+      let begins = opening_is_synced f config count in
+      record {
+        within = within;
+        inv = inv;
+        sync = subst (Sync f) ran.ends (syncs_keep m f (opening config) ran.moves start begins ran.may);
+        above = subst (GapsAreAbove f) ran.ends
+            (gaps_stay_above m f (opening config) ran.moves start begins (gaps_open_above f config) ran.may);
+        state = shown.replicas r old there;
+      }
 
   -- nothing was taken
   reaches_still : ReplicaReaches m f c r old.state.state (still old.state.state)

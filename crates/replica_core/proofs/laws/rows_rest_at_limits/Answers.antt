@@ -14,7 +14,7 @@ pub returns-clause-begin : goal.returns-clause-begin
 returns-clause-begin g c = λ m. begin_rests m
 
 pub returns-clause-commit : goal.returns-clause-commit
-returns-clause-commit g c = commit_rests
+returns-clause-commit g c = λ m. commit_rests m
 
 pub returns-clause-leader : goal.returns-clause-leader
 returns-clause-leader g c = λ m. leader_rests m

@@ -1,0 +1,489 @@
+-- What is synchronised stays, whatever arrives.
+use Rattle.std.proofs.Common.{◌≡◌, ◌≤◌, ℕ, zero, suc, ◌+◌, ◌-◌, Bool, true, false, cond, Option, Some, None, refl, sym, ap, subst, ◌∙◌}
+use Rattle.std.proofs.Common.{arith, List, [], ◌∷◌, ◌++◌, length, take, length-append}
+use Rattle.std.specs.Prelude.{not, nat_le, nat_lt, ◌==◌, ◌&&◌, slice_set}
+use Rattle.std.proofs.lemmas.Bool.Decides.{nat_tests}
+use Rattle.std.proofs.lemmas.List.{take-append-le}
+use Rattle.nop_types.specs.declared.limits.TheConstants.{MAX_SLOTS, NUMBER_END}
+use Rattle.nop_types.specs.Meaning.{Meaning}
+use Rattle.nop_types.specs.Slots.{laid, set_slot}
+use Rattle.nop_types.specs.Views.{is_view, join_of}
+use Rattle.nop_types.specs.declared.input.Tick.{Tick}
+use Rattle.nop_types.specs.declared.input.Tick.TheVariants as ticks
+use Rattle.nop_types.specs.declared.view.View.{View}
+use Rattle.nop_types.specs.declared.replica_state.Phase.{Phase}
+use Rattle.nop_types.specs.declared.replica_state.Phase.TheVariants.{Normal, Change}
+use Rattle.nop_types.specs.declared.request.Request.{Request}
+use Rattle.nop_types.specs.declared.request.Entry.{Entry}
+use Rattle.nop_types.specs.declared.request.Entry.TheVariants.{NoOp, Req}
+use Rattle.nop_types.specs.declared.datagram.Stamped.{Stamped}
+use Rattle.nop_types.specs.declared.peer.Change as peer
+use Rattle.nop_types.specs.declared.peer.Peer.{Peer}
+use Rattle.nop_types.specs.declared.peer.Body.{Body}
+use Rattle.nop_types.specs.declared.peer.Body.TheVariants as bodies
+use Rattle.facts.proofs.Slots.{length-laid, length-set_slot}
+use Rattle.gap_agree.specs.Agreement.{Agreement}
+use Rattle.log_merge.specs.Starting.{start_of}
+use Rattle.oum_receiver.specs.Front.{Front, Nothing, Message, Dropped}
+use Rattle.oum_receiver.specs.Receiving.{front_of}
+use Rattle.replica_log.specs.Splices.{spliced}
+use Rattle.replica_log.proofs.Splices.{length-spliced}
+use Rattle.slot_lookup.specs.Answer.{Answer, Found, GapAgain, Begin, answer_of}
+use Rattle.slot_lookup.specs.Answer as answers
+use Rattle.view_change.specs.Gathering.{Gathering}
+use Rattle.replica_state.specs.declared.state.ReplicaState.{ReplicaState}
+use Rattle.replica_state.specs.State.{leads, is_normal, drains, waits, has_room, may_append, is_from_leader, is_to_leader, is_other, may_adopt}
+use Rattle.replica_state.specs.Sends.{Effect, still, then_do, when}
+use Rattle.replica_state.specs.Moves.{ask_if, gap_opened, open_gap, gap_written, write_gap, add_gap, drain_drop, drain_at, drain_by, drain}
+use Rattle.replica_state.specs.Moves.{entered, enter_as, enter, adopted, adopt, open_with, open_view, open_if_enough, overlaid, overlay}
+use Rattle.replica_state.specs.Moves.{queue, keep_change, count_gap_vote, count_sync_vote, logged, appended, begin_session, hear, sync_commit}
+use Rattle.replica_state.specs.Moves.{obey}
+use Rattle.replica_state.specs.Repeating.{gap_again, lookup_again, change_again, resend_by, resend, sync_if, sync}
+use Rattle.replica_rows.specs.Rows as rows
+use Rattle.replica_rows.specs.Messages.{Arrival, Packet, Told, Ticked, from_leader, from_follower, by_role, in_view, on_body}
+use Rattle.replica_rows.specs.Messages.{on_message, ticked, arrive}
+use Rattle.replica_rows.proofs.Running.{spliced_front, laid_front}
+
+-- ---- steps that leave the sync point
+
+-- the sync point, which is in the log, stays, and so do the entries up to it
+record Keeps (s t : ReplicaState) : Type 0 where
+  point : t.sync.sync_point ≡ s.sync.sync_point
+  front : take s.sync.sync_point t.log ≡ take s.sync.sync_point s.log
+  within : s.sync.sync_point ≤ length t.log
+
+abbrev Low : ReplicaState → Type 0
+Low s = s.sync.sync_point ≤ length s.log
+
+low_after : (s t : ReplicaState) → Keeps s t → Low t
+low_after s t h = let p = h.point in let w = h.within in omega (arith, p, w)
+
+-- a state with the same log and sync point
+same : (s t : ReplicaState) → t.sync.sync_point ≡ s.sync.sync_point → t.log ≡ s.log → Low s → Keeps s t
+same s t p l low = record {
+  point = p;
+  front = ap (λ (x : List Entry). take s.sync.sync_point x) l;
+  within = let e = ap (λ (x : List Entry). length x) l in omega (arith, e, low);
+}
+
+both : (s t u : ReplicaState) → Keeps s t → Keeps t u → Keeps s u
+both s t u h g = record {
+  point = g.point ∙ h.point;
+  front = subst (λ (n : ℕ). take n u.log ≡ take n t.log) h.point g.front ∙ h.front;
+  within = let p = h.point in let w = g.within in omega (arith, p, w);
+}
+
+then_keeps : (s : ReplicaState) (e : Effect) (f : ReplicaState → Effect) → Keeps s e.0 → (Low e.0 → Keeps e.0 (f e.0).0)
+    → Keeps s (then_do e f).0
+then_keeps s e f h g = both s e.0 (f e.0).0 h (g (low_after s e.0 h))
+
+when_keeps : (b : Bool) (f : ReplicaState → Effect) (s : ReplicaState) → Low s → Keeps s (f s).0 → Keeps s (when b f s).0
+when_keeps true f s low h = h
+when_keeps false f s low h = same s s refl refl low
+
+-- ---- drains
+
+-- entries are appended
+record Grows (s t : ReplicaState) : Type 0 where
+  point : t.sync.sync_point ≡ s.sync.sync_point
+  front : (n : ℕ) → n ≤ length s.log → take n t.log ≡ take n s.log
+  longer : length s.log ≤ length t.log
+
+-- whatever the state
+record Always (f : ReplicaState → Effect) : Type 0 where
+  at : (s : ReplicaState) → Grows s (f s).0
+
+grown : (s t : ReplicaState) → Low s → Grows s t → Keeps s t
+grown s t low g = record {
+  point = g.point;
+  front = g.front s.sync.sync_point low;
+  within = let w = g.longer in omega (arith, w, low);
+}
+
+grows_none : (s t : ReplicaState) → t.sync.sync_point ≡ s.sync.sync_point → t.log ≡ s.log → Grows s t
+grows_none s t p l = record {
+  point = p;
+  front = λ n low. ap (λ (x : List Entry). take n x) l;
+  longer = let e = ap (λ (x : List Entry). length x) l in omega (arith, e);
+}
+
+grows_more : (s t : ReplicaState) (x : Entry) → t.sync.sync_point ≡ s.sync.sync_point → t.log ≡ s.log ++ x ∷ [] → Grows s t
+grows_more s t x p l = record {
+  point = p;
+  front = λ n low. ap (λ (k : List Entry). take n k) l ∙ take-append-le n s.log (x ∷ []) low;
+  longer = let e = ap (λ (k : List Entry). length k) l in let len = length-append s.log (x ∷ []) in omega (arith, e, len);
+}
+
+grows_both : (s t u : ReplicaState) → Grows s t → Grows t u → Grows s u
+grows_both s t u h g = record {
+  point = g.point ∙ h.point;
+  front = λ n low. g.front n (let w = h.longer in omega (arith, low, w)) ∙ h.front n low;
+  longer = let a = h.longer in let b = g.longer in omega (arith, a, b);
+}
+
+open_gap_grows : (s : ReplicaState) → Grows s (open_gap s).0
+unfolding open_gap
+open_gap_grows s = grows_more s (gap_opened s) NoOp refl refl
+
+ask_grows : (b : Bool) (s : ReplicaState) → Grows s (ask_if b s).0
+ask_grows true s = grows_none s s refl refl
+ask_grows false s = grows_none s (ask_if false s).0 refl refl
+
+drop_grows : (b : Bool) (again : ReplicaState → Effect) (s : ReplicaState) → Always again → Grows s (drain_drop again b s).0
+drop_grows true again s rest = grows_both s (open_gap s).0 (again (open_gap s).0).0 (open_gap_grows s) (rest.at (open_gap s).0)
+drop_grows false again s rest = ask_grows (s.asked == length s.log + 1) s
+
+drain_at_grows : {S : Type 0} (m : Meaning S) (again : ReplicaState → Effect) (s : ReplicaState) (b : Bool) (front : Front) → Always again
+    → Grows s (drain_at m again s b front).0
+drain_at_grows m again s true (Message r) rest =
+    grows_both s (logged s r) (again (logged s r)).0 (grows_more s (logged s r) (Req r) refl refl) (rest.at (logged s r))
+drain_at_grows m again s true Dropped rest = drop_grows (leads s) again s rest
+drain_at_grows m again s true Nothing rest = grows_none s s refl refl
+drain_at_grows m again s false front rest = grows_none s s refl refl
+
+drain_by_grows : {S : Type 0} (m : Meaning S) (room : ℕ) → Always (drain_by m room)
+drain_by_grows m zero = record { at = λ s. grows_none s s refl refl }
+drain_by_grows m (suc room) =
+    record { at = λ s. drain_at_grows m (drain_by m room) s (drains s) (front_of s.receiver) (drain_by_grows m room) }
+
+drain_grows : {S : Type 0} (m : Meaning S) (s : ReplicaState) → Grows s (drain m s).0
+unfolding drain
+drain_grows m s = (drain_by_grows m (MAX_SLOTS - length s.log)).at s
+
+drain_keeps : {S : Type 0} (m : Meaning S) (s : ReplicaState) → Low s → Keeps s (drain m s).0
+drain_keeps m s low = grown s (drain m s).0 low (drain_grows m s)
+
+and_drain : {S : Type 0} (m : Meaning S) (s : ReplicaState) (e : Effect) → Keeps s e.0 → Keeps s (then_do e (drain m)).0
+and_drain m s e h = then_keeps s e (drain m) h (drain_keeps m e.0)
+
+more : (s t : ReplicaState) (x : Entry) → t.sync.sync_point ≡ s.sync.sync_point → t.log ≡ s.log ++ x ∷ [] → Low s → Keeps s t
+more s t x p l low = grown s t low (grows_more s t x p l)
+
+open_gap_keeps : (s : ReplicaState) → Low s → Keeps s (open_gap s).0
+open_gap_keeps s low = grown s (open_gap s).0 low (open_gap_grows s)
+
+-- ---- views
+
+enter_as_keeps : (b : Bool) (s t : ReplicaState) → Keeps s t → Keeps s (enter_as b t).0
+enter_as_keeps true s t h = record { point = h.point; front = h.front; within = h.within }
+enter_as_keeps false s t h = h
+
+enter_keeps : (s : ReplicaState) (v : View) → Low s → Keeps s (enter s v).0
+unfolding enter
+enter_keeps s v low = enter_as_keeps (leads (entered s v)) s (entered s v) (same s (entered s v) refl refl low)
+
+-- a log is taken above the sync point
+adopted_keeps : (s : ReplicaState) (v : View) (x : ℕ) (l : List Entry) → Low s → Keeps s (adopted s v x l)
+adopted_keeps s v x l low = record {
+  point = refl;
+  front = spliced_front s.sync.sync_point s.sync.sync_point s.log l (omega arith) low;
+  within = let len = length-spliced s.sync.sync_point s.log l low in omega (arith, len);
+}
+
+adopt_keeps : {S : Type 0} (m : Meaning S) (s : ReplicaState) (v : View) (x : ℕ) (l : List Entry) → Low s → Keeps s (adopt m s v x l).0
+unfolding adopt
+adopt_keeps m s v x l low =
+    both s (adopted s v x l) (drain m (adopted s v x l)).0 (adopted_keeps s v x l low)
+    (drain_keeps m (adopted s v x l) (low_after s (adopted s v x l) (adopted_keeps s v x l low)))
+
+open_if_keeps : {S : Type 0} (m : Meaning S) (o : Option Gathering) (s : ReplicaState) → Low s → Keeps s (open_if_enough m o s).0
+open_if_keeps m None s low = same s s refl refl low
+open_if_keeps m (Some g) s low =
+    when_keeps (nat_lt g.f (length g.changes)) (open_view m g) s low
+    (adopt_keeps m s s.view (start_of g.view g.changes).next (start_of g.view g.changes).log low)
+
+enter_view_keeps : {S : Type 0} (m : Meaning S) (v : View) (s : ReplicaState) → Low s → Keeps s (rows.enter_view m v s).0
+unfolding rows.enter_view
+enter_view_keeps m v s low =
+    then_keeps s (enter s v) (λ t. open_if_enough m t.changes t) (enter_keeps s v low) (open_if_keeps m (enter s v).0.changes (enter s v).0)
+
+enter_and_drain_keeps : {S : Type 0} (m : Meaning S) (v : View) (s : ReplicaState) → Low s → Keeps s (rows.enter_and_drain m v s).0
+enter_and_drain_keeps m v s low = and_drain m s (rows.enter_view m v s) (enter_view_keeps m v s low)
+
+-- ---- rows of packets and view changes
+
+stamped_if_keeps : {S : Type 0} (m : Meaning S) (b : Bool) (s : ReplicaState) (p : Stamped) → Low s → Keeps s (rows.stamped_if m b p s).0
+stamped_if_keeps m true s p low =
+    let v : View = record { leader = s.view.leader; session = p.session } in
+    both s (begin_session s p) (rows.enter_and_drain m v (begin_session s p)).0 (same s (begin_session s p) refl refl low)
+    (enter_and_drain_keeps m v (begin_session s p) low)
+stamped_if_keeps m false s p low = and_drain m s (queue s p) (same s (queue s p).0 refl refl low)
+
+stamped_keeps : {S : Type 0} (m : Meaning S) (s : ReplicaState) (p : Stamped) → Low s → Keeps s (rows.stamped m p s).0
+unfolding rows.stamped
+stamped_keeps m s p low = stamped_if_keeps m (nat_lt s.view.session p.session) s p low
+
+request_keeps : {S : Type 0} (m : Meaning S) (s : ReplicaState) (v : View) → Low s → Keeps s (rows.view_change_request m v s).0
+request_keeps m s v low =
+    when_keeps (not (is_view (join_of s.view v) s.view)) (rows.enter_and_drain m (join_of s.view v)) s low
+    (enter_and_drain_keeps m (join_of s.view v) s low)
+
+gather_keeps : {S : Type 0} (m : Meaning S) (o : Option Gathering) (c : peer.Change) (s : ReplicaState) → Low s
+    → Keeps s (rows.gather m o c s).0
+gather_keeps m None c s low = same s s refl refl low
+gather_keeps m (Some g) c s low =
+    then_keeps s (keep_change s g c) (λ t. open_if_enough m t.changes t) (same s (keep_change s g c).0 refl refl low)
+    (open_if_keeps m (keep_change s g c).0.changes (keep_change s g c).0)
+
+gather_by_keeps : {S : Type 0} (m : Meaning S) (status : Phase) (c : peer.Change) (s : ReplicaState) → Low s
+    → Keeps s (rows.gather_by m status c s).0
+gather_by_keeps m Change c s low = gather_keeps m s.changes c s low
+gather_by_keeps m Normal c s low = same s s refl refl low
+
+view_change_keeps : {S : Type 0} (m : Meaning S) (s : ReplicaState) (v : View) (c : peer.Change) → Low s
+    → Keeps s (rows.view_change m v c s).0
+unfolding rows.view_change
+view_change_keeps m s v c low =
+    let t : ReplicaState = (rows.view_change_request m v s).0 in
+    then_keeps s (rows.view_change_request m v s) (rows.take_change m v c) (request_keeps m s v low)
+    (λ h. when_keeps (is_view v t.view && leads t) (rows.gather_by m t.status c) t h (gather_by_keeps m t.status c t h))
+
+start_view_keeps : {S : Type 0} (m : Meaning S) (s : ReplicaState) (q : ℕ) (v : View) (x : ℕ) (l : List Entry) → Low s
+    → Keeps s (rows.start_view m q v x l s).0
+unfolding rows.start_view
+start_view_keeps m s q v x l low = when_keeps (may_adopt s q v l) (λ t. adopt m t v x l) s low (adopt_keeps m s v x l low)
+
+-- ---- rows of the leader's messages
+
+take_set : (n k : ℕ) (e : Entry) (l : List Entry) → n ≤ k → take n (slice_set l k e) ≡ take n l
+take_set zero k e l h = refl
+take_set (suc n) k e [] h = refl
+take_set (suc n) zero e (x ∷ l) h = absurd (omega (arith, h))
+take_set (suc n) (suc k) e (x ∷ l) h = ap (λ (t : List Entry). x ∷ t) (take_set n k e l (omega (arith, h)))
+
+take_set_slot : (n k : ℕ) (e : Entry) (l : List Entry) → nat_le k n ≡ false → take n (set_slot l k e) ≡ take n l
+take_set_slot n zero e l h = refl
+take_set_slot n (suc k) e l h = take_set n k e l (grind (arith, nat_tests, h))
+
+written_keeps : (s : ReplicaState) (k : ℕ) → Low s → Keeps s (gap_written s k)
+written_keeps s k low = at (nat_le k s.sync.sync_point) refl
+  where
+    at : (b : Bool) → nat_le k s.sync.sync_point ≡ b → Keeps s (record s { log = cond b s.log (set_slot s.log k NoOp) })
+    at true e = same s s refl refl low
+    at false e = record {
+      point = refl;
+      front = take_set_slot s.sync.sync_point k NoOp s.log e;
+      within = let len = length-set_slot s.log k NoOp in omega (arith, len, low);
+    }
+
+gap_commit_if_keeps : {S : Type 0} (m : Meaning S) (a b : Bool) (k : ℕ) (s : ReplicaState) → Low s → Keeps s (rows.gap_commit_if m a b k s).0
+gap_commit_if_keeps m true b k s low =
+    let w = written_keeps s k low in
+    and_drain m s (write_gap (hear s) k) (record { point = w.point; front = w.front; within = w.within })
+gap_commit_if_keeps m false true k s low = and_drain m s (add_gap (hear s)) (more s (add_gap (hear s)).0 NoOp refl refl low)
+gap_commit_if_keeps m false false k s low = same s s refl refl low
+
+gap_commit_keeps : {S : Type 0} (m : Meaning S) (k : ℕ) (s : ReplicaState) → Low s → Keeps s (rows.gap_commit m k s).0
+unfolding rows.gap_commit
+gap_commit_keeps m k s low = gap_commit_if_keeps m (nat_le k (length s.log)) ((k == length s.log + 1) && may_append s) k s low
+
+found_keeps : {S : Type 0} (m : Meaning S) (k : ℕ) (r : Request) (s : ReplicaState) → Low s → Keeps s (rows.found m k r s).0
+unfolding rows.found
+found_keeps m k r s low =
+    let t : ReplicaState = appended (hear s) (Req r) in
+    let h = more s t (Req r) refl refl low in
+    when_keeps ((k == length s.log + 1) && may_append s) _ s low (both s t (drain m t).0 h (drain_keeps m t (low_after s t h)))
+
+overlay_keeps : {S : Type 0} (m : Meaning S) (s : ReplicaState) (l : List Entry) → Low s → Keeps s (overlay m s l).0
+unfolding overlay
+overlay_keeps m s l low =
+    let n : ℕ = s.sync.sync_point in
+    record {
+      point = refl;
+      front = laid_front (spliced n s.log l) s.log n (spliced_front n n s.log l (omega arith) low) low;
+      within = let len = length-laid (spliced n s.log l) s.log in omega (arith, len, low);
+    }
+
+prepare_keeps : {S : Type 0} (m : Meaning S) (l : List Entry) (s : ReplicaState) → Low s → Keeps s (rows.sync_prepare m l s).0
+unfolding rows.sync_prepare
+prepare_keeps m l s low =
+    let h = overlay_keeps m (hear s) l low in
+    when_keeps (nat_le (s.next + (length l - length s.log)) NUMBER_END) (λ t. then_do (overlay m (hear t) l) (drain m)) s low
+    (and_drain m s (overlay m (hear s) l) (record { point = h.point; front = h.front; within = h.within }))
+
+-- ---- rows of followers' messages
+
+lookup_by_keeps : {S : Type 0} (m : Meaning S) (r : Answer) (q k : ℕ) (s : ReplicaState) → Low s → Keeps s (rows.slot_lookup_by m r q k s).0
+lookup_by_keeps m (Found r) q k s low = same s s refl refl low
+lookup_by_keeps m GapAgain q k s low = same s s refl refl low
+lookup_by_keeps m Begin q k s low =
+    when_keeps (nat_lt s.next NUMBER_END) (λ t. then_do (open_gap t) (drain m)) s low (and_drain m s (open_gap s) (open_gap_keeps s low))
+lookup_by_keeps m answers.Nothing q k s low = same s s refl refl low
+
+lookup_if_keeps : {S : Type 0} (m : Meaning S) (b : Bool) (q k : ℕ) (s : ReplicaState) → Low s → Keeps s (rows.slot_lookup_if m b q k s).0
+lookup_if_keeps m true q k s low = same s s refl refl low
+lookup_if_keeps m false q k s low = lookup_by_keeps m (answer_of s.log (waits s.gap) k) q k s low
+
+lookup_keeps : {S : Type 0} (m : Meaning S) (q k : ℕ) (s : ReplicaState) → Low s → Keeps s (rows.slot_lookup m q k s).0
+unfolding rows.slot_lookup
+lookup_keeps m q k s low = lookup_if_keeps m (nat_le k s.sync.sync_point) q k s low
+
+gap_reply_at_keeps : {S : Type 0} (m : Meaning S) (o : Option Agreement) (q k : ℕ) (s : ReplicaState) → Low s
+    → Keeps s (rows.gap_reply_at m o q k s).0
+gap_reply_at_keeps m None q k s low = same s s refl refl low
+gap_reply_at_keeps m (Some g) q k s low =
+    when_keeps (g.slot == k) (λ t. then_do (count_gap_vote t g q) (drain m)) s low
+    (and_drain m s (count_gap_vote s g q) (same s (count_gap_vote s g q).0 refl refl low))
+
+gap_reply_keeps : {S : Type 0} (m : Meaning S) (q k : ℕ) (s : ReplicaState) → Low s → Keeps s (rows.gap_reply m q k s).0
+unfolding rows.gap_reply
+gap_reply_keeps m q k s low = gap_reply_at_keeps m s.gap q k s low
+
+-- ---- rows that move the sync point leave the log, and may drain
+
+-- the entries up to the sync point stay
+abbrev Stays : ReplicaState → ReplicaState → Type 0
+Stays s t = take s.sync.sync_point t.log ≡ take s.sync.sync_point s.log
+
+risen_by : {S : Type 0} (m : Meaning S) (b : Bool) (s t : ReplicaState) → Low s → t.log ≡ s.log → Stays s (when b (drain m) t).0
+risen_by m true s t low l =
+    let len = ap (λ (x : List Entry). length x) l in
+    (drain_grows m t).front s.sync.sync_point (omega (arith, len, low)) ∙ ap (λ (x : List Entry). take s.sync.sync_point x) l
+risen_by m false s t low l = ap (λ (x : List Entry). take s.sync.sync_point x) l
+
+obeyed_log : (k : ℕ) (s : ReplicaState) → (sync_commit k s).0.log ≡ s.log
+unfolding sync_commit
+obeyed_log k s = at (nat_le k s.sync.prepared)
+  where
+    at : (b : Bool) → (when b (λ t. obey (hear t) k) s).0.log ≡ s.log
+    at true = refl
+    at false = refl
+
+synced_log : (s : ReplicaState) → (sync s).0.log ≡ s.log
+unfolding sync
+synced_log s = at (is_normal s.status && (leads s && not (waits s.gap)))
+  where
+    by : (b : Bool) → (sync_if b s).0.log ≡ s.log
+    by true = refl
+    by false = refl
+
+    at : (b : Bool) → (when b (λ t. sync_if (nat_lt t.sync.sync_point (length t.log)) t) s).0.log ≡ s.log
+    at true = by (nat_lt s.sync.sync_point (length s.log))
+    at false = refl
+
+commit_front : {S : Type 0} (m : Meaning S) (k : ℕ) (s : ReplicaState) → Low s → Stays s (rows.sync_commit m k s).0
+unfolding rows.sync_commit
+commit_front m k s low =
+    let t : ReplicaState = (sync_commit k s).0 in
+    risen_by m (nat_lt s.sync.sync_point t.sync.sync_point) s t low (obeyed_log k s)
+
+reply_front : {S : Type 0} (m : Meaning S) (q k : ℕ) (s : ReplicaState) → Low s → Stays s (rows.sync_reply m q k s).0
+unfolding rows.sync_reply
+reply_front m q k s low =
+    let t : ReplicaState = (count_sync_vote s q k).0 in
+    risen_by m (nat_lt s.sync.sync_point t.sync.sync_point) s t low refl
+
+sync_front : {S : Type 0} (m : Meaning S) (s : ReplicaState) → Low s → Stays s (rows.sync m s).0
+unfolding rows.sync
+sync_front m s low =
+    let t : ReplicaState = (sync s).0 in
+    risen_by m (nat_lt s.sync.sync_point t.sync.sync_point) s t low (synced_log s)
+
+-- ---- messages
+
+from_leader_front : {S : Type 0} (m : Meaning S) (body : Body) (s : ReplicaState) → Low s → Stays s (from_leader m body s).0
+from_leader_front m (bodies.GapCommit k) s low = (gap_commit_keeps m k s low).front
+from_leader_front m (bodies.Found k r) s low = (found_keeps m k r s low).front
+from_leader_front m (bodies.SyncPrepare l) s low = (prepare_keeps m l s low).front
+from_leader_front m (bodies.SyncCommit k) s low = commit_front m k s low
+from_leader_front m (bodies.SlotLookup k) s low = refl
+from_leader_front m (bodies.GapRep k) s low = refl
+from_leader_front m (bodies.SyncRep k) s low = refl
+from_leader_front m bodies.ViewChangeReq s low = refl
+from_leader_front m (bodies.ViewChange u x l) s low = refl
+from_leader_front m (bodies.StartView x l) s low = refl
+
+from_follower_front : {S : Type 0} (m : Meaning S) (q : ℕ) (body : Body) (s : ReplicaState) → Low s → Stays s (from_follower m q body s).0
+from_follower_front m q (bodies.SlotLookup k) s low = (lookup_keeps m q k s low).front
+from_follower_front m q (bodies.GapRep k) s low = (gap_reply_keeps m q k s low).front
+from_follower_front m q (bodies.SyncRep k) s low = reply_front m q k s low
+from_follower_front m q (bodies.GapCommit k) s low = refl
+from_follower_front m q (bodies.Found k r) s low = refl
+from_follower_front m q (bodies.SyncPrepare l) s low = refl
+from_follower_front m q (bodies.SyncCommit k) s low = refl
+from_follower_front m q bodies.ViewChangeReq s low = refl
+from_follower_front m q (bodies.ViewChange u x l) s low = refl
+from_follower_front m q (bodies.StartView x l) s low = refl
+
+by_role_front : {S : Type 0} (m : Meaning S) (a b : Bool) (q : ℕ) (body : Body) (s : ReplicaState) → Low s
+    → Stays s (by_role m a b q body s).0
+by_role_front m true b q body s low = from_leader_front m body s low
+by_role_front m false true q body s low = from_follower_front m q body s low
+by_role_front m false false q body s low = refl
+
+in_view_front : {S : Type 0} (m : Meaning S) (q : ℕ) (v : View) (body : Body) (s : ReplicaState) → Low s → Stays s (in_view m q v body s).0
+in_view_front m q v body s low = by_role_front m (is_from_leader s v q) (is_to_leader s v) q body s low
+
+on_body_front : {S : Type 0} (m : Meaning S) (p : Peer) (body : Body) (s : ReplicaState) → Low s → Stays s (on_body m p body s).0
+on_body_front m p bodies.ViewChangeReq s low = (request_keeps m s p.view low).front
+on_body_front m p (bodies.ViewChange u x l) s low =
+    (view_change_keeps m s p.view (record { sender = p.sender; last_normal = u; next = x; log = l }) low).front
+on_body_front m p (bodies.StartView x l) s low = (start_view_keeps m s p.sender p.view x l low).front
+on_body_front m p (bodies.GapCommit k) s low = in_view_front m p.sender p.view (bodies.GapCommit k) s low
+on_body_front m p (bodies.Found k r) s low = in_view_front m p.sender p.view (bodies.Found k r) s low
+on_body_front m p (bodies.SyncPrepare l) s low = in_view_front m p.sender p.view (bodies.SyncPrepare l) s low
+on_body_front m p (bodies.SyncCommit k) s low = in_view_front m p.sender p.view (bodies.SyncCommit k) s low
+on_body_front m p (bodies.SlotLookup k) s low = in_view_front m p.sender p.view (bodies.SlotLookup k) s low
+on_body_front m p (bodies.GapRep k) s low = in_view_front m p.sender p.view (bodies.GapRep k) s low
+on_body_front m p (bodies.SyncRep k) s low = in_view_front m p.sender p.view (bodies.SyncRep k) s low
+
+when_front : (b : Bool) (f : ReplicaState → Effect) (s : ReplicaState) → Stays s (f s).0 → Stays s (when b f s).0
+when_front true f s h = h
+when_front false f s h = refl
+
+on_message_front : {S : Type 0} (m : Meaning S) (s : ReplicaState) (p : Peer) → Low s → Stays s (on_message m p s).0
+unfolding on_message
+on_message_front m s p low = when_front (is_other s p.sender) (on_body m p p.body) s (on_body_front m p p.body s low)
+
+-- ---- ticks
+
+suspect_keeps : {S : Type 0} (m : Meaning S) (s : ReplicaState) → Low s → Keeps s (rows.suspect m s).0
+suspect_keeps m s low =
+    when_keeps (nat_lt s.view.leader rows.last_leader) (rows.enter_and_drain m (rows.next_leader s.view)) s low
+    (enter_and_drain_keeps m (rows.next_leader s.view) s low)
+
+watch_front : {S : Type 0} (m : Meaning S) (a b : Bool) (s : ReplicaState) → Low s → Stays s (rows.watch_if m a b s).0
+watch_front m true b s low = refl
+watch_front m false true s low = refl
+watch_front m false false s low = (suspect_keeps m s low).front
+
+gap_again_front : (o : Option Agreement) (s : ReplicaState) → Stays s (gap_again o s).0
+gap_again_front None s = refl
+gap_again_front (Some g) s = refl
+
+lookup_again_front : (front : Front) (s : ReplicaState) → Stays s (lookup_again front s).0
+lookup_again_front Nothing s = refl
+lookup_again_front (Message r) s = refl
+lookup_again_front Dropped s = when_front (has_room s) _ s refl
+
+change_again_front : (b : Bool) (s : ReplicaState) → Stays s (change_again b s).0
+change_again_front true s = refl
+change_again_front false s = refl
+
+resend_by_front : (status : Phase) (b : Bool) (s : ReplicaState) → Stays s (resend_by status b s).0
+resend_by_front Change b s = change_again_front b s
+resend_by_front Normal true s = gap_again_front s.gap s
+resend_by_front Normal false s = lookup_again_front (front_of s.receiver) s
+
+resend_front : (s : ReplicaState) → Stays s (resend s).0
+unfolding resend
+resend_front s = resend_by_front s.status (leads s) s
+
+tick_front : {S : Type 0} (m : Meaning S) (s : ReplicaState) (tick : Tick) → Low s → Stays s (ticked m tick s).0
+tick_front m s ticks.Suspect low = (suspect_keeps m s low).front
+tick_front m s ticks.Watch low = watch_front m (is_normal s.status && leads s) s.heard s low
+tick_front m s ticks.Resend low = resend_front s
+tick_front m s ticks.Sync low = sync_front m s low
+tick_front m s ticks.Retry low = refl
+tick_front m s ticks.Next low = refl
+tick_front m s ticks.Probe low = refl
+tick_front m s (ticks.Install j) low = refl
+
+-- ---- all that arrives
+
+pub synchronised_stays : {S : Type 0} (m : Meaning S) (s : ReplicaState) (a : Arrival) → s.sync.sync_point ≤ length s.log
+    → take s.sync.sync_point (arrive m s a).0.log ≡ take s.sync.sync_point s.log
+unfolding arrive
+synchronised_stays m s (Packet p) low = (stamped_keeps m s p low).front
+synchronised_stays m s (Told p) low = on_message_front m s p low
+synchronised_stays m s (Ticked tick) low = tick_front m s tick low
