@@ -7,10 +7,10 @@ mod datagrams;
 #[cfg(test)]
 mod joining;
 #[cfg(test)]
-mod lines;
-#[cfg(test)]
 mod peers;
 #[cfg(test)]
 mod rows;
+#[cfg(test)]
+mod texts;
 #[cfg(test)]
 mod values;

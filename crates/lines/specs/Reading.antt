@@ -1,11 +1,12 @@
 -- A reader of lines.
 use Rattle.std.specs.Prelude.{◌≡◌, ◌≢◌, ◌⊎◌, ℕ, ◌≤◌, ◌++◌, List, [], Bool, true, false, Option, Some, None, Result, Ok, Err, ⊤}
+use Rattle.std.specs.Prelude.{MatchOption}
 use Rattle.std.specs.Io.KnownBytes.{Consumes, IsAtEnd}
 use Rattle.lines.specs.declared.first_line.FirstLine.{FirstLine}
 use Rattle.lines.specs.declared.read_error.ReadError.{ReadError}
 use Rattle.lines.specs.declared.read_error.ReadError.TheVariants.{ReadFault, NoMemory}
 use Rattle.lines.specs.Cutting.{Cut, lines_of}
-use Rattle.lines.specs.Deciding.{IsFirstLine, IsSearched}
+use Rattle.lines.specs.Deciding.{IsFirstLine, IsUndecided}
 
 -- how many lines there may be and how many were taken, the bytes behind them that were read, and whether the source ended with these
 pub record Reading : Type 0 where
@@ -21,9 +22,9 @@ opening most = record { most = most; line = 0; pending = []; ended = false }
 abbrev pub lines_before : Reading → Bool → List ℕ → List Cut
 lines_before r ended more = lines_of r.most ended r.line (r.pending ++ more)
 
--- which bytes were searched, and how many lines were taken
-pub record IsReader (searched most line : ℕ) (pending : List ℕ) : Type 0 where
-  pub bytes : IsSearched searched pending
+-- the next line is known as soon as it is decided
+pub record IsReader (next : Option FirstLine) (most line : ℕ) (ended : Bool) (pending : List ℕ) : Type 0 where
+  pub first : MatchOption next (IsUndecided most line ended pending) (IsFirstLine most line ended pending)
   pub within : line ≤ most
 
 abbrev pub IsFirst : Reading → FirstLine → Type 0

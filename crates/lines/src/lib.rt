@@ -3,11 +3,15 @@
 //! A line is decided by its end, by its 4,097th byte, by the first byte of a line more than there may be, or by the end of the
 //! input, and no sooner.
 //!
-//! Proved: which line comes first, whatever bytes follow (`specs/Deciding`); that a call reads only while no further line is
-//! decided; that the bytes that were read and not yet taken are those that went from the source, in order, also after a fault
-//! or where memory runs out.
+//! Proved: which line comes first, whatever bytes follow (`specs/Deciding`); that a call reads only
+//! while no further line is decided (`has_line` tells before); that the bytes that were read and not
+//! yet taken are those that went from the source, in order, also after a fault or where memory runs
+//! out.
 //!
-//! `LineReader::next_line` finds a line, `text` shows it, `take` goes behind it.
+//! `LineReader::next_line` gives a line, `text` shows it, `take` goes behind it. A line is looked
+//! for once, as soon as its bytes are there and the line before it is taken.
+//!
+//! For `schedule_text` and `transcript_reader`, each with its own limit.
 //!
 //! To read in this order: `line_reader`, `first_line`, `buffer`; then `specs/Cutting`, `specs/Deciding`, `specs/Reading`.
 #![tactic(auto)]

@@ -1,6 +1,5 @@
 ghost use Rattle.std.specs.Prelude.{◌≡◌, ◌+◌, ◌≤◌, ◌<◌, ◌⊎◌, false, true, length, take, drop};
-ghost use Rattle.std.specs.Prelude.{IfOk, OnOk, OnErr, MatchOption};
-ghost use Rattle.nop_types.specs.declared.limits.TheConstants.{MAX_LINE_BYTES};
+ghost use Rattle.std.specs.Prelude.{◌↔◌, IfOk, IsTrue, OnOk, OnErr};
 ghost use Rattle.outside.specs.Causes.{HasCauseFor};
 ghost use Rattle.lines.specs.Deciding.{IsUndecided};
 ghost use Rattle.lines.specs.Reading.{opening, IsFirst, LeavesNone, NeedsNoRead, Reaches};
@@ -20,10 +19,11 @@ use std::marker::Model;
 #[derive(Drop)]
 pub struct LineReader {
     buffer: BytesMut,
-    searched: usize,
     most: u32,
     line: u32,
     ended: bool,
+    /// The next line, if it is decided.
+    next: Option<FirstLine>,
 }
 
 impl Model for LineReader {
@@ -38,7 +38,7 @@ impl Model for LineReader {
       ended = r.ended;
     } };
 
-    ghost invariant = { λ r. IsReader r.searched r.most r.line r.buffer.items };
+    ghost invariant = { λ r. IsReader r.next r.most r.line r.ended r.buffer.items };
 }
 
 impl LineReader {
@@ -48,10 +48,10 @@ impl LineReader {
     {
         LineReader {
             buffer: BytesMut::new(alloc),
-            searched: 0,
             most,
             line: 0,
             ended: false,
+            next: None,
         }
     }
 
@@ -61,6 +61,13 @@ impl LineReader {
         ensures most { result ≤ self.now.most }
     {
         self.line
+    }
+
+    /// Whether the next line or the end of the source is there already: exactly where `next_line` does not ask its source.
+    pub fn has_line(&self) -> bool
+        ensures { IsTrue result ↔ NeedsNoRead self.now }
+    {
+        self.ended || self.next.is_some()
     }
 
     /// Where the next line lies, None at the end of the source. After ReadFault and NoMemory nothing that was read is lost, and
@@ -74,8 +81,25 @@ impl LineReader {
         ensures unread { NeedsNoRead self.old → (source.new ≡ source.old)
             × (self.new ≡ self.old) }
     {
+        if let Some(first) = self.next {
+            return Ok(Some(first));
+        }
+        self.read_line(source)
+    }
+
+    /// Reads until the next line is decided; None at the end of the source.
+    #[cold]
+    fn read_line<S: Source>(&mut self, source: &mut S) -> Result<Option<FirstLine>, ReadError>
+        ensures first { IfOk result (Reaches self.new) }
+        ensures takes { TakesFrom self.old self.new (S.left source.old) (S.left source.new) }
+        ensures none_left { LeavesNone self.new result }
+        ensures cause { HasCauseFor (S.fault_count source.old) (S.fault_count source.new)
+            ReadError.ReadFault result }
+        ensures unread { NeedsNoRead self.old → (source.new ≡ source.old)
+            × (self.new ≡ self.old) }
+    {
         loop {
-            if let Some(first) = self.first_line() {
+            if let Some(first) = self.next {
                 return Ok(Some(first));
             }
             if self.ended {
@@ -83,20 +107,6 @@ impl LineReader {
             }
             self.read_piece(source)?;
         }
-    }
-
-    fn first_line(&self) -> Option<FirstLine>
-        ensures { MatchOption result
-            (IsUndecided self.now.most self.now.line self.now.ended self.now.pending)
-            (IsFirst self.now) }
-    {
-        first_line(
-            self.most,
-            self.line,
-            self.ended,
-            self.searched,
-            self.buffer.as_slice(),
-        )
     }
 
     fn read_piece<S: Source>(&mut self, source: &mut S) -> Result<(), ReadError>
@@ -113,8 +123,9 @@ impl LineReader {
         let searched = self.buffer.len();
         match fill(&mut self.buffer, source) {
             Ok(count) => {
-                self.searched = searched;
                 self.ended = count == 0;
+                let bytes = self.buffer.as_slice();
+                self.next = first_line(self.most, self.line, self.ended, searched, bytes);
                 Ok(())
             }
             Err(e) => Err(e),
@@ -139,7 +150,8 @@ impl LineReader {
         ensures ended { self.new.ended ≡ self.old.ended }
     {
         self.buffer.advance(first.end);
-        self.searched = 0;
         self.line += 1;
+        let bytes = self.buffer.as_slice();
+        self.next = first_line(self.most, self.line, self.ended, 0, bytes);
     }
 }

@@ -19,11 +19,11 @@ use Rattle.schedule_text.specs.Rules.{configuration_of, count_of, header_rest, h
 use Rattle.line_fields.proofs.HexLengths.{bytes_short}
 
 -- a step that gave a value, and what came of it
-then_ok : {A B : Type 0} (r : Read A) (f : A → Read B) (y : B) → (r >>= f) ≡ Ok y → (x : A) × (r ≡ Ok x) × (f x ≡ Ok y)
+pub then_ok : {A B : Type 0} (r : Read A) (f : A → Read B) (y : B) → (r >>= f) ≡ Ok y → (x : A) × (r ≡ Ok x) × (f x ≡ Ok y)
 then_ok (Ok x) f y e = (x, refl, e)
 then_ok (Err rule) f y e = absurd cc
 
-value_ok : {A : Type 0} (rule : Rule) (o : Option A) (x : A) → or_rule rule o ≡ Ok x → o ≡ Some x
+pub value_ok : {A : Type 0} (rule : Rule) (o : Option A) (x : A) → or_rule rule o ≡ Ok x → o ≡ Some x
 value_ok rule None x e = absurd cc
 value_ok rule (Some y) x e = let same : y ≡ x = cc in ap Some same
 

@@ -1,8 +1,6 @@
-pub mod Cuts
 pub mod EventTexts
-pub mod Firsts
 pub mod Fitting
-pub mod Searched
+pub mod Plains
 pub mod SplitLemmas
 pub mod Takings
 pub mod Turns

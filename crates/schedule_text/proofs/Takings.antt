@@ -1,15 +1,15 @@
 -- Steps of a reader, one after the other.
 use Rattle.std.proofs.Common.{◌≡◌, ℕ, Bool, true, false, List, [], ◌∷◌, ◌++◌, Option, Some, None, Result, Err, refl, sym, ap}
-use Rattle.std.proofs.Common.{◌∙◌, append_assoc, eqb}
-use Rattle.std.proofs.lemmas.Bool.{false≢true, eqb-true}
+use Rattle.std.proofs.Common.{◌∙◌, append_assoc}
+use Rattle.std.proofs.lemmas.Bool.{false≢true}
+use Rattle.lines.specs.Reading as cut
+use Rattle.nop_types.specs.Configuration.{Configuration}
 use Rattle.schedule_text.specs.declared.event.Event.{Event}
 use Rattle.schedule_text.specs.declared.next_error.NextError.{NextError}
-use Rattle.schedule_text.specs.declared.next_error.NextError.TheVariants.{BadLine, ReadFault, NoMemory}
+use Rattle.schedule_text.specs.declared.next_error.NextError.TheVariants.{ReadFault, NoMemory}
 use Rattle.schedule_text.specs.Cutting.{lines_of}
-use Rattle.schedule_text.specs.Filling.{Fills, FillsFrom}
-use Rattle.std.specs.Io.KnownBytes.{Keeps}
 use Rattle.schedule_text.specs.Reading.{Reading, MayFollow, IsTurn, turn, turn_of, Reads, Takes, TakesOf}
-use Rattle.schedule_text.specs.Stepping.{Answers, TakesFrom}
+use Rattle.schedule_text.specs.Stepping.{Answers, TakesFrom, reading}
 
 -- of two lists that make the empty one
 nil_right : (xs ys : List ℕ) → xs ++ ys ≡ [] → ys ≡ []
@@ -122,42 +122,39 @@ unfolding TakesFrom
 stays r None = ([], still r r [] (Err NoMemory) refl (λ ended more. refl))
 stays r (Some left) = ([], refl, still r r left (Err NoMemory) refl (λ ended more. refl))
 
--- a piece that was read behind the bytes
-module _ (r : Reading) (count : ℕ) (pending : List ℕ) (going : r.ended ≡ false) where
-  longer : (piece left : List ℕ) → pending ≡ r.pending ++ piece → (count ≡ 0 → left ≡ [])
-      → Takes r (record r { pending = pending; ended = eqb count 0 }) piece left (Err NoMemory)
-  longer piece left bytes at_end = record {
-    end = λ was ended. at_end (eqb-true count 0 ended);
-    after_end = λ was. absurd (false≢true (sym going ∙ was));
-    turn = λ ended more follows.
-        ap (λ (xs : List ℕ). turn r.config r.line (lines_of ended r.line xs))
-        (sym (append_assoc r.pending piece more) ∙ ap (λ (xs : List ℕ). xs ++ more) (sym bytes));
-  }
+-- ---- what a reader of lines takes
 
-  pub filled : (before left : Option (List ℕ)) → Fills before left r.pending pending count
-      → TakesFrom r (record r { pending = pending; ended = eqb count 0 }) before left (Err NoMemory)
+module _ (config : Option Configuration) (old new : cut.Reading) where
+  -- more bytes do not change what comes next
+  same_turn : (taken : List ℕ) → cut.Grows old new taken → (ended : Bool) (more : List ℕ)
+      → turn_of (reading config old) ended (taken ++ more) ≡ turn_of (reading config new) ended more
+  same_turn taken grows ended more =
+      rw (grows.line, grows.pending)
+      (ap (λ (xs : List ℕ). turn config old.line (lines_of ended old.line xs)) (sym (append_assoc old.pending taken more)))
+
+  grown : (taken left : List ℕ) (answer : Result (Option Event) NextError) → cut.Grows old new taken
+      → (old.ended ≡ false → new.ended ≡ true → left ≡ [])
+      → ((ended : Bool) (more : List ℕ) → IsTurn (reading config new) ended more answer (turn_of (reading config old) ended (taken ++ more)))
+      → Takes (reading config old) (reading config new) taken left answer
+  grown taken left answer grows end turns =
+      record { end = end; after_end = grows.after_end; turn = λ ended more follows. turns ended more }
+
+  by_source : (answer : Result (Option Event) NextError)
+      → ((taken : List ℕ) → cut.Grows old new taken → (ended : Bool) (more : List ℕ)
+      → IsTurn (reading config new) ended more answer (turn_of (reading config old) ended (taken ++ more)))
+      → (before left : Option (List ℕ)) → cut.TakesFrom old new before left
+      → TakesFrom (reading config old) (reading config new) before left answer
   unfolding TakesFrom
-  filled None left fills = (fills.piece, longer fills.piece [] fills.bytes (λ none. refl))
-  filled (Some before) None fills = fills.taken
-  filled (Some before) (Some left) fills = (fills.piece, fills.taken, longer fills.piece left fills.bytes fills.end)
+  by_source answer turns None left from =
+      (from.taken, grown from.taken [] answer from.grows (λ going ended. refl) (turns from.taken from.grows))
+  by_source answer turns (Some before) None from = absurd from.source
+  by_source answer turns (Some before) (Some left) from =
+      (from.taken, from.source, grown from.taken left answer from.grows from.end (turns from.taken from.grows))
 
--- a piece that was not read
-module _ (r : Reading) (pending : List ℕ) where
-  kept : (answer : Result (Option Event) NextError)
-      → ((ended : Bool) (more : List ℕ) → IsTurn (record r { pending = pending }) ended more answer (turn_of r ended more))
-      → (before left : Option (List ℕ)) → Keeps before left → TakesFrom r (record r { pending = pending }) before left answer
-  unfolding TakesFrom
-  kept answer turns None left keeps = ([], still r (record r { pending = pending }) [] answer refl turns)
-  kept answer turns (Some before) None keeps = keeps
-  kept answer turns (Some before) (Some left) keeps =
-      ([], sym keeps, still r (record r { pending = pending }) left answer refl turns)
+  pub reached : (before left : Option (List ℕ)) → cut.TakesFrom old new before left
+      → TakesFrom (reading config old) (reading config new) before left (Err NoMemory)
+  reached before left from = by_source (Err NoMemory) same_turn before left from
 
-  same_turn : pending ≡ r.pending → (ended : Bool) (more : List ℕ)
-      → turn_of r ended more ≡ turn_of (record r { pending = pending }) ended more
-  same_turn same ended more = ap (λ (xs : List ℕ). turn r.config r.line (lines_of ended r.line (xs ++ more))) (sym same)
-
-  pub failed : (before left : Option (List ℕ)) (e : NextError) → FillsFrom before left r.pending pending (Err e)
-      → TakesFrom r (record r { pending = pending }) before left (Err e)
-  failed before left (BadLine line rule) fills = elim fills [ ]
-  failed before left ReadFault fills = kept (Err ReadFault) (same_turn fills.0) before left fills.1
-  failed before left NoMemory fills = kept (Err NoMemory) (same_turn fills.0) before left fills.1
+  pub failed : (before left : Option (List ℕ)) → cut.TakesFrom old new before left
+      → TakesFrom (reading config old) (reading config new) before left (Err ReadFault)
+  failed before left from = by_source (Err ReadFault) same_turn before left from

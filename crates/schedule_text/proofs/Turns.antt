@@ -1,23 +1,26 @@
 -- A line that is taken.
-use Rattle.std.proofs.Common.{◌≡◌, ℕ, ◌+◌, ◌<◌, ◌≤◌, Bool, true, false, leb, ltb, List, [], ◌++◌, length, take, drop, Some}
-use Rattle.std.proofs.Common.{None, Ok, Err, refl, sym, ap, ◌∙◌, inl, inr, arith, if◌then◌else◌}
-use Rattle.std.proofs.lemmas.Bool.{false≢true, ltb-false, leb-false}
+use Rattle.std.proofs.Common.{◌≡◌, ℕ, ◌+◌, ◌<◌, ◌≤◌, Bool, true, false, leb, ltb, List, [], ◌∷◌, ◌++◌, length, take}
+use Rattle.std.proofs.Common.{drop, Option, Some, None, Ok, Err, refl, sym, ap, ◌∙◌, inl, inr, arith, if◌then◌else◌}
+use Rattle.std.proofs.lemmas.Bool.{ltb-false, leb-false}
 use Rattle.std.specs.List.{list_all}
-use Rattle.std.proofs.lemmas.List.{append-nil, length-take-le}
+use Rattle.std.specs.Prelude.{◌↔◌}
+use Rattle.std.proofs.lemmas.List.{length-take-le}
 use Rattle.nop_types.specs.Configuration.{Configuration}
 use Rattle.schedule_text.specs.declared.event.Event.{Event}
-use Rattle.schedule_text.specs.declared.first_line.FirstLine.{FirstLine}
+use Rattle.lines.specs.Cutting.{Cut}
+use Rattle.lines.specs.Deciding.{IsFirstLine, Follows}
+use Rattle.lines.specs.Reading as cut
+use Rattle.lines.specs.declared.first_line.FirstLine.{FirstLine}
+use Rattle.lines.proofs.Firsts.{no_lines}
 use Rattle.schedule_text.specs.declared.next_error.NextError.TheVariants.{BadLine, NoMemory}
 use Rattle.schedule_text.specs.declared.rule.Rule.{Rule}
 use Rattle.schedule_text.specs.declared.rule.Rule.TheVariants.{LineTooLong, TooManyLines, WrongByte, WrongWord}
 use Rattle.schedule_text.specs.Rules.{Read, is_plain, rule_number, ◌>>=◌, plain_line}
 use Rattle.schedule_text.specs.Rules.{header_of, header_of_fields, event_of, event_of_fields}
 use Rattle.line_fields.specs.Fields.{fields}
-use Rattle.schedule_text.specs.Cutting.{lines_of}
-use Rattle.schedule_text.specs.Deciding.{IsFirstLine, IsUndecided, Follows}
-use Rattle.schedule_text.specs.Reading.{Reading, MayFollow, lines_before, turn, turn_after, event_turn, header_turn}
-use Rattle.schedule_text.proofs.Firsts.{no_lines}
-use Rattle.schedule_text.specs.Stepping.{IsReader, Answers, NeedsNoRead}
+use Rattle.schedule_text.specs.Cutting.{lines_of, texts}
+use Rattle.schedule_text.specs.Reading.{Reading, MayFollow, lines_before, turn, turn_after, event_turn, header_turn, Refuses}
+use Rattle.schedule_text.specs.Stepping.{IsReader, Answers, NeedsNoRead, reading}
 
 -- what passed a test
 passed : {A : Type 0} (rule : Rule) (breaks : Bool) (r : Read A) (x : A) → (if breaks then Err rule else r) ≡ Ok x
@@ -51,22 +54,52 @@ event_fits c before line e is =
     (leb-false 1000000 before last.0, plain_fits line read.0 read.1)
 
 -- what a reader keeps after a line was taken
-pub keeps_on : (before : ℕ) (pending : List ℕ) (c : Configuration) → before < 1000000 → IsReader 0 (before + 1) pending (Some c)
-keeps_on before pending c fits = record {
-  bytes = record { within = omega arith; short = omega arith; no_end = λ k below. absurd (omega arith) };
-  most = omega arith;
-  opened = (λ none. absurd cc, λ none. absurd (omega arith));
+pub keeps_on : (old new : cut.Reading) (c : Configuration) → old.most ≡ 1000000 → old.line < 1000000 → new.most ≡ old.most
+    → new.line ≡ old.line + 1 → IsReader new (Some c)
+keeps_on old new c limit fits same next = record {
+  limit = same ∙ limit;
+  most = omega (arith, next, fits);
+  opened = (λ none. absurd cc, λ none. absurd (omega (arith, next, none)));
 }
 
--- where no line is decided before the end of the source, it has to be read
-pub needs_a_read : (r : Reading) → IsUndecided r.line r.ended r.pending → r.ended ≡ false → NeedsNoRead r → ⊥
-needs_a_read r undecided going (inl was) = false≢true (sym going ∙ was)
-needs_a_read r undecided going (inr some) = some (ap (lines_of false r.line) (append-nil r.pending) ∙ undecided.none)
+-- ---- the texts of lines
+
+-- texts come of lines
+some_line : (lines : List Cut) → texts lines ≡ [] → lines ≡ []
+some_line [] none = refl
+some_line (line ∷ lines) none = absurd cc
+
+module _ (config : Option Configuration) (lines : cut.Reading) (limit : lines.most ≡ 1000000) where
+  pub none_before : cut.lines_before lines false [] ≡ [] → lines_before (reading config lines) false [] ≡ []
+  unfolding lines_of
+  none_before none = ap texts (rw limit at none)
+
+  some_before : lines_before (reading config lines) false [] ≡ [] → cut.lines_before lines false [] ≡ []
+  unfolding lines_of
+  some_before none = rw limit (some_line _ none)
+
+  pub needs_no_read : cut.NeedsNoRead lines ↔ NeedsNoRead (reading config lines)
+  needs_no_read = (to, from)
+    where
+      to : cut.NeedsNoRead lines → NeedsNoRead (reading config lines)
+      to (inl ended) = inl ended
+      to (inr some) = inr (λ none. some (some_before none))
+
+      from : NeedsNoRead (reading config lines) → cut.NeedsNoRead lines
+      from (inl ended) = inl ended
+      from (inr some) = inr (λ none. some (none_before none))
+
+-- no bytes, no line
+pub none_of_nothing : (ended : Bool) (before : ℕ) → lines_of ended before [] ≡ []
+unfolding lines_of
+none_of_nothing ended before = ap texts (no_lines 1000000 ended before [] [] refl refl)
 
 -- at the end there is no line
 no_line : (r : Reading) (ended : Bool) (more : List ℕ) → r.ended ≡ true → r.pending ≡ [] → MayFollow r ended more
     → lines_before r ended more ≡ []
-no_line r ended more was none follows = no_lines ended r.line r.pending more none (follows.nothing was)
+unfolding lines_of
+no_line r ended more was none follows =
+    ap texts (no_lines 1000000 ended r.line r.pending more none (follows.nothing was))
 
 pub no_header : (r : Reading) → r.config ≡ None → r.ended ≡ true → r.pending ≡ []
     → Answers r r (Err (BadLine (r.line + 1) (rule_number WrongWord)))
@@ -83,33 +116,75 @@ no_event r c opened was none = record {
   turn = λ ended more follows. (rw (opened, no_line r ended more was none follows) refl, was, none);
 }
 
-module _ (before : ℕ) (pending : List ℕ) (was_ended : Bool) (first : FirstLine) (is_first : IsFirstLine before was_ended pending first)
-  where
-    length-first : length (take first.len pending) ≡ first.len
-    length-first = length-take-le first.len pending (omega (arith, is_first.len, is_first.end))
+module _ (before : ℕ) (pending : List ℕ) (was_ended : Bool) (first : FirstLine)
+    (is_first : IsFirstLine 1000000 before was_ended pending first) where
+  length-first : length (take first.len pending) ≡ first.len
+  length-first = length-take-le first.len pending (omega (arith, is_first.len, is_first.end))
 
-    pub header_taken : (c : Configuration) → before ≡ 0 → header_of (take first.len pending) ≡ Ok c
-        → Answers (record { config = None; line = before; pending = pending; ended = was_ended })
-        (record { config = Some c; line = before + 1; pending = drop first.end pending; ended = was_ended }) (Err NoMemory)
-    header_taken c begins is = record {
-      ended = refl;
-      turn = λ ended more follows.
-          let after : Follows was_ended ended more = record { nothing = follows.nothing; end = follows.end } in
-          let rest = lines_of ended (before + 1) (drop first.end pending ++ more) in
-          let short = header_fits (take first.len pending) c is in
-          ap (turn None before) (is_first.rest (omega arith) (omega (arith, length-first, short)) ended more after)
-          ∙ ap (header_turn before (take first.len pending) rest) is;
-    }
+  -- it is there, whatever follows
+  here : (ended : Bool) (more : List ℕ) → Follows was_ended ended more
+      → (others : List (List ℕ)) × (lines_of ended before (pending ++ more) ≡ take first.len pending ∷ others)
+  unfolding lines_of
+  here ended more after = let line = is_first.line ended more after in (texts line.0, ap texts line.1)
 
-    pub event_taken : (c : Configuration) (e : Event) → event_of c before (take first.len pending) ≡ Ok e
-        → Answers (record { config = Some c; line = before; pending = pending; ended = was_ended })
-        (record { config = Some c; line = before + 1; pending = drop first.end pending; ended = was_ended }) (Ok (Some e))
-    event_taken c e is = record {
-      ended = refl;
-      turn = λ ended more follows.
-          let after : Follows was_ended ended more = record { nothing = follows.nothing; end = follows.end } in
-          let rest = lines_of ended (before + 1) (drop first.end pending ++ more) in
-          let fits = event_fits c before (take first.len pending) e is in
-          ap (turn_after c before) (is_first.rest fits.0 (omega (arith, length-first, fits.1)) ended more after)
-          ∙ ap (event_turn c before (take first.len pending) rest) is;
-    }
+  pub header_refused : (rule : Rule) → header_of (take first.len pending) ≡ Err rule
+      → let r : Reading = record { config = None; line = before; pending = pending; ended = was_ended } in
+      Answers r r (Err (BadLine (before + 1) (rule_number rule)))
+  header_refused rule is = record {
+    ended = refl;
+    turn = λ ended more follows.
+        let line = here ended more (record { nothing = follows.nothing; end = follows.end }) in (
+          ap (turn None before) line.1
+              ∙ ap (header_turn before (take first.len pending) line.0) is
+              ∙ ap (λ (xs : List (List ℕ)). record { next = Refuses (rule_number rule); config = None; line = before; rest = xs })
+              (sym line.1),
+          refl,
+        );
+  }
+
+  pub event_refused : (c : Configuration) (rule : Rule) → event_of c before (take first.len pending) ≡ Err rule
+      → let r : Reading = record { config = Some c; line = before; pending = pending; ended = was_ended } in
+      Answers r r (Err (BadLine (before + 1) (rule_number rule)))
+  event_refused c rule is = record {
+    ended = refl;
+    turn = λ ended more follows.
+        let line = here ended more (record { nothing = follows.nothing; end = follows.end }) in (
+          ap (turn_after c before) line.1
+              ∙ ap (event_turn c before (take first.len pending) line.0) is
+              ∙ ap (λ (xs : List (List ℕ)). record { next = Refuses (rule_number rule); config = Some c; line = before; rest = xs })
+              (sym line.1),
+          refl,
+        );
+  }
+
+  -- behind the first line stand those of the bytes after it
+  rest : before < 1000000 → first.len ≤ 4096 → (ended : Bool) (more : List ℕ) → Follows was_ended ended more
+      → lines_of ended before (pending ++ more) ≡ take first.len pending ∷ lines_of ended (before + 1) (drop first.end pending ++ more)
+  unfolding lines_of
+  rest fits short ended more after = ap texts (is_first.rest fits short ended more after)
+
+  pub header_taken : (c : Configuration) → before ≡ 0 → header_of (take first.len pending) ≡ Ok c
+      → Answers (record { config = None; line = before; pending = pending; ended = was_ended })
+      (record { config = Some c; line = before + 1; pending = drop first.end pending; ended = was_ended }) (Err NoMemory)
+  header_taken c begins is = record {
+    ended = refl;
+    turn = λ ended more follows.
+        let after : Follows was_ended ended more = record { nothing = follows.nothing; end = follows.end } in
+        let others = lines_of ended (before + 1) (drop first.end pending ++ more) in
+        let short = header_fits (take first.len pending) c is in
+        ap (turn None before) (rest (omega arith) (omega (arith, length-first, short)) ended more after)
+        ∙ ap (header_turn before (take first.len pending) others) is;
+  }
+
+  pub event_taken : (c : Configuration) (e : Event) → event_of c before (take first.len pending) ≡ Ok e
+      → Answers (record { config = Some c; line = before; pending = pending; ended = was_ended })
+      (record { config = Some c; line = before + 1; pending = drop first.end pending; ended = was_ended }) (Ok (Some e))
+  event_taken c e is = record {
+    ended = refl;
+    turn = λ ended more follows.
+        let after : Follows was_ended ended more = record { nothing = follows.nothing; end = follows.end } in
+        let others = lines_of ended (before + 1) (drop first.end pending ++ more) in
+        let fits = event_fits c before (take first.len pending) e is in
+        ap (turn_after c before) (rest fits.0 (omega (arith, length-first, fits.1)) ended more after)
+        ∙ ap (event_turn c before (take first.len pending) others) is;
+  }

@@ -1,7 +1,5 @@
 pub mod Cutting
-pub mod Deciding
 pub mod EventText
-pub mod Filling
 pub mod Fits
 pub mod LineAnswer
 pub mod Reading

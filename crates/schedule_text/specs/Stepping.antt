@@ -3,17 +3,21 @@ use Rattle.std.specs.Prelude.{◌≡◌, ◌≢◌, ℕ, ◌≤◌, ◌↔◌, �
 use Rattle.nop_types.specs.declared.limits.TheConstants.{MAX_LINES}
 use Rattle.nop_types.specs.Configuration.{Configuration}
 use Rattle.schedule_text.specs.declared.event.Event.{Event}
-use Rattle.schedule_text.specs.declared.first_line.FirstLine.{FirstLine}
+use Rattle.lines.specs.Deciding.{IsFirstLine}
+use Rattle.lines.specs.Reading as cut
+use Rattle.lines.specs.declared.first_line.FirstLine.{FirstLine}
 use Rattle.schedule_text.specs.declared.next_error.NextError.{NextError}
 use Rattle.schedule_text.specs.declared.next_error.NextError.TheVariants.{NoMemory}
-use Rattle.schedule_text.specs.Deciding.{IsSearched, IsFirstLine}
 use Rattle.schedule_text.specs.Reading.{Reading, MayFollow, IsTurn, Takes, lines_before, turn_of}
 
--- what a reader keeps: which bytes were searched, and a configuration from line 1 on
-pub record IsReader (searched line : ℕ) (pending : List ℕ) (config : Option Configuration) : Type 0 where
-  pub bytes : IsSearched searched pending
-  pub most : line ≤ MAX_LINES
-  pub opened : IsNone config ↔ (line ≡ 0)
+-- what a reader keeps: the lines that a schedule may have, and a configuration from line 1 on
+pub record IsReader (lines : cut.Reading) (config : Option Configuration) : Type 0 where
+  pub limit : lines.most ≡ MAX_LINES
+  pub most : lines.line ≤ MAX_LINES
+  pub opened : IsNone config ↔ (lines.line ≡ 0)
+
+abbrev pub reading : Option Configuration → cut.Reading → Reading
+reading config lines = record { config = config; line = lines.line; pending = lines.pending; ended = lines.ended }
 
 -- a step that went well leaves what comes next as it was, as NoMemory does
 abbrev pub after_step : {A : Type 0} → Result A NextError → Result (Option Event) NextError
@@ -32,7 +36,7 @@ pub record Answers (old new : Reading) (answer : Result (Option Event) NextError
   pub turn : (ended : Bool) (more : List ℕ) → MayFollow new ended more → IsTurn new ended more answer (turn_of old ended more)
 
 abbrev pub IsFirst : Reading → FirstLine → Type 0
-IsFirst r first = IsFirstLine r.line r.ended r.pending first
+IsFirst r first = IsFirstLine MAX_LINES r.line r.ended r.pending first
 
 -- the first line or the end is there, so that nothing has to be read
 abbrev pub NeedsNoRead : Reading → Type 0

@@ -15,15 +15,15 @@
 //! as it is), `config`, `line`; `Event`; `Rule::number`;
 //! `event_line`; `takes_tick`, which ticks a schedule may give.
 //!
-//! Files: `event`, `reader`, `first_line`, `rules`, `words`; `event_text`, `ticks`. Definitions:
+//! Where a line ends, and when it is decided, is said in `lines`, which cuts them.
+//!
+//! Files: `event`, `reader`, `rules`, `words`; `event_text`, `ticks`. Definitions:
 //! `specs/Cutting` (`lines_of`), `Rules` (`header_of`, `event_of`), `Reading` (`TakesOf`),
 //! `EventText` (`Means`), `Ticks`.
 #![tactic(auto)]
 
-mod buffer;
 mod event;
 mod event_text;
-mod first_line;
 mod laws;
 mod line_error;
 mod next_error;

@@ -1,23 +1,19 @@
-ghost use Rattle.std.specs.Prelude.{◌≡◌, ◌≢◌, ◌+◌, ◌≤◌, ◌<◌, ◌↔◌, ◌⊎◌, false, true, []};
-ghost use Rattle.std.specs.Prelude.{length, Some, None, Err, IsNone, IsSome, IfOk, OnOk, OnErr};
-ghost use Rattle.std.specs.Prelude.{IsTrue, MatchOption};
+ghost use Rattle.std.specs.Prelude.{◌≡◌, ◌≢◌, ◌+◌, ◌≤◌, ◌↔◌, false, true, []};
+ghost use Rattle.std.specs.Prelude.{Some, None, Err, IsNone, IsSome, IsTrue, IfOk, OnOk, OnErr};
 ghost use Rattle.nop_types.specs.declared.limits.TheConstants.{MAX_LINES};
 ghost use Rattle.outside.specs.Causes.{HasCauseFor};
-ghost use Rattle.schedule_text.specs.Deciding.{IsUndecided};
 ghost use Rattle.schedule_text.specs.Reading.{opening, lines_before, lines_taken, Reads, TakesOf};
 ghost use Rattle.schedule_text.specs.Reading.{LeavesNone};
 ghost use Rattle.schedule_text.specs.Rules.{rule_number};
 ghost use Rattle.schedule_text.specs.Stepping.{after_step, Answers, IsFirst, NeedsNoRead, Reaches};
 ghost use Rattle.schedule_text.specs.Stepping.{TakesFrom};
 
-use crate::buffer::fill;
-use crate::first_line::{FirstLine, first_line};
 use crate::line_error::LineError;
 use crate::rule::Rule;
 use crate::rules::{event, header};
 use crate::{Event, NextError};
-use bytes::BytesMut;
-use nop_types::Config;
+use lines::{FirstLine, LineReader, ReadError};
+use nop_types::{Config, MAX_LINES};
 use outside::Source;
 use std::alloc::Global;
 use std::marker::Model;
@@ -28,28 +24,20 @@ use std::marker::Model;
 #[derive(Drop)]
 pub struct Reader {
     alloc: Global,
-    buffer: BytesMut,
-    searched: usize,
+    lines: LineReader,
     config: Option<Config>,
-    line: u32,
-    ended: bool,
 }
 
 impl Model for Reader {
     ghost use Rattle.schedule_text.specs.Reading.{Reading};
     ghost use Rattle.schedule_text.specs.Rules.{rule_number};
-    ghost use Rattle.schedule_text.specs.Stepping.{IsReader};
+    ghost use Rattle.schedule_text.specs.Stepping.{IsReader, reading};
 
     ghost Value = { Reading };
 
-    ghost view = { λ r. record {
-      config = r.config;
-      line = r.line;
-      pending = r.buffer.items;
-      ended = r.ended;
-    } };
+    ghost view = { λ r. reading r.config r.lines };
 
-    ghost invariant = { λ r. IsReader r.searched r.line r.buffer.items r.config };
+    ghost invariant = { λ r. IsReader r.lines r.config };
 }
 
 impl Reader {
@@ -59,11 +47,8 @@ impl Reader {
     {
         Reader {
             alloc,
-            buffer: BytesMut::new(alloc),
-            searched: 0,
+            lines: LineReader::new(alloc, MAX_LINES),
             config: None,
-            line: 0,
-            ended: false,
         }
     }
 
@@ -80,7 +65,7 @@ impl Reader {
         ensures value { result ≡ self.now.line }
         ensures most { result ≤ MAX_LINES }
     {
-        self.line
+        self.lines.line()
     }
 
     /// Whether the next line or the end of the source is there already: for line 1 exactly where `open` does not ask its source,
@@ -88,7 +73,7 @@ impl Reader {
     pub fn has_line(&self) -> bool
         ensures { IsTrue result ↔ NeedsNoRead self.now }
     {
-        self.ended || self.first_line().is_some()
+        self.lines.has_line()
     }
 
     /// The event of the next line, None at the end of the source. A line that breaks a rule is not
@@ -137,6 +122,25 @@ impl Reader {
         if let Some(config) = self.config {
             return Ok(config);
         }
+        self.read_header(source)
+    }
+
+    /// Takes line 1.
+    #[cold]
+    fn read_header<S: Source>(&mut self, source: &mut S) -> Result<Config, NextError>
+        requires { self.old.config ≡ None }
+        ensures config { IfOk result (λ c. self.new.config ≡ Some c) }
+        ensures line { OnOk result ((1 ≤ self.new.line) × (self.new.line ≤ MAX_LINES)) }
+        ensures closed { OnErr result (self.new.config ≡ self.old.config) }
+        ensures takes { TakesFrom self.old self.new (S.left source.old) (S.left source.new)
+            (after_step result) }
+        ensures none_left { LeavesNone self.new (after_step result) }
+        ensures cause { HasCauseFor (S.fault_count source.old) (S.fault_count source.new)
+            NextError.ReadFault result }
+        ensures after_end { self.old.ended ≡ true → (source.new ≡ source.old)
+            × (self.new.ended ≡ true) }
+        ensures unread { NeedsNoRead self.old → source.new ≡ source.old }
+    {
         match self.reach_line(source)? {
             // no bytes, so no word
             None => Err(self.bad_line(Rule::WrongWord)),
@@ -157,45 +161,10 @@ impl Reader {
         ensures unread { NeedsNoRead self.old → (source.new ≡ source.old)
             × (self.new ≡ self.old) }
     {
-        loop {
-            if let Some(first) = self.first_line() {
-                return Ok(Some(first));
-            }
-            if self.ended {
-                return Ok(None);
-            }
-            self.read_piece(source)?;
-        }
-    }
-
-    fn first_line(&self) -> Option<FirstLine>
-        ensures { MatchOption result (IsUndecided self.now.line self.now.ended self.now.pending)
-            (IsFirst self.now) }
-    {
-        first_line(self.line, self.ended, self.searched, self.buffer.as_slice())
-    }
-
-    fn read_piece<S: Source>(&mut self, source: &mut S) -> Result<(), NextError>
-        requires undecided { IsUndecided self.old.line self.old.ended self.old.pending }
-        requires going { self.old.ended ≡ false }
-        ensures more { OnOk result ((self.new.ended ≡ true)
-            ⊎ (length self.old.pending < length self.new.pending)) }
-        ensures config { self.new.config ≡ self.old.config }
-        ensures line { self.new.line ≡ self.old.line }
-        ensures takes { TakesFrom self.old self.new (S.left source.old) (S.left source.new)
-            (after_step result) }
-        ensures kept { OnErr result (self.new ≡ self.old) }
-        ensures cause { HasCauseFor (S.fault_count source.old) (S.fault_count source.new)
-            NextError.ReadFault result }
-    {
-        let searched = self.buffer.len();
-        match fill(&mut self.buffer, source) {
-            Ok(count) => {
-                self.searched = searched;
-                self.ended = count == 0;
-                Ok(())
-            }
-            Err(e) => Err(e),
+        match self.lines.next_line(source) {
+            Ok(first) => Ok(first),
+            Err(ReadError::ReadFault) => Err(NextError::ReadFault),
+            Err(ReadError::NoMemory) => Err(NextError::NoMemory),
         }
     }
 
@@ -203,16 +172,14 @@ impl Reader {
         requires first { IsFirst self.old first }
         requires config { self.old.config ≡ None }
         ensures config { IfOk result (λ c. self.new.config ≡ Some c) }
-        ensures line { OnOk result (self.new.line ≡ self.old.line + 1) }
+        ensures line { OnOk result (self.new.line ≡ 1) }
         ensures kept { OnErr result (self.new ≡ self.old) }
         ensures answers { Answers self.old self.new (after_step result) }
         ensures no_fault { result ≢ Err NextError.ReadFault }
     {
-        match header(&self.buffer.as_slice()[..first.len]) {
+        match header(self.lines.text(first)) {
             Ok(config) => {
-                self.buffer.advance(first.end);
-                self.searched = 0;
-                self.line += 1;
+                self.lines.take(first);
                 self.config = Some(config);
                 Ok(config)
             }
@@ -228,12 +195,10 @@ impl Reader {
         ensures line { self.new.line ≡ self.old.line + lines_taken result }
         ensures no_fault { result ≢ Err NextError.ReadFault }
     {
-        let line = &self.buffer.as_slice()[..first.len];
-        match event(self.alloc, config, self.line, line) {
+        let before = self.lines.line();
+        match event(self.alloc, config, before, self.lines.text(first)) {
             Ok(event) => {
-                self.buffer.advance(first.end);
-                self.searched = 0;
-                self.line += 1;
+                self.lines.take(first);
                 Ok(Some(event))
             }
             Err(LineError::Breaks(rule)) => Err(self.bad_line(rule)),
@@ -245,9 +210,8 @@ impl Reader {
     fn bad_line(&self, rule: Rule) -> NextError
         ensures { result ≡ NextError.BadLine (self.now.line + 1) (rule_number rule) }
     {
-        let line = self.line + 1;
         NextError::BadLine {
-            line,
+            line: self.lines.line() + 1,
             rule: rule.number(),
         }
     }

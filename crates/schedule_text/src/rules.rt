@@ -1,6 +1,6 @@
 //! The rules of a schedule's lines: what a line means, or the first rule that it breaks.
 
-ghost use Rattle.std.specs.Prelude.{◌≡◌, ◌&&◌, codes, Ok, Err, MatchResult};
+ghost use Rattle.std.specs.Prelude.{◌≡◌, ◌&&◌, codes, if◌then◌else◌, Ok, Err, MatchResult};
 ghost use Rattle.std.specs.List.{list_all};
 ghost use Rattle.std.specs.Option.{option_copied};
 ghost use Rattle.line_fields.specs.Fields.{fields, is_text};
@@ -139,8 +139,19 @@ fn event_of_words(alloc: Global, config: Config, line: &[u8]) -> Result<Event, L
     Err(LineError::Breaks(Rule::WrongWord))
 }
 
+/// The rule that a line breaks first, where its words break this one.
+fn first_rule(line: &[u8], rule: Rule) -> Rule
+    ensures { result ≡ (if list_all is_plain line.now then rule else Rule.WrongByte) }
+{
+    if has_plain_bytes(line) {
+        rule
+    } else {
+        Rule::WrongByte
+    }
+}
+
 /// The event of any other line, or the rule that it breaks; `before` is the number of lines before
-/// it.
+/// it. A line that gives an event has no other bytes than it may have, so these are not looked at.
 #[tactic(auto, unfolding(crate::specs::Rules::event_of))]
 pub fn event(alloc: Global, config: Config, before: u32, line: &[u8]) -> Result<Event, LineError>
     ensures { IsAnswer result (event_of config before line.now) }
@@ -148,8 +159,12 @@ pub fn event(alloc: Global, config: Config, before: u32, line: &[u8]) -> Result<
     if before >= MAX_LINES {
         return Err(LineError::Breaks(Rule::TooManyLines));
     }
-    match plain(line) {
-        Ok(()) => event_of_words(alloc, config, line),
-        Err(rule) => Err(LineError::Breaks(rule)),
+    if line.len() > MAX_LINE_BYTES {
+        return Err(LineError::Breaks(Rule::LineTooLong));
+    }
+    match event_of_words(alloc, config, line) {
+        Ok(event) => Ok(event),
+        Err(LineError::Breaks(rule)) => Err(LineError::Breaks(first_rule(line, rule))),
+        Err(LineError::NoMemory) => Err(LineError::NoMemory),
     }
 }

@@ -1,40 +1,35 @@
-use Rattle.std.proofs.Common.{◌≡◌, ◌∙◌, false, Err, refl, sym, ap, arith, le_refl}
-use Rattle.std.proofs.lemmas.Result.{err_from_is_err_and}
-use Rattle.schedule_text.specs.declared.next_error.NextError.TheVariants.{NoMemory}
-use Rattle.schedule_text.specs.Reading.{Reading}
-use Rattle.schedule_text.proofs.Takings.{stays, then_takes}
-use Rattle.schedule_text.proofs.Turns.{needs_a_read}
+use Rattle.std.proofs.Common.{◌∙◌, ap}
+use Rattle.schedule_text.specs.Stepping.{reading}
+use Rattle.schedule_text.proofs.Takings.{reached, failed}
+use Rattle.schedule_text.proofs.Turns.{needs_no_read, none_before}
 use Rattle.schedule_text.proofs.reader.Reader.reach_line.Goals as goal
+use Rattle.schedule_text.proofs.reader.Reader.reach_line.Goals.{in-Ok, in-Err-ReadFault, in-Err-NoMemory}
 
-pub loop-first-init : goal.loop-first-init
-loop-first-init g c = record {
-  config = refl;
-  line = refl;
-  takes = stays c.args.self.now (g.S.Source.left c.args.source.now);
-  unread = λ needs. (refl, refl);
-  later = le_refl (g.S.Source.fault_count c.args.source.now);
-}
+pub returns-clause-takes : goal.returns-clause-takes
+returns-clause-takes g c =
+    let inside = c.self.inside in
+    let before = g.S.Source.left c.args.source.now in
+    let left = g.S.Source.left c.next_line.new.source in
+    rw (← c.self.view_is) (elim c.match-next_line.branch [
+      | in-Ok w ↦ rw w.result-is (reached inside.config inside.lines c.next_line.new.self before left c.next_line.ensures.takes)
+      | in-Err-ReadFault w ↦ rw w.result-is (failed inside.config inside.lines c.next_line.new.self before left c.next_line.ensures.takes)
+      | in-Err-NoMemory w ↦ rw w.result-is (reached inside.config inside.lines c.next_line.new.self before left c.next_line.ensures.takes)
+    ])
 
-pub loop-first-preserved : goal.loop-first-preserved
-loop-first-preserved g c =
-    let left = g.S.Source.left in
-    let kept = c.loop-first.invariant in
-    let going : c.loop-first.self.ended ≡ false = ap (λ (r : Reading). r.ended) (sym c.self.view_is) ∙ c.if-self.false in
-    record {
-      config = c.in_ok-read_piece.ensures.config ∙ kept.config;
-      line = c.in_ok-read_piece.ensures.line ∙ kept.line;
-      takes = then_takes c.args.self.now c.loop-first.self c.read_piece.new.self (Err NoMemory) (left c.args.source.now)
-          (left c.loop-first.source) (left c.read_piece.new.source) kept.takes c.in_ok-read_piece.ensures.takes;
-      unread = λ needs.
-          let stayed = kept.unread needs in
-          absurd (needs_a_read c.loop-first.self c.in_default.ensures going (rw (stayed.1) needs));
-      later = omega (arith, kept.later, c.in_ok-read_piece.ensures.cause.later);
-    }
+pub returns-clause-none_left : goal.returns-clause-none_left
+returns-clause-none_left g c =
+    let limit = c.next_line.ensures.takes.grows.most ∙ c.self.invariant.limit in
+    elim c.match-next_line.branch [
+      | in-Ok w ↦ rw w.result-is tt
+      | in-Err-ReadFault w ↦
+          let left = rw w.in-Err-ReadFault.field-0-is at w.in-Err-ReadFault.ensures.none_left in
+          rw w.result-is (left.0, none_before c.self.inside.config c.next_line.new.self limit left.1)
+      | in-Err-NoMemory w ↦ rw w.result-is tt
+    ]
 
-pub returns-in_err-read_piece-clause-takes : goal.returns-in_err-read_piece-clause-takes
-returns-in_err-read_piece-clause-takes g c =
-    let left = g.S.Source.left in
-    let p = err_from_is_err_and c.from_residual.result c.from_residual.ensures.1 in
-    rw (p.1, p.2) (then_takes c.args.self.now c.loop-first.self c.read_piece.new.self (Err c.in_err-read_piece.field-0.0)
-    (left c.args.source.now) (left c.loop-first.source) (left c.read_piece.new.source) c.loop-first.invariant.takes
-    c.in_err-read_piece.ensures.takes)
+pub returns-clause-unread : goal.returns-clause-unread
+returns-clause-unread g c =
+    let inside = c.self.inside in
+    let needs = needs_no_read inside.config inside.lines c.self.invariant.limit in
+    rw (← c.self.view_is)
+    (λ none. let still = c.next_line.ensures.unread (needs.1 none) in (still.0, ap (reading inside.config) still.1))

@@ -1,22 +1,41 @@
-use Rattle.std.proofs.Common.{◌≡◌, Ok, take}
+use Rattle.std.proofs.Common.{◌≡◌, Ok, Err, take, arith}
 use Rattle.schedule_text.specs.Rules.{event_of}
-use Rattle.schedule_text.proofs.Turns.{event_fits, event_taken, keeps_on}
+use Rattle.schedule_text.proofs.Turns.{event_fits, event_taken, event_refused, keeps_on}
 use Rattle.schedule_text.proofs.reader.Reader.take_event.Goals as goal
+
+pub take-requires-clause-fits : goal.take-requires-clause-fits
+take-requires-clause-fits c =
+    let lines = c.self.inside.lines in
+    let took : event_of c.args.config lines.line (take c.args.first.len lines.pending) ≡ Ok c.in-Ok.event =
+    rw (c.text.ensures, c.line-before.ensures.value) at c.in-Ok.ensures in
+    let fits = event_fits c.args.config lines.line (take c.args.first.len lines.pending) c.in-Ok.event took in
+    omega (arith, fits.0, c.self.invariant.limit)
 
 pub invariant_of-self : goal.invariant_of-self
 invariant_of-self c =
-    let line = take c.args.first.len c.as_slice.result.now in
-    let took : event_of c.args.config c.self.inside.line line ≡ Ok c.in-Ok.event = c.in-Ok.ensures in
-    let fits = event_fits c.args.config c.self.inside.line line c.in-Ok.event took in
+    let lines = c.self.inside.lines in
+    let took : event_of c.args.config lines.line (take c.args.first.len lines.pending) ≡ Ok c.in-Ok.event =
+    rw (c.text.ensures, c.line-before.ensures.value) at c.in-Ok.ensures in
+    let fits = event_fits c.args.config lines.line (take c.args.first.len lines.pending) c.in-Ok.event took in
     let config = rw (← c.self.view_is) at c.requires.config in
-    rw config (keeps_on c.self.inside.line c.advance.new.self.items c.args.config fits.0)
+    rw config (keeps_on lines c.take.new.self c.args.config c.self.invariant.limit fits.0 c.take.ensures.most c.take.ensures.line)
 
 pub returns-in-Ok-clause-answers : goal.returns-in-Ok-clause-answers
 returns-in-Ok-clause-answers c =
-    let inside = c.self.inside in
-    let took : event_of c.args.config inside.line (take c.args.first.len c.as_slice.result.now) ≡ Ok c.in-Ok.event = c.in-Ok.ensures in
+    let lines = c.self.inside.lines in
+    let took : event_of c.args.config lines.line (take c.args.first.len lines.pending) ≡ Ok c.in-Ok.event =
+    rw (c.text.ensures, c.line-before.ensures.value) at c.in-Ok.ensures in
     let first = rw (← c.self.view_is) at c.requires.first in
     let config = rw (← c.self.view_is) at c.requires.config in
-    rw (← c.self.view_is, config, c.advance.ensures.items)
-    (event_taken inside.line inside.buffer.items inside.ended c.args.first first c.args.config c.in-Ok.event
-    (rw c.as_slice.ensures at took))
+    rw (← c.self.view_is, config, c.take.ensures.line, c.take.ensures.pending, c.take.ensures.ended)
+    (event_taken lines.line lines.pending lines.ended c.args.first first c.args.config c.in-Ok.event took)
+
+pub returns-in-Err-Breaks-clause-answers : goal.returns-in-Err-Breaks-clause-answers
+returns-in-Err-Breaks-clause-answers c =
+    let lines = c.self.inside.lines in
+    let refused : event_of c.args.config lines.line (take c.args.first.len lines.pending) ≡ Err c.in-Err-Breaks.rule =
+    rw (c.text.ensures, c.line-before.ensures.value, c.in-Err-Breaks.field-0-is) at c.in-Err-Breaks.ensures in
+    let first = rw (← c.self.view_is) at c.requires.first in
+    let config = rw (← c.self.view_is) at c.requires.config in
+    rw (c.bad_line.ensures, ← c.self.view_is, config, c.in-Err-Breaks.field-0-is)
+    (event_refused lines.line lines.pending lines.ended c.args.first first c.args.config c.in-Err-Breaks.rule refused)

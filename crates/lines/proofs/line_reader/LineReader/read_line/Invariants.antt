@@ -1,9 +1,9 @@
 use Rattle.std.proofs.Common.{◌≡◌, ◌≤◌, ◌-◌, ℕ, Bool, true, false, length}
 use Rattle.lines.specs.Reading.{NeedsNoRead, TakesFrom}
-use Rattle.lines.proofs.line_reader.LineReader.next_line.Given as goal
+use Rattle.lines.proofs.line_reader.LineReader.read_line.Given as goal
 
-abbrev pub invariant-loop-first : goal.invariant-loop-first
-invariant-loop-first g l =
+abbrev pub invariant-loop-self : goal.invariant-loop-self
+invariant-loop-self g l =
     record {
       takes : TakesFrom l.fn.self l.self (g.S.Source.left l.fn.source) (g.S.Source.left l.source);
       unread : NeedsNoRead l.fn.self → (l.source ≡ l.fn.source) × (l.self ≡ l.fn.self);
@@ -15,5 +15,5 @@ abbrev pub missing : Bool → ℕ → ℕ
 missing true count = 0
 missing false count = 4098 - count
 
-abbrev pub decreases-loop-first : goal.decreases-loop-first
-decreases-loop-first g l = missing l.self.ended (length l.self.pending)
+abbrev pub decreases-loop-self : goal.decreases-loop-self
+decreases-loop-self g l = missing l.self.ended (length l.self.pending)
