@@ -51,8 +51,13 @@ is_picture
 runs README.md 'crates/nopaxos/out/nopaxos cluster --replicas 3 --sequencers 1 --clients 1 5000016b000176'
 grep -qx 'accept c0 1 6e6f6e65' "$folder/out" || differs "the cluster accepts no put"
 tail -n 1 "$folder/out" | grep -qx 'served [0-9]* lost 0 stray [0-9]*' || differs "the cluster has another last line"
-# Its schedule is drawn next.
+# Its schedule is drawn, and its transcript judged, below.
 sed '/^transcript /,$d' "$folder/out" > "$folder/my.schedule"
+sed '1,/^transcript /{/^transcript /!d}; /^served /d' "$folder/out" > "$folder/my.transcript"
+"$folder/crates/nopaxos/out/nopaxos" check < "$folder/my.transcript" > "$folder/out"
+grep -qx 'legal 1 1 1' "$folder/out" || differs "the transcript of the cluster is judged '$(cat "$folder/out")'"
+runs README.md 'crates/nopaxos/out/nopaxos check < examples/one-put.transcript'
+grep -qx 'legal 1 1 1' "$folder/out" || differs "the put is judged '$(cat "$folder/out")'"
 # `rt run` proves on its own what `rt ci` has proved, which takes long: it is run only where its program is not there.
 if [ -x crates/spacetime/out/spacetime ]; then
     echo '(cd crates/spacetime && rt run < stdin > /dev/null)' >> "$folder/known"

@@ -16,7 +16,7 @@ fi
 folder=$(mktemp -d) || exit 2
 base=$((20000 + $$ % 2000 * 20))
 site="--replicas 3 --sequencers 1 --base $base"
-usage='usage: nopaxos replay | gen | node | sequencer | controller | client | cluster'
+usage='usage: nopaxos replay | gen | node | sequencer | controller | client | cluster | check'
 made=0
 wrong=0
 server=
@@ -143,6 +143,18 @@ same 'a word that is not UTF-8' $? 2 "$usage"
 same 'a second word that is not UTF-8' $? 2 "$usage"
 "$program" stop > /dev/full 2> "$folder/err"
 same 'the usage line on a full disk' $? 4 ''
+
+# ---- check
+"$program" check < "$transcript" > "$folder/out" 2> "$folder/err"
+same 'a transcript' $? 0 'legal 1 1 1'
+"$program" check < examples/changed-result.transcript > "$folder/out" 2> "$folder/err"
+same 'a changed transcript' $? 8 'refuted line 7 clause 5'
+"$program" check < /dev/null > "$folder/out" 2> "$folder/err"
+same 'no transcript' $? 8 'refuted line 1 clause 2'
+"$program" check < "$folder" > "$folder/out" 2> "$folder/err"
+same 'a folder as a transcript' $? 3 ''
+"$program" check < "$transcript" > /dev/full 2> "$folder/err"
+same 'a verdict on a full disk' $? 4 ''
 
 # ---- nodes
 # shellcheck disable=SC2086

@@ -13,7 +13,7 @@ use Rattle.nop_types.specs.declared.limits.TheConstants.{MAX_OP_BYTES, MAX_SEQUE
 use Rattle.command_line.specs.Numbers.{number_of}
 use Rattle.command_line.specs.Program.{program_app}
 use Rattle.command_line.specs.declared.command.Command.{Command}
-use Rattle.command_line.specs.declared.command.Command.TheVariants.{Replay, Gen, Node, Sequencer, Controller, Client, Cluster}
+use Rattle.command_line.specs.declared.command.Command.TheVariants.{Replay, Gen, Node, Sequencer, Controller, Client, Cluster, Check}
 use Rattle.command_line.specs.declared.command.Site.{Site}
 use Rattle.command_line.specs.declared.options.TheConstants.{MAX_CLUSTER_TURNS}
 
@@ -164,6 +164,7 @@ served_by name rows =
 abbrev pub command_by : Text → List Row → Option Command
 command_by name rows =
     if bytes_eq name (codes "replay") then Some Replay
+    else if bytes_eq name (codes "check") then Some Check
     else if bytes_eq name (codes "gen") then gen_in rows
     else if bytes_eq name (codes "node") then node_in rows
     else served_by name rows
@@ -208,6 +209,7 @@ IsFit (Sequencer id site) = (id < MAX_SEQUENCERS) × (site.base ≤ 65000)
 IsFit (Controller site session install) = (1 ≤ session) × (site.base ≤ 65000)
 IsFit (Client id site ops) = site.base ≤ 65000
 IsFit (Cluster site ops) = site.base ≤ 65000
+IsFit Check = ⊤
 
 abbrev pub texts_of : {Z : Type 0} → List (String Z) → List Text
 texts_of words = map string_bytes words

@@ -60,5 +60,8 @@ with_controller = with_subcommand with_sequencer controller_app.top
 unfoldable pub with_client : App
 with_client = with_subcommand with_controller client_app.top
 
+unfoldable pub with_cluster : App
+with_cluster = with_subcommand with_client cluster_app.top
+
 unfoldable pub program_app : App
-program_app = with_subcommand with_client cluster_app.top
+program_app = with_subcommand with_cluster (new_app (codes "check")).top

@@ -25,4 +25,6 @@ pub enum Command {
     Client(u32, Site, Ops),
     /// All actors in one process, and the ops that its clients submit.
     Cluster(Site, Ops),
+    /// A transcript is judged.
+    Check,
 }

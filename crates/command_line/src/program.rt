@@ -78,6 +78,11 @@ const COMMANDS: &[Row<'static>] = &[
         shared: SITE,
         own: &[Word::Required("clients"), Word::Ops],
     },
+    Row {
+        name: "check",
+        shared: &[],
+        own: &[],
+    },
 ];
 
 fn option<'a>(alloc: Global, name: &'a str, required: bool) -> Arg<'a>

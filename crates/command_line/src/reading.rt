@@ -182,6 +182,7 @@ fn command(alloc: Global, name: &str, matches: &ArgMatches<'_>) -> Result<Option
 {
     match name {
         "replay" => Ok(Some(Command::Replay)),
+        "check" => Ok(Some(Command::Check)),
         "gen" => Ok(generate(matches)),
         "node" => Ok(node(matches)),
         _ => served(alloc, name, matches),

@@ -1,8 +1,10 @@
 pub mod Answers
 pub mod Breaks
+pub mod Checking
 pub mod Deciding
 pub mod Grounds
 pub mod Marks
 pub mod Places
 pub mod Reached
 pub mod Saying
+pub mod Verdicts

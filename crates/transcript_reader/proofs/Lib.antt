@@ -1,4 +1,6 @@
 pub mod Behinds
 pub mod Readings
 pub mod RowLemmas
+pub mod Runs
 pub mod Shapes
+pub mod Spellings

@@ -74,7 +74,7 @@ members_with place (q ∷ history) r at e = ap (λ (xs : List Row). Member place
 
 -- ---- one row more
 
-abbrev state_of : Part → List Line → List ℕ → List Request → SoFar
+abbrev pub state_of : Part → List Line → List ℕ → List Request → SoFar
 state_of part said places history = record { part = part; said = said; places = places; history = history }
 
 module _ (rows : List Row) (row : Row) (said : List Line) (places : List ℕ) (history : List Request) where
@@ -214,7 +214,7 @@ one_more rows End s n shape e = end_shape rows s.said s.places s.history s.part 
 
 -- ---- all rows
 
-none_runs : (line : ℕ) (rows : List Row) → run_on None line rows ≡ None
+pub none_runs : (line : ℕ) (rows : List Row) → run_on None line rows ≡ None
 none_runs line [] = refl
 none_runs line (row ∷ rows) = refl
 

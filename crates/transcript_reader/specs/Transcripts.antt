@@ -95,3 +95,9 @@ said t = flat_map said_by t.events
 abbrev pub places_of : ℕ → List Row → List ℕ
 places_of line [] = []
 places_of line (row ∷ rows) = map (λ l. line) (said_by row) ++ places_of (line + 1) rows
+
+-- two transcripts say the same
+pub record SaysTheSame (t u : Transcript) : Type 0 where
+  pub claims : said t ≡ said u
+  pub places : places_of 2 t.events ≡ places_of 2 u.events
+  pub history : t.history ≡ u.history

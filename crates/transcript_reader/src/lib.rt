@@ -1,19 +1,24 @@
-//! Transcripts, read line by line from any source: their first line, the lines of events, those of the replicas' states, the
-//! history numbered from 1, `end`, and nothing more.
+//! Transcripts, read line by line from any source: their first line, the lines of events, those
+//! of the replicas' states, the history numbered from 1, `end`, and nothing more.
 //!
-//! Proved: at Ok the source has none left and its bytes spell a transcript (`specs/Transcripts`, `Spells`), of which the answer is
-//! what it submits and accepts, with the numbers of these lines, its history, and how many lines it has. At Refuted the
-//! earlier lines are each in their place, and this is the first that breaks a clause, whatever follows (`specs/Reading`,
-//! `RefusesLine`): 1 for a line of more than 4,096 bytes or one more than there may be, else 2 for a line that may not come here,
-//! that has no end, or that is missing. ReadFault comes only where a fault was counted.
+//! Proved: at Ok the source has none left and its bytes spell a transcript
+//! (`specs/Transcripts`, `Spells`), of which the answer is what it submits and accepts, with
+//! the numbers of these lines, its history, and how many lines it has. At Refuted the earlier
+//! lines are each in their place, and this is the first that breaks a clause, whatever follows
+//! (`specs/Reading`, `RefusesLine`): 1 for a line of more than 4,096 bytes or one more than
+//! there may be, else 2 for a line that may not come here, that has no end, or that is missing.
+//! ReadFault comes only where a fault was counted. Bytes that spell a transcript are never
+//! refused, and all transcripts that they spell say the same (`laws`).
 //!
-//! `read_transcript` is the call. It keeps nothing of a line that claims nothing. A judge of transcripts is to rest on it.
+//! `read_transcript` is the call, for `judge`. It keeps nothing of a line that claims nothing.
 //!
-//! To read in this order: `read`, `taking`, `taken`; then `specs/Transcripts`, `specs/Steps`, `specs/Reading`.
+//! To read in this order: `read`, `taking`, `taken`; then `specs/Transcripts`, `specs/Steps`,
+//! `specs/Reading`.
 #![tactic(auto)]
 
 mod check_error;
 mod claim;
+mod laws;
 mod limits;
 mod part;
 mod read;
@@ -22,6 +27,7 @@ mod taking;
 
 pub use check_error::CheckError;
 pub use claim::Claim;
+pub use laws::{read_in_one_way, written_is_not_refused};
 pub use limits::MAX_TRANSCRIPT_LINES;
 pub use part::Part;
 pub use read::read_transcript;

@@ -1,2 +1,4 @@
+pub mod RowLines
 pub mod RowTexts
+pub mod Told
 pub mod Wholes

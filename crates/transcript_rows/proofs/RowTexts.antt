@@ -37,10 +37,10 @@ use Rattle.line_fields.proofs.FieldTexts.{small_counts}
 
 -- ---- actors
 
-small : Small limits
+pub small : Small limits
 small = record { replicas = omega arith; sequencers = omega arith; clients = omega arith }
 
-actor_there : (a : Actor) → actor_fits a ≡ true → IsActorOf limits a
+pub actor_there : (a : Actor) → actor_fits a ≡ true → IsActorOf limits a
 actor_there (actors.Replica i) e = ltb-true i MAX_REPLICAS e
 actor_there (actors.Sequencer i) e = ltb-true i MAX_SEQUENCERS e
 actor_there (actors.Client i) e = ltb-true i MAX_CLIENTS e
@@ -87,12 +87,12 @@ dest_marked (One a) e = name_marked a e
 
 -- ---- kinds
 
-record IsKindRead (k : ℕ) : Type 0 where
-  read : kind_of (kind_text k) ≡ Some k
-  marked : list_all is_mark (kind_text k) ≡ true
-  short : length (kind_text k) ≤ 9
+pub record IsKindRead (k : ℕ) : Type 0 where
+  pub read : kind_of (kind_text k) ≡ Some k
+  pub marked : list_all is_mark (kind_text k) ≡ true
+  pub short : length (kind_text k) ≤ 9
 
-kind_read : (k : ℕ) → 1 ≤ k → k ≤ 8 → IsKindRead k
+pub kind_read : (k : ℕ) → 1 ≤ k → k ≤ 8 → IsKindRead k
 unfolding kind_of kind_text
 kind_read zero low high = absurd (omega arith)
 kind_read (suc zero) low high = record { read = refl; marked = refl; short = omega arith }
@@ -145,7 +145,7 @@ request_marked r e typed =
 
 -- ---- rows
 
-word_marked : (row : Row) → list_all is_mark (row_word row) ≡ true
+pub word_marked : (row : Row) → list_all is_mark (row_word row) ≡ true
 word_marked (Dead actor) = refl
 word_marked (Submit request) = refl
 word_marked (Accept client id result) = refl
@@ -157,14 +157,14 @@ word_marked (Member place request) = refl
 word_marked End = refl
 
 -- what the ranges of a send line are, one by one
-record SentParts (from : Actor) (dest : Dest) (kind len : ℕ) : Type 0 where
-  from_fits : actor_fits from ≡ true
-  to_fits : dest_fits dest ≡ true
-  low : 1 ≤ kind
-  high : kind ≤ 8
-  len_fits : len ≤ 1417
+pub record SentParts (from : Actor) (dest : Dest) (kind len : ℕ) : Type 0 where
+  pub from_fits : actor_fits from ≡ true
+  pub to_fits : dest_fits dest ≡ true
+  pub low : 1 ≤ kind
+  pub high : kind ≤ 8
+  pub len_fits : len ≤ 1417
 
-sent_parts : (from : Actor) (dest : Dest) (kind len : ℕ)
+pub sent_parts : (from : Actor) (dest : Dest) (kind len : ℕ)
     → (actor_fits from && (dest_fits dest && (nat_le 1 kind && (nat_le kind 8 && nat_le len MAX_SENT_BYTES)))) ≡ true
     → SentParts from dest kind len
 sent_parts from dest kind len e =
@@ -180,12 +180,12 @@ sent_parts from dest kind len e =
       len_fits = leb-true len MAX_SENT_BYTES g.1;
     }
 
-record StateParts (replica session len sync_point : ℕ) : Type 0 where
-  named : nat_lt replica MAX_REPLICAS ≡ true
-  len_fits : len ≤ 4096
-  sync_fits : sync_point ≤ 4096
+pub record StateParts (replica session len sync_point : ℕ) : Type 0 where
+  pub named : nat_lt replica MAX_REPLICAS ≡ true
+  pub len_fits : len ≤ 4096
+  pub sync_fits : sync_point ≤ 4096
 
-state_parts : (replica session len sync_point : ℕ)
+pub state_parts : (replica session len sync_point : ℕ)
     → (nat_lt replica MAX_REPLICAS && (nat_le 1 session && (nat_le len MAX_SLOTS && nat_le sync_point MAX_SLOTS))) ≡ true
     → StateParts replica session len sync_point
 state_parts replica session len sync_point e =
@@ -194,12 +194,12 @@ state_parts replica session len sync_point e =
     let d = and_parts (nat_le len MAX_SLOTS) (nat_le sync_point MAX_SLOTS) b.1 in
     record { named = a.0; len_fits = leb-true len MAX_SLOTS d.0; sync_fits = leb-true sync_point MAX_SLOTS d.1 }
 
-record SlotParts (replica slot : ℕ) (entry : Entry) : Type 0 where
-  named : nat_lt replica MAX_REPLICAS ≡ true
-  slot_fits : slot ≤ 4096
-  fits : entry_fits entry ≡ true
+pub record SlotParts (replica slot : ℕ) (entry : Entry) : Type 0 where
+  pub named : nat_lt replica MAX_REPLICAS ≡ true
+  pub slot_fits : slot ≤ 4096
+  pub fits : entry_fits entry ≡ true
 
-slot_parts : (replica slot : ℕ) (entry : Entry)
+pub slot_parts : (replica slot : ℕ) (entry : Entry)
     → (nat_lt replica MAX_REPLICAS && (nat_le 1 slot && (nat_le slot MAX_SLOTS && entry_fits entry))) ≡ true
     → SlotParts replica slot entry
 slot_parts replica slot entry e =
@@ -253,7 +253,7 @@ entry_marked : (entry : Entry) → entry_fits entry ≡ true → IsTypedEntry en
 entry_marked NoOp e typed = (refl, tt)
 entry_marked (Req r) e typed = request_marked r e typed
 
-fields_marked : (row : Row) → row_fits row ≡ true → IsTyped row → AllMarked (row_fields row)
+pub fields_marked : (row : Row) → row_fits row ≡ true → IsTyped row → AllMarked (row_fields row)
 fields_marked (Dead actor) e typed = (name_marked actor e, tt)
 fields_marked (Submit request) e typed = request_marked request e typed
 fields_marked (Accept client id result) e typed =
@@ -333,11 +333,11 @@ another_read line row read e is other = not_that line read (sym e)
 
 -- ---- the first line
 
-header_fields : Configuration → List (List ℕ)
+unfoldable pub header_fields : Configuration → List (List ℕ)
 header_fields c =
     codes "1" ∷ codes "replicas" ∷ decimal c.replicas ∷ codes "sequencers" ∷ decimal c.sequencers ∷ codes "clients" ∷ decimal c.clients ∷ []
 
-pub spelled_header : Configuration → List ℕ
+unfoldable pub spelled_header : Configuration → List ℕ
 spelled_header c = codes "transcript" ++ flat_map after_space (header_fields c)
 
 pub whole_header : (c : Configuration) → transcript_line c ≡ spelled_header c ++ 10 ∷ []
@@ -354,7 +354,7 @@ header_read c e =
     rw (small_again 256 c.replicas (omega arith) (omega arith))
     (rw (small_again 256 c.sequencers (omega arith) (omega arith)) (rw (small_again 256 c.clients (omega arith) (omega arith)) (rw e refl)))
 
-header_marked : (c : Configuration) → is_configuration c ≡ true → AllMarked (header_fields c)
+pub header_marked : (c : Configuration) → is_configuration c ≡ true → AllMarked (header_fields c)
 unfolding header_fields
 header_marked c e =
     let s = small_counts c e in

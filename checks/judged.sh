@@ -1,0 +1,59 @@
+#!/bin/bash
+# Judges each transcript of examples/: one that `replay` ended with `end` is legal, with the numbers of its lines; one with an error line
+# is refuted at that line, by clause 2; one without a schedule has the answer that the story beside it shows. Then the example of
+# docs/HISTORIES.md. It takes a second, leaves nothing behind, and ends with status 1 at any difference.
+#
+#   checks/judged.sh             the program is crates/nopaxos/out/nopaxos, or the file that NOPAXOS names
+set -u
+cd "$(dirname "$0")/.." || exit 2
+program=${NOPAXOS:-crates/nopaxos/out/nopaxos}
+if [ ! -x "$program" ]; then
+    (cd crates/nopaxos && rt run -- replay < stdin > /dev/null 2>&1)
+fi
+[ -x "$program" ] || { echo "judged: there is no program file $program"; exit 1; }
+
+folder=$(mktemp -d) || exit 2
+trap 'rm -rf "$folder"' EXIT
+made=0
+wrong=0
+
+# judged NAME FILE ANSWER: what `check` writes for a transcript, and its status.
+judged() {
+    local status wanted=8
+    made=$((made + 1))
+    "$program" check < "$2" > "$folder/out" 2> "$folder/err"
+    status=$?
+    case $3 in
+    legal*) wanted=0 ;;
+    esac
+    if [ "$status" != "$wanted" ] || [ -s "$folder/err" ] || [ "$(cat "$folder/out")" != "$3" ]; then
+        echo "judged: $1: status $status and '$(head -c 300 "$folder/out")' in place of '$3'"
+        wrong=$((wrong + 1))
+    fi
+}
+
+for transcript in examples/*.transcript; do
+    name=$(basename "$transcript" .transcript)
+    lines() { grep -c "^$1 " "$transcript"; }
+    if [ ! -e "examples/$name.schedule" ]; then
+        judged "$name" "$transcript" "$(sed -n 's/^`\(refuted line [0-9]* clause [1-6]\)`$/\1/p' "examples/$name.md")"
+    elif [ "$(tail -n 1 "$transcript")" = end ]; then
+        judged "$name" "$transcript" "legal $(lines submit) $(lines accept) $(lines history)"
+    else
+        judged "$name" "$transcript" "refuted line $(wc -l < "$transcript") clause 2"
+    fi
+done
+
+{
+    echo 'transcript 1 replicas 1 sequencers 1 clients 16'
+    sed -n 's/^    [01] [a-z]* *[a-z]* [0-9 ]*\(submit\|accept\)/\1/p; s/^    \(history .*\|end\)$/\1/p' docs/HISTORIES.md
+} > "$folder/recorded"
+judged 'the example of docs/HISTORIES.md' "$folder/recorded" 'legal 3 2 3'
+sed 's/^accept c1 2 .*/accept c1 2 6e6f6e65/' "$folder/recorded" > "$folder/changed"
+judged 'the same with another result' "$folder/changed" 'refuted line 6 clause 5'
+
+if [ "$wrong" != 0 ]; then
+    echo "judged: $wrong of $made differ"
+    exit 1
+fi
+echo "judged: $made as they must be"

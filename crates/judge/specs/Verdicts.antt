@@ -1,0 +1,29 @@
+-- The line that tells what a judge answered.
+use Rattle.std.specs.Prelude.{ℕ, List, [], ◌∷◌, Option, Result, Ok, Err, codes, decimal, take}
+use Rattle.std.specs.Io.KnownBytes.{Appends}
+use Rattle.judge.specs.declared.tally.Tally.{Tally}
+use Rattle.outside.specs.Fronts.{AppendsFront}
+use Rattle.outside.specs.declared.errors.DeviceError.{DeviceError}
+use Rattle.outside.specs.declared.errors.DeviceError.TheVariants as faults
+use Rattle.transcript_reader.specs.declared.check_error.CheckError.{CheckError}
+use Rattle.transcript_reader.specs.declared.check_error.CheckError.TheVariants as errors
+use Rattle.transcript_text.specs.LineText.{line_of}
+
+-- none where nothing was decided
+unfoldable pub verdict_line : Result Tally CheckError → List ℕ
+verdict_line (Ok t) = line_of (codes "legal") (decimal t.submits ∷ decimal t.accepts ∷ decimal t.history ∷ [])
+verdict_line (Err (errors.Refuted line clause)) =
+    line_of (codes "refuted") (codes "line" ∷ decimal line ∷ codes "clause" ∷ decimal clause ∷ [])
+verdict_line (Err errors.ReadFault) = []
+verdict_line (Err errors.NoMemory) = []
+
+-- a front of the line was written, or all of it
+pub record WroteSome (line : List ℕ) (before now : Option (List ℕ)) : Type 0 where
+  pub count : ℕ
+  pub appended : Appends before now (take count line)
+
+-- the line was written; at a fault a front that is not all
+abbrev pub WritesVerdict : {T : Type 0} → List ℕ → Result T DeviceError → Option (List ℕ) → Option (List ℕ) → Type 0
+WritesVerdict line (Ok t) before now = Appends before now line
+WritesVerdict line (Err faults.Failed) before now = AppendsFront before now line
+WritesVerdict line (Err faults.NoMemory) before now = WroteSome line before now

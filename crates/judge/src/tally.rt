@@ -1,0 +1,7 @@
+/// What a legal transcript has: lines that submit, lines that accept, and members of its history.
+#[derive(Clone, Copy, Debug, PartialEq, Eq)]
+pub struct Tally {
+    pub submits: u32,
+    pub accepts: u32,
+    pub history: u32,
+}
