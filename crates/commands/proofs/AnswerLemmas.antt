@@ -6,7 +6,7 @@ use Rattle.client_quorum.specs.declared.state.ClientState.{ClientState}
 use Rattle.commands.specs.Answers.{accept_count, open_count}
 use Rattle.commands.proofs.OpenOps.{all_accepted, some_open}
 use Rattle.command_line.specs.declared.command.Command.{Command}
-use Rattle.command_line.specs.declared.command.Command.TheVariants.{Replay, Gen, Node, Sequencer, Controller, Client, Cluster}
+use Rattle.command_line.specs.declared.command.Command.TheVariants.{Replay, Gen, Node, Sequencer, Controller, Client, Cluster, Check}
 use Rattle.command_line.specs.declared.command.Site.{Site}
 use Rattle.nop_types.specs.Given.{Given, Packet, Ticked, Submit}
 use Rattle.nop_types.specs.declared.output.Actor.TheVariants as actors
@@ -87,6 +87,7 @@ module _ (id : ℕ) (site : Site) (ops : List (List ℕ)) where
     answers_ops statuses.NoMemory ends = tt
     answers_ops statuses.Unanswered (inl u) = absurd u.status
     answers_ops statuses.Unanswered (inr a) = lacking 0 (w.losses a.link) h i a.last
+    answers_ops statuses.Refuted ends = tt
 
 module _ {L : Type 0} (w : LinkView L) (p : PortsView L) (values : Option (List ℕ)) where
   pub client_answers : (c : Option Command) (s : Status) (h i : Option (List ℕ)) → CommandEnds c w p values s h i → ClientAnswers c s h i
@@ -98,6 +99,7 @@ module _ {L : Type 0} (w : LinkView L) (p : PortsView L) (values : Option (List 
   client_answers (Some (Controller site session install)) s h i ends = tt
   client_answers (Some (Client id site ops)) s h i ends = answers_ops id site ops w p values h i s ends
   client_answers (Some (Cluster site ops)) s h i ends = tt
+  client_answers (Some Check) s h i ends = tt
 
 pub no_answers : (c : Option Command) (h : Option (List ℕ)) → ClientAnswers c statuses.NoMemory h h
 no_answers None h = tt
@@ -108,6 +110,7 @@ no_answers (Some (Sequencer id site)) h = tt
 no_answers (Some (Controller site session install)) h = tt
 no_answers (Some (Client id site ops)) h = tt
 no_answers (Some (Cluster site ops)) h = tt
+no_answers (Some Check) h = tt
 
 -- words that ask for no command
 pub none_answers : (c : Option Command) (s : Status) (h i : Option (List ℕ)) → c ≡ None → ClientAnswers c s h i

@@ -1,7 +1,7 @@
 -- How a cluster in one process ends.
 use Rattle.std.proofs.Common.{arith, ◌≡◌, ℕ, List, Bool, true, Option, Some, None, Result, Ok, refl, subst, inl, inr}
 use Rattle.command_line.specs.declared.command.Command.{Command}
-use Rattle.command_line.specs.declared.command.Command.TheVariants.{Replay, Gen, Node, Sequencer, Controller, Client, Cluster}
+use Rattle.command_line.specs.declared.command.Command.TheVariants.{Replay, Gen, Node, Sequencer, Controller, Client, Cluster, Check}
 use Rattle.command_line.specs.declared.command.Site.{Site}
 use Rattle.one_box.specs.declared.boxed.Boxed.{Boxed}
 use Rattle.one_box.specs.declared.errors.ClusterError.{ClusterError}
@@ -27,6 +27,7 @@ module _ {L : Type 0} (w : boxed.LinkView L) (p : PortsView L) (values : Option 
   not_served (Some (Controller site session install)) h = tt
   not_served (Some (Client id site ops)) h = tt
   not_served (Some (Cluster site ops)) h = inl refl
+  not_served (Some Check) h = tt
 
   -- a cluster ends well where no attach failed, no poll of a link that was given back, and no write
   pub cluster_ends_well : (c : Option Command) (s : Status) (h i : Option (List ℕ)) (x y : ℕ) → runs_cluster c ≡ true
@@ -51,6 +52,8 @@ module _ {L : Type 0} (w : boxed.LinkView L) (p : PortsView L) (values : Option 
       ]
   cluster_ends_well (Some (Cluster site ops)) statuses.NoMemory h i x y runs ends ports write sink polls = tt
   cluster_ends_well (Some (Cluster site ops)) statuses.Unanswered h i x y runs ends ports write sink polls = tt
+  cluster_ends_well (Some (Cluster site ops)) statuses.Refuted h i x y runs ends ports write sink polls = ends
+  cluster_ends_well (Some Check) s h i x y runs ends ports write sink polls = absurd cc
 
   -- links whose polls never fail
   pub no_poll_failed : ((link : L) → w.faults link ≡ 0) → ¬ PollFailed w p.before p.after

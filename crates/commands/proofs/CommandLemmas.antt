@@ -12,7 +12,7 @@ use Rattle.replay.proofs.Summaries.{summary_some}
 use Rattle.replay.proofs.Texts.{output_some}
 use Rattle.udp_node.proofs.EffectLemmas.{Appends_none}
 use Rattle.command_line.specs.declared.command.Command.{Command}
-use Rattle.command_line.specs.declared.command.Command.TheVariants.{Replay, Gen, Node, Sequencer, Controller, Client, Cluster}
+use Rattle.command_line.specs.declared.command.Command.TheVariants.{Replay, Gen, Node, Sequencer, Controller, Client, Cluster, Check}
 use Rattle.commands.specs.Nodes.{LinkView, PortsView, EndsNodeWithoutFault, NodeTask, NodeEnds}
 use Rattle.commands.specs.Ending.{GeneratesWithoutFault}
 use Rattle.commands.specs.Words.{usage_line}
@@ -48,6 +48,7 @@ module _ {L : Type 0} (w : LinkView L) (p : PortsView L) (values : Option (List 
   command_ends_well (Some (Client id site ops)) s h i x y runs ends ports write sink polls =
       ends_well (client_task id site ops) w p values h i s x y ends ports write sink polls
   command_ends_well (Some (Cluster site ops)) s h i x y runs ends ports write sink polls = absurd cc
+  command_ends_well (Some Check) s h i x y runs ends ports write sink polls = cc
 
   nowhere : {S : Type 0} (k : NodeTask S) (h : Option (List ℕ)) → p.after ≡ p.before → NodeEnds k w p values statuses.NoMemory h h
   nowhere k h same = inl (record { given_back = same; status = tt; cause = λ is. cc; written = refl })
@@ -62,6 +63,7 @@ module _ {L : Type 0} (w : LinkView L) (p : PortsView L) (values : Option (List 
   not_begun (Some (Controller site session install)) h same = nowhere (controller_task site session install) h same
   not_begun (Some (Client id site ops)) h same = nowhere (client_task id site ops) h same
   not_begun (Some (Cluster site ops)) h same = tt
+  not_begun (Some Check) h same = tt
 
   -- a command that does not run a node
   pub no_node : (c : Option Command) (s : Status) (h i : Option (List ℕ)) → c ≡ None → CommandEnds c w p values s h i
@@ -86,6 +88,7 @@ no_drawing (Some (Sequencer id site)) h = tt
 no_drawing (Some (Controller site session install)) h = tt
 no_drawing (Some (Client id site ops)) h = tt
 no_drawing (Some (Cluster site ops)) h = tt
+no_drawing (Some Check) h = tt
 
 -- a command that draws a schedule ends well where no write failed
 pub draws_well : (c : Option Command) (s : Status) (h i : Option (List ℕ)) (x y : ℕ) → draws c ≡ true → DrawingEnds c s h i
@@ -100,8 +103,10 @@ draws_well (Some (Gen number count)) statuses.WriteFault h i x y is ends write s
 draws_well (Some (Gen number count)) statuses.LinkFault h i x y is ends write sink = ends
 draws_well (Some (Gen number count)) statuses.NoMemory h i x y is ends write sink = tt
 draws_well (Some (Gen number count)) statuses.Unanswered h i x y is ends write sink = ends
+draws_well (Some (Gen number count)) statuses.Refuted h i x y is ends write sink = ends
 draws_well (Some (Node id site)) s h i x y is ends write sink = absurd cc
 draws_well (Some (Sequencer id site)) s h i x y is ends write sink = absurd cc
 draws_well (Some (Controller site session install)) s h i x y is ends write sink = absurd cc
 draws_well (Some (Client id site ops)) s h i x y is ends write sink = absurd cc
 draws_well (Some (Cluster site ops)) s h i x y is ends write sink = absurd cc
+draws_well (Some Check) s h i x y is ends write sink = absurd cc

@@ -1,4 +1,5 @@
 pub mod AnswerLemmas
+pub mod CheckLemmas
 pub mod ClusterLemmas
 pub mod CommandLemmas
 pub mod NodeLemmas

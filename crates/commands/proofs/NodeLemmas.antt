@@ -194,6 +194,8 @@ module _ {S L : Type 0} (k : NodeTask S) (w : LinkView L) (p : PortsView L) (val
   ends_well statuses.NoMemory x y ends ports write sink polls = tt
   ends_well statuses.Unanswered x y (inl u) ports write sink polls = absurd u.status
   ends_well statuses.Unanswered x y (inr a) ports write sink polls = a.status
+  ends_well statuses.Refuted x y (inl u) ports write sink polls = absurd u.status
+  ends_well statuses.Refuted x y (inr a) ports write sink polls = absurd a.status
 
   pub reads_nothing : (s : Status) (P : Type 0) → NodeEnds k w p values s h i → s ≡ statuses.ReadFault → P
   reads_nothing s P (inl u) is = let no : ⊥ = rw is at u.status in absurd no

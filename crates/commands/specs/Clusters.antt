@@ -1,7 +1,7 @@
 -- How a cluster in one process ends.
 use Rattle.std.specs.Prelude.{◌≡◌, ℕ, List, Bool, true, false, Option, Some, None, Result, Ok, Err, ◌⊎◌, ⊤}
 use Rattle.command_line.specs.declared.command.Command.{Command}
-use Rattle.command_line.specs.declared.command.Command.TheVariants.{Replay, Gen, Node, Sequencer, Controller, Client, Cluster}
+use Rattle.command_line.specs.declared.command.Command.TheVariants.{Replay, Gen, Node, Sequencer, Controller, Client, Cluster, Check}
 use Rattle.command_line.specs.declared.command.Site.{Site}
 use Rattle.kv_host.specs.Kv.{kv_meaning}
 use Rattle.one_box.specs.Boxing.{EndsWith, PollFailed}
@@ -41,6 +41,7 @@ module _ {L : Type 0} (site : Site) (ops : List (List ℕ)) (w : boxed.LinkView 
   ClusterEnds statuses.LinkFault h i = ClusterBroke h i
   ClusterEnds statuses.NoMemory h i = ServesAll (Err errors.NoMemory) h i
   ClusterEnds statuses.Unanswered h i = ClusterFinished false h i
+  ClusterEnds statuses.Refuted h i = ⊥
 
 -- how a command that runs a cluster ends; nothing is said here of others
 abbrev pub ClusterCommandEnds : {L : Type 0} → Option Command → boxed.LinkView L → PortsView L → Option (List ℕ) → Status
@@ -53,6 +54,7 @@ ClusterCommandEnds (Some (Sequencer id site)) w p values s h i = ⊤
 ClusterCommandEnds (Some (Controller site session install)) w p values s h i = ⊤
 ClusterCommandEnds (Some (Client id site ops)) w p values s h i = ⊤
 ClusterCommandEnds (Some (Cluster site ops)) w p values s h i = ClusterEnds site ops w p values s h i
+ClusterCommandEnds (Some Check) w p values s h i = ⊤
 
 -- whether a command runs a cluster
 abbrev pub runs_cluster : Option Command → Bool
@@ -64,6 +66,7 @@ runs_cluster (Some (Sequencer id site)) = false
 runs_cluster (Some (Controller site session install)) = false
 runs_cluster (Some (Client id site ops)) = false
 runs_cluster (Some (Cluster site ops)) = true
+runs_cluster (Some Check) = false
 
 -- whether a command uses ports and the clock
 abbrev pub uses_ports : Option Command → Bool
@@ -75,6 +78,7 @@ uses_ports (Some (Sequencer id site)) = true
 uses_ports (Some (Controller site session install)) = true
 uses_ports (Some (Client id site ops)) = true
 uses_ports (Some (Cluster site ops)) = true
+uses_ports (Some Check) = false
 
 -- how a cluster ends where no device failed
 abbrev pub ClusterEndsWithoutFault : Status → Type 0
@@ -86,3 +90,4 @@ ClusterEndsWithoutFault statuses.WriteFault = ⊥
 ClusterEndsWithoutFault statuses.LinkFault = ⊥
 ClusterEndsWithoutFault statuses.NoMemory = ⊤
 ClusterEndsWithoutFault statuses.Unanswered = ⊤
+ClusterEndsWithoutFault statuses.Refuted = ⊥

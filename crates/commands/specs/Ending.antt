@@ -8,7 +8,7 @@ use Rattle.replay.specs.Outcome.{IsDone, IsMalformed, IsInterrupted, LeavesSome,
 use Rattle.commands.specs.Words.{usage_line}
 use Rattle.commands.specs.declared.status.Status.{Status}
 use Rattle.commands.specs.declared.status.Status.TheVariants.{Done, Malformed, Usage, ReadFault, WriteFault, LinkFault, NoMemory}
-use Rattle.commands.specs.declared.status.Status.TheVariants.{Unanswered}
+use Rattle.commands.specs.declared.status.Status.TheVariants.{Unanswered, Refuted}
 
 module _ {S : Type 0} (m : Meaning S) where
   -- some line is bad
@@ -27,6 +27,7 @@ module _ {S : Type 0} (m : Meaning S) where
   ReplayEnds bytes left before now LinkFault = ⊥
   ReplayEnds bytes left before now NoMemory = WroteFront m bytes before now
   ReplayEnds bytes left before now Unanswered = ⊥
+  ReplayEnds bytes left before now Refuted = ⊥
 
   -- how a generation ended: the summary was written, or a front of it that is not all
   abbrev pub GenEnds : ℕ → ℕ → Option (List ℕ) → Option (List ℕ) → Status → Type 0
@@ -38,6 +39,7 @@ module _ {S : Type 0} (m : Meaning S) where
   GenEnds number count before now LinkFault = ⊥
   GenEnds number count before now NoMemory = LeavesSome before now (drawn_summary m number count)
   GenEnds number count before now Unanswered = ⊥
+  GenEnds number count before now Refuted = ⊥
 
 -- the usage line was written, or only a front of it
 abbrev pub UsageEnds : Option (List ℕ) → Option (List ℕ) → Status → Type 0
@@ -49,6 +51,7 @@ UsageEnds before now WriteFault = AppendsFront before now usage_line
 UsageEnds before now LinkFault = ⊥
 UsageEnds before now NoMemory = AppendsFront before now usage_line
 UsageEnds before now Unanswered = ⊥
+UsageEnds before now Refuted = ⊥
 
 -- how a replay ends where no device failed
 abbrev pub EndsWithoutFault : Status → Type 0
@@ -60,6 +63,7 @@ EndsWithoutFault WriteFault = ⊥
 EndsWithoutFault LinkFault = ⊥
 EndsWithoutFault NoMemory = ⊤
 EndsWithoutFault Unanswered = ⊥
+EndsWithoutFault Refuted = ⊥
 
 -- how a generation ends where no device failed
 abbrev pub GeneratesWithoutFault : Status → Type 0
@@ -71,6 +75,7 @@ GeneratesWithoutFault WriteFault = ⊥
 GeneratesWithoutFault LinkFault = ⊥
 GeneratesWithoutFault NoMemory = ⊤
 GeneratesWithoutFault Unanswered = ⊥
+GeneratesWithoutFault Refuted = ⊥
 
 -- how words that are not taken end where no device failed
 abbrev pub RefusesWithoutFault : Status → Type 0
@@ -82,3 +87,4 @@ RefusesWithoutFault WriteFault = ⊥
 RefusesWithoutFault LinkFault = ⊥
 RefusesWithoutFault NoMemory = ⊤
 RefusesWithoutFault Unanswered = ⊥
+RefusesWithoutFault Refuted = ⊥

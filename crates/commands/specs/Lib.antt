@@ -1,4 +1,5 @@
 pub mod Answers
+pub mod Checks
 pub mod Clusters
 pub mod Ending
 pub mod Nodes

@@ -49,6 +49,7 @@ IsNodeStatus waits statuses.WriteFault = ⊤
 IsNodeStatus waits statuses.LinkFault = ⊤
 IsNodeStatus waits statuses.NoMemory = ⊤
 IsNodeStatus waits statuses.Unanswered = waits ≡ true
+IsNodeStatus waits statuses.Refuted = ⊥
 
 -- those without a fault of a device
 abbrev pub EndsNodeWithoutFault : Bool → Status → Type 0
@@ -60,6 +61,7 @@ EndsNodeWithoutFault waits statuses.WriteFault = ⊥
 EndsNodeWithoutFault waits statuses.LinkFault = ⊥
 EndsNodeWithoutFault waits statuses.NoMemory = ⊤
 EndsNodeWithoutFault waits statuses.Unanswered = waits ≡ true
+EndsNodeWithoutFault waits statuses.Refuted = ⊥
 
 -- a count of failed writes: it rises by one exactly where the status is a fault of a write
 abbrev pub writes_after : Status → ℕ → ℕ
@@ -71,6 +73,7 @@ writes_after statuses.WriteFault n = next_count n
 writes_after statuses.LinkFault n = n
 writes_after statuses.NoMemory n = n
 writes_after statuses.Unanswered n = n
+writes_after statuses.Refuted n = n
 
 -- the statuses where no link was attached
 abbrev pub IsUnattachedStatus : Status → Type 0
@@ -82,6 +85,7 @@ IsUnattachedStatus statuses.WriteFault = ⊥
 IsUnattachedStatus statuses.LinkFault = ⊤
 IsUnattachedStatus statuses.NoMemory = ⊤
 IsUnattachedStatus statuses.Unanswered = ⊥
+IsUnattachedStatus statuses.Refuted = ⊥
 
 -- ---- a run and its last line
 
@@ -102,6 +106,7 @@ RunEnds waits r statuses.WriteFault a b h i = (lost : ℕ) × StoppedInLine (all
 RunEnds waits r statuses.LinkFault a b h i = (lost : ℕ) × Broke r a (record b { lost = lost }) h i
 RunEnds waits r statuses.NoMemory a b h i = (lost : ℕ) × Stopped (all_effects r lost) a (record b { lost = lost }) h i
 RunEnds waits r statuses.Unanswered a b h i = Finished waits r statuses.Unanswered a b h i
+RunEnds waits r statuses.Refuted a b h i = ⊥
 
 -- ---- what a node runs from
 
@@ -158,6 +163,7 @@ EndsInLine k losses losses_now statuses.WriteFault h i = ⊤
 EndsInLine k losses losses_now statuses.LinkFault h i = ⊤
 EndsInLine k losses losses_now statuses.NoMemory h i = ⊤
 EndsInLine k losses losses_now statuses.Unanswered h i = LastLine k losses losses_now statuses.Unanswered h i
+EndsInLine k losses losses_now statuses.Refuted h i = ⊤
 
 -- ---- over ports
 

@@ -5,7 +5,7 @@ use Rattle.client_quorum.specs.ClientSteps as client
 use Rattle.commands.specs.Answers.{accept_count}
 use Rattle.client_quorum.specs.declared.state.ClientState.{ClientState}
 use Rattle.command_line.specs.declared.command.Command.{Command}
-use Rattle.command_line.specs.declared.command.Command.TheVariants.{Replay, Gen, Node, Sequencer, Controller, Client, Cluster}
+use Rattle.command_line.specs.declared.command.Command.TheVariants.{Replay, Gen, Node, Sequencer, Controller, Client, Cluster, Check}
 use Rattle.command_line.specs.declared.command.Site.{Site}
 use Rattle.kv_host.specs.Kv.{kv_meaning}
 use Rattle.nop_types.specs.declared.input.Tick.{Tick}
@@ -69,6 +69,7 @@ CommandEnds (Some (Sequencer id site)) w p values s h i = NodeEnds (sequencer_ta
 CommandEnds (Some (Controller site session install)) w p values s h i = NodeEnds (controller_task site session install) w p values s h i
 CommandEnds (Some (Client id site ops)) w p values s h i = NodeEnds (client_task id site ops) w p values s h i
 CommandEnds (Some (Cluster site ops)) w p values s h i = ⊤
+CommandEnds (Some Check) w p values s h i = ⊤
 
 -- ---- the answers of a client
 
@@ -90,6 +91,7 @@ AnswersOps at count statuses.WriteFault h i = ⊤
 AnswersOps at count statuses.LinkFault h i = ⊤
 AnswersOps at count statuses.NoMemory h i = ⊤
 AnswersOps at count statuses.Unanswered h i = (fewer : ℕ) × (fewer < count) × WroteAccepts at fewer h i
+AnswersOps at count statuses.Refuted h i = ⊤
 
 -- of a command that runs a client; nothing is said here of others
 abbrev pub ClientAnswers : Option Command → Status → Option (List ℕ) → Option (List ℕ) → Type 0
@@ -101,6 +103,7 @@ ClientAnswers (Some (Sequencer id site)) s h i = ⊤
 ClientAnswers (Some (Controller site session install)) s h i = ⊤
 ClientAnswers (Some (Client id site ops)) s h i = AnswersOps (address_of site (actors.Client id)) (length ops) s h i
 ClientAnswers (Some (Cluster site ops)) s h i = ⊤
+ClientAnswers (Some Check) s h i = ⊤
 
 -- whether a command runs a node
 abbrev pub runs_node : Option Command → Bool
@@ -112,6 +115,7 @@ runs_node (Some (Sequencer id site)) = true
 runs_node (Some (Controller site session install)) = true
 runs_node (Some (Client id site ops)) = true
 runs_node (Some (Cluster site ops)) = false
+runs_node (Some Check) = false
 
 -- whether it waits until its ops are accepted
 abbrev pub waits_for_ops : Option Command → Bool
@@ -123,6 +127,7 @@ waits_for_ops (Some (Sequencer id site)) = false
 waits_for_ops (Some (Controller site session install)) = false
 waits_for_ops (Some (Client id site ops)) = true
 waits_for_ops (Some (Cluster site ops)) = false
+waits_for_ops (Some Check) = false
 
 -- ---- gen
 
@@ -136,6 +141,7 @@ DrawingEnds (Some (Sequencer id site)) s h i = ⊤
 DrawingEnds (Some (Controller site session install)) s h i = ⊤
 DrawingEnds (Some (Client id site ops)) s h i = ⊤
 DrawingEnds (Some (Cluster site ops)) s h i = ⊤
+DrawingEnds (Some Check) s h i = ⊤
 
 -- whether a command draws a schedule
 abbrev pub draws : Option Command → Bool
@@ -147,3 +153,4 @@ draws (Some (Sequencer id site)) = false
 draws (Some (Controller site session install)) = false
 draws (Some (Client id site ops)) = false
 draws (Some (Cluster site ops)) = false
+draws (Some Check) = false

@@ -3,7 +3,8 @@ ghost use Rattle.one_box.specs.Showing as boxed;
 ghost use Rattle.kv_host.specs.Kv.{kv_meaning};
 ghost use Rattle.outside.specs.Memory.{answers_of};
 ghost use Rattle.replay.specs.Safety.{RunsSafelyOf};
-ghost use Rattle.commands.specs.Words.{asked, Taken};
+ghost use Rattle.commands.specs.Words.{asked, reads, Taken};
+ghost use Rattle.commands.specs.Checks.{CheckEnds, ChecksWithoutFault};
 ghost use Rattle.commands.specs.Clusters.{ClusterCommandEnds, ClusterEndsWithoutFault, runs_cluster, uses_ports};
 ghost use Rattle.commands.specs.Ending.{ReplayEnds, UsageEnds, EndsWithoutFault, GeneratesWithoutFault};
 ghost use Rattle.commands.specs.Ending.{RefusesWithoutFault};
@@ -31,6 +32,9 @@ pub fn run_in_memory(
         (Some sink.new.held) result }
     ensures safe { asked words.now ≡ Some Command.Replay → result ≡ Status.Done →
         RunsSafelyOf kv_meaning (Some source.old.left) }
+    ensures check { asked words.now ≡ Some Command.Check →
+        CheckEnds kv_meaning (Some source.old.left) (Some source.new.left) (Some sink.old.held)
+        (Some sink.new.held) result }
     ensures drawing { DrawingEnds (asked words.now) result (Some sink.old.held)
         (Some sink.new.held) }
     ensures usage { ¬ Taken words.now →
@@ -48,13 +52,14 @@ pub fn run_in_memory(
     ensures back { uses_ports (asked words.now) ≡ true → ports.new.attached
         + length ports.old.detached ≡ ports.old.attached + length ports.new.detached }
     ensures replay_complete { asked words.now ≡ Some Command.Replay → EndsWithoutFault result }
+    ensures check_complete { asked words.now ≡ Some Command.Check → ChecksWithoutFault result }
     ensures drawing_complete { draws (asked words.now) ≡ true → GeneratesWithoutFault result }
     ensures usage_complete { ¬ Taken words.now → RefusesWithoutFault result }
     ensures node_complete { runs_node (asked words.now) ≡ true
         → EndsNodeWithoutFault (waits_for_ops (asked words.now)) result }
     ensures cluster_complete { runs_cluster (asked words.now) ≡ true
         → ClusterEndsWithoutFault result }
-    ensures unread { asked words.now ≢ Some Command.Replay → source.new ≡ source.old }
+    ensures unread { reads (asked words.now) ≡ false → source.new ≡ source.old }
     ensures ports { uses_ports (asked words.now) ≡ false → ports.new ≡ ports.old }
     ensures clock { uses_ports (asked words.now) ≡ false → clock.new ≡ clock.old }
 {

@@ -5,6 +5,8 @@
 //! - `replay`, `safe`: a replay ends as `replay::replay` says, and at Done, of an observable
 //!   source, the run of its bytes is safe. These two are the theorem (docs/THEOREMS.md, "The
 //!   headline").
+//! - `check`: a check ends as `judge` says of the bytes: Done with `legal`, its line and its counts,
+//!   Refuted with the line and the clause; the bytes of a legal transcript are never Refuted.
 //! - `drawing`: `gen` writes `drawn_summary` at Done, and otherwise a proper prefix of it.
 //! - `node`, `cluster`, `back`: a node runs its core from its initial state over one link, as
 //!   `udp_node` says, and writes its last line; a cluster ends as `one_box` says; each link is
@@ -12,17 +14,19 @@
 //!   its ops, and one that ends Unanswered fewer.
 //! - `usage`: arguments that ask for no command are answered by the usage line, or a proper prefix
 //!   of it. `read`, `write`: ReadFault and WriteFault come only where a call on that device failed.
-//!   `writes`, `usage_writes`: of nodes, clusters and the usage line, WriteFault exactly there.
+//!   `writes`: a write that failed is always told: the sink's count of faults rose by one at
+//!   WriteFault, and stayed at every other status.
 //! - `.._complete`: where no call failed, the status reports no fault. `unread`, `ports`, `clock`:
 //!   what a command does not use is as before.
 //!
 //! `run_in_memory` is `run` over devices in memory that never fail, where the clauses `.._complete`
 //! have no premise.
 //!
-//! Files: `running`; `node_commands`, `node`, `cluster`; `in_memory`. Definitions: `specs/Words`
-//! (`asked`), `Ending`, `Tasks`, `Nodes`, `Clusters`, `Answers`.
+//! Files: `running`; `check`; `node_commands`, `node`, `cluster`; `in_memory`. Definitions:
+//! `specs/Words` (`asked`), `Ending`, `Checks`, `Tasks`, `Nodes`, `Clusters`, `Answers`.
 #![tactic(auto)]
 
+mod check;
 mod cluster;
 mod in_memory;
 mod node;

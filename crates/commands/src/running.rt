@@ -5,13 +5,15 @@ ghost use Rattle.outside.specs.Causes.{Rose};
 ghost use Rattle.kv_host.specs.Kv.{kv_meaning};
 ghost use Rattle.replay.specs.Safety.{RunsSafelyOf};
 ghost use Rattle.command_line.specs.Commands.{IsFit};
-ghost use Rattle.commands.specs.Words.{asked, Taken};
+ghost use Rattle.commands.specs.Words.{asked, reads, Taken};
+ghost use Rattle.commands.specs.Checks.{CheckEnds, ChecksWithoutFault};
 ghost use Rattle.commands.specs.Clusters.{ClusterCommandEnds, ClusterEndsWithoutFault, runs_cluster, uses_ports};
 ghost use Rattle.commands.specs.Ending.{ReplayEnds, GenEnds, UsageEnds, EndsWithoutFault, GeneratesWithoutFault};
 ghost use Rattle.commands.specs.Ending.{RefusesWithoutFault};
 ghost use Rattle.commands.specs.Nodes.{EndsNodeWithoutFault, link_view, ports_view, writes_after};
 ghost use Rattle.commands.specs.Tasks.{ClientAnswers, CommandEnds, DrawingEnds, draws, runs_node, waits_for_ops};
 
+use crate::check::run_check;
 use crate::cluster::run_cluster;
 use crate::node_commands::{run_client, run_controller, run_replica, run_sequencer};
 use crate::status::Status;
@@ -23,7 +25,7 @@ use std::alloc::Global;
 
 /// The line that is written where the words are not taken.
 pub const USAGE_LINE: &str =
-    "usage: nopaxos replay | gen | node | sequencer | controller | client | cluster\n";
+    "usage: nopaxos replay | gen | node | sequencer | controller | client | cluster | check\n";
 
 fn run_replay<S: Source, K: Sink>(alloc: Global, source: &mut S, sink: &mut K) -> Status
     ensures ends { ReplayEnds kv_meaning (S.left source.old) (S.left source.new) (K.held sink.old)
@@ -33,6 +35,7 @@ fn run_replay<S: Source, K: Sink>(alloc: Global, source: &mut S, sink: &mut K) -
         (S.fault_count source.new) }
     ensures write { result ≡ Status.WriteFault → Rose (K.fault_count sink.old)
         (K.fault_count sink.new) }
+    ensures writes { K.fault_count sink.new ≡ writes_after result (K.fault_count sink.old) }
 {
     match replay(alloc, source, sink) {
         Ok(()) => Status::Done,
@@ -49,6 +52,7 @@ fn run_gen<K: Sink>(alloc: Global, number: u64, count: u32, sink: &mut K) -> Sta
     ensures ends { GenEnds kv_meaning number count (K.held sink.old) (K.held sink.new) result }
     ensures write { result ≡ Status.WriteFault → Rose (K.fault_count sink.old)
         (K.fault_count sink.new) }
+    ensures writes { K.fault_count sink.new ≡ writes_after result (K.fault_count sink.old) }
 {
     match generate(alloc, number, count, sink) {
         Ok(()) => Status::Done,
@@ -85,6 +89,8 @@ fn carry_out<S: Source, K: Sink, P: Ports, C: Clock>(
         (S.left source.new) (K.held sink.old) (K.held sink.new) result }
     ensures safe { command ≡ Command.Replay → result ≡ Status.Done →
         RunsSafelyOf kv_meaning (S.left source.old) }
+    ensures check { command ≡ Command.Check → CheckEnds kv_meaning (S.left source.old)
+        (S.left source.new) (K.held sink.old) (K.held sink.new) result }
     ensures drawing { DrawingEnds (Some command) result (K.held sink.old) (K.held sink.new) }
     ensures node { CommandEnds (Some command)
         (link_view P.L.own_port P.L.trace P.L.loss_count P.L.fault_count)
@@ -104,9 +110,8 @@ fn carry_out<S: Source, K: Sink, P: Ports, C: Clock>(
         (S.fault_count source.new) }
     ensures write { result ≡ Status.WriteFault → Rose (K.fault_count sink.old)
         (K.fault_count sink.new) }
-    ensures writes { uses_ports (Some command) ≡ true → K.fault_count sink.new
-        ≡ writes_after result (K.fault_count sink.old) }
-    ensures unread { command ≢ Command.Replay → source.new ≡ source.old }
+    ensures writes { K.fault_count sink.new ≡ writes_after result (K.fault_count sink.old) }
+    ensures unread { reads (Some command) ≡ false → source.new ≡ source.old }
     ensures ports { uses_ports (Some command) ≡ false → ports.new ≡ ports.old }
     ensures clock { uses_ports (Some command) ≡ false → clock.new ≡ clock.old }
 {
@@ -120,6 +125,7 @@ fn carry_out<S: Source, K: Sink, P: Ports, C: Clock>(
         }
         Command::Client(id, site, ops) => run_client(alloc, id, &site, ops, ports, clock, sink),
         Command::Cluster(site, ops) => run_cluster(alloc, &site, ops, ports, clock, sink),
+        Command::Check => run_check(alloc, source, sink),
     }
 }
 
@@ -138,6 +144,8 @@ pub fn run<S: Source, K: Sink, P: Ports, C: Clock>(
         (K.held sink.new) result }
     ensures safe { asked words.now ≡ Some Command.Replay → result ≡ Status.Done →
         RunsSafelyOf kv_meaning (S.left source.old) }
+    ensures check { asked words.now ≡ Some Command.Check → CheckEnds kv_meaning (S.left source.old)
+        (S.left source.new) (K.held sink.old) (K.held sink.new) result }
     ensures drawing { DrawingEnds (asked words.now) result (K.held sink.old) (K.held sink.new) }
     ensures usage { ¬ Taken words.now → UsageEnds (K.held sink.old) (K.held sink.new) result }
     ensures node { CommandEnds (asked words.now)
@@ -158,17 +166,18 @@ pub fn run<S: Source, K: Sink, P: Ports, C: Clock>(
     ensures write { result ≡ Status.WriteFault → Rose (K.fault_count sink.old)
         (K.fault_count sink.new) }
 
+    // Whatever the words are, a write that fails is told.
+    ensures writes { K.fault_count sink.new ≡ writes_after result (K.fault_count sink.old) }
+
     // A client over any link: Done with an accept line for each op, Unanswered with fewer.
     ensures client { ClientAnswers (asked words.now) result (K.held sink.old) (K.held sink.new) }
 
-    // Of a node, a cluster and words that are not taken: a write that fails is told.
-    ensures writes { uses_ports (asked words.now) ≡ true → K.fault_count sink.new
-        ≡ writes_after result (K.fault_count sink.old) }
-    ensures usage_writes { ¬ Taken words.now → K.fault_count sink.new
-        ≡ writes_after result (K.fault_count sink.old) }
     ensures replay_complete { asked words.now ≡ Some Command.Replay
         → ¬ Rose (S.fault_count source.old) (S.fault_count source.new)
         → ¬ Rose (K.fault_count sink.old) (K.fault_count sink.new) → EndsWithoutFault result }
+    ensures check_complete { asked words.now ≡ Some Command.Check
+        → ¬ Rose (S.fault_count source.old) (S.fault_count source.new)
+        → ¬ Rose (K.fault_count sink.old) (K.fault_count sink.new) → ChecksWithoutFault result }
     ensures drawing_complete { draws (asked words.now) ≡ true → ¬ Rose (K.fault_count sink.old)
         (K.fault_count sink.new)
         → GeneratesWithoutFault result }
@@ -192,7 +201,7 @@ pub fn run<S: Source, K: Sink, P: Ports, C: Clock>(
         (boxed.link_view P.L.answers P.L.own_port P.L.trace P.L.loss_count P.L.fault_count)
         (P.detached ports.old) (P.detached ports.new)
         → ClusterEndsWithoutFault result }
-    ensures unread { asked words.now ≢ Some Command.Replay → source.new ≡ source.old }
+    ensures unread { reads (asked words.now) ≡ false → source.new ≡ source.old }
     ensures ports { uses_ports (asked words.now) ≡ false → ports.new ≡ ports.old }
     ensures clock { uses_ports (asked words.now) ≡ false → clock.new ≡ clock.old }
 {

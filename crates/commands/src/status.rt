@@ -14,4 +14,6 @@ pub enum Status {
     NoMemory = 6,
     /// A client or a cluster took all its turns, and one of the ops was not accepted.
     Unanswered = 7,
+    /// A transcript breaks a clause.
+    Refuted = 8,
 }

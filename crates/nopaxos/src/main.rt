@@ -1,4 +1,5 @@
-//! The program `nopaxos`: a replay of schedules, drawn schedules, single nodes and a cluster over UDP.
+//! The program `nopaxos`: a replay of schedules, drawn schedules, single nodes and a cluster over
+//! UDP, and a judge of transcripts.
 //!
 //! `main` reads the arguments, makes the devices of the system (standard input and output, sockets,
 //! clock), calls `commands::run` and ends with its status as a number. An argument that is no text

@@ -1,12 +1,13 @@
 -- An error of a device is told only where a count of faults rose.
 use Rattle.std.proofs.Common.{◌≡◌, ℕ, ◌≤◌, Option, List, [], ◌++◌, refl, subst, ap, arith}
 use Rattle.std.specs.Prelude.{Result, Ok, Err, IsErrOf}
-use Rattle.outside.specs.Causes.{Rose, HasCauseFor}
+use Rattle.outside.specs.Causes.{Rose, HasCauseFor, next_count}
 use Rattle.schedule_text.specs.declared.next_error.NextError.{NextError}
 use Rattle.schedule_text.specs.declared.next_error.NextError.TheVariants as nexts
 use Rattle.world.specs.WorldSteps.{Refusal, Happened}
 use Rattle.replay.specs.declared.error.ReplayError.{ReplayError}
 use Rattle.replay.specs.declared.error.ReplayError.TheVariants as errors
+use Rattle.replay.specs.Outcome.{writes_after}
 use Rattle.replay.specs.Steps.{Fails, Writes, Stops, RefusesStep}
 
 pub same_time : (a : ℕ) → a ≤ a
@@ -58,20 +59,21 @@ stop_reads before now pending e x a b d is le h = record {
       (subst (Stops before now pending e) (err_is x errors.ReadFault told) is))));
 }
 
-pub stop_writes : {T : Type 0} (x : ReplayError) (a b d : ℕ) → a ≤ b → b ≤ d → (x ≡ errors.WriteFault → Rose b d)
-    → HasCauseFor {T = T} a d errors.WriteFault (Err x)
-stop_writes x a b d le on h = record {
-  later = omega (arith, le, on);
-  failed = λ told. rose_since a b d le (h (err_is x errors.WriteFault told));
-}
-
 -- want of memory is no fault
 pub starved_reads : {T : Type 0} (a d : ℕ) (r : Result T ReplayError) (e : ReplayError) → r ≡ Err e → e ≡ errors.NoMemory → a ≤ d
     → HasCauseFor a d errors.ReadFault r
 starved_reads {T} a d r e is none le = rw (is, none) (no_cause a d errors.ReadFault (Err errors.NoMemory) le
     (λ told. let is = err_is {T = T} errors.NoMemory errors.ReadFault told in absurd cc))
 
-pub starved_writes : {T : Type 0} (a d : ℕ) (r : Result T ReplayError) (e : ReplayError) → r ≡ Err e → e ≡ errors.NoMemory → a ≤ d
-    → HasCauseFor a d errors.WriteFault r
-starved_writes {T} a d r e is none le = rw (is, none) (no_cause a d errors.WriteFault (Err errors.NoMemory) le
-    (λ told. let is = err_is {T = T} errors.NoMemory errors.WriteFault told in absurd cc))
+-- ---- who tells a fault of the sink
+
+rose_by_one : (a b : ℕ) → b ≡ next_count a → Rose a b
+rose_by_one a b is = omega (arith, is)
+
+write_rose : {T : Type 0} (a b : ℕ) (r : Result T ReplayError) → r ≡ Err errors.WriteFault → b ≡ writes_after r a → Rose a b
+write_rose a b r told is = rose_by_one a b (rw told at is)
+
+-- an exact count gives a cause
+pub counted_cause : {T : Type 0} (a b : ℕ) (r : Result T ReplayError) → a ≤ b → b ≡ writes_after r a
+    → HasCauseFor a b errors.WriteFault r
+counted_cause a b r le is = record { later = le; failed = λ told. write_rose a b r told is }

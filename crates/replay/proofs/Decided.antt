@@ -5,7 +5,7 @@ use Rattle.std.proofs.KnownBytes.{Appends-nil, Appends-trans}
 use Rattle.std.proofs.lemmas.List.{append-nil}
 use Rattle.nop_types.specs.Configuration.{Configuration}
 use Rattle.nop_types.specs.Meaning.{Meaning}
-use Rattle.schedule_text.specs.Cutting.{lines_of}
+use Rattle.schedule_text.proofs.Turns.{none_of_nothing}
 use Rattle.schedule_text.specs.Reading.{Reading, lines_before}
 use Rattle.schedule_text.specs.Stepping.{NeedsNoRead}
 use Rattle.world.specs.WorldSteps.{WorldState}
@@ -28,9 +28,11 @@ not_some (x ∷ xs) none = absurd (none (λ e. absurd cc))
 
 module _ {S : Type 0} (m : Meaning S) where
   none_taken : (bytes before : Option (List ℕ)) → IsInterrupted m bytes bytes before before
-  unfolding output lines_of
+  unfolding output
   none_taken None before = tt
-  none_taken (Some bytes) before = record { taken = []; split = refl; good = refl; wrote = Appends-nil before }
+  none_taken (Some bytes) before =
+      let none = none_of_nothing false 0 in
+      record { taken = []; split = refl; good = rw none refl; wrote = rw none (Appends-nil before) }
 
   -- at the start nothing is taken and nothing is to be written
   pub may_begin : (start : Start) (bytes before : Option (List ℕ)) (r : Reading) → start ≡ begins bytes before

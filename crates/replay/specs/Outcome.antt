@@ -2,6 +2,7 @@
 use Rattle.std.specs.Prelude.{◌≡◌, ◌≢◌, ℕ, List, [], ◌++◌, Bool, true, false, Option, Some, None, Result, Ok, Err, ⊤}
 use Rattle.std.specs.Io.KnownBytes.{Appends}
 use Rattle.nop_types.specs.Meaning.{Meaning}
+use Rattle.outside.specs.Causes.{next_count}
 use Rattle.replay.specs.declared.error.ReplayError.{ReplayError}
 use Rattle.replay.specs.declared.error.ReplayError.TheVariants as errors
 use Rattle.replay.specs.Output.{BadLine, output}
@@ -78,3 +79,17 @@ module _ {S : Type 0} (m : Meaning S) where
   EndsWith bytes left before now (Err errors.ReadFault) = IsInterrupted bytes left before now
   EndsWith bytes left before now (Err errors.WriteFault) = WroteFront bytes before now
   EndsWith bytes left before now (Err errors.NoMemory) = WroteFront bytes before now
+
+-- ---- a write that fails is told
+
+-- the sink's count of faults after this error: WriteFault tells one more, and at every other error no write failed
+abbrev pub writes_after_error : ReplayError → ℕ → ℕ
+writes_after_error (errors.Malformed line rule) n = n
+writes_after_error errors.ReadFault n = n
+writes_after_error errors.WriteFault n = next_count n
+writes_after_error errors.NoMemory n = n
+
+-- the same of an answer: at Ok no write failed
+abbrev pub writes_after : {T : Type 0} → Result T ReplayError → ℕ → ℕ
+writes_after (Ok t) n = n
+writes_after (Err e) n = writes_after_error e n

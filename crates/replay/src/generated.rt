@@ -11,6 +11,7 @@ ghost use Rattle.replay.specs.Generated.{
   drawn_events,
   drawn_summary,
   first_event,
+  writes_after,
   RunsFrom,
   WritesText,
 };
@@ -207,6 +208,7 @@ fn write_text<K: Sink>(text: &[u8], sink: &mut K) -> Result<(), GenError>
     ensures writes { WritesText (K.held sink.old) (K.held sink.new) text.now result }
     ensures cause { HasCauseFor (K.fault_count sink.old) (K.fault_count sink.new)
         GenError.WriteFault result }
+    ensures count { K.fault_count sink.new ≡ writes_after result (K.fault_count sink.old) }
 {
     match write_all(sink, text) {
         Ok(()) => Ok(()),
@@ -229,6 +231,7 @@ pub fn generate<K: Sink>(
         (drawn_summary kv_meaning number count) result }
     ensures cause { HasCauseFor (K.fault_count sink.old) (K.fault_count sink.new)
         GenError.WriteFault result }
+    ensures count { K.fault_count sink.new ≡ writes_after result (K.fault_count sink.old) }
 {
     let mut text = Vec::new(alloc);
     summarise::<KvHost>(alloc, number, count, &mut text)?;

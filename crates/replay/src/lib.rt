@@ -11,8 +11,9 @@
 //! that the bytes taken so far decide (`MayRead`): an answer is out before the program waits.
 //!
 //! At Ok, of an observable source, the run of the bytes is safe (clause `safe`, `RunsSafely`).
-//! ReadFault and WriteFault come only where that device failed. `replay_with` has the same clauses
-//! over any host.
+//! ReadFault and WriteFault come only where that device failed, and a write that failed is always
+//! told: the sink's count of faults rises by one at WriteFault, and stays at every other answer
+//! (clause `count`, of `generate` too). `replay_with` has the same clauses over any host.
 //!
 //! `events` gives the configuration and the events that are drawn from a number; each is carried
 //! out in its turn (law `drawn_schedules_run`). `generate` writes the summary of their run, or a
@@ -22,7 +23,7 @@
 //! Calls: `replay` and `generate`, for `commands`.
 //!
 //! Files: `replayed`, `reading`, `turn`, `writing`; `generated`, `drawing`, `summary`. Definitions:
-//! `specs/Output`, `Outcome` (`EndsWith`), `Safety`, `Generated`.
+//! `specs/Output`, `Outcome` (`EndsWith`, `writes_after`), `Safety`, `Generated`.
 #![tactic(auto)]
 
 mod drawing;

@@ -3,7 +3,7 @@ ghost use Rattle.outside.specs.Causes.{HasCauseFor};
 ghost use Rattle.kv_host.specs.Kv.{kv_meaning};
 ghost use Rattle.transcript_text.specs.Transcript.{transcript_line};
 ghost use Rattle.world.specs.WorldSteps.{opening};
-ghost use Rattle.replay.specs.Outcome.{EndsWith};
+ghost use Rattle.replay.specs.Outcome.{EndsWith, writes_after};
 ghost use Rattle.replay.specs.Progress.{begins, GoesOn, Start};
 ghost use Rattle.replay.specs.Safety.{RunsSafelyOf};
 
@@ -51,8 +51,8 @@ fn take_events<H: Host, S: Source, K: Sink>(
         (K.held sink.new) result }
     ensures read { HasCauseFor (S.fault_count source.old) (S.fault_count source.new)
         ReplayError.ReadFault result }
-    ensures write { HasCauseFor (K.fault_count sink.old) (K.fault_count sink.new)
-        ReplayError.WriteFault result }
+    ensures later { K.fault_count sink.old ≤ K.fault_count sink.new }
+    ensures count { K.fault_count sink.new ≡ writes_after result (K.fault_count sink.old) }
 {
     // line 1 was taken, each turn takes one more, and the last one finds the end or a line too many
     for _turn in 0..MAX_LINES {
@@ -79,8 +79,8 @@ fn replay_from<H: Host, S: Source, K: Sink>(
     ensures safe { OnOk result (RunsSafelyOf H.meaning (S.left source.old)) }
     ensures read { HasCauseFor (S.fault_count source.old) (S.fault_count source.new)
         ReplayError.ReadFault result }
-    ensures write { HasCauseFor (K.fault_count sink.old) (K.fault_count sink.new)
-        ReplayError.WriteFault result }
+    ensures later { K.fault_count sink.old ≤ K.fault_count sink.new }
+    ensures count { K.fault_count sink.new ≡ writes_after result (K.fault_count sink.old) }
 {
     let mut reader = Reader::new(alloc);
     let mut pending = Vec::new(alloc);
@@ -93,6 +93,7 @@ fn replay_from<H: Host, S: Source, K: Sink>(
 }
 
 /// Replays a schedule with a host of this type. What was written before an error stays.
+#[tactic(auto, using(crate::proofs::Causes::counted_cause))]
 pub fn replay_with<H: Host, S: Source, K: Sink>(
     alloc: Global,
     source: &mut S,
@@ -105,6 +106,7 @@ pub fn replay_with<H: Host, S: Source, K: Sink>(
         ReplayError.ReadFault result }
     ensures write { HasCauseFor (K.fault_count sink.old) (K.fault_count sink.new)
         ReplayError.WriteFault result }
+    ensures count { K.fault_count sink.new ≡ writes_after result (K.fault_count sink.old) }
 {
     replay_from::<H, S, K>(alloc, source, sink)
 }
@@ -122,6 +124,7 @@ pub fn replay<S: Source, K: Sink>(
         ReplayError.ReadFault result }
     ensures write { HasCauseFor (K.fault_count sink.old) (K.fault_count sink.new)
         ReplayError.WriteFault result }
+    ensures count { K.fault_count sink.new ≡ writes_after result (K.fault_count sink.old) }
 {
     replay_with::<KvHost, S, K>(alloc, source, sink)
 }

@@ -44,6 +44,125 @@ writes 16 2
 => WriteFault
 transcript 1 rep|
 ----
+nopaxos check
+reads 82
+writes 16
+schedule
+transcript 1 replicas 3 sequencers 1 clients 1
+submit c0 1 5000016b000176
+send 0 c0 s* request 25
+send 1 s0 r* stamped 37
+send 2 r0 c0 reply 36
+send 3 r1 c0 reply 32
+accept c0 1 6e6f6e65
+replica r0 up normal 0 1 1 0
+replica r1 up normal 0 1 1 0
+replica r2 up normal 0 1 0 0
+history 1 c0 1 5000016b000176
+end
+=> Done
+legal 1 1 1
+|
+----
+nopaxos check
+reads 7
+writes 1
+schedule
+transcript 1 replicas 3 sequencers 1 clients 1
+submit c0 1 5000016b000176
+send 0 c0 s* request 25
+send 1 s0 r* stamped 37
+send 2 r0 c0 reply 36
+send 3 r1 c0 reply 32
+accept c0 1 3d76
+replica r0 up normal 0 1 1 0
+replica r1 up normal 0 1 1 0
+replica r2 up normal 0 1 0 0
+history 1 c0 1 5000016b000176
+end
+=> Refuted
+refuted line 7 clause 5
+|
+----
+nopaxos check
+reads 82
+writes 16
+schedule
+transcript 1 replicas 3 sequencers 1 clients 1
+submit c0 1 5000016b000176
+accept c0 1 6e6f6e65
+end
+=> Refuted
+refuted line 3 clause 5
+|
+----
+nopaxos check
+reads 82
+writes 16
+schedule
+transcript 1 replicas 3 sequencers 1 clients 1
+submit c0 1 5000016b000176
+submit c0 1 5000016b000176
+history 1 c0 1 5000016b000176
+history 2 c0 1 5000016b000176
+end
+=> Refuted
+refuted line 5 clause 3
+|
+----
+nopaxos check
+reads 82
+writes 16
+schedule
+transcript 1 replicas 3 sequencers 1 clients 1
+submit c0 1 5000016b000176
+history 1 c0 1 5000016b000177
+end
+=> Refuted
+refuted line 3 clause 4
+|
+----
+nopaxos check
+reads 82
+writes 16
+schedule
+transcript 1 replicas 3 sequencers 1 clients 2
+submit c0 1 4700016b
+submit c1 1 4700016b
+accept c1 1 6e6f6e65
+submit c1 2 4700016b
+history 1 c1 2 4700016b
+history 2 c1 1 4700016b
+end
+=> Refuted
+refuted line 5 clause 6
+|
+----
+nopaxos check
+reads 82
+writes 16
+schedule
+transcript 1 replicas 3 sequencers 1 clients 1
+submit c0 1 5000016b000176
+=> Refuted
+refuted line 3 clause 2
+|
+----
+nopaxos check
+reads 82 1
+writes 16
+=> ReadFault
+|
+----
+nopaxos check
+reads 82
+writes 4 2
+schedule
+transcript 1 replicas 3 sequencers 1 clients 1
+end
+=> WriteFault
+lega|
+----
 nopaxos gen 7 1
 writes 16
 => Done
@@ -129,7 +248,7 @@ served 1 lost 0
 /// How words end that are not taken.
 const USAGE: &str = "\
 Usage
-usage: nopaxos replay | gen | node | sequencer | controller | client | cluster
+usage: nopaxos replay | gen | node | sequencer | controller | client | cluster | check
 |
 ";
 
@@ -145,6 +264,8 @@ nopaxos gen 18446744073709551616 1
 nopaxos gen -1 1
 nopaxos gen 1 1 1
 nopaxos replay replay
+nopaxos check check
+nopaxos checks
 nopaxos Replay
 nopaxos replays
 replay nopaxos

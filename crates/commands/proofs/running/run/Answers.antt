@@ -1,6 +1,7 @@
 use Rattle.kv_host.specs.Kv.{kv_meaning}
 use Rattle.one_box.specs.Showing as boxed
 use Rattle.commands.proofs.AnswerLemmas.{no_answers}
+use Rattle.commands.proofs.CheckLemmas.{unchecked}
 use Rattle.commands.proofs.ClusterLemmas.{not_served}
 use Rattle.commands.proofs.CommandLemmas.{no_drawing, no_front, no_usage}
 use Rattle.commands.specs.Nodes.{ports_view}
@@ -25,3 +26,6 @@ returns-in-Err-clause-cluster g c =
 
 pub returns-in-Err-clause-client : goal.returns-in-Err-clause-client
 returns-in-Err-clause-client g c = no_answers (asked c.args.words.now) (g.K.Sink.held c.args.sink.now)
+
+pub returns-in-Err-clause-check : goal.returns-in-Err-clause-check
+returns-in-Err-clause-check g c = λ is. unchecked kv_meaning (g.S.Source.left c.args.source.now) (g.K.Sink.held c.args.sink.now)

@@ -7,7 +7,7 @@ use Rattle.transcript_text.specs.Transcript.{transcript_line}
 use Rattle.replay.specs.Progress.{begins, GoesOn}
 use Rattle.safety.proofs.Results.{results_short}
 use Rattle.replay.proofs.Beginning.{opened, unopened, text_first, counts_from_one}
-use Rattle.replay.proofs.Causes.{cause_since, stop_reads, stop_writes, starved_reads, starved_writes, same_time}
+use Rattle.replay.proofs.Causes.{cause_since, stop_reads, starved_reads, same_time}
 use Rattle.replay.proofs.Decided.{may_begin}
 use Rattle.replay.proofs.Progressing.{starved_ends}
 use Rattle.replay.proofs.Safely.{done_is_safe, failed_is_safe}
@@ -73,14 +73,8 @@ returns-clause-safe g c =
 pub returns-clause-read : goal.returns-clause-read
 returns-clause-read g c = cause_since _ _ _ _ _ c.in-Ok.ensures.cause.later c.take_events.ensures.read
 
-pub returns-clause-write : goal.returns-clause-write
-returns-clause-write g c = c.take_events.ensures.write
-
 pub returns-in-Err-clause-read : goal.returns-in-Err-clause-read
 returns-in-Err-clause-read g c = stop_reads _ _ _ c.in-Err.e c.stop.result _ _ _ c.stop.ensures.stops (same_time _) c.in-Err.ensures.cause
-
-pub returns-in-Err-clause-write : goal.returns-in-Err-clause-write
-returns-in-Err-clause-write g c = stop_writes c.stop.result _ _ _ (same_time _) c.stop.ensures.later c.stop.ensures.cause
 
 pub returns-in_err-world-clause-ends : goal.returns-in_err-world-clause-ends
 returns-in_err-world-clause-ends g c =
@@ -97,8 +91,3 @@ pub returns-in_err-world-clause-read : goal.returns-in_err-world-clause-read
 returns-in_err-world-clause-read g c =
     let p = err_from_is_err_and c.from_residual.result c.from_residual.ensures.1 in
     starved_reads _ _ c.from_residual.result p.0 p.1 p.2 c.in-Ok.ensures.cause.later
-
-pub returns-in_err-world-clause-write : goal.returns-in_err-world-clause-write
-returns-in_err-world-clause-write g c =
-    let p = err_from_is_err_and c.from_residual.result c.from_residual.ensures.1 in
-    starved_writes _ _ c.from_residual.result p.0 p.1 p.2 (same_time _)

@@ -1,6 +1,6 @@
 use Rattle.std.proofs.Common.{arith, rules}
 use Rattle.std.proofs.lemmas.Result.{err_from_is_err_and}
-use Rattle.replay.proofs.Causes.{cause_since, no_cause, event_reads_none, write_reads_none, end_reads_none, stop_reads, stop_writes}
+use Rattle.replay.proofs.Causes.{no_cause, event_reads_none, write_reads_none, end_reads_none, stop_reads}
 use Rattle.replay.proofs.Decided.{goes_on, may_go_on, stays_unwritten}
 use Rattle.replay.proofs.Progressing.{stopped, finished, advanced, refused_event}
 use Rattle.replay.proofs.replayed.take_events.Goals as goal
@@ -41,7 +41,7 @@ loop-turn-preserved g c =
       lines = let one = (rw c.in-Ok-Some.field-0-is at c.in-Ok-Some.ensures.line) kept.opened in omega (arith, one, kept.lines);
       most = rw (← c.line.ensures.value) c.line.ensures.most;
       read = omega (arith, kept.read, c.in-Ok-Some.ensures.cause.later);
-      write = omega (arith, kept.write, c.in_ok-write_decided.ensures.cause.later, c.in_ok-take_event-in-Ok-Some.ensures.cause.later);
+      count = omega (arith, kept.count, c.in_ok-write_decided.ensures.count, c.in_ok-take_event-in-Ok-Some.ensures.count);
     }
 
 pub returns-in_err-write_decided-clause-ends : goal.returns-in_err-write_decided-clause-ends
@@ -109,11 +109,6 @@ returns-in_err-write_decided-clause-read g c =
     (λ told. write_reads_none (g.K.Sink.held c.loop-turn.sink) (g.K.Sink.held c.write_decided.new.sink) c.loop-turn.pending.items e.0
     c.in_err-write_decided.ensures.gathers (let is = told in cc)))
 
-pub returns-in_err-write_decided-clause-write : goal.returns-in_err-write_decided-clause-write
-returns-in_err-write_decided-clause-write g c =
-    let p = err_from_is_err_and c.from_residual.result c.from_residual.ensures.1 in
-    rw (p.1, p.2) (cause_since _ _ _ _ _ c.loop-turn.invariant.write c.in_err-write_decided.ensures.cause)
-
 pub returns-in_err-take_event-in-Ok-Some-clause-read : goal.returns-in_err-take_event-in-Ok-Some-clause-read
 returns-in_err-take_event-in-Ok-Some-clause-read g c =
     let held = g.K.Sink.held in
@@ -125,28 +120,12 @@ returns-in_err-take_event-in-Ok-Some-clause-read g c =
     (λ told. event_reads_none (held c.write_decided.new.sink) (held c.take_event.new.sink) c.write_decided.new.pending.items c.line.result
     _ e.0 c.in_err-take_event-in-Ok-Some.ensures.takes (let is = told in cc)))
 
-pub returns-in_err-take_event-in-Ok-Some-clause-write : goal.returns-in_err-take_event-in-Ok-Some-clause-write
-returns-in_err-take_event-in-Ok-Some-clause-write g c =
-    let kept = c.loop-turn.invariant in
-    let p = err_from_is_err_and c.from_residual-in_err-take_event-in-Ok-Some.result c.from_residual-in_err-take_event-in-Ok-Some.ensures.1 in
-    rw (p.1, p.2) (cause_since _ _ _ _ _ (omega (arith, kept.write, c.in_ok-write_decided.ensures.cause.later))
-    c.in_err-take_event-in-Ok-Some.ensures.cause)
-
 pub returns-in-Ok-None-clause-read : goal.returns-in-Ok-None-clause-read
 returns-in-Ok-None-clause-read g c =
     no_cause _ _ _ _ (omega (arith, c.loop-turn.invariant.read, c.in-Ok-None.ensures.cause.later))
     (end_reads_none _ _ _ c.finish.result c.finish.ensures.writes)
 
-pub returns-in-Ok-None-clause-write : goal.returns-in-Ok-None-clause-write
-returns-in-Ok-None-clause-write g c =
-    cause_since _ _ _ _ _ (omega (arith, c.loop-turn.invariant.write, c.in_ok-write_decided.ensures.cause.later)) c.finish.ensures.cause
-
 pub returns-in-Err-clause-read : goal.returns-in-Err-clause-read
 returns-in-Err-clause-read g c =
     stop_reads _ _ _ c.in-Err.e c.stop.result _ _ _ c.stop.ensures.stops c.loop-turn.invariant.read
     c.in-Err.ensures.cause
-
-pub returns-in-Err-clause-write : goal.returns-in-Err-clause-write
-returns-in-Err-clause-write g c =
-    stop_writes c.stop.result _ _ _ (omega (arith, c.loop-turn.invariant.write, c.in_ok-write_decided.ensures.cause.later))
-    c.stop.ensures.later c.stop.ensures.cause

@@ -1,4 +1,4 @@
-use Rattle.std.proofs.Common.{◌≤◌, ◌<◌}
+use Rattle.std.proofs.Common.{◌≡◌, ◌≤◌, ◌<◌}
 use Rattle.std.specs.Prelude.{IsSome}
 use Rattle.nop_types.specs.declared.limits.TheConstants.{MAX_LINES}
 use Rattle.replay.specs.Progress.{GoesOn}
@@ -15,5 +15,5 @@ invariant-loop-turn g l =
       lines : l._turn < l.reader.line;
       most : l.reader.line ≤ MAX_LINES;
       read : g.S.Source.fault_count l.fn.source ≤ g.S.Source.fault_count l.source;
-      write : g.K.Sink.fault_count l.fn.sink ≤ g.K.Sink.fault_count l.sink;
+      count : g.K.Sink.fault_count l.sink ≡ g.K.Sink.fault_count l.fn.sink;
     }
