@@ -1,0 +1,5 @@
+pub mod Lists
+pub mod Executions
+pub mod Logs
+pub mod Merging
+pub mod Worked

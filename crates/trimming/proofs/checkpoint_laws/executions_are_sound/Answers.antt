@@ -1,0 +1,7 @@
+use Rattle.nop_types.specs.Checkpoints.{KeepsTo}
+use Rattle.trimming.proofs.Executions.{executed_is_sound}
+use Rattle.trimming.proofs.checkpoint_laws.executions_are_sound.Goals as goal
+
+pub returns : goal.returns
+returns g c =
+    let keeps : KeepsTo g.H.Host.meaning g.H.Host.is_sound = search (g.met.H.Host) in executed_is_sound g.H.Host.meaning g.H.Host.is_sound keeps
