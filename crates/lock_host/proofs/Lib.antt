@@ -1,0 +1,4 @@
+pub mod FieldLemmas
+pub mod LoadLemmas
+pub mod ReadLemmas
+pub mod TokenLemmas

@@ -1,0 +1,13 @@
+pub mod Done
+pub mod Fields
+pub mod Finding
+pub mod Laws
+pub mod Locks
+pub mod Op
+pub mod Places
+pub mod Reading
+pub mod Saved
+pub mod SavedLaws
+pub mod Service
+pub mod Spelling
+pub mod Tokens
