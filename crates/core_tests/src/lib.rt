@@ -14,3 +14,5 @@ mod hostile;
 mod rows;
 #[cfg(test)]
 mod scripts;
+#[cfg(test)]
+mod served;

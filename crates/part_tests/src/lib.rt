@@ -1,13 +1,11 @@
-//! Tests alone, by the public calls of the crates below: the key-value service, and the parts of a
-//! replica (log, merge, execution, client table, receiver, votes, changes).
+//! Tests alone, by the public calls of the crates below: the parts of a replica (log, merge,
+//! execution, client table, receiver, votes, changes).
 #![tactic(auto)]
 
 #[cfg(test)]
 mod changes;
 #[cfg(test)]
 mod execution;
-#[cfg(test)]
-mod kv;
 #[cfg(test)]
 mod logs;
 #[cfg(test)]

@@ -85,6 +85,30 @@ fn overlays(rt: HostRuntime) {
     }
 }
 
+/// An own log, a slot, another log, and what the own one is after the other was adopted above the
+/// slot, and after it was laid over there.
+const SPLICES: [(&[u64], u32, &[u64], &[u64], &[u64]); 5] = [
+    (&[1, 2, 3], 1, &[4, 0], &[1, 0], &[1, 0, 3]),
+    (&[1, 2], 2, &[4, 5, 6], &[1, 2, 6], &[1, 2, 6]),
+    (&[1, 2, 3], 2, &[4], &[1, 2], &[1, 2, 3]),
+    (&[1], 0, &[4, 5], &[4, 5], &[4, 5]),
+    (&[], 0, &[], &[], &[]),
+];
+
+#[test]
+fn splices(rt: HostRuntime) {
+    for (row, (own, slot, other, adopted_then, laid_then)) in SPLICES.iter().enumerate() {
+        let mut log = adopted(&rt, rt.alloc(), own);
+        let mut laid = adopted(&rt, rt.alloc(), own);
+        assert!(rt; *slot <= log.len() && *slot <= laid.len());
+        let other = log_of(&rt, rt.alloc(), other);
+        laid.overlay_above(*slot, &other).expect(&rt, "memory");
+        log.adopt_above(*slot, other);
+        let same = is_log(log.as_slice(), adopted_then) && is_log(laid.as_slice(), laid_then);
+        assert!(rt; same, "row {row}");
+    }
+}
+
 fn name(answer: Answer<'_>) -> &'static str {
     match answer {
         Answer::Found(Request { id: 9, .. }) => "found",

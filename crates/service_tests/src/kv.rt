@@ -90,7 +90,7 @@ fn spelled(rt: &impl Abort, alloc: Global, letter: u8, fields: &[(u8, u64)]) -> 
 }
 
 /// The host gives this answer to an op.
-fn answers<H: Host>(rt: &impl Abort, host: &mut H, op: &[u8], told: &[u8]) -> bool {
+pub fn answers<H: Host>(rt: &impl Abort, host: &mut H, op: &[u8], told: &[u8]) -> bool {
     let (answer, _undo) = host.apply(op).expect(rt, "memory");
     answer.as_slice() == told
 }

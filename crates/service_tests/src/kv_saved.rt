@@ -1,0 +1,227 @@
+use crate::kv::answers;
+use kv_host::{KvHost, MAX_KEYS};
+use nop_types::Host;
+use std::alloc::Global;
+use std::process::Abort;
+
+/// Ops from the opening state on, and how the state that they lead to is saved.
+const SAVED: [(&[&[u8]], &[u8]); 9] = [
+    (&[], b"\0\0\0\0"),
+    (&[b"P\0\x01k\0\x01v"], b"\0\0\0\x01\0\x01k\0\x01v"),
+    (&[b"P\0\x01k\0\0"], b"\0\0\0\x01\0\x01k\0\0"),
+    (
+        &[b"P\0\x01k\0\x01v", b"P\0\x01k\0\x03www"],
+        b"\0\0\0\x01\0\x01k\0\x03www",
+    ),
+    // Keys ascend, whichever came first; a key stands before a longer one that begins with it.
+    (
+        &[b"P\0\x01b\0\x012", b"P\0\x02ab\0\x013", b"P\0\x01a\0\x011"],
+        b"\0\0\0\x03\0\x01a\0\x011\0\x02ab\0\x013\0\x01b\0\x012",
+    ),
+    (
+        &[b"P\0\x01\xff\0\x01v", b"P\0\x01\x7f\0\x01w"],
+        b"\0\0\0\x02\0\x01\x7f\0\x01w\0\x01\xff\0\x01v",
+    ),
+    // A deleted key is not there.
+    (
+        &[b"P\0\x01a\0\x011", b"P\0\x01b\0\x012", b"D\0\x01a"],
+        b"\0\0\0\x01\0\x01b\0\x012",
+    ),
+    (&[b"P\0\x01a\0\x011", b"D\0\x01a"], b"\0\0\0\0"),
+    (
+        &[b"P\0\x01a\0\x011", b"C\0\x01a\0\x011\0\x0222", b"G\0\x01a"],
+        b"\0\0\0\x01\0\x01a\0\x0222",
+    ),
+];
+
+/// Bytes that are no saved state.
+const REFUSED: [&[u8]; 16] = [
+    b"",
+    b"\0\0\0",
+    b"\0\0\0\0\0",
+    // A byte too few, and one too many.
+    b"\0\0\0\x01\0\x01k\0\x01",
+    b"\0\0\0\x01\0\x01k\0\x01v\0",
+    b"\0\0\0\x01\0\x01k\0",
+    b"\0\0\0\x01\0",
+    // A count too small, and one too great.
+    b"\0\0\0\0\0\x01k\0\x01v",
+    b"\0\0\0\x02\0\x01k\0\x01v",
+    b"\0\0\x10\x01\0\x01k\0\x01v",
+    b"\xff\xff\xff\xff\0\x01k\0\x01v",
+    // Keys that do not ascend.
+    b"\0\0\0\x02\0\x01b\0\x01v\0\x01a\0\x01v",
+    b"\0\0\0\x02\0\x02ab\0\x01v\0\x01a\0\x01v",
+    b"\0\0\0\x02\0\x01a\0\x01v\0\x01a\0\x01v",
+    b"\0\0\0\x02\0\x01a\0\x01v\0\x01a\0\x01w",
+    // A key without bytes.
+    b"\0\0\0\x01\0\0\0\x01v",
+];
+
+/// Fields of a saved state of one key with its value, and whether it is one.
+const LENGTHS: [(u64, u64, bool); 4] = [
+    (64, 256, true),
+    (65, 256, false),
+    (64, 257, false),
+    (1, 0, true),
+];
+
+/// The host is saved as these bytes.
+fn is_saved_as<H: Host>(rt: &impl Abort, host: &H, bytes: &[u8]) -> bool {
+    host.save().expect(rt, "memory").as_slice() == bytes
+}
+
+/// The bytes load, and are saved again as they were.
+fn loads<H: Host>(rt: &impl Abort, alloc: Global, bytes: &[u8]) -> bool {
+    match H::load(alloc, bytes).expect(rt, "memory") {
+        Some(host) => is_saved_as(rt, &host, bytes),
+        None => false,
+    }
+}
+
+fn check_saved<H: Host>(rt: &impl Abort, alloc: Global) {
+    for (row, (ops, bytes)) in SAVED.iter().enumerate() {
+        let mut host = H::fresh(alloc).expect(rt, "memory");
+        for op in *ops {
+            host.apply(op).expect(rt, "memory");
+        }
+        assert!(rt; is_saved_as(rt, &host, bytes), "row {row}");
+        assert!(rt; loads::<H>(rt, alloc, bytes), "row {row}");
+    }
+}
+
+#[test]
+fn states_are_saved(rt: HostRuntime) {
+    check_saved::<KvHost>(&rt, rt.alloc());
+}
+
+fn check_refused<H: Host>(rt: &impl Abort, alloc: Global) {
+    for (row, bytes) in REFUSED.iter().enumerate() {
+        let host = H::load(alloc, bytes).expect(rt, "memory");
+        assert!(rt; host.is_none(), "row {row}");
+    }
+}
+
+#[test]
+fn other_bytes_are_refused(rt: HostRuntime) {
+    check_refused::<KvHost>(&rt, rt.alloc());
+}
+
+/// Adds a field of so many bytes, which begins with its length in two bytes.
+fn put_field(rt: &impl Abort, len: u64, to: &mut Vec<u8>) {
+    to.push((len / 256 % 256) as u8).expect(rt, "memory");
+    to.push((len % 256) as u8).expect(rt, "memory");
+    for _ in 0..len {
+        to.push(b'x').expect(rt, "memory");
+    }
+}
+
+fn check_lengths<H: Host>(rt: &impl Abort, alloc: Global) {
+    for (row, (key, value, holds)) in LENGTHS.iter().enumerate() {
+        let mut bytes = Vec::from_slice(alloc, b"\0\0\0\x01").expect(rt, "memory");
+        put_field(rt, *key, &mut bytes);
+        put_field(rt, *value, &mut bytes);
+        assert!(rt; loads::<H>(rt, alloc, &bytes) == *holds, "row {row}");
+    }
+}
+
+#[test]
+fn fields_have_their_lengths(rt: HostRuntime) {
+    check_lengths::<KvHost>(&rt, rt.alloc());
+}
+
+/// The op `letter` of the key of a number, and the fields that follow.
+fn op_of(rt: &impl Abort, alloc: Global, letter: u8, number: u16, fields: &[u8]) -> Vec<u8> {
+    let mut op = Vec::new(alloc);
+    op.push(letter).expect(rt, "memory");
+    op.extend_from_slice(b"\0\x02").expect(rt, "memory");
+    op.extend_from_slice(&number.to_be_bytes())
+        .expect(rt, "memory");
+    op.extend_from_slice(fields).expect(rt, "memory");
+    op
+}
+
+/// A host in which as many keys have a value as may have one: the keys of the numbers from 0 on,
+/// each with v.
+fn full<H: Host>(rt: &impl Abort, alloc: Global) -> H {
+    let mut host = H::fresh(alloc).expect(rt, "memory");
+    for number in 0..4096u16 {
+        let put = op_of(rt, alloc, b'P', number, b"\0\x01v");
+        assert!(rt; answers(rt, &mut host, &put, b"none"), "key {number}");
+    }
+    host
+}
+
+/// What is done to a full host, one after the other: an op's letter, the number of its key, the
+/// fields after the key, the answer, and whether the op is undone.
+const FULL: [(u8, u16, &[u8], &[u8], bool); 18] = [
+    (b'P', 4096, b"\0\x01v", b"full", true),
+    (b'P', 4096, b"\0\x01v", b"full", false),
+    (b'G', 4096, b"", b"none", false),
+    (b'P', 5000, b"\0\0", b"full", false),
+    (b'P', 7, b"\0\x01w", b"=v", true),
+    (b'P', 7, b"\0\x01v", b"=v", false),
+    (b'C', 7, b"\0\x01v\0\x01w", b"yes", true),
+    (b'C', 4096, b"\0\0\0\x01w", b"no", false),
+    (b'D', 4096, b"", b"none", false),
+    // Where a deletion is undone, there is no room.
+    (b'D', 7, b"", b"=v", true),
+    (b'P', 4096, b"\0\x01v", b"full", false),
+    (b'D', 7, b"", b"=v", false),
+    // Where a put is undone, there is.
+    (b'P', 4096, b"\0\x01v", b"none", true),
+    (b'P', 4096, b"\0\x01v", b"none", false),
+    (b'P', 7, b"\0\x01v", b"full", false),
+    (b'D', 4096, b"", b"=v", false),
+    (b'P', 7, b"\0\x01v", b"none", false),
+    (b'P', 4096, b"\0\x01v", b"full", false),
+];
+
+fn check_full<H: Host>(rt: &impl Abort, alloc: Global) {
+    let mut host = full::<H>(rt, alloc);
+    let saved = host.save().expect(rt, "memory");
+    for (row, (letter, number, fields, told, is_undone)) in FULL.iter().enumerate() {
+        let op = op_of(rt, alloc, *letter, *number, fields);
+        let (answer, undo) = host.apply(&op).expect(rt, "memory");
+        assert!(rt; answer.as_slice() == *told, "row {row}");
+        if *is_undone {
+            host.undo(undo);
+        }
+    }
+    assert!(rt; is_saved_as(rt, &host, saved.as_slice()));
+}
+
+#[test]
+fn a_full_map_takes_no_key(rt: HostRuntime) {
+    check_full::<KvHost>(&rt, rt.alloc());
+}
+
+/// The saved state of a full host with one key more, and a count for it.
+fn one_more(rt: &impl Abort, alloc: Global, saved: &[u8]) -> Vec<u8> {
+    let mut bytes = Vec::from_slice(alloc, b"\0\0\x10\x01").expect(rt, "memory");
+    let (_count, entries) = saved.split_at(4.min(saved.len()));
+    bytes.extend_from_slice(entries).expect(rt, "memory");
+    bytes
+        .extend_from_slice(b"\0\x02\x10\0\0\x01v")
+        .expect(rt, "memory");
+    bytes
+}
+
+fn check_full_loads<H: Host>(rt: &impl Abort, alloc: Global) {
+    let host = full::<H>(rt, alloc);
+    let saved = host.save().expect(rt, "memory");
+    assert!(rt; saved.as_slice().len() == 4 + 7 * MAX_KEYS);
+    let mut again = H::load(alloc, saved.as_slice())
+        .expect(rt, "memory")
+        .expect(rt, "a saved state");
+    assert!(rt; is_saved_as(rt, &again, saved.as_slice()));
+    let put = op_of(rt, alloc, b'P', 4096, b"\0\x01v");
+    assert!(rt; answers(rt, &mut again, &put, b"full"));
+    let more = one_more(rt, alloc, saved.as_slice());
+    assert!(rt; H::load(alloc, &more).expect(rt, "memory").is_none());
+}
+
+#[test]
+fn a_full_map_is_loaded(rt: HostRuntime) {
+    check_full_loads::<KvHost>(&rt, rt.alloc());
+}
