@@ -14,6 +14,9 @@ nop_types MAX_OP_BYTES 640
 nop_types MAX_KEY_BYTES 64
 nop_types MAX_VALUE_BYTES 256
 nop_types MAX_RESULT_BYTES 257
+nop_types MAX_HOST_BYTES 1_400_000
+nop_types MAX_SERVED 256
+nop_types WINDOW 1
 nop_types MAX_SLOTS 4096
 nop_types NUMBER_END 281_474_976_710_656
 nop_types MAX_QUEUED 1024
@@ -51,6 +54,13 @@ kv_host GET 0x47
 kv_host PUT 0x50
 kv_host DELETE 0x44
 kv_host SWAP 0x43
+kv_host MAX_KEYS 4096
+lock_host ACQUIRE 0x41
+lock_host RELEASE 0x52
+lock_host INSPECT 0x49
+lock_host MAX_NAME_BYTES 64
+lock_host MAX_LOCKS 4096
+lock_host LAST_TOKEN 18_446_744_073_709_551_615
 session_control MISSED_END 3
 session_control RESEND_MILLIS 100
 session_control PROBE_MILLIS 300
@@ -58,7 +68,6 @@ replica_core RESEND_MILLIS 50
 replica_core SYNC_MILLIS 100
 replica_core WATCH_MILLIS 1000
 replica_core LAST_MESSAGE 18_446_744_073_709_551_607
-schedule_text PIECE_BYTES 4096
 lines PIECE_BYTES 4096
 transcript_reader MAX_TRANSCRIPT_LINES 4_294_967_294
 transcript_rows MAX_SENT_BYTES 1417
