@@ -2,11 +2,11 @@
 -- more than one answer a client.
 use Rattle.std.proofs.Common.{◌≡◌, ℕ, ◌+◌, ◌<◌, Bool, true, false, cond, List, [], ◌∷◌, Option, Some, None, refl, sym, ap}
 use Rattle.std.proofs.Common.{◌∙◌, arith}
-use Rattle.std.specs.Prelude.{◌==◌, nat_lt, not, ◌&&◌, ◌||◌, max, option_map}
+use Rattle.std.specs.Prelude.{◌==◌, nat_lt, not, ◌&&◌, ◌||◌, max, option_map, IsTrue}
 use Rattle.std.proofs.Math.Nat.{max-eq_right}
-use Rattle.std.proofs.lemmas.Bool.{eqb-true, eqb-false, ltb-true, ltb-false, lt-ltb, le-ltb, ne_eqb, eq-eqb}
+use Rattle.std.proofs.lemmas.Bool.{eqb-true, eqb-false, ltb-true, ltb-false, lt-ltb, le-ltb, ne_eqb, eq-eqb, and_parts}
 use Rattle.nop_types.specs.declared.limits.TheConstants.{WINDOW}
-use Rattle.nop_types.specs.Tables.{Answered, Account, account_with, with_answered, within}
+use Rattle.nop_types.specs.Tables.{Answered, Account, Table, kept_for, result_kept, is_new_to, serves, account_with, with_answered, within}
 use Rattle.client_table.specs.declared.answer.Answer.{Answer}
 use Rattle.client_table.specs.Table.{Verdict, Fresh, Same, Stale, verdict_by_result, verdict_on}
 use Rattle.client_table.specs.Answers.{account_of_one, answered, account_of}
@@ -73,6 +73,14 @@ one_is_kept k a less =
       kept = (ap (λ (n : ℕ). within WINDOW n (with_answered a (k ∷ []))) most
           ∙ ap (within WINDOW a.id) placed ∙ left) i;
     }
+
+-- an id that the table takes is fresh
+pub fresh_of_taken : (table : Table) (client id : ℕ) → IsTrue (serves table client && is_new_to WINDOW (kept_for table client) id)
+    → verdict_on (kept_for table client) id ≡ Fresh
+fresh_of_taken table client id h =
+    let kept = kept_for table client in
+    ap (λ (b : Bool). cond b Fresh (verdict_by_result (result_kept kept id)))
+    (and_parts (serves table client) (is_new_to WINDOW kept id) h).1
 
 -- of what the code has for a client
 pub kept_is_one : (former : Option Answer) (kept : Option Account) (a : Answered) → option_map account_of former ≡ kept

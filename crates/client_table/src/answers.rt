@@ -1,7 +1,8 @@
-ghost use Rattle.std.specs.Prelude.{◌≡◌, map, IsSome, IsTrue, OnOk, OnErr, IfOk, option_map};
+ghost use Rattle.std.specs.Prelude.{◌≡◌, ◌&&◌, map, IsSome, IsTrue, OnOk, OnErr, IfOk, option_map};
 ghost use Rattle.std.specs.Option.{option_copied};
 ghost use Rattle.std.specs.FinMap as finite;
-ghost use Rattle.nop_types.specs.Tables.{kept_for, serves};
+ghost use Rattle.nop_types.specs.declared.limits.TheConstants.{WINDOW};
+ghost use Rattle.nop_types.specs.Tables.{kept_for, is_new_to, serves};
 ghost use Rattle.nop_types.specs.Checkpoints.{saved_account, are_saved};
 ghost use Rattle.client_table.specs.Answers.{account_of, table_of};
 
@@ -20,11 +21,15 @@ pub fn find(answers: &Answers, client: u32) -> Option<&Answer>
     answers.get(&client)
 }
 
-/// Whether the client has an answer, or there is room for one more client.
-pub fn serves(answers: &Answers, client: u32) -> bool
-    ensures { result ≡ serves (table_of answers.now) client }
+/// Whether the id is greater than that of the client's answer, or the client has none and there is room for one more.
+pub fn takes(answers: &Answers, client: u32, id: u64) -> bool
+    ensures { result ≡ serves (table_of answers.now) client
+        && is_new_to WINDOW (kept_for (table_of answers.now) client) id }
 {
-    answers.get(&client).is_some() || answers.len() < MAX_SERVED
+    match find(answers, client) {
+        Some(last) => last.id < id,
+        None => answers.len() < MAX_SERVED,
+    }
 }
 
 /// Keeps an answer for a client, and gives the one before it.

@@ -1,16 +1,17 @@
-ghost use Rattle.std.specs.Prelude.{◌≡◌, map, IsSome, IsTrue, OnOk, OnErr, IfOk};
+ghost use Rattle.std.specs.Prelude.{◌≡◌, ◌&&◌, map, IsSome, IsTrue, OnOk, OnErr, IfOk};
 ghost use Rattle.std.specs.FinMap as finite;
 ghost use Rattle.nop_types.specs.declared.limits.TheConstants.{WINDOW};
-ghost use Rattle.nop_types.specs.Tables.{kept_for, serves, with_result};
+ghost use Rattle.nop_types.specs.Tables.{kept_for, is_new_to, serves, with_result};
 ghost use Rattle.nop_types.specs.Checkpoints.{saved_account, are_saved};
-ghost use Rattle.client_table.specs.Table.{Fresh, verdict_on, former_of, unkept};
+ghost use Rattle.nop_types.specs.Execution.{takes};
+ghost use Rattle.client_table.specs.Table.{verdict_on, former_of, unkept};
 ghost use Rattle.client_table.specs.Judged.{verdict_of};
 
 use crate::answer::Answer;
 use crate::answers::{self, Answers};
 use crate::judged::Judged;
 use crate::kept::Kept;
-use nop_types::{Bytes, NoMemory, SavedClient};
+use nop_types::{Bytes, NoMemory, Request, SavedClient};
 use std::alloc::Global;
 use std::collections::BTreeMap;
 use std::marker::Model;
@@ -44,11 +45,12 @@ impl ClientTable {
         }
     }
 
-    /// Whether requests of the client may be executed: it has an answer, or fewer than `MAX_SERVED` clients have one.
-    pub fn serves(&self, client: u32) -> bool
-        ensures { result ≡ serves self.now client }
+    /// Whether a request may be executed: its client has an answer, or fewer than `MAX_SERVED` clients have one, and its id
+    /// is new.
+    pub fn takes(&self, request: &Request) -> bool
+        ensures { result ≡ takes self.now request.now }
     {
-        answers::serves(&self.answers, client)
+        answers::takes(&self.answers, request.client, request.id)
     }
 
     /// Compares an id with the greatest executed one of its client.
@@ -61,10 +63,10 @@ impl ClientTable {
         }
     }
 
-    /// Keeps the answer to a request whose id is new for its client, which is served. What is given back undoes this.
+    /// Keeps the answer to a request that the table takes. What is given back undoes this.
     pub fn keep(&mut self, client: u32, id: u64, answer: Bytes) -> Result<Kept, NoMemory>
-        requires fresh { verdict_on (kept_for self.old client) id ≡ Fresh }
-        requires served { IsTrue (serves self.old client) }
+        requires { IsTrue (serves self.old client
+            && is_new_to WINDOW (kept_for self.old client) id) }
         ensures table { OnOk result (self.new
             ≡ with_result WINDOW self.old client (record { id = id; result = answer })) }
         ensures former { IfOk result (λ kept. kept ≡ former_of self.old client) }

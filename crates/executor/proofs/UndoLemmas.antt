@@ -1,17 +1,16 @@
 -- One slot of an execution, forward and back.
 use Rattle.std.proofs.Common.{Option, ◌≡◌, ℕ, Bool, true, false, cond, List, Some, None, refl, ap, ◌∙◌}
-use Rattle.std.specs.Prelude.{IfSome, IsSome, IsTrue}
-use Rattle.std.proofs.lemmas.Bool.{and_from}
+use Rattle.std.specs.Prelude.{IfSome, IsSome}
 use Rattle.nop_types.specs.declared.limits.TheConstants.{WINDOW}
 use Rattle.nop_types.specs.declared.request.Request.{Request}
 use Rattle.nop_types.specs.declared.request.Entry.{Entry}
 use Rattle.nop_types.specs.declared.request.Entry.TheVariants.{NoOp, Req}
 use Rattle.nop_types.specs.Meaning.{Meaning}
 use Rattle.std.specs.FinMap as finite
-use Rattle.nop_types.specs.Tables.{Table, kept_for, serves, is_new_to, with_result}
+use Rattle.nop_types.specs.Tables.{Table, kept_for, with_result}
 use Rattle.nop_types.specs.Execution.{Executed, opening, execute, enter_kept, takes}
-use Rattle.client_table.specs.Table.{Fresh, is_fresh, verdict_on, former_of, unkept}
-use Rattle.client_table.specs.Laws.{new_by_verdict, unkept_is_before, has_account}
+use Rattle.client_table.specs.Table.{former_of, unkept}
+use Rattle.client_table.specs.Laws.{unkept_is_before, has_account}
 use Rattle.executor.specs.declared.slot_undo.SlotUndo.{SlotUndo}
 use Rattle.executor.specs.Running.{execution}
 use Rattle.executor.specs.Undoing.{slot_undo_of, undone_by}
@@ -19,13 +18,6 @@ use Rattle.executor.specs.Undoing.{slot_undo_of, undone_by}
 -- a fresh host and an empty table open an execution
 pub opens : {S : Type 0} (m : Meaning S) (s : S) (t : Table) → s ≡ m.opening → t ≡ finite.empty → execution s t ≡ opening m
 opens m s t host table = λ i. execution (host i) (table i)
-
--- ---- what is taken
-
-pub taken : (t : Table) (r : Request) → IsTrue (serves t r.client) → verdict_on (kept_for t r.client) r.id ≡ Fresh → takes t r ≡ true
-taken t r served fresh =
-    and_from (serves t r.client) (is_new_to WINDOW (kept_for t r.client) r.id) served
-    (new_by_verdict (kept_for t r.client) r.id ∙ ap is_fresh fresh)
 
 module _ {S : Type 0} (m : Meaning S) (s : S) (t : Table) (r : Request) where
   -- a request that is taken is executed

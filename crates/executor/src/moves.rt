@@ -4,7 +4,7 @@ ghost use Rattle.executor.specs.Running.{execution};
 ghost use Rattle.executor.specs.Undoing.{slot_undo_of, undone_by, IsExecuted, UndoFits, UndosFit, ClientIsKept};
 
 use crate::slot_undo::SlotUndo;
-use client_table::{ClientTable, Judged};
+use client_table::ClientTable;
 use nop_types::{Entry, Host, NoMemory};
 
 /// Executes an entry, where its client is served and its id is new, and says how to undo that.
@@ -26,12 +26,9 @@ fn enter<H: Host>(
         Entry::NoOp => return Ok(None),
         Entry::Req(request) => request,
     };
-    if !table.serves(request.client) {
+    if !table.takes(request) {
         return Ok(None);
     }
-    let Judged::Fresh = table.judge(request.client, request.id) else {
-        return Ok(None);
-    };
     let (answer, undo) = host.apply(request.op.as_slice())?;
     match table.keep(request.client, request.id, answer) {
         Ok(kept) => Ok(Some(SlotUndo { undo, kept })),

@@ -1,5 +1,6 @@
-ghost use Rattle.std.specs.Prelude.{IsSome};
-ghost use Rattle.nop_types.specs.Tables.{kept_for};
+ghost use Rattle.std.specs.Prelude.{◌≡◌, ◌&&◌, IsSome};
+ghost use Rattle.nop_types.specs.declared.limits.TheConstants.{WINDOW};
+ghost use Rattle.nop_types.specs.Tables.{is_new_to, kept_for, serves};
 ghost use Rattle.executor.specs.Undoing.{HasExecuted};
 
 use crate::logs::full_log;
@@ -25,6 +26,14 @@ fn is_fresh(table: &ClientTable, client: u32, id: u64) -> bool {
     matches!(table.judge(client, id), Judged::Fresh)
 }
 
+/// The table takes a request of the client with this id.
+fn takes(rt: &impl Abort, alloc: Global, table: &ClientTable, client: u32, id: u64) -> bool
+    ensures { result ≡ (serves table.now client
+        && is_new_to WINDOW (kept_for table.now client) id) }
+{
+    table.takes(&request(rt, alloc, client, id, b"x"))
+}
+
 /// A client, an id, and the verdict, where the last id of client 7 is 5.
 #[test]
 fn last_answers(rt: HostRuntime) {
@@ -32,10 +41,13 @@ fn last_answers(rt: HostRuntime) {
     let Judged::Fresh = table.judge(7, 5) else {
         panic!(rt; "not fresh")
     };
-    assert!(rt; table.serves(7));
+    assert!(rt; takes(&rt, rt.alloc(), &table, 7, 5));
     let answer = Bytes::new(rt.alloc(), b"=v").expect(&rt, "memory");
     let kept = table.keep(7, 5, answer).expect(&rt, "memory");
     assert!(rt; matches!(table.judge(7, 4), Judged::Stale));
+    assert!(rt; !takes(&rt, rt.alloc(), &table, 7, 4));
+    assert!(rt; !takes(&rt, rt.alloc(), &table, 7, 5));
+    assert!(rt; takes(&rt, rt.alloc(), &table, 7, 6));
     let Judged::Same(answer) = table.judge(7, 5) else {
         panic!(rt; "not the same")
     };
@@ -47,14 +59,16 @@ fn last_answers(rt: HostRuntime) {
     assert!(rt; is_fresh(&table, 7, 5));
 }
 
-/// Keeps an answer to a request of the client, which is served and has no answer to it yet.
+/// A request that has the greatest id, which no client has here, is taken.
+fn serves(rt: &impl Abort, alloc: Global, table: &ClientTable, client: u32) -> bool {
+    takes(rt, alloc, table, client, u64::MAX)
+}
+
+/// Keeps an answer to a request of the client that the table takes.
 fn keep(rt: &impl Abort, alloc: Global, table: &mut ClientTable, client: u32, id: u64) -> Kept
     ensures { IsSome (kept_for table.new result.client) }
 {
-    assert!(rt; table.serves(client));
-    let Judged::Fresh = table.judge(client, id) else {
-        panic!(rt; "not fresh")
-    };
+    assert!(rt; takes(rt, alloc, table, client, id));
     let answer = Bytes::new(alloc, &client.to_be_bytes()).expect(rt, "memory");
     table.keep(client, id, answer).expect(rt, "memory")
 }
@@ -67,12 +81,14 @@ fn as_many_clients_as_are_served(rt: HostRuntime) {
         let _kept = keep(&rt, rt.alloc(), &mut table, client, 1);
     }
     let _kept = keep(&rt, rt.alloc(), &mut table, 0, 2);
-    assert!(rt; table.serves(255) && table.serves(256) && table.serves(u32::MAX));
+    assert!(rt; serves(&rt, rt.alloc(), &table, 255) && serves(&rt, rt.alloc(), &table, u32::MAX));
     let last = keep(&rt, rt.alloc(), &mut table, u32::MAX, 1);
-    assert!(rt; table.serves(0) && table.serves(254) && table.serves(u32::MAX));
-    assert!(rt; !table.serves(255) && !table.serves(256) && is_fresh(&table, 255, 1));
+    assert!(rt; serves(&rt, rt.alloc(), &table, 0) && serves(&rt, rt.alloc(), &table, 254));
+    assert!(rt; serves(&rt, rt.alloc(), &table, u32::MAX));
+    assert!(rt; !serves(&rt, rt.alloc(), &table, 255) && is_fresh(&table, 255, 1));
+    assert!(rt; !serves(&rt, rt.alloc(), &table, 256));
     table.unkeep(last);
-    assert!(rt; table.serves(255) && table.serves(256));
+    assert!(rt; serves(&rt, rt.alloc(), &table, 255) && serves(&rt, rt.alloc(), &table, 256));
 }
 
 /// A client with an id, as they were kept, and as they are saved.

@@ -6,7 +6,8 @@ use std::process::Abort;
 
 /// The request of a client with this id and this op.
 pub fn request(rt: &impl Abort, alloc: Global, client: u32, id: u64, op: &[u8]) -> Request
-    ensures { result.id ≡ id }
+    ensures client { result.client ≡ client }
+    ensures id { result.id ≡ id }
 {
     assert!(rt; op.len() <= MAX_OP_BYTES);
     Request {

@@ -4,7 +4,7 @@ use Rattle.std.specs.FinMap as finite
 use Rattle.nop_types.specs.Tables.{Answered, Table, kept_for}
 use Rattle.client_table.specs.Answers.{account_of_one, table_of}
 use Rattle.client_table.specs.Laws.{has_inserted}
-use Rattle.client_table.proofs.OneResult.{kept_is_one}
+use Rattle.client_table.proofs.OneResult.{fresh_of_taken, kept_is_one}
 use Rattle.client_table.proofs.table.ClientTable.keep.Goals as goal
 
 pub returns-clause-table : goal.returns-clause-table
@@ -14,7 +14,8 @@ returns-clause-table c =
     rw (← c.self.view_is)
     (c.in_ok-former.ensures.ok
     ∙ sym (ap (finite.insert old c.args.client)
-    (kept_is_one c.in_ok-former.former (kept_for old c.args.client) a c.in_ok-former.ensures.former (rw c.self.view_is c.requires.fresh))))
+    (kept_is_one c.in_ok-former.former (kept_for old c.args.client) a c.in_ok-former.ensures.former
+    (fresh_of_taken old c.args.client c.args.id (rw c.self.view_is c.requires)))))
 
 pub returns-clause-fits : goal.returns-clause-fits
 returns-clause-fits c =
