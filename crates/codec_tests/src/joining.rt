@@ -22,7 +22,7 @@ const ARRIVALS: [Arrival; 24] = [
     (0, 7, 0, 1, 5, 0),
     (0, 7, 0, 0, 5, 0),
     (0, 7, 2, 2, 5, 0),
-    (0, 9, 0, 2049, 1400, 0),
+    (0, 9, 0, 4097, 1400, 0),
     (0, 7, 1, 2, 0, 0),
     (0, 9, 0, 2, 1399, 0),
     (0, 7, 1, 2, 1401, 0),
@@ -104,7 +104,7 @@ fn messages_are_cut_and_joined(rt: HostRuntime) {
     check_length(&rt, rt.alloc(), 1, 1, 18);
     check_length(&rt, rt.alloc(), 1400, 1, 1417);
     check_length(&rt, rt.alloc(), 1401, 2, 18);
-    check_length(&rt, rt.alloc(), 2_867_200, 2048, 1417);
+    check_length(&rt, rt.alloc(), 5_734_400, 4096, 1417);
 }
 
 fn is_cut(rt: &impl Abort, alloc: Global, len: u32) -> Result<(), CutError> {
@@ -116,7 +116,7 @@ fn is_cut(rt: &impl Abort, alloc: Global, len: u32) -> Result<(), CutError> {
 #[test]
 fn messages_that_are_not_cut(rt: HostRuntime) {
     assert!(rt; is_cut(&rt, rt.alloc(), 0) == Err(CutError::Size));
-    assert!(rt; is_cut(&rt, rt.alloc(), 2_867_201) == Err(CutError::Size));
+    assert!(rt; is_cut(&rt, rt.alloc(), 5_734_401) == Err(CutError::Size));
 }
 
 /// Takes fragments in order, and compares what each of them completes.

@@ -200,7 +200,7 @@ const SENDS: [(u64, Actor, Dest, u8, usize); 8] = [
 /// The lines of sends.
 fn put_sends(rt: &impl Abort, alloc: Global, to: &mut Vec<u8>) {
     for (index, from, dest, kind, len) in &SENDS {
-        let mut datagram = Vec::from_slice(alloc, &[0x4e, 0x4f, 1, *kind]).expect(rt, "memory");
+        let mut datagram = Vec::from_slice(alloc, &[0x4e, 0x4f, 2, *kind]).expect(rt, "memory");
         datagram.resize(*len, 0).expect(rt, "memory");
         send_line(*index, *from, *dest, &datagram, to).expect(rt, "memory");
     }

@@ -1,14 +1,14 @@
 //! Cutting a peer message into fragments of at most 1,400 bytes, and joining them again.
 //!
 //! `cut` sends the fragments of the definition `fragments_of`, and answers Size exactly where there
-//! are no bytes, or more than 2,048 fragments would be needed. `Reassembly::take` is the definition
+//! are no bytes, or more than 4,096 fragments would be needed. `Reassembly::take` is the definition
 //! `taken`: it answers bytes only where each of their parts, one for each index, was taken from
 //! that sender with that number and count (`answers_what_came`). Where every fragment was cut by
 //! its sender, and no sender used a number twice, these bytes are one message that it sent
 //! (`answers_what_was_sent`). What is cut, and taken in order where nothing was kept, is joined
 //! (`cut_is_joined`).
 //!
-//! Whatever comes, of a sender at most 4 unfinished messages are kept, of at most 2,048 parts of at
+//! Whatever comes, of a sender at most 4 unfinished messages are kept, of at most 4,096 parts of at
 //! most 1,400 bytes (`stays_within_limits`).
 //!
 //! Calls: `cut`; `Reassembly::new`, `take`, `senders`, `held` (the bytes that are kept of a

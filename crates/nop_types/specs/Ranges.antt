@@ -38,9 +38,9 @@ pub record StampedFits (s : Stamped) : Type 0 where
   pub number : s.number < NUMBER_END
   pub request : RequestFits s.request
 
-pub record SlotFits (slot : ℕ) : Type 0 where
-  pub low : 1 ≤ slot
-  pub high : slot ≤ MAX_SLOTS
+-- slots count from 1, and are numbers of 32 bits
+abbrev pub SlotFits : ℕ → Type 0
+SlotFits slot = IsCount slot
 
 -- a reply with tag 0 brings no result
 pub record ReplyFits (r : Reply) : Type 0 where
@@ -94,14 +94,19 @@ pub record NextFits (next : ℕ) : Type 0 where
   pub low : 1 ≤ next
   pub high : next ≤ NUMBER_END
 
-pub record LogChangeFits (last_normal : View) (next : ℕ) (log : List Entry) : Type 0 where
+-- a log that is told, with its sync point within it
+pub record ToldFits (sync_point : ℕ) (log : List Entry) : Type 0 where
+  pub entries : LogFits log
+  pub point : sync_point ≤ length log
+
+pub record LogChangeFits (last_normal : View) (next sync_point : ℕ) (log : List Entry) : Type 0 where
   pub view : ViewFits last_normal
   pub number : NextFits next
-  pub entries : LogFits log
+  pub told : ToldFits sync_point log
 
-pub record LogStartFits (next : ℕ) (log : List Entry) : Type 0 where
+pub record LogStartFits (next sync_point : ℕ) (log : List Entry) : Type 0 where
   pub number : NextFits next
-  pub entries : LogFits log
+  pub told : ToldFits sync_point log
 
 pub record FoundFits (slot : ℕ) (r : Request) : Type 0 where
   pub place : SlotFits slot
@@ -113,11 +118,11 @@ BodyFits (bodies.Found slot r) = FoundFits slot r
 BodyFits (bodies.GapCommit slot) = SlotFits slot
 BodyFits (bodies.GapRep slot) = SlotFits slot
 BodyFits bodies.ViewChangeReq = ⊤
-BodyFits (bodies.ViewChange last_normal next log) = LogChangeFits last_normal next log
-BodyFits (bodies.StartView next log) = LogStartFits next log
-BodyFits (bodies.SyncPrepare log) = LogFits log
-BodyFits (bodies.SyncRep len) = len ≤ MAX_SLOTS
-BodyFits (bodies.SyncCommit len) = len ≤ MAX_SLOTS
+BodyFits (bodies.ViewChange last_normal next sync_point log) = LogChangeFits last_normal next sync_point log
+BodyFits (bodies.StartView next sync_point log) = LogStartFits next sync_point log
+BodyFits (bodies.SyncPrepare sync_point log) = ToldFits sync_point log
+BodyFits (bodies.SyncRep len) = len < 2 ^ 32
+BodyFits (bodies.SyncCommit len) = len < 2 ^ 32
 
 pub record PeerFits (p : Peer) : Type 0 where
   pub sender : p.sender ≤ 6
@@ -126,4 +131,4 @@ pub record PeerFits (p : Peer) : Type 0 where
 
 pub record ChangeFits (c : Change) : Type 0 where
   pub sender : c.sender ≤ 6
-  pub rest : LogChangeFits c.last_normal c.next c.log
+  pub rest : LogChangeFits c.last_normal c.next c.sync_point c.log

@@ -31,7 +31,7 @@ pub const NUMBER_END: u64 = 0x1_0000_0000_0000;
 pub const MAX_QUEUED: usize = 1024;
 
 /// The most fragments of a peer message.
-pub const MAX_FRAGMENTS: usize = 2048;
+pub const MAX_FRAGMENTS: usize = 4096;
 
 /// The payload of each fragment but the last.
 pub const FRAGMENT_BYTES: usize = 1400;
@@ -69,7 +69,7 @@ const _: () = prove!(
         && MAX_SLOTS == 4096
         && NUMBER_END == 281_474_976_710_656
         && MAX_QUEUED == 1024
-        && MAX_FRAGMENTS == 2048
+        && MAX_FRAGMENTS == 4096
         && FRAGMENT_BYTES == 1400
         && MAX_UNFINISHED == 4
         && MAX_DATAGRAM_BYTES == 1500

@@ -69,13 +69,13 @@ is_spelled (a ∷ b ∷ []) d fits e = absurd cc
 is_spelled (a ∷ b ∷ c ∷ []) d fits e = absurd cc
 is_spelled (a ∷ b ∷ c ∷ kind ∷ rest) d fits e =
     let magic = guard_ok (not (eqb a 0x4e && eqb b 0x4f)) Magic _ d e in
-    let version = guard_ok (not (eqb c 1)) Version _ d magic.1 in
+    let version = guard_ok (not (eqb c 2)) Version _ d magic.1 in
     let t =
     body_takes kind rest d (IsBytes-rest kind rest
     (IsBytes-rest c (kind ∷ rest) (IsBytes-rest b (c ∷ kind ∷ rest) (IsBytes-rest a (b ∷ c ∷ kind ∷ rest) fits)))) version.1 in
     let is_a : a ≡ 0x4e = grind (arith, nat_tests, magic.0) in
     let is_b : b ≡ 0x4f = grind (arith, nat_tests, magic.0) in
-    let is_c : c ≡ 1 = grind (arith, nat_tests, version.0) in
+    let is_c : c ≡ 2 = grind (arith, nat_tests, version.0) in
     record { fits = t.0; spelled = rw (is_a, is_b, is_c) t.1 }
 
 pub reads_again : (d : Datagram) → DatagramFits d → reading (spelling d) ≡ Ok d

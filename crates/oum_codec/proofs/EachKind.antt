@@ -20,7 +20,7 @@ use Rattle.oum_codec.specs.declared.fixed.SignalFields.{SignalFields}
 use Rattle.oum_codec.specs.declared.fixed.FragmentFields.{FragmentFields}
 use Rattle.oum_codec.specs.Numbers.{IsBytes, be_bytes}
 use Rattle.oum_codec.specs.Spelling.{view_bytes, header, request_bytes, stamped_bytes, reply_bytes, signal_bytes, fragment_bytes, spelling}
-use Rattle.nop_types.specs.declared.limits.TheConstants.{FRAGMENT_BYTES, MAX_FRAGMENTS, MAX_OP_BYTES, MAX_RESULT_BYTES, MAX_SLOTS}
+use Rattle.nop_types.specs.declared.limits.TheConstants.{FRAGMENT_BYTES, MAX_FRAGMENTS, MAX_OP_BYTES, MAX_RESULT_BYTES}
 use Rattle.nop_types.specs.declared.limits.TheConstants.{NUMBER_END}
 use Rattle.oum_codec.specs.Fixed.{tag_fits, request_fields_at, request_in_range, stamped_fields_at, stamped_in_range, reply_fields_at}
 use Rattle.oum_codec.specs.Fixed.{reply_in_range, signal_fields_at, signal_in_range, fragment_fields_at, fragment_in_range, least_payload}
@@ -144,7 +144,6 @@ reply_ranges f result is widths len =
     let replica : f.replica ≤ 6 = grind (arith, nat_tests, is) in
     let session_low : 1 ≤ f.view.session = grind (arith, nat_tests, is) in
     let slot_low : 1 ≤ f.slot = grind (arith, nat_tests, is) in
-    let slot_high : f.slot ≤ MAX_SLOTS = grind (arith, nat_tests, is) in
     let id_low : 1 ≤ f.id = grind (arith, nat_tests, is) in
     let tag : f.tag ≤ 1 = grind (arith, nat_tests, is) in
     let result_high : f.result_len ≤ MAX_RESULT_BYTES = grind (arith, nat_tests, is) in
@@ -152,7 +151,7 @@ reply_ranges f result is widths len =
     record {
       replica = replica;
       view = record { leader = widths.view.leader; session = record { low = session_low; high = widths.view.session } };
-      slot = record { low = slot_low; high = slot_high };
+      slot = record { low = slot_low; high = widths.slot };
       client = widths.client;
       id_low = id_low;
       id = widths.id;
@@ -190,7 +189,7 @@ reply_again r fits =
     let widths : ReplyWidths f =
     record {
       view = record { leader = fits.view.leader; session = fits.view.session.high };
-      slot = omega (arith, fits.slot.high);
+      slot = fits.slot.high;
       client = fits.client;
       id = fits.id;
       result_len = omega (arith, fits.result_length);
@@ -199,7 +198,7 @@ reply_again r fits =
     ap reply_fields_at (sym (reply_whole f r.result refl)) ∙ reply_fields_again f r.result widths in
     let with_tag : tag_fits r.tag (length r.result) ≡ true = tag_again r.tag (length r.result) fits.tag fits.result_length fits.without in
     let ranges : reply_in_range f ≡ true =
-    grind (arith, nat_tests, with_tag, fits.replica, fits.view.session.low, fits.slot.low, fits.slot.high, fits.id_low) in
+    grind (arith, nat_tests, with_tag, fits.replica, fits.view.session.low, fits.slot.low, fits.id_low) in
     body_again (reply_fields_at (reply_bytes r)) reply_in_range (λ f. f.result_len) (λ f. f.result_len)
     (λ f result. datagrams.Reply (reply_made f result)) f r.result there ranges (omega arith) (omega arith)
   where

@@ -3,7 +3,7 @@
 use Rattle.std.specs.Prelude.{ℕ, ◌+◌, Bool, List, Option, Some, nat_lt, nat_le, ◌&&◌, ◌||◌, if◌then◌else◌}
 use Rattle.std.specs.Int.{w16, w32, w64}
 use Rattle.nop_types.specs.declared.limits.TheConstants.{FRAGMENT_BYTES, MAX_FRAGMENTS, MAX_OP_BYTES, MAX_REPLICAS, MAX_RESULT_BYTES}
-use Rattle.nop_types.specs.declared.limits.TheConstants.{MAX_SEQUENCERS, MAX_SLOTS, NUMBER_END}
+use Rattle.nop_types.specs.declared.limits.TheConstants.{MAX_SEQUENCERS, NUMBER_END}
 use Rattle.oum_codec.specs.declared.fixed.RequestFields.{RequestFields}
 use Rattle.oum_codec.specs.declared.fixed.StampedFields.{StampedFields}
 use Rattle.oum_codec.specs.declared.fixed.ReplyFields.{ReplyFields}
@@ -57,8 +57,7 @@ tag_fits tag result_len = nat_le tag 1 && (nat_le result_len MAX_RESULT_BYTES &&
 -- sessions, slots and ids count from 1
 abbrev pub reply_in_range : ReplyFields → Bool
 reply_in_range f =
-    nat_lt f.replica MAX_REPLICAS && (nat_lt 0
-    f.view.session && (nat_lt 0 f.slot && (nat_le f.slot MAX_SLOTS && (nat_lt 0 f.id && tag_fits f.tag f.result_len))))
+    nat_lt f.replica MAX_REPLICAS && (nat_lt 0 f.view.session && (nat_lt 0 f.slot && (nat_lt 0 f.id && tag_fits f.tag f.result_len)))
 
 -- of an install, an installed, a ping or a pong: a sequencer's number, and a session or a round
 unfoldable pub signal_fields_at : List ℕ → Option (SignalFields × List ℕ)

@@ -8,7 +8,7 @@ ghost use Rattle.oum_codec.specs.Fixed.{signal_in_range, fragment_fields_at, fra
 use crate::fields::{split_u8, split_u16, split_u32, split_u64, split_view};
 use nop_types::{
     FRAGMENT_BYTES, MAX_FRAGMENTS, MAX_OP_BYTES, MAX_REPLICAS, MAX_RESULT_BYTES, MAX_SEQUENCERS,
-    MAX_SLOTS, NUMBER_END, View,
+    NUMBER_END, View,
 };
 
 #[derive(Clone, Copy)]
@@ -110,7 +110,6 @@ impl ReplyFields {
         self.replica < MAX_REPLICAS
             && 0 < self.view.session
             && 0 < self.slot
-            && self.slot as usize <= MAX_SLOTS
             && 0 < self.id
             && is_tag(self.tag, self.result_len)
     }

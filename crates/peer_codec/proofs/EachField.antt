@@ -16,7 +16,8 @@ use Rattle.oum_codec.proofs.Numbers.{Takes, Takes-then, IsWide, wide16, wide32, 
 use Rattle.oum_codec.proofs.Numbers.{byte_takes, bytes_take, bytes_again, view_takes, view_again}
 use Rattle.peer_codec.specs.declared.bad_peer.BadPeer.{BadPeer}
 use Rattle.peer_codec.specs.declared.bad_peer.BadPeer.TheVariants.{Short, Field}
-use Rattle.peer_codec.specs.Fields.{there, in_range, sender_at, view_at, slot_at, next_at, length_at, id_at, op_at, request_at}
+use Rattle.peer_codec.specs.Fields.{there, in_range, sender_at, view_at, slot_at, next_at, length_at, count_at, id_at, op_at}
+use Rattle.peer_codec.specs.Fields.{request_at}
 
 abbrev done : {A : Type 0} → A → Result A BadPeer
 done x = Ok x
@@ -52,16 +53,15 @@ pub slot_takes : (bytes : List ℕ) (x : ℕ × List ℕ) → IsBytes bytes → 
     → Takes bytes (be_bytes w32 x.0) x.1 × SlotFits x.0
 unfolding slot_at
 slot_takes bytes x fits e =
-    let t = number_in_range w32 (2 ^ 32) wide32 (λ n. nat_lt 0 n && nat_le n MAX_SLOTS) bytes x fits e in
+    let t = number_in_range w32 (2 ^ 32) wide32 (λ n. nat_lt 0 n) bytes x fits e in
     let low : 1 ≤ x.0 = grind (arith, nat_tests, t.passes) in
-    let high : x.0 ≤ MAX_SLOTS = grind (arith, nat_tests, t.passes) in
-    (t.takes, record { low = low; high = high })
+    (t.takes, record { low = low; high = t.below })
 
 pub slot_again : (n : ℕ) (rest : List ℕ) → SlotFits n → slot_at (be_bytes w32 n ++ rest) ≡ Ok (n, rest)
 unfolding slot_at
 slot_again n rest fits =
-    let passes : (nat_lt 0 n && nat_le n MAX_SLOTS) ≡ true = grind (arith, nat_tests, fits.low, fits.high) in
-    number_in_range_again w32 (2 ^ 32) wide32 (λ n. nat_lt 0 n && nat_le n MAX_SLOTS) n rest (omega (arith, fits.high)) passes
+    let passes : nat_lt 0 n ≡ true = grind (arith, nat_tests, fits.low) in
+    number_in_range_again w32 (2 ^ 32) wide32 (λ n. nat_lt 0 n) n rest fits.high passes
 
 pub next_takes : (bytes : List ℕ) (x : ℕ × List ℕ) → IsBytes bytes → next_at bytes ≡ Ok x
     → Takes bytes (be_bytes w64 x.0) x.1 × NextFits x.0
@@ -79,18 +79,33 @@ next_again n rest fits =
     number_in_range_again w64 (2 ^ 64) wide64 (λ n. nat_lt 0 n && nat_le n NUMBER_END) n rest (omega (arith, fits.high)) passes
 
 pub length_takes : (bytes : List ℕ) (x : ℕ × List ℕ) → IsBytes bytes → length_at bytes ≡ Ok x
-    → Takes bytes (be_bytes w32 x.0) x.1 × (x.0 ≤ MAX_SLOTS)
+    → Takes bytes (be_bytes w32 x.0) x.1 × (x.0 < 2 ^ 32)
 unfolding length_at
-length_takes bytes x fits e =
-    let t = number_in_range w32 (2 ^ 32) wide32 (λ n. nat_le n MAX_SLOTS) bytes x fits e in
-    let high : x.0 ≤ MAX_SLOTS = grind (arith, nat_tests, t.passes) in
-    (t.takes, high)
+length_takes bytes x fits e = u32_takes bytes x fits (ok_or_ok (number_at w32 bytes) Short x e)
 
-pub length_again : (n : ℕ) (rest : List ℕ) → n ≤ MAX_SLOTS → length_at (be_bytes w32 n ++ rest) ≡ Ok (n, rest)
+pub length_again : (n : ℕ) (rest : List ℕ) → n < 2 ^ 32 → length_at (be_bytes w32 n ++ rest) ≡ Ok (n, rest)
 unfolding length_at
-length_again n rest high =
-    let passes : nat_le n MAX_SLOTS ≡ true = grind (arith, nat_tests, high) in
-    number_in_range_again w32 (2 ^ 32) wide32 (λ n. nat_le n MAX_SLOTS) n rest (omega (arith, high)) passes
+length_again n rest high = rw (u32_again n rest high) refl
+
+pub record CountFits (sync_point count : ℕ) : Type 0 where
+  pub most : count ≤ MAX_SLOTS
+  pub point : sync_point ≤ count
+
+pub count_takes : (sync_point : ℕ) (bytes : List ℕ) (x : ℕ × List ℕ) → IsBytes bytes → count_at sync_point bytes ≡ Ok x
+    → Takes bytes (be_bytes w32 x.0) x.1 × CountFits sync_point x.0
+unfolding count_at
+count_takes sync_point bytes x fits e =
+    let t = number_in_range w32 (2 ^ 32) wide32 (λ n. nat_le n MAX_SLOTS && nat_le sync_point n) bytes x fits e in
+    let most : x.0 ≤ MAX_SLOTS = grind (arith, nat_tests, t.passes) in
+    let point : sync_point ≤ x.0 = grind (arith, nat_tests, t.passes) in
+    (t.takes, record { most = most; point = point })
+
+pub count_again : (sync_point n : ℕ) (rest : List ℕ) → n ≤ MAX_SLOTS → sync_point ≤ n
+    → count_at sync_point (be_bytes w32 n ++ rest) ≡ Ok (n, rest)
+unfolding count_at
+count_again sync_point n rest most point =
+    let passes : (nat_le n MAX_SLOTS && nat_le sync_point n) ≡ true = grind (arith, nat_tests, most, point) in
+    number_in_range_again w32 (2 ^ 32) wide32 (λ n. nat_le n MAX_SLOTS && nat_le sync_point n) n rest (omega (arith, most)) passes
 
 record IdFits (id : ℕ) : Type 0 where
   pub low : 1 ≤ id

@@ -1,18 +1,20 @@
 -- Entries and logs that are read are those that were written, and what was written is read again.
 use Rattle.std.proofs.Common.{◌≡◌, ℕ, zero, suc, List, [], ◌∷◌, ◌++◌, length, Ok, refl, sym, ap, subst, ◌∙◌, append_assoc}
+use Rattle.std.proofs.Common.{◌≤◌, arith}
 use Rattle.std.specs.Int.{w32}
 use Rattle.std.specs.List.{flat_map, AllByRecursion}
 use Rattle.std.proofs.lemmas.List.Concat.{flat_map-cons}
-use Rattle.nop_types.specs.Ranges.{EntryFits, LogFits}
+use Rattle.nop_types.specs.Ranges.{EntryFits, ToldFits}
+use Rattle.nop_types.specs.declared.limits.TheConstants.{MAX_SLOTS}
 use Rattle.nop_types.specs.declared.request.Entry.{Entry}
 use Rattle.nop_types.specs.declared.request.Entry.TheVariants.{NoOp, Req}
 use Rattle.oum_codec.specs.Numbers.{IsBytes, be_bytes}
 use Rattle.oum_codec.proofs.Steps.{bind_ok, ok_is}
 use Rattle.oum_codec.proofs.Numbers.{IsBytes-rest, Takes, Takes-then}
-use Rattle.peer_codec.specs.Spelling.{entry_bytes, log_bytes}
-use Rattle.peer_codec.specs.Fields.{length_at, request_at}
+use Rattle.peer_codec.specs.Spelling.{entry_bytes, entries_bytes, log_bytes}
+use Rattle.peer_codec.specs.Fields.{length_at, count_at, request_at}
 use Rattle.peer_codec.specs.Logs.{entry_at, entries_at, log_at}
-use Rattle.peer_codec.proofs.EachField.{length_takes, length_again, request_takes, request_again}
+use Rattle.peer_codec.proofs.EachField.{length_takes, length_again, count_takes, count_again, request_takes, request_again}
 
 entry_takes : (bytes : List ℕ) (x : Entry × List ℕ) → IsBytes bytes → entry_at bytes ≡ Ok x
     → Takes bytes (entry_bytes x.0) x.1 × EntryFits x.0
@@ -64,21 +66,38 @@ entries_again (n ∷ ns) rest fits =
     ap (entries_at (suc (length ns))) regrouped
     ∙ rw (entry_again n (flat_map entry_bytes ns ++ rest) fits.0, entries_again ns rest fits.1) refl
 
-pub log_takes : (bytes : List ℕ) (x : List Entry × List ℕ) → IsBytes bytes → log_at bytes ≡ Ok x
-    → Takes bytes (log_bytes x.0) x.1 × LogFits x.0
+pub log_takes : (bytes : List ℕ) (x : ℕ × List Entry × List ℕ) → IsBytes bytes → log_at bytes ≡ Ok x
+    → Takes bytes (log_bytes x.0 x.1) x.2 × ToldFits x.0 x.1
 unfolding log_at
 log_takes bytes x fits e =
-    let a = bind_ok (length_at bytes) (λ count. entries_at count.0 count.1) x e in
-    let t = length_takes bytes a.0 fits a.1 in
-    let s = entries_take a.0.0 a.0.1 x t.0.rest_fits a.2 in
-    let both = Takes-then bytes (be_bytes w32 a.0.0) a.0.1 (flat_map entry_bytes x.0) x.1 t.0 s.takes in (
-      subst (λ (n : ℕ). Takes bytes (be_bytes w32 n ++ flat_map entry_bytes x.0) x.1) (sym s.count) both,
-      record { len = rw s.count t.1; each = s.each },
-    )
+    let a = bind_ok (length_at bytes) _ x e in
+    let b = bind_ok (count_at a.0.0 a.0.1) _ x a.2 in
+    let c = bind_ok (entries_at b.0.0 b.0.1) _ x b.2 in
+    let t0 = length_takes bytes a.0 fits a.1 in
+    let t1 = count_takes a.0.0 a.0.1 b.0 t0.0.rest_fits b.1 in
+    let t2 = entries_take b.0.0 b.0.1 c.0 t1.0.rest_fits c.1 in
+    let counted = Takes-then a.0.1 (be_bytes w32 b.0.0) b.0.1 (flat_map entry_bytes c.0.0) c.0.1 t1.0 t2.takes in
+    let entries : Takes a.0.1 (entries_bytes c.0.0) c.0.1 =
+    subst (λ (n : ℕ). Takes a.0.1 (be_bytes w32 n ++ flat_map entry_bytes c.0.0) c.0.1) (sym t2.count) counted in
+    let both = Takes-then bytes _ _ _ _ t0.0 entries in
+    let made : ℕ × List Entry × List ℕ = (a.0.0, c.0.0, c.0.1) in
+    let len : length c.0.0 ≤ MAX_SLOTS = rw t2.count t1.1.most in
+    let point : a.0.0 ≤ length c.0.0 = rw t2.count t1.1.point in
+    subst (λ (y : ℕ × List Entry × List ℕ). Takes bytes (log_bytes y.0 y.1) y.2 × ToldFits y.0 y.1) (ok_is made x c.2)
+    (both, record { entries = record { len = len; each = t2.each }; point = point })
 
-pub log_again : (log : List Entry) (rest : List ℕ) → LogFits log → log_at (log_bytes log ++ rest) ≡ Ok (log, rest)
+pub log_again : (sync_point : ℕ) (log : List Entry) (rest : List ℕ) → ToldFits sync_point log
+    → log_at (log_bytes sync_point log ++ rest) ≡ Ok (sync_point, log, rest)
 unfolding log_at
-log_again log rest fits =
-    let regrouped : log_bytes log ++ rest ≡ be_bytes w32 (length log) ++ (flat_map entry_bytes log ++ rest) =
-    append_assoc (be_bytes w32 (length log)) (flat_map entry_bytes log) rest in
-    rw (regrouped, length_again (length log) (flat_map entry_bytes log ++ rest) fits.len) (entries_again log rest fits.each)
+log_again sync_point log rest fits =
+    let after : List ℕ = flat_map entry_bytes log ++ rest in
+    let counted : List ℕ = be_bytes w32 (length log) ++ after in
+    let regrouped : log_bytes sync_point log ++ rest ≡ be_bytes w32 sync_point ++ counted =
+    append_assoc (be_bytes w32 sync_point) (entries_bytes log) rest
+    ∙ ap (λ (t : List ℕ). be_bytes w32 sync_point ++ t) (append_assoc (be_bytes w32 (length log)) (flat_map entry_bytes log) rest) in
+    rw (
+      regrouped,
+      length_again sync_point counted (omega (arith, fits.point, fits.entries.len)),
+      count_again sync_point (length log) after fits.entries.len fits.point,
+      entries_again log rest fits.entries.each,
+    ) refl

@@ -7,11 +7,11 @@ use Rattle.nop_types.specs.declared.view.View.{View}
 use Rattle.nop_types.specs.declared.request.Request.{Request}
 use Rattle.nop_types.specs.declared.request.Entry.{Entry}
 use Rattle.nop_types.specs.declared.peer.Peer.{Peer}
-use Rattle.nop_types.specs.declared.peer.Body.TheVariants.{Found, ViewChange, StartView}
+use Rattle.nop_types.specs.declared.peer.Body.TheVariants.{Found, ViewChange, StartView, SyncPrepare}
 use Rattle.oum_codec.specs.Numbers.{be_bytes}
 use Rattle.oum_codec.specs.Spelling.{view_bytes, request_bytes}
 use Rattle.oum_codec.proofs.Numbers.{wide16, wide32, wide64}
-use Rattle.peer_codec.specs.Spelling.{entry_bytes, log_bytes, body_bytes, head_bytes, kind_of, spelling}
+use Rattle.peer_codec.specs.Spelling.{entry_bytes, entries_bytes, log_bytes, body_bytes, head_bytes, kind_of, spelling}
 
 view_len : (v : View) → length (view_bytes v) ≡ 8
 view_len v = omega (arith, length-append (be_bytes w32 v.leader) (be_bytes w32 v.session), wide32.len v.leader, wide32.len v.session)
@@ -24,8 +24,8 @@ request_len r =
     omega (arith, length-append (be_bytes w32 r.client) (be_bytes w64 r.id), wide32.len r.client, wide64.len r.id) in
     omega (arith, length-append (be_bytes w32 r.client ++ be_bytes w64 r.id) (be_bytes w16 (length r.op) ++ r.op), counted, front)
 
-pub log_len : (log : List Entry) → length (log_bytes log) ≡ 4 + sum_by (λ e. length (entry_bytes e)) log
-log_len log =
+pub entries_len : (log : List Entry) → length (entries_bytes log) ≡ 4 + sum_by (λ e. length (entry_bytes e)) log
+entries_len log =
     omega (
       arith,
       length-append (be_bytes w32 (length log)) (flat_map entry_bytes log),
@@ -33,24 +33,31 @@ log_len log =
       length-flat_map entry_bytes log,
     )
 
+log_len : (z : ℕ) (log : List Entry) → length (log_bytes z log) ≡ 4 + length (entries_bytes log)
+log_len z log = omega (arith, length-append (be_bytes w32 z) (entries_bytes log), wide32.len z)
+
 pub number_len : (n : ℕ) → length (be_bytes w32 n) ≡ 4
 number_len n = wide32.len n
 
 pub found_len : (slot : ℕ) (r : Request) → length (body_bytes (Found slot r)) ≡ 4 + length (request_bytes r)
 found_len slot r = omega (arith, length-append (be_bytes w32 slot) (request_bytes r), wide32.len slot)
 
-pub start_view_len : (next : ℕ) (log : List Entry) → length (body_bytes (StartView next log)) ≡ 8 + length (log_bytes log)
-start_view_len next log = omega (arith, length-append (be_bytes w64 next) (log_bytes log), wide64.len next)
+pub start_view_len : (next z : ℕ) (log : List Entry) → length (body_bytes (StartView next z log)) ≡ 12 + length (entries_bytes log)
+start_view_len next z log = omega (arith, length-append (be_bytes w64 next) (log_bytes z log), wide64.len next, log_len z log)
 
-pub view_change_len : (v : View) (next : ℕ) (log : List Entry) → length (body_bytes (ViewChange v next log)) ≡ 16 + length (log_bytes log)
-view_change_len v next log =
+pub view_change_len : (v : View) (next z : ℕ) (log : List Entry)
+    → length (body_bytes (ViewChange v next z log)) ≡ 20 + length (entries_bytes log)
+view_change_len v next z log =
     let front : length (view_bytes v ++ be_bytes w64 next) ≡ 16 =
     omega (arith, length-append (view_bytes v) (be_bytes w64 next), view_len v, wide64.len next) in
-    omega (arith, length-append (view_bytes v ++ be_bytes w64 next) (log_bytes log), front)
+    omega (arith, length-append (view_bytes v ++ be_bytes w64 next) (log_bytes z log), front, log_len z log)
+
+pub sync_prepare_len : (z : ℕ) (log : List Entry) → length (body_bytes (SyncPrepare z log)) ≡ 4 + length (entries_bytes log)
+sync_prepare_len z log = log_len z log
 
 pub spelling_len : (p : Peer) → length (spelling p) ≡ 10 + length (body_bytes p.body)
 spelling_len p =
     let head : length (head_bytes (kind_of p.body) p.sender p.view) ≡ 10 = omega (arith, view_len p.view) in
     omega (arith, length-append (head_bytes (kind_of p.body) p.sender p.view) (body_bytes p.body), head)
 
-pub ruleset body_lens = (number_len, found_len, start_view_len, view_change_len)
+pub ruleset body_lens = (number_len, found_len, start_view_len, view_change_len, sync_prepare_len)

@@ -27,15 +27,19 @@ view_at bytes = in_range (λ v. nat_lt 0 v.session) (numbers.view_at bytes)
 
 -- slots count from 1
 unfoldable pub slot_at : List ℕ → Result (ℕ × List ℕ) BadPeer
-slot_at bytes = in_range (λ n. nat_lt 0 n && nat_le n MAX_SLOTS) (number_at w32 bytes)
+slot_at bytes = in_range (λ n. nat_lt 0 n) (number_at w32 bytes)
 
 -- the number of a session's next request
 unfoldable pub next_at : List ℕ → Result (ℕ × List ℕ) BadPeer
 next_at bytes = in_range (λ n. nat_lt 0 n && nat_le n NUMBER_END) (number_at w64 bytes)
 
--- the length of a log
+-- a number of slots: a length or a sync point
 unfoldable pub length_at : List ℕ → Result (ℕ × List ℕ) BadPeer
-length_at bytes = in_range (λ n. nat_le n MAX_SLOTS) (number_at w32 bytes)
+length_at bytes = there (number_at w32 bytes)
+
+-- the number of the entries of a log with this sync point, which is within it
+unfoldable pub count_at : ℕ → List ℕ → Result (ℕ × List ℕ) BadPeer
+count_at sync_point bytes = in_range (λ n. nat_le n MAX_SLOTS && nat_le sync_point n) (number_at w32 bytes)
 
 -- ids count from 1
 unfoldable pub id_at : List ℕ → Result (ℕ × List ℕ) BadPeer

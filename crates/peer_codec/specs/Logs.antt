@@ -5,7 +5,7 @@ use Rattle.nop_types.specs.declared.request.Entry.TheVariants.{NoOp, Req}
 use Rattle.oum_codec.specs.Reading.{◌>>=◌}
 use Rattle.peer_codec.specs.declared.bad_peer.BadPeer.{BadPeer}
 use Rattle.peer_codec.specs.declared.bad_peer.BadPeer.TheVariants.{Short, Field}
-use Rattle.peer_codec.specs.Fields.{length_at, request_at}
+use Rattle.peer_codec.specs.Fields.{length_at, count_at, request_at}
 
 -- the tag is 0 for a NO-OP, and 1 for a request
 unfoldable pub entry_at : List ℕ → Result (Entry × List ℕ) BadPeer
@@ -22,8 +22,10 @@ entries_at (suc n) bytes = do
   others ← entries_at n first.1
   Ok (first.0 ∷ others.0, others.1)
 
--- their number, then the entries
-unfoldable pub log_at : List ℕ → Result (List Entry × List ℕ) BadPeer
+-- a log's sync point, the number of its entries, then the entries: what follows them stands at the end
+unfoldable pub log_at : List ℕ → Result (ℕ × List Entry × List ℕ) BadPeer
 log_at bytes = do
-  count ← length_at bytes
-  entries_at count.0 count.1
+  sync_point ← length_at bytes
+  count ← count_at sync_point.0 sync_point.1
+  entries ← entries_at count.0 count.1
+  Ok (sync_point.0, entries.0, entries.1)

@@ -3,7 +3,7 @@
 ghost use Rattle.std.specs.Prelude.{◌≤◌, IfOk};
 ghost use Rattle.nop_types.specs.declared.limits.TheConstants.{MAX_SLOTS};
 ghost use Rattle.peer_codec.specs.Answers.{GivesBy};
-ghost use Rattle.peer_codec.specs.Fields.{sender_at, view_at, slot_at, next_at, length_at, id_at, op_at, request_at};
+ghost use Rattle.peer_codec.specs.Fields.{sender_at, view_at, slot_at, next_at, length_at, count_at, id_at, op_at, request_at};
 
 use crate::BadPeer;
 use nop_types::{MAX_OP_BYTES, MAX_REPLICAS, MAX_SLOTS, NUMBER_END, Op, Request, View};
@@ -44,7 +44,7 @@ pub fn split_slot(bytes: &[u8]) -> Result<(u32, &[u8]), BadPeer>
     let Some((slot, rest)) = split_u32(bytes) else {
         return Err(BadPeer::Short);
     };
-    if slot == 0 || MAX_SLOTS < slot as usize {
+    if slot == 0 {
         return Err(BadPeer::Field);
     }
     Ok((slot, rest))
@@ -64,19 +64,27 @@ pub fn split_next(bytes: &[u8]) -> Result<(u64, &[u8]), BadPeer>
     Ok((next, rest))
 }
 
-/// The length of a log.
+/// A number of slots: a length or a sync point.
 #[tactic(auto, unfolding(crate::specs::Fields::length_at))]
 pub fn split_length(bytes: &[u8]) -> Result<(u32, &[u8]), BadPeer>
-    ensures exact { GivesBy (λ x. (x.0, x.1.now)) result (length_at bytes.now) }
+    ensures { GivesBy (λ x. (x.0, x.1.now)) result (length_at bytes.now) }
+{
+    split_u32(bytes).ok_or(BadPeer::Short)
+}
+
+/// The number of a log's entries, which is not below its sync point.
+#[tactic(auto, unfolding(crate::specs::Fields::count_at))]
+pub fn split_count(sync_point: u32, bytes: &[u8]) -> Result<(u32, &[u8]), BadPeer>
+    ensures exact { GivesBy (λ x. (x.0, x.1.now)) result (count_at sync_point bytes.now) }
     ensures small { IfOk result (λ x. x.0 ≤ MAX_SLOTS) }
 {
-    let Some((length, rest)) = split_u32(bytes) else {
+    let Some((count, rest)) = split_u32(bytes) else {
         return Err(BadPeer::Short);
     };
-    if MAX_SLOTS < length as usize {
+    if MAX_SLOTS < count as usize || count < sync_point {
         return Err(BadPeer::Field);
     }
-    Ok((length, rest))
+    Ok((count, rest))
 }
 
 #[tactic(auto, unfolding(crate::specs::Fields::id_at))]

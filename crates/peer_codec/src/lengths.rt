@@ -4,7 +4,7 @@ ghost use Rattle.std.specs.Prelude.{◌≡◌, ◌≤◌, ◌+◌, ◌*◌, leng
 ghost use Rattle.nop_types.specs.declared.limits.TheConstants.{MAX_OP_BYTES, MAX_SLOTS};
 ghost use Rattle.oum_codec.specs.Spelling.{request_bytes};
 ghost use Rattle.peer_codec.specs.LogBodies.{log_of, with_log};
-ghost use Rattle.peer_codec.specs.Spelling.{entry_bytes, log_bytes, body_bytes, spelling};
+ghost use Rattle.peer_codec.specs.Spelling.{entry_bytes, entries_bytes, body_bytes, spelling};
 
 use crate::LogBody;
 use nop_types::{Body, Entry, Peer, Request};
@@ -30,9 +30,9 @@ fn entry_len(entry: &Entry) -> usize
     }
 }
 
-fn log_len(log: &[Entry]) -> usize
+fn entries_len(log: &[Entry]) -> usize
     requires { length log.now ≤ MAX_SLOTS }
-    ensures exact { result ≡ length (log_bytes log.now) }
+    ensures exact { result ≡ length (entries_bytes log.now) }
     ensures small { result ≤ 4 + MAX_SLOTS * (15 + MAX_OP_BYTES) }
 {
     let mut len: usize = 4;
@@ -45,7 +45,7 @@ fn log_len(log: &[Entry]) -> usize
 #[tactic(auto, using(crate::proofs::SpelledLengths::body_lens))]
 fn body_len(body: &Body) -> usize
     ensures exact { result ≡ length (body_bytes body.now) }
-    ensures small { result ≤ 20 + MAX_SLOTS * (15 + MAX_OP_BYTES) }
+    ensures small { result ≤ 24 + MAX_SLOTS * (15 + MAX_OP_BYTES) }
 {
     match body {
         Body::SlotLookup(_)
@@ -55,9 +55,9 @@ fn body_len(body: &Body) -> usize
         | Body::SyncCommit(_) => 4,
         Body::Found(_, request) => 4 + request_len(request),
         Body::ViewChangeReq => 0,
-        Body::ViewChange { log, .. } => 16 + log_len(log.as_slice()),
-        Body::StartView { log, .. } => 8 + log_len(log.as_slice()),
-        Body::SyncPrepare(log) => log_len(log.as_slice()),
+        Body::ViewChange { log, .. } => 20 + entries_len(log.as_slice()),
+        Body::StartView { log, .. } => 12 + entries_len(log.as_slice()),
+        Body::SyncPrepare { log, .. } => 4 + entries_len(log.as_slice()),
     }
 }
 
@@ -72,11 +72,11 @@ pub fn spelled_len(message: &Peer) -> usize
 pub fn log_body_len(body: LogBody<'_>) -> usize
     requires { length (log_of body) ≤ MAX_SLOTS }
     ensures exact { result ≡ length (body_bytes (with_log body.entry)) }
-    ensures small { result ≤ 20 + MAX_SLOTS * (15 + MAX_OP_BYTES) }
+    ensures small { result ≤ 24 + MAX_SLOTS * (15 + MAX_OP_BYTES) }
 {
     match body {
-        LogBody::ViewChange { log, .. } => 16 + log_len(log),
-        LogBody::StartView { log, .. } => 8 + log_len(log),
-        LogBody::SyncPrepare(log) => log_len(log),
+        LogBody::ViewChange { log, .. } => 20 + entries_len(log),
+        LogBody::StartView { log, .. } => 12 + entries_len(log),
+        LogBody::SyncPrepare { log, .. } => 4 + entries_len(log),
     }
 }

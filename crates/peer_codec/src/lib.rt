@@ -1,4 +1,5 @@
-//! The ten kinds of messages between replicas as bytes.
+//! The ten kinds of messages between replicas as bytes. A log is told with its sync point, which is
+//! within it.
 //!
 //! `decode_peer` answers the message that the bytes spell, with each field in its range, and for
 //! other bytes the first test, in the order of the format, that they fail; `read_peer` answers None

@@ -6,7 +6,7 @@ ghost use Rattle.peer_codec.specs.Answers.{GivesBy};
 ghost use Rattle.peer_codec.specs.Logs.{entry_at, entries_at, log_at};
 
 use crate::BadPeer;
-use crate::fields::{split_length, split_request};
+use crate::fields::{split_count, split_length, split_request};
 use nop_types::{Entry, Log};
 use std::alloc::Global;
 
@@ -41,11 +41,13 @@ fn split_entries(alloc: Global, count: u32, bytes: &[u8]) -> Result<(Log, &[u8])
     Ok((log, rest))
 }
 
-/// The number of entries, and the entries.
+/// The sync point, the number of entries, and the entries.
 #[tactic(auto, unfolding(crate::specs::Logs::log_at))]
-pub fn split_log(alloc: Global, bytes: &[u8]) -> Result<(Log, &[u8]), BadPeer>
-    ensures { GivesBy (λ x. (x.0, x.1.now)) result (log_at bytes.now) }
+pub fn split_log(alloc: Global, bytes: &[u8]) -> Result<(u32, Log, &[u8]), BadPeer>
+    ensures { GivesBy (λ x. (x.0, x.1, x.2.now)) result (log_at bytes.now) }
 {
-    let (count, rest) = split_length(bytes)?;
-    split_entries(alloc, count, rest)
+    let (sync_point, rest) = split_length(bytes)?;
+    let (count, rest) = split_count(sync_point, rest)?;
+    let (log, rest) = split_entries(alloc, count, rest)?;
+    Ok((sync_point, log, rest))
 }

@@ -5,7 +5,8 @@ ghost use Rattle.nop_types.specs.Ranges.{PeerFits};
 ghost use Rattle.oum_codec.specs.Numbers.{be_bytes};
 ghost use Rattle.oum_codec.specs.Spelling.{view_bytes};
 ghost use Rattle.peer_codec.specs.LogBodies.{log_of, with_log, log_message};
-ghost use Rattle.peer_codec.specs.Spelling.{entry_bytes, log_bytes, kind_of, head_bytes, body_bytes, spelling};
+ghost use Rattle.peer_codec.specs.Spelling.{entry_bytes, entries_bytes, log_bytes, kind_of, head_bytes, body_bytes};
+ghost use Rattle.peer_codec.specs.Spelling.{spelling};
 
 use crate::LogBody;
 use crate::lengths::{HEAD_BYTES, log_body_len, spelled_len};
@@ -40,15 +41,23 @@ fn put_entry(to: &mut Vec<u8>, entry: &Entry) -> Result<(), NoMemory>
     Ok(())
 }
 
-fn put_log(to: &mut Vec<u8>, log: &[Entry]) -> Result<(), NoMemory>
+fn put_entries(to: &mut Vec<u8>, log: &[Entry]) -> Result<(), NoMemory>
     requires { length log.now ≤ MAX_SLOTS }
-    ensures { OnOk result (to.new.items ≡ to.old.items ++ log_bytes log.now) }
+    ensures { OnOk result (to.new.items ≡ to.old.items ++ entries_bytes log.now) }
 {
     put_u32(to, log.len() as u32)?;
     for entry in log {
         put_entry(to, entry)?;
     }
     Ok(())
+}
+
+fn put_log(to: &mut Vec<u8>, sync_point: u32, log: &[Entry]) -> Result<(), NoMemory>
+    requires { length log.now ≤ MAX_SLOTS }
+    ensures { OnOk result (to.new.items ≡ to.old.items ++ log_bytes sync_point log.now) }
+{
+    put_u32(to, sync_point)?;
+    put_entries(to, log)
 }
 
 fn kind_of(body: &Body) -> u8
@@ -62,7 +71,7 @@ fn kind_of(body: &Body) -> u8
         Body::ViewChangeReq => kinds::VIEW_CHANGE_REQ,
         Body::ViewChange { .. } => kinds::VIEW_CHANGE,
         Body::StartView { .. } => kinds::START_VIEW,
-        Body::SyncPrepare(_) => kinds::SYNC_PREPARE,
+        Body::SyncPrepare { .. } => kinds::SYNC_PREPARE,
         Body::SyncRep(_) => kinds::SYNC_REP,
         Body::SyncCommit(_) => kinds::SYNC_COMMIT,
     }
@@ -74,7 +83,7 @@ fn kind_of_log(body: LogBody<'_>) -> u8
     match body {
         LogBody::ViewChange { .. } => kinds::VIEW_CHANGE,
         LogBody::StartView { .. } => kinds::START_VIEW,
-        LogBody::SyncPrepare(_) => kinds::SYNC_PREPARE,
+        LogBody::SyncPrepare { .. } => kinds::SYNC_PREPARE,
     }
 }
 
@@ -94,17 +103,22 @@ fn put_log_body(to: &mut Vec<u8>, body: LogBody<'_>) -> Result<(), NoMemory>
         LogBody::ViewChange {
             last_normal,
             next,
+            sync_point,
             log,
         } => {
             put_view(to, last_normal)?;
             put_u64(to, next)?;
-            put_log(to, log)
+            put_log(to, sync_point, log)
         }
-        LogBody::StartView { next, log } => {
+        LogBody::StartView {
+            next,
+            sync_point,
+            log,
+        } => {
             put_u64(to, next)?;
-            put_log(to, log)
+            put_log(to, sync_point, log)
         }
-        LogBody::SyncPrepare(log) => put_log(to, log),
+        LogBody::SyncPrepare { sync_point, log } => put_log(to, sync_point, log),
     }
 }
 
@@ -121,23 +135,36 @@ fn put_body(to: &mut Vec<u8>, body: &Body) -> Result<(), NoMemory>
         Body::ViewChange {
             last_normal,
             next,
+            sync_point,
             log,
         } => {
             let body = LogBody::ViewChange {
                 last_normal: *last_normal,
                 next: *next,
+                sync_point: *sync_point,
                 log: log.as_slice(),
             };
             put_log_body(to, body)
         }
-        Body::StartView { next, log } => {
+        Body::StartView {
+            next,
+            sync_point,
+            log,
+        } => {
             let body = LogBody::StartView {
                 next: *next,
+                sync_point: *sync_point,
                 log: log.as_slice(),
             };
             put_log_body(to, body)
         }
-        Body::SyncPrepare(log) => put_log_body(to, LogBody::SyncPrepare(log.as_slice())),
+        Body::SyncPrepare { sync_point, log } => {
+            let body = LogBody::SyncPrepare {
+                sync_point: *sync_point,
+                log: log.as_slice(),
+            };
+            put_log_body(to, body)
+        }
         Body::SyncRep(length) | Body::SyncCommit(length) => put_u32(to, *length),
     }
 }

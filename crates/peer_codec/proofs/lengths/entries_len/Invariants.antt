@@ -1,7 +1,7 @@
 use Rattle.std.proofs.Common.{◌≡◌, ◌+◌, ◌*◌, ◌≤◌, take, length}
 use Rattle.std.specs.List.{sum_by}
 use Rattle.peer_codec.specs.Spelling.{entry_bytes}
-use Rattle.peer_codec.proofs.lengths.log_len.Given as goal
+use Rattle.peer_codec.proofs.lengths.entries_len.Given as goal
 
 abbrev pub invariant-loop-entry : goal.invariant-loop-entry
 invariant-loop-entry l =
