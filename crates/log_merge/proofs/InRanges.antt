@@ -7,19 +7,20 @@ use Rattle.nop_types.specs.declared.request.Entry.{Entry}
 use Rattle.nop_types.specs.declared.request.Entry.TheVariants.{NoOp, Req}
 use Rattle.nop_types.specs.declared.peer.Change.{Change}
 use Rattle.nop_types.specs.Lists.{slot_of}
-use Rattle.nop_types.specs.Ranges.{EntryFits, LogFits, ChangeFits}
+use Rattle.nop_types.specs.Ranges.{EntryFits, LogFits, ToldFits, ChangeFits}
 use Rattle.log_merge.specs.Merge.{Told, told, of_both, of_two, chosen, entry_of, longest, merge}
+use Rattle.log_merge.specs.Starting.{greatest_point}
 use Rattle.log_merge.proofs.Merged.{length-merge}
 
-abbrev ToldFits : Option Told → Type 0
-ToldFits o = IfSome o (λ t. EntryFits t.entry)
+abbrev ChosenFits : Option Told → Type 0
+ChosenFits o = IfSome o (λ t. EntryFits t.entry)
 
-place_fits : (l : List Entry) (i : ℕ) (s : ℕ) → AllByRecursion EntryFits l → ToldFits (told s (slice_get l i))
+place_fits : (l : List Entry) (i : ℕ) (s : ℕ) → AllByRecursion EntryFits l → ChosenFits (told s (slice_get l i))
 place_fits [] i s h = tt
 place_fits (x ∷ l) zero s h = h.0
 place_fits (x ∷ l) (suc i) s h = place_fits l i s h.1
 
-slot_fits : (l : List Entry) (k : ℕ) (s : ℕ) → AllByRecursion EntryFits l → ToldFits (told s (slot_of l k))
+slot_fits : (l : List Entry) (k : ℕ) (s : ℕ) → AllByRecursion EntryFits l → ChosenFits (told s (slot_of l k))
 slot_fits l zero s h = tt
 slot_fits l (suc i) s h = place_fits l i s h
 
@@ -32,17 +33,17 @@ both_fit NoOp e x y h g = h
 both_fit (Req q) NoOp x y h g = g
 both_fit (Req q) (Req r) x y h g = either_fits (nat_le x.sender y.sender) x y h g
 
-two_fit : (a b : Option Told) → ToldFits a → ToldFits b → ToldFits (of_two a b)
+two_fit : (a b : Option Told) → ChosenFits a → ChosenFits b → ChosenFits (of_two a b)
 two_fit None b h g = g
 two_fit (Some x) None h g = h
 two_fit (Some x) (Some y) h g = both_fit x.entry y.entry x y h g
 
-chosen_fits : (cs : List Change) (k : ℕ) → AllByRecursion (λ c. LogFits c.log) cs → ToldFits (chosen cs k)
+chosen_fits : (cs : List Change) (k : ℕ) → AllByRecursion (λ c. LogFits c.log) cs → ChosenFits (chosen cs k)
 chosen_fits [] k h = tt
 chosen_fits (c ∷ cs) k h =
     two_fit (told c.sender (slot_of c.log k)) (chosen cs k) (slot_fits c.log k c.sender h.0.each) (chosen_fits cs k h.1)
 
-entry_fits : (o : Option Told) → ToldFits o → EntryFits (entry_of o)
+entry_fits : (o : Option Told) → ChosenFits o → EntryFits (entry_of o)
 entry_fits None h = tt
 entry_fits (Some t) h = h
 
@@ -62,7 +63,15 @@ merge_fits cs h = record {
 
 logs_of : (cs : List Change) → AllByRecursion ChangeFits cs → AllByRecursion (λ c. LogFits c.log) cs
 logs_of [] h = tt
-logs_of (c ∷ cs) h = (h.0.rest.entries, logs_of cs h.1)
+logs_of (c ∷ cs) h = (h.0.rest.told.entries, logs_of cs h.1)
 
-pub merge_of_changes_fits : (cs : List Change) → AllByRecursion ChangeFits cs → LogFits (merge cs)
-merge_of_changes_fits cs h = merge_fits cs (logs_of cs h)
+point_within : (cs : List Change) → AllByRecursion ChangeFits cs → greatest_point cs ≤ longest cs
+point_within [] h = omega arith
+point_within (c ∷ cs) h = let one = h.0.rest.told.point in let rest = point_within cs h.1 in omega arith
+
+-- the greatest sync point is within the longest log
+pub merge_of_changes_fits : (cs : List Change) → AllByRecursion ChangeFits cs → ToldFits (greatest_point cs) (merge cs)
+merge_of_changes_fits cs h = record {
+  entries = merge_fits cs (logs_of cs h);
+  point = let within = point_within cs h in omega (arith, length-merge cs, within);
+}

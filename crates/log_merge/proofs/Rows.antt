@@ -5,7 +5,7 @@ use Rattle.nop_types.specs.declared.request.Entry.TheVariants.{NoOp, Req}
 use Rattle.nop_types.specs.declared.view.View.{View}
 use Rattle.nop_types.specs.declared.peer.Change.{Change}
 use Rattle.log_merge.specs.Merge.{merge}
-use Rattle.log_merge.specs.Starting.{start_of}
+use Rattle.log_merge.specs.Starting.{start_of, start_point}
 
 abbrev req : ℕ → Entry
 req n = Req (record { client = n; id = n; op = [] })
@@ -13,8 +13,13 @@ req n = Req (record { client = n; id = n; op = [] })
 abbrev view : ℕ → ℕ → View
 view l s = record { leader = l; session = s }
 
+abbrev change_at : ℕ → ℕ → View → ℕ → List Entry → Change
+change_at point sender last_normal next log =
+    record { sender = sender; last_normal = last_normal; next = next; sync_point = point; log = log }
+
+-- nothing is synchronised
 abbrev change : ℕ → View → ℕ → List Entry → Change
-change sender last_normal next log = record { sender = sender; last_normal = last_normal; next = next; log = log }
+change sender last_normal next log = change_at 0 sender last_normal next log
 
 -- a NO-OP wins from either side, and the lower sender among requests, in either order of the list
 row_1 : merge (change 2 (view 0 1) 3 (req 1 ∷ req 2 ∷ []) ∷ change 1 (view 0 1) 4 (NoOp ∷ req 3 ∷ req 4 ∷ []) ∷ [])
@@ -41,3 +46,8 @@ row_5 = refl
 row_6 : start_of (view 6 2) (change 0 (view 5 1) 3 (req 1 ∷ []) ∷ change 1 (view 0 2) 7 (req 2 ∷ []) ∷ [])
     ≡ record { next = 7; log = req 2 ∷ [] }
 row_6 = refl
+
+-- the greatest sync point of the changes of the greatest last normal view, whoever told it
+row_7 : start_point (change_at 1 0 (view 1 1) 3 (req 1 ∷ req 2 ∷ []) ∷ change_at 3 1 (view 0 1) 9 (NoOp ∷ NoOp ∷ NoOp ∷ []) ∷ change_at
+    2 2 (view 1 1) 3 (req 1 ∷ req 2 ∷ []) ∷ []) ≡ 2
+row_7 = refl

@@ -24,6 +24,14 @@ abbrev pub greatest_next : List Change → ℕ
 greatest_next [] = 0
 greatest_next (c ∷ cs) = max c.next (greatest_next cs)
 
+abbrev pub greatest_point : List Change → ℕ
+greatest_point [] = 0
+greatest_point (c ∷ cs) = max c.sync_point (greatest_point cs)
+
+-- the sync point of the log that a view is started with: the greatest one of the kept logs
+abbrev pub start_point : List Change → ℕ
+start_point cs = greatest_point (kept cs)
+
 -- what the view w is started with: the merge of the kept logs, and their greatest next number where they come from its session
 abbrev pub start_of : View → List Change → Start
 start_of w cs = record { next = cond ((greatest cs).session == w.session) (greatest_next (kept cs)) 1; log = merge (kept cs) }

@@ -4,8 +4,9 @@ ghost use Rattle.nop_types.specs.declared.request.Entry.TheVariants.{NoOp, Req};
 ghost use Rattle.nop_types.specs.declared.peer.Change.{Change};
 ghost use Rattle.std.specs.List.{AllByRecursion};
 ghost use Rattle.nop_types.specs.Lists.{IsGreatest, slot_of};
-ghost use Rattle.nop_types.specs.Ranges.{LogFits, ChangeFits};
+ghost use Rattle.nop_types.specs.Ranges.{LogFits, ToldFits, ChangeFits};
 ghost use Rattle.log_merge.specs.Merge.{merge};
+ghost use Rattle.log_merge.specs.Starting.{greatest_point};
 ghost use Rattle.log_merge.specs.Merged.{HasNoOp, HasLowest, HasDistinctSenders, TellSame};
 
 /// A merge is as long as the longest log. It has a NO-OP exactly where a log has one, and a request exactly where no log has a
@@ -26,10 +27,11 @@ pub fn merge_is_of_pairs()
         merge cs ≡ merge ds }
 {}
 
-/// The entries of a merge are in their ranges where those of all logs are.
+/// The entries of a merge are in their ranges where those of all logs are, and the greatest of the sync points is within it.
 #[tactic(auto, using(crate::proofs::InRanges::merge_fits, crate::proofs::InRanges::merge_of_changes_fits))]
 pub fn merge_is_in_ranges()
     ensures logs { (cs : List Change) → AllByRecursion (λ c. LogFits c.log) cs
         → LogFits (merge cs) }
-    ensures changes { (cs : List Change) → AllByRecursion ChangeFits cs → LogFits (merge cs) }
+    ensures changes { (cs : List Change) → AllByRecursion ChangeFits cs
+        → ToldFits (greatest_point cs) (merge cs) }
 {}

@@ -3,15 +3,16 @@
 //! A merged log is as long as the longest. A slot has a NO-OP exactly where one of the logs has one
 //! there; where the senders are distinct, any other slot has the request of the lowest sender whose
 //! log has the slot (`merge_by_slot`), and the merge depends on the pairs of sender and log alone,
-//! not on their order (`merge_is_of_pairs`). It is in its ranges where the logs are
-//! (`merge_is_in_ranges`).
+//! not on their order (`merge_is_of_pairs`). It is in its ranges where the logs are, and the
+//! greatest of their sync points is within it (`merge_is_in_ranges`).
 //!
 //! Calls, for `view_change`: `merge_of_view` merges the changes with one last normal view;
 //! `merge_moved` gives the same and moves the entries instead of copying them. `merge` takes all
 //! changes.
 //!
 //! Files: `merging` (slot by slot), `moving` (two logs at a time). Definitions: `specs/Merge`,
-//! `Merged` (what the laws say), and `Starting`: `start_of`, the rule by which a view is started.
+//! `Merged` (what the laws say), and `Starting`: `start_of` and `start_point`, the rule by which a
+//! view is started.
 #![tactic(auto)]
 
 mod laws;

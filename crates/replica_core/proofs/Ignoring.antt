@@ -96,12 +96,12 @@ body_rests m p (bodies.SlotLookup k) s of e = not_in_view m p.sender p.view (bod
 body_rests m p (bodies.Found k r) s of e = not_in_view m p.sender p.view (bodies.Found k r) s e
 body_rests m p (bodies.GapCommit k) s of e = not_in_view m p.sender p.view (bodies.GapCommit k) s e
 body_rests m p (bodies.GapRep k) s of e = not_in_view m p.sender p.view (bodies.GapRep k) s e
-body_rests m p (bodies.SyncPrepare l) s of e = not_in_view m p.sender p.view (bodies.SyncPrepare l) s e
+body_rests m p (bodies.SyncPrepare z l) s of e = not_in_view m p.sender p.view (bodies.SyncPrepare z l) s e
 body_rests m p (bodies.SyncRep k) s of e = not_in_view m p.sender p.view (bodies.SyncRep k) s e
 body_rests m p (bodies.SyncCommit k) s of e = not_in_view m p.sender p.view (bodies.SyncCommit k) s e
 body_rests m p bodies.ViewChangeReq s of e = absurd cc
-body_rests m p (bodies.ViewChange u x l) s of e = absurd cc
-body_rests m p (bodies.StartView x l) s of e = absurd cc
+body_rests m p (bodies.ViewChange u x z l) s of e = absurd cc
+body_rests m p (bodies.StartView x z l) s of e = absurd cc
 
 when_rests : (s : ReplicaState) (f : ReplicaState → Effect) (b : Bool) → f s ≡ still s → when b f s ≡ still s
 when_rests s f true e = e
@@ -147,10 +147,10 @@ pub found_rests : {S : Type 0} (m : Meaning S) (s : ReplicaState) (k : ℕ) (r :
 unfolding found
 found_rests m s k r full = no_message s _ ((k == length s.log + 1) && may_append s) (back_fails (k == length s.log + 1) (may_append s) full)
 
-pub prepare_rests : {S : Type 0} (m : Meaning S) (s : ReplicaState) (l : List Entry) → NUMBER_END < s.next + (length l - length s.log)
-    → sync_prepare m l s ≡ still s
+pub prepare_rests : {S : Type 0} (m : Meaning S) (s : ReplicaState) (z : ℕ) (l : List Entry)
+    → NUMBER_END < s.next + (length l - length s.log) → sync_prepare m z l s ≡ still s
 unfolding sync_prepare
-prepare_rests m s l past =
+prepare_rests m s z l past =
     no_message s _ (nat_le (s.next + (length l - length s.log)) NUMBER_END) (above NUMBER_END (s.next + (length l - length s.log)) past)
 
 pub begin_rests : {S : Type 0} (m : Meaning S) (s : ReplicaState) → NUMBER_END ≤ s.next → begin_gap m s ≡ still s

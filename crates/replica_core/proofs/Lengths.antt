@@ -11,8 +11,9 @@ use Rattle.nop_types.specs.declared.peer.Body.{Body}
 use Rattle.nop_types.specs.declared.peer.Body.TheVariants as bodies
 use Rattle.fragments.proofs.Limits.{has_cut}
 use Rattle.fragments.specs.Cutting.{HasNoCut}
-use Rattle.peer_codec.specs.Spelling.{entry_bytes, log_bytes, body_bytes, spelling}
-use Rattle.peer_codec.proofs.SpelledLengths.{request_len, log_len, number_len, found_len, start_view_len, view_change_len, spelling_len}
+use Rattle.peer_codec.specs.Spelling.{entry_bytes, entries_bytes, body_bytes, spelling}
+use Rattle.peer_codec.proofs.SpelledLengths.{request_len, entries_len, number_len, found_len, start_view_len, view_change_len}
+use Rattle.peer_codec.proofs.SpelledLengths.{sync_prepare_len, spelling_len}
 
 entry_most : (e : Entry) → EntryFits e → length (entry_bytes e) ≤ 15 + MAX_OP_BYTES
 entry_most NoOp fits = omega arith
@@ -30,17 +31,17 @@ entries_most (e ∷ log) fits =
     let sum = sum_by-cons (λ x. length (entry_bytes x)) e log in
     omega (arith, first, rest, sum)
 
-log_most : (log : List Entry) → LogFits log → length (log_bytes log) ≤ 4 + MAX_SLOTS * (15 + MAX_OP_BYTES)
+log_most : (log : List Entry) → LogFits log → length (entries_bytes log) ≤ 4 + MAX_SLOTS * (15 + MAX_OP_BYTES)
 log_most log fits =
-    let exact = log_len log in
+    let exact = entries_len log in
     let each = entries_most log fits.each in
     let few = fits.len in
     omega (arith, exact, each, few)
 
-small : (n : ℕ) → n ≡ 4 → n ≤ 20 + MAX_SLOTS * (15 + MAX_OP_BYTES)
+small : (n : ℕ) → n ≡ 4 → n ≤ 24 + MAX_SLOTS * (15 + MAX_OP_BYTES)
 small n is = omega (arith, is)
 
-body_most : (body : Body) → BodyFits body → length (body_bytes body) ≤ 20 + MAX_SLOTS * (15 + MAX_OP_BYTES)
+body_most : (body : Body) → BodyFits body → length (body_bytes body) ≤ 24 + MAX_SLOTS * (15 + MAX_OP_BYTES)
 body_most (bodies.SlotLookup slot) fits = small _ (number_len slot)
 body_most (bodies.Found slot r) fits =
     let exact = found_len slot r in
@@ -50,15 +51,18 @@ body_most (bodies.Found slot r) fits =
 body_most (bodies.GapCommit slot) fits = small _ (number_len slot)
 body_most (bodies.GapRep slot) fits = small _ (number_len slot)
 body_most bodies.ViewChangeReq fits = omega arith
-body_most (bodies.ViewChange last_normal next log) fits =
-    let exact = view_change_len last_normal next log in
+body_most (bodies.ViewChange last_normal next sync_point log) fits =
+    let exact = view_change_len last_normal next sync_point log in
+    let most = log_most log fits.told.entries in
+    omega (arith, exact, most)
+body_most (bodies.StartView next sync_point log) fits =
+    let exact = start_view_len next sync_point log in
+    let most = log_most log fits.told.entries in
+    omega (arith, exact, most)
+body_most (bodies.SyncPrepare sync_point log) fits =
+    let exact = sync_prepare_len sync_point log in
     let most = log_most log fits.entries in
     omega (arith, exact, most)
-body_most (bodies.StartView next log) fits =
-    let exact = start_view_len next log in
-    let most = log_most log fits.entries in
-    omega (arith, exact, most)
-body_most (bodies.SyncPrepare log) fits = let most = log_most log fits in omega (arith, most)
 body_most (bodies.SyncRep len) fits = small _ (number_len len)
 body_most (bodies.SyncCommit len) fits = small _ (number_len len)
 

@@ -45,12 +45,12 @@ is_of_view (bodies.SlotLookup k) = true
 is_of_view (bodies.Found k r) = true
 is_of_view (bodies.GapCommit k) = true
 is_of_view (bodies.GapRep k) = true
-is_of_view (bodies.SyncPrepare l) = true
+is_of_view (bodies.SyncPrepare z l) = true
 is_of_view (bodies.SyncRep k) = true
 is_of_view (bodies.SyncCommit k) = true
 is_of_view bodies.ViewChangeReq = false
-is_of_view (bodies.ViewChange u x l) = false
-is_of_view (bodies.StartView x l) = false
+is_of_view (bodies.ViewChange u x z l) = false
+is_of_view (bodies.StartView x z l) = false
 
 abbrev pub Rests : {S : Type 0} → Meaning S → ReplicaState → Peer → Type 0
 Rests m s p = arrive m s (Told p) ≡ still s

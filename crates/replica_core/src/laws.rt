@@ -39,8 +39,8 @@ pub fn rows_rest_at_limits<S>()
         length s.log < k → gap_commit m k s ≡ still s }
     ensures found { (m : Meaning S) (s : ReplicaState) (k : ℕ) (r : Request) →
         may_append s ≡ false → found m k r s ≡ still s }
-    ensures prepare { (m : Meaning S) (s : ReplicaState) (l : List Entry) →
-        NUMBER_END < s.next + (length l - length s.log) → sync_prepare m l s ≡ still s }
+    ensures prepare { (m : Meaning S) (s : ReplicaState) (z : ℕ) (l : List Entry) →
+        NUMBER_END < s.next + (length l - length s.log) → sync_prepare m z l s ≡ still s }
     ensures begin { (m : Meaning S) (s : ReplicaState) → NUMBER_END ≤ s.next →
         begin_gap m s ≡ still s }
     ensures commit { (m : Meaning S) (s : ReplicaState) (k : ℕ) → s.sync.prepared < k →

@@ -2,7 +2,7 @@
 use Rattle.std.proofs.Common.{◌≡◌, ℕ, zero, suc, ◌+◌, ◌≤◌, ◌<◌, List, [], ◌∷◌, ◌++◌, length, take, drop, refl, sym, ap, ◌∙◌, arith}
 use Rattle.std.proofs.Common.{append-nil, append_assoc, length-append}
 use Rattle.std.specs.Prelude.{◌-◌, slice_get, slice_set}
-use Rattle.std.proofs.lemmas.List.{length-take-le, length-drop}
+use Rattle.std.proofs.lemmas.List.{length-take-le, length-drop, take-append-drop}
 use Rattle.nop_types.specs.declared.request.Entry.{Entry}
 use Rattle.nop_types.specs.Lists.{slot_of}
 use Rattle.nop_types.specs.Slots.{laid}
@@ -46,6 +46,10 @@ all_kept n own l h = sym (append-nil (take n own)) ∙ ap (λ (t : List Entry). 
 pub kept_in_front : (n : ℕ) (own l : List Entry) → n ≤ length own
     → take n own ++ drop (length (take n own)) l ≡ spliced n own l
 kept_in_front n own l h = ap (λ (i : ℕ). take n own ++ drop i l) (length-take-le n own h)
+
+-- where both logs agree up to the slot, it is the other one
+pub spliced_same : (n : ℕ) (own l : List Entry) → take n own ≡ take n l → spliced n own l ≡ l
+spliced_same n own l e = ap (λ (t : List Entry). t ++ drop n l) e ∙ take-append-drop n l
 
 -- ---- by slots
 

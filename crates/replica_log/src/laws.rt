@@ -26,7 +26,7 @@ pub fn laid_by_slot()
         ≡ slot_of k i }
 {}
 
-/// The slots of the own log up to slot n, and above it those of the other.
+/// The slots of the own log up to slot n, and above it those of the other. Where both agree up to slot n, that is the other log.
 pub fn spliced_by_slot()
     ensures len { (n : ℕ) (own l : List Entry) → n ≤ length own → length (spliced n own l)
         ≡ n + (length l - n) }
@@ -34,6 +34,7 @@ pub fn spliced_by_slot()
         slot_of (spliced n own l) i ≡ slot_of own i }
     ensures above { (n : ℕ) (own l : List Entry) (i : ℕ) → n ≤ length own → n < i →
         slot_of (spliced n own l) i ≡ slot_of l i }
+    ensures same { (n : ℕ) (own l : List Entry) → take n own ≡ take n l → spliced n own l ≡ l }
 {}
 
 /// A log whose entries are in their ranges stays so, whatever entries in their ranges come in.

@@ -2,7 +2,8 @@
 //!
 //! Each call gives what the list operation of its name gives: `append`, `at`, `put_noop`
 //! (`set_slot`), `adopt`, `overlay` (`laid`), `copy`. `adopt_above` and `overlay_above` take a log
-//! above a slot alone (`spliced`). On an error the log is as before.
+//! above a slot alone (`spliced`), and `agrees_with` says whether both logs are the same up to a
+//! slot. On an error the log is as before.
 //!
 //! Laws: `set_slot_by_slot`, `laid_by_slot` and `spliced_by_slot` say what each slot has then, and
 //! `log_stays_in_ranges` that entries stay in their ranges.

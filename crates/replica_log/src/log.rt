@@ -57,6 +57,30 @@ fn cloned(alloc: Global, entries: &[Entry]) -> Result<Vec<Entry>, NoMemory>
     Ok(copy)
 }
 
+fn is_same(entry: &Entry, other: &Entry) -> bool
+    ensures { IsTrue result ↔ (entry.now ≡ other.now) }
+{
+    match (entry, other) {
+        (Entry::NoOp, Entry::NoOp) => true,
+        (Entry::Req(a), Entry::Req(b)) => {
+            a.client == b.client && a.id == b.id && a.op.as_slice() == b.op.as_slice()
+        }
+        _ => false,
+    }
+}
+
+fn are_same(entries: &[Entry], others: &[Entry]) -> bool
+    requires { length entries.now ≡ length others.now }
+    ensures { IsTrue result ↔ (entries.now ≡ others.now) }
+{
+    for at in 0..entries.len() {
+        if !is_same(&entries[at], &others[at]) {
+            return false;
+        }
+    }
+    true
+}
+
 /// Puts the entries of `more` in the place of as many after the first `at`.
 fn replace_at(entries: &mut Vec<Entry>, at: usize, mut more: Vec<Entry>)
     requires { length more.items + at ≤ length entries.old.items }
@@ -114,6 +138,16 @@ impl ReplicaLog {
     {
         let place = slot.checked_sub(1)?;
         self.entries.get(place as usize)
+    }
+
+    /// Whether the entries up to a slot are those of another log.
+    pub fn agrees_with(&self, log: &Log, slot: u32) -> bool
+        requires own { slot ≤ length self.now }
+        requires other { slot ≤ length log.now }
+        ensures { IsTrue result ↔ (take slot self.now ≡ take slot log.now) }
+    {
+        let len = slot as usize;
+        are_same(&self.entries[..len], &log.as_slice()[..len])
     }
 
     pub fn append(&mut self, entry: Entry) -> Result<(), NoMemory>

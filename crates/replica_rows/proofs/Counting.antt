@@ -1,7 +1,7 @@
 -- How many messages a row sends to other replicas, and that it keeps the configuration.
 use Rattle.std.proofs.Common.{◌≡◌, ◌==◌, ◌≤◌, ℕ, zero, suc, ◌+◌, ◌-◌, Bool, true, false, Option, Some, None, refl, sym, ap, subst, ◌∙◌}
 use Rattle.std.proofs.Common.{arith, List, [], ◌∷◌, ◌++◌, length, drop, zero-add}
-use Rattle.std.specs.Prelude.{not, nat_le, nat_lt, ◌&&◌}
+use Rattle.std.specs.Prelude.{not, max, nat_le, nat_lt, ◌&&◌}
 use Rattle.std.proofs.lemmas.Bool.Decides.{nat_tests}
 use Rattle.nop_types.specs.declared.limits.TheConstants.{NUMBER_END}
 use Rattle.nop_types.specs.Execution.{result_at}
@@ -23,7 +23,7 @@ use Rattle.nop_types.specs.declared.peer.Peer.{Peer}
 use Rattle.nop_types.specs.declared.peer.Body.{Body}
 use Rattle.nop_types.specs.declared.peer.Body.TheVariants as bodies
 use Rattle.gap_agree.specs.Agreement.{Agreement}
-use Rattle.log_merge.specs.Starting.{start_of}
+use Rattle.log_merge.specs.Starting.{start_of, start_point}
 use Rattle.oum_receiver.specs.Front.{Front, Nothing, Message, Dropped}
 use Rattle.oum_receiver.specs.Receiving.{front_of}
 use Rattle.slot_lookup.specs.Answer.{Answer, Found, GapAgain, Begin, answer_of}
@@ -219,21 +219,21 @@ enter_few : (s : ReplicaState) (v : View) → Few 2 s (enter s v)
 unfolding enter
 enter_few s v = same refl (enter_as_few (leads (entered s v)) (entered s v))
 
-adopt_few : {S : Type 0} (m : Meaning S) (s : ReplicaState) (v : View) (x : ℕ) (l : List Entry) → Few 1 s (adopt m s v x l)
+adopt_few : {S : Type 0} (m : Meaning S) (s : ReplicaState) (v : View) (x z : ℕ) (l : List Entry) → Few 1 s (adopt m s v x z l)
 unfolding adopt
-adopt_few m s v x l =
-    let none = above_none m (adopted s v x l) s.sync.sync_point in
+adopt_few m s v x z l =
+    let none = above_none m (adopted s v x z l) (adopted s v x z l).sync.sync_point in
     and_drain m 0 (record { few = omega (arith, none); config = refl })
 
-open_with_few : {S : Type 0} (m : Meaning S) (s : ReplicaState) (x : ℕ) (l : List Entry) → Few 2 s (open_with m s x l)
-open_with_few m s x l =
-    then_few (λ t. adopt m t t.view x l) 1 1 2 (omega arith) (all_few s s (bodies.StartView x l) refl) (adopt_few m s s.view x l)
+open_with_few : {S : Type 0} (m : Meaning S) (s : ReplicaState) (x z : ℕ) (l : List Entry) → Few 2 s (open_with m s x z l)
+open_with_few m s x z l =
+    then_few (λ t. adopt m t t.view x z l) 1 1 2 (omega arith) (all_few s s (bodies.StartView x z l) refl) (adopt_few m s s.view x z l)
 
 open_if_few : {S : Type 0} (m : Meaning S) (o : Option Gathering) (s : ReplicaState) → Few 2 s (open_if_enough m o s)
 open_if_few m None s = still_few 2 s
 open_if_few m (Some g) s =
     when_few 2 (nat_lt g.f (length g.changes)) (open_view m g) s
-    (open_with_few m s (start_of g.view g.changes).next (start_of g.view g.changes).log)
+    (open_with_few m s (start_of g.view g.changes).next (start_point g.changes) (start_of g.view g.changes).log)
 
 enter_view_few : {S : Type 0} (m : Meaning S) (s : ReplicaState) (v : View) → Few 4 s (rows.enter_view m v s)
 unfolding rows.enter_view
@@ -273,10 +273,10 @@ view_change_few m s v c =
     then_few (rows.take_change m v c) 5 2 7 (omega arith) (request_few m s v)
     (when_few 2 (is_view v t.view && leads t) _ t (gather_by_few m t.status c t))
 
-start_view_few : {S : Type 0} (m : Meaning S) (s : ReplicaState) (q : ℕ) (v : View) (x : ℕ) (l : List Entry)
-    → Few 1 s (rows.start_view m q v x l s)
+start_view_few : {S : Type 0} (m : Meaning S) (s : ReplicaState) (q : ℕ) (v : View) (x z : ℕ) (l : List Entry)
+    → Few 1 s (rows.start_view m q v x z l s)
 unfolding rows.start_view
-start_view_few m s q v x l = when_few 1 (may_adopt s q v l) _ s (adopt_few m s v x l)
+start_view_few m s q v x z l = when_few 1 (may_adopt s q v l) _ s (adopt_few m s v x z l)
 
 gap_commit_if_few : {S : Type 0} (m : Meaning S) (a b : Bool) (k : ℕ) (s : ReplicaState) → Few 2 s (rows.gap_commit_if m a b k s)
 gap_commit_if_few m true b k s = and_drain m 1 (leader_few s (write_gap (hear s) k).0 (hear s) (bodies.GapRep k) refl)
@@ -294,18 +294,19 @@ found_few m k r s =
     let t : ReplicaState = appended (hear s) (Req r) in
     when_few 1 ((k == length s.log + 1) && may_append s) _ s (and_drain m 0 (replied_few m s t (length s.log + 1) r refl))
 
-overlay_few : {S : Type 0} (m : Meaning S) (s : ReplicaState) (l : List Entry) → Few 1 s (overlay m s l)
+overlay_few : {S : Type 0} (m : Meaning S) (s : ReplicaState) (z : ℕ) (l : List Entry) → Few 1 s (overlay m s z l)
 unfolding overlay
-overlay_few m s l =
-    let none = above_none m (overlaid s l) (length s.log) in
-    let sum = count_append (replies_above m (overlaid s l) (length s.log)) (to_leader s (bodies.SyncRep (length l))) in
+overlay_few m s z l =
+    let from : ℕ = max (length s.log) (overlaid s z l).sync.sync_point in
+    let none = above_none m (overlaid s z l) from in
+    let sum = count_append (replies_above m (overlaid s z l) from) (to_leader s (bodies.SyncRep (length l))) in
     record { few = omega (arith, none, sum); config = refl }
 
-prepare_few : {S : Type 0} (m : Meaning S) (l : List Entry) (s : ReplicaState) → Few 2 s (rows.sync_prepare m l s)
+prepare_few : {S : Type 0} (m : Meaning S) (z : ℕ) (l : List Entry) (s : ReplicaState) → Few 2 s (rows.sync_prepare m z l s)
 unfolding rows.sync_prepare
-prepare_few m l s =
-    when_few 2 (nat_le (s.next + (length l - length s.log)) NUMBER_END) (λ t. then_do (overlay m (hear t) l) (drain m)) s
-    (and_drain m 1 (same refl (overlay_few m (hear s) l)))
+prepare_few m z l s =
+    when_few 2 (nat_le (s.next + (length l - length s.log)) NUMBER_END) (λ t. then_do (overlay m (hear t) z l) (drain m)) s
+    (and_drain m 1 (same refl (overlay_few m (hear s) z l)))
 
 commit_few : (k : ℕ) (s : ReplicaState) → Few 0 s (sync_commit k s)
 unfolding sync_commit
@@ -355,14 +356,14 @@ sync_reply_few m q k s =
 from_leader_few : {S : Type 0} (m : Meaning S) (body : Body) (s : ReplicaState) → Few 2 s (from_leader m body s)
 from_leader_few m (bodies.GapCommit k) s = gap_commit_few m k s
 from_leader_few m (bodies.Found k r) s = more 1 2 (omega arith) (found_few m k r s)
-from_leader_few m (bodies.SyncPrepare l) s = prepare_few m l s
+from_leader_few m (bodies.SyncPrepare z l) s = prepare_few m z l s
 from_leader_few m (bodies.SyncCommit k) s = more 1 2 (omega arith) (commit_row_few m k s)
 from_leader_few m (bodies.SlotLookup k) s = still_few 2 s
 from_leader_few m (bodies.GapRep k) s = still_few 2 s
 from_leader_few m (bodies.SyncRep k) s = still_few 2 s
 from_leader_few m bodies.ViewChangeReq s = still_few 2 s
-from_leader_few m (bodies.ViewChange u x l) s = still_few 2 s
-from_leader_few m (bodies.StartView x l) s = still_few 2 s
+from_leader_few m (bodies.ViewChange u x z l) s = still_few 2 s
+from_leader_few m (bodies.StartView x z l) s = still_few 2 s
 
 from_follower_few : {S : Type 0} (m : Meaning S) (q : ℕ) (body : Body) (s : ReplicaState) → Few 2 s (from_follower m q body s)
 from_follower_few m q (bodies.SlotLookup k) s = lookup_few m q k s
@@ -370,11 +371,11 @@ from_follower_few m q (bodies.GapRep k) s = more 1 2 (omega arith) (gap_reply_fe
 from_follower_few m q (bodies.SyncRep k) s = sync_reply_few m q k s
 from_follower_few m q (bodies.GapCommit k) s = still_few 2 s
 from_follower_few m q (bodies.Found k r) s = still_few 2 s
-from_follower_few m q (bodies.SyncPrepare l) s = still_few 2 s
+from_follower_few m q (bodies.SyncPrepare z l) s = still_few 2 s
 from_follower_few m q (bodies.SyncCommit k) s = still_few 2 s
 from_follower_few m q bodies.ViewChangeReq s = still_few 2 s
-from_follower_few m q (bodies.ViewChange u x l) s = still_few 2 s
-from_follower_few m q (bodies.StartView x l) s = still_few 2 s
+from_follower_few m q (bodies.ViewChange u x z l) s = still_few 2 s
+from_follower_few m q (bodies.StartView x z l) s = still_few 2 s
 
 by_role_few : {S : Type 0} (m : Meaning S) (a b : Bool) (q : ℕ) (body : Body) (s : ReplicaState) → Few 8 s (by_role m a b q body s)
 by_role_few m true b q body s = more 2 8 (omega arith) (from_leader_few m body s)
@@ -386,11 +387,11 @@ in_view_few m q v body s = by_role_few m (is_from_leader s v q) (is_to_leader s 
 
 on_body_few : {S : Type 0} (m : Meaning S) (p : Peer) (body : Body) (s : ReplicaState) → Few 8 s (on_body m p body s)
 on_body_few m p bodies.ViewChangeReq s = more 5 8 (omega arith) (request_few m s p.view)
-on_body_few m p (bodies.ViewChange u x l) s = more 7 8 (omega arith) (view_change_few m s p.view _)
-on_body_few m p (bodies.StartView x l) s = more 1 8 (omega arith) (start_view_few m s p.sender p.view x l)
+on_body_few m p (bodies.ViewChange u x z l) s = more 7 8 (omega arith) (view_change_few m s p.view _)
+on_body_few m p (bodies.StartView x z l) s = more 1 8 (omega arith) (start_view_few m s p.sender p.view x z l)
 on_body_few m p (bodies.GapCommit k) s = in_view_few m p.sender p.view (bodies.GapCommit k) s
 on_body_few m p (bodies.Found k r) s = in_view_few m p.sender p.view (bodies.Found k r) s
-on_body_few m p (bodies.SyncPrepare l) s = in_view_few m p.sender p.view (bodies.SyncPrepare l) s
+on_body_few m p (bodies.SyncPrepare z l) s = in_view_few m p.sender p.view (bodies.SyncPrepare z l) s
 on_body_few m p (bodies.SyncCommit k) s = in_view_few m p.sender p.view (bodies.SyncCommit k) s
 on_body_few m p (bodies.SlotLookup k) s = in_view_few m p.sender p.view (bodies.SlotLookup k) s
 on_body_few m p (bodies.GapRep k) s = in_view_few m p.sender p.view (bodies.GapRep k) s
@@ -435,7 +436,7 @@ unfolding resend
 resend_few s = resend_by_few s.status (leads s) s
 
 sync_if_few : (b : Bool) (s : ReplicaState) → Few 1 s (sync_if b s)
-sync_if_few true s = all_few s (open_sync s).0 (bodies.SyncPrepare s.log) refl
+sync_if_few true s = all_few s (open_sync s).0 (bodies.SyncPrepare s.sync.sync_point s.log) refl
 sync_if_few false s = all_few s s (bodies.SyncCommit s.sync.sync_point) refl
 
 sync_few : (s : ReplicaState) → Few 1 s (sync s)

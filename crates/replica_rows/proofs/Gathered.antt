@@ -33,13 +33,13 @@ told_left true s o body = refl
 told_left false s o body = refl
 
 -- what was gathered has no part in how a view is opened
-opens_left : {S : Type 0} (m : Meaning S) (s : ReplicaState) (o : Option Gathering) (n : ℕ) (l : List Entry)
-    → open_with m (record s { changes = o }) n l ≡ open_with m (record s { changes = None }) n l
+opens_left : {S : Type 0} (m : Meaning S) (s : ReplicaState) (o : Option Gathering) (n z : ℕ) (l : List Entry)
+    → open_with m (record s { changes = o }) n z l ≡ open_with m (record s { changes = None }) n z l
 unfolding adopt
-opens_left m s o n l =
+opens_left m s o n z l =
     let t : ReplicaState = record s { changes = None } in
-    ap (λ (sends : List Sending). ((adopt m t t.view n l).0, sends ++ (adopt m t t.view n l).1))
-    (told_left (others s == 0) s o (bodies.StartView n l))
+    ap (λ (sends : List Sending). ((adopt m t t.view n z l).0, sends ++ (adopt m t t.view n z l).1))
+    (told_left (others s == 0) s o (bodies.StartView n z l))
 
 pub gathers_taken : {S : Type 0} (m : Meaning S) (s t : ReplicaState) (o : Option Gathering) (c : Change) (start : Start) → o ≡ s.changes
     → IsWithin s → ChangeFits c → t ≡ record s { changes = None } → step_by o c ≡ Started start → Gathers m s t c start
@@ -49,9 +49,9 @@ gathers_taken m s t (Some g) c start e w fits left step =
     let begun = gathers m s k (Some g) c start e w fits refl step in
     record {
       next = begun.next;
-      log = begun.log;
+      told = begun.told;
       row =
           begun.row
-          ∙ opens_left m s (Some (counted g c)) start.next start.log
-          ∙ ap (λ (p : ReplicaState). open_with m p start.next start.log) (sym left);
+          ∙ opens_left m s (Some (counted g c)) start.next start.sync_point start.log
+          ∙ ap (λ (p : ReplicaState). open_with m p start.next start.sync_point start.log) (sym left);
     }

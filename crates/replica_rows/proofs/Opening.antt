@@ -10,10 +10,10 @@ use Rattle.std.proofs.lemmas.Option.{same_Some}
 use Rattle.nop_types.specs.declared.limits.TheConstants.{NUMBER_END}
 use Rattle.nop_types.specs.declared.view.View.{View}
 use Rattle.nop_types.specs.declared.peer.Change.{Change}
-use Rattle.nop_types.specs.Ranges.{ChangeFits, NextFits, LogFits}
+use Rattle.nop_types.specs.Ranges.{ChangeFits, NextFits, ToldFits}
 use Rattle.nop_types.specs.Views.{is_view, outranks}
 use Rattle.nop_types.specs.Meaning.{Meaning}
-use Rattle.log_merge.specs.Starting.{greatest, greatest_next, kept, start_of}
+use Rattle.log_merge.specs.Starting.{greatest, greatest_next, kept, start_of, start_point}
 use Rattle.log_merge.proofs.InRanges.{merge_of_changes_fits}
 use Rattle.view_change.specs.Gathering.{Gathering, started, counted, has_sender, step_of}
 use Rattle.view_change.specs.declared.starting.Step.TheVariants.{Started, Waiting}
@@ -92,8 +92,8 @@ opened_next_fits w (c ∷ cs) h some = at ((greatest (c ∷ cs)).session == w.se
     }
     at false = record { low = omega arith; high = omega arith }
 
-pub opened_log_fits : (w : View) (cs : List Change) → AllByRecursion ChangeFits cs → LogFits (start_of w cs).log
-opened_log_fits w cs h = merge_of_changes_fits (kept cs) (filter_all ChangeFits (λ d. is_view d.last_normal (greatest cs)) cs h)
+pub opened_told_fits : (w : View) (cs : List Change) → AllByRecursion ChangeFits cs → ToldFits (start_point cs) (start_of w cs).log
+opened_told_fits w cs h = merge_of_changes_fits (kept cs) (filter_all ChangeFits (λ d. is_view d.last_normal (greatest cs)) cs h)
 
 -- ---- entering a view
 
@@ -143,19 +143,19 @@ module _ {S : Type 0} (m : Meaning S) where
 
   -- the same, with what the code has after each part
   pub opens_alone : (s t p : ReplicaState) (v : View) (g : Gathering) (start : Start) → t ≡ (enter s v).0 → t.changes ≡ Some g → g.f ≡ 0
-      → p ≡ t → start ≡ started (start_of g.view g.changes)
-      → enter_view m v s ≡ then_do (enter s v) (λ _. open_with m p start.next start.log)
+      → p ≡ t → start ≡ started g.view g.changes
+      → enter_view m v s ≡ then_do (enter s v) (λ _. open_with m p start.next start.sync_point start.log)
   opens_alone s t p v g start e is none same begins =
       enters_alone s v g (ap (λ (q : ReplicaState). q.changes) (sym e) ∙ is) none
       ∙ ap (λ (x : Effect). (x.0, (enter s v).1 ++ x.1))
-      (ap (λ (q : ReplicaState). open_view m g q) (sym e ∙ sym same) ∙ ap (λ (b : Start). open_with m p b.next b.log) (sym begins))
+      (ap (λ (q : ReplicaState). open_view m g q) (sym e ∙ sym same) ∙ ap (λ (b : Start). open_with m p b.next b.sync_point b.log) (sym begins))
 
 pub start_fits : (g : Gathering) (start : Start) → AllByRecursion ChangeFits g.changes → 0 < length g.changes
-    → start ≡ started (start_of g.view g.changes) → NextFits start.next × LogFits start.log
+    → start ≡ started g.view g.changes → NextFits start.next × ToldFits start.sync_point start.log
 start_fits g start all some begins =
-    let fits : NextFits (started (start_of g.view g.changes)).next × LogFits (started (start_of g.view g.changes)).log =
-    (opened_next_fits g.view g.changes all some, opened_log_fits g.view g.changes all) in
-    subst (λ (b : Start). NextFits b.next × LogFits b.log) (sym begins) fits
+    let fits : NextFits (started g.view g.changes).next × ToldFits (started g.view g.changes).sync_point (started g.view g.changes).log =
+    (opened_next_fits g.view g.changes all some, opened_told_fits g.view g.changes all) in
+    subst (λ (b : Start). NextFits b.next × ToldFits b.sync_point b.log) (sym begins) fits
 
 -- what is put back after a look
 pub put_back : (t : ReplicaState) (g h : Gathering) → h ≡ g → t.changes ≡ Some g → record t { changes = Some h } ≡ t
@@ -181,7 +181,7 @@ begun_by false s start e = absurd cc
 
 -- a view starts where enough changes are there, with what they make
 pub begins : (g : Gathering) (start : Start) → step_of g ≡ Started start
-    → (g.f < length g.changes) × (start ≡ started (start_of g.view g.changes))
+    → (g.f < length g.changes) × (start ≡ started g.view g.changes)
 begins g start e = let r = begun_by (nat_lt g.f (length g.changes)) _ start e in (ltb-true _ _ r.0, r.1)
 
 waiting_by : (b : Bool) (s : Start) → cond b (Started s) Waiting ≡ Waiting → b ≡ false
@@ -191,8 +191,8 @@ waiting_by false s e = refl
 -- what is gathered where a view starts with a change
 pub record Gathers {S : Type 0} (m : Meaning S) (s t : ReplicaState) (c : Change) (start : Start) : Type 0 where
   pub next : NextFits start.next
-  pub log : LogFits start.log
-  pub row : gather m s.changes c s ≡ open_with m t start.next start.log
+  pub told : ToldFits start.sync_point start.log
+  pub row : gather m s.changes c s ≡ open_with m t start.next start.sync_point start.log
 
 module _ {S : Type 0} (m : Meaning S) where
   pub gathers : (s t : ReplicaState) (o : Option Gathering) (c : Change) (start : Start) → o ≡ s.changes → IsWithin s → ChangeFits c
@@ -205,12 +205,12 @@ module _ {S : Type 0} (m : Meaning S) where
       let k : ReplicaState = (keep_change s g c).0 in
       record {
         next = fit.0;
-        log = fit.1;
+        told = fit.1;
         row =
             ap (λ (o : Option Gathering). gather m o c s) (sym e)
             ∙ ap (λ b. when b (open_view m (counted g c)) k) (lt-ltb _ _ enough.0)
-            ∙ ap (λ (b : Start). open_with m k b.next b.log) (sym enough.1)
-            ∙ ap (λ (p : ReplicaState). open_with m p start.next start.log) (sym kept);
+            ∙ ap (λ (b : Start). open_with m k b.next b.sync_point b.log) (sym enough.1)
+            ∙ ap (λ (p : ReplicaState). open_with m p start.next start.sync_point start.log) (sym kept);
       }
 
   -- and where it does not start yet

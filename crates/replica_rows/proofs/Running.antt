@@ -1,7 +1,7 @@
 -- Moves keep a replica's state within its ranges, and what was executed.
 use Rattle.std.proofs.Common.{◌≡◌, ◌<◌, ◌≤◌, ◌+◌, ◌-◌, ℕ, zero, suc, Bool, true, false, List, [], ◌∷◌, ◌++◌, length, take, refl, sym, ap}
 use Rattle.std.proofs.Common.{subst, ◌∙◌, arith, append_assoc, append-nil, length-append}
-use Rattle.std.specs.Prelude.{cond, not, ◌==◌, ◌&&◌, nat_le, nat_lt, IfSome}
+use Rattle.std.specs.Prelude.{cond, max, not, ◌==◌, ◌&&◌, nat_le, nat_lt, IfSome}
 use Rattle.std.specs.Prelude.{Option, Some, None, Result, Ok, Err, OnOk}
 use Rattle.std.specs.List.{AllByRecursion}
 use Rattle.std.proofs.lemmas.Bool.{ltb-true, and_parts}
@@ -12,7 +12,7 @@ use Rattle.nop_types.specs.declared.request.Request.{Request}
 use Rattle.nop_types.specs.declared.request.Entry.{Entry}
 use Rattle.nop_types.specs.declared.request.Entry.TheVariants.{NoOp, Req}
 use Rattle.nop_types.specs.Slots.{set_slot, laid}
-use Rattle.nop_types.specs.Ranges.{EntryFits, RequestFits, LogFits, SlotFits, ViewFits, NextFits, ChangeFits}
+use Rattle.nop_types.specs.Ranges.{EntryFits, RequestFits, LogFits, SlotFits, ViewFits, NextFits, ToldFits, ChangeFits}
 use Rattle.gap_agree.specs.Agreement.{Agreement, begun}
 use Rattle.gap_agree.specs.Votes.{vote_of}
 use Rattle.nop_types.specs.declared.replica_state.Vote.{Vote}
@@ -31,7 +31,7 @@ use Rattle.replica_log.proofs.Splices.{length-spliced}
 use Rattle.replica_log.specs.Splices.{spliced, noop_above}
 use Rattle.replica_state.specs.declared.state.ReplicaState.{ReplicaState}
 use Rattle.replica_state.specs.State.{may_append, drains, leads, others, waits, is_normal, unless_settled}
-use Rattle.replica_state.specs.Moves.{begin_session, appended, gap_opened, gap_written, ask_if, ask, logged, adopted, overlaid}
+use Rattle.replica_state.specs.Moves.{begin_session, appended, gap_opened, gap_written, ask_if, ask, logged, taken_log, adopted, overlaid}
 use Rattle.replica_state.specs.Moves.{hear, obey, sync_commit}
 use Rattle.replica_state.specs.Repeating.{sync_if, sync}
 use Rattle.replica_rows.specs.Keeping.{kept_by}
@@ -199,29 +199,71 @@ noop_within s k w =
       changes = w.changes;
     }
 
+-- ---- a log is told
+
+-- what is taken of it: in its ranges, with the sync point then, and no longer than the longer one of both
+pub record Taken (s : ReplicaState) (z : ℕ) (l : List Entry) : Type 0 where
+  pub log : LogFits (taken_log s z l)
+  pub own : s.sync.sync_point ≤ length (taken_log s z l)
+  pub told : z ≤ length (taken_log s z l)
+  pub longer : length l ≤ length (taken_log s z l)
+  pub len : length (taken_log s z l) ≤ max (length l) (length s.log)
+
+pub takes_told : (s : ReplicaState) (z : ℕ) (l : List Entry) → IsWithin s → ToldFits z l → Taken s z l
+takes_told s z l w told = at (nat_lt s.sync.sync_point z) refl
+  where
+    point : s.sync.sync_point ≤ length s.log
+    point = w.sync_point
+
+    within : z ≤ length l
+    within = told.point
+
+    taken : (n : ℕ) → n ≤ length s.log → spliced n s.log l ≡ taken_log s z l → s.sync.sync_point ≤ max n z → z ≤ max n (length l)
+        → Taken s z l
+    taken n there same own given =
+        let len = length-spliced n s.log l there in
+        let e = ap (λ (t : List Entry). length t) same in
+        record {
+          log = subst LogFits same (spliced_fits n s.log l there w.log told.entries);
+          own = omega (arith, len, e, own, within);
+          told = omega (arith, len, e, given);
+          longer = omega (arith, len, e);
+          len = omega (arith, len, e, there);
+        }
+
+    at : (b : Bool) → nat_lt s.sync.sync_point z ≡ b → Taken s z l
+    at true e =
+        taken 0 (omega arith) (ap (λ (b : Bool). spliced (cond b 0 s.sync.sync_point) s.log l) (sym e)) (grind (arith, nat_tests, e))
+        (omega (arith, within))
+    at false e =
+        taken s.sync.sync_point point (ap (λ (b : Bool). spliced (cond b 0 s.sync.sync_point) s.log l) (sym e)) (omega arith)
+        (grind (arith, nat_tests, e))
+
 -- ---- views
 
 from_next : (b : Bool) (r q : Receiving) (x : ℕ) → r.next ≡ x → q.next ≡ x → (cond b r q).next ≡ x
 from_next true r q x e f = e
 from_next false r q x e f = f
 
-pub adopted_within : (s : ReplicaState) (v : View) (x : ℕ) (l : List Entry) → IsWithin s → ViewFits v → NextFits x → LogFits l
-    → IsWithin (adopted s v x l)
-adopted_within s v x l w view next log =
+pub adopted_within : (s : ReplicaState) (v : View) (x z : ℕ) (l : List Entry) → IsWithin s → ViewFits v → NextFits x → ToldFits z l
+    → IsWithin (adopted s v x z l)
+adopted_within s v x z l w view next told =
     let low = next.low in
-    let len = length-spliced s.sync.sync_point s.log l w.sync_point in
+    let new = takes_told s z l w told in
+    let own = new.own in
+    let given = new.told in
     record {
       number = w.number;
       few = w.few;
       view = view;
       last_normal = view;
-      log = spliced_fits s.sync.sync_point s.log l w.sync_point w.log log;
+      log = new.log;
       next = next;
       base = omega arith;
       start = omega arith;
       receiver = λ _. from_next (nat_lt s.receiver.session v.session) _ _ x refl refl;
       gap = tt;
-      sync_point = omega (arith, len);
+      sync_point = omega (arith, own, given);
       syncing = tt;
       prepared = omega arith;
       changes = tt;
@@ -268,11 +310,11 @@ pub gathers_within : (s : ReplicaState) (g : Gathering) → IsWithin s → AllBy
     → IsWithin (record s { changes = Some g })
 gathers_within s g w fits = with_changes s (Some g) w fits
 
-taken_front : (i n : ℕ) (l : List Entry) → i ≤ n → take i (take n l) ≡ take i l
-taken_front zero n l h = refl
-taken_front (suc i) zero l h = absurd (omega (arith, h))
-taken_front (suc i) (suc n) [] h = refl
-taken_front (suc i) (suc n) (x ∷ l) h = ap (λ (t : List Entry). x ∷ t) (taken_front i n l (omega (arith, h)))
+front_of_front : (i n : ℕ) (l : List Entry) → i ≤ n → take i (take n l) ≡ take i l
+front_of_front zero n l h = refl
+front_of_front (suc i) zero l h = absurd (omega (arith, h))
+front_of_front (suc i) (suc n) [] h = refl
+front_of_front (suc i) (suc n) (x ∷ l) h = ap (λ (t : List Entry). x ∷ t) (front_of_front i n l (omega (arith, h)))
 
 -- what is kept in front of another log
 pub spliced_front : (i n : ℕ) (own l : List Entry) → i ≤ n → n ≤ length own → take i (spliced n own l) ≡ take i own
@@ -280,7 +322,7 @@ spliced_front zero n own l low high = refl
 spliced_front (suc i) zero own l low high = absurd (omega (arith, low))
 spliced_front (suc i) (suc n) [] l low high = absurd (omega (arith, high))
 spliced_front (suc i) (suc n) (y ∷ own) [] low high =
-    ap (λ (t : List Entry). y ∷ take i t) (append-nil (take n own)) ∙ ap (λ (t : List Entry). y ∷ t) (taken_front i n own (omega (arith, low)))
+    ap (λ (t : List Entry). y ∷ take i t) (append-nil (take n own)) ∙ ap (λ (t : List Entry). y ∷ t) (front_of_front i n own (omega (arith, low)))
 spliced_front (suc i) (suc n) (y ∷ own) (x ∷ l) low high =
     ap (λ (t : List Entry). y ∷ t) (spliced_front i n own l (omega (arith, low)) (omega (arith, high)))
 
@@ -296,32 +338,34 @@ laid_front (x ∷ l) (y ∷ k) (suc n) same le =
     let tails : take n l ≡ take n k = cc in
     ap (λ z. z ∷ take n (laid l k)) heads ∙ ap (λ t. y ∷ t) (laid_front l k n tails (omega (arith, le)))
 
-pub overlaid_within : (s : ReplicaState) (l : List Entry) → IsWithin s → LogFits l → s.next + (length l - length s.log) ≤ NUMBER_END
-    → IsWithin (overlaid s l)
-overlaid_within s l w fits high =
-    let new : List Entry = spliced s.sync.sync_point s.log l in
-    let some = w.sync_point in
-    let first = length-spliced s.sync.sync_point s.log l some in
-    let len = length-laid new s.log in
+pub overlaid_within : (s : ReplicaState) (z : ℕ) (l : List Entry) → IsWithin s → ToldFits z l
+    → s.next + (length l - length s.log) ≤ NUMBER_END → IsWithin (overlaid s z l)
+overlaid_within s z l w told high =
+    let new = takes_told s z l w told in
+    let given = new.told in
+    let most = new.len in
+    let longer = new.longer in
+    let len = length-laid (taken_log s z l) s.log in
     let low = w.next.low in
     let base = w.base in
     let start = w.start in
     let prepared = w.prepared in
-    let sync = sync_longer (length s.log) (length (laid new s.log)) s.sync (omega (arith, len)) (sync_of s w) in
+    let point = w.sync_point in
+    let sync = sync_longer (length s.log) (length (laid (taken_log s z l) s.log)) s.sync (omega (arith, len)) (sync_of s w) in
     record {
       number = w.number;
       few = w.few;
       view = w.view;
       last_normal = w.last_normal;
-      log = laid_fits new s.log (spliced_fits s.sync.sync_point s.log l some w.log fits) w.log;
+      log = laid_fits (taken_log s z l) s.log new.log w.log;
       next = record { low = omega arith; high = high };
       base = omega (arith, len, base);
-      start = omega (arith, len, first, some, base, start);
+      start = omega (arith, len, most, base, start);
       receiver = λ _. refl;
       gap = w.gap;
-      sync_point = sync.sync_point;
+      sync_point = omega (arith, len, given, point);
       syncing = sync.syncing;
-      prepared = omega (arith, len, first, some, prepared);
+      prepared = omega (arith, len, longer, prepared);
       changes = w.changes;
     }
 
@@ -358,24 +402,29 @@ module _ {H U : Type 0} (host : Ghosts H U) where
       → AllByRecursion ChangeFits g.changes → Runs host t x
   gathers_runs s t x g is r fits = rw is (record { within = gathers_within s g r.within fits; run = r.run })
 
-  pub adopted_runs : (s t : ReplicaState) (x : Running H U) (v : View) (n : ℕ) (l : List Entry) → t ≡ adopted s v n l → Runs host s x
-      → length x.undos ≤ s.sync.sync_point → ViewFits v → NextFits n → LogFits l → Runs host t x
-  adopted_runs s t x v n l is r behind view next log =
+  -- of what is taken, n entries are the own ones
+  taken_front : (s : ReplicaState) (x : Running H U) (n z : ℕ) (l : List Entry) → spliced n s.log l ≡ taken_log s z l
+      → length x.undos ≤ n → n ≤ length s.log → take (length x.undos) (taken_log s z l) ≡ take (length x.undos) s.log
+  taken_front s x n z l same behind there =
+      ap (λ (t : List Entry). take (length x.undos) t) (sym same) ∙ spliced_front (length x.undos) n s.log l behind there
+
+  pub adopted_runs : (s t : ReplicaState) (x : Running H U) (n : ℕ) (v : View) (k z : ℕ) (l : List Entry) → t ≡ adopted s v k z l
+      → Runs host s x → spliced n s.log l ≡ taken_log s z l → length x.undos ≤ n → n ≤ length s.log → ViewFits v → NextFits k
+      → ToldFits z l → Runs host t x
+  adopted_runs s t x n v k z l is r same behind there view next told =
       rw is (record {
-        within = adopted_within s v n l r.within view next log;
-        run = on_front host.meaning host.undo_of s.log (spliced s.sync.sync_point s.log l) _ _ r.run
-            (spliced_front (length x.undos) s.sync.sync_point s.log l behind r.within.sync_point);
+        within = adopted_within s v k z l r.within view next told;
+        run = on_front host.meaning host.undo_of s.log (taken_log s z l) _ _ r.run (taken_front s x n z l same behind there);
       })
 
-  pub overlaid_runs : (s t : ReplicaState) (x : Running H U) (l : List Entry) → t ≡ overlaid s l → Runs host s x
-      → length x.undos ≤ s.sync.sync_point → LogFits l → s.next + (length l - length s.log) ≤ NUMBER_END → Runs host t x
-  overlaid_runs s t x l is r behind fits high =
-      let new : List Entry = spliced s.sync.sync_point s.log l in
+  pub overlaid_runs : (s t : ReplicaState) (x : Running H U) (n z : ℕ) (l : List Entry) → t ≡ overlaid s z l → Runs host s x
+      → spliced n s.log l ≡ taken_log s z l → length x.undos ≤ n → n ≤ length s.log → ToldFits z l
+      → s.next + (length l - length s.log) ≤ NUMBER_END → Runs host t x
+  overlaid_runs s t x n z l is r same behind there told high =
       rw is (record {
-        within = overlaid_within s l r.within fits high;
-        run = on_front host.meaning host.undo_of s.log (laid new s.log) _ _ r.run
-            (laid_front new s.log (length x.undos) (spliced_front (length x.undos) s.sync.sync_point s.log l behind r.within.sync_point)
-            r.run.within);
+        within = overlaid_within s z l r.within told high;
+        run = on_front host.meaning host.undo_of s.log (laid (taken_log s z l) s.log) _ _ r.run
+            (laid_front (taken_log s z l) s.log (length x.undos) (taken_front s x n z l same behind there) r.run.within);
       })
 
   pub begun_runs : (s t : ReplicaState) (x : Running H U) (p : Stamped) → t ≡ begin_session s p → Runs host s x → Runs host t x

@@ -1,12 +1,12 @@
--- What is synchronised stays, whatever arrives.
+-- What is synchronised stays, whatever arrives, unless a log is told with a greater sync point.
 use Rattle.std.proofs.Common.{◌≡◌, ◌≤◌, ℕ, zero, suc, ◌+◌, ◌-◌, Bool, true, false, cond, Option, Some, None, refl, sym, ap, subst, ◌∙◌}
-use Rattle.std.proofs.Common.{arith, List, [], ◌∷◌, ◌++◌, length, take, length-append}
+use Rattle.std.proofs.Common.{arith, List, [], ◌∷◌, ◌++◌, length, take, filter, length-append}
 use Rattle.std.specs.Prelude.{not, nat_le, nat_lt, ◌==◌, ◌&&◌, slice_set}
 use Rattle.std.proofs.lemmas.Bool.Decides.{nat_tests}
 use Rattle.std.proofs.lemmas.List.{take-append-le}
 use Rattle.nop_types.specs.declared.limits.TheConstants.{MAX_SLOTS, NUMBER_END}
 use Rattle.nop_types.specs.Meaning.{Meaning}
-use Rattle.nop_types.specs.Slots.{laid, set_slot}
+use Rattle.nop_types.specs.Slots.{set_slot}
 use Rattle.nop_types.specs.Views.{is_view, join_of}
 use Rattle.nop_types.specs.declared.input.Tick.{Tick}
 use Rattle.nop_types.specs.declared.input.Tick.TheVariants as ticks
@@ -23,54 +23,67 @@ use Rattle.nop_types.specs.declared.peer.Body.{Body}
 use Rattle.nop_types.specs.declared.peer.Body.TheVariants as bodies
 use Rattle.facts.proofs.Slots.{length-laid, length-set_slot}
 use Rattle.gap_agree.specs.Agreement.{Agreement}
-use Rattle.log_merge.specs.Starting.{start_of}
+use Rattle.log_merge.specs.Starting.{greatest, greatest_point, start_of, start_point}
 use Rattle.oum_receiver.specs.Front.{Front, Nothing, Message, Dropped}
 use Rattle.oum_receiver.specs.Receiving.{front_of}
 use Rattle.replica_log.specs.Splices.{spliced}
 use Rattle.replica_log.proofs.Splices.{length-spliced}
 use Rattle.slot_lookup.specs.Answer.{Answer, Found, GapAgain, Begin, answer_of}
 use Rattle.slot_lookup.specs.Answer as answers
-use Rattle.view_change.specs.Gathering.{Gathering}
+use Rattle.view_change.specs.Gathering.{Gathering, counted, has_sender}
 use Rattle.replica_state.specs.declared.state.ReplicaState.{ReplicaState}
 use Rattle.replica_state.specs.State.{leads, is_normal, drains, waits, has_room, may_append, is_from_leader, is_to_leader, is_other, may_adopt}
-use Rattle.replica_state.specs.Sends.{Effect, still, then_do, when}
+use Rattle.replica_state.specs.Sends.{Effect, then_do, when}
 use Rattle.replica_state.specs.Moves.{ask_if, gap_opened, open_gap, gap_written, write_gap, add_gap, drain_drop, drain_at, drain_by, drain}
-use Rattle.replica_state.specs.Moves.{entered, enter_as, enter, adopted, adopt, open_with, open_view, open_if_enough, overlaid, overlay}
+use Rattle.replica_state.specs.Moves.{entered, enter_as, enter, taken_log, adopted, adopt, open_view, open_if_enough, overlay}
 use Rattle.replica_state.specs.Moves.{queue, keep_change, count_gap_vote, count_sync_vote, logged, appended, begin_session, hear, sync_commit}
 use Rattle.replica_state.specs.Moves.{obey}
 use Rattle.replica_state.specs.Repeating.{gap_again, lookup_again, change_again, resend_by, resend, sync_if, sync}
 use Rattle.replica_rows.specs.Rows as rows
 use Rattle.replica_rows.specs.Messages.{Arrival, Packet, Told, Ticked, from_leader, from_follower, by_role, in_view, on_body}
 use Rattle.replica_rows.specs.Messages.{on_message, ticked, arrive}
+use Rattle.replica_rows.specs.Telling.{told_in, told_by, gathered_point}
 use Rattle.replica_rows.proofs.Running.{spliced_front, laid_front}
 
 -- ---- steps that leave the sync point
 
--- the sync point, which is in the log, stays, and so do the entries up to it
+-- the sync point, which is in the log, stays, and so do the entries up to it; no greater one is gathered
 record Keeps (s t : ReplicaState) : Type 0 where
   point : t.sync.sync_point ≡ s.sync.sync_point
   front : take s.sync.sync_point t.log ≡ take s.sync.sync_point s.log
   within : s.sync.sync_point ≤ length t.log
+  gathered : gathered_point t.changes ≤ s.sync.sync_point
 
-abbrev Low : ReplicaState → Type 0
-Low s = s.sync.sync_point ≤ length s.log
+-- the sync point is in the log, and no greater one is gathered
+record Low (s : ReplicaState) : Type 0 where
+  within : s.sync.sync_point ≤ length s.log
+  gathered : gathered_point s.changes ≤ s.sync.sync_point
 
 low_after : (s t : ReplicaState) → Keeps s t → Low t
-low_after s t h = let p = h.point in let w = h.within in omega (arith, p, w)
+low_after s t h =
+    let p = h.point in let w = h.within in let g = h.gathered in record { within = omega (arith, p, w); gathered = omega (arith, p, g) }
 
 -- a state with the same log and sync point
-same : (s t : ReplicaState) → t.sync.sync_point ≡ s.sync.sync_point → t.log ≡ s.log → Low s → Keeps s t
-same s t p l low = record {
+changed : (s t : ReplicaState) → t.sync.sync_point ≡ s.sync.sync_point → t.log ≡ s.log → gathered_point t.changes ≤ s.sync.sync_point
+    → Low s → Keeps s t
+changed s t p l g low = record {
   point = p;
   front = ap (λ (x : List Entry). take s.sync.sync_point x) l;
-  within = let e = ap (λ (x : List Entry). length x) l in omega (arith, e, low);
+  within = let e = ap (λ (x : List Entry). length x) l in let w = low.within in omega (arith, e, w);
+  gathered = g;
 }
+
+-- and the same changes
+same : (s t : ReplicaState) → t.sync.sync_point ≡ s.sync.sync_point → t.log ≡ s.log → t.changes ≡ s.changes → Low s → Keeps s t
+same s t p l c low =
+    changed s t p l (let e = ap (λ (o : Option Gathering). gathered_point o) c in let g = low.gathered in omega (arith, e, g)) low
 
 both : (s t u : ReplicaState) → Keeps s t → Keeps t u → Keeps s u
 both s t u h g = record {
   point = g.point ∙ h.point;
   front = subst (λ (n : ℕ). take n u.log ≡ take n t.log) h.point g.front ∙ h.front;
   within = let p = h.point in let w = g.within in omega (arith, p, w);
+  gathered = let p = h.point in let c = g.gathered in omega (arith, p, c);
 }
 
 then_keeps : (s : ReplicaState) (e : Effect) (f : ReplicaState → Effect) → Keeps s e.0 → (Low e.0 → Keeps e.0 (f e.0).0)
@@ -79,7 +92,7 @@ then_keeps s e f h g = both s e.0 (f e.0).0 h (g (low_after s e.0 h))
 
 when_keeps : (b : Bool) (f : ReplicaState → Effect) (s : ReplicaState) → Low s → Keeps s (f s).0 → Keeps s (when b f s).0
 when_keeps true f s low h = h
-when_keeps false f s low h = same s s refl refl low
+when_keeps false f s low h = same s s refl refl refl low
 
 -- ---- drains
 
@@ -88,6 +101,7 @@ record Grows (s t : ReplicaState) : Type 0 where
   point : t.sync.sync_point ≡ s.sync.sync_point
   front : (n : ℕ) → n ≤ length s.log → take n t.log ≡ take n s.log
   longer : length s.log ≤ length t.log
+  changes : t.changes ≡ s.changes
 
 -- whatever the state
 record Always (f : ReplicaState → Effect) : Type 0 where
@@ -96,22 +110,26 @@ record Always (f : ReplicaState → Effect) : Type 0 where
 grown : (s t : ReplicaState) → Low s → Grows s t → Keeps s t
 grown s t low g = record {
   point = g.point;
-  front = g.front s.sync.sync_point low;
-  within = let w = g.longer in omega (arith, w, low);
+  front = g.front s.sync.sync_point low.within;
+  within = let w = g.longer in let l = low.within in omega (arith, w, l);
+  gathered = let e = ap (λ (o : Option Gathering). gathered_point o) g.changes in let c = low.gathered in omega (arith, e, c);
 }
 
-grows_none : (s t : ReplicaState) → t.sync.sync_point ≡ s.sync.sync_point → t.log ≡ s.log → Grows s t
-grows_none s t p l = record {
+grows_none : (s t : ReplicaState) → t.sync.sync_point ≡ s.sync.sync_point → t.log ≡ s.log → t.changes ≡ s.changes → Grows s t
+grows_none s t p l c = record {
   point = p;
   front = λ n low. ap (λ (x : List Entry). take n x) l;
   longer = let e = ap (λ (x : List Entry). length x) l in omega (arith, e);
+  changes = c;
 }
 
-grows_more : (s t : ReplicaState) (x : Entry) → t.sync.sync_point ≡ s.sync.sync_point → t.log ≡ s.log ++ x ∷ [] → Grows s t
-grows_more s t x p l = record {
+grows_more : (s t : ReplicaState) (x : Entry) → t.sync.sync_point ≡ s.sync.sync_point → t.log ≡ s.log ++ x ∷ [] → t.changes ≡ s.changes
+    → Grows s t
+grows_more s t x p l c = record {
   point = p;
   front = λ n low. ap (λ (k : List Entry). take n k) l ∙ take-append-le n s.log (x ∷ []) low;
   longer = let e = ap (λ (k : List Entry). length k) l in let len = length-append s.log (x ∷ []) in omega (arith, e, len);
+  changes = c;
 }
 
 grows_both : (s t u : ReplicaState) → Grows s t → Grows t u → Grows s u
@@ -119,15 +137,16 @@ grows_both s t u h g = record {
   point = g.point ∙ h.point;
   front = λ n low. g.front n (let w = h.longer in omega (arith, low, w)) ∙ h.front n low;
   longer = let a = h.longer in let b = g.longer in omega (arith, a, b);
+  changes = g.changes ∙ h.changes;
 }
 
 open_gap_grows : (s : ReplicaState) → Grows s (open_gap s).0
 unfolding open_gap
-open_gap_grows s = grows_more s (gap_opened s) NoOp refl refl
+open_gap_grows s = grows_more s (gap_opened s) NoOp refl refl refl
 
 ask_grows : (b : Bool) (s : ReplicaState) → Grows s (ask_if b s).0
-ask_grows true s = grows_none s s refl refl
-ask_grows false s = grows_none s (ask_if false s).0 refl refl
+ask_grows true s = grows_none s s refl refl refl
+ask_grows false s = grows_none s (ask_if false s).0 refl refl refl
 
 drop_grows : (b : Bool) (again : ReplicaState → Effect) (s : ReplicaState) → Always again → Grows s (drain_drop again b s).0
 drop_grows true again s rest = grows_both s (open_gap s).0 (again (open_gap s).0).0 (open_gap_grows s) (rest.at (open_gap s).0)
@@ -136,13 +155,13 @@ drop_grows false again s rest = ask_grows (s.asked == length s.log + 1) s
 drain_at_grows : {S : Type 0} (m : Meaning S) (again : ReplicaState → Effect) (s : ReplicaState) (b : Bool) (front : Front) → Always again
     → Grows s (drain_at m again s b front).0
 drain_at_grows m again s true (Message r) rest =
-    grows_both s (logged s r) (again (logged s r)).0 (grows_more s (logged s r) (Req r) refl refl) (rest.at (logged s r))
+    grows_both s (logged s r) (again (logged s r)).0 (grows_more s (logged s r) (Req r) refl refl refl) (rest.at (logged s r))
 drain_at_grows m again s true Dropped rest = drop_grows (leads s) again s rest
-drain_at_grows m again s true Nothing rest = grows_none s s refl refl
-drain_at_grows m again s false front rest = grows_none s s refl refl
+drain_at_grows m again s true Nothing rest = grows_none s s refl refl refl
+drain_at_grows m again s false front rest = grows_none s s refl refl refl
 
 drain_by_grows : {S : Type 0} (m : Meaning S) (room : ℕ) → Always (drain_by m room)
-drain_by_grows m zero = record { at = λ s. grows_none s s refl refl }
+drain_by_grows m zero = record { at = λ s. grows_none s s refl refl refl }
 drain_by_grows m (suc room) =
     record { at = λ s. drain_at_grows m (drain_by m room) s (drains s) (front_of s.receiver) (drain_by_grows m room) }
 
@@ -156,8 +175,9 @@ drain_keeps m s low = grown s (drain m s).0 low (drain_grows m s)
 and_drain : {S : Type 0} (m : Meaning S) (s : ReplicaState) (e : Effect) → Keeps s e.0 → Keeps s (then_do e (drain m)).0
 and_drain m s e h = then_keeps s e (drain m) h (drain_keeps m e.0)
 
-more : (s t : ReplicaState) (x : Entry) → t.sync.sync_point ≡ s.sync.sync_point → t.log ≡ s.log ++ x ∷ [] → Low s → Keeps s t
-more s t x p l low = grown s t low (grows_more s t x p l)
+more : (s t : ReplicaState) (x : Entry) → t.sync.sync_point ≡ s.sync.sync_point → t.log ≡ s.log ++ x ∷ [] → t.changes ≡ s.changes
+    → Low s → Keeps s t
+more s t x p l c low = grown s t low (grows_more s t x p l c)
 
 open_gap_keeps : (s : ReplicaState) → Low s → Keeps s (open_gap s).0
 open_gap_keeps s low = grown s (open_gap s).0 low (open_gap_grows s)
@@ -165,37 +185,71 @@ open_gap_keeps s low = grown s (open_gap s).0 low (open_gap_grows s)
 -- ---- views
 
 enter_as_keeps : (b : Bool) (s t : ReplicaState) → Keeps s t → Keeps s (enter_as b t).0
-enter_as_keeps true s t h = record { point = h.point; front = h.front; within = h.within }
+enter_as_keeps true s t h = record {
+  point = h.point;
+  front = h.front;
+  within = h.within;
+  gathered = let p = h.point in omega (arith, p);
+}
 enter_as_keeps false s t h = h
 
 enter_keeps : (s : ReplicaState) (v : View) → Low s → Keeps s (enter s v).0
 unfolding enter
-enter_keeps s v low = enter_as_keeps (leads (entered s v)) s (entered s v) (same s (entered s v) refl refl low)
+enter_keeps s v low = enter_as_keeps (leads (entered s v)) s (entered s v) (changed s (entered s v) refl refl (omega arith) low)
 
--- a log is taken above the sync point
-adopted_keeps : (s : ReplicaState) (v : View) (x : ℕ) (l : List Entry) → Low s → Keeps s (adopted s v x l)
-adopted_keeps s v x l low = record {
-  point = refl;
+-- a log is taken above the sync point, where that is no less than the one that is told
+own_stays : (s : ReplicaState) (z : ℕ) (l : List Entry) → z ≤ s.sync.sync_point → spliced s.sync.sync_point s.log l ≡ taken_log s z l
+own_stays s z l le =
+    let e : nat_lt s.sync.sync_point z ≡ false = grind (arith, nat_tests, le) in
+    ap (λ (b : Bool). spliced (cond b 0 s.sync.sync_point) s.log l) (sym e)
+
+-- the entries up to the sync point are in it
+record InFront (s : ReplicaState) (l : List Entry) : Type 0 where
+  front : take s.sync.sync_point l ≡ take s.sync.sync_point s.log
+  within : s.sync.sync_point ≤ length l
+
+taken_in_front : (s : ReplicaState) (z : ℕ) (l : List Entry) → z ≤ s.sync.sync_point → s.sync.sync_point ≤ length s.log
+    → InFront s (taken_log s z l)
+taken_in_front s z l le low = subst (InFront s) (own_stays s z l le) (record {
   front = spliced_front s.sync.sync_point s.sync.sync_point s.log l (omega arith) low;
   within = let len = length-spliced s.sync.sync_point s.log l low in omega (arith, len);
-}
+})
 
-adopt_keeps : {S : Type 0} (m : Meaning S) (s : ReplicaState) (v : View) (x : ℕ) (l : List Entry) → Low s → Keeps s (adopt m s v x l).0
+adopted_keeps : (s : ReplicaState) (v : View) (x z : ℕ) (l : List Entry) → z ≤ s.sync.sync_point → Low s → Keeps s (adopted s v x z l)
+adopted_keeps s v x z l le low =
+    let new = taken_in_front s z l le low.within in
+    record { point = omega (arith, le); front = new.front; within = new.within; gathered = omega arith }
+
+adopt_keeps : {S : Type 0} (m : Meaning S) (s : ReplicaState) (v : View) (x z : ℕ) (l : List Entry) → z ≤ s.sync.sync_point → Low s
+    → Keeps s (adopt m s v x z l).0
 unfolding adopt
-adopt_keeps m s v x l low =
-    both s (adopted s v x l) (drain m (adopted s v x l)).0 (adopted_keeps s v x l low)
-    (drain_keeps m (adopted s v x l) (low_after s (adopted s v x l) (adopted_keeps s v x l low)))
+adopt_keeps m s v x z l le low =
+    let h = adopted_keeps s v x z l le low in
+    both s (adopted s v x z l) (drain m (adopted s v x z l)).0 h (drain_keeps m (adopted s v x z l) (low_after s (adopted s v x z l) h))
 
-open_if_keeps : {S : Type 0} (m : Meaning S) (o : Option Gathering) (s : ReplicaState) → Low s → Keeps s (open_if_enough m o s).0
-open_if_keeps m None s low = same s s refl refl low
-open_if_keeps m (Some g) s low =
+kept_point : (test : peer.Change → Bool) (cs : List peer.Change) → greatest_point (filter test cs) ≤ greatest_point cs
+kept_point test [] = omega arith
+kept_point test (c ∷ cs) = put (test c) (kept_point test cs)
+  where
+    put : (b : Bool) → greatest_point (filter test cs) ≤ greatest_point cs
+        → greatest_point (cond b (c ∷ filter test cs) (filter test cs)) ≤ greatest_point (c ∷ cs)
+    put true rest = omega (arith, rest)
+    put false rest = omega (arith, rest)
+
+open_if_keeps : {S : Type 0} (m : Meaning S) (o : Option Gathering) (s : ReplicaState) → gathered_point o ≤ s.sync.sync_point → Low s
+    → Keeps s (open_if_enough m o s).0
+open_if_keeps m None s le low = same s s refl refl refl low
+open_if_keeps m (Some g) s le low =
+    let kept = kept_point (λ c. is_view c.last_normal (greatest g.changes)) g.changes in
     when_keeps (nat_lt g.f (length g.changes)) (open_view m g) s low
-    (adopt_keeps m s s.view (start_of g.view g.changes).next (start_of g.view g.changes).log low)
+    (adopt_keeps m s s.view (start_of g.view g.changes).next (start_point g.changes) (start_of g.view g.changes).log (omega (arith, kept, le))
+    low)
 
 enter_view_keeps : {S : Type 0} (m : Meaning S) (v : View) (s : ReplicaState) → Low s → Keeps s (rows.enter_view m v s).0
 unfolding rows.enter_view
 enter_view_keeps m v s low =
-    then_keeps s (enter s v) (λ t. open_if_enough m t.changes t) (enter_keeps s v low) (open_if_keeps m (enter s v).0.changes (enter s v).0)
+    then_keeps s (enter s v) (λ t. open_if_enough m t.changes t) (enter_keeps s v low)
+    (λ h. open_if_keeps m (enter s v).0.changes (enter s v).0 h.gathered h)
 
 enter_and_drain_keeps : {S : Type 0} (m : Meaning S) (v : View) (s : ReplicaState) → Low s → Keeps s (rows.enter_and_drain m v s).0
 enter_and_drain_keeps m v s low = and_drain m s (rows.enter_view m v s) (enter_view_keeps m v s low)
@@ -205,9 +259,9 @@ enter_and_drain_keeps m v s low = and_drain m s (rows.enter_view m v s) (enter_v
 stamped_if_keeps : {S : Type 0} (m : Meaning S) (b : Bool) (s : ReplicaState) (p : Stamped) → Low s → Keeps s (rows.stamped_if m b p s).0
 stamped_if_keeps m true s p low =
     let v : View = record { leader = s.view.leader; session = p.session } in
-    both s (begin_session s p) (rows.enter_and_drain m v (begin_session s p)).0 (same s (begin_session s p) refl refl low)
-    (enter_and_drain_keeps m v (begin_session s p) low)
-stamped_if_keeps m false s p low = and_drain m s (queue s p) (same s (queue s p).0 refl refl low)
+    both s (begin_session s p) (rows.enter_and_drain m v (begin_session s p)).0 (same s (begin_session s p) refl refl refl low)
+    (enter_and_drain_keeps m v (begin_session s p) (record { within = low.within; gathered = low.gathered }))
+stamped_if_keeps m false s p low = and_drain m s (queue s p) (same s (queue s p).0 refl refl refl low)
 
 stamped_keeps : {S : Type 0} (m : Meaning S) (s : ReplicaState) (p : Stamped) → Low s → Keeps s (rows.stamped m p s).0
 unfolding rows.stamped
@@ -218,30 +272,47 @@ request_keeps m s v low =
     when_keeps (not (is_view (join_of s.view v) s.view)) (rows.enter_and_drain m (join_of s.view v)) s low
     (enter_and_drain_keeps m (join_of s.view v) s low)
 
-gather_keeps : {S : Type 0} (m : Meaning S) (o : Option Gathering) (c : peer.Change) (s : ReplicaState) → Low s
-    → Keeps s (rows.gather m o c s).0
-gather_keeps m None c s low = same s s refl refl low
-gather_keeps m (Some g) c s low =
-    then_keeps s (keep_change s g c) (λ t. open_if_enough m t.changes t) (same s (keep_change s g c).0 refl refl low)
-    (open_if_keeps m (keep_change s g c).0.changes (keep_change s g c).0)
+more_point : (cs : List peer.Change) (c : peer.Change) (n : ℕ) → greatest_point cs ≤ n → c.sync_point ≤ n
+    → greatest_point (cs ++ c ∷ []) ≤ n
+more_point [] c n h le = omega (arith, le)
+more_point (d ∷ cs) c n h le = let rest = more_point cs c n (omega (arith, h)) le in omega (arith, h, rest)
 
-gather_by_keeps : {S : Type 0} (m : Meaning S) (status : Phase) (c : peer.Change) (s : ReplicaState) → Low s
-    → Keeps s (rows.gather_by m status c s).0
-gather_by_keeps m Change c s low = gather_keeps m s.changes c s low
-gather_by_keeps m Normal c s low = same s s refl refl low
+counted_point : (g : Gathering) (c : peer.Change) (n : ℕ) → greatest_point g.changes ≤ n → c.sync_point ≤ n
+    → greatest_point (counted g c).changes ≤ n
+counted_point g c n h le = at (has_sender g.changes c.sender)
+  where
+    at : (b : Bool) → greatest_point (cond b g.changes (g.changes ++ c ∷ [])) ≤ n
+    at true = h
+    at false = more_point g.changes c n h le
 
-view_change_keeps : {S : Type 0} (m : Meaning S) (s : ReplicaState) (v : View) (c : peer.Change) → Low s
+gather_keeps : {S : Type 0} (m : Meaning S) (o : Option Gathering) (c : peer.Change) (s : ReplicaState)
+    → gathered_point o ≤ s.sync.sync_point → c.sync_point ≤ s.sync.sync_point → Low s → Keeps s (rows.gather m o c s).0
+gather_keeps m None c s h le low = same s s refl refl refl low
+gather_keeps m (Some g) c s h le low =
+    let t : ReplicaState = (keep_change s g c).0 in
+    let more = counted_point g c s.sync.sync_point h le in
+    then_keeps s (keep_change s g c) (λ t. open_if_enough m t.changes t) (changed s t refl refl more low) (open_if_keeps m t.changes t more)
+
+gather_by_keeps : {S : Type 0} (m : Meaning S) (status : Phase) (c : peer.Change) (s : ReplicaState) → c.sync_point ≤ s.sync.sync_point
+    → Low s → Keeps s (rows.gather_by m status c s).0
+gather_by_keeps m Change c s le low = gather_keeps m s.changes c s low.gathered le low
+gather_by_keeps m Normal c s le low = same s s refl refl refl low
+
+view_change_keeps : {S : Type 0} (m : Meaning S) (s : ReplicaState) (v : View) (c : peer.Change) → c.sync_point ≤ s.sync.sync_point → Low s
     → Keeps s (rows.view_change m v c s).0
 unfolding rows.view_change
-view_change_keeps m s v c low =
+view_change_keeps m s v c le low =
     let t : ReplicaState = (rows.view_change_request m v s).0 in
-    then_keeps s (rows.view_change_request m v s) (rows.take_change m v c) (request_keeps m s v low)
-    (λ h. when_keeps (is_view v t.view && leads t) (rows.gather_by m t.status c) t h (gather_by_keeps m t.status c t h))
+    let asked = request_keeps m s v low in
+    let same_point = asked.point in
+    then_keeps s (rows.view_change_request m v s) (rows.take_change m v c) asked
+    (λ h. when_keeps (is_view v t.view && leads t) (rows.gather_by m t.status c) t h
+    (gather_by_keeps m t.status c t (omega (arith, le, same_point)) h))
 
-start_view_keeps : {S : Type 0} (m : Meaning S) (s : ReplicaState) (q : ℕ) (v : View) (x : ℕ) (l : List Entry) → Low s
-    → Keeps s (rows.start_view m q v x l s).0
+start_view_keeps : {S : Type 0} (m : Meaning S) (s : ReplicaState) (q : ℕ) (v : View) (x z : ℕ) (l : List Entry) → z ≤ s.sync.sync_point
+    → Low s → Keeps s (rows.start_view m q v x z l s).0
 unfolding rows.start_view
-start_view_keeps m s q v x l low = when_keeps (may_adopt s q v l) (λ t. adopt m t v x l) s low (adopt_keeps m s v x l low)
+start_view_keeps m s q v x z l le low = when_keeps (may_adopt s q v l) (λ t. adopt m t v x z l) s low (adopt_keeps m s v x z l le low)
 
 -- ---- rows of the leader's messages
 
@@ -259,19 +330,20 @@ written_keeps : (s : ReplicaState) (k : ℕ) → Low s → Keeps s (gap_written 
 written_keeps s k low = at (nat_le k s.sync.sync_point) refl
   where
     at : (b : Bool) → nat_le k s.sync.sync_point ≡ b → Keeps s (record s { log = cond b s.log (set_slot s.log k NoOp) })
-    at true e = same s s refl refl low
+    at true e = same s s refl refl refl low
     at false e = record {
       point = refl;
       front = take_set_slot s.sync.sync_point k NoOp s.log e;
-      within = let len = length-set_slot s.log k NoOp in omega (arith, len, low);
+      within = let len = length-set_slot s.log k NoOp in let w = low.within in omega (arith, len, w);
+      gathered = low.gathered;
     }
 
 gap_commit_if_keeps : {S : Type 0} (m : Meaning S) (a b : Bool) (k : ℕ) (s : ReplicaState) → Low s → Keeps s (rows.gap_commit_if m a b k s).0
 gap_commit_if_keeps m true b k s low =
     let w = written_keeps s k low in
-    and_drain m s (write_gap (hear s) k) (record { point = w.point; front = w.front; within = w.within })
-gap_commit_if_keeps m false true k s low = and_drain m s (add_gap (hear s)) (more s (add_gap (hear s)).0 NoOp refl refl low)
-gap_commit_if_keeps m false false k s low = same s s refl refl low
+    and_drain m s (write_gap (hear s) k) (record { point = w.point; front = w.front; within = w.within; gathered = w.gathered })
+gap_commit_if_keeps m false true k s low = and_drain m s (add_gap (hear s)) (more s (add_gap (hear s)).0 NoOp refl refl refl low)
+gap_commit_if_keeps m false false k s low = same s s refl refl refl low
 
 gap_commit_keeps : {S : Type 0} (m : Meaning S) (k : ℕ) (s : ReplicaState) → Low s → Keeps s (rows.gap_commit m k s).0
 unfolding rows.gap_commit
@@ -281,37 +353,41 @@ found_keeps : {S : Type 0} (m : Meaning S) (k : ℕ) (r : Request) (s : ReplicaS
 unfolding rows.found
 found_keeps m k r s low =
     let t : ReplicaState = appended (hear s) (Req r) in
-    let h = more s t (Req r) refl refl low in
+    let h = more s t (Req r) refl refl refl low in
     when_keeps ((k == length s.log + 1) && may_append s) _ s low (both s t (drain m t).0 h (drain_keeps m t (low_after s t h)))
 
-overlay_keeps : {S : Type 0} (m : Meaning S) (s : ReplicaState) (l : List Entry) → Low s → Keeps s (overlay m s l).0
+overlay_keeps : {S : Type 0} (m : Meaning S) (s : ReplicaState) (z : ℕ) (l : List Entry) → z ≤ s.sync.sync_point → Low s
+    → Keeps s (overlay m s z l).0
 unfolding overlay
-overlay_keeps m s l low =
-    let n : ℕ = s.sync.sync_point in
+overlay_keeps m s z l le low =
+    let new = taken_in_front s z l le low.within in
+    let within = low.within in
     record {
-      point = refl;
-      front = laid_front (spliced n s.log l) s.log n (spliced_front n n s.log l (omega arith) low) low;
-      within = let len = length-laid (spliced n s.log l) s.log in omega (arith, len, low);
+      point = omega (arith, le);
+      front = laid_front (taken_log s z l) s.log s.sync.sync_point new.front within;
+      within = let len = length-laid (taken_log s z l) s.log in omega (arith, len, within);
+      gathered = low.gathered;
     }
 
-prepare_keeps : {S : Type 0} (m : Meaning S) (l : List Entry) (s : ReplicaState) → Low s → Keeps s (rows.sync_prepare m l s).0
+prepare_keeps : {S : Type 0} (m : Meaning S) (z : ℕ) (l : List Entry) (s : ReplicaState) → z ≤ s.sync.sync_point → Low s
+    → Keeps s (rows.sync_prepare m z l s).0
 unfolding rows.sync_prepare
-prepare_keeps m l s low =
-    let h = overlay_keeps m (hear s) l low in
-    when_keeps (nat_le (s.next + (length l - length s.log)) NUMBER_END) (λ t. then_do (overlay m (hear t) l) (drain m)) s low
-    (and_drain m s (overlay m (hear s) l) (record { point = h.point; front = h.front; within = h.within }))
+prepare_keeps m z l s le low =
+    let h = overlay_keeps m (hear s) z l le (record { within = low.within; gathered = low.gathered }) in
+    when_keeps (nat_le (s.next + (length l - length s.log)) NUMBER_END) (λ t. then_do (overlay m (hear t) z l) (drain m)) s low
+    (and_drain m s (overlay m (hear s) z l) (record { point = h.point; front = h.front; within = h.within; gathered = h.gathered }))
 
 -- ---- rows of followers' messages
 
 lookup_by_keeps : {S : Type 0} (m : Meaning S) (r : Answer) (q k : ℕ) (s : ReplicaState) → Low s → Keeps s (rows.slot_lookup_by m r q k s).0
-lookup_by_keeps m (Found r) q k s low = same s s refl refl low
-lookup_by_keeps m GapAgain q k s low = same s s refl refl low
+lookup_by_keeps m (Found r) q k s low = same s s refl refl refl low
+lookup_by_keeps m GapAgain q k s low = same s s refl refl refl low
 lookup_by_keeps m Begin q k s low =
     when_keeps (nat_lt s.next NUMBER_END) (λ t. then_do (open_gap t) (drain m)) s low (and_drain m s (open_gap s) (open_gap_keeps s low))
-lookup_by_keeps m answers.Nothing q k s low = same s s refl refl low
+lookup_by_keeps m answers.Nothing q k s low = same s s refl refl refl low
 
 lookup_if_keeps : {S : Type 0} (m : Meaning S) (b : Bool) (q k : ℕ) (s : ReplicaState) → Low s → Keeps s (rows.slot_lookup_if m b q k s).0
-lookup_if_keeps m true q k s low = same s s refl refl low
+lookup_if_keeps m true q k s low = same s s refl refl refl low
 lookup_if_keeps m false q k s low = lookup_by_keeps m (answer_of s.log (waits s.gap) k) q k s low
 
 lookup_keeps : {S : Type 0} (m : Meaning S) (q k : ℕ) (s : ReplicaState) → Low s → Keeps s (rows.slot_lookup m q k s).0
@@ -320,10 +396,10 @@ lookup_keeps m q k s low = lookup_if_keeps m (nat_le k s.sync.sync_point) q k s 
 
 gap_reply_at_keeps : {S : Type 0} (m : Meaning S) (o : Option Agreement) (q k : ℕ) (s : ReplicaState) → Low s
     → Keeps s (rows.gap_reply_at m o q k s).0
-gap_reply_at_keeps m None q k s low = same s s refl refl low
+gap_reply_at_keeps m None q k s low = same s s refl refl refl low
 gap_reply_at_keeps m (Some g) q k s low =
     when_keeps (g.slot == k) (λ t. then_do (count_gap_vote t g q) (drain m)) s low
-    (and_drain m s (count_gap_vote s g q) (same s (count_gap_vote s g q).0 refl refl low))
+    (and_drain m s (count_gap_vote s g q) (same s (count_gap_vote s g q).0 refl refl refl low))
 
 gap_reply_keeps : {S : Type 0} (m : Meaning S) (q k : ℕ) (s : ReplicaState) → Low s → Keeps s (rows.gap_reply m q k s).0
 unfolding rows.gap_reply
@@ -338,7 +414,8 @@ Stays s t = take s.sync.sync_point t.log ≡ take s.sync.sync_point s.log
 risen_by : {S : Type 0} (m : Meaning S) (b : Bool) (s t : ReplicaState) → Low s → t.log ≡ s.log → Stays s (when b (drain m) t).0
 risen_by m true s t low l =
     let len = ap (λ (x : List Entry). length x) l in
-    (drain_grows m t).front s.sync.sync_point (omega (arith, len, low)) ∙ ap (λ (x : List Entry). take s.sync.sync_point x) l
+    let w = low.within in
+    (drain_grows m t).front s.sync.sync_point (omega (arith, len, w)) ∙ ap (λ (x : List Entry). take s.sync.sync_point x) l
 risen_by m false s t low l = ap (λ (x : List Entry). take s.sync.sync_point x) l
 
 obeyed_log : (k : ℕ) (s : ReplicaState) → (sync_commit k s).0.log ≡ s.log
@@ -381,17 +458,18 @@ sync_front m s low =
 
 -- ---- messages
 
-from_leader_front : {S : Type 0} (m : Meaning S) (body : Body) (s : ReplicaState) → Low s → Stays s (from_leader m body s).0
-from_leader_front m (bodies.GapCommit k) s low = (gap_commit_keeps m k s low).front
-from_leader_front m (bodies.Found k r) s low = (found_keeps m k r s low).front
-from_leader_front m (bodies.SyncPrepare l) s low = (prepare_keeps m l s low).front
-from_leader_front m (bodies.SyncCommit k) s low = commit_front m k s low
-from_leader_front m (bodies.SlotLookup k) s low = refl
-from_leader_front m (bodies.GapRep k) s low = refl
-from_leader_front m (bodies.SyncRep k) s low = refl
-from_leader_front m bodies.ViewChangeReq s low = refl
-from_leader_front m (bodies.ViewChange u x l) s low = refl
-from_leader_front m (bodies.StartView x l) s low = refl
+from_leader_front : {S : Type 0} (m : Meaning S) (body : Body) (s : ReplicaState) → told_in body ≤ s.sync.sync_point → Low s
+    → Stays s (from_leader m body s).0
+from_leader_front m (bodies.GapCommit k) s le low = (gap_commit_keeps m k s low).front
+from_leader_front m (bodies.Found k r) s le low = (found_keeps m k r s low).front
+from_leader_front m (bodies.SyncPrepare z l) s le low = (prepare_keeps m z l s le low).front
+from_leader_front m (bodies.SyncCommit k) s le low = commit_front m k s low
+from_leader_front m (bodies.SlotLookup k) s le low = refl
+from_leader_front m (bodies.GapRep k) s le low = refl
+from_leader_front m (bodies.SyncRep k) s le low = refl
+from_leader_front m bodies.ViewChangeReq s le low = refl
+from_leader_front m (bodies.ViewChange u x z l) s le low = refl
+from_leader_front m (bodies.StartView x z l) s le low = refl
 
 from_follower_front : {S : Type 0} (m : Meaning S) (q : ℕ) (body : Body) (s : ReplicaState) → Low s → Stays s (from_follower m q body s).0
 from_follower_front m q (bodies.SlotLookup k) s low = (lookup_keeps m q k s low).front
@@ -399,41 +477,44 @@ from_follower_front m q (bodies.GapRep k) s low = (gap_reply_keeps m q k s low).
 from_follower_front m q (bodies.SyncRep k) s low = reply_front m q k s low
 from_follower_front m q (bodies.GapCommit k) s low = refl
 from_follower_front m q (bodies.Found k r) s low = refl
-from_follower_front m q (bodies.SyncPrepare l) s low = refl
+from_follower_front m q (bodies.SyncPrepare z l) s low = refl
 from_follower_front m q (bodies.SyncCommit k) s low = refl
 from_follower_front m q bodies.ViewChangeReq s low = refl
-from_follower_front m q (bodies.ViewChange u x l) s low = refl
-from_follower_front m q (bodies.StartView x l) s low = refl
+from_follower_front m q (bodies.ViewChange u x z l) s low = refl
+from_follower_front m q (bodies.StartView x z l) s low = refl
 
-by_role_front : {S : Type 0} (m : Meaning S) (a b : Bool) (q : ℕ) (body : Body) (s : ReplicaState) → Low s
+by_role_front : {S : Type 0} (m : Meaning S) (a b : Bool) (q : ℕ) (body : Body) (s : ReplicaState) → told_in body ≤ s.sync.sync_point → Low s
     → Stays s (by_role m a b q body s).0
-by_role_front m true b q body s low = from_leader_front m body s low
-by_role_front m false true q body s low = from_follower_front m q body s low
-by_role_front m false false q body s low = refl
+by_role_front m true b q body s le low = from_leader_front m body s le low
+by_role_front m false true q body s le low = from_follower_front m q body s low
+by_role_front m false false q body s le low = refl
 
-in_view_front : {S : Type 0} (m : Meaning S) (q : ℕ) (v : View) (body : Body) (s : ReplicaState) → Low s → Stays s (in_view m q v body s).0
-in_view_front m q v body s low = by_role_front m (is_from_leader s v q) (is_to_leader s v) q body s low
+in_view_front : {S : Type 0} (m : Meaning S) (q : ℕ) (v : View) (body : Body) (s : ReplicaState) → told_in body ≤ s.sync.sync_point → Low s
+    → Stays s (in_view m q v body s).0
+in_view_front m q v body s le low = by_role_front m (is_from_leader s v q) (is_to_leader s v) q body s le low
 
-on_body_front : {S : Type 0} (m : Meaning S) (p : Peer) (body : Body) (s : ReplicaState) → Low s → Stays s (on_body m p body s).0
-on_body_front m p bodies.ViewChangeReq s low = (request_keeps m s p.view low).front
-on_body_front m p (bodies.ViewChange u x l) s low =
-    (view_change_keeps m s p.view (record { sender = p.sender; last_normal = u; next = x; log = l }) low).front
-on_body_front m p (bodies.StartView x l) s low = (start_view_keeps m s p.sender p.view x l low).front
-on_body_front m p (bodies.GapCommit k) s low = in_view_front m p.sender p.view (bodies.GapCommit k) s low
-on_body_front m p (bodies.Found k r) s low = in_view_front m p.sender p.view (bodies.Found k r) s low
-on_body_front m p (bodies.SyncPrepare l) s low = in_view_front m p.sender p.view (bodies.SyncPrepare l) s low
-on_body_front m p (bodies.SyncCommit k) s low = in_view_front m p.sender p.view (bodies.SyncCommit k) s low
-on_body_front m p (bodies.SlotLookup k) s low = in_view_front m p.sender p.view (bodies.SlotLookup k) s low
-on_body_front m p (bodies.GapRep k) s low = in_view_front m p.sender p.view (bodies.GapRep k) s low
-on_body_front m p (bodies.SyncRep k) s low = in_view_front m p.sender p.view (bodies.SyncRep k) s low
+on_body_front : {S : Type 0} (m : Meaning S) (p : Peer) (body : Body) (s : ReplicaState) → told_in body ≤ s.sync.sync_point → Low s
+    → Stays s (on_body m p body s).0
+on_body_front m p bodies.ViewChangeReq s le low = (request_keeps m s p.view low).front
+on_body_front m p (bodies.ViewChange u x z l) s le low =
+    (view_change_keeps m s p.view (record { sender = p.sender; last_normal = u; next = x; sync_point = z; log = l }) le low).front
+on_body_front m p (bodies.StartView x z l) s le low = (start_view_keeps m s p.sender p.view x z l le low).front
+on_body_front m p (bodies.GapCommit k) s le low = in_view_front m p.sender p.view (bodies.GapCommit k) s le low
+on_body_front m p (bodies.Found k r) s le low = in_view_front m p.sender p.view (bodies.Found k r) s le low
+on_body_front m p (bodies.SyncPrepare z l) s le low = in_view_front m p.sender p.view (bodies.SyncPrepare z l) s le low
+on_body_front m p (bodies.SyncCommit k) s le low = in_view_front m p.sender p.view (bodies.SyncCommit k) s le low
+on_body_front m p (bodies.SlotLookup k) s le low = in_view_front m p.sender p.view (bodies.SlotLookup k) s le low
+on_body_front m p (bodies.GapRep k) s le low = in_view_front m p.sender p.view (bodies.GapRep k) s le low
+on_body_front m p (bodies.SyncRep k) s le low = in_view_front m p.sender p.view (bodies.SyncRep k) s le low
 
 when_front : (b : Bool) (f : ReplicaState → Effect) (s : ReplicaState) → Stays s (f s).0 → Stays s (when b f s).0
 when_front true f s h = h
 when_front false f s h = refl
 
-on_message_front : {S : Type 0} (m : Meaning S) (s : ReplicaState) (p : Peer) → Low s → Stays s (on_message m p s).0
+on_message_front : {S : Type 0} (m : Meaning S) (s : ReplicaState) (p : Peer) → told_in p.body ≤ s.sync.sync_point → Low s
+    → Stays s (on_message m p s).0
 unfolding on_message
-on_message_front m s p low = when_front (is_other s p.sender) (on_body m p p.body) s (on_body_front m p p.body s low)
+on_message_front m s p le low = when_front (is_other s p.sender) (on_body m p p.body) s (on_body_front m p p.body s le low)
 
 -- ---- ticks
 
@@ -482,8 +563,9 @@ tick_front m s (ticks.Install j) low = refl
 -- ---- all that arrives
 
 pub synchronised_stays : {S : Type 0} (m : Meaning S) (s : ReplicaState) (a : Arrival) → s.sync.sync_point ≤ length s.log
+    → gathered_point s.changes ≤ s.sync.sync_point → told_by a ≤ s.sync.sync_point
     → take s.sync.sync_point (arrive m s a).0.log ≡ take s.sync.sync_point s.log
 unfolding arrive
-synchronised_stays m s (Packet p) low = (stamped_keeps m s p low).front
-synchronised_stays m s (Told p) low = on_message_front m s p low
-synchronised_stays m s (Ticked tick) low = tick_front m s tick low
+synchronised_stays m s (Packet p) within gathered told = (stamped_keeps m s p (record { within = within; gathered = gathered })).front
+synchronised_stays m s (Told p) within gathered told = on_message_front m s p told (record { within = within; gathered = gathered })
+synchronised_stays m s (Ticked tick) within gathered told = tick_front m s tick (record { within = within; gathered = gathered })

@@ -33,14 +33,14 @@ arrival_of (arrivals.Ticked tick) = Ticked tick
 abbrev pub from_leader : {S : Type 0} → Meaning S → Body → ReplicaState → Effect
 from_leader m (bodies.GapCommit k) s = rows.gap_commit m k s
 from_leader m (bodies.Found k r) s = rows.found m k r s
-from_leader m (bodies.SyncPrepare l) s = rows.sync_prepare m l s
+from_leader m (bodies.SyncPrepare z l) s = rows.sync_prepare m z l s
 from_leader m (bodies.SyncCommit k) s = rows.sync_commit m k s
 from_leader m (bodies.SlotLookup k) s = still s
 from_leader m (bodies.GapRep k) s = still s
 from_leader m (bodies.SyncRep k) s = still s
 from_leader m bodies.ViewChangeReq s = still s
-from_leader m (bodies.ViewChange u x l) s = still s
-from_leader m (bodies.StartView x l) s = still s
+from_leader m (bodies.ViewChange u x z l) s = still s
+from_leader m (bodies.StartView x z l) s = still s
 
 abbrev pub from_follower : {S : Type 0} → Meaning S → ℕ → Body → ReplicaState → Effect
 from_follower m q (bodies.SlotLookup k) s = rows.slot_lookup m q k s
@@ -48,11 +48,11 @@ from_follower m q (bodies.GapRep k) s = rows.gap_reply m q k s
 from_follower m q (bodies.SyncRep k) s = rows.sync_reply m q k s
 from_follower m q (bodies.GapCommit k) s = still s
 from_follower m q (bodies.Found k r) s = still s
-from_follower m q (bodies.SyncPrepare l) s = still s
+from_follower m q (bodies.SyncPrepare z l) s = still s
 from_follower m q (bodies.SyncCommit k) s = still s
 from_follower m q bodies.ViewChangeReq s = still s
-from_follower m q (bodies.ViewChange u x l) s = still s
-from_follower m q (bodies.StartView x l) s = still s
+from_follower m q (bodies.ViewChange u x z l) s = still s
+from_follower m q (bodies.StartView x z l) s = still s
 
 abbrev pub by_role : {S : Type 0} → Meaning S → Bool → Bool → ℕ → Body → ReplicaState → Effect
 by_role m true to_leader q body s = from_leader m body s
@@ -66,11 +66,12 @@ in_view m q v body s = by_role m (is_from_leader s v q) (is_to_leader s v) q bod
 
 abbrev pub on_body : {S : Type 0} → Meaning S → Peer → Body → ReplicaState → Effect
 on_body m p bodies.ViewChangeReq s = rows.view_change_request m p.view s
-on_body m p (bodies.ViewChange u x l) s = rows.view_change m p.view (record { sender = p.sender; last_normal = u; next = x; log = l }) s
-on_body m p (bodies.StartView x l) s = rows.start_view m p.sender p.view x l s
+on_body m p (bodies.ViewChange u x z l) s =
+    rows.view_change m p.view (record { sender = p.sender; last_normal = u; next = x; sync_point = z; log = l }) s
+on_body m p (bodies.StartView x z l) s = rows.start_view m p.sender p.view x z l s
 on_body m p (bodies.GapCommit k) s = in_view m p.sender p.view (bodies.GapCommit k) s
 on_body m p (bodies.Found k r) s = in_view m p.sender p.view (bodies.Found k r) s
-on_body m p (bodies.SyncPrepare l) s = in_view m p.sender p.view (bodies.SyncPrepare l) s
+on_body m p (bodies.SyncPrepare z l) s = in_view m p.sender p.view (bodies.SyncPrepare z l) s
 on_body m p (bodies.SyncCommit k) s = in_view m p.sender p.view (bodies.SyncCommit k) s
 on_body m p (bodies.SlotLookup k) s = in_view m p.sender p.view (bodies.SlotLookup k) s
 on_body m p (bodies.GapRep k) s = in_view m p.sender p.view (bodies.GapRep k) s

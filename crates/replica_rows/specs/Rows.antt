@@ -91,8 +91,8 @@ take_change m v c s = when (is_view v s.view && leads s) (gather_by m s.status c
 unfoldable pub view_change : {S : Type 0} → Meaning S → View → peer.Change → ReplicaState → Effect
 view_change m v c s = then_do (view_change_request m v s) (take_change m v c)
 
-unfoldable pub start_view : {S : Type 0} → Meaning S → ℕ → View → ℕ → List Entry → ReplicaState → Effect
-start_view m q v x l s = when (may_adopt s q v l) (λ t. adopt m t v x l) s
+unfoldable pub start_view : {S : Type 0} → Meaning S → ℕ → View → ℕ → ℕ → List Entry → ReplicaState → Effect
+start_view m q v x z l s = when (may_adopt s q v l) (λ t. adopt m t v x z l) s
 
 -- ---- messages of the leader to a follower
 
@@ -108,8 +108,9 @@ gap_commit m k s = gap_commit_if m (nat_le k (length s.log)) ((k == length s.log
 unfoldable pub found : {S : Type 0} → Meaning S → ℕ → Request → ReplicaState → Effect
 found m k r s = when ((k == length s.log + 1) && may_append s) (λ t. then_do (fill m (hear t) r) (drain m)) s
 
-unfoldable pub sync_prepare : {S : Type 0} → Meaning S → List Entry → ReplicaState → Effect
-sync_prepare m l s = when (nat_le (s.next + (length l - length s.log)) NUMBER_END) (λ t. then_do (overlay m (hear t) l) (drain m)) s
+unfoldable pub sync_prepare : {S : Type 0} → Meaning S → ℕ → List Entry → ReplicaState → Effect
+sync_prepare m z l s =
+    when (nat_le (s.next + (length l - length s.log)) NUMBER_END) (λ t. then_do (overlay m (hear t) z l) (drain m)) s
 
 -- up to a length that is prepared
 unfoldable pub sync_commit : {S : Type 0} → Meaning S → ℕ → ReplicaState → Effect

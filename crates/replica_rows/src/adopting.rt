@@ -1,5 +1,5 @@
 ghost use Rattle.std.specs.Prelude.{OnOk};
-ghost use Rattle.nop_types.specs.Ranges.{ViewFits, NextFits, LogFits};
+ghost use Rattle.nop_types.specs.Ranges.{ViewFits, NextFits, ToldFits};
 ghost use Rattle.replica_state.specs.Moves.{adopt, open_with};
 ghost use Rattle.replica_rows.specs.Within.{IsRunning, Does};
 
@@ -9,21 +9,28 @@ use peer_codec::LogBody;
 use view_change::Start;
 
 impl<H: Host> Member<H> {
-    /// Takes part in a view from what it starts with above the sync point, and replies again for
-    /// each request there.
+    /// Takes part in a view from what it starts with, a log that is told with its sync point, and replies again for each request above
+    /// the sync point. What was executed of entries that stay is not executed again.
     #[tactic(auto, unfolding(replica_state::specs::Moves::adopt))]
-    pub(crate) fn adopt(&mut self, view: View, next: u64, log: Log) -> Result<(), NoMemory>
+    pub(crate) fn adopt(
+        &mut self,
+        view: View,
+        next: u64,
+        sync_point: u32,
+        log: Log,
+    ) -> Result<(), NoMemory>
         requires runs { IsRunning H.Host self.old }
         requires view { ViewFits view }
         requires next { NextFits next }
-        requires log { LogFits log }
+        requires told { ToldFits sync_point log }
         ensures { OnOk result (Does H.Host self.old self.new
-            (λ s. adopt H.meaning s view next log)) }
+            (λ s. adopt H.meaning s view next sync_point log)) }
     {
-        let sync_point = self.state.sync.sync_point();
-        self.go_back(sync_point);
-        self.state.take_part(view, next, log);
-        self.replies_above(sync_point)?;
+        let kept = self.state.kept_front(sync_point, &log);
+        self.go_back(kept);
+        self.state.take_part(kept, view, next, sync_point, log);
+        let synced = self.state.sync.sync_point();
+        self.replies_above(synced)?;
         self.drain()
     }
 
@@ -31,17 +38,22 @@ impl<H: Host> Member<H> {
     pub(crate) fn open_view(&mut self, start: Start) -> Result<(), NoMemory>
         requires runs { IsRunning H.Host self.old }
         requires next { NextFits start.next }
-        requires log { LogFits start.log }
-        ensures { OnOk result
-            (Does H.Host self.old self.new (λ s. open_with H.meaning s start.next start.log)) }
+        requires told { ToldFits start.sync_point start.log }
+        ensures { OnOk result (Does H.Host self.old self.new
+            (λ s. open_with H.meaning s start.next start.sync_point start.log)) }
     {
-        let Start { next, log } = start;
+        let Start {
+            next,
+            sync_point,
+            log,
+        } = start;
         let body = LogBody::StartView {
             next,
+            sync_point,
             log: log.as_slice(),
         };
         self.state.send_log_to_all(body, &mut self.sends)?;
         let view = self.state.view;
-        self.adopt(view, next, log)
+        self.adopt(view, next, sync_point, log)
     }
 }

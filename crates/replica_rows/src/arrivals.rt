@@ -57,7 +57,7 @@ impl<H: Host> Member<H> {
         match body {
             Body::GapCommit(slot) => self.gap_commit(slot),
             Body::Found(slot, request) => self.found(slot, request),
-            Body::SyncPrepare(log) => self.sync_prepare(&log),
+            Body::SyncPrepare { sync_point, log } => self.sync_prepare(sync_point, &log),
             Body::SyncCommit(slot) => self.sync_commit(slot),
             _ => Ok(()),
         }
@@ -108,17 +108,23 @@ impl<H: Host> Member<H> {
             Body::ViewChange {
                 last_normal,
                 next,
+                sync_point,
                 log,
             } => {
                 let change = Change {
                     sender,
                     last_normal,
                     next,
+                    sync_point,
                     log,
                 };
                 self.view_change(view, change)
             }
-            Body::StartView { next, log } => self.start_view(sender, view, next, log),
+            Body::StartView {
+                next,
+                sync_point,
+                log,
+            } => self.start_view(sender, view, next, sync_point, log),
             body => self.in_view(sender, view, body),
         }
     }

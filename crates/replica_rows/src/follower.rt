@@ -1,6 +1,6 @@
 ghost use Rattle.std.specs.Prelude.{◌≡◌, ◌≤◌, ◌+◌, ◌-◌, length, true, OnOk};
 ghost use Rattle.nop_types.specs.declared.limits.TheConstants.{NUMBER_END};
-ghost use Rattle.nop_types.specs.Ranges.{SlotFits, RequestFits, LogFits};
+ghost use Rattle.nop_types.specs.Ranges.{SlotFits, RequestFits, ToldFits};
 ghost use Rattle.replica_state.specs.State.{may_append};
 ghost use Rattle.replica_state.specs.Moves.{gap_written, write_gap, add_gap, fill, overlay};
 ghost use Rattle.replica_rows.specs.Rows.{gap_commit, found, sync_prepare, sync_commit};
@@ -98,21 +98,23 @@ impl<H: Host> Member<H> {
         self.drain()
     }
 
-    /// Takes the entries of the leader's log above the sync point, replies for those that are new,
-    /// and tells the leader so.
+    /// Takes the entries of the leader's log, which is told with its sync point, replies for those that are new and above the sync
+    /// point, and tells the leader so. What was executed of entries that stay is not executed again.
     #[tactic(auto, unfolding(replica_state::specs::Moves::overlay))]
-    fn overlay(&mut self, log: &Log, appended: u64) -> Result<(), NoMemory>
+    fn overlay(&mut self, sync_point: u32, log: &Log, appended: u64) -> Result<(), NoMemory>
         requires runs { IsRunning H.Host self.old }
-        requires fits { LogFits log.now }
+        requires told { ToldFits sync_point log.now }
         requires appended { appended ≡ length log.now - length self.old.state.log }
         requires within { self.old.state.next + appended ≤ NUMBER_END }
-        ensures { OnOk result (Does H.Host self.old self.new (λ s. overlay H.meaning s log.now)) }
+        ensures { OnOk result (Does H.Host self.old self.new
+            (λ s. overlay H.meaning s sync_point log.now)) }
     {
         let len = self.state.log.len();
-        let sync_point = self.state.sync.sync_point();
-        self.go_back(sync_point);
-        self.state.lay_over(log, appended)?;
-        self.replies_above(len)?;
+        let kept = self.state.kept_front(sync_point, log);
+        self.go_back(kept);
+        self.state.lay_over(kept, sync_point, log, appended)?;
+        let answered = len.max(self.state.sync.sync_point());
+        self.replies_above(answered)?;
         self.to_leader(Body::SyncRep(log.as_slice().len() as u32))
     }
 
@@ -129,10 +131,11 @@ impl<H: Host> Member<H> {
 
     /// The leader tells its log.
     #[tactic(auto, unfolding(crate::specs::Rows::sync_prepare))]
-    pub(crate) fn sync_prepare(&mut self, log: &Log) -> Result<(), NoMemory>
+    pub(crate) fn sync_prepare(&mut self, sync_point: u32, log: &Log) -> Result<(), NoMemory>
         requires runs { IsRunning H.Host self.old }
-        requires fits { LogFits log.now }
-        ensures { OnOk result (Does H.Host self.old self.new (sync_prepare H.meaning log.now)) }
+        requires told { ToldFits sync_point log.now }
+        ensures { OnOk result (Does H.Host self.old self.new
+            (sync_prepare H.meaning sync_point log.now)) }
     {
         let len = self.state.log.len() as usize;
         let appended = log.as_slice().len().saturating_sub(len) as u64;
@@ -140,7 +143,7 @@ impl<H: Host> Member<H> {
             return Ok(());
         }
         self.state.heard = true;
-        self.overlay(log, appended)?;
+        self.overlay(sync_point, log, appended)?;
         self.drain()
     }
 }

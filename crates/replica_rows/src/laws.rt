@@ -4,6 +4,7 @@ ghost use Rattle.replica_state.specs.declared.state.ReplicaState.{ReplicaState};
 ghost use Rattle.replica_state.specs.Sends.{message_count};
 ghost use Rattle.replica_rows.specs.Messages.{Arrival, arrive};
 ghost use Rattle.replica_rows.specs.Draining.{DrainsByFront};
+ghost use Rattle.replica_rows.specs.Telling.{told_by, gathered_point};
 
 /// Whatever arrives, a row sends at most eight messages to other replicas, and keeps the configuration. So message numbers
 /// never pass their end.
@@ -15,11 +16,14 @@ pub fn rows_send_few_messages<S>()
         → (arrive m s a).0.config ≡ s.config }
 {}
 
-/// Whatever arrives, forged messages too, the entries up to the sync point stay as they are.
+/// Whatever arrives, forged messages too, the entries up to the sync point stay as they are, unless a log is told with a greater
+/// sync point: in what arrives, or in the changes that are gathered.
 #[tactic(auto, using(crate::proofs::Synchronised::synchronised_stays))]
 pub fn synchronised_entries_stay<S>()
     ensures { (m : Meaning S) (s : ReplicaState) (a : Arrival)
         → s.sync.sync_point ≤ length s.log
+        → gathered_point s.changes ≤ s.sync.sync_point
+        → told_by a ≤ s.sync.sync_point
         → take s.sync.sync_point (arrive m s a).0.log ≡ take s.sync.sync_point s.log }
 {}
 

@@ -10,7 +10,8 @@
 //! run.
 //!
 //! Laws: a row sends at most eight messages (`rows_send_few_messages`); it leaves the entries up to
-//! the sync point as they are, whatever arrives (`synchronised_entries_stay`); a replica takes from
+//! the sync point as they are, whatever arrives, unless a log is told with a greater sync point
+//! (`synchronised_entries_stay`); a replica takes from
 //! its receiver only in Normal, with no gap that waits and with room in the log, and what is next
 //! there decides what it does (`drains_by_front`).
 //!

@@ -1,5 +1,5 @@
 ghost use Rattle.std.specs.Prelude.{◌≡◌, ◌<◌, OnOk, IfOk};
-ghost use Rattle.nop_types.specs.Ranges.{ViewFits, NextFits, LogFits, ChangeFits};
+ghost use Rattle.nop_types.specs.Ranges.{ViewFits, NextFits, ToldFits, ChangeFits};
 ghost use Rattle.replica_state.specs.Moves.{resend_start};
 ghost use Rattle.replica_rows.specs.Rows.{view_change_request, take_change, gather, view_change, start_view};
 ghost use Rattle.replica_state.specs.State.{may_adopt};
@@ -98,18 +98,19 @@ impl<H: Host> Member<H> {
         sender: u8,
         view: View,
         next: u64,
+        sync_point: u32,
         log: Log,
     ) -> Result<(), NoMemory>
         requires runs { IsRunning H.Host self.old }
         requires view { ViewFits view }
         requires next { NextFits next }
-        requires log { LogFits log }
+        requires told { ToldFits sync_point log }
         ensures { OnOk result (Does H.Host self.old self.new
-            (start_view H.meaning sender view next log)) }
+            (start_view H.meaning sender view next sync_point log)) }
     {
         if !self.state.may_adopt(sender, view, &log) {
             return Ok(());
         }
-        self.adopt(view, next, log)
+        self.adopt(view, next, sync_point, log)
     }
 }

@@ -16,13 +16,13 @@ use Rattle.nop_types.specs.declared.datagram.Stamped.{Stamped}
 use Rattle.nop_types.specs.declared.peer.Change as peer
 use Rattle.nop_types.specs.declared.peer.Body.TheVariants as bodies
 use Rattle.gap_agree.specs.Agreement.{Agreement, counted}
-use Rattle.log_merge.specs.Starting.{start_of}
+use Rattle.log_merge.specs.Starting.{start_of, start_point}
 use Rattle.oum_receiver.specs.Front.{Front, Nothing, Message, Dropped}
 use Rattle.oum_receiver.specs.Receiving as receiving
 use Rattle.oum_receiver.specs.Receiving.{Receiving, offered, front_of, front_taken, advanced}
 use Rattle.replica_log.specs.Splices.{spliced, noop_above}
 use Rattle.sync_points.specs.Synchronisation as synchronisation
-use Rattle.sync_points.specs.Synchronisation.{cleared, with_round, committed, vote_for}
+use Rattle.sync_points.specs.Synchronisation.{cleared, raised, with_round, committed, vote_for}
 use Rattle.view_change.specs.Gathering as gathering
 use Rattle.view_change.specs.Gathering.{Gathering}
 use Rattle.replica_state.specs.declared.sending.Sending.{Sending}
@@ -136,10 +136,11 @@ entered s v = record (left s) { view = v; status = Change; receiver = listening 
 
 -- what a replica tells the leader of the view that it enters
 abbrev pub own_change : ReplicaState → peer.Change
-own_change s = record { sender = s.number; last_normal = s.last_normal; next = s.next; log = s.log }
+own_change s =
+    record { sender = s.number; last_normal = s.last_normal; next = s.next; sync_point = s.sync.sync_point; log = s.log }
 
 abbrev pub change_told : ReplicaState → List Sending
-change_told s = to_leader s (bodies.ViewChange s.last_normal s.next s.log)
+change_told s = to_leader s (bodies.ViewChange s.last_normal s.next s.sync.sync_point s.log)
 
 abbrev pub enter_as : Bool → ReplicaState → Effect
 enter_as true s = (record s { changes = Some (gathering.entered s.view (others s) (own_change s)) }, to_all s bodies.ViewChangeReq)
@@ -155,9 +156,9 @@ enter s v = enter_as (leads (entered s v)) (entered s v)
 abbrev pub listening_from : ReplicaState → View → ℕ → Receiving
 listening_from s v x = cond (nat_lt s.receiver.session v.session) (receiving.opened v.session x) (advanced s.receiver x)
 
--- part is taken in a view with this log
-abbrev pub joined : ReplicaState → View → ℕ → List Entry → ReplicaState
-joined s v x l = record (left s) {
+-- part is taken in a view with this log, whose sync point is z where the own one is not greater
+abbrev pub joined : ReplicaState → View → ℕ → ℕ → List Entry → ReplicaState
+joined s v x z l = record (left s) {
   view = v;
   status = Normal;
   last_normal = v;
@@ -165,22 +166,31 @@ joined s v x l = record (left s) {
   next = x;
   base = length l;
   receiver = listening_from s v x;
+  sync = raised (cleared s.sync) z;
 }
 
--- the own entries up to the sync point stay
-abbrev pub adopted : ReplicaState → View → ℕ → List Entry → ReplicaState
-adopted s v x l = joined s v x (spliced s.sync.sync_point s.log l)
+-- how many of the own entries stay where a log is told whose sync point is z: those up to the own sync point, unless z is greater
+abbrev pub own_front : ReplicaState → ℕ → ℕ
+own_front s z = cond (nat_lt s.sync.sync_point z) 0 s.sync.sync_point
+
+-- the log that is told, above the own entries that stay
+abbrev pub taken_log : ReplicaState → ℕ → List Entry → List Entry
+taken_log s z l = spliced (own_front s z) s.log l
+
+abbrev pub adopted : ReplicaState → View → ℕ → ℕ → List Entry → ReplicaState
+adopted s v x z l = joined s v x z (taken_log s z l)
 
 -- each request above the sync point is answered once more
-unfoldable pub adopt : {S : Type 0} → Meaning S → ReplicaState → View → ℕ → List Entry → Effect
-adopt m s v x l = then_do (adopted s v x l, replies_above m (adopted s v x l) s.sync.sync_point) (drain m)
+unfoldable pub adopt : {S : Type 0} → Meaning S → ReplicaState → View → ℕ → ℕ → List Entry → Effect
+adopt m s v x z l =
+    then_do (adopted s v x z l, replies_above m (adopted s v x z l) (adopted s v x z l).sync.sync_point) (drain m)
 
 -- the leader tells all what its view starts with, and adopts it
-abbrev pub open_with : {S : Type 0} → Meaning S → ReplicaState → ℕ → List Entry → Effect
-open_with m s x l = then_do (s, to_all s (bodies.StartView x l)) (λ t. adopt m t t.view x l)
+abbrev pub open_with : {S : Type 0} → Meaning S → ReplicaState → ℕ → ℕ → List Entry → Effect
+open_with m s x z l = then_do (s, to_all s (bodies.StartView x z l)) (λ t. adopt m t t.view x z l)
 
 abbrev pub open_view : {S : Type 0} → Meaning S → Gathering → ReplicaState → Effect
-open_view m g s = open_with m s (start_of g.view g.changes).next (start_of g.view g.changes).log
+open_view m g s = open_with m s (start_of g.view g.changes).next (start_point g.changes) (start_of g.view g.changes).log
 
 -- the view is opened where enough changes are there
 abbrev pub open_if_enough : {S : Type 0} → Meaning S → Option Gathering → ReplicaState → Effect
@@ -197,21 +207,26 @@ start_len s = max s.base s.sync.sync_point
 
 -- the leader tells a late replica what the view started with
 abbrev pub resend_start : ReplicaState → ℕ → Effect
-resend_start s q = (s, to_replica s q (bodies.StartView (s.next - (length s.log - start_len s)) (take (start_len s) s.log)))
+resend_start s q =
+    (s, to_replica s q (bodies.StartView (s.next - (length s.log - start_len s)) s.sync.sync_point (take (start_len s) s.log)))
 
 -- ---- sync points
 
--- a follower takes the entries of its leader's log above its sync point
-abbrev pub overlaid : ReplicaState → List Entry → ReplicaState
-overlaid s l = record s {
-  log = laid (spliced s.sync.sync_point s.log l) s.log;
+-- a follower takes the entries of its leader's log, and keeps its own ones above the end of that
+abbrev pub overlaid : ReplicaState → ℕ → List Entry → ReplicaState
+overlaid s z l = record s {
+  log = laid (taken_log s z l) s.log;
   next = s.next + (length l - length s.log);
   receiver = advanced s.receiver (s.next + (length l - length s.log));
-  sync = synchronisation.taken s.sync (length l);
+  sync = raised (synchronisation.taken s.sync (length l)) z;
 }
 
-unfoldable pub overlay : {S : Type 0} → Meaning S → ReplicaState → List Entry → Effect
-overlay m s l = (overlaid s l, replies_above m (overlaid s l) (length s.log) ++ to_leader s (bodies.SyncRep (length l)))
+-- the requests that are new are answered, where they are above the sync point
+unfoldable pub overlay : {S : Type 0} → Meaning S → ReplicaState → ℕ → List Entry → Effect
+overlay m s z l = (
+  overlaid s z l,
+  replies_above m (overlaid s z l) (max (length s.log) (overlaid s z l).sync.sync_point) ++ to_leader s (bodies.SyncRep (length l)),
+)
 
 -- a follower's sync point rises to what its leader says
 abbrev pub obey : ReplicaState → ℕ → Effect
@@ -223,7 +238,7 @@ sync_commit k s = when (nat_le k s.sync.prepared) (λ t. obey (hear t) k) s
 
 -- a leader tells its log, and waits for votes
 abbrev pub open_sync : ReplicaState → Effect
-open_sync s = (record s { sync = with_round s.sync (length s.log) }, to_all s (bodies.SyncPrepare s.log))
+open_sync s = (record s { sync = with_round s.sync (length s.log) }, to_all s (bodies.SyncPrepare s.sync.sync_point s.log))
 
 -- or says again what is synchronised
 abbrev pub repeat_commit : ReplicaState → Effect
@@ -231,7 +246,7 @@ repeat_commit s = (s, to_all s (bodies.SyncCommit s.sync.sync_point))
 
 -- a leader tells a replica that asks for a synchronised slot all that is synchronised
 abbrev pub tell_synced : ReplicaState → ℕ → Effect
-tell_synced s q = (s, to_replica s q (bodies.SyncPrepare (take s.sync.sync_point s.log)))
+tell_synced s q = (s, to_replica s q (bodies.SyncPrepare s.sync.sync_point (take s.sync.sync_point s.log)))
 
 abbrev pub commit_if : ReplicaState → ℕ → Vote → List Sending
 commit_if s k Settled = to_all s (bodies.SyncCommit k)

@@ -4,7 +4,8 @@ ghost use Rattle.nop_types.specs.declared.limits.TheConstants.{MAX_REPLICAS, MAX
 ghost use Rattle.oum_receiver.specs.Front.{Dropped};
 ghost use Rattle.oum_receiver.specs.Receiving.{front_of};
 ghost use Rattle.replica_state.specs.State.{may_append, waiting_in};
-ghost use Rattle.replica_state.specs.Moves.{appended, gap_opened, ask, count_gap_vote, overlaid, obey, sync_commit};
+ghost use Rattle.replica_log.specs.Splices.{spliced};
+ghost use Rattle.replica_state.specs.Moves.{appended, gap_opened, ask, count_gap_vote, taken_log, overlaid, obey, sync_commit};
 ghost use Rattle.replica_state.specs.Within.{IsWithin};
 
 use crate::{ReplicaState, Sends};
@@ -88,19 +89,28 @@ impl ReplicaState {
         }
     }
 
-    /// Takes the entries of the leader's log above the sync point, of which so many are new.
-    pub fn lay_over(&mut self, log: &Log, appended: u64) -> Result<(), NoMemory>
+    /// Takes the entries of the leader's log, which is told with its sync point: those above the first `kept`, of which so many
+    /// are new.
+    pub fn lay_over(
+        &mut self,
+        kept: u32,
+        sync_point: u32,
+        log: &Log,
+        appended: u64,
+    ) -> Result<(), NoMemory>
+        requires kept { spliced kept self.old.log log.now ≡ taken_log self.old sync_point log.now }
+        requires there { kept ≤ length self.old.log }
         requires appended { appended ≡ length log.now - length self.old.log }
         requires within { self.old.next + appended ≤ NUMBER_END }
-        requires synced { self.old.sync.sync_point ≤ length self.old.log }
-        ensures ok { OnOk result (self.new ≡ overlaid self.old log.now) }
+        ensures ok { OnOk result (self.new ≡ overlaid self.old sync_point log.now) }
         ensures err { OnErr result (self.new ≡ self.old) }
     {
-        self.log.overlay_above(self.sync.sync_point(), log)?;
+        self.log.overlay_above(kept, log)?;
         let next = self.next.get() + appended;
         self.next.set(next);
         self.receiver.advance(next);
         self.sync.on_prepare(log.as_slice().len() as u32);
+        self.sync.raise(sync_point);
         Ok(())
     }
 

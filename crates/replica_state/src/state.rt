@@ -2,7 +2,8 @@ ghost use Rattle.std.specs.Prelude.{◌≡◌, ◌≤◌, ◌<◌, ◌-◌, leng
 ghost use Rattle.replica_state.specs.State.{others, leader, leads, is_normal, may_append, drains};
 ghost use Rattle.replica_state.specs.State.{is_other, is_current, is_from_leader, is_to_leader, may_adopt};
 ghost use Rattle.replica_state.specs.State as words;
-ghost use Rattle.replica_state.specs.Moves.{start_len};
+ghost use Rattle.replica_log.specs.Splices.{spliced};
+ghost use Rattle.replica_state.specs.Moves.{start_len, taken_log};
 ghost use Rattle.replica_state.specs.Within.{IsWithin};
 
 use crate::NextNumber;
@@ -144,5 +145,22 @@ impl ReplicaState {
             && View::le(self.view, view)
             && (!view.is(self.view) || !self.is_normal())
             && self.sync.sync_point() as usize <= log.as_slice().len()
+    }
+
+    /// How many of the own entries need not be written where a log is taken that is told with this sync point: those up to the own
+    /// sync point; none where the told one is greater and the logs differ up to there.
+    #[tactic(auto, using(replica_log::proofs::Splices::spliced_same))]
+    pub fn kept_front(&self, sync_point: u32, log: &Log) -> u32
+        requires synced { self.now.sync.sync_point ≤ length self.now.log }
+        requires told { sync_point ≤ length log.now }
+        ensures same { spliced result self.now.log log.now
+            ≡ taken_log self.now sync_point log.now }
+        ensures low { result ≤ self.now.sync.sync_point }
+    {
+        let own = self.sync.sync_point();
+        if sync_point <= own || self.log.agrees_with(log, own) {
+            return own;
+        }
+        0
     }
 }

@@ -85,6 +85,7 @@ impl ReplicaState {
         let body = LogBody::ViewChange {
             last_normal: self.last_normal,
             next: self.next.get(),
+            sync_point: self.sync.sync_point(),
             log: self.log.as_slice(),
         };
         self.send_log_to(self.leader(), body, sends)
@@ -99,6 +100,7 @@ impl ReplicaState {
         let len = self.start_len();
         let body = LogBody::StartView {
             next: self.number_after(len),
+            sync_point: self.sync.sync_point(),
             log: &self.log.as_slice()[..len as usize],
         };
         self.send_log_to(replica, body, sends)
@@ -110,8 +112,11 @@ impl ReplicaState {
         ensures ok { OnOk result (sends.new ≡ sends.old ++ (tell_synced self.now replica).1) }
         ensures err { OnErr result (sends.new ≡ sends.old) }
     {
-        let sync_point = self.sync.sync_point() as usize;
-        let body = LogBody::SyncPrepare(&self.log.as_slice()[..sync_point]);
+        let sync_point = self.sync.sync_point();
+        let body = LogBody::SyncPrepare {
+            sync_point,
+            log: &self.log.as_slice()[..sync_point as usize],
+        };
         self.send_log_to(replica, body, sends)
     }
 
@@ -119,10 +124,14 @@ impl ReplicaState {
     pub(crate) fn tell_log(&self, sends: &mut Sends) -> Result<(), NoMemory>
         requires { IsWithin self.now }
         ensures ok { OnOk result (sends.new ≡ sends.old
-            ++ to_all self.now (SyncPrepare self.now.log)) }
+            ++ to_all self.now (SyncPrepare self.now.sync.sync_point self.now.log)) }
         ensures err { OnErr result (sends.new ≡ sends.old) }
     {
-        self.send_log_to_all(LogBody::SyncPrepare(self.log.as_slice()), sends)
+        let body = LogBody::SyncPrepare {
+            sync_point: self.sync.sync_point(),
+            log: self.log.as_slice(),
+        };
+        self.send_log_to_all(body, sends)
     }
 
     /// Sends a reply to a client.

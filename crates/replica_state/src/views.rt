@@ -3,7 +3,8 @@ ghost use Rattle.nop_types.specs.declared.limits.TheConstants.{NUMBER_END};
 ghost use Rattle.nop_types.specs.Configuration.{is_configuration};
 ghost use Rattle.nop_types.specs.Ranges.{StampedFits};
 ghost use Rattle.replica_state.specs.State.{opening};
-ghost use Rattle.replica_state.specs.Moves.{left, entered, enter_as, own_change, adopted, begin_session, queue};
+ghost use Rattle.replica_log.specs.Splices.{spliced};
+ghost use Rattle.replica_state.specs.Moves.{left, entered, enter_as, own_change, taken_log, adopted, begin_session, queue};
 
 use crate::{NextNumber, ReplicaState};
 use nop_types::{Change, Config, Log, NoMemory, Phase, Stamped, View};
@@ -95,6 +96,7 @@ impl ReplicaState {
             sender: self.number,
             last_normal: self.last_normal,
             next: self.next.get(),
+            sync_point: self.sync.sync_point(),
             log: self.log.copy(self.log.len())?,
         })
     }
@@ -110,11 +112,12 @@ impl ReplicaState {
         Ok(())
     }
 
-    /// Takes part in a view from what it starts with. The own entries up to the sync point stay.
-    pub fn take_part(&mut self, view: View, next: u64, log: Log)
+    /// Takes part in a view from what it starts with, a log that is told with its sync point. The first `kept` own entries stay.
+    pub fn take_part(&mut self, kept: u32, view: View, next: u64, sync_point: u32, log: Log)
+        requires kept { spliced kept self.old.log log ≡ taken_log self.old sync_point log }
+        requires there { kept ≤ length self.old.log }
         requires next { next ≤ NUMBER_END }
-        requires synced { self.old.sync.sync_point ≤ length self.old.log }
-        ensures { self.new ≡ adopted self.old view next log }
+        ensures { self.new ≡ adopted self.old view next sync_point log }
     {
         if self.receiver.session() < view.session {
             self.receiver.reset(view.session, next);
@@ -125,7 +128,8 @@ impl ReplicaState {
         self.view = view;
         self.status = Phase::Normal;
         self.last_normal = view;
-        self.log.adopt_above(self.sync.sync_point(), log);
+        self.log.adopt_above(kept, log);
+        self.sync.raise(sync_point);
         self.next.set(next);
         self.base = self.log.len();
     }

@@ -35,6 +35,10 @@ begun alone s len =
 abbrev pub with_round : Synchronisation → ℕ → Synchronisation
 with_round s len = cond (nat_lt s.sync_point len) (begun (s.f == 0) s len) s
 
+-- a log was taken whose sync point is this one
+abbrev pub raised : Synchronisation → ℕ → Synchronisation
+raised s point = record s { sync_point = max s.sync_point point }
+
 -- a follower took a log of this length from its leader
 abbrev pub taken : Synchronisation → ℕ → Synchronisation
 taken s len = record s { prepared = max s.prepared len }

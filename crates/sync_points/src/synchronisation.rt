@@ -3,6 +3,7 @@ ghost use Rattle.sync_points.specs.Synchronisation.{
   opening,
   cleared,
   with_round,
+  raised,
   taken,
   counted,
   vote_for,
@@ -122,6 +123,13 @@ impl SyncPoints {
                 votes: Votes::new(),
             });
         }
+    }
+
+    /// A log was taken whose sync point is this one: where that is greater, it is the own one then.
+    pub fn raise(&mut self, sync_point: u32)
+        ensures { self.new ≡ raised self.old sync_point }
+    {
+        self.sync_point = self.sync_point.max(sync_point);
     }
 
     /// A follower took a log of this length from its leader.

@@ -21,7 +21,8 @@ trim_change m c = record c { log = trim m c.log }
 
 -- the same with a plain log, of the entries above a slot
 abbrev pub plain_above : Keeping → ℕ → Change → plain.Change
-plain_above k n c = record { sender = c.sender; last_normal = c.last_normal; next = c.next; log = above k c.log n }
+plain_above k n c =
+    record { sender = c.sender; last_normal = c.last_normal; next = c.next; sync_point = c.log.sync_point; log = above k c.log n }
 
 -- the merge of what stands above a slot
 abbrev pub merge_above : Keeping → ℕ → List Change → List Entry

@@ -38,9 +38,10 @@ counted g c = record g { changes = with_change g.changes c }
 abbrev pub greater : View → View → View
 greater a b = cond (outranks b a) b a
 
-abbrev pub started : starting.Start → Start
-started s = record { next = s.next; log = s.log }
+-- what the code gives of it
+abbrev pub started : View → List Change → Start
+started w cs = let s = starting.start_of w cs in record { next = s.next; sync_point = starting.start_point cs; log = s.log }
 
 -- the view is started where f + 1 senders are there
 abbrev pub step_of : Gathering → Step
-step_of g = cond (nat_lt g.f (length g.changes)) (Started (started (starting.start_of g.view g.changes))) Waiting
+step_of g = cond (nat_lt g.f (length g.changes)) (Started (started g.view g.changes)) Waiting

@@ -1,6 +1,5 @@
 ghost use Rattle.std.specs.Prelude.{◌≡◌, ◌≤◌, ◌↔◌, length, nat_lt, IfOk, OnOk, OnErr};
 ghost use Rattle.log_merge.specs.Merged.{HasDistinctSenders};
-ghost use Rattle.log_merge.specs.Starting.{start_of};
 ghost use Rattle.view_change.specs.declared.starting.Step.TheVariants.{Waiting};
 ghost use Rattle.view_change.specs.Gathering.{entered, has_sender, counted, started, step_of};
 
@@ -115,7 +114,7 @@ impl Changes {
     /// What the view is started with from this change and those that are there, whose entries are moved and not copied.
     pub fn start_with(mut self, change: Change) -> Result<Start, NoMemory>
         ensures { IfOk result (λ s. s
-            ≡ started (start_of self.view (counted self change).changes)) }
+            ≡ started self.view (counted self change).changes) }
     {
         if has_sender(&self.changes, change.sender) {
             return start_moved(self.alloc, self.view, self.changes);
@@ -128,7 +127,7 @@ impl Changes {
     pub fn start_now(&mut self) -> Result<Start, NoMemory>
         requires { self.old.f ≡ 0 }
         ensures start { IfOk result (λ s. s
-            ≡ started (start_of self.old.view self.old.changes)) }
+            ≡ started self.old.view self.old.changes) }
         ensures same { self.new ≡ self.old }
     {
         start_of(self.alloc, self.view, &self.changes)

@@ -2,8 +2,8 @@
 //! with.
 //!
 //! `Changes` has one change of each sender, the first that came (`senders_count_once`). The view is
-//! started exactly where f + 1 senders are there, its own among them, with what the starting rule
-//! `start_of` of `log_merge` gives for their changes.
+//! started exactly where f + 1 senders are there, its own among them, with what the starting rule of
+//! `log_merge` gives for their changes: `start_of`, and `start_point` for the sync point.
 //!
 //! Calls, for the state and the rows of a replica: `Changes::enter`, `on_change`, `is_enough_with`,
 //! `as_slice`; `start_with` moves the entries of the logs instead of copying them, and `start_now`

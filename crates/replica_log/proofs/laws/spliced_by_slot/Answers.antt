@@ -1,4 +1,4 @@
-use Rattle.replica_log.proofs.Splices.{length-spliced, spliced_below, spliced_above}
+use Rattle.replica_log.proofs.Splices.{length-spliced, spliced_below, spliced_above, spliced_same}
 use Rattle.replica_log.proofs.laws.spliced_by_slot.Goals as goal
 
 pub returns-clause-len : goal.returns-clause-len
@@ -9,3 +9,6 @@ returns-clause-below c = spliced_below
 
 pub returns-clause-above : goal.returns-clause-above
 returns-clause-above c = spliced_above
+
+pub returns-clause-same : goal.returns-clause-same
+returns-clause-same c = spliced_same

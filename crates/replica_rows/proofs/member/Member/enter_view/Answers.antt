@@ -32,8 +32,8 @@ open_view-requires-clause-next g c =
     let all = subst (λ o. IfSome o (λ x. AllByRecursion ChangeFits x.changes)) c.in-Some.is c.in_ok-enter.ensures.runs.within.changes in
     (start_fits c.in-Some.changes c.in_ok-start.start all (omega (arith, mine.one)) c.in_ok-start.ensures.start).0
 
-pub open_view-requires-clause-log : goal.open_view-requires-clause-log
-open_view-requires-clause-log g c =
+pub open_view-requires-clause-told : goal.open_view-requires-clause-told
+open_view-requires-clause-told g c =
     let e = c.in_ok-enter.ensures.state in
     let mine = own c.args.self.now.state c.args.view c.in-Some.changes (ap (λ s. s.changes) (sym e) ∙ c.in-Some.is) in
     let all = subst (λ o. IfSome o (λ x. AllByRecursion ChangeFits x.changes)) c.in-Some.is c.in_ok-enter.ensures.runs.within.changes in

@@ -16,11 +16,11 @@ open_view-requires-clause-next g c =
     (gathers_taken g.H.Host.meaning c.args.self.now.state c.keep_change.new.state c.args.self.now.state.changes c.args.change
     c.in-Started.start refl c.requires.runs.within c.requires.fits left (sym c.in_ok-start.ensures.step ∙ c.in-Started.is)).next
 
-pub open_view-requires-clause-log : goal.open_view-requires-clause-log
-open_view-requires-clause-log g c =
+pub open_view-requires-clause-told : goal.open_view-requires-clause-told
+open_view-requires-clause-told g c =
     let left = c.in_ok-start.ensures.kept ∙ ap (λ step. kept_after step c.args.self.now.state c.args.change) c.in-Started.is in
     (gathers_taken g.H.Host.meaning c.args.self.now.state c.keep_change.new.state c.args.self.now.state.changes c.args.change
-    c.in-Started.start refl c.requires.runs.within c.requires.fits left (sym c.in_ok-start.ensures.step ∙ c.in-Started.is)).log
+    c.in-Started.start refl c.requires.runs.within c.requires.fits left (sym c.in_ok-start.ensures.step ∙ c.in-Started.is)).told
 
 pub returns-in-Started : goal.returns-in-Started
 returns-in-Started g c =

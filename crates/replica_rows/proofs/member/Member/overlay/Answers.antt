@@ -1,13 +1,19 @@
-use Rattle.std.proofs.Common.{◌≤◌, ◌+◌, ◌-◌, ap, length, arith}
+use Rattle.std.proofs.Common.{◌≡◌, ◌≤◌, ◌+◌, ◌-◌, ap, sym, subst, length, arith}
 use Rattle.nop_types.specs.declared.limits.TheConstants.{NUMBER_END}
+use Rattle.replica_log.specs.Splices.{spliced}
+use Rattle.replica_state.specs.Moves.{taken_log}
 use Rattle.replica_rows.proofs.Running.{overlaid_runs}
 use Rattle.replica_rows.proofs.member.Member.overlay.Goals as goal
 
 pub replies_above-requires-clause-runs : goal.replies_above-requires-clause-runs
 replies_above-requires-clause-runs g c =
     let state = c.go_back.ensures.state in
-    let point = ap (λ s. s.sync.sync_point) state in
+    let len = ap (λ s. length s.log) state in
     let high : c.go_back.new.self.state.next + (length c.args.log.now - length c.go_back.new.self.state.log) ≤ NUMBER_END =
-    omega (arith, c.requires.within, c.requires.appended, ap (λ s. s.next) state, ap (λ s. length s.log) state) in
-    overlaid_runs g.H.Host c.go_back.new.self.state _ _ c.args.log.now c.in_ok-lay_over.ensures.ok c.go_back.ensures.runs
-    (omega (arith, c.go_back.ensures.behind, c.sync_point-sync_point.ensures, point)) c.requires.fits high
+    omega (arith, c.requires.within, c.requires.appended, ap (λ s. s.next) state, len) in
+    let same =
+    subst (λ s. spliced c.kept_front-kept.result s.log c.args.log.now ≡ taken_log s c.args.sync_point c.args.log.now) (sym state)
+    c.kept_front-kept.ensures.same in
+    overlaid_runs g.H.Host c.go_back.new.self.state _ _ c.kept_front-kept.result c.args.sync_point c.args.log.now
+    c.in_ok-lay_over.ensures.ok c.go_back.ensures.runs same c.go_back.ensures.behind
+    (omega (arith, c.kept_front-kept.ensures.low, c.requires.runs.within.sync_point, len)) c.requires.told high

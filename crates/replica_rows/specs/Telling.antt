@@ -1,0 +1,30 @@
+-- Which sync points are told with logs.
+use Rattle.std.specs.Prelude.{ℕ, Option, Some, None}
+use Rattle.nop_types.specs.declared.peer.Body.{Body}
+use Rattle.nop_types.specs.declared.peer.Body.TheVariants as bodies
+use Rattle.log_merge.specs.Starting.{greatest_point}
+use Rattle.view_change.specs.Gathering.{Gathering}
+use Rattle.replica_rows.specs.Messages.{Arrival, Packet, Told, Ticked}
+
+-- in a message; 0 where it has no log
+abbrev pub told_in : Body → ℕ
+told_in (bodies.ViewChange u x z l) = z
+told_in (bodies.StartView x z l) = z
+told_in (bodies.SyncPrepare z l) = z
+told_in (bodies.SlotLookup k) = 0
+told_in (bodies.Found k r) = 0
+told_in (bodies.GapCommit k) = 0
+told_in (bodies.GapRep k) = 0
+told_in bodies.ViewChangeReq = 0
+told_in (bodies.SyncRep k) = 0
+told_in (bodies.SyncCommit k) = 0
+
+abbrev pub told_by : Arrival → ℕ
+told_by (Packet p) = 0
+told_by (Told p) = told_in p.body
+told_by (Ticked tick) = 0
+
+-- in the changes that a leader has gathered
+abbrev pub gathered_point : Option Gathering → ℕ
+gathered_point None = 0
+gathered_point (Some g) = greatest_point g.changes
