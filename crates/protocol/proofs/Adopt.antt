@@ -30,10 +30,10 @@ module _ {S : Type 0} (m : Meaning S) (f : ℕ) (c : Conf) (r : ℕ) (inv : Inv 
   own : Own f c r p
   own = inv.own r within
 
-  pub adopt_keeps : (v : View) (x : ℕ) (l : List Entry) → MayAdopt c p v x l → Kept m f c (after f c r (adopt m p v x l))
-  adopt_keeps v x l may = adopted_keeps m f c r inv within v x l [] may.at_most (below_of m f c r inv within v may.at_most may.change)
+  pub adopt_keeps : (v : View) (x z : ℕ) (l : List Entry) → MayAdopt c p v x z l → Kept m f c (after f c r (adopt m p v x z l))
+  adopt_keeps v x z l may = adopted_keeps m f c r inv within v x z l [] may.at_most (below_of m f c r inv within v may.at_most may.change)
       (λ e here begun.
-      let d = after f c r (adopt m p v x l) in
+      let d = after f c r (adopt m p v x z l) in
       let n = e.leads v said.lead said.leads in
       let good = log_lasts m f c d e (leader_of v (2 * f + 1)) v said.lead (inv.logs (leader_of v (2 * f + 1)) v said.lead said.leads) in
       let is_start : IsStart d.past v said.start = e.starts v said.start said.is_start in
@@ -60,7 +60,7 @@ module _ {S : Type 0} (m : Meaning S) (f : ℕ) (c : Conf) (r : ℕ) (inv : Inv 
       })
     where
       said : Begun f c (leader_of v p.replicas) v x l
-      said = inv.said (says (leader_of v p.replicas) v (StartView x l)) may.said
+      said = inv.said (says (leader_of v p.replicas) v (StartView x z l)) may.said
 
       follows : r ≡ leader_of v (2 * f + 1) → ⊥
       follows a = may.follows (own.number ∙ a ∙ ap (leader_of v) (sym own.replicas))

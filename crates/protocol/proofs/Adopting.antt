@@ -35,19 +35,19 @@ module _ {S : Type 0} (m : Meaning S) (f : ℕ) (c : Conf) (r : ℕ) (inv : Inv 
   own = inv.own r within
 
   -- what an adopted log owes
-  pub record Adopts (d : Conf) (v : View) (x : ℕ) (l : List Entry) (said : List Said) : Type 0 where
+  pub record Adopts (d : Conf) (v : View) (x z : ℕ) (l : List Entry) (said : List Said) : Type 0 where
     pub log : GoodLog f d r v l
     pub counted : x + length log.start.log ≡ log.start.next + length l
     pub base : r ≡ leader_of v (2 * f + 1) → length l ≡ length log.start.log
-    pub started : r ≡ leader_of v (2 * f + 1) → GoodStart f d.past v (started_with (standing (adopted p v x l)))
+    pub started : r ≡ leader_of v (2 * f + 1) → GoodStart f d.past v (started_with (standing (adopted p v x z l)))
     pub words : (y : Said) → Has said y → TrueWord f d y.sender y.view y.word
 
-  module _ (v : View) (x : ℕ) (l : List Entry) (said : List Said) (up : AtMost p.view v) (below : Below p.last_normal v) where
+  module _ (v : View) (x z : ℕ) (l : List Entry) (said : List Said) (up : AtMost p.view v) (below : Below p.last_normal v) where
     abbrev s : Member
-    s = adopted p v x l
+    s = adopted p v x z l
 
     abbrev d : Conf
-    d = after f c r (adopt_saying m said p v x l)
+    d = after f c r (adopt_saying m said p v x z l)
 
     -- whether the view is entered with it, and started
     abbrev rises : Bool
@@ -80,7 +80,7 @@ module _ {S : Type 0} (m : Meaning S) (f : ℕ) (c : Conf) (r : ℕ) (inv : Inv 
       starts = λ w y h. elim (start_places starts v (started_with (standing s)) c.past w) [
         | inl (a, t) ↦
             let good = inv.starts w y h in
-            absurd (not_yet (leader_of w (2 * f + 1)) w good.lead (ap (λ (z : View). leader_of z (2 * f + 1)) t ∙ sym (is_leader a))
+            absurd (not_yet (leader_of w (2 * f + 1)) w good.lead (ap (λ (i : View). leader_of i (2 * f + 1)) t ∙ sym (is_leader a))
             t good.leads)
         | inr g ↦ g ∙ h
       ];
@@ -95,7 +95,7 @@ module _ {S : Type 0} (m : Meaning S) (f : ℕ) (c : Conf) (r : ℕ) (inv : Inv 
       queued = advanced_stamped d.stamps p.receiver x o.queue.queued;
     }
 
-    own_after : (e : Evolves f c d) → Adopts d v x l said → Own f d r s
+    own_after : (e : Evolves f c d) → Adopts d v x z l said → Own f d r s
     own_after e owed =
         let o : Own f d r p = own_lasts m f c d e r p own in
         record {
@@ -122,8 +122,8 @@ module _ {S : Type 0} (m : Meaning S) (f : ℕ) (c : Conf) (r : ℕ) (inv : Inv 
         (rw (apart, same) refl)
 
     pub adopted_keeps : ((e : Evolves f c d) → HadLog d.past r v l
-        → (r ≡ leader_of v (2 * f + 1) → IsStart d.past v (started_with (standing s))) → Adopts d v x l said) → Kept m f c d
-    adopted_keeps due = grows_keeps m f c r (adopt_saying m said p v x l) inv within forward up below.at_most below (λ e.
+        → (r ≡ leader_of v (2 * f + 1) → IsStart d.past v (started_with (standing s))) → Adopts d v x z l said) → Kept m f c d
+    adopted_keeps due = grows_keeps m f c r (adopt_saying m said p v x z l) inv within forward up below.at_most below (λ e.
         let here : HadLog d.past r v l = log_here c.past r v l in
         let owed = due e here begun in
         let mine = own_after e owed in
@@ -144,11 +144,11 @@ module _ {S : Type 0} (m : Meaning S) (f : ℕ) (c : Conf) (r : ℕ) (inv : Inv 
           ];
           starts = λ w y h. elim (start_cases starts v (started_with (standing s)) c.past w y h) [
             | inl (a, t, u) ↦ inr
-                (subst (λ (z : View). GoodStart f d.past z y) (sym t) (subst (GoodStart f d.past v) (sym u) (owed.started (is_leader a))))
+                (subst (λ (i : View). GoodStart f d.past i y) (sym t) (subst (GoodStart f d.past v) (sym u) (owed.started (is_leader a))))
             | inr g ↦ inl g
           ];
           current = here;
           said = owed.words;
-          replies = above_true m f d s own.replicas (subst (λ (i : ℕ). HadLog d.past i v l) (sym own.number) here) p.sync.sync_point;
+          replies = above_true m f d s own.replicas (subst (λ (i : ℕ). HadLog d.past i v l) (sym own.number) here) s.sync.sync_point;
           own = mine;
         })

@@ -1,6 +1,7 @@
 -- The move `count_sync_vote`.
-use Rattle.std.proofs.Common.{ℕ, ◌+◌, ◌*◌, ◌<◌}
+use Rattle.std.proofs.Common.{◌≡◌, ℕ, ◌+◌, ◌*◌, ◌<◌}
 use Rattle.std.specs.Prelude.{◌==◌}
+use Rattle.nop_types.specs.declared.replica_state.Phase.TheVariants.{Normal}
 use Rattle.nop_types.specs.declared.replica_state.Vote.{Vote}
 use Rattle.nop_types.specs.declared.replica_state.Vote.TheVariants.{Settled, Waiting}
 use Rattle.nop_types.specs.Lists.{Has}
@@ -13,7 +14,7 @@ use Rattle.protocol.specs.Moves.{commit_if, count_sync_vote}
 use Rattle.protocol.specs.Said.{Said, SyncCommit}
 use Rattle.protocol.specs.Truth.{TrueWord}
 use Rattle.protocol.proofs.Growing.{Kept}
-use Rattle.protocol.proofs.Saying.{said_unless, speaks}
+use Rattle.protocol.proofs.Saying.{said_unless, speaks, not_both}
 
 module _ {S : Type 0} (m : Meaning S) (f : ℕ) (c : Conf) (r : ℕ) (inv : Inv m f c) (within : r < 2 * f + 1) where
   abbrev p : Member
@@ -26,6 +27,7 @@ module _ {S : Type 0} (m : Meaning S) (f : ℕ) (c : Conf) (r : ℕ) (inv : Inv 
   commits d k Settled y i = said_unless f d p (SyncCommit k) tt (others p == 0) y i
   commits d k Waiting y i = absurd (Has-none y i)
 
-  pub count_sync_vote_keeps : (q k : ℕ) → Kept m f c (after f c r (count_sync_vote p q k))
-  count_sync_vote_keeps q k = speaks m f c r inv within (count_sync_vote p q k).state.sync (count_sync_vote p q k).said
+  pub count_sync_vote_keeps : (q k : ℕ) → p.status ≡ Normal → Kept m f c (after f c r (count_sync_vote p q k))
+  count_sync_vote_keeps q k normal = speaks m f c r inv within (count_sync_vote p q k).state.sync (count_sync_vote p q k).said
+      (λ n. absurd (not_both normal n))
       (λ d ev had. commits d k _)

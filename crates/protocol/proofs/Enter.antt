@@ -98,8 +98,8 @@ module _ {S : Type 0} (m : Meaning S) (f : ℕ) (c : Conf) (r : ℕ) (inv : Inv 
     within = λ x i. subst (λ (y : peer.Change). y.sender < 2 * f + 1) (sym (Has-one x (own_change t) i))
         (subst (λ (j : ℕ). j < 2 * f + 1) (sym own.number) within);
     entries = λ x i. subst (λ (y : peer.Change). past.entry y.sender v
-        ≡ Some (record { last_normal = y.last_normal; next = y.next; log = y.log })) (sym (Has-one x (own_change t) i))
-        (subst (λ (j : ℕ). past.entry j v ≡ Some (entered_with (standing p))) (sym own.number) here);
+        ≡ Some (record { last_normal = y.last_normal; next = y.next; sync_point = y.sync_point; log = y.log }))
+        (sym (Has-one x (own_change t) i)) (subst (λ (j : ℕ). past.entry j v ≡ Some (entered_with (standing p))) (sym own.number) here);
   }
 
   changes_good : (past : Past) → past.entry r v ≡ Some (entered_with (standing p)) → (b : Bool) → leads t ≡ b
@@ -119,11 +119,12 @@ module _ {S : Type 0} (m : Meaning S) (f : ℕ) (c : Conf) (r : ℕ) (inv : Inv 
   words : (d : Conf) → d.past.entry r v ≡ Some (entered_with (standing p)) → (b : Bool) (y : Said) → Has (enter_as b t).said y
       → TrueWord f d y.sender y.view y.word
   words d here true y i = said_unless f d t Plain tt (others t == 0) y i
-  words d here false y i = elim (Has-append_cases (say_all t Plain) (says p.number v (ViewChange p.last_normal p.next p.log) ∷ []) y i) [
-    | inl g ↦ said_unless f d t Plain tt (others t == 0) y g
-    | inr g ↦ said_unless f d t (ViewChange p.last_normal p.next p.log)
-        (subst (λ (j : ℕ). d.past.entry j v ≡ Some (entered_with (standing p))) (sym own.number) here) false y g
-  ]
+  words d here false y i = elim (Has-append_cases (say_all t Plain)
+      (says p.number v (ViewChange p.last_normal p.next p.sync.sync_point p.log) ∷ []) y i) [
+        | inl g ↦ said_unless f d t Plain tt (others t == 0) y g
+        | inr g ↦ said_unless f d t (ViewChange p.last_normal p.next p.sync.sync_point p.log)
+            (subst (λ (j : ℕ). d.past.entry j v ≡ Some (entered_with (standing p))) (sym own.number) here) false y g
+      ]
 
   -- with these changes, saying this
   module _ (g : Option Gathering) (said : List Said) where

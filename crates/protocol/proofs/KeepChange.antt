@@ -5,7 +5,7 @@ use Rattle.std.proofs.lemmas.Bool.{cases_eq}
 use Rattle.std.proofs.lemmas.Bool.Decides.{nat_tests}
 use Rattle.nop_types.specs.Meaning.{Meaning}
 use Rattle.facts.proofs.Members.{Has-append_left, Has-append_cases, Has-one, Has-none}
-use Rattle.started_views.specs.Past.{Past}
+use Rattle.started_views.specs.Past.{Entered, Past}
 use Rattle.started_views.specs.Quorums.{counts}
 use Rattle.view_change.specs.Gathering.{Gathering, has_sender}
 use Rattle.view_change.proofs.Senders.{none_there}
@@ -33,11 +33,14 @@ module _ {S : Type 0} (m : Meaning S) (f : ℕ) (c : Conf) (r : ℕ) (inv : Inv 
   log_same d ev = log_lasts m f c d ev r p.last_normal p.log (inv.logs r p.last_normal p.log (inv.current r within))
 
   module _ (g : Gathering) (x : peer.Change) (may : MayKeepChange f c p g x) where
-    is_entry : c.past.entry x.sender p.view ≡ Some (record { last_normal = x.last_normal; next = x.next; log = x.log })
-    is_entry = inv.said (says x.sender p.view (ViewChange x.last_normal x.next x.log)) may.change.said
+    abbrev e : Entered
+    e = record { last_normal = x.last_normal; next = x.next; sync_point = x.sync_point; log = x.log }
 
-    with_it : (past : Past) → past.entry x.sender p.view ≡ Some (record { last_normal = x.last_normal; next = x.next; log = x.log })
-        → Gathers f past r p.view p.status g → (b : Bool) → has_sender g.changes x.sender ≡ b
+    is_entry : c.past.entry x.sender p.view ≡ Some e
+    is_entry = inv.said (says x.sender p.view (ViewChange x.last_normal x.next x.sync_point x.log)) may.change.said
+
+    with_it : (past : Past) → past.entry x.sender p.view ≡ Some e → Gathers f past r p.view p.status g → (b : Bool)
+        → has_sender g.changes x.sender ≡ b
         → Gathers f past r p.view p.status (record g { changes = cond b g.changes (g.changes ++ x ∷ []) })
     with_it past here t true is = record {
       view = t.view;
@@ -75,7 +78,8 @@ module _ {S : Type 0} (m : Meaning S) (f : ℕ) (c : Conf) (r : ℕ) (inv : Inv 
       entries = λ y i. elim (Has-append_cases g.changes (x ∷ []) y i) [
         | inl old ↦ t.entries y old
         | inr new ↦ subst (λ (z : peer.Change). past.entry z.sender p.view
-            ≡ Some (record { last_normal = z.last_normal; next = z.next; log = z.log })) (sym (Has-one y x new)) here
+            ≡ Some (record { last_normal = z.last_normal; next = z.next; sync_point = z.sync_point; log = z.log }))
+            (sym (Has-one y x new)) here
       ];
     }
 
@@ -83,7 +87,7 @@ module _ {S : Type 0} (m : Meaning S) (f : ℕ) (c : Conf) (r : ℕ) (inv : Inv 
     keep_change_keeps = local_keeps m f c r (keep_change p g x) inv within refl refl (turns_same f c r) (λ d ev had.
         let o : Own f d r p = own_lasts m f c d ev r p own in
         let more : Gathers f d.past r p.view p.status (gathering.counted g x) =
-        with_it d.past (ev.entries x.sender p.view (record { last_normal = x.last_normal; next = x.next; log = x.log }) is_entry)
+        with_it d.past (ev.entries x.sender p.view e is_entry)
         (o.changes.gathers g may.gathers) (has_sender g.changes x.sender) refl in
         record {
           log = log_same d ev;

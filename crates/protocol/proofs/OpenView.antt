@@ -9,7 +9,7 @@ use Rattle.nop_types.specs.Lists.{Has, slot_of}
 use Rattle.nop_types.specs.Meaning.{Meaning}
 use Rattle.nop_types.specs.Views.{Below}
 use Rattle.log_merge.specs.Merge.{merge}
-use Rattle.log_merge.specs.Starting.{Start, kept, start_of}
+use Rattle.log_merge.specs.Starting.{Start, kept, start_of, start_point}
 use Rattle.log_merge.proofs.Winners.{Winner, Nobody, Somebody, winner}
 use Rattle.started_views.specs.Past.{LeaderHad, IsStart, started_with}
 use Rattle.started_views.proofs.Changes.{kept_from}
@@ -51,6 +51,9 @@ module _ {S : Type 0} (m : Meaning S) (f : ℕ) (c : Conf) (r : ℕ) (inv : Inv 
     abbrev s : Start
     s = start_of g.view g.changes
 
+    abbrev z : ℕ
+    z = start_point g.changes
+
     was : Gathers f c.past r p.view p.status g
     was = own.changes.gathers g may.gathers
 
@@ -60,14 +63,14 @@ module _ {S : Type 0} (m : Meaning S) (f : ℕ) (c : Conf) (r : ℕ) (inv : Inv 
     session : 1 ≤ p.last_normal.session
     session = (inv.starts p.last_normal own.place.start own.place.is_start).session
 
-    start_parts : (x : ℕ) (l : List Entry) → started_with (standing (adopted p p.view x l)) ≡ record { next = x; log = l }
-    start_parts x l =
+    start_parts : (x z : ℕ) (l : List Entry) → started_with (standing (adopted p p.view x z l)) ≡ record { next = x; log = l }
+    start_parts x z l =
         let a : x - (length l - length l) ≡ x = omega arith in
         let b : take (length l) l ≡ l = take-length l in
         cc
 
-    same_start : started_with (standing (adopted p p.view s.next s.log)) ≡ s
-    same_start = start_parts s.next s.log
+    same_start : started_with (standing (adopted p p.view s.next z s.log)) ≡ s
+    same_start = start_parts s.next z s.log
 
     out : (k : ℕ) (y : Entry) → length s.log < k → slot_of s.log k ≡ Some y → ⊥
     out k y a e = omega (arith, a, (slot_of-within s.log k y e).1)
@@ -76,17 +79,17 @@ module _ {S : Type 0} (m : Meaning S) (f : ℕ) (c : Conf) (r : ℕ) (inv : Inv 
     merged q (i, e) =
         let x = merge_from (kept g.changes) (suc i) (Req q) e in
         let y = (kept_from g.changes x.0 x.1).0 in
-        let entry = inv.entries x.0.sender p.view (record { last_normal = x.0.last_normal; next = x.0.next; log = x.0.log })
-        (was.entries x.0 y) in
+        let entry = inv.entries x.0.sender p.view
+        (record { last_normal = x.0.last_normal; next = x.0.next; sync_point = x.0.sync_point; log = x.0.log }) (was.entries x.0 y) in
         (inv.logs x.0.sender x.0.last_normal x.0.log entry.log).submitted q (i, x.2)
 
     -- the view starts with what is merged
     pub view_starts : IsStart (after f c r (open_view m p g)).past p.view s
     view_starts = subst (IsStart (after f c r (open_view m p g)).past p.view) same_start
-        (begun m f c r inv within p.view s.next s.log (say_all p (StartView s.next s.log)) (AtMost-refl p.view) below was.leads)
+        (begun m f c r inv within p.view s.next z s.log (say_all p (StartView s.next z s.log)) (AtMost-refl p.view) below was.leads)
 
     pub open_view_keeps : Kept m f c (after f c r (open_view m p g))
-    open_view_keeps = adopted_keeps m f c r inv within p.view s.next s.log (say_all p (StartView s.next s.log))
+    open_view_keeps = adopted_keeps m f c r inv within p.view s.next z s.log (say_all p (StartView s.next z s.log))
         (AtMost-refl p.view) below (λ e here starts.
         let d = after f c r (open_view m p g) in
         let t : Gathers f d.past r p.view p.status g = (own_lasts m f c d e r p own).changes.gathers g may.gathers in
@@ -118,7 +121,7 @@ module _ {S : Type 0} (m : Meaning S) (f : ℕ) (c : Conf) (r : ℕ) (inv : Inv 
               opens = same_start ∙ ap (λ (w : View). start_of w g.changes) t.view;
             };
           };
-          words = said_unless f d p (StartView s.next s.log) (record {
+          words = said_unless f d p (StartView s.next z s.log) (record {
             sender = own.number ∙ t.leads;
             start = s;
             is_start = is_start;

@@ -1,4 +1,5 @@
 -- The move `overlay`.
+use Rattle.std.specs.Prelude.{max}
 use Rattle.std.proofs.Common.{◌≡◌, ℕ, ◌+◌, ◌*◌, ◌<◌, false, refl, sym, subst, arith, inl, inr, length, List}
 use Rattle.std.specs.Prelude.{◌-◌}
 use Rattle.nop_types.specs.declared.view.View.{View}
@@ -10,7 +11,7 @@ use Rattle.oum_receiver.proofs.Stamps.{advanced_stamped}
 use Rattle.started_views.specs.Past.{LeaderHad}
 use Rattle.started_views.proofs.Logs.{toward_laid}
 use Rattle.facts.proofs.Slots.{slot_of-prefix, length-laid, slot_of-laid_cases}
-use Rattle.sync_points.specs.Synchronisation.{taken}
+use Rattle.sync_points.specs.Synchronisation.{raised, taken}
 use Rattle.protocol.specs.Conf.{Conf, after}
 use Rattle.protocol.specs.Invariant.{Own, Inv}
 use Rattle.protocol.specs.Member.{Member, leader}
@@ -31,10 +32,10 @@ module _ {S : Type 0} (m : Meaning S) (f : ℕ) (c : Conf) (r : ℕ) (inv : Inv 
   own : Own f c r p
   own = inv.own r within
 
-  pub overlay_keeps : (l : List Entry) → MayOverlay c p l → Kept m f c (after f c r (overlay m p l))
-  overlay_keeps l may =
-      turn_keeps m f c r inv within (laid l p.log) n (advanced p.receiver n) (taken p.sync (length l)) (say p (SyncRep (length l)))
-      (replies_above m (overlaid p l) (length p.log)) (record {
+  pub overlay_keeps : (z : ℕ) (l : List Entry) → MayOverlay c p z l → Kept m f c (after f c r (overlay m p z l))
+  overlay_keeps z l may =
+      turn_keeps m f c r inv within (laid l p.log) n (advanced p.receiver n) (raised (taken p.sync (length l)) z)
+      (say p (SyncRep (length l))) (replies_above m (overlaid p z l) (max (length p.log) (overlaid p z l).sync.sync_point)) (record {
         normal = may.normal;
         follows = follows_last m f c r inv within may;
         lead = t.lead;
@@ -49,7 +50,8 @@ module _ {S : Type 0} (m : Meaning S) (f : ℕ) (c : Conf) (r : ℕ) (inv : Inv 
         number = refl;
         queued = λ stamps h. advanced_stamped stamps p.receiver n h;
       }) (λ d ev had. said_unless f d p (SyncRep (length l)) tt false)
-      (λ d had. above_true m f d (overlaid p l) own.replicas (by_number m f c r inv within d (laid l p.log) view had) (length p.log))
+      (λ d had. above_true m f d (overlaid p z l) own.replicas (by_number m f c r inv within d (laid l p.log) view had)
+      (max (length p.log) (overlaid p z l).sync.sync_point))
     where
       n : ℕ
       n = p.next + (length l - length p.log)
@@ -58,4 +60,4 @@ module _ {S : Type 0} (m : Meaning S) (f : ℕ) (c : Conf) (r : ℕ) (inv : Inv 
       view = own.place.normal may.normal
 
       t : Prepared f c (leader p) p.view l
-      t = inv.said (says (leader p) p.view (SyncPrepare l)) may.said
+      t = inv.said (says (leader p) p.view (SyncPrepare z l)) may.said

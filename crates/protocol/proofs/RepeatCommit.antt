@@ -1,5 +1,5 @@
 -- The move `repeat_commit`.
-use Rattle.std.proofs.Common.{ℕ, ◌+◌, ◌*◌, ◌<◌}
+use Rattle.std.proofs.Common.{refl, ℕ, ◌+◌, ◌*◌, ◌<◌}
 use Rattle.std.specs.Prelude.{◌==◌}
 use Rattle.nop_types.specs.Meaning.{Meaning}
 use Rattle.protocol.specs.Conf.{Conf, after}
@@ -18,5 +18,5 @@ module _ {S : Type 0} (m : Meaning S) (f : ℕ) (c : Conf) (r : ℕ) (inv : Inv 
   own = inv.own r within
 
   pub repeat_commit_keeps : Kept m f c (after f c r (repeat_commit p))
-  repeat_commit_keeps = speaks m f c r inv within p.sync (say_all p (SyncCommit p.sync.sync_point))
+  repeat_commit_keeps = speaks m f c r inv within p.sync (say_all p (SyncCommit p.sync.sync_point)) (λ n. refl)
       (λ d ev had. said_unless f d p (SyncCommit p.sync.sync_point) tt (others p == 0))

@@ -47,12 +47,12 @@ module _ {S : Type 0} (m : Meaning S) (f : ℕ) where
   act_keeps c r (Enter v) inv (l, may) = enter_keeps m f c r inv l v may
   act_keeps c r (KeepChange g x) inv (l, may) = keep_change_keeps m f c r inv l g x may
   act_keeps c r (OpenView g) inv (l, may) = open_view_keeps m f c r inv l g may
-  act_keeps c r (Adopt v x log) inv (l, may) = adopt_keeps m f c r inv l v x log may
+  act_keeps c r (Adopt v x z log) inv (l, may) = adopt_keeps m f c r inv l v x z log may
   act_keeps c r (Say x) inv (l, may) = say_keeps m f c r inv l x may
-  act_keeps c r (Overlay log) inv (l, may) = overlay_keeps m f c r inv l log may
-  act_keeps c r (Obey k) inv (l, may) = obey_keeps m f c r inv l k
+  act_keeps c r (Overlay z log) inv (l, may) = overlay_keeps m f c r inv l z log may
+  act_keeps c r (Obey k) inv (l, may) = obey_keeps m f c r inv l k may.may_follow.normal
   act_keeps c r OpenSync inv (l, may) = open_sync_keeps m f c r inv l may
-  act_keeps c r (CountSyncVote q k) inv (l, may) = count_sync_vote_keeps m f c r inv l q k
+  act_keeps c r (CountSyncVote q k) inv (l, may) = count_sync_vote_keeps m f c r inv l q k may.may_lead.normal
   act_keeps c r RepeatCommit inv (l, may) = repeat_commit_keeps m f c r inv l
 
   pub happens_keeps : (c : Conf) (x : Move) → Inv m f c → May f c x → Kept m f c (happens m f c x)

@@ -1,5 +1,5 @@
 -- The move by which a true word is said again.
-use Rattle.std.proofs.Common.{ℕ, ◌+◌, ◌*◌, ◌<◌, false}
+use Rattle.std.proofs.Common.{refl, ℕ, ◌+◌, ◌*◌, ◌<◌, false}
 use Rattle.nop_types.specs.Meaning.{Meaning}
 use Rattle.protocol.specs.Conf.{Conf, after}
 use Rattle.protocol.specs.Invariant.{Own, Inv}
@@ -18,5 +18,5 @@ module _ {S : Type 0} (m : Meaning S) (f : ℕ) (c : Conf) (r : ℕ) (inv : Inv 
   own = inv.own r within
 
   pub say_keeps : (x : Word) → MaySay f c p x → Kept m f c (after f c r (say_again p x))
-  say_keeps x may = speaks m f c r inv within p.sync (say p x)
-      (λ d ev had. said_unless f d p x (word_lasts m f c d ev p.number p.view x (true_again f c p.number p.view x may)) false)
+  say_keeps x may = speaks m f c r inv within p.sync (say p x) (λ n. refl)
+      (λ d ev had. said_unless f d p x (word_lasts m f c d ev p.number p.view x (true_again f c p.number p.view x may.true)) false)

@@ -20,6 +20,8 @@ use Rattle.protocol.proofs.Growing.{Kept}
 use Rattle.protocol.proofs.Stays.{log_lasts, own_lasts}
 use Rattle.protocol.proofs.Local.{turns_same, local_keeps}
 use Rattle.protocol.proofs.Places.{follows_it, by_number}
+use Rattle.nop_types.specs.declared.replica_state.Phase.{Phase}
+use Rattle.nop_types.specs.declared.replica_state.Phase.TheVariants.{Normal, Change}
 
 -- what is said unless the replica is alone
 pub said_unless : (f : ℕ) (d : Conf) (p : Member) (x : Word) → TrueWord f d p.number p.view x → (b : Bool) (y : Said)
@@ -33,11 +35,15 @@ true_again f c q w Plain t = t
 true_again f c q w (Found k r) t = t
 true_again f c q w (GapCommit k) t = t
 true_again f c q w (GapRep k) t = t
-true_again f c q w (ViewChange u x l) t = t
-true_again f c q w (StartView x l) t = t
-true_again f c q w (SyncPrepare l) t = t
+true_again f c q w (ViewChange u x z l) t = t
+true_again f c q w (StartView x z l) t = t
+true_again f c q w (SyncPrepare z l) t = t
 true_again f c q w (SyncRep k) t = absurd t
 true_again f c q w (SyncCommit k) t = absurd t
+
+-- no replica is in Normal and in Change
+pub not_both : {a : Phase} → a ≡ Normal → a ≡ Change → ⊥
+not_both e g = let both : Normal ≡ Change = sym e ∙ g in cc
 
 module _ {S : Type 0} (m : Meaning S) (f : ℕ) (c : Conf) (r : ℕ) (inv : Inv m f c) (within : r < 2 * f + 1) where
   abbrev p : Member
@@ -50,18 +56,38 @@ module _ {S : Type 0} (m : Meaning S) (f : ℕ) (c : Conf) (r : ℕ) (inv : Inv 
   log_same : (d : Conf) → Evolves f c d → GoodLog f d r p.last_normal p.log
   log_same d ev = log_lasts m f c d ev r p.last_normal p.log (inv.logs r p.last_normal p.log (inv.current r within))
 
-  -- something is said, and the sync point may change
-  pub speaks : (s : Synchronisation) (said : List Said) → ((d : Conf) → Evolves f c d → HadLog d.past r p.last_normal p.log → (y : Said)
-      → Has said y → TrueWord f d y.sender y.view y.word)
+  -- something is said, and in Normal the sync point may change
+  pub speaks : (s : Synchronisation) (said : List Said) → (p.status ≡ Change → s.sync_point ≡ p.sync.sync_point)
+      → ((d : Conf) → Evolves f c d → HadLog d.past r p.last_normal p.log → (y : Said) → Has said y → TrueWord f d y.sender y.view y.word)
       → Kept m f c (after f c r (record { state = record p { sync = s }; said = said; replies = [] }))
-  speaks s said words = local_keeps m f c r (record { state = record p { sync = s }; said = said; replies = [] }) inv within refl refl
+  speaks s said still words = local_keeps m f c r (record { state = record p { sync = s }; said = said; replies = [] }) inv within refl refl
       (turns_same f c r) (λ d ev had.
       let o : Own f d r p = own_lasts m f c d ev r p own in
       record {
         log = log_same d ev;
         said = words d ev had;
         replies = λ y i. absurd (Has-none y i);
-        own = record { number = o.number; replicas = o.replicas; place = o.place; queue = o.queue; gap = o.gap; changes = o.changes };
+        own = record {
+          number = o.number;
+          replicas = o.replicas;
+          place = record {
+            normal = o.place.normal;
+            change = o.place.change;
+            start = o.place.start;
+            is_start = o.place.is_start;
+            counted = o.place.counted;
+            base = o.place.base;
+          };
+          queue = o.queue;
+          gap = o.gap;
+          changes = record {
+            entered = λ n. subst (λ (k : ℕ). d.past.entry r p.view
+                ≡ Some (record { last_normal = p.last_normal; next = p.next; sync_point = k; log = p.log }))
+                (sym (still n)) (o.changes.entered n);
+            gathers = o.changes.gathers;
+            leads = o.changes.leads;
+          };
+        };
       })
 
   -- the answer, once the NO-OP stands in the log

@@ -1,7 +1,8 @@
 -- The worked runs: each move may be made, and they end where they should.
-use Rattle.std.proofs.Common.{◌≡◌, ℕ, zero, suc, ◌<◌, false, refl, ap, arith}
+use Rattle.std.proofs.Common.{◌≡◌, ℕ, zero, suc, ◌<◌, false, [], ◌∷◌, refl, ap, arith}
 use Rattle.std.specs.FinMap as finite
 use Rattle.nop_types.specs.declared.view.View.{View}
+use Rattle.nop_types.specs.declared.request.Entry.TheVariants.{Req}
 use Rattle.nop_types.specs.Meaning.{Meaning}
 use Rattle.nop_types.specs.Views.{AtMost, Below, first_view, outranks}
 use Rattle.gap_agree.specs.Votes.{with_vote}
@@ -9,7 +10,7 @@ use Rattle.histories.proofs.Accounts.{kept_for-insert}
 use Rattle.protocol.specs.Conf.{opening, last_normals}
 use Rattle.protocol.specs.Runs.{run, MayAll}
 use Rattle.protocol.specs.Worked.{three, view, put_request, get_request, gap_run, GapRun, GapRunEnds, session_run, SessionRun}
-use Rattle.protocol.specs.Worked.{SessionRunEnds, sync_run, SyncRun, SyncRunEnds}
+use Rattle.protocol.specs.Worked.{SessionRunEnds, sync_run, SyncRun, SyncRunEnds, told_run, ToldRun, ToldRunEnds}
 use Rattle.protocol.proofs.Receivers.{front_first, front_second, front_passed, front_early, front_late}
 
 -- the replicas
@@ -185,3 +186,34 @@ module _ {S : Type 0} (m : Meaning S) where
 
   pub sync_run_ends : SyncRunEnds m
   sync_run_ends = (sync_allowed, sync_ends)
+
+  told_allowed : MayAll m 1 (run m 1 (opening (three 1 1)) (sync_run m)) (told_run m)
+  unfolding with_vote
+  told_allowed =
+      also (
+        zero_of,
+        record {
+          true = record {
+            sender = refl;
+            start = record { next = 1; log = [] };
+            is_start = refl;
+            lead = Req put_request ∷ [];
+            leads = refl;
+            begins = ([], refl);
+            settled = λ longer noop. absurd cc;
+          };
+          point = (refl, omega arith);
+        },
+      )
+      (also (one_of, record { normal = refl; follows = refl; said = (0, refl) })
+      tt)
+
+  told_ends : ToldRun m (run m 1 (run m 1 (opening (three 1 1)) (sync_run m)) (told_run m))
+  unfolding with_vote
+  told_ends = record {
+    second = record { status = refl; view = refl; last_normal = refl; log = refl; sync_point = refl };
+    replies = refl;
+  }
+
+  pub told_run_ends : ToldRunEnds m
+  told_run_ends = (told_allowed, told_ends)

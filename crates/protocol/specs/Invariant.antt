@@ -169,7 +169,7 @@ pub record Gathers (f : ℕ) (past : Past) (r : ℕ) (w : View) (status : Phase)
   pub once : (q : ℕ) → counts q (map (λ x. x.sender) g.changes) ≤ 1
   pub within : (x : peer.Change) → Has g.changes x → x.sender < 2 * f + 1
   pub entries : (x : peer.Change) → Has g.changes x
-      → past.entry x.sender w ≡ Some (record { last_normal = x.last_normal; next = x.next; log = x.log })
+      → past.entry x.sender w ≡ Some (record { last_normal = x.last_normal; next = x.next; sync_point = x.sync_point; log = x.log })
 
 -- what it has in Change is what it entered the view with
 pub record GoodChanges (f : ℕ) (past : Past) (r : ℕ) (view : View) (status : Phase) (e : Entered)

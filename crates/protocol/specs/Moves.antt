@@ -1,6 +1,6 @@
 -- The moves of which each step of an actor is a list, and when each may be made.
 use Rattle.std.specs.Prelude.{◌≡◌, ◌≤◌, ◌<◌, ◌+◌, ◌-◌, ◌*◌, ◌==◌, ◌&&◌, ℕ, Bool, true, false, cond, not, List, [], ◌∷◌, ◌++◌, Option, Some}
-use Rattle.std.specs.Prelude.{None, length, nat_lt}
+use Rattle.std.specs.Prelude.{None, length, max, nat_lt, ⊤}
 use Rattle.nop_types.specs.declared.view.View.{View}
 use Rattle.nop_types.specs.declared.replica_state.Phase.TheVariants.{Normal, Change}
 use Rattle.nop_types.specs.declared.replica_state.Vote.{Vote}
@@ -21,13 +21,13 @@ use Rattle.client_quorum.specs.ClientSteps.{has_none, request_of, submitted, is_
 use Rattle.client_quorum.specs.KeptReplies.{quorum_of}
 use Rattle.gap_agree.specs.Agreement.{Agreement, begun, counted}
 use Rattle.gap_agree.specs.Votes.{vote_of}
-use Rattle.log_merge.specs.Starting.{start_of}
+use Rattle.log_merge.specs.Starting.{start_of, start_point}
 use Rattle.oum_receiver.specs.Front.{Message}
 use Rattle.oum_receiver.specs.Receiving as receiving
 use Rattle.oum_receiver.specs.Receiving.{Receiving, offered, front_of, front_taken, advanced}
 use Rattle.sequencer.specs.declared.state.SequencerState.{SequencerState}
 use Rattle.sequencer.specs.SequencerSteps.{stamped}
-use Rattle.sync_points.specs.Synchronisation.{cleared, with_round, taken, committed, vote_for}
+use Rattle.sync_points.specs.Synchronisation.{cleared, raised, with_round, taken, committed, vote_for}
 use Rattle.sync_points.specs.Synchronisation as synchronisation
 use Rattle.view_change.specs.Gathering as gathering
 use Rattle.view_change.specs.Gathering.{Gathering}
@@ -159,7 +159,7 @@ abbrev pub entered : Member → View → Member
 entered p v = record (left p) { view = v; status = Change; receiver = listening p v }
 
 abbrev pub own_change : Member → peer.Change
-own_change p = record { sender = p.number; last_normal = p.last_normal; next = p.next; log = p.log }
+own_change p = record { sender = p.number; last_normal = p.last_normal; next = p.next; sync_point = p.sync.sync_point; log = p.log }
 
 -- the leader keeps its own change, another sends it
 abbrev pub enter_as : Bool → Member → Effect
@@ -168,7 +168,11 @@ enter_as true p = record {
   said = say_all p Plain;
   replies = [];
 }
-enter_as false p = record { state = p; said = say_all p Plain ++ say p (ViewChange p.last_normal p.next p.log); replies = [] }
+enter_as false p = record {
+  state = p;
+  said = say_all p Plain ++ say p (ViewChange p.last_normal p.next p.sync.sync_point p.log);
+  replies = [];
+}
 
 abbrev pub enter : Member → View → Effect
 enter p v = enter_as (leads (entered p v)) (entered p v)
@@ -179,7 +183,7 @@ keep_change p g x = record { state = record p { changes = Some (gathering.counte
 
 pub record MayKeepChange (f : ℕ) (c : Conf) (p : Member) (g : Gathering) (x : peer.Change) : Type 0 where
   pub gathers : p.changes ≡ Some g
-  pub change : DidAnother f c p x.sender (ViewChange x.last_normal x.next x.log)
+  pub change : DidAnother f c p x.sender (ViewChange x.last_normal x.next x.sync_point x.log)
 
 -- ---- a view starts
 
@@ -187,8 +191,8 @@ pub record MayKeepChange (f : ℕ) (c : Conf) (p : Member) (g : Gathering) (x : 
 abbrev pub listening_from : Member → View → ℕ → Receiving
 listening_from p v x = cond (nat_lt p.receiver.session v.session) (receiving.opened v.session x) (advanced p.receiver x)
 
-abbrev pub adopted : Member → View → ℕ → List Entry → Member
-adopted p v x l = record (left p) {
+abbrev pub adopted : Member → View → ℕ → ℕ → List Entry → Member
+adopted p v x z l = record (left p) {
   view = v;
   status = Normal;
   last_normal = v;
@@ -196,24 +200,29 @@ adopted p v x l = record (left p) {
   next = x;
   base = length l;
   receiver = listening_from p v x;
+  sync = raised (cleared p.sync) z;
 }
 
 -- a log is adopted, and each request above the sync point is answered once more
-abbrev pub adopt_saying : {S : Type 0} → Meaning S → List Said → Member → View → ℕ → List Entry → Effect
-adopt_saying m said p v x l = record { state = adopted p v x l; said = said; replies = replies_above m (adopted p v x l) p.sync.sync_point }
+abbrev pub adopt_saying : {S : Type 0} → Meaning S → List Said → Member → View → ℕ → ℕ → List Entry → Effect
+adopt_saying m said p v x z l =
+    record { state = adopted p v x z l; said = said; replies = replies_above m (adopted p v x z l) (adopted p v x z l).sync.sync_point }
 
-abbrev pub adopt : {S : Type 0} → Meaning S → Member → View → ℕ → List Entry → Effect
-adopt m p v x l = adopt_saying m [] p v x l
+abbrev pub adopt : {S : Type 0} → Meaning S → Member → View → ℕ → ℕ → List Entry → Effect
+adopt m p v x z l = adopt_saying m [] p v x z l
 
-pub record MayAdopt (c : Conf) (p : Member) (v : View) (x : ℕ) (l : List Entry) : Type 0 where
-  pub said : DidSay c.said (leader_of v p.replicas) v (StartView x l)
+pub record MayAdopt (c : Conf) (p : Member) (v : View) (x z : ℕ) (l : List Entry) : Type 0 where
+  pub said : DidSay c.said (leader_of v p.replicas) v (StartView x z l)
   pub follows : p.number ≡ leader_of v p.replicas → ⊥
   pub at_most : AtMost p.view v
   pub change : p.view ≡ v → p.status ≡ Change
 
 -- the leader tells all what its view starts with, and adopts it
 abbrev pub open_view : {S : Type 0} → Meaning S → Member → Gathering → Effect
-open_view m p g = let s = start_of g.view g.changes in adopt_saying m (say_all p (StartView s.next s.log)) p p.view s.next s.log
+open_view m p g =
+    let s = start_of g.view g.changes in
+    let z = start_point g.changes in
+    adopt_saying m (say_all p (StartView s.next z s.log)) p p.view s.next z s.log
 
 pub record MayOpenView (p : Member) (g : Gathering) : Type 0 where
   pub gathers : p.changes ≡ Some g
@@ -224,25 +233,42 @@ pub record MayOpenView (p : Member) (g : Gathering) : Type 0 where
 abbrev pub say_again : Member → Word → Effect
 say_again p x = record { state = p; said = say p x; replies = [] }
 
-abbrev pub MaySay : ℕ → Conf → Member → Word → Type 0
-MaySay f c p x = MayRepeat f c p.number p.view x
+-- a log that is told again is told with the own sync point, which it reaches
+abbrev pub TellsPoint : Member → Word → Type 0
+TellsPoint p (StartView x z l) = (z ≡ p.sync.sync_point) × (z ≤ length l)
+TellsPoint p (SyncPrepare z l) = (z ≡ p.sync.sync_point) × (z ≤ length l)
+TellsPoint p Plain = ⊤
+TellsPoint p (Found k r) = ⊤
+TellsPoint p (GapCommit k) = ⊤
+TellsPoint p (GapRep k) = ⊤
+TellsPoint p (ViewChange u x z l) = ⊤
+TellsPoint p (SyncRep k) = ⊤
+TellsPoint p (SyncCommit k) = ⊤
+
+pub record MaySay (f : ℕ) (c : Conf) (p : Member) (x : Word) : Type 0 where
+  pub true : MayRepeat f c p.number p.view x
+  pub point : TellsPoint p x
 
 -- ---- sync points
 
 -- a follower takes the entries of its leader's log
-abbrev pub overlaid : Member → List Entry → Member
-overlaid p l = record p {
+abbrev pub overlaid : Member → ℕ → List Entry → Member
+overlaid p z l = record p {
   log = laid l p.log;
   next = p.next + (length l - length p.log);
   receiver = advanced p.receiver (p.next + (length l - length p.log));
-  sync = taken p.sync (length l);
+  sync = raised (taken p.sync (length l)) z;
 }
 
-abbrev pub overlay : {S : Type 0} → Meaning S → Member → List Entry → Effect
-overlay m p l = record { state = overlaid p l; said = say p (SyncRep (length l)); replies = replies_above m (overlaid p l) (length p.log) }
+abbrev pub overlay : {S : Type 0} → Meaning S → Member → ℕ → List Entry → Effect
+overlay m p z l = record {
+  state = overlaid p z l;
+  said = say p (SyncRep (length l));
+  replies = replies_above m (overlaid p z l) (max (length p.log) (overlaid p z l).sync.sync_point);
+}
 
-abbrev pub MayOverlay : Conf → Member → List Entry → Type 0
-MayOverlay c p l = MayFollow c p (SyncPrepare l)
+abbrev pub MayOverlay : Conf → Member → ℕ → List Entry → Type 0
+MayOverlay c p z l = MayFollow c p (SyncPrepare z l)
 
 -- a follower's sync point rises to what its leader says
 abbrev pub obey : Member → ℕ → Effect
@@ -254,7 +280,11 @@ pub record MayObey (c : Conf) (p : Member) (k : ℕ) : Type 0 where
 
 -- a leader tells its log, and waits for votes
 abbrev pub open_sync : Member → Effect
-open_sync p = record { state = record p { sync = with_round p.sync (length p.log) }; said = say_all p (SyncPrepare p.log); replies = [] }
+open_sync p = record {
+  state = record p { sync = with_round p.sync (length p.log) };
+  said = say_all p (SyncPrepare p.sync.sync_point p.log);
+  replies = [];
+}
 
 pub record MayOpenSync (p : Member) : Type 0 where
   pub may_lead : MayLead p

@@ -29,9 +29,9 @@ pub data Act : Type 0 where
   Enter : View → Act
   KeepChange : Gathering → peer.Change → Act
   OpenView : Gathering → Act
-  Adopt : View → (next : ℕ) → (log : List Entry) → Act
+  Adopt : View → (next sync_point : ℕ) → (log : List Entry) → Act
   Say : Word → Act
-  Overlay : (log : List Entry) → Act
+  Overlay : (sync_point : ℕ) → (log : List Entry) → Act
   Obey : (len : ℕ) → Act
   OpenSync : Act
   CountSyncVote : (voter len : ℕ) → Act
@@ -60,9 +60,9 @@ effect m p AddGap = moves.add_gap p
 effect m p (Enter v) = moves.enter p v
 effect m p (KeepChange g x) = moves.keep_change p g x
 effect m p (OpenView g) = moves.open_view m p g
-effect m p (Adopt v x l) = moves.adopt m p v x l
+effect m p (Adopt v x z l) = moves.adopt m p v x z l
 effect m p (Say x) = moves.say_again p x
-effect m p (Overlay l) = moves.overlay m p l
+effect m p (Overlay z l) = moves.overlay m p z l
 effect m p (Obey k) = moves.obey p k
 effect m p OpenSync = moves.open_sync p
 effect m p (CountSyncVote q k) = moves.count_sync_vote p q k
@@ -79,9 +79,9 @@ MayAct f c p AddGap = moves.MayAddGap c p
 MayAct f c p (Enter v) = Below p.view v
 MayAct f c p (KeepChange g x) = moves.MayKeepChange f c p g x
 MayAct f c p (OpenView g) = moves.MayOpenView p g
-MayAct f c p (Adopt v x l) = moves.MayAdopt c p v x l
+MayAct f c p (Adopt v x z l) = moves.MayAdopt c p v x z l
 MayAct f c p (Say x) = moves.MaySay f c p x
-MayAct f c p (Overlay l) = moves.MayOverlay c p l
+MayAct f c p (Overlay z l) = moves.MayOverlay c p z l
 MayAct f c p (Obey k) = moves.MayObey c p k
 MayAct f c p OpenSync = moves.MayOpenSync p
 MayAct f c p (CountSyncVote q k) = moves.MayCountSyncVote f c p q k

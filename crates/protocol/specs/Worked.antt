@@ -19,7 +19,8 @@ use Rattle.view_change.specs.Gathering.{Gathering}
 use Rattle.protocol.specs.Conf.{Conf, opening, last_normals}
 use Rattle.protocol.specs.Member.{Member}
 use Rattle.protocol.specs.Runs.{Queue, TakeFront, OpenGap, CountGapVote, AddGap, Enter, KeepChange, OpenView, Adopt, Overlay, Obey}
-use Rattle.protocol.specs.Runs.{OpenSync, CountSyncVote, Move, Acts, MoveTo, Install, Stamp, Submit, Keep, Accept, run, MayAll}
+use Rattle.protocol.specs.Runs.{Say, OpenSync, CountSyncVote, Move, Acts, MoveTo, Install, Stamp, Submit, Keep, Accept, run, MayAll}
+use Rattle.protocol.specs.Said.{SyncPrepare}
 
 -- ---- the actors, and what they say
 
@@ -80,10 +81,10 @@ module _ {S : Type 0} (m : Meaning S) where
 
   -- what the replicas tell the next leader
   abbrev pub gap_change : peer.Change
-  gap_change = record { sender = 1; last_normal = first_view; next = 2; log = NoOp ∷ [] }
+  gap_change = record { sender = 1; last_normal = first_view; next = 2; sync_point = 0; log = NoOp ∷ [] }
 
   abbrev pub late_change : peer.Change
-  late_change = record { sender = 2; last_normal = first_view; next = 3; log = Req put_request ∷ Req get_request ∷ [] }
+  late_change = record { sender = 2; last_normal = first_view; next = 3; sync_point = 0; log = Req put_request ∷ Req get_request ∷ [] }
 
   abbrev pub gathered : List peer.Change → Gathering
   gathered changes = record { view = view 1 1; f = 1; changes = changes }
@@ -101,7 +102,7 @@ module _ {S : Type 0} (m : Meaning S) where
       ∷ Accept 1 (gap_replies 2) (leader_reply 0 first_view 2 get_request got)
       ∷ Acts 1 (Enter (view 1 1)) ∷ Acts 2 (Enter (view 1 1))
       ∷ Acts 1 (KeepChange (gathered (gap_change ∷ [])) late_change)
-      ∷ Acts 1 (OpenView (gathered (gap_change ∷ late_change ∷ []))) ∷ Acts 2 (Adopt (view 1 1) 3 gap_log) ∷ []
+      ∷ Acts 1 (OpenView (gathered (gap_change ∷ late_change ∷ []))) ∷ Acts 2 (Adopt (view 1 1) 3 0 gap_log) ∷ []
 
   pub record GapRun (c : Conf) : Type 0 where
     pub first : StandsAt (c.replicas 0) first_view gap_log 0
@@ -121,7 +122,7 @@ module _ {S : Type 0} (m : Meaning S) where
   put_answer = m.answer m.opening put_op
 
   abbrev pub empty_change : ℕ → peer.Change
-  empty_change r = record { sender = r; last_normal = first_view; next = 1; log = [] }
+  empty_change r = record { sender = r; last_normal = first_view; next = 1; sync_point = 0; log = [] }
 
   abbrev pub gathered_later : List peer.Change → Gathering
   gathered_later changes = record { view = view 1 2; f = 1; changes = changes }
@@ -132,7 +133,7 @@ module _ {S : Type 0} (m : Meaning S) where
       ∷ Acts 2 (Enter (view 0 2)) ∷ Acts 2 (Queue (stamp_of 2 1 put_request)) ∷ Acts 1 (Enter (view 1 2)) ∷ Acts 2 (Enter (view 1 2))
       ∷ Acts 1 (KeepChange (gathered_later (empty_change 1 ∷ [])) (empty_change 2))
       ∷ Acts 1 (OpenView (gathered_later (empty_change 1 ∷ empty_change 2 ∷ [])))
-      ∷ Acts 2 (Adopt (view 1 2) 1 []) ∷ Acts 2 (TakeFront put_request) ∷ logs 1 (stamp_of 2 1 put_request)
+      ∷ Acts 2 (Adopt (view 1 2) 1 0 []) ∷ Acts 2 (TakeFront put_request) ∷ logs 1 (stamp_of 2 1 put_request)
       ++ Keep 0 (follower_reply 2 (view 1 2) 1 put_request) ∷ Keep 0 (leader_reply 1 (view 1 2) 1 put_request put_answer)
       ∷ Accept 0 (leader_reply 1 (view 1 2) 1 put_request put_answer) (leader_reply 1 (view 1 2) 1 put_request put_answer) ∷ []
 
@@ -154,8 +155,8 @@ module _ {S : Type 0} (m : Meaning S) where
   sync_run =
       Submit 0 put_op [] ∷ Stamp 0 put_request ∷ logs 0 (stamp_of 1 1 put_request) ++ logs 1 (stamp_of 1 1 put_request)
       ++ logs 2 (stamp_of 1 1 put_request)
-      ++ Acts 0 OpenSync ∷ Acts 1 (Overlay (Req put_request ∷ [])) ∷ Acts 0 (CountSyncVote 1 1)
-      ∷ Acts 2 (Overlay (Req put_request ∷ [])) ∷ Acts 2 (Obey 1) ∷ []
+      ++ Acts 0 OpenSync ∷ Acts 1 (Overlay 0 (Req put_request ∷ [])) ∷ Acts 0 (CountSyncVote 1 1)
+      ∷ Acts 2 (Overlay 0 (Req put_request ∷ [])) ∷ Acts 2 (Obey 1) ∷ []
 
   pub record SyncRun (c : Conf) : Type 0 where
     pub first : StandsAt (c.replicas 0) first_view (Req put_request ∷ []) 1
@@ -167,3 +168,15 @@ module _ {S : Type 0} (m : Meaning S) where
 
   abbrev pub SyncRunEnds : Type 0
   SyncRunEnds = MayAll m 1 (opening (three 1 1)) sync_run × SyncRun (run m 1 (opening (three 1 1)) sync_run)
+
+  -- Then the leader tells its log again, now with its sync point, and the one that answered first takes it from there.
+  abbrev pub told_run : List Move
+  told_run = Acts 0 (Say (SyncPrepare 1 (Req put_request ∷ []))) ∷ Acts 1 (Overlay 1 (Req put_request ∷ [])) ∷ []
+
+  pub record ToldRun (c : Conf) : Type 0 where
+    pub second : StandsAt (c.replicas 1) first_view (Req put_request ∷ []) 1
+    pub replies : c.replies ≡ (run m 1 (opening (three 1 1)) sync_run).replies
+
+  abbrev pub ToldRunEnds : Type 0
+  ToldRunEnds = MayAll m 1 (run m 1 (opening (three 1 1)) sync_run) told_run
+      × ToldRun (run m 1 (run m 1 (opening (three 1 1)) sync_run) told_run)

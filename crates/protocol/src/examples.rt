@@ -1,5 +1,5 @@
 ghost use Rattle.nop_types.specs.Meaning.{Meaning};
-ghost use Rattle.protocol.specs.Worked.{GapRunEnds, SessionRunEnds, SyncRunEnds};
+ghost use Rattle.protocol.specs.Worked.{GapRunEnds, SessionRunEnds, SyncRunEnds, ToldRunEnds};
 
 /// Moves that may be made, and where they end: a gap is agreed on, a reply is accepted, and the
 /// view changes.
@@ -13,7 +13,9 @@ pub fn session_run<S>()
     ensures { (m : Meaning S) → SessionRunEnds m }
 {}
 
-/// A prefix is synchronised, and a follower obeys the commit once it has taken the log.
+/// A prefix is synchronised, and a follower obeys the commit once it has taken the log. The other one
+/// takes the sync point with a log that is told again.
 pub fn sync_run<S>()
-    ensures { (m : Meaning S) → SyncRunEnds m }
+    ensures synced { (m : Meaning S) → SyncRunEnds m }
+    ensures told { (m : Meaning S) → ToldRunEnds m }
 {}

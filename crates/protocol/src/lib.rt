@@ -8,9 +8,8 @@
 //!   (`views_never_fall`).
 //! - The guards can be met: `gap_run`, `session_run` and `sync_run` are three runs worked by hand.
 //!
-//! The laws are cited by `protocol_sync`, `refinement` and `safety`; there is no code. In which
-//! order to read definitions and proofs, docs/ARCHITECTURE.md says under "The protocol by itself";
-//! what the invariant has, docs/THEOREMS.md under the same heading.
+//! The laws are cited by `protocol_sync`, `refinement` and `safety`; there is no code. What the
+//! invariant has, and in which order to read definitions and proofs, is told in docs/PROOF.md.
 //!
 //! Files: `laws`, `examples`. Definitions: `specs/Conf` (the configuration), `Said` (messages),
 //! `Moves` (effects and guards), `Runs` (`Move`, `MayAll`), `Truth`, `Invariant`, `Evolves`, `Laws`

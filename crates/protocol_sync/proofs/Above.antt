@@ -106,9 +106,12 @@ module _ {S : Type 0} (m : Meaning S) (f : ℕ) where
     act_above (Enter v) may = no_gap (effect m p (Enter v)).state (entered_none (leads (entered p v)) p v)
     act_above (KeepChange g x) may = record { point = above.point; round = above.round }
     act_above (OpenView g) may = no_gap (effect m p (OpenView g)).state refl
-    act_above (Adopt v x l) may = no_gap (effect m p (Adopt v x l)).state refl
+    act_above (Adopt v x z l) may = no_gap (effect m p (Adopt v x z l)).state refl
     act_above (Say x) may = above
-    act_above (Overlay l) may = record { point = above.point; round = above.round }
+    act_above (Overlay z l) may = record {
+      point = λ g e. absurd (follows_it m f c r inv within may.follows ((inv.own r within).gap.waits g e).leads);
+      round = λ g x e i. absurd (follows_it m f c r inv within may.follows ((inv.own r within).gap.waits g e).leads);
+    }
     act_above (Obey k) may = record {
       point = λ g e. absurd (follows_it m f c r inv within may.may_follow.follows ((inv.own r within).gap.waits g e).leads);
       round = λ g x e i. absurd (follows_it m f c r inv within may.may_follow.follows ((inv.own r within).gap.waits g e).leads);
@@ -172,7 +175,8 @@ synced_is_prepared m f c r inv sync above within may =
     at_last : (o : Option Agreement) → (c.replicas r).gap ≡ o → (c.replicas r).sync.sync_point ≡ length (c.replicas r).log
         → slot_of (c.replicas r).log (length (c.replicas r).log) ≡ Some NoOp
         → length (inv.logs r (c.replicas r).view (c.replicas r).log
-        (subst (λ (w : View). HadLog c.past r w (c.replicas r).log) ((inv.own r within).place.normal may.normal) (inv.current r within))).start.log
+        (subst (λ (w : View). HadLog c.past r w (c.replicas r).log) ((inv.own r within).place.normal may.normal)
+        (inv.current r within))).start.log
         < (c.replicas r).sync.sync_point
         → conf.Settled f c.said (c.replicas r).view (length (c.replicas r).log)
     at_last None none last noop longer =

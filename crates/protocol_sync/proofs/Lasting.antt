@@ -9,7 +9,7 @@ use Rattle.nop_types.specs.Views.{AtMost, Below, leader_of}
 use Rattle.log_merge.specs.Starting.{Start}
 use Rattle.started_views.specs.Fixes.{HadSame}
 use Rattle.started_views.specs.Logs.{SameTo, Toward}
-use Rattle.started_views.specs.Past.{HadLog}
+use Rattle.started_views.specs.Past.{Entered, HadLog}
 use Rattle.started_views.specs.Settled.{Fixed}
 use Rattle.started_views.proofs.Fixing.{sync_fixes}
 use Rattle.started_views.specs.Growing.{Grows}
@@ -23,7 +23,7 @@ use Rattle.protocol.specs.Evolves.{Evolves}
 use Rattle.protocol.specs.Invariant.{Inv}
 use Rattle.protocol.specs.Member.{Member}
 use Rattle.protocol.specs.Said.{SyncRep}
-use Rattle.protocol_sync.specs.Synced.{Synced, Anchored, Agrees, TrueSyncRep, TrueSyncCommit, GoodSync, Sync}
+use Rattle.protocol_sync.specs.Synced.{Told, GoodPoint, Synced, Anchored, Agrees, TrueSyncRep, TrueSyncCommit, GoodSync, Sync}
 use Rattle.protocol.proofs.Grounding.{grounds_of}
 use Rattle.facts.proofs.Options.{same_Some-at}
 use Rattle.protocol.proofs.Stays.{said_lasts, others_weaker}
@@ -59,6 +59,20 @@ module _ {S : Type 0} (m : Meaning S) (f : ℕ) (c d : Conf) (inv : Inv m f c) (
   pub anchored_lasts : (w v : View) (s : ℕ) → AtMost w v → Anchored f c w s → Anchored f d v s
   anchored_lasts w v s low (inl e) = inl e
   anchored_lasts w v s low (inr (u, a, x)) = inr (u, AtMost-trans u w v a low, synced_lasts u s x)
+
+  -- what does not go on agrees still
+  pub agrees_stays : (w : View) (l : List Entry) (s : ℕ) → Agrees f c w l s → Agrees f d w l s
+  agrees_stays w l s t =
+      let n = ev.leads w t.lead t.leads in record { lead = n.0; leads = n.1; same = same_grown s l t.lead n.0 t.same n.2 }
+
+  pub told_lasts : (w : View) (z : ℕ) (l : List Entry) → Told f c w z l → Told f d w z l
+  told_lasts w z l t = record { within = t.within; anchored = anchored_lasts w w z (AtMost-refl w) t.anchored }
+
+  pub point_lasts : (e : Entered) → GoodPoint f c e → GoodPoint f d e
+  point_lasts e t = record {
+    anchored = anchored_lasts e.last_normal e.last_normal e.sync_point (AtMost-refl e.last_normal) t.anchored;
+    agrees = agrees_stays e.last_normal e.log e.sync_point t.agrees;
+  }
 
   pub agrees_lasts : (q : ℕ) (w : View) (l j : List Entry) (s : ℕ) → HadLog c.past q w l → HadLog d.past q w j → Agrees f c w l s
       → Agrees f d w j s

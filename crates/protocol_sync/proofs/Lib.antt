@@ -2,6 +2,7 @@ pub mod Above
 pub mod Agreeing
 pub mod Concluding
 pub mod Facts
+pub mod Gathered
 pub mod Lasting
 pub mod Moves
 pub mod Opening
@@ -15,3 +16,4 @@ pub mod SoundStamps
 pub mod SoundViews
 pub mod SoundVotes
 pub mod Sounding
+pub mod Telling

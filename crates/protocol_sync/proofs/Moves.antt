@@ -28,7 +28,7 @@ use Rattle.protocol_sync.specs.Synced.{Anchored, Agrees, TrueSyncRep, TrueSyncCo
 use Rattle.protocol.specs.Truth.{Prepared}
 use Rattle.protocol.proofs.Growing.{Kept}
 use Rattle.protocol.proofs.Places.{leads_it, follows_it}
-use Rattle.protocol_sync.proofs.Saying.{IsQuiet, now, sync_after, quiet_after, quiet_none}
+use Rattle.protocol_sync.proofs.Saying.{IsQuiet, Tells, now, sync_after, quiet_after, quiet_none, tells_none, tells_one, tells_unless}
 use Rattle.protocol_sync.proofs.Lasting.{anchored_lasts, inside, risen}
 
 -- who says one word says this one
@@ -56,20 +56,24 @@ module _ {S : Type 0} (m : Meaning S) (f : ℕ) (c : Conf) (r : ℕ) (inv : Inv 
         state = record p { log = l; next = n; receiver = x; gap = g; changes = h };
         said = said;
         replies = replies;
-      })) → IsQuiet said
+      })) → IsQuiet said → Tells f (after f c r (record {
+        state = record p { log = l; next = n; receiver = x; gap = g; changes = h };
+        said = said;
+        replies = replies;
+      })) said
       → Sync f (after f c r (record {
         state = record p { log = l; next = n; receiver = x; gap = g; changes = h };
         said = said;
         replies = replies;
       }))
-  in_view l n x g h said replies kept quiet =
+  in_view l n x g h said replies kept quiet tells =
       let e : Effect = record {
         state = record p { log = l; next = n; receiver = x; gap = g; changes = h };
         said = said;
         replies = replies;
       } in
       let t = inside m f c (after f c r e) inv kept.1 sync r within l (now m f c r e inv sync within kept) in
-      quiet_after m f c r e inv sync within kept quiet (record {
+      quiet_after m f c r e inv sync within kept quiet tells (record {
         count = t.count;
         anchored = t.anchored;
         agrees = t.agrees;
@@ -80,11 +84,12 @@ module _ {S : Type 0} (m : Meaning S) (f : ℕ) (c : Conf) (r : ℕ) (inv : Inv 
   -- a view is entered
   pub entering : (v : View) (h : Option Gathering) (said : List Said)
       → Kept m f c (after f c r (record { state = record (entered p v) { changes = h }; said = said; replies = [] })) → IsQuiet said
+      → Tells f (after f c r (record { state = record (entered p v) { changes = h }; said = said; replies = [] })) said
       → Sync f (after f c r (record { state = record (entered p v) { changes = h }; said = said; replies = [] }))
-  entering v h said kept quiet =
+  entering v h said kept quiet tells =
       let e : Effect = record { state = record (entered p v) { changes = h }; said = said; replies = [] } in
       let t = inside m f c (after f c r e) inv kept.1 sync r within p.log (now m f c r e inv sync within kept) in
-      quiet_after m f c r e inv sync within kept quiet (record {
+      quiet_after m f c r e inv sync within kept quiet tells (record {
         count = t.count;
         anchored = t.anchored;
         agrees = t.agrees;
@@ -92,30 +97,51 @@ module _ {S : Type 0} (m : Meaning S) (f : ℕ) (c : Conf) (r : ℕ) (inv : Inv 
         syncing = λ x i. absurd cc;
       })
 
+  -- of the own sync point and the one that is told the greater holds
+  greater_anchored : (d : Conf) (v : View) (s z : ℕ) → Anchored f d v s → Anchored f d v z → Anchored f d v (max s z)
+  greater_anchored d v s z a b = elim (cases_lt s z) [
+    | inl low ↦ (let is : z ≡ max s z = omega (arith, low) in subst (Anchored f d v) is b)
+    | inr high ↦ (let is : s ≡ max s z = omega (arith, high) in subst (Anchored f d v) is a)
+  ]
+
+  greater_agrees : (d : Conf) (v : View) (l : List Entry) (s z : ℕ) → Agrees f d v l s → Agrees f d v l z → Agrees f d v l (max s z)
+  greater_agrees d v l s z a b = elim (cases_lt s z) [
+    | inl low ↦ (let is : z ≡ max s z = omega (arith, low) in subst (Agrees f d v l) is b)
+    | inr high ↦ (let is : s ≡ max s z = omega (arith, high) in subst (Agrees f d v l) is a)
+  ]
+
   -- a log is adopted
-  pub adopting : (v : View) (x : ℕ) (l : List Entry) (said : List Said) (replies : List Reply) → Below p.last_normal v
-      → Kept m f c (after f c r (record { state = adopted p v x l; said = said; replies = replies })) → IsQuiet said
-      → Sync f (after f c r (record { state = adopted p v x l; said = said; replies = replies }))
-  adopting v x l said replies below kept quiet =
-      let e : Effect = record { state = adopted p v x l; said = said; replies = replies } in
+  pub adopting : (v : View) (x z : ℕ) (l : List Entry) (said : List Said) (replies : List Reply) → Below p.last_normal v
+      → Kept m f c (after f c r (record { state = adopted p v x z l; said = said; replies = replies })) → IsQuiet said
+      → Tells f (after f c r (record { state = adopted p v x z l; said = said; replies = replies })) said
+      → Anchored f (after f c r (record { state = adopted p v x z l; said = said; replies = replies })) v z
+      → Agrees f (after f c r (record { state = adopted p v x z l; said = said; replies = replies })) v l z
+      → Sync f (after f c r (record { state = adopted p v x z l; said = said; replies = replies }))
+  adopting v x z l said replies below kept quiet tells at_point agrees =
+      let e : Effect = record { state = adopted p v x z l; said = said; replies = replies } in
+      let d = after f c r e in
       let o = sync.own r within in
-      quiet_after m f c r e inv sync within kept quiet (record {
+      quiet_after m f c r e inv sync within kept quiet tells (record {
         count = o.count;
-        anchored = anchored_lasts m f c (after f c r e) inv kept.1 p.last_normal v p.sync.sync_point below.at_most o.anchored;
-        agrees = risen m f c (after f c r e) inv kept.1 sync r within kept.0 v l (now m f c r e inv sync within kept) below;
+        anchored = greater_anchored d v p.sync.sync_point z
+            (anchored_lasts m f c d inv kept.1 p.last_normal v p.sync.sync_point below.at_most o.anchored) at_point;
+        agrees = greater_agrees d v l p.sync.sync_point z
+            (risen m f c d inv kept.1 sync r within kept.0 v l (now m f c r e inv sync within kept) below) agrees;
         prepared = λ one. absurd (omega (arith, one));
         syncing = λ y i. absurd cc;
       })
 
   -- the leader's log is taken
-  pub overlaying : (l : List Entry) → MayOverlay c p l → Kept m f c (after f c r (overlay m p l)) → Sync f (after f c r (overlay m p l))
-  overlaying l may kept =
-      let e = overlay m p l in
+  pub overlaying : (z : ℕ) (l : List Entry) → MayOverlay c p z l → Kept m f c (after f c r (overlay m p z l))
+      → Sync f (after f c r (overlay m p z l))
+  overlaying z l may kept =
+      let e = overlay m p z l in
       let d = after f c r e in
       let here = now m f c r e inv sync within kept in
       let view : p.last_normal ≡ p.view = own.place.normal may.normal in
       let other = follows_it m f c r inv within may.follows in
-      let t : Prepared f c (leader p) p.view l = inv.said (says (leader p) p.view (SyncPrepare l)) may.said in
+      let t : Prepared f c (leader p) p.view l = inv.said (says (leader p) p.view (SyncPrepare z l)) may.said in
+      let told_point = sync.points.prepares (leader p) p.view z l may.said in
       let n = kept.1.leads p.view t.lead t.leads in
       let agrees : Agrees f d p.view (laid l p.log) (length l) = record {
         lead = n.0;
@@ -141,17 +167,25 @@ module _ {S : Type 0} (m : Meaning S) (f : ℕ) (c : Conf) (r : ℕ) (inv : Inv 
       (subst (λ (v : View). TrueSyncRep f d r v s) (sym a.1)
       (subst (TrueSyncRep f d r p.view) (sym len) (record { apart = other; log = laid l p.log; had = had; agrees = agrees }))))
       (λ q w s h. absurd (let a = said_one p (SyncRep (length l)) (SyncCommit s) q w h in let b = a.2 in cc))
+      (tells_one f d p (SyncRep (length l)) tt)
       (record {
         count = g.count;
-        anchored = g.anchored;
-        agrees = g.agrees;
+        anchored = greater_anchored d p.last_normal p.sync.sync_point z g.anchored
+            (anchored_lasts m f c d inv kept.1 p.view p.last_normal z
+            (subst (λ (w : View). AtMost w p.last_normal) view (AtMost-refl p.last_normal)) told_point.anchored);
+        agrees = greater_agrees d p.last_normal (laid l p.log) p.sync.sync_point z g.agrees
+            (subst (λ (w : View). Agrees f d w (laid l p.log) z) (sym view) (record {
+              lead = agrees.lead;
+              leads = agrees.leads;
+              same = same_less (length l) z (laid l p.log) agrees.lead told_point.within agrees.same;
+            }));
         prepared = λ one. elim (cases_lt p.sync.prepared (length l)) [
           | inl low ↦ (let is : length l ≡ max p.sync.prepared (length l) = omega (arith, low) in
               subst (HasPrepared f d r p.view p.status (laid l p.log)) is new)
           | inr high ↦ (let is : p.sync.prepared ≡ max p.sync.prepared (length l) = omega (arith, high) in
               subst (HasPrepared f d r p.view p.status (laid l p.log)) is (g.prepared (omega (arith, one, is))))
         ];
-        syncing = g.syncing;
+        syncing = λ x i. absurd (other (g.syncing x i).leads);
       })
 
   -- the sync point rises to what the leader says
@@ -177,7 +211,7 @@ module _ {S : Type 0} (m : Meaning S) (f : ℕ) (c : Conf) (r : ℕ) (inv : Inv 
       at false is kept =
           let e : Effect = record { state = p; said = []; replies = [] } in
           let g = inside m f c (after f c r e) inv kept.1 sync r within p.log (now m f c r e inv sync within kept) in
-          quiet_after m f c r e inv sync within kept quiet_none (record {
+          quiet_after m f c r e inv sync within kept quiet_none (tells_none f (after f c r e)) (record {
             count = g.count;
             anchored = g.anchored;
             agrees = g.agrees;
@@ -196,7 +230,7 @@ module _ {S : Type 0} (m : Meaning S) (f : ℕ) (c : Conf) (r : ℕ) (inv : Inv 
           let t = sync.commits (leader p) p.view k may.may_follow.said in
           let fixed : Anchored f d p.last_normal k = anchored_lasts m f c d inv kept.1 p.view p.last_normal k
           (subst (λ (w : View). AtMost w p.last_normal) view (AtMost-refl p.last_normal)) t.anchored in
-          quiet_after m f c r e inv sync within kept quiet_none (record {
+          quiet_after m f c r e inv sync within kept quiet_none (tells_none f (after f c r e)) (record {
             count = g.count;
             anchored = elim (cases_lt p.sync.sync_point k) [
               | inl low ↦ (let is : k ≡ max p.sync.sync_point k = omega (arith, low) in subst (Anchored f d p.last_normal) is fixed)
@@ -242,4 +276,5 @@ module _ {S : Type 0} (m : Meaning S) (f : ℕ) (c : Conf) (r : ℕ) (inv : Inv 
       let len : s ≡ p.sync.sync_point = (let b = a.2 in cc) in
       subst (λ (i : ℕ). TrueSyncCommit f d i w s) (sym (a.0 ∙ own.number)) (subst (λ (v : View). TrueSyncCommit f d r v s) (sym a.1)
       (subst (TrueSyncCommit f d r p.view) (sym len) true_here)))
+      (tells_unless (others p == 0) f d p (SyncCommit p.sync.sync_point) tt)
       (record { count = g.count; anchored = g.anchored; agrees = g.agrees; prepared = g.prepared; syncing = g.syncing })

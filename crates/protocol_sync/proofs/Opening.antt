@@ -9,6 +9,11 @@ pub opening_is_synced : OpeningIsSynced
 opening_is_synced f config count = record {
   reps = λ q w s i. absurd (Has-none _ i);
   commits = λ q w s i. absurd (Has-none _ i);
+  points = record {
+    entries = λ r v e h. absurd cc;
+    starts = λ q w x z l i. absurd (Has-none _ i);
+    prepares = λ q w z l i. absurd (Has-none _ i);
+  };
   own = λ r l. record {
     count = half_of f config.replicas count;
     anchored = inl refl;

@@ -83,9 +83,9 @@ module _ {S : Type 0} (m : Meaning S) (f : ℕ) where
   act_rises c r own (Enter v) = entered_rises (c.replicas r) v (leads (entered (c.replicas r) v))
   act_rises c r own (KeepChange g x) = omega arith
   act_rises c r own (OpenView g) = omega arith
-  act_rises c r own (Adopt v x l) = omega arith
+  act_rises c r own (Adopt v x z l) = omega arith
   act_rises c r own (Say x) = omega arith
-  act_rises c r own (Overlay l) = omega arith
+  act_rises c r own (Overlay z l) = omega arith
   act_rises c r own (Obey k) = commit_rises (c.replicas r).sync k (nat_le k (c.replicas r).sync.prepared)
   act_rises c r own OpenSync = let s = (c.replicas r).sync in let k = length (c.replicas r).log in
       round_rises s k (nat_lt s.sync_point k) (s.f == 0) refl

@@ -19,12 +19,12 @@ use Rattle.protocol.specs.Invariant.{Own, Inv}
 use Rattle.protocol.specs.Member.{Member, others}
 use Rattle.protocol.specs.Moves.{say_all, open_sync, commit_if, count_sync_vote, MayCountSyncVote, MayLead}
 use Rattle.protocol.specs.Said.{SyncPrepare, SyncRep, SyncCommit}
-use Rattle.protocol_sync.specs.Synced.{Synced, Anchored, Agrees, TrueSyncCommit, Syncing, GoodSync, Sync}
+use Rattle.protocol_sync.specs.Synced.{Told, Synced, Anchored, Agrees, TrueSyncCommit, Syncing, GoodSync, Sync}
 use Rattle.protocol.proofs.Growing.{Kept}
 use Rattle.protocol.proofs.Places.{leads_it}
 use Rattle.protocol.proofs.Stays.{said_lasts}
 use Rattle.protocol_sync.proofs.Moves.{said_all}
-use Rattle.protocol_sync.proofs.Saying.{now, sync_after, quiet_after, quiet_none, quiet_unless}
+use Rattle.protocol_sync.proofs.Saying.{now, sync_after, quiet_after, quiet_none, quiet_unless, tells_none, tells_unless}
 use Rattle.protocol_sync.proofs.Lasting.{inside}
 use Rattle.protocol.proofs.Votes.{vote_once, vote_holds, enough_from}
 
@@ -50,7 +50,11 @@ module _ {S : Type 0} (m : Meaning S) (f : ℕ) (c : Conf) (r : ℕ) (inv : Inv 
   all_agree d s had low = record { lead = p.log; leads = led d had; same = same_refl s p.log low }
 
   with_sync : Synchronisation → Effect
-  with_sync s = record { state = record p { sync = s }; said = say_all p (SyncPrepare p.log); replies = [] }
+  with_sync s = record { state = record p { sync = s }; said = say_all p (SyncPrepare p.sync.sync_point p.log); replies = [] }
+
+  -- the own log is told with the own sync point
+  told_own : (d : Conf) → GoodSync f d r (record p { log = p.log }) → Told f d p.view p.sync.sync_point p.log
+  told_own d g = record { within = g.agrees.same.left; anchored = subst (λ (w : View). Anchored f d w p.sync.sync_point) view g.anchored }
 
   -- ---- a round begins
 
@@ -64,7 +68,7 @@ module _ {S : Type 0} (m : Meaning S) (f : ℕ) (c : Conf) (r : ℕ) (inv : Inv 
               sync = cond b (cond a (record p.sync { sync_point = length p.log; syncing = None })
                   (record p.sync { syncing = Some (record { len = length p.log; votes = [] }) })) p.sync;
             };
-            said = say_all p (SyncPrepare p.log);
+            said = say_all p (SyncPrepare p.sync.sync_point p.log);
             replies = [];
           }))
           → Sync f (after f c r
@@ -73,14 +77,14 @@ module _ {S : Type 0} (m : Meaning S) (f : ℕ) (c : Conf) (r : ℕ) (inv : Inv 
               sync = cond b (cond a (record p.sync { sync_point = length p.log; syncing = None })
                   (record p.sync { syncing = Some (record { len = length p.log; votes = [] }) })) p.sync;
             };
-            said = say_all p (SyncPrepare p.log);
+            said = say_all p (SyncPrepare p.sync.sync_point p.log);
             replies = [];
           }))
       at false a is alone kept = absurd (grind (arith, nat_tests, is, longer))
       at true true is alone kept =
           let e : Effect = record {
             state = record p { sync = record p.sync { sync_point = length p.log; syncing = None } };
-            said = say_all p (SyncPrepare p.log);
+            said = say_all p (SyncPrepare p.sync.sync_point p.log);
             replies = [];
           } in
           let d = after f c r e in
@@ -88,7 +92,8 @@ module _ {S : Type 0} (m : Meaning S) (f : ℕ) (c : Conf) (r : ℕ) (inv : Inv 
           let g = inside m f c d inv kept.1 sync r within p.log had in
           let none : p.sync.f ≡ 0 = eqb-true p.sync.f 0 alone in
           quiet_after m f c r e inv sync within kept
-          (quiet_unless (others p == 0) p (SyncPrepare p.log) (λ s. (λ i. cc, λ i. cc))) (record {
+          (quiet_unless (others p == 0) p (SyncPrepare p.sync.sync_point p.log) (λ s. (λ i. cc, λ i. cc)))
+          (tells_unless (others p == 0) f d p (SyncPrepare p.sync.sync_point p.log) (told_own d g)) (record {
             count = g.count;
             anchored = inr (
               p.last_normal,
@@ -114,13 +119,14 @@ module _ {S : Type 0} (m : Meaning S) (f : ℕ) (c : Conf) (r : ℕ) (inv : Inv 
       at true false is alone kept =
           let e : Effect = record {
             state = record p { sync = record p.sync { syncing = Some (record { len = length p.log; votes = [] }) } };
-            said = say_all p (SyncPrepare p.log);
+            said = say_all p (SyncPrepare p.sync.sync_point p.log);
             replies = [];
           } in
           let d = after f c r e in
           let g = inside m f c d inv kept.1 sync r within p.log (now m f c r e inv sync within kept) in
           quiet_after m f c r e inv sync within kept
-          (quiet_unless (others p == 0) p (SyncPrepare p.log) (λ s. (λ i. cc, λ i. cc))) (record {
+          (quiet_unless (others p == 0) p (SyncPrepare p.sync.sync_point p.log) (λ s. (λ i. cc, λ i. cc)))
+          (tells_unless (others p == 0) f d p (SyncPrepare p.sync.sync_point p.log) (told_own d g)) (record {
             count = g.count;
             anchored = g.anchored;
             agrees = g.agrees;
@@ -181,7 +187,7 @@ module _ {S : Type 0} (m : Meaning S) (f : ℕ) (c : Conf) (r : ℕ) (inv : Inv 
       at false v is settles kept =
           let e = effect_by x false v in
           let g = inside m f c (after f c r e) inv kept.1 sync r within p.log (now m f c r e inv sync within kept) in
-          quiet_after m f c r e inv sync within kept quiet_none (record {
+          quiet_after m f c r e inv sync within kept quiet_none (tells_none f (after f c r e)) (record {
             count = g.count;
             anchored = g.anchored;
             agrees = g.agrees;
@@ -193,7 +199,7 @@ module _ {S : Type 0} (m : Meaning S) (f : ℕ) (c : Conf) (r : ℕ) (inv : Inv 
           let d = after f c r e in
           let g = inside m f c d inv kept.1 sync r within p.log (now m f c r e inv sync within kept) in
           let said = said_lasts m f c d kept.1 q p.view (SyncRep k) vote.vote.said in
-          quiet_after m f c r e inv sync within kept quiet_none (record {
+          quiet_after m f c r e inv sync within kept quiet_none (tells_none f (after f c r e)) (record {
             count = g.count;
             anchored = g.anchored;
             agrees = g.agrees;
@@ -239,6 +245,7 @@ module _ {S : Type 0} (m : Meaning S) (f : ℕ) (c : Conf) (r : ℕ) (inv : Inv 
           let len : s ≡ k = (let b = a.2 in cc) in
           subst (λ (n : ℕ). TrueSyncCommit f d n w s) (sym (a.0 ∙ own.number)) (subst (λ (v : View). TrueSyncCommit f d r v s) (sym a.1)
           (subst (TrueSyncCommit f d r p.view) (same ∙ sym len) commit)))
+          (tells_unless (others p == 0) f d p (SyncCommit k) tt)
           (record {
             count = g.count;
             anchored = subst (λ (w : View). Anchored f d w x.len) (sym view) anchored;
@@ -251,7 +258,7 @@ module _ {S : Type 0} (m : Meaning S) (f : ℕ) (c : Conf) (r : ℕ) (inv : Inv 
     by_round None is kept =
         let e = effect_of None in
         let g = inside m f c (after f c r e) inv kept.1 sync r within p.log (now m f c r e inv sync within kept) in
-        quiet_after m f c r e inv sync within kept quiet_none (record {
+        quiet_after m f c r e inv sync within kept quiet_none (tells_none f (after f c r e)) (record {
           count = g.count;
           anchored = g.anchored;
           agrees = g.agrees;

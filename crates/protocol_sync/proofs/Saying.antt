@@ -1,18 +1,23 @@
 -- Each move keeps what holds of sync points.
-use Rattle.std.proofs.Common.{◌≡◌, ℕ, ◌+◌, ◌*◌, ◌<◌, Bool, true, false, ap, subst, inl, inr, List, [], ◌++◌}
+use Rattle.std.proofs.Common.{◌≡◌, ℕ, ◌+◌, ◌*◌, ◌<◌, Bool, true, false, ap, subst, sym, inl, inr, List, [], ◌++◌}
+use Rattle.std.specs.Prelude.{⊤, not}
+use Rattle.nop_types.specs.declared.request.Entry.{Entry}
+use Rattle.nop_types.specs.Views.{is_view}
 use Rattle.nop_types.specs.declared.view.View.{View}
 use Rattle.nop_types.specs.Meaning.{Meaning}
 use Rattle.facts.proofs.Members.{Has-append_cases, Has-one, Has-none}
-use Rattle.started_views.specs.Past.{HadLog}
+use Rattle.started_views.specs.Past.{HadLog, with_log, entered_with}
+use Rattle.started_views.proofs.Past.{entry_cases}
+use Rattle.facts.proofs.Views.{AtMost-refl}
 use Rattle.protocol.specs.Conf.{Conf, Effect, DidSay, after}
 use Rattle.protocol.specs.Invariant.{Inv}
-use Rattle.protocol.specs.Member.{Member}
+use Rattle.protocol.specs.Member.{Member, standing}
 use Rattle.protocol.specs.Moves.{say, say_unless}
-use Rattle.protocol.specs.Said.{Said, Word, SyncRep, SyncCommit, says}
-use Rattle.protocol_sync.specs.Synced.{TrueSyncRep, TrueSyncCommit, GoodSync, Sync}
+use Rattle.protocol.specs.Said.{Said, Word, Plain, Found, GapCommit, GapRep, ViewChange, StartView, SyncPrepare, SyncRep, SyncCommit, says}
+use Rattle.protocol_sync.specs.Synced.{Told, GoodPoint, TrueSyncRep, TrueSyncCommit, GoodSync, Sync}
 use Rattle.protocol.proofs.Growing.{Kept}
 use Rattle.facts.proofs.Functions.{put-here, put-other, put-all}
-use Rattle.protocol_sync.proofs.Lasting.{rep_lasts, commit_lasts, inside}
+use Rattle.protocol_sync.proofs.Lasting.{rep_lasts, commit_lasts, inside, anchored_lasts, agrees_stays, told_lasts, point_lasts}
 
 -- no answer and no commit of a sync point is among what is said
 abbrev pub IsQuiet : List Said → Type 0
@@ -39,6 +44,51 @@ quiet_both a b h g q w s = (
   λ i. elim (Has-append_cases a b _ i) [ inl x ↦ (h q w s).1 x | inr x ↦ (g q w s).1 x ],
 )
 
+-- ---- logs that are told
+
+-- each reaches its sync point
+pub record Tells (f : ℕ) (d : Conf) (said : List Said) : Type 0 where
+  pub starts : (q : ℕ) (w : View) (x z : ℕ) (l : List Entry) → DidSay said q w (StartView x z l) → Told f d w z l
+  pub prepares : (q : ℕ) (w : View) (z : ℕ) (l : List Entry) → DidSay said q w (SyncPrepare z l) → Told f d w z l
+
+abbrev pub TellsWord : ℕ → Conf → View → Word → Type 0
+TellsWord f d w Plain = ⊤
+TellsWord f d w (Found k r) = ⊤
+TellsWord f d w (GapCommit k) = ⊤
+TellsWord f d w (GapRep k) = ⊤
+TellsWord f d w (ViewChange u x z l) = ⊤
+TellsWord f d w (StartView x z l) = Told f d w z l
+TellsWord f d w (SyncPrepare z l) = Told f d w z l
+TellsWord f d w (SyncRep k) = ⊤
+TellsWord f d w (SyncCommit k) = ⊤
+
+pub tells_none : (f : ℕ) (d : Conf) → Tells f d []
+tells_none f d = record { starts = λ q w x z l h. absurd (Has-none _ h); prepares = λ q w z l h. absurd (Has-none _ h) }
+
+said_word : (f : ℕ) (d : Conf) (p : Member) (x y : Word) (q : ℕ) (w : View) → TellsWord f d p.view x → DidSay (say p x) q w y
+    → TellsWord f d w y
+said_word f d p x y q w t h =
+    let e = Has-one (says q w y) (says p.number p.view x) h in
+    let view : w ≡ p.view = ap (λ (s : Said). s.view) e in
+    let word : y ≡ x = ap (λ (s : Said). s.word) e in
+    subst (λ (v : View). TellsWord f d v y) (sym view) (subst (TellsWord f d p.view) (sym word) t)
+
+pub tells_one : (f : ℕ) (d : Conf) (p : Member) (x : Word) → TellsWord f d p.view x → Tells f d (say p x)
+tells_one f d p x t = record {
+  starts = λ q w y z l h. said_word f d p x (StartView y z l) q w t h;
+  prepares = λ q w z l h. said_word f d p x (SyncPrepare z l) q w t h;
+}
+
+pub tells_unless : (b : Bool) (f : ℕ) (d : Conf) (p : Member) (x : Word) → TellsWord f d p.view x → Tells f d (say_unless b p x)
+tells_unless true f d p x t = tells_none f d
+tells_unless false f d p x t = tells_one f d p x t
+
+pub tells_both : (f : ℕ) (d : Conf) (a b : List Said) → Tells f d a → Tells f d b → Tells f d (a ++ b)
+tells_both f d a b s t = record {
+  starts = λ q w x z l h. elim (Has-append_cases a b _ h) [ inl i ↦ s.starts q w x z l i | inr i ↦ t.starts q w x z l i ];
+  prepares = λ q w z l h. elim (Has-append_cases a b _ h) [ inl i ↦ s.prepares q w z l i | inr i ↦ t.prepares q w z l i ];
+}
+
 module _ {S : Type 0} (m : Meaning S) (f : ℕ) (c : Conf) (r : ℕ) (e : Effect) (inv : Inv m f c) (sync : Sync f c) (within : r < 2 * f + 1)
     (kept : Kept m f c (after f c r e)) where
   abbrev d : Conf
@@ -56,8 +106,33 @@ module _ {S : Type 0} (m : Meaning S) (f : ℕ) (c : Conf) (r : ℕ) (e : Effect
   abbrev Commits : Type 0
   Commits = (q : ℕ) (w : View) (s : ℕ) → DidSay e.said q w (SyncCommit s) → TrueSyncCommit f d q w s
 
-  pub sync_after : Reps → Commits → GoodSync f d r e.state → Sync f d
-  sync_after reps commits own = record {
+  -- what the replica had, where it enters a view
+  point_here : GoodPoint f d (entered_with (standing (c.replicas r)))
+  point_here =
+      let p : Member = c.replicas r in
+      let o = sync.own r within in
+      record {
+        anchored = anchored_lasts m f c d inv kept.1 p.last_normal p.last_normal p.sync.sync_point (AtMost-refl p.last_normal) o.anchored;
+        agrees = agrees_stays m f c d inv kept.1 p.last_normal p.log p.sync.sync_point o.agrees;
+      }
+
+  pub sync_after : Reps → Commits → Tells f d e.said → GoodSync f d r e.state → Sync f d
+  sync_after reps commits tells own = record {
+    points = record {
+      entries = λ q w o h. elim (entry_cases (not (is_view e.state.view (c.replicas r).view)) r e.state.view
+          (entered_with (standing (c.replicas r))) (with_log r e.state.last_normal e.state.log c.past) q w o h) [
+            | inl (a, b, t, same) ↦ subst (GoodPoint f d) (sym same) point_here
+            | inr old ↦ point_lasts m f c d inv kept.1 o (sync.points.entries q w o old)
+          ];
+      starts = λ q w x z l h. elim (Has-append_cases e.said c.said (says q w (StartView x z l)) h) [
+        | inl g ↦ tells.starts q w x z l g
+        | inr g ↦ told_lasts m f c d inv kept.1 w z l (sync.points.starts q w x z l g)
+      ];
+      prepares = λ q w z l h. elim (Has-append_cases e.said c.said (says q w (SyncPrepare z l)) h) [
+        | inl g ↦ tells.prepares q w z l g
+        | inr g ↦ told_lasts m f c d inv kept.1 w z l (sync.points.prepares q w z l g)
+      ];
+    };
     reps = λ q w s h. elim (Has-append_cases e.said c.said (says q w (SyncRep s)) h) [
       | inl g ↦ reps q w s g
       | inr g ↦
@@ -74,5 +149,5 @@ module _ {S : Type 0} (m : Meaning S) (f : ℕ) (c : Conf) (r : ℕ) (e : Effect
         record { count = g.count; anchored = g.anchored; agrees = g.agrees; prepared = g.prepared; syncing = g.syncing });
   }
 
-  pub quiet_after : IsQuiet e.said → GoodSync f d r e.state → Sync f d
-  quiet_after quiet own = sync_after (λ q w s h. absurd ((quiet q w s).0 h)) (λ q w s h. absurd ((quiet q w s).1 h)) own
+  pub quiet_after : IsQuiet e.said → Tells f d e.said → GoodSync f d r e.state → Sync f d
+  quiet_after quiet tells own = sync_after (λ q w s h. absurd ((quiet q w s).0 h)) (λ q w s h. absurd ((quiet q w s).1 h)) tells own

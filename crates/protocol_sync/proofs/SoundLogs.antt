@@ -31,40 +31,43 @@ use Rattle.protocol_sync.specs.Sound.{EntryIsSound, LogsAreSound, WaitsAt, IsUns
 -- ---- whether a SyncPrepare of a length was sent
 
 abbrev WasPrepared : List Said → View → ℕ → Type 0
-WasPrepared said w k = (q : ℕ) × (l : List Entry) × DidSay said q w (SyncPrepare l) × (length l ≡ k)
+WasPrepared said w k = (q : ℕ) × (z : ℕ) × (l : List Entry) × DidSay said q w (SyncPrepare z l) × (length l ≡ k)
 
 abbrev NonePrepared : List Said → View → ℕ → Type 0
-NonePrepared said w k = (q : ℕ) (l : List Entry) → DidSay said q w (SyncPrepare l) → length l ≡ k → ⊥
+NonePrepared said w k = (q z : ℕ) (l : List Entry) → DidSay said q w (SyncPrepare z l) → length l ≡ k → ⊥
 
 -- this word is one, or not
 abbrev IsPrepare : ℕ → View → Word → View → ℕ → Type 0
-IsPrepare s v x w k = ((l : List Entry) × (says s v x ≡ says s w (SyncPrepare l)) × (length l ≡ k)) ⊎ ((q : ℕ) (l : List Entry)
-    → says q w (SyncPrepare l) ≡ says s v x → length l ≡ k → ⊥)
+IsPrepare s v x w k = ((z : ℕ) × (l : List Entry) × (says s v x ≡ says s w (SyncPrepare z l)) × (length l ≡ k))
+    ⊎ ((q z : ℕ) (l : List Entry) → says q w (SyncPrepare z l) ≡ says s v x → length l ≡ k → ⊥)
 
 is_prepare : (s : ℕ) (v : View) (x : Word) (w : View) (k : ℕ) → IsPrepare s v x w k
-is_prepare s v (SyncPrepare l) w k = elim (cases_View v w) [
+is_prepare s v (SyncPrepare z l) w k = elim (cases_View v w) [
   | inl e ↦ elim (cases_eq (length l) k) [
-    | inl n ↦ inl (l, ap (λ (y : View). says s y (SyncPrepare l)) e, n)
-    | inr n ↦ inr (λ q j h g. let word = ap (λ (y : Said). y.word) h in let same : j ≡ l = cc in n (ap length (sym same) ∙ g))
+    | inl n ↦ inl (z, l, ap (λ (y : View). says s y (SyncPrepare z l)) e, n)
+    | inr n ↦ inr (λ q i j h g. let word = ap (λ (y : Said). y.word) h in let same : j ≡ l = cc in n (ap length (sym same) ∙ g))
   ]
-  | inr a ↦ inr (λ q j h g. a (sym (ap (λ (y : Said). y.view) h)))
+  | inr a ↦ inr (λ q i j h g. a (sym (ap (λ (y : Said). y.view) h)))
 ]
-is_prepare s v Plain w k = inr (λ q l h g. let same = ap (λ (y : Said). y.word) h in cc)
-is_prepare s v (Found i r) w k = inr (λ q l h g. let same = ap (λ (y : Said). y.word) h in cc)
-is_prepare s v (GapCommit i) w k = inr (λ q l h g. let same = ap (λ (y : Said). y.word) h in cc)
-is_prepare s v (GapRep i) w k = inr (λ q l h g. let same = ap (λ (y : Said). y.word) h in cc)
-is_prepare s v (ViewChange u y j) w k = inr (λ q l h g. let same = ap (λ (y : Said). y.word) h in cc)
-is_prepare s v (StartView y j) w k = inr (λ q l h g. let same = ap (λ (y : Said). y.word) h in cc)
-is_prepare s v (SyncRep i) w k = inr (λ q l h g. let same = ap (λ (y : Said). y.word) h in cc)
-is_prepare s v (SyncCommit i) w k = inr (λ q l h g. let same = ap (λ (y : Said). y.word) h in cc)
+is_prepare s v Plain w k = inr (λ q z l h g. let same = ap (λ (y : Said). y.word) h in cc)
+is_prepare s v (Found i r) w k = inr (λ q z l h g. let same = ap (λ (y : Said). y.word) h in cc)
+is_prepare s v (GapCommit i) w k = inr (λ q z l h g. let same = ap (λ (y : Said). y.word) h in cc)
+is_prepare s v (GapRep i) w k = inr (λ q z l h g. let same = ap (λ (y : Said). y.word) h in cc)
+is_prepare s v (ViewChange u y o j) w k = inr (λ q z l h g. let same = ap (λ (y : Said). y.word) h in cc)
+is_prepare s v (StartView y o j) w k = inr (λ q z l h g. let same = ap (λ (y : Said). y.word) h in cc)
+is_prepare s v (SyncRep i) w k = inr (λ q z l h g. let same = ap (λ (y : Said). y.word) h in cc)
+is_prepare s v (SyncCommit i) w k = inr (λ q z l h g. let same = ap (λ (y : Said). y.word) h in cc)
 
 prepared_or_not : (said : List Said) (w : View) (k : ℕ) → WasPrepared said w k ⊎ NonePrepared said w k
-prepared_or_not [] w k = inr (λ q l h g. Has-none _ h)
+prepared_or_not [] w k = inr (λ q z l h g. Has-none _ h)
 prepared_or_not (x ∷ said) w k = elim (is_prepare x.sender x.view x.word w k) [
-  | inl y ↦ inl (x.sender, y.0, Has-first (says x.sender w (SyncPrepare y.0)) x said (sym y.1), y.2)
+  | inl y ↦ inl (x.sender, y.0, y.1, Has-first (says x.sender w (SyncPrepare y.0 y.1)) x said (sym y.2), y.3)
   | inr other ↦ elim (prepared_or_not said w k) [
-    | inl y ↦ inl (y.0, y.1, Has-rest (says y.0 w (SyncPrepare y.1)) x said y.2, y.3)
-    | inr none ↦ inr (λ q l h g. elim (Has-cases (says q w (SyncPrepare l)) x said h) [ inl e ↦ other q l e g | inr i ↦ none q l i g ])
+    | inl y ↦ inl (y.0, y.1, y.2, Has-rest (says y.0 w (SyncPrepare y.1 y.2)) x said y.3, y.4)
+    | inr none ↦ inr (λ q z l h g. elim (Has-cases (says q w (SyncPrepare z l)) x said h) [
+      | inl e ↦ other q z l e g
+      | inr i ↦ none q z l i g
+    ])
   ]
 ]
 
@@ -169,8 +172,8 @@ module _ {S : Type 0} (m : Meaning S) (f : ℕ) (c : Conf) (inv : Inv m f c) whe
 
     -- a NO-OP in the last slot of a log that was sent is settled
     prepared_settled : WasPrepared c.said w k → Settled f c.said w k
-    prepared_settled (q, j, h, len) =
-        let t : Prepared f c q w j = inv.said (says q w (SyncPrepare j)) h in
+    prepared_settled (q, z, j, h, len) =
+        let t : Prepared f c q w j = inv.said (says q w (SyncPrepare z j)) h in
         let lead : t.lead ≡ l = same_Some-at (c.past.log r w) t.lead l t.leads led in
         let start : t.start ≡ x = same_Some-at (c.past.start w) t.start x t.is_start is in
         let lens : length t.start.log ≡ length x.log = ap (λ (y : Start). length y.log) start in
@@ -194,8 +197,8 @@ module _ {S : Type 0} (m : Meaning S) (f : ℕ) (c : Conf) (inv : Inv m f c) whe
   leaders_sound = record {
     found = λ q w k r h. inv.said (says q w (Found k r)) h;
     gap_commits = λ q w k h. inv.said (says q w (GapCommit k)) h;
-    prepares = λ q w l n h led.
-        let t : Prepared f c q w l = inv.said (says q w (SyncPrepare l)) h in
+    prepares = λ q w z l n h led.
+        let t : Prepared f c q w l = inv.said (says q w (SyncPrepare z l)) h in
         subst (IsPrefixOf l) (same_Some-at (c.past.log (leader_of w (2 * f + 1)) w) t.lead n t.leads led) t.begins;
     noops = noop_sound;
   }

@@ -92,14 +92,16 @@ module _ {S : Type 0} (m : Meaning S) (f : ℕ) (c : Conf) (inv : Inv m f c) whe
     started = started;
     gathered = λ r g x l e i.
         let entry = ((inv.own r l).changes.gathers g e).entries x i in
-        entered x.sender (c.replicas r).view (record { last_normal = x.last_normal; next = x.next; log = x.log }) entry;
+        entered x.sender (c.replicas r).view
+        (record { last_normal = x.last_normal; next = x.next; sync_point = x.sync_point; log = x.log }) entry;
     found = λ q w k r h.
         let t : LeaderHas f c q w k (Req r) = inv.said (says q w (Found k r)) h in
         let there = Has-prefix _ t.lead (Req r) (IsPrefixOf-take k t.lead) (Has-slot_of t.lead k (Req r) t.entry) in
         had (leader_of w (2 * f + 1)) w t.lead t.leads r there;
-    changes = λ q w u x l h. entered q w (record { last_normal = u; next = x; log = l }) (inv.said (says q w (ViewChange u x l)) h);
-    starts = λ q w x l h. let t : Begun f c q w x l = inv.said (says q w (StartView x l)) h in of_leader w l t.lead t.leads t.begins;
-    prepares = λ q w l h. let t : Prepared f c q w l = inv.said (says q w (SyncPrepare l)) h in of_leader w l t.lead t.leads t.begins;
+    changes = λ q w u x z l h.
+        entered q w (record { last_normal = u; next = x; sync_point = z; log = l }) (inv.said (says q w (ViewChange u x z l)) h);
+    starts = λ q w x z l h. let t : Begun f c q w x l = inv.said (says q w (StartView x z l)) h in of_leader w l t.lead t.leads t.begins;
+    prepares = λ q w z l h. let t : Prepared f c q w l = inv.said (says q w (SyncPrepare z l)) h in of_leader w l t.lead t.leads t.begins;
   }
 
   -- ---- what is kept

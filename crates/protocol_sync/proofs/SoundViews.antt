@@ -18,23 +18,25 @@ use Rattle.facts.proofs.Options.{same_Some-at}
 use Rattle.protocol_sync.specs.Sound.{ChangeIsSound, ViewsAreSound, StartIsSound, TellsStart, StartsAreSound}
 
 module _ {S : Type 0} (m : Meaning S) (f : ℕ) (c : Conf) (inv : Inv m f c) where
-  change_sound : (r : ℕ) (v u : View) (x : ℕ) (l : List Entry) → DidSay c.said r v (ViewChange u x l) → ChangeIsSound c r v u x l
-  change_sound r v u x l h =
-      let e : c.past.entry r v ≡ Some (record { last_normal = u; next = x; log = l }) = inv.said (says r v (ViewChange u x l)) h in
-      let t = inv.entries r v (record { last_normal = u; next = x; log = l }) e in
+  change_sound : (r : ℕ) (v u : View) (x z : ℕ) (l : List Entry) → DidSay c.said r v (ViewChange u x z l) → ChangeIsSound c r v u x z l
+  change_sound r v u x z l h =
+      let here : Entered = record { last_normal = u; next = x; sync_point = z; log = l } in
+      let e : c.past.entry r v ≡ Some here = inv.said (says r v (ViewChange u x z l)) h in
+      let t = inv.entries r v here e in
       record {
         had = t.log;
         start = t.start;
         is_start = t.is_start;
         next = omega (arith, t.counted);
-        one = λ w y k g.
-            let i : c.past.entry r v ≡ Some (record { last_normal = w; next = y; log = k }) = inv.said (says r v (ViewChange w y k)) g in
-            let same = same_Some-at (c.past.entry r v) (record { last_normal = w; next = y; log = k }) (record {
-              last_normal = u;
-              next = x;
-              log = l;
-            }) i e in
-            (ap (λ (z : Entered). z.last_normal) same, ap (λ (z : Entered). z.next) same, ap (λ (z : Entered). z.log) same);
+        one = λ w y o k g.
+            let other : Entered = record { last_normal = w; next = y; sync_point = o; log = k } in
+            let i : c.past.entry r v ≡ Some other = inv.said (says r v (ViewChange w y o k)) g in
+            let same : other ≡ here = same_Some-at (c.past.entry r v) other here i e in (
+              ap (λ (t : Entered). t.last_normal) same,
+              ap (λ (t : Entered). t.next) same,
+              ap (λ (t : Entered). t.sync_point) same,
+              ap (λ (t : Entered). t.log) same,
+            );
       }
 
   pub views_sound : ViewsAreSound f c
@@ -50,9 +52,9 @@ module _ {S : Type 0} (m : Meaning S) (f : ℕ) (c : Conf) (inv : Inv m f c) whe
       let t = (inv.starts w x is).by apart in
       record { changes = t.changes; entered = t.certificate; leader = t.leader; opens = t.opens }
 
-  tells_start : (q : ℕ) (w : View) (x : ℕ) (l : List Entry) → DidSay c.said q w (StartView x l) → TellsStart f c q w x l
-  tells_start q w x l h =
-      let t : Begun f c q w x l = inv.said (says q w (StartView x l)) h in
+  tells_start : (q : ℕ) (w : View) (x z : ℕ) (l : List Entry) → DidSay c.said q w (StartView x z l) → TellsStart f c q w x l
+  tells_start q w x z l h =
+      let t : Begun f c q w x l = inv.said (says q w (StartView x z l)) h in
       let good = inv.logs (leader_of w (2 * f + 1)) w t.lead t.leads in
       let same : good.start ≡ t.start = same_Some-at (c.past.start w) good.start t.start good.is_start t.is_start in
       let led : IsPrefixOf t.start.log t.lead = subst (λ (y : Start). IsPrefixOf y.log t.lead) same good.begins in

@@ -1,4 +1,5 @@
 pub mod Above
+pub mod Gathered
 pub mod Laws
 pub mod Sound
 pub mod Synced

@@ -61,9 +61,9 @@ pub record RequestsAreSubmitted (f : ℕ) (c : Conf) : Type 0 where
   pub gathered : (r : ℕ) (g : Gathering) (x : peer.Change) → r < 2 * f + 1 → (c.replicas r).changes ≡ Some g → Has g.changes x
       → AreSubmitted c x.log
   pub found : (q : ℕ) (w : View) (k : ℕ) (r : Request) → DidSay c.said q w (Found k r) → WasSubmitted c.lines r
-  pub changes : (q : ℕ) (w u : View) (x : ℕ) (l : List Entry) → DidSay c.said q w (ViewChange u x l) → AreSubmitted c l
-  pub starts : (q : ℕ) (w : View) (x : ℕ) (l : List Entry) → DidSay c.said q w (StartView x l) → AreSubmitted c l
-  pub prepares : (q : ℕ) (w : View) (l : List Entry) → DidSay c.said q w (SyncPrepare l) → AreSubmitted c l
+  pub changes : (q : ℕ) (w u : View) (x z : ℕ) (l : List Entry) → DidSay c.said q w (ViewChange u x z l) → AreSubmitted c l
+  pub starts : (q : ℕ) (w : View) (x z : ℕ) (l : List Entry) → DidSay c.said q w (StartView x z l) → AreSubmitted c l
+  pub prepares : (q : ℕ) (w : View) (z : ℕ) (l : List Entry) → DidSay c.said q w (SyncPrepare z l) → AreSubmitted c l
 
 -- each request that is queued was stamped with the session and its number, and each reply that is kept was sent by a replica for an open
 -- request
@@ -76,19 +76,19 @@ pub record KeptWasSent (f : ℕ) (c : Conf) : Type 0 where
 -- ---- views
 
 -- the content of a ViewChange: the log that its sender had in its last normal view, and its number
-pub record ChangeIsSound (c : Conf) (r : ℕ) (v u : View) (x : ℕ) (l : List Entry) : Type 0 where
+pub record ChangeIsSound (c : Conf) (r : ℕ) (v u : View) (x z : ℕ) (l : List Entry) : Type 0 where
   pub had : HadLog c.past r u l
   pub start : Start
   pub is_start : IsStart c.past u start
   pub next : x ≡ start.next + length l - length start.log
-  pub one : (w : View) (y : ℕ) (k : List Entry) → DidSay c.said r v (ViewChange w y k) → (w ≡ u) × (y ≡ x) × (k ≡ l)
+  pub one : (w : View) (y o : ℕ) (k : List Entry) → DidSay c.said r v (ViewChange w y o k) → (w ≡ u) × (y ≡ x) × (o ≡ z) × (k ≡ l)
 
 -- a last normal view is started; it is the view in Normal, and below it in Change; a replica's ViewChanges for a view have one content
 pub record ViewsAreSound (f : ℕ) (c : Conf) : Type 0 where
   pub started : (r : ℕ) → r < 2 * f + 1 → IsStarted c.past (c.replicas r).last_normal
   pub normal : (r : ℕ) → r < 2 * f + 1 → (c.replicas r).status ≡ Normal → (c.replicas r).last_normal ≡ (c.replicas r).view
   pub change : (r : ℕ) → r < 2 * f + 1 → (c.replicas r).status ≡ Change → Below (c.replicas r).last_normal (c.replicas r).view
-  pub changes : (r : ℕ) (v u : View) (x : ℕ) (l : List Entry) → DidSay c.said r v (ViewChange u x l) → ChangeIsSound c r v u x l
+  pub changes : (r : ℕ) (v u : View) (x z : ℕ) (l : List Entry) → DidSay c.said r v (ViewChange u x z l) → ChangeIsSound c r v u x z l
 
 -- ---- starts
 
@@ -114,7 +114,7 @@ pub record TellsStart (f : ℕ) (c : Conf) (q : ℕ) (w : View) (x : ℕ) (l : L
 pub record StartsAreSound (f : ℕ) (c : Conf) : Type 0 where
   pub first : IsStart c.past first_view (record { next = 1; log = [] })
   pub by : (w : View) (x : Start) → IsStart c.past w x → (w ≡ first_view → ⊥) → StartIsSound f c w x
-  pub told : (q : ℕ) (w : View) (x : ℕ) (l : List Entry) → DidSay c.said q w (StartView x l) → TellsStart f c q w x l
+  pub told : (q : ℕ) (w : View) (x z : ℕ) (l : List Entry) → DidSay c.said q w (StartView x z l) → TellsStart f c q w x l
   pub comparable : (v w : View) → IsStarted c.past v → IsStarted c.past w → Comparable v w
 
 -- ---- the logs of a view
@@ -141,13 +141,14 @@ WaitsAt p w k = (p.view ≡ w) × (g : Agreement) × (p.gap ≡ Some g) × (g.sl
 -- view
 pub record IsUnsettled (f : ℕ) (c : Conf) (w : View) (m : List Entry) (k : ℕ) : Type 0 where
   pub last : k ≡ length m
-  pub unprepared : (q : ℕ) (l : List Entry) → DidSay c.said q w (SyncPrepare l) → length l ≡ k → ⊥
+  pub unprepared : (q z : ℕ) (l : List Entry) → DidSay c.said q w (SyncPrepare z l) → length l ≡ k → ⊥
   pub waits : WaitsAt (c.replicas (leader_of w (2 * f + 1))) w k ⊎ Below w (c.replicas (leader_of w (2 * f + 1))).view
 
 pub record LeadersAreSound (f : ℕ) (c : Conf) : Type 0 where
   pub found : (q : ℕ) (w : View) (k : ℕ) (r : Request) → DidSay c.said q w (Found k r) → LeaderHas f c q w k (Req r)
   pub gap_commits : (q : ℕ) (w : View) (k : ℕ) → DidSay c.said q w (GapCommit k) → LeaderHas f c q w k NoOp
-  pub prepares : (q : ℕ) (w : View) (l m : List Entry) → DidSay c.said q w (SyncPrepare l) → LeaderHad f c.past w m → IsPrefixOf l m
+  pub prepares : (q : ℕ) (w : View) (z : ℕ) (l m : List Entry) → DidSay c.said q w (SyncPrepare z l) → LeaderHad f c.past w m
+      → IsPrefixOf l m
   pub noops : (w : View) (m : List Entry) (x : Start) (k : ℕ) → LeaderHad f c.past w m → IsStart c.past w x → length x.log < k
       → slot_of m k ≡ Some NoOp
       → Settled f c.said w k ⊎ IsUnsettled f c w m k

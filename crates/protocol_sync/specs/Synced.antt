@@ -6,12 +6,12 @@ use Rattle.nop_types.specs.declared.replica_state.Phase.TheVariants.{Normal}
 use Rattle.nop_types.specs.declared.request.Entry.{Entry}
 use Rattle.nop_types.specs.Views.{AtMost, leader_of}
 use Rattle.started_views.specs.Logs.{SameTo}
-use Rattle.started_views.specs.Past.{HadLog, LeaderHad, IsStarted}
+use Rattle.started_views.specs.Past.{Entered, HadLog, LeaderHad, IsStarted}
 use Rattle.started_views.specs.Quorums.{counts, Others}
 use Rattle.sync_points.specs.Synchronisation.{Round}
 use Rattle.protocol.specs.Conf.{Conf, DidSay}
 use Rattle.protocol.specs.Member.{Member}
-use Rattle.protocol.specs.Said.{SyncRep, SyncCommit}
+use Rattle.protocol.specs.Said.{StartView, SyncPrepare, SyncRep, SyncCommit}
 
 -- f others said that they have the first s slots of the leader of u, which has them
 pub record Synced (f : ℕ) (c : Conf) (u : View) (s : ℕ) : Type 0 where
@@ -71,12 +71,30 @@ pub record GoodSync (f : ℕ) (c : Conf) (r : ℕ) (p : Member) : Type 0 where
   pub prepared : 1 ≤ p.sync.prepared → HasPrepared f c r p.view p.status p.log p.sync.prepared
   pub syncing : (x : Round) → p.sync.syncing ≡ Some x → Syncing f c r p.view p.status p.sync.sync_point (length p.log) x
 
+-- ---- sync points that are told
+
+-- a log that is told in w reaches its sync point, which is anchored there
+pub record Told (f : ℕ) (c : Conf) (w : View) (z : ℕ) (l : List Entry) : Type 0 where
+  pub within : z ≤ length l
+  pub anchored : Anchored f c w z
+
+-- what a replica entered a view with is anchored at its last normal view, whose leader has it
+pub record GoodPoint (f : ℕ) (c : Conf) (e : Entered) : Type 0 where
+  pub anchored : Anchored f c e.last_normal e.sync_point
+  pub agrees : Agrees f c e.last_normal e.log e.sync_point
+
+pub record Points (f : ℕ) (c : Conf) : Type 0 where
+  pub entries : (r : ℕ) (v : View) (e : Entered) → c.past.entry r v ≡ Some e → GoodPoint f c e
+  pub starts : (q : ℕ) (w : View) (x z : ℕ) (l : List Entry) → DidSay c.said q w (StartView x z l) → Told f c w z l
+  pub prepares : (q : ℕ) (w : View) (z : ℕ) (l : List Entry) → DidSay c.said q w (SyncPrepare z l) → Told f c w z l
+
 -- ---- all of it
 
 pub record Sync (f : ℕ) (c : Conf) : Type 0 where
   pub reps : (q : ℕ) (w : View) (s : ℕ) → DidSay c.said q w (SyncRep s) → TrueSyncRep f c q w s
   pub commits : (q : ℕ) (w : View) (s : ℕ) → DidSay c.said q w (SyncCommit s) → TrueSyncCommit f c q w s
   pub own : (r : ℕ) → r < 2 * f + 1 → GoodSync f c r (c.replicas r)
+  pub points : Points f c
 
 -- no sync point falls, and what is synchronised stays
 pub record SyncRises (f : ℕ) (c d : Conf) : Type 0 where

@@ -1,5 +1,6 @@
 ghost use Rattle.nop_types.specs.Meaning.{Meaning};
 ghost use Rattle.protocol_sync.specs.Above.{GapsOpenAbove, GapsStayAbove, SyncedIsPrepared};
+ghost use Rattle.protocol_sync.specs.Gathered.{StartsBeginWithSynced, StartsReachTheirPoints};
 ghost use Rattle.protocol_sync.specs.Laws.{
   OpeningIsSynced,
   SyncsKeep,
@@ -33,6 +34,13 @@ pub fn gaps_stay_above<S>()
     ensures open { GapsOpenAbove }
     ensures stay { (m : Meaning S) → GapsStayAbove m }
     ensures prepared { (m : Meaning S) → SyncedIsPrepared m }
+{}
+
+/// What a view starts with begins with what each change that its leader gathered has up to its sync
+/// point, and reaches the sync point that it is told with.
+pub fn starts_begin_with_synchronised<S>()
+    ensures begin { (m : Meaning S) → StartsBeginWithSynced m }
+    ensures point { (m : Meaning S) → StartsReachTheirPoints m }
 {}
 
 /// What a replica has up to its sync point begins the log from which the history is read.

@@ -78,10 +78,12 @@ module _ (f : ℕ) (stamps : List Stamped) (last_normal : ℕ → View) (past : 
               let there : past.entry x.sender w ≡ Some (record {
                 last_normal = y.last_normal;
                 next = y.next;
+                sync_point = y.sync_point;
                 log = y.log;
               }) = subst (λ i. past.entry i w ≡ Some (record {
                 last_normal = y.last_normal;
                 next = y.next;
+                sync_point = y.sync_point;
                 log = y.log;
               })) same (k.1.entries y r.3.1) in
               h.entries_chain x.sender v w _ _ (c.1.entries x r.2.1) there

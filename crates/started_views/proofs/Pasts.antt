@@ -110,5 +110,5 @@ overrun_fixed =
 pub overrun_entry : ((r : ℕ) (v : View) (e : Entered) → overrun_past.entry r v ≡ Some e → HadLog overrun_past r e.last_normal e.log) → ⊥
 overrun_entry h =
     let e : Some leader_log ≡ Some (follower_log NoOp) =
-    h 1 second_view (record { last_normal = first_view; next = 3; log = follower_log NoOp }) refl in
+    h 1 second_view (record { last_normal = first_view; next = 3; sync_point = 0; log = follower_log NoOp }) refl in
     absurd cc

@@ -68,7 +68,7 @@ begun x w s e = step (is_view w first_view) (is_view w second_view) refl refl e
     step false false g h e = absurd cc
 
 abbrev first_entry : Entry → Entered
-first_entry x = record { last_normal = first_view; next = 3; log = follower_log x }
+first_entry x = record { last_normal = first_view; next = 3; sync_point = 0; log = follower_log x }
 
 data Came (x : Entry) (r : ℕ) (w : View) (e : Entered) : Type 0 where
   One : w ≡ second_view → r ≡ 1 → e ≡ first_entry x → Came x r w e
@@ -159,7 +159,7 @@ noops_at m l k n e g h = rw (e, g) h
 -- ---- what the followers told
 
 abbrev told_by : ℕ → Entry → Change
-told_by r x = record { sender = r; last_normal = first_view; next = 3; log = follower_log x }
+told_by r x = record { sender = r; last_normal = first_view; next = 3; sync_point = 0; log = follower_log x }
 
 abbrev changes : Entry → List Change
 changes x = told_by 1 x ∷ told_by 2 (Req (request_of 2)) ∷ []

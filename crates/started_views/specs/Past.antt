@@ -9,6 +9,7 @@ use Rattle.log_merge.specs.Starting.{Start}
 pub record Entered : Type 0 where
   pub last_normal : View
   pub next : ℕ
+  pub sync_point : ℕ
   pub log : List Entry
 
 -- the last log of a replica while a view was its last normal view; what a view was started with; what a replica had when it entered a view
@@ -47,6 +48,7 @@ pub record Standing : Type 0 where
   pub last_normal : View
   pub next : ℕ
   pub base : ℕ
+  pub sync_point : ℕ
   pub log : List Entry
 
 abbrev pub is_of : ℕ → View → ℕ → View → Bool
@@ -62,7 +64,7 @@ abbrev pub with_start : Bool → View → Start → Past → Past
 with_start b v x past = record past { start = λ w. cond (b && is_view w v) (Some x) (past.start w) }
 
 abbrev pub entered_with : Standing → Entered
-entered_with s = record { last_normal = s.last_normal; next = s.next; log = s.log }
+entered_with s = record { last_normal = s.last_normal; next = s.next; sync_point = s.sync_point; log = s.log }
 
 abbrev pub started_with : Standing → Start
 started_with s = record { next = s.next - (length s.log - s.base); log = take s.base s.log }

@@ -15,7 +15,8 @@ pub record Certificate (f : ℕ) (past : Past) (w : View) (cs : List Change) : T
   pub enough : f + 1 ≤ length cs
   pub once : (k : ℕ) → counts k (map (λ c. c.sender) cs) ≤ 1
   pub within : (c : Change) → Has cs c → c.sender < 2 * f + 1
-  pub entries : (c : Change) → Has cs c → past.entry c.sender w ≡ Some (record { last_normal = c.last_normal; next = c.next; log = c.log })
+  pub entries : (c : Change) → Has cs c
+      → past.entry c.sender w ≡ Some (record { last_normal = c.last_normal; next = c.next; sync_point = c.sync_point; log = c.log })
 
 -- the replica r had s slots in w
 abbrev pub Reached : Past → View → ℕ → ℕ → Type 0

@@ -48,8 +48,9 @@ worked_starts x false true = Some (second_start x)
 worked_starts x false false = None
 
 abbrev pub worked_entries : Entry → ℕ → Bool → Option Entered
-worked_entries x (suc zero) true = Some (record { last_normal = first_view; next = 3; log = follower_log x })
-worked_entries x (suc (suc zero)) true = Some (record { last_normal = first_view; next = 3; log = follower_log (Req (request_of 2)) })
+worked_entries x (suc zero) true = Some (record { last_normal = first_view; next = 3; sync_point = 0; log = follower_log x })
+worked_entries x (suc (suc zero)) true =
+    Some (record { last_normal = first_view; next = 3; sync_point = 0; log = follower_log (Req (request_of 2)) })
 worked_entries x r b = None
 
 -- replicas 1 and 2 entered the second view, and replica 1 started it and added a NO-OP; in the first view it had x in slot 2
@@ -80,19 +81,21 @@ overrun_past = with_log 1 first_view leader_log settled_past
 -- ---- steps of a replica
 
 abbrev pub standing_opening : Standing
-standing_opening = record { view = first_view; last_normal = first_view; next = 1; base = 0; log = [] }
+standing_opening = record { view = first_view; last_normal = first_view; next = 1; base = 0; sync_point = 0; log = [] }
 
 -- it took a request
 abbrev pub standing_taken : Standing
-standing_taken = record { view = first_view; last_normal = first_view; next = 2; base = 0; log = Req (request_of 1) ∷ [] }
+standing_taken = record { view = first_view; last_normal = first_view; next = 2; base = 0; sync_point = 0; log = Req (request_of 1) ∷ [] }
 
 -- and entered the second view
 abbrev pub standing_entered : Standing
-standing_entered = record { view = second_view; last_normal = first_view; next = 2; base = 0; log = Req (request_of 1) ∷ [] }
+standing_entered =
+    record { view = second_view; last_normal = first_view; next = 2; base = 0; sync_point = 0; log = Req (request_of 1) ∷ [] }
 
 -- and adopted it, and added a NO-OP
 abbrev pub standing_adopted : Standing
-standing_adopted = record { view = second_view; last_normal = second_view; next = 3; base = 1; log = Req (request_of 1) ∷ NoOp ∷ [] }
+standing_adopted =
+    record { view = second_view; last_normal = second_view; next = 3; base = 1; sync_point = 0; log = Req (request_of 1) ∷ NoOp ∷ [] }
 
 abbrev pub taken_past : ℕ → Past
 taken_past r = note 1 first_past r standing_opening standing_taken
