@@ -1,7 +1,7 @@
 -- Rows stay in their ranges, and send only what is in its ranges.
 use Rattle.std.proofs.Common.{◌≡◌, ◌≢◌, ◌<◌, ◌≤◌, ◌+◌, ◌-◌, ℕ, zero, suc, Bool, true, false, Option, Some, None, refl, subst}
-use Rattle.std.proofs.Common.{◌∙◌, arith, List, [], ◌∷◌, ◌++◌, length, take, drop}
-use Rattle.std.specs.Prelude.{◌&&◌, ◌==◌, not, nat_lt, nat_le, IfSome, IsTrue, slice_get}
+use Rattle.std.proofs.Common.{◌∙◌, arith, List, [], ◌∷◌, ◌++◌, length, take, drop, length-take}
+use Rattle.std.specs.Prelude.{◌^◌, max, ◌&&◌, ◌==◌, not, nat_lt, nat_le, IfSome, IsTrue, slice_get}
 use Rattle.std.specs.List.{AllByRecursion}
 use Rattle.std.proofs.lemmas.Bool.{and_parts}
 use Rattle.std.proofs.lemmas.Bool.Decides.{nat_tests}
@@ -26,7 +26,7 @@ use Rattle.nop_types.specs.Configuration.{Configuration, is_configuration}
 use Rattle.nop_types.specs.Execution.{result_at}
 use Rattle.nop_types.specs.Lists.{slot_of}
 use Rattle.nop_types.specs.Meaning.{Meaning}
-use Rattle.nop_types.specs.Ranges.{ViewFits, RequestFits, EntryFits, LogFits, NextFits, SlotFits, StampedFits, BodyFits, PeerFits}
+use Rattle.nop_types.specs.Ranges.{ViewFits, RequestFits, EntryFits, ToldFits, NextFits, SlotFits, StampedFits, BodyFits, PeerFits}
 use Rattle.nop_types.specs.Ranges.{ChangeFits}
 use Rattle.nop_types.specs.Views.{is_view, join_of}
 use Rattle.facts.proofs.Limits.{is_configuration-few_replicas}
@@ -70,7 +70,7 @@ use Rattle.replica_rows.proofs.Running.{
   overlaid_within,
   waiting_fits,
 }
-use Rattle.replica_rows.proofs.Opening.{opened_next_fits, opened_log_fits, counted_fits}
+use Rattle.replica_rows.proofs.Opening.{opened_next_fits, opened_told_fits, counted_fits}
 use Rattle.replica_rows.proofs.Ready.{opens_within}
 use Rattle.delivery.specs.Ranges.{StaysInRanges}
 use Rattle.replica_rows.proofs.Fields.{
@@ -96,6 +96,7 @@ use Rattle.delivery.proofs.FieldRanges.{
   number_small,
   to_replica_fits,
   to_all_fits,
+  own_log_told,
   own_change_fits,
   judged_next,
   cond_sound,
@@ -342,7 +343,7 @@ module _ {S : Type 0} (m : Meaning S) (short : ResultsShort m) where
   enter_as_stays false s g =
       good (enter_as false s) g
       (all_behind (to_all s bodies.ViewChangeReq) (change_told s) (to_all_fits s bodies.ViewChangeReq g.within tt)
-      (to_replica_fits s (leader s) (bodies.ViewChange s.last_normal s.next s.log) g.within (own_change_fits s g.within).rest))
+      (to_replica_fits s (leader s) (bodies.ViewChange s.last_normal s.next s.sync.sync_point s.log) g.within (own_change_fits s g.within).rest))
 
   enter_stays : (s : ReplicaState) (v : View) → IsGood s → ViewFits v → StaysInRanges (enter s v)
   unfolding enter
@@ -350,29 +351,30 @@ module _ {S : Type 0} (m : Meaning S) (short : ResultsShort m) where
       enter_as_stays (leads (entered s v)) (entered s v)
       (record { within = entered_within s v g.within fits; sound = listening_sound s v g.sound })
 
-  adopted_good : (s : ReplicaState) (v : View) (x : ℕ) (l : List Entry) → IsGood s → ViewFits v → NextFits x → LogFits l
-      → IsGood (adopted s v x l)
-  adopted_good s v x l g view next log = record {
-    within = adopted_within s v x l g.within view next log;
+  adopted_good : (s : ReplicaState) (v : View) (x z : ℕ) (l : List Entry) → IsGood s → ViewFits v → NextFits x → ToldFits z l
+      → IsGood (adopted s v x z l)
+  adopted_good s v x z l g view next told = record {
+    within = adopted_within s v x z l g.within view next told;
     sound =
         cond_sound (nat_lt s.receiver.session v.session) (opened v.session x) (advanced s.receiver x) (opened_sound v.session x next.high)
         (advanced_sound s.receiver x g.sound next.high);
   }
 
-  adopt_stays : (s : ReplicaState) (v : View) (x : ℕ) (l : List Entry) → IsGood s → ViewFits v → NextFits x → LogFits l
-      → StaysInRanges (adopt m s v x l)
+  adopt_stays : (s : ReplicaState) (v : View) (x z : ℕ) (l : List Entry) → IsGood s → ViewFits v → NextFits x → ToldFits z l
+      → StaysInRanges (adopt m s v x z l)
   unfolding adopt
-  adopt_stays s v x l g view next log =
-      let a = adopted_good s v x l g view next log in
-      and_drain (adopted s v x l, replies_above m (adopted s v x l) s.sync.sync_point)
-      (good _ a (above_fit (adopted s v x l) s.sync.sync_point a.within (synced_few s g.within)))
+  adopt_stays s v x z l g view next told =
+      let t : ReplicaState = adopted s v x z l in
+      let a = adopted_good s v x z l g view next told in
+      and_drain (t, replies_above m t t.sync.sync_point) (good _ a (above_fit t t.sync.sync_point a.within (synced_few t a.within)))
 
-  open_with_stays : (s : ReplicaState) (x : ℕ) (l : List Entry) → IsGood s → NextFits x → LogFits l → StaysInRanges (open_with m s x l)
-  open_with_stays s x l g next log =
-      then_stays (s, to_all s (bodies.StartView x l)) (λ t. adopt m t t.view x l)
-      (good (s, to_all s (bodies.StartView x l)) g
-      (to_all_fits s (bodies.StartView x l) g.within (record { number = next; entries = log })))
-      (adopt_stays s s.view x l g g.within.view next log)
+  open_with_stays : (s : ReplicaState) (x z : ℕ) (l : List Entry) → IsGood s → NextFits x → ToldFits z l
+      → StaysInRanges (open_with m s x z l)
+  open_with_stays s x z l g next told =
+      then_stays (s, to_all s (bodies.StartView x z l)) (λ t. adopt m t t.view x z l)
+      (good (s, to_all s (bodies.StartView x z l)) g
+      (to_all_fits s (bodies.StartView x z l) g.within (record { number = next; told = told })))
+      (adopt_stays s s.view x z l g g.within.view next told)
 
   open_if_stays : (o : Option Gathering) (s : ReplicaState) → IsGood s → IfSome o (λ g. AllByRecursion ChangeFits g.changes)
       → StaysInRanges (open_if_enough m o s)
@@ -380,9 +382,10 @@ module _ {S : Type 0} (m : Meaning S) (short : ResultsShort m) where
   open_if_stays (Some g) s h fits =
       when_stays (nat_lt g.f (length g.changes)) (open_view m g) s h
       (λ e. let many = below _ _ e in
-      open_with_stays s (starting.start_of g.view g.changes).next (starting.start_of g.view g.changes).log h
+      open_with_stays s (starting.start_of g.view g.changes).next (starting.start_point g.changes)
+      (starting.start_of g.view g.changes).log h
       (opened_next_fits g.view g.changes fits (omega (arith, many)))
-      (opened_log_fits g.view g.changes fits))
+      (opened_told_fits g.view g.changes fits))
 
   enter_view_stays : (s : ReplicaState) (v : View) → IsGood s → ViewFits v → StaysInRanges (rows.enter_view m v s)
   unfolding rows.enter_view
@@ -393,6 +396,13 @@ module _ {S : Type 0} (m : Meaning S) (short : ResultsShort m) where
 
   enter_and_drain_stays : (v : View) (s : ReplicaState) → IsGood s → ViewFits v → StaysInRanges (rows.enter_and_drain m v s)
   enter_and_drain_stays v s g fits = and_drain (rows.enter_view m v s) (enter_view_stays s v g fits)
+
+  -- the first entries of the own log, with the own sync point
+  front_told : (s : ReplicaState) (n : ℕ) → IsWithin s → s.sync.sync_point ≤ n → ToldFits s.sync.sync_point (take n s.log)
+  front_told s n w low =
+      let len = length-take n s.log in
+      let point = w.sync_point in
+      record { entries = front_fits s.log n w.log; point = omega (arith, len, point, low) }
 
   keep_stays : (s : ReplicaState) (g : Gathering) (c : peer.Change) → IsGood s → AllByRecursion ChangeFits g.changes → ChangeFits c
       → StaysInRanges (keep_change s g c)
@@ -406,11 +416,12 @@ module _ {S : Type 0} (m : Meaning S) (short : ResultsShort m) where
       let start = w.start in
       let base = w.base in
       let high = w.next.high in
+      let next : ℕ = s.next - (length s.log - start_len s) in
       good (resend_start s q) g
-      (to_replica_fits s q (bodies.StartView (s.next - (length s.log - start_len s)) (take (start_len s) s.log)) w
+      (to_replica_fits s q (bodies.StartView next s.sync.sync_point (take (start_len s) s.log)) w
       (record {
         number = record { low = omega (arith, start, base); high = omega (arith, high) };
-        entries = front_fits s.log (start_len s) w.log;
+        told = front_told s (start_len s) w (omega arith);
       }))
 
   -- ---- rows of packets and view changes
@@ -471,11 +482,11 @@ module _ {S : Type 0} (m : Meaning S) (short : ResultsShort m) where
       then_stays (rows.view_change_request m v s) (rows.take_change m v c) first
       (when_stays (is_view v t.view && leads t) (rows.gather_by m t.status c) t h (λ _. gather_by_stays t.status c t h fits))
 
-  start_view_stays : (s : ReplicaState) (q : ℕ) (v : View) (x : ℕ) (l : List Entry) → IsGood s → ViewFits v → NextFits x → LogFits l
-      → StaysInRanges (rows.start_view m q v x l s)
+  start_view_stays : (s : ReplicaState) (q : ℕ) (v : View) (x z : ℕ) (l : List Entry) → IsGood s → ViewFits v → NextFits x
+      → ToldFits z l → StaysInRanges (rows.start_view m q v x z l s)
   unfolding rows.start_view
-  start_view_stays s q v x l g view next log =
-      when_stays (may_adopt s q v l) (λ t. adopt m t v x l) s g (λ _. adopt_stays s v x l g view next log)
+  start_view_stays s q v x z l g view next told =
+      when_stays (may_adopt s q v l) (λ t. adopt m t v x z l) s g (λ _. adopt_stays s v x z l g view next told)
 
   -- ---- rows of the leader's messages
 
@@ -498,25 +509,29 @@ module _ {S : Type 0} (m : Meaning S) (short : ResultsShort m) where
       (λ e. and_drain (fill m (hear s) r)
       (fill_stays (hear s) r (hears s g) fits (and_parts (k == length s.log + 1) (may_append s) e).1))
 
-  overlay_stays : (s : ReplicaState) (l : List Entry) → IsGood s → LogFits l → s.next + (length l - length s.log) ≤ NUMBER_END
-      → StaysInRanges (overlay m s l)
+  overlay_stays : (s : ReplicaState) (z : ℕ) (l : List Entry) → IsGood s → ToldFits z l → s.next + (length l - length s.log) ≤ NUMBER_END
+      → StaysInRanges (overlay m s z l)
   unfolding overlay
-  overlay_stays s l g fits high =
-      let w = overlaid_within s l g.within fits high in
-      good (overlaid s l, replies_above m (overlaid s l) (length s.log) ++ to_leader s (bodies.SyncRep (length l)))
+  overlay_stays s z l g told high =
+      let t : ReplicaState = overlaid s z l in
+      let w = overlaid_within s z l g.within told high in
+      let own = g.within.log.len in
+      let point = synced_few t w in
+      let least : ℕ = max (length s.log) t.sync.sync_point in
+      let most = told.entries.len in
+      good (t, replies_above m t least ++ to_leader s (bodies.SyncRep (length l)))
       (record { within = w; sound = advanced_sound s.receiver (s.next + (length l - length s.log)) g.sound high })
-      (all_behind (replies_above m (overlaid s l) (length s.log)) (to_leader s (bodies.SyncRep (length l)))
-      (above_fit (overlaid s l) (length s.log) w g.within.log.len)
-      (to_replica_fits s (leader s) (bodies.SyncRep (length l)) g.within fits.len))
+      (all_behind (replies_above m t least) (to_leader s (bodies.SyncRep (length l))) (above_fit t least w (omega (arith, own, point)))
+      (to_replica_fits s (leader s) (bodies.SyncRep (length l)) g.within (omega (arith, most))))
 
   at_most : (a b : ℕ) → nat_le a b ≡ true → a ≤ b
   at_most a b e = grind (arith, nat_tests, e)
 
-  prepare_stays : (l : List Entry) (s : ReplicaState) → IsGood s → LogFits l → StaysInRanges (rows.sync_prepare m l s)
+  prepare_stays : (z : ℕ) (l : List Entry) (s : ReplicaState) → IsGood s → ToldFits z l → StaysInRanges (rows.sync_prepare m z l s)
   unfolding rows.sync_prepare
-  prepare_stays l s g fits =
-      when_stays (nat_le (s.next + (length l - length s.log)) NUMBER_END) (λ t. then_do (overlay m (hear t) l) (drain m)) s g
-      (λ e. and_drain (overlay m (hear s) l) (overlay_stays (hear s) l (hears s g) fits (at_most _ _ e)))
+  prepare_stays z l s g told =
+      when_stays (nat_le (s.next + (length l - length s.log)) NUMBER_END) (λ t. then_do (overlay m (hear t) z l) (drain m)) s g
+      (λ e. and_drain (overlay m (hear s) z l) (overlay_stays (hear s) z l (hears s g) told (at_most _ _ e)))
 
   commit_stays : (k : ℕ) (s : ReplicaState) → IsGood s → StaysInRanges (sync_commit k s)
   unfolding sync_commit
@@ -581,7 +596,8 @@ module _ {S : Type 0} (m : Meaning S) (short : ResultsShort m) where
   lookup_if_stays : (b : Bool) (q k : ℕ) (s : ReplicaState) → IsGood s → SlotFits k → StaysInRanges (rows.slot_lookup_if m b q k s)
   lookup_if_stays true q k s g fits =
       good (tell_synced s q) g
-      (to_replica_fits s q (bodies.SyncPrepare (take s.sync.sync_point s.log)) g.within (front_fits s.log s.sync.sync_point g.within.log))
+      (to_replica_fits s q (bodies.SyncPrepare s.sync.sync_point (take s.sync.sync_point s.log)) g.within
+      (front_told s s.sync.sync_point g.within (omega arith)))
   lookup_if_stays false q k s g fits = lookup_by_stays (answer_of s.log (waits s.gap) k) q k s g fits (answer_fits s k g.within)
 
   lookup_stays : (q k : ℕ) (s : ReplicaState) → IsGood s → SlotFits k → StaysInRanges (rows.slot_lookup m q k s)
@@ -599,13 +615,13 @@ module _ {S : Type 0} (m : Meaning S) (short : ResultsShort m) where
   unfolding rows.gap_reply
   gap_reply_stays q k s g = gap_reply_at_stays s.gap q k s g g.within.gap
 
-  commit_if_fits : (s : ReplicaState) (k : ℕ) (v : Vote) → IsWithin s → k ≤ MAX_SLOTS → AllByRecursion SendingFits (commit_if s k v)
-  commit_if_fits s k Settled w le = to_all_fits s (bodies.SyncCommit k) w le
-  commit_if_fits s k Waiting w le = tt
+  commit_if_fits : (s : ReplicaState) (k : ℕ) (v : Vote) → IsWithin s → k < 2 ^ 32 → AllByRecursion SendingFits (commit_if s k v)
+  commit_if_fits s k Settled w less = to_all_fits s (bodies.SyncCommit k) w less
+  commit_if_fits s k Waiting w less = tt
 
-  sync_reply_stays : (q k : ℕ) (s : ReplicaState) → IsGood s → k ≤ MAX_SLOTS → StaysInRanges (rows.sync_reply m q k s)
+  sync_reply_stays : (q k : ℕ) (s : ReplicaState) → IsGood s → k < 2 ^ 32 → StaysInRanges (rows.sync_reply m q k s)
   unfolding rows.sync_reply
-  sync_reply_stays q k s g le =
+  sync_reply_stays q k s g less =
       and_drain_if_risen s.sync.sync_point (count_sync_vote s q k)
       (good (count_sync_vote s q k)
       (record {
@@ -613,21 +629,21 @@ module _ {S : Type 0} (m : Meaning S) (short : ResultsShort m) where
             (counted_in_fits (length s.log) s.sync s.sync.syncing q k (sync_of s g.within) g.within.syncing);
         sound = g.sound;
       })
-      (commit_if_fits s k (synchronisation.vote_for s.sync q k) g.within le))
+      (commit_if_fits s k (synchronisation.vote_for s.sync q k) g.within less))
 
   -- ---- all messages
 
   from_leader_stays : (body : Body) (s : ReplicaState) → IsGood s → BodyFits body → StaysInRanges (from_leader m body s)
   from_leader_stays (bodies.GapCommit k) s g fits = gap_commit_stays k s g fits
   from_leader_stays (bodies.Found k r) s g fits = found_stays k r s g fits.request
-  from_leader_stays (bodies.SyncPrepare l) s g fits = prepare_stays l s g fits
+  from_leader_stays (bodies.SyncPrepare z l) s g fits = prepare_stays z l s g fits
   from_leader_stays (bodies.SyncCommit k) s g fits = commit_row_stays k s g
   from_leader_stays (bodies.SlotLookup k) s g fits = still_stays s g
   from_leader_stays (bodies.GapRep k) s g fits = still_stays s g
   from_leader_stays (bodies.SyncRep k) s g fits = still_stays s g
   from_leader_stays bodies.ViewChangeReq s g fits = still_stays s g
-  from_leader_stays (bodies.ViewChange u x l) s g fits = still_stays s g
-  from_leader_stays (bodies.StartView x l) s g fits = still_stays s g
+  from_leader_stays (bodies.ViewChange u x z l) s g fits = still_stays s g
+  from_leader_stays (bodies.StartView x z l) s g fits = still_stays s g
 
   from_follower_stays : (q : ℕ) (body : Body) (s : ReplicaState) → IsGood s → BodyFits body → StaysInRanges (from_follower m q body s)
   from_follower_stays q (bodies.SlotLookup k) s g fits = lookup_stays q k s g fits
@@ -635,11 +651,11 @@ module _ {S : Type 0} (m : Meaning S) (short : ResultsShort m) where
   from_follower_stays q (bodies.SyncRep k) s g fits = sync_reply_stays q k s g fits
   from_follower_stays q (bodies.GapCommit k) s g fits = still_stays s g
   from_follower_stays q (bodies.Found k r) s g fits = still_stays s g
-  from_follower_stays q (bodies.SyncPrepare l) s g fits = still_stays s g
+  from_follower_stays q (bodies.SyncPrepare z l) s g fits = still_stays s g
   from_follower_stays q (bodies.SyncCommit k) s g fits = still_stays s g
   from_follower_stays q bodies.ViewChangeReq s g fits = still_stays s g
-  from_follower_stays q (bodies.ViewChange u x l) s g fits = still_stays s g
-  from_follower_stays q (bodies.StartView x l) s g fits = still_stays s g
+  from_follower_stays q (bodies.ViewChange u x z l) s g fits = still_stays s g
+  from_follower_stays q (bodies.StartView x z l) s g fits = still_stays s g
 
   by_role_stays : (a b : Bool) (q : ℕ) (body : Body) (s : ReplicaState) → IsGood s → BodyFits body → StaysInRanges (by_role m a b q body s)
   by_role_stays true b q body s g fits = from_leader_stays body s g fits
@@ -651,13 +667,13 @@ module _ {S : Type 0} (m : Meaning S) (short : ResultsShort m) where
 
   on_body_stays : (p : Peer) (body : Body) (s : ReplicaState) → IsGood s → PeerFits p → BodyFits body → StaysInRanges (on_body m p body s)
   on_body_stays p bodies.ViewChangeReq s g p_fits fits = request_stays s p.view g p_fits.view
-  on_body_stays p (bodies.ViewChange u x l) s g p_fits fits =
-      view_change_stays s p.view (record { sender = p.sender; last_normal = u; next = x; log = l }) g p_fits.view
+  on_body_stays p (bodies.ViewChange u x z l) s g p_fits fits =
+      view_change_stays s p.view (record { sender = p.sender; last_normal = u; next = x; sync_point = z; log = l }) g p_fits.view
       (record { sender = p_fits.sender; rest = fits })
-  on_body_stays p (bodies.StartView x l) s g p_fits fits = start_view_stays s p.sender p.view x l g p_fits.view fits.number fits.entries
+  on_body_stays p (bodies.StartView x z l) s g p_fits fits = start_view_stays s p.sender p.view x z l g p_fits.view fits.number fits.told
   on_body_stays p (bodies.GapCommit k) s g p_fits fits = in_view_stays p.sender p.view (bodies.GapCommit k) s g fits
   on_body_stays p (bodies.Found k r) s g p_fits fits = in_view_stays p.sender p.view (bodies.Found k r) s g fits
-  on_body_stays p (bodies.SyncPrepare l) s g p_fits fits = in_view_stays p.sender p.view (bodies.SyncPrepare l) s g fits
+  on_body_stays p (bodies.SyncPrepare z l) s g p_fits fits = in_view_stays p.sender p.view (bodies.SyncPrepare z l) s g fits
   on_body_stays p (bodies.SyncCommit k) s g p_fits fits = in_view_stays p.sender p.view (bodies.SyncCommit k) s g fits
   on_body_stays p (bodies.SlotLookup k) s g p_fits fits = in_view_stays p.sender p.view (bodies.SlotLookup k) s g fits
   on_body_stays p (bodies.GapRep k) s g p_fits fits = in_view_stays p.sender p.view (bodies.GapRep k) s g fits
@@ -697,7 +713,7 @@ module _ {S : Type 0} (m : Meaning S) (short : ResultsShort m) where
   change_again_stays true s g = still_stays s g
   change_again_stays false s g =
       good (s, change_told s) g
-      (to_replica_fits s (leader s) (bodies.ViewChange s.last_normal s.next s.log) g.within (own_change_fits s g.within).rest)
+      (to_replica_fits s (leader s) (bodies.ViewChange s.last_normal s.next s.sync.sync_point s.log) g.within (own_change_fits s g.within).rest)
 
   resend_by_stays : (status : Phase) (b : Bool) (s : ReplicaState) → IsGood s → StaysInRanges (resend_by status b s)
   resend_by_stays Change b s g =
@@ -718,9 +734,9 @@ module _ {S : Type 0} (m : Meaning S) (short : ResultsShort m) where
             (with_round_fits (length s.log) s.sync (length s.log) (sync_of s g.within) (omega arith));
         sound = g.sound;
       })
-      (to_all_fits s (bodies.SyncPrepare s.log) g.within g.within.log)
+      (to_all_fits s (bodies.SyncPrepare s.sync.sync_point s.log) g.within (own_log_told s g.within))
   sync_if_stays false s g =
-      good (repeat_commit s) g (to_all_fits s (bodies.SyncCommit s.sync.sync_point) g.within (synced_few s g.within))
+      good (repeat_commit s) g (to_all_fits s (bodies.SyncCommit s.sync.sync_point) g.within (let few = synced_few s g.within in omega (arith, few)))
 
   sync_stays : (s : ReplicaState) → IsGood s → StaysInRanges (sync s)
   unfolding sync

@@ -2,7 +2,7 @@
 use Rattle.std.proofs.Common.{◌≡◌, ℕ, zero, suc, ◌+◌, ◌-◌, Bool, true, false, Option, Some, None, refl, subst, ◌∙◌, List, [], ◌∷◌, ◌++◌}
 use Rattle.std.proofs.Common.{◌≤◌, ◌<◌, sym, arith, length, drop}
 use Rattle.std.proofs.lemmas.Bool.{and_parts, ltb-true}
-use Rattle.std.specs.Prelude.{not, nat_le, nat_lt, ◌&&◌, ◌==◌}
+use Rattle.std.specs.Prelude.{max, not, nat_le, nat_lt, ◌&&◌, ◌==◌}
 use Rattle.std.specs.List.{AllByRecursion}
 use Rattle.nop_types.specs.declared.limits.TheConstants.{NUMBER_END}
 use Rattle.nop_types.specs.Execution.{result_at}
@@ -24,7 +24,7 @@ use Rattle.nop_types.specs.declared.peer.Peer.{Peer}
 use Rattle.nop_types.specs.declared.peer.Body.{Body}
 use Rattle.nop_types.specs.declared.peer.Body.TheVariants as bodies
 use Rattle.gap_agree.specs.Agreement.{Agreement}
-use Rattle.log_merge.specs.Starting.{start_of}
+use Rattle.log_merge.specs.Starting.{start_of, start_point}
 use Rattle.oum_receiver.specs.Front.{Front, Nothing, Message, Dropped}
 use Rattle.oum_receiver.specs.Receiving.{front_of}
 use Rattle.slot_lookup.specs.Answer.{Answer, Found, GapAgain, Begin, answer_of}
@@ -193,19 +193,21 @@ enter_own : (s : ReplicaState) (v : View) → Own s (enter s v)
 unfolding enter
 enter_own s v = let h = enter_as_own (leads (entered s v)) (entered s v) in record { number = h.number; count = h.count; sends = h.sends }
 
-adopt_own : {S : Type 0} (m : Meaning S) (s : ReplicaState) (v : View) (x : ℕ) (l : List Entry) → Own s (adopt m s v x l)
+adopt_own : {S : Type 0} (m : Meaning S) (s : ReplicaState) (v : View) (x z : ℕ) (l : List Entry) → Own s (adopt m s v x z l)
 unfolding adopt
-adopt_own m s v x l = and_drain m (record { number = refl; count = refl; sends = above_by m (adopted s v x l) s.sync.sync_point })
+adopt_own m s v x z l =
+    let t : ReplicaState = adopted s v x z l in
+    and_drain m (record { number = refl; count = refl; sends = above_by m t t.sync.sync_point })
 
-open_with_own : {S : Type 0} (m : Meaning S) (s : ReplicaState) (x : ℕ) (l : List Entry) → Own s (open_with m s x l)
-open_with_own m s x l =
-    then_own (λ t. adopt m t t.view x l) (record { number = refl; count = refl; sends = all_by s (bodies.StartView x l) })
-    (adopt_own m s s.view x l)
+open_with_own : {S : Type 0} (m : Meaning S) (s : ReplicaState) (x z : ℕ) (l : List Entry) → Own s (open_with m s x z l)
+open_with_own m s x z l =
+    then_own (λ t. adopt m t t.view x z l) (record { number = refl; count = refl; sends = all_by s (bodies.StartView x z l) })
+    (adopt_own m s s.view x z l)
 
 open_if_own : {S : Type 0} (m : Meaning S) (o : Option Gathering) (s : ReplicaState) → Own s (open_if_enough m o s)
 open_if_own m None s = still_own s
 open_if_own m (Some g) s = when_own (nat_lt g.f (length g.changes)) (open_view m g) s
-    (open_with_own m s (start_of g.view g.changes).next (start_of g.view g.changes).log)
+    (open_with_own m s (start_of g.view g.changes).next (start_point g.changes) (start_of g.view g.changes).log)
 
 enter_view_own : {S : Type 0} (m : Meaning S) (v : View) (s : ReplicaState) → Own s (rows.enter_view m v s)
 unfolding rows.enter_view
@@ -250,10 +252,10 @@ view_change_own m s v c h =
     let there : c.sender < t.config.replicas = subst (λ (n : ℕ). c.sender < n) (sym first.count) h in
     then_own (rows.take_change m v c) first (when_own (is_view v t.view && leads t) _ t (gather_by_own m t.status c t there))
 
-start_view_own : {S : Type 0} (m : Meaning S) (s : ReplicaState) (q : ℕ) (v : View) (x : ℕ) (l : List Entry)
-    → Own s (rows.start_view m q v x l s)
+start_view_own : {S : Type 0} (m : Meaning S) (s : ReplicaState) (q : ℕ) (v : View) (x z : ℕ) (l : List Entry)
+    → Own s (rows.start_view m q v x z l s)
 unfolding rows.start_view
-start_view_own m s q v x l = when_own (may_adopt s q v l) _ s (adopt_own m s v x l)
+start_view_own m s q v x z l = when_own (may_adopt s q v l) _ s (adopt_own m s v x z l)
 
 gap_commit_if_own : {S : Type 0} (m : Meaning S) (a b : Bool) (k : ℕ) (s : ReplicaState) → Own s (rows.gap_commit_if m a b k s)
 gap_commit_if_own m true b k s =
@@ -275,20 +277,22 @@ found_own m k r s =
     when_own ((k == length s.log + 1) && may_append s) _ s
     (and_drain m (record { number = refl; count = refl; sends = reply_by m t (length s.log + 1) r }))
 
-overlay_own : {S : Type 0} (m : Meaning S) (s : ReplicaState) (l : List Entry) → Own s (overlay m s l)
+overlay_own : {S : Type 0} (m : Meaning S) (s : ReplicaState) (z : ℕ) (l : List Entry) → Own s (overlay m s z l)
 unfolding overlay
-overlay_own m s l = record {
-  number = refl;
-  count = refl;
-  sends = by_both s (replies_above m (overlaid s l) (length s.log)) _ (above_by m (overlaid s l) (length s.log))
-      (record { by = refl; to = leads_among s }, tt);
-}
+overlay_own m s z l =
+    let t : ReplicaState = overlaid s z l in
+    let least : ℕ = max (length s.log) t.sync.sync_point in
+    record {
+      number = refl;
+      count = refl;
+      sends = by_both s (replies_above m t least) _ (above_by m t least) (record { by = refl; to = leads_among s }, tt);
+    }
 
-prepare_own : {S : Type 0} (m : Meaning S) (l : List Entry) (s : ReplicaState) → Own s (rows.sync_prepare m l s)
+prepare_own : {S : Type 0} (m : Meaning S) (z : ℕ) (l : List Entry) (s : ReplicaState) → Own s (rows.sync_prepare m z l s)
 unfolding rows.sync_prepare
-prepare_own m l s =
-    let h = overlay_own m (hear s) l in
-    when_own (nat_le (s.next + (length l - length s.log)) NUMBER_END) (λ t. then_do (overlay m (hear t) l) (drain m)) s
+prepare_own m z l s =
+    let h = overlay_own m (hear s) z l in
+    when_own (nat_le (s.next + (length l - length s.log)) NUMBER_END) (λ t. then_do (overlay m (hear t) z l) (drain m)) s
     (and_drain m (record { number = h.number; count = h.count; sends = h.sends }))
 
 commit_own : (k : ℕ) (s : ReplicaState) → Own s (sync_commit k s)
@@ -337,14 +341,14 @@ sync_reply_own m q k s =
 from_leader_own : {S : Type 0} (m : Meaning S) (body : Body) (s : ReplicaState) → Own s (from_leader m body s)
 from_leader_own m (bodies.GapCommit k) s = gap_commit_own m k s
 from_leader_own m (bodies.Found k r) s = found_own m k r s
-from_leader_own m (bodies.SyncPrepare l) s = prepare_own m l s
+from_leader_own m (bodies.SyncPrepare z l) s = prepare_own m z l s
 from_leader_own m (bodies.SyncCommit k) s = commit_row_own m k s
 from_leader_own m (bodies.SlotLookup k) s = still_own s
 from_leader_own m (bodies.GapRep k) s = still_own s
 from_leader_own m (bodies.SyncRep k) s = still_own s
 from_leader_own m bodies.ViewChangeReq s = still_own s
-from_leader_own m (bodies.ViewChange u x l) s = still_own s
-from_leader_own m (bodies.StartView x l) s = still_own s
+from_leader_own m (bodies.ViewChange u x z l) s = still_own s
+from_leader_own m (bodies.StartView x z l) s = still_own s
 
 from_follower_own : {S : Type 0} (m : Meaning S) (q : ℕ) (body : Body) (s : ReplicaState) → q < s.config.replicas
     → Own s (from_follower m q body s)
@@ -353,11 +357,11 @@ from_follower_own m q (bodies.GapRep k) s h = gap_reply_own m q k s
 from_follower_own m q (bodies.SyncRep k) s h = sync_reply_own m q k s
 from_follower_own m q (bodies.GapCommit k) s h = still_own s
 from_follower_own m q (bodies.Found k r) s h = still_own s
-from_follower_own m q (bodies.SyncPrepare l) s h = still_own s
+from_follower_own m q (bodies.SyncPrepare z l) s h = still_own s
 from_follower_own m q (bodies.SyncCommit k) s h = still_own s
 from_follower_own m q bodies.ViewChangeReq s h = still_own s
-from_follower_own m q (bodies.ViewChange u x l) s h = still_own s
-from_follower_own m q (bodies.StartView x l) s h = still_own s
+from_follower_own m q (bodies.ViewChange u x z l) s h = still_own s
+from_follower_own m q (bodies.StartView x z l) s h = still_own s
 
 by_role_own : {S : Type 0} (m : Meaning S) (a b : Bool) (q : ℕ) (body : Body) (s : ReplicaState) → q < s.config.replicas
     → Own s (by_role m a b q body s)
@@ -372,12 +376,12 @@ in_view_own m q v body s h = by_role_own m (is_from_leader s v q) (is_to_leader 
 on_body_own : {S : Type 0} (m : Meaning S) (p : Peer) (body : Body) (s : ReplicaState) → p.sender < s.config.replicas
     → Own s (on_body m p body s)
 on_body_own m p bodies.ViewChangeReq s h = request_own m s p.view
-on_body_own m p (bodies.ViewChange u x l) s h =
-    view_change_own m s p.view (record { sender = p.sender; last_normal = u; next = x; log = l }) h
-on_body_own m p (bodies.StartView x l) s h = start_view_own m s p.sender p.view x l
+on_body_own m p (bodies.ViewChange u x z l) s h =
+    view_change_own m s p.view (record { sender = p.sender; last_normal = u; next = x; sync_point = z; log = l }) h
+on_body_own m p (bodies.StartView x z l) s h = start_view_own m s p.sender p.view x z l
 on_body_own m p (bodies.GapCommit k) s h = in_view_own m p.sender p.view (bodies.GapCommit k) s h
 on_body_own m p (bodies.Found k r) s h = in_view_own m p.sender p.view (bodies.Found k r) s h
-on_body_own m p (bodies.SyncPrepare l) s h = in_view_own m p.sender p.view (bodies.SyncPrepare l) s h
+on_body_own m p (bodies.SyncPrepare z l) s h = in_view_own m p.sender p.view (bodies.SyncPrepare z l) s h
 on_body_own m p (bodies.SyncCommit k) s h = in_view_own m p.sender p.view (bodies.SyncCommit k) s h
 on_body_own m p (bodies.SlotLookup k) s h = in_view_own m p.sender p.view (bodies.SlotLookup k) s h
 on_body_own m p (bodies.GapRep k) s h = in_view_own m p.sender p.view (bodies.GapRep k) s h
@@ -432,7 +436,7 @@ unfolding resend
 resend_own s = resend_by_own s.status (leads s) s
 
 sync_if_own : (b : Bool) (s : ReplicaState) → Own s (sync_if b s)
-sync_if_own true s = record { number = refl; count = refl; sends = all_by s (bodies.SyncPrepare s.log) }
+sync_if_own true s = record { number = refl; count = refl; sends = all_by s (bodies.SyncPrepare s.sync.sync_point s.log) }
 sync_if_own false s = record { number = refl; count = refl; sends = all_by s (bodies.SyncCommit s.sync.sync_point) }
 
 sync_own : (s : ReplicaState) → Own s (sync s)

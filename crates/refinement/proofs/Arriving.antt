@@ -32,12 +32,12 @@ module _ {S : Type 0} (m : Meaning S) (f : ℕ) (c : Conf) (r : ℕ) (s : Replic
   body_reaches : (p : Peer) (body : Body) → is_other s p.sender ≡ true → Has c.said (says p.sender p.view (word_of body))
       → ReplicaReaches m f c r s (on_body m p body s)
   body_reaches p bodies.ViewChangeReq other came = view_change_request_reaches m f r c s p.view h
-  body_reaches p (bodies.ViewChange u x l) other came =
-      view_change_reaches m f r c s p.view (record { sender = p.sender; last_normal = u; next = x; log = l }) h other came
-  body_reaches p (bodies.StartView x l) other came = start_view_reaches m f r c s p.sender p.view x l h other came
+  body_reaches p (bodies.ViewChange u x z l) other came =
+      view_change_reaches m f r c s p.view (record { sender = p.sender; last_normal = u; next = x; sync_point = z; log = l }) h other came
+  body_reaches p (bodies.StartView x z l) other came = start_view_reaches m f r c s p.sender p.view x z l h other came
   body_reaches p (bodies.GapCommit k) other came = in_its_view p (bodies.GapCommit k) other came
   body_reaches p (bodies.Found k q) other came = in_its_view p (bodies.Found k q) other came
-  body_reaches p (bodies.SyncPrepare l) other came = in_its_view p (bodies.SyncPrepare l) other came
+  body_reaches p (bodies.SyncPrepare z l) other came = in_its_view p (bodies.SyncPrepare z l) other came
   body_reaches p (bodies.SyncCommit k) other came = in_its_view p (bodies.SyncCommit k) other came
   body_reaches p (bodies.SlotLookup k) other came = in_its_view p (bodies.SlotLookup k) other came
   body_reaches p (bodies.GapRep k) other came = in_its_view p (bodies.GapRep k) other came

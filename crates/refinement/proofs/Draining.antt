@@ -59,8 +59,8 @@ module _ {S : Type 0} (m : Meaning S) (f : ℕ) (r : ℕ) where
   ask_in_view : (b : Bool) (c : Conf) (s : ReplicaState) → Matches m f c r s → InView m f c r s (ask_if b s)
   ask_in_view true c s h = nothing_in_view m f r c s s h refl
   ask_in_view false c s h =
-      move_in_view m f r c s (ask_if false s) (Say Plain) h tt (record { state = refl; said = refl; replies = refl })
-      (stays_still f r (standing (member_of s)))
+      move_in_view m f r c s (ask_if false s) (Say Plain) h (record { true = tt; point = tt })
+      (record { state = refl; said = refl; replies = refl }) (stays_still f r (standing (member_of s)))
 
   drop_in_view : (b : Bool) (again : ReplicaState → Effect) (c : Conf) (s : ReplicaState) → Matches m f c r s → MayDrain s → leads s ≡ b
       → ((d : Conf) (t : ReplicaState) → Matches m f d r t → InView m f d r t (again t)) → InView m f c r s (drain_drop again b s)

@@ -22,8 +22,8 @@ enter_reaches m f c r s v h below = move_reaches m f r c s (enter s v) (Enter v)
 -- what it changes
 
 keeps_as : (b : Bool) (s : ReplicaState) (v : View) → Keeps (standing (member_of s)) (standing (member_of (enter_as b (entered s v)).0))
-keeps_as true s v = record { last_normal = refl; next = refl; log = refl }
-keeps_as false s v = record { last_normal = refl; next = refl; log = refl }
+keeps_as true s v = record { last_normal = refl; next = refl; sync_point = refl; log = refl }
+keeps_as false s v = record { last_normal = refl; next = refl; sync_point = refl; log = refl }
 
 pub enter_keeps : (s : ReplicaState) (v : View) → Keeps (standing (member_of s)) (standing (member_of (enter s v).0))
 unfolding enter

@@ -1,6 +1,6 @@
 -- The rows of a follower that its leader speaks to.
 use Rattle.std.proofs.Common.{◌≡◌, ℕ, ◌+◌, Bool, true, false, refl, ap, subst, length, List}
-use Rattle.std.specs.Prelude.{◌-◌, ◌&&◌, ◌==◌, nat_le}
+use Rattle.std.specs.Prelude.{◌-◌, ◌&&◌, ◌==◌, max, nat_le}
 use Rattle.std.proofs.lemmas.Bool.{and_parts, eqb-true, leb-true}
 use Rattle.nop_types.specs.declared.limits.TheConstants.{NUMBER_END}
 use Rattle.nop_types.specs.declared.request.Request.{Request}
@@ -8,12 +8,13 @@ use Rattle.nop_types.specs.declared.request.Entry.{Entry}
 use Rattle.nop_types.specs.declared.request.Entry.TheVariants.{NoOp, Req}
 use Rattle.nop_types.specs.Meaning.{Meaning}
 use Rattle.nop_types.specs.Slots.{laid}
-use Rattle.replica_log.specs.Splices.{spliced, noop_above}
+use Rattle.replica_log.specs.Splices.{noop_above}
 use Rattle.replica_state.specs.declared.state.ReplicaState.{ReplicaState}
 use Rattle.replica_state.specs.State.{may_append}
-use Rattle.replica_state.specs.Moves.{hear, write_gap, add_gap, fill, overlay, obey, sync_commit, drain}
+use Rattle.replica_state.specs.Moves.{hear, write_gap, add_gap, fill, taken_log, overlay, obey, sync_commit, drain}
 use Rattle.replica_rows.specs.Rows.{gap_commit_if, gap_commit, found, sync_prepare, drain_if_risen}
 use Rattle.replica_rows.specs.Rows as rows
+use Rattle.sync_points.specs.Synchronisation.{committed}
 use Rattle.protocol.specs.Conf.{Conf}
 use Rattle.protocol.specs.Member.{standing}
 use Rattle.protocol.specs.Moves.{MayFollow, MayWriteGap}
@@ -24,7 +25,7 @@ use Rattle.refinement.specs.Replicas.{Matches}
 use Rattle.refinement.proofs.Composing.{InView, in_view_then, nothing_in_view, move_in_view, when_in_view}
 use Rattle.refinement.proofs.Draining.{drain_in_view, risen_in_view}
 use Rattle.refinement.proofs.Matching.{follows_last}
-use Rattle.refinement.proofs.Parts.{Stays, stays_still}
+use Rattle.refinement.proofs.Parts.{Stays, point_stays}
 use Rattle.refinement.proofs.Same.{fill_same, overlay_same}
 use Rattle.refinement.proofs.Splices.{overlay_splices, gap_splices}
 use Rattle.refinement.proofs.Staying.{append_stays, follower_stays}
@@ -42,7 +43,7 @@ module _ {S : Type 0} (m : Meaning S) (f : ℕ) (c : Conf) (r : ℕ) (s : Replic
         said = refl;
         replies = refl;
       })
-      (follower_stays f r (standing (member_of s)) s.next (noop_above s.sync.sync_point s.log k)
+      (follower_stays f r (standing (member_of s)) s.next s.sync.sync_point (noop_above s.sync.sync_point s.log k)
       (follows_last m f c r s h may.normal may.follows))
 
   add_gap_in_view : MayFollow c (member_of s) (GapCommit (length s.log + 1)) → InView m f c r s (add_gap (hear s))
@@ -83,20 +84,21 @@ module _ {S : Type 0} (m : Meaning S) (f : ℕ) (c : Conf) (r : ℕ) (s : Replic
 
   -- ---- sync points
 
-  overlaid_stays : (l : List Entry) → MayFollow c (member_of s) (SyncPrepare l)
-      → Stays f r (standing (member_of s)) (standing (member_of (overlay m (hear s) l).0))
+  overlaid_stays : (z : ℕ) (l : List Entry) → MayFollow c (member_of s) (SyncPrepare z l)
+      → Stays f r (standing (member_of s)) (standing (member_of (overlay m (hear s) z l).0))
   unfolding overlay
-  overlaid_stays l may =
-      follower_stays f r (standing (member_of s)) (s.next + (length l - length s.log)) (laid (spliced s.sync.sync_point s.log l) s.log)
-      (follows_last m f c r s h may.normal may.follows)
+  overlaid_stays z l may =
+      follower_stays f r (standing (member_of s)) (s.next + (length l - length s.log)) (max s.sync.sync_point z)
+      (laid (taken_log s z l) s.log) (follows_last m f c r s h may.normal may.follows)
 
-  pub sync_prepare_in_view : (l : List Entry) → MayFollow c (member_of s) (SyncPrepare l) → InView m f c r s (sync_prepare m l s)
+  pub sync_prepare_in_view : (z : ℕ) (l : List Entry) → MayFollow c (member_of s) (SyncPrepare z l)
+      → InView m f c r s (sync_prepare m z l s)
   unfolding sync_prepare
-  sync_prepare_in_view l may = when_in_view m f r c s (nat_le (s.next + (length l - length s.log)) NUMBER_END) _ h (λ e.
-      in_view_then m f r c s (overlay m (hear s) l) (drain m) h
-      (move_in_view m f r c s (overlay m (hear s) l) (Overlay l) h may
-      (overlay_same m (hear s) l (overlay_splices m f c r s h l may)) (overlaid_stays l may))
-      (λ d g. drain_in_view m f r d (overlay m (hear s) l).0 g))
+  sync_prepare_in_view z l may = when_in_view m f r c s (nat_le (s.next + (length l - length s.log)) NUMBER_END) _ h (λ e.
+      in_view_then m f r c s (overlay m (hear s) z l) (drain m) h
+      (move_in_view m f r c s (overlay m (hear s) z l) (Overlay z l) h may
+      (overlay_same m (hear s) z l (overlay_splices m f c r s h z l may)) (overlaid_stays z l may))
+      (λ d g. drain_in_view m f r d (overlay m (hear s) z l).0 g))
 
   obey_in_view : (k : ℕ) → MayFollow c (member_of s) (SyncCommit k) → InView m f c r s (sync_commit k s)
   unfolding sync_commit
@@ -104,7 +106,7 @@ module _ {S : Type 0} (m : Meaning S) (f : ℕ) (c : Conf) (r : ℕ) (s : Replic
       move_in_view m f r c s (obey (hear s) k) (Obey k) h
       (record { may_follow = may; within = leb-true k s.sync.prepared e })
       (record { state = refl; said = refl; replies = refl })
-      (stays_still f r (standing (member_of s))))
+      (point_stays f r (standing (member_of s)) (committed s.sync k).sync_point))
 
   pub sync_commit_in_view : (k : ℕ) → MayFollow c (member_of s) (SyncCommit k) → InView m f c r s (rows.sync_commit m k s)
   unfolding rows.sync_commit

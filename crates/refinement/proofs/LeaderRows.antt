@@ -16,6 +16,7 @@ use Rattle.replica_state.specs.Sends.{to_replica}
 use Rattle.replica_state.specs.Moves.{open_gap, count_gap_vote, count_sync_vote, tell_synced, drain}
 use Rattle.replica_rows.specs.Rows.{begin_gap, slot_lookup_by, slot_lookup_if, slot_lookup, gap_reply_at, gap_reply}
 use Rattle.replica_rows.specs.Rows.{sync_reply, drain_if_risen}
+use Rattle.sync_points.specs.Synchronisation.{counted}
 use Rattle.protocol.specs.Conf.{Conf}
 use Rattle.protocol.specs.Member.{standing}
 use Rattle.protocol.specs.Moves.{MayLead, DidAnother}
@@ -25,8 +26,8 @@ use Rattle.refinement.specs.Projection.{member_of}
 use Rattle.refinement.specs.Replicas.{Matches}
 use Rattle.refinement.proofs.Composing.{InView, in_view_then, nothing_in_view, move_in_view, when_in_view}
 use Rattle.refinement.proofs.Draining.{open_gap_in_view, drain_in_view, risen_in_view}
-use Rattle.refinement.proofs.Matching.{leader_has, synced_prepared}
-use Rattle.refinement.proofs.Parts.{stays_still}
+use Rattle.refinement.proofs.Matching.{leader_has, may_say_synced}
+use Rattle.refinement.proofs.Parts.{stays_still, point_stays}
 use Rattle.refinement.proofs.Same.{count_sync_vote_same}
 use Rattle.refinement.proofs.Staying.{no_gap_from}
 
@@ -42,10 +43,12 @@ module _ {S : Type 0} (m : Meaning S) (f : ℕ) (c : Conf) (r : ℕ) (s : Replic
   answer_in_view : (o : Option Entry) (b : Bool) (q k : ℕ) → MayLead (member_of s) → slot_of s.log k ≡ o
       → may_begin s.log (waits s.gap) k ≡ b → InView m f c r s (slot_lookup_by m (answer_by o b) q k s)
   answer_in_view (Some (Req x)) b q k may at begins =
-      move_in_view m f r c s (s, to_replica s q (bodies.Found k x)) (Say (Found k x)) h (leader_has m f c r s h k (Req x) may at)
+      move_in_view m f r c s (s, to_replica s q (bodies.Found k x)) (Say (Found k x)) h
+      (record { true = leader_has m f c r s h k (Req x) may at; point = tt })
       (record { state = refl; said = refl; replies = refl }) (stays_still f r (standing (member_of s)))
   answer_in_view (Some NoOp) b q k may at begins =
-      move_in_view m f r c s (s, to_replica s q (bodies.GapCommit k)) (Say (GapCommit k)) h (leader_has m f c r s h k NoOp may at)
+      move_in_view m f r c s (s, to_replica s q (bodies.GapCommit k)) (Say (GapCommit k)) h
+      (record { true = leader_has m f c r s h k NoOp may at; point = tt })
       (record { state = refl; said = refl; replies = refl }) (stays_still f r (standing (member_of s)))
   answer_in_view None true q k may at begins =
       let room = and_parts (k == length s.log + 1) (not (waits s.gap) && nat_lt (length s.log) MAX_SLOTS) begins in
@@ -55,7 +58,8 @@ module _ {S : Type 0} (m : Meaning S) (f : ℕ) (c : Conf) (r : ℕ) (s : Replic
 
   lookup_if_in_view : (b : Bool) (q k : ℕ) → MayLead (member_of s) → InView m f c r s (slot_lookup_if m b q k s)
   lookup_if_in_view true q k may =
-      move_in_view m f r c s (tell_synced s q) (Say (SyncPrepare (take s.sync.sync_point s.log))) h (synced_prepared m f c r s h may)
+      move_in_view m f r c s (tell_synced s q) (Say (SyncPrepare s.sync.sync_point (take s.sync.sync_point s.log))) h
+      (may_say_synced m f c r s h may)
       (record { state = refl; said = refl; replies = refl }) (stays_still f r (standing (member_of s)))
   lookup_if_in_view false q k may = answer_in_view (slot_of s.log k) (may_begin s.log (waits s.gap) k) q k may refl refl
 
@@ -86,5 +90,6 @@ module _ {S : Type 0} (m : Meaning S) (f : ℕ) (c : Conf) (r : ℕ) (s : Replic
   sync_reply_in_view q k may vote =
       in_view_then m f r c s (count_sync_vote s q k) (drain_if_risen m s.sync.sync_point) h
       (move_in_view m f r c s (count_sync_vote s q k) (CountSyncVote q k) h (record { may_lead = may; vote = vote })
-      (count_sync_vote_same s q k) (stays_still f r (standing (member_of s))))
+      (count_sync_vote_same s q k)
+      (point_stays f r (standing (member_of s)) (counted s.sync q k).sync_point))
       (λ d g. risen_in_view m f r s.sync.sync_point d (count_sync_vote s q k).0 g)

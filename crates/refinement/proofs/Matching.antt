@@ -1,5 +1,5 @@
 -- What the invariant says of the state of a replica.
-use Rattle.std.proofs.Common.{◌≡◌, ℕ, ◌+◌, ◌*◌, ◌≤◌, true, false, Some, sym, ap, subst, ◌∙◌, arith, length}
+use Rattle.std.proofs.Common.{◌≡◌, ℕ, ◌+◌, ◌*◌, ◌≤◌, true, false, Some, refl, sym, ap, subst, ◌∙◌, arith, length}
 use Rattle.std.specs.Prelude.{◌-◌, take}
 use Rattle.std.proofs.lemmas.Bool.{eqb-true}
 use Rattle.std.proofs.lemmas.List.{length-take}
@@ -19,7 +19,8 @@ use Rattle.replica_state.specs.Moves.{start_len}
 use Rattle.protocol.specs.Conf.{Conf}
 use Rattle.protocol.specs.Invariant.{GoodLog, Own}
 use Rattle.protocol.specs.Member.{Member, standing}
-use Rattle.protocol.specs.Moves.{MayLead}
+use Rattle.protocol.specs.Moves.{MayLead, MaySay}
+use Rattle.protocol.specs.Said.{StartView, SyncPrepare}
 use Rattle.protocol.specs.Truth.{LeaderHas, Begun, Prepared}
 use Rattle.protocol.proofs.Replying.{leads_from}
 use Rattle.protocol_sync.proofs.Above.{synced_is_prepared}
@@ -83,6 +84,13 @@ module _ {S : Type 0} (m : Meaning S) (f : ℕ) (c : Conf) (r : ℕ) (s : Replic
   synced_within =
       subst (λ (p : Member). p.sync.sync_point ≤ length p.log) h.state (h.sync.own r h.within).agrees.same.left
 
+  -- the first b entries reach the sync point, where b is no less
+  reached : (b : ℕ) → s.sync.sync_point ≤ b → s.sync.sync_point ≤ length (take b s.log)
+  reached b low =
+      let synced = synced_within in
+      let taken = length-take b s.log in
+      omega (arith, synced, taken, low)
+
   -- the first b entries, where the view started with no more
   begun_with : (b : ℕ) → MayLead (member_of s) → s.base ≤ b → b ≤ length s.log
       → Begun f c s.number s.view (s.next - (length s.log - b)) (take b s.log)
@@ -105,7 +113,7 @@ module _ {S : Type 0} (m : Meaning S) (f : ℕ) (c : Conf) (r : ℕ) (s : Replic
       }
 
   -- what its view started with, and what is synchronised
-  pub begun : MayLead (member_of s) → Begun f c s.number s.view (s.next - (length s.log - start_len s)) (take (start_len s) s.log)
+  begun : MayLead (member_of s) → Begun f c s.number s.view (s.next - (length s.log - start_len s)) (take (start_len s) s.log)
   begun may =
       let leader : r ≡ leader_of s.view (2 * f + 1) = leads_it may.leads in
       let at : s.last_normal ≡ s.view = own.place.normal may.normal in
@@ -113,13 +121,20 @@ module _ {S : Type 0} (m : Meaning S) (f : ℕ) (c : Conf) (r : ℕ) (s : Replic
       let synced = synced_within in
       begun_with (start_len s) may (omega arith) (omega (arith, base, synced))
 
+  pub may_say_start : MayLead (member_of s)
+      → MaySay f c (member_of s) (StartView (s.next - (length s.log - start_len s)) s.sync.sync_point (take (start_len s) s.log))
+  may_say_start may = record { true = begun may; point = (refl, reached (start_len s) (omega arith)) }
+
   -- what is synchronised
-  pub synced_prepared : MayLead (member_of s) → Prepared f c s.number s.view (take s.sync.sync_point s.log)
+  synced_prepared : MayLead (member_of s) → Prepared f c s.number s.view (take s.sync.sync_point s.log)
   synced_prepared may =
       let here : MayLead (c.replicas r) = subst MayLead (sym h.state) may in
       let all = synced_is_prepared m f c r h.inv h.sync h.above h.within here in
       subst (λ (q : ℕ). Prepared f c q s.view (take s.sync.sync_point s.log)) (sym own.number)
       (subst (λ (p : Member). Prepared f c r p.view (take p.sync.sync_point p.log)) h.state all)
+
+  pub may_say_synced : MayLead (member_of s) → MaySay f c (member_of s) (SyncPrepare s.sync.sync_point (take s.sync.sync_point s.log))
+  may_say_synced may = record { true = synced_prepared may; point = (refl, reached s.sync.sync_point (omega arith)) }
 
   -- what a replica entered its view with
   pub entered_with_it : s.status ≡ Change → c.past.entry s.number s.view ≡ Some (entered_with (standing (member_of s)))

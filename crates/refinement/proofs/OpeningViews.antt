@@ -7,12 +7,11 @@ use Rattle.nop_types.specs.Meaning.{Meaning}
 use Rattle.nop_types.specs.declared.datagram.Reply.{Reply}
 use Rattle.nop_types.specs.declared.request.Entry.{Entry}
 use Rattle.nop_types.specs.declared.peer.Body.TheVariants as bodies
-use Rattle.log_merge.specs.Starting.{start_of}
+use Rattle.log_merge.specs.Starting.{start_of, start_point}
 use Rattle.view_change.specs.Gathering.{Gathering}
-use Rattle.replica_log.specs.Splices.{spliced}
 use Rattle.replica_state.specs.declared.sending.Sending.{Sending}
 use Rattle.replica_state.specs.declared.state.ReplicaState.{ReplicaState}
-use Rattle.replica_state.specs.Moves.{joined, adopted, adopt, open_view, open_if_enough, drain}
+use Rattle.replica_state.specs.Moves.{joined, adopted, taken_log, adopt, open_view, open_if_enough, drain}
 use Rattle.replica_state.specs.Replies.{replies_above}
 use Rattle.replica_state.specs.Sends.{Effect, then_do, when, to_all}
 use Rattle.replica_state.specs.State.{others}
@@ -41,40 +40,43 @@ module _ {S : Type 0} (m : Meaning S) where
     abbrev next : ℕ
     next = (start_of g.view g.changes).next
 
+    abbrev point : ℕ
+    point = start_point g.changes
+
     abbrev log : List Entry
     log = (start_of g.view g.changes).log
 
     -- the view is adopted
     abbrev start : ReplicaState
-    start = adopted s s.view next log
+    start = adopted s s.view next point log
 
     abbrev told : List Sending
-    told = to_all s (bodies.StartView next log)
+    told = to_all s (bodies.StartView next point log)
 
     abbrev replies : List Sending
-    replies = replies_above m start s.sync.sync_point
+    replies = replies_above m start start.sync.sync_point
 
     -- where the own log begins as the new one does, that is the log
-    started : spliced s.sync.sync_point s.log log ≡ log → member_of start ≡ moves.adopted (member_of s) s.view next log
-    started splices = ap (λ (k : List Entry). member_of (joined s s.view next k)) splices
+    started : taken_log s point log ≡ log → member_of start ≡ moves.adopted (member_of s) s.view next point log
+    started splices = ap (λ (k : List Entry). member_of (joined s s.view next point k)) splices
 
     -- before what stands in front is taken
     abbrev pub opened : Effect
     opened = (start, told ++ replies)
 
-    pub opened_same : spliced s.sync.sync_point s.log log ≡ log → Same opened (moves.open_view m (member_of s) g)
+    pub opened_same : taken_log s point log ≡ log → Same opened (moves.open_view m (member_of s) g)
     opened_same splices = record {
       state = started splices;
       said =
           said_in-append told replies
-          ∙ ap (λ (xs : List Said). xs ++ said_in replies) (said_in-to_all (others s == 0) s (bodies.StartView next log))
-          ∙ ap (λ (xs : List Said). say_all (member_of s) (StartView next log) ++ xs) (said_above m start s.sync.sync_point)
-          ∙ append-nil (say_all (member_of s) (StartView next log));
+          ∙ ap (λ (xs : List Said). xs ++ said_in replies) (said_in-to_all (others s == 0) s (bodies.StartView next point log))
+          ∙ ap (λ (xs : List Said). say_all (member_of s) (StartView next point log) ++ xs) (said_above m start start.sync.sync_point)
+          ∙ append-nil (say_all (member_of s) (StartView next point log));
       replies =
           replied_in-append told replies
-          ∙ ap (λ (xs : List Reply). xs ++ replied_in replies) (replied_in-to_all (others s == 0) s (bodies.StartView next log))
-          ∙ replied_above m start s.sync.sync_point
-          ∙ ap (λ (p : Member). replying.replies_above m p s.sync.sync_point) (started splices);
+          ∙ ap (λ (xs : List Reply). xs ++ replied_in replies) (replied_in-to_all (others s == 0) s (bodies.StartView next point log))
+          ∙ replied_above m start start.sync.sync_point
+          ∙ ap (λ (p : Member). replying.replies_above m p start.sync.sync_point) (started splices);
     }
 
     pub open_view_is : open_view m g s ≡ then_do opened (drain m)

@@ -22,6 +22,7 @@ pub record Stays (f r : ℕ) (s t : Standing) : Type 0 where
 pub record Keeps (s t : Standing) : Type 0 where
   pub last_normal : t.last_normal ≡ s.last_normal
   pub next : t.next ≡ s.next
+  pub sync_point : t.sync_point ≡ s.sync_point
   pub log : t.log ≡ s.log
 
 -- ---- the past
@@ -65,7 +66,7 @@ parts_keeping f past r a b c h had once = record {
 }
   where
     same_entry : entered_with b ≡ entered_with a
-    same_entry i = record { last_normal = h.last_normal i; next = h.next i; log = h.log i }
+    same_entry i = record { last_normal = h.last_normal i; next = h.next i; sync_point = h.sync_point i; log = h.log i }
 
 -- ---- steps of these kinds
 
@@ -79,8 +80,17 @@ stays_trans f r a b c h g = record {
 pub stays_still : (f r : ℕ) (a : Standing) → Stays f r a a
 stays_still f r a = record { view = refl; last_normal = refl; start = λ e. refl }
 
+-- its sync point may rise
+pub point_stays : (f r : ℕ) (a : Standing) (point : ℕ) → Stays f r a (record a { sync_point = point })
+point_stays f r a point = record { view = refl; last_normal = refl; start = λ e. refl }
+
 pub keeps_trans : (a b c : Standing) → Keeps a b → Keeps b c → Keeps a c
-keeps_trans a b c h g = record { last_normal = g.last_normal ∙ h.last_normal; next = g.next ∙ h.next; log = g.log ∙ h.log }
+keeps_trans a b c h g = record {
+  last_normal = g.last_normal ∙ h.last_normal;
+  next = g.next ∙ h.next;
+  sync_point = g.sync_point ∙ h.sync_point;
+  log = g.log ∙ h.log;
+}
 
 -- an entry more, above what the view started with
 pub started_with_more : (a : Standing) (x : Entry) → a.base ≤ length a.log

@@ -17,6 +17,7 @@ use Rattle.replica_state.specs.Sends.{to_all_if, to_all, to_leader}
 use Rattle.replica_state.specs.Moves.{change_told, open_sync, repeat_commit}
 use Rattle.replica_state.specs.Repeating.{gap_again, lookup_again, change_again, resend_by, resend, sync_if, sync}
 use Rattle.replica_rows.specs.Rows as rows
+use Rattle.sync_points.specs.Synchronisation.{with_round}
 use Rattle.protocol.specs.Conf.{Conf}
 use Rattle.protocol.specs.Member.{standing}
 use Rattle.protocol.specs.Moves.{MaySay, MayLead}
@@ -27,7 +28,7 @@ use Rattle.refinement.specs.Replicas.{Matches}
 use Rattle.refinement.proofs.Composing.{InView, in_view_then, nothing_in_view, move_in_view, when_in_view}
 use Rattle.refinement.proofs.Draining.{risen_in_view}
 use Rattle.refinement.proofs.Matching.{own, leader_has, entered_with_it}
-use Rattle.refinement.proofs.Parts.{stays_still}
+use Rattle.refinement.proofs.Parts.{stays_still, point_stays}
 use Rattle.refinement.proofs.Same.{open_sync_same, repeat_commit_same}
 use Rattle.refinement.proofs.Staying.{normal_from, no_gap_from}
 
@@ -45,19 +46,20 @@ module _ {S : Type 0} (m : Meaning S) (f : ℕ) (c : Conf) (r : ℕ) (s : Replic
   gap_again_in_view None e may = nothing_in_view m f r c s s h refl
   gap_again_in_view (Some g) e may =
       to_all_in_view (others s == 0) (bodies.GapCommit g.slot)
-      (leader_has m f c r s h g.slot NoOp may ((own m f c r s h).gap.waits g e).noop)
+      (record { true = leader_has m f c r s h g.slot NoOp may ((own m f c r s h).gap.waits g e).noop; point = tt })
 
   lookup_again_in_view : (front : Front) → InView m f c r s (lookup_again front s)
   lookup_again_in_view Nothing = nothing_in_view m f r c s s h refl
   lookup_again_in_view (Message q) = nothing_in_view m f r c s s h refl
   lookup_again_in_view Dropped = when_in_view m f r c s (has_room s) _ h (λ e.
-      move_in_view m f r c s (s, to_leader s (bodies.SlotLookup (length s.log + 1))) (Say Plain) h tt
+      move_in_view m f r c s (s, to_leader s (bodies.SlotLookup (length s.log + 1))) (Say Plain) h (record { true = tt; point = tt })
       (record { state = refl; said = refl; replies = refl }) (stays_still f r (standing (member_of s))))
 
   change_again_in_view : (b : Bool) → s.status ≡ Change → InView m f c r s (change_again b s)
   change_again_in_view true change = nothing_in_view m f r c s s h refl
   change_again_in_view false change =
-      move_in_view m f r c s (s, change_told s) (Say (ViewChange s.last_normal s.next s.log)) h (entered_with_it m f c r s h change)
+      move_in_view m f r c s (s, change_told s) (Say (ViewChange s.last_normal s.next s.sync.sync_point s.log)) h
+      (record { true = entered_with_it m f c r s h change; point = tt })
       (record { state = refl; said = refl; replies = refl }) (stays_still f r (standing (member_of s)))
 
   -- ---- sync points
@@ -67,7 +69,7 @@ module _ {S : Type 0} (m : Meaning S) (f : ℕ) (c : Conf) (r : ℕ) (s : Replic
   sync_if_in_view true longer may none =
       move_in_view m f r c s (open_sync s) OpenSync h
       (record { may_lead = may; no_gap = none; longer = ltb-true s.sync.sync_point (length s.log) longer })
-      (open_sync_same s) (stays_still f r (standing (member_of s)))
+      (open_sync_same s) (point_stays f r (standing (member_of s)) (with_round s.sync (length s.log)).sync_point)
   sync_if_in_view false longer may none =
       move_in_view m f r c s (repeat_commit s) RepeatCommit h may (repeat_commit_same s) (stays_still f r (standing (member_of s)))
 
@@ -91,7 +93,7 @@ module _ {S : Type 0} (m : Meaning S) (f : ℕ) (c : Conf) (r : ℕ) (s : Replic
   resend_by_in_view : (p : Phase) (b : Bool) → s.status ≡ p → leads s ≡ b → InView m f c r s (resend_by p b s)
   resend_by_in_view Change b status leading =
       in_view_then m f r c s (s, to_all s bodies.ViewChangeReq) (change_again b) h
-      (to_all_in_view m f c r s h (others s == 0) bodies.ViewChangeReq tt)
+      (to_all_in_view m f c r s h (others s == 0) bodies.ViewChangeReq (record { true = tt; point = tt }))
       (λ d g. change_again_in_view m f d r s g b status)
   resend_by_in_view Normal true status leading = gap_again_in_view m f c r s h s.gap refl (record { normal = status; leads = leading })
   resend_by_in_view Normal false status leading = lookup_again_in_view m f c r s h (front_of s.receiver)

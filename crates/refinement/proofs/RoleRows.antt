@@ -67,14 +67,14 @@ module _ {S : Type 0} (m : Meaning S) (f : ℕ) (c : Conf) (r : ℕ) (s : Replic
   from_leader_in_view : (body : Body) → MayFollow c (member_of s) (word_of body) → InView m f c r s (from_leader m body s)
   from_leader_in_view (bodies.GapCommit k) may = gap_commit_in_view m f c r s h k may
   from_leader_in_view (bodies.Found k q) may = found_in_view m f c r s h k q may
-  from_leader_in_view (bodies.SyncPrepare l) may = sync_prepare_in_view m f c r s h l may
+  from_leader_in_view (bodies.SyncPrepare z l) may = sync_prepare_in_view m f c r s h z l may
   from_leader_in_view (bodies.SyncCommit k) may = sync_commit_in_view m f c r s h k may
   from_leader_in_view (bodies.SlotLookup k) may = nothing_in_view m f r c s s h refl
   from_leader_in_view (bodies.GapRep k) may = nothing_in_view m f r c s s h refl
   from_leader_in_view (bodies.SyncRep k) may = nothing_in_view m f r c s s h refl
   from_leader_in_view bodies.ViewChangeReq may = nothing_in_view m f r c s s h refl
-  from_leader_in_view (bodies.ViewChange u x l) may = nothing_in_view m f r c s s h refl
-  from_leader_in_view (bodies.StartView x l) may = nothing_in_view m f r c s s h refl
+  from_leader_in_view (bodies.ViewChange u x z l) may = nothing_in_view m f r c s s h refl
+  from_leader_in_view (bodies.StartView x z l) may = nothing_in_view m f r c s s h refl
 
   from_follower_in_view : (q : ℕ) (body : Body) → MayLead (member_of s) → DidAnother f c (member_of s) q (word_of body)
       → InView m f c r s (from_follower m q body s)
@@ -83,11 +83,11 @@ module _ {S : Type 0} (m : Meaning S) (f : ℕ) (c : Conf) (r : ℕ) (s : Replic
   from_follower_in_view q (bodies.SyncRep k) may vote = sync_reply_in_view m f c r s h q k may vote
   from_follower_in_view q (bodies.GapCommit k) may vote = nothing_in_view m f r c s s h refl
   from_follower_in_view q (bodies.Found k x) may vote = nothing_in_view m f r c s s h refl
-  from_follower_in_view q (bodies.SyncPrepare l) may vote = nothing_in_view m f r c s s h refl
+  from_follower_in_view q (bodies.SyncPrepare z l) may vote = nothing_in_view m f r c s s h refl
   from_follower_in_view q (bodies.SyncCommit k) may vote = nothing_in_view m f r c s s h refl
   from_follower_in_view q bodies.ViewChangeReq may vote = nothing_in_view m f r c s s h refl
-  from_follower_in_view q (bodies.ViewChange u x l) may vote = nothing_in_view m f r c s s h refl
-  from_follower_in_view q (bodies.StartView x l) may vote = nothing_in_view m f r c s s h refl
+  from_follower_in_view q (bodies.ViewChange u x z l) may vote = nothing_in_view m f r c s s h refl
+  from_follower_in_view q (bodies.StartView x z l) may vote = nothing_in_view m f r c s s h refl
 
   to_leader_in_view : (q : ℕ) (v : View) (body : Body) → IsOther f s q → Has c.said (says q v (word_of body)) → is_to_leader s v ≡ true
       → InView m f c r s (from_follower m q body s)

@@ -1,6 +1,6 @@
 -- Each move of the core is that of the protocol.
 use Rattle.std.proofs.Common.{◌≡◌, ℕ, Bool, true, false, Option, Some, None, refl, ap, ◌∙◌, List, [], ◌∷◌, ◌++◌, length}
-use Rattle.std.specs.Prelude.{◌==◌, ◌+◌, drop}
+use Rattle.std.specs.Prelude.{◌==◌, ◌+◌, drop, max}
 use Rattle.std.proofs.lemmas.List.{append-nil}
 use Rattle.nop_types.specs.Meaning.{Meaning}
 use Rattle.nop_types.specs.Execution.{result_at}
@@ -14,7 +14,6 @@ use Rattle.nop_types.specs.declared.peer.Body.TheVariants as bodies
 use Rattle.nop_types.specs.declared.view.View.{View}
 use Rattle.nop_types.specs.Slots.{laid}
 use Rattle.sync_points.specs.Synchronisation.{vote_for}
-use Rattle.replica_log.specs.Splices.{spliced}
 use Rattle.replica_state.specs.declared.sending.Sending.{Sending}
 use Rattle.replica_state.specs.declared.state.ReplicaState.{ReplicaState}
 use Rattle.replica_state.specs.State as core_state
@@ -116,27 +115,28 @@ module _ {S : Type 0} (m : Meaning S) where
   }
 
   -- with this log after it
-  abbrev overlaid_with : ReplicaState → List Entry → List Entry → ReplicaState
-  overlaid_with s l k = record (core.overlaid s l) { log = k }
+  abbrev overlaid_with : ReplicaState → ℕ → List Entry → List Entry → ReplicaState
+  overlaid_with s z l k = record (core.overlaid s z l) { log = k }
 
   -- where to keep the own entries up to the sync point is to take all
-  pub overlay_same : (s : ReplicaState) (l : List Entry) → laid (spliced s.sync.sync_point s.log l) s.log ≡ laid l s.log
-      → Same (overlay m s l) (moves.overlay m (member_of s) l)
+  pub overlay_same : (s : ReplicaState) (z : ℕ) (l : List Entry) → laid (core.taken_log s z l) s.log ≡ laid l s.log
+      → Same (overlay m s z l) (moves.overlay m (member_of s) z l)
   unfolding overlay
-  overlay_same s l splices =
-      let state : member_of (core.overlaid s l) ≡ moves.overlaid (member_of s) l =
-      ap (λ (k : List Entry). member_of (overlaid_with s l k)) splices in
-      let t : ReplicaState = core.overlaid s l in
-      let above : List Sending = core_replies.replies_above m t (length s.log) in
+  overlay_same s z l splices =
+      let state : member_of (core.overlaid s z l) ≡ moves.overlaid (member_of s) z l =
+      ap (λ (k : List Entry). member_of (overlaid_with s z l k)) splices in
+      let t : ReplicaState = core.overlaid s z l in
+      let n : ℕ = max (length s.log) t.sync.sync_point in
+      let above : List Sending = core_replies.replies_above m t n in
       let told : List Sending = to_leader s (bodies.SyncRep (length l)) in
       record {
         state = state;
-        said = said_in-append above told ∙ ap (λ (xs : List Said). xs ++ said_in told) (said_above t (length s.log));
+        said = said_in-append above told ∙ ap (λ (xs : List Said). xs ++ said_in told) (said_above t n);
         replies =
             replied_in-append above told
             ∙ append-nil (replied_in above)
-            ∙ replied_above t (length s.log)
-            ∙ ap (λ (p : Member). replies.replies_above m p (length s.log)) state;
+            ∙ replied_above t n
+            ∙ ap (λ (p : Member). replies.replies_above m p n) state;
       }
 
 -- ---- moves of one place
@@ -152,8 +152,8 @@ open_gap_same s = record {
 pub open_sync_same : (s : ReplicaState) → Same (core.open_sync s) (moves.open_sync (member_of s))
 open_sync_same s = record {
   state = refl;
-  said = said_in-to_all (core_state.others s == 0) s (bodies.SyncPrepare s.log);
-  replies = replied_in-to_all (core_state.others s == 0) s (bodies.SyncPrepare s.log);
+  said = said_in-to_all (core_state.others s == 0) s (bodies.SyncPrepare s.sync.sync_point s.log);
+  replies = replied_in-to_all (core_state.others s == 0) s (bodies.SyncPrepare s.sync.sync_point s.log);
 }
 
 pub repeat_commit_same : (s : ReplicaState) → Same (core.repeat_commit s) (moves.repeat_commit (member_of s))

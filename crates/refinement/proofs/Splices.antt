@@ -3,16 +3,17 @@ use Rattle.std.proofs.Common.{◌≡◌, ℕ, zero, suc, ◌<◌, ◌≤◌, Boo
 use Rattle.std.proofs.Common.{arith, length, append-nil}
 use Rattle.std.proofs.lemmas.Bool.{leb-true}
 use Rattle.std.proofs.lemmas.List.{take-append-drop}
-use Rattle.std.specs.Prelude.{nat_le, slice_set}
+use Rattle.std.specs.Prelude.{nat_le, nat_lt, slice_set}
 use Rattle.nop_types.specs.declared.request.Entry.{Entry}
 use Rattle.nop_types.specs.declared.request.Entry.TheVariants.{NoOp}
 use Rattle.nop_types.specs.declared.view.View.{View}
 use Rattle.nop_types.specs.Meaning.{Meaning}
 use Rattle.nop_types.specs.Slots.{laid, set_slot}
 use Rattle.facts.proofs.Functions.{put-here}
-use Rattle.log_merge.specs.Starting.{start_of}
+use Rattle.log_merge.specs.Starting.{start_of, start_point}
 use Rattle.replica_log.specs.Splices.{spliced, noop_above}
 use Rattle.replica_state.specs.declared.state.ReplicaState.{ReplicaState}
+use Rattle.replica_state.specs.Moves.{taken_log}
 use Rattle.view_change.specs.Gathering.{Gathering}
 use Rattle.protocol.specs.Conf.{Conf}
 use Rattle.protocol.specs.Member.{Member}
@@ -75,15 +76,28 @@ module _ {S : Type 0} (m : Meaning S) (f : ℕ) (c : Conf) (r : ℕ) (s : Replic
           (rises.prefixes r h.within
           ∙ ap (λ (q : Member). take (c.replicas r).sync.sync_point q.log) (put-here c.replicas r (effect m (c.replicas r) a).state))
 
-  pub adopt_splices : (v : View) (x : ℕ) (l : List Entry) → MayAdopt c (member_of s) v x l → spliced point s.log l ≡ l
-  adopt_splices v x l may = same_spliced point s.log l (stays (Adopt v x l) may)
+  -- none of the own entries are kept where the sync point that is told is greater
+  all_taken : (b : Bool) (l : List Entry) → spliced point s.log l ≡ l → spliced (cond b 0 point) s.log l ≡ l
+  all_taken true l e = refl
+  all_taken false l e = e
+
+  all_laid : (b : Bool) (l : List Entry) → laid (spliced point s.log l) s.log ≡ laid l s.log
+      → laid (spliced (cond b 0 point) s.log l) s.log ≡ laid l s.log
+  all_laid true l e = refl
+  all_laid false l e = e
+
+  pub adopt_splices : (v : View) (x z : ℕ) (l : List Entry) → MayAdopt c (member_of s) v x z l → taken_log s z l ≡ l
+  adopt_splices v x z l may = all_taken (nat_lt point z) l (same_spliced point s.log l (stays (Adopt v x z l) may))
 
   pub open_splices : (g : Gathering) → MayOpenView (member_of s) g
-      → spliced point s.log (start_of g.view g.changes).log ≡ (start_of g.view g.changes).log
-  open_splices g may = same_spliced point s.log (start_of g.view g.changes).log (stays (OpenView g) may)
+      → taken_log s (start_point g.changes) (start_of g.view g.changes).log ≡ (start_of g.view g.changes).log
+  open_splices g may =
+      let l : List Entry = (start_of g.view g.changes).log in
+      all_taken (nat_lt point (start_point g.changes)) l (same_spliced point s.log l (stays (OpenView g) may))
 
-  pub overlay_splices : (l : List Entry) → MayOverlay c (member_of s) l → laid (spliced point s.log l) s.log ≡ laid l s.log
-  overlay_splices l may = same_laid point s.log l (synced_within m f c r s h) (stays (Overlay l) may)
+  pub overlay_splices : (z : ℕ) (l : List Entry) → MayOverlay c (member_of s) z l → laid (taken_log s z l) s.log ≡ laid l s.log
+  overlay_splices z l may =
+      all_laid (nat_lt point z) l (same_laid point s.log l (synced_within m f c r s h) (stays (Overlay z l) may))
 
   -- a synchronised slot has the NO-OP already
   gap_there : (k : ℕ) → MayWriteGap c (member_of s) k → k ≤ point → s.log ≡ set_slot s.log k NoOp

@@ -49,7 +49,7 @@ arrived s p = then_do (enter s (session_view s p)) (λ t. queue t p)
 
 arrived_keeps : (s : ReplicaState) (p : Stamped) → Keeps (standing (member_of s)) (standing (member_of (arrived s p).0))
 arrived_keeps s p = let k = enter_keeps s (session_view s p) in
-    record { last_normal = k.last_normal; next = k.next; log = k.log }
+    record { last_normal = k.last_normal; next = k.next; sync_point = k.sync_point; log = k.log }
 
 -- then the view starts where the replica is alone
 abbrev opens : {S : Type 0} → Meaning S → ReplicaState → Stamped → Effect

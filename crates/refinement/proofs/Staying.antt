@@ -35,6 +35,6 @@ append_stays m f c r s x h = record {
 }
 
 -- whatever a follower logs
-pub follower_stays : (f r : ℕ) (a : Standing) (next : ℕ) (l : List Entry) → (r ≡ leader_of a.last_normal (2 * f + 1) → ⊥)
-    → Stays f r a (record a { next = next; log = l })
-follower_stays f r a next l follows = record { view = refl; last_normal = refl; start = λ e. absurd (follows e) }
+pub follower_stays : (f r : ℕ) (a : Standing) (next point : ℕ) (l : List Entry) → (r ≡ leader_of a.last_normal (2 * f + 1) → ⊥)
+    → Stays f r a (record a { next = next; sync_point = point; log = l })
+follower_stays f r a next point l follows = record { view = refl; last_normal = refl; start = λ e. absurd (follows e) }

@@ -27,14 +27,14 @@ use Rattle.refinement.proofs.Parts.{Keeps}
 use Rattle.refinement.proofs.Composing.{matches_end, move_reaches, nothing_reaches, keeps_then}
 use Rattle.refinement.proofs.Entering.{enter_reaches, enter_keeps}
 use Rattle.refinement.proofs.EnteringRows.{below_join}
-use Rattle.refinement.proofs.Matching.{own, begun}
+use Rattle.refinement.proofs.Matching.{own, may_say_start}
 use Rattle.refinement.proofs.NewSessions.{enters_only}
 use Rattle.refinement.proofs.RoleRows.{other_from}
 use Rattle.refinement.proofs.OpeningViews.{EntersNone, open_if_enough_reaches}
 
 -- a change that another replica told
 pub record Told (f : ℕ) (c : Conf) (r : ℕ) (v : View) (x : peer.Change) : Type 0 where
-  pub said : DidSay c.said x.sender v (ViewChange x.last_normal x.next x.log)
+  pub said : DidSay c.said x.sender v (ViewChange x.last_normal x.next x.sync_point x.log)
   pub within : x.sender < 2 * f + 1
   pub apart : x.sender ≡ r → ⊥
 
@@ -62,7 +62,7 @@ module _ {S : Type 0} (m : Meaning S) (f : ℕ) (r : ℕ) where
       })
   request_by false c s v h more e = record {
     reaches = nothing_reaches m f r c s s h refl;
-    keeps = record { last_normal = refl; next = refl; log = refl };
+    keeps = record { last_normal = refl; next = refl; sync_point = refl; log = refl };
   }
 
   request_keeps : (c : Conf) (s : ReplicaState) (v : View) → Matches m f c r s → 0 < others s
@@ -84,7 +84,7 @@ module _ {S : Type 0} (m : Meaning S) (f : ℕ) (r : ℕ) where
       let two = open_if_enough_reaches m f r (run m f c one.moves) t (matches_end m f r c s (keep_change s g x) h one) in
       record {
         reaches = keeps_then m f r c s (keep_change s g x) (λ y. open_if_enough m y.changes y) h one
-            (record { last_normal = refl; next = refl; log = refl }) two.reaches (inl two.view);
+            (record { last_normal = refl; next = refl; sync_point = refl; log = refl }) two.reaches (inl two.view);
         view = two.view;
       }
 
@@ -95,8 +95,8 @@ module _ {S : Type 0} (m : Meaning S) (f : ℕ) (r : ℕ) where
   take_by Change c s x h told leading e = gather_by_moves s.changes c s x h told refl
   take_by Normal c s x h told leading e = record {
     reaches = move_reaches m f r c s (resend_start s x.sender)
-        (Say (StartView (s.next - (length s.log - start_len s)) (take (start_len s) s.log))) h
-        (begun m f c r s h (record { normal = e; leads = leading }))
+        (Say (StartView (s.next - (length s.log - start_len s)) s.sync.sync_point (take (start_len s) s.log))) h
+        (may_say_start m f c r s h (record { normal = e; leads = leading }))
         (record { state = refl; said = refl; replies = refl });
     view = refl;
   }
@@ -120,7 +120,7 @@ module _ {S : Type 0} (m : Meaning S) (f : ℕ) (r : ℕ) where
       → (one : ReplicaReaches m f c r s e) → Told f c r v x → Told f (run m f c one.moves) r v x
   told_later c s e v x h one told = record {
     said = (run_keeps m f c one.moves h.inv one.may).1.sent.said
-        (says x.sender v (ViewChange x.last_normal x.next x.log)) told.said;
+        (says x.sender v (ViewChange x.last_normal x.next x.sync_point x.log)) told.said;
     within = told.within;
     apart = told.apart;
   }
@@ -137,7 +137,7 @@ module _ {S : Type 0} (m : Meaning S) (f : ℕ) (r : ℕ) where
 
   -- told by another replica
   pub view_change_reaches : (c : Conf) (s : ReplicaState) (v : View) (x : peer.Change) → Matches m f c r s → is_other s x.sender ≡ true
-      → DidSay c.said x.sender v (ViewChange x.last_normal x.next x.log) → ReplicaReaches m f c r s (view_change m v x s)
+      → DidSay c.said x.sender v (ViewChange x.last_normal x.next x.sync_point x.log) → ReplicaReaches m f c r s (view_change m v x s)
   view_change_reaches c s v x h other said =
       let from = other_from m f c r s x.sender h other in
       view_change_by_moves c s v x h (record {

@@ -34,9 +34,9 @@ word_of (bodies.Found k r) = Found k r
 word_of (bodies.GapCommit k) = GapCommit k
 word_of (bodies.GapRep k) = GapRep k
 word_of bodies.ViewChangeReq = Plain
-word_of (bodies.ViewChange u x l) = ViewChange u x l
-word_of (bodies.StartView x l) = StartView x l
-word_of (bodies.SyncPrepare l) = SyncPrepare l
+word_of (bodies.ViewChange u x z l) = ViewChange u x z l
+word_of (bodies.StartView x z l) = StartView x z l
+word_of (bodies.SyncPrepare z l) = SyncPrepare z l
 word_of (bodies.SyncRep k) = SyncRep k
 word_of (bodies.SyncCommit k) = SyncCommit k
 

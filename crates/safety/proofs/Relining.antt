@@ -53,8 +53,8 @@ module _ (f : ℕ) (c : Conf) (ls : List Line) where
     leads = h.leads;
     leads_noop = h.leads_noop;
   }
-  word_on q w (ViewChange u x l) h = h
-  word_on q w (StartView x l) h = record {
+  word_on q w (ViewChange u x z l) h = h
+  word_on q w (StartView x z l) h = record {
     sender = h.sender;
     start = h.start;
     is_start = h.is_start;
@@ -64,7 +64,7 @@ module _ (f : ℕ) (c : Conf) (ls : List Line) where
     begins = h.begins;
     counted = h.counted;
   }
-  word_on q w (SyncPrepare l) h = record {
+  word_on q w (SyncPrepare z l) h = record {
     sender = h.sender;
     start = h.start;
     is_start = h.is_start;
@@ -87,9 +87,9 @@ module _ (f : ℕ) (c : Conf) (ls : List Line) where
   act_on p (Enter v) h = h
   act_on p (KeepChange g x) h = record { gathers = h.gathers; change = another_on p x.sender _ h.change }
   act_on p (OpenView g) h = h
-  act_on p (Adopt v x l) h = record { said = h.said; follows = h.follows; at_most = h.at_most; change = h.change }
-  act_on p (Say x) h = word_on p.number p.view x h
-  act_on p (Overlay l) h = follow_on p _ h
+  act_on p (Adopt v x z l) h = record { said = h.said; follows = h.follows; at_most = h.at_most; change = h.change }
+  act_on p (Say x) h = record { true = word_on p.number p.view x h.true; point = h.point }
+  act_on p (Overlay z l) h = follow_on p _ h
   act_on p (Obey k) h = record { may_follow = follow_on p _ h.may_follow; within = h.within }
   act_on p OpenSync h = h
   act_on p (CountSyncVote q k) h = record { may_lead = h.may_lead; vote = another_on p q _ h.vote }

@@ -19,7 +19,7 @@
 //! the other premises. The law `runs_are_safe` says the same of each run, whoever carries it out.
 //!
 //! Files: `run`. Definitions: `specs/Safe` (`SafelyPassed`), `Shows`, `Passed`, `Following`. How
-//! the proof goes, docs/ARCHITECTURE.md says under "The proof of safety".
+//! the proof goes is told in docs/PROOF.md.
 #![tactic(auto)]
 
 mod run;
