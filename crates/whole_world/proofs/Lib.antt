@@ -1,10 +1,12 @@
 pub mod ActorSteps
+pub mod Alone
 pub mod At
 pub mod Coming
 pub mod Concluding
 pub mod Counts
 pub mod Events
 pub mod Fitting
+pub mod Gathered
 pub mod MainLogs
 pub mod Mapped
 pub mod Moving
@@ -18,4 +20,5 @@ pub mod Safe
 pub mod Seats
 pub mod Sendings
 pub mod Steps
+pub mod Told
 pub mod Trimming

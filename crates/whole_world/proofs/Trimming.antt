@@ -1,26 +1,45 @@
--- In a safe whole world sync points are within the logs, and fronts agree.
-use Rattle.std.proofs.Common.{◌≡◌, ◌≤◌, ◌<◌, ◌+◌, ◌*◌, ℕ, zero, suc, Some, refl, subst, arith, List, length, take, length-take}
+-- In a safe whole world sync points are within the logs, changes that are gathered agree, and so do fronts.
+use Rattle.std.proofs.Common.{◌≡◌, ◌≤◌, ◌+◌, ◌*◌, ℕ, zero, suc, true, Some, refl, subst, arith, List, length, take, length-take}
 use Rattle.std.specs.Prelude.{◌/◌, slice_get}
 use Rattle.std.proofs.lemmas.Option.{slice_get_within}
 use Rattle.nop_types.specs.Configuration.{Configuration}
-use Rattle.nop_types.specs.Lists.{IsPrefixOf}
+use Rattle.nop_types.specs.Lists.{Has, IsPrefixOf}
+use Rattle.nop_types.specs.Logs.{Log}
 use Rattle.nop_types.specs.Meaning.{Meaning}
 use Rattle.nop_types.specs.declared.output.Actor.{Actor}
+use Rattle.nop_types.specs.declared.peer.Body.{Body}
+use Rattle.nop_types.specs.declared.peer.Body.TheVariants as bodies
 use Rattle.nop_types.specs.declared.request.Entry.{Entry}
+use Rattle.nop_types.specs.declared.view.View.{View}
 use Rattle.started_views.specs.Logs.{SameTo}
 use Rattle.started_views.proofs.Logs.{same_from_prefix, same_sym, same_trans, same_less}
 use Rattle.facts.proofs.Prefixes.{IsPrefixOf-take}
-use Rattle.protocol.specs.Conf.{Conf}
-use Rattle.protocol.specs.Member.{Member}
-use Rattle.protocol_sync.specs.Synced.{GoodSync}
+use Rattle.view_change.specs.Gathering.{Gathering, counted}
 use Rattle.replica_state.specs.declared.state.ReplicaState.{ReplicaState}
+use Rattle.replica_state.specs.State.{is_other}
+use Rattle.protocol.specs.Conf.{Conf, opening}
+use Rattle.protocol.specs.Member.{Member}
+use Rattle.protocol.specs.Said.{says}
+use Rattle.protocol.proofs.Opening.{opening_meets}
+use Rattle.protocol_sync.specs.Above.{GapsAreAbove}
+use Rattle.protocol_sync.specs.Synced.{GoodSync}
+use Rattle.protocol_sync.proofs.Above.{gaps_open_above, gaps_stay_above}
+use Rattle.protocol_sync.proofs.Opening.{opening_is_synced}
 use Rattle.world.specs.Seats.{Seated}
-use Rattle.refinement.specs.Projection.{member_of}
+use Rattle.refinement.specs.Projection.{member_of, word_of, said_of}
+use Rattle.refinement.specs.Replicas.{Matches}
 use Rattle.whole_world.specs.Passed.{passed}
 use Rattle.whole_world.specs.Safe.{IsSafe}
-use Rattle.whole_world.specs.Trimming.{PointsWithin, CanTrim, SafeCanTrim}
-use Rattle.whole_world.specs.Whole.{WholeReplica, WholeWorld, Brings, main_log}
+use Rattle.whole_world.specs.Trimming.{PointsWithin, told_log, AllWithin, StartAgrees, after_request, StartsAgree, FrontsAgree, CanTrim}
+use Rattle.whole_world.specs.Trimming.{SafeCanTrim, WholeCanTrim}
+use Rattle.whole_world.specs.Whole.{WholeReplica, WholeWorld, Letter, Brings, main_view, main_log}
 use Rattle.whole_world.proofs.Counts.{counts_from}
+use Rattle.whole_world.proofs.Gathered.{gathered_within, gathered_agree, with_change_agree}
+use Rattle.whole_world.proofs.Alone.{entered_agree}
+use Rattle.whole_world.proofs.MainLogs.{is_main_log}
+use Rattle.whole_world.proofs.Mapped.{Has-map}
+use Rattle.whole_world.proofs.Safe.{whole_runs_are_safe}
+use Rattle.whole_world.proofs.Told.{FrontOf, log_front}
 
 prepared_within : (f : ℕ) (c : Conf) (r : ℕ) (p : Member) → GoodSync f c r p → (n : ℕ) → p.sync.prepared ≡ n → n ≤ length p.log
 prepared_within f c r p good zero is = omega arith
@@ -42,31 +61,105 @@ front_same s l a low h =
     let long : s ≤ length (take s l) = simp length-take (omega (arith, low)) in
     same_from_prefix s (take s l) l a long (IsPrefixOf-take s l) h
 
+-- two logs that have fronts of a third are the same as far as both fronts go
+fronts_same : (s t n : ℕ) (l k a : List Entry) → SameTo s l a → SameTo t k a → n ≤ s → n ≤ t → SameTo n l k
+fronts_same s t n l k a h g low other = same_trans n l a k (same_less s n l a low h) (same_sym n k a (same_less t n k a other g))
+
 module _ {S : Type 0} (m : Meaning S) (config : Configuration) (count : config.replicas ≡ 2 * (config.replicas / 2) + 1)
     (es : List (Actor × Brings)) (safe : IsSafe m config es) where
   abbrev f : ℕ
   f = config.replicas / 2
 
+  abbrev c : Conf
+  c = safe.conf
+
   abbrev w : WholeWorld
   w = (passed m config es).world
 
+  -- ---- the protocol matches each replica
+
+  above : GapsAreAbove f c
+  above =
+      subst (GapsAreAbove f) safe.ran.ends (gaps_stay_above m f (opening config) safe.ran.moves (opening_meets m f config count)
+      (opening_is_synced f config count) (gaps_open_above f config) safe.ran.may)
+
+  matches : (i : ℕ) (p : Seated WholeReplica) → slice_get w.replicas i ≡ Some p → Matches m f c i p.state.state
+  matches i p e =
+      let shown = safe.shows.actors in
+      record {
+        within = omega (arith, slice_get_within w.replicas i p e, shown.replica_count, shown.config);
+        inv = safe.inv;
+        sync = safe.sync;
+        above = above;
+        state = shown.replicas i p e;
+      }
+
+  -- ---- what a letter says was said
+
+  said : (x : Letter) → Has w.letters x → Has c.said (said_of x.peer)
+  said x i = safe.shows.tells.all x.peer (Has-map (λ (y : Letter). y.peer) w.letters x i)
+
+  told : (x : Letter) (l : Log) → Has w.letters x → told_log x.peer.body ≡ Some l → FrontOf (main_log w) l
+  told x l i e =
+      log_front m f c safe.inv safe.sync (main_view w) (main_log w) (is_main_log m f w c safe.inv safe.shows.actors) x.peer.sender
+      x.peer.view x.peer.body l (said x i) e
+
+  -- ---- sync points
+
   good : (i : ℕ) (p : Seated WholeReplica) → slice_get w.replicas i ≡ Some p → PointsWithin p.state.state
   good i p e =
-      let shown = safe.shows.actors in
-      let within : i < 2 * f + 1 = omega (arith, slice_get_within w.replicas i p e, shown.replica_count, shown.config) in
-      good_within f safe.conf i p.state.state (subst (GoodSync f safe.conf i) (shown.replicas i p e) (safe.sync.own i within))
+      let h = matches i p e in
+      good_within f c i p.state.state (subst (GoodSync f c i) h.state (safe.sync.own i h.within))
 
-  fronts : (i j n : ℕ) (p q : Seated WholeReplica) → slice_get w.replicas i ≡ Some p → slice_get w.replicas j ≡ Some q
-      → n ≤ p.state.state.sync.sync_point → n ≤ q.state.state.sync.sync_point → SameTo n p.state.state.log q.state.state.log
-  fronts i j n p q a b low other =
-      let one = front_same p.state.state.sync.sync_point p.state.state.log (main_log w) (good i p a).sync_point (safe.agreed.main i p a) in
-      let two = front_same q.state.state.sync.sync_point q.state.state.log (main_log w) (good j q b).sync_point (safe.agreed.main j q b) in
-      same_trans n p.state.state.log (main_log w) q.state.state.log
-      (same_less p.state.state.sync.sync_point n p.state.state.log (main_log w) low one)
-      (same_sym n q.state.state.log (main_log w) (same_less q.state.state.sync.sync_point n q.state.state.log (main_log w) other two))
+  within : AllWithin w
+  within = record {
+    replicas = good;
+    letters = λ x l i e. (told x l i e).within;
+    gathered = λ i p g x e gathers has. gathered_within m f c i p.state.state (matches i p e) g gathers x has;
+  }
 
-  can_trim : CanTrim w
-  can_trim = record { within = good; fronts = λ i j n p q a b low other. fronts i j n p q a b low other }
+  -- ---- changes
+
+  with_letter : (i : ℕ) (p : Seated WholeReplica) (x : Letter) (u : View) (n z : ℕ) (l : List Entry) (g : Gathering)
+      → slice_get w.replicas i ≡ Some p → Has w.letters x → is_other p.state.state x.peer.sender ≡ true
+      → x.peer.body ≡ bodies.ViewChange u n z l
+      → (after_request m x.peer p.state.state).view ≡ x.peer.view → (after_request m x.peer p.state.state).changes ≡ Some g
+      → StartAgrees (counted g (record { sender = x.peer.sender; last_normal = u; next = n; sync_point = z; log = l }))
+  with_letter i p x u n z l g e has other body view gathers =
+      with_change_agree m f c i p.state.state x.peer.view
+      (record { sender = x.peer.sender; last_normal = u; next = n; sync_point = z; log = l }) g (matches i p e) other
+      (subst (λ (b : Body). Has c.said (says x.peer.sender x.peer.view (word_of b))) body (said x has)) view gathers
+
+  starts : StartsAgree m w
+  starts = record {
+    gathered = λ i p g e gathers. gathered_agree m f c i p.state.state (matches i p e) g gathers;
+    entered = λ i p v g e gathers. entered_agree p.state.state v g (good i p e).sync_point gathers;
+    with_letter = with_letter;
+  }
+
+  -- ---- fronts
+
+  own_same : (i : ℕ) (p : Seated WholeReplica) → slice_get w.replicas i ≡ Some p
+      → SameTo p.state.state.sync.sync_point p.state.state.log (main_log w)
+  own_same i p e =
+      front_same p.state.state.sync.sync_point p.state.state.log (main_log w) (good i p e).sync_point (safe.agreed.main i p e)
+
+  told_same : (x : Letter) (l : Log) → Has w.letters x → told_log x.peer.body ≡ Some l → SameTo l.sync_point l.entries (main_log w)
+  told_same x l i e = let h = told x l i e in front_same l.sync_point l.entries (main_log w) h.within h.begins
+
+  fronts : FrontsAgree w
+  fronts = record {
+    replicas = λ i j n p q a b low other. fronts_same p.state.state.sync.sync_point q.state.state.sync.sync_point n p.state.state.log
+        q.state.state.log (main_log w) (own_same i p a) (own_same j q b) low other;
+    letters = λ i n p x l a b e low other. fronts_same p.state.state.sync.sync_point l.sync_point n p.state.state.log l.entries
+        (main_log w) (own_same i p a) (told_same x l b e) low other;
+  }
+
+  can_trim : CanTrim m w
+  can_trim = record { within = within; starts = starts; fronts = fronts }
 
 pub safe_can_trim : {S : Type 0} (m : Meaning S) → SafeCanTrim m
 safe_can_trim m config es is safe = can_trim m config (counts_from config is).replicas es safe
+
+pub whole_can_trim : {S : Type 0} (m : Meaning S) → WholeCanTrim m
+whole_can_trim m short config es is fit = safe_can_trim m config es is (whole_runs_are_safe m short config es is fit).at_last

@@ -1,7 +1,7 @@
 ghost use Rattle.nop_types.specs.Meaning.{Meaning};
 ghost use Rattle.whole_world.specs.Coming.{DatagramsWereSent, JunkIsNoDatagram, MessagesWereSent};
 ghost use Rattle.whole_world.specs.Safe.{CrashedStay, WholeRunsAreSafe};
-ghost use Rattle.whole_world.specs.Trimming.{SafeCanTrim};
+ghost use Rattle.whole_world.specs.Trimming.{SafeCanTrim, WholeCanTrim};
 
 /// Each run of the whole world is safe: over any host whose results fit a reply, and for every list of events in their ranges.
 pub fn whole_runs_are_safe<S>()
@@ -21,7 +21,10 @@ pub fn what_comes_was_sent()
     ensures messages { MessagesWereSent }
 {}
 
-/// In a safe whole world sync points are within the logs, and what replicas have up to them is the same.
-pub fn safe_runs_can_trim<S>()
-    ensures { (m : Meaning S) → SafeCanTrim m }
+/// What trimming needs holds after any list of events in their ranges, so of each safe run: the sync points of replicas, of messages
+/// and of changes that are gathered are within their logs; the changes that a view is started with agree up to the greatest of their
+/// sync points, also with one more that comes in a letter; and what is synchronised is the same in all replicas and messages.
+pub fn whole_can_trim<S>()
+    ensures events { (m : Meaning S) → WholeCanTrim m }
+    ensures safe { (m : Meaning S) → SafeCanTrim m }
 {}

@@ -10,15 +10,17 @@
 //! `whole_runs_are_safe`: after any list of events in their ranges a configuration of the protocol shows the world, and moves
 //! lead to it from the initial state. So what was stamped, sent, logged, replied and accepted is sound, replicas agree as far as
 //! they are synchronised, and the lines are legal of the one history. The same held after every prefix of the events; moves
-//! lead on from there, and nothing was undone. `safe_runs_can_trim`: sync points are within the logs, and any two replicas have
-//! the same up to them. The premise on the service is `ResultsShort`: each result fits a reply.
+//! lead on from there, and nothing was undone. The premise on the service is `ResultsShort`: each result fits a reply.
+//!
+//! `whole_can_trim`: after any list of events in their ranges, and so of each safe run, three facts hold that trimming needs.
+//! Sync points of replicas, of messages and of changes that are gathered are within their logs (`AllWithin`). The changes with
+//! which a view starts agree up to the greatest of their sync points (`Agree` of `trimming`), also with one that a letter brings
+//! to what is gathered (`StartsAgree`). What is synchronised is the same in all replicas and messages (`FrontsAgree`).
 //!
 //! Files: `laws`. Definitions: `specs/Whole` (the world), `Passed`, `Shows`, `Safe` (the claims); `Coming`, `Trimming`. The proof of
-//! `safety` shows that the world of the program follows this one. More in docs/ARCHITECTURE.md, "The proof of safety".
+//! `safety` shows that the world of the program follows this one. More in docs/PROOF.md.
 #![tactic(auto)]
 
 mod laws;
 
-pub use laws::{
-    crashed_replicas_stay, safe_runs_can_trim, what_comes_was_sent, whole_runs_are_safe,
-};
+pub use laws::{crashed_replicas_stay, what_comes_was_sent, whole_can_trim, whole_runs_are_safe};

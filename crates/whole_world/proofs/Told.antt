@@ -1,0 +1,75 @@
+-- Up to its sync point a log that a letter tells begins the log from which the history is read.
+use Rattle.std.proofs.Common.{◌≡◌, ℕ, List, take, Some, subst}
+use Rattle.std.proofs.lemmas.Option.{same_Some}
+use Rattle.nop_types.specs.Lists.{Has, IsPrefixOf}
+use Rattle.nop_types.specs.Logs.{Log, IsWithin}
+use Rattle.nop_types.specs.Meaning.{Meaning}
+use Rattle.nop_types.specs.declared.peer.Body.{Body}
+use Rattle.nop_types.specs.declared.peer.Body.TheVariants as bodies
+use Rattle.nop_types.specs.declared.request.Entry.{Entry}
+use Rattle.nop_types.specs.declared.view.View.{View}
+use Rattle.facts.proofs.Prefixes.{IsPrefixOf-refl}
+use Rattle.started_views.specs.Past.{LeaderHad}
+use Rattle.started_views.specs.Logs.{SameTo}
+use Rattle.started_views.proofs.Keeping.{synchronised_agree}
+use Rattle.started_views.proofs.Logs.{same_from_prefix}
+use Rattle.protocol.specs.Conf.{Conf, DidSay, last_normals}
+use Rattle.protocol.specs.Invariant.{Inv}
+use Rattle.protocol.specs.Said.{ViewChange, StartView, SyncPrepare, says}
+use Rattle.protocol.proofs.Grounding.{grounds_of}
+use Rattle.protocol_sync.specs.Laws.{IsMainLog}
+use Rattle.protocol_sync.specs.Synced.{Anchored, Told, Sync}
+use Rattle.protocol_sync.proofs.Agreeing.{fixed_from}
+use Rattle.refinement.specs.Projection.{word_of}
+use Rattle.whole_world.specs.Trimming.{whole_log, told_log}
+
+-- the sync point is within the log, which is the same up to there as the one from which the history is read
+pub record FrontOf (main : List Entry) (l : Log) : Type 0 where
+  pub within : IsWithin l
+  pub begins : IsPrefixOf (take l.sync_point l.entries) main
+
+module _ {S : Type 0} (m : Meaning S) (f : ℕ) (c : Conf) (inv : Inv m f c) (sync : Sync f c) (v : View) (main : List Entry)
+    (is : IsMainLog f c v main) where
+  -- what is anchored in a view, and the same as in its leader's log
+  front_from : (w : View) (z : ℕ) (l lead : List Entry) → LeaderHad f c.past w lead → SameTo z l lead → Anchored f c w z
+      → FrontOf main (whole_log z l)
+  front_from w z l lead leads same anchored = record {
+    within = same.left;
+    begins = synchronised_agree f c.stamps (last_normals c) c.past (grounds_of m f c inv) v w main lead l z is leads same
+        (fixed_from f c sync w z anchored);
+  }
+
+  -- what was told of the log of a view's leader
+  told_front : (w : View) (z : ℕ) (l lead : List Entry) → LeaderHad f c.past w lead → IsPrefixOf l lead → Told f c w z l
+      → FrontOf main (whole_log z l)
+  told_front w z l lead leads begins t =
+      front_from w z l lead leads (same_from_prefix z l l lead t.within (IsPrefixOf-refl l) begins) t.anchored
+
+  -- what a replica entered a view with
+  change_front : (q : ℕ) (w u : View) (x z : ℕ) (l : List Entry) → DidSay c.said q w (ViewChange u x z l) → FrontOf main (whole_log z l)
+  change_front q w u x z l h =
+      let good = sync.points.entries q w _ (inv.said (says q w (ViewChange u x z l)) h) in
+      front_from u z l good.agrees.lead good.agrees.leads good.agrees.same good.anchored
+
+  start_front : (q : ℕ) (w : View) (x z : ℕ) (l : List Entry) → DidSay c.said q w (StartView x z l) → FrontOf main (whole_log z l)
+  start_front q w x z l h =
+      let begun = inv.said (says q w (StartView x z l)) h in
+      told_front w z l begun.lead begun.leads begun.begins (sync.points.starts q w x z l h)
+
+  prepare_front : (q : ℕ) (w : View) (z : ℕ) (l : List Entry) → DidSay c.said q w (SyncPrepare z l) → FrontOf main (whole_log z l)
+  prepare_front q w z l h =
+      let prepared = inv.said (says q w (SyncPrepare z l)) h in
+      told_front w z l prepared.lead prepared.leads prepared.begins (sync.points.prepares q w z l h)
+
+  -- whatever message tells it
+  pub log_front : (q : ℕ) (w : View) (b : Body) (l : Log) → Has c.said (says q w (word_of b)) → told_log b ≡ Some l → FrontOf main l
+  log_front q w (bodies.ViewChange u x z k) l h e = subst (FrontOf main) (same_Some (whole_log z k) l e) (change_front q w u x z k h)
+  log_front q w (bodies.StartView x z k) l h e = subst (FrontOf main) (same_Some (whole_log z k) l e) (start_front q w x z k h)
+  log_front q w (bodies.SyncPrepare z k) l h e = subst (FrontOf main) (same_Some (whole_log z k) l e) (prepare_front q w z k h)
+  log_front q w (bodies.SlotLookup k) l h e = absurd cc
+  log_front q w (bodies.Found k r) l h e = absurd cc
+  log_front q w (bodies.GapCommit k) l h e = absurd cc
+  log_front q w (bodies.GapRep k) l h e = absurd cc
+  log_front q w bodies.ViewChangeReq l h e = absurd cc
+  log_front q w (bodies.SyncRep k) l h e = absurd cc
+  log_front q w (bodies.SyncCommit k) l h e = absurd cc
