@@ -1,0 +1,10 @@
+pub mod Answers
+pub mod Bytes
+pub mod Datagrams
+pub mod Lines
+pub mod Ops
+pub mod Outs
+pub mod Passing
+pub mod Rows
+pub mod Spelled
+pub mod Texts

@@ -1,0 +1,305 @@
+-- What actors tell of their steps: only clients submit, requests of their own with an id and the op that they were given.
+use Rattle.std.proofs.Common.{◌≡◌, ◌+◌, ◌≤◌, ◌<◌, ◌^◌, ℕ, Bool, true, false, Option, Some, None, refl, arith, length}
+use Rattle.std.proofs.Common.{List, [], ◌∷◌, ◌++◌}
+use Rattle.std.specs.Prelude.{◌-◌, ⊤, nat_lt, nat_le, ◌==◌, Result, Ok, Err}
+use Rattle.std.specs.List.{AllByRecursion}
+use Rattle.std.proofs.lemmas.Bool.{and_parts, ltb-true}
+use Rattle.hex.specs.Hex.{IsBytes}
+use Rattle.nop_types.specs.Configuration.{Configuration}
+use Rattle.nop_types.specs.Given.{Given, Packet, Ticked, Submit}
+use Rattle.nop_types.specs.Meaning.{Meaning}
+use Rattle.nop_types.specs.declared.limits.TheConstants.{MAX_OP_BYTES}
+use Rattle.nop_types.specs.declared.input.Tick.{Tick}
+use Rattle.nop_types.specs.declared.input.Tick.TheVariants as ticks
+use Rattle.nop_types.specs.declared.datagram.Datagram.{Datagram}
+use Rattle.nop_types.specs.declared.datagram.Datagram.TheVariants as datagrams
+use Rattle.nop_types.specs.declared.datagram.Fragment.{Fragment}
+use Rattle.nop_types.specs.declared.datagram.Reply.{Reply}
+use Rattle.nop_types.specs.declared.datagram.Stamped.{Stamped}
+use Rattle.nop_types.specs.declared.output.Dest.{Dest}
+use Rattle.nop_types.specs.declared.output.Out.{Out}
+use Rattle.nop_types.specs.declared.output.Out.TheVariants as outs
+use Rattle.nop_types.specs.declared.peer.Peer.{Peer}
+use Rattle.nop_types.specs.declared.request.Request.{Request}
+use Rattle.oum_codec.specs.declared.bad.Bad.{Bad}
+use Rattle.oum_codec.specs.Reading.{reading}
+use Rattle.peer_codec.specs.Reading as peer
+use Rattle.peer_codec.specs.declared.bad_peer.BadPeer.{BadPeer}
+use Rattle.fragments.specs.Cutting.{sends_of}
+use Rattle.fragments.specs.Joining.{taken}
+use Rattle.client_quorum.specs.declared.state.ClientState.{ClientState}
+use Rattle.client_quorum.specs.ClientSteps as client
+use Rattle.client_quorum.specs.KeptReplies.{quorum_of}
+use Rattle.sequencer.specs.declared.state.SequencerState.{SequencerState}
+use Rattle.sequencer.specs.SequencerSteps as sequencer
+use Rattle.session_control.specs.declared.state.ControllerState.{ControllerState}
+use Rattle.session_control.specs.declared.state.TheConstants.{MISSED_END}
+use Rattle.session_control.specs.ControllerSteps as controller
+use Rattle.replica_state.specs.State.{is_other}
+use Rattle.replica_state.specs.declared.sending.Sending.{Sending}
+use Rattle.replica_state.specs.declared.sending.Sending.TheVariants.{ToClient, ToReplicas}
+use Rattle.replica_rows.specs.Messages as messages
+use Rattle.replica_core.specs.Posting.{posted}
+use Rattle.replica_core.specs.ReplicaSteps as replica
+use Rattle.replica_core.specs.declared.replica.TheConstants.{LAST_MESSAGE}
+use Rattle.replica_core.specs.ReplicaSteps.{Replica}
+
+-- ---- outputs
+
+-- a request as its client submits it: the client is one of the configuration
+pub record IsRequest (c : Configuration) (r : Request) : Type 0 where
+  pub client : r.client < c.clients
+  pub low : 1 ≤ r.id
+  pub id : r.id < 2 ^ 64
+  pub bytes : IsBytes r.op
+  pub short : length r.op ≤ MAX_OP_BYTES
+
+abbrev pub OutIs : Configuration → Out → Type 0
+OutIs c (outs.Send dest bytes) = ⊤
+OutIs c (outs.Submitted r) = IsRequest c r
+OutIs c (outs.Accepted client id result) = ⊤
+OutIs c (outs.Busy client) = client < c.clients
+
+abbrev pub OutsAre : Configuration → List Out → Type 0
+OutsAre c os = AllByRecursion (OutIs c) os
+
+both_are : (c : Configuration) (xs ys : List Out) → OutsAre c xs → OutsAre c ys → OutsAre c (xs ++ ys)
+both_are c [] ys f g = g
+both_are c (x ∷ xs) ys f g = (f.0, both_are c xs ys f.1 g)
+
+-- ---- what is given
+
+-- an op is bytes, and short
+pub record IsOp (op : List ℕ) : Type 0 where
+  pub bytes : IsBytes op
+  pub short : length op ≤ MAX_OP_BYTES
+
+abbrev pub GivenIs : Given → Type 0
+GivenIs (Packet bytes) = ⊤
+GivenIs (Ticked tick) = ⊤
+GivenIs (Submit op) = IsOp op
+
+-- ---- replicas
+
+cut_are : (c : Configuration) (dest : Dest) (fs : List Fragment) → OutsAre c (sends_of dest fs)
+cut_are c dest [] = tt
+cut_are c dest (f ∷ fs) = (tt, cut_are c dest fs)
+
+posted_are : (c : Configuration) (number : ℕ) (sends : List Sending) → OutsAre c (posted number sends)
+unfolding posted
+posted_are c number [] = tt
+posted_are c number (ToClient r ∷ sends) = (tt, posted_are c number sends)
+posted_are c number (ToReplicas dest p ∷ sends) =
+    both_are c _ (posted (number + 1) sends) (cut_are c dest _) (posted_are c (number + 1) sends)
+
+module _ {S : Type 0} (m : Meaning S) (c : Configuration) where
+  row_are : (b : Bool) (s : Replica) (a : messages.Arrival) → OutsAre c (replica.row_if m b s a).1
+  row_are true s a = posted_are c s.messages (messages.arrive m s.state a).1
+  row_are false s a = tt
+
+  sender_are : (b : Bool) (s : Replica) (p : Peer) → OutsAre c (replica.of_sender_if m b s p).1
+  sender_are true s p = row_are (nat_lt s.messages LAST_MESSAGE) s (messages.Told p)
+  sender_are false s p = tt
+
+  read_are : (s : Replica) (q : ℕ) (r : Result Peer BadPeer) → OutsAre c (replica.read m s q r).1
+  read_are s q (Ok p) = sender_are (p.sender == q) s p
+  read_are s q (Err e) = tt
+
+  joined_are : (s : Replica) (q : ℕ) (o : Option (List ℕ)) → OutsAre c (replica.joined m s q o).1
+  joined_are s q None = tt
+  joined_are s q (Some bytes) = read_are s q (peer.reading bytes)
+
+  fragment_if_are : (b : Bool) (s : Replica) (f : Fragment) → OutsAre c (replica.fragment_if m b s f).1
+  fragment_if_are true s f = joined_are (record s { reassembly = (taken s.reassembly f).0 }) f.replica (taken s.reassembly f).1
+  fragment_if_are false s f = tt
+
+  fragment_are : (s : Replica) (f : Fragment) → OutsAre c (replica.fragment m s f).1
+  unfolding replica.fragment
+  fragment_are s f = fragment_if_are (is_other s.state f.replica) s f
+
+  took_are : (s : Replica) (r : Result Datagram Bad) → OutsAre c (replica.on_datagram m s r).1
+  took_are s (Ok (datagrams.Stamped p)) = row_are (nat_lt s.messages LAST_MESSAGE) s (messages.Packet p)
+  took_are s (Ok (datagrams.Fragment f)) = fragment_are s f
+  took_are s (Ok (datagrams.Request r)) = tt
+  took_are s (Ok (datagrams.Reply p)) = tt
+  took_are s (Ok (datagrams.Install j session)) = tt
+  took_are s (Ok (datagrams.Installed j session)) = tt
+  took_are s (Ok (datagrams.Ping j round)) = tt
+  took_are s (Ok (datagrams.Pong j round)) = tt
+  took_are s (Err e) = tt
+
+  pub replica_tells : (s : Replica) (i : Given) → OutsAre c (replica.next m s i).1
+  unfolding replica.next
+  replica_tells s (Packet bytes) = took_are s (reading bytes)
+  replica_tells s (Ticked tick) = row_are (nat_lt s.messages LAST_MESSAGE) s (messages.Ticked tick)
+  replica_tells s (Submit op) = tt
+
+-- ---- sequencers
+
+packet_are : (c : Configuration) (o : Option Stamped) → OutsAre c (sequencer.send_packet o)
+packet_are c (Some p) = (tt, tt)
+packet_are c None = tt
+
+install_are : (c : Configuration) (b : Bool) (s : SequencerState) (session : ℕ) → OutsAre c (sequencer.install_if b s session).1
+install_are c true s session = (tt, tt)
+install_are c false s session = tt
+
+ping_are : (c : Configuration) (b : Bool) (s : SequencerState) (round : ℕ) → OutsAre c (sequencer.ping_if b s round).1
+ping_are c true s round = (tt, tt)
+ping_are c false s round = tt
+
+stamping_are : (c : Configuration) (s : SequencerState) (r : Result Datagram Bad) → OutsAre c (sequencer.on_datagram s r).1
+stamping_are c s (Ok (datagrams.Request r)) = packet_are c (sequencer.stamped_by s r)
+stamping_are c s (Ok (datagrams.Stamped p)) = tt
+stamping_are c s (Ok (datagrams.Reply p)) = tt
+stamping_are c s (Ok (datagrams.Install j session)) = install_are c (sequencer.can_install s j session) s session
+stamping_are c s (Ok (datagrams.Installed j session)) = tt
+stamping_are c s (Ok (datagrams.Ping j round)) = ping_are c (j == s.number) s round
+stamping_are c s (Ok (datagrams.Pong j round)) = tt
+stamping_are c s (Ok (datagrams.Fragment f)) = tt
+stamping_are c s (Err e) = tt
+
+pub sequencer_tells : (c : Configuration) (s : SequencerState) (i : Given) → OutsAre c (sequencer.next s i).1
+unfolding sequencer.next
+sequencer_tells c s (Packet bytes) = stamping_are c s (reading bytes)
+sequencer_tells c s (Ticked tick) = tt
+sequencer_tells c s (Submit op) = tt
+
+-- ---- the controller
+
+module _ (c : Configuration) where
+  move_are : (b : Bool) (s : ControllerState) (j : ℕ) → OutsAre c (controller.move_if b s j).1
+  move_are true s j = (tt, tt)
+  move_are false s j = tt
+
+  move_to_are : (s : ControllerState) (j : ℕ) → OutsAre c (controller.move_to s j).1
+  move_to_are s j = move_are (nat_lt s.session controller.last_number) s j
+
+  order_are : (b : Bool) (s : ControllerState) (j : ℕ) → OutsAre c (controller.order_if b s j).1
+  order_are true s j = move_to_are s j
+  order_are false s j = tt
+
+  ask_if_are : (b : Bool) (s : ControllerState) → OutsAre c (controller.ask_if b s).1
+  ask_if_are true s = (tt, tt)
+  ask_if_are false s = tt
+
+  ask_are : (s : ControllerState) → OutsAre c (controller.ask s).1
+  ask_are s = ask_if_are (nat_lt s.round controller.last_number) s
+
+  miss_are : (b : Bool) (s : ControllerState) → OutsAre c (controller.miss_if b s).1
+  miss_are true s = move_to_are s (controller.following s)
+  miss_are false s = ask_are (record s { missed = s.missed + 1 })
+
+  probe_are : (b : Bool) (s : ControllerState) → OutsAre c (controller.probe_if b s).1
+  probe_are true s = ask_are s
+  probe_are false s = miss_are (nat_le MISSED_END (s.missed + 1)) s
+
+  resend_are : (b : Bool) (s : ControllerState) → OutsAre c (controller.resend_if b s).1
+  resend_are true s = tt
+  resend_are false s = (tt, tt)
+
+  controller_tick_are : (s : ControllerState) (t : Tick) → OutsAre c (controller.on_tick s t).1
+  controller_tick_are s ticks.Probe = probe_are s.heard s
+  controller_tick_are s ticks.Resend = resend_are s.confirmed s
+  controller_tick_are s (ticks.Install j) = order_are (nat_lt j s.config.sequencers) s j
+  controller_tick_are s ticks.Suspect = tt
+  controller_tick_are s ticks.Watch = tt
+  controller_tick_are s ticks.Sync = tt
+  controller_tick_are s ticks.Retry = tt
+  controller_tick_are s ticks.Next = tt
+
+  controller_took_are : (s : ControllerState) (r : Result Datagram Bad) → OutsAre c (controller.on_datagram s r).1
+  controller_took_are s (Ok (datagrams.Pong j round)) = tt
+  controller_took_are s (Ok (datagrams.Installed j session)) = tt
+  controller_took_are s (Ok (datagrams.Request r)) = tt
+  controller_took_are s (Ok (datagrams.Stamped p)) = tt
+  controller_took_are s (Ok (datagrams.Reply p)) = tt
+  controller_took_are s (Ok (datagrams.Install j session)) = tt
+  controller_took_are s (Ok (datagrams.Ping j round)) = tt
+  controller_took_are s (Ok (datagrams.Fragment f)) = tt
+  controller_took_are s (Err e) = tt
+
+  pub controller_tells : (s : ControllerState) (i : Given) → OutsAre c (controller.next s i).1
+  unfolding controller.next
+  controller_tells s (Packet bytes) = controller_took_are s (reading bytes)
+  controller_tells s (Ticked tick) = controller_tick_are s tick
+  controller_tells s (Submit op) = tt
+
+-- ---- clients
+
+-- its number, and no op of its own that waits
+pub record ClientIs (k : ℕ) (s : ClientState) : Type 0 where
+  pub number : s.number ≡ k
+  pub waits : s.waiting ≡ []
+
+-- a step of a client that stays so
+pub record ClientTells (c : Configuration) (k : ℕ) (r : ClientState × List Out) : Type 0 where
+  pub tells : OutsAre c r.1
+  pub stays : ClientIs k r.0
+
+module _ (c : Configuration) (k : ℕ) (within : k < c.clients) (s : ClientState) (is : ClientIs k s) where
+  quiet_client : ClientTells c k (s, [])
+  quiet_client = record { tells = tt; stays = is }
+
+  own : s.number < c.clients
+  own = omega (arith, is.number)
+
+  submit_tells : (b : Bool) → client.can_submit s ≡ b → (op : List ℕ) → IsOp op
+      → ClientTells c k (client.submit_if b s (client.request_of s op))
+  submit_tells true may op fits =
+      let left = ltb-true s.last_id (2 ^ 64 - 1) (and_parts (client.has_none s.pending) (nat_lt s.last_id (2 ^ 64 - 1)) may).1 in
+      record {
+        tells = (
+          record { client = own; low = omega arith; id = omega (arith, left); bytes = fits.bytes; short = fits.short },
+          (tt, tt),
+        );
+        stays = record { number = is.number; waits = is.waits };
+      }
+  submit_tells false may op fits = record { tells = (own, tt); stays = is }
+
+  first_tells : (ops : List (List ℕ)) → ops ≡ [] → ClientTells c k (client.submit_first (client.first_of ops) s)
+  first_tells [] none = quiet_client
+  first_tells (op ∷ ops) none = absurd cc
+
+  waiting_tells : (b : Bool) → ClientTells c k (client.submit_waiting_if b s)
+  waiting_tells true = first_tells s.waiting is.waits
+  waiting_tells false = quiet_client
+
+  retry_tells : (o : Option Request) → OutsAre c (client.retry_of o)
+  retry_tells None = tt
+  retry_tells (Some r) = (tt, tt)
+
+  client_tick_tells : (t : Tick) → ClientTells c k (client.on_tick s t)
+  client_tick_tells ticks.Next = waiting_tells (client.can_submit s)
+  client_tick_tells ticks.Retry = record { tells = retry_tells s.pending; stays = is }
+  client_tick_tells ticks.Suspect = quiet_client
+  client_tick_tells ticks.Watch = quiet_client
+  client_tick_tells ticks.Resend = quiet_client
+  client_tick_tells ticks.Sync = quiet_client
+  client_tick_tells ticks.Probe = quiet_client
+  client_tick_tells (ticks.Install j) = quiet_client
+
+  accept_tells : (id : ℕ) (p : Reply) (o : Option Reply) → ClientTells c k (client.accept_if (client.kept s p) id o)
+  accept_tells id p None = record { tells = tt; stays = record { number = is.number; waits = is.waits } }
+  accept_tells id p (Some q) = record { tells = (tt, tt); stays = record { number = is.number; waits = is.waits } }
+
+  reply_tells : (b : Bool) (p : Reply) → ClientTells c k (client.reply_if b s p)
+  reply_tells true p = accept_tells p.id p (quorum_of (client.kept s p).config.replicas (client.kept s p).replies p.view p.slot)
+  reply_tells false p = quiet_client
+
+  answer_tells : (r : Result Datagram Bad) → ClientTells c k (client.on_datagram s r)
+  answer_tells (Ok (datagrams.Reply p)) = reply_tells (client.is_expected s p) p
+  answer_tells (Ok (datagrams.Request r)) = quiet_client
+  answer_tells (Ok (datagrams.Stamped p)) = quiet_client
+  answer_tells (Ok (datagrams.Install j session)) = quiet_client
+  answer_tells (Ok (datagrams.Installed j session)) = quiet_client
+  answer_tells (Ok (datagrams.Ping j round)) = quiet_client
+  answer_tells (Ok (datagrams.Pong j round)) = quiet_client
+  answer_tells (Ok (datagrams.Fragment f)) = quiet_client
+  answer_tells (Err e) = quiet_client
+
+  pub client_tells : (i : Given) → GivenIs i → ClientTells c k (client.next s i)
+  unfolding client.next
+  client_tells (Packet bytes) fits = answer_tells (reading bytes)
+  client_tells (Ticked tick) fits = client_tick_tells tick
+  client_tells (Submit op) fits = submit_tells (client.can_submit s) refl op fits

@@ -1,0 +1,171 @@
+-- The rows of a run are in their ranges.
+use Rattle.std.proofs.Common.{◌≡◌, ◌≤◌, ◌<◌, ◌^◌, ℕ, Bool, true, false, refl, arith, length, slice_index}
+use Rattle.std.proofs.Common.{List, Some}
+use Rattle.std.specs.Prelude.{◌==◌, ◌%◌, ◌&&◌, nat_lt, nat_le, slice_get}
+use Rattle.std.proofs.lemmas.Bool.{and_parts, leb-true, le-leb, lt-ltb}
+use Rattle.std.proofs.lemmas.Option.{slice_get_within}
+use Rattle.hex.specs.Hex.{IsBytes}
+use Rattle.line_fields.specs.Fields.{IsActorOf}
+use Rattle.nop_types.specs.Configuration.{Configuration, is_configuration}
+use Rattle.nop_types.specs.Lines as lines
+use Rattle.nop_types.specs.Lines.{Line}
+use Rattle.nop_types.specs.Ranges.{ViewFits}
+use Rattle.nop_types.specs.declared.limits.TheConstants.{MAX_CLIENTS, MAX_REPLICAS, MAX_RESULT_BYTES, MAX_SEQUENCERS, MAX_SLOTS}
+use Rattle.nop_types.specs.declared.kinds.TheConstants.{REQUEST, FRAGMENT}
+use Rattle.nop_types.specs.declared.output.Actor.{Actor}
+use Rattle.nop_types.specs.declared.output.Actor.TheVariants as actors
+use Rattle.nop_types.specs.declared.output.Dest.{Dest}
+use Rattle.nop_types.specs.declared.output.Dest.TheVariants.{Replicas, Sequencers, One}
+use Rattle.nop_types.specs.declared.replica_state.Phase.{Phase}
+use Rattle.nop_types.specs.declared.request.Entry.{Entry}
+use Rattle.nop_types.specs.declared.request.Entry.TheVariants.{NoOp, Req}
+use Rattle.nop_types.specs.declared.request.Request.{Request}
+use Rattle.nop_types.specs.declared.view.View.{View}
+use Rattle.network.specs.Network.{Sent}
+use Rattle.replay.specs.Destinations.{IsDestOf}
+use Rattle.transcript_rows.specs.Rows.{actor_fits, dest_fits, pair_fits, request_fits, entry_fits, row_fits, IsTypedRequest, RowFits}
+use Rattle.transcript_rows.specs.Told.{row_of}
+use Rattle.transcript_rows.specs.declared.row.Row.TheVariants.{Dead, Submit, Accept, Busy, State, Slot, Member}
+use Rattle.transcript_rows.specs.declared.row.Row.TheVariants as rows
+use Rattle.transcript_rows.specs.declared.row.TheConstants.{MAX_SENT_BYTES}
+use Rattle.judged_runs.proofs.Datagrams.{IsSpelled}
+use Rattle.judged_runs.proofs.Lines.{LineIs}
+use Rattle.judged_runs.proofs.Outs.{IsRequest}
+
+pub both : (a b : Bool) → a ≡ true → b ≡ true → a && b ≡ true
+both true b e f = f
+both false b e f = e
+
+-- ---- actors
+
+-- how many there are of each
+pub record Counts (c : Configuration) : Type 0 where
+  pub replicas : c.replicas ≤ MAX_REPLICAS
+  pub sequencers : c.sequencers ≤ MAX_SEQUENCERS
+  pub clients : c.clients ≤ MAX_CLIENTS
+
+pub counts_of : (c : Configuration) → is_configuration c ≡ true → Counts c
+counts_of c e =
+    let a = and_parts (c.replicas % 2 == 1)
+    (nat_le c.replicas MAX_REPLICAS &&
+    (nat_lt 0 c.sequencers && (nat_le c.sequencers MAX_SEQUENCERS && (nat_lt 0 c.clients && nat_le c.clients MAX_CLIENTS)))) e in
+    let b = and_parts (nat_le c.replicas MAX_REPLICAS)
+    (nat_lt 0 c.sequencers && (nat_le c.sequencers MAX_SEQUENCERS && (nat_lt 0 c.clients && nat_le c.clients MAX_CLIENTS))) a.1 in
+    let d = and_parts (nat_lt 0 c.sequencers) (nat_le c.sequencers MAX_SEQUENCERS && (nat_lt 0 c.clients && nat_le c.clients MAX_CLIENTS))
+    b.1 in
+    let g = and_parts (nat_le c.sequencers MAX_SEQUENCERS) (nat_lt 0 c.clients && nat_le c.clients MAX_CLIENTS) d.1 in
+    let h = and_parts (nat_lt 0 c.clients) (nat_le c.clients MAX_CLIENTS) g.1 in
+    record {
+      replicas = leb-true c.replicas MAX_REPLICAS b.0;
+      sequencers = leb-true c.sequencers MAX_SEQUENCERS g.0;
+      clients = leb-true c.clients MAX_CLIENTS h.1;
+    }
+
+module _ (c : Configuration) (counts : Counts c) where
+  actor_in : (a : Actor) → IsActorOf c a → actor_fits a ≡ true
+  actor_in (actors.Replica i) h = lt-ltb i MAX_REPLICAS (omega (arith, h, counts.replicas))
+  actor_in (actors.Sequencer i) h = lt-ltb i MAX_SEQUENCERS (omega (arith, h, counts.sequencers))
+  actor_in (actors.Client i) h = lt-ltb i MAX_CLIENTS (omega (arith, h, counts.clients))
+  actor_in actors.Controller h = refl
+
+  dest_in : (d : Dest) → IsDestOf c d → dest_fits d ≡ true
+  dest_in Replicas h = refl
+  dest_in Sequencers h = refl
+  dest_in (One a) h = actor_in a h
+
+  pair_in : (client id : ℕ) → client < c.clients → 1 ≤ id → pair_fits client id ≡ true
+  pair_in client id own low =
+      both (nat_lt client MAX_CLIENTS) (nat_le 1 id) (lt-ltb client MAX_CLIENTS (omega (arith, own, counts.clients))) (le-leb 1 id low)
+
+  typed : (r : Request) → IsRequest c r → IsTypedRequest r
+  typed r h = record { id = h.id; bytes = h.bytes; short = h.short }
+
+  request_in : (r : Request) → IsRequest c r → request_fits r ≡ true
+  request_in r h = pair_in r.client r.id h.client h.low
+
+  -- ---- lines
+
+  -- what an accepted result needs
+  pub record IsResult (k n : ℕ) (result : List ℕ) : Type 0 where
+    pub client : k < c.clients
+    pub low : 1 ≤ n
+    pub id : n < 2 ^ 64
+    pub bytes : IsBytes result
+    pub short : length result ≤ MAX_RESULT_BYTES
+
+  -- what a datagram needs
+  pub record IsSent (s : Sent) : Type 0 where
+    pub dest : IsDestOf c s.dest
+    pub spelled : IsSpelled s.bytes
+
+  pub submit_row : (r : Request) → IsRequest c r → RowFits (Submit r)
+  submit_row r h = record { ranges = request_in r h; typed = typed r h }
+
+  accept_row : (client id : ℕ) (result : List ℕ) → IsResult client id result → RowFits (Accept client id result)
+  accept_row client id result h = record {
+    ranges = both (pair_fits client id) (nat_le (length result) MAX_RESULT_BYTES) (pair_in client id h.client h.low)
+        (le-leb (length result) MAX_RESULT_BYTES h.short);
+    typed = (h.id, h.bytes);
+  }
+
+  sent_row : (index : ℕ) (from : Actor) (dest : Dest) (bytes : List ℕ) → IsActorOf c from → index < 2 ^ 64
+      → IsSent (record { from = from; dest = dest; bytes = bytes })
+      → RowFits (rows.Sent index from dest (slice_index bytes 3) (length bytes))
+  sent_row index from dest bytes there small h = record {
+    ranges =
+        let kind : ℕ = slice_index bytes 3 in
+        both (actor_fits from) _ (actor_in from there)
+        (both (dest_fits dest) _ (dest_in dest h.dest)
+        (both (nat_le REQUEST kind) _ (le-leb REQUEST kind h.spelled.least)
+        (both (nat_le kind FRAGMENT) _ (le-leb kind FRAGMENT h.spelled.most)
+        (le-leb (length bytes) MAX_SENT_BYTES h.spelled.short))));
+    typed = small;
+  }
+
+  pub line_row : (sent : List Sent) (l : Line) → LineIs c sent l → length sent ≤ 2 ^ 64
+      → ((client id : ℕ) (result : List ℕ) → l ≡ lines.Accept client id result → IsResult client id result)
+      → ((s : Sent) (i : ℕ) → slice_get sent i ≡ Some s → IsSent s) → RowFits (row_of l)
+  line_row sent (lines.Dead actor) h few accepts sends = record { ranges = actor_in actor h; typed = tt }
+  line_row sent (lines.Submit r) h few accepts sends = submit_row r h
+  line_row sent (lines.Accept client id result) h few accepts sends = accept_row client id result (accepts client id result refl)
+  line_row sent (lines.Busy client) h few accepts sends =
+      record { ranges = lt-ltb client MAX_CLIENTS (omega (arith, h, counts.clients)); typed = tt }
+  line_row sent (lines.Send index from dest bytes) h few accepts sends =
+      let near = slice_get_within sent index (record { from = from; dest = dest; bytes = bytes }) h.1 in
+      sent_row index from dest bytes h.0 (omega (arith, near, few)) (sends _ index h.1)
+
+  -- ---- the lines at the end
+
+  -- an entry is a NO-OP, or such a request
+  abbrev pub EntryIs : Entry → Type 0
+  EntryIs NoOp = Unit {0}
+  EntryIs (Req r) = IsRequest c r
+
+  pub state_row : (i : ℕ) (crashed : Bool) (status : Phase) (v : View) (len sync_point : ℕ) → i < c.replicas → ViewFits v → len ≤ MAX_SLOTS
+      → sync_point ≤ MAX_SLOTS → RowFits (State i crashed status v len sync_point)
+  state_row i crashed status v len sync_point own view short point = record {
+    ranges =
+        both (nat_lt i MAX_REPLICAS) _ (lt-ltb i MAX_REPLICAS (omega (arith, own, counts.replicas)))
+        (both (nat_le 1 v.session) _ (le-leb 1 v.session view.session.low)
+        (both (nat_le len MAX_SLOTS) (nat_le sync_point MAX_SLOTS) (le-leb len MAX_SLOTS short) (le-leb sync_point MAX_SLOTS point)));
+    typed = (view.leader, view.session.high);
+  }
+
+  entry_in : (e : Entry) → EntryIs e → entry_fits e ≡ true
+  entry_in NoOp h = refl
+  entry_in (Req r) h = request_in r h
+
+  slot_typed : (i slot : ℕ) (e : Entry) → EntryIs e → row_fits (Slot i slot e) ≡ true → RowFits (Slot i slot e)
+  slot_typed i slot NoOp h ranges = record { ranges = ranges; typed = tt }
+  slot_typed i slot (Req r) h ranges = record { ranges = ranges; typed = typed r h }
+
+  pub slot_row : (i slot : ℕ) (e : Entry) → i < c.replicas → 1 ≤ slot → slot ≤ MAX_SLOTS → EntryIs e → RowFits (Slot i slot e)
+  slot_row i slot e own low high h =
+      slot_typed i slot e h
+      (both (nat_lt i MAX_REPLICAS) _ (lt-ltb i MAX_REPLICAS (omega (arith, own, counts.replicas)))
+      (both (nat_le 1 slot) _ (le-leb 1 slot low)
+      (both (nat_le slot MAX_SLOTS) (entry_fits e) (le-leb slot MAX_SLOTS high) (entry_in e h))))
+
+  pub member_row : (place : ℕ) (r : Request) → 1 ≤ place → place < 2 ^ 32 → IsRequest c r → RowFits (Member place r)
+  member_row place r low high h =
+      record { ranges = both (nat_le 1 place) (request_fits r) (le-leb 1 place low) (request_in r h); typed = (high, typed r h) }

@@ -1,0 +1,285 @@
+-- What is written of a run spells its transcript: each of its lines is in its ranges.
+use Rattle.std.proofs.Common.{◌≡◌, ◌∙◌, ◌+◌, ◌*◌, ◌≤◌, ◌<◌, ◌^◌, ℕ, zero, suc, Bool, true, List, [], ◌∷◌, ◌++◌, length, map, take, refl}
+use Rattle.std.proofs.Common.{sym, ap, subst}
+use Rattle.std.proofs.Common.{arith, length-append, Some}
+use Rattle.std.specs.Prelude.{◌/◌, Ok, count_by, slice_get}
+use Rattle.std.specs.List.{list_all}
+use Rattle.std.proofs.lemmas.List.{length-map}
+use Rattle.std.proofs.lemmas.List.Folds.{list_all-append}
+use Rattle.std.proofs.lemmas.Option.{slice_get_within}
+use Rattle.facts.proofs.Members.{Has-first, Has-rest}
+use Rattle.facts.proofs.Places.{slice_get-from_take}
+use Rattle.nop_types.specs.Configuration.{Configuration, is_configuration}
+use Rattle.nop_types.specs.Legality.{Legal}
+use Rattle.nop_types.specs.Lines as lines
+use Rattle.nop_types.specs.Lines.{Line}
+use Rattle.nop_types.specs.Lists.{Has}
+use Rattle.nop_types.specs.Meaning.{Meaning}
+use Rattle.nop_types.specs.declared.limits.TheConstants.{MAX_SLOTS}
+use Rattle.nop_types.specs.declared.request.Entry.{Entry}
+use Rattle.nop_types.specs.declared.request.Entry.TheVariants.{NoOp, Req}
+use Rattle.nop_types.specs.declared.request.Request.{Request}
+use Rattle.protocol.specs.Conf.{Conf}
+use Rattle.protocol.specs.Member.{Member}
+use Rattle.refinement.specs.Projection.{member_of}
+use Rattle.replica_core.specs.ReplicaSteps.{Replica}
+use Rattle.replica_rows.specs.Within.{ResultsShort}
+use Rattle.replica_state.specs.declared.state.ReplicaState.{ReplicaState}
+use Rattle.replica_state.specs.Within.{IsWithin}
+use Rattle.replay.proofs.Reaching.{Reached, events_reach, datagrams_go_to_actors}
+use Rattle.safety.proofs.Replicas.{plain_found}
+use Rattle.safety.specs.Following.{plain}
+use Rattle.safety.specs.Safe.{SafelyPassed}
+use Rattle.schedule_text.specs.declared.event.Event.{Event}
+use Rattle.network.specs.Network.{Sent}
+use Rattle.transcript_reader.specs.Transcripts.{Transcript, Spells, AllFit, is_event, is_state, members, body, transcript_lines}
+use Rattle.transcript_reader.specs.declared.limits.TheConstants.{MAX_TRANSCRIPT_LINES}
+use Rattle.transcript_rows.specs.Rows.{RowFits, row_text}
+use Rattle.transcript_rows.specs.Told.{row_of}
+use Rattle.transcript_rows.specs.declared.row.Row.{Row}
+use Rattle.transcript_rows.specs.declared.row.Row.TheVariants.{End}
+use Rattle.transcript_text.specs.Transcript.{transcript_line, lines_text}
+use Rattle.whole_world.proofs.Counts.{counts_from}
+use Rattle.whole_world.specs.Whole.{WholeReplica}
+use Rattle.world.specs.Ending.{final_text}
+use Rattle.world.specs.Seats.{Seated}
+use Rattle.world.specs.WorldSteps.{WorldState, Happened, run, history}
+use Rattle.judged_runs.proofs.Datagrams.{datagram_is}
+use Rattle.judged_runs.proofs.Lines.{Told, runs_tell}
+use Rattle.judged_runs.proofs.Ops.{AreRead, read_fit}
+use Rattle.judged_runs.proofs.Outs.{IsRequest}
+use Rattle.judged_runs.proofs.Rows.{both, Counts, counts_of, IsResult, IsSent, EntryIs, line_row, state_row, slot_row, member_row}
+use Rattle.judged_runs.proofs.Texts.{run_text, lines_counted}
+use Rattle.judged_runs.specs.Runs.{slot_rows, rows_of, state_rows, transcript_of, is_line_end, HasRoom}
+use Rattle.judged_runs.specs.Services.{AnswersAreBytes}
+
+-- ---- lists of rows
+
+fit_both : (xs ys : List Row) → AllFit xs → AllFit ys → AllFit (xs ++ ys)
+fit_both [] ys f g = g
+fit_both (x ∷ xs) ys f g = (f.0, fit_both xs ys f.1 g)
+
+mapped_fit : (ls : List Line) → ((l : Line) → Has ls l → RowFits (row_of l)) → AllFit (map row_of ls)
+mapped_fit [] all = tt
+mapped_fit (l ∷ ls) all = (all l (Has-first l l ls refl), mapped_fit ls (λ x h. all x (Has-rest x l ls h)))
+
+line_is_event : (l : Line) → is_event (row_of l) ≡ true
+line_is_event (lines.Dead actor) = refl
+line_is_event (lines.Submit r) = refl
+line_is_event (lines.Accept client id result) = refl
+line_is_event (lines.Busy client) = refl
+line_is_event (lines.Send index from dest bytes) = refl
+
+first_then : (p : Row → Bool) (x : Row) (xs : List Row) → p x ≡ true → list_all p xs ≡ true → list_all p (x ∷ xs) ≡ true
+first_then p x xs e f = rw e f
+
+both_all : (p : Row → Bool) (xs ys : List Row) → list_all p xs ≡ true → list_all p ys ≡ true → list_all p (xs ++ ys) ≡ true
+both_all p xs ys e f = list_all-append p xs ys ∙ both (list_all p xs) (list_all p ys) e f
+
+all_events : (ls : List Line) → list_all is_event (map row_of ls) ≡ true
+all_events [] = refl
+all_events (l ∷ ls) = first_then is_event (row_of l) (map row_of ls) (line_is_event l) (all_events ls)
+
+all_slots : (i slot : ℕ) (es : List Entry) → list_all is_state (slot_rows i slot es) ≡ true
+all_slots i slot [] = refl
+all_slots i slot (e ∷ es) = all_slots i (slot + 1) es
+
+all_states : (i : ℕ) (ps : List (Seated Replica)) → list_all is_state (state_rows i ps) ≡ true
+all_states i [] = refl
+all_states i (p ∷ ps) =
+    both_all is_state (rows_of i p) (state_rows (i + 1) ps) (all_slots i 1 (take p.state.state.sync.sync_point p.state.state.log))
+    (all_states (i + 1) ps)
+
+-- ---- the lines at the end
+
+module _ (c : Configuration) (counts : Counts c) where
+  -- a log of such entries, short enough
+  slots_fit : (i : ℕ) → i < c.replicas → (slot : ℕ) (es : List Entry) → 1 ≤ slot → slot + length es ≤ MAX_SLOTS + 1
+      → ((e : Entry) → Has es e → EntryIs c counts e) → AllFit (slot_rows i slot es)
+  slots_fit i own slot [] low room all = tt
+  slots_fit i own slot (e ∷ es) low room all = (
+    slot_row c counts i slot e own low (omega (arith, room)) (all e (Has-first e e es refl)),
+    slots_fit i own (slot + 1) es (omega arith) (omega (arith, room)) (λ x h. all x (Has-rest x e es h)),
+  )
+
+  -- what is shown of a replica
+  record IsShown (i : ℕ) (p : Seated Replica) : Type 0 where
+    own : i < c.replicas
+    within : IsWithin p.state.state
+    logged : (e : Entry) → Has p.state.state.log e → EntryIs c counts e
+
+  log_front : (n : ℕ) (log : List Entry) → length (take n log) ≤ length log
+  log_front zero log = omega arith
+  log_front (suc n) [] = omega arith
+  log_front (suc n) (e ∷ log) = let h = log_front n log in omega (arith, h)
+
+  replica_fits : (i : ℕ) (p : Seated Replica) → IsShown i p → AllFit (rows_of i p)
+  replica_fits i p is =
+      let s : ReplicaState = p.state.state in
+      let len : length s.log ≤ MAX_SLOTS = is.within.log.len in
+      let short = log_front s.sync.sync_point s.log in (
+        state_row c counts i p.crashed s.status s.view (length s.log) s.sync.sync_point is.own is.within.view len
+            (omega (arith, len, is.within.sync_point)),
+        slots_fit i is.own 1 (take s.sync.sync_point s.log) (omega arith) (omega (arith, len, short))
+            (λ e h. is.logged e (h.0, (slice_get-from_take s.sync.sync_point s.log h.0 e h.1).1)),
+      )
+
+  states_fit : (i : ℕ) (ps : List (Seated Replica)) → ((j : ℕ) (p : Seated Replica) → slice_get ps j ≡ Some p → IsShown (i + j) p)
+      → AllFit (state_rows i ps)
+  states_fit i [] all = tt
+  states_fit i (p ∷ ps) all =
+      fit_both (rows_of i p) (state_rows (i + 1) ps)
+      (replica_fits i p (let e : i + 0 ≡ i = omega arith in subst (λ (k : ℕ). IsShown k p) e (all 0 p refl)))
+      (states_fit (i + 1) ps
+      (λ j q h. let e : i + suc j ≡ (i + 1) + j = omega arith in subst (λ (k : ℕ). IsShown k q) e (all (suc j) q h)))
+
+  members_fit : (place : ℕ) (rs : List Request) → 1 ≤ place → place + length rs ≤ 2 ^ 32 → ((r : Request) → Has rs r → IsRequest c r)
+      → AllFit (members place rs)
+  members_fit place [] low room all = tt
+  members_fit place (r ∷ rs) low room all = (
+    member_row c counts place r low (omega (arith, room)) (all r (Has-first r r rs refl)),
+    members_fit (place + 1) rs (omega arith) (omega (arith, room)) (λ q h. all q (Has-rest q r rs h)),
+  )
+
+-- ---- how many lines there are
+
+length_members : (place : ℕ) (rs : List Request) → length (members place rs) ≡ length rs
+length_members place [] = refl
+length_members place (r ∷ rs) = let h = length_members (place + 1) rs in omega (arith, h)
+
+-- the lines of the events and the members are among those of the transcript
+record IsFew (h : Happened) : Type 0 where
+  lines : length h.lines ≤ MAX_TRANSCRIPT_LINES
+  members : length (history h.world) + 2 ≤ MAX_TRANSCRIPT_LINES
+
+few : (c : Configuration) (h : Happened) → length (transcript_lines (transcript_of c h)) ≤ MAX_TRANSCRIPT_LINES → IsFew h
+few c h most =
+    let t : Transcript = transcript_of c h in
+    let all : List Row = members 1 (history h.world) in
+    let a = length-map (body t) row_text in
+    let b = length-append t.events (t.states ++ (all ++ End ∷ [])) in
+    let d = length-append t.states (all ++ End ∷ []) in
+    let g = length-append all (End ∷ []) in
+    let k = length_members 1 (history h.world) in
+    let l = length-map h.lines row_of in
+    record { lines = omega (arith, most, a, b, d, g, k, l); members = omega (arith, most, a, b, d, g, k, l) }
+
+-- ---- the run
+
+module _ {S : Type 0} (m : Meaning S) (short : ResultsShort m) (bytes : AnswersAreBytes m) (c : Configuration)
+    (is_one : is_configuration c ≡ true) (es : List Event) (read : AreRead es) (h : Happened) (led : run m c es ≡ Ok h)
+    (safely : SafelyPassed m c es h) where
+  abbrev conf : Conf
+  conf = safely.at_last.conf
+
+  abbrev f : ℕ
+  f = c.replicas / 2
+
+  counts : Counts c
+  counts = counts_of c is_one
+
+  told : Told c h.world h.lines
+  told = runs_tell m c es h read led
+
+  legal : Legal m h.lines (history h.world)
+  legal = safely.safe.legal
+
+  same_lines : conf.lines ≡ h.lines
+  same_lines = sym safely.at_last.shows.lines ∙ safely.lines
+
+  submitted : (r : Request) → Has h.lines (lines.Submit r) → IsRequest c r
+  submitted r there = told.lines (lines.Submit r) there
+
+  -- ---- accepts and datagrams
+
+  member_is : (r : Request) → Has (history h.world) r → IsRequest c r
+  member_is r there = submitted r (legal.submitted r there)
+
+  accepted : (k client id : ℕ) (result : List ℕ) → slice_get h.lines k ≡ Some (lines.Accept client id result)
+      → IsResult c counts client id result
+  accepted k client id result there =
+      let before = legal.later k client id result there in
+      let own = submitted before.request (before.place, before.line) in
+      let answered = legal.answered k client id result there in
+      let line : slice_get conf.lines k ≡ Some (lines.Accept client id result) =
+      ap (λ (ls : List Line). slice_get ls k) same_lines ∙ there in
+      let sound = safely.at_last.sound.accepts k client id result line in
+      record {
+        client = subst (λ (n : ℕ). n < c.clients) before.same.same_client own.client;
+        low = subst (λ (n : ℕ). 1 ≤ n) before.same.same_id own.low;
+        id = subst (λ (n : ℕ). n < 2 ^ 64) before.same.same_id own.id;
+        bytes = bytes (history h.world) answered.place result (λ r i. (member_is r i).bytes) answered.answer;
+        short = short sound.lead sound.slot result sound.answers;
+      }
+
+  sent : (s : Sent) (i : ℕ) → slice_get h.world.sent i ≡ Some s → IsSent c counts s
+  sent s i there = record {
+    dest = datagrams_go_to_actors m short c is_one es h (read_fit es read) led s (i, there);
+    spelled = datagram_is s.bytes
+        (safely.at_last.shows.network.spelled s (subst (λ (w : WorldState). Has w.sent s) (sym safely.world) (i, there)));
+  }
+
+  -- ---- replicas
+
+  reached : Reached m c h
+  reached = events_reach m c short is_one es h (read_fit es read) led
+
+  within : (i : ℕ) (p : Seated Replica) → slice_get h.world.replicas i ≡ Some p → IsWithin p.state.state
+  within i p there =
+      let here : slice_get reached.passed.world.replicas i ≡ Some p =
+      ap (λ (w : WorldState). slice_get w.replicas i) reached.world ∙ there in
+      let found : slice_get reached.at.whole.world.replicas i ≡ Some (plain p) =
+      ap (λ (rs : List (Seated WholeReplica)). slice_get rs i) (sym reached.at.both.beside.alike.replicas)
+      ∙ plain_found reached.passed.world.replicas i p here in
+      (reached.at.at.stands.ranges.replicas i (plain p) found).within
+
+  entry_is : (i : ℕ) (p : Seated Replica) → i < c.replicas → slice_get h.world.replicas i ≡ Some p → (e : Entry)
+      → Has p.state.state.log e → EntryIs c counts e
+  entry_is i p own there NoOp has = tt
+  entry_is i p own there (Req r) has =
+      let here : slice_get safely.at_last.passed.world.replicas i ≡ Some p =
+      ap (λ (w : WorldState). slice_get w.replicas i) safely.world ∙ there in
+      let same : conf.replicas i ≡ member_of p.state.state = safely.at_last.shows.actors.replicas i p here in
+      let few_replicas : i < 2 * f + 1 = omega (arith, own, (counts_from c is_one).replicas) in
+      let line : Has conf.lines (lines.Submit r) =
+      safely.at_last.sound.requests.logged i few_replicas r (subst (λ (q : Member). Has q.log (Req r)) (sym same) has) in
+      submitted r (subst (λ (ls : List Line). Has ls (lines.Submit r)) same_lines line)
+
+  shown : (i : ℕ) (p : Seated Replica) → slice_get h.world.replicas i ≡ Some p → IsShown c counts (0 + i) p
+  shown i p there =
+      let own : i < c.replicas = omega (arith, slice_get_within h.world.replicas i p there, told.replicas) in
+      let same : i ≡ 0 + i = omega arith in
+      let here : IsShown c counts i p = record { own = own; within = within i p there; logged = entry_is i p own there } in
+      subst (λ (k : ℕ). IsShown c counts k p) same here
+
+  -- ---- all of it
+
+  line_fits : IsFew h → (l : Line) → Has h.lines l → RowFits (row_of l)
+  line_fits few l there =
+      line_row c counts h.world.sent l (told.lines l there) (omega (arith, told.count, few.lines))
+      (λ client id result e. accepted there.0 client id result (there.1 ∙ ap Some e)) sent
+
+  rows_fit : IsFew h → AllFit (body (transcript_of c h))
+  rows_fit few =
+      let all : List Row = members 1 (history h.world) in
+      fit_both (map row_of h.lines) (state_rows 0 h.world.replicas ++ (all ++ End ∷ [])) (mapped_fit h.lines (line_fits few))
+      (fit_both (state_rows 0 h.world.replicas) (all ++ End ∷ []) (states_fit c counts 0 h.world.replicas shown)
+      (fit_both all (End ∷ []) (members_fit c counts 1 (history h.world) (omega arith) (omega (arith, few.members)) member_is)
+      (record { ranges = refl; typed = tt }, tt)))
+
+  pub run_spells : HasRoom (transcript_line c ++ (lines_text h.lines ++ final_text h.world))
+      → Spells (transcript_of c h) (transcript_line c ++ (lines_text h.lines ++ final_text h.world))
+  run_spells room =
+      let t : Transcript = transcript_of c h in
+      let most : length (transcript_lines t) ≤ MAX_TRANSCRIPT_LINES =
+      omega (arith, lines_counted t, ap (count_by is_line_end) (run_text c h), room) in
+      record {
+        text = sym (run_text c h);
+        fits = record {
+          config = is_one;
+          events = all_events h.lines;
+          states = all_states 0 h.world.replicas;
+          rows = rows_fit (few c h most);
+        };
+        most = most;
+      }

@@ -1,0 +1,3 @@
+pub mod Passing
+pub mod Runs
+pub mod Services

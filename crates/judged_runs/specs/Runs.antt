@@ -1,0 +1,52 @@
+-- The transcript of a run, as a judge reads it.
+use Rattle.std.specs.Prelude.{◌≤◌, ◌+◌, ◌==◌, ℕ, Bool, List, [], ◌∷◌, ◌++◌, length, map, take, count_by}
+use Rattle.nop_types.specs.Configuration.{Configuration}
+use Rattle.nop_types.specs.Legality.{Legal}
+use Rattle.nop_types.specs.Meaning.{Meaning}
+use Rattle.nop_types.specs.declared.request.Entry.{Entry}
+use Rattle.replica_state.specs.declared.state.ReplicaState.{ReplicaState}
+use Rattle.replica_core.specs.ReplicaSteps.{Replica}
+use Rattle.transcript_rows.specs.Told.{row_of}
+use Rattle.transcript_rows.specs.declared.row.Row.{Row}
+use Rattle.transcript_rows.specs.declared.row.Row.TheVariants.{State, Slot}
+use Rattle.transcript_reader.specs.Transcripts.{Transcript, Spells, said}
+use Rattle.transcript_reader.specs.declared.limits.TheConstants.{MAX_TRANSCRIPT_LINES}
+use Rattle.world.specs.Seats.{Seated}
+use Rattle.world.specs.WorldSteps.{Happened, history}
+
+-- ---- its rows
+
+abbrev pub slot_rows : ℕ → ℕ → List Entry → List Row
+slot_rows replica slot [] = []
+slot_rows replica slot (e ∷ es) = Slot replica slot e ∷ slot_rows replica (slot + 1) es
+
+-- a replica, and then each slot up to its sync point
+abbrev pub rows_of : ℕ → Seated Replica → List Row
+rows_of i p =
+    let s : ReplicaState = p.state.state in
+    State i p.crashed s.status s.view (length s.log) s.sync.sync_point ∷ slot_rows i 1 (take s.sync.sync_point s.log)
+
+abbrev pub state_rows : ℕ → List (Seated Replica) → List Row
+state_rows i [] = []
+state_rows i (p ∷ ps) = rows_of i p ++ state_rows (i + 1) ps
+
+-- the lines of the events, the replicas at the end, and the history
+abbrev pub transcript_of : Configuration → Happened → Transcript
+transcript_of c h =
+    record { config = c; events = map row_of h.lines; states = state_rows 0 h.world.replicas; history = history h.world }
+
+-- ---- its lines
+
+abbrev pub is_line_end : ℕ → Bool
+is_line_end b = b == 10
+
+-- the bytes have no line more than a transcript may have
+abbrev pub HasRoom : List ℕ → Type 0
+HasRoom text = count_by is_line_end text ≤ MAX_TRANSCRIPT_LINES
+
+-- ---- what a judge finds
+
+-- the bytes are the text of the run's transcript, and its history is legal for its claims
+pub record IsLegalRun {S : Type 0} (m : Meaning S) (c : Configuration) (h : Happened) (text : List ℕ) : Type 0 where
+  pub spells : Spells (transcript_of c h) text
+  pub legal : Legal m (said (transcript_of c h)) (history h.world)
