@@ -8,6 +8,7 @@ use Rattle.commands.proofs.OpenOps.{all_accepted, some_open}
 use Rattle.command_line.specs.declared.command.Command.{Command}
 use Rattle.command_line.specs.declared.command.Command.TheVariants.{Replay, Gen, Node, Sequencer, Controller, Client, Cluster, Check}
 use Rattle.command_line.specs.declared.command.Site.{Site}
+use Rattle.nop_types.specs.Meaning.{Meaning}
 use Rattle.nop_types.specs.Given.{Given, Packet, Ticked, Submit}
 use Rattle.nop_types.specs.declared.output.Actor.TheVariants as actors
 use Rattle.udp_node.specs.Folding.{folded, AllOutside}
@@ -89,8 +90,8 @@ module _ (id : ℕ) (site : Site) (ops : List (List ℕ)) where
     answers_ops statuses.Unanswered (inr a) = lacking 0 (w.losses a.link) h i a.last
     answers_ops statuses.Refuted ends = tt
 
-module _ {L : Type 0} (w : LinkView L) (p : PortsView L) (values : Option (List ℕ)) where
-  pub client_answers : (c : Option Command) (s : Status) (h i : Option (List ℕ)) → CommandEnds c w p values s h i → ClientAnswers c s h i
+module _ {S L : Type 0} (m : Meaning S) (w : LinkView L) (p : PortsView L) (values : Option (List ℕ)) where
+  pub client_answers : (c : Option Command) (s : Status) (h i : Option (List ℕ)) → CommandEnds m c w p values s h i → ClientAnswers c s h i
   client_answers None s h i ends = tt
   client_answers (Some Replay) s h i ends = tt
   client_answers (Some (Gen number count)) s h i ends = tt

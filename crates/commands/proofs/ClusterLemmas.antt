@@ -3,6 +3,7 @@ use Rattle.std.proofs.Common.{arith, ◌≡◌, ℕ, List, Bool, true, Option, S
 use Rattle.command_line.specs.declared.command.Command.{Command}
 use Rattle.command_line.specs.declared.command.Command.TheVariants.{Replay, Gen, Node, Sequencer, Controller, Client, Cluster, Check}
 use Rattle.command_line.specs.declared.command.Site.{Site}
+use Rattle.nop_types.specs.Meaning.{Meaning}
 use Rattle.one_box.specs.declared.boxed.Boxed.{Boxed}
 use Rattle.one_box.specs.declared.errors.ClusterError.{ClusterError}
 use Rattle.one_box.specs.Boxing.{PollFailed}
@@ -16,9 +17,9 @@ use Rattle.commands.specs.declared.status.Status.TheVariants as statuses
 no_rise : ¬ Rose 0 0
 no_rise rose = omega arith
 
-module _ {L : Type 0} (w : boxed.LinkView L) (p : PortsView L) (values : Option (List ℕ)) where
+module _ {S L : Type 0} (m : Meaning S) (w : boxed.LinkView L) (p : PortsView L) (values : Option (List ℕ)) where
   -- memory ran out before anything was done
-  pub not_served : (c : Option Command) (h : Option (List ℕ)) → ClusterCommandEnds c w p values statuses.NoMemory h h
+  pub not_served : (c : Option Command) (h : Option (List ℕ)) → ClusterCommandEnds m c w p values statuses.NoMemory h h
   not_served None h = tt
   not_served (Some Replay) h = tt
   not_served (Some (Gen number count)) h = tt
@@ -31,7 +32,7 @@ module _ {L : Type 0} (w : boxed.LinkView L) (p : PortsView L) (values : Option 
 
   -- a cluster ends well where no attach failed, no poll of a link that was given back, and no write
   pub cluster_ends_well : (c : Option Command) (s : Status) (h i : Option (List ℕ)) (x y : ℕ) → runs_cluster c ≡ true
-      → ClusterCommandEnds c w p values s h i → ¬ Rose p.faults_before p.faults_after → (s ≡ statuses.WriteFault → Rose x y) → ¬ Rose x y
+      → ClusterCommandEnds m c w p values s h i → ¬ Rose p.faults_before p.faults_after → (s ≡ statuses.WriteFault → Rose x y) → ¬ Rose x y
       → ¬ PollFailed w p.before p.after → ClusterEndsWithoutFault s
   cluster_ends_well None s h i x y runs ends ports write sink polls = absurd cc
   cluster_ends_well (Some Replay) s h i x y runs ends ports write sink polls = absurd cc
@@ -62,10 +63,10 @@ module _ {L : Type 0} (w : boxed.LinkView L) (p : PortsView L) (values : Option 
   -- ---- of equal ops
 
   module _ (site : Site) (xs ops : List (List ℕ)) (same : xs ≡ ops) where
-    pub serves_same : (result : Result Boxed ClusterError) (h i : Option (List ℕ)) → ServesAll site xs w p values result h i
-        → ServesAll site ops w p values result h i
-    serves_same result h i serves = subst (λ (zs : List (List ℕ)). ServesAll site zs w p values result h i) same serves
+    pub serves_same : (result : Result Boxed ClusterError) (h i : Option (List ℕ)) → ServesAll m site xs w p values result h i
+        → ServesAll m site ops w p values result h i
+    serves_same result h i serves = subst (λ (zs : List (List ℕ)). ServesAll m site zs w p values result h i) same serves
 
-    pub finishes : (boxed : Boxed) (done : Bool) (h i : Option (List ℕ)) → boxed.done ≡ done → ServesAll site xs w p values (Ok boxed) h i
-        → ClusterFinished site ops w p values done h i
+    pub finishes : (boxed : Boxed) (done : Bool) (h i : Option (List ℕ)) → boxed.done ≡ done → ServesAll m site xs w p values (Ok boxed) h i
+        → ClusterFinished m site ops w p values done h i
     finishes boxed done h i told serves = record { boxed = boxed; told = told; serves = serves_same (Ok boxed) h i serves }

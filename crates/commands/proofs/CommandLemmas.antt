@@ -5,7 +5,6 @@ use Rattle.outside.specs.Causes.{Rose}
 use Rattle.outside.specs.Fronts.{AppendsFront}
 use Rattle.replay.specs.Outcome.{WroteFront}
 use Rattle.replay.specs.Output.{output}
-use Rattle.kv_host.specs.Kv.{kv_meaning}
 use Rattle.replay.specs.Generated.{drawn_summary}
 use Rattle.replay.proofs.Fronts.{part_nil}
 use Rattle.replay.proofs.Summaries.{summary_some}
@@ -31,16 +30,16 @@ use Rattle.commands.specs.declared.status.Status.{Status}
 use Rattle.commands.specs.declared.status.Status.TheVariants as statuses
 use Rattle.commands.proofs.NodeLemmas.{ends_well}
 
-module _ {L : Type 0} (w : LinkView L) (p : PortsView L) (values : Option (List ℕ)) where
+module _ {S L : Type 0} (m : Meaning S) (w : LinkView L) (p : PortsView L) (values : Option (List ℕ)) where
   pub command_ends_well : (c : Option Command) (s : Status) (h i : Option (List ℕ)) (x y : ℕ) → runs_node c ≡ true
-      → CommandEnds c w p values s h i → ¬ Rose p.faults_before p.faults_after
+      → CommandEnds m c w p values s h i → ¬ Rose p.faults_before p.faults_after
       → (s ≡ statuses.WriteFault → Rose x y) → ¬ Rose x y
       → ((link : L) → p.after ≡ p.before ++ link ∷ [] → ¬ Rose 0 (w.faults link)) → EndsNodeWithoutFault (waits_for_ops c) s
   command_ends_well None s h i x y runs ends ports write sink polls = cc
   command_ends_well (Some Replay) s h i x y runs ends ports write sink polls = cc
   command_ends_well (Some (Gen number count)) s h i x y runs ends ports write sink polls = cc
   command_ends_well (Some (Node id site)) s h i x y runs ends ports write sink polls =
-      ends_well (replica_task id site) w p values h i s x y ends ports write sink polls
+      ends_well (replica_task m id site) w p values h i s x y ends ports write sink polls
   command_ends_well (Some (Sequencer id site)) s h i x y runs ends ports write sink polls =
       ends_well (sequencer_task id site) w p values h i s x y ends ports write sink polls
   command_ends_well (Some (Controller site session install)) s h i x y runs ends ports write sink polls =
@@ -50,15 +49,15 @@ module _ {L : Type 0} (w : LinkView L) (p : PortsView L) (values : Option (List 
   command_ends_well (Some (Cluster site ops)) s h i x y runs ends ports write sink polls = absurd cc
   command_ends_well (Some Check) s h i x y runs ends ports write sink polls = cc
 
-  nowhere : {S : Type 0} (k : NodeTask S) (h : Option (List ℕ)) → p.after ≡ p.before → NodeEnds k w p values statuses.NoMemory h h
+  nowhere : {T : Type 0} (k : NodeTask T) (h : Option (List ℕ)) → p.after ≡ p.before → NodeEnds k w p values statuses.NoMemory h h
   nowhere k h same = inl (record { given_back = same; status = tt; cause = λ is. cc; written = refl })
 
   -- memory ran out before anything was done
-  pub not_begun : (c : Option Command) (h : Option (List ℕ)) → p.after ≡ p.before → CommandEnds c w p values statuses.NoMemory h h
+  pub not_begun : (c : Option Command) (h : Option (List ℕ)) → p.after ≡ p.before → CommandEnds m c w p values statuses.NoMemory h h
   not_begun None h same = tt
   not_begun (Some Replay) h same = tt
   not_begun (Some (Gen number count)) h same = tt
-  not_begun (Some (Node id site)) h same = nowhere (replica_task id site) h same
+  not_begun (Some (Node id site)) h same = nowhere (replica_task m id site) h same
   not_begun (Some (Sequencer id site)) h same = nowhere (sequencer_task id site) h same
   not_begun (Some (Controller site session install)) h same = nowhere (controller_task site session install) h same
   not_begun (Some (Client id site ops)) h same = nowhere (client_task id site ops) h same
@@ -66,7 +65,7 @@ module _ {L : Type 0} (w : LinkView L) (p : PortsView L) (values : Option (List 
   not_begun (Some Check) h same = tt
 
   -- a command that does not run a node
-  pub no_node : (c : Option Command) (s : Status) (h i : Option (List ℕ)) → c ≡ None → CommandEnds c w p values s h i
+  pub no_node : (c : Option Command) (s : Status) (h i : Option (List ℕ)) → c ≡ None → CommandEnds m c w p values s h i
   no_node c s h i is = rw is tt
 
 -- ---- nothing was written
@@ -75,38 +74,38 @@ pub no_front : {S : Type 0} (m : Meaning S) (bytes h : Option (List ℕ)) → Wr
 no_front m None h = tt
 no_front m (Some bytes) h = part_nil h (output m true bytes).text (output_some m bytes)
 
-pub no_usage : (h : Option (List ℕ)) → AppendsFront h h usage_line
+pub no_usage : (program : List ℕ) (h : Option (List ℕ)) → AppendsFront h h (usage_line program)
 unfolding usage_line
-no_usage h = record { count = 0; below = search rules; appended = Appends_none h }
+no_usage program h = record { count = 0; below = search rules; appended = Appends_none h }
 
-pub no_drawing : (c : Option Command) (h : Option (List ℕ)) → DrawingEnds c statuses.NoMemory h h
-no_drawing None h = tt
-no_drawing (Some Replay) h = tt
-no_drawing (Some (Gen number count)) h = part_nil h (drawn_summary kv_meaning number count) (summary_some kv_meaning number count)
-no_drawing (Some (Node id site)) h = tt
-no_drawing (Some (Sequencer id site)) h = tt
-no_drawing (Some (Controller site session install)) h = tt
-no_drawing (Some (Client id site ops)) h = tt
-no_drawing (Some (Cluster site ops)) h = tt
-no_drawing (Some Check) h = tt
+pub no_drawing : {S : Type 0} (m : Meaning S) (c : Option Command) (h : Option (List ℕ)) → DrawingEnds m c statuses.NoMemory h h
+no_drawing m None h = tt
+no_drawing m (Some Replay) h = tt
+no_drawing m (Some (Gen number count)) h = part_nil h (drawn_summary m number count) (summary_some m number count)
+no_drawing m (Some (Node id site)) h = tt
+no_drawing m (Some (Sequencer id site)) h = tt
+no_drawing m (Some (Controller site session install)) h = tt
+no_drawing m (Some (Client id site ops)) h = tt
+no_drawing m (Some (Cluster site ops)) h = tt
+no_drawing m (Some Check) h = tt
 
 -- a command that draws a schedule ends well where no write failed
-pub draws_well : (c : Option Command) (s : Status) (h i : Option (List ℕ)) (x y : ℕ) → draws c ≡ true → DrawingEnds c s h i
-    → (s ≡ statuses.WriteFault → Rose x y) → ¬ Rose x y → GeneratesWithoutFault s
-draws_well None s h i x y is ends write sink = absurd cc
-draws_well (Some Replay) s h i x y is ends write sink = absurd cc
-draws_well (Some (Gen number count)) statuses.Done h i x y is ends write sink = tt
-draws_well (Some (Gen number count)) statuses.Malformed h i x y is ends write sink = ends
-draws_well (Some (Gen number count)) statuses.Usage h i x y is ends write sink = ends
-draws_well (Some (Gen number count)) statuses.ReadFault h i x y is ends write sink = ends
-draws_well (Some (Gen number count)) statuses.WriteFault h i x y is ends write sink = sink (write refl)
-draws_well (Some (Gen number count)) statuses.LinkFault h i x y is ends write sink = ends
-draws_well (Some (Gen number count)) statuses.NoMemory h i x y is ends write sink = tt
-draws_well (Some (Gen number count)) statuses.Unanswered h i x y is ends write sink = ends
-draws_well (Some (Gen number count)) statuses.Refuted h i x y is ends write sink = ends
-draws_well (Some (Node id site)) s h i x y is ends write sink = absurd cc
-draws_well (Some (Sequencer id site)) s h i x y is ends write sink = absurd cc
-draws_well (Some (Controller site session install)) s h i x y is ends write sink = absurd cc
-draws_well (Some (Client id site ops)) s h i x y is ends write sink = absurd cc
-draws_well (Some (Cluster site ops)) s h i x y is ends write sink = absurd cc
-draws_well (Some Check) s h i x y is ends write sink = absurd cc
+pub draws_well : {S : Type 0} (m : Meaning S) (c : Option Command) (s : Status) (h i : Option (List ℕ)) (x y : ℕ) → draws c ≡ true
+    → DrawingEnds m c s h i → (s ≡ statuses.WriteFault → Rose x y) → ¬ Rose x y → GeneratesWithoutFault s
+draws_well m None s h i x y is ends write sink = absurd cc
+draws_well m (Some Replay) s h i x y is ends write sink = absurd cc
+draws_well m (Some (Gen number count)) statuses.Done h i x y is ends write sink = tt
+draws_well m (Some (Gen number count)) statuses.Malformed h i x y is ends write sink = ends
+draws_well m (Some (Gen number count)) statuses.Usage h i x y is ends write sink = ends
+draws_well m (Some (Gen number count)) statuses.ReadFault h i x y is ends write sink = ends
+draws_well m (Some (Gen number count)) statuses.WriteFault h i x y is ends write sink = sink (write refl)
+draws_well m (Some (Gen number count)) statuses.LinkFault h i x y is ends write sink = ends
+draws_well m (Some (Gen number count)) statuses.NoMemory h i x y is ends write sink = tt
+draws_well m (Some (Gen number count)) statuses.Unanswered h i x y is ends write sink = ends
+draws_well m (Some (Gen number count)) statuses.Refuted h i x y is ends write sink = ends
+draws_well m (Some (Node id site)) s h i x y is ends write sink = absurd cc
+draws_well m (Some (Sequencer id site)) s h i x y is ends write sink = absurd cc
+draws_well m (Some (Controller site session install)) s h i x y is ends write sink = absurd cc
+draws_well m (Some (Client id site ops)) s h i x y is ends write sink = absurd cc
+draws_well m (Some (Cluster site ops)) s h i x y is ends write sink = absurd cc
+draws_well m (Some Check) s h i x y is ends write sink = absurd cc

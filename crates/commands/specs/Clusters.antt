@@ -3,7 +3,7 @@ use Rattle.std.specs.Prelude.{◌≡◌, ℕ, List, Bool, true, false, Option, S
 use Rattle.command_line.specs.declared.command.Command.{Command}
 use Rattle.command_line.specs.declared.command.Command.TheVariants.{Replay, Gen, Node, Sequencer, Controller, Client, Cluster, Check}
 use Rattle.command_line.specs.declared.command.Site.{Site}
-use Rattle.kv_host.specs.Kv.{kv_meaning}
+use Rattle.nop_types.specs.Meaning.{Meaning}
 use Rattle.one_box.specs.Boxing.{EndsWith, PollFailed}
 use Rattle.one_box.specs.Showing as boxed
 use Rattle.one_box.specs.declared.boxed.Boxed.{Boxed}
@@ -14,11 +14,12 @@ use Rattle.commands.specs.Nodes.{PortsView}
 use Rattle.commands.specs.declared.status.Status.{Status}
 use Rattle.commands.specs.declared.status.Status.TheVariants as statuses
 
-module _ {L : Type 0} (site : Site) (ops : List (List ℕ)) (w : boxed.LinkView L) (p : PortsView L) (values : Option (List ℕ)) where
+module _ {S L : Type 0} (m : Meaning S) (site : Site) (ops : List (List ℕ)) (w : boxed.LinkView L) (p : PortsView L)
+    (values : Option (List ℕ)) where
   -- the cluster was served with this result, over the ports before and after
   abbrev pub ServesAll : Result Boxed ClusterError → Option (List ℕ) → Option (List ℕ) → Type 0
   ServesAll result h i =
-      EndsWith kv_meaning w site.config ops site.base site.turns p.to_come values p.before p.after result h i
+      EndsWith m w site.config ops site.base site.turns p.to_come values p.before p.after result h i
 
   -- the run was taken to its end and written; all ops were accepted, or not
   pub record ClusterFinished (done : Bool) (h i : Option (List ℕ)) : Type 0 where
@@ -44,17 +45,17 @@ module _ {L : Type 0} (site : Site) (ops : List (List ℕ)) (w : boxed.LinkView 
   ClusterEnds statuses.Refuted h i = ⊥
 
 -- how a command that runs a cluster ends; nothing is said here of others
-abbrev pub ClusterCommandEnds : {L : Type 0} → Option Command → boxed.LinkView L → PortsView L → Option (List ℕ) → Status
-    → Option (List ℕ) → Option (List ℕ) → Type 0
-ClusterCommandEnds None w p values s h i = ⊤
-ClusterCommandEnds (Some Replay) w p values s h i = ⊤
-ClusterCommandEnds (Some (Gen number count)) w p values s h i = ⊤
-ClusterCommandEnds (Some (Node id site)) w p values s h i = ⊤
-ClusterCommandEnds (Some (Sequencer id site)) w p values s h i = ⊤
-ClusterCommandEnds (Some (Controller site session install)) w p values s h i = ⊤
-ClusterCommandEnds (Some (Client id site ops)) w p values s h i = ⊤
-ClusterCommandEnds (Some (Cluster site ops)) w p values s h i = ClusterEnds site ops w p values s h i
-ClusterCommandEnds (Some Check) w p values s h i = ⊤
+abbrev pub ClusterCommandEnds : {S L : Type 0} → Meaning S → Option Command → boxed.LinkView L → PortsView L → Option (List ℕ)
+    → Status → Option (List ℕ) → Option (List ℕ) → Type 0
+ClusterCommandEnds m None w p values s h i = ⊤
+ClusterCommandEnds m (Some Replay) w p values s h i = ⊤
+ClusterCommandEnds m (Some (Gen number count)) w p values s h i = ⊤
+ClusterCommandEnds m (Some (Node id site)) w p values s h i = ⊤
+ClusterCommandEnds m (Some (Sequencer id site)) w p values s h i = ⊤
+ClusterCommandEnds m (Some (Controller site session install)) w p values s h i = ⊤
+ClusterCommandEnds m (Some (Client id site ops)) w p values s h i = ⊤
+ClusterCommandEnds m (Some (Cluster site ops)) w p values s h i = ClusterEnds m site ops w p values s h i
+ClusterCommandEnds m (Some Check) w p values s h i = ⊤
 
 -- whether a command runs a cluster
 abbrev pub runs_cluster : Option Command → Bool

@@ -41,17 +41,17 @@ module _ {S : Type 0} (m : Meaning S) where
   GenEnds number count before now Unanswered = ⊥
   GenEnds number count before now Refuted = ⊥
 
--- the usage line was written, or only a front of it
-abbrev pub UsageEnds : Option (List ℕ) → Option (List ℕ) → Status → Type 0
-UsageEnds before now Done = ⊥
-UsageEnds before now Malformed = ⊥
-UsageEnds before now Usage = Appends before now usage_line
-UsageEnds before now ReadFault = ⊥
-UsageEnds before now WriteFault = AppendsFront before now usage_line
-UsageEnds before now LinkFault = ⊥
-UsageEnds before now NoMemory = AppendsFront before now usage_line
-UsageEnds before now Unanswered = ⊥
-UsageEnds before now Refuted = ⊥
+-- the usage line of a program with this name was written, or only a front of it
+abbrev pub UsageEnds : List ℕ → Option (List ℕ) → Option (List ℕ) → Status → Type 0
+UsageEnds program before now Done = ⊥
+UsageEnds program before now Malformed = ⊥
+UsageEnds program before now Usage = Appends before now (usage_line program)
+UsageEnds program before now ReadFault = ⊥
+UsageEnds program before now WriteFault = AppendsFront before now (usage_line program)
+UsageEnds program before now LinkFault = ⊥
+UsageEnds program before now NoMemory = AppendsFront before now (usage_line program)
+UsageEnds program before now Unanswered = ⊥
+UsageEnds program before now Refuted = ⊥
 
 -- how a replay ends where no device failed
 abbrev pub EndsWithoutFault : Status → Type 0

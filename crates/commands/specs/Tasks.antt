@@ -7,7 +7,7 @@ use Rattle.client_quorum.specs.declared.state.ClientState.{ClientState}
 use Rattle.command_line.specs.declared.command.Command.{Command}
 use Rattle.command_line.specs.declared.command.Command.TheVariants.{Replay, Gen, Node, Sequencer, Controller, Client, Cluster, Check}
 use Rattle.command_line.specs.declared.command.Site.{Site}
-use Rattle.kv_host.specs.Kv.{kv_meaning}
+use Rattle.nop_types.specs.Meaning.{Meaning}
 use Rattle.nop_types.specs.declared.input.Tick.{Tick}
 use Rattle.nop_types.specs.declared.input.Tick.TheVariants.{Install}
 use Rattle.nop_types.specs.declared.output.Actor.{Actor}
@@ -32,9 +32,9 @@ address_of site own = record { base = site.base; own = own; config = site.config
 abbrev pub never_done : {S : Type 0} → S → Bool
 never_done s = false
 
-abbrev pub replica_task : ℕ → Site → NodeTask replica.Replica
-replica_task id site =
-    task_of (replica.next kv_meaning) never_done replica.timers (replica.opening site.config id)
+abbrev pub replica_task : {S : Type 0} → Meaning S → ℕ → Site → NodeTask replica.Replica
+replica_task m id site =
+    task_of (replica.next m) never_done replica.timers (replica.opening site.config id)
     (address_of site (actors.Replica id)) (first_inputs None) site.turns false
 
 abbrev pub sequencer_task : ℕ → Site → NodeTask SequencerState
@@ -59,17 +59,17 @@ client_task id site ops =
     (address_of site (actors.Client id)) (first_inputs None) site.turns true
 
 -- how a command that runs a node ends; nothing is said here of others
-abbrev pub CommandEnds : {L : Type 0} → Option Command → LinkView L → PortsView L → Option (List ℕ) → Status
+abbrev pub CommandEnds : {S L : Type 0} → Meaning S → Option Command → LinkView L → PortsView L → Option (List ℕ) → Status
     → Option (List ℕ) → Option (List ℕ) → Type 0
-CommandEnds None w p values s h i = ⊤
-CommandEnds (Some Replay) w p values s h i = ⊤
-CommandEnds (Some (Gen number count)) w p values s h i = ⊤
-CommandEnds (Some (Node id site)) w p values s h i = NodeEnds (replica_task id site) w p values s h i
-CommandEnds (Some (Sequencer id site)) w p values s h i = NodeEnds (sequencer_task id site) w p values s h i
-CommandEnds (Some (Controller site session install)) w p values s h i = NodeEnds (controller_task site session install) w p values s h i
-CommandEnds (Some (Client id site ops)) w p values s h i = NodeEnds (client_task id site ops) w p values s h i
-CommandEnds (Some (Cluster site ops)) w p values s h i = ⊤
-CommandEnds (Some Check) w p values s h i = ⊤
+CommandEnds m None w p values s h i = ⊤
+CommandEnds m (Some Replay) w p values s h i = ⊤
+CommandEnds m (Some (Gen number count)) w p values s h i = ⊤
+CommandEnds m (Some (Node id site)) w p values s h i = NodeEnds (replica_task m id site) w p values s h i
+CommandEnds m (Some (Sequencer id site)) w p values s h i = NodeEnds (sequencer_task id site) w p values s h i
+CommandEnds m (Some (Controller site session install)) w p values s h i = NodeEnds (controller_task site session install) w p values s h i
+CommandEnds m (Some (Client id site ops)) w p values s h i = NodeEnds (client_task id site ops) w p values s h i
+CommandEnds m (Some (Cluster site ops)) w p values s h i = ⊤
+CommandEnds m (Some Check) w p values s h i = ⊤
 
 -- ---- the answers of a client
 
@@ -132,16 +132,16 @@ waits_for_ops (Some Check) = false
 -- ---- gen
 
 -- how a command that draws a schedule ends; nothing is said here of others
-abbrev pub DrawingEnds : Option Command → Status → Option (List ℕ) → Option (List ℕ) → Type 0
-DrawingEnds None s h i = ⊤
-DrawingEnds (Some Replay) s h i = ⊤
-DrawingEnds (Some (Gen number count)) s h i = GenEnds kv_meaning number count h i s
-DrawingEnds (Some (Node id site)) s h i = ⊤
-DrawingEnds (Some (Sequencer id site)) s h i = ⊤
-DrawingEnds (Some (Controller site session install)) s h i = ⊤
-DrawingEnds (Some (Client id site ops)) s h i = ⊤
-DrawingEnds (Some (Cluster site ops)) s h i = ⊤
-DrawingEnds (Some Check) s h i = ⊤
+abbrev pub DrawingEnds : {S : Type 0} → Meaning S → Option Command → Status → Option (List ℕ) → Option (List ℕ) → Type 0
+DrawingEnds m None s h i = ⊤
+DrawingEnds m (Some Replay) s h i = ⊤
+DrawingEnds m (Some (Gen number count)) s h i = GenEnds m number count h i s
+DrawingEnds m (Some (Node id site)) s h i = ⊤
+DrawingEnds m (Some (Sequencer id site)) s h i = ⊤
+DrawingEnds m (Some (Controller site session install)) s h i = ⊤
+DrawingEnds m (Some (Client id site ops)) s h i = ⊤
+DrawingEnds m (Some (Cluster site ops)) s h i = ⊤
+DrawingEnds m (Some Check) s h i = ⊤
 
 -- whether a command draws a schedule
 abbrev pub draws : Option Command → Bool

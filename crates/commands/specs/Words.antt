@@ -24,5 +24,7 @@ reads (Some (Client id site ops)) = false
 reads (Some (Cluster site ops)) = false
 reads (Some Check) = true
 
-unfoldable pub usage_line : List ℕ
-usage_line = codes "usage: nopaxos replay | gen | node | sequencer | controller | client | cluster | check" ++ 10 ∷ []
+-- by the name of the program
+unfoldable pub usage_line : List ℕ → List ℕ
+usage_line program =
+    codes "usage: " ++ (program ++ (codes " replay | gen | node | sequencer | controller | client | cluster | check" ++ 10 ∷ []))

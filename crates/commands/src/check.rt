@@ -1,14 +1,13 @@
 //! The check of a transcript.
 
 ghost use Rattle.std.specs.Prelude.{◌≡◌};
-ghost use Rattle.kv_host.specs.Kv.{kv_meaning};
 ghost use Rattle.outside.specs.Causes.{Rose};
 ghost use Rattle.commands.specs.Checks.{verdict_status, CheckEnds};
 ghost use Rattle.commands.specs.Nodes.{writes_after};
 
 use crate::status::Status;
 use judge::{Tally, check_with, write_verdict};
-use kv_host::KvHost;
+use nop_types::Host;
 use outside::{Sink, Source, WriteError};
 use std::alloc::Global;
 use transcript_reader::CheckError;
@@ -25,8 +24,12 @@ fn verdict_status(verdict: &Result<Tally, CheckError>) -> Status
 }
 
 /// Reads a transcript, judges it, and writes the verdict.
-pub(crate) fn run_check<S: Source, K: Sink>(alloc: Global, source: &mut S, sink: &mut K) -> Status
-    ensures ends { CheckEnds kv_meaning (S.left source.old) (S.left source.new) (K.held sink.old)
+pub(crate) fn run_check<H: Host, S: Source, K: Sink>(
+    alloc: Global,
+    source: &mut S,
+    sink: &mut K,
+) -> Status
+    ensures ends { CheckEnds H.meaning (S.left source.old) (S.left source.new) (K.held sink.old)
         (K.held sink.new) result }
     ensures read { result ≡ Status.ReadFault → Rose (S.fault_count source.old)
         (S.fault_count source.new) }
@@ -34,7 +37,7 @@ pub(crate) fn run_check<S: Source, K: Sink>(alloc: Global, source: &mut S, sink:
         (K.fault_count sink.new) }
     ensures writes { K.fault_count sink.new ≡ writes_after result (K.fault_count sink.old) }
 {
-    let verdict = check_with::<KvHost, S>(alloc, source);
+    let verdict = check_with::<H, S>(alloc, source);
     match write_verdict(alloc, &verdict, sink) {
         Ok(()) => verdict_status(&verdict),
         Err(WriteError::Failed) => Status::WriteFault,

@@ -8,11 +8,12 @@ ghost use Rattle.commands.specs.Nodes.{ports_view, writes_after};
 
 use crate::status::Status;
 use command_line::{Ops, Site};
+use nop_types::Host;
 use one_box::{ClusterError, serve_all};
 use outside::{Clock, Ports, Sink};
 use std::alloc::Global;
 
-pub(crate) fn run_cluster<P: Ports, T: Clock, K: Sink>(
+pub(crate) fn run_cluster<H: Host, P: Ports, T: Clock, K: Sink>(
     alloc: Global,
     site: &Site,
     ops: Ops,
@@ -21,7 +22,7 @@ pub(crate) fn run_cluster<P: Ports, T: Clock, K: Sink>(
     sink: &mut K,
 ) -> Status
     requires { site.now.base ≤ 65000 }
-    ensures ends { ClusterEnds site.now ops
+    ensures ends { ClusterEnds H.meaning site.now ops
         (boxed.link_view P.L.answers P.L.own_port P.L.trace P.L.loss_count P.L.fault_count)
         (ports_view (P.to_come ports.old) (P.detached ports.old) (P.detached ports.new)
         (P.fault_count ports.old) (P.fault_count ports.new))
@@ -34,7 +35,7 @@ pub(crate) fn run_cluster<P: Ports, T: Clock, K: Sink>(
 {
     let ops = ops.into_vec();
     let base = site.base;
-    match serve_all(
+    match serve_all::<H, P, T, K>(
         alloc,
         site.config,
         &ops,

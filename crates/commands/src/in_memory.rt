@@ -1,6 +1,5 @@
 ghost use Rattle.std.specs.Prelude.{◌≡◌, ◌≢◌, ◌+◌, length, true, false};
 ghost use Rattle.one_box.specs.Showing as boxed;
-ghost use Rattle.kv_host.specs.Kv.{kv_meaning};
 ghost use Rattle.outside.specs.Memory.{answers_of};
 ghost use Rattle.replay.specs.Safety.{RunsSafelyOf};
 ghost use Rattle.commands.specs.Words.{asked, reads, Taken};
@@ -14,13 +13,15 @@ ghost use Rattle.commands.specs.Tasks.{ClientAnswers, CommandEnds, DrawingEnds, 
 use crate::running::run;
 use crate::status::Status;
 use command_line::Command;
+use nop_types::Host;
 use outside::{ClockMem, PortsMem, ReadMem, WriteMem};
 use std::alloc::Global;
 
-/// Carries out the command that the words name, over devices in memory that never fail. No status tells a fault then, without
-/// a premise on what the devices answer.
-pub fn run_in_memory(
+/// Carries out the command that the words name, as `run` does, over devices in memory that never
+/// fail. No status tells a fault then, without a premise on what the devices answer.
+pub fn run_in_memory<H: Host>(
     alloc: Global,
+    program: &str,
     words: &[String],
     source: &mut ReadMem,
     sink: &mut WriteMem,
@@ -28,24 +29,24 @@ pub fn run_in_memory(
     clock: &mut ClockMem,
 ) -> Status
     ensures replay { asked words.now ≡ Some Command.Replay →
-        ReplayEnds kv_meaning (Some source.old.left) (Some source.new.left) (Some sink.old.held)
+        ReplayEnds H.meaning (Some source.old.left) (Some source.new.left) (Some sink.old.held)
         (Some sink.new.held) result }
     ensures safe { asked words.now ≡ Some Command.Replay → result ≡ Status.Done →
-        RunsSafelyOf kv_meaning (Some source.old.left) }
+        RunsSafelyOf H.meaning (Some source.old.left) }
     ensures check { asked words.now ≡ Some Command.Check →
-        CheckEnds kv_meaning (Some source.old.left) (Some source.new.left) (Some sink.old.held)
+        CheckEnds H.meaning (Some source.old.left) (Some source.new.left) (Some sink.old.held)
         (Some sink.new.held) result }
-    ensures drawing { DrawingEnds (asked words.now) result (Some sink.old.held)
+    ensures drawing { DrawingEnds H.meaning (asked words.now) result (Some sink.old.held)
         (Some sink.new.held) }
     ensures usage { ¬ Taken words.now →
-        UsageEnds (Some sink.old.held) (Some sink.new.held) result }
-    ensures node { CommandEnds (asked words.now)
+        UsageEnds program.now (Some sink.old.held) (Some sink.new.held) result }
+    ensures node { CommandEnds H.meaning (asked words.now)
         (link_view (λ l. l.port) (λ l. Some l.trace) (λ _. 0) (λ _. 0))
         (ports_view (Some (answers_of ports.old.links)) ports.old.detached ports.new.detached 0 0)
         (Some clock.old) result (Some sink.old.held) (Some sink.new.held) }
     ensures client { ClientAnswers (asked words.now) result (Some sink.old.held)
         (Some sink.new.held) }
-    ensures cluster { ClusterCommandEnds (asked words.now)
+    ensures cluster { ClusterCommandEnds H.meaning (asked words.now)
         (boxed.link_view (λ l. Some l.answers) (λ l. l.port) (λ l. Some l.trace) (λ _. 0) (λ _. 0))
         (ports_view (Some (answers_of ports.old.links)) ports.old.detached ports.new.detached 0 0)
         (Some clock.old) result (Some sink.old.held) (Some sink.new.held) }
@@ -63,5 +64,7 @@ pub fn run_in_memory(
     ensures ports { uses_ports (asked words.now) ≡ false → ports.new ≡ ports.old }
     ensures clock { uses_ports (asked words.now) ≡ false → clock.new ≡ clock.old }
 {
-    run(alloc, words, source, sink, ports, clock)
+    run::<H, ReadMem, WriteMem, PortsMem, ClockMem>(
+        alloc, program, words, source, sink, ports, clock,
+    )
 }

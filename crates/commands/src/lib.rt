@@ -1,5 +1,5 @@
-//! What each command of the program does, over any devices, and with which status it ends. `run` is
-//! the function that `main` calls.
+//! What each command of a program does, over any service and any devices, and with which status it
+//! ends. `run` is the function that `main` calls, with its service, as `KvHost`, and its name.
 //!
 //! Clauses of `run`:
 //! - `replay`, `safe`: a replay ends as `replay::replay` says, and at Done, of an observable
@@ -35,5 +35,5 @@ mod running;
 mod status;
 
 pub use in_memory::run_in_memory;
-pub use running::{USAGE_LINE, run};
+pub use running::run;
 pub use status::Status;

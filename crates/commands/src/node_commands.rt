@@ -10,8 +10,7 @@ use crate::node::{Task, run_core};
 use crate::status::Status;
 use client_quorum::Client;
 use command_line::{Ops, Site};
-use kv_host::KvHost;
-use nop_types::{Actor, NoMemory, Tick};
+use nop_types::{Actor, Host, NoMemory, Tick};
 use outside::{Clock, Ports, Sink};
 use replica_core::Replica;
 use sequencer::Sequencer;
@@ -41,7 +40,7 @@ fn endless(site: &Site, first: Option<Tick>) -> Task
     }
 }
 
-pub(crate) fn run_replica<P: Ports, T: Clock, K: Sink>(
+pub(crate) fn run_replica<H: Host, P: Ports, T: Clock, K: Sink>(
     alloc: Global,
     id: u8,
     site: &Site,
@@ -51,7 +50,7 @@ pub(crate) fn run_replica<P: Ports, T: Clock, K: Sink>(
 ) -> Status
     requires id { id < site.now.config.replicas }
     requires base { site.now.base ≤ 65000 }
-    ensures ends { NodeEnds (replica_task id site.now)
+    ensures ends { NodeEnds (replica_task H.meaning id site.now)
         (link_view P.L.own_port P.L.trace P.L.loss_count P.L.fault_count)
         (ports_view (P.to_come ports.old) (P.detached ports.old) (P.detached ports.new)
         (P.fault_count ports.old) (P.fault_count ports.new))
@@ -63,7 +62,7 @@ pub(crate) fn run_replica<P: Ports, T: Clock, K: Sink>(
         (K.fault_count sink.new) }
     ensures writes { K.fault_count sink.new ≡ writes_after result (K.fault_count sink.old) }
 {
-    match Replica::<KvHost>::new(alloc, site.config, id) {
+    match Replica::<H>::new(alloc, site.config, id) {
         Ok(core) => {
             let mut core = core;
             let at = address(site, Actor::Replica(id));

@@ -1,11 +1,10 @@
-ghost use Rattle.std.specs.Prelude.{◌≡◌, ◌≢◌, ◌≤◌, ◌+◌, ◌++◌, ◌∷◌, [], length, true, false};
+ghost use Rattle.std.specs.Prelude.{◌≡◌, ◌≢◌, ◌≤◌, ◌+◌, ◌++◌, ◌∷◌, [], length, true, false, IfOk};
 ghost use Rattle.one_box.specs.Boxing.{PollFailed};
 ghost use Rattle.one_box.specs.Showing as boxed;
 ghost use Rattle.outside.specs.Causes.{Rose};
-ghost use Rattle.kv_host.specs.Kv.{kv_meaning};
 ghost use Rattle.replay.specs.Safety.{RunsSafelyOf};
 ghost use Rattle.command_line.specs.Commands.{IsFit};
-ghost use Rattle.commands.specs.Words.{asked, reads, Taken};
+ghost use Rattle.commands.specs.Words.{asked, reads, usage_line, Taken};
 ghost use Rattle.commands.specs.Checks.{CheckEnds, ChecksWithoutFault};
 ghost use Rattle.commands.specs.Clusters.{ClusterCommandEnds, ClusterEndsWithoutFault, runs_cluster, uses_ports};
 ghost use Rattle.commands.specs.Ending.{ReplayEnds, GenEnds, UsageEnds, EndsWithoutFault, GeneratesWithoutFault};
@@ -18,26 +17,25 @@ use crate::cluster::run_cluster;
 use crate::node_commands::{run_client, run_controller, run_replica, run_sequencer};
 use crate::status::Status;
 use command_line::{Command, read_words};
-use nop_types::NoMemory;
+use nop_types::{Host, NoMemory};
 use outside::{Clock, Ports, Sink, Source, WriteError, write_all};
 use replay::{GenError, ReplayError, generate, replay};
 use std::alloc::Global;
 
-/// The line that is written where the words are not taken.
-pub const USAGE_LINE: &str =
-    "usage: nopaxos replay | gen | node | sequencer | controller | client | cluster | check\n";
+/// What stands after the program's name in the usage line.
+const COMMANDS: &str = " replay | gen | node | sequencer | controller | client | cluster | check\n";
 
-fn run_replay<S: Source, K: Sink>(alloc: Global, source: &mut S, sink: &mut K) -> Status
-    ensures ends { ReplayEnds kv_meaning (S.left source.old) (S.left source.new) (K.held sink.old)
+fn run_replay<H: Host, S: Source, K: Sink>(alloc: Global, source: &mut S, sink: &mut K) -> Status
+    ensures ends { ReplayEnds H.meaning (S.left source.old) (S.left source.new) (K.held sink.old)
         (K.held sink.new) result }
-    ensures safe { result ≡ Status.Done → RunsSafelyOf kv_meaning (S.left source.old) }
+    ensures safe { result ≡ Status.Done → RunsSafelyOf H.meaning (S.left source.old) }
     ensures read { result ≡ Status.ReadFault → Rose (S.fault_count source.old)
         (S.fault_count source.new) }
     ensures write { result ≡ Status.WriteFault → Rose (K.fault_count sink.old)
         (K.fault_count sink.new) }
     ensures writes { K.fault_count sink.new ≡ writes_after result (K.fault_count sink.old) }
 {
-    match replay(alloc, source, sink) {
+    match replay::<H, S, K>(alloc, source, sink) {
         Ok(()) => Status::Done,
         Err(ReplayError::Malformed { .. }) => Status::Malformed,
         Err(ReplayError::ReadFault) => Status::ReadFault,
@@ -46,15 +44,15 @@ fn run_replay<S: Source, K: Sink>(alloc: Global, source: &mut S, sink: &mut K) -
     }
 }
 
-fn run_gen<K: Sink>(alloc: Global, number: u64, count: u32, sink: &mut K) -> Status
+fn run_gen<H: Host, K: Sink>(alloc: Global, number: u64, count: u32, sink: &mut K) -> Status
     requires least { 1 ≤ count }
     requires limit { count ≤ 100000 }
-    ensures ends { GenEnds kv_meaning number count (K.held sink.old) (K.held sink.new) result }
+    ensures ends { GenEnds H.meaning number count (K.held sink.old) (K.held sink.new) result }
     ensures write { result ≡ Status.WriteFault → Rose (K.fault_count sink.old)
         (K.fault_count sink.new) }
     ensures writes { K.fault_count sink.new ≡ writes_after result (K.fault_count sink.old) }
 {
-    match generate(alloc, number, count, sink) {
+    match generate::<H, K>(alloc, number, count, sink) {
         Ok(()) => Status::Done,
         Err(GenError::WriteFault) => Status::WriteFault,
         Err(GenError::NoMemory) => Status::NoMemory,
@@ -62,13 +60,26 @@ fn run_gen<K: Sink>(alloc: Global, number: u64, count: u32, sink: &mut K) -> Sta
 }
 
 #[tactic(auto, unfolding(crate::specs::Words::usage_line))]
-fn write_usage<K: Sink>(sink: &mut K) -> Status
-    ensures ends { UsageEnds (K.held sink.old) (K.held sink.new) result }
+fn usage_line(alloc: Global, program: &str) -> Result<Vec<u8>, NoMemory>
+    ensures { IfOk result (λ line. line.items ≡ usage_line program.now) }
+{
+    let mut line = Vec::from_slice(alloc, b"usage: ")?;
+    line.extend_from_slice(program.as_bytes())?;
+    line.extend_from_slice(COMMANDS.as_bytes())?;
+    Ok(line)
+}
+
+#[tactic(auto, using(crate::proofs::CommandLemmas::no_usage))]
+fn write_usage<K: Sink>(alloc: Global, program: &str, sink: &mut K) -> Status
+    ensures ends { UsageEnds program.now (K.held sink.old) (K.held sink.new) result }
     ensures write { result ≡ Status.WriteFault → Rose (K.fault_count sink.old)
         (K.fault_count sink.new) }
     ensures writes { K.fault_count sink.new ≡ writes_after result (K.fault_count sink.old) }
 {
-    match write_all(sink, USAGE_LINE.as_bytes()) {
+    let Ok(line) = usage_line(alloc, program) else {
+        return Status::NoMemory;
+    };
+    match write_all(sink, &line) {
         Ok(()) => Status::Usage,
         Err(WriteError::Failed) => Status::WriteFault,
         Err(WriteError::NoMemory) => Status::NoMemory,
@@ -76,7 +87,7 @@ fn write_usage<K: Sink>(sink: &mut K) -> Status
 }
 
 /// Carries out a command.
-fn carry_out<S: Source, K: Sink, P: Ports, C: Clock>(
+fn carry_out<H: Host, S: Source, K: Sink, P: Ports, C: Clock>(
     alloc: Global,
     command: Command,
     source: &mut S,
@@ -85,19 +96,20 @@ fn carry_out<S: Source, K: Sink, P: Ports, C: Clock>(
     clock: &mut C,
 ) -> Status
     requires { IsFit command }
-    ensures replay { command ≡ Command.Replay → ReplayEnds kv_meaning (S.left source.old)
+    ensures replay { command ≡ Command.Replay → ReplayEnds H.meaning (S.left source.old)
         (S.left source.new) (K.held sink.old) (K.held sink.new) result }
     ensures safe { command ≡ Command.Replay → result ≡ Status.Done →
-        RunsSafelyOf kv_meaning (S.left source.old) }
-    ensures check { command ≡ Command.Check → CheckEnds kv_meaning (S.left source.old)
+        RunsSafelyOf H.meaning (S.left source.old) }
+    ensures check { command ≡ Command.Check → CheckEnds H.meaning (S.left source.old)
         (S.left source.new) (K.held sink.old) (K.held sink.new) result }
-    ensures drawing { DrawingEnds (Some command) result (K.held sink.old) (K.held sink.new) }
-    ensures node { CommandEnds (Some command)
+    ensures drawing { DrawingEnds H.meaning (Some command) result (K.held sink.old)
+        (K.held sink.new) }
+    ensures node { CommandEnds H.meaning (Some command)
         (link_view P.L.own_port P.L.trace P.L.loss_count P.L.fault_count)
         (ports_view (P.to_come ports.old) (P.detached ports.old) (P.detached ports.new)
         (P.fault_count ports.old) (P.fault_count ports.new))
         (C.values clock.old) result (K.held sink.old) (K.held sink.new) }
-    ensures cluster { ClusterCommandEnds (Some command)
+    ensures cluster { ClusterCommandEnds H.meaning (Some command)
         (boxed.link_view P.L.answers P.L.own_port P.L.trace P.L.loss_count P.L.fault_count)
         (ports_view (P.to_come ports.old) (P.detached ports.old) (P.detached ports.new)
         (P.fault_count ports.old) (P.fault_count ports.new))
@@ -116,23 +128,27 @@ fn carry_out<S: Source, K: Sink, P: Ports, C: Clock>(
     ensures clock { uses_ports (Some command) ≡ false → clock.new ≡ clock.old }
 {
     match command {
-        Command::Replay => run_replay(alloc, source, sink),
-        Command::Gen(number, count) => run_gen(alloc, number, count, sink),
-        Command::Node(id, site) => run_replica(alloc, id, &site, ports, clock, sink),
+        Command::Replay => run_replay::<H, S, K>(alloc, source, sink),
+        Command::Gen(number, count) => run_gen::<H, K>(alloc, number, count, sink),
+        Command::Node(id, site) => run_replica::<H, P, C, K>(alloc, id, &site, ports, clock, sink),
         Command::Sequencer(id, site) => run_sequencer(alloc, id, &site, ports, clock, sink),
         Command::Controller(site, session, install) => {
             run_controller(alloc, &site, session, install, ports, clock, sink)
         }
         Command::Client(id, site, ops) => run_client(alloc, id, &site, ops, ports, clock, sink),
-        Command::Cluster(site, ops) => run_cluster(alloc, &site, ops, ports, clock, sink),
-        Command::Check => run_check(alloc, source, sink),
+        Command::Cluster(site, ops) => {
+            run_cluster::<H, P, C, K>(alloc, &site, ops, ports, clock, sink)
+        }
+        Command::Check => run_check::<H, S, K>(alloc, source, sink),
     }
 }
 
-/// Carries out the command that the words name; the first word is the program's name. Words that are not taken are
-/// answered by the usage line.
-pub fn run<S: Source, K: Sink, P: Ports, C: Clock>(
+/// Carries out the command that the words name, over a service of this type; the first word is the
+/// name by which the program was called. Words that are not taken are answered by the usage line of
+/// a program with this name.
+pub fn run<H: Host, S: Source, K: Sink, P: Ports, C: Clock>(
     alloc: Global,
+    program: &str,
     words: &[String],
     source: &mut S,
     sink: &mut K,
@@ -140,20 +156,22 @@ pub fn run<S: Source, K: Sink, P: Ports, C: Clock>(
     clock: &mut C,
 ) -> Status
     ensures replay { asked words.now ≡ Some Command.Replay →
-        ReplayEnds kv_meaning (S.left source.old) (S.left source.new) (K.held sink.old)
+        ReplayEnds H.meaning (S.left source.old) (S.left source.new) (K.held sink.old)
         (K.held sink.new) result }
     ensures safe { asked words.now ≡ Some Command.Replay → result ≡ Status.Done →
-        RunsSafelyOf kv_meaning (S.left source.old) }
-    ensures check { asked words.now ≡ Some Command.Check → CheckEnds kv_meaning (S.left source.old)
+        RunsSafelyOf H.meaning (S.left source.old) }
+    ensures check { asked words.now ≡ Some Command.Check → CheckEnds H.meaning (S.left source.old)
         (S.left source.new) (K.held sink.old) (K.held sink.new) result }
-    ensures drawing { DrawingEnds (asked words.now) result (K.held sink.old) (K.held sink.new) }
-    ensures usage { ¬ Taken words.now → UsageEnds (K.held sink.old) (K.held sink.new) result }
-    ensures node { CommandEnds (asked words.now)
+    ensures drawing { DrawingEnds H.meaning (asked words.now) result (K.held sink.old)
+        (K.held sink.new) }
+    ensures usage { ¬ Taken words.now → UsageEnds program.now (K.held sink.old) (K.held sink.new)
+        result }
+    ensures node { CommandEnds H.meaning (asked words.now)
         (link_view P.L.own_port P.L.trace P.L.loss_count P.L.fault_count)
         (ports_view (P.to_come ports.old) (P.detached ports.old) (P.detached ports.new)
         (P.fault_count ports.old) (P.fault_count ports.new))
         (C.values clock.old) result (K.held sink.old) (K.held sink.new) }
-    ensures cluster { ClusterCommandEnds (asked words.now)
+    ensures cluster { ClusterCommandEnds H.meaning (asked words.now)
         (boxed.link_view P.L.answers P.L.own_port P.L.trace P.L.loss_count P.L.fault_count)
         (ports_view (P.to_come ports.old) (P.detached ports.old) (P.detached ports.new)
         (P.fault_count ports.old) (P.fault_count ports.new))
@@ -206,8 +224,8 @@ pub fn run<S: Source, K: Sink, P: Ports, C: Clock>(
     ensures clock { uses_ports (asked words.now) ≡ false → clock.new ≡ clock.old }
 {
     match read_words(alloc, words) {
-        Ok(Some(command)) => carry_out(alloc, command, source, sink, ports, clock),
-        Ok(None) => write_usage(sink),
+        Ok(Some(command)) => carry_out::<H, S, K, P, C>(alloc, command, source, sink, ports, clock),
+        Ok(None) => write_usage(alloc, program, sink),
         Err(NoMemory) => Status::NoMemory,
     }
 }

@@ -21,7 +21,7 @@
 //! as the last token and the places of the locks; it loads again, and nothing else does. To load
 //! takes time that grows with the square of the number of locks.
 //!
-//! Calls: `LockHost`, by the trait; no program names it yet.
+//! Calls: `LockHost`, by the trait; the program `lock_service` names it.
 //!
 //! Files: `op` and `fields` (reading), `locks` (`LockTable`), `apply`, `answers`, `saved`, `host`,
 //! `laws`. Definitions: `specs/Op` (`read_op`), `Fields`, `Spelling` (`Spells`), `Locks` (`step`,

@@ -1,9 +1,9 @@
 //! The program `nopaxos`: a replay of schedules, drawn schedules, single nodes and a cluster over
-//! UDP, and a judge of transcripts.
+//! UDP, and a judge of transcripts, all of the key-value store.
 //!
 //! `main` reads the arguments, makes the devices of the system (standard input and output, sockets,
-//! clock), calls `commands::run` and ends with its status as a number. An argument that is no text
-//! is answered as no arguments are, by the usage line.
+//! clock), calls `commands::run` with the service `KvHost` and ends with its status as a number. An
+//! argument that is no text is answered as no arguments are, by the usage line.
 //!
 //! Proved of `main` is that it is safe and ends where `run` does; it has no contract. What `run`
 //! does, with the theorem, is said at the head of `commands`; what is handed on by the devices, at
@@ -15,6 +15,7 @@
 #![tactic(auto)]
 
 use commands::{Status, run};
+use kv_host::KvHost;
 use standard_io::{StandardIn, StandardOut};
 use std::io::ErrorKind;
 use std::process::ExitCode;
@@ -35,8 +36,9 @@ fn main(rt: HostRuntime) -> ExitCode {
     let mut sink = StandardOut::new(std::io::writer(&rt));
     let mut ports = UdpPorts::new(&rt, rt.alloc());
     let mut clock = SystemClock::new(&rt);
-    let status = run(
+    let status = run::<KvHost, _, _, _, _>(
         rt.alloc(),
+        "nopaxos",
         &words,
         &mut source,
         &mut sink,

@@ -1,5 +1,4 @@
 ghost use Rattle.std.specs.Prelude.{◌≡◌, ◌≤◌, ◌+◌, ◌⊎◌, [], length, IsErrOf};
-ghost use Rattle.kv_host.specs.Kv.{kv_meaning};
 ghost use Rattle.outside.specs.Causes.{Rose};
 ghost use Rattle.one_box.specs.Attaching.{HasRoom, Holds};
 ghost use Rattle.one_box.specs.Boxing.{error_of, EndsWith, IsNoRun, PollFailed, RunsOr, writes_after};
@@ -14,7 +13,6 @@ use crate::errors::ClusterError;
 use crate::node::Node;
 use crate::serving::{Taken, take_turns};
 use crate::writing::write_run;
-use kv_host::KvHost;
 use nop_types::{Config, Host, NoMemory, Op};
 use outside::{Clock, LinkError, Ports, Sink};
 use std::alloc::Global;
@@ -74,8 +72,11 @@ fn error_of(error: LinkError) -> ClusterError
     }
 }
 
-/// Serves a cluster whose replicas have a host of this type.
-pub fn serve_all_with<H: Host, P: Ports, C: Clock, K: Sink>(
+/// Serves all actors of a configuration in one process, its replicas with hosts of this type, each
+/// actor over a link of its own at its port, for at most `turns` turns and until all ops are
+/// accepted; the ops go to the clients in turn. At the end it writes the schedule of the events that
+/// happened, its transcript, and a last line; before that it writes nothing.
+pub fn serve_all<H: Host, P: Ports, C: Clock, K: Sink>(
     alloc: Global,
     config: Config,
     ops: &[Op],
@@ -126,38 +127,4 @@ pub fn serve_all_with<H: Host, P: Ports, C: Clock, K: Sink>(
         Ok(taken) => write_run(alloc, config, &course, taken, lost, sink),
         Err(e) => Err(error_of(e)),
     }
-}
-
-/// Serves all actors of a configuration in one process, each over a link of its own at its port, for at most `turns` turns and until
-/// all ops are accepted; the ops go to the clients in turn. At the end it writes the schedule of the events that happened, its
-/// transcript, and a last line; before that it writes nothing.
-pub fn serve_all<P: Ports, C: Clock, K: Sink>(
-    alloc: Global,
-    config: Config,
-    ops: &[Op],
-    base: u16,
-    turns: u64,
-    ports: &mut P,
-    clock: &mut C,
-    sink: &mut K,
-) -> Result<Boxed, ClusterError>
-    requires { base ≤ 65000 }
-    ensures ends { EndsWith kv_meaning
-        (link_view P.L.answers P.L.own_port P.L.trace P.L.loss_count P.L.fault_count)
-        config ops.now base turns (P.to_come ports.old) (C.values clock.old)
-        (P.detached ports.old) (P.detached ports.new) result (K.held sink.old) (K.held sink.new) }
-    ensures back { P.attached ports.new + length (P.detached ports.old)
-        ≡ P.attached ports.old + length (P.detached ports.new) }
-    ensures link { IsErrOf result errors.LinkFault
-        → Rose (P.fault_count ports.old) (P.fault_count ports.new) ⊎ PollFailed
-        (link_view P.L.answers P.L.own_port P.L.trace P.L.loss_count P.L.fault_count)
-        (P.detached ports.old) (P.detached ports.new) }
-    ensures none { IsErrOf result errors.LinkFault
-        → Rose (P.fault_count ports.old) (P.fault_count ports.new) ⊎ IsNoRun kv_meaning config
-        ops.now base turns (P.to_come ports.old) (C.values clock.old) }
-    ensures write { IsErrOf result errors.WriteFault
-        → Rose (K.fault_count sink.old) (K.fault_count sink.new) }
-    ensures writes { K.fault_count sink.new ≡ writes_after result (K.fault_count sink.old) }
-{
-    serve_all_with::<KvHost, P, C, K>(alloc, config, ops, base, turns, ports, clock, sink)
 }

@@ -15,7 +15,7 @@
 //! are given back as were attached. `link`: LinkFault comes only where an attach or a poll failed;
 //! `write`, `writes`: WriteFault comes exactly where a write failed.
 //!
-//! Calls, for `commands`: `serve_all`, and `serve_all_with` over any host.
+//! Call, for `commands`: `serve_all`, over any host.
 //!
 //! Files: `cluster`, `attaching`, `serving`, `turn`, `firing`, `polling`, `taking`, `sending`,
 //! `writing`. Definitions: `specs/Boxing` (`EndsWith`), `ClusterRun`, `Text`.
@@ -36,5 +36,5 @@ mod turn;
 mod writing;
 
 pub use boxed::Boxed;
-pub use cluster::{serve_all, serve_all_with};
+pub use cluster::serve_all;
 pub use errors::ClusterError;

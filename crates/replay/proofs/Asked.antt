@@ -2,6 +2,7 @@
 use Rattle.std.proofs.Common.{◌≡◌, ◌≤◌, ◌+◌, ◌*◌, ℕ, zero, suc, Bool, true, false, Option, Some, None, length}
 use Rattle.std.proofs.Common.{refl, sym, ap, subst, ◌∙◌, arith}
 use Rattle.std.proofs.Common.{List, [], ◌∷◌, ◌++◌, inl, inr, drop}
+use Rattle.std.specs.Prelude.{max}
 use Rattle.nop_types.specs.declared.request.Request.{Request}
 use Rattle.nop_types.specs.declared.request.Entry.{Entry}
 use Rattle.nop_types.specs.declared.request.Entry.TheVariants.{NoOp, Req}
@@ -92,10 +93,10 @@ act_from m p (runs.Enter v) = enter_from (leads (moves.entered p v)) (moves.ente
     enter_from true q = no_reply _
     enter_from false q = no_reply _
 act_from m p (runs.KeepChange g x) = no_reply _
-act_from m p (runs.OpenView g) = above_from m _ p.sync.sync_point
-act_from m p (runs.Adopt v x l) = above_from m _ p.sync.sync_point
+act_from m p (runs.OpenView g) = above_from m _ (effect m p (runs.OpenView g)).state.sync.sync_point
+act_from m p (runs.Adopt v x z l) = above_from m _ (moves.adopted p v x z l).sync.sync_point
 act_from m p (runs.Say x) = no_reply _
-act_from m p (runs.Overlay l) = above_from m _ (length p.log)
+act_from m p (runs.Overlay z l) = above_from m _ (max (length p.log) (moves.overlaid p z l).sync.sync_point)
 act_from m p (runs.Obey k) = no_reply _
 act_from m p runs.OpenSync = no_reply _
 act_from m p (runs.CountSyncVote q k) = no_reply _

@@ -1,7 +1,6 @@
 //! The schedule that is drawn from a number, and its run.
 
 ghost use Rattle.std.specs.Prelude.{◌≡◌, ◌≤◌, ◌+◌, ◌++◌, ◌∷◌, [], IfOk, OnOk};
-ghost use Rattle.kv_host.specs.Kv.{kv_meaning};
 ghost use Rattle.outside.specs.Causes.{HasCauseFor};
 ghost use Rattle.world.specs.Actors.{Happens};
 ghost use Rattle.network.specs.LineCounts.{Shows};
@@ -20,7 +19,6 @@ ghost use Rattle.replay.specs.Generating.{IsTaken, MayDraw, LedAll, DrawsShown, 
 use crate::drawing::{event, generator, get_of};
 use crate::error::GenError;
 use crate::summary::put_summary;
-use kv_host::KvHost;
 use nop_types::{Config, Host, NoMemory};
 use outside::{Sink, WriteError, write_all};
 use rand_pcg::Lcg64Xsh32;
@@ -178,15 +176,19 @@ fn count_all<H: Host>(
 }
 
 /// The configuration and the events of a schedule that is drawn from a number, from 1 to `MAX_DRAWN_EVENTS` of them. None of them is
-/// refused.
-pub fn events(alloc: Global, number: u64, count: u32) -> Result<(Config, Vec<Event>), NoMemory>
+/// refused. The ops are those of the key-value service, whatever the host.
+pub fn events<H: Host>(
+    alloc: Global,
+    number: u64,
+    count: u32,
+) -> Result<(Config, Vec<Event>), NoMemory>
     requires least { 1 ≤ count }
     requires limit { count ≤ MAX_DRAWN_EVENTS }
     ensures config { IfOk result (λ p. p.0 ≡ drawn_config) }
-    ensures events { IfOk result (λ p. p.1.items ≡ drawn_events kv_meaning number count) }
-    ensures run { IfOk result (λ p. RunsFrom kv_meaning p.0 p.1.items) }
+    ensures events { IfOk result (λ p. p.1.items ≡ drawn_events H.meaning number count) }
+    ensures run { IfOk result (λ p. RunsFrom H.meaning p.0 p.1.items) }
 {
-    let events = all_drawn::<KvHost>(alloc, number, count)?;
+    let events = all_drawn::<H>(alloc, number, count)?;
     Ok((drawn_config(), events))
 }
 
@@ -219,7 +221,7 @@ fn write_text<K: Sink>(text: &[u8], sink: &mut K) -> Result<(), GenError>
 
 /// Writes the summary of the run of a schedule that is drawn from a number, with from 1 to `MAX_DRAWN_EVENTS` events. What was written
 /// before an error stays.
-pub fn generate<K: Sink>(
+pub fn generate<H: Host, K: Sink>(
     alloc: Global,
     number: u64,
     count: u32,
@@ -228,12 +230,12 @@ pub fn generate<K: Sink>(
     requires least { 1 ≤ count }
     requires limit { count ≤ MAX_DRAWN_EVENTS }
     ensures writes { WritesText (K.held sink.old) (K.held sink.new)
-        (drawn_summary kv_meaning number count) result }
+        (drawn_summary H.meaning number count) result }
     ensures cause { HasCauseFor (K.fault_count sink.old) (K.fault_count sink.new)
         GenError.WriteFault result }
     ensures count { K.fault_count sink.new ≡ writes_after result (K.fault_count sink.old) }
 {
     let mut text = Vec::new(alloc);
-    summarise::<KvHost>(alloc, number, count, &mut text)?;
+    summarise::<H>(alloc, number, count, &mut text)?;
     write_text(&text, sink)
 }

@@ -13,7 +13,7 @@
 //! At Ok, of an observable source, the run of the bytes is safe (clause `safe`, `RunsSafely`).
 //! ReadFault and WriteFault come only where that device failed, and a write that failed is always
 //! told: the sink's count of faults rises by one at WriteFault, and stays at every other answer
-//! (clause `count`, of `generate` too). `replay_with` has the same clauses over any host.
+//! (clause `count`, of `generate` too). All of it is over any host.
 //!
 //! `events` gives the configuration and the events that are drawn from a number; each is carried
 //! out in its turn (law `drawn_schedules_run`). `generate` writes the summary of their run, or a
@@ -39,4 +39,4 @@ mod writing;
 pub use error::{GenError, ReplayError};
 pub use generated::{MAX_DRAWN_EVENTS, events, generate};
 pub use laws::{datagrams_go_to_actors, drawn_schedules_run};
-pub use replayed::{replay, replay_with};
+pub use replayed::replay;

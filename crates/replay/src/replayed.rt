@@ -1,6 +1,5 @@
 ghost use Rattle.std.specs.Prelude.{◌≡◌, ◌≤◌, ◌++◌, false, IsSome, IfOk, OnOk};
 ghost use Rattle.outside.specs.Causes.{HasCauseFor};
-ghost use Rattle.kv_host.specs.Kv.{kv_meaning};
 ghost use Rattle.transcript_text.specs.Transcript.{transcript_line};
 ghost use Rattle.world.specs.WorldSteps.{opening};
 ghost use Rattle.replay.specs.Outcome.{EndsWith, writes_after};
@@ -11,7 +10,6 @@ use crate::error::ReplayError;
 use crate::reading::{next_event, open};
 use crate::turn::{finish, stop, take_event};
 use crate::writing::write_decided;
-use kv_host::KvHost;
 use nop_types::{Config, Host, MAX_LINES, NoMemory};
 use outside::{Sink, Source};
 use schedule_text::Reader;
@@ -92,9 +90,10 @@ fn replay_from<H: Host, S: Source, K: Sink>(
     take_events(&mut reader, &mut world, source, &mut pending, sink)
 }
 
-/// Replays a schedule with a host of this type. What was written before an error stays.
+/// Reads a schedule from the source and writes the transcript of its run with a host of this type,
+/// line by line. What was written before an error stays.
 #[tactic(auto, using(crate::proofs::Causes::counted_cause))]
-pub fn replay_with<H: Host, S: Source, K: Sink>(
+pub fn replay<H: Host, S: Source, K: Sink>(
     alloc: Global,
     source: &mut S,
     sink: &mut K,
@@ -109,22 +108,4 @@ pub fn replay_with<H: Host, S: Source, K: Sink>(
     ensures count { K.fault_count sink.new ≡ writes_after result (K.fault_count sink.old) }
 {
     replay_from::<H, S, K>(alloc, source, sink)
-}
-
-/// Reads a schedule from the source and writes its transcript, line by line. What was written before an error stays.
-pub fn replay<S: Source, K: Sink>(
-    alloc: Global,
-    source: &mut S,
-    sink: &mut K,
-) -> Result<(), ReplayError>
-    ensures ends { EndsWith kv_meaning (S.left source.old) (S.left source.new) (K.held sink.old)
-        (K.held sink.new) result }
-    ensures safe { OnOk result (RunsSafelyOf kv_meaning (S.left source.old)) }
-    ensures read { HasCauseFor (S.fault_count source.old) (S.fault_count source.new)
-        ReplayError.ReadFault result }
-    ensures write { HasCauseFor (K.fault_count sink.old) (K.fault_count sink.new)
-        ReplayError.WriteFault result }
-    ensures count { K.fault_count sink.new ≡ writes_after result (K.fault_count sink.old) }
-{
-    replay_with::<KvHost, S, K>(alloc, source, sink)
 }

@@ -5,7 +5,7 @@
 //! count errors; a write that takes nothing of a piece is one. docs/THEOREMS.md says under "A run
 //! in a shell" what std tells of the real standard input and output.
 //!
-//! Calls, for the two `main`s: `StandardIn::new`, `StandardOut::new`. It is all in this file.
+//! Calls, for each `main`: `StandardIn::new`, `StandardOut::new`. It is all in this file.
 #![tactic(auto)]
 
 ghost use Rattle.std.specs.Prelude.{◌≡◌};

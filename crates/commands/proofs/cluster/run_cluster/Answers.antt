@@ -7,7 +7,8 @@ use Rattle.commands.proofs.cluster.run_cluster.Goals as goal
 
 pub returns-then-boxed-clause-ends : goal.returns-then-boxed-clause-ends
 returns-then-boxed-clause-ends g c =
-    finishes (boxed.link_view g.P.L.Link.answers g.P.L.Link.own_port g.P.L.Link.trace g.P.L.Link.loss_count g.P.L.Link.fault_count)
+    finishes g.H.Host.meaning
+    (boxed.link_view g.P.L.Link.answers g.P.L.Link.own_port g.P.L.Link.trace g.P.L.Link.loss_count g.P.L.Link.fault_count)
     (ports_view (g.P.Ports.to_come c.args.ports.now) (g.P.Ports.detached c.args.ports.now) (g.P.Ports.detached c.serve_all.new.ports)
     (g.P.Ports.fault_count c.args.ports.now) (g.P.Ports.fault_count c.serve_all.new.ports))
     (g.T.Clock.values c.args.clock.now) c.args.site.now c.deref.result.now c.args.ops (c.deref.ensures.value ∙ c.into_vec-ops.ensures)
@@ -15,7 +16,8 @@ returns-then-boxed-clause-ends g c =
 
 pub returns-in-Ok-clause-ends : goal.returns-in-Ok-clause-ends
 returns-in-Ok-clause-ends g c =
-    finishes (boxed.link_view g.P.L.Link.answers g.P.L.Link.own_port g.P.L.Link.trace g.P.L.Link.loss_count g.P.L.Link.fault_count)
+    finishes g.H.Host.meaning
+    (boxed.link_view g.P.L.Link.answers g.P.L.Link.own_port g.P.L.Link.trace g.P.L.Link.loss_count g.P.L.Link.fault_count)
     (ports_view (g.P.Ports.to_come c.args.ports.now) (g.P.Ports.detached c.args.ports.now) (g.P.Ports.detached c.serve_all.new.ports)
     (g.P.Ports.fault_count c.args.ports.now) (g.P.Ports.fault_count c.serve_all.new.ports))
     (g.T.Clock.values c.args.clock.now) c.args.site.now c.deref.result.now c.args.ops (c.deref.ensures.value ∙ c.into_vec-ops.ensures)
@@ -23,7 +25,8 @@ returns-in-Ok-clause-ends g c =
 
 pub returns-in-Err-WriteFault-clause-ends : goal.returns-in-Err-WriteFault-clause-ends
 returns-in-Err-WriteFault-clause-ends g c =
-    serves_same (boxed.link_view g.P.L.Link.answers g.P.L.Link.own_port g.P.L.Link.trace g.P.L.Link.loss_count g.P.L.Link.fault_count)
+    serves_same g.H.Host.meaning
+    (boxed.link_view g.P.L.Link.answers g.P.L.Link.own_port g.P.L.Link.trace g.P.L.Link.loss_count g.P.L.Link.fault_count)
     (ports_view (g.P.Ports.to_come c.args.ports.now) (g.P.Ports.detached c.args.ports.now) (g.P.Ports.detached c.serve_all.new.ports)
     (g.P.Ports.fault_count c.args.ports.now) (g.P.Ports.fault_count c.serve_all.new.ports))
     (g.T.Clock.values c.args.clock.now) c.args.site.now c.deref.result.now c.args.ops (c.deref.ensures.value ∙ c.into_vec-ops.ensures)
@@ -32,7 +35,8 @@ returns-in-Err-WriteFault-clause-ends g c =
 
 pub returns-clause-ends : goal.returns-clause-ends
 returns-clause-ends g c =
-    serves_same (boxed.link_view g.P.L.Link.answers g.P.L.Link.own_port g.P.L.Link.trace g.P.L.Link.loss_count g.P.L.Link.fault_count)
+    serves_same g.H.Host.meaning
+    (boxed.link_view g.P.L.Link.answers g.P.L.Link.own_port g.P.L.Link.trace g.P.L.Link.loss_count g.P.L.Link.fault_count)
     (ports_view (g.P.Ports.to_come c.args.ports.now) (g.P.Ports.detached c.args.ports.now) (g.P.Ports.detached c.serve_all.new.ports)
     (g.P.Ports.fault_count c.args.ports.now) (g.P.Ports.fault_count c.serve_all.new.ports))
     (g.T.Clock.values c.args.clock.now) c.args.site.now c.deref.result.now c.args.ops (c.deref.ensures.value ∙ c.into_vec-ops.ensures)

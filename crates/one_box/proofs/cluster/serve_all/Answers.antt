@@ -4,7 +4,7 @@ use Rattle.safety.proofs.Results.{results_short}
 use Rattle.one_box.specs.Attaching.{lost_by}
 use Rattle.one_box.specs.Showing.{course_of, link_view}
 use Rattle.one_box.proofs.ClusterLemmas.{run_ends, ends_early, caused, no_run, never_link, never_written, all_back}
-use Rattle.one_box.proofs.cluster.serve_all_with.Goals as goal
+use Rattle.one_box.proofs.cluster.serve_all.Goals as goal
 
 pub returns-in-Ok-ran-clause-ends : goal.returns-in-Ok-ran-clause-ends
 returns-in-Ok-ran-clause-ends g c =

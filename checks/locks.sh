@@ -1,0 +1,97 @@
+#!/bin/bash
+# Runs the lock service as real processes: the commands that need no network, a cluster, and then separate nodes, which grant a lock, lose
+# their leader, and grant the lock again by a greater token. It takes some ten seconds, leaves nothing behind, and ends with status 1 at any
+# difference.
+#
+#   checks/locks.sh              the program is crates/lock_service/out/lock_service, or the file that LOCKS names
+. "$(dirname "$0")/common.bash" || exit 2
+needs "${LOCKS:-}" lock_service -- replay
+
+# Acquires of the lock db by ann and bob, ann's release by token 1, and an inspect; and what they are answered.
+ann=4102646203616e6e
+bob=4102646203626f62
+release=5202646203616e6e0000000000000001
+inspect=49026462
+granted_1=6772616e7465640000000000000001
+granted_2=6772616e7465640000000000000002
+held_by_ann=68656c640000000000000001616e6e
+held_by_bob=68656c640000000000000002626f62
+released=72656c6561736564
+
+base=$((20000 + $$ % 2000 * 20))
+site="--replicas 3 --sequencers 1 --base $base"
+declare -A pids=()
+stop() {
+    for pid in "${pids[@]}"; do kill "$pid" 2> /dev/null; done
+    rm -rf "$folder"
+}
+trap stop EXIT
+
+# ends NAME WANTED_STATUS WANTED WORDS..: the program is run with these words, and writes what is wanted.
+ends() {
+    local name=$1 wanted=$2 text=$3 status
+    shift 3
+    made=$((made + 1))
+    "$program" "$@" > "$folder/out" 2> "$folder/err"
+    status=$?
+    if [ "$status" != "$wanted" ] || [ "$(cat "$folder/out")" != "$text" ] || [ -s "$folder/err" ]; then
+        differs "$name: status $status, '$(head -c 300 "$folder/out")', and on standard error '$(head -c 300 "$folder/err")'"
+    fi
+}
+
+# start NAME WORDS..: a node.
+start() {
+    local name=$1
+    shift
+    # shellcheck disable=SC2086
+    "$program" "$@" $site > "$folder/$name" 2>&1 &
+    pids[$name]=$!
+}
+
+# answered CLIENT ANSWERS OPS..: a new client is answered so.
+answered() {
+    local client=$1 answers=$2 status
+    shift 2
+    made=$((made + 1))
+    # shellcheck disable=SC2086
+    timeout 60 "$program" client --id "$client" $site "$@" > "$folder/out" 2>&1
+    status=$?
+    [ "$status" = 0 ] && [ "$(sed -n 's/^accept [^ ]* [^ ]* //p' "$folder/out" | xargs)" = "$answers" ] ||
+        differs "client $client: status $status, '$(head -c 300 "$folder/out")' in place of '$answers'"
+}
+
+# ---- commands that need no network
+ends 'the words' 2 'usage: lock_service replay | gen | node | sequencer | controller | client | cluster | check' stop
+ends 'the stored transcript' 0 'legal 6 6 6' check < crates/lock_service/stdout
+sed "s/^accept c1 2 .*/accept c1 2 $granted_1/" crates/lock_service/stdout > "$folder/changed"
+ends 'a token that is granted again' 8 'refuted line 31 clause 5' check < "$folder/changed"
+# Nothing that is counted depends on the answers, so it is what the key-value store gives.
+ends 'the longest drawn schedule' 0 'gen 7 100000
+sends 40214 accepts 36
+view 222 381 length 293 noops 126
+history 39' gen 7 100000
+
+# ---- a cluster: its schedule replays to its transcript, which is legal
+made=$((made + 1))
+"$program" cluster --replicas 3 --sequencers 1 --clients 1 --base "$base" $ann $bob $release $bob > "$folder/cluster" 2> "$folder/err"
+[ $? = 0 ] && [ "$(sed -n 's/^accept [^ ]* [^ ]* //p' "$folder/cluster" | xargs)" = "$granted_1 $held_by_ann $released $granted_2" ] ||
+    differs "the cluster writes '$(grep -v ^send "$folder/cluster" | head -c 600)'"
+sed '/^transcript /,$d' "$folder/cluster" > "$folder/schedule"
+sed '1,/^transcript /{/^transcript /!d}; /^served /d' "$folder/cluster" > "$folder/transcript"
+ends 'the schedule of the cluster' 0 "$(cat "$folder/transcript")" replay < "$folder/schedule"
+ends 'the transcript of the cluster' 0 'legal 4 4 4' check < "$folder/transcript"
+
+# ---- nodes
+start s0 sequencer --id 0
+for i in 0 1 2; do start "r$i" node --id $i; done
+start ctl controller
+sleep 0.5
+answered 0 "$granted_1" $ann
+kill -9 "${pids[r0]}"
+wait "${pids[r0]}" 2> /dev/null
+unset 'pids[r0]'
+answered 1 "$held_by_ann" $bob
+answered 2 "$released" $release
+answered 3 "$granted_2 $held_by_bob" $bob $inspect
+
+concludes
