@@ -30,6 +30,13 @@ polls reply follower";
 /// What it writes.
 const CLIENT_LINES: &str = "submit c0 1 5000016b000176\naccept c0 1 6e6f6e65\nserved 2 lost 0\n";
 
+/// Nodes of the other kinds, to which nothing comes.
+const NODES: [&str; 3] = [
+    "nopaxos node --id 2 --replicas 3 --sequencers 1 --turns 3",
+    "nopaxos sequencer --id 0 --replicas 3 --sequencers 1 --turns 3",
+    "nopaxos controller --replicas 3 --sequencers 1 --turns 3",
+];
+
 /// A run in which a call fails; calls of a kind count from 1.
 fn failing(rt: &impl Abort, alloc: Global, head: &str, call: &str, number: u64) -> Outcome {
     let head = format!(in alloc; "{head}\n{call} {number}").expect(rt, "memory");
@@ -71,6 +78,13 @@ fn check_calls(rt: &impl Abort, alloc: Global, head: &str, call: &str, count: u6
     }
 }
 
+/// A check of the transcript, in which a read of 16 bytes fails, ends with this status and has written this.
+fn check_read_of_a_check(rt: &impl Abort, alloc: Global, number: u64, status: Status, text: &str) {
+    let head = format!(in alloc; "nopaxos check\nreads 16 {number}").expect(rt, "memory");
+    let given = outcome_of(rt, alloc, &head, TRANSCRIPT);
+    check(rt, &given, status, text);
+}
+
 /// 9 reads of a replay give the schedule's 134 bytes, and the tenth tells the end.
 #[test]
 fn each_read_fails(rt: HostRuntime) {
@@ -92,9 +106,23 @@ fn each_write_fails(rt: HostRuntime) {
     check_front(&rt, &given, Status::WriteFault, TRANSCRIPT);
 }
 
-/// An attach or a poll that fails ends a client, which has written what it submitted, and a cluster, which has written nothing.
+/// 20 reads of a check give the transcript's 308 bytes, and the next one tells the end. Where one fails nothing is written.
+#[test]
+fn each_read_of_a_check_fails(rt: HostRuntime) {
+    for k in 1..=21 {
+        check_read_of_a_check(&rt, rt.alloc(), k, Status::ReadFault, "");
+    }
+    check_read_of_a_check(&rt, rt.alloc(), 22, Status::Done, "legal 1 1 1\n");
+}
+
+/// An attach or a poll that fails ends a client, which has written what it submitted, and a cluster and the other nodes, which have
+/// written nothing.
 #[test]
 fn each_attach_and_each_poll_fails(rt: HostRuntime) {
+    for words in &NODES {
+        check_calls(&rt, rt.alloc(), words, "attaches", 1, "");
+        check_calls(&rt, rt.alloc(), words, "instead failure", 3, "");
+    }
     let submitted = "submit c0 1 5000016b000176\n";
     check_calls(&rt, rt.alloc(), CLIENT, "attaches", 1, "");
     check_calls(&rt, rt.alloc(), CLIENT, "instead failure", 2, submitted);

@@ -127,8 +127,8 @@ send 8 r0 c1 reply 36
 accept c1 1 6e6f6e65
 send 9 r1 r* fragment 27
 send 10 r2 r* fragment 27
-send 11 r2 r1 fragment 88
-send 12 r1 r* fragment 59
+send 11 r2 r1 fragment 92
+send 12 r1 r* fragment 63
 send 13 r1 c1 reply 36
 send 14 r2 c1 reply 32
 replica r0 crashed normal 0 1 2 0
@@ -169,8 +169,8 @@ send 7 r1 r0 fragment 31
 send 8 r0 c1 reply 36
 send 9 r1 r* fragment 27
 send 10 r2 r* fragment 27
-send 11 r2 r1 fragment 88
-send 12 r1 r* fragment 59
+send 11 r2 r1 fragment 92
+send 12 r1 r* fragment 63
 send 13 r1 c1 reply 36
 send 14 r2 c1 reply 32
 accept c1 1 6e6f6e65
@@ -211,10 +211,10 @@ send 7 r0 r* fragment 31
 send 8 r4 r0 fragment 31
 send 9 r1 r* fragment 27
 send 10 r2 r* fragment 27
-send 11 r2 r1 fragment 69
+send 11 r2 r1 fragment 73
 send 12 r3 r* fragment 27
-send 13 r3 r1 fragment 69
-send 14 r1 r* fragment 61
+send 13 r3 r1 fragment 73
+send 14 r1 r* fragment 65
 send 15 r1 c0 reply 36
 replica r0 crashed normal 0 1 1 0
 replica r1 up normal 1 1 1 0
@@ -255,10 +255,10 @@ send 7 r0 r* fragment 31
 send 8 r4 r0 fragment 31
 send 9 r1 r* fragment 27
 send 10 r2 r* fragment 27
-send 11 r2 r1 fragment 69
+send 11 r2 r1 fragment 73
 send 12 r4 r* fragment 27
-send 13 r4 r1 fragment 48
-send 14 r1 r* fragment 40
+send 13 r4 r1 fragment 52
+send 14 r1 r* fragment 44
 replica r0 crashed normal 0 1 1 0
 replica r1 up normal 1 1 1 0
 replica r2 up change 1 1 1 0
@@ -289,11 +289,11 @@ send 2 c0 s* request 25
 send 3 s1 r* stamped 37
 send 4 r1 r* fragment 27
 send 5 r2 r* fragment 27
-send 6 r2 r0 fragment 47
+send 6 r2 r0 fragment 51
 send 7 r1 r* fragment 27
 send 8 r2 r* fragment 27
-send 9 r2 r1 fragment 47
-send 10 r1 r* fragment 39
+send 9 r2 r1 fragment 51
+send 10 r1 r* fragment 43
 send 11 r2 c0 reply 32
 send 12 r1 c0 reply 36
 accept c0 1 6e6f6e65
@@ -331,8 +331,8 @@ send 6 c0 s* request 25
 send 7 s1 r* stamped 37
 send 8 r0 r* fragment 27
 send 9 r1 r* fragment 27
-send 10 r1 r0 fragment 69
-send 11 r0 r* fragment 61
+send 10 r1 r0 fragment 73
+send 11 r0 r* fragment 65
 send 12 r0 c0 reply 36
 send 13 r0 c0 reply 36
 send 14 r1 c0 reply 32
@@ -405,8 +405,8 @@ send 1 s0 r* stamped 37
 send 2 r0 c0 reply 36
 send 3 r1 r* fragment 27
 send 4 r2 r* fragment 27
-send 5 r2 r1 fragment 47
-send 6 r1 r* fragment 39
+send 5 r2 r1 fragment 51
+send 6 r1 r* fragment 43
 submit c1 1 4700016b
 send 7 c1 s* request 22
 send 8 s0 r* stamped 34
@@ -441,7 +441,7 @@ send 1 s0 r* stamped 37
 send 2 r0 c0 reply 36
 send 3 r1 c0 reply 32
 send 4 r2 c0 reply 32
-send 5 r0 r* fragment 53
+send 5 r0 r* fragment 57
 send 6 r1 r0 fragment 31
 send 7 r0 r* fragment 31
 send 8 r2 r0 fragment 31
@@ -471,7 +471,7 @@ send 1 s0 r* stamped 37
 send 2 r0 c0 reply 36
 send 3 r1 c0 reply 32
 send 4 r2 c0 reply 32
-send 5 r0 r* fragment 53
+send 5 r0 r* fragment 57
 send 6 r1 r0 fragment 31
 send 7 r0 r* fragment 31
 replica r0 up normal 0 1 1 1
@@ -568,7 +568,7 @@ replica r2 up normal 0 1 0 0
 end
 ----
 nopaxos 1 replicas 3 sequencers 1 clients 1
-junk r0 4e4f01040000000002
+junk r0 4e4f02040000000002
 =>
 transcript 1 replicas 3 sequencers 1 clients 1
 error line 2 rule 9
@@ -625,8 +625,8 @@ send 3 r1 c0 reply 32
 accept c0 1 6e6f6e65
 send 4 r1 r* fragment 27
 send 5 r2 r* fragment 27
-send 6 r2 r1 fragment 47
-send 7 r1 r* fragment 61
+send 6 r2 r1 fragment 51
+send 7 r1 r* fragment 65
 send 8 r1 c0 reply 36
 send 9 r2 c0 reply 32
 submit c1 1 4700016b
@@ -719,7 +719,7 @@ send 6 r0 c1 reply 34
 send 7 r1 c1 reply 32
 accept c0 1 6e6f6e65
 accept c1 1 3d76
-send 8 r0 r* fragment 75
+send 8 r0 r* fragment 79
 send 9 r1 r0 fragment 31
 send 10 r2 c0 reply 32
 send 11 r2 c1 reply 32
@@ -771,11 +771,11 @@ send 4 s0 r* stamped 37
 send 5 s1 r* stamped 34
 send 6 r0 c0 reply 36
 send 7 r2 r* fragment 27
-send 8 r2 r0 fragment 47
+send 8 r2 r0 fragment 51
 send 9 r1 c0 reply 32
 accept c0 1 6e6f6e65
 send 10 r0 r* fragment 27
-send 11 r0 r* fragment 61
+send 11 r0 r* fragment 65
 send 12 r0 c0 reply 36
 send 13 r2 c0 reply 32
 send 14 r2 c1 reply 32

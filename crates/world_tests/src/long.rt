@@ -2,6 +2,8 @@ ghost use Rattle.std.specs.Prelude.{◌≤◌};
 ghost use Rattle.std.specs.List.{AllByRecursion};
 ghost use Rattle.schedule_text.specs.EventText.{HasLine};
 
+use kv_host::KvHost;
+use nop_types::Actor;
 use outside::{ReadMem, WriteMem};
 use replay::{MAX_DRAWN_EVENTS, events, generate, replay};
 use schedule_text::{Event, event_line};
@@ -12,7 +14,7 @@ use std::process::Abort;
 fn transcript_of(rt: &impl Abort, alloc: Global, schedule: Vec<u8>) -> String {
     let mut source = ReadMem::new(schedule);
     let mut sink = WriteMem::new(alloc);
-    let end = replay(alloc, &mut source, &mut sink);
+    let end = replay::<KvHost, _, _>(alloc, &mut source, &mut sink);
     assert!(rt; end.is_ok());
     let bytes = sink.as_slice().to_vec(alloc).expect(rt, "memory");
     String::from_utf8(bytes).ok().expect(rt, "text")
@@ -58,7 +60,7 @@ fn summary_of(rt: &impl Abort, alloc: Global, number: u64, count: u32) -> String
     requires limit { count ≤ MAX_DRAWN_EVENTS }
 {
     let mut sink = WriteMem::new(alloc);
-    let end = generate(alloc, number, count, &mut sink);
+    let end = generate::<KvHost, _>(alloc, number, count, &mut sink);
     assert!(rt; end.is_ok());
     let bytes = sink.as_slice().to_vec(alloc).expect(rt, "memory");
     String::from_utf8(bytes).ok().expect(rt, "text")
@@ -82,12 +84,12 @@ fn count(text: &str, word: &str) -> usize {
     text.lines().filter(|line| line.starts_with(word)).count()
 }
 
-/// The replay of the events of a number sends, accepts and keeps as much as the summary says.
-fn check_drawn(rt: &impl Abort, alloc: Global, number: u64, events_count: u32)
+/// The events of a number are drawn, and their replay sends, accepts and keeps as much as the summary says, which is the one that is told.
+fn check_drawn(rt: &impl Abort, alloc: Global, number: u64, events_count: u32, told: &str)
     requires least { 1 ≤ events_count }
     requires limit { events_count ≤ MAX_DRAWN_EVENTS }
 {
-    let (_config, drawn) = events(alloc, number, events_count)
+    let (_config, drawn) = events::<KvHost>(alloc, number, events_count)
         .ok()
         .expect(rt, "memory");
     let transcript = transcript_of(rt, alloc, schedule_of(rt, alloc, &drawn));
@@ -97,12 +99,31 @@ fn check_drawn(rt: &impl Abort, alloc: Global, number: u64, events_count: u32)
         "gen {number} {events_count}\nsends {sends} accepts {accepts}\nview "
     ).expect(rt, "memory");
     let tail = format!(in alloc; "\nhistory {members}\n").expect(rt, "memory");
+    assert!(rt; told.starts_with(head.as_str()), "{head}");
+    assert!(rt; told.ends_with(tail.as_str()), "{tail}");
     let summary = summary_of(rt, alloc, number, events_count);
-    assert!(rt; summary.starts_with(head.as_str()), "{summary}");
-    assert!(rt; summary.ends_with(tail.as_str()), "{summary}");
+    assert!(rt; summary.as_str() == told, "{summary}");
 }
+
+/// The summary as another program for the same protocol has it.
+const DRAWN: &str = "\
+gen 7 20000
+sends 6157 accepts 16
+view 47 83 length 99 noops 50
+history 19
+";
 
 #[test]
 fn drawn_events(rt: HostRuntime) {
-    check_drawn(&rt, rt.alloc(), 7, 20_000);
+    check_drawn(&rt, rt.alloc(), 7, 20_000, DRAWN);
+}
+
+/// As many events as may be are drawn. Another program for the same protocol has the same last one.
+#[test]
+fn the_most_drawn_events(rt: HostRuntime) {
+    let (_config, drawn) = events::<KvHost>(rt.alloc(), 7, 100_000)
+        .ok()
+        .expect(&rt, "memory");
+    assert!(rt; drawn.len() == 100_000);
+    assert!(rt; matches!(drawn.last(), Some(Event::Deliver(40185, Actor::Client(2)))));
 }

@@ -1,5 +1,6 @@
 ghost use Rattle.std.specs.Prelude.{◌≤◌};
 
+use kv_host::KvHost;
 use outside::{ReadMem, WriteMem};
 use replay::replay;
 use std::alloc::Global;
@@ -48,7 +49,7 @@ fn check_replay(rt: &impl Abort, alloc: Global, row: &str, most: usize)
     let bytes = schedule.as_bytes().to_vec(alloc).expect(rt, "memory");
     let mut source = ReadMem::with_limit(bytes, most);
     let mut sink = WriteMem::new(alloc);
-    let end = replay(alloc, &mut source, &mut sink);
+    let end = replay::<KvHost, _, _>(alloc, &mut source, &mut sink);
     assert!(rt; end.is_ok() == transcript.ends_with("end\n"));
     assert!(rt; sink.as_slice() == transcript.as_bytes(), "{row}");
 }

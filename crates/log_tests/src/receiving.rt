@@ -1,5 +1,6 @@
 ghost use Rattle.nop_types.specs.Ranges.{StampedFits};
 
+use crate::checking::{check, check_row};
 use crate::requests::request;
 use nop_types::{MAX_QUEUED, NUMBER_END, Stamped};
 use oum_receiver::{Receiver, Upcall, Verdict};
@@ -35,7 +36,7 @@ fn offer(
 }
 
 fn take_front(rt: &impl Abort, receiver: &mut Receiver) {
-    assert!(rt; receiver.front().is_some());
+    check(rt, receiver.front().is_some(), "something in front");
     receiver.take_front();
 }
 
@@ -58,11 +59,11 @@ fn carry_out(rt: &impl Abort, alloc: Global, receiver: &mut Receiver, call: Call
         Call::Message => drop(receiver.take_message()),
         Call::Front => take_front(rt, receiver),
         Call::Advance(next) => {
-            assert!(rt; next <= NUMBER_END);
+            check(rt, next <= NUMBER_END, "a number");
             receiver.advance(next);
         }
         Call::Reset(session, next) => {
-            assert!(rt; next <= NUMBER_END);
+            check(rt, next <= NUMBER_END, "a number");
             receiver.reset(session, next);
         }
     }
@@ -117,19 +118,18 @@ const CALLS: [(Call, u32, u64, Option<u64>); 32] = [
     (Call::Front, 3, LAST + 1, None),
 ];
 
+/// The receiver has this session, this next number and this front.
+fn is_at(receiver: &Receiver, session: u32, next: u64, told: Option<u64>) -> bool {
+    receiver.session() == session && receiver.next() == next && front(receiver) == told
+}
+
 #[test]
 fn calls(rt: HostRuntime) {
     let mut receiver = Receiver::new(rt.alloc(), 2, 1).expect(&rt, "memory");
     for (row, (call, session, next, told)) in CALLS.iter().enumerate() {
-        assert!(rt;
-            carry_out(&rt, rt.alloc(), &mut receiver, *call),
-            "row {row}"
-        );
-        assert!(rt;
-            receiver.session() == *session && receiver.next() == *next,
-            "row {row}"
-        );
-        assert!(rt; front(&receiver) == *told, "row {row}");
+        let holds = carry_out(&rt, rt.alloc(), &mut receiver, *call);
+        check_row(&rt, holds, row);
+        check_row(&rt, is_at(&receiver, *session, *next, *told), row);
     }
 }
 
@@ -138,8 +138,10 @@ fn a_full_queue(rt: HostRuntime) {
     let mut receiver = Receiver::new(rt.alloc(), 1, 1).expect(&rt, "memory");
     for i in 0..MAX_QUEUED as u64 {
         let verdict = offer(&rt, rt.alloc(), &mut receiver, 1, i + 2);
-        assert!(rt; verdict == Verdict::Queued);
+        check(&rt, verdict == Verdict::Queued, "queued");
     }
-    assert!(rt; offer(&rt, rt.alloc(), &mut receiver, 1, 1) == Verdict::Full);
-    assert!(rt; offer(&rt, rt.alloc(), &mut receiver, 1, 2) == Verdict::Old);
+    let verdict = offer(&rt, rt.alloc(), &mut receiver, 1, 1);
+    check(&rt, verdict == Verdict::Full, "one too many");
+    let verdict = offer(&rt, rt.alloc(), &mut receiver, 1, 2);
+    check(&rt, verdict == Verdict::Old, "one that is queued");
 }

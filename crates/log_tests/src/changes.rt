@@ -1,3 +1,4 @@
+use crate::checking::{check, check_row};
 use crate::logs::{full, is_full, is_log, log_of};
 use log_merge::{merge, merge_of_view};
 use nop_types::{Change, Log, View};
@@ -5,15 +6,16 @@ use std::alloc::Global;
 use std::process::Abort;
 use view_change::{Changes, Start, Step};
 
-/// A change in numbers: its sender, leader and session of its last normal view, its next number, and the ids of its log.
-type Told = (u8, u32, u32, u64, &'static [u64]);
+/// A change in numbers: its sender, leader and session of its last normal view, its next number, its sync point, and the ids of its log.
+type Told = (u8, u32, u32, u64, u32, &'static [u64]);
 
 fn change(rt: &impl Abort, alloc: Global, told: &Told) -> Change {
-    let (sender, leader, session, next, log) = *told;
+    let (sender, leader, session, next, sync_point, log) = *told;
     Change {
         sender,
         last_normal: View { leader, session },
         next,
+        sync_point,
         log: log_of(rt, alloc, log),
     }
 }
@@ -44,14 +46,14 @@ const MERGES: [(&[(u8, &[u64])], &[u64]); 6] = [
 fn changes_of(rt: &impl Abort, alloc: Global, told: &[(u8, &'static [u64])]) -> Vec<Change> {
     let mut changes = Vec::new(alloc);
     for (sender, log) in told {
-        let change = change(rt, alloc, &(*sender, 0, 1, 1, *log));
+        let change = change(rt, alloc, &(*sender, 0, 1, 1, 0, *log));
         changes.push(change).expect(rt, "memory");
     }
     changes
 }
 
 /// A change of another view, of which neither the NO-OPs nor the length count.
-const OTHER: Told = (0, 1, 1, 1, &[0, 0, 0, 0, 0]);
+const OTHER: Told = (0, 1, 1, 1, 5, &[0, 0, 0, 0, 0]);
 
 /// The log of the changes, and that of those and one of another view.
 fn merged(rt: &impl Abort, alloc: Global, mut changes: Vec<Change>) -> (Log, Log) {
@@ -71,61 +73,81 @@ fn merges(rt: HostRuntime) {
     for (row, (changes, log)) in MERGES.iter().enumerate() {
         let changes = changes_of(&rt, rt.alloc(), changes);
         let (first, second) = merged(&rt, rt.alloc(), changes);
-        assert!(rt; is_log(first.as_slice(), log), "row {row}");
-        assert!(rt; is_log(second.as_slice(), log), "row {row}");
+        check_row(&rt, is_log(first.as_slice(), log), row);
+        check_row(&rt, is_log(second.as_slice(), log), row);
     }
 }
 
 /// The leader, the session and the count of the others that the start waits for; then the changes, of which only the last one starts
-/// the view; then the next number that it starts with, and the log.
-type Case = (u32, u32, u8, &'static [Told], u64, &'static [u64]);
+/// the view; then the next number that it starts with, the sync point, and the log.
+type Case = (u32, u32, u8, &'static [Told], u64, u32, &'static [u64]);
 
 /// Of five replicas a change of an older view counts, and its log does not; a second one of a sender does not count. Of three: in one
 /// session next is the greater one; in a new session numbers begin at 1; sessions rank before leader numbers; in a session the greater
-/// leader number ranks higher. Then a leader alone.
+/// leader number ranks higher. The sync point is the greatest of those that count. Then a leader alone.
 const STARTS: [Case; 8] = [
     (
         2,
         1,
         2,
         &[
-            (2, 1, 1, 4, &[1, 2, 3]),
-            (0, 0, 1, 9, &[0]),
-            (0, 1, 1, 8, &[4, 4, 4, 4]),
-            (2, 1, 1, 8, &[4, 4, 4, 4]),
-            (4, 1, 1, 3, &[1, 0]),
+            (2, 1, 1, 4, 1, &[1, 2, 3]),
+            (0, 0, 1, 9, 1, &[0]),
+            (0, 1, 1, 8, 4, &[4, 4, 4, 4]),
+            (2, 1, 1, 8, 4, &[4, 4, 4, 4]),
+            (4, 1, 1, 3, 2, &[1, 0]),
         ],
         4,
+        2,
         &[1, 0, 3],
     ),
     (
         1,
         1,
         1,
-        &[(1, 0, 1, 3, &[1, 2]), (2, 0, 1, 5, &[1, 0, 3, 4])],
+        &[(1, 0, 1, 3, 1, &[1, 2]), (2, 0, 1, 5, 0, &[1, 0, 3, 4])],
         5,
+        1,
         &[1, 0, 3, 4],
     ),
     (
         1,
         2,
         1,
-        &[(1, 0, 1, 3, &[1, 2]), (2, 0, 1, 2, &[1])],
+        &[(1, 0, 1, 3, 2, &[1, 2]), (2, 0, 1, 2, 1, &[1])],
         1,
+        2,
         &[1, 2],
     ),
-    (6, 2, 1, &[(0, 5, 1, 3, &[1]), (1, 0, 2, 7, &[2])], 7, &[2]),
-    (9, 2, 1, &[(0, 8, 2, 1, &[]), (1, 7, 2, 7, &[2, 3])], 1, &[]),
+    (
+        6,
+        2,
+        1,
+        &[(0, 5, 1, 3, 1, &[1]), (1, 0, 2, 7, 0, &[2])],
+        7,
+        0,
+        &[2],
+    ),
+    (
+        9,
+        2,
+        1,
+        &[(0, 8, 2, 1, 0, &[]), (1, 7, 2, 7, 2, &[2, 3])],
+        1,
+        0,
+        &[],
+    ),
     (
         9,
         3,
         1,
-        &[(0, 6, 2, 9, &[0, 0]), (1, 7, 2, 7, &[2, 3])],
+        &[(0, 6, 2, 9, 2, &[0, 0]), (1, 7, 2, 7, 1, &[2, 3])],
+        1,
         1,
         &[2, 3],
     ),
-    (1, 1, 0, &[(0, 0, 1, 3, &[1, 0])], 3, &[1, 0]),
-    (1, 2, 0, &[(0, 0, 1, 3, &[1, 0])], 1, &[1, 0]),
+    (1, 1, 0, &[(0, 0, 1, 3, 2, &[1, 0])], 3, 2, &[1, 0]),
+    (1, 2, 0, &[(0, 0, 1, 3, 1, &[1, 0])], 1, 1, &[1, 0]),
 ];
 
 /// What a view is started with by the last of these changes, of which the first is the leader's own; none before it starts the view.
@@ -155,26 +177,33 @@ fn started_alone(rt: &impl Abort, alloc: Global, view: View, own: &Told) -> Opti
     Some(changes.start_now().expect(rt, "memory"))
 }
 
-fn check_start(rt: &impl Abort, alloc: Global, row: usize, case: &Case) {
-    let (leader, session, f, told, next, log) = *case;
+/// What a view is started with by the changes of a case.
+fn started_by(rt: &impl Abort, alloc: Global, case: &Case) -> Option<Start> {
+    let (leader, session, f, told, _next, _sync_point, _log) = *case;
     let view = View { leader, session };
-    let start = match told {
+    match told {
         [own] => started_alone(rt, alloc, view, own),
         _ => started(rt, alloc, view, f, told),
-    };
-    let Some(start) = start else {
-        panic!(rt; "row {row}")
-    };
-    assert!(rt;
-        start.next == next && is_log(start.log.as_slice(), log),
-        "row {row}"
-    );
+    }
+}
+
+/// The view is started with the next number, the sync point and the log of the case.
+fn is_started(start: Option<Start>, case: &Case) -> bool {
+    match start {
+        Some(start) => {
+            start.next == case.4
+                && start.sync_point == case.5
+                && is_log(start.log.as_slice(), case.6)
+        }
+        None => false,
+    }
 }
 
 #[test]
 fn starts(rt: HostRuntime) {
     for (row, case) in STARTS.iter().enumerate() {
-        check_start(&rt, rt.alloc(), row, case);
+        let start = started_by(&rt, rt.alloc(), case);
+        check_row(&rt, is_started(start, case), row);
     }
 }
 
@@ -183,13 +212,13 @@ fn starts(rt: HostRuntime) {
 fn full_logs_are_merged(rt: HostRuntime) {
     let mut changes = Vec::new(rt.alloc());
     for sender in 0..3 {
-        let mut change = change(&rt, rt.alloc(), &(sender, 0, 1, 1, &[1]));
+        let mut change = change(&rt, rt.alloc(), &(sender, 0, 1, 1, 0, &[1]));
         if sender > 0 {
             change.log = full(&rt, rt.alloc());
         }
         changes.push(change).expect(&rt, "memory");
     }
     let (first, second) = merged(&rt, rt.alloc(), changes);
-    assert!(rt; is_full(first.as_slice()));
-    assert!(rt; is_full(second.as_slice()));
+    check(&rt, is_full(first.as_slice()), "by the slots");
+    check(&rt, is_full(second.as_slice()), "of the view");
 }
