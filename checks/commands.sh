@@ -1,22 +1,11 @@
 #!/bin/bash
-# Runs the commands that README.md and examples/README.md show, as they are written there, each at the top of the tree, and looks at what
-# they print. A command that this script does not know is a difference, and so is one that it knows and no document shows; .ci/run is
-# known and not run here, since it runs this. `rt try` makes its program anew each time: it takes some minutes. It leaves nothing behind
-# but what `rt run` keeps, and ends with status 1 at any difference.
-set -u
-cd "$(dirname "$0")/.." || exit 2
-folder=$(mktemp -d) || exit 2
-trap 'rm -rf "$folder"' EXIT
+# Runs the commands that README.md, examples/README.md and docs/OWN-SERVICE.md show, as they are written there, each at the top of the tree,
+# and looks at what they print. A command that this script does not know is a difference, and so is one that it knows and no document shows;
+# .ci/run is known and not run here, since it runs this. `rt try` makes its program anew each time: it takes some minutes. It leaves nothing
+# behind but what `rt run` keeps, and ends with status 1 at any difference.
+. "$(dirname "$0")/common.bash" || exit 2
 # The top of the tree, in a folder that can be written to.
 for it in "$PWD"/* "$PWD"/.ci; do ln -s "$it" "$folder"; done
-made=0
-wrong=0
-
-# differs WORDS..: one more difference.
-differs() {
-    echo "commands: $*"
-    wrong=$((wrong + 1))
-}
 
 # shows DOCUMENT COMMAND: the document shows the command, as a line of its own or between backquotes.
 shows() {
@@ -67,6 +56,14 @@ fi
 runs examples/README.md 'crates/spacetime/out/spacetime < my.schedule > my.svg'
 is_picture
 
+# The lock service, which checks/locks.sh looks at closely.
+runs docs/OWN-SERVICE.md 'crates/lock_service/out/lock_service replay < crates/lock_service/stdin'
+cmp -s "$folder/out" crates/lock_service/stdout || differs "the story of the lock has another transcript"
+runs docs/OWN-SERVICE.md 'crates/lock_service/out/lock_service check < crates/lock_service/stdout'
+grep -qx 'legal 6 6 6' "$folder/out" || differs "the story of the lock is judged '$(cat "$folder/out")'"
+runs docs/OWN-SERVICE.md 'crates/lock_service/out/lock_service cluster --replicas 3 --sequencers 1 --clients 1 4102646203616e6e'
+grep -qx 'accept c0 1 6772616e7465640000000000000001' "$folder/out" || differs "the cluster grants no lock"
+
 # A cluster of processes, whose leader is killed: three clients put and get, and the last reads its own value.
 made=$((made + 1))
 if examples/cluster.sh > "$folder/out" 2> "$folder/err"; then
@@ -80,7 +77,7 @@ made=$((made + 1))
 examples/cluster.sh 4 > "$folder/out" 2> "$folder/err"
 [ $? = 2 ] && [ ! -s "$folder/out" ] || differs "examples/cluster.sh takes 4 replicas"
 
-for document in README.md examples/README.md; do
+for document in README.md examples/README.md docs/OWN-SERVICE.md; do
     while IFS= read -r command; do
         grep -qxF "$command" "$folder/known" || differs "$document shows '$command', which is not run"
     done < <(grep -E '^    (\(c|\.ci/|(crates|checks|bench|examples)/)' "$document" | cut -c5-)
@@ -92,5 +89,4 @@ while IFS= read -r script; do
     { [ -x "$script" ] && bash -n "$script"; } || differs "a document names $script, which cannot be run"
 done < <(grep -ohE '\b(bench|checks)/[a-z-]+\.sh' README.md docs/*.md examples/*.md | sort -u)
 
-echo "commands: $made looked at, $wrong differ"
-[ "$wrong" = 0 ]
+concludes

@@ -4,18 +4,8 @@
 # docs/HISTORIES.md. It takes a second, leaves nothing behind, and ends with status 1 at any difference.
 #
 #   checks/judged.sh             the program is crates/nopaxos/out/nopaxos, or the file that NOPAXOS names
-set -u
-cd "$(dirname "$0")/.." || exit 2
-program=${NOPAXOS:-crates/nopaxos/out/nopaxos}
-if [ ! -x "$program" ]; then
-    (cd crates/nopaxos && rt run -- replay < stdin > /dev/null 2>&1)
-fi
-[ -x "$program" ] || { echo "judged: there is no program file $program"; exit 1; }
-
-folder=$(mktemp -d) || exit 2
-trap 'rm -rf "$folder"' EXIT
-made=0
-wrong=0
+. "$(dirname "$0")/common.bash" || exit 2
+needs "${NOPAXOS:-}" nopaxos -- replay
 
 # judged NAME FILE ANSWER: what `check` writes for a transcript, and its status.
 judged() {
@@ -27,8 +17,7 @@ judged() {
     legal*) wanted=0 ;;
     esac
     if [ "$status" != "$wanted" ] || [ -s "$folder/err" ] || [ "$(cat "$folder/out")" != "$3" ]; then
-        echo "judged: $1: status $status and '$(head -c 300 "$folder/out")' in place of '$3'"
-        wrong=$((wrong + 1))
+        differs "$1: status $status and '$(head -c 300 "$folder/out")' in place of '$3'"
     fi
 }
 
@@ -52,8 +41,4 @@ judged 'the example of docs/HISTORIES.md' "$folder/recorded" 'legal 3 2 3'
 sed 's/^accept c1 2 .*/accept c1 2 6e6f6e65/' "$folder/recorded" > "$folder/changed"
 judged 'the same with another result' "$folder/changed" 'refuted line 6 clause 5'
 
-if [ "$wrong" != 0 ]; then
-    echo "judged: $wrong of $made differ"
-    exit 1
-fi
-echo "judged: $made as they must be"
+concludes

@@ -4,18 +4,8 @@
 # behind, and ends with status 1 at any difference.
 #
 #   checks/limits.sh             the program is crates/nopaxos/out/nopaxos, or the file that NOPAXOS names
-set -u
-cd "$(dirname "$0")/.." || exit 2
-program=${NOPAXOS:-crates/nopaxos/out/nopaxos}
-if [ ! -x "$program" ]; then
-    (cd crates/nopaxos && rt run -- replay < stdin > /dev/null 2>&1)
-fi
-[ -x "$program" ] || { echo "limits: there is no program file $program"; exit 1; }
-
-folder=$(mktemp -d) || exit 2
-trap 'rm -rf "$folder"' EXIT
-made=0
-wrong=0
+. "$(dirname "$0")/common.bash" || exit 2
+needs "${NOPAXOS:-}" nopaxos -- replay
 
 # begins NAME REPLICAS SEQUENCERS CLIENTS: a schedule, of which nothing was sent.
 begins() {
@@ -72,8 +62,7 @@ same() {
     status=$?
     cmp "$folder/out" "$folder/transcript" > "$folder/differ" 2>&1
     if [ "$status" != 0 ] || [ -s "$folder/differ" ] || [ -s "$folder/err" ]; then
-        echo "limits: $name: status $status, $(cat "$folder/differ" "$folder/err")"
-        wrong=$((wrong + 1))
+        differs "$name: status $status, $(cat "$folder/differ" "$folder/err")"
     fi
 }
 
@@ -143,7 +132,7 @@ event 'deliver 4112 r0'
 # A log of a NO-OP and 4,095 puts, in 65 fragments.
 event 'tick r0 sync'
 first=$sent
-tells r0 'r*' $((14 + 1 + 4095 * 22))
+tells r0 'r*' $((18 + 1 + 4095 * 22))
 last=$((sent - 1))
 for follower in r2 r1; do
     delivers "$first" "$last" "$follower"
@@ -188,10 +177,10 @@ sends r1 'r*' fragment 27
 event "deliver $((sent - 1)) r2"
 sends r2 'r*' fragment 27
 first=$sent
-tells r2 r1 $((30 + 4096 * 655))
+tells r2 r1 $((34 + 4096 * 655))
 delivers "$first" $((sent - 1)) r1
 first=$sent
-tells r1 'r*' $((22 + 4096 * 655))
+tells r1 'r*' $((26 + 4096 * 655))
 last=$((sent - 1))
 for ((n = 1; n <= 4096; n++)); do sends r1 c0 reply 35; done
 for follower in r2 r0; do
@@ -237,17 +226,17 @@ sends s3 'r*' stamped 670
 # Each change has both puts.
 event 'deliver 21 r6'
 sends r6 'r*' fragment 27
-tells r6 r0 $((30 + 2 * 340))
+tells r6 r0 $((34 + 2 * 340))
 for replica in r1 r2 r3 r4 r5; do
     event "deliver 22 $replica"
     sends "$replica" 'r*' fragment 27
-    tells "$replica" r0 $((30 + 2 * 340))
+    tells "$replica" r0 $((34 + 2 * 340))
 done
 event 'deliver 23 r0'
 sends r0 'r*' fragment 27
 event 'deliver 25 r0'
 event 'deliver 27 r0'
-tells r0 'r*' $((22 + 2 * 340))
+tells r0 'r*' $((26 + 2 * 340))
 start=$((sent - 1))
 sends r0 c15 reply 36
 sends r0 c15 reply 289
@@ -272,8 +261,4 @@ line "history 2 c15 2 $put"
 line "history 3 c0 1 $big"
 same
 
-if [ "$wrong" != 0 ]; then
-    echo "limits: $wrong of $made differ"
-    exit 1
-fi
-echo "limits: $made as they must be"
+concludes

@@ -1,12 +1,7 @@
 #!/bin/bash
 # Looks whether each link of each document leads to a file of the repository, and to a heading of it where it names one. Links
 # to other sites are not followed. It takes a second or two, and ends with status 1 at any that leads nowhere.
-set -u
-cd "$(dirname "$0")/.." || exit 2
-folder=$(mktemp -d) || exit 2
-trap 'rm -rf "$folder"' EXIT
-made=0
-wrong=0
+. "$(dirname "$0")/common.bash" || exit 2
 
 # headings FILE: the anchors of its headings, one a line.
 headings() {
@@ -58,14 +53,9 @@ while read -r document; do
         esac
         made=$((made + 1))
         if ! leads "$document" "$target"; then
-            echo "links: ${document#./}, line $line: '$target' leads nowhere"
-            wrong=$((wrong + 1))
+            differs "${document#./}, line $line: '$target' leads nowhere"
         fi
     done < "$folder/links"
 done < "$folder/documents"
 
-if [ "$wrong" != 0 ]; then
-    echo "links: $wrong of $made lead nowhere"
-    exit 1
-fi
-echo "links: $made lead somewhere"
+concludes

@@ -3,10 +3,7 @@
 # such constant stands once more in a `prove!` of its crate, and here is the list of them all, as docs/FORMATS.md, docs/STEPS.md and
 # docs/PROTOCOL.md have them. The script looks whether each is proved at its number, and whether a constant is missing here. It takes a
 # second, and ends with status 1 at any difference.
-set -u
-cd "$(dirname "$0")/.." || exit 2
-made=0
-wrong=0
+. "$(dirname "$0")/common.bash" || exit 2
 
 numbers() {
     cat << 'END'
@@ -20,7 +17,7 @@ nop_types WINDOW 1
 nop_types MAX_SLOTS 4096
 nop_types NUMBER_END 281_474_976_710_656
 nop_types MAX_QUEUED 1024
-nop_types MAX_FRAGMENTS 2048
+nop_types MAX_FRAGMENTS 4096
 nop_types FRAGMENT_BYTES 1400
 nop_types MAX_UNFINISHED 4
 nop_types MAX_DATAGRAM_BYTES 1500
@@ -31,7 +28,7 @@ nop_types MAX_LINE_BYTES 4096
 nop_types MAX_LINES 1_000_000
 nop_types FIRST_MAGIC 0x4e
 nop_types SECOND_MAGIC 0x4f
-nop_types VERSION 1
+nop_types VERSION 2
 nop_types REQUEST 1
 nop_types STAMPED 2
 nop_types REPLY 3
@@ -95,8 +92,7 @@ while read -r name constant number; do
     made=$((made + 1))
     if ! cat "crates/$name"/src/*.rt | tr -s ' \n' ' ' | grep -oE 'const _: \(\) = prove!\([^;]*\);' |
         grep -qE "[( ]$constant == $number[ )]"; then
-        echo "numbers: $name does not prove that $constant is $number"
-        wrong=$((wrong + 1))
+        differs "$name does not prove that $constant is $number"
     fi
 done < <(numbers)
 
@@ -108,14 +104,9 @@ while IFS=: read -r file constant; do
     picture | labels | spacetime | udp_ports | *_tests) continue ;;
     esac
     if ! { numbers; apart; } | grep -qE "^$name $constant( |$)"; then
-        echo "numbers: $constant of $name is not in the list"
-        wrong=$((wrong + 1))
+        differs "$constant of $name is not in the list"
     fi
 done < <(grep -rHoE --include='*.rt' 'const [A-Z_]+: (u8|u16|u32|u64|usize) =' crates/*/src |
     sed -E 's/^([^:]+):const ([A-Z_]+): .*/\1:\2/')
 
-if [ "$wrong" != 0 ]; then
-    echo "numbers: $wrong of $made are not as they should be"
-    exit 1
-fi
-echo "numbers: $made are proved"
+concludes

@@ -4,24 +4,8 @@
 # at a bad line and at an argument. It takes a second or two, leaves nothing behind, and ends with status 1 at any difference.
 #
 #   checks/pictures.sh           the program is crates/spacetime/out/spacetime, or the file that SPACETIME names
-set -u
-cd "$(dirname "$0")/.." || exit 2
-program=${SPACETIME:-crates/spacetime/out/spacetime}
-if [ ! -x "$program" ]; then
-    (cd crates/spacetime && rt run < stdin > /dev/null 2>&1)
-fi
-[ -x "$program" ] || { echo "pictures: there is no program file $program"; exit 1; }
-
-folder=$(mktemp -d) || exit 2
-trap 'rm -rf "$folder"' EXIT
-made=0
-wrong=0
-
-# differs WORDS..: one more difference.
-differs() {
-    echo "pictures: $*"
-    wrong=$((wrong + 1))
-}
+. "$(dirname "$0")/common.bash" || exit 2
+needs "${SPACETIME:-}" spacetime
 
 # drawn NAME LINE..: draws the picture of a schedule with these lines.
 drawn() {
@@ -116,8 +100,4 @@ name='an argument that is no text'
 status=$?
 ends 2 'usage: spacetime < SCHEDULE > PICTURE'
 
-if [ "$wrong" != 0 ]; then
-    echo "pictures: $wrong differences in $made"
-    exit 1
-fi
-echo "pictures: $made as they must be"
+concludes

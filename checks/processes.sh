@@ -3,22 +3,14 @@
 # nothing behind, and ends with status 1 at any difference.
 #
 #   checks/processes.sh          the program is crates/nopaxos/out/nopaxos, or the file that NOPAXOS names
-set -u
-cd "$(dirname "$0")/.." || exit 2
-program=${NOPAXOS:-crates/nopaxos/out/nopaxos}
+. "$(dirname "$0")/common.bash" || exit 2
+needs "${NOPAXOS:-}" nopaxos -- replay
+
 schedule=examples/one-put.schedule
 transcript=examples/one-put.transcript
-if [ ! -x "$program" ]; then
-    (cd crates/nopaxos && rt run -- replay < stdin > /dev/null 2>&1)
-fi
-[ -x "$program" ] || { echo "processes: there is no program file $program"; exit 1; }
-
-folder=$(mktemp -d) || exit 2
 base=$((20000 + $$ % 2000 * 20))
 site="--replicas 3 --sequencers 1 --base $base"
 usage='usage: nopaxos replay | gen | node | sequencer | controller | client | cluster | check'
-made=0
-wrong=0
 server=
 trap '[ -z "$server" ] || kill "$server" 2> /dev/null; rm -rf "$folder"' EXIT
 
@@ -26,14 +18,11 @@ trap '[ -z "$server" ] || kill "$server" 2> /dev/null; rm -rf "$folder"' EXIT
 same() {
     made=$((made + 1))
     if [ "$2" != "$3" ]; then
-        echo "processes: $1: status $2 and not $3"
-        wrong=$((wrong + 1))
+        differs "$1: status $2 and not $3"
     elif [ "$(cat "$folder/out")" != "$4" ]; then
-        echo "processes: $1: it wrote '$(head -c 300 "$folder/out")' and not '$4'"
-        wrong=$((wrong + 1))
+        differs "$1: it wrote '$(head -c 300 "$folder/out")' and not '$4'"
     elif [ -s "$folder/err" ]; then
-        echo "processes: $1: on standard error '$(head -c 300 "$folder/err")'"
-        wrong=$((wrong + 1))
+        differs "$1: on standard error '$(head -c 300 "$folder/err")'"
     fi
     : > "$folder/out"
     : > "$folder/err"
@@ -46,8 +35,7 @@ answered() {
         [ "$(cat "$folder/out")" = "$2" ] && return
         sleep 0.05
     done
-    echo "processes: $1: after ten seconds it had written '$(head -c 300 "$folder/out")' and not '$2'"
-    wrong=$((wrong + 1))
+    differs "$1: after ten seconds it had written '$(head -c 300 "$folder/out")' and not '$2'"
 }
 
 # ---- replay
@@ -183,8 +171,4 @@ served 1 lost 0"
     server=
 }
 
-if [ "$wrong" != 0 ]; then
-    echo "processes: $wrong of $made differ"
-    exit 1
-fi
-echo "processes: $made as they must be"
+concludes

@@ -6,24 +6,8 @@
 #
 #   checks/stories.sh            the program is crates/spacetime/out/spacetime, or the file that SPACETIME names
 #   checks/stories.sh --draw     writes the pictures that are there anew
-set -u
-cd "$(dirname "$0")/.." || exit 2
-program=${SPACETIME:-crates/spacetime/out/spacetime}
-if [ ! -x "$program" ]; then
-    (cd crates/spacetime && rt run < stdin > /dev/null 2>&1)
-fi
-[ -x "$program" ] || { echo "stories: there is no program file $program"; exit 1; }
-
-folder=$(mktemp -d) || exit 2
-trap 'rm -rf "$folder"' EXIT
-made=0
-wrong=0
-
-# differs WORDS..: one more difference.
-differs() {
-    echo "stories: $*"
-    wrong=$((wrong + 1))
-}
+. "$(dirname "$0")/common.bash" || exit 2
+needs "${SPACETIME:-}" spacetime
 
 # told NAME: the story quotes its transcript, shows its picture where it has a schedule, and is named in the list.
 told() {
@@ -92,8 +76,4 @@ same 'a folder as input' $? 3 'error reading the schedule'
 "$program" < examples/one-put.schedule > /dev/full 2> "$folder/err"
 same 'a full disk' $? 4 'error writing the picture'
 
-if [ "$wrong" != 0 ]; then
-    echo "stories: $wrong differences in $made"
-    exit 1
-fi
-echo "stories: $made as they must be"
+concludes

@@ -3,24 +3,8 @@
 # with a line that is too long to store. It takes a few seconds, leaves nothing behind, and ends with status 1 at any difference.
 #
 #   checks/transcripts.sh        the program is crates/nopaxos/out/nopaxos, or the file that NOPAXOS names
-set -u
-cd "$(dirname "$0")/.." || exit 2
-program=${NOPAXOS:-crates/nopaxos/out/nopaxos}
-if [ ! -x "$program" ]; then
-    (cd crates/nopaxos && rt run -- replay < stdin > /dev/null 2>&1)
-fi
-[ -x "$program" ] || { echo "transcripts: there is no program file $program"; exit 1; }
-
-folder=$(mktemp -d) || exit 2
-trap 'rm -rf "$folder"' EXIT
-made=0
-wrong=0
-
-# differs WORDS..: one more difference.
-differs() {
-    echo "transcripts: $*"
-    wrong=$((wrong + 1))
-}
+. "$(dirname "$0")/common.bash" || exit 2
+needs "${NOPAXOS:-}" nopaxos -- replay
 
 # same NAME SCHEDULE TRANSCRIPT: the status is 1 where the transcript ends with an error line, and else 0.
 same() {
@@ -59,8 +43,4 @@ same 'a line that is too long' "$folder/schedule" "$folder/transcript"
 printf 'transcript 1 %s\nerror line 2 rule 3\n' "$header" > "$folder/transcript"
 same 'a line of the greatest length' "$folder/schedule" "$folder/transcript"
 
-if [ "$wrong" != 0 ]; then
-    echo "transcripts: $wrong of $made differ"
-    exit 1
-fi
-echo "transcripts: $made as they must be"
+concludes

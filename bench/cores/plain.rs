@@ -30,6 +30,7 @@ struct StartView {
     sender: u8,
     view: (u32, u32),
     next: u64,
+    sync_point: u32,
     log: Vec<Entry>,
 }
 
@@ -38,6 +39,7 @@ struct ViewChange {
     view: (u32, u32),
     last_normal: (u32, u32),
     next: u64,
+    sync_point: u32,
     log: Vec<Entry>,
 }
 
@@ -97,7 +99,7 @@ fn split_request(bytes: &[u8]) -> Option<(Request, &[u8])> {
 }
 
 fn decode(bytes: &[u8]) -> Option<Datagram> {
-    let ([b'N', b'O', 1, kind], rest) = split(bytes)? else {
+    let ([b'N', b'O', 2, kind], rest) = split(bytes)? else {
         return None;
     };
     if kind == 2 {
@@ -115,7 +117,7 @@ fn decode(bytes: &[u8]) -> Option<Datagram> {
     let (index, rest) = split_u16(rest)?;
     let (count, payload) = split_u16(rest)?;
     let least = if index + 1 < count { 1400 } else { 1 };
-    let fits = replica < 7 && message > 0 && index < count && count <= 2048;
+    let fits = replica < 7 && message > 0 && index < count && count <= 4096;
     let fits = fits && least <= payload.len() && payload.len() <= 1400;
     let payload = payload.to_vec();
     fits.then_some(Datagram::Fragment { replica, message, index, count, payload })
@@ -129,9 +131,11 @@ fn split_entry(bytes: &[u8]) -> Option<(Entry, &[u8])> {
     }
 }
 
-fn split_log(bytes: &[u8]) -> Option<(Vec<Entry>, &[u8])> {
-    let (count, mut rest) = split_u32(bytes)?;
-    if count > 4096 {
+/// A sync point, and the log.
+fn split_log(bytes: &[u8]) -> Option<(u32, Vec<Entry>, &[u8])> {
+    let (sync_point, rest) = split_u32(bytes)?;
+    let (count, mut rest) = split_u32(rest)?;
+    if count > 4096 || count < sync_point {
         return None;
     }
     let mut log = Vec::with_capacity(rest.len().min(count as usize));
@@ -140,7 +144,7 @@ fn split_log(bytes: &[u8]) -> Option<(Vec<Entry>, &[u8])> {
         log.push(entry);
         rest = after;
     }
-    Some((log, rest))
+    Some((sync_point, log, rest))
 }
 
 fn decode_message(bytes: &[u8]) -> Option<Message> {
@@ -152,13 +156,13 @@ fn decode_message(bytes: &[u8]) -> Option<Message> {
         _ => return None,
     };
     let (next, rest) = split_u64(rest)?;
-    let (log, rest) = split_log(rest)?;
+    let (sync_point, log, rest) = split_log(rest)?;
     if sender > 6 || next == 0 || next > 1 << 48 || !rest.is_empty() {
         return None;
     }
     Some(match kind {
-        21 => Message::Change(ViewChange { sender, view, last_normal, next, log }),
-        _ => Message::Start(StartView { sender, view, next, log }),
+        21 => Message::Change(ViewChange { sender, view, last_normal, next, sync_point, log }),
+        _ => Message::Start(StartView { sender, view, next, sync_point, log }),
     })
 }
 
@@ -167,12 +171,13 @@ fn encode_start_view(message: &StartView) -> Vec<u8> {
         Entry::NoOp => 1,
         Entry::Req(request) => 15 + request.op.len(),
     };
-    let mut to = Vec::with_capacity(22 + message.log.iter().map(len).sum::<usize>());
+    let mut to = Vec::with_capacity(26 + message.log.iter().map(len).sum::<usize>());
     to.push(22);
     to.push(message.sender);
     to.extend_from_slice(&message.view.0.to_be_bytes());
     to.extend_from_slice(&message.view.1.to_be_bytes());
     to.extend_from_slice(&message.next.to_be_bytes());
+    to.extend_from_slice(&message.sync_point.to_be_bytes());
     to.extend_from_slice(&(message.log.len() as u32).to_be_bytes());
     for entry in &message.log {
         let Entry::Req(request) = entry else {
@@ -194,7 +199,7 @@ fn cut(sender: u8, message: u64, bytes: &[u8], out: &mut Vec<Vec<u8>>) {
     let count = parts.len() as u16;
     for (index, part) in parts.enumerate() {
         let mut to = Vec::with_capacity(17 + part.len());
-        to.extend_from_slice(b"NO\x01\x08");
+        to.extend_from_slice(b"NO\x02\x08");
         to.push(sender);
         to.extend_from_slice(&message.to_be_bytes());
         to.extend_from_slice(&(index as u16).to_be_bytes());
@@ -206,7 +211,7 @@ fn cut(sender: u8, message: u64, bytes: &[u8], out: &mut Vec<Vec<u8>>) {
 
 fn encode(reply: &Reply) -> Vec<u8> {
     let mut to = Vec::with_capacity(32 + reply.result.len());
-    to.extend_from_slice(b"NO\x01\x03");
+    to.extend_from_slice(b"NO\x02\x03");
     to.push(reply.replica);
     to.extend_from_slice(&reply.view.0.to_be_bytes());
     to.extend_from_slice(&reply.view.1.to_be_bytes());
@@ -226,6 +231,7 @@ struct Replica {
     last_normal: (u32, u32),
     messages: u64,
     next: u64,
+    sync_point: u32,
     log: Vec<Entry>,
     queue: BTreeMap<u64, Request>,
     unfinished: HashMap<(u8, u64), Unfinished>,
@@ -254,6 +260,7 @@ impl Replica {
             last_normal: (0, 1),
             messages: 0,
             next: 1,
+            sync_point: 0,
             log: Vec::new(),
             queue: BTreeMap::new(),
             unfinished: HashMap::new(),
@@ -313,8 +320,15 @@ impl Replica {
         self.is_normal = true;
         self.last_normal = message.view;
         self.next = message.next;
-        self.log = message.log;
-        for slot in 1..=self.log.len() {
+        let own = std::mem::replace(&mut self.log, message.log);
+        if self.sync_point < message.sync_point {
+            self.sync_point = message.sync_point;
+        } else {
+            for (entry, own) in self.log.iter_mut().zip(own).take(self.sync_point as usize) {
+                *entry = own;
+            }
+        }
+        for slot in self.sync_point as usize + 1..=self.log.len() {
             self.reply_at(slot, out);
         }
     }
@@ -332,9 +346,9 @@ impl Replica {
             return;
         }
         let own = std::mem::take(&mut self.log);
-        let (next, log) = match message.last_normal.cmp(&self.last_normal) {
-            Ordering::Less => (self.next, own),
-            Ordering::Greater => (message.next, message.log),
+        let (next, sync_point, log) = match message.last_normal.cmp(&self.last_normal) {
+            Ordering::Less => (self.next, self.sync_point, own),
+            Ordering::Greater => (message.next, message.sync_point, message.log),
             Ordering::Equal => {
                 let own_is_longer = message.log.len() <= own.len();
                 let (mut log, other) = if own_is_longer { (own, message.log) } else { (message.log, own) };
@@ -343,10 +357,10 @@ impl Replica {
                         *entry = Entry::NoOp;
                     }
                 }
-                (self.next.max(message.next), log)
+                (self.next.max(message.next), self.sync_point.max(message.sync_point), log)
             }
         };
-        let start = StartView { sender: self.number, view: self.view, next, log };
+        let start = StartView { sender: self.number, view: self.view, next, sync_point, log };
         self.messages += 1;
         cut(self.number, self.messages, &encode_start_view(&start), out);
         self.adopt(start, out);
@@ -402,7 +416,7 @@ fn request(number: u32, to: &mut Vec<u8>) {
 }
 
 fn stamped(number: u32) -> Vec<u8> {
-    let mut to = b"NO\x01\x02\0\0\0\x01".to_vec();
+    let mut to = b"NO\x02\x02\0\0\0\x01".to_vec();
     to.extend_from_slice(&u64::from(number).to_be_bytes());
     request(number, &mut to);
     to
@@ -428,7 +442,9 @@ fn start_view(entries: u32) -> Vec<Vec<u8>> {
     fragments
 }
 
+/// A log of which nothing is synchronised.
 fn log(entries: u32, to: &mut Vec<u8>) {
+    to.extend_from_slice(&0u32.to_be_bytes());
     to.extend_from_slice(&entries.to_be_bytes());
     for number in 1..=entries {
         to.push(1);

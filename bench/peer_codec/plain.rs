@@ -19,6 +19,7 @@ struct StartView {
     leader: u32,
     session: u32,
     next: u64,
+    sync_point: u32,
     log: Vec<Entry>,
 }
 
@@ -67,8 +68,10 @@ fn decode(bytes: &[u8]) -> Result<StartView, Bad> {
     let session = within(u32::from_be_bytes(session), 1, u32::MAX)?;
     let (next, rest) = split(rest)?;
     let next = within(u64::from_be_bytes(next), 1, 1 << 48)?;
+    let (sync_point, rest) = split(rest)?;
+    let sync_point = u32::from_be_bytes(sync_point);
     let (count, mut rest) = split(rest)?;
-    let count = within(u32::from_be_bytes(count), 0, 4096)? as usize;
+    let count = within(u32::from_be_bytes(count), sync_point, 4096)? as usize;
     let mut log = Vec::with_capacity(count.min(rest.len()));
     for _ in 0..count {
         let (found, after) = entry(rest)?;
@@ -78,7 +81,7 @@ fn decode(bytes: &[u8]) -> Result<StartView, Bad> {
     if !rest.is_empty() {
         return Err(Bad::Trailing);
     }
-    Ok(StartView { sender, leader, session, next, log })
+    Ok(StartView { sender, leader, session, next, sync_point, log })
 }
 
 fn entry_len(entry: &Entry) -> usize {
@@ -90,11 +93,12 @@ fn entry_len(entry: &Entry) -> usize {
 
 fn encode(message: &StartView) -> Vec<u8> {
     let len: usize = message.log.iter().map(entry_len).sum();
-    let mut to = Vec::with_capacity(22 + len);
+    let mut to = Vec::with_capacity(26 + len);
     to.extend_from_slice(&[22, message.sender]);
     to.extend_from_slice(&message.leader.to_be_bytes());
     to.extend_from_slice(&message.session.to_be_bytes());
     to.extend_from_slice(&message.next.to_be_bytes());
+    to.extend_from_slice(&message.sync_point.to_be_bytes());
     to.extend_from_slice(&(message.log.len() as u32).to_be_bytes());
     for entry in &message.log {
         match entry {
@@ -115,7 +119,7 @@ fn spelled(entries: u16) -> Vec<u8> {
     let op = b"abcdefghijklmnopqrst";
     let request = |id| Entry::Req(Request { client: 7, id, op: op.to_vec() });
     let log = (1..=u64::from(entries)).map(request).collect();
-    encode(&StartView { sender: 0, leader: 0, session: 1, next: 4097, log })
+    encode(&StartView { sender: 0, leader: 0, session: 1, next: 4097, sync_point: 0, log })
 }
 
 fn megabytes_a_second(bytes: usize, start: Instant) -> u128 {

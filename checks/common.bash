@@ -1,0 +1,34 @@
+# What the scripts of this folder share: each sources it first. It goes to the top of the tree, makes the folder $folder, which is removed in
+# the end, and counts what was looked at (made) and what differs (wrong).
+set -u
+check=$(basename "$0" .sh)
+cd "$(dirname "$0")/.." || exit 2
+folder=$(mktemp -d) || exit 2
+trap 'rm -rf "$folder"' EXIT
+made=0
+wrong=0
+
+# needs FILE CRATE WORDS..: the program is FILE, or that of the crate where FILE is empty. One that is not there is proved and built, by a run
+# with these words.
+needs() {
+    program=${1:-crates/$2/out/$2}
+    if [ ! -x "$program" ]; then
+        (cd "crates/$2" && rt run "${@:3}" < stdin > /dev/null 2>&1)
+    fi
+    [ -x "$program" ] || { echo "$check: there is no program file $program"; exit 1; }
+}
+
+# differs WORDS..: one more difference.
+differs() {
+    echo "$check: $*"
+    wrong=$((wrong + 1))
+}
+
+# concludes: says how many were looked at, and ends with status 1 where one differs.
+concludes() {
+    if [ "$wrong" != 0 ]; then
+        echo "$check: $wrong of $made differ"
+        exit 1
+    fi
+    echo "$check: $made as they must be"
+}
