@@ -4,10 +4,11 @@
 # here are ended, by their ids. docs/FORMATS.md says what the lines mean, docs/RUNNING.md what else there is to know.
 #
 #   examples/cluster.sh [REPLICAS]       3 replicas, or 1, 5 or 7; with 1, nothing is killed
-#   NOPAXOS  the program file (crates/nopaxos/out/nopaxos, which `rt run` leaves)
+#   NOPAXOS  the program file (crates/nopaxos/out/nopaxos, which `rt run` leaves); a relative name counts from the repository
 #   BASE     the port of replica 0, 1024 to 65000 (47000): the ports from there to BASE + 31 belong to the cluster
 #
-# Status 0: all ops were accepted; 1: not so, or a node did not start; 2: arguments that are not taken, nothing started.
+# Status 0: all ops were accepted; 1: not so, or a node did not start; 2: arguments that are not taken, nothing started; 130
+# or 143: interrupted or terminated, at once and with all that was started, also while a client waits.
 set -u
 cd "$(dirname "$0")/.." || exit 2
 
@@ -38,12 +39,13 @@ fi
 folder=$(mktemp -d) || exit 1
 declare -A pids=()
 stop() {
-    for pid in "${pids[@]}"; do kill "$pid" 2> /dev/null; done
+    for pid in "${pids[@]}"; do kill "$pid" 2> /dev/null && kill -CONT "$pid" 2> /dev/null; done
     for pid in "${pids[@]}"; do wait "$pid" 2> /dev/null; done
     rm -rf "$folder"
 }
 trap stop EXIT
-trap 'exit 130' INT TERM
+trap 'exit 130' INT
+trap 'exit 143' TERM
 
 # start NAME ARGUMENTS..: a node whose lines go to a file of its name.
 start() {
@@ -62,15 +64,18 @@ runs() {
     exit 1
 }
 
-# client NUMBER WHAT OPS..: what it does, its lines, and its exit status.
+# client NUMBER WHAT OPS..: what it does, its lines, and its exit status. Only a `wait` is left at once for a trap.
 client() {
     local number=$1
     echo
     echo "client $number: $2"
     shift 2
     # shellcheck disable=SC2086
-    timeout 60 "$program" client --id "$number" $site "$@"
+    timeout 60 "$program" client --id "$number" $site "$@" &
+    pids[client]=$!
+    wait "${pids[client]}"
     local status=$?
+    unset 'pids[client]'
     echo "status $status"
     [ "$status" = 0 ] || failed=1
     [ "$status" != 124 ] || echo "client $number had no answer within a minute, and was ended"
