@@ -1,4 +1,5 @@
 pub mod Bools
+pub mod Bytes
 pub mod Functions
 pub mod Limits
 pub mod Members

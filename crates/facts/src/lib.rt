@@ -1,6 +1,6 @@
 //! Lemmas for the proofs of the crates above: on members, places and prefixes of lists, on slots of
-//! logs, on numbers, on the order and the rank of views, and on a function of which one place
-//! changes (`put`, in `specs/Functions`). There is no code here, and no contract.
+//! logs, on numbers and bytes, on the order and the rank of views, and on a function of which one
+//! place changes (`put`, in `specs/Functions`). There is no code here, and no contract.
 //!
 //! A lemma that speaks of nothing else and serves in two files is here once; what std has is cited
 //! from std. An equation is named by its left side (`length-laid`), another lemma by what it gives.
@@ -8,5 +8,5 @@
 //! `laid_parts`.
 //!
 //! Files, in `proofs/`: `Members`, `Places`, `Prefixes`, `Slots`, `Numbers`, `Views`, `Functions`;
-//! `Limits` of a configuration, `Bools`, `Options`.
+//! `Limits` of a configuration, `Bools`, `Options`; `Bytes`, with services that answer with bytes.
 #![tactic(auto)]

@@ -1,3 +1,4 @@
+pub mod BorrowedLogs
 pub mod CheckpointedLogs
 pub mod Checkpoints
 pub mod Configuration
@@ -10,7 +11,9 @@ pub mod Lists
 pub mod Logs
 pub mod Machine
 pub mod Meaning
+pub mod PlainChanges
 pub mod Ranges
+pub mod Services
 pub mod Slots
 pub mod Stamps
 pub mod Tables

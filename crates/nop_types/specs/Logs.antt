@@ -1,5 +1,5 @@
 -- A log that is kept whole, or trimmed: in place of its entries up to the sync point a checkpoint stands.
-use Rattle.std.specs.Prelude.{ℕ, ◌+◌, ◌-◌, ◌≤◌, List, [], ◌∷◌, ◌++◌, length, take, drop, cond, Option, nat_lt}
+use Rattle.std.specs.Prelude.{ℕ, ◌+◌, ◌-◌, ◌≤◌, List, [], ◌∷◌, ◌++◌, length, take, drop, cond, Option, None, nat_lt}
 use Rattle.nop_types.specs.declared.request.Entry.{Entry}
 use Rattle.nop_types.specs.declared.request.Entry.TheVariants.{NoOp}
 use Rattle.nop_types.specs.Lists.{slot_of}
@@ -11,6 +11,13 @@ pub record Log : Type 0 where
   pub sync_point : ℕ
   pub checkpoint : Option Checkpoint
   pub entries : List Entry
+
+-- a log that is kept whole
+abbrev pub whole : ℕ → List Entry → Log
+whole sync_point entries = record { sync_point = sync_point; checkpoint = None; entries = entries }
+
+abbrev pub empty : Log
+empty = whole 0 []
 
 -- how a log is read: its entries are those from slot 1 on, or those above its sync point
 pub data Keeping : Type 0 where

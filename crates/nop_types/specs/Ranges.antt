@@ -1,8 +1,9 @@
 -- The ranges of the fields of messages.
-use Rattle.std.specs.Prelude.{◌≡◌, ℕ, ◌+◌, ◌<◌, ◌≤◌, ◌^◌, length, List, ⊤}
+use Rattle.std.specs.Prelude.{◌≡◌, ℕ, ◌+◌, ◌<◌, ◌≤◌, ◌^◌, length, List, None, ⊤}
 use Rattle.std.specs.List.{AllByRecursion}
 use Rattle.nop_types.specs.declared.limits.TheConstants.{MAX_OP_BYTES, MAX_RESULT_BYTES, MAX_SLOTS, MAX_FRAGMENTS, FRAGMENT_BYTES}
 use Rattle.nop_types.specs.declared.limits.TheConstants.{NUMBER_END}
+use Rattle.nop_types.specs.Logs.{Log}
 use Rattle.nop_types.specs.declared.view.View.{View}
 use Rattle.nop_types.specs.declared.request.Request.{Request}
 use Rattle.nop_types.specs.declared.request.Entry.{Entry}
@@ -85,28 +86,29 @@ abbrev pub EntryFits : Entry → Type 0
 EntryFits NoOp = ⊤
 EntryFits (Req r) = RequestFits r
 
-pub record LogFits (log : List Entry) : Type 0 where
-  pub len : length log ≤ MAX_SLOTS
-  pub each : AllByRecursion EntryFits log
+pub record EntriesFit (entries : List Entry) : Type 0 where
+  pub len : length entries ≤ MAX_SLOTS
+  pub each : AllByRecursion EntryFits entries
+
+-- a log is kept whole, with its sync point within it
+pub record LogFits (log : Log) : Type 0 where
+  pub whole : log.checkpoint ≡ None
+  pub entries : EntriesFit log.entries
+  pub point : log.sync_point ≤ length log.entries
 
 -- the number of the next request of a session
 pub record NextFits (next : ℕ) : Type 0 where
   pub low : 1 ≤ next
   pub high : next ≤ NUMBER_END
 
--- a log that is told, with its sync point within it
-pub record ToldFits (sync_point : ℕ) (log : List Entry) : Type 0 where
-  pub entries : LogFits log
-  pub point : sync_point ≤ length log
-
-pub record LogChangeFits (last_normal : View) (next sync_point : ℕ) (log : List Entry) : Type 0 where
+pub record LogChangeFits (last_normal : View) (next : ℕ) (log : Log) : Type 0 where
   pub view : ViewFits last_normal
   pub number : NextFits next
-  pub told : ToldFits sync_point log
+  pub told : LogFits log
 
-pub record LogStartFits (next sync_point : ℕ) (log : List Entry) : Type 0 where
+pub record LogStartFits (next : ℕ) (log : Log) : Type 0 where
   pub number : NextFits next
-  pub told : ToldFits sync_point log
+  pub told : LogFits log
 
 pub record FoundFits (slot : ℕ) (r : Request) : Type 0 where
   pub place : SlotFits slot
@@ -118,9 +120,9 @@ BodyFits (bodies.Found slot r) = FoundFits slot r
 BodyFits (bodies.GapCommit slot) = SlotFits slot
 BodyFits (bodies.GapRep slot) = SlotFits slot
 BodyFits bodies.ViewChangeReq = ⊤
-BodyFits (bodies.ViewChange last_normal next sync_point log) = LogChangeFits last_normal next sync_point log
-BodyFits (bodies.StartView next sync_point log) = LogStartFits next sync_point log
-BodyFits (bodies.SyncPrepare sync_point log) = ToldFits sync_point log
+BodyFits (bodies.ViewChange last_normal next log) = LogChangeFits last_normal next log
+BodyFits (bodies.StartView next log) = LogStartFits next log
+BodyFits (bodies.SyncPrepare log) = LogFits log
 BodyFits (bodies.SyncRep len) = len < 2 ^ 32
 BodyFits (bodies.SyncCommit len) = len < 2 ^ 32
 
@@ -131,4 +133,4 @@ pub record PeerFits (p : Peer) : Type 0 where
 
 pub record ChangeFits (c : Change) : Type 0 where
   pub sender : c.sender ≤ 6
-  pub rest : LogChangeFits c.last_normal c.next c.sync_point c.log
+  pub rest : LogChangeFits c.last_normal c.next c.log

@@ -20,8 +20,10 @@
 //! `limits`. Definitions: `specs/Execution` (`exec`, what the execution of a log leaves;
 //! `is_executed`, by `Windows` and the first clients of the log), `Tables` (what is kept for a
 //! client), `Checkpoints`, `Histories` (`history_of`: the requests that are executed), `Legality`
-//! (`Legal`: when lines agree with a history), `Ranges` (of each field of a message); `Logs` and
-//! `CheckpointedLogs` (logs that are kept whole or trimmed; nothing that runs trims one yet).
+//! (`Legal`: when lines agree with a history), `Services` (`AnswersAreBytes`), `Ranges` (of each
+//! field of a message), `Logs` and `CheckpointedLogs` (a log with its sync point, kept whole or
+//! trimmed; what runs keeps it whole), `PlainChanges` (a change whose log is a list, as the
+//! protocol tells it).
 #![tactic(auto)]
 
 mod bytes;
@@ -56,7 +58,7 @@ pub use limits::{
     MAX_LINE_BYTES, MAX_LINES, MAX_OP_BYTES, MAX_QUEUED, MAX_REPLICAS, MAX_RESULT_BYTES,
     MAX_SEQUENCERS, MAX_SERVED, MAX_SLOTS, MAX_UNFINISHED, MAX_VALUE_BYTES, NUMBER_END, WINDOW,
 };
-pub use log::Log;
+pub use log::{Log, LogRef};
 pub use memory::NoMemory;
 pub use op::Op;
 pub use output::{Accept, Actor, Dest, Out, Outbox};

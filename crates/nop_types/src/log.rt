@@ -1,83 +1,94 @@
-ghost use Rattle.std.specs.Prelude.{◌≡◌, ◌++◌, ◌∷◌, ◌<◌, ◌≤◌, [], length, OnOk, OnErr, IfOk};
+ghost use Rattle.std.specs.Prelude.{◌≡◌, ◌≤◌, None, length, IfOk};
+ghost use Rattle.nop_types.specs.Logs.{whole};
+ghost use Rattle.nop_types.specs.BorrowedLogs.{log_of};
 
 use crate::{Entry, MAX_SLOTS, NoMemory};
 use std::alloc::Global;
 use std::marker::Model;
 
-/// A list of at most `MAX_SLOTS` entries, as messages carry it. Slots count from 1.
+/// A log that is kept whole, as messages carry it: its sync point, and at most `MAX_SLOTS` entries, that of slot 1 first.
 #[derive(Debug)]
 pub struct Log {
+    sync_point: u32,
     entries: Vec<Entry>,
+}
+
+/// A log that is borrowed, with the same limits.
+#[derive(Debug, Clone, Copy)]
+pub struct LogRef<'a> {
+    pub sync_point: u32,
+    pub entries: &'a [Entry],
 }
 
 // By hand, so that a crate with a log proves nothing on how its parts are dropped.
 impl Drop for Log {
     fn drop(self) {
-        let Log { entries: _entries } = self;
+        let Log {
+            sync_point: _sync_point,
+            entries: _entries,
+        } = self;
     }
 }
 
 impl Model for Log {
-    ghost use Rattle.std.specs.Prelude.{List, length, ◌≤◌};
+    ghost use Rattle.std.specs.Prelude.{length, ◌≤◌};
     ghost use Rattle.nop_types.specs.declared.limits.TheConstants.{MAX_SLOTS};
-    ghost use Rattle.nop_types.specs.declared.request.Entry.{Entry};
+    ghost use Rattle.nop_types.specs.Logs as logs;
 
-    ghost Value = { List Entry };
+    ghost Value = { logs.Log };
 
-    ghost view = { λ l. l.entries.items };
+    ghost view = { λ l. logs.whole l.sync_point l.entries.items };
 
     ghost invariant = { λ l. length l.entries.items ≤ MAX_SLOTS };
 }
 
 impl Log {
-    pub fn new(alloc: Global) -> Log
-        ensures { result ≡ [] }
+    /// A log with these entries, without a copy.
+    pub fn new(sync_point: u32, entries: Vec<Entry>) -> Log
+        requires { length entries.items ≤ MAX_SLOTS }
+        ensures { result ≡ whole sync_point entries.items }
     {
         Log {
-            entries: Vec::new(alloc),
+            sync_point,
+            entries,
         }
     }
 
-    /// An empty log with room for `capacity` entries.
-    pub fn with_capacity(alloc: Global, capacity: usize) -> Result<Log, NoMemory>
-        ensures { IfOk result (λ l. l ≡ []) }
+    pub fn sync_point(&self) -> u32
+        ensures { result ≡ self.now.sync_point }
     {
-        Ok(Log {
-            entries: Vec::with_capacity(alloc, capacity)?,
-        })
+        self.sync_point
     }
 
-    /// The entries of a vector, without a copy.
-    pub fn from_vec(entries: Vec<Entry>) -> Log
-        requires { length entries.items ≤ MAX_SLOTS }
-        ensures { result ≡ entries.items }
-    {
-        Log { entries }
-    }
-
-    /// The entries as a vector, without a copy.
-    pub fn into_vec(self) -> Vec<Entry>
-        ensures entries { result.items ≡ self }
-        ensures len { length self ≤ MAX_SLOTS }
-    {
-        let Log { entries } = self;
-        entries
-    }
-
-    pub fn as_slice(&self) -> &[Entry]
-        ensures entries { result.now ≡ self.now }
-        ensures len { length self.now ≤ MAX_SLOTS }
+    pub fn entries(&self) -> &[Entry]
+        ensures entries { result.now ≡ self.now.entries }
+        ensures len { length self.now.entries ≤ MAX_SLOTS }
     {
         &self.entries
     }
 
-    pub fn push(&mut self, entry: Entry) -> Result<(), NoMemory>
-        requires { length self.old < MAX_SLOTS }
-        ensures ok { OnOk result (self.new ≡ self.old ++ entry ∷ []) }
-        ensures err { OnErr result (self.new ≡ self.old) }
+    /// The entries as a vector, without a copy.
+    pub fn into_entries(self) -> Vec<Entry>
+        ensures entries { result.items ≡ self.entries }
+        ensures len { length self.entries ≤ MAX_SLOTS }
+        ensures whole { self.checkpoint ≡ None }
     {
-        self.entries.push(entry)?;
-        Ok(())
+        let Log {
+            sync_point: _sync_point,
+            entries,
+        } = self;
+        entries
+    }
+
+    pub fn as_ref(&self) -> LogRef<'_>
+        ensures log { log_of result ≡ self.now }
+        ensures len { length self.now.entries ≤ MAX_SLOTS }
+        ensures whole { self.now.checkpoint ≡ None }
+    {
+        LogRef {
+            sync_point: self.sync_point,
+            entries: &self.entries,
+        }
     }
 
     pub fn try_clone(&self) -> Result<Log, NoMemory>
@@ -87,6 +98,9 @@ impl Log {
         for entry in &self.entries {
             entries.push(entry.try_clone()?)?;
         }
-        Ok(Log { entries })
+        Ok(Log {
+            sync_point: self.sync_point,
+            entries,
+        })
     }
 }

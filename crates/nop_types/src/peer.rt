@@ -8,8 +8,7 @@ pub struct Peer {
     pub body: Body,
 }
 
-/// The kinds of peer messages. A number of a slot or a length counts slots from 1. A log is told with its sync point, which is
-/// within it.
+/// The kinds of peer messages. A number of a slot or a length counts slots from 1. The sync point of a log is within it.
 #[derive(Debug, Drop)]
 pub enum Body {
     SlotLookup(u32),
@@ -20,28 +19,22 @@ pub enum Body {
     ViewChange {
         last_normal: View,
         next: u64,
-        sync_point: u32,
         log: Log,
     },
     StartView {
         next: u64,
-        sync_point: u32,
         log: Log,
     },
-    SyncPrepare {
-        sync_point: u32,
-        log: Log,
-    },
+    SyncPrepare(Log),
     SyncRep(u32),
     SyncCommit(u32),
 }
 
-/// What a replica had when it entered a view: its last normal view, its next message number, its sync point and its log.
+/// What a replica had when it entered a view: its last normal view, its next message number and its log.
 #[derive(Debug, Drop)]
 pub struct Change {
     pub sender: u8,
     pub last_normal: View,
     pub next: u64,
-    pub sync_point: u32,
     pub log: Log,
 }
