@@ -1,7 +1,7 @@
 ghost use Rattle.nop_types.specs.Ranges.{PeerFits};
 
 use crate::rows::{bytes_of, is_told, text};
-use nop_types::{Entry, Peer, View};
+use nop_types::{Entry, LogRef, Peer, View};
 use peer_codec::{EncodedPeer, LogBody, decode_peer, encode_peer, encode_with_log, read_peer};
 use std::alloc::Global;
 use std::process::Abort;
@@ -14,20 +14,20 @@ const EXAMPLES: &str = "\
 12 00 00000000 00000001 00000001 = Peer { sender: 0, view: View { leader: 0, session: 1 }, body: GapCommit(1) }
 13 01 00000000 00000001 00000001 = Peer { sender: 1, view: View { leader: 0, session: 1 }, body: GapRep(1) }
 14 01 00000001 00000001 = Peer { sender: 1, view: View { leader: 1, session: 1 }, body: ViewChangeReq }
-15 02 00000001 00000001 00000000 00000001 0000000000000003 00000001 00000002 01 00000000 0000000000000001 0007 5000016b000176 01 00000001 0000000000000001 0004 4700016b = Peer { sender: 2, view: View { leader: 1, session: 1 }, body: ViewChange { last_normal: View { leader: 0, session: 1 }, next: 3, sync_point: 1, log: Log { entries: [Req(Request { client: 0, id: 1, op: Op { bytes: [80, 0, 1, 107, 0, 1, 118] } }), Req(Request { client: 1, id: 1, op: Op { bytes: [71, 0, 1, 107] } })] } } }
-16 01 00000001 00000001 0000000000000003 00000002 00000002 00 01 00000001 0000000000000001 0004 4700016b = Peer { sender: 1, view: View { leader: 1, session: 1 }, body: StartView { next: 3, sync_point: 2, log: Log { entries: [NoOp, Req(Request { client: 1, id: 1, op: Op { bytes: [71, 0, 1, 107] } })] } } }
-17 00 00000000 00000001 00000000 00000001 01 00000000 0000000000000001 0007 5000016b000176 = Peer { sender: 0, view: View { leader: 0, session: 1 }, body: SyncPrepare { sync_point: 0, log: Log { entries: [Req(Request { client: 0, id: 1, op: Op { bytes: [80, 0, 1, 107, 0, 1, 118] } })] } } }
+15 02 00000001 00000001 00000000 00000001 0000000000000003 00000001 00000002 01 00000000 0000000000000001 0007 5000016b000176 01 00000001 0000000000000001 0004 4700016b = Peer { sender: 2, view: View { leader: 1, session: 1 }, body: ViewChange { last_normal: View { leader: 0, session: 1 }, next: 3, log: Log { sync_point: 1, entries: [Req(Request { client: 0, id: 1, op: Op { bytes: [80, 0, 1, 107, 0, 1, 118] } }), Req(Request { client: 1, id: 1, op: Op { bytes: [71, 0, 1, 107] } })] } } }
+16 01 00000001 00000001 0000000000000003 00000002 00000002 00 01 00000001 0000000000000001 0004 4700016b = Peer { sender: 1, view: View { leader: 1, session: 1 }, body: StartView { next: 3, log: Log { sync_point: 2, entries: [NoOp, Req(Request { client: 1, id: 1, op: Op { bytes: [71, 0, 1, 107] } })] } } }
+17 00 00000000 00000001 00000000 00000001 01 00000000 0000000000000001 0007 5000016b000176 = Peer { sender: 0, view: View { leader: 0, session: 1 }, body: SyncPrepare(Log { sync_point: 0, entries: [Req(Request { client: 0, id: 1, op: Op { bytes: [80, 0, 1, 107, 0, 1, 118] } })] }) }
 18 01 00000000 00000001 00000001 = Peer { sender: 1, view: View { leader: 0, session: 1 }, body: SyncRep(1) }
 19 00 00000000 00000001 00000001 = Peer { sender: 0, view: View { leader: 0, session: 1 }, body: SyncCommit(1) }
-16 01 00000001 00000001 0001000000000000 00000000 00000000 = Peer { sender: 1, view: View { leader: 1, session: 1 }, body: StartView { next: 281474976710656, sync_point: 0, log: Log { entries: [] } } }
+16 01 00000001 00000001 0001000000000000 00000000 00000000 = Peer { sender: 1, view: View { leader: 1, session: 1 }, body: StartView { next: 281474976710656, log: Log { sync_point: 0, entries: [] } } }
 18 01 00000000 00000001 00000000 = Peer { sender: 1, view: View { leader: 0, session: 1 }, body: SyncRep(0) }
 10 06 ffffffff ffffffff ffffffff = Peer { sender: 6, view: View { leader: 4294967295, session: 4294967295 }, body: SlotLookup(4294967295) }
 18 06 ffffffff ffffffff ffffffff = Peer { sender: 6, view: View { leader: 4294967295, session: 4294967295 }, body: SyncRep(4294967295) }
 19 00 00000000 00000001 ffffffff = Peer { sender: 0, view: View { leader: 0, session: 1 }, body: SyncCommit(4294967295) }
-17 06 ffffffff ffffffff 00001000 00001000 00*4096 = Peer { sender: 6, view: View { leader: 4294967295, session: 4294967295 }, body: SyncPrepare { sync_point: 4096, log: Log { entries: [NoOp, NoOp..
-17 00 00000000 00000001 00000001 00000001 01 ffffffff ffffffffffffffff 0280 ff*640 = Peer { sender: 0, view: View { leader: 0, session: 1 }, body: SyncPrepare { sync_point: 1, log: Log { entries: [Req(Request { client: 4294967295, id: 18446744073709551615, op: Op { bytes: [255, 255..
+17 06 ffffffff ffffffff 00001000 00001000 00*4096 = Peer { sender: 6, view: View { leader: 4294967295, session: 4294967295 }, body: SyncPrepare(Log { sync_point: 4096, entries: [NoOp, NoOp..
+17 00 00000000 00000001 00000001 00000001 01 ffffffff ffffffffffffffff 0280 ff*640 = Peer { sender: 0, view: View { leader: 0, session: 1 }, body: SyncPrepare(Log { sync_point: 1, entries: [Req(Request { client: 4294967295, id: 18446744073709551615, op: Op { bytes: [255, 255..
 11 00 00000000 00000001 ffffffff ffffffff ffffffffffffffff 0280 ff*640 = Peer { sender: 0, view: View { leader: 0, session: 1 }, body: Found(4294967295, Request { client: 4294967295, id: 18446744073709551615, op: Op { bytes: [255, 255..
-15 06 ffffffff ffffffff ffffffff ffffffff 0001000000000000 00001000 00001000 01ffffffffffffffffffffffff0000*4096 = Peer { sender: 6, view: View { leader: 4294967295, session: 4294967295 }, body: ViewChange { last_normal: View { leader: 4294967295, session: 4294967295 }, next: 281474976710656, sync_point: 4096, log: Log { entries: [Req(Request { client: 4294967295, id: 18446744073709551615, op: Op { bytes: [] } }), Req..";
+15 06 ffffffff ffffffff ffffffff ffffffff 0001000000000000 00001000 00001000 01ffffffffffffffffffffffff0000*4096 = Peer { sender: 6, view: View { leader: 4294967295, session: 4294967295 }, body: ViewChange { last_normal: View { leader: 4294967295, session: 4294967295 }, next: 281474976710656, log: Log { sync_point: 4096, entries: [Req(Request { client: 4294967295, id: 18446744073709551615, op: Op { bytes: [] } }), Req..";
 
 /// Bytes, and the first test that they fail: no bytes, other kinds, a sender of 7, a session of 0, a slot of 0, a next number of 2^48 + 1,
 /// logs of 4,097 entries, a sync point above the count, a tag of 2, an op of 641 bytes, and bytes that are missing or too many: within
@@ -97,7 +97,7 @@ fn rows(rt: HostRuntime) {
     }
 }
 
-/// A log of two NO-OPs, which messages borrow.
+/// The entries of a log of two NO-OPs, which messages borrow.
 const NO_OPS: [Entry; 2] = [Entry::NoOp, Entry::NoOp];
 
 const FIRST: View = View {
@@ -115,8 +115,10 @@ fn spells_a_borrowed_change(rt: HostRuntime) {
     let body = LogBody::ViewChange {
         last_normal: FIRST,
         next: 3,
-        sync_point: 1,
-        log: &NO_OPS,
+        log: LogRef {
+            sync_point: 1,
+            entries: &NO_OPS,
+        },
     };
     let change = EncodedPeer::with_log(rt.alloc(), 2, SECOND, body).expect(&rt, "memory");
     let bytes =
@@ -129,8 +131,10 @@ fn spells_a_borrowed_change(rt: HostRuntime) {
 fn spells_a_borrowed_start(rt: HostRuntime) {
     let body = LogBody::StartView {
         next: 3,
-        sync_point: 2,
-        log: &NO_OPS,
+        log: LogRef {
+            sync_point: 2,
+            entries: &NO_OPS,
+        },
     };
     let start = EncodedPeer::with_log(rt.alloc(), 1, SECOND, body).expect(&rt, "memory");
     let bytes = b"\x16\x01\0\0\0\x01\0\0\0\x01\0\0\0\0\0\0\0\x03\0\0\0\x02\0\0\0\x02\0\0";
@@ -142,10 +146,10 @@ fn spells_a_borrowed_start(rt: HostRuntime) {
 fn appends_a_borrowed_log(rt: HostRuntime) {
     let alloc = rt.alloc();
     let mut to = Vec::from_slice(alloc, b"before").expect(&rt, "memory");
-    let body = LogBody::SyncPrepare {
+    let body = LogBody::SyncPrepare(LogRef {
         sync_point: 1,
-        log: &NO_OPS,
-    };
+        entries: &NO_OPS,
+    });
     encode_with_log(alloc, 0, FIRST, body, &mut to).expect(&rt, "memory");
     let bytes = b"before\x17\0\0\0\0\0\0\0\0\x01\0\0\0\x01\0\0\0\x02\0\0";
     assert!(rt; to.as_slice() == bytes.as_slice());

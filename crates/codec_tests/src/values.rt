@@ -5,19 +5,17 @@ use std::process::Abort;
 
 /// A copy of a log of a request and a NO-OP, each of which is a copy.
 fn log(rt: &impl Abort, alloc: Global) -> Log {
-    let mut log = Log::with_capacity(alloc, 2).expect(rt, "memory");
     let first = request(rt, alloc, 7, 3, b"op");
     let first = first.try_clone().expect(rt, "memory");
-    log.push(Entry::Req(first)).expect(rt, "memory");
-    log.push(Entry::NoOp).expect(rt, "memory");
-    log.try_clone().expect(rt, "memory")
+    let entries = vec![in alloc; Entry::Req(first), Entry::NoOp].expect(rt, "memory");
+    Log::new(1, entries).try_clone().expect(rt, "memory")
 }
 
 #[test]
 fn copies(rt: HostRuntime) {
     let alloc = rt.alloc();
     let told =
-        "Log { entries: [Req(Request { client: 7, id: 3, op: Op { bytes: [111, 112] } }), NoOp] }";
+        "Log { sync_point: 1, entries: [Req(Request { client: 7, id: 3, op: Op { bytes: [111, 112] } }), NoOp] }";
     check_text(&rt, &text(&rt, alloc, &log(&rt, alloc)), told);
     let bytes = Bytes::new(alloc, b"abc").expect(&rt, "memory");
     let copy = bytes.try_clone().expect(&rt, "memory").into_vec();

@@ -35,7 +35,7 @@ fn put_peer(peer: &Peer, to: &mut Text) {
         Body::ViewChangeReq => put_view("ViewChangeReq ", peer.view, to),
         Body::ViewChange { .. } => put_view("ViewChange ", peer.view, to),
         Body::StartView { .. } => put_view("StartView ", peer.view, to),
-        Body::SyncPrepare { log, .. } => to.numbered("SyncPrepare ", log.as_slice().len() as u64),
+        Body::SyncPrepare(log) => to.numbered("SyncPrepare ", log.entries().len() as u64),
         Body::SyncRep(len) => put_slot("SyncRep ", *len, to),
         Body::SyncCommit(len) => put_slot("SyncCommit ", *len, to),
     }

@@ -1,6 +1,6 @@
 -- Which changes count.
 use Rattle.std.proofs.Common.{◌≡◌, List, [], ◌∷◌, None, filter, refl, ap}
-use Rattle.nop_types.specs.declared.peer.Change.{Change}
+use Rattle.nop_types.specs.PlainChanges.{Change}
 use Rattle.log_merge.specs.Merge.{counts}
 
 pub all_count : (cs : List Change) → filter (counts None) cs ≡ cs

@@ -22,20 +22,21 @@ use Rattle.std.proofs.Common.{
   Some,
   None,
 }
-use Rattle.std.proofs.Common.{refl, sym, ap, ◌∙◌, arith, get_or, min, take_all}
+use Rattle.std.proofs.Common.{refl, sym, ap, ◌∙◌, arith, get_or, map, max, min, take_all, length-append, length-drop}
 use Rattle.std.proofs.Math.ListN.{drop_of_length-le}
-use Rattle.std.proofs.lemmas.List.{append-nil}
+use Rattle.std.proofs.lemmas.List.{append-nil, get_or-map, length-map, map-append}
 use Rattle.std.proofs.lemmas.List.Elements.{filter-append}
 use Rattle.std.specs.Prelude.{IfSome, nat_le, slice_get, option_map}
 use Rattle.std.specs.List.{AllByRecursion, slice_index_or}
 use Rattle.std.specs.List.Sorted.{IsPermutation, IsNonDecreasingBy}
-use Rattle.std.proofs.lemmas.List.Sorted.{Contains-permutation, IsPermutation-sym}
+use Rattle.std.proofs.lemmas.List.Sorted.{Contains-permutation, IsPermutation-map, IsPermutation-sym}
 use Rattle.std.proofs.lemmas.List.Kept.{IsNonDecreasingBy-filter}
 use Rattle.std.proofs.lemmas.Option.{slice_get_within, get_or_from_slice_get}
 use Rattle.std.proofs.lemmas.Bool.Decides.{nat_tests}
 use Rattle.nop_types.specs.declared.request.Entry.{Entry}
 use Rattle.nop_types.specs.declared.request.Entry.TheVariants.{NoOp, Req}
-use Rattle.nop_types.specs.declared.peer.Change.{Change}
+use Rattle.nop_types.specs.declared.peer.Change as told_change
+use Rattle.nop_types.specs.PlainChanges.{Change, plain}
 use Rattle.nop_types.specs.Lists.{Has, slot_of}
 use Rattle.log_merge.specs.Merge.{Told, told, of_both, of_two, chosen, merge}
 use Rattle.log_merge.specs.Pairs.{of_entries, put_noop, with_noops, of_logs}
@@ -262,7 +263,31 @@ of_sorted p cs ds distinct same sorted =
     (merge_of_same (filter p cs) (filter p ds) (kept_distinct p cs distinct)
     (λ s l. (tells_permuted p cs ds s l same, tells_permuted p ds cs s l (IsPermutation-sym cs ds same))))
 
+-- ---- the changes as they are told
+
+sorted_plain : (cs : List told_change.Change) → IsNonDecreasingBy (λ c. c.sender) cs → IsNonDecreasingBy (λ c. c.sender) (map plain cs)
+sorted_plain [] h i j d le within = absurd (omega arith)
+sorted_plain (c ∷ cs) h i j d le within =
+    let len : j < length (c ∷ cs) = omega (arith, length-map (c ∷ cs) plain) in
+    let at = get_or-map plain (c ∷ cs) i c d (omega arith) in
+    let above = get_or-map plain (c ∷ cs) j c d len in
+    omega (arith, h i j c le len, ap (λ (x : Change). x.sender) at, ap (λ (x : Change). x.sender) above)
+
+pub of_sorted_told : (p : Change → Bool) (cs ds : List told_change.Change) → HasDistinctSenders (map plain cs) → IsPermutation cs ds
+    → IsNonDecreasingBy (λ c. c.sender) ds → of_all (filter p (map plain ds)) [] ≡ merge (filter p (map plain cs))
+of_sorted_told p cs ds distinct same sorted =
+    of_sorted p (map plain cs) (map plain ds) distinct (IsPermutation-map plain cs ds same) (sorted_plain ds sorted)
+
 -- ---- two logs as one vector
+
+pub length-of_logs : (xs ys : List Entry) → length (of_logs xs ys) ≡ max (length xs) (length ys)
+length-of_logs xs ys =
+    omega (
+      arith,
+      length-append (with_noops xs ys) (drop (length xs) ys),
+      length-with_noops xs ys,
+      length-drop (length xs) ys,
+    )
 
 pub shorter_logs : (l xs ys : List Entry) → l ≡ with_noops xs ys → length ys ≤ length l → l ≡ of_logs xs ys
 shorter_logs l xs ys e h =
@@ -273,13 +298,18 @@ pub longer_logs : (l r xs ys : List Entry) → l ≡ with_noops xs ys → r ≡ 
 longer_logs l r xs ys e g = let len = ap length e ∙ length-with_noops xs ys in cc
 
 -- the last of the changes that count
-pub kept_more : (p : Change → Bool) (cs : List Change) (c : Change) (l : List Entry) → p c ≡ true
+last_counts : (p : Change → Bool) (cs : List Change) (c : Change) (l : List Entry) → p c ≡ true
     → of_all (filter p cs) (of_logs c.log l) ≡ of_all (filter p (cs ++ c ∷ [])) l
-kept_more p cs c l e =
+last_counts p cs c l e =
     sym (of_all_pushed (filter p cs) c l)
     ∙ ap (λ (ds : List Change). of_all ds l)
     (ap (λ (ds : List Change). filter p cs ++ ds) (ap (λ (b : Bool). cond b (c ∷ []) []) (sym e)) ∙ sym (filter-append p cs (c ∷ [])))
 
-pub none_left : (cs : List Change) → length cs ≡ 0 → cs ≡ []
+pub kept_more : (p : Change → Bool) (cs : List told_change.Change) (c : told_change.Change) (l : List Entry) → p (plain c) ≡ true
+    → of_all (filter p (map plain cs)) (of_logs c.log.entries l) ≡ of_all (filter p (map plain (cs ++ c ∷ []))) l
+kept_more p cs c l e =
+    last_counts p (map plain cs) (plain c) l e ∙ ap (λ (ds : List Change). of_all (filter p ds) l) (sym (map-append plain cs (c ∷ [])))
+
+pub none_left : (cs : List told_change.Change) → length cs ≡ 0 → cs ≡ []
 none_left [] h = refl
 none_left (c ∷ cs) h = absurd (omega arith)

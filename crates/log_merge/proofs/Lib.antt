@@ -1,7 +1,9 @@
+pub mod Best
 pub mod Counted
 pub mod Descending
 pub mod InRanges
 pub mod Merged
 pub mod Rows
 pub mod Slots
+pub mod WholeLogs
 pub mod Winners

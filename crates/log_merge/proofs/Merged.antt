@@ -7,7 +7,7 @@ use Rattle.std.proofs.lemmas.Bool.Decides.{nat_tests}
 use Rattle.nop_types.specs.declared.request.Request.{Request}
 use Rattle.nop_types.specs.declared.request.Entry.{Entry}
 use Rattle.nop_types.specs.declared.request.Entry.TheVariants.{NoOp, Req}
-use Rattle.nop_types.specs.declared.peer.Change.{Change}
+use Rattle.nop_types.specs.PlainChanges.{Change}
 use Rattle.nop_types.specs.Lists.{Has, IsGreatest, slot_of}
 use Rattle.log_merge.specs.Merge.{Told, chosen, entry_of, longest, merge}
 use Rattle.log_merge.specs.Merged.{HasInSlot, HasNoOp, HasLowest, HasDistinctSenders, TellSame}

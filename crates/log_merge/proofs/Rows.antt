@@ -3,7 +3,7 @@ use Rattle.std.proofs.Common.{◌≡◌, ℕ, List, [], ◌∷◌, refl}
 use Rattle.nop_types.specs.declared.request.Entry.{Entry}
 use Rattle.nop_types.specs.declared.request.Entry.TheVariants.{NoOp, Req}
 use Rattle.nop_types.specs.declared.view.View.{View}
-use Rattle.nop_types.specs.declared.peer.Change.{Change}
+use Rattle.nop_types.specs.PlainChanges.{Change}
 use Rattle.log_merge.specs.Merge.{merge}
 use Rattle.log_merge.specs.Starting.{start_of, start_point}
 

@@ -5,7 +5,7 @@ use Rattle.std.specs.Prelude.{◌||◌, nat_lt, slice_get, option_map}
 use Rattle.std.specs.List.{range_with_len}
 use Rattle.std.proofs.lemmas.Bool.Decides.{nat_tests}
 use Rattle.nop_types.specs.declared.request.Entry.{Entry}
-use Rattle.nop_types.specs.declared.peer.Change.{Change}
+use Rattle.nop_types.specs.PlainChanges.{Change}
 use Rattle.nop_types.specs.Lists.{slot_of}
 use Rattle.log_merge.specs.Merge.{Told, told, of_two, chosen, entry_of, longest, merge}
 

@@ -5,7 +5,7 @@ use Rattle.std.specs.Prelude.{◌⊎◌, nat_le, slice_get, option_map}
 use Rattle.std.proofs.lemmas.Bool.Decides.{nat_tests}
 use Rattle.nop_types.specs.declared.request.Entry.{Entry}
 use Rattle.nop_types.specs.declared.request.Entry.TheVariants.{NoOp, Req}
-use Rattle.nop_types.specs.declared.peer.Change.{Change}
+use Rattle.nop_types.specs.PlainChanges.{Change}
 use Rattle.nop_types.specs.Lists.{slot_of}
 use Rattle.log_merge.specs.Merge.{Told, told, of_both, of_two, chosen, merge}
 use Rattle.log_merge.specs.Merged.{HasInSlot}

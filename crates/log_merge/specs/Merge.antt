@@ -3,7 +3,7 @@ use Rattle.std.specs.Prelude.{ℕ, Bool, true, max, cond, length, map, List, [],
 use Rattle.std.specs.List.{range_with_len}
 use Rattle.nop_types.specs.declared.request.Entry.{Entry}
 use Rattle.nop_types.specs.declared.request.Entry.TheVariants.{NoOp, Req}
-use Rattle.nop_types.specs.declared.peer.Change.{Change}
+use Rattle.nop_types.specs.PlainChanges.{Change}
 use Rattle.nop_types.specs.declared.view.View.{View}
 use Rattle.nop_types.specs.Lists.{slot_of}
 use Rattle.nop_types.specs.Views.{is_view}

@@ -3,7 +3,7 @@ use Rattle.std.specs.Prelude.{◌≡◌, ◌≤◌, ◌↔◌, ℕ, List, Some, 
 use Rattle.nop_types.specs.declared.request.Request.{Request}
 use Rattle.nop_types.specs.declared.request.Entry.{Entry}
 use Rattle.nop_types.specs.declared.request.Entry.TheVariants.{NoOp, Req}
-use Rattle.nop_types.specs.declared.peer.Change.{Change}
+use Rattle.nop_types.specs.PlainChanges.{Change}
 use Rattle.nop_types.specs.Lists.{Has, slot_of}
 
 -- one of the changes is of the sender s and has the log l

@@ -1,7 +1,7 @@
 -- What a view is started with.
 use Rattle.std.specs.Prelude.{◌==◌, ℕ, max, cond, filter, List, [], ◌∷◌}
 use Rattle.nop_types.specs.declared.request.Entry.{Entry}
-use Rattle.nop_types.specs.declared.peer.Change.{Change}
+use Rattle.nop_types.specs.PlainChanges.{Change}
 use Rattle.nop_types.specs.declared.view.View.{View}
 use Rattle.nop_types.specs.Views.{outranks, is_view}
 use Rattle.log_merge.specs.Merge.{merge}

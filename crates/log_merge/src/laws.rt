@@ -1,12 +1,15 @@
-ghost use Rattle.std.specs.Prelude.{◌≡◌, ◌↔◌, ◌∷◌, ℕ, List, Some, length, map};
+ghost use Rattle.std.specs.Prelude.{◌≡◌, ◌↔◌, ◌∷◌, ℕ, List, [], Some, None, length, map};
 ghost use Rattle.nop_types.specs.declared.request.Request.{Request};
 ghost use Rattle.nop_types.specs.declared.request.Entry.TheVariants.{NoOp, Req};
-ghost use Rattle.nop_types.specs.declared.peer.Change.{Change};
+ghost use Rattle.nop_types.specs.declared.peer.Change as told;
+ghost use Rattle.nop_types.specs.PlainChanges.{Change, plain};
 ghost use Rattle.std.specs.List.{AllByRecursion};
 ghost use Rattle.nop_types.specs.Lists.{IsGreatest, slot_of};
-ghost use Rattle.nop_types.specs.Ranges.{LogFits, ToldFits, ChangeFits};
+ghost use Rattle.nop_types.specs.Logs.{Whole, whole};
+ghost use Rattle.nop_types.specs.Ranges.{EntriesFit, LogFits, ChangeFits};
 ghost use Rattle.log_merge.specs.Merge.{merge};
-ghost use Rattle.log_merge.specs.Starting.{greatest_point};
+ghost use Rattle.log_merge.specs.Merging.{kept_told, best, IsBest, merged};
+ghost use Rattle.log_merge.specs.Starting.{greatest_point, kept};
 ghost use Rattle.log_merge.specs.Merged.{HasNoOp, HasLowest, HasDistinctSenders, TellSame};
 
 /// A merge is as long as the longest log. It has a NO-OP exactly where a log has one, and a request exactly where no log has a
@@ -27,11 +30,31 @@ pub fn merge_is_of_pairs()
         merge cs ≡ merge ds }
 {}
 
-/// The entries of a merge are in their ranges where those of all logs are, and the greatest of the sync points is within it.
-#[tactic(auto, using(crate::proofs::InRanges::merge_fits, crate::proofs::InRanges::merge_of_changes_fits))]
+/// The entries of a merge are in their ranges where those of all logs are, and so is the merge of whole logs, with the greatest of
+/// their sync points within it.
+#[tactic(auto, using(crate::proofs::InRanges::merge_fits, crate::proofs::InRanges::merged_fits))]
 pub fn merge_is_in_ranges()
-    ensures logs { (cs : List Change) → AllByRecursion (λ c. LogFits c.log) cs
-        → LogFits (merge cs) }
-    ensures changes { (cs : List Change) → AllByRecursion ChangeFits cs
-        → ToldFits (greatest_point cs) (merge cs) }
+    ensures logs { (cs : List Change) → AllByRecursion (λ c. EntriesFit c.log) cs
+        → EntriesFit (merge cs) }
+    ensures changes { (cs : List told.Change) → AllByRecursion ChangeFits cs
+        → LogFits (merged Whole cs) }
+{}
+
+/// The merge of whole logs has the entries of the plain merge and the greatest of their sync points. The same changes are kept.
+#[tactic(auto, using(crate::proofs::WholeLogs::is_plain))]
+pub fn whole_merge_is_plain()
+    ensures entries { (cs : List told.Change) → (merged Whole cs).entries ≡ merge (map plain cs) }
+    ensures point { (cs : List told.Change)
+        → (merged Whole cs).sync_point ≡ greatest_point (map plain cs) }
+    ensures kept { (cs : List told.Change) → map plain (kept_told cs) ≡ kept (map plain cs) }
+    ensures log { (cs : List told.Change) → AllByRecursion ChangeFits cs
+        → merged Whole cs ≡ whole (greatest_point (map plain cs)) (merge (map plain cs)) }
+{}
+
+/// The best of the changes is of the lowest sender among those with the greatest sync point. There
+/// is one, if there is a change.
+#[tactic(auto, using(crate::proofs::Best::best_of_none))]
+pub fn best_has_the_greatest()
+    ensures some { (cs : List told.Change) (c : told.Change) → best cs ≡ Some c → IsBest cs c }
+    ensures none { (cs : List told.Change) → best cs ≡ None → cs ≡ [] }
 {}

@@ -6,19 +6,27 @@
 //! not on their order (`merge_is_of_pairs`). It is in its ranges where the logs are, and the
 //! greatest of their sync points is within it (`merge_is_in_ranges`).
 //!
-//! Calls, for `view_change`: `merge_of_view` merges the changes with one last normal view;
-//! `merge_moved` gives the same and moves the entries instead of copying them. `merge` takes all
-//! changes.
+//! These laws are of plain changes, whose logs are lists. `merged` is the merge of the logs that
+//! replicas tell, kept whole or trimmed, with sync point and checkpoint of the best of them
+//! (`best_has_the_greatest`); of whole ones it has the entries of the plain merge, and the greatest
+//! sync point (`whole_merge_is_plain`).
+//!
+//! Calls, for `view_change`: `merge_of_view` gives the merged entries of the changes with one last
+//! normal view; `merge_moved` gives the same and moves the entries instead of copying them. `merge`
+//! takes all changes.
 //!
 //! Files: `merging` (slot by slot), `moving` (two logs at a time). Definitions: `specs/Merge`,
-//! `Merged` (what the laws say), and `Starting`: `start_of` and `start_point`, the rule by which a
-//! view is started.
+//! `Merged` (what the laws say), `Merging` (of logs that are told), and `Starting`: `start_of` and
+//! `start_point`, the rule by which a view is started.
 #![tactic(auto)]
 
 mod laws;
 mod merging;
 mod moving;
 
-pub use laws::{merge_by_slot, merge_is_in_ranges, merge_is_of_pairs};
+pub use laws::{
+    best_has_the_greatest, merge_by_slot, merge_is_in_ranges, merge_is_of_pairs,
+    whole_merge_is_plain,
+};
 pub use merging::{merge, merge_of_view};
 pub use moving::merge_moved;

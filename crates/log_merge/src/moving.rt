@@ -1,11 +1,12 @@
-ghost use Rattle.std.specs.Prelude.{◌≡◌, ◌≤◌, ◌++◌, ◌<◌, drop, length, filter, IfOk, OnOk};
+ghost use Rattle.std.specs.Prelude.{◌≡◌, ◌≤◌, ◌++◌, ◌<◌, drop, length, filter, map, IfOk, OnOk};
 ghost use Rattle.std.specs.List.Sorted.{IsPermutation, IsNonDecreasingBy};
+ghost use Rattle.nop_types.specs.PlainChanges.{plain};
 ghost use Rattle.nop_types.specs.Views.{is_view};
 ghost use Rattle.log_merge.specs.Merge.{merge};
 ghost use Rattle.log_merge.specs.Pairs.{put_noop, with_noops, of_logs};
 ghost use Rattle.log_merge.specs.Merged.{HasDistinctSenders};
 
-use nop_types::{Change, Entry, Log, NoMemory, View};
+use nop_types::{Change, Entry, MAX_SLOTS, NoMemory, View};
 use std::alloc::Global;
 
 /// Puts a NO-OP where another log has one.
@@ -39,17 +40,15 @@ fn replace_front(entries: &mut Vec<Entry>, mut front: Vec<Entry>)
 }
 
 /// The merge of two logs, that of the lower sender first.
-fn of_logs(lower: Log, higher: Log) -> Log
-    ensures { result ≡ of_logs lower higher }
+fn of_logs(mut lower: Vec<Entry>, mut higher: Vec<Entry>) -> Vec<Entry>
+    ensures { result.items ≡ of_logs lower.items higher.items }
 {
-    let mut lower = lower.into_vec();
-    let mut higher = higher.into_vec();
     put_noops(&mut lower, &higher);
     if higher.len() <= lower.len() {
-        return Log::from_vec(lower);
+        return lower;
     }
     replace_front(&mut higher, lower);
-    Log::from_vec(higher)
+    higher
 }
 
 fn sort_by_sender(changes: &mut Vec<Change>) -> Result<(), NoMemory>
@@ -61,17 +60,22 @@ fn sort_by_sender(changes: &mut Vec<Change>) -> Result<(), NoMemory>
 }
 
 /// The merge of the changes with this last normal view, whose entries are moved and not copied.
-pub fn merge_moved(alloc: Global, mut changes: Vec<Change>, view: View) -> Result<Log, NoMemory>
-    requires { HasDistinctSenders changes.items }
-    ensures { IfOk result (λ log.
-        log ≡ merge (filter (λ c. is_view c.last_normal view) changes.items)) }
+pub fn merge_moved(
+    alloc: Global,
+    mut changes: Vec<Change>,
+    view: View,
+) -> Result<Vec<Entry>, NoMemory>
+    requires { HasDistinctSenders (map plain changes.items) }
+    ensures entries { IfOk result (λ v. v.items
+        ≡ merge (filter (λ c. is_view c.last_normal view) (map plain changes.items))) }
+    ensures limit { IfOk result (λ v. length v.items ≤ MAX_SLOTS) }
 {
     sort_by_sender(&mut changes)?;
-    let mut log = Log::new(alloc);
+    let mut entries = Vec::new(alloc);
     while let Some(change) = changes.pop() {
         if change.last_normal.is(view) {
-            log = of_logs(change.log, log);
+            entries = of_logs(change.log.into_entries(), entries);
         }
     }
-    Ok(log)
+    Ok(entries)
 }

@@ -1,7 +1,7 @@
 use crate::checking::{check, check_row};
 use crate::logs::{full, is_full, is_log, log_of};
 use log_merge::{merge, merge_of_view};
-use nop_types::{Change, Log, View};
+use nop_types::{Change, Entry, View};
 use std::alloc::Global;
 use std::process::Abort;
 use view_change::{Changes, Start, Step};
@@ -15,8 +15,7 @@ fn change(rt: &impl Abort, alloc: Global, told: &Told) -> Change {
         sender,
         last_normal: View { leader, session },
         next,
-        sync_point,
-        log: log_of(rt, alloc, log),
+        log: log_of(rt, alloc, (sync_point, log)),
     }
 }
 
@@ -56,7 +55,7 @@ fn changes_of(rt: &impl Abort, alloc: Global, told: &[(u8, &'static [u64])]) -> 
 const OTHER: Told = (0, 1, 1, 1, 5, &[0, 0, 0, 0, 0]);
 
 /// The log of the changes, and that of those and one of another view.
-fn merged(rt: &impl Abort, alloc: Global, mut changes: Vec<Change>) -> (Log, Log) {
+fn merged(rt: &impl Abort, alloc: Global, mut changes: Vec<Change>) -> (Vec<Entry>, Vec<Entry>) {
     let first = merge(alloc, &changes).expect(rt, "memory");
     let other = change(rt, alloc, &OTHER);
     changes.push(other).expect(rt, "memory");
@@ -73,8 +72,8 @@ fn merges(rt: HostRuntime) {
     for (row, (changes, log)) in MERGES.iter().enumerate() {
         let changes = changes_of(&rt, rt.alloc(), changes);
         let (first, second) = merged(&rt, rt.alloc(), changes);
-        check_row(&rt, is_log(first.as_slice(), log), row);
-        check_row(&rt, is_log(second.as_slice(), log), row);
+        check_row(&rt, is_log(&first, log), row);
+        check_row(&rt, is_log(&second, log), row);
     }
 }
 
@@ -192,8 +191,8 @@ fn is_started(start: Option<Start>, case: &Case) -> bool {
     match start {
         Some(start) => {
             start.next == case.4
-                && start.sync_point == case.5
-                && is_log(start.log.as_slice(), case.6)
+                && start.log.sync_point() == case.5
+                && is_log(start.log.entries(), case.6)
         }
         None => false,
     }
@@ -219,6 +218,6 @@ fn full_logs_are_merged(rt: HostRuntime) {
         changes.push(change).expect(&rt, "memory");
     }
     let (first, second) = merged(&rt, rt.alloc(), changes);
-    check(&rt, is_full(first.as_slice()), "by the slots");
-    check(&rt, is_full(second.as_slice()), "of the view");
+    check(&rt, is_full(&first), "by the slots");
+    check(&rt, is_full(&second), "of the view");
 }

@@ -57,6 +57,8 @@ pub fn put_view(to: &mut Vec<u8>, view: View) -> Result<(), NoMemory>
 }
 
 /// Appends both pieces, or none of them.
+// In place, since most callers have a front of a fixed length.
+#[inline(always)]
 fn put_both(to: &mut Vec<u8>, front: &[u8], back: &[u8]) -> Result<(), NoMemory>
     ensures ok { OnOk result (to.new.items ≡ to.old.items ++ (front.now ++ back.now)) }
     ensures err { OnErr result (to.new.items ≡ to.old.items) }

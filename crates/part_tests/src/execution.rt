@@ -202,7 +202,7 @@ fn log_of_slots(rt: &impl Abort, alloc: Global) -> ReplicaLog {
 
 /// Executes the whole log, undoes it down to slot 1, and executes it again.
 fn executed_again<H: Host>(rt: &impl Abort, alloc: Global, log: &ReplicaLog) -> Executor<H>
-    ensures { HasExecuted H.state H.meaning H.undo_of log.now result }
+    ensures { HasExecuted H.state H.meaning H.undo_of log.now.entries result }
 {
     let mut executor: Executor<H> = Executor::new(alloc).expect(rt, "memory");
     executor.run_to(log, log.len()).expect(rt, "memory");

@@ -4,10 +4,10 @@ use Rattle.std.proofs.Common.{inr, ◌⊎◌}
 use Rattle.std.specs.Prelude.{◌<◌, ◌^◌}
 use Rattle.std.specs.Int.{w32, w64}
 use Rattle.std.proofs.lemmas.Bool.{eqb-true}
-use Rattle.nop_types.specs.Ranges.{RequestFits, ToldFits, SlotFits, LogChangeFits, LogStartFits, BodyFits}
+use Rattle.nop_types.specs.Logs.{Log}
+use Rattle.nop_types.specs.Ranges.{RequestFits, LogFits, SlotFits, LogChangeFits, LogStartFits, BodyFits}
 use Rattle.nop_types.specs.declared.view.View.{View}
 use Rattle.nop_types.specs.declared.request.Request.{Request}
-use Rattle.nop_types.specs.declared.request.Entry.{Entry}
 use Rattle.nop_types.specs.declared.peer.Body.{Body}
 use Rattle.nop_types.specs.declared.peer.Body.TheVariants.{SlotLookup, Found, GapCommit, GapRep, ViewChangeReq, ViewChange, StartView}
 use Rattle.nop_types.specs.declared.peer.Body.TheVariants.{SyncPrepare, SyncRep, SyncCommit}
@@ -99,7 +99,7 @@ view_change_takes bytes x fits e =
     let t2 = log_takes b.0.1 c.0 t1.0.rest_fits c.1 in
     let e1 = Takes-then bytes _ _ _ _ t0.0 t1.0 in
     let e2 = Takes-then bytes _ _ _ _ e1 t2.0 in
-    let made : Body × List ℕ = (ViewChange a.0.0 b.0.0 c.0.0 c.0.1, c.0.2) in
+    let made : Body × List ℕ = (ViewChange a.0.0 b.0.0 c.0.0, c.0.1) in
     subst (TakesBody 21 bytes) (ok_is made x c.2)
     (record { is_kind = refl; takes = e2; fits = record { view = t0.1; number = t1.1; told = t2.1 } })
 
@@ -111,15 +111,15 @@ start_view_takes bytes x fits e =
     let t0 = next_takes bytes a.0 fits a.1 in
     let t1 = log_takes a.0.1 b.0 t0.0.rest_fits b.1 in
     let both = Takes-then bytes _ _ _ _ t0.0 t1.0 in
-    let made : Body × List ℕ = (StartView a.0.0 b.0.0 b.0.1, b.0.2) in
+    let made : Body × List ℕ = (StartView a.0.0 b.0.0, b.0.1) in
     subst (TakesBody 22 bytes) (ok_is made x b.2) (record { is_kind = refl; takes = both; fits = record { number = t0.1; told = t1.1 } })
 
 sync_prepare_takes : (bytes : List ℕ) (x : Body × List ℕ) → IsBytes bytes → sync_prepare_at bytes ≡ Ok x → TakesBody 23 bytes x
 unfolding sync_prepare_at
 sync_prepare_takes bytes x fits e =
-    let a = bind_ok (log_at bytes) (λ log. Ok (SyncPrepare log.0 log.1, log.2)) x e in
+    let a = bind_ok (log_at bytes) (λ log. Ok (SyncPrepare log.0, log.1)) x e in
     let t = log_takes bytes a.0 fits a.1 in
-    let made : Body × List ℕ = (SyncPrepare a.0.0 a.0.1, a.0.2) in
+    let made : Body × List ℕ = (SyncPrepare a.0.0, a.0.1) in
     subst (TakesBody 23 bytes) (ok_is made x a.2) (record { is_kind = refl; takes = t.0; fits = t.1 })
 
 -- the first of two readings, where its test holds, else the second
@@ -176,29 +176,28 @@ found_again slot r rest slot_fits fits =
     append_assoc (be_bytes w32 slot) (request_bytes r) rest in
     rw (regrouped, slot_again slot (request_bytes r ++ rest) slot_fits, request_again r rest fits) refl
 
-start_view_again : (next z : ℕ) (log : List Entry) (rest : List ℕ) → LogStartFits next z log
-    → start_view_at (be_bytes w64 next ++ log_bytes z log ++ rest) ≡ Ok (StartView next z log, rest)
+start_view_again : (next : ℕ) (log : Log) (rest : List ℕ) → LogStartFits next log
+    → start_view_at (be_bytes w64 next ++ log_bytes log ++ rest) ≡ Ok (StartView next log, rest)
 unfolding start_view_at
-start_view_again next z log rest fits =
-    let regrouped : be_bytes w64 next ++ log_bytes z log ++ rest ≡ be_bytes w64 next ++ (log_bytes z log ++ rest) =
-    append_assoc (be_bytes w64 next) (log_bytes z log) rest in
-    rw (regrouped, next_again next (log_bytes z log ++ rest) fits.number, log_again z log rest fits.told) refl
+start_view_again next log rest fits =
+    let regrouped : be_bytes w64 next ++ log_bytes log ++ rest ≡ be_bytes w64 next ++ (log_bytes log ++ rest) =
+    append_assoc (be_bytes w64 next) (log_bytes log) rest in
+    rw (regrouped, next_again next (log_bytes log ++ rest) fits.number, log_again log rest fits.told) refl
 
-view_change_again : (v : View) (next z : ℕ) (log : List Entry) (rest : List ℕ) → LogChangeFits v next z log
-    → view_change_at (view_bytes v ++ be_bytes w64 next ++ log_bytes z log ++ rest) ≡ Ok (ViewChange v next z log, rest)
+view_change_again : (v : View) (next : ℕ) (log : Log) (rest : List ℕ) → LogChangeFits v next log
+    → view_change_at (view_bytes v ++ be_bytes w64 next ++ log_bytes log ++ rest) ≡ Ok (ViewChange v next log, rest)
 unfolding view_change_at
-view_change_again v next z log rest fits =
-    let more : List ℕ = be_bytes w64 next ++ (log_bytes z log ++ rest) in
-    let regrouped : view_bytes v ++ be_bytes w64 next ++ log_bytes z log ++ rest ≡ view_bytes v ++ more =
-    append_assoc (view_bytes v ++ be_bytes w64 next) (log_bytes z log) rest
-    ∙ append_assoc (view_bytes v) (be_bytes w64 next) (log_bytes z log ++ rest) in
+view_change_again v next log rest fits =
+    let more : List ℕ = be_bytes w64 next ++ (log_bytes log ++ rest) in
+    let regrouped : view_bytes v ++ be_bytes w64 next ++ log_bytes log ++ rest ≡ view_bytes v ++ more =
+    append_assoc (view_bytes v ++ be_bytes w64 next) (log_bytes log) rest
+    ∙ append_assoc (view_bytes v) (be_bytes w64 next) (log_bytes log ++ rest) in
     ap view_change_at regrouped
-    ∙ rw (started_again v more fits.view, next_again next (log_bytes z log ++ rest) fits.number, log_again z log rest fits.told) refl
+    ∙ rw (started_again v more fits.view, next_again next (log_bytes log ++ rest) fits.number, log_again log rest fits.told) refl
 
-sync_prepare_again : (z : ℕ) (log : List Entry) (rest : List ℕ) → ToldFits z log
-    → sync_prepare_at (log_bytes z log ++ rest) ≡ Ok (SyncPrepare z log, rest)
+sync_prepare_again : (log : Log) (rest : List ℕ) → LogFits log → sync_prepare_at (log_bytes log ++ rest) ≡ Ok (SyncPrepare log, rest)
 unfolding sync_prepare_at
-sync_prepare_again z log rest fits = rw (log_again z log rest fits) refl
+sync_prepare_again log rest fits = rw (log_again log rest fits) refl
 
 pub body_again : (b : Body) (rest : List ℕ) → BodyFits b → body_at (kind_of b) (body_bytes b ++ rest) ≡ Ok (b, rest)
 body_again (SlotLookup slot) rest fits = rw (slot_again slot rest fits) refl
@@ -206,8 +205,8 @@ body_again (Found slot r) rest fits = found_again slot r rest fits.place fits.re
 body_again (GapCommit slot) rest fits = rw (slot_again slot rest fits) refl
 body_again (GapRep slot) rest fits = rw (slot_again slot rest fits) refl
 body_again ViewChangeReq rest fits = refl
-body_again (ViewChange v next z log) rest fits = view_change_again v next z log rest fits
-body_again (StartView next z log) rest fits = start_view_again next z log rest fits
-body_again (SyncPrepare z log) rest fits = sync_prepare_again z log rest fits
+body_again (ViewChange v next log) rest fits = view_change_again v next log rest fits
+body_again (StartView next log) rest fits = start_view_again next log rest fits
+body_again (SyncPrepare log) rest fits = sync_prepare_again log rest fits
 body_again (SyncRep len) rest fits = rw (length_again len rest fits) refl
 body_again (SyncCommit len) rest fits = rw (length_again len rest fits) refl

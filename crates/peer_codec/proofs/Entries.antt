@@ -1,10 +1,12 @@
 -- Entries and logs that are read are those that were written, and what was written is read again.
-use Rattle.std.proofs.Common.{◌≡◌, ℕ, zero, suc, List, [], ◌∷◌, ◌++◌, length, Ok, refl, sym, ap, subst, ◌∙◌, append_assoc}
+use Rattle.std.proofs.Common.{◌≡◌, ℕ, zero, suc, List, [], ◌∷◌, ◌++◌, length, Option, None, Ok, refl, sym, ap, subst, ◌∙◌, append_assoc}
 use Rattle.std.proofs.Common.{◌≤◌, arith}
 use Rattle.std.specs.Int.{w32}
 use Rattle.std.specs.List.{flat_map, AllByRecursion}
 use Rattle.std.proofs.lemmas.List.Concat.{flat_map-cons}
-use Rattle.nop_types.specs.Ranges.{EntryFits, ToldFits}
+use Rattle.nop_types.specs.Checkpoints.{Checkpoint}
+use Rattle.nop_types.specs.Logs.{Log, whole}
+use Rattle.nop_types.specs.Ranges.{EntryFits, LogFits}
 use Rattle.nop_types.specs.declared.limits.TheConstants.{MAX_SLOTS}
 use Rattle.nop_types.specs.declared.request.Entry.{Entry}
 use Rattle.nop_types.specs.declared.request.Entry.TheVariants.{NoOp, Req}
@@ -66,8 +68,8 @@ entries_again (n ∷ ns) rest fits =
     ap (entries_at (suc (length ns))) regrouped
     ∙ rw (entry_again n (flat_map entry_bytes ns ++ rest) fits.0, entries_again ns rest fits.1) refl
 
-pub log_takes : (bytes : List ℕ) (x : ℕ × List Entry × List ℕ) → IsBytes bytes → log_at bytes ≡ Ok x
-    → Takes bytes (log_bytes x.0 x.1) x.2 × ToldFits x.0 x.1
+pub log_takes : (bytes : List ℕ) (x : Log × List ℕ) → IsBytes bytes → log_at bytes ≡ Ok x
+    → Takes bytes (log_bytes x.0) x.1 × LogFits x.0
 unfolding log_at
 log_takes bytes x fits e =
     let a = bind_ok (length_at bytes) _ x e in
@@ -80,24 +82,30 @@ log_takes bytes x fits e =
     let entries : Takes a.0.1 (entries_bytes c.0.0) c.0.1 =
     subst (λ (n : ℕ). Takes a.0.1 (be_bytes w32 n ++ flat_map entry_bytes c.0.0) c.0.1) (sym t2.count) counted in
     let both = Takes-then bytes _ _ _ _ t0.0 entries in
-    let made : ℕ × List Entry × List ℕ = (a.0.0, c.0.0, c.0.1) in
+    let made : Log × List ℕ = (whole a.0.0 c.0.0, c.0.1) in
     let len : length c.0.0 ≤ MAX_SLOTS = rw t2.count t1.1.most in
     let point : a.0.0 ≤ length c.0.0 = rw t2.count t1.1.point in
-    subst (λ (y : ℕ × List Entry × List ℕ). Takes bytes (log_bytes y.0 y.1) y.2 × ToldFits y.0 y.1) (ok_is made x c.2)
-    (both, record { entries = record { len = len; each = t2.each }; point = point })
+    subst (λ (y : Log × List ℕ). Takes bytes (log_bytes y.0) y.1 × LogFits y.0) (ok_is made x c.2)
+    (both, record { whole = refl; entries = record { len = len; each = t2.each }; point = point })
 
-pub log_again : (sync_point : ℕ) (log : List Entry) (rest : List ℕ) → ToldFits sync_point log
-    → log_at (log_bytes sync_point log ++ rest) ≡ Ok (sync_point, log, rest)
+-- a log with no checkpoint is a whole one
+is_whole : (log : Log) → log.checkpoint ≡ None → whole log.sync_point log.entries ≡ log
+is_whole log none = sym (ap (λ (c : Option Checkpoint). record log { checkpoint = c }) none)
+
+pub log_again : (log : Log) (rest : List ℕ) → LogFits log → log_at (log_bytes log ++ rest) ≡ Ok (log, rest)
 unfolding log_at
-log_again sync_point log rest fits =
-    let after : List ℕ = flat_map entry_bytes log ++ rest in
-    let counted : List ℕ = be_bytes w32 (length log) ++ after in
-    let regrouped : log_bytes sync_point log ++ rest ≡ be_bytes w32 sync_point ++ counted =
-    append_assoc (be_bytes w32 sync_point) (entries_bytes log) rest
-    ∙ ap (λ (t : List ℕ). be_bytes w32 sync_point ++ t) (append_assoc (be_bytes w32 (length log)) (flat_map entry_bytes log) rest) in
+log_again log rest fits =
+    let z : ℕ = log.sync_point in
+    let entries : List Entry = log.entries in
+    let after : List ℕ = flat_map entry_bytes entries ++ rest in
+    let counted : List ℕ = be_bytes w32 (length entries) ++ after in
+    let regrouped : log_bytes log ++ rest ≡ be_bytes w32 z ++ counted =
+    append_assoc (be_bytes w32 z) (entries_bytes entries) rest
+    ∙ ap (λ (t : List ℕ). be_bytes w32 z ++ t) (append_assoc (be_bytes w32 (length entries)) (flat_map entry_bytes entries) rest) in
     rw (
       regrouped,
-      length_again sync_point counted (omega (arith, fits.point, fits.entries.len)),
-      count_again sync_point (length log) after fits.entries.len fits.point,
-      entries_again log rest fits.entries.each,
+      length_again z counted (omega (arith, fits.point, fits.entries.len)),
+      count_again z (length entries) after fits.entries.len fits.point,
+      entries_again entries rest fits.entries.each,
+      is_whole log fits.whole,
     ) refl

@@ -57,9 +57,9 @@ is_kind (Found slot r) = refl
 is_kind (GapCommit slot) = refl
 is_kind (GapRep slot) = refl
 is_kind ViewChangeReq = refl
-is_kind (ViewChange v next z log) = refl
-is_kind (StartView next z log) = refl
-is_kind (SyncPrepare z log) = refl
+is_kind (ViewChange v next log) = refl
+is_kind (StartView next log) = refl
+is_kind (SyncPrepare log) = refl
 is_kind (SyncRep len) = refl
 is_kind (SyncCommit len) = refl
 

@@ -3,6 +3,7 @@ use Rattle.std.proofs.Common.{◌≡◌, ℕ, ◌+◌, List, ◌++◌, length, l
 use Rattle.std.specs.Int.{w16, w32, w64}
 use Rattle.std.specs.List.{flat_map, sum_by}
 use Rattle.std.proofs.lemmas.List.Concat.{length-flat_map}
+use Rattle.nop_types.specs.Logs.{whole}
 use Rattle.nop_types.specs.declared.view.View.{View}
 use Rattle.nop_types.specs.declared.request.Request.{Request}
 use Rattle.nop_types.specs.declared.request.Entry.{Entry}
@@ -24,17 +25,17 @@ request_len r =
     omega (arith, length-append (be_bytes w32 r.client) (be_bytes w64 r.id), wide32.len r.client, wide64.len r.id) in
     omega (arith, length-append (be_bytes w32 r.client ++ be_bytes w64 r.id) (be_bytes w16 (length r.op) ++ r.op), counted, front)
 
-pub entries_len : (log : List Entry) → length (entries_bytes log) ≡ 4 + sum_by (λ e. length (entry_bytes e)) log
-entries_len log =
+pub entries_len : (entries : List Entry) → length (entries_bytes entries) ≡ 4 + sum_by (λ e. length (entry_bytes e)) entries
+entries_len entries =
     omega (
       arith,
-      length-append (be_bytes w32 (length log)) (flat_map entry_bytes log),
-      wide32.len (length log),
-      length-flat_map entry_bytes log,
+      length-append (be_bytes w32 (length entries)) (flat_map entry_bytes entries),
+      wide32.len (length entries),
+      length-flat_map entry_bytes entries,
     )
 
-log_len : (z : ℕ) (log : List Entry) → length (log_bytes z log) ≡ 4 + length (entries_bytes log)
-log_len z log = omega (arith, length-append (be_bytes w32 z) (entries_bytes log), wide32.len z)
+log_len : (z : ℕ) (entries : List Entry) → length (log_bytes (whole z entries)) ≡ 4 + length (entries_bytes entries)
+log_len z entries = omega (arith, length-append (be_bytes w32 z) (entries_bytes entries), wide32.len z)
 
 pub number_len : (n : ℕ) → length (be_bytes w32 n) ≡ 4
 number_len n = wide32.len n
@@ -42,18 +43,21 @@ number_len n = wide32.len n
 pub found_len : (slot : ℕ) (r : Request) → length (body_bytes (Found slot r)) ≡ 4 + length (request_bytes r)
 found_len slot r = omega (arith, length-append (be_bytes w32 slot) (request_bytes r), wide32.len slot)
 
-pub start_view_len : (next z : ℕ) (log : List Entry) → length (body_bytes (StartView next z log)) ≡ 12 + length (entries_bytes log)
-start_view_len next z log = omega (arith, length-append (be_bytes w64 next) (log_bytes z log), wide64.len next, log_len z log)
+pub start_view_len : (next z : ℕ) (entries : List Entry)
+    → length (body_bytes (StartView next (whole z entries))) ≡ 12 + length (entries_bytes entries)
+start_view_len next z entries =
+    omega (arith, length-append (be_bytes w64 next) (log_bytes (whole z entries)), wide64.len next, log_len z entries)
 
-pub view_change_len : (v : View) (next z : ℕ) (log : List Entry)
-    → length (body_bytes (ViewChange v next z log)) ≡ 20 + length (entries_bytes log)
-view_change_len v next z log =
+pub view_change_len : (v : View) (next z : ℕ) (entries : List Entry)
+    → length (body_bytes (ViewChange v next (whole z entries))) ≡ 20 + length (entries_bytes entries)
+view_change_len v next z entries =
     let front : length (view_bytes v ++ be_bytes w64 next) ≡ 16 =
     omega (arith, length-append (view_bytes v) (be_bytes w64 next), view_len v, wide64.len next) in
-    omega (arith, length-append (view_bytes v ++ be_bytes w64 next) (log_bytes z log), front, log_len z log)
+    omega (arith, length-append (view_bytes v ++ be_bytes w64 next) (log_bytes (whole z entries)), front, log_len z entries)
 
-pub sync_prepare_len : (z : ℕ) (log : List Entry) → length (body_bytes (SyncPrepare z log)) ≡ 4 + length (entries_bytes log)
-sync_prepare_len z log = log_len z log
+pub sync_prepare_len : (z : ℕ) (entries : List Entry)
+    → length (body_bytes (SyncPrepare (whole z entries))) ≡ 4 + length (entries_bytes entries)
+sync_prepare_len z entries = log_len z entries
 
 pub spelling_len : (p : Peer) → length (spelling p) ≡ 10 + length (body_bytes p.body)
 spelling_len p =

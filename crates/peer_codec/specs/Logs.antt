@@ -2,6 +2,7 @@
 use Rattle.std.specs.Prelude.{ℕ, zero, suc, List, [], ◌∷◌, Result, Ok, Err}
 use Rattle.nop_types.specs.declared.request.Entry.{Entry}
 use Rattle.nop_types.specs.declared.request.Entry.TheVariants.{NoOp, Req}
+use Rattle.nop_types.specs.Logs.{Log, whole}
 use Rattle.oum_codec.specs.Reading.{◌>>=◌}
 use Rattle.peer_codec.specs.declared.bad_peer.BadPeer.{BadPeer}
 use Rattle.peer_codec.specs.declared.bad_peer.BadPeer.TheVariants.{Short, Field}
@@ -23,9 +24,9 @@ entries_at (suc n) bytes = do
   Ok (first.0 ∷ others.0, others.1)
 
 -- a log's sync point, the number of its entries, then the entries: what follows them stands at the end
-unfoldable pub log_at : List ℕ → Result (ℕ × List Entry × List ℕ) BadPeer
+unfoldable pub log_at : List ℕ → Result (Log × List ℕ) BadPeer
 log_at bytes = do
   sync_point ← length_at bytes
   count ← count_at sync_point.0 sync_point.1
   entries ← entries_at count.0 count.1
-  Ok (sync_point.0, entries.0, entries.1)
+  Ok (whole sync_point.0 entries.0, entries.1)

@@ -21,16 +21,16 @@ view_change_at bytes = do
   last_normal ← view_at bytes
   next ← next_at last_normal.1
   log ← log_at next.1
-  Ok (bodies.ViewChange last_normal.0 next.0 log.0 log.1, log.2)
+  Ok (bodies.ViewChange last_normal.0 next.0 log.0, log.1)
 
 unfoldable pub start_view_at : List ℕ → Result (Body × List ℕ) BadPeer
 start_view_at bytes = do
   next ← next_at bytes
   log ← log_at next.1
-  Ok (bodies.StartView next.0 log.0 log.1, log.2)
+  Ok (bodies.StartView next.0 log.0, log.1)
 
 unfoldable pub sync_prepare_at : List ℕ → Result (Body × List ℕ) BadPeer
-sync_prepare_at bytes = log_at bytes >>= λ log. Ok (bodies.SyncPrepare log.0 log.1, log.2)
+sync_prepare_at bytes = log_at bytes >>= λ log. Ok (bodies.SyncPrepare log.0, log.1)
 
 -- what follows the view, by the kind
 abbrev pub body_at : ℕ → List ℕ → Result (Body × List ℕ) BadPeer

@@ -2,6 +2,7 @@
 use Rattle.std.specs.Prelude.{◌≡◌, ℕ, List, [], ◌∷◌, ◌++◌, length}
 use Rattle.std.specs.Int.{w32, w64}
 use Rattle.std.specs.List.{flat_map}
+use Rattle.nop_types.specs.Logs.{Log}
 use Rattle.nop_types.specs.Ranges.{PeerFits}
 use Rattle.nop_types.specs.declared.view.View.{View}
 use Rattle.nop_types.specs.declared.request.Entry.{Entry}
@@ -20,11 +21,11 @@ entry_bytes (Req r) = 1 ∷ [] ++ request_bytes r
 
 -- four bytes of number, and the entries
 abbrev pub entries_bytes : List Entry → List ℕ
-entries_bytes log = be_bytes w32 (length log) ++ flat_map entry_bytes log
+entries_bytes entries = be_bytes w32 (length entries) ++ flat_map entry_bytes entries
 
--- a log that is told, behind its sync point
-abbrev pub log_bytes : ℕ → List Entry → List ℕ
-log_bytes sync_point log = be_bytes w32 sync_point ++ entries_bytes log
+-- the entries behind the sync point
+abbrev pub log_bytes : Log → List ℕ
+log_bytes log = be_bytes w32 log.sync_point ++ entries_bytes log.entries
 
 abbrev pub kind_of : Body → ℕ
 kind_of (bodies.SlotLookup slot) = kinds.SLOT_LOOKUP
@@ -32,9 +33,9 @@ kind_of (bodies.Found slot r) = kinds.FOUND
 kind_of (bodies.GapCommit slot) = kinds.GAP_COMMIT
 kind_of (bodies.GapRep slot) = kinds.GAP_REP
 kind_of bodies.ViewChangeReq = kinds.VIEW_CHANGE_REQ
-kind_of (bodies.ViewChange last_normal next sync_point log) = kinds.VIEW_CHANGE
-kind_of (bodies.StartView next sync_point log) = kinds.START_VIEW
-kind_of (bodies.SyncPrepare sync_point log) = kinds.SYNC_PREPARE
+kind_of (bodies.ViewChange last_normal next log) = kinds.VIEW_CHANGE
+kind_of (bodies.StartView next log) = kinds.START_VIEW
+kind_of (bodies.SyncPrepare log) = kinds.SYNC_PREPARE
 kind_of (bodies.SyncRep len) = kinds.SYNC_REP
 kind_of (bodies.SyncCommit len) = kinds.SYNC_COMMIT
 
@@ -49,9 +50,9 @@ body_bytes (bodies.Found slot r) = be_bytes w32 slot ++ request_bytes r
 body_bytes (bodies.GapCommit slot) = be_bytes w32 slot
 body_bytes (bodies.GapRep slot) = be_bytes w32 slot
 body_bytes bodies.ViewChangeReq = []
-body_bytes (bodies.ViewChange last_normal next sync_point log) = view_bytes last_normal ++ be_bytes w64 next ++ log_bytes sync_point log
-body_bytes (bodies.StartView next sync_point log) = be_bytes w64 next ++ log_bytes sync_point log
-body_bytes (bodies.SyncPrepare sync_point log) = log_bytes sync_point log
+body_bytes (bodies.ViewChange last_normal next log) = view_bytes last_normal ++ be_bytes w64 next ++ log_bytes log
+body_bytes (bodies.StartView next log) = be_bytes w64 next ++ log_bytes log
+body_bytes (bodies.SyncPrepare log) = log_bytes log
 body_bytes (bodies.SyncRep len) = be_bytes w32 len
 body_bytes (bodies.SyncCommit len) = be_bytes w32 len
 

@@ -3,7 +3,7 @@
 ghost use Rattle.std.specs.Prelude.{◌≡◌, ◌≤◌, ◌+◌, ◌*◌, length};
 ghost use Rattle.nop_types.specs.declared.limits.TheConstants.{MAX_OP_BYTES, MAX_SLOTS};
 ghost use Rattle.oum_codec.specs.Spelling.{request_bytes};
-ghost use Rattle.peer_codec.specs.LogBodies.{log_of, with_log};
+ghost use Rattle.peer_codec.specs.LogBodies.{log_in, with_log};
 ghost use Rattle.peer_codec.specs.Spelling.{entry_bytes, entries_bytes, body_bytes, spelling};
 
 use crate::LogBody;
@@ -30,13 +30,13 @@ fn entry_len(entry: &Entry) -> usize
     }
 }
 
-fn entries_len(log: &[Entry]) -> usize
-    requires { length log.now ≤ MAX_SLOTS }
-    ensures exact { result ≡ length (entries_bytes log.now) }
+fn entries_len(entries: &[Entry]) -> usize
+    requires { length entries.now ≤ MAX_SLOTS }
+    ensures exact { result ≡ length (entries_bytes entries.now) }
     ensures small { result ≤ 4 + MAX_SLOTS * (15 + MAX_OP_BYTES) }
 {
     let mut len: usize = 4;
-    for entry in log {
+    for entry in entries {
         len += entry_len(entry);
     }
     len
@@ -55,9 +55,9 @@ fn body_len(body: &Body) -> usize
         | Body::SyncCommit(_) => 4,
         Body::Found(_, request) => 4 + request_len(request),
         Body::ViewChangeReq => 0,
-        Body::ViewChange { log, .. } => 20 + entries_len(log.as_slice()),
-        Body::StartView { log, .. } => 12 + entries_len(log.as_slice()),
-        Body::SyncPrepare { log, .. } => 4 + entries_len(log.as_slice()),
+        Body::ViewChange { log, .. } => 20 + entries_len(log.entries()),
+        Body::StartView { log, .. } => 12 + entries_len(log.entries()),
+        Body::SyncPrepare(log) => 4 + entries_len(log.entries()),
     }
 }
 
@@ -70,13 +70,13 @@ pub fn spelled_len(message: &Peer) -> usize
 
 #[tactic(auto, using(crate::proofs::SpelledLengths::body_lens))]
 pub fn log_body_len(body: LogBody<'_>) -> usize
-    requires { length (log_of body) ≤ MAX_SLOTS }
+    requires { length (log_in body).entries ≤ MAX_SLOTS }
     ensures exact { result ≡ length (body_bytes (with_log body.entry)) }
     ensures small { result ≤ 24 + MAX_SLOTS * (15 + MAX_OP_BYTES) }
 {
     match body {
-        LogBody::ViewChange { log, .. } => 20 + entries_len(log),
-        LogBody::StartView { log, .. } => 12 + entries_len(log),
-        LogBody::SyncPrepare { log, .. } => 4 + entries_len(log),
+        LogBody::ViewChange { log, .. } => 20 + entries_len(log.entries),
+        LogBody::StartView { log, .. } => 12 + entries_len(log.entries),
+        LogBody::SyncPrepare(log) => 4 + entries_len(log.entries),
     }
 }

@@ -29,11 +29,10 @@ fn view_change(alloc: Global, bytes: &[u8]) -> Result<(Body, &[u8]), BadPeer>
 {
     let (last_normal, rest) = split_started(bytes)?;
     let (next, rest) = split_next(rest)?;
-    let (sync_point, log, rest) = split_log(alloc, rest)?;
+    let (log, rest) = split_log(alloc, rest)?;
     let body = Body::ViewChange {
         last_normal,
         next,
-        sync_point,
         log,
     };
     Ok((body, rest))
@@ -44,21 +43,16 @@ fn start_view(alloc: Global, bytes: &[u8]) -> Result<(Body, &[u8]), BadPeer>
     ensures { GivesBy (λ x. (x.0, x.1.now)) result (start_view_at bytes.now) }
 {
     let (next, rest) = split_next(bytes)?;
-    let (sync_point, log, rest) = split_log(alloc, rest)?;
-    let body = Body::StartView {
-        next,
-        sync_point,
-        log,
-    };
-    Ok((body, rest))
+    let (log, rest) = split_log(alloc, rest)?;
+    Ok((Body::StartView { next, log }, rest))
 }
 
 #[tactic(auto, unfolding(crate::specs::Reading::sync_prepare_at))]
 fn sync_prepare(alloc: Global, bytes: &[u8]) -> Result<(Body, &[u8]), BadPeer>
     ensures { GivesBy (λ x. (x.0, x.1.now)) result (sync_prepare_at bytes.now) }
 {
-    let (sync_point, log, rest) = split_log(alloc, bytes)?;
-    Ok((Body::SyncPrepare { sync_point, log }, rest))
+    let (log, rest) = split_log(alloc, bytes)?;
+    Ok((Body::SyncPrepare(log), rest))
 }
 
 fn body(alloc: Global, kind: u8, bytes: &[u8]) -> Result<(Body, &[u8]), BadPeer>

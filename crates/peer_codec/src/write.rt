@@ -1,16 +1,17 @@
 ghost use Rattle.std.specs.Prelude.{◌≡◌, ◌≤◌, ◌++◌, ◌∷◌, [], length, OnOk, OnErr};
 ghost use Rattle.std.specs.Int.{w16, w32, w64};
 ghost use Rattle.nop_types.specs.declared.limits.TheConstants.{MAX_SLOTS};
+ghost use Rattle.nop_types.specs.BorrowedLogs.{log_of};
 ghost use Rattle.nop_types.specs.Ranges.{PeerFits};
 ghost use Rattle.oum_codec.specs.Numbers.{be_bytes};
 ghost use Rattle.oum_codec.specs.Spelling.{view_bytes};
-ghost use Rattle.peer_codec.specs.LogBodies.{log_of, with_log, log_message};
+ghost use Rattle.peer_codec.specs.LogBodies.{log_in, with_log, log_message};
 ghost use Rattle.peer_codec.specs.Spelling.{entry_bytes, entries_bytes, log_bytes, kind_of, head_bytes, body_bytes};
 ghost use Rattle.peer_codec.specs.Spelling.{spelling};
 
 use crate::LogBody;
 use crate::lengths::{HEAD_BYTES, log_body_len, spelled_len};
-use nop_types::{Body, Entry, NoMemory, Peer, View, kinds};
+use nop_types::{Body, Entry, LogRef, NoMemory, Peer, View, kinds};
 use oum_codec::{put_request, put_u32, put_u64, put_view};
 use std::alloc::Global;
 
@@ -41,23 +42,23 @@ fn put_entry(to: &mut Vec<u8>, entry: &Entry) -> Result<(), NoMemory>
     Ok(())
 }
 
-fn put_entries(to: &mut Vec<u8>, log: &[Entry]) -> Result<(), NoMemory>
-    requires { length log.now ≤ MAX_SLOTS }
-    ensures { OnOk result (to.new.items ≡ to.old.items ++ entries_bytes log.now) }
+fn put_entries(to: &mut Vec<u8>, entries: &[Entry]) -> Result<(), NoMemory>
+    requires { length entries.now ≤ MAX_SLOTS }
+    ensures { OnOk result (to.new.items ≡ to.old.items ++ entries_bytes entries.now) }
 {
-    put_u32(to, log.len() as u32)?;
-    for entry in log {
+    put_u32(to, entries.len() as u32)?;
+    for entry in entries {
         put_entry(to, entry)?;
     }
     Ok(())
 }
 
-fn put_log(to: &mut Vec<u8>, sync_point: u32, log: &[Entry]) -> Result<(), NoMemory>
-    requires { length log.now ≤ MAX_SLOTS }
-    ensures { OnOk result (to.new.items ≡ to.old.items ++ log_bytes sync_point log.now) }
+fn put_log(to: &mut Vec<u8>, log: LogRef<'_>) -> Result<(), NoMemory>
+    requires { length log.entries.now ≤ MAX_SLOTS }
+    ensures { OnOk result (to.new.items ≡ to.old.items ++ log_bytes (log_of log.entry)) }
 {
-    put_u32(to, sync_point)?;
-    put_entries(to, log)
+    put_u32(to, log.sync_point)?;
+    put_entries(to, log.entries)
 }
 
 fn kind_of(body: &Body) -> u8
@@ -71,7 +72,7 @@ fn kind_of(body: &Body) -> u8
         Body::ViewChangeReq => kinds::VIEW_CHANGE_REQ,
         Body::ViewChange { .. } => kinds::VIEW_CHANGE,
         Body::StartView { .. } => kinds::START_VIEW,
-        Body::SyncPrepare { .. } => kinds::SYNC_PREPARE,
+        Body::SyncPrepare(_) => kinds::SYNC_PREPARE,
         Body::SyncRep(_) => kinds::SYNC_REP,
         Body::SyncCommit(_) => kinds::SYNC_COMMIT,
     }
@@ -83,7 +84,7 @@ fn kind_of_log(body: LogBody<'_>) -> u8
     match body {
         LogBody::ViewChange { .. } => kinds::VIEW_CHANGE,
         LogBody::StartView { .. } => kinds::START_VIEW,
-        LogBody::SyncPrepare { .. } => kinds::SYNC_PREPARE,
+        LogBody::SyncPrepare(_) => kinds::SYNC_PREPARE,
     }
 }
 
@@ -96,29 +97,24 @@ fn put_head(to: &mut Vec<u8>, kind: u8, sender: u8, view: View) -> Result<(), No
 }
 
 fn put_log_body(to: &mut Vec<u8>, body: LogBody<'_>) -> Result<(), NoMemory>
-    requires { length (log_of body) ≤ MAX_SLOTS }
+    requires { length (log_in body).entries ≤ MAX_SLOTS }
     ensures { OnOk result (to.new.items ≡ to.old.items ++ body_bytes (with_log body.entry)) }
 {
     match body {
         LogBody::ViewChange {
             last_normal,
             next,
-            sync_point,
             log,
         } => {
             put_view(to, last_normal)?;
             put_u64(to, next)?;
-            put_log(to, sync_point, log)
+            put_log(to, log)
         }
-        LogBody::StartView {
-            next,
-            sync_point,
-            log,
-        } => {
+        LogBody::StartView { next, log } => {
             put_u64(to, next)?;
-            put_log(to, sync_point, log)
+            put_log(to, log)
         }
-        LogBody::SyncPrepare { sync_point, log } => put_log(to, sync_point, log),
+        LogBody::SyncPrepare(log) => put_log(to, log),
     }
 }
 
@@ -135,36 +131,23 @@ fn put_body(to: &mut Vec<u8>, body: &Body) -> Result<(), NoMemory>
         Body::ViewChange {
             last_normal,
             next,
-            sync_point,
             log,
         } => {
             let body = LogBody::ViewChange {
                 last_normal: *last_normal,
                 next: *next,
-                sync_point: *sync_point,
-                log: log.as_slice(),
+                log: log.as_ref(),
             };
             put_log_body(to, body)
         }
-        Body::StartView {
-            next,
-            sync_point,
-            log,
-        } => {
+        Body::StartView { next, log } => {
             let body = LogBody::StartView {
                 next: *next,
-                sync_point: *sync_point,
-                log: log.as_slice(),
+                log: log.as_ref(),
             };
             put_log_body(to, body)
         }
-        Body::SyncPrepare { sync_point, log } => {
-            let body = LogBody::SyncPrepare {
-                sync_point: *sync_point,
-                log: log.as_slice(),
-            };
-            put_log_body(to, body)
-        }
+        Body::SyncPrepare(log) => put_log_body(to, LogBody::SyncPrepare(log.as_ref())),
         Body::SyncRep(length) | Body::SyncCommit(length) => put_u32(to, *length),
     }
 }

@@ -1,57 +1,20 @@
 -- What a log is after it was written above a slot.
 use Rattle.std.proofs.Common.{◌≡◌, ℕ, zero, suc, ◌+◌, ◌≤◌, ◌<◌, List, [], ◌∷◌, ◌++◌, length, take, drop, refl, sym, ap, ◌∙◌, arith}
-use Rattle.std.proofs.Common.{append-nil, append_assoc, length-append}
-use Rattle.std.specs.Prelude.{◌-◌, slice_get, slice_set}
-use Rattle.std.proofs.lemmas.List.{length-take-le, length-drop, take-append-drop}
+use Rattle.std.proofs.Common.{length-append}
+use Rattle.std.specs.Prelude.{◌-◌, slice_get}
+use Rattle.std.proofs.lemmas.List.{length-take-le, length-drop}
 use Rattle.nop_types.specs.declared.request.Entry.{Entry}
 use Rattle.nop_types.specs.Lists.{slot_of}
 use Rattle.nop_types.specs.Slots.{laid}
 use Rattle.replica_log.specs.Splices.{spliced}
 
--- ---- entries that are put one by one, the last first
-
-set_at : (n : ℕ) (e : Entry) (xs : List Entry) → n < length xs → drop n (slice_set xs n e) ≡ e ∷ drop (suc n) xs
-set_at n e [] h = absurd (omega (arith, h))
-set_at zero e (x ∷ xs) h = refl
-set_at (suc n) e (x ∷ xs) h = set_at n e xs (omega (arith, h))
-
-placed_from : (at n : ℕ) (a : List Entry) (e : Entry) (xs : List Entry) → at ≤ n → n < length xs
-    → take at (slice_set xs n e) ++ a ++ drop n (slice_set xs n e) ≡ take at xs ++ (a ++ e ∷ []) ++ drop (suc n) xs
-placed_from zero n a e xs le h = ap (λ (t : List Entry). a ++ t) (set_at n e xs h) ∙ sym (append_assoc a (e ∷ []) (drop (suc n) xs))
-placed_from (suc at) zero a e xs le h = absurd (omega (arith, le))
-placed_from (suc at) (suc n) a e [] le h = absurd (omega (arith, h))
-placed_from (suc at) (suc n) a e (x ∷ xs) le h =
-    ap (λ (t : List Entry). x ∷ t) (placed_from at n a e xs (omega (arith, le)) (omega (arith, h)))
-
-pub placed : (at : ℕ) (a : List Entry) (e : Entry) (xs : List Entry) → length a + at < length xs
-    → take at (slice_set xs (length a + at) e) ++ a ++ drop (length a + at) (slice_set xs (length a + at) e)
-    ≡ take at xs ++ (a ++ e ∷ []) ++ drop (length (a ++ e ∷ []) + at) xs
-placed at a e xs h =
-    let len = length-append a (e ∷ []) in
-    let next : suc (length a + at) ≡ length (a ++ e ∷ []) + at = omega (arith, len) in
-    placed_from at (length a + at) a e xs (omega arith) h ∙ ap (λ (n : ℕ). take at xs ++ (a ++ e ∷ []) ++ drop n xs) next
-
--- ---- kept in front
+-- ---- by slots
 
 none-above : (n : ℕ) (l : List Entry) → length l ≤ n → drop n l ≡ []
 none-above zero [] h = refl
 none-above zero (x ∷ l) h = absurd (omega (arith, h))
 none-above (suc n) [] h = refl
 none-above (suc n) (x ∷ l) h = none-above n l (omega (arith, h))
-
--- a log that is no longer than the slot changes nothing
-pub all_kept : (n : ℕ) (own l : List Entry) → length l ≤ n → take n own ≡ spliced n own l
-all_kept n own l h = sym (append-nil (take n own)) ∙ ap (λ (t : List Entry). take n own ++ t) (sym (none-above n l h))
-
-pub kept_in_front : (n : ℕ) (own l : List Entry) → n ≤ length own
-    → take n own ++ drop (length (take n own)) l ≡ spliced n own l
-kept_in_front n own l h = ap (λ (i : ℕ). take n own ++ drop i l) (length-take-le n own h)
-
--- where both logs agree up to the slot, it is the other one
-pub spliced_same : (n : ℕ) (own l : List Entry) → take n own ≡ take n l → spliced n own l ≡ l
-spliced_same n own l e = ap (λ (t : List Entry). t ++ drop n l) e ∙ take-append-drop n l
-
--- ---- by slots
 
 pub length-spliced : (n : ℕ) (own l : List Entry) → n ≤ length own → length (spliced n own l) ≡ n + (length l - n)
 length-spliced n own l h =
@@ -84,17 +47,6 @@ spliced_above n own l zero low less = absurd (omega (arith, less))
 spliced_above n own l (suc i) low less = place_above n i own l (omega (arith, less)) low
 
 -- ---- laid over the own entries
-
--- a longer one is all that is there
-pub laid_longer : (n : ℕ) (own l : List Entry) → n ≤ length own → length own ≤ length l → laid (spliced n own l) own ≡ spliced n own l
-laid_longer zero [] [] a b = refl
-laid_longer zero [] (x ∷ l) a b = refl
-laid_longer zero (y ∷ own) [] a b = absurd (omega (arith, b))
-laid_longer zero (y ∷ own) (x ∷ l) a b = ap (λ (t : List Entry). x ∷ t) (laid_longer zero own l (omega arith) (omega (arith, b)))
-laid_longer (suc n) [] l a b = absurd (omega (arith, a))
-laid_longer (suc n) (y ∷ own) [] a b = absurd (omega (arith, b))
-laid_longer (suc n) (y ∷ own) (x ∷ l) a b =
-    ap (λ (t : List Entry). y ∷ t) (laid_longer n own l (omega (arith, a)) (omega (arith, b)))
 
 -- what it has above the slot, where the own log goes on
 between : (n : ℕ) (own l : List Entry) → n ≤ length own → n ≤ length l → length l ≤ length own

@@ -1,10 +1,9 @@
-ghost use Rattle.std.specs.Prelude.{◌≡◌, ◌≢◌, ◌<◌, ◌≤◌, ◌+◌, ◌-◌, ◌++◌, ◌∷◌, [], ℕ, List, Some, length, max, take};
+ghost use Rattle.std.specs.Prelude.{◌≡◌, ◌≢◌, ◌<◌, ◌≤◌, ℕ, List, Some, length, max};
 ghost use Rattle.nop_types.specs.declared.request.Entry.{Entry};
-ghost use Rattle.nop_types.specs.declared.request.Entry.TheVariants.{NoOp};
 ghost use Rattle.nop_types.specs.Lists.{slot_of};
+ghost use Rattle.nop_types.specs.Logs.{Log, Whole, first, appended, with_noop, adopted, overlaid};
 ghost use Rattle.nop_types.specs.Ranges.{EntryFits, LogFits};
 ghost use Rattle.nop_types.specs.Slots.{set_slot, laid};
-ghost use Rattle.replica_log.specs.Splices.{spliced};
 
 use nop_types::MAX_SLOTS;
 
@@ -26,24 +25,45 @@ pub fn laid_by_slot()
         ≡ slot_of k i }
 {}
 
-/// The slots of the own log up to slot n, and above it those of the other. Where both agree up to slot n, that is the other log.
-pub fn spliced_by_slot()
-    ensures len { (n : ℕ) (own l : List Entry) → n ≤ length own → length (spliced n own l)
-        ≡ n + (length l - n) }
-    ensures below { (n : ℕ) (own l : List Entry) (i : ℕ) → n ≤ length own → i ≤ n →
-        slot_of (spliced n own l) i ≡ slot_of own i }
-    ensures above { (n : ℕ) (own l : List Entry) (i : ℕ) → n ≤ length own → n < i →
-        slot_of (spliced n own l) i ≡ slot_of l i }
-    ensures same { (n : ℕ) (own l : List Entry) → take n own ≡ take n l → spliced n own l ≡ l }
+/// A log in its ranges stays so, whatever entries and logs in their ranges come in.
+pub fn log_stays_in_ranges()
+    ensures append { (l : Log) (e : Entry) → LogFits l → EntryFits e → length l.entries
+        < MAX_SLOTS → LogFits (appended l e) }
+    ensures noop { (l : Log) (n : ℕ) → LogFits l → LogFits (with_noop Whole l n) }
+    ensures raise { (l : Log) (n : ℕ) → LogFits l → n ≤ length l.entries
+        → LogFits (record l { sync_point = n }) }
+    ensures adopt { (new own : Log) → LogFits new → LogFits own → LogFits (adopted Whole new own) }
+    ensures overlay { (new own : Log) → LogFits new → LogFits own
+        → LogFits (overlaid Whole new own) }
+    ensures first { (l : Log) (n : ℕ) → LogFits l → l.sync_point ≤ n → LogFits (first Whole l n) }
 {}
 
-/// A log whose entries are in their ranges stays so, whatever entries in their ranges come in.
-pub fn log_stays_in_ranges()
-    ensures append { (l : List Entry) (e : Entry) → LogFits l → EntryFits e → length l
-        < MAX_SLOTS → LogFits (l ++ e ∷ []) }
-    ensures noop { (l : List Entry) (k : ℕ) → LogFits l → LogFits (set_slot l k NoOp) }
-    ensures overlay { (l k : List Entry) → LogFits l → LogFits k → LogFits (laid l k) }
-    ensures splice { (n : ℕ) (own l : List Entry) → n ≤ length own → LogFits own → LogFits l →
-        LogFits (spliced n own l) }
-    ensures copy { (l : List Entry) (n : ℕ) → LogFits l → LogFits (take n l) }
+/// Where a log is taken, the greater sync point is taken, and so are all entries of the other log; but where its sync point is not
+/// greater, the own entries up to the own sync point stay.
+pub fn adopted_by_slot()
+    ensures point { (new own : Log) → (adopted Whole new own).sync_point
+        ≡ max own.sync_point new.sync_point }
+    ensures len { (new own : Log) → own.sync_point ≤ length own.entries
+        → new.sync_point ≤ length new.entries → length (adopted Whole new own).entries
+        ≡ max own.sync_point (length new.entries) }
+    ensures below { (new own : Log) (i : ℕ) → own.sync_point ≤ length own.entries
+        → new.sync_point ≤ own.sync_point → i ≤ own.sync_point
+        → slot_of (adopted Whole new own).entries i ≡ slot_of own.entries i }
+    ensures above { (new own : Log) (i : ℕ) → own.sync_point ≤ length own.entries
+        → own.sync_point < i → slot_of (adopted Whole new own).entries i
+        ≡ slot_of new.entries i }
+    ensures all { (new own : Log) → own.sync_point < new.sync_point
+        → (adopted Whole new own).entries ≡ new.entries }
+{}
+
+/// Where a log is laid over the own one, the own entries above its end stay; up to there it is as if it were taken.
+pub fn overlaid_by_slot()
+    ensures point { (new own : Log) → (overlaid Whole new own).sync_point
+        ≡ max own.sync_point new.sync_point }
+    ensures len { (new own : Log) → own.sync_point ≤ length own.entries
+        → new.sync_point ≤ length new.entries → length (overlaid Whole new own).entries
+        ≡ max (length own.entries) (length new.entries) }
+    ensures parts { (new own : Log) → own.sync_point ≤ length own.entries
+        → new.sync_point ≤ length new.entries → (overlaid Whole new own).entries
+        ≡ laid (adopted Whole new own).entries own.entries }
 {}

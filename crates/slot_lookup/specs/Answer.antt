@@ -1,10 +1,10 @@
 -- What a leader answers to a replica that asks for a slot.
-use Rattle.std.specs.Prelude.{ℕ, ◌+◌, ◌==◌, ◌&&◌, nat_lt, Bool, true, false, not, List, length, Option, Some, None}
+use Rattle.std.specs.Prelude.{ℕ, ◌+◌, ◌==◌, ◌&&◌, nat_lt, Bool, true, false, not, Option, Some, None}
 use Rattle.nop_types.specs.declared.limits.TheConstants.{MAX_SLOTS}
 use Rattle.nop_types.specs.declared.request.Request.{Request}
 use Rattle.nop_types.specs.declared.request.Entry.{Entry}
 use Rattle.nop_types.specs.declared.request.Entry.TheVariants.{NoOp, Req}
-use Rattle.nop_types.specs.Lists.{slot_of}
+use Rattle.nop_types.specs.Logs.{Log, Keeping, length_of, entry_at}
 use Rattle.slot_lookup.specs.declared.answers.Answer as code
 use Rattle.slot_lookup.specs.declared.answers.Answer.TheVariants as answers
 
@@ -23,8 +23,8 @@ given answers.Begin = Begin
 given answers.Nothing = Nothing
 
 -- a gap agreement may begin in the slot after the last one, where none waits and the log has room
-abbrev pub may_begin : List Entry → Bool → ℕ → Bool
-may_begin log waiting slot = (slot == length log + 1) && (not waiting && nat_lt (length log) MAX_SLOTS)
+abbrev pub may_begin : Keeping → Log → Bool → ℕ → Bool
+may_begin k log waiting slot = (slot == length_of k log + 1) && (not waiting && nat_lt (length_of k log) MAX_SLOTS)
 
 -- by what the slot holds, and whether a gap agreement may begin there
 abbrev pub answer_by : Option Entry → Bool → Answer
@@ -33,5 +33,5 @@ answer_by (Some NoOp) begins = GapAgain
 answer_by None true = Begin
 answer_by None false = Nothing
 
-abbrev pub answer_of : List Entry → Bool → ℕ → Answer
-answer_of log waiting slot = answer_by (slot_of log slot) (may_begin log waiting slot)
+abbrev pub answer_of : Keeping → Log → Bool → ℕ → Answer
+answer_of k log waiting slot = answer_by (entry_at k log slot) (may_begin k log waiting slot)

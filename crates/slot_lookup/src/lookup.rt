@@ -1,4 +1,5 @@
 ghost use Rattle.std.specs.Prelude.{◌≡◌};
+ghost use Rattle.nop_types.specs.Logs.{Whole};
 ghost use Rattle.slot_lookup.specs.Answer.{given, answer_of};
 
 use crate::Answer;
@@ -7,7 +8,7 @@ use replica_log::ReplicaLog;
 
 /// The answer of a leader with this log. `waiting` says whether one of its gap agreements waits for votes. It takes no memory.
 pub fn answer(log: &ReplicaLog, waiting: bool, slot: u32) -> Answer<'_>
-    ensures { given result ≡ answer_of log.now waiting slot }
+    ensures { given result ≡ answer_of Whole log.now waiting slot }
 {
     match log.at(slot) {
         Some(Entry::Req(request)) => Answer::Found(request),

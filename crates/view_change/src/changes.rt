@@ -1,7 +1,15 @@
-ghost use Rattle.std.specs.Prelude.{◌≡◌, ◌≤◌, ◌↔◌, length, nat_lt, IfOk, OnOk, OnErr};
+ghost use Rattle.std.specs.Prelude.{◌≡◌, ◌≤◌, ◌↔◌, length, map, nat_lt, IfOk, OnOk, OnErr};
+ghost use Rattle.nop_types.specs.PlainChanges.{plain};
 ghost use Rattle.log_merge.specs.Merged.{HasDistinctSenders};
 ghost use Rattle.view_change.specs.declared.starting.Step.TheVariants.{Waiting};
-ghost use Rattle.view_change.specs.Gathering.{entered, has_sender, counted, started, step_of};
+ghost use Rattle.view_change.specs.Gathering.{
+  entered,
+  teller,
+  has_sender,
+  counted,
+  started,
+  step_of,
+};
 
 use crate::starting::{start_moved, start_of};
 use crate::{Start, Step};
@@ -19,18 +27,21 @@ pub struct Changes {
 }
 
 impl Model for Changes {
+    ghost use Rattle.std.specs.Prelude.{map};
+    ghost use Rattle.nop_types.specs.declared.peer.Change.{Change};
+    ghost use Rattle.nop_types.specs.PlainChanges.{plain};
     ghost use Rattle.log_merge.specs.Merged.{HasDistinctSenders};
     ghost use Rattle.view_change.specs.Gathering.{Gathering};
 
-    ghost Value = { Gathering };
+    ghost Value = { Gathering Change };
 
     ghost view = { λ g. record { view = g.view; f = g.f; changes = g.changes.items } };
 
-    ghost invariant = { λ g. HasDistinctSenders g.changes.items };
+    ghost invariant = { λ g. HasDistinctSenders (map plain g.changes.items) };
 }
 
 fn has_sender(changes: &[Change], sender: u8) -> bool
-    ensures { result ≡ has_sender changes.now sender }
+    ensures { result ≡ has_sender teller changes.now sender }
 {
     for change in changes {
         if change.sender == sender {
@@ -64,7 +75,7 @@ impl Changes {
     /// One change of each sender, in the order in which they came.
     pub fn as_slice(&self) -> &[Change]
         ensures changes { result.now ≡ self.now.changes }
-        ensures distinct { HasDistinctSenders result.now }
+        ensures distinct { HasDistinctSenders (map plain result.now) }
     {
         &self.changes
     }
@@ -83,10 +94,10 @@ impl Changes {
     /// Takes a change, unless its sender's is there. Started, with what the view is started with, exactly where `f` + 1
     /// senders are there then.
     pub fn on_change(&mut self, change: Change) -> Result<Step, NoMemory>
-        ensures after { OnOk result (self.new ≡ counted self.old change) }
-        ensures step { IfOk result (λ s. s ≡ step_of (counted self.old change)) }
+        ensures after { OnOk result (self.new ≡ counted teller self.old change) }
+        ensures step { IfOk result (λ s. s ≡ step_of (counted teller self.old change)) }
         ensures waits { IfOk result (λ s.
-            (s ≡ Waiting) ↔ (length (counted self.old change).changes ≤ self.old.f)) }
+            (s ≡ Waiting) ↔ (length (counted teller self.old change).changes ≤ self.old.f)) }
         ensures err { OnErr result (self.new ≡ self.old) }
     {
         if has_sender(&self.changes, change.sender) {
@@ -102,7 +113,7 @@ impl Changes {
 
     /// Whether the view is started once this change is taken.
     pub fn is_enough_with(&self, change: &Change) -> bool
-        ensures { result ≡ nat_lt self.now.f (length (counted self.now change.now).changes) }
+        ensures { result ≡ nat_lt self.now.f (length (counted teller self.now change.now).changes) }
     {
         let len = self.changes.len();
         if has_sender(&self.changes, change.sender) {
@@ -114,7 +125,7 @@ impl Changes {
     /// What the view is started with from this change and those that are there, whose entries are moved and not copied.
     pub fn start_with(mut self, change: Change) -> Result<Start, NoMemory>
         ensures { IfOk result (λ s. s
-            ≡ started self.view (counted self change).changes) }
+            ≡ started self.view (counted teller self change).changes) }
     {
         if has_sender(&self.changes, change.sender) {
             return start_moved(self.alloc, self.view, self.changes);

@@ -3,13 +3,15 @@
 //!
 //! `Changes` has one change of each sender, the first that came (`senders_count_once`). The view is
 //! started exactly where f + 1 senders are there, its own among them, with what the starting rule of
-//! `log_merge` gives for their changes: `start_of`, and `start_point` for the sync point.
+//! `log_merge` gives for their changes, read plain: a whole log, with the merged entries (`start_of`)
+//! and the greatest sync point (`start_point`).
 //!
 //! Calls, for the state and the rows of a replica: `Changes::enter`, `on_change`, `is_enough_with`,
 //! `as_slice`; `start_with` moves the entries of the logs instead of copying them, and `start_now`
 //! is for a leader without others.
 //!
-//! Files: `changes`, `starting`; `specs/Gathering` (`with_change`, `step_of`).
+//! Files: `changes`, `starting`; `specs/Gathering` (`with_change`, `step_of`). A gathering there is
+//! of the changes that are told, or of plain ones, as the protocol has it.
 #![tactic(auto)]
 
 mod changes;

@@ -1,4 +1,5 @@
-ghost use Rattle.std.specs.Prelude.{◌≡◌, ◌==◌, cond, filter, IfOk};
+ghost use Rattle.std.specs.Prelude.{◌≡◌, ◌==◌, cond, filter, map, IfOk};
+ghost use Rattle.nop_types.specs.PlainChanges.{plain};
 ghost use Rattle.nop_types.specs.Views.{is_view};
 ghost use Rattle.log_merge.specs.Merged.{HasDistinctSenders};
 ghost use Rattle.log_merge.specs.Starting.{greatest, greatest_next, greatest_point};
@@ -12,7 +13,6 @@ use std::alloc::Global;
 #[derive(Drop)]
 pub struct Start {
     pub next: u64,
-    pub sync_point: u32,
     pub log: Log,
 }
 
@@ -32,7 +32,7 @@ fn greater(a: View, b: View) -> View
 
 /// The last normal view of greatest rank.
 fn greatest(changes: &[Change]) -> View
-    ensures { result ≡ greatest changes.now }
+    ensures { result ≡ greatest (map plain changes.now) }
 {
     let mut best = View {
         leader: 0,
@@ -46,7 +46,8 @@ fn greatest(changes: &[Change]) -> View
 
 /// The greatest next number of the changes with this last normal view.
 fn greatest_next(changes: &[Change], view: View) -> u64
-    ensures { result ≡ greatest_next (filter (λ c. is_view c.last_normal view) changes.now) }
+    ensures { result
+        ≡ greatest_next (filter (λ c. is_view c.last_normal view) (map plain changes.now)) }
 {
     let mut most = 0;
     for change in changes {
@@ -59,12 +60,13 @@ fn greatest_next(changes: &[Change], view: View) -> u64
 
 /// The greatest sync point of the changes with this last normal view.
 fn greatest_point(changes: &[Change], view: View) -> u32
-    ensures { result ≡ greatest_point (filter (λ c. is_view c.last_normal view) changes.now) }
+    ensures { result
+        ≡ greatest_point (filter (λ c. is_view c.last_normal view) (map plain changes.now)) }
 {
     let mut most = 0;
     for change in changes {
         if change.last_normal.is(view) {
-            most = most.max(change.sync_point);
+            most = most.max(change.log.sync_point());
         }
     }
     most
@@ -73,7 +75,7 @@ fn greatest_point(changes: &[Change], view: View) -> u32
 /// The number of the next request that a view is started with, where `last` is the last normal view of greatest rank.
 fn next_of(view: View, changes: &[Change], last: View) -> u64
     ensures { result ≡ cond (last.session == view.session)
-        (greatest_next (filter (λ c. is_view c.last_normal last) changes.now)) 1 }
+        (greatest_next (filter (λ c. is_view c.last_normal last) (map plain changes.now))) 1 }
 {
     if last.session == view.session {
         greatest_next(changes, last)
@@ -87,28 +89,26 @@ pub fn start_of(alloc: Global, view: View, changes: &[Change]) -> Result<Start, 
     ensures { IfOk result (λ s. s ≡ started view changes.now) }
 {
     let last = greatest(changes);
-    let log = merge_of_view(alloc, changes, last)?;
+    let entries = merge_of_view(alloc, changes, last)?;
     let next = next_of(view, changes, last);
     let sync_point = greatest_point(changes, last);
     Ok(Start {
         next,
-        sync_point,
-        log,
+        log: Log::new(sync_point, entries),
     })
 }
 
 /// The same from changes whose entries are moved and not copied.
 pub fn start_moved(alloc: Global, view: View, changes: Vec<Change>) -> Result<Start, NoMemory>
-    requires { HasDistinctSenders changes.items }
+    requires { HasDistinctSenders (map plain changes.items) }
     ensures { IfOk result (λ s. s ≡ started view changes.items) }
 {
     let last = greatest(&changes);
     let next = next_of(view, &changes, last);
     let sync_point = greatest_point(&changes, last);
-    let log = merge_moved(alloc, changes, last)?;
+    let entries = merge_moved(alloc, changes, last)?;
     Ok(Start {
         next,
-        sync_point,
-        log,
+        log: Log::new(sync_point, entries),
     })
 }

@@ -9,6 +9,6 @@ use Rattle.peer_codec.proofs.lengths.entries_len.Goals as goal
 pub returns-clause-exact : goal.returns-clause-exact
 returns-clause-exact c =
     c.loop-entry.invariant.exact
-    ∙ ap (λ (log : List Entry). 4 + sum_by (λ e. length (entry_bytes e)) log)
-    (take_all c.loop-entry.entry-index c.args.log.now c.loop-entry-test.false)
-    ∙ sym (entries_len c.args.log.now)
+    ∙ ap (λ (entries : List Entry). 4 + sum_by (λ e. length (entry_bytes e)) entries)
+    (take_all c.loop-entry.entry-index c.args.entries.now c.loop-entry-test.false)
+    ∙ sym (entries_len c.args.entries.now)

@@ -6,6 +6,6 @@ use Rattle.peer_codec.proofs.lengths.entries_len.Given as goal
 abbrev pub invariant-loop-entry : goal.invariant-loop-entry
 invariant-loop-entry l =
     record {
-      exact : l.len ≡ 4 + sum_by (λ e. length (entry_bytes e)) (take l.entry-index l.log);
+      exact : l.len ≡ 4 + sum_by (λ e. length (entry_bytes e)) (take l.entry-index l.entries);
       small : l.len ≤ 4 + 655 * l.entry-index;
     }

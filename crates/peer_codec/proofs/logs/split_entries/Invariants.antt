@@ -6,6 +6,6 @@ use Rattle.peer_codec.proofs.logs.split_entries.Given as goal
 abbrev pub invariant-loop : goal.invariant-loop
 invariant-loop l =
     record {
-      so_far : with_front l.log (entries_at (l.count - l.counter) l.rest) ≡ entries_at l.count l.bytes;
-      len : length l.log ≡ l.counter;
+      so_far : with_front l.entries.items (entries_at (l.count - l.counter) l.rest) ≡ entries_at l.count l.bytes;
+      len : length l.entries.items ≡ l.counter;
     }

@@ -1,0 +1,87 @@
+-- The merge of whole logs is the plain merge.
+use Rattle.std.proofs.Common.{◌≡◌, ℕ, Bool, true, false, cond, List, [], ◌∷◌, max, map, filter, Option, Some, None}
+use Rattle.std.proofs.Common.{refl, ap, ◌∙◌, arith}
+use Rattle.std.specs.Prelude.{IfSome}
+use Rattle.std.specs.List.{AllByRecursion}
+use Rattle.std.proofs.lemmas.Bool.Decides.{nat_tests}
+use Rattle.nop_types.specs.declared.peer.Change.{Change}
+use Rattle.nop_types.specs.Logs.{Whole, whole}
+use Rattle.nop_types.specs.PlainChanges as plains
+use Rattle.nop_types.specs.PlainChanges.{plain}
+use Rattle.nop_types.specs.Ranges.{ChangeFits}
+use Rattle.nop_types.specs.Views.{is_view}
+use Rattle.log_merge.specs.Merge.{merge}
+use Rattle.log_merge.specs.Merging.{kept_told, precedes, better, best, merged}
+use Rattle.log_merge.specs.Starting.{greatest, kept, greatest_point}
+
+-- ---- what is kept of changes that are told
+
+plain_first : (b : Bool) (c : Change) (cs : List Change) (ds : List plains.Change) → map plain cs ≡ ds
+    → map plain (cond b (c ∷ cs) cs) ≡ cond b (plain c ∷ ds) ds
+plain_first true c cs ds e = ap (λ (xs : List plains.Change). plain c ∷ xs) e
+plain_first false c cs ds e = e
+
+pub plain_filter : (p : plains.Change → Bool) (cs : List Change) → map plain (filter (λ c. p (plain c)) cs) ≡ filter p (map plain cs)
+plain_filter p [] = refl
+plain_filter p (c ∷ cs) = plain_first (p (plain c)) c (filter (λ d. p (plain d)) cs) (filter p (map plain cs)) (plain_filter p cs)
+
+pub kept_is_plain : (cs : List Change) → map plain (kept_told cs) ≡ kept (map plain cs)
+kept_is_plain cs = plain_filter (λ c. is_view c.last_normal (greatest (map plain cs))) cs
+
+-- ---- the best has the greatest sync point
+
+abbrev point_of : Option Change → ℕ
+point_of None = 0
+point_of (Some c) = c.log.sync_point
+
+precedes_point : (c d : Change) (b : Bool) → precedes c d ≡ b → (cond b c d).log.sync_point ≡ max c.log.sync_point d.log.sync_point
+precedes_point c d true e = grind (arith, nat_tests, e)
+precedes_point c d false e = grind (arith, nat_tests, e)
+
+better_point : (c : Change) (o : Option Change) → (better c o).log.sync_point ≡ max c.log.sync_point (point_of o)
+better_point c None = omega arith
+better_point c (Some d) = precedes_point c d (precedes c d) refl
+
+best_point : (cs : List Change) → point_of (best cs) ≡ greatest_point (map plain cs)
+best_point [] = refl
+best_point (c ∷ cs) = better_point c (best cs) ∙ ap (λ (n : ℕ). max c.log.sync_point n) (best_point cs)
+
+-- ---- logs without checkpoints
+
+either_none : (b : Bool) (c d : Change) → c.log.checkpoint ≡ None → d.log.checkpoint ≡ None → (cond b c d).log.checkpoint ≡ None
+either_none true c d h g = h
+either_none false c d h g = g
+
+better_none : (c : Change) (o : Option Change) → c.log.checkpoint ≡ None → IfSome o (λ d. d.log.checkpoint ≡ None)
+    → (better c o).log.checkpoint ≡ None
+better_none c None h g = h
+better_none c (Some d) h g = either_none (precedes c d) c d h g
+
+best_none : (cs : List Change) → AllByRecursion ChangeFits cs → IfSome (best cs) (λ d. d.log.checkpoint ≡ None)
+best_none [] h = tt
+best_none (c ∷ cs) h = better_none c (best cs) h.0.rest.told.whole (best_none cs h.1)
+
+-- ---- the merge
+
+pub merged_entries : (cs : List Change) → (merged Whole cs).entries ≡ merge (map plain cs)
+merged_entries [] = refl
+merged_entries (c ∷ cs) = refl
+
+pub merged_point : (cs : List Change) → (merged Whole cs).sync_point ≡ greatest_point (map plain cs)
+merged_point [] = refl
+merged_point (c ∷ cs) = best_point (c ∷ cs)
+
+pub merged_has_none : (cs : List Change) → AllByRecursion ChangeFits cs → (merged Whole cs).checkpoint ≡ None
+merged_has_none [] h = refl
+merged_has_none (c ∷ cs) h = best_none (c ∷ cs) h
+
+pub merged_is_plain : (cs : List Change) → AllByRecursion ChangeFits cs
+    → merged Whole cs ≡ whole (greatest_point (map plain cs)) (merge (map plain cs))
+merged_is_plain cs h =
+    let point = merged_point cs in
+    let none = merged_has_none cs h in
+    let entries = merged_entries cs in
+    λ i. record { sync_point = point i; checkpoint = none i; entries = entries i }
+
+-- for the attribute of the law
+pub ruleset is_plain = (merged_entries, merged_point, kept_is_plain, merged_is_plain)
