@@ -83,10 +83,10 @@ impl<H: Host> Executor<H> {
     /// Executes the entries of the log up to a slot. The log has the entries that were executed so far.
     pub fn run_to(&mut self, log: &ReplicaLog, slot: u32) -> Result<(), NoMemory>
         requires from { length self.old.undos ≤ slot }
-        requires there { slot ≤ length log.now }
-        requires run { HasExecuted H.state H.meaning H.undo_of log.now self.old }
+        requires there { slot ≤ length log.now.entries }
+        requires run { HasExecuted H.state H.meaning H.undo_of log.now.entries self.old }
         ensures executed { OnOk result (length self.new.undos ≡ slot) }
-        ensures run { HasExecuted H.state H.meaning H.undo_of log.now self.new }
+        ensures run { HasExecuted H.state H.meaning H.undo_of log.now.entries self.new }
 
         // After an error it stands at some slot on the way, and has failed.
         ensures stays { length self.old.undos ≤ length self.new.undos }
@@ -102,7 +102,7 @@ impl<H: Host> Executor<H> {
             &mut self.host,
             &mut self.table,
             &mut self.undos,
-            log.as_slice(),
+            log.entries(),
             slot as usize,
         );
         self.failed = done.is_err();
@@ -110,18 +110,21 @@ impl<H: Host> Executor<H> {
     }
 
     /// Undoes the entries of the log above a slot, from the last executed one down. It takes no memory.
+    // Apart from its caller, which asks at each step and undoes hardly ever.
+    #[cold]
+    #[inline(never)]
     pub fn rewind(&mut self, log: &ReplicaLog, slot: u32)
         requires back { slot ≤ length self.old.undos }
-        requires run { HasExecuted H.state H.meaning H.undo_of log.now self.old }
+        requires run { HasExecuted H.state H.meaning H.undo_of log.now.entries self.old }
         ensures executed { length self.new.undos ≡ slot }
-        ensures run { HasExecuted H.state H.meaning H.undo_of log.now self.new }
+        ensures run { HasExecuted H.state H.meaning H.undo_of log.now.entries self.new }
         ensures failed { self.new.failed ≡ self.old.failed }
     {
         go_back(
             &mut self.host,
             &mut self.table,
             &mut self.undos,
-            log.as_slice(),
+            log.entries(),
             slot as usize,
         );
     }

@@ -1,3 +1,4 @@
+pub mod AnswerLemmas
 pub mod LoadLemmas
 pub mod PlacesLemmas
 pub mod ReadLemmas

@@ -58,6 +58,8 @@ fn say(alloc: Global, answer: &[u8]) -> Done
 }
 
 /// Gives a key a value, and says how to undo it, with the answer that was made before.
+// In place, as `Table::write`: its result is large.
+#[inline(always)]
 #[tactic(auto, using(crate::proofs::PlacesLemmas::place_writes))]
 fn set(
     alloc: Global,

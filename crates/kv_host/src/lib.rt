@@ -13,17 +13,19 @@
 //! Ops are read from the bytes that spell them and from no others (law `ops_are_read_as_spelled`);
 //! other bytes are answered `bad`, and change nothing. A state is saved as how many keys have a
 //! value, and these keys with their values, keys ascending; it loads again, and nothing else does.
+//! The answers to ops of bytes are bytes (law `answers_are_bytes`).
 //!
 //! Calls: `KvHost`, by the trait; crates above name it where they choose the service.
 //!
-//! Files: `op` (reading), `apply`, `undo`, `saved`, `host`; `table` keeps a place for each key that
-//! was ever written, and counts those with a value. Definitions: `specs/Kv` (`answer_to`,
+//! Files: `op` (reading), `apply`, `undo`, `saved`, `host`, `laws`; `table` keeps a place for each
+//! key that was ever written, and counts those with a value. Definitions: `specs/Kv` (`answer_to`,
 //! `state_after`), `Saved` (`saved`, `loaded`), `Op` (`read_op`), `Spelling` (`Spells`), `Undo`.
 #![tactic(auto)]
 
 mod apply;
 mod host;
 mod key;
+mod laws;
 mod op;
 mod saved;
 mod table;
@@ -31,6 +33,7 @@ mod undo;
 mod value;
 
 pub use host::KvHost;
+pub use laws::answers_are_bytes;
 pub use op::ops_are_read_as_spelled;
 pub use table::MAX_KEYS;
 pub use undo::KvUndo;

@@ -177,6 +177,7 @@ impl Table {
 
     /// Writes a value into a key's place, which is made where there is none, and gives the former
     /// value.
+    #[inline(always)]
     #[tactic(auto, using(crate::proofs::PlacesLemmas::place_writes))]
     pub fn write(
         &mut self,

@@ -22,14 +22,14 @@ use Rattle.lock_host.specs.Tokens.{after_all, reached, Holds, TokensRise, OneHol
 
 -- ---- what stands at a place after a write
 
-get_set : {X : Type 0} (xs : List X) (i k : ℕ) (y x : X) → slice_get (slice_set xs i y) k ≡ Some x → (slice_get xs k ≡ Some x) ⊎ (y ≡ x)
+pub get_set : {X : Type 0} (xs : List X) (i k : ℕ) (y x : X) → slice_get (slice_set xs i y) k ≡ Some x → (slice_get xs k ≡ Some x) ⊎ (y ≡ x)
 get_set [] i k y x e = absurd (none-some x e)
 get_set (z ∷ zs) zero zero y x e = inr (same_Some y x e)
 get_set (z ∷ zs) zero (suc k) y x e = inl e
 get_set (z ∷ zs) (suc i) zero y x e = inl e
 get_set (z ∷ zs) (suc i) (suc k) y x e = get_set zs i k y x e
 
-get_add : {X : Type 0} (xs : List X) (k : ℕ) (y x : X) → slice_get (xs ++ y ∷ []) k ≡ Some x → (slice_get xs k ≡ Some x) ⊎ (y ≡ x)
+pub get_add : {X : Type 0} (xs : List X) (k : ℕ) (y x : X) → slice_get (xs ++ y ∷ []) k ≡ Some x → (slice_get xs k ≡ Some x) ⊎ (y ≡ x)
 get_add [] zero y x e = inr (same_Some y x e)
 get_add [] (suc k) y x e = absurd (none-some x e)
 get_add (z ∷ zs) zero y x e = inl e

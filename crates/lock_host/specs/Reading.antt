@@ -89,7 +89,7 @@ pub number_at-begins : (bytes : List ℕ) → IfSome (number_at bytes) (BeginsNu
 unfolding number_at
 number_at-begins bytes = eight_begin _ _ bytes refl refl
 
-eight_below : (n : ℕ) → all_below (number_bytes n) 256 ≡ true
+pub eight_below : (n : ℕ) → all_below (number_bytes n) 256 ≡ true
 unfolding number_bytes
 eight_below n =
     all_eight _ _ _ _ _ _ _ _ (mod-lt (n / 256 ^ 7) (omega arith)) (mod-lt (n / 256 ^ 6) (omega arith)) (mod-lt (n / 256 ^ 5) (omega arith))

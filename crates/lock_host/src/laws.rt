@@ -1,5 +1,7 @@
 //! What the definitions of the lock service say together, over all lists of ops.
 
+ghost use Rattle.nop_types.specs.Services.{AnswersAreBytes};
+ghost use Rattle.lock_host.specs.Service.{lock_meaning};
 ghost use Rattle.lock_host.specs.Spelling.{ReadsSpelled, ReadsOnlySpelled};
 ghost use Rattle.lock_host.specs.Tokens.{TokensRise, OneHolder, OneLock, ReleasesOwn};
 ghost use Rattle.lock_host.specs.Tokens.{AnswersGrants, AnswersAgain};
@@ -31,4 +33,9 @@ pub fn only_the_holder_releases()
 pub fn a_grant_is_answered()
     ensures grants { AnswersGrants }
     ensures again { AnswersAgain }
+{}
+
+/// The answers to ops of bytes are bytes.
+pub fn answers_are_bytes()
+    ensures { AnswersAreBytes lock_meaning }
 {}
