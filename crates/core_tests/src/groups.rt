@@ -28,7 +28,7 @@ fn put_state<H: Host>(rt: &impl Abort, alloc: Global, core: &Replica<H>, to: &mu
         view.leader, view.session, normal.leader, normal.session
     );
     to.push_str(&text.expect(rt, "memory")).expect(rt, "memory");
-    for entry in core.log().as_slice() {
+    for entry in core.log().entries() {
         put_entry(rt, alloc, entry, to);
     }
     put_line(rt, "", to);

@@ -1,9 +1,10 @@
 -- What changes nothing at a replica.
 use Rattle.std.proofs.Common.{◌≡◌, ℕ, ◌<◌, ◌≤◌, ◌+◌, ◌-◌, List, [], length, refl, ap, ◌∙◌, Bool, true, false, Result, Ok, Err, arith}
-use Rattle.std.specs.Prelude.{nat_lt, nat_le, ◌==◌, ◌&&◌}
-use Rattle.std.proofs.lemmas.Bool.{ltb-true}
+use Rattle.std.specs.Prelude.{nat_lt, nat_le, not, ◌==◌, ◌&&◌}
+use Rattle.std.proofs.lemmas.Bool.{eq-eqb, ltb-true}
 use Rattle.std.proofs.lemmas.Bool.Decides.{nat_tests}
 use Rattle.nop_types.specs.Given.{Packet, Submit}
+use Rattle.nop_types.specs.Logs.{Log, Whole}
 use Rattle.nop_types.specs.Meaning.{Meaning}
 use Rattle.nop_types.specs.declared.datagram.Fragment.{Fragment}
 use Rattle.nop_types.specs.declared.datagram.Datagram.{Datagram}
@@ -13,7 +14,6 @@ use Rattle.nop_types.specs.declared.output.Out.{Out}
 use Rattle.nop_types.specs.declared.peer.Peer.{Peer}
 use Rattle.nop_types.specs.declared.peer.Body.{Body}
 use Rattle.nop_types.specs.declared.peer.Body.TheVariants as bodies
-use Rattle.nop_types.specs.declared.request.Entry.{Entry}
 use Rattle.nop_types.specs.declared.request.Request.{Request}
 use Rattle.nop_types.specs.declared.view.View.{View}
 use Rattle.oum_codec.specs.declared.bad.Bad.{Bad}
@@ -21,12 +21,11 @@ use Rattle.oum_codec.specs.Reading.{reading}
 use Rattle.replica_state.specs.declared.state.ReplicaState.{ReplicaState}
 use Rattle.replica_core.specs.declared.replica.TheConstants.{LAST_MESSAGE}
 use Rattle.replica_core.specs.Ignoring.{is_for, IsIgnored, IgnoresPacket, is_of_view, Rests, IgnoresMessage}
-use Rattle.replica_rows.specs.Messages.{Arrival, by_role, in_view, on_body, on_message, arrive}
+use Rattle.replica_rows.specs.Messages.{loads_in, Arrival, by_role, in_view, on_body, on_message, arrive}
 use Rattle.replica_core.specs.ReplicaSteps.{Replica, row_if, row, fragment_if, fragment, on_datagram, next}
 use Rattle.replica_rows.specs.Rows.{gap_commit_if, gap_commit, found, sync_prepare, sync_commit, drain_if_risen, begin_gap}
 use Rattle.replica_rows.specs.Rows.{suspect, last_leader}
 use Rattle.replica_state.specs.Moves as moves
-use Rattle.replica_state.specs.Moves.{drain}
 use Rattle.replica_state.specs.Sends.{Effect, still, then_do, when}
 use Rattle.replica_state.specs.State.{may_append, is_current, is_from_leader, is_to_leader, is_other}
 use Rattle.replica_rows.proofs.Counting.{arrive_sends_few}
@@ -80,28 +79,28 @@ front_fails false b e = refl
 front_fails true b e = absurd cc
 
 no_role : {S : Type 0} (m : Meaning S) (a b : Bool) (q : ℕ) (body : Body) (s : ReplicaState) → a ≡ false → b ≡ false
-    → by_role m a b q body s ≡ still s
+    → by_role m Whole a b q body s ≡ still s
 no_role m false false q body s d e = refl
 no_role m true b q body s d e = absurd cc
 no_role m false true q body s d e = absurd cc
 
 not_in_view : {S : Type 0} (m : Meaning S) (q : ℕ) (v : View) (body : Body) (s : ReplicaState) → is_current s v ≡ false
-    → in_view m q v body s ≡ still s
+    → in_view m Whole q v body s ≡ still s
 not_in_view m q v body s e =
     no_role m (is_from_leader s v q) (is_to_leader s v) q body s (front_fails (is_current s v) _ e) (front_fails (is_current s v) _ e)
 
 body_rests : {S : Type 0} (m : Meaning S) (p : Peer) (body : Body) (s : ReplicaState) → is_of_view body ≡ true → is_current s p.view ≡ false
-    → on_body m p body s ≡ still s
-body_rests m p (bodies.SlotLookup k) s of e = not_in_view m p.sender p.view (bodies.SlotLookup k) s e
-body_rests m p (bodies.Found k r) s of e = not_in_view m p.sender p.view (bodies.Found k r) s e
-body_rests m p (bodies.GapCommit k) s of e = not_in_view m p.sender p.view (bodies.GapCommit k) s e
-body_rests m p (bodies.GapRep k) s of e = not_in_view m p.sender p.view (bodies.GapRep k) s e
-body_rests m p (bodies.SyncPrepare z l) s of e = not_in_view m p.sender p.view (bodies.SyncPrepare z l) s e
-body_rests m p (bodies.SyncRep k) s of e = not_in_view m p.sender p.view (bodies.SyncRep k) s e
-body_rests m p (bodies.SyncCommit k) s of e = not_in_view m p.sender p.view (bodies.SyncCommit k) s e
+    → on_body m Whole p body s ≡ still s
+body_rests m p (bodies.SlotLookup n) s of e = not_in_view m p.sender p.view (bodies.SlotLookup n) s e
+body_rests m p (bodies.Found n r) s of e = not_in_view m p.sender p.view (bodies.Found n r) s e
+body_rests m p (bodies.GapCommit n) s of e = not_in_view m p.sender p.view (bodies.GapCommit n) s e
+body_rests m p (bodies.GapRep n) s of e = not_in_view m p.sender p.view (bodies.GapRep n) s e
+body_rests m p (bodies.SyncPrepare l) s of e = not_in_view m p.sender p.view (bodies.SyncPrepare l) s e
+body_rests m p (bodies.SyncRep n) s of e = not_in_view m p.sender p.view (bodies.SyncRep n) s e
+body_rests m p (bodies.SyncCommit n) s of e = not_in_view m p.sender p.view (bodies.SyncCommit n) s e
 body_rests m p bodies.ViewChangeReq s of e = absurd cc
-body_rests m p (bodies.ViewChange u x z l) s of e = absurd cc
-body_rests m p (bodies.StartView x z l) s of e = absurd cc
+body_rests m p (bodies.ViewChange u x l) s of e = absurd cc
+body_rests m p (bodies.StartView x l) s of e = absurd cc
 
 when_rests : (s : ReplicaState) (f : ReplicaState → Effect) (b : Bool) → f s ≡ still s → when b f s ≡ still s
 when_rests s f true e = e
@@ -109,22 +108,26 @@ when_rests s f false e = refl
 
 stranger_rests : {S : Type 0} (m : Meaning S) (s : ReplicaState) (p : Peer) → is_other s p.sender ≡ false → Rests m s p
 unfolding arrive on_message
-stranger_rests m s p e = no_message s (on_body m p p.body) (is_other s p.sender) e
+stranger_rests m s p e =
+    when_rests s (on_message m Whole p) (loads_in m p.body) (no_message s (on_body m Whole p p.body) (is_other s p.sender) e)
 
 elsewhere_rests : {S : Type 0} (m : Meaning S) (s : ReplicaState) (p : Peer) → is_of_view p.body ≡ true → is_current s p.view ≡ false
     → Rests m s p
 unfolding arrive on_message
-elsewhere_rests m s p of e = when_rests s (on_body m p p.body) (is_other s p.sender) (body_rests m p p.body s of e)
+elsewhere_rests m s p of e =
+    when_rests s (on_message m Whole p) (loads_in m p.body)
+    (when_rests s (on_body m Whole p p.body) (is_other s p.sender) (body_rests m p p.body s of e))
 
 pub ignores_message : {S : Type 0} (m : Meaning S) (s : ReplicaState) (p : Peer) → IgnoresMessage m s p
 ignores_message m s p = record { stranger = stranger_rests m s p; elsewhere = elsewhere_rests m s p }
 
 -- ---- limits
 
-no_gap : {S : Type 0} (m : Meaning S) (a b : Bool) (k : ℕ) (s : ReplicaState) → a ≡ false → b ≡ false → gap_commit_if m a b k s ≡ still s
-no_gap m false false k s d e = refl
-no_gap m true b k s d e = absurd cc
-no_gap m false true k s d e = absurd cc
+no_gap : {S : Type 0} (m : Meaning S) (a b : Bool) (n : ℕ) (s : ReplicaState) → a ≡ false → b ≡ false
+    → gap_commit_if m Whole a b n s ≡ still s
+no_gap m false false n s d e = refl
+no_gap m true b n s d e = absurd cc
+no_gap m false true n s d e = absurd cc
 
 back_fails : (a b : Bool) → b ≡ false → (a && b) ≡ false
 back_fails false b e = refl
@@ -136,39 +139,44 @@ above n k lt = grind (arith, nat_tests, lt)
 not_below : (n k : ℕ) → k ≤ n → nat_lt n k ≡ false
 not_below n k le = grind (arith, nat_tests, le)
 
-pub gap_rests : {S : Type 0} (m : Meaning S) (s : ReplicaState) (k : ℕ) → may_append s ≡ false → length s.log < k
-    → gap_commit m k s ≡ still s
+pub gap_rests : {S : Type 0} (m : Meaning S) (s : ReplicaState) (n : ℕ) → may_append Whole s ≡ false → length s.log.entries < n
+    → gap_commit m Whole n s ≡ still s
 unfolding gap_commit
-gap_rests m s k full past =
-    no_gap m (nat_le k (length s.log)) ((k == length s.log + 1) && may_append s) k s (above (length s.log) k past)
-    (back_fails (k == length s.log + 1) (may_append s) full)
+gap_rests m s n full past =
+    let len : ℕ = length s.log.entries in
+    no_gap m (nat_le n len) ((n == len + 1) && may_append Whole s) n s (above len n past)
+    (back_fails (n == len + 1) (may_append Whole s) full)
 
-pub found_rests : {S : Type 0} (m : Meaning S) (s : ReplicaState) (k : ℕ) (r : Request) → may_append s ≡ false → found m k r s ≡ still s
+pub found_rests : {S : Type 0} (m : Meaning S) (s : ReplicaState) (n : ℕ) (r : Request) → may_append Whole s ≡ false
+    → found m Whole n r s ≡ still s
 unfolding found
-found_rests m s k r full = no_message s _ ((k == length s.log + 1) && may_append s) (back_fails (k == length s.log + 1) (may_append s) full)
+found_rests m s n r full =
+    let next : Bool = n == length s.log.entries + 1 in
+    no_message s _ (next && may_append Whole s) (back_fails next (may_append Whole s) full)
 
-pub prepare_rests : {S : Type 0} (m : Meaning S) (s : ReplicaState) (z : ℕ) (l : List Entry)
-    → NUMBER_END < s.next + (length l - length s.log) → sync_prepare m z l s ≡ still s
+pub prepare_rests : {S : Type 0} (m : Meaning S) (s : ReplicaState) (l : Log)
+    → NUMBER_END < s.next + (length l.entries - length s.log.entries) → sync_prepare m Whole l s ≡ still s
 unfolding sync_prepare
-prepare_rests m s z l past =
-    no_message s _ (nat_le (s.next + (length l - length s.log)) NUMBER_END) (above NUMBER_END (s.next + (length l - length s.log)) past)
+prepare_rests m s l past =
+    let last : ℕ = s.next + (length l.entries - length s.log.entries) in
+    no_message s _ (nat_le last NUMBER_END) (above NUMBER_END last past)
 
-pub begin_rests : {S : Type 0} (m : Meaning S) (s : ReplicaState) → NUMBER_END ≤ s.next → begin_gap m s ≡ still s
+pub begin_rests : {S : Type 0} (m : Meaning S) (s : ReplicaState) → NUMBER_END ≤ s.next → begin_gap m Whole s ≡ still s
 begin_rests m s past = no_message s _ (nat_lt s.next NUMBER_END) (not_below s.next NUMBER_END past)
 
 -- nothing is obeyed, so no sync point rises
-obey_rests : (s : ReplicaState) (k : ℕ) → s.sync.prepared < k → moves.sync_commit k s ≡ still s
+obey_rests : (s : ReplicaState) (n : ℕ) → s.sync.prepared < n → moves.sync_commit n s ≡ still s
 unfolding moves.sync_commit
-obey_rests s k past = no_message s _ (nat_le k s.sync.prepared) (above s.sync.prepared k past)
+obey_rests s n past = no_message s _ (nat_le n s.sync.prepared) (above s.sync.prepared n past)
 
-pub commit_rests : {S : Type 0} (m : Meaning S) (s : ReplicaState) (k : ℕ) → s.sync.prepared < k → sync_commit m k s ≡ still s
+pub commit_rests : {S : Type 0} (m : Meaning S) (s : ReplicaState) (n : ℕ) → s.sync.prepared < n → sync_commit m Whole n s ≡ still s
 unfolding sync_commit
-commit_rests m s k past =
-    let n : ℕ = s.sync.sync_point in
-    ap (λ (e : Effect). then_do e (drain_if_risen m n)) (obey_rests s k past)
-    ∙ no_message s (drain m) (nat_lt n n) (not_below n n (omega arith))
+commit_rests m s n past =
+    let z : ℕ = s.sync.sync_point in
+    ap (λ (e : Effect). then_do e (drain_if_risen m Whole z)) (obey_rests s n past)
+    ∙ no_message s _ (not (z == z)) (ap not (eq-eqb z z refl))
 
-pub leader_rests : {S : Type 0} (m : Meaning S) (s : ReplicaState) → last_leader ≤ s.view.leader → suspect m s ≡ still s
+pub leader_rests : {S : Type 0} (m : Meaning S) (s : ReplicaState) → last_leader ≤ s.view.leader → suspect m Whole s ≡ still s
 leader_rests m s past = no_message s _ (nat_lt s.view.leader last_leader) (not_below s.view.leader last_leader past)
 
 -- ---- message numbers

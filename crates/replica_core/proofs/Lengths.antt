@@ -3,7 +3,7 @@ use Rattle.std.proofs.Common.{◌≡◌, ℕ, ◌+◌, ◌*◌, ◌≤◌, arith
 use Rattle.std.specs.List.{AllByRecursion, sum_by}
 use Rattle.std.proofs.lemmas.List.Sums.{sum_by-cons}
 use Rattle.nop_types.specs.declared.limits.TheConstants.{MAX_SLOTS, MAX_OP_BYTES}
-use Rattle.nop_types.specs.Ranges.{EntryFits, LogFits, BodyFits, PeerFits}
+use Rattle.nop_types.specs.Ranges.{EntryFits, EntriesFit, BodyFits, PeerFits}
 use Rattle.nop_types.specs.declared.request.Entry.{Entry}
 use Rattle.nop_types.specs.declared.request.Entry.TheVariants.{NoOp, Req}
 use Rattle.nop_types.specs.declared.peer.Peer.{Peer}
@@ -22,19 +22,19 @@ entry_most (Req r) fits =
     let short = fits.op in
     omega (arith, exact, short)
 
-entries_most : (log : List Entry) → AllByRecursion EntryFits log
-    → sum_by (λ e. length (entry_bytes e)) log ≤ (15 + MAX_OP_BYTES) * length log
+entries_most : (entries : List Entry) → AllByRecursion EntryFits entries
+    → sum_by (λ e. length (entry_bytes e)) entries ≤ (15 + MAX_OP_BYTES) * length entries
 entries_most [] fits = omega arith
-entries_most (e ∷ log) fits =
+entries_most (e ∷ entries) fits =
     let first = entry_most e fits.0 in
-    let rest = entries_most log fits.1 in
-    let sum = sum_by-cons (λ x. length (entry_bytes x)) e log in
+    let rest = entries_most entries fits.1 in
+    let sum = sum_by-cons (λ x. length (entry_bytes x)) e entries in
     omega (arith, first, rest, sum)
 
-log_most : (log : List Entry) → LogFits log → length (entries_bytes log) ≤ 4 + MAX_SLOTS * (15 + MAX_OP_BYTES)
-log_most log fits =
-    let exact = entries_len log in
-    let each = entries_most log fits.each in
+log_most : (entries : List Entry) → EntriesFit entries → length (entries_bytes entries) ≤ 4 + MAX_SLOTS * (15 + MAX_OP_BYTES)
+log_most entries fits =
+    let exact = entries_len entries in
+    let each = entries_most entries fits.each in
     let few = fits.len in
     omega (arith, exact, each, few)
 
@@ -51,17 +51,17 @@ body_most (bodies.Found slot r) fits =
 body_most (bodies.GapCommit slot) fits = small _ (number_len slot)
 body_most (bodies.GapRep slot) fits = small _ (number_len slot)
 body_most bodies.ViewChangeReq fits = omega arith
-body_most (bodies.ViewChange last_normal next sync_point log) fits =
-    let exact = view_change_len last_normal next sync_point log in
-    let most = log_most log fits.told.entries in
+body_most (bodies.ViewChange last_normal next log) fits =
+    let exact = view_change_len last_normal next log.sync_point log.entries in
+    let most = log_most log.entries fits.told.entries in
     omega (arith, exact, most)
-body_most (bodies.StartView next sync_point log) fits =
-    let exact = start_view_len next sync_point log in
-    let most = log_most log fits.told.entries in
+body_most (bodies.StartView next log) fits =
+    let exact = start_view_len next log.sync_point log.entries in
+    let most = log_most log.entries fits.told.entries in
     omega (arith, exact, most)
-body_most (bodies.SyncPrepare sync_point log) fits =
-    let exact = sync_prepare_len sync_point log in
-    let most = log_most log fits.entries in
+body_most (bodies.SyncPrepare log) fits =
+    let exact = sync_prepare_len log.sync_point log.entries in
+    let most = log_most log.entries fits.entries in
     omega (arith, exact, most)
 body_most (bodies.SyncRep len) fits = small _ (number_len len)
 body_most (bodies.SyncCommit len) fits = small _ (number_len len)

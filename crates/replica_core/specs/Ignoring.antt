@@ -1,6 +1,7 @@
 -- What changes nothing at a replica.
 use Rattle.std.specs.Prelude.{◌≡◌, ℕ, List, [], Bool, true, false, Ok, Err}
 use Rattle.nop_types.specs.Given.{Given, Packet}
+use Rattle.nop_types.specs.Logs.{Whole}
 use Rattle.nop_types.specs.Meaning.{Meaning}
 use Rattle.nop_types.specs.declared.datagram.Datagram.{Datagram}
 use Rattle.nop_types.specs.declared.datagram.Datagram.TheVariants as datagrams
@@ -45,15 +46,15 @@ is_of_view (bodies.SlotLookup k) = true
 is_of_view (bodies.Found k r) = true
 is_of_view (bodies.GapCommit k) = true
 is_of_view (bodies.GapRep k) = true
-is_of_view (bodies.SyncPrepare z l) = true
+is_of_view (bodies.SyncPrepare l) = true
 is_of_view (bodies.SyncRep k) = true
 is_of_view (bodies.SyncCommit k) = true
 is_of_view bodies.ViewChangeReq = false
-is_of_view (bodies.ViewChange u x z l) = false
-is_of_view (bodies.StartView x z l) = false
+is_of_view (bodies.ViewChange u x l) = false
+is_of_view (bodies.StartView x l) = false
 
 abbrev pub Rests : {S : Type 0} → Meaning S → ReplicaState → Peer → Type 0
-Rests m s p = arrive m s (Told p) ≡ still s
+Rests m s p = arrive m Whole s (Told p) ≡ still s
 
 -- a message of no other replica of the group, and one of another view or status
 pub record IgnoresMessage {S : Type 0} (m : Meaning S) (s : ReplicaState) (p : Peer) : Type 0 where

@@ -1,10 +1,10 @@
 ghost use Rattle.std.specs.Prelude.{◌≡◌, ◌≤◌, ◌<◌, ◌+◌, ◌-◌, ℕ, List, [], false, length};
 ghost use Rattle.nop_types.specs.Given.{Submit};
+ghost use Rattle.nop_types.specs.Logs.{Log, Whole};
 ghost use Rattle.nop_types.specs.Meaning.{Meaning};
 ghost use Rattle.nop_types.specs.Ranges.{PeerFits};
 ghost use Rattle.nop_types.specs.declared.limits.TheConstants.{NUMBER_END};
 ghost use Rattle.nop_types.specs.declared.peer.Peer.{Peer};
-ghost use Rattle.nop_types.specs.declared.request.Entry.{Entry};
 ghost use Rattle.nop_types.specs.declared.request.Request.{Request};
 ghost use Rattle.fragments.specs.Cutting.{HasNoCut};
 ghost use Rattle.peer_codec.specs.Spelling.{spelling};
@@ -35,18 +35,19 @@ pub fn ignores_what_is_for_others<S>()
 /// A row that would pass a limit changes nothing and sends nothing: one that would log an entry in a full log or past the last number,
 /// or raise the sync point above what is prepared, or the leader number past its end.
 pub fn rows_rest_at_limits<S>()
-    ensures gap { (m : Meaning S) (s : ReplicaState) (k : ℕ) → may_append s ≡ false →
-        length s.log < k → gap_commit m k s ≡ still s }
-    ensures found { (m : Meaning S) (s : ReplicaState) (k : ℕ) (r : Request) →
-        may_append s ≡ false → found m k r s ≡ still s }
-    ensures prepare { (m : Meaning S) (s : ReplicaState) (z : ℕ) (l : List Entry) →
-        NUMBER_END < s.next + (length l - length s.log) → sync_prepare m z l s ≡ still s }
+    ensures gap { (m : Meaning S) (s : ReplicaState) (n : ℕ) → may_append Whole s ≡ false →
+        length s.log.entries < n → gap_commit m Whole n s ≡ still s }
+    ensures found { (m : Meaning S) (s : ReplicaState) (n : ℕ) (r : Request) →
+        may_append Whole s ≡ false → found m Whole n r s ≡ still s }
+    ensures prepare { (m : Meaning S) (s : ReplicaState) (l : Log) →
+        NUMBER_END < s.next + (length l.entries - length s.log.entries) →
+        sync_prepare m Whole l s ≡ still s }
     ensures begin { (m : Meaning S) (s : ReplicaState) → NUMBER_END ≤ s.next →
-        begin_gap m s ≡ still s }
-    ensures commit { (m : Meaning S) (s : ReplicaState) (k : ℕ) → s.sync.prepared < k →
-        sync_commit m k s ≡ still s }
+        begin_gap m Whole s ≡ still s }
+    ensures commit { (m : Meaning S) (s : ReplicaState) (n : ℕ) → s.sync.prepared < n →
+        sync_commit m Whole n s ≡ still s }
     ensures leader { (m : Meaning S) (s : ReplicaState) → last_leader ≤ s.view.leader →
-        suspect m s ≡ still s }
+        suspect m Whole s ≡ still s }
 {}
 
 /// Once `LAST_MESSAGE` or a greater number was used no row is taken, so the numbers of messages never rise to their end.

@@ -3,6 +3,7 @@ ghost use Rattle.fragments.specs.Held.{held};
 ghost use Rattle.nop_types.specs.declared.limits.TheConstants.{MAX_SLOTS, MAX_UNFINISHED, MAX_FRAGMENTS};
 ghost use Rattle.nop_types.specs.declared.limits.TheConstants.{FRAGMENT_BYTES};
 ghost use Rattle.nop_types.specs.Given.{given};
+ghost use Rattle.nop_types.specs.Logs.{Whole};
 ghost use Rattle.nop_types.specs.Ranges.{ViewFits, LogFits};
 ghost use Rattle.peer_codec.specs.Reading as peer;
 ghost use Rattle.replica_rows.specs.Messages.{arrival_of, arrive};
@@ -267,7 +268,7 @@ impl<H: Host> Replica<H> {
     /// While the replica has not failed, how many slots its host has executed: of a leader in Normal the whole log, of another what is
     /// synchronised.
     pub fn executed(&self) -> u32
-        ensures { self.now.failed ≡ false → result ≡ executed_to self.now.state.state }
+        ensures { self.now.failed ≡ false → result ≡ executed_to Whole self.now.state.state }
     {
         self.node.member.executor.executed()
     }

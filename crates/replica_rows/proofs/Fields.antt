@@ -10,6 +10,7 @@ use Rattle.gap_agree.specs.Agreement.{Agreement}
 use Rattle.oum_receiver.specs.Receiving.{Receiving}
 use Rattle.sync_points.specs.Synchronisation.{Synchronisation, Round}
 use Rattle.sync_points.specs.Synchronisation as synchronisation
+use Rattle.replica_log.proofs.InRanges.{raise_fits}
 use Rattle.replica_state.specs.declared.state.ReplicaState.{ReplicaState}
 use Rattle.replica_state.specs.Within.{IsWithin}
 
@@ -21,7 +22,7 @@ pub record SyncFits (n : ℕ) (x : Synchronisation) : Type 0 where
   pub syncing : IfSome x.syncing (λ r. r.len ≤ n)
   pub prepared : x.prepared ≤ n
 
-pub sync_of : (s : ReplicaState) → IsWithin s → SyncFits (length s.log) s.sync
+pub sync_of : (s : ReplicaState) → IsWithin s → SyncFits (length s.log.entries) s.sync
 sync_of s w = record { sync_point = w.sync_point; syncing = w.syncing; prepared = w.prepared }
 
 -- and so of a longer one
@@ -35,10 +36,10 @@ sync_longer n k x le fits =
     at None h = tt
     at (Some r) h = omega (arith, le, h)
 
-with_each : (s : ReplicaState) (x : Receiving) (o : Option Agreement) (n : ℕ) (b : Bool) (y : Synchronisation) → IsWithin s
-    → (s.status ≡ Normal → x.next ≡ s.next) → IfSome o (λ g. SlotFits g.slot) → SyncFits (length s.log) y
-    → IsWithin (record s { receiver = x; gap = o; asked = n; heard = b; sync = y })
-with_each s x o n b y w next gap sync = record {
+with_each : (s : ReplicaState) (x : Receiving) (o : Option Agreement) (n : ℕ) (b : Bool) → IsWithin s
+    → (s.status ≡ Normal → x.next ≡ s.next) → IfSome o (λ g. SlotFits g.slot)
+    → IsWithin (record s { receiver = x; gap = o; asked = n; heard = b })
+with_each s x o n b w next gap = record {
   number = w.number;
   few = w.few;
   view = w.view;
@@ -49,27 +50,46 @@ with_each s x o n b y w next gap sync = record {
   start = w.start;
   receiver = next;
   gap = gap;
-  sync_point = sync.sync_point;
-  syncing = sync.syncing;
-  prepared = sync.prepared;
+  points = w.points;
+  sync_point = w.sync_point;
+  syncing = w.syncing;
+  prepared = w.prepared;
   changes = w.changes;
 }
 
 pub with_receiver : (s : ReplicaState) (x : Receiving) → IsWithin s → (s.status ≡ Normal → x.next ≡ s.next)
     → IsWithin (record s { receiver = x })
-with_receiver s x w next = with_each s x s.gap s.asked s.heard s.sync w next w.gap (sync_of s w)
+with_receiver s x w next = with_each s x s.gap s.asked s.heard w next w.gap
 
 pub with_gap : (s : ReplicaState) (o : Option Agreement) → IsWithin s → IfSome o (λ g. SlotFits g.slot) → IsWithin (record s { gap = o })
-with_gap s o w fits = with_each s s.receiver o s.asked s.heard s.sync w w.receiver fits (sync_of s w)
+with_gap s o w fits = with_each s s.receiver o s.asked s.heard w w.receiver fits
 
 pub with_asked : (s : ReplicaState) (n : ℕ) → IsWithin s → IsWithin (record s { asked = n })
-with_asked s n w = with_each s s.receiver s.gap n s.heard s.sync w w.receiver w.gap (sync_of s w)
+with_asked s n w = with_each s s.receiver s.gap n s.heard w w.receiver w.gap
 
 pub with_heard : (s : ReplicaState) (b : Bool) → IsWithin s → IsWithin (record s { heard = b })
-with_heard s b w = with_each s s.receiver s.gap s.asked b s.sync w w.receiver w.gap (sync_of s w)
+with_heard s b w = with_each s s.receiver s.gap s.asked b w w.receiver w.gap
 
-pub with_sync : (s : ReplicaState) (x : Synchronisation) → IsWithin s → SyncFits (length s.log) x → IsWithin (record s { sync = x })
-with_sync s x w fits = with_each s s.receiver s.gap s.asked s.heard x w w.receiver w.gap fits
+-- the log is told with the sync point that there is then
+pub with_sync : (s : ReplicaState) (x : Synchronisation) → IsWithin s → SyncFits (length s.log.entries) x
+    → IsWithin (record s { sync = x; log = record s.log { sync_point = x.sync_point } })
+with_sync s x w fits = record {
+  number = w.number;
+  few = w.few;
+  view = w.view;
+  last_normal = w.last_normal;
+  log = raise_fits s.log x.sync_point w.log fits.sync_point;
+  next = w.next;
+  base = w.base;
+  start = w.start;
+  receiver = w.receiver;
+  gap = w.gap;
+  points = refl;
+  sync_point = fits.sync_point;
+  syncing = fits.syncing;
+  prepared = fits.prepared;
+  changes = w.changes;
+}
 
 -- ---- rounds
 

@@ -2,14 +2,14 @@
 use Rattle.std.proofs.Common.{◌≡◌, ℕ, List, ◌++◌, Option, Some, None, Bool, true, false, refl, sym, ap, ◌∙◌}
 use Rattle.std.specs.Prelude.{◌==◌}
 use Rattle.nop_types.specs.declared.host.Host.{Ghosts}
-use Rattle.nop_types.specs.declared.request.Entry.{Entry}
 use Rattle.nop_types.specs.declared.peer.Change.{Change}
 use Rattle.nop_types.specs.declared.peer.Body.{Body}
 use Rattle.nop_types.specs.declared.peer.Body.TheVariants as bodies
+use Rattle.nop_types.specs.Logs.{Log, Whole}
 use Rattle.nop_types.specs.Meaning.{Meaning}
 use Rattle.nop_types.specs.Ranges.{ChangeFits}
 use Rattle.executor.specs.Running.{Running}
-use Rattle.view_change.specs.Gathering.{Gathering, counted}
+use Rattle.view_change.specs.Gathering.{Gathering, counted, teller}
 use Rattle.view_change.specs.declared.starting.Step.TheVariants.{Started}
 use Rattle.view_change.specs.declared.starting.Start.{Start}
 use Rattle.replica_state.specs.declared.state.ReplicaState.{ReplicaState}
@@ -17,7 +17,7 @@ use Rattle.replica_state.specs.declared.sending.Sending.{Sending}
 use Rattle.replica_state.specs.State.{others}
 use Rattle.replica_state.specs.Sends.{to_all_if}
 use Rattle.replica_state.specs.Moves.{adopt, open_with}
-use Rattle.replica_rows.specs.Keeping.{step_by}
+use Rattle.replica_rows.specs.Gathering.{step_by}
 use Rattle.replica_state.specs.Within.{IsWithin}
 use Rattle.replica_rows.specs.Within.{Runs}
 use Rattle.replica_rows.proofs.Opening.{Gathers, gathers}
@@ -27,31 +27,32 @@ pub left_runs : {H U : Type 0} (host : Ghosts H U) (s t : ReplicaState) (x : Run
     → Runs host s x → Runs host t x
 left_runs host s t x is r = rw is (record { within = with_changes s None r.within tt; run = r.run })
 
-told_left : (b : Bool) (s : ReplicaState) (o : Option Gathering) (body : Body)
+told_left : (b : Bool) (s : ReplicaState) (o : Option (Gathering Change)) (body : Body)
     → to_all_if b (record s { changes = o }) body ≡ to_all_if b (record s { changes = None }) body
 told_left true s o body = refl
 told_left false s o body = refl
 
 -- what was gathered has no part in how a view is opened
-opens_left : {S : Type 0} (m : Meaning S) (s : ReplicaState) (o : Option Gathering) (n z : ℕ) (l : List Entry)
-    → open_with m (record s { changes = o }) n z l ≡ open_with m (record s { changes = None }) n z l
+opens_left : {S : Type 0} (m : Meaning S) (s : ReplicaState) (o : Option (Gathering Change)) (n : ℕ) (l : Log)
+    → open_with m Whole (record s { changes = o }) n l ≡ open_with m Whole (record s { changes = None }) n l
 unfolding adopt
-opens_left m s o n z l =
+opens_left m s o n l =
     let t : ReplicaState = record s { changes = None } in
-    ap (λ (sends : List Sending). ((adopt m t t.view n z l).0, sends ++ (adopt m t t.view n z l).1))
-    (told_left (others s == 0) s o (bodies.StartView n z l))
+    ap (λ (sends : List Sending). ((adopt m Whole t t.view n l).0, sends ++ (adopt m Whole t t.view n l).1))
+    (told_left (others s == 0) s o (bodies.StartView n l))
 
-pub gathers_taken : {S : Type 0} (m : Meaning S) (s t : ReplicaState) (o : Option Gathering) (c : Change) (start : Start) → o ≡ s.changes
+pub gathers_taken : {S : Type 0} (m : Meaning S) (s t : ReplicaState) (o : Option (Gathering Change)) (c : Change) (start : Start)
+    → o ≡ s.changes
     → IsWithin s → ChangeFits c → t ≡ record s { changes = None } → step_by o c ≡ Started start → Gathers m s t c start
 gathers_taken m s t None c start e w fits left step = absurd cc
 gathers_taken m s t (Some g) c start e w fits left step =
-    let k : ReplicaState = record s { changes = Some (counted g c) } in
+    let k : ReplicaState = record s { changes = Some (counted teller g c) } in
     let begun = gathers m s k (Some g) c start e w fits refl step in
     record {
       next = begun.next;
       told = begun.told;
       row =
           begun.row
-          ∙ opens_left m s (Some (counted g c)) start.next start.sync_point start.log
-          ∙ ap (λ (p : ReplicaState). open_with m p start.next start.sync_point start.log) (sym left);
+          ∙ opens_left m s (Some (counted teller g c)) start.next start.log
+          ∙ ap (λ (p : ReplicaState). open_with m Whole p start.next start.log) (sym left);
     }

@@ -20,12 +20,13 @@ opens_within config number there few = record {
   few = few;
   view = record { leader = omega arith; session = record { low = omega arith; high = omega arith } };
   last_normal = record { leader = omega arith; session = record { low = omega arith; high = omega arith } };
-  log = record { len = omega arith; each = tt };
+  log = record { whole = refl; entries = record { len = omega arith; each = tt }; point = omega arith };
   next = record { low = omega arith; high = omega arith };
   base = omega arith;
   start = omega arith;
   receiver = λ normal. refl;
   gap = tt;
+  points = refl;
   sync_point = omega arith;
   syncing = tt;
   prepared = omega arith;
@@ -37,5 +38,5 @@ pub opens_running : {H U : Type 0} (host : Ghosts H U) (config : Configuration) 
     → ((log : List Entry) → HasExecuted host.state host.meaning host.undo_of log x) → Runs host s x
 opens_running host config number s x is there limits run = record {
   within = subst IsWithin (sym is) (opens_within config number there (is_configuration-few_replicas config limits));
-  run = run s.log;
+  run = run s.log.entries;
 }

@@ -1,6 +1,7 @@
 pub mod Draining
-pub mod Keeping
+pub mod Gathering
 pub mod Messages
+pub mod Rising
 pub mod Rows
 pub mod Taking
 pub mod Telling

@@ -1,6 +1,8 @@
 -- The step table of a replica over whole messages.
 use Rattle.std.specs.Prelude.{ℕ, Bool, true, false}
 use Rattle.nop_types.specs.Meaning.{Meaning}
+use Rattle.nop_types.specs.CheckpointedLogs.{loads}
+use Rattle.nop_types.specs.Logs.{Keeping}
 use Rattle.nop_types.specs.declared.view.View.{View}
 use Rattle.nop_types.specs.declared.input.Tick.{Tick}
 use Rattle.nop_types.specs.declared.input.Tick.TheVariants as ticks
@@ -30,67 +32,81 @@ arrival_of (arrivals.Ticked tick) = Ticked tick
 
 -- ---- messages of the view in which the replica is Normal
 
-abbrev pub from_leader : {S : Type 0} → Meaning S → Body → ReplicaState → Effect
-from_leader m (bodies.GapCommit k) s = rows.gap_commit m k s
-from_leader m (bodies.Found k r) s = rows.found m k r s
-from_leader m (bodies.SyncPrepare z l) s = rows.sync_prepare m z l s
-from_leader m (bodies.SyncCommit k) s = rows.sync_commit m k s
-from_leader m (bodies.SlotLookup k) s = still s
-from_leader m (bodies.GapRep k) s = still s
-from_leader m (bodies.SyncRep k) s = still s
-from_leader m bodies.ViewChangeReq s = still s
-from_leader m (bodies.ViewChange u x z l) s = still s
-from_leader m (bodies.StartView x z l) s = still s
+abbrev pub from_leader : {S : Type 0} → Meaning S → Keeping → Body → ReplicaState → Effect
+from_leader m k (bodies.GapCommit n) s = rows.gap_commit m k n s
+from_leader m k (bodies.Found n r) s = rows.found m k n r s
+from_leader m k (bodies.SyncPrepare l) s = rows.sync_prepare m k l s
+from_leader m k (bodies.SyncCommit n) s = rows.sync_commit m k n s
+from_leader m k (bodies.SlotLookup n) s = still s
+from_leader m k (bodies.GapRep n) s = still s
+from_leader m k (bodies.SyncRep n) s = still s
+from_leader m k bodies.ViewChangeReq s = still s
+from_leader m k (bodies.ViewChange u x l) s = still s
+from_leader m k (bodies.StartView x l) s = still s
 
-abbrev pub from_follower : {S : Type 0} → Meaning S → ℕ → Body → ReplicaState → Effect
-from_follower m q (bodies.SlotLookup k) s = rows.slot_lookup m q k s
-from_follower m q (bodies.GapRep k) s = rows.gap_reply m q k s
-from_follower m q (bodies.SyncRep k) s = rows.sync_reply m q k s
-from_follower m q (bodies.GapCommit k) s = still s
-from_follower m q (bodies.Found k r) s = still s
-from_follower m q (bodies.SyncPrepare z l) s = still s
-from_follower m q (bodies.SyncCommit k) s = still s
-from_follower m q bodies.ViewChangeReq s = still s
-from_follower m q (bodies.ViewChange u x z l) s = still s
-from_follower m q (bodies.StartView x z l) s = still s
+abbrev pub from_follower : {S : Type 0} → Meaning S → Keeping → ℕ → Body → ReplicaState → Effect
+from_follower m k q (bodies.SlotLookup n) s = rows.slot_lookup m k q n s
+from_follower m k q (bodies.GapRep n) s = rows.gap_reply m k q n s
+from_follower m k q (bodies.SyncRep n) s = rows.sync_reply m k q n s
+from_follower m k q (bodies.GapCommit n) s = still s
+from_follower m k q (bodies.Found n r) s = still s
+from_follower m k q (bodies.SyncPrepare l) s = still s
+from_follower m k q (bodies.SyncCommit n) s = still s
+from_follower m k q bodies.ViewChangeReq s = still s
+from_follower m k q (bodies.ViewChange u x l) s = still s
+from_follower m k q (bodies.StartView x l) s = still s
 
-abbrev pub by_role : {S : Type 0} → Meaning S → Bool → Bool → ℕ → Body → ReplicaState → Effect
-by_role m true to_leader q body s = from_leader m body s
-by_role m false true q body s = from_follower m q body s
-by_role m false false q body s = still s
+abbrev pub by_role : {S : Type 0} → Meaning S → Keeping → Bool → Bool → ℕ → Body → ReplicaState → Effect
+by_role m k true to_leader q body s = from_leader m k body s
+by_role m k false true q body s = from_follower m k q body s
+by_role m k false false q body s = still s
 
-abbrev pub in_view : {S : Type 0} → Meaning S → ℕ → View → Body → ReplicaState → Effect
-in_view m q v body s = by_role m (is_from_leader s v q) (is_to_leader s v) q body s
+abbrev pub in_view : {S : Type 0} → Meaning S → Keeping → ℕ → View → Body → ReplicaState → Effect
+in_view m k q v body s = by_role m k (is_from_leader s v q) (is_to_leader s v) q body s
 
 -- ---- all messages
 
-abbrev pub on_body : {S : Type 0} → Meaning S → Peer → Body → ReplicaState → Effect
-on_body m p bodies.ViewChangeReq s = rows.view_change_request m p.view s
-on_body m p (bodies.ViewChange u x z l) s =
-    rows.view_change m p.view (record { sender = p.sender; last_normal = u; next = x; sync_point = z; log = l }) s
-on_body m p (bodies.StartView x z l) s = rows.start_view m p.sender p.view x z l s
-on_body m p (bodies.GapCommit k) s = in_view m p.sender p.view (bodies.GapCommit k) s
-on_body m p (bodies.Found k r) s = in_view m p.sender p.view (bodies.Found k r) s
-on_body m p (bodies.SyncPrepare z l) s = in_view m p.sender p.view (bodies.SyncPrepare z l) s
-on_body m p (bodies.SyncCommit k) s = in_view m p.sender p.view (bodies.SyncCommit k) s
-on_body m p (bodies.SlotLookup k) s = in_view m p.sender p.view (bodies.SlotLookup k) s
-on_body m p (bodies.GapRep k) s = in_view m p.sender p.view (bodies.GapRep k) s
-on_body m p (bodies.SyncRep k) s = in_view m p.sender p.view (bodies.SyncRep k) s
+abbrev pub on_body : {S : Type 0} → Meaning S → Keeping → Peer → Body → ReplicaState → Effect
+on_body m k p bodies.ViewChangeReq s = rows.view_change_request m k p.view s
+on_body m k p (bodies.ViewChange u x l) s =
+    rows.view_change m k p.view (record { sender = p.sender; last_normal = u; next = x; log = l }) s
+on_body m k p (bodies.StartView x l) s = rows.start_view m k p.sender p.view x l s
+on_body m k p (bodies.GapCommit n) s = in_view m k p.sender p.view (bodies.GapCommit n) s
+on_body m k p (bodies.Found n r) s = in_view m k p.sender p.view (bodies.Found n r) s
+on_body m k p (bodies.SyncPrepare l) s = in_view m k p.sender p.view (bodies.SyncPrepare l) s
+on_body m k p (bodies.SyncCommit n) s = in_view m k p.sender p.view (bodies.SyncCommit n) s
+on_body m k p (bodies.SlotLookup n) s = in_view m k p.sender p.view (bodies.SlotLookup n) s
+on_body m k p (bodies.GapRep n) s = in_view m k p.sender p.view (bodies.GapRep n) s
+on_body m k p (bodies.SyncRep n) s = in_view m k p.sender p.view (bodies.SyncRep n) s
 
-unfoldable pub on_message : {S : Type 0} → Meaning S → Peer → ReplicaState → Effect
-on_message m p s = when (is_other s p.sender) (on_body m p p.body) s
+unfoldable pub on_message : {S : Type 0} → Meaning S → Keeping → Peer → ReplicaState → Effect
+on_message m k p s = when (is_other s p.sender) (on_body m k p p.body) s
 
-abbrev pub ticked : {S : Type 0} → Meaning S → Tick → ReplicaState → Effect
-ticked m ticks.Suspect s = rows.suspect m s
-ticked m ticks.Watch s = rows.watch m s
-ticked m ticks.Resend s = resend s
-ticked m ticks.Sync s = rows.sync m s
-ticked m ticks.Retry s = still s
-ticked m ticks.Next s = still s
-ticked m ticks.Probe s = still s
-ticked m (ticks.Install j) s = still s
+abbrev pub ticked : {S : Type 0} → Meaning S → Keeping → Tick → ReplicaState → Effect
+ticked m k ticks.Suspect s = rows.suspect m k s
+ticked m k ticks.Watch s = rows.watch m k s
+ticked m k ticks.Resend s = resend k s
+ticked m k ticks.Sync s = rows.sync m k s
+ticked m k ticks.Retry s = still s
+ticked m k ticks.Next s = still s
+ticked m k ticks.Probe s = still s
+ticked m k (ticks.Install j) s = still s
 
-unfoldable pub arrive : {S : Type 0} → Meaning S → ReplicaState → Arrival → Effect
-arrive m s (Packet p) = rows.stamped m p s
-arrive m s (Told p) = on_message m p s
-arrive m s (Ticked tick) = ticked m tick s
+-- the log of a message, if it has one, has no checkpoint or one that loads
+unfoldable pub loads_in : {S : Type 0} → Meaning S → Body → Bool
+loads_in m (bodies.ViewChange u x l) = loads m l
+loads_in m (bodies.StartView x l) = loads m l
+loads_in m (bodies.SyncPrepare l) = loads m l
+loads_in m (bodies.SlotLookup n) = true
+loads_in m (bodies.Found n r) = true
+loads_in m (bodies.GapCommit n) = true
+loads_in m (bodies.GapRep n) = true
+loads_in m bodies.ViewChangeReq = true
+loads_in m (bodies.SyncRep n) = true
+loads_in m (bodies.SyncCommit n) = true
+
+-- a message whose checkpoint does not load does nothing
+unfoldable pub arrive : {S : Type 0} → Meaning S → Keeping → ReplicaState → Arrival → Effect
+arrive m k s (Packet p) = rows.stamped m k p s
+arrive m k s (Told p) = when (loads_in m p.body) (on_message m k p) s
+arrive m k s (Ticked tick) = ticked m k tick s

@@ -17,7 +17,7 @@ use Rattle.replica_rows.specs.Messages.{Arrival, Packet, Told, Ticked}
 -- and the executor has executed the first entries of the log
 pub record Runs {H U : Type 0} (host : Ghosts H U) (s : ReplicaState) (e : Running H U) : Type 0 where
   pub within : IsWithin s
-  pub run : HasExecuted host.state host.meaning host.undo_of s.log e
+  pub run : HasExecuted host.state host.meaning host.undo_of s.log.entries e
 
 -- so it is with a member
 abbrev pub IsRunning : {H U : Type 0} → Ghosts H U → Member H U → Type 0

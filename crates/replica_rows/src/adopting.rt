@@ -1,5 +1,6 @@
 ghost use Rattle.std.specs.Prelude.{OnOk};
-ghost use Rattle.nop_types.specs.Ranges.{ViewFits, NextFits, ToldFits};
+ghost use Rattle.nop_types.specs.Logs.{Whole};
+ghost use Rattle.nop_types.specs.Ranges.{ViewFits, NextFits, LogFits};
 ghost use Rattle.replica_state.specs.Moves.{adopt, open_with};
 ghost use Rattle.replica_rows.specs.Within.{IsRunning, Does};
 
@@ -9,26 +10,20 @@ use peer_codec::LogBody;
 use view_change::Start;
 
 impl<H: Host> Member<H> {
-    /// Takes part in a view from what it starts with, a log that is told with its sync point, and replies again for each request above
-    /// the sync point. What was executed of entries that stay is not executed again.
+    /// Takes part in a view from what it starts with, and replies again for each request above the sync point. What was executed of
+    /// entries that stay is not executed again.
     #[tactic(auto, unfolding(replica_state::specs::Moves::adopt))]
-    pub(crate) fn adopt(
-        &mut self,
-        view: View,
-        next: u64,
-        sync_point: u32,
-        log: Log,
-    ) -> Result<(), NoMemory>
+    pub(crate) fn adopt(&mut self, view: View, next: u64, log: Log) -> Result<(), NoMemory>
         requires runs { IsRunning H.Host self.old }
         requires view { ViewFits view }
         requires next { NextFits next }
-        requires told { ToldFits sync_point log }
+        requires told { LogFits log }
         ensures { OnOk result (Does H.Host self.old self.new
-            (λ s. adopt H.meaning s view next sync_point log)) }
+            (λ s. adopt H.meaning Whole s view next log)) }
     {
-        let kept = self.state.kept_front(sync_point, &log);
+        let kept = self.state.log.kept_front(&log);
         self.go_back(kept);
-        self.state.take_part(kept, view, next, sync_point, log);
+        self.state.take_part(kept, view, next, log);
         let synced = self.state.sync.sync_point();
         self.replies_above(synced)?;
         self.drain()
@@ -38,22 +33,17 @@ impl<H: Host> Member<H> {
     pub(crate) fn open_view(&mut self, start: Start) -> Result<(), NoMemory>
         requires runs { IsRunning H.Host self.old }
         requires next { NextFits start.next }
-        requires told { ToldFits start.sync_point start.log }
+        requires told { LogFits start.log }
         ensures { OnOk result (Does H.Host self.old self.new
-            (λ s. open_with H.meaning s start.next start.sync_point start.log)) }
+            (λ s. open_with H.meaning Whole s start.next start.log)) }
     {
-        let Start {
-            next,
-            sync_point,
-            log,
-        } = start;
+        let Start { next, log } = start;
         let body = LogBody::StartView {
             next,
-            sync_point,
-            log: log.as_slice(),
+            log: log.as_ref(),
         };
         self.state.send_log_to_all(body, &mut self.sends)?;
         let view = self.state.view;
-        self.adopt(view, next, sync_point, log)
+        self.adopt(view, next, log)
     }
 }

@@ -1,5 +1,6 @@
 ghost use Rattle.std.specs.Prelude.{◌≡◌, ◌<◌, length, OnOk};
 ghost use Rattle.nop_types.specs.declared.limits.TheConstants.{MAX_REPLICAS};
+ghost use Rattle.nop_types.specs.Logs.{Whole};
 ghost use Rattle.nop_types.specs.Ranges.{StampedFits, PeerFits, BodyFits};
 ghost use Rattle.replica_state.specs.Moves.{begin_session, queue};
 ghost use Rattle.replica_rows.specs.Rows.{new_session, stamped};
@@ -24,7 +25,7 @@ impl<H: Host> Member<H> {
     fn new_session(&mut self, packet: &Stamped) -> Result<(), NoMemory>
         requires runs { IsRunning H.Host self.old }
         requires fits { StampedFits packet.now }
-        ensures { OnOk result (Does H.Host self.old self.new (new_session H.meaning packet.now)) }
+        ensures { OnOk result (Does H.Host self.old self.new (new_session H.meaning Whole packet.now)) }
     {
         self.state.begin_session(self.alloc, packet)?;
         let leader = self.state.view.leader;
@@ -39,7 +40,7 @@ impl<H: Host> Member<H> {
     pub(crate) fn stamped(&mut self, packet: Stamped) -> Result<(), NoMemory>
         requires runs { IsRunning H.Host self.old }
         requires fits { StampedFits packet }
-        ensures { OnOk result (Does H.Host self.old self.new (stamped H.meaning packet)) }
+        ensures { OnOk result (Does H.Host self.old self.new (stamped H.meaning Whole packet)) }
     {
         if self.state.view.session < packet.session {
             return self.new_session(&packet);
@@ -52,12 +53,12 @@ impl<H: Host> Member<H> {
     fn from_leader(&mut self, body: Body) -> Result<(), NoMemory>
         requires runs { IsRunning H.Host self.old }
         requires fits { BodyFits body }
-        ensures { OnOk result (Does H.Host self.old self.new (from_leader H.meaning body)) }
+        ensures { OnOk result (Does H.Host self.old self.new (from_leader H.meaning Whole body)) }
     {
         match body {
             Body::GapCommit(slot) => self.gap_commit(slot),
             Body::Found(slot, request) => self.found(slot, request),
-            Body::SyncPrepare { sync_point, log } => self.sync_prepare(sync_point, &log),
+            Body::SyncPrepare(log) => self.sync_prepare(&log),
             Body::SyncCommit(slot) => self.sync_commit(slot),
             _ => Ok(()),
         }
@@ -69,7 +70,7 @@ impl<H: Host> Member<H> {
         requires sender { sender < MAX_REPLICAS }
         requires fits { BodyFits body }
         ensures { OnOk result (Does H.Host self.old self.new
-            (from_follower H.meaning sender body)) }
+            (from_follower H.meaning Whole sender body)) }
     {
         match body {
             Body::SlotLookup(slot) => self.slot_lookup(sender, slot),
@@ -84,7 +85,7 @@ impl<H: Host> Member<H> {
         requires runs { IsRunning H.Host self.old }
         requires sender { sender < MAX_REPLICAS }
         requires fits { BodyFits body }
-        ensures { OnOk result (Does H.Host self.old self.new (in_view H.meaning sender view body)) }
+        ensures { OnOk result (Does H.Host self.old self.new (in_view H.meaning Whole sender view body)) }
     {
         if self.state.is_from_leader(view, sender) {
             return self.from_leader(body);
@@ -100,7 +101,7 @@ impl<H: Host> Member<H> {
         requires runs { IsRunning H.Host self.old }
         requires fits { PeerFits message }
         ensures { OnOk result (Does H.Host self.old self.new
-            (on_body H.meaning message message.body)) }
+            (on_body H.meaning Whole message message.body)) }
     {
         let Peer { sender, view, body } = message;
         match body {
@@ -108,23 +109,17 @@ impl<H: Host> Member<H> {
             Body::ViewChange {
                 last_normal,
                 next,
-                sync_point,
                 log,
             } => {
                 let change = Change {
                     sender,
                     last_normal,
                     next,
-                    sync_point,
                     log,
                 };
                 self.view_change(view, change)
             }
-            Body::StartView {
-                next,
-                sync_point,
-                log,
-            } => self.start_view(sender, view, next, sync_point, log),
+            Body::StartView { next, log } => self.start_view(sender, view, next, log),
             body => self.in_view(sender, view, body),
         }
     }
@@ -134,7 +129,7 @@ impl<H: Host> Member<H> {
     pub(crate) fn on_message(&mut self, message: Peer) -> Result<(), NoMemory>
         requires runs { IsRunning H.Host self.old }
         requires fits { PeerFits message }
-        ensures { OnOk result (Does H.Host self.old self.new (on_message H.meaning message)) }
+        ensures { OnOk result (Does H.Host self.old self.new (on_message H.meaning Whole message)) }
     {
         if !self.state.is_other(message.sender) {
             return Ok(());
@@ -145,7 +140,7 @@ impl<H: Host> Member<H> {
     /// A tick comes.
     pub(crate) fn ticked(&mut self, tick: Tick) -> Result<(), NoMemory>
         requires runs { IsRunning H.Host self.old }
-        ensures { OnOk result (Does H.Host self.old self.new (ticked H.meaning tick)) }
+        ensures { OnOk result (Does H.Host self.old self.new (ticked H.meaning Whole tick)) }
     {
         match tick {
             Tick::Suspect => self.suspect(),
@@ -156,13 +151,13 @@ impl<H: Host> Member<H> {
         }
     }
 
-    /// The row for what arrives.
-    #[tactic(auto, unfolding(crate::specs::Messages::arrive))]
+    /// The row for what arrives. A message has no checkpoint that would have to load.
+    #[tactic(auto, using(crate::proofs::Loading::fits_loads), unfolding(crate::specs::Messages::arrive))]
     fn arrive(&mut self, arrival: Arrival) -> Result<(), NoMemory>
         requires runs { IsRunning H.Host self.old }
         requires fits { ArrivalFits (arrival_of arrival) }
         ensures { OnOk result
-            (Does H.Host self.old self.new (λ s. arrive H.meaning s (arrival_of arrival))) }
+            (Does H.Host self.old self.new (λ s. arrive H.meaning Whole s (arrival_of arrival))) }
     {
         match arrival {
             Arrival::Stamped(packet) => self.stamped(packet),
@@ -177,9 +172,9 @@ impl<H: Host> Member<H> {
         requires runs { IsRunning H.Host self.old }
         requires fits { ArrivalFits (arrival_of arrival) }
         ensures does { OnOk result
-            (Does H.Host self.old self.new (λ s. arrive H.meaning s (arrival_of arrival))) }
+            (Does H.Host self.old self.new (λ s. arrive H.meaning Whole s (arrival_of arrival))) }
         ensures executed { OnOk result (length self.new.executor.undos
-            ≡ executed_to self.new.state) }
+            ≡ executed_to Whole self.new.state) }
     {
         self.arrive(arrival)?;
         self.settle()

@@ -1,4 +1,5 @@
 ghost use Rattle.std.specs.Prelude.{◌≡◌, true, OnOk, IfOk};
+ghost use Rattle.nop_types.specs.Logs.{Whole};
 ghost use Rattle.nop_types.specs.Ranges.{EntryFits};
 ghost use Rattle.replica_state.specs.State.{drains, may_append, leads};
 ghost use Rattle.replica_state.specs.Moves.{appended, open_gap, drain};
@@ -15,7 +16,7 @@ use nop_types::{Body, Entry, Host, MAX_SLOTS, NoMemory};
 /// Logs the request in front, where one stands there. An error may leave it neither queued nor logged.
 fn take_front(state: &mut ReplicaState) -> Result<bool, NoMemory>
     requires within { IsWithin state.old }
-    requires drains { drains state.old ≡ true }
+    requires drains { drains Whole state.old ≡ true }
     ensures { IfOk result (TakesFront state.old state.new) }
 {
     let Some(request) = state.receiver.take_message() else {
@@ -30,7 +31,7 @@ impl<H: Host> Member<H> {
     /// The same, with what was executed.
     pub(crate) fn append(&mut self, entry: Entry) -> Result<(), NoMemory>
         requires runs { IsRunning H.Host self.old }
-        requires room { may_append self.old.state ≡ true }
+        requires room { may_append Whole self.old.state ≡ true }
         requires fits { EntryFits entry }
         ensures runs { OnOk result (IsRunning H.Host self.new) }
         ensures executor { self.new.executor ≡ self.old.executor }
@@ -44,8 +45,8 @@ impl<H: Host> Member<H> {
     #[tactic(auto, using(crate::proofs::Running::open_gap_runs), unfolding(replica_state::specs::Moves::open_gap))]
     pub(crate) fn open_gap(&mut self) -> Result<(), NoMemory>
         requires runs { IsRunning H.Host self.old }
-        requires room { may_append self.old.state ≡ true }
-        ensures { OnOk result (Does H.Host self.old self.new open_gap) }
+        requires room { may_append Whole self.old.state ≡ true }
+        ensures { OnOk result (Does H.Host self.old self.new (open_gap Whole)) }
     {
         self.state.put_gap()?;
         let slot = self.state.log.len();
@@ -80,12 +81,12 @@ impl<H: Host> Member<H> {
         Ok(false)
     }
 
-    /// Takes what stands in front, where the sync point rose above a slot.
+    /// Takes what stands in front, where the sync point rose from a slot.
     pub(crate) fn drain_if_risen(&mut self, slot: u32) -> Result<(), NoMemory>
         requires runs { IsRunning H.Host self.old }
-        ensures { OnOk result (Does H.Host self.old self.new (drain_if_risen H.meaning slot)) }
+        ensures { OnOk result (Does H.Host self.old self.new (drain_if_risen H.meaning Whole slot)) }
     {
-        if self.state.sync.sync_point() <= slot {
+        if self.state.sync.sync_point() == slot {
             return Ok(());
         }
         self.drain()
@@ -94,7 +95,7 @@ impl<H: Host> Member<H> {
     /// Takes what stands in front, one after the other.
     pub(crate) fn drain(&mut self) -> Result<(), NoMemory>
         requires runs { IsRunning H.Host self.old }
-        ensures { OnOk result (Does H.Host self.old self.new (drain H.meaning)) }
+        ensures { OnOk result (Does H.Host self.old self.new (drain H.meaning Whole)) }
     {
         for _ in 0..MAX_SLOTS {
             if !self.drain_one()? {

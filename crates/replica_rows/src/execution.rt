@@ -1,4 +1,5 @@
 ghost use Rattle.std.specs.Prelude.{◌≡◌, ◌≤◌, length, min, OnOk};
+ghost use Rattle.nop_types.specs.Logs.{Whole};
 ghost use Rattle.replica_state.specs.State.{executed_to};
 ghost use Rattle.replica_rows.specs.Within.{IsRunning};
 
@@ -29,7 +30,7 @@ impl<H: Host> Member<H> {
         ensures sends { self.new.sends ≡ self.old.sends }
         ensures runs { OnOk result (IsRunning H.Host self.new) }
         ensures executed { OnOk result (length self.new.executor.undos
-            ≡ executed_to self.new.state) }
+            ≡ executed_to Whole self.new.state) }
     {
         let len = self.state.log.len();
         let slot = if self.state.is_normal() && self.state.leads() {

@@ -1,8 +1,11 @@
-ghost use Rattle.std.specs.Prelude.{◌≡◌, ◌≤◌, length, take};
+ghost use Rattle.std.specs.Prelude.{◌≡◌, ◌≤◌, false, length, take};
+ghost use Rattle.nop_types.specs.Logs.{Keeping, Whole};
 ghost use Rattle.nop_types.specs.Meaning.{Meaning};
+ghost use Rattle.nop_types.specs.declared.peer.Peer.{Peer};
 ghost use Rattle.replica_state.specs.declared.state.ReplicaState.{ReplicaState};
-ghost use Rattle.replica_state.specs.Sends.{message_count};
-ghost use Rattle.replica_rows.specs.Messages.{Arrival, arrive};
+ghost use Rattle.replica_state.specs.Sends.{message_count, still};
+ghost use Rattle.replica_state.specs.State.{PointsMeet};
+ghost use Rattle.replica_rows.specs.Messages.{Arrival, Told, loads_in, arrive};
 ghost use Rattle.replica_rows.specs.Draining.{DrainsByFront};
 ghost use Rattle.replica_rows.specs.Telling.{told_by, gathered_point};
 
@@ -11,23 +14,33 @@ ghost use Rattle.replica_rows.specs.Telling.{told_by, gathered_point};
 #[tactic(auto, using(crate::proofs::Counting::arrive_sends_few, crate::proofs::Counting::arrive_keeps_config))]
 pub fn rows_send_few_messages<S>()
     ensures few { (m : Meaning S) (s : ReplicaState) (a : Arrival)
-        → message_count (arrive m s a).1 ≤ 8 }
+        → message_count (arrive m Whole s a).1 ≤ 8 }
     ensures config { (m : Meaning S) (s : ReplicaState) (a : Arrival)
-        → (arrive m s a).0.config ≡ s.config }
+        → (arrive m Whole s a).0.config ≡ s.config }
 {}
 
 /// Whatever arrives, forged messages too, the entries up to the sync point stay as they are, unless a log is told with a greater
-/// sync point: in what arrives, or in the changes that are gathered.
+/// sync point: in what arrives, or in the changes that are gathered. The own log is told with that sync point, as that of a member
+/// that runs.
 #[tactic(auto, using(crate::proofs::Synchronised::synchronised_stays))]
 pub fn synchronised_entries_stay<S>()
     ensures { (m : Meaning S) (s : ReplicaState) (a : Arrival)
-        → s.sync.sync_point ≤ length s.log
+        → PointsMeet s
+        → s.sync.sync_point ≤ length s.log.entries
         → gathered_point s.changes ≤ s.sync.sync_point
         → told_by a ≤ s.sync.sync_point
-        → take s.sync.sync_point (arrive m s a).0.log ≡ take s.sync.sync_point s.log }
+        → take s.sync.sync_point (arrive m Whole s a).0.log.entries
+        ≡ take s.sync.sync_point s.log.entries }
 {}
 
 /// A drain takes a request, opens a gap, asks or ends, by what stands in front.
 pub fn drains_by_front<S>()
     ensures { (m : Meaning S) (s : ReplicaState) → DrainsByFront m s }
+{}
+
+/// A message whose checkpoint does not load does nothing: no view is entered either.
+#[tactic(auto, using(crate::proofs::Loading::unloaded_rests))]
+pub fn messages_that_do_not_load_rest<S>()
+    ensures { (m : Meaning S) (k : Keeping) (s : ReplicaState) (p : Peer)
+        → loads_in m p.body ≡ false → arrive m k s (Told p) ≡ still s }
 {}

@@ -1,9 +1,11 @@
 ghost use Rattle.std.specs.Prelude.{◌<◌, length, OnOk};
+ghost use Rattle.nop_types.specs.Logs.{Whole};
 ghost use Rattle.nop_types.specs.Ranges.{SlotFits};
 ghost use Rattle.nop_types.specs.declared.limits.TheConstants.{MAX_REPLICAS, MAX_SLOTS};
 ghost use Rattle.replica_state.specs.State.{waits};
 ghost use Rattle.replica_state.specs.Moves.{count_gap_vote, count_sync_vote, tell_synced};
 ghost use Rattle.replica_rows.specs.Rows.{begin_gap, slot_lookup, gap_reply, sync_reply};
+ghost use Rattle.replica_rows.specs.Rising.{raised_by};
 ghost use Rattle.replica_rows.specs.Within.{IsRunning, Does};
 
 use crate::member::Member;
@@ -14,8 +16,8 @@ impl<H: Host> Member<H> {
     /// Begins a gap agreement in the next slot, where there is a number after it.
     fn begin_gap(&mut self) -> Result<(), NoMemory>
         requires runs { IsRunning H.Host self.old }
-        requires room { length self.old.state.log < MAX_SLOTS }
-        ensures { OnOk result (Does H.Host self.old self.new (begin_gap H.meaning)) }
+        requires room { length self.old.state.log.entries < MAX_SLOTS }
+        ensures { OnOk result (Does H.Host self.old self.new (begin_gap H.meaning Whole)) }
     {
         if self.state.next.get() >= NUMBER_END {
             return Ok(());
@@ -27,7 +29,7 @@ impl<H: Host> Member<H> {
     /// Tells a replica what is synchronised.
     fn tell_synced(&mut self, replica: u8) -> Result<(), NoMemory>
         requires runs { IsRunning H.Host self.old }
-        ensures { OnOk result (Does H.Host self.old self.new (λ s. tell_synced s replica)) }
+        ensures { OnOk result (Does H.Host self.old self.new (λ s. tell_synced Whole s replica)) }
     {
         self.state.tell_synced(replica, &mut self.sends)?;
         Ok(())
@@ -38,7 +40,7 @@ impl<H: Host> Member<H> {
     pub(crate) fn slot_lookup(&mut self, sender: u8, slot: u32) -> Result<(), NoMemory>
         requires runs { IsRunning H.Host self.old }
         requires fits { SlotFits slot }
-        ensures { OnOk result (Does H.Host self.old self.new (slot_lookup H.meaning sender slot)) }
+        ensures { OnOk result (Does H.Host self.old self.new (slot_lookup H.meaning Whole sender slot)) }
     {
         if slot <= self.state.sync.sync_point() {
             return self.tell_synced(sender);
@@ -60,7 +62,7 @@ impl<H: Host> Member<H> {
     pub(crate) fn gap_reply(&mut self, sender: u8, slot: u32) -> Result<(), NoMemory>
         requires runs { IsRunning H.Host self.old }
         requires sender { sender < MAX_REPLICAS }
-        ensures { OnOk result (Does H.Host self.old self.new (gap_reply H.meaning sender slot)) }
+        ensures { OnOk result (Does H.Host self.old self.new (gap_reply H.meaning Whole sender slot)) }
     {
         let Some(gap) = &self.state.gap else {
             return Ok(());
@@ -77,21 +79,24 @@ impl<H: Host> Member<H> {
     pub(crate) fn sync_reply(&mut self, sender: u8, len: u32) -> Result<(), NoMemory>
         requires runs { IsRunning H.Host self.old }
         requires sender { sender < MAX_REPLICAS }
-        ensures { OnOk result (Does H.Host self.old self.new (sync_reply H.meaning sender len)) }
+        ensures { OnOk result (Does H.Host self.old self.new (sync_reply H.meaning Whole sender len)) }
     {
         let sync_point = self.state.sync.sync_point();
         self.count_sync_vote(sender, len)?;
         self.drain_if_risen(sync_point)
     }
 
-    /// Counts a vote for a length of the log; at enough votes the sync point rises, and all others
-    /// are told.
+    /// Counts a vote for a length of the log; at enough votes the sync point rises, with which the
+    /// log is told then, and all others are told.
     fn count_sync_vote(&mut self, sender: u8, len: u32) -> Result<(), NoMemory>
         requires runs { IsRunning H.Host self.old }
         requires sender { sender < MAX_REPLICAS }
-        ensures { OnOk result (Does H.Host self.old self.new (λ s. count_sync_vote s sender len)) }
+        ensures { OnOk result (Does H.Host self.old self.new
+            (raised_by H.meaning (λ s. count_sync_vote s sender len))) }
     {
-        match self.state.sync.on_rep(sender, len) {
+        let vote = self.state.sync.on_rep(sender, len);
+        self.state.raise_log();
+        match vote {
             Vote::Settled => self.to_all(Body::SyncCommit(len)),
             Vote::Waiting => Ok(()),
         }

@@ -1,4 +1,5 @@
 ghost use Rattle.std.specs.Prelude.{◌≡◌, ◌<◌, [], length, OnOk, IfOk};
+ghost use Rattle.nop_types.specs.Logs.{Whole};
 ghost use Rattle.nop_types.specs.Ranges.{BodyFits};
 ghost use Rattle.replica_state.specs.Sends.{to_replica, to_leader, to_all};
 ghost use Rattle.replica_state.specs.State.{opening, executed_to};
@@ -24,7 +25,7 @@ impl<H: Host> Member<H> {
         requires { number < config.replicas }
         ensures state { IfOk result (λ x. x.state ≡ opening config number) }
         ensures runs { IfOk result (λ x. IsRunning H.Host x) }
-        ensures executed { IfOk result (λ x. length x.executor.undos ≡ executed_to x.state) }
+        ensures executed { IfOk result (λ x. length x.executor.undos ≡ executed_to Whole x.state) }
         ensures nothing { IfOk result (λ x. x.sends ≡ []) }
     {
         let state = ReplicaState::opening(alloc, config, number)?;

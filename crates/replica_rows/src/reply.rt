@@ -4,6 +4,7 @@ ghost use Rattle.nop_types.specs.declared.request.Entry.TheVariants.{Req};
 ghost use Rattle.nop_types.specs.Execution.{result_at};
 ghost use Rattle.nop_types.specs.Legality.{IsOf};
 ghost use Rattle.nop_types.specs.Lists.{slot_of};
+ghost use Rattle.nop_types.specs.Logs.{Whole};
 ghost use Rattle.nop_types.specs.Ranges.{SlotFits};
 ghost use Rattle.replica_state.specs.Replies.{leader_reply, reply_at, replies_above};
 ghost use Rattle.replica_rows.specs.Within.{IsRunning};
@@ -16,16 +17,16 @@ impl<H: Host> Member<H> {
     fn reply_with_result(&mut self, slot: u32, client: u32, id: u64) -> Result<(), NoMemory>
         requires runs { IsRunning H.Host self.old }
         requires slot { SlotFits slot }
-        requires there { slot ≤ length self.old.state.log }
+        requires there { slot ≤ length self.old.state.log.entries }
         requires ahead { length self.old.executor.undos ≤ slot }
         requires id { 1 ≤ id }
         ensures state { self.new.state ≡ self.old.state }
         ensures runs { OnOk result (IsRunning H.Host self.new) }
         ensures behind { OnOk result (length self.new.executor.undos ≤ slot) }
         ensures sends { (r : Request) → IsOf client id r
-            → slot_of self.old.state.log slot ≡ Some (Req r) → OnOk result (self.new.sends
+            → slot_of self.old.state.log.entries slot ≡ Some (Req r) → OnOk result (self.new.sends
             ≡ self.old.sends ++ leader_reply self.old.state slot r
-            (result_at H.meaning self.old.state.log slot)) }
+            (result_at H.meaning self.old.state.log.entries slot)) }
     {
         self.executor.run_to(&self.state.log, slot)?;
         let answer = self.executor.result(client, id);
@@ -36,13 +37,13 @@ impl<H: Host> Member<H> {
     /// Replies for a slot, where a request stands there: a leader with its result, a follower without.
     pub(crate) fn reply_at(&mut self, slot: u32) -> Result<(), NoMemory>
         requires runs { IsRunning H.Host self.old }
-        requires there { slot ≤ length self.old.state.log }
+        requires there { slot ≤ length self.old.state.log.entries }
         requires ahead { length self.old.executor.undos < slot }
         ensures state { self.new.state ≡ self.old.state }
         ensures runs { OnOk result (IsRunning H.Host self.new) }
         ensures behind { OnOk result (length self.new.executor.undos ≤ slot) }
         ensures sends { OnOk result (self.new.sends
-            ≡ self.old.sends ++ reply_at H.meaning self.old.state slot) }
+            ≡ self.old.sends ++ reply_at H.meaning Whole self.old.state slot) }
     {
         let Some(Entry::Req(request)) = self.state.log.at(slot) else {
             return Ok(());
@@ -62,7 +63,7 @@ impl<H: Host> Member<H> {
         ensures state { self.new.state ≡ self.old.state }
         ensures runs { OnOk result (IsRunning H.Host self.new) }
         ensures sends { OnOk result (self.new.sends
-            ≡ self.old.sends ++ replies_above H.meaning self.old.state slot) }
+            ≡ self.old.sends ++ replies_above H.meaning Whole self.old.state slot) }
     {
         for at in slot..self.state.log.len() {
             self.reply_at(at + 1)?;

@@ -1,9 +1,10 @@
 ghost use Rattle.std.specs.Prelude.{◌≡◌, ◌<◌, OnOk, IfOk};
-ghost use Rattle.nop_types.specs.Ranges.{ViewFits, NextFits, ToldFits, ChangeFits};
+ghost use Rattle.nop_types.specs.Logs.{Whole};
+ghost use Rattle.nop_types.specs.Ranges.{ViewFits, NextFits, LogFits, ChangeFits};
 ghost use Rattle.replica_state.specs.Moves.{resend_start};
 ghost use Rattle.replica_rows.specs.Rows.{view_change_request, take_change, gather, view_change, start_view};
 ghost use Rattle.replica_state.specs.State.{may_adopt};
-ghost use Rattle.replica_rows.specs.Keeping.{kept_after, step_by};
+ghost use Rattle.replica_rows.specs.Gathering.{kept_after, step_by};
 ghost use Rattle.replica_rows.specs.Within.{IsRunning, Does};
 
 use crate::ReplicaState;
@@ -34,7 +35,7 @@ impl<H: Host> Member<H> {
     pub(crate) fn view_change_request(&mut self, view: View) -> Result<(), NoMemory>
         requires runs { IsRunning H.Host self.old }
         requires fits { ViewFits view }
-        ensures { OnOk result (Does H.Host self.old self.new (view_change_request H.meaning view)) }
+        ensures { OnOk result (Does H.Host self.old self.new (view_change_request H.meaning Whole view)) }
     {
         let join = View::join(self.state.view, view);
         if join.is(self.state.view) {
@@ -46,7 +47,7 @@ impl<H: Host> Member<H> {
     /// Tells a late replica once more what the view started with.
     fn resend_start(&mut self, replica: u8) -> Result<(), NoMemory>
         requires runs { IsRunning H.Host self.old }
-        ensures { OnOk result (Does H.Host self.old self.new (λ s. resend_start s replica)) }
+        ensures { OnOk result (Does H.Host self.old self.new (λ s. resend_start Whole s replica)) }
     {
         self.state.tell_start(replica, &mut self.sends)?;
         Ok(())
@@ -57,7 +58,7 @@ impl<H: Host> Member<H> {
         requires runs { IsRunning H.Host self.old }
         requires fits { ChangeFits change }
         ensures { OnOk result (Does H.Host self.old self.new
-            (λ s. gather H.meaning s.changes change s)) }
+            (λ s. gather H.meaning Whole s.changes change s)) }
     {
         match keep_change(&mut self.state, change)? {
             Step::Started(start) => self.open_view(start),
@@ -68,7 +69,7 @@ impl<H: Host> Member<H> {
     fn take_change(&mut self, view: View, change: Change) -> Result<(), NoMemory>
         requires runs { IsRunning H.Host self.old }
         requires fits { ChangeFits change }
-        ensures { OnOk result (Does H.Host self.old self.new (take_change H.meaning view change)) }
+        ensures { OnOk result (Does H.Host self.old self.new (take_change H.meaning Whole view change)) }
     {
         if !view.is(self.state.view) || !self.state.leads() {
             return Ok(());
@@ -85,7 +86,7 @@ impl<H: Host> Member<H> {
         requires runs { IsRunning H.Host self.old }
         requires view { ViewFits view }
         requires change { ChangeFits change }
-        ensures { OnOk result (Does H.Host self.old self.new (view_change H.meaning view change)) }
+        ensures { OnOk result (Does H.Host self.old self.new (view_change H.meaning Whole view change)) }
     {
         self.view_change_request(view)?;
         self.take_change(view, change)
@@ -98,19 +99,18 @@ impl<H: Host> Member<H> {
         sender: u8,
         view: View,
         next: u64,
-        sync_point: u32,
         log: Log,
     ) -> Result<(), NoMemory>
         requires runs { IsRunning H.Host self.old }
         requires view { ViewFits view }
         requires next { NextFits next }
-        requires told { ToldFits sync_point log }
+        requires told { LogFits log }
         ensures { OnOk result (Does H.Host self.old self.new
-            (start_view H.meaning sender view next sync_point log)) }
+            (start_view H.meaning Whole sender view next log)) }
     {
         if !self.state.may_adopt(sender, view, &log) {
             return Ok(());
         }
-        self.adopt(view, next, sync_point, log)
+        self.adopt(view, next, log)
     }
 }

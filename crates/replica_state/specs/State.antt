@@ -1,5 +1,5 @@
 -- Words on the state of a replica.
-use Rattle.std.specs.Prelude.{ℕ, ◌/◌, List, [], length, min, cond, Bool, true, false, Option, Some, None, nat_le, nat_lt, not, ◌==◌}
+use Rattle.std.specs.Prelude.{◌≡◌, ℕ, ◌/◌, min, cond, Bool, true, false, Option, Some, None, nat_le, nat_lt, not, ◌==◌}
 use Rattle.std.specs.Prelude.{◌&&◌, ◌||◌}
 use Rattle.nop_types.specs.declared.limits.TheConstants.{MAX_SLOTS, NUMBER_END}
 use Rattle.nop_types.specs.declared.replica_state.Phase.{Phase}
@@ -9,7 +9,7 @@ use Rattle.nop_types.specs.declared.replica_state.Vote.TheVariants.{Settled, Wai
 use Rattle.nop_types.specs.Configuration.{Configuration}
 use Rattle.nop_types.specs.Views.{leader_of, first_view, is_view}
 use Rattle.nop_types.specs.declared.view.View.{View}
-use Rattle.nop_types.specs.declared.request.Entry.{Entry}
+use Rattle.nop_types.specs.Logs.{Log, Keeping, empty, length_of}
 use Rattle.gap_agree.specs.Agreement.{Agreement, begun}
 use Rattle.gap_agree.specs.Votes.{vote_of}
 use Rattle.oum_receiver.specs.Receiving as receiving
@@ -24,7 +24,7 @@ opening config number =
       view = first_view;
       status = Normal;
       last_normal = first_view;
-      log = [];
+      log = empty;
       next = 1;
       base = 0;
       receiver = receiving.opened 1 1;
@@ -66,20 +66,24 @@ waiting g = unless_settled g (vote_of g.f g.votes)
 abbrev pub waiting_in : ℕ → ℕ → Option Agreement
 waiting_in slot f = waiting (begun slot f)
 
-abbrev pub has_room : ReplicaState → Bool
-has_room s = nat_lt (length s.log) MAX_SLOTS
+abbrev pub has_room : Keeping → ReplicaState → Bool
+has_room k s = nat_lt (length_of k s.log) MAX_SLOTS
 
 -- the log has room, and there is a next number
-abbrev pub may_append : ReplicaState → Bool
-may_append s = has_room s && nat_lt s.next NUMBER_END
+abbrev pub may_append : Keeping → ReplicaState → Bool
+may_append k s = has_room k s && nat_lt s.next NUMBER_END
 
 -- what stands in front of the receiver may be taken
-abbrev pub drains : ReplicaState → Bool
-drains s = is_normal s.status && (not (waits s.gap) && has_room s)
+abbrev pub drains : Keeping → ReplicaState → Bool
+drains k s = is_normal s.status && (not (waits s.gap) && has_room k s)
+
+-- the log is told with the sync point for which votes are counted
+abbrev pub PointsMeet : ReplicaState → Type 0
+PointsMeet s = s.log.sync_point ≡ s.sync.sync_point
 
 -- how many slots the host has executed: a leader in Normal has the whole log, another what is synchronised
-abbrev pub executed_to : ReplicaState → ℕ
-executed_to s = cond (is_normal s.status && leads s) (length s.log) (min s.sync.sync_point (length s.log))
+abbrev pub executed_to : Keeping → ReplicaState → ℕ
+executed_to k s = cond (is_normal s.status && leads s) (length_of k s.log) (min s.sync.sync_point (length_of k s.log))
 
 -- a replica takes no message of its own
 abbrev pub is_other : ReplicaState → ℕ → Bool
@@ -103,9 +107,9 @@ abbrev pub is_at_most : View → View → Bool
 is_at_most a b = nat_le a.leader b.leader && nat_le a.session b.session
 
 -- whether a replica adopts what a view starts with
-abbrev pub may_adopt : ReplicaState → ℕ → View → List Entry → Bool
-may_adopt s q v l =
+abbrev pub may_adopt : Keeping → ReplicaState → ℕ → View → Log → Bool
+may_adopt k s q v l =
     (q == leader_of v s.config.replicas)
     && (is_at_most s.view v
     && ((not (is_view v s.view) || not (is_normal s.status))
-    && nat_le s.sync.sync_point (length l)))
+    && nat_le s.sync.sync_point (length_of k l)))

@@ -4,6 +4,7 @@ use Rattle.std.specs.List.{AllByRecursion}
 use Rattle.nop_types.specs.declared.limits.TheConstants.{MAX_REPLICAS}
 use Rattle.nop_types.specs.declared.replica_state.Phase.TheVariants.{Normal}
 use Rattle.nop_types.specs.Ranges.{ViewFits, LogFits, NextFits, SlotFits, ChangeFits}
+use Rattle.replica_state.specs.State.{PointsMeet}
 use Rattle.replica_state.specs.declared.state.ReplicaState.{ReplicaState}
 
 -- each field is in its range, and what is sent of it too
@@ -15,13 +16,14 @@ pub record IsWithin (s : ReplicaState) : Type 0 where
   pub log : LogFits s.log
   pub next : NextFits s.next
   -- the view started with base entries, at a number from 1
-  pub base : s.base ≤ length s.log
-  pub start : length s.log < s.next + s.base
+  pub base : s.base ≤ length s.log.entries
+  pub start : length s.log.entries < s.next + s.base
   -- in Normal the receiver hands up the next number
   pub receiver : s.status ≡ Normal → s.receiver.next ≡ s.next
   pub gap : IfSome s.gap (λ g. SlotFits g.slot)
-  -- what is synchronised, under way or prepared is in the log
-  pub sync_point : s.sync.sync_point ≤ length s.log
-  pub syncing : IfSome s.sync.syncing (λ x. x.len ≤ length s.log)
-  pub prepared : s.sync.prepared ≤ length s.log
+  -- what is synchronised, under way or prepared is in the log, which is told with its sync point
+  pub points : PointsMeet s
+  pub sync_point : s.sync.sync_point ≤ length s.log.entries
+  pub syncing : IfSome s.sync.syncing (λ x. x.len ≤ length s.log.entries)
+  pub prepared : s.sync.prepared ≤ length s.log.entries
   pub changes : IfSome s.changes (λ g. AllByRecursion ChangeFits g.changes)

@@ -5,16 +5,17 @@
 //! Each call that changes the state leaves, at Ok, what the definition of the move gives, and each
 //! call that sends appends what its definition says. On an error the state is as it was, and
 //! nothing more is sent. What is sent of a state that is in its ranges (`IsWithin`) is in its
-//! ranges. `may_adopt` takes what a view starts with only from the leader of that view. A log is told
-//! with its sync point. One that is taken is taken above the own sync point, or whole where the told
-//! one is greater, which is the own one then (`own_front`, `taken_log`); nothing else is written at
-//! or below the sync point.
+//! ranges. `may_adopt` takes what a view starts with only from the leader of that view. A log is
+//! told with its sync point, that for which votes are counted (`PointsMeet`). One that is taken is
+//! taken above the own sync point, or whole where the told one is greater, which is the own one
+//! then (`adopted`, `overlaid` of logs); nothing else is written at or below the sync point.
 //!
 //! Calls, for `replica_rows`: `ReplicaState::opening`; `append`, `put_gap`, `ask`,
-//! `count_gap_vote`, `kept_front`, `lay_over` (the log); `begin_session`, `queue`, `go_to`, `begin_gathering`,
-//! `take_part` (views); `send_to`, `send_to_all`, `tell_change`, `tell_start`, `tell_synced`,
-//! `send_short`, `send_result` (messages); `sync_commit` and `sync`, which move the sync point; and
-//! the row `resend`. None of them executes or drains. `Sends` is what one step sends, in order.
+//! `count_gap_vote`, `lay_over`, `raise_log` (the log); `begin_session`, `queue`, `go_to`,
+//! `begin_gathering`, `take_part` (views); `send_to`, `send_to_all`, `tell_change`, `tell_start`,
+//! `tell_synced`, `send_short`, `send_result` (messages); `sync_commit` and `sync`, which move the
+//! sync point; and the row `resend`. None of them executes or drains. `Sends` is what one step
+//! sends, in order.
 //!
 //! Files: `state`, `sending`, `number`; `logging`, `views`, `telling`, `repeating`. Definitions:
 //! `specs/State`, `Sends` (`Effect`, `then_do`), `Moves`, `Repeating`, `Replies`, `Within`.

@@ -1,11 +1,13 @@
 ghost use Rattle.std.specs.Prelude.{◌≡◌, ◌≤◌, ◌<◌, ◌+◌, ◌-◌, ◌++◌, ◌↔◌, [], length, true, nat_le, IsTrue, OnOk};
 ghost use Rattle.std.specs.Prelude.{OnErr, IfSome, IfNone};
 ghost use Rattle.nop_types.specs.declared.limits.TheConstants.{MAX_REPLICAS, MAX_SLOTS, NUMBER_END};
+ghost use Rattle.nop_types.specs.Logs.{Whole};
+ghost use Rattle.nop_types.specs.Ranges.{LogFits};
 ghost use Rattle.oum_receiver.specs.Front.{Dropped};
 ghost use Rattle.oum_receiver.specs.Receiving.{front_of};
 ghost use Rattle.replica_state.specs.State.{may_append, waiting_in};
-ghost use Rattle.replica_log.specs.Splices.{spliced};
-ghost use Rattle.replica_state.specs.Moves.{appended, gap_opened, ask, count_gap_vote, taken_log, overlaid, obey, sync_commit};
+ghost use Rattle.replica_log.specs.Splices.{MayStay};
+ghost use Rattle.replica_state.specs.Moves.{appended, gap_opened, ask, count_gap_vote, overlaid, obey, sync_commit};
 ghost use Rattle.replica_state.specs.Within.{IsWithin};
 
 use crate::{ReplicaState, Sends};
@@ -26,7 +28,7 @@ fn gap_in(slot: u32, f: u8) -> Option<Gap>
 impl ReplicaState {
     /// Appends an entry that did not come through the receiver, which goes to the number after it.
     pub fn append(&mut self, entry: Entry) -> Result<(), NoMemory>
-        requires { may_append self.old ≡ true }
+        requires { may_append Whole self.old ≡ true }
         ensures ok { OnOk result (self.new ≡ appended self.old entry) }
         ensures err { OnErr result (self.new ≡ self.old) }
     {
@@ -39,8 +41,8 @@ impl ReplicaState {
 
     /// Puts a NO-OP into the next slot, for which votes are then counted.
     pub fn put_gap(&mut self) -> Result<(), NoMemory>
-        requires { may_append self.old ≡ true }
-        ensures ok { OnOk result (self.new ≡ gap_opened self.old) }
+        requires { may_append Whole self.old ≡ true }
+        ensures ok { OnOk result (self.new ≡ gap_opened Whole self.old) }
         ensures err { OnErr result (self.new ≡ self.old) }
     {
         self.append(Entry::NoOp)?;
@@ -60,9 +62,9 @@ impl ReplicaState {
     /// Asks the leader for the next slot, once. An error leaves the state, and what is sent, as they were.
     pub fn ask(&mut self, sends: &mut Sends) -> Result<(), NoMemory>
         requires within { IsWithin self.old }
-        requires room { length self.old.log < MAX_SLOTS }
-        ensures state { OnOk result (self.new ≡ (ask self.old).0) }
-        ensures sends { OnOk result (sends.new ≡ sends.old ++ (ask self.old).1) }
+        requires room { length self.old.log.entries < MAX_SLOTS }
+        ensures state { OnOk result (self.new ≡ (ask Whole self.old).0) }
+        ensures sends { OnOk result (sends.new ≡ sends.old ++ (ask Whole self.old).1) }
         ensures err { OnErr result ((self.new ≡ self.old) × (sends.new ≡ sends.old)) }
     {
         let slot = self.log.len() + 1;
@@ -89,29 +91,33 @@ impl ReplicaState {
         }
     }
 
-    /// Takes the entries of the leader's log, which is told with its sync point: those above the first `kept`, of which so many
-    /// are new.
-    pub fn lay_over(
-        &mut self,
-        kept: u32,
-        sync_point: u32,
-        log: &Log,
-        appended: u64,
-    ) -> Result<(), NoMemory>
-        requires kept { spliced kept self.old.log log.now ≡ taken_log self.old sync_point log.now }
-        requires there { kept ≤ length self.old.log }
-        requires appended { appended ≡ length log.now - length self.old.log }
+    /// Takes the entries of the leader's log above the first `kept`, of which so many are new.
+    pub fn lay_over(&mut self, kept: u32, log: &Log, appended: u64) -> Result<(), NoMemory>
+        requires own { IsWithin self.old }
+        requires told { LogFits log.now }
+        requires stay { MayStay kept self.old.log log.now }
+        requires appended { appended ≡ length log.now.entries - length self.old.log.entries }
         requires within { self.old.next + appended ≤ NUMBER_END }
-        ensures ok { OnOk result (self.new ≡ overlaid self.old sync_point log.now) }
+        ensures ok { OnOk result (self.new ≡ overlaid Whole self.old log.now) }
         ensures err { OnErr result (self.new ≡ self.old) }
     {
-        self.log.overlay_above(kept, log)?;
+        self.log.overlay(kept, log)?;
         let next = self.next.get() + appended;
         self.next.set(next);
         self.receiver.advance(next);
-        self.sync.on_prepare(log.as_slice().len() as u32);
-        self.sync.raise(sync_point);
+        self.sync.on_prepare(log.entries().len() as u32);
+        self.sync.raise(log.sync_point());
         Ok(())
+    }
+
+    /// The log is told with the sync point for which votes are counted, from now on.
+    pub fn raise_log(&mut self)
+        ensures { self.new ≡ record self.old {
+          log = record self.old.log { sync_point = self.old.sync.sync_point };
+        } }
+    {
+        let sync_point = self.sync.sync_point();
+        self.log.raise(sync_point);
     }
 
     /// Lets the sync point rise to what the leader says, where so much is prepared. Says whether it is.

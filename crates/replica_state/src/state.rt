@@ -1,9 +1,9 @@
 ghost use Rattle.std.specs.Prelude.{◌≡◌, ◌≤◌, ◌<◌, ◌-◌, length};
+ghost use Rattle.nop_types.specs.Logs.{Whole};
 ghost use Rattle.replica_state.specs.State.{others, leader, leads, is_normal, may_append, drains};
 ghost use Rattle.replica_state.specs.State.{is_other, is_current, is_from_leader, is_to_leader, may_adopt};
 ghost use Rattle.replica_state.specs.State as words;
-ghost use Rattle.replica_log.specs.Splices.{spliced};
-ghost use Rattle.replica_state.specs.Moves.{start_len, taken_log};
+ghost use Rattle.replica_state.specs.Moves.{start_len};
 ghost use Rattle.replica_state.specs.Within.{IsWithin};
 
 use crate::NextNumber;
@@ -74,14 +74,14 @@ impl ReplicaState {
 
     /// Whether the log has room for an entry, and there is a number for the one after it.
     pub fn may_append(&self) -> bool
-        ensures { result ≡ may_append self.now }
+        ensures { result ≡ may_append Whole self.now }
     {
         self.log.has_room() && self.next.get() < NUMBER_END
     }
 
     /// Whether what stands in front of the receiver may be taken.
     pub fn drains(&self) -> bool
-        ensures { result ≡ drains self.now }
+        ensures { result ≡ drains Whole self.now }
     {
         self.is_normal() && !self.waits() && self.log.has_room()
     }
@@ -92,7 +92,7 @@ impl ReplicaState {
         requires { IsWithin self.now }
         ensures value { result ≡ start_len self.now }
         ensures low { self.now.base ≤ result }
-        ensures within { result ≤ length self.now.log }
+        ensures within { result ≤ length self.now.log.entries }
     {
         self.base.max(self.sync.sync_point())
     }
@@ -102,8 +102,8 @@ impl ReplicaState {
     pub(crate) fn number_after(&self, len: u32) -> u64
         requires within { IsWithin self.now }
         requires low { self.now.base ≤ len }
-        requires high { len ≤ length self.now.log }
-        ensures value { result ≡ self.now.next - (length self.now.log - len) }
+        requires high { len ≤ length self.now.log.entries }
+        ensures value { result ≡ self.now.next - (length self.now.log.entries - len) }
         ensures low { 1 ≤ result }
     {
         self.next.get() - u64::from(self.log.len() - len)
@@ -139,28 +139,11 @@ impl ReplicaState {
 
     /// Whether a replica adopts what a view starts with.
     pub fn may_adopt(&self, sender: u8, view: View, log: &Log) -> bool
-        ensures { result ≡ may_adopt self.now sender view log.now }
+        ensures { result ≡ may_adopt Whole self.now sender view log.now }
     {
         sender == leader_of(view, self.config.replicas())
             && View::le(self.view, view)
             && (!view.is(self.view) || !self.is_normal())
-            && self.sync.sync_point() as usize <= log.as_slice().len()
-    }
-
-    /// How many of the own entries need not be written where a log is taken that is told with this sync point: those up to the own
-    /// sync point; none where the told one is greater and the logs differ up to there.
-    #[tactic(auto, using(replica_log::proofs::Splices::spliced_same))]
-    pub fn kept_front(&self, sync_point: u32, log: &Log) -> u32
-        requires synced { self.now.sync.sync_point ≤ length self.now.log }
-        requires told { sync_point ≤ length log.now }
-        ensures same { spliced result self.now.log log.now
-            ≡ taken_log self.now sync_point log.now }
-        ensures low { result ≤ self.now.sync.sync_point }
-    {
-        let own = self.sync.sync_point();
-        if sync_point <= own || self.log.agrees_with(log, own) {
-            return own;
-        }
-        0
+            && self.sync.sync_point() as usize <= log.entries().len()
     }
 }

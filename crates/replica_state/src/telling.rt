@@ -4,6 +4,7 @@ ghost use Rattle.nop_types.specs.declared.limits.TheConstants.{MAX_RESULT_BYTES}
 ghost use Rattle.nop_types.specs.declared.peer.Body.TheVariants.{SyncPrepare};
 ghost use Rattle.nop_types.specs.declared.request.Request.{Request};
 ghost use Rattle.nop_types.specs.Legality.{IsOf};
+ghost use Rattle.nop_types.specs.Logs.{Whole};
 ghost use Rattle.nop_types.specs.Ranges.{SlotFits, BodyFits};
 ghost use Rattle.peer_codec.specs.LogBodies.{with_log};
 ghost use Rattle.replica_state.specs.Sends.{message, to_replica, to_all};
@@ -85,8 +86,7 @@ impl ReplicaState {
         let body = LogBody::ViewChange {
             last_normal: self.last_normal,
             next: self.next.get(),
-            sync_point: self.sync.sync_point(),
-            log: self.log.as_slice(),
+            log: self.log.as_ref(),
         };
         self.send_log_to(self.leader(), body, sends)
     }
@@ -94,14 +94,13 @@ impl ReplicaState {
     /// Tells a late replica what the view started with, and what is synchronised beyond that.
     pub fn tell_start(&self, replica: u8, sends: &mut Sends) -> Result<(), NoMemory>
         requires { IsWithin self.now }
-        ensures ok { OnOk result (sends.new ≡ sends.old ++ (resend_start self.now replica).1) }
+        ensures ok { OnOk result (sends.new ≡ sends.old ++ (resend_start Whole self.now replica).1) }
         ensures err { OnErr result (sends.new ≡ sends.old) }
     {
         let len = self.start_len();
         let body = LogBody::StartView {
             next: self.number_after(len),
-            sync_point: self.sync.sync_point(),
-            log: &self.log.as_slice()[..len as usize],
+            log: self.log.first(len),
         };
         self.send_log_to(replica, body, sends)
     }
@@ -109,29 +108,21 @@ impl ReplicaState {
     /// Tells a replica what is synchronised.
     pub fn tell_synced(&self, replica: u8, sends: &mut Sends) -> Result<(), NoMemory>
         requires { IsWithin self.now }
-        ensures ok { OnOk result (sends.new ≡ sends.old ++ (tell_synced self.now replica).1) }
+        ensures ok { OnOk result (sends.new ≡ sends.old ++ (tell_synced Whole self.now replica).1) }
         ensures err { OnErr result (sends.new ≡ sends.old) }
     {
-        let sync_point = self.sync.sync_point();
-        let body = LogBody::SyncPrepare {
-            sync_point,
-            log: &self.log.as_slice()[..sync_point as usize],
-        };
-        self.send_log_to(replica, body, sends)
+        let log = self.log.first(self.sync.sync_point());
+        self.send_log_to(replica, LogBody::SyncPrepare(log), sends)
     }
 
     /// Tells all others the log.
     pub(crate) fn tell_log(&self, sends: &mut Sends) -> Result<(), NoMemory>
         requires { IsWithin self.now }
         ensures ok { OnOk result (sends.new ≡ sends.old
-            ++ to_all self.now (SyncPrepare self.now.sync.sync_point self.now.log)) }
+            ++ to_all self.now (SyncPrepare self.now.log)) }
         ensures err { OnErr result (sends.new ≡ sends.old) }
     {
-        let body = LogBody::SyncPrepare {
-            sync_point: self.sync.sync_point(),
-            log: self.log.as_slice(),
-        };
-        self.send_log_to_all(body, sends)
+        self.send_log_to_all(LogBody::SyncPrepare(self.log.as_ref()), sends)
     }
 
     /// Sends a reply to a client.

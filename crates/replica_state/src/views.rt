@@ -1,10 +1,11 @@
-ghost use Rattle.std.specs.Prelude.{◌≡◌, ◌≤◌, length, true, IsTrue, OnOk, OnErr, IfOk};
+ghost use Rattle.std.specs.Prelude.{◌≡◌, ◌≤◌, true, IsTrue, OnOk, OnErr, IfOk};
 ghost use Rattle.nop_types.specs.declared.limits.TheConstants.{NUMBER_END};
+ghost use Rattle.nop_types.specs.Logs.{Whole};
 ghost use Rattle.nop_types.specs.Configuration.{is_configuration};
 ghost use Rattle.nop_types.specs.Ranges.{StampedFits};
 ghost use Rattle.replica_state.specs.State.{opening};
-ghost use Rattle.replica_log.specs.Splices.{spliced};
-ghost use Rattle.replica_state.specs.Moves.{left, entered, enter_as, own_change, taken_log, adopted, begin_session, queue};
+ghost use Rattle.replica_log.specs.Splices.{MayStay};
+ghost use Rattle.replica_state.specs.Moves.{left, entered, enter_as, own_change, adopted, begin_session, queue};
 
 use crate::{NextNumber, ReplicaState};
 use nop_types::{Change, Config, Log, NoMemory, Phase, Stamped, View};
@@ -96,8 +97,7 @@ impl ReplicaState {
             sender: self.number,
             last_normal: self.last_normal,
             next: self.next.get(),
-            sync_point: self.sync.sync_point(),
-            log: self.log.copy(self.log.len())?,
+            log: self.log.copy()?,
         })
     }
 
@@ -112,12 +112,11 @@ impl ReplicaState {
         Ok(())
     }
 
-    /// Takes part in a view from what it starts with, a log that is told with its sync point. The first `kept` own entries stay.
-    pub fn take_part(&mut self, kept: u32, view: View, next: u64, sync_point: u32, log: Log)
-        requires kept { spliced kept self.old.log log ≡ taken_log self.old sync_point log }
-        requires there { kept ≤ length self.old.log }
+    /// Takes part in a view from what it starts with. The first `kept` own entries stay.
+    pub fn take_part(&mut self, kept: u32, view: View, next: u64, log: Log)
+        requires stay { MayStay kept self.old.log log }
         requires next { next ≤ NUMBER_END }
-        ensures { self.new ≡ adopted self.old view next sync_point log }
+        ensures { self.new ≡ adopted Whole self.old view next log }
     {
         if self.receiver.session() < view.session {
             self.receiver.reset(view.session, next);
@@ -128,8 +127,8 @@ impl ReplicaState {
         self.view = view;
         self.status = Phase::Normal;
         self.last_normal = view;
-        self.log.adopt_above(kept, log);
-        self.sync.raise(sync_point);
+        self.sync.raise(log.sync_point());
+        self.log.adopt(kept, log);
         self.next.set(next);
         self.base = self.log.len();
     }

@@ -1,4 +1,5 @@
 use Rattle.std.proofs.Common.{◌≡◌, ◌≤◌, length}
+use Rattle.nop_types.specs.Logs.{Whole}
 use Rattle.replica_rows.specs.Within.{Runs}
 use Rattle.replica_state.specs.Sends.{then_do}
 use Rattle.replica_state.specs.Moves.{drain}
@@ -9,7 +10,7 @@ abbrev pub invariant-loop : goal.invariant-loop
 invariant-loop g l =
     record {
       runs : Runs g.H.Host l.self.state l.self.executor;
-      goes : then_do (l.self.state, l.self.sends) (drain g.H.Host.meaning) ≡ then_do (l.initial.self.state, l.initial.self.sends)
-          (drain g.H.Host.meaning);
-      filled : l.counter ≤ length l.self.state.log;
+      goes : then_do (l.self.state, l.self.sends) (drain g.H.Host.meaning Whole) ≡ then_do (l.initial.self.state, l.initial.self.sends)
+          (drain g.H.Host.meaning Whole);
+      filled : l.counter ≤ length l.self.state.log.entries;
     }

@@ -45,9 +45,10 @@ returns g c =
     let back = put_back c.enter.new.self.state c.in-Some.changes c.start_now.new.self c.start_now.ensures.same c.in-Some.is in
     let mine = own c.args.self.now.state c.args.view c.in-Some.changes (ap (λ s. s.changes) (sym e) ∙ c.in-Some.is) in
     let none : c.in-Some.changes.f ≡ 0 = omega (arith, mine.f, c.if-others-gt0.false, c.others.ensures, ap others e) in
+    let all = subst (λ o. IfSome o (λ x. AllByRecursion ChangeFits x.changes)) c.in-Some.is c.in_ok-enter.ensures.runs.within.changes in
     let both =
     opens_alone g.H.Host.meaning c.args.self.now.state c.enter.new.self.state
-    _ c.args.view c.in-Some.changes c.in_ok-start.start e c.in-Some.is none back c.in_ok-start.ensures.start in
+    _ c.args.view c.in-Some.changes c.in_ok-start.start e c.in-Some.is none back all c.in_ok-start.ensures.start in
     let so_far = c.in_ok-enter.ensures.sends in
     on_ok c.open_view.result _ _
     (λ does. record {

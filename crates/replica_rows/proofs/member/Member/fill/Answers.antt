@@ -9,8 +9,8 @@ reply_at-requires-clause-there g c = omega (arith, c.len-slot.ensures.len)
 pub reply_at-requires-clause-ahead : goal.reply_at-requires-clause-ahead
 reply_at-requires-clause-ahead g c =
     let run = ap (λ e. length e.undos) c.append.ensures.executor in
-    let longer = ap (λ s. length s.log) c.in_ok-append.ensures.state in
-    let one = length-append c.args.self.now.state.log (Req c.args.request ∷ []) in
+    let longer = ap (λ s. length s.log.entries) c.in_ok-append.ensures.state in
+    let one = length-append c.args.self.now.state.log.entries (Req c.args.request ∷ []) in
     omega (arith, c.requires.runs.run.within, run, longer, one, c.len-slot.ensures.len)
 
 pub returns : goal.returns

@@ -1,5 +1,5 @@
 use Rattle.std.proofs.Common.{ap, ◌∙◌, ◌++◌, refl, sym, append-nil}
-use Rattle.replica_rows.specs.Keeping.{kept_after}
+use Rattle.replica_rows.specs.Gathering.{kept_after}
 use Rattle.replica_rows.proofs.Gathered.{left_runs, gathers_taken}
 use Rattle.replica_rows.proofs.Opening.{gathers_more}
 use Rattle.replica_rows.proofs.Running.{on_ok, kept_runs}

@@ -8,7 +8,7 @@ loop-at-preserved g c =
     record {
       runs = c.in_ok-reply_at.ensures.runs;
       state = c.in_ok-reply_at.ensures.state ∙ i.state;
-      ends = i.ends ∙ ap (λ s. length s.log) (sym c.in_ok-reply_at.ensures.state);
+      ends = i.ends ∙ ap (λ s. length s.log.entries) (sym c.in_ok-reply_at.ensures.state);
       behind = c.in_ok-reply_at.ensures.behind;
       replied =
           replies_on g.H.Host.meaning c.loop-at.self.state _ c.loop-at.at _ _ _ i.state

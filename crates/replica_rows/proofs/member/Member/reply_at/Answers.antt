@@ -11,7 +11,7 @@ returns-then-leads-clause-sends g c =
     let s = c.args.self.now.state in
     let request = c.in-Some-Req.request in
     let of : IsOf request.client request.id request = record { same_client = refl; same_id = refl } in
-    let there : slot_of s.log c.args.slot ≡ Some (Req request) =
+    let there : slot_of s.log.entries c.args.slot ≡ Some (Req request) =
     sym c.in-Some-Req.ensures.entry ∙ ap Some c.in-Some-Req.field-0-is in
     on_ok c.reply_with_result.result _ _
     (λ sent. sent
@@ -23,7 +23,7 @@ pub returns-clause-sends : goal.returns-clause-sends
 returns-clause-sends g c =
     let s = c.args.self.now.state in
     let request = c.in-Some-Req.request in
-    let there : slot_of s.log c.args.slot ≡ Some (Req request) =
+    let there : slot_of s.log.entries c.args.slot ≡ Some (Req request) =
     sym c.in-Some-Req.ensures.entry ∙ ap Some c.in-Some-Req.field-0-is in
     on_ok c.send_short.result _ _
     (λ sent. sent

@@ -8,7 +8,7 @@ use Rattle.replica_rows.proofs.member.Member.reply_with_result.Goals as goal
 
 pub returns-clause-sends : goal.returns-clause-sends
 returns-clause-sends g c = λ request of there.
-    let log = c.args.self.now.state.log in
+    let log = c.args.self.now.state.log.entries in
     let executed = c.in_ok-run_to.ensures.executed in
     let answers = c.result-answer.ensures.slots log c.in_ok-run_to.ensures.run in
     let same : option_copied c.result-answer.result ≡ result_at g.H.Host.meaning log c.args.slot =
@@ -18,4 +18,4 @@ returns-clause-sends g c = λ request of there.
     (c.send_result.ensures.ok request of)
 
 pub send_result-requires-clause-short : goal.send_result-requires-clause-short
-send_result-requires-clause-short g c = c.result-answer.ensures.short c.args.self.now.state.log c.in_ok-run_to.ensures.run
+send_result-requires-clause-short g c = c.result-answer.ensures.short c.args.self.now.state.log.entries c.in_ok-run_to.ensures.run
