@@ -9,7 +9,7 @@ use Rattle.nop_types.specs.declared.view.View.{View}
 use Rattle.nop_types.specs.declared.request.Request.{Request}
 use Rattle.nop_types.specs.declared.datagram.Stamped.{Stamped}
 use Rattle.nop_types.specs.declared.peer.Body.{Body}
-use Rattle.nop_types.specs.Ranges.{RequestFits, BodyFits, ViewFits, ToldFits, ChangeFits}
+use Rattle.nop_types.specs.Ranges.{RequestFits, BodyFits, ViewFits, ChangeFits}
 use Rattle.oum_receiver.specs.declared.verdict.Verdict.{Verdict}
 use Rattle.oum_receiver.specs.declared.verdict.Verdict.TheVariants as verdicts
 use Rattle.oum_receiver.specs.Front.{Nothing, Message, front_at}
@@ -61,13 +61,9 @@ when_stays false f s g h = still_stays s g
 pub number_small : (s : ReplicaState) → IsWithin s → s.number ≤ 6
 number_small s w = let less = w.number in let few = w.few in omega arith
 
--- the own log, with the own sync point
-pub own_log_told : (s : ReplicaState) → IsWithin s → ToldFits s.sync.sync_point s.log
-own_log_told s w = record { entries = w.log; point = w.sync_point }
-
 pub own_change_fits : (s : ReplicaState) → IsWithin s → ChangeFits (own_change s)
 own_change_fits s w =
-    record { sender = number_small s w; rest = record { view = w.last_normal; number = w.next; told = own_log_told s w } }
+    record { sender = number_small s w; rest = record { view = w.last_normal; number = w.next; told = w.log } }
 
 pub to_replica_fits : (s : ReplicaState) (q : ℕ) (body : Body) → IsWithin s → BodyFits body
     → AllByRecursion SendingFits (to_replica s q body)
@@ -120,6 +116,7 @@ entered_within s v w view = record {
   start = w.start;
   receiver = λ e. absurd cc;
   gap = tt;
+  points = w.points;
   sync_point = w.sync_point;
   syncing = tt;
   prepared = omega arith;

@@ -6,6 +6,7 @@ use Rattle.std.specs.List.{AllByRecursion}
 use Rattle.std.proofs.lemmas.Bool.{ltb-true}
 use Rattle.nop_types.specs.Given.{Given, Packet, Ticked, Submit}
 use Rattle.nop_types.specs.Lists.{Has}
+use Rattle.nop_types.specs.Logs.{Whole}
 use Rattle.nop_types.specs.Meaning.{Meaning}
 use Rattle.nop_types.specs.Ranges.{DatagramFits}
 use Rattle.nop_types.specs.declared.datagram.Datagram.{Datagram}
@@ -102,11 +103,11 @@ module _ {S : Type 0} (m : Meaning S) (told : List Peer) (sent : List (List ℕ)
   row_if_delivers short all a true e came arrived fits =
       let few = arrive_sends_few m s.state a in
       let low = ltb-true s.messages LAST_MESSAGE e in
-      posts all (arrive m s.state a) came (inl (record { arrival = a; came = arrived; fits = fits; effect = refl }))
+      posts all (arrive m Whole s.state a) came (inl (record { arrival = a; came = arrived; fits = fits; effect = refl }))
       (record {
         ranges = arrive_stays m short s.state a h.within h.receiver fits;
         number = arrive_keeps_number m s.state a ∙ h.number;
-        by = subst (λ (q : ℕ). AllByRecursion (IsBy q) (arrive m s.state a).1) h.number (arrive_sends_own m s.state a);
+        by = subst (λ (q : ℕ). AllByRecursion (IsBy q) (arrive m Whole s.state a).1) h.number (arrive_sends_own m s.state a);
         high = omega (arith, few, low);
       })
   row_if_delivers short all a false e came arrived fits = does_nothing all came

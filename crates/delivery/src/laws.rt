@@ -4,6 +4,7 @@ ghost use Rattle.std.specs.List.{AllByRecursion};
 ghost use Rattle.nop_types.specs.Configuration.{Configuration, is_configuration};
 ghost use Rattle.nop_types.specs.Given.{Given};
 ghost use Rattle.nop_types.specs.Lists.{Has};
+ghost use Rattle.nop_types.specs.Logs.{Whole};
 ghost use Rattle.nop_types.specs.Meaning.{Meaning};
 ghost use Rattle.nop_types.specs.declared.datagram.Fragment.{Fragment};
 ghost use Rattle.nop_types.specs.declared.peer.Peer.{Peer};
@@ -35,7 +36,7 @@ pub fn rows_stay_in_ranges<S>()
         n < config.replicas → IsWithin (state.opening config n)
         × IsSound (state.opening config n).receiver }
     ensures stays { (m : Meaning S) → ResultsShort m → (s : ReplicaState) (a : Arrival) →
-        IsWithin s → IsSound s.receiver → ArrivalFits a → StaysInRanges (arrive m s a) }
+        IsWithin s → IsSound s.receiver → ArrivalFits a → StaysInRanges (arrive m Whole s a) }
 {}
 
 /// What is posted are the fragments of the messages that are sent, under the numbers above the one
@@ -49,18 +50,18 @@ pub fn posts_fragments()
 /// sender.
 pub fn rows_send_under_their_number<S>()
     ensures number { (m : Meaning S) (s : ReplicaState) (a : Arrival)
-        → (arrive m s a).0.number ≡ s.number }
+        → (arrive m Whole s a).0.number ≡ s.number }
     ensures sends { (m : Meaning S) (s : ReplicaState) (a : Arrival)
-        → AllByRecursion (IsBy s.number) (arrive m s a).1 }
+        → AllByRecursion (IsBy s.number) (arrive m Whole s a).1 }
 {}
 
 /// A row keeps the number of replicas of its configuration, and its messages go to all of them, or
 /// to one of them.
 pub fn rows_send_within_the_configuration<S>()
     ensures count { (m : Meaning S) (s : ReplicaState) (a : Arrival)
-        → (arrive m s a).0.config.replicas ≡ s.config.replicas }
+        → (arrive m Whole s a).0.config.replicas ≡ s.config.replicas }
     ensures sends { (m : Meaning S) (s : ReplicaState) (a : Arrival)
-        → AllByRecursion (GoesAmong s.config.replicas) (arrive m s a).1 }
+        → AllByRecursion (GoesAmong s.config.replicas) (arrive m Whole s a).1 }
 {}
 
 /// Where the fragments of a network carry what was told, and a reassembly has only parts that came

@@ -9,8 +9,8 @@
 //! sender sent, of a tick, or none, and what it sends is carried too. Datagrams that are no
 //! fragments leave it so (`network_goes_on`).
 //!
-//! Of the rows: they keep states and messages in their ranges, with each log that is told a sync
-//! point within it (`rows_stay_in_ranges`); they send under the replica's own number
+//! Of the rows, over logs that are kept whole: they keep states and messages in their ranges, each
+//! log with a sync point within it (`rows_stay_in_ranges`); they send under the replica's own number
 //! (`rows_send_under_their_number`) and to replicas of the configuration
 //! (`rows_send_within_the_configuration`). What is posted, while message numbers are left, are the
 //! fragments of the messages, under the next numbers (`posts_fragments`), and the replies

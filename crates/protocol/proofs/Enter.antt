@@ -16,13 +16,12 @@ use Rattle.std.proofs.lemmas.Bool.{eqb-true, and_parts}
 use Rattle.facts.proofs.Bools.{not-both}
 use Rattle.started_views.proofs.Past.{log_here, log_places, log_cases, entry_here, entry_places, entry_cases, start_places, start_cases}
 use Rattle.facts.proofs.Views.{is_view-same, is_view-apart, AtMost-refl, AtMost-trans, AtMost-antisym}
-use Rattle.view_change.specs.Gathering.{Gathering}
-use Rattle.nop_types.specs.declared.peer.Change as peer
+use Rattle.nop_types.specs.PlainChanges as plain
 use Rattle.oum_receiver.specs.Receiving as receiving
 use Rattle.view_change.specs.Gathering as gathering
 use Rattle.protocol.specs.Conf.{Conf, Effect, after}
 use Rattle.protocol.specs.Invariant.{GoodQueue, Gathers, GoodChanges, Own, Inv}
-use Rattle.protocol.specs.Member.{Member, standing, leads, leader, others}
+use Rattle.protocol.specs.Member.{Member, PlainGathering, standing, leads, leader, others}
 use Rattle.protocol.specs.Moves.{say_all, own_change, entered, enter_as, enter}
 use Rattle.protocol.specs.Said.{Said, Plain, ViewChange, says}
 use Rattle.protocol.specs.Truth.{TrueWord}
@@ -95,9 +94,9 @@ module _ {S : Type 0} (m : Meaning S) (f : ℕ) (c : Conf) (r : ℕ) (inv : Inv 
     leads = mine is;
     own = (own_change t, Has-first (own_change t) (own_change t) [] refl, own.number);
     once = λ q. grind (arith, nat_tests);
-    within = λ x i. subst (λ (y : peer.Change). y.sender < 2 * f + 1) (sym (Has-one x (own_change t) i))
+    within = λ x i. subst (λ (y : plain.Change). y.sender < 2 * f + 1) (sym (Has-one x (own_change t) i))
         (subst (λ (j : ℕ). j < 2 * f + 1) (sym own.number) within);
-    entries = λ x i. subst (λ (y : peer.Change). past.entry y.sender v
+    entries = λ x i. subst (λ (y : plain.Change). past.entry y.sender v
         ≡ Some (record { last_normal = y.last_normal; next = y.next; sync_point = y.sync_point; log = y.log }))
         (sym (Has-one x (own_change t) i)) (subst (λ (j : ℕ). past.entry j v ≡ Some (entered_with (standing p))) (sym own.number) here);
   }
@@ -127,7 +126,7 @@ module _ {S : Type 0} (m : Meaning S) (f : ℕ) (c : Conf) (r : ℕ) (inv : Inv 
       ]
 
   -- with these changes, saying this
-  module _ (g : Option Gathering) (said : List Said) where
+  module _ (g : Option PlainGathering) (said : List Said) where
     abbrev e : Effect
     e = record { state = record t { changes = g }; said = said; replies = [] }
 

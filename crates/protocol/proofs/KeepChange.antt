@@ -7,14 +7,14 @@ use Rattle.nop_types.specs.Meaning.{Meaning}
 use Rattle.facts.proofs.Members.{Has-append_left, Has-append_cases, Has-one, Has-none}
 use Rattle.started_views.specs.Past.{Entered, Past}
 use Rattle.started_views.specs.Quorums.{counts}
-use Rattle.view_change.specs.Gathering.{Gathering, has_sender}
+use Rattle.view_change.specs.Gathering.{has_sender}
 use Rattle.view_change.proofs.Senders.{none_there}
-use Rattle.nop_types.specs.declared.peer.Change as peer
+use Rattle.nop_types.specs.PlainChanges as plain
 use Rattle.view_change.specs.Gathering as gathering
 use Rattle.protocol.specs.Conf.{Conf, after}
 use Rattle.protocol.specs.Evolves.{Evolves}
 use Rattle.protocol.specs.Invariant.{GoodLog, Gathers, Own, Inv}
-use Rattle.protocol.specs.Member.{Member}
+use Rattle.protocol.specs.Member.{Member, PlainGathering}
 use Rattle.protocol.specs.Moves.{keep_change, MayKeepChange}
 use Rattle.protocol.specs.Said.{ViewChange, says}
 use Rattle.protocol.proofs.Growing.{Kept}
@@ -32,7 +32,7 @@ module _ {S : Type 0} (m : Meaning S) (f : ℕ) (c : Conf) (r : ℕ) (inv : Inv 
   log_same : (d : Conf) → Evolves f c d → GoodLog f d r p.last_normal p.log
   log_same d ev = log_lasts m f c d ev r p.last_normal p.log (inv.logs r p.last_normal p.log (inv.current r within))
 
-  module _ (g : Gathering) (x : peer.Change) (may : MayKeepChange f c p g x) where
+  module _ (g : PlainGathering) (x : plain.Change) (may : MayKeepChange f c p g x) where
     abbrev e : Entered
     e = record { last_normal = x.last_normal; next = x.next; sync_point = x.sync_point; log = x.log }
 
@@ -40,7 +40,7 @@ module _ {S : Type 0} (m : Meaning S) (f : ℕ) (c : Conf) (r : ℕ) (inv : Inv 
     is_entry = inv.said (says x.sender p.view (ViewChange x.last_normal x.next x.sync_point x.log)) may.change.said
 
     with_it : (past : Past) → past.entry x.sender p.view ≡ Some e → Gathers f past r p.view p.status g → (b : Bool)
-        → has_sender g.changes x.sender ≡ b
+        → has_sender plain.sender_of g.changes x.sender ≡ b
         → Gathers f past r p.view p.status (record g { changes = cond b g.changes (g.changes ++ x ∷ []) })
     with_it past here t true is = record {
       view = t.view;
@@ -62,22 +62,22 @@ module _ {S : Type 0} (m : Meaning S) (f : ℕ) (c : Conf) (r : ℕ) (inv : Inv 
         | inl e ↦
             let none : counts q (map (λ y. y.sender) g.changes) ≡ 0 = zero_unless (counts q (map (λ y. y.sender) g.changes)) (λ h.
             let y = counts_member (λ y. y.sender) g.changes q h in
-            none_there g.changes x.sender is y.1.0 y.0 y.1.1 (y.2 ∙ sym e)) in
-            let pushed = counts_push (λ (y : peer.Change). y.sender) g.changes x q in
+            none_there plain.sender_of g.changes x.sender is y.1.0 y.0 y.1.1 (y.2 ∙ sym e)) in
+            let pushed = counts_push (λ (y : plain.Change). y.sender) g.changes x q in
             grind (arith, nat_tests, none, pushed)
         | inr n ↦
-            let pushed = counts_push (λ (y : peer.Change). y.sender) g.changes x q in
+            let pushed = counts_push (λ (y : plain.Change). y.sender) g.changes x q in
             let one = t.once q in
             grind (arith, nat_tests, n, one, pushed)
       ];
       within = λ y i. elim (Has-append_cases g.changes (x ∷ []) y i) [
         | inl old ↦ t.within y old
         | inr new ↦
-            subst (λ (z : peer.Change). z.sender < 2 * f + 1) (sym (Has-one y x new)) may.change.within
+            subst (λ (z : plain.Change). z.sender < 2 * f + 1) (sym (Has-one y x new)) may.change.within
       ];
       entries = λ y i. elim (Has-append_cases g.changes (x ∷ []) y i) [
         | inl old ↦ t.entries y old
-        | inr new ↦ subst (λ (z : peer.Change). past.entry z.sender p.view
+        | inr new ↦ subst (λ (z : plain.Change). past.entry z.sender p.view
             ≡ Some (record { last_normal = z.last_normal; next = z.next; sync_point = z.sync_point; log = z.log }))
             (sym (Has-one y x new)) here
       ];
@@ -86,9 +86,9 @@ module _ {S : Type 0} (m : Meaning S) (f : ℕ) (c : Conf) (r : ℕ) (inv : Inv 
     pub keep_change_keeps : Kept m f c (after f c r (keep_change p g x))
     keep_change_keeps = local_keeps m f c r (keep_change p g x) inv within refl refl (turns_same f c r) (λ d ev had.
         let o : Own f d r p = own_lasts m f c d ev r p own in
-        let more : Gathers f d.past r p.view p.status (gathering.counted g x) =
+        let more : Gathers f d.past r p.view p.status (gathering.counted plain.sender_of g x) =
         with_it d.past (ev.entries x.sender p.view e is_entry)
-        (o.changes.gathers g may.gathers) (has_sender g.changes x.sender) refl in
+        (o.changes.gathers g may.gathers) (has_sender plain.sender_of g.changes x.sender) refl in
         record {
           log = log_same d ev;
           said = λ y i. absurd (Has-none y i);
@@ -101,8 +101,10 @@ module _ {S : Type 0} (m : Meaning S) (f : ℕ) (c : Conf) (r : ℕ) (inv : Inv 
             gap = o.gap;
             changes = record {
               entered = o.changes.entered;
-              gathers = λ h e. let same : gathering.counted g x ≡ h = cc in subst (Gathers f d.past r p.view p.status) same more;
-              leads = λ n a. (gathering.counted g x, refl);
+              gathers = λ h e.
+                  let same : gathering.counted plain.sender_of g x ≡ h = cc in
+                  subst (Gathers f d.past r p.view p.status) same more;
+              leads = λ n a. (gathering.counted plain.sender_of g x, refl);
             };
           };
         })

@@ -26,7 +26,6 @@ pub mod Outside
 pub mod Overlay
 pub mod Places
 pub mod Queue
-pub mod Receivers
 pub mod RepeatCommit
 pub mod Replying
 pub mod Runs

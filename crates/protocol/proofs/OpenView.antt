@@ -17,11 +17,11 @@ use Rattle.facts.proofs.Slots.{slot_of-within}
 use Rattle.facts.proofs.Prefixes.{IsPrefixOf-refl}
 use Rattle.std.proofs.Math.Seq.{take-length}
 use Rattle.facts.proofs.Views.{AtMost-refl}
-use Rattle.view_change.specs.Gathering.{Gathering, IsOfSender}
-use Rattle.nop_types.specs.declared.peer.Change as peer
+use Rattle.view_change.specs.Gathering.{IsOfSender}
+use Rattle.nop_types.specs.PlainChanges as plain
 use Rattle.protocol.specs.Conf.{Conf, WasSubmitted, after}
 use Rattle.protocol.specs.Invariant.{Gathers, Own, Inv}
-use Rattle.protocol.specs.Member.{Member, standing, others}
+use Rattle.protocol.specs.Member.{Member, PlainGathering, standing, others}
 use Rattle.protocol.specs.Moves.{say_all, adopted, open_view, MayOpenView}
 use Rattle.protocol.specs.Said.{StartView}
 use Rattle.protocol.proofs.Growing.{Kept}
@@ -30,11 +30,11 @@ use Rattle.protocol.proofs.Saying.{said_unless}
 use Rattle.protocol.proofs.Adopting.{begun, adopted_keeps}
 
 -- each entry of a merge is one of a log that is merged
-merge_from : (cs : List peer.Change) (k : ℕ) (x : Entry) → slot_of (merge cs) k ≡ Some x
-    → (y : peer.Change) × Has cs y × (slot_of y.log k ≡ Some x)
+merge_from : (cs : List plain.Change) (k : ℕ) (x : Entry) → slot_of (merge cs) k ≡ Some x
+    → (y : plain.Change) × Has cs y × (slot_of y.log k ≡ Some x)
 merge_from cs k x e = at (winner cs k)
   where
-    at : Winner cs k → (y : peer.Change) × Has cs y × (slot_of y.log k ≡ Some x)
+    at : Winner cs k → (y : plain.Change) × Has cs y × (slot_of y.log k ≡ Some x)
     at (Nobody none nobody) = absurd cc
     at (Somebody w slot has wins) =
         let same : w.entry ≡ x = cc in
@@ -47,7 +47,7 @@ module _ {S : Type 0} (m : Meaning S) (f : ℕ) (c : Conf) (r : ℕ) (inv : Inv 
   own : Own f c r p
   own = inv.own r within
 
-  module _ (g : Gathering) (may : MayOpenView p g) where
+  module _ (g : PlainGathering) (may : MayOpenView p g) where
     abbrev s : Start
     s = start_of g.view g.changes
 
@@ -117,7 +117,7 @@ module _ {S : Type 0} (m : Meaning S) (f : ℕ) (c : Conf) (r : ℕ) (inv : Inv 
             by = λ b. record {
               changes = g.changes;
               certificate = record { enough = omega (arith, may.enough, t.count); once = t.once; within = t.within; entries = t.entries };
-              leader = subst (IsOfSender g.changes) t.leads t.own;
+              leader = subst (IsOfSender plain.sender_of g.changes) t.leads t.own;
               opens = same_start ∙ ap (λ (w : View). start_of w g.changes) t.view;
             };
           };

@@ -11,7 +11,7 @@ use Rattle.protocol.specs.Conf.{opening, last_normals}
 use Rattle.protocol.specs.Runs.{run, MayAll}
 use Rattle.protocol.specs.Worked.{three, view, put_request, get_request, gap_run, GapRun, GapRunEnds, session_run, SessionRun}
 use Rattle.protocol.specs.Worked.{SessionRunEnds, sync_run, SyncRun, SyncRunEnds, told_run, ToldRun, ToldRunEnds}
-use Rattle.protocol.proofs.Receivers.{front_first, front_second, front_passed, front_early, front_late}
+use Rattle.oum_receiver.proofs.Lone.{front_first, front_second, front_passed, front_early, front_late}
 
 -- the replicas
 zero_of : 0 < 3

@@ -8,7 +8,7 @@ use Rattle.nop_types.specs.declared.request.Entry.{Entry}
 use Rattle.nop_types.specs.declared.request.Entry.TheVariants.{NoOp, Req}
 use Rattle.nop_types.specs.declared.datagram.Stamped.{Stamped}
 use Rattle.nop_types.specs.declared.datagram.Reply.{Reply}
-use Rattle.nop_types.specs.declared.peer.Change as peer
+use Rattle.nop_types.specs.PlainChanges as plain
 use Rattle.nop_types.specs.Execution.{result_at}
 use Rattle.nop_types.specs.Legality.{IsOf, IsSubmittedBefore, AcceptedOnce}
 use Rattle.nop_types.specs.Lines.{Accept}
@@ -26,9 +26,9 @@ use Rattle.sequencer.specs.declared.state.SequencerState.{SequencerState}
 use Rattle.started_views.specs.Past.{Entered, Past, Standing, HadLog, LeaderHad, IsStart, entered_with}
 use Rattle.started_views.specs.Quorums.{counts, Quorum}
 use Rattle.started_views.specs.Settled.{Certificate}
-use Rattle.view_change.specs.Gathering.{Gathering, IsOfSender}
+use Rattle.view_change.specs.Gathering.{IsOfSender}
 use Rattle.protocol.specs.Conf.{Conf, Control, Install, home, DidSay, Settled, WasSubmitted, Owns, IsOpen}
-use Rattle.protocol.specs.Member.{Member, standing}
+use Rattle.protocol.specs.Member.{Member, PlainGathering, standing}
 use Rattle.protocol.specs.Said.{Said, GapCommit, GapRep}
 use Rattle.protocol.specs.Truth.{TrueWord}
 
@@ -90,9 +90,9 @@ pub record GoodLog (f : ℕ) (c : Conf) (r : ℕ) (w : View) (l : List Entry) : 
 
 -- a view is started by the rule, from what a quorum entered it with, the leader among them
 pub record StartedBy (f : ℕ) (past : Past) (w : View) (x : Start) : Type 0 where
-  pub changes : List peer.Change
+  pub changes : List plain.Change
   pub certificate : Certificate f past w changes
-  pub leader : IsOfSender changes (leader_of w (2 * f + 1))
+  pub leader : IsOfSender plain.sender_of changes (leader_of w (2 * f + 1))
   pub opens : x ≡ start_of w changes
 
 -- each view that is started: its leader had a log there, and unless it is the first view it was started by the rule
@@ -160,23 +160,23 @@ pub record GoodGap (f : ℕ) (said : List Said) (r : ℕ) (view : View) (status 
       → Settled f said view (length log)
 
 -- who gathers leads the view in Change, and each change is what its sender entered the view with
-pub record Gathers (f : ℕ) (past : Past) (r : ℕ) (w : View) (status : Phase) (g : Gathering) : Type 0 where
+pub record Gathers (f : ℕ) (past : Past) (r : ℕ) (w : View) (status : Phase) (g : PlainGathering) : Type 0 where
   pub view : g.view ≡ w
   pub count : g.f ≡ f
   pub change : status ≡ Change
   pub leads : r ≡ leader_of w (2 * f + 1)
-  pub own : IsOfSender g.changes r
+  pub own : IsOfSender plain.sender_of g.changes r
   pub once : (q : ℕ) → counts q (map (λ x. x.sender) g.changes) ≤ 1
-  pub within : (x : peer.Change) → Has g.changes x → x.sender < 2 * f + 1
-  pub entries : (x : peer.Change) → Has g.changes x
+  pub within : (x : plain.Change) → Has g.changes x → x.sender < 2 * f + 1
+  pub entries : (x : plain.Change) → Has g.changes x
       → past.entry x.sender w ≡ Some (record { last_normal = x.last_normal; next = x.next; sync_point = x.sync_point; log = x.log })
 
 -- what it has in Change is what it entered the view with
 pub record GoodChanges (f : ℕ) (past : Past) (r : ℕ) (view : View) (status : Phase) (e : Entered)
-    (changes : Option Gathering) : Type 0 where
+    (changes : Option PlainGathering) : Type 0 where
   pub entered : status ≡ Change → past.entry r view ≡ Some e
-  pub gathers : (g : Gathering) → changes ≡ Some g → Gathers f past r view status g
-  pub leads : status ≡ Change → r ≡ leader_of view (2 * f + 1) → (g : Gathering) × (changes ≡ Some g)
+  pub gathers : (g : PlainGathering) → changes ≡ Some g → Gathers f past r view status g
+  pub leads : status ≡ Change → r ≡ leader_of view (2 * f + 1) → (g : PlainGathering) × (changes ≡ Some g)
 
 pub record Own (f : ℕ) (c : Conf) (r : ℕ) (p : Member) : Type 0 where
   pub number : p.number ≡ r

@@ -10,7 +10,7 @@ use Rattle.nop_types.specs.declared.request.Entry.{Entry}
 use Rattle.nop_types.specs.declared.request.Entry.TheVariants.{NoOp, Req}
 use Rattle.nop_types.specs.declared.datagram.Stamped.{Stamped}
 use Rattle.nop_types.specs.declared.datagram.Reply.{Reply}
-use Rattle.nop_types.specs.declared.peer.Change as peer
+use Rattle.nop_types.specs.PlainChanges as plain
 use Rattle.nop_types.specs.Lines.{Line, Submit, Accept}
 use Rattle.nop_types.specs.Lists.{Has}
 use Rattle.nop_types.specs.Meaning.{Meaning}
@@ -30,10 +30,9 @@ use Rattle.sequencer.specs.SequencerSteps.{stamped}
 use Rattle.sync_points.specs.Synchronisation.{cleared, raised, with_round, taken, committed, vote_for}
 use Rattle.sync_points.specs.Synchronisation as synchronisation
 use Rattle.view_change.specs.Gathering as gathering
-use Rattle.view_change.specs.Gathering.{Gathering}
 use Rattle.protocol.specs.Conf.{Conf, Effect, home, DidSay}
 use Rattle.facts.specs.Functions.{put}
-use Rattle.protocol.specs.Member.{Member, leads, leader, others}
+use Rattle.protocol.specs.Member.{Member, PlainGathering, leads, leader, others}
 use Rattle.protocol.specs.Replies.{reply_to, replies_above}
 use Rattle.protocol.specs.Said.{Said, Word, Plain, Found, GapCommit, GapRep, ViewChange, StartView, SyncPrepare, SyncRep, SyncCommit, says}
 use Rattle.protocol.specs.Truth.{MayRepeat}
@@ -158,7 +157,7 @@ left p = record p { gap = None; sync = cleared p.sync; changes = None }
 abbrev pub entered : Member → View → Member
 entered p v = record (left p) { view = v; status = Change; receiver = listening p v }
 
-abbrev pub own_change : Member → peer.Change
+abbrev pub own_change : Member → plain.Change
 own_change p = record { sender = p.number; last_normal = p.last_normal; next = p.next; sync_point = p.sync.sync_point; log = p.log }
 
 -- the leader keeps its own change, another sends it
@@ -178,10 +177,10 @@ abbrev pub enter : Member → View → Effect
 enter p v = enter_as (leads (entered p v)) (entered p v)
 
 -- the leader keeps the change of another
-abbrev pub keep_change : Member → Gathering → peer.Change → Effect
-keep_change p g x = record { state = record p { changes = Some (gathering.counted g x) }; said = []; replies = [] }
+abbrev pub keep_change : Member → PlainGathering → plain.Change → Effect
+keep_change p g x = record { state = record p { changes = Some (gathering.counted plain.sender_of g x) }; said = []; replies = [] }
 
-pub record MayKeepChange (f : ℕ) (c : Conf) (p : Member) (g : Gathering) (x : peer.Change) : Type 0 where
+pub record MayKeepChange (f : ℕ) (c : Conf) (p : Member) (g : PlainGathering) (x : plain.Change) : Type 0 where
   pub gathers : p.changes ≡ Some g
   pub change : DidAnother f c p x.sender (ViewChange x.last_normal x.next x.sync_point x.log)
 
@@ -218,13 +217,13 @@ pub record MayAdopt (c : Conf) (p : Member) (v : View) (x z : ℕ) (l : List Ent
   pub change : p.view ≡ v → p.status ≡ Change
 
 -- the leader tells all what its view starts with, and adopts it
-abbrev pub open_view : {S : Type 0} → Meaning S → Member → Gathering → Effect
+abbrev pub open_view : {S : Type 0} → Meaning S → Member → PlainGathering → Effect
 open_view m p g =
     let s = start_of g.view g.changes in
     let z = start_point g.changes in
     adopt_saying m (say_all p (StartView s.next z s.log)) p p.view s.next z s.log
 
-pub record MayOpenView (p : Member) (g : Gathering) : Type 0 where
+pub record MayOpenView (p : Member) (g : PlainGathering) : Type 0 where
   pub gathers : p.changes ≡ Some g
   pub enough : g.f < length g.changes
 

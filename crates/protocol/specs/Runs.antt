@@ -5,16 +5,15 @@ use Rattle.nop_types.specs.declared.request.Request.{Request}
 use Rattle.nop_types.specs.declared.request.Entry.{Entry}
 use Rattle.nop_types.specs.declared.datagram.Stamped.{Stamped}
 use Rattle.nop_types.specs.declared.datagram.Reply.{Reply}
-use Rattle.nop_types.specs.declared.peer.Change as peer
+use Rattle.nop_types.specs.PlainChanges as plain
 use Rattle.nop_types.specs.Lines.{Line}
 use Rattle.nop_types.specs.Lists.{Has}
 use Rattle.nop_types.specs.Meaning.{Meaning}
 use Rattle.nop_types.specs.Views.{Below}
 use Rattle.gap_agree.specs.Agreement.{Agreement}
-use Rattle.view_change.specs.Gathering.{Gathering}
 use Rattle.protocol.specs.Conf.{Conf, Effect, after}
 use Rattle.protocol.specs.Said.{Word}
-use Rattle.protocol.specs.Member.{Member}
+use Rattle.protocol.specs.Member.{Member, PlainGathering}
 use Rattle.protocol.specs.Moves as moves
 
 -- what a replica does
@@ -27,8 +26,8 @@ pub data Act : Type 0 where
   WriteGap : (slot : ℕ) → Act
   AddGap : Act
   Enter : View → Act
-  KeepChange : Gathering → peer.Change → Act
-  OpenView : Gathering → Act
+  KeepChange : PlainGathering → plain.Change → Act
+  OpenView : PlainGathering → Act
   Adopt : View → (next sync_point : ℕ) → (log : List Entry) → Act
   Say : Word → Act
   Overlay : (sync_point : ℕ) → (log : List Entry) → Act

@@ -8,16 +8,15 @@ use Rattle.nop_types.specs.declared.request.Entry.{Entry}
 use Rattle.nop_types.specs.declared.request.Entry.TheVariants.{NoOp, Req}
 use Rattle.nop_types.specs.declared.datagram.Stamped.{Stamped}
 use Rattle.nop_types.specs.declared.datagram.Reply.{Reply}
-use Rattle.nop_types.specs.declared.peer.Change as peer
+use Rattle.nop_types.specs.PlainChanges as plain
 use Rattle.nop_types.specs.Histories.{history_of}
 use Rattle.nop_types.specs.Lines as lines
 use Rattle.nop_types.specs.Lines.{Line}
 use Rattle.nop_types.specs.Meaning.{Meaning}
 use Rattle.nop_types.specs.Views.{first_view}
 use Rattle.started_views.specs.Settled.{MainLog}
-use Rattle.view_change.specs.Gathering.{Gathering}
 use Rattle.protocol.specs.Conf.{Conf, opening, last_normals}
-use Rattle.protocol.specs.Member.{Member}
+use Rattle.protocol.specs.Member.{Member, PlainGathering}
 use Rattle.protocol.specs.Runs.{Queue, TakeFront, OpenGap, CountGapVote, AddGap, Enter, KeepChange, OpenView, Adopt, Overlay, Obey}
 use Rattle.protocol.specs.Runs.{Say, OpenSync, CountSyncVote, Move, Acts, MoveTo, Install, Stamp, Submit, Keep, Accept, run, MayAll}
 use Rattle.protocol.specs.Said.{SyncPrepare}
@@ -80,13 +79,13 @@ module _ {S : Type 0} (m : Meaning S) where
   gap_replies r = follower_reply r first_view 2 get_request
 
   -- what the replicas tell the next leader
-  abbrev pub gap_change : peer.Change
+  abbrev pub gap_change : plain.Change
   gap_change = record { sender = 1; last_normal = first_view; next = 2; sync_point = 0; log = NoOp ∷ [] }
 
-  abbrev pub late_change : peer.Change
+  abbrev pub late_change : plain.Change
   late_change = record { sender = 2; last_normal = first_view; next = 3; sync_point = 0; log = Req put_request ∷ Req get_request ∷ [] }
 
-  abbrev pub gathered : List peer.Change → Gathering
+  abbrev pub gathered : List plain.Change → PlainGathering
   gathered changes = record { view = view 1 1; f = 1; changes = changes }
 
   abbrev pub gap_log : List Entry
@@ -121,10 +120,10 @@ module _ {S : Type 0} (m : Meaning S) where
   abbrev pub put_answer : List ℕ
   put_answer = m.answer m.opening put_op
 
-  abbrev pub empty_change : ℕ → peer.Change
+  abbrev pub empty_change : ℕ → plain.Change
   empty_change r = record { sender = r; last_normal = first_view; next = 1; sync_point = 0; log = [] }
 
-  abbrev pub gathered_later : List peer.Change → Gathering
+  abbrev pub gathered_later : List plain.Change → PlainGathering
   gathered_later changes = record { view = view 1 2; f = 1; changes = changes }
 
   abbrev pub session_run : List Move

@@ -18,10 +18,9 @@ use Rattle.started_views.proofs.Logs.{same_less, same_from_prefix}
 use Rattle.facts.proofs.Slots.{IsPrefixOf-laid}
 use Rattle.facts.proofs.Prefixes.{IsPrefixOf-trans}
 use Rattle.sync_points.specs.Synchronisation.{Synchronisation}
-use Rattle.view_change.specs.Gathering.{Gathering}
 use Rattle.protocol.specs.Conf.{Conf, Effect, DidSay, after}
 use Rattle.protocol.specs.Invariant.{Own, Inv}
-use Rattle.protocol.specs.Member.{Member, leader, others}
+use Rattle.protocol.specs.Member.{Member, PlainGathering, leader, others}
 use Rattle.protocol.specs.Moves.{say, say_unless, entered, adopted, overlay, MayOverlay, obey, MayObey, repeat_commit, MayLead}
 use Rattle.protocol.specs.Said.{Said, Word, SyncPrepare, SyncRep, SyncCommit, says}
 use Rattle.protocol_sync.specs.Synced.{Anchored, Agrees, TrueSyncRep, TrueSyncCommit, HasPrepared, Sync}
@@ -50,7 +49,7 @@ module _ {S : Type 0} (m : Meaning S) (f : ℕ) (c : Conf) (r : ℕ) (inv : Inv 
   own = inv.own r within
 
   -- a move in the view that leaves the sync point
-  pub in_view : (l : List Entry) (n : ℕ) (x : Receiving) (g : Option Agreement) (h : Option Gathering) (said : List Said)
+  pub in_view : (l : List Entry) (n : ℕ) (x : Receiving) (g : Option Agreement) (h : Option PlainGathering) (said : List Said)
       (replies : List Reply)
       → Kept m f c (after f c r (record {
         state = record p { log = l; next = n; receiver = x; gap = g; changes = h };
@@ -82,7 +81,7 @@ module _ {S : Type 0} (m : Meaning S) (f : ℕ) (c : Conf) (r : ℕ) (inv : Inv 
       })
 
   -- a view is entered
-  pub entering : (v : View) (h : Option Gathering) (said : List Said)
+  pub entering : (v : View) (h : Option PlainGathering) (said : List Said)
       → Kept m f c (after f c r (record { state = record (entered p v) { changes = h }; said = said; replies = [] })) → IsQuiet said
       → Tells f (after f c r (record { state = record (entered p v) { changes = h }; said = said; replies = [] })) said
       → Sync f (after f c r (record { state = record (entered p v) { changes = h }; said = said; replies = [] }))

@@ -2,7 +2,7 @@
 use Rattle.std.proofs.Common.{◌≡◌, ℕ, ◌+◌, ◌*◌, ◌<◌, ◌≤◌, refl, sym, ap, subst, arith, inl, inr, length, List, [], ◌∷◌}
 use Rattle.std.specs.Prelude.{max}
 use Rattle.std.proofs.lemmas.Bool.{cases_lt}
-use Rattle.nop_types.specs.declared.peer.Change as peer
+use Rattle.nop_types.specs.PlainChanges as plain
 use Rattle.nop_types.specs.declared.replica_state.Phase.{Phase}
 use Rattle.nop_types.specs.declared.replica_state.Phase.TheVariants.{Normal, Change}
 use Rattle.nop_types.specs.declared.request.Entry.{Entry}
@@ -18,10 +18,9 @@ use Rattle.log_merge.proofs.Merged.{length-merge}
 use Rattle.started_views.specs.Past.{HadLog}
 use Rattle.started_views.proofs.Changes.{kept_from}
 use Rattle.started_views.proofs.Logs.{same_refl}
-use Rattle.view_change.specs.Gathering.{Gathering}
 use Rattle.protocol.specs.Conf.{Conf}
 use Rattle.protocol.specs.Invariant.{Inv, Gathers}
-use Rattle.protocol.specs.Member.{Member}
+use Rattle.protocol.specs.Member.{Member, PlainGathering}
 use Rattle.protocol.specs.Moves.{MayOpenView, TellsPoint, open_view}
 use Rattle.protocol.specs.Runs.{Say, OpenView, Acts, happens}
 use Rattle.protocol.specs.Said.{Word, Plain, Found, GapCommit, GapRep, ViewChange, StartView, SyncPrepare, SyncRep, SyncCommit}
@@ -30,19 +29,19 @@ use Rattle.protocol_sync.specs.Synced.{Told, GoodPoint, Anchored, Agrees, Sync}
 use Rattle.protocol_sync.proofs.Lasting.{anchored_lasts}
 use Rattle.protocol_sync.proofs.Saying.{TellsWord, now}
 
-longest_has : (cs : List peer.Change) (x : peer.Change) → Has cs x → length x.log ≤ longest cs
+longest_has : (cs : List plain.Change) (x : plain.Change) → Has cs x → length x.log ≤ longest cs
 longest_has [] x h = absurd (Has-none x h)
 longest_has (y ∷ cs) x h = elim (Has-cases x y cs h) [
-  | inl e ↦ (let same : length x.log ≡ length y.log = ap (λ (t : peer.Change). length t.log) e in omega (arith, same))
+  | inl e ↦ (let same : length x.log ≡ length y.log = ap (λ (t : plain.Change). length t.log) e in omega (arith, same))
   | inr i ↦ (let rest = longest_has cs x i in omega (arith, rest))
 ]
 
 -- the greatest sync point is one of those of the changes, or 0
-greatest_within : (cs : List peer.Change) (n : ℕ) → ((x : peer.Change) → Has cs x → x.sync_point ≤ n) → greatest_point cs ≤ n
+greatest_within : (cs : List plain.Change) (n : ℕ) → ((x : plain.Change) → Has cs x → x.sync_point ≤ n) → greatest_point cs ≤ n
 greatest_within [] n h = omega arith
 greatest_within (x ∷ cs) n h = omega (arith, h x (Has-first x x cs refl), greatest_within cs n (λ y i. h y (Has-rest y x cs i)))
 
-greatest_anchored : (f : ℕ) (d : Conf) (v : View) (cs : List peer.Change) → ((x : peer.Change) → Has cs x → Anchored f d v x.sync_point)
+greatest_anchored : (f : ℕ) (d : Conf) (v : View) (cs : List plain.Change) → ((x : plain.Change) → Has cs x → Anchored f d v x.sync_point)
     → Anchored f d v (greatest_point cs)
 greatest_anchored f d v [] h = inl refl
 greatest_anchored f d v (x ∷ cs) h =
@@ -92,7 +91,7 @@ module _ {S : Type 0} (m : Meaning S) (f : ℕ) (c : Conf) (r : ℕ) (inv : Inv 
     pub say_tells : TellsPoint p x → TellsWord f d p.view x
     say_tells = tells x
 
-  module _ (g : Gathering) (may : MayOpenView p g) where
+  module _ (g : PlainGathering) (may : MayOpenView p g) where
     abbrev log : List Entry
     log = (start_of g.view g.changes).log
 
@@ -100,7 +99,7 @@ module _ {S : Type 0} (m : Meaning S) (f : ℕ) (c : Conf) (r : ℕ) (inv : Inv 
     was = (inv.own r within).changes.gathers g may.gathers
 
     -- each change that is kept has a good sync point
-    good : (x : peer.Change) → Has (kept g.changes) x
+    good : (x : plain.Change) → Has (kept g.changes) x
         → GoodPoint f c (record { last_normal = x.last_normal; next = x.next; sync_point = x.sync_point; log = x.log })
     good x i = sync.points.entries x.sender p.view _ (was.entries x (kept_from g.changes x i).0)
 

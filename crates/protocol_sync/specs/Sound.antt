@@ -8,7 +8,7 @@ use Rattle.nop_types.specs.declared.request.Entry.{Entry}
 use Rattle.nop_types.specs.declared.request.Entry.TheVariants.{NoOp, Req}
 use Rattle.nop_types.specs.declared.datagram.Stamped.{Stamped}
 use Rattle.nop_types.specs.declared.datagram.Reply.{Reply}
-use Rattle.nop_types.specs.declared.peer.Change as peer
+use Rattle.nop_types.specs.PlainChanges as plain
 use Rattle.nop_types.specs.Execution.{result_at}
 use Rattle.nop_types.specs.Legality.{IsOf, IsSubmittedBefore}
 use Rattle.nop_types.specs.Lines.{Accept}
@@ -23,10 +23,10 @@ use Rattle.started_views.specs.Past.{Entered, HadLog, LeaderHad, IsStart, IsStar
 use Rattle.started_views.specs.Quorums.{Quorum, Others}
 use Rattle.started_views.specs.Settled.{Certificate}
 use Rattle.sync_points.specs.Synchronisation.{Round}
-use Rattle.view_change.specs.Gathering.{Gathering, IsOfSender}
+use Rattle.view_change.specs.Gathering.{IsOfSender}
 use Rattle.protocol.specs.Conf.{Conf, home, DidSay, Settled, WasSubmitted, Owns, IsOpen}
 use Rattle.protocol.specs.Invariant.{Replied}
-use Rattle.protocol.specs.Member.{Member}
+use Rattle.protocol.specs.Member.{Member, PlainGathering}
 use Rattle.protocol.specs.Said.{Found, GapCommit, GapRep, ViewChange, StartView, SyncPrepare, SyncRep, SyncCommit}
 use Rattle.protocol.specs.Truth.{LeaderHas}
 use Rattle.protocol_sync.specs.Synced.{SyncRises}
@@ -58,7 +58,7 @@ pub record RequestsAreSubmitted (f : ℕ) (c : Conf) : Type 0 where
   pub had : (r : ℕ) (w : View) (l : List Entry) → HadLog c.past r w l → AreSubmitted c l
   pub entered : (r : ℕ) (v : View) (e : Entered) → c.past.entry r v ≡ Some e → AreSubmitted c e.log
   pub started : (w : View) (x : Start) → IsStart c.past w x → AreSubmitted c x.log
-  pub gathered : (r : ℕ) (g : Gathering) (x : peer.Change) → r < 2 * f + 1 → (c.replicas r).changes ≡ Some g → Has g.changes x
+  pub gathered : (r : ℕ) (g : PlainGathering) (x : plain.Change) → r < 2 * f + 1 → (c.replicas r).changes ≡ Some g → Has g.changes x
       → AreSubmitted c x.log
   pub found : (q : ℕ) (w : View) (k : ℕ) (r : Request) → DidSay c.said q w (Found k r) → WasSubmitted c.lines r
   pub changes : (q : ℕ) (w u : View) (x z : ℕ) (l : List Entry) → DidSay c.said q w (ViewChange u x z l) → AreSubmitted c l
@@ -94,9 +94,9 @@ pub record ViewsAreSound (f : ℕ) (c : Conf) : Type 0 where
 
 -- f + 1 replicas entered the view, the leader among them, and it was started by the rule from what they entered it with
 pub record StartIsSound (f : ℕ) (c : Conf) (w : View) (x : Start) : Type 0 where
-  pub changes : List peer.Change
+  pub changes : List plain.Change
   pub entered : Certificate f c.past w changes
-  pub leader : IsOfSender changes (leader_of w (2 * f + 1))
+  pub leader : IsOfSender plain.sender_of changes (leader_of w (2 * f + 1))
   pub opens : x ≡ start_of w changes
 
 -- a StartView tells a prefix of its leader's log, no shorter than the start, and the number that belongs to its length

@@ -6,9 +6,10 @@ use Rattle.nop_types.specs.declared.peer.Body.{Body}
 use Rattle.nop_types.specs.declared.peer.Body.TheVariants as bodies
 use Rattle.nop_types.specs.declared.peer.Peer.{Peer}
 use Rattle.nop_types.specs.Lists.{Has}
+use Rattle.nop_types.specs.Logs.{Whole}
 use Rattle.nop_types.specs.Meaning.{Meaning}
 use Rattle.replica_state.specs.declared.state.ReplicaState.{ReplicaState}
-use Rattle.replica_rows.specs.Messages.{Arrival, Packet, Told, Ticked, in_view, on_body, on_message, ticked, arrive}
+use Rattle.replica_rows.specs.Messages.{loads_in, Arrival, Packet, Told, Ticked, in_view, on_body, on_message, ticked, arrive}
 use Rattle.replica_state.specs.State.{is_other}
 use Rattle.protocol.specs.Conf.{Conf}
 use Rattle.protocol.specs.Said.{says}
@@ -25,42 +26,44 @@ use Rattle.refinement.proofs.ViewChanges.{view_change_reaches}
 
 module _ {S : Type 0} (m : Meaning S) (f : ℕ) (c : Conf) (r : ℕ) (s : ReplicaState) (h : Matches m f c r s) where
   in_its_view : (p : Peer) (body : Body) → is_other s p.sender ≡ true → Has c.said (says p.sender p.view (word_of body))
-      → ReplicaReaches m f c r s (in_view m p.sender p.view body s)
+      → ReplicaReaches m f c r s (in_view m Whole p.sender p.view body s)
   in_its_view p body other came =
       (message_in_view m f c r s h p.sender p.view body (other_from m f c r s p.sender h other) came).reaches
 
   body_reaches : (p : Peer) (body : Body) → is_other s p.sender ≡ true → Has c.said (says p.sender p.view (word_of body))
-      → ReplicaReaches m f c r s (on_body m p body s)
+      → ReplicaReaches m f c r s (on_body m Whole p body s)
   body_reaches p bodies.ViewChangeReq other came = view_change_request_reaches m f r c s p.view h
-  body_reaches p (bodies.ViewChange u x z l) other came =
-      view_change_reaches m f r c s p.view (record { sender = p.sender; last_normal = u; next = x; sync_point = z; log = l }) h other came
-  body_reaches p (bodies.StartView x z l) other came = start_view_reaches m f r c s p.sender p.view x z l h other came
+  body_reaches p (bodies.ViewChange u x l) other came =
+      view_change_reaches m f r c s p.view (record { sender = p.sender; last_normal = u; next = x; log = l }) h other came
+  body_reaches p (bodies.StartView x l) other came = start_view_reaches m f r c s p.sender p.view x l h other came
   body_reaches p (bodies.GapCommit k) other came = in_its_view p (bodies.GapCommit k) other came
   body_reaches p (bodies.Found k q) other came = in_its_view p (bodies.Found k q) other came
-  body_reaches p (bodies.SyncPrepare z l) other came = in_its_view p (bodies.SyncPrepare z l) other came
+  body_reaches p (bodies.SyncPrepare l) other came = in_its_view p (bodies.SyncPrepare l) other came
   body_reaches p (bodies.SyncCommit k) other came = in_its_view p (bodies.SyncCommit k) other came
   body_reaches p (bodies.SlotLookup k) other came = in_its_view p (bodies.SlotLookup k) other came
   body_reaches p (bodies.GapRep k) other came = in_its_view p (bodies.GapRep k) other came
   body_reaches p (bodies.SyncRep k) other came = in_its_view p (bodies.SyncRep k) other came
 
-  message_reaches : (p : Peer) → Has c.said (said_of p) → ReplicaReaches m f c r s (on_message m p s)
+  message_reaches : (p : Peer) → Has c.said (said_of p) → ReplicaReaches m f c r s (on_message m Whole p s)
   unfolding on_message
-  message_reaches p came = when_reaches m f r c s (is_other s p.sender) (on_body m p p.body) h (λ e. body_reaches p p.body e came)
+  message_reaches p came =
+      when_reaches m f r c s (is_other s p.sender) (on_body m Whole p p.body) h (λ e. body_reaches p p.body e came)
 
-  tick_reaches : (tick : Tick) → ReplicaReaches m f c r s (ticked m tick s)
+  tick_reaches : (tick : Tick) → ReplicaReaches m f c r s (ticked m Whole tick s)
   tick_reaches ticks.Suspect = suspect_reaches m f r c s h
   tick_reaches ticks.Watch = watch_reaches m f r c s h
   tick_reaches ticks.Resend = (resend_in_view m f c r s h).reaches
   tick_reaches ticks.Sync = (sync_row_in_view m f c r s h).reaches
-  tick_reaches ticks.Retry = nothing_reaches m f r c s s h refl
-  tick_reaches ticks.Next = nothing_reaches m f r c s s h refl
-  tick_reaches ticks.Probe = nothing_reaches m f r c s s h refl
-  tick_reaches (ticks.Install j) = nothing_reaches m f r c s s h refl
+  tick_reaches ticks.Retry = nothing_reaches m f r c s s h refl h.points
+  tick_reaches ticks.Next = nothing_reaches m f r c s s h refl h.points
+  tick_reaches ticks.Probe = nothing_reaches m f r c s s h refl h.points
+  tick_reaches (ticks.Install j) = nothing_reaches m f r c s s h refl h.points
 
-  arrival_reaches : (a : Arrival) → Came c a → ReplicaReaches m f c r s (arrive m s a)
+  arrival_reaches : (a : Arrival) → Came c a → ReplicaReaches m f c r s (arrive m Whole s a)
   unfolding arrive
   arrival_reaches (Packet p) came = stamped_reaches m f c r s h p came
-  arrival_reaches (Told p) came = message_reaches p came
+  arrival_reaches (Told p) came =
+      when_reaches m f r c s (loads_in m p.body) (on_message m Whole p) h (λ _. message_reaches p came)
   arrival_reaches (Ticked tick) came = tick_reaches tick
 
 pub replicas_reach : {S : Type 0} (m : Meaning S) → ReplicasReach m

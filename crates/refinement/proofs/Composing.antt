@@ -7,6 +7,7 @@ use Rattle.started_views.specs.Parts.{InParts}
 use Rattle.started_views.specs.Past.{Past, note}
 use Rattle.replica_state.specs.declared.sending.Sending.{Sending}
 use Rattle.replica_state.specs.declared.state.ReplicaState.{ReplicaState}
+use Rattle.replica_state.specs.State.{PointsMeet}
 use Rattle.replica_state.specs.Sends.{Effect, still, then_do, when}
 use Rattle.protocol.specs.Conf.{Conf}
 use Rattle.protocol.specs.Conf as protocol
@@ -83,14 +84,17 @@ module _ {S : Type 0} (m : Meaning S) (f : ℕ) (r : ℕ) where
     sync = run_syncs m f c one.moves h.inv h.sync one.may;
     above = gaps_stay_above m f c one.moves h.inv h.sync h.above one.may;
     state = one.state;
+    points = one.points;
   }
 
   -- nothing is done, but to what the protocol does not see
-  pub nothing_reaches : (c : Conf) (s t : ReplicaState) → Matches m f c r s → member_of t ≡ member_of s → ReplicaReaches m f c r s (still t)
-  nothing_reaches c s t h same = record {
+  pub nothing_reaches : (c : Conf) (s t : ReplicaState) → Matches m f c r s → member_of t ≡ member_of s → PointsMeet t
+      → ReplicaReaches m f c r s (still t)
+  nothing_reaches c s t h same points = record {
     moves = [];
     may = tt;
     state = h.state ∙ sym same;
+    points = points;
     others = same_but_refl r c;
     past =
         sym (note_idle f c.past r (standing (member_of s)) (current m f c r s h))
@@ -100,8 +104,8 @@ module _ {S : Type 0} (m : Meaning S) (f : ℕ) (r : ℕ) where
 
   -- one move
   pub move_reaches : (c : Conf) (s : ReplicaState) (e : Effect) (a : Act) → Matches m f c r s → MayAct f c (member_of s) a
-      → Same e (effect m (member_of s) a) → ReplicaReaches m f c r s e
-  move_reaches c s e a h may same =
+      → Same e (effect m (member_of s) a) → PointsMeet e.0 → ReplicaReaches m f c r s e
+  move_reaches c s e a h may same points =
       let at : effect m (c.replicas r) a ≡ effect m (member_of s) a = ap (λ (p : Member). effect m p a) h.state in
       record {
         moves = Acts r a ∷ [];
@@ -110,6 +114,7 @@ module _ {S : Type 0} (m : Meaning S) (f : ℕ) (r : ℕ) where
             put-here c.replicas r (effect m (c.replicas r) a).state
             ∙ ap (λ (x : protocol.Effect). x.state) at
             ∙ sym same.state;
+        points = points;
         others = same_but_after f r c (effect m (c.replicas r) a);
         past =
             ap (λ (p : Member). note f c.past r (standing p) (standing (effect m p a).state)) h.state
@@ -133,6 +138,7 @@ module _ {S : Type 0} (m : Meaning S) (f : ℕ) (r : ℕ) where
         moves = one.moves ++ two.moves;
         may = may_all-append m f c one.moves two.moves one.may two.may;
         state = ap (λ (x : Conf). x.replicas r) same ∙ two.state;
+        points = two.points;
         others = subst (λ (x : Conf). SameBut r c x) (sym same) (same_but_trans r c d end one.others two.others);
         past =
             ap (λ (x : Conf). x.past) same
@@ -172,24 +178,26 @@ module _ {S : Type 0} (m : Meaning S) (f : ℕ) (r : ℕ) where
 
   -- ---- parts that stay in the view
 
-  pub nothing_in_view : (c : Conf) (s t : ReplicaState) → Matches m f c r s → member_of t ≡ member_of s → InView m f c r s (still t)
-  nothing_in_view c s t h same = record {
-    reaches = nothing_reaches c s t h same;
+  pub nothing_in_view : (c : Conf) (s t : ReplicaState) → Matches m f c r s → member_of t ≡ member_of s → PointsMeet t
+      → InView m f c r s (still t)
+  nothing_in_view c s t h same points = record {
+    reaches = nothing_reaches c s t h same points;
     stays = subst (λ (p : Member). Stays f r (standing (member_of s)) (standing p)) (sym same) (stays_still f r (standing (member_of s)));
   }
 
   pub move_in_view : (c : Conf) (s : ReplicaState) (e : Effect) (a : Act) → Matches m f c r s → MayAct f c (member_of s) a
-      → Same e (effect m (member_of s) a) → Stays f r (standing (member_of s)) (standing (member_of e.0)) → InView m f c r s e
-  move_in_view c s e a h may same stays = record { reaches = move_reaches c s e a h may same; stays = stays }
+      → Same e (effect m (member_of s) a) → Stays f r (standing (member_of s)) (standing (member_of e.0)) → PointsMeet e.0
+      → InView m f c r s e
+  move_in_view c s e a h may same stays points = record { reaches = move_reaches c s e a h may same points; stays = stays }
 
   -- ---- where a test holds
 
   pub when_reaches : (c : Conf) (s : ReplicaState) (b : Bool) (g : ReplicaState → Effect) → Matches m f c r s
       → (b ≡ true → ReplicaReaches m f c r s (g s)) → ReplicaReaches m f c r s (when b g s)
   when_reaches c s true g h go = go refl
-  when_reaches c s false g h go = nothing_reaches c s s h refl
+  when_reaches c s false g h go = nothing_reaches c s s h refl h.points
 
   pub when_in_view : (c : Conf) (s : ReplicaState) (b : Bool) (g : ReplicaState → Effect) → Matches m f c r s
       → (b ≡ true → InView m f c r s (g s)) → InView m f c r s (when b g s)
   when_in_view c s true g h go = go refl
-  when_in_view c s false g h go = nothing_in_view c s s h refl
+  when_in_view c s false g h go = nothing_in_view c s s h refl h.points

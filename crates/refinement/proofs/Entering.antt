@@ -4,7 +4,7 @@ use Rattle.nop_types.specs.declared.view.View.{View}
 use Rattle.nop_types.specs.Meaning.{Meaning}
 use Rattle.nop_types.specs.Views.{Below}
 use Rattle.replica_state.specs.declared.state.ReplicaState.{ReplicaState}
-use Rattle.replica_state.specs.State.{leads}
+use Rattle.replica_state.specs.State.{PointsMeet, leads}
 use Rattle.replica_state.specs.Moves.{entered, enter_as, enter}
 use Rattle.protocol.specs.Conf.{Conf}
 use Rattle.protocol.specs.Member.{standing}
@@ -15,9 +15,18 @@ use Rattle.refinement.proofs.Parts.{Keeps}
 use Rattle.refinement.proofs.Composing.{move_reaches}
 use Rattle.refinement.proofs.Same.{enter_same}
 
+meets_as : (b : Bool) (s : ReplicaState) (v : View) → PointsMeet s → PointsMeet (enter_as b (entered s v)).0
+meets_as true s v points = points
+meets_as false s v points = points
+
+enter_meets : (s : ReplicaState) (v : View) → PointsMeet s → PointsMeet (enter s v).0
+unfolding enter
+enter_meets s v points = meets_as (leads (entered s v)) s v points
+
 pub enter_reaches : {S : Type 0} (m : Meaning S) (f : ℕ) (c : Conf) (r : ℕ) (s : ReplicaState) (v : View) → Matches m f c r s
     → Below s.view v → ReplicaReaches m f c r s (enter s v)
-enter_reaches m f c r s v h below = move_reaches m f r c s (enter s v) (Enter v) h below (enter_same s v)
+enter_reaches m f c r s v h below =
+    move_reaches m f r c s (enter s v) (Enter v) h below (enter_same s v h.points) (enter_meets s v h.points)
 
 -- what it changes
 

@@ -1,6 +1,7 @@
 -- Rows that enter a greater view.
 use Rattle.std.proofs.Common.{◌≡◌, ℕ, ◌+◌, Bool, true, false, refl, sym, ap, arith, inl}
 use Rattle.std.specs.Prelude.{◌&&◌, not, nat_lt}
+use Rattle.nop_types.specs.Logs.{Whole}
 use Rattle.nop_types.specs.Meaning.{Meaning}
 use Rattle.nop_types.specs.Views.{Below, is_view, join_of}
 use Rattle.nop_types.specs.declared.view.View.{View}
@@ -36,39 +37,39 @@ below_join v w e = record {
 module _ {S : Type 0} (m : Meaning S) (f : ℕ) (r : ℕ) where
   -- a replica that is alone opens the view at once
   pub enter_view_reaches : (c : Conf) (s : ReplicaState) (v : View) → Matches m f c r s → Below s.view v
-      → ReplicaReaches m f c r s (enter_view m v s)
+      → ReplicaReaches m f c r s (enter_view m Whole v s)
   unfolding enter_view
   enter_view_reaches c s v h up =
       let one = enter_reaches m f c r s v h up in
       let two = open_if_enough_reaches m f r (run m f c one.moves) (enter s v).0 (matches_end m f r c s (enter s v) h one) in
-      keeps_then m f r c s (enter s v) (λ t. open_if_enough m t.changes t) h one (enter_keeps s v) two.reaches (inl two.view)
+      keeps_then m f r c s (enter s v) (λ t. open_if_enough m Whole t.changes t) h one (enter_keeps s v) two.reaches (inl two.view)
 
   pub enter_and_drain_reaches : (c : Conf) (s : ReplicaState) (v : View) → Matches m f c r s → Below s.view v
-      → ReplicaReaches m f c r s (enter_and_drain m v s)
+      → ReplicaReaches m f c r s (enter_and_drain m Whole v s)
   enter_and_drain_reaches c s v h up =
-      reaches_then_in_view m f r c s (enter_view m v s) (drain m) h (enter_view_reaches c s v h up)
-      (λ d g. drain_in_view m f r d (enter_view m v s).0 g)
+      reaches_then_in_view m f r c s (enter_view m Whole v s) (drain m Whole) h (enter_view_reaches c s v h up)
+      (λ d g. drain_in_view m f r d (enter_view m Whole v s).0 g)
 
   -- ---- the view that another asks for
 
   pub view_change_request_reaches : (c : Conf) (s : ReplicaState) (v : View) → Matches m f c r s
-      → ReplicaReaches m f c r s (view_change_request m v s)
+      → ReplicaReaches m f c r s (view_change_request m Whole v s)
   view_change_request_reaches c s v h = let w = join_of s.view v in
-      when_reaches m f r c s (not (is_view w s.view)) (enter_and_drain m w) h (λ e.
+      when_reaches m f r c s (not (is_view w s.view)) (enter_and_drain m Whole w) h (λ e.
       enter_and_drain_reaches c s w h (below_join s.view v e))
 
   -- ---- the next leader's view
 
-  pub suspect_reaches : (c : Conf) (s : ReplicaState) → Matches m f c r s → ReplicaReaches m f c r s (suspect m s)
+  pub suspect_reaches : (c : Conf) (s : ReplicaState) → Matches m f c r s → ReplicaReaches m f c r s (suspect m Whole s)
   suspect_reaches c s h = let w = next_leader s.view in
-      when_reaches m f r c s (nat_lt s.view.leader last_leader) (enter_and_drain m w) h (λ e.
+      when_reaches m f r c s (nat_lt s.view.leader last_leader) (enter_and_drain m Whole w) h (λ e.
       enter_and_drain_reaches c s w h (below_next s.view))
 
   watch_by : (leading heard : Bool) (c : Conf) (s : ReplicaState) → Matches m f c r s
-      → ReplicaReaches m f c r s (watch_if m leading heard s)
-  watch_by true heard c s h = nothing_reaches m f r c s s h refl
-  watch_by false true c s h = nothing_reaches m f r c s (record s { heard = false }) h refl
+      → ReplicaReaches m f c r s (watch_if m Whole leading heard s)
+  watch_by true heard c s h = nothing_reaches m f r c s s h refl h.points
+  watch_by false true c s h = nothing_reaches m f r c s (record s { heard = false }) h refl h.points
   watch_by false false c s h = suspect_reaches c s h
 
-  pub watch_reaches : (c : Conf) (s : ReplicaState) → Matches m f c r s → ReplicaReaches m f c r s (watch m s)
+  pub watch_reaches : (c : Conf) (s : ReplicaState) → Matches m f c r s → ReplicaReaches m f c r s (watch m Whole s)
   watch_reaches c s h = watch_by (is_normal s.status && leads s) s.heard c s h

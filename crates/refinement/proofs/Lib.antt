@@ -9,6 +9,7 @@ pub mod Draining
 pub mod Entering
 pub mod EnteringRows
 pub mod FollowerRows
+pub mod Gatherings
 pub mod LeaderRows
 pub mod Matching
 pub mod NewSessions
@@ -18,6 +19,7 @@ pub mod Outputs
 pub mod Parts
 pub mod Puts
 pub mod ResendRows
+pub mod Rising
 pub mod RoleRows
 pub mod Runs
 pub mod Same

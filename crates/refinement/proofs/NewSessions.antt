@@ -9,6 +9,7 @@ use Rattle.nop_types.specs.declared.replica_state.Phase.TheVariants.{Change}
 use Rattle.nop_types.specs.declared.datagram.Stamped.{Stamped}
 use Rattle.nop_types.specs.declared.peer.Body.TheVariants as bodies
 use Rattle.nop_types.specs.Configuration.{Configuration}
+use Rattle.nop_types.specs.Logs.{Whole}
 use Rattle.nop_types.specs.Meaning.{Meaning}
 use Rattle.oum_receiver.specs.declared.verdict.Verdict.{Verdict}
 use Rattle.oum_receiver.specs.declared.verdict.Verdict.TheVariants.{Queued, Old, Terminated, Full}
@@ -98,12 +99,13 @@ config_after : (s : ReplicaState) (v : View) → (enter s v).0.config ≡ s.conf
 unfolding enter
 config_after s v = config_by (leads (entered s v)) (entered s v)
 
-changing : (s : ReplicaState) → s.status ≡ Change → drains s ≡ false
-changing s e = ap (λ (x : Phase). is_normal x && (not (waits s.gap) && has_room s)) e
+changing : (s : ReplicaState) → s.status ≡ Change → drains Whole s ≡ false
+changing s e = ap (λ (x : Phase). is_normal x && (not (waits s.gap) && has_room Whole s)) e
 
-pub enters_only : {S : Type 0} (m : Meaning S) (s : ReplicaState) (v : View) → 0 < others s → enter_and_drain m v s ≡ enter s v
+pub enters_only : {S : Type 0} (m : Meaning S) (s : ReplicaState) (v : View) → 0 < others s
+    → enter_and_drain m Whole v s ≡ enter s v
 enters_only m s v more =
     let here : 0 < others (enter s v).0 = subst (λ (c : Configuration). 0 < c.replicas / 2) (sym (config_after s v)) more in
-    ap (λ (e : Effect). then_do e (drain m)) (enters_with_others m s v here)
+    ap (λ (e : Effect). then_do e (drain m Whole)) (enters_with_others m s v here)
     ∙ ap (λ (x : Effect). (x.0, (enter s v).1 ++ x.1)) ((drains_by_front m (enter s v).0).rests (changing (enter s v).0 (status_after s v)))
     ∙ ap (λ (xs : List Sending). ((enter s v).0, xs)) (append-nil (enter s v).1)

@@ -15,6 +15,7 @@ openings_match m f config count = record {
     sync = opening_is_synced f config count;
     above = gaps_open_above f config;
     state = refl;
+    points = refl;
   };
   sequencers = λ j. refl;
   clients = λ k. refl;

@@ -7,6 +7,7 @@ use Rattle.nop_types.specs.declared.peer.Body.TheVariants as bodies
 use Rattle.nop_types.specs.declared.replica_state.Phase.TheVariants.{Normal}
 use Rattle.nop_types.specs.declared.view.View.{View}
 use Rattle.nop_types.specs.Lists.{Has}
+use Rattle.nop_types.specs.Logs.{Whole}
 use Rattle.nop_types.specs.Meaning.{Meaning}
 use Rattle.nop_types.specs.Views.{is_view}
 use Rattle.facts.proofs.Bools.{not-both}
@@ -64,33 +65,33 @@ other_from m f c r s q h e =
     }
 
 module _ {S : Type 0} (m : Meaning S) (f : ℕ) (c : Conf) (r : ℕ) (s : ReplicaState) (h : Matches m f c r s) where
-  from_leader_in_view : (body : Body) → MayFollow c (member_of s) (word_of body) → InView m f c r s (from_leader m body s)
+  from_leader_in_view : (body : Body) → MayFollow c (member_of s) (word_of body) → InView m f c r s (from_leader m Whole body s)
   from_leader_in_view (bodies.GapCommit k) may = gap_commit_in_view m f c r s h k may
   from_leader_in_view (bodies.Found k q) may = found_in_view m f c r s h k q may
-  from_leader_in_view (bodies.SyncPrepare z l) may = sync_prepare_in_view m f c r s h z l may
+  from_leader_in_view (bodies.SyncPrepare l) may = sync_prepare_in_view m f c r s h l may
   from_leader_in_view (bodies.SyncCommit k) may = sync_commit_in_view m f c r s h k may
-  from_leader_in_view (bodies.SlotLookup k) may = nothing_in_view m f r c s s h refl
-  from_leader_in_view (bodies.GapRep k) may = nothing_in_view m f r c s s h refl
-  from_leader_in_view (bodies.SyncRep k) may = nothing_in_view m f r c s s h refl
-  from_leader_in_view bodies.ViewChangeReq may = nothing_in_view m f r c s s h refl
-  from_leader_in_view (bodies.ViewChange u x z l) may = nothing_in_view m f r c s s h refl
-  from_leader_in_view (bodies.StartView x z l) may = nothing_in_view m f r c s s h refl
+  from_leader_in_view (bodies.SlotLookup k) may = nothing_in_view m f r c s s h refl h.points
+  from_leader_in_view (bodies.GapRep k) may = nothing_in_view m f r c s s h refl h.points
+  from_leader_in_view (bodies.SyncRep k) may = nothing_in_view m f r c s s h refl h.points
+  from_leader_in_view bodies.ViewChangeReq may = nothing_in_view m f r c s s h refl h.points
+  from_leader_in_view (bodies.ViewChange u x l) may = nothing_in_view m f r c s s h refl h.points
+  from_leader_in_view (bodies.StartView x l) may = nothing_in_view m f r c s s h refl h.points
 
   from_follower_in_view : (q : ℕ) (body : Body) → MayLead (member_of s) → DidAnother f c (member_of s) q (word_of body)
-      → InView m f c r s (from_follower m q body s)
+      → InView m f c r s (from_follower m Whole q body s)
   from_follower_in_view q (bodies.SlotLookup k) may vote = slot_lookup_in_view m f c r s h q k may
   from_follower_in_view q (bodies.GapRep k) may vote = gap_reply_in_view m f c r s h q k vote
   from_follower_in_view q (bodies.SyncRep k) may vote = sync_reply_in_view m f c r s h q k may vote
-  from_follower_in_view q (bodies.GapCommit k) may vote = nothing_in_view m f r c s s h refl
-  from_follower_in_view q (bodies.Found k x) may vote = nothing_in_view m f r c s s h refl
-  from_follower_in_view q (bodies.SyncPrepare z l) may vote = nothing_in_view m f r c s s h refl
-  from_follower_in_view q (bodies.SyncCommit k) may vote = nothing_in_view m f r c s s h refl
-  from_follower_in_view q bodies.ViewChangeReq may vote = nothing_in_view m f r c s s h refl
-  from_follower_in_view q (bodies.ViewChange u x z l) may vote = nothing_in_view m f r c s s h refl
-  from_follower_in_view q (bodies.StartView x z l) may vote = nothing_in_view m f r c s s h refl
+  from_follower_in_view q (bodies.GapCommit k) may vote = nothing_in_view m f r c s s h refl h.points
+  from_follower_in_view q (bodies.Found k x) may vote = nothing_in_view m f r c s s h refl h.points
+  from_follower_in_view q (bodies.SyncPrepare l) may vote = nothing_in_view m f r c s s h refl h.points
+  from_follower_in_view q (bodies.SyncCommit k) may vote = nothing_in_view m f r c s s h refl h.points
+  from_follower_in_view q bodies.ViewChangeReq may vote = nothing_in_view m f r c s s h refl h.points
+  from_follower_in_view q (bodies.ViewChange u x l) may vote = nothing_in_view m f r c s s h refl h.points
+  from_follower_in_view q (bodies.StartView x l) may vote = nothing_in_view m f r c s s h refl h.points
 
   to_leader_in_view : (q : ℕ) (v : View) (body : Body) → IsOther f s q → Has c.said (says q v (word_of body)) → is_to_leader s v ≡ true
-      → InView m f c r s (from_follower m q body s)
+      → InView m f c r s (from_follower m Whole q body s)
   to_leader_in_view q v body other came e =
       let parts = and_parts (is_current s v) (leads s) e in
       let here = current_from s v parts.0 in
@@ -102,13 +103,13 @@ module _ {S : Type 0} (m : Meaning S) (f : ℕ) (c : Conf) (r : ℕ) (s : Replic
       })
 
   by_role_in_view : (a b : Bool) (q : ℕ) (v : View) (body : Body) → IsOther f s q → Has c.said (says q v (word_of body))
-      → is_from_leader s v q ≡ a → is_to_leader s v ≡ b → InView m f c r s (by_role m a b q body s)
+      → is_from_leader s v q ≡ a → is_to_leader s v ≡ b → InView m f c r s (by_role m Whole a b q body s)
   by_role_in_view true b q v body other came of to = from_leader_in_view body (may_follow c s q v (word_of body) came of)
   by_role_in_view false true q v body other came of to = to_leader_in_view q v body other came to
-  by_role_in_view false false q v body other came of to = nothing_in_view m f r c s s h refl
+  by_role_in_view false false q v body other came of to = nothing_in_view m f r c s s h refl h.points
 
   -- of another replica
   pub message_in_view : (q : ℕ) (v : View) (body : Body) → IsOther f s q → Has c.said (says q v (word_of body))
-      → InView m f c r s (in_view m q v body s)
+      → InView m f c r s (in_view m Whole q v body s)
   message_in_view q v body other came =
       by_role_in_view (is_from_leader s v q) (is_to_leader s v) q v body other came refl refl

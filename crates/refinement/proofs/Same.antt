@@ -2,6 +2,7 @@
 use Rattle.std.proofs.Common.{◌≡◌, ℕ, Bool, true, false, Option, Some, None, refl, ap, ◌∙◌, List, [], ◌∷◌, ◌++◌, length}
 use Rattle.std.specs.Prelude.{◌==◌, ◌+◌, drop, max}
 use Rattle.std.proofs.lemmas.List.{append-nil}
+use Rattle.nop_types.specs.Logs.{Log, Whole}
 use Rattle.nop_types.specs.Meaning.{Meaning}
 use Rattle.nop_types.specs.Execution.{result_at}
 use Rattle.nop_types.specs.declared.datagram.Reply.{Reply}
@@ -12,8 +13,12 @@ use Rattle.nop_types.specs.declared.replica_state.Vote.{Vote}
 use Rattle.nop_types.specs.declared.replica_state.Vote.TheVariants.{Settled, Waiting}
 use Rattle.nop_types.specs.declared.peer.Body.TheVariants as bodies
 use Rattle.nop_types.specs.declared.view.View.{View}
+use Rattle.nop_types.specs.Logs as logs
+use Rattle.nop_types.specs.PlainChanges.{Change}
 use Rattle.nop_types.specs.Slots.{laid}
 use Rattle.sync_points.specs.Synchronisation.{vote_for}
+use Rattle.view_change.specs.Gathering as gathering
+use Rattle.view_change.specs.Gathering.{Gathering}
 use Rattle.replica_state.specs.declared.sending.Sending.{Sending}
 use Rattle.replica_state.specs.declared.state.ReplicaState.{ReplicaState}
 use Rattle.replica_state.specs.State as core_state
@@ -25,7 +30,7 @@ use Rattle.replica_state.specs.Moves as core
 use Rattle.replica_state.specs.Moves.{open_gap, enter, overlay}
 use Rattle.protocol.specs.Conf.{Effect}
 use Rattle.protocol.specs.Member.{Member}
-use Rattle.protocol.specs.Said.{Said}
+use Rattle.protocol.specs.Said.{Said, Plain, ViewChange, SyncPrepare}
 use Rattle.protocol.specs.Replies as replies
 use Rattle.protocol.specs.Moves as moves
 use Rattle.refinement.specs.Projection.{member_of, said_in, replied_in}
@@ -49,86 +54,83 @@ leader_replied s slot r None = refl
 leader_replied s slot r (Some result) = refl
 
 module _ {S : Type 0} (m : Meaning S) where
-  reply_said_if : (b : Bool) (s : ReplicaState) (slot : ℕ) (r : Request) → said_in (core_replies.reply_if m b s slot r) ≡ []
-  reply_said_if true s slot r = leader_said s slot r (result_at m s.log slot)
+  reply_said_if : (b : Bool) (s : ReplicaState) (slot : ℕ) (r : Request) → said_in (core_replies.reply_if m Whole b s slot r) ≡ []
+  reply_said_if true s slot r = leader_said s slot r (result_at m s.log.entries slot)
   reply_said_if false s slot r = refl
 
   reply_replied_if : (b : Bool) (s : ReplicaState) (slot : ℕ) (r : Request)
-      → replied_in (core_replies.reply_if m b s slot r) ≡ replies.reply_if m b (member_of s) slot r
-  reply_replied_if true s slot r = leader_replied s slot r (result_at m s.log slot)
+      → replied_in (core_replies.reply_if m Whole b s slot r) ≡ replies.reply_if m b (member_of s) slot r
+  reply_replied_if true s slot r = leader_replied s slot r (result_at m s.log.entries slot)
   reply_replied_if false s slot r = refl
 
-  reply_said : (s : ReplicaState) (slot : ℕ) (r : Request) → said_in (reply_to m s slot r) ≡ []
+  reply_said : (s : ReplicaState) (slot : ℕ) (r : Request) → said_in (reply_to m Whole s slot r) ≡ []
   unfolding reply_to
   reply_said s slot r = reply_said_if (core_state.leads s) s slot r
 
-  reply_replied : (s : ReplicaState) (slot : ℕ) (r : Request) → replied_in (reply_to m s slot r) ≡ replies.reply_to m (member_of s) slot r
+  reply_replied : (s : ReplicaState) (slot : ℕ) (r : Request)
+      → replied_in (reply_to m Whole s slot r) ≡ replies.reply_to m (member_of s) slot r
   unfolding reply_to
   reply_replied s slot r = reply_replied_if (core_state.leads s) s slot r
 
-  entry_said : (s : ReplicaState) (slot : ℕ) (e : Entry) → said_in (core_replies.reply_for m s slot e) ≡ []
+  entry_said : (s : ReplicaState) (slot : ℕ) (e : Entry) → said_in (core_replies.reply_for m Whole s slot e) ≡ []
   entry_said s slot NoOp = refl
   entry_said s slot (Req r) = reply_said s slot r
 
   entry_replied : (s : ReplicaState) (slot : ℕ) (e : Entry)
-      → replied_in (core_replies.reply_for m s slot e) ≡ replies.reply_for m (member_of s) slot e
+      → replied_in (core_replies.reply_for m Whole s slot e) ≡ replies.reply_for m (member_of s) slot e
   entry_replied s slot NoOp = refl
   entry_replied s slot (Req r) = reply_replied s slot r
 
-  replies_said : (s : ReplicaState) (slot : ℕ) (l : List Entry) → said_in (core_replies.replies_to m s slot l) ≡ []
+  replies_said : (s : ReplicaState) (slot : ℕ) (l : List Entry) → said_in (core_replies.replies_to m Whole s slot l) ≡ []
   replies_said s slot [] = refl
   replies_said s slot (e ∷ l) =
-      said_in-append (core_replies.reply_for m s slot e) (core_replies.replies_to m s (slot + 1) l)
-      ∙ ap (λ (xs : List Said). xs ++ said_in (core_replies.replies_to m s (slot + 1) l)) (entry_said s slot e)
+      said_in-append (core_replies.reply_for m Whole s slot e) (core_replies.replies_to m Whole s (slot + 1) l)
+      ∙ ap (λ (xs : List Said). xs ++ said_in (core_replies.replies_to m Whole s (slot + 1) l)) (entry_said s slot e)
       ∙ replies_said s (slot + 1) l
 
   replies_replied : (s : ReplicaState) (slot : ℕ) (l : List Entry)
-      → replied_in (core_replies.replies_to m s slot l) ≡ replies.replies_to m (member_of s) slot l
+      → replied_in (core_replies.replies_to m Whole s slot l) ≡ replies.replies_to m (member_of s) slot l
   replies_replied s slot [] = refl
   replies_replied s slot (e ∷ l) =
-      replied_in-append (core_replies.reply_for m s slot e) (core_replies.replies_to m s (slot + 1) l)
-      ∙ ap (λ (xs : List Reply). xs ++ replied_in (core_replies.replies_to m s (slot + 1) l)) (entry_replied s slot e)
+      replied_in-append (core_replies.reply_for m Whole s slot e) (core_replies.replies_to m Whole s (slot + 1) l)
+      ∙ ap (λ (xs : List Reply). xs ++ replied_in (core_replies.replies_to m Whole s (slot + 1) l)) (entry_replied s slot e)
       ∙ ap (λ (xs : List Reply). replies.reply_for m (member_of s) slot e ++ xs) (replies_replied s (slot + 1) l)
 
   -- the replies for the slots above one
-  pub said_above : (s : ReplicaState) (slot : ℕ) → said_in (core_replies.replies_above m s slot) ≡ []
-  said_above s slot = replies_said s (slot + 1) (drop slot s.log)
+  pub said_above : (s : ReplicaState) (slot : ℕ) → said_in (core_replies.replies_above m Whole s slot) ≡ []
+  said_above s slot = replies_said s (slot + 1) (drop slot s.log.entries)
 
   pub replied_above : (s : ReplicaState) (slot : ℕ)
-      → replied_in (core_replies.replies_above m s slot) ≡ replies.replies_above m (member_of s) slot
-  replied_above s slot = replies_replied s (slot + 1) (drop slot s.log)
+      → replied_in (core_replies.replies_above m Whole s slot) ≡ replies.replies_above m (member_of s) slot
+  replied_above s slot = replies_replied s (slot + 1) (drop slot s.log.entries)
 
   -- ---- moves that reply
 
-  pub take_front_same : (s : ReplicaState) (r : Request) → Same (core.take_front m s r) (moves.take_front m (member_of s) r)
+  pub take_front_same : (s : ReplicaState) (r : Request) → Same (core.take_front m Whole s r) (moves.take_front m (member_of s) r)
   take_front_same s r = record {
     state = refl;
-    said = reply_said (core.logged s r) (length s.log + 1) r;
-    replies = reply_replied (core.logged s r) (length s.log + 1) r;
+    said = reply_said (core.logged s r) (length s.log.entries + 1) r;
+    replies = reply_replied (core.logged s r) (length s.log.entries + 1) r;
   }
 
-  pub fill_same : (s : ReplicaState) (r : Request) → Same (core.fill m s r) (moves.fill m (member_of s) r)
+  pub fill_same : (s : ReplicaState) (r : Request) → Same (core.fill m Whole s r) (moves.fill m (member_of s) r)
   fill_same s r = record {
     state = refl;
-    said = reply_said (core.appended s (Req r)) (length s.log + 1) r;
-    replies = reply_replied (core.appended s (Req r)) (length s.log + 1) r;
+    said = reply_said (core.appended s (Req r)) (length s.log.entries + 1) r;
+    replies = reply_replied (core.appended s (Req r)) (length s.log.entries + 1) r;
   }
 
-  -- with this log after it
-  abbrev overlaid_with : ReplicaState → ℕ → List Entry → List Entry → ReplicaState
-  overlaid_with s z l k = record (core.overlaid s z l) { log = k }
-
   -- where to keep the own entries up to the sync point is to take all
-  pub overlay_same : (s : ReplicaState) (z : ℕ) (l : List Entry) → laid (core.taken_log s z l) s.log ≡ laid l s.log
-      → Same (overlay m s z l) (moves.overlay m (member_of s) z l)
+  pub overlay_same : (s : ReplicaState) (l : Log) → (logs.overlaid Whole l s.log).entries ≡ laid l.entries s.log.entries
+      → Same (overlay m Whole s l) (moves.overlay m (member_of s) l.sync_point l.entries)
   unfolding overlay
-  overlay_same s z l splices =
-      let state : member_of (core.overlaid s z l) ≡ moves.overlaid (member_of s) z l =
-      ap (λ (k : List Entry). member_of (overlaid_with s z l k)) splices in
-      let t : ReplicaState = core.overlaid s z l in
-      let n : ℕ = max (length s.log) t.sync.sync_point in
-      let above : List Sending = core_replies.replies_above m t n in
-      let told : List Sending = to_leader s (bodies.SyncRep (length l)) in
+  overlay_same s l same =
+      let state : member_of (core.overlaid Whole s l) ≡ moves.overlaid (member_of s) l.sync_point l.entries =
+      ap (λ (k : List Entry). record (moves.overlaid (member_of s) l.sync_point l.entries) { log = k }) same in
+      let t : ReplicaState = core.overlaid Whole s l in
+      let n : ℕ = max (length s.log.entries) t.sync.sync_point in
+      let above : List Sending = core_replies.replies_above m Whole t n in
+      let told : List Sending = to_leader s (bodies.SyncRep (length l.entries)) in
       record {
         state = state;
         said = said_in-append above told ∙ ap (λ (xs : List Said). xs ++ said_in told) (said_above t n);
@@ -141,19 +143,21 @@ module _ {S : Type 0} (m : Meaning S) where
 
 -- ---- moves of one place
 
-pub open_gap_same : (s : ReplicaState) → Same (open_gap s) (moves.open_gap (member_of s))
+pub open_gap_same : (s : ReplicaState) → Same (open_gap Whole s) (moves.open_gap (member_of s))
 unfolding open_gap
 open_gap_same s = record {
   state = refl;
-  said = said_in-to_all (core_state.others s == 0) s (bodies.GapCommit (length s.log + 1));
-  replies = replied_in-to_all (core_state.others s == 0) s (bodies.GapCommit (length s.log + 1));
+  said = said_in-to_all (core_state.others s == 0) s (bodies.GapCommit (length s.log.entries + 1));
+  replies = replied_in-to_all (core_state.others s == 0) s (bodies.GapCommit (length s.log.entries + 1));
 }
 
-pub open_sync_same : (s : ReplicaState) → Same (core.open_sync s) (moves.open_sync (member_of s))
-open_sync_same s = record {
+pub open_sync_same : (s : ReplicaState) → core_state.PointsMeet s → Same (core.open_sync Whole s) (moves.open_sync (member_of s))
+open_sync_same s points = record {
   state = refl;
-  said = said_in-to_all (core_state.others s == 0) s (bodies.SyncPrepare s.sync.sync_point s.log);
-  replies = replied_in-to_all (core_state.others s == 0) s (bodies.SyncPrepare s.sync.sync_point s.log);
+  said =
+      said_in-to_all (core_state.others s == 0) s (bodies.SyncPrepare s.log)
+      ∙ ap (λ (z : ℕ). moves.say_all (member_of s) (SyncPrepare z s.log.entries)) points;
+  replies = replied_in-to_all (core_state.others s == 0) s (bodies.SyncPrepare s.log);
 }
 
 pub repeat_commit_same : (s : ReplicaState) → Same (core.repeat_commit s) (moves.repeat_commit (member_of s))
@@ -180,25 +184,41 @@ count_sync_vote_same s q k = record {
 
 -- ---- a view is entered
 
-enter_as_same : (b : Bool) (s : ReplicaState) → Same (core.enter_as b s) (moves.enter_as b (member_of s))
-enter_as_same true s = record {
-  state = refl;
+-- what a leader begins to gather with, told with this sync point
+abbrev own_gathering : ReplicaState → ℕ → Gathering Change
+own_gathering s z = gathering.entered s.view (core_state.others s) (record {
+  sender = s.number;
+  last_normal = s.last_normal;
+  next = s.next;
+  sync_point = z;
+  log = s.log.entries;
+})
+
+-- the own log is told with the own sync point
+pub change_said : (s : ReplicaState) → core_state.PointsMeet s
+    → said_in (core.change_told s) ≡ moves.say (member_of s) (ViewChange s.last_normal s.next s.sync.sync_point s.log.entries)
+change_said s points = ap (λ (z : ℕ). moves.say (member_of s) (ViewChange s.last_normal s.next z s.log.entries)) points
+
+enter_as_same : (b : Bool) (s : ReplicaState) → core_state.PointsMeet s → Same (core.enter_as b s) (moves.enter_as b (member_of s))
+enter_as_same true s points = record {
+  state = ap (λ (z : ℕ). record (member_of s) { changes = Some (own_gathering s z) }) points;
   said = said_in-to_all (core_state.others s == 0) s bodies.ViewChangeReq;
   replies = replied_in-to_all (core_state.others s == 0) s bodies.ViewChangeReq;
 }
-enter_as_same false s =
+enter_as_same false s points =
     let asked : List Sending = to_all_if (core_state.others s == 0) s bodies.ViewChangeReq in
     let told : List Sending = core.change_told s in
     record {
       state = refl;
       said =
           said_in-append asked told
-          ∙ ap (λ (xs : List Said). xs ++ said_in told) (said_in-to_all (core_state.others s == 0) s bodies.ViewChangeReq);
+          ∙ ap (λ (xs : List Said). xs ++ said_in told) (said_in-to_all (core_state.others s == 0) s bodies.ViewChangeReq)
+          ∙ ap (λ (xs : List Said). moves.say_all (member_of s) Plain ++ xs) (change_said s points);
       replies =
           replied_in-append asked told
           ∙ ap (λ (xs : List Reply). xs ++ replied_in told) (replied_in-to_all (core_state.others s == 0) s bodies.ViewChangeReq);
     }
 
-pub enter_same : (s : ReplicaState) (v : View) → Same (enter s v) (moves.enter (member_of s) v)
+pub enter_same : (s : ReplicaState) (v : View) → core_state.PointsMeet s → Same (enter s v) (moves.enter (member_of s) v)
 unfolding enter
-enter_same s v = enter_as_same (core_state.leads (core.entered s v)) (core.entered s v)
+enter_same s v points = enter_as_same (core_state.leads (core.entered s v)) (core.entered s v) points

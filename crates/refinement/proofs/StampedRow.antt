@@ -5,6 +5,7 @@ use Rattle.std.proofs.lemmas.Bool.{ltb-true}
 use Rattle.nop_types.specs.declared.datagram.Stamped.{Stamped}
 use Rattle.nop_types.specs.declared.view.View.{View}
 use Rattle.nop_types.specs.Lists.{Has}
+use Rattle.nop_types.specs.Logs.{Whole}
 use Rattle.nop_types.specs.Meaning.{Meaning}
 use Rattle.nop_types.specs.Views.{Below}
 use Rattle.replica_state.specs.declared.state.ReplicaState.{ReplicaState}
@@ -28,12 +29,12 @@ module _ {S : Type 0} (m : Meaning S) (f : ℕ) (c : Conf) (r : ℕ) (s : Replic
   queue_in_view : (p : Stamped) → Has c.stamps p → InView m f c r s (queue s p)
   queue_in_view p came =
       move_in_view m f r c s (queue s p) (Queue p) h came (record { state = refl; said = refl; replies = refl })
-      (stays_still f r (standing (member_of s)))
+      (stays_still f r (standing (member_of s))) h.points
 
   -- of the session of the view, or of an older one
-  queue_and_drain_in_view : (p : Stamped) → Has c.stamps p → InView m f c r s (then_do (queue s p) (drain m))
+  queue_and_drain_in_view : (p : Stamped) → Has c.stamps p → InView m f c r s (then_do (queue s p) (drain m Whole))
   queue_and_drain_in_view p came =
-      in_view_then m f r c s (queue s p) (drain m) h (queue_in_view p came) (λ d g. drain_in_view m f r d (queue s p).0 g)
+      in_view_then m f r c s (queue s p) (drain m Whole) h (queue_in_view p came) (λ d g. drain_in_view m f r d (queue s p).0 g)
 
 -- ---- of a greater session
 
@@ -53,12 +54,12 @@ arrived_keeps s p = let k = enter_keeps s (session_view s p) in
 
 -- then the view starts where the replica is alone
 abbrev opens : {S : Type 0} → Meaning S → ReplicaState → Stamped → Effect
-opens m s p = then_do (arrived s p) (λ t. open_if_enough m t.changes t)
+opens m s p = then_do (arrived s p) (λ t. open_if_enough m Whole t.changes t)
 
 enters_by : {S : Type 0} (m : Meaning S) (s : ReplicaState) (p : Stamped) → enter (begin_session s p) (session_view s p) ≡ arrived s p
-    → new_session m p s ≡ then_do (opens m s p) (drain m)
+    → new_session m Whole p s ≡ then_do (opens m s p) (drain m Whole)
 unfolding enter_view
-enters_by m s p same = ap (λ (e : Effect). then_do (then_do e (λ t. open_if_enough m t.changes t)) (drain m)) same
+enters_by m s p same = ap (λ (e : Effect). then_do (then_do e (λ t. open_if_enough m Whole t.changes t)) (drain m Whole)) same
 
 module _ {S : Type 0} (m : Meaning S) (f : ℕ) (c : Conf) (r : ℕ) (s : ReplicaState) (h : Matches m f c r s) where
   arrived_reaches : (p : Stamped) → Has c.stamps p → s.view.session < p.session → ReplicaReaches m f c r s (arrived s p)
@@ -74,20 +75,22 @@ module _ {S : Type 0} (m : Meaning S) (f : ℕ) (c : Conf) (r : ℕ) (s : Replic
       let one = arrived_reaches p came less in
       let t : ReplicaState = (arrived s p).0 in
       let two = open_if_enough_reaches m f r (run m f c one.moves) t (matches_end m f r c s (arrived s p) h one) in
-      keeps_then m f r c s (arrived s p) (λ u. open_if_enough m u.changes u) h one (arrived_keeps s p) two.reaches (inl two.view)
+      keeps_then m f r c s (arrived s p) (λ u. open_if_enough m Whole u.changes u) h one (arrived_keeps s p) two.reaches
+      (inl two.view)
 
-  new_session_reaches : (p : Stamped) → Has c.stamps p → s.view.session < p.session → ReplicaReaches m f c r s (new_session m p s)
+  new_session_reaches : (p : Stamped) → Has c.stamps p → s.view.session < p.session
+      → ReplicaReaches m f c r s (new_session m Whole p s)
   new_session_reaches p came less =
       let same = enters_then_queues s p (own m f c r s h).queue.session less in
       subst (λ (e : Effect). ReplicaReaches m f c r s e) (sym (enters_by m s p same))
-      (reaches_then_in_view m f r c s (opens m s p) (drain m) h (opens_reaches p came less)
+      (reaches_then_in_view m f r c s (opens m s p) (drain m Whole) h (opens_reaches p came less)
       (λ d g. drain_in_view m f r d (opens m s p).0 g))
 
   stamped_if_reaches : (b : Bool) (p : Stamped) → Has c.stamps p → nat_lt s.view.session p.session ≡ b
-      → ReplicaReaches m f c r s (stamped_if m b p s)
+      → ReplicaReaches m f c r s (stamped_if m Whole b p s)
   stamped_if_reaches true p came e = new_session_reaches p came (ltb-true s.view.session p.session e)
   stamped_if_reaches false p came e = (queue_and_drain_in_view m f c r s h p came).reaches
 
-  pub stamped_reaches : (p : Stamped) → Has c.stamps p → ReplicaReaches m f c r s (stamped m p s)
+  pub stamped_reaches : (p : Stamped) → Has c.stamps p → ReplicaReaches m f c r s (stamped m Whole p s)
   unfolding stamped
   stamped_reaches p came = stamped_if_reaches (nat_lt s.view.session p.session) p came refl

@@ -27,7 +27,7 @@ no_gap_from (Some g) e = absurd cc
 
 -- an entry more
 pub append_stays : {S : Type 0} (m : Meaning S) (f : ℕ) (c : Conf) (r : ℕ) (s : ReplicaState) (x : Entry) → Matches m f c r s
-    → Stays f r (standing (member_of s)) (record (standing (member_of s)) { next = s.next + 1; log = s.log ++ x ∷ [] })
+    → Stays f r (standing (member_of s)) (record (standing (member_of s)) { next = s.next + 1; log = s.log.entries ++ x ∷ [] })
 append_stays m f c r s x h = record {
   view = refl;
   last_normal = refl;

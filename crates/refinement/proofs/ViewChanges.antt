@@ -1,13 +1,18 @@
 -- What replicas tell a new leader is gathered by moves, and a late one is answered.
-use Rattle.std.proofs.Common.{◌≡◌, ℕ, ◌+◌, ◌*◌, ◌<◌, Bool, true, false, Option, Some, None, refl, sym, subst, ◌∙◌, arith, inl, length, take}
+use Rattle.std.proofs.Common.{◌≡◌, ℕ, ◌+◌, ◌*◌, ◌<◌, Bool, true, false, Option, Some, None, refl, sym, ap, subst, ◌∙◌, arith}
+use Rattle.std.proofs.Common.{inl, length, take}
+use Rattle.std.specs.Option.{option_map}
 use Rattle.std.specs.Prelude.{◌-◌, ◌&&◌, not}
 use Rattle.std.proofs.lemmas.Bool.{and_parts}
+use Rattle.nop_types.specs.Logs.{Whole}
 use Rattle.nop_types.specs.Meaning.{Meaning}
 use Rattle.nop_types.specs.Views.{is_view, join_of}
 use Rattle.nop_types.specs.declared.view.View.{View}
 use Rattle.nop_types.specs.declared.replica_state.Phase.{Phase}
 use Rattle.nop_types.specs.declared.replica_state.Phase.TheVariants.{Normal, Change}
 use Rattle.nop_types.specs.declared.peer.Change as peer
+use Rattle.nop_types.specs.PlainChanges as plains
+use Rattle.nop_types.specs.PlainChanges.{plain}
 use Rattle.facts.proofs.Views.{is_view-true}
 use Rattle.view_change.specs.Gathering.{Gathering}
 use Rattle.replica_state.specs.declared.state.ReplicaState.{ReplicaState}
@@ -21,11 +26,12 @@ use Rattle.protocol.specs.Runs.{KeepChange, Say, run}
 use Rattle.protocol.specs.Said.{ViewChange, StartView, says}
 use Rattle.protocol.proofs.Facts.{half_of}
 use Rattle.protocol.proofs.Runs.{run_keeps}
-use Rattle.refinement.specs.Projection.{member_of}
+use Rattle.refinement.specs.Projection.{member_of, plain_gathering}
 use Rattle.refinement.specs.Replicas.{Matches, ReplicaReaches}
 use Rattle.refinement.proofs.Parts.{Keeps}
 use Rattle.refinement.proofs.Composing.{matches_end, move_reaches, nothing_reaches, keeps_then}
 use Rattle.refinement.proofs.Entering.{enter_reaches, enter_keeps}
+use Rattle.refinement.proofs.Gatherings.{counted_plain}
 use Rattle.refinement.proofs.EnteringRows.{below_join}
 use Rattle.refinement.proofs.Matching.{own, may_say_start}
 use Rattle.refinement.proofs.NewSessions.{enters_only}
@@ -34,7 +40,7 @@ use Rattle.refinement.proofs.OpeningViews.{EntersNone, open_if_enough_reaches}
 
 -- a change that another replica told
 pub record Told (f : ℕ) (c : Conf) (r : ℕ) (v : View) (x : peer.Change) : Type 0 where
-  pub said : DidSay c.said x.sender v (ViewChange x.last_normal x.next x.sync_point x.log)
+  pub said : DidSay c.said x.sender v (ViewChange x.last_normal x.next x.log.sync_point x.log.entries)
   pub within : x.sender < 2 * f + 1
   pub apart : x.sender ≡ r → ⊥
 
@@ -54,36 +60,41 @@ module _ {S : Type 0} (m : Meaning S) (f : ℕ) (r : ℕ) where
       grind (arith, half, here, within, apart)
 
   request_by : (b : Bool) (c : Conf) (s : ReplicaState) (v : View) → Matches m f c r s → 0 < others s
-      → not (is_view (join_of s.view v) s.view) ≡ b → KeepsAll m f c r s (when b (enter_and_drain m (join_of s.view v)) s)
+      → not (is_view (join_of s.view v) s.view) ≡ b → KeepsAll m f c r s (when b (enter_and_drain m Whole (join_of s.view v)) s)
   request_by true c s v h more e =
       subst (KeepsAll m f c r s) (sym (enters_only m s (join_of s.view v) more)) (record {
         reaches = enter_reaches m f c r s (join_of s.view v) h (below_join s.view v e);
         keeps = enter_keeps s (join_of s.view v);
       })
   request_by false c s v h more e = record {
-    reaches = nothing_reaches m f r c s s h refl;
+    reaches = nothing_reaches m f r c s s h refl h.points;
     keeps = record { last_normal = refl; next = refl; sync_point = refl; log = refl };
   }
 
   request_keeps : (c : Conf) (s : ReplicaState) (v : View) → Matches m f c r s → 0 < others s
-      → KeepsAll m f c r s (view_change_request m v s)
+      → KeepsAll m f c r s (view_change_request m Whole v s)
   request_keeps c s v h more = request_by (not (is_view (join_of s.view v) s.view)) c s v h more refl
 
   -- ---- while the view has not started, its leader keeps the change
 
-  gather_by_moves : (o : Option Gathering) (c : Conf) (s : ReplicaState) (x : peer.Change) → Matches m f c r s → Told f c r s.view x
-      → s.changes ≡ o → EntersNone m f c r s (gather m o x s)
-  gather_by_moves None c s x h told e = record { reaches = nothing_reaches m f r c s s h refl; view = refl }
+  gather_by_moves : (o : Option (Gathering peer.Change)) (c : Conf) (s : ReplicaState) (x : peer.Change) → Matches m f c r s
+      → Told f c r s.view x
+      → s.changes ≡ o → EntersNone m f c r s (gather m Whole o x s)
+  gather_by_moves None c s x h told e = record { reaches = nothing_reaches m f r c s s h refl h.points; view = refl }
   gather_by_moves (Some g) c s x h told e =
       let number = (own m f c r s h).number in
-      let one = move_reaches m f r c s (keep_change s g x) (KeepChange g x) h (record {
-        gathers = e;
+      let one = move_reaches m f r c s (keep_change s g x) (KeepChange (plain_gathering g) (plain x)) h (record {
+        gathers = ap (λ (o : Option (Gathering peer.Change)). option_map plain_gathering o) e;
         change = record { said = told.said; within = told.within; apart = λ same. told.apart (same ∙ number) };
-      }) (record { state = refl; said = refl; replies = refl }) in
+      }) (record {
+        state = ap (λ (y : Gathering plains.Change). record (member_of s) { changes = Some y }) (counted_plain g x);
+        said = refl;
+        replies = refl;
+      }) h.points in
       let t : ReplicaState = (keep_change s g x).0 in
       let two = open_if_enough_reaches m f r (run m f c one.moves) t (matches_end m f r c s (keep_change s g x) h one) in
       record {
-        reaches = keeps_then m f r c s (keep_change s g x) (λ y. open_if_enough m y.changes y) h one
+        reaches = keeps_then m f r c s (keep_change s g x) (λ y. open_if_enough m Whole y.changes y) h one
             (record { last_normal = refl; next = refl; sync_point = refl; log = refl }) two.reaches (inl two.view);
         view = two.view;
       }
@@ -91,27 +102,27 @@ module _ {S : Type 0} (m : Meaning S) (f : ℕ) (r : ℕ) where
   -- ---- then it answers a late one
 
   take_by : (p : Phase) (c : Conf) (s : ReplicaState) (x : peer.Change) → Matches m f c r s → Told f c r s.view x → leads s ≡ true
-      → s.status ≡ p → EntersNone m f c r s (gather_by m p x s)
+      → s.status ≡ p → EntersNone m f c r s (gather_by m Whole p x s)
   take_by Change c s x h told leading e = gather_by_moves s.changes c s x h told refl
   take_by Normal c s x h told leading e = record {
-    reaches = move_reaches m f r c s (resend_start s x.sender)
-        (Say (StartView (s.next - (length s.log - start_len s)) s.sync.sync_point (take (start_len s) s.log))) h
+    reaches = move_reaches m f r c s (resend_start Whole s x.sender)
+        (Say (StartView (s.next - (length s.log.entries - start_len s)) s.log.sync_point (take (start_len s) s.log.entries))) h
         (may_say_start m f c r s h (record { normal = e; leads = leading }))
-        (record { state = refl; said = refl; replies = refl });
+        (record { state = refl; said = refl; replies = refl }) h.points;
     view = refl;
   }
 
   -- a change told in this view, to its leader
   take_when : (b : Bool) (c : Conf) (s : ReplicaState) (v : View) (x : peer.Change) → Matches m f c r s → Told f c r v x
-      → (is_view v s.view && leads s) ≡ b → EntersNone m f c r s (when b (gather_by m s.status x) s)
+      → (is_view v s.view && leads s) ≡ b → EntersNone m f c r s (when b (gather_by m Whole s.status x) s)
   take_when true c s v x h told e =
       let parts = and_parts (is_view v s.view) (leads s) e in
       let at : v ≡ s.view = is_view-true v s.view parts.0 in
       take_by s.status c s x h (subst (λ (w : View). Told f c r w x) at told) parts.1 refl
-  take_when false c s v x h told e = record { reaches = nothing_reaches m f r c s s h refl; view = refl }
+  take_when false c s v x h told e = record { reaches = nothing_reaches m f r c s s h refl h.points; view = refl }
 
   take_change_reaches : (c : Conf) (s : ReplicaState) (v : View) (x : peer.Change) → Matches m f c r s → Told f c r v x
-      → EntersNone m f c r s (take_change m v x s)
+      → EntersNone m f c r s (take_change m Whole v x s)
   take_change_reaches c s v x h told = take_when (is_view v s.view && leads s) c s v x h told refl
 
   -- ---- both
@@ -120,24 +131,25 @@ module _ {S : Type 0} (m : Meaning S) (f : ℕ) (r : ℕ) where
       → (one : ReplicaReaches m f c r s e) → Told f c r v x → Told f (run m f c one.moves) r v x
   told_later c s e v x h one told = record {
     said = (run_keeps m f c one.moves h.inv one.may).1.sent.said
-        (says x.sender v (ViewChange x.last_normal x.next x.sync_point x.log)) told.said;
+        (says x.sender v (ViewChange x.last_normal x.next x.log.sync_point x.log.entries)) told.said;
     within = told.within;
     apart = told.apart;
   }
 
   pub view_change_by_moves : (c : Conf) (s : ReplicaState) (v : View) (x : peer.Change) → Matches m f c r s → Told f c r v x
-      → ReplicaReaches m f c r s (view_change m v x s)
+      → ReplicaReaches m f c r s (view_change m Whole v x s)
   unfolding view_change
   view_change_by_moves c s v x h told =
-      let e : Effect = view_change_request m v s in
+      let e : Effect = view_change_request m Whole v s in
       let one = request_keeps c s v h (not_alone c s x.sender h told.within told.apart) in
       let two = take_change_reaches (run m f c one.reaches.moves) e.0 v x (matches_end m f r c s e h one.reaches)
       (told_later c s e v x h one.reaches told) in
-      keeps_then m f r c s e (take_change m v x) h one.reaches one.keeps two.reaches (inl two.view)
+      keeps_then m f r c s e (take_change m Whole v x) h one.reaches one.keeps two.reaches (inl two.view)
 
   -- told by another replica
   pub view_change_reaches : (c : Conf) (s : ReplicaState) (v : View) (x : peer.Change) → Matches m f c r s → is_other s x.sender ≡ true
-      → DidSay c.said x.sender v (ViewChange x.last_normal x.next x.sync_point x.log) → ReplicaReaches m f c r s (view_change m v x s)
+      → DidSay c.said x.sender v (ViewChange x.last_normal x.next x.log.sync_point x.log.entries)
+      → ReplicaReaches m f c r s (view_change m Whole v x s)
   view_change_reaches c s v x h other said =
       let from = other_from m f c r s x.sender h other in
       view_change_by_moves c s v x h (record {

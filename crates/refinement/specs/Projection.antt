@@ -1,14 +1,22 @@
 -- What the protocol sees of a replica's state and of what it sends.
-use Rattle.std.specs.Prelude.{List, [], ◌∷◌}
+use Rattle.std.specs.Prelude.{List, [], ◌∷◌, map}
+use Rattle.std.specs.Option.{option_map}
 use Rattle.nop_types.specs.declared.datagram.Reply.{Reply}
+use Rattle.nop_types.specs.PlainChanges.{Change, plain}
+use Rattle.nop_types.specs.declared.peer.Change as told
 use Rattle.nop_types.specs.declared.peer.Peer.{Peer}
 use Rattle.nop_types.specs.declared.peer.Body.{Body}
 use Rattle.nop_types.specs.declared.peer.Body.TheVariants as bodies
+use Rattle.view_change.specs.Gathering.{Gathering}
 use Rattle.replica_state.specs.declared.sending.Sending.{Sending}
 use Rattle.replica_state.specs.declared.sending.Sending.TheVariants.{ToClient, ToReplicas}
 use Rattle.replica_state.specs.declared.state.ReplicaState.{ReplicaState}
 use Rattle.protocol.specs.Member.{Member}
 use Rattle.protocol.specs.Said.{Said, Word, Plain, Found, GapCommit, GapRep, ViewChange, StartView, SyncPrepare, SyncRep, SyncCommit, says}
+
+-- the logs of what a leader gathers as lists
+abbrev pub plain_gathering : Gathering told.Change → Gathering Change
+plain_gathering g = record { view = g.view; f = g.f; changes = map plain g.changes }
 
 -- without what keeps no promise to others: the slot that was asked for last, and whether the leader was heard
 abbrev pub member_of : ReplicaState → Member
@@ -19,13 +27,13 @@ member_of s =
       view = s.view;
       status = s.status;
       last_normal = s.last_normal;
-      log = s.log;
+      log = s.log.entries;
       next = s.next;
       base = s.base;
       receiver = s.receiver;
       gap = s.gap;
       sync = s.sync;
-      changes = s.changes;
+      changes = option_map plain_gathering s.changes;
     }
 
 abbrev pub word_of : Body → Word
@@ -34,9 +42,9 @@ word_of (bodies.Found k r) = Found k r
 word_of (bodies.GapCommit k) = GapCommit k
 word_of (bodies.GapRep k) = GapRep k
 word_of bodies.ViewChangeReq = Plain
-word_of (bodies.ViewChange u x z l) = ViewChange u x z l
-word_of (bodies.StartView x z l) = StartView x z l
-word_of (bodies.SyncPrepare z l) = SyncPrepare z l
+word_of (bodies.ViewChange u x l) = ViewChange u x l.sync_point l.entries
+word_of (bodies.StartView x l) = StartView x l.sync_point l.entries
+word_of (bodies.SyncPrepare l) = SyncPrepare l.sync_point l.entries
 word_of (bodies.SyncRep k) = SyncRep k
 word_of (bodies.SyncCommit k) = SyncCommit k
 

@@ -1,12 +1,14 @@
 -- When moves of the protocol do what a row of a replica's step table does.
 use Rattle.std.specs.Prelude.{◌≡◌, ◌⊎◌, ◌<◌, ◌+◌, ◌*◌, ℕ, ⊤, List}
 use Rattle.nop_types.specs.Lists.{Has}
+use Rattle.nop_types.specs.Logs.{Whole}
 use Rattle.nop_types.specs.Meaning.{Meaning}
 use Rattle.started_views.specs.Past.{note}
 use Rattle.replica_state.specs.declared.sending.Sending.{Sending}
 use Rattle.replica_state.specs.declared.state.ReplicaState.{ReplicaState}
 use Rattle.replica_rows.specs.Messages.{Arrival, Packet, Told, Ticked, arrive}
 use Rattle.replica_state.specs.Sends.{Effect}
+use Rattle.replica_state.specs.State.{PointsMeet}
 use Rattle.protocol.specs.Conf.{Conf}
 use Rattle.protocol.specs.Invariant.{Inv}
 use Rattle.protocol.specs.Member.{standing}
@@ -15,13 +17,14 @@ use Rattle.protocol_sync.specs.Above.{GapsAreAbove}
 use Rattle.protocol_sync.specs.Synced.{Sync}
 use Rattle.refinement.specs.Projection.{member_of, said_of, said_in, replied_in}
 
--- the configuration meets the invariants, and has the replica r in this state
+-- the configuration meets the invariants, and has the replica r in this state, whose log is told with its sync point
 pub record Matches {S : Type 0} (m : Meaning S) (f : ℕ) (c : Conf) (r : ℕ) (s : ReplicaState) : Type 0 where
   pub within : r < 2 * f + 1
   pub inv : Inv m f c
   pub sync : Sync f c
   pub above : GapsAreAbove f c
   pub state : c.replicas r ≡ member_of s
+  pub points : PointsMeet s
 
 -- all but one replica, what replicas send, and the past
 pub record SameBut (r : ℕ) (c d : Conf) : Type 0 where
@@ -51,6 +54,7 @@ pub record ReplicaReaches {S : Type 0} (m : Meaning S) (f : ℕ) (c : Conf) (r :
   pub moves : List Move
   pub may : MayAll m f c moves
   pub state : (run m f c moves).replicas r ≡ member_of e.0
+  pub points : PointsMeet e.0
   pub others : SameBut r c (run m f c moves)
   pub past : (run m f c moves).past ≡ note f c.past r (standing (member_of s)) (standing (member_of e.0))
   pub sends : AddsSends c (run m f c moves) e.1
@@ -64,4 +68,4 @@ Came c (Ticked tick) = ⊤
 -- whatever may arrive, the row that takes it is a list of moves
 abbrev pub ReplicasReach : {S : Type 0} → Meaning S → Type 0
 ReplicasReach m = (f : ℕ) (c : Conf) (r : ℕ) (s : ReplicaState) (a : Arrival) → Matches m f c r s → Came c a
-    → ReplicaReaches m f c r s (arrive m s a)
+    → ReplicaReaches m f c r s (arrive m Whole s a)

@@ -1,4 +1,5 @@
 ghost use Rattle.std.specs.Prelude.{◌≡◌, ◌<◌};
+ghost use Rattle.nop_types.specs.Logs.{Whole};
 ghost use Rattle.nop_types.specs.Meaning.{Meaning};
 ghost use Rattle.nop_types.specs.declared.datagram.Stamped.{Stamped};
 ghost use Rattle.nop_types.specs.declared.view.View.{View};
@@ -19,8 +20,8 @@ pub fn openings_match<S>()
     ensures { (m : Meaning S) → OpeningsMatch m }
 {}
 
-/// Whatever arrives at a replica, the row that takes it is a list of moves, which send what it
-/// sends, and note what one step notes.
+/// Whatever arrives at a replica whose logs are kept whole, the row that takes it is a list of
+/// moves, which send what it sends, and note what one step notes.
 pub fn replicas_reach<S>()
     ensures { (m : Meaning S) → ReplicasReach m }
 {}
@@ -52,5 +53,5 @@ pub fn new_session_enters_then_queues()
 /// A replica with others that enters a view does nothing more.
 pub fn enters_only<S>()
     ensures { (m : Meaning S) (s : ReplicaState) (v : View) → 0 < others s →
-        enter_and_drain m v s ≡ enter s v }
+        enter_and_drain m Whole v s ≡ enter s v }
 {}

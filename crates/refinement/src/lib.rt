@@ -5,8 +5,9 @@
 //! actor: a datagram that was sent, malformed bytes, a tick or an op. There are moves, each of
 //! which may be made, that lead to its new state, change no other actor, and send and print what
 //! the step sends and prints, and nothing else (`clients_reach`, `sequencers_reach`,
-//! `controllers_reach`); so it is with a replica's rows over whole messages (`replicas_reach`). The
-//! initial configuration has each actor in its initial state (`openings_match`).
+//! `controllers_reach`); so it is with a replica's rows over whole messages, where logs are kept
+//! whole (`replicas_reach`): the protocol has their entries as lists, and their sync points beside
+//! them. The initial configuration has each actor in its initial state (`openings_match`).
 //!
 //! What is sent stays in its ranges, where ops do and what a replica's row sends (`datagrams_fit`,
 //! `steps_stay_in_ranges`). A session that begins with a packet may as well be entered first

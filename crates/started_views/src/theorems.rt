@@ -2,7 +2,7 @@ ghost use Rattle.std.specs.Prelude.{◌≡◌, ℕ, List, Some, take};
 ghost use Rattle.nop_types.specs.declared.view.View.{View};
 ghost use Rattle.nop_types.specs.declared.request.Request.{Request};
 ghost use Rattle.nop_types.specs.declared.request.Entry.{Entry};
-ghost use Rattle.nop_types.specs.declared.peer.Change.{Change};
+ghost use Rattle.nop_types.specs.PlainChanges.{Change};
 ghost use Rattle.nop_types.specs.declared.datagram.Stamped.{Stamped};
 ghost use Rattle.nop_types.specs.Lists.{IsPrefixOf, slot_of};
 ghost use Rattle.nop_types.specs.Stamps.{WasStamped};
