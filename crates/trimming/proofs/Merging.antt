@@ -1,19 +1,22 @@
 -- The merge of trimmed logs is the trimmed merge of the whole ones.
 use Rattle.std.proofs.Common.{◌≡◌, ℕ, zero, suc, ◌+◌, ◌-◌, ◌≤◌, ◌<◌, Bool, true, false, cond, List, [], ◌∷◌, length, take, drop, map}
-use Rattle.std.proofs.Common.{Option, Some, None, refl, sym, ap, subst, ◌∙◌, arith, inl, inr, length-drop, length-take-le, take_at}
+use Rattle.std.proofs.Common.{Option, Some, None, refl, sym, ap, ◌∙◌, arith, inl, inr, length-drop, length-take-le, take_at}
 use Rattle.std.specs.Prelude.{option_map, slice_get, IfSome}
 use Rattle.std.specs.List.{range_with_len}
-use Rattle.std.proofs.lemmas.Bool.Decides.{nat_tests}
 use Rattle.std.proofs.lemmas.List.FromFn.{length-map-range_with_len}
 use Rattle.nop_types.specs.declared.request.Entry.{Entry}
-use Rattle.nop_types.specs.declared.peer.Change as plain
+use Rattle.nop_types.specs.declared.peer.Change.{Change}
 use Rattle.nop_types.specs.Meaning.{Meaning}
 use Rattle.nop_types.specs.Lists.{Has, IsPrefixOf}
 use Rattle.nop_types.specs.Logs.{Keeping, Whole, Trimmed, IsWithin}
+use Rattle.nop_types.specs.PlainChanges as plain
+use Rattle.nop_types.specs.PlainChanges.{plain_above}
 use Rattle.facts.proofs.Members.{Has-first, Has-rest, Has-none, Has-cases}
 use Rattle.log_merge.specs.Merge.{told, of_two, chosen, entry_of, longest, merge}
+use Rattle.log_merge.specs.Merging.{merge_above, precedes, better, best, merged_from, merged}
+use Rattle.log_merge.proofs.Best.{best_is_best}
 use Rattle.trimming.specs.Trimming.{trim}
-use Rattle.trimming.specs.Merging.{Change, trim_change, plain_above, merge_above, precedes, better, best, IsBest, merged_from, merged, Agree}
+use Rattle.trimming.specs.Merging.{trim_change, Agree}
 use Rattle.trimming.proofs.Lists.{drop-to, get-drop}
 use Rattle.trimming.proofs.Logs.{same_log, same_checkpoint, adopted_has_none, overlaid_has_none}
 
@@ -79,78 +82,7 @@ plain_rests n (c ∷ cs) = ap (λ (t : List plain.Change). plain_above Whole n c
 pub rests_merge : (n : ℕ) (cs : List Change) → merge_above Whole n cs ≡ drop n (merge_above Whole 0 cs)
 rests_merge n cs = ap merge (plain_rests n cs) ∙ rest_of_merge n (map (plain_above Whole 0) cs)
 
--- ---- the best
-
-precedes-true : (c d : Change) → precedes c d ≡ true
-    → (d.log.sync_point ≤ c.log.sync_point) × (d.log.sync_point ≡ c.log.sync_point → c.sender ≤ d.sender)
-precedes-true c d e = (grind (arith, nat_tests, e), λ same. grind (arith, nat_tests, e, same))
-
-precedes-false : (c d : Change) → precedes c d ≡ false
-    → (c.log.sync_point ≤ d.log.sync_point) × (c.log.sync_point ≡ d.log.sync_point → d.sender ≤ c.sender)
-precedes-false c d e = (grind (arith, nat_tests, e), λ same. grind (arith, nat_tests, e, same))
-
--- one more change, which the best of the others precedes, or which precedes it
-best_more : (c : Change) (cs : List Change) (d : Change) → IsBest cs d → IsBest (c ∷ cs) (cond (precedes c d) c d)
-best_more c cs d h = on (precedes c d) refl
-  where
-    on : (b : Bool) → precedes c d ≡ b → IsBest (c ∷ cs) (cond b c d)
-    on true e = let p = precedes-true c d e in record {
-      member = Has-first c c cs refl;
-      greatest = λ x g. elim (Has-cases x c cs g) [
-        | inl same ↦ omega (arith, ap (λ (t : Change). t.log.sync_point) same)
-        | inr rest ↦ omega (arith, h.greatest x rest, p.0)
-      ];
-      lowest = λ x g at. elim (Has-cases x c cs g) [
-        | inl same ↦ omega (arith, ap (λ (t : Change). t.sender) same)
-        | inr rest ↦
-            let point : x.log.sync_point ≡ d.log.sync_point = omega (arith, h.greatest x rest, p.0, at) in
-            omega (arith, h.lowest x rest point, p.1 (omega (arith, point, at)))
-      ];
-    }
-    on false e = let p = precedes-false c d e in record {
-      member = Has-rest d c cs h.member;
-      greatest = λ x g. elim (Has-cases x c cs g) [
-        | inl same ↦ omega (arith, ap (λ (t : Change). t.log.sync_point) same, p.0)
-        | inr rest ↦ h.greatest x rest
-      ];
-      lowest = λ x g at. elim (Has-cases x c cs g) [
-        | inl same ↦
-            omega (arith, ap (λ (t : Change). t.sender) same, p.1 (omega (arith, ap (λ (t : Change). t.log.sync_point) same, at)))
-        | inr rest ↦ h.lowest x rest at
-      ];
-    }
-
-pub best_is_best : (cs : List Change) (g : Change) → best cs ≡ Some g → IsBest cs g
-best_is_best [] g e = absurd cc
-best_is_best (c ∷ cs) g e =
-    let same : better c (best cs) ≡ g = cc in
-    subst (IsBest (c ∷ cs)) same (on cs (best cs) refl (λ d is. best_is_best cs d is))
-  where
-    on : (ds : List Change) (o : Option Change) → best ds ≡ o → ((d : Change) → best ds ≡ Some d → IsBest ds d)
-        → IsBest (c ∷ ds) (better c o)
-    on ds (Some d) is rest = best_more c ds d (rest d is)
-    on [] None is rest = record {
-      member = Has-first c c [] refl;
-      greatest = λ x g. elim (Has-cases x c [] g) [
-        | inl same ↦ omega (arith, ap (λ (t : Change). t.log.sync_point) same)
-        | inr none ↦ absurd (Has-none x none)
-      ];
-      lowest = λ x g at. elim (Has-cases x c [] g) [
-        | inl same ↦ omega (arith, ap (λ (t : Change). t.sender) same)
-        | inr none ↦ absurd (Has-none x none)
-      ];
-    }
-    on (d ∷ ds) None is rest = absurd cc
-
-pub best_of_none : (cs : List Change) → best cs ≡ None → cs ≡ []
-best_of_none [] e = refl
-best_of_none (c ∷ cs) e = absurd cc
-
 -- ---- the merge of whole logs
-
-pub merged_is_merge : (cs : List Change) → (merged Whole cs).entries ≡ merge_above Whole 0 cs
-merged_is_merge [] = refl
-merged_is_merge (c ∷ cs) = refl
 
 longest_of : (cs : List Change) (c : Change) → Has cs c → length c.log.entries ≤ longest (map (plain_above Whole 0) cs)
 longest_of [] c h = absurd (Has-none c h)

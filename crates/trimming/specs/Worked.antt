@@ -1,12 +1,12 @@
 -- Logs worked by hand, and changes that have them.
 use Rattle.std.specs.Prelude.{ℕ, List, [], ◌∷◌, Some, None}
+use Rattle.nop_types.specs.declared.peer.Change.{Change}
 use Rattle.nop_types.specs.declared.request.Entry.{Entry}
 use Rattle.nop_types.specs.declared.request.Entry.TheVariants.{NoOp, Req}
 use Rattle.nop_types.specs.Checkpoints.{Checkpoint}
 use Rattle.nop_types.specs.Logs.{Log}
 use Rattle.nop_types.specs.Tables.{Account}
 use Rattle.histories.specs.Worked.{request_of, answered, account_of}
-use Rattle.trimming.specs.Merging.{Change}
 
 -- requests of clients 1 and 2, each with an op of one byte
 abbrev pub entry_a : Entry

@@ -12,8 +12,9 @@ ghost use Rattle.nop_types.specs.Logs.{
 };
 ghost use Rattle.nop_types.specs.CheckpointedLogs.{loads, slot_result, raised};
 ghost use Rattle.histories.specs.Worked.{appending};
+ghost use Rattle.log_merge.specs.Merging.{merged};
 ghost use Rattle.trimming.specs.Trimming.{trim};
-ghost use Rattle.trimming.specs.Merging.{trim_change, merged, Agree};
+ghost use Rattle.trimming.specs.Merging.{trim_change, Agree};
 ghost use Rattle.trimming.specs.Worked.{
   entry_a,
   entry_b,

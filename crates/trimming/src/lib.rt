@@ -1,8 +1,8 @@
 //! Laws on logs that are trimmed: in place of its entries up to the sync point, a trimmed log has
 //! the checkpoint of what their execution leaves (`trim`). Each law is the contract of a function
 //! with an empty body; it speaks of the definitions `Logs` and `CheckpointedLogs` of `nop_types`,
-//! in which a log is read as `Whole` or `Trimmed`. What a call does with the trimmed log is what it
-//! does with the whole one, trimmed.
+//! in which a log is read as `Whole` or `Trimmed`, and of `Merging` of `log_merge` (`merged`). What
+//! a call does with the trimmed log is what it does with the whole one, trimmed.
 //!
 //! - Logs: a trimmed log is as long as the whole one (`length_trims`), and has the same entries
 //!   above its sync point (`above_trims`, `entry_trims`). One may trim before or after an entry is
@@ -16,8 +16,8 @@
 //!   (`raise_trims`). Whatever the checkpoint of a log is, also one that no log has, its execution
 //!   is sound (`executions_are_sound`), and what stands above a slot stays when the sync point
 //!   rises to it (`raises_keep`).
-//! - The merge takes sync point and checkpoint of the change that `best_has_the_greatest` tells. It
-//!   trims where the merge of the whole logs begins with that change's synchronised entries
+//! - The merge takes sync point and checkpoint of the change that `best_has_the_greatest` of
+//!   `log_merge` tells. It trims where the merge of the whole logs begins with that change's synchronised entries
 //!   (`merges_trim`), as where it begins with those of each change (`agree_from_fronts`). Of whole
 //!   logs it is that of `log_merge` (`whole_logs_merge`), its sync point is within it
 //!   (`merge_stays_within`), and logs without checkpoints stay so (`no_checkpoints_come`).
@@ -26,7 +26,7 @@
 //! sync points are within the logs, is what a protocol gives.
 //!
 //! Files: `log_laws`, `checkpoint_laws`, `merge_laws`; `examples` computes logs and a merge worked
-//! by hand (`specs/Worked`). Definitions: `specs/Trimming` (`trim`), `Merging` (`merged`, `Agree`).
+//! by hand (`specs/Worked`). Definitions: `specs/Trimming` (`trim`), `Merging` (`Agree`).
 #![tactic(auto)]
 
 mod checkpoint_laws;
@@ -43,6 +43,5 @@ pub use log_laws::{
     overlay_trims, sync_points_rise, sync_points_stay_within,
 };
 pub use merge_laws::{
-    agree_from_fronts, best_has_the_greatest, merge_stays_within, merges_trim, no_checkpoints_come,
-    whole_logs_merge,
+    agree_from_fronts, merge_stays_within, merges_trim, no_checkpoints_come, whole_logs_merge,
 };

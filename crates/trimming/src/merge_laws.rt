@@ -1,4 +1,5 @@
-ghost use Rattle.std.specs.Prelude.{◌≡◌, ℕ, List, [], Some, None, map, take, drop};
+ghost use Rattle.std.specs.Prelude.{◌≡◌, ℕ, List, None, map, take, drop};
+ghost use Rattle.nop_types.specs.declared.peer.Change.{Change};
 ghost use Rattle.nop_types.specs.Meaning.{Meaning};
 ghost use Rattle.nop_types.specs.Lists.{Has, IsPrefixOf};
 ghost use Rattle.nop_types.specs.Logs.{
@@ -10,28 +11,13 @@ ghost use Rattle.nop_types.specs.Logs.{
   adopted,
   overlaid,
 };
+ghost use Rattle.log_merge.specs.Merging.{merge_above, merged};
 ghost use Rattle.trimming.specs.Trimming.{trim};
-ghost use Rattle.trimming.specs.Merging.{
-  Change,
-  trim_change,
-  merge_above,
-  best,
-  IsBest,
-  merged,
-  Agree,
-};
-
-/// The best of the changes is of the lowest sender among those with the greatest sync point. There
-/// is one, if there is a change.
-#[tactic(auto, using(crate::proofs::Merging::best_of_none))]
-pub fn best_has_the_greatest()
-    ensures some { (cs : List Change) (c : Change) → best cs ≡ Some c → IsBest cs c }
-    ensures none { (cs : List Change) → best cs ≡ None → cs ≡ [] }
-{}
+ghost use Rattle.trimming.specs.Merging.{trim_change, Agree};
 
 /// Of whole logs the entries are the plain merge, and what that has above a slot is the merge of
 /// what they have there.
-#[tactic(auto, using(crate::proofs::Merging::merged_is_merge, crate::proofs::Merging::rests_merge))]
+#[tactic(auto, using(log_merge::proofs::WholeLogs::merged_entries, crate::proofs::Merging::rests_merge))]
 pub fn whole_logs_merge()
     ensures entries { (cs : List Change) → (merged Whole cs).entries ≡ merge_above Whole 0 cs }
     ensures rests { (n : ℕ) (cs : List Change)
