@@ -87,7 +87,7 @@ main_same t ls w alike =
 agreed_beside : (t : WorldState) (ls : List Line) (w : WholeWorld) → Alike t ls w → whole.Agreed w → Agreed t
 agreed_beside t ls w alike agreed = record {
   pairs = λ i j slot a b e g. agreed.pairs i j slot (plain a) (plain b) (found i a e) (found j b g);
-  main = λ i a e. subst (λ (l : List Entry). IsPrefixOf (take a.state.state.sync.sync_point a.state.state.log) l)
+  main = λ i a e. subst (λ (l : List Entry). IsPrefixOf (take a.state.state.sync.sync_point a.state.state.log.entries) l)
       (sym (main_same t ls w alike)) (agreed.main i (plain a) (found i a e));
 }
   where

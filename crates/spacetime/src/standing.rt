@@ -56,7 +56,7 @@ pub fn standing_of<H: Host>(
         view: replica.view(),
         status: replica.status(),
         sync_point: replica.sync_point(),
-        slots: slots_of(alloc, replica.log().as_slice())?,
+        slots: slots_of(alloc, replica.log().entries())?,
     })
 }
 

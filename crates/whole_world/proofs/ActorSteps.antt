@@ -140,6 +140,7 @@ module _ {S : Type 0} (m : Meaning S) (f : ℕ) (config : Configuration) (p : Pa
         sequencer_count = shown.sequencer_count;
         client_count = length-set w.clients k (seated client_step.0) ∙ shown.client_count;
         replicas = shown.replicas;
+        points = shown.points;
         sequencers = shown.sequencers;
         clients = seats_shown w.clients c.clients k (seated client_step.0) shown.clients;
         controller = shown.controller;
@@ -188,6 +189,7 @@ module _ {S : Type 0} (m : Meaning S) (f : ℕ) (config : Configuration) (p : Pa
         sequencer_count = length-set w.sequencers j (seated sequencer_step.0) ∙ shown.sequencer_count;
         client_count = shown.client_count;
         replicas = shown.replicas;
+        points = shown.points;
         sequencers = seats_shown w.sequencers c.sequencers j (seated sequencer_step.0) shown.sequencers;
         clients = shown.clients;
         controller = shown.controller;
@@ -230,6 +232,7 @@ module _ {S : Type 0} (m : Meaning S) (f : ℕ) (config : Configuration) (p : Pa
         sequencer_count = shown.sequencer_count;
         client_count = shown.client_count;
         replicas = shown.replicas;
+        points = shown.points;
         sequencers = shown.sequencers;
         clients = shown.clients;
         controller = put-here c.controllers 0 (control_of controller_step.0);

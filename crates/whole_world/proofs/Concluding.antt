@@ -52,13 +52,13 @@ module _ {S : Type 0} (m : Meaning S) (f : ℕ) (config : Configuration) (count 
     within i q e = omega (arith, slice_get_within w.replicas i q e, shown.replica_count, shown.config)
 
     begins : (i : ℕ) (q : Seated WholeReplica) → slice_get w.replicas i ≡ Some q
-        → IsPrefixOf (take q.state.state.sync.sync_point q.state.state.log) (main_log w)
+        → IsPrefixOf (take q.state.state.sync.sync_point q.state.state.log.entries) (main_log w)
     begins i q e = subst (λ (s : Member). IsPrefixOf (take s.sync.sync_point s.log) (main_log w)) (shown.replicas i q e)
         (synchronised_begin m f c inv sync i (within i q e) (main_view w) (main_log w) (is_main_log m f w c inv shown))
 
     agree : (i j slot : ℕ) (a b : Seated WholeReplica) → slice_get w.replicas i ≡ Some a → slice_get w.replicas j ≡ Some b
         → slot ≤ a.state.state.sync.sync_point → slot ≤ b.state.state.sync.sync_point
-        → slot_of a.state.state.log slot ≡ slot_of b.state.state.log slot
+        → slot_of a.state.state.log.entries slot ≡ slot_of b.state.state.log.entries slot
     agree i j slot a b e g low other =
         ap (λ (s : Member). slot_of s.log slot) (sym (shown.replicas i a e))
         ∙ synchronised_prefixes_agree m f c inv sync i j slot (within i a e) (within j b g)

@@ -1,83 +1,109 @@
 -- The changes that a leader gathers agree, where the protocol matches its state.
-use Rattle.std.proofs.Common.{◌≡◌, ◌≤◌, ℕ, List, [], ◌∷◌, length, map, take, true, Some, refl, sym, ap, subst, ◌∙◌}
+use Rattle.std.proofs.Common.{◌≡◌, ◌<◌, ℕ, List, length, map, take, true, Some, refl, sym, ap, subst, ◌∙◌}
+use Rattle.std.specs.Prelude.{option_map}
+use Rattle.std.proofs.lemmas.List.{length-map}
 use Rattle.nop_types.specs.Lists.{Has, IsPrefixOf}
 use Rattle.nop_types.specs.Logs.{IsWithin, Whole}
 use Rattle.nop_types.specs.Meaning.{Meaning}
-use Rattle.nop_types.specs.declared.peer.Change as peer
+use Rattle.nop_types.specs.PlainChanges as plains
+use Rattle.nop_types.specs.PlainChanges.{plain}
+use Rattle.nop_types.specs.Views.{is_view}
+use Rattle.nop_types.specs.declared.peer.Change.{Change}
 use Rattle.nop_types.specs.declared.view.View.{View}
+use Rattle.facts.proofs.Members.{Has-from_filter}
 use Rattle.log_merge.specs.Merge.{merge}
-use Rattle.log_merge.specs.Starting.{kept}
-use Rattle.started_views.proofs.Changes.{kept_from}
-use Rattle.view_change.specs.Gathering.{Gathering, counted}
+use Rattle.log_merge.specs.Merging.{kept_told, merge_above}
+use Rattle.log_merge.specs.Starting.{greatest, kept}
+use Rattle.log_merge.proofs.WholeLogs.{kept_is_plain}
+use Rattle.view_change.specs.Gathering.{Gathering, counted, teller}
 use Rattle.replica_state.specs.declared.state.ReplicaState.{ReplicaState}
 use Rattle.replica_state.specs.Moves.{keep_change}
 use Rattle.replica_state.specs.Sends.{Effect}
 use Rattle.replica_state.specs.State.{is_other}
 use Rattle.replica_rows.specs.Rows.{view_change_request}
-use Rattle.trimming.specs.Merging.{Change, plain_above, merge_above}
-use Rattle.trimming.proofs.Merging.{agree_from_fronts}
+use Rattle.trimming.proofs.Merging.{agree_from_fronts, merged_within}
 use Rattle.protocol.specs.Conf.{Conf, DidSay}
 use Rattle.protocol.specs.Member.{Member}
 use Rattle.protocol.specs.Runs.{KeepChange, run}
 use Rattle.protocol.specs.Said.{ViewChange, says}
 use Rattle.protocol.proofs.Runs.{run_keeps}
 use Rattle.protocol_sync.proofs.Gathered.{starts_begin_with_synced}
+use Rattle.refinement.specs.Projection.{member_of, plain_gathering}
 use Rattle.refinement.specs.Replicas.{Matches}
 use Rattle.refinement.proofs.Composing.{matches_end, move_reaches}
 use Rattle.refinement.proofs.EnteringRows.{view_change_request_reaches}
+use Rattle.refinement.proofs.Gatherings.{counted_plain}
 use Rattle.refinement.proofs.Matching.{own}
 use Rattle.refinement.proofs.RoleRows.{other_from}
-use Rattle.whole_world.specs.Trimming.{with_whole_log, StartAgrees}
-use Rattle.whole_world.proofs.Mapped.{slice_get-from_map}
+use Rattle.trimmed_rows.specs.Premises.{Opens}
+use Rattle.whole_world.proofs.Mapped.{Has-map}
 
 -- of logs that are kept whole the merge is the plain one
-merge_is_plain : (cs : List peer.Change) → map (plain_above Whole 0) (map with_whole_log cs) ≡ cs
-merge_is_plain [] = refl
-merge_is_plain (c ∷ cs) = ap (λ (t : List peer.Change). c ∷ t) (merge_is_plain cs)
+merge_is_plain : (cs : List Change) → merge (kept (map plain cs)) ≡ merge_above Whole 0 (kept_told cs)
+merge_is_plain cs = ap merge (sym (kept_is_plain cs))
+
+-- a change that is kept was told
+was_told : (cs : List Change) (x : Change) → Has (kept_told cs) x → Has (map plain cs) (plain x)
+was_told cs x i = Has-map plain cs x (Has-from_filter (λ c. is_view c.last_normal (greatest (map plain cs))) x cs i).0
 
 module _ {S : Type 0} (m : Meaning S) (f : ℕ) (c : Conf) (r : ℕ) (s : ReplicaState) (h : Matches m f c r s) where
-  module _ (g : Gathering) (gathers : s.changes ≡ Some g) where
+  module _ (g : Gathering Change) (gathers : s.changes ≡ Some g) where
+    abbrev plainly : Gathering plains.Change
+    plainly = plain_gathering g
+
+    -- the protocol has them with plain logs
+    gathers_plainly : option_map plain_gathering s.changes ≡ Some plainly
+    gathers_plainly = ap (option_map plain_gathering) gathers
+
     -- each was entered with, so its sync point is within its log
-    pub gathered_within : (x : peer.Change) → Has g.changes x → x.sync_point ≤ length x.log
+    pub gathered_within : (x : Change) → Has g.changes x → IsWithin x.log
     gathered_within x i =
-        let entry = ((own m f c r s h).changes.gathers g gathers).entries x i in
+        let entry = ((own m f c r s h).changes.gathers plainly gathers_plainly).entries (plain x) (Has-map plain g.changes x i) in
         (h.sync.points.entries x.sender s.view _ entry).agrees.same.left
 
-    pub gathered_agree : StartAgrees g
-    gathered_agree enough =
-        let here : (c.replicas r).changes ≡ Some g = ap (λ (p : Member). p.changes) h.state ∙ gathers in
-        let same : merge (kept g.changes) ≡ merge_above Whole 0 (map with_whole_log (kept g.changes)) =
-        ap merge (sym (merge_is_plain (kept g.changes))) in
-        agree_from_fronts (map with_whole_log (kept g.changes)) (λ d i.
-        let of = slice_get-from_map with_whole_log (kept g.changes) i.0 d i.1 in
-        let x : peer.Change = of.from in
-        let front = starts_begin_with_synced m f c r g h.inv h.sync h.within (record { gathers = here; enough = enough }) x
-        (kept_from g.changes x (i.0, of.there)).0 in
-        subst (λ (y : Change). IsWithin y.log × IsPrefixOf (take y.log.sync_point y.log.entries)
-        (merge_above Whole 0 (map with_whole_log (kept g.changes)))) of.is
-        (front.within, subst (IsPrefixOf (take x.sync_point x.log)) same front.begins))
+    pub gathered_open : Opens g
+    gathered_open enough =
+        let here : (c.replicas r).changes ≡ Some plainly = ap (λ (p : Member). p.changes) h.state ∙ gathers_plainly in
+        let many : g.f < length (map plain g.changes) = subst (λ (n : ℕ). g.f < n) (sym (length-map g.changes plain)) enough in
+        let front = λ (x : Change) (i : Has (kept_told g.changes) x). starts_begin_with_synced m f c r plainly h.inv h.sync h.within
+        (record { gathers = here; enough = many }) (plain x) (was_told g.changes x i) in
+        record {
+          agree = agree_from_fronts (kept_told g.changes) (λ x i. (
+            let t = front x i in t.within,
+            let t = front x i in
+                subst (IsPrefixOf (take x.log.sync_point x.log.entries)) (merge_is_plain g.changes) t.begins,
+          ));
+          within = merged_within (kept_told g.changes) (λ x i. let t = front x i in t.within);
+        }
 
 -- also with a change more, which another replica told
-pub with_change_agree : {S : Type 0} (m : Meaning S) (f : ℕ) (c : Conf) (r : ℕ) (s : ReplicaState) (v : View) (x : peer.Change)
-    (g : Gathering) → Matches m f c r s → is_other s x.sender ≡ true
-    → DidSay c.said x.sender v (ViewChange x.last_normal x.next x.sync_point x.log)
-    → (view_change_request m v s).0.view ≡ v → (view_change_request m v s).0.changes ≡ Some g → StartAgrees (counted g x)
-with_change_agree m f c r s v x g h other said view gathers =
-    let e : Effect = view_change_request m v s in
+pub with_change_opens : {S : Type 0} (m : Meaning S) (f : ℕ) (c : Conf) (r : ℕ) (s : ReplicaState) (v : View) (x : Change)
+    (g : Gathering Change) → Matches m f c r s → is_other s x.sender ≡ true
+    → DidSay c.said x.sender v (ViewChange x.last_normal x.next x.log.sync_point x.log.entries)
+    → (view_change_request m Whole v s).0.view ≡ v → (view_change_request m Whole v s).0.changes ≡ Some g
+    → Opens (counted teller g x)
+with_change_opens m f c r s v x g h other said view gathers =
+    let e : Effect = view_change_request m Whole v s in
     let one = view_change_request_reaches m f r c s v h in
     let d : Conf = run m f c one.moves in
     let there : Matches m f d r e.0 = matches_end m f r c s e h one in
     let from = other_from m f c r s x.sender h other in
     let number : e.0.number ≡ s.number = (own m f d r e.0 there).number ∙ sym (own m f c r s h).number in
-    let told : DidSay d.said x.sender v (ViewChange x.last_normal x.next x.sync_point x.log) =
-    (run_keeps m f c one.moves h.inv one.may).1.sent.said (says x.sender v (ViewChange x.last_normal x.next x.sync_point x.log)) said in
-    let two = move_reaches m f r d e.0 (keep_change e.0 g x) (KeepChange g x) there (record {
-      gathers = gathers;
+    let told : DidSay d.said x.sender v (ViewChange x.last_normal x.next x.log.sync_point x.log.entries) =
+    (run_keeps m f c one.moves h.inv one.may).1.sent.said
+    (says x.sender v (ViewChange x.last_normal x.next x.log.sync_point x.log.entries)) said in
+    let two = move_reaches m f r d e.0 (keep_change e.0 g x) (KeepChange (plain_gathering g) (plain x)) there (record {
+      gathers = ap (option_map plain_gathering) gathers;
       change = record {
-        said = subst (λ (w : View). DidSay d.said x.sender w (ViewChange x.last_normal x.next x.sync_point x.log)) (sym view) told;
+        said = subst (λ (w : View). DidSay d.said x.sender w (ViewChange x.last_normal x.next x.log.sync_point x.log.entries)) (sym view)
+            told;
         within = from.within;
         apart = λ same. from.apart (same ∙ number);
       };
-    }) (record { state = refl; said = refl; replies = refl }) in
-    gathered_agree m f (run m f d two.moves) r (keep_change e.0 g x).0 (matches_end m f r d e.0 (keep_change e.0 g x) there two)
-    (counted g x) refl
+    }) (record {
+      state = ap (λ (y : Gathering plains.Change). record (member_of e.0) { changes = Some y }) (counted_plain g x);
+      said = refl;
+      replies = refl;
+    }) there.points in
+    gathered_open m f (run m f d two.moves) r (keep_change e.0 g x).0 (matches_end m f r d e.0 (keep_change e.0 g x) there two)
+    (counted teller g x) refl

@@ -1,5 +1,4 @@
 pub mod ActorSteps
-pub mod Alone
 pub mod At
 pub mod Coming
 pub mod Concluding
@@ -21,4 +20,5 @@ pub mod Seats
 pub mod Sendings
 pub mod Steps
 pub mod Told
+pub mod TrimmedRows
 pub mod Trimming

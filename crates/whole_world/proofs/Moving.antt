@@ -40,6 +40,7 @@ stands_told f config w c more h = record {
     sequencer_count = h.actors.sequencer_count;
     client_count = h.actors.client_count;
     replicas = h.actors.replicas;
+    points = h.actors.points;
     sequencers = h.actors.sequencers;
     clients = h.actors.clients;
     controller = h.actors.controller;

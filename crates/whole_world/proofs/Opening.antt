@@ -7,6 +7,7 @@ use Rattle.nop_types.specs.Configuration.{Configuration, is_configuration}
 use Rattle.nop_types.specs.Meaning.{Meaning}
 use Rattle.facts.proofs.Members.{Has-none}
 use Rattle.facts.proofs.Places.{slice_get-push_cases}
+use Rattle.replica_state.specs.State.{PointsMeet}
 use Rattle.sequencer.specs.SequencerSteps as sequencer
 use Rattle.session_control.specs.ControllerSteps as controller
 use Rattle.protocol.specs.Conf.{opening}
@@ -70,6 +71,7 @@ opening_stands m f config is count = record {
       sequencer_count = counted_length sequencer.opening config.sequencers;
       client_count = counted_length (opening_client config) config.clients;
       replicas = λ i q e. ap (λ (r : WholeReplica). member_of r.state) (counted_get (opening_replica config) config.replicas i q e);
+      points = λ i q e. subst (λ (r : WholeReplica). PointsMeet r.state) (counted_get (opening_replica config) config.replicas i q e) refl;
       sequencers = counted_get sequencer.opening config.sequencers;
       clients = counted_get (opening_client config) config.clients;
       controller = refl;

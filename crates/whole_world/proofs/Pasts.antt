@@ -31,17 +31,17 @@ note_idle f past r s had = same_past (note f past r s s) past (record {
 
 -- the past has the log of each replica from the number k on
 abbrev pub HasLogs : Past → ℕ → List (Seated WholeReplica) → Type 0
-HasLogs past k ps = (i : ℕ) (p : Seated WholeReplica) → slice_get ps i ≡ Some p → HadLog past (k + i) p.state.state.last_normal p.state.state.log
+HasLogs past k ps = (i : ℕ) (p : Seated WholeReplica) → slice_get ps i ≡ Some p → HadLog past (k + i) p.state.state.last_normal p.state.state.log.entries
 
 rest_has : (past : Past) (k : ℕ) (p : Seated WholeReplica) (ps : List (Seated WholeReplica)) → HasLogs past k (p ∷ ps)
     → HasLogs past (suc k) ps
 rest_has past k p ps h i q e = let same : k + suc i ≡ suc k + i = omega arith in
-    subst (λ (j : ℕ). HadLog past j q.state.state.last_normal q.state.state.log) same (h (suc i) q e)
+    subst (λ (j : ℕ). HadLog past j q.state.state.last_normal q.state.state.log.entries) same (h (suc i) q e)
 
 first_has : (past : Past) (k : ℕ) (p : Seated WholeReplica) (ps : List (Seated WholeReplica)) → HasLogs past k (p ∷ ps)
-    → HadLog past k p.state.state.last_normal p.state.state.log
+    → HadLog past k p.state.state.last_normal p.state.state.log.entries
 first_has past k p ps h = let same : k + 0 ≡ k = omega arith in
-    subst (λ (j : ℕ). HadLog past j p.state.state.last_normal p.state.state.log) same (h 0 p refl)
+    subst (λ (j : ℕ). HadLog past j p.state.state.last_normal p.state.state.log.entries) same (h 0 p refl)
 
 pub noted_idle : (f : ℕ) (past : Past) (k : ℕ) (ps : List (Seated WholeReplica)) → HasLogs past k ps → noted f past k ps ps ≡ past
 noted_idle f past k [] h = refl

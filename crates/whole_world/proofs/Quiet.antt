@@ -9,6 +9,7 @@ use Rattle.client_quorum.specs.declared.state.ClientState.{ClientState}
 use Rattle.sequencer.specs.declared.state.SequencerState.{SequencerState}
 use Rattle.session_control.specs.declared.state.ControllerState.{ControllerState}
 use Rattle.session_control.specs.ControllerSteps as controller
+use Rattle.replica_state.specs.State.{PointsMeet}
 use Rattle.started_views.specs.Past.{note}
 use Rattle.protocol.specs.Conf.{Conf}
 use Rattle.protocol.specs.Invariant.{Inv}
@@ -75,6 +76,7 @@ module _ {S : Type 0} (m : Meaning S) (f : ℕ) (config : Configuration) (p : Pa
       sequencer_count = shown.sequencer_count;
       client_count = shown.client_count;
       replicas = seats_same (λ j s. c.replicas j ≡ member_of s.state) w.replicas i old new there same shown.replicas;
+      points = seats_same (λ j s. PointsMeet s.state) w.replicas i old new there same shown.points;
       sequencers = shown.sequencers;
       clients = shown.clients;
       controller = shown.controller;
@@ -116,6 +118,7 @@ module _ {S : Type 0} (m : Meaning S) (f : ℕ) (config : Configuration) (p : Pa
       sequencer_count = length-set w.sequencers j new ∙ shown.sequencer_count;
       client_count = shown.client_count;
       replicas = shown.replicas;
+      points = shown.points;
       sequencers = seats_same (λ k s. c.sequencers k ≡ s) w.sequencers j old new there same shown.sequencers;
       clients = shown.clients;
       controller = shown.controller;
@@ -143,6 +146,7 @@ module _ {S : Type 0} (m : Meaning S) (f : ℕ) (config : Configuration) (p : Pa
       sequencer_count = shown.sequencer_count;
       client_count = length-set w.clients k new ∙ shown.client_count;
       replicas = shown.replicas;
+      points = shown.points;
       sequencers = shown.sequencers;
       clients = seats_same (λ j s. c.clients j ≡ s) w.clients k old new there same shown.clients;
       controller = shown.controller;
@@ -173,6 +177,7 @@ module _ {S : Type 0} (m : Meaning S) (f : ℕ) (config : Configuration) (p : Pa
       sequencer_count = shown.sequencer_count;
       client_count = shown.client_count;
       replicas = shown.replicas;
+      points = shown.points;
       sequencers = shown.sequencers;
       clients = shown.clients;
       controller = shown.controller ∙ ap control_of (sym same);

@@ -28,6 +28,7 @@ use Rattle.replica_core.specs.declared.replica.TheConstants.{LAST_MESSAGE}
 use Rattle.replica_state.specs.declared.sending.Sending.{Sending}
 use Rattle.replica_state.specs.declared.sending.Sending.TheVariants.{ToClient, ToReplicas}
 use Rattle.replica_state.specs.Sends.{Effect, SendingFits, still}
+use Rattle.replica_state.specs.State.{PointsMeet}
 use Rattle.replica_rows.specs.Messages.{Arrival}
 use Rattle.replica_rows.specs.Within.{ResultsShort}
 use Rattle.started_views.specs.Past.{Past, note}
@@ -62,7 +63,7 @@ use Rattle.whole_world.proofs.Outputs.{no_line}
 use Rattle.whole_world.proofs.Pasts.{note_idle, noted_one}
 use Rattle.whole_world.proofs.Quiet.{has_logs}
 use Rattle.whole_world.proofs.RowRanges.{RowFits, row_fits, replica_fits}
-use Rattle.whole_world.proofs.Seats.{seats_become}
+use Rattle.whole_world.proofs.Seats.{seats_become, seats_hold}
 use Rattle.whole_world.proofs.Sendings.{replied_is_sent, sent_is_replied, reply_fits, peers_fit, peers_said, said_by_peers}
 
 -- ---- the messages of a row
@@ -217,6 +218,7 @@ module _ {S : Type 0} (m : Meaning S) (f : ℕ) (config : Configuration) (p : Pa
         above = subst (GapsAreAbove f) ran.ends
             (gaps_stay_above m f (opening config) ran.moves start begins (gaps_open_above f config) ran.may);
         state = shown.replicas r old there;
+        points = shown.points r old there;
       }
 
   -- nothing was taken
@@ -225,6 +227,7 @@ module _ {S : Type 0} (m : Meaning S) (f : ℕ) (config : Configuration) (p : Pa
     moves = [];
     may = tt;
     state = matches.state;
+    points = matches.points;
     others = record {
       replicas = λ q other. refl;
       sequencers = refl;
@@ -278,6 +281,7 @@ module _ {S : Type 0} (m : Meaning S) (f : ℕ) (config : Configuration) (p : Pa
     client_count = shown.client_count;
     replicas = seats_become (λ j s. c.replicas j ≡ member_of s.state) (λ j s. d.replicas j ≡ member_of s.state) w.replicas r
         new reaches.state (λ j s other h. reaches.others.replicas j other ∙ h) shown.replicas;
+    points = seats_hold (λ s. PointsMeet s.state) w.replicas r new reaches.points shown.points;
     sequencers = λ j q i. ap (λ (g : ℕ → SequencerState). g j) reaches.others.sequencers ∙ shown.sequencers j q i;
     clients = λ k q i. ap (λ (g : ℕ → ClientState). g k) reaches.others.clients ∙ shown.clients k q i;
     controller = ap (λ (g : ℕ → Control). g 0) reaches.others.controllers ∙ shown.controller;

@@ -3,6 +3,7 @@ use Rattle.std.proofs.Common.{◌≡◌, ◌<◌, ◌+◌, ◌^◌, ℕ, Bool, t
 use Rattle.std.specs.Prelude.{nat_lt}
 use Rattle.std.specs.List.{AllByRecursion}
 use Rattle.std.proofs.lemmas.Bool.{ltb-true}
+use Rattle.nop_types.specs.Logs.{Whole}
 use Rattle.nop_types.specs.Meaning.{Meaning}
 use Rattle.replica_state.specs.Sends.{Effect, still, message_count}
 use Rattle.replica_rows.specs.Messages.{Arrival, arrive}
@@ -39,7 +40,7 @@ module _ {S : Type 0} (m : Meaning S) (short : ResultsShort m) (i : ℕ) (r : Wh
       record {
         ranges = arrive_stays m short r.state a fits.within fits.receiver good;
         number = arrive_keeps_number m r.state a ∙ fits.number;
-        by = subst (λ (q : ℕ). AllByRecursion (IsBy q) (arrive m r.state a).1) fits.number (arrive_sends_own m r.state a);
+        by = subst (λ (q : ℕ). AllByRecursion (IsBy q) (arrive m Whole r.state a).1) fits.number (arrive_sends_own m r.state a);
         high = omega (arith, few, low);
       }
   row_if_fits false a is good = still_fits

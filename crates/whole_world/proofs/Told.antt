@@ -21,7 +21,7 @@ use Rattle.protocol_sync.specs.Laws.{IsMainLog}
 use Rattle.protocol_sync.specs.Synced.{Anchored, Told, Sync}
 use Rattle.protocol_sync.proofs.Agreeing.{fixed_from}
 use Rattle.refinement.specs.Projection.{word_of}
-use Rattle.whole_world.specs.Trimming.{whole_log, told_log}
+use Rattle.whole_world.specs.Trimming.{told_log}
 
 -- the sync point is within the log, which is the same up to there as the one from which the history is read
 pub record FrontOf (main : List Entry) (l : Log) : Type 0 where
@@ -31,41 +31,42 @@ pub record FrontOf (main : List Entry) (l : Log) : Type 0 where
 module _ {S : Type 0} (m : Meaning S) (f : ℕ) (c : Conf) (inv : Inv m f c) (sync : Sync f c) (v : View) (main : List Entry)
     (is : IsMainLog f c v main) where
   -- what is anchored in a view, and the same as in its leader's log
-  front_from : (w : View) (z : ℕ) (l lead : List Entry) → LeaderHad f c.past w lead → SameTo z l lead → Anchored f c w z
-      → FrontOf main (whole_log z l)
-  front_from w z l lead leads same anchored = record {
+  front_from : (w : View) (l : Log) (lead : List Entry) → LeaderHad f c.past w lead → SameTo l.sync_point l.entries lead
+      → Anchored f c w l.sync_point → FrontOf main l
+  front_from w l lead leads same anchored = record {
     within = same.left;
-    begins = synchronised_agree f c.stamps (last_normals c) c.past (grounds_of m f c inv) v w main lead l z is leads same
-        (fixed_from f c sync w z anchored);
+    begins = synchronised_agree f c.stamps (last_normals c) c.past (grounds_of m f c inv) v w main lead l.entries l.sync_point is leads
+        same (fixed_from f c sync w l.sync_point anchored);
   }
 
   -- what was told of the log of a view's leader
-  told_front : (w : View) (z : ℕ) (l lead : List Entry) → LeaderHad f c.past w lead → IsPrefixOf l lead → Told f c w z l
-      → FrontOf main (whole_log z l)
-  told_front w z l lead leads begins t =
-      front_from w z l lead leads (same_from_prefix z l l lead t.within (IsPrefixOf-refl l) begins) t.anchored
+  told_front : (w : View) (l : Log) (lead : List Entry) → LeaderHad f c.past w lead → IsPrefixOf l.entries lead
+      → Told f c w l.sync_point l.entries → FrontOf main l
+  told_front w l lead leads begins t =
+      front_from w l lead leads (same_from_prefix l.sync_point l.entries l.entries lead t.within (IsPrefixOf-refl l.entries) begins)
+      t.anchored
 
   -- what a replica entered a view with
-  change_front : (q : ℕ) (w u : View) (x z : ℕ) (l : List Entry) → DidSay c.said q w (ViewChange u x z l) → FrontOf main (whole_log z l)
-  change_front q w u x z l h =
-      let good = sync.points.entries q w _ (inv.said (says q w (ViewChange u x z l)) h) in
-      front_from u z l good.agrees.lead good.agrees.leads good.agrees.same good.anchored
+  change_front : (q : ℕ) (w u : View) (x : ℕ) (l : Log) → DidSay c.said q w (ViewChange u x l.sync_point l.entries) → FrontOf main l
+  change_front q w u x l h =
+      let good = sync.points.entries q w _ (inv.said (says q w (ViewChange u x l.sync_point l.entries)) h) in
+      front_from u l good.agrees.lead good.agrees.leads good.agrees.same good.anchored
 
-  start_front : (q : ℕ) (w : View) (x z : ℕ) (l : List Entry) → DidSay c.said q w (StartView x z l) → FrontOf main (whole_log z l)
-  start_front q w x z l h =
-      let begun = inv.said (says q w (StartView x z l)) h in
-      told_front w z l begun.lead begun.leads begun.begins (sync.points.starts q w x z l h)
+  start_front : (q : ℕ) (w : View) (x : ℕ) (l : Log) → DidSay c.said q w (StartView x l.sync_point l.entries) → FrontOf main l
+  start_front q w x l h =
+      let begun = inv.said (says q w (StartView x l.sync_point l.entries)) h in
+      told_front w l begun.lead begun.leads begun.begins (sync.points.starts q w x l.sync_point l.entries h)
 
-  prepare_front : (q : ℕ) (w : View) (z : ℕ) (l : List Entry) → DidSay c.said q w (SyncPrepare z l) → FrontOf main (whole_log z l)
-  prepare_front q w z l h =
-      let prepared = inv.said (says q w (SyncPrepare z l)) h in
-      told_front w z l prepared.lead prepared.leads prepared.begins (sync.points.prepares q w z l h)
+  prepare_front : (q : ℕ) (w : View) (l : Log) → DidSay c.said q w (SyncPrepare l.sync_point l.entries) → FrontOf main l
+  prepare_front q w l h =
+      let prepared = inv.said (says q w (SyncPrepare l.sync_point l.entries)) h in
+      told_front w l prepared.lead prepared.leads prepared.begins (sync.points.prepares q w l.sync_point l.entries h)
 
   -- whatever message tells it
   pub log_front : (q : ℕ) (w : View) (b : Body) (l : Log) → Has c.said (says q w (word_of b)) → told_log b ≡ Some l → FrontOf main l
-  log_front q w (bodies.ViewChange u x z k) l h e = subst (FrontOf main) (same_Some (whole_log z k) l e) (change_front q w u x z k h)
-  log_front q w (bodies.StartView x z k) l h e = subst (FrontOf main) (same_Some (whole_log z k) l e) (start_front q w x z k h)
-  log_front q w (bodies.SyncPrepare z k) l h e = subst (FrontOf main) (same_Some (whole_log z k) l e) (prepare_front q w z k h)
+  log_front q w (bodies.ViewChange u x k) l h e = subst (FrontOf main) (same_Some k l e) (change_front q w u x k h)
+  log_front q w (bodies.StartView x k) l h e = subst (FrontOf main) (same_Some k l e) (start_front q w x k h)
+  log_front q w (bodies.SyncPrepare k) l h e = subst (FrontOf main) (same_Some k l e) (prepare_front q w k h)
   log_front q w (bodies.SlotLookup k) l h e = absurd cc
   log_front q w (bodies.Found k r) l h e = absurd cc
   log_front q w (bodies.GapCommit k) l h e = absurd cc

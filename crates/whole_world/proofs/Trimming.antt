@@ -1,22 +1,24 @@
 -- In a safe whole world sync points are within the logs, changes that are gathered agree, and so do fronts.
-use Rattle.std.proofs.Common.{◌≡◌, ◌≤◌, ◌+◌, ◌*◌, ℕ, zero, suc, true, Some, refl, subst, arith, List, length, take, length-take}
+use Rattle.std.proofs.Common.{◌≡◌, ◌≤◌, ◌+◌, ◌*◌, ℕ, zero, suc, true, Some, None, refl, subst, arith, List, length, take, length-take}
 use Rattle.std.specs.Prelude.{◌/◌, slice_get}
-use Rattle.std.proofs.lemmas.Option.{slice_get_within}
+use Rattle.std.proofs.lemmas.Option.{slice_get_within, same_Some}
 use Rattle.nop_types.specs.Configuration.{Configuration}
 use Rattle.nop_types.specs.Lists.{Has, IsPrefixOf}
 use Rattle.nop_types.specs.Logs.{Log}
 use Rattle.nop_types.specs.Meaning.{Meaning}
+use Rattle.nop_types.specs.Ranges.{BodyFits}
 use Rattle.nop_types.specs.declared.output.Actor.{Actor}
 use Rattle.nop_types.specs.declared.peer.Body.{Body}
 use Rattle.nop_types.specs.declared.peer.Body.TheVariants as bodies
+use Rattle.nop_types.specs.declared.peer.Change.{Change}
 use Rattle.nop_types.specs.declared.request.Entry.{Entry}
 use Rattle.nop_types.specs.declared.view.View.{View}
 use Rattle.started_views.specs.Logs.{SameTo}
 use Rattle.started_views.proofs.Logs.{same_from_prefix, same_sym, same_trans, same_less}
 use Rattle.facts.proofs.Prefixes.{IsPrefixOf-take}
-use Rattle.view_change.specs.Gathering.{Gathering, counted}
+use Rattle.view_change.specs.Gathering.{Gathering, counted, teller}
 use Rattle.replica_state.specs.declared.state.ReplicaState.{ReplicaState}
-use Rattle.replica_state.specs.State.{is_other}
+use Rattle.replica_state.specs.State.{PointsMeet, is_other}
 use Rattle.protocol.specs.Conf.{Conf, opening}
 use Rattle.protocol.specs.Member.{Member}
 use Rattle.protocol.specs.Said.{says}
@@ -30,12 +32,13 @@ use Rattle.refinement.specs.Projection.{member_of, word_of, said_of}
 use Rattle.refinement.specs.Replicas.{Matches}
 use Rattle.whole_world.specs.Passed.{passed}
 use Rattle.whole_world.specs.Safe.{IsSafe}
-use Rattle.whole_world.specs.Trimming.{PointsWithin, told_log, AllWithin, StartAgrees, after_request, StartsAgree, FrontsAgree, CanTrim}
+use Rattle.trimmed_rows.specs.Premises.{PointsWithin, Opens, after_request}
+use Rattle.trimmed_rows.proofs.Alone.{entered_opens}
+use Rattle.whole_world.specs.Trimming.{told_log, AllWithin, StartsAgree, FrontsAgree, CanTrim}
 use Rattle.whole_world.specs.Trimming.{SafeCanTrim, WholeCanTrim}
 use Rattle.whole_world.specs.Whole.{WholeReplica, WholeWorld, Letter, Brings, main_view, main_log}
 use Rattle.whole_world.proofs.Counts.{counts_from}
-use Rattle.whole_world.proofs.Gathered.{gathered_within, gathered_agree, with_change_agree}
-use Rattle.whole_world.proofs.Alone.{entered_agree}
+use Rattle.whole_world.proofs.Gathered.{gathered_within, gathered_open, with_change_opens}
 use Rattle.whole_world.proofs.MainLogs.{is_main_log}
 use Rattle.whole_world.proofs.Mapped.{Has-map}
 use Rattle.whole_world.proofs.Safe.{whole_runs_are_safe}
@@ -48,8 +51,9 @@ prepared_within f c r p good (suc n) is =
     let low : p.sync.prepared ≤ length p.log = h.agrees.same.left in
     omega (arith, low, is)
 
-good_within : (f : ℕ) (c : Conf) (r : ℕ) (s : ReplicaState) → GoodSync f c r (member_of s) → PointsWithin s
-good_within f c r s good = record {
+good_within : (f : ℕ) (c : Conf) (r : ℕ) (s : ReplicaState) → PointsMeet s → GoodSync f c r (member_of s) → PointsWithin s
+good_within f c r s meet good = record {
+  points = meet;
   sync_point = good.agrees.same.left;
   prepared = prepared_within f c r (member_of s) good s.sync.prepared refl;
   round = λ x e. (let h = good.syncing x e in (h.above, h.within));
@@ -64,6 +68,19 @@ front_same s l a low h =
 -- two logs that have fronts of a third are the same as far as both fronts go
 fronts_same : (s t n : ℕ) (l k a : List Entry) → SameTo s l a → SameTo t k a → n ≤ s → n ≤ t → SameTo n l k
 fronts_same s t n l k a h g low other = same_trans n l a k (same_less s n l a low h) (same_sym n k a (same_less t n k a other g))
+
+-- a log that is told is whole
+no_checkpoint : (b : Body) (l : Log) → BodyFits b → told_log b ≡ Some l → l.checkpoint ≡ None
+no_checkpoint (bodies.ViewChange u n l) k fits e = subst (λ (x : Log). x.checkpoint ≡ None) (same_Some l k e) fits.told.whole
+no_checkpoint (bodies.StartView n l) k fits e = subst (λ (x : Log). x.checkpoint ≡ None) (same_Some l k e) fits.told.whole
+no_checkpoint (bodies.SyncPrepare l) k fits e = subst (λ (x : Log). x.checkpoint ≡ None) (same_Some l k e) fits.whole
+no_checkpoint (bodies.SlotLookup n) k fits e = absurd cc
+no_checkpoint (bodies.Found n r) k fits e = absurd cc
+no_checkpoint (bodies.GapCommit n) k fits e = absurd cc
+no_checkpoint (bodies.GapRep n) k fits e = absurd cc
+no_checkpoint bodies.ViewChangeReq k fits e = absurd cc
+no_checkpoint (bodies.SyncRep n) k fits e = absurd cc
+no_checkpoint (bodies.SyncCommit n) k fits e = absurd cc
 
 module _ {S : Type 0} (m : Meaning S) (config : Configuration) (count : config.replicas ≡ 2 * (config.replicas / 2) + 1)
     (es : List (Actor × Brings)) (safe : IsSafe m config es) where
@@ -92,6 +109,7 @@ module _ {S : Type 0} (m : Meaning S) (config : Configuration) (count : config.r
         sync = safe.sync;
         above = above;
         state = shown.replicas i p e;
+        points = shown.points i p e;
       }
 
   -- ---- what a letter says was said
@@ -109,50 +127,51 @@ module _ {S : Type 0} (m : Meaning S) (config : Configuration) (count : config.r
   good : (i : ℕ) (p : Seated WholeReplica) → slice_get w.replicas i ≡ Some p → PointsWithin p.state.state
   good i p e =
       let h = matches i p e in
-      good_within f c i p.state.state (subst (GoodSync f c i) h.state (safe.sync.own i h.within))
+      good_within f c i p.state.state h.points (subst (GoodSync f c i) h.state (safe.sync.own i h.within))
 
   within : AllWithin w
   within = record {
     replicas = good;
     letters = λ x l i e. (told x l i e).within;
+    whole = λ x l i e. no_checkpoint x.peer.body l (safe.shows.tells.fits x.peer (Has-map (λ (y : Letter). y.peer) w.letters x i)).body e;
     gathered = λ i p g x e gathers has. gathered_within m f c i p.state.state (matches i p e) g gathers x has;
   }
 
   -- ---- changes
 
-  with_letter : (i : ℕ) (p : Seated WholeReplica) (x : Letter) (u : View) (n z : ℕ) (l : List Entry) (g : Gathering)
+  with_letter : (i : ℕ) (p : Seated WholeReplica) (x : Letter) (u : View) (n : ℕ) (l : Log) (g : Gathering Change)
       → slice_get w.replicas i ≡ Some p → Has w.letters x → is_other p.state.state x.peer.sender ≡ true
-      → x.peer.body ≡ bodies.ViewChange u n z l
+      → x.peer.body ≡ bodies.ViewChange u n l
       → (after_request m x.peer p.state.state).view ≡ x.peer.view → (after_request m x.peer p.state.state).changes ≡ Some g
-      → StartAgrees (counted g (record { sender = x.peer.sender; last_normal = u; next = n; sync_point = z; log = l }))
-  with_letter i p x u n z l g e has other body view gathers =
-      with_change_agree m f c i p.state.state x.peer.view
-      (record { sender = x.peer.sender; last_normal = u; next = n; sync_point = z; log = l }) g (matches i p e) other
+      → Opens (counted teller g (record { sender = x.peer.sender; last_normal = u; next = n; log = l }))
+  with_letter i p x u n l g e has other body view gathers =
+      with_change_opens m f c i p.state.state x.peer.view
+      (record { sender = x.peer.sender; last_normal = u; next = n; log = l }) g (matches i p e) other
       (subst (λ (b : Body). Has c.said (says x.peer.sender x.peer.view (word_of b))) body (said x has)) view gathers
 
   starts : StartsAgree m w
   starts = record {
-    gathered = λ i p g e gathers. gathered_agree m f c i p.state.state (matches i p e) g gathers;
-    entered = λ i p v g e gathers. entered_agree p.state.state v g (good i p e).sync_point gathers;
+    gathered = λ i p g e gathers. gathered_open m f c i p.state.state (matches i p e) g gathers;
+    entered = λ i p v g e gathers. let k = good i p e in entered_opens p.state.state v g (omega (arith, k.points, k.sync_point)) gathers;
     with_letter = with_letter;
   }
 
   -- ---- fronts
 
   own_same : (i : ℕ) (p : Seated WholeReplica) → slice_get w.replicas i ≡ Some p
-      → SameTo p.state.state.sync.sync_point p.state.state.log (main_log w)
+      → SameTo p.state.state.sync.sync_point p.state.state.log.entries (main_log w)
   own_same i p e =
-      front_same p.state.state.sync.sync_point p.state.state.log (main_log w) (good i p e).sync_point (safe.agreed.main i p e)
+      front_same p.state.state.sync.sync_point p.state.state.log.entries (main_log w) (good i p e).sync_point (safe.agreed.main i p e)
 
   told_same : (x : Letter) (l : Log) → Has w.letters x → told_log x.peer.body ≡ Some l → SameTo l.sync_point l.entries (main_log w)
   told_same x l i e = let h = told x l i e in front_same l.sync_point l.entries (main_log w) h.within h.begins
 
   fronts : FrontsAgree w
   fronts = record {
-    replicas = λ i j n p q a b low other. fronts_same p.state.state.sync.sync_point q.state.state.sync.sync_point n p.state.state.log
-        q.state.state.log (main_log w) (own_same i p a) (own_same j q b) low other;
-    letters = λ i n p x l a b e low other. fronts_same p.state.state.sync.sync_point l.sync_point n p.state.state.log l.entries
-        (main_log w) (own_same i p a) (told_same x l b e) low other;
+    replicas = λ i j n p q a b low other. fronts_same p.state.state.sync.sync_point q.state.state.sync.sync_point n
+        p.state.state.log.entries q.state.state.log.entries (main_log w) (own_same i p a) (own_same j q b) low other;
+    letters = λ i n p x l a b e low other. fronts_same p.state.state.sync.sync_point l.sync_point n p.state.state.log.entries
+        l.entries (main_log w) (own_same i p a) (told_same x l b e) low other;
   }
 
   can_trim : CanTrim m w

@@ -20,6 +20,7 @@ use Rattle.world.specs.Seats.{Seated}
 use Rattle.delivery.specs.Network.{IsDatagram}
 use Rattle.refinement.specs.Controllers.{control_of}
 use Rattle.refinement.specs.Datagrams.{WasSent}
+use Rattle.replica_state.specs.State.{PointsMeet}
 use Rattle.refinement.specs.Projection.{member_of, said_of}
 use Rattle.whole_world.specs.Whole.{WholeReplica, WholeWorld, Letter}
 use Rattle.whole_world.specs.Passed.{Passed}
@@ -55,7 +56,7 @@ pub record Carries (sent : List Sent) (c : Conf) : Type 0 where
   pub replies : (y : Reply) → Has c.replies y → IsThere sent (datagrams.Reply y)
   pub installs : (x : Install) → Has c.installs x → IsThere sent (datagrams.Install x.sequencer x.session)
 
--- each actor of the world has the state that is shown
+-- each actor of the world has the state that is shown, and each replica tells its log with its sync point
 pub record ShowsActors (f : ℕ) (w : WholeWorld) (c : Conf) : Type 0 where
   pub is_configuration : IsTrue (is_configuration w.config)
   pub config : w.config.replicas ≡ 2 * f + 1
@@ -63,6 +64,7 @@ pub record ShowsActors (f : ℕ) (w : WholeWorld) (c : Conf) : Type 0 where
   pub sequencer_count : length w.sequencers ≡ w.config.sequencers
   pub client_count : length w.clients ≡ w.config.clients
   pub replicas : (i : ℕ) (p : Seated WholeReplica) → slice_get w.replicas i ≡ Some p → c.replicas i ≡ member_of p.state.state
+  pub points : (i : ℕ) (p : Seated WholeReplica) → slice_get w.replicas i ≡ Some p → PointsMeet p.state.state
   pub sequencers : (j : ℕ) (p : Seated SequencerState) → slice_get w.sequencers j ≡ Some p → c.sequencers j ≡ p.state
   pub clients : (k : ℕ) (p : Seated ClientState) → slice_get w.clients k ≡ Some p → c.clients k ≡ p.state
   pub controller : c.controllers 0 ≡ control_of w.controller.state

@@ -4,6 +4,7 @@ use Rattle.std.specs.Prelude.{Result, Ok, Err, nat_lt, ◌==◌, ◌&&◌, slice
 use Rattle.std.specs.List.{list_any}
 use Rattle.std.specs.Str.{bytes_eq}
 use Rattle.nop_types.specs.Configuration.{Configuration}
+use Rattle.nop_types.specs.Logs.{Whole}
 use Rattle.nop_types.specs.Meaning.{Meaning}
 use Rattle.nop_types.specs.Given.{Given, Packet, Ticked, Submit}
 use Rattle.nop_types.specs.Lines.{Line}
@@ -223,7 +224,7 @@ posts w i r e =
 module _ {S : Type 0} (m : Meaning S) where
   -- a row, while message numbers are left; over whole logs
   abbrev pub row_if : Bool → ReplicaState → messages.Arrival → Effect
-  row_if true s a = messages.arrive m s a
+  row_if true s a = messages.arrive m Whole s a
   row_if false s a = still s
 
   abbrev pub effect_of : WholeReplica → Option messages.Arrival → Effect
@@ -277,7 +278,7 @@ main_view w = greatest_of (map (λ p. p.state.state.last_normal) w.replicas)
 
 abbrev pub log_of : Option (Seated WholeReplica) → List Entry
 log_of None = []
-log_of (Some p) = p.state.state.log
+log_of (Some p) = p.state.state.log.entries
 
 -- the log of the leader of the greatest last normal view
 abbrev pub main_log : WholeWorld → List Entry
@@ -290,8 +291,8 @@ history w = history_of (main_log w)
 abbrev pub replica_text : ℕ → Seated WholeReplica → List ℕ
 replica_text i p =
     let s : ReplicaState = p.state.state in
-    replica_line i p.crashed s.status s.view (length s.log) s.sync.sync_point
-    ++ entries_text i 1 (take s.sync.sync_point s.log)
+    replica_line i p.crashed s.status s.view (length s.log.entries) s.sync.sync_point
+    ++ entries_text i 1 (take s.sync.sync_point s.log.entries)
 
 abbrev pub replicas_text : ℕ → List (Seated WholeReplica) → List ℕ
 replicas_text i [] = []
@@ -301,6 +302,6 @@ replicas_text i (p ∷ ps) = replica_text i p ++ replicas_text (i + 1) ps
 pub record Agreed (w : WholeWorld) : Type 0 where
   pub pairs : (i j slot : ℕ) (a b : Seated WholeReplica) → slice_get w.replicas i ≡ Some a → slice_get w.replicas j ≡ Some b
       → slot ≤ a.state.state.sync.sync_point → slot ≤ b.state.state.sync.sync_point
-      → slot_of a.state.state.log slot ≡ slot_of b.state.state.log slot
+      → slot_of a.state.state.log.entries slot ≡ slot_of b.state.state.log.entries slot
   pub main : (i : ℕ) (a : Seated WholeReplica) → slice_get w.replicas i ≡ Some a
-      → IsPrefixOf (take a.state.state.sync.sync_point a.state.state.log) (main_log w)
+      → IsPrefixOf (take a.state.state.sync.sync_point a.state.state.log.entries) (main_log w)

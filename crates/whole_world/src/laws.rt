@@ -1,7 +1,14 @@
+ghost use Rattle.std.specs.Prelude.{◌≡◌, List, true};
+ghost use Rattle.nop_types.specs.Configuration.{Configuration, is_configuration};
 ghost use Rattle.nop_types.specs.Meaning.{Meaning};
+ghost use Rattle.nop_types.specs.declared.output.Actor.{Actor};
 ghost use Rattle.whole_world.specs.Coming.{DatagramsWereSent, JunkIsNoDatagram, MessagesWereSent};
-ghost use Rattle.whole_world.specs.Safe.{CrashedStay, WholeRunsAreSafe};
-ghost use Rattle.whole_world.specs.Trimming.{SafeCanTrim, WholeCanTrim};
+ghost use Rattle.whole_world.specs.Passed.{passed};
+ghost use Rattle.whole_world.specs.Safe.{AllFit, CrashedStay, WholeRunsAreSafe};
+ghost use Rattle.whole_world.specs.Trimming.{RowsTrim, SafeCanTrim, WholeCanTrim};
+ghost use Rattle.whole_world.specs.Whole.{Brings};
+
+use nop_types::Host;
 
 /// Each run of the whole world is safe: over any host whose results fit a reply, and for every list of events in their ranges.
 pub fn whole_runs_are_safe<S>()
@@ -27,4 +34,12 @@ pub fn what_comes_was_sent()
 pub fn whole_can_trim<S>()
     ensures events { (m : Meaning S) → WholeCanTrim m }
     ensures safe { (m : Meaning S) → SafeCanTrim m }
+{}
+
+/// After any list of events in their ranges, whatever the next event brings to a replica: the row over its trimmed log does what the row
+/// over the whole one does, trimmed.
+pub fn whole_rows_trim<H: Host>()
+    ensures { (config : Configuration) (es : List (Actor × Brings))
+        → is_configuration config ≡ true → AllFit es
+        → RowsTrim H.meaning (passed H.meaning config es).world }
 {}

@@ -15,7 +15,8 @@
 //! `whole_can_trim`: after any list of events in their ranges, and so of each safe run, three facts hold that trimming needs.
 //! Sync points of replicas, of messages and of changes that are gathered are within their logs (`AllWithin`). The changes with
 //! which a view starts agree up to the greatest of their sync points (`Agree` of `trimming`), also with one that a letter brings
-//! to what is gathered (`StartsAgree`). What is synchronised is the same in all replicas and messages (`FrontsAgree`).
+//! to what is gathered (`StartsAgree`). What is synchronised is the same in all replicas and messages (`FrontsAgree`). So each row
+//! that such a world takes is, over trimmed logs, the same row trimmed (`whole_rows_trim`, by `rows_trim` of `trimmed_rows`).
 //!
 //! Files: `laws`. Definitions: `specs/Whole` (the world), `Passed`, `Shows`, `Safe` (the claims); `Coming`, `Trimming`. The proof of
 //! `safety` shows that the world of the program follows this one. More in docs/PROOF.md.
@@ -23,4 +24,7 @@
 
 mod laws;
 
-pub use laws::{crashed_replicas_stay, what_comes_was_sent, whole_can_trim, whole_runs_are_safe};
+pub use laws::{
+    crashed_replicas_stay, what_comes_was_sent, whole_can_trim, whole_rows_trim,
+    whole_runs_are_safe,
+};

@@ -8,7 +8,7 @@ use Rattle.world.specs.WorldSteps.{WorldState, main_log}
 
 -- the entries at each slot up to both sync points are the same
 abbrev pub AgreeAt : ReplicaState → ReplicaState → ℕ → Type 0
-AgreeAt a b slot = slot ≤ a.sync.sync_point → slot ≤ b.sync.sync_point → slot_of a.log slot ≡ slot_of b.log slot
+AgreeAt a b slot = slot ≤ a.sync.sync_point → slot ≤ b.sync.sync_point → slot_of a.log.entries slot ≡ slot_of b.log.entries slot
 
 pub record Agreed (w : WorldState) : Type 0 where
   -- any two replicas
@@ -16,4 +16,4 @@ pub record Agreed (w : WorldState) : Type 0 where
       → AgreeAt a.state.state b.state.state slot
   -- and each with the log that the history is read from
   pub main : (i : ℕ) (a : Seated Replica) → slice_get w.replicas i ≡ Some a
-      → IsPrefixOf (take a.state.state.sync.sync_point a.state.state.log) (main_log w)
+      → IsPrefixOf (take a.state.state.sync.sync_point a.state.state.log.entries) (main_log w)

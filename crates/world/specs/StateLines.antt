@@ -14,8 +14,8 @@ entries_text replica slot (e ∷ es) = entry_line replica slot e ++ entries_text
 abbrev pub replica_text : ℕ → Seated Replica → List ℕ
 replica_text i p =
     let s : ReplicaState = p.state.state in
-    replica_line i p.crashed s.status s.view (length s.log) s.sync.sync_point
-    ++ entries_text i 1 (take s.sync.sync_point s.log)
+    replica_line i p.crashed s.status s.view (length s.log.entries) s.sync.sync_point
+    ++ entries_text i 1 (take s.sync.sync_point s.log.entries)
 
 abbrev pub replicas_text : ℕ → List (Seated Replica) → List ℕ
 replicas_text i [] = []

@@ -182,7 +182,7 @@ main_view w = greatest_of (map (λ p. p.state.state.last_normal) w.replicas)
 
 abbrev pub log_of : Option (Seated Replica) → List Entry
 log_of None = []
-log_of (Some p) = p.state.state.log
+log_of (Some p) = p.state.state.log.entries
 
 -- the log of that view's leader
 unfoldable pub main_log : WorldState → List Entry

@@ -52,7 +52,7 @@ fn log_at<H: Host>(seats: &[Seat<Replica<H>>], i: u8) -> &[Entry]
         ≡ log_of (slice_get (map (seated_of (λ r. r.state)) seats.now) i) }
 {
     match seat_at(seats, i as usize) {
-        Some(seat) => seat.core.log().as_slice(),
+        Some(seat) => seat.core.log().entries(),
         None => &[],
     }
 }

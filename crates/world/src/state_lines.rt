@@ -35,7 +35,7 @@ fn put_replica<H: Host>(
         ++ replica_text number (seated_of (λ r. r.state) seat.now)) }
 {
     let core = &seat.core;
-    let log = core.log().as_slice();
+    let log = core.log().entries();
     let len = log.len() as u32;
     replica_line(
         number,

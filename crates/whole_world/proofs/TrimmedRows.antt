@@ -1,0 +1,84 @@
+-- What comes to a replica of a whole world whose logs can be trimmed does the same over its trimmed log.
+use Rattle.std.proofs.Common.{◌≡◌, ℕ, Option, Some, None, refl, subst, sym, ap, ◌∙◌}
+use Rattle.std.specs.Prelude.{slice_get, Result, Ok, Err}
+use Rattle.nop_types.specs.Given.{Given}
+use Rattle.nop_types.specs.Given as given
+use Rattle.nop_types.specs.Checkpoints.{KeepsTo}
+use Rattle.nop_types.specs.Lists.{Has}
+use Rattle.nop_types.specs.Meaning.{Meaning}
+use Rattle.nop_types.specs.declared.datagram.Datagram.{Datagram}
+use Rattle.nop_types.specs.declared.datagram.Datagram.TheVariants as datagrams
+use Rattle.nop_types.specs.declared.peer.Body.{Body}
+use Rattle.nop_types.specs.declared.peer.Body.TheVariants as bodies
+use Rattle.nop_types.specs.declared.peer.Peer.{Peer}
+use Rattle.oum_codec.specs.declared.bad.Bad.{Bad}
+use Rattle.oum_codec.specs.Reading.{reading}
+use Rattle.replica_rows.specs.Messages.{Arrival, Packet, Told, Ticked}
+use Rattle.trimmed_rows.specs.Premises.{ToldWithin, ArrivesWithin}
+use Rattle.trimmed_rows.proofs.Rows.{rows_trim}
+use Rattle.world.specs.Seats.{Seated}
+use Rattle.whole_world.specs.Trimming.{told_log, CanTrim, RowsTrim}
+use Rattle.whole_world.specs.Whole.{WholeReplica, WholeWorld, Letter, Brings, Nothing, Op, Timer, Junk, Equal, Message, Crash}
+use Rattle.whole_world.specs.Whole.{input_of, arrival_read, arrival_given, arrival_of}
+use Rattle.whole_world.proofs.Coming.{messages_were_sent}
+
+-- datagrams bring no messages of replicas
+read_is_not_told : (r : Result Datagram Bad) (y : Peer) → arrival_read r ≡ Some (Told y) → ⊥
+read_is_not_told (Ok (datagrams.Stamped x)) y e = absurd cc
+read_is_not_told (Ok (datagrams.Fragment x)) y e = absurd cc
+read_is_not_told (Ok (datagrams.Request x)) y e = absurd cc
+read_is_not_told (Ok (datagrams.Reply x)) y e = absurd cc
+read_is_not_told (Ok (datagrams.Install j s)) y e = absurd cc
+read_is_not_told (Ok (datagrams.Installed j s)) y e = absurd cc
+read_is_not_told (Ok (datagrams.Ping j s)) y e = absurd cc
+read_is_not_told (Ok (datagrams.Pong j s)) y e = absurd cc
+read_is_not_told (Err bad) y e = absurd cc
+
+given_is_not_told : (o : Option Given) (y : Peer) → arrival_given o ≡ Some (Told y) → ⊥
+given_is_not_told None y e = absurd cc
+given_is_not_told (Some (given.Packet bytes)) y e = read_is_not_told (reading bytes) y e
+given_is_not_told (Some (given.Ticked tick)) y e = absurd cc
+given_is_not_told (Some (given.Submit op)) y e = absurd cc
+
+module _ {S : Type 0} (m : Meaning S) (w : WholeWorld) (can : CanTrim m w) (i : ℕ) (p : Seated WholeReplica)
+    (at : slice_get w.replicas i ≡ Some p) where
+  -- what a letter tells is within
+  letter_within : (x : Letter) (b : Body) → Has w.letters x → x.peer.body ≡ b → ToldWithin m p.state.state x.peer b
+  letter_within x (bodies.ViewChange u n l) has body =
+      (can.within.whole x l has (ap told_log body), λ g other view gathers. can.starts.with_letter i p x u n l g at has other body view gathers)
+  letter_within x (bodies.StartView n l) has body = (can.within.whole x l has (ap told_log body), can.within.letters x l has (ap told_log body))
+  letter_within x (bodies.SyncPrepare l) has body = (can.within.whole x l has (ap told_log body), can.within.letters x l has (ap told_log body))
+  letter_within x (bodies.SlotLookup k) has body = tt
+  letter_within x (bodies.Found k r) has body = tt
+  letter_within x (bodies.GapCommit k) has body = tt
+  letter_within x (bodies.GapRep k) has body = tt
+  letter_within x bodies.ViewChangeReq has body = tt
+  letter_within x (bodies.SyncRep k) has body = tt
+  letter_within x (bodies.SyncCommit k) has body = tt
+
+  message_within : (q n : ℕ) (a : Arrival) → arrival_of w (Message q n) ≡ Some a → ArrivesWithin m p.state.state a
+  message_within q n a e =
+      let t = messages_were_sent w q n a e in
+      let x = t.2 in
+      subst (ArrivesWithin m p.state.state) (sym t.1)
+      (subst (λ (y : Peer). ToldWithin m p.state.state y y.body) x.peer (letter_within x.letter x.letter.peer.body x.has refl))
+
+  -- a packet and a tick bring no log
+  not_told : (a : Arrival) → ((y : Peer) → a ≡ Told y → ⊥) → ArrivesWithin m p.state.state a
+  not_told (Packet x) h = tt
+  not_told (Told y) h = absurd (h y refl)
+  not_told (Ticked tick) h = tt
+
+  within : (x : Brings) (a : Arrival) → arrival_of w x ≡ Some a → ArrivesWithin m p.state.state a
+  within Nothing a e = absurd cc
+  within (Op op) a e = absurd cc
+  within (Timer tick) a e = let same : Ticked tick ≡ a = cc in subst (ArrivesWithin m p.state.state) same tt
+  within (Junk bytes) a e = not_told a (λ y told. given_is_not_told (input_of w.sent (Junk bytes)) y (e ∙ ap (λ (b : Arrival). Some b) told))
+  within (Equal bytes) a e = not_told a (λ y told. given_is_not_told (input_of w.sent (Equal bytes)) y (e ∙ ap (λ (b : Arrival). Some b) told))
+  within (Message q n) a e = message_within q n a e
+  within Crash a e = absurd cc
+
+pub rows_trim_where : {S : Type 0} (m : Meaning S) (IsSound : S → Type 0) (keeps : KeepsTo m IsSound) (w : WholeWorld) → CanTrim m w
+    → RowsTrim m w
+rows_trim_where m IsSound keeps w can i p x a at e =
+    rows_trim m IsSound keeps p.state.state a (can.within.replicas i p at) (within m w can i p at x a e)
