@@ -1,5 +1,3 @@
-pub mod Answers
-pub mod Bytes
 pub mod Datagrams
 pub mod Lines
 pub mod Ops

@@ -1,6 +1,7 @@
 -- The ops of a schedule that is read are bytes, and short.
 use Rattle.std.proofs.Common.{◌≡◌, ℕ, ◌+◌, Bool, true, false, Some, refl, ap, subst, List, [], ◌∷◌, length}
 use Rattle.std.specs.Prelude.{⊤, codes, nat_le, Result, Ok, Err, if◌then◌else◌}
+use Rattle.facts.proofs.Bytes.{no_bytes}
 use Rattle.hex.specs.Hex.{IsBytes, decode_of}
 use Rattle.hex.specs.declared.error.FromHexError.{FromHexError}
 use Rattle.hex.proofs.HexLemmas.{decode_of-ok}
@@ -21,7 +22,6 @@ use Rattle.schedule_text.specs.declared.rule.Rule.TheVariants.{WrongWord, WrongF
 use Rattle.schedule_text.proofs.Fitting.{then_ok, value_ok, events_fit}
 use Rattle.world.specs.WorldSteps.{WorldState, Happened, Refusal, step}
 use Rattle.replay.specs.Output.{Schedule, stepped, scheduled, schedule_from}
-use Rattle.judged_runs.proofs.Bytes.{no_bytes}
 
 -- an op that is submitted
 abbrev pub OpIsBytes : Event → Type 0

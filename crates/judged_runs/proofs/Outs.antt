@@ -7,6 +7,7 @@ use Rattle.std.proofs.lemmas.Bool.{and_parts, ltb-true}
 use Rattle.hex.specs.Hex.{IsBytes}
 use Rattle.nop_types.specs.Configuration.{Configuration}
 use Rattle.nop_types.specs.Given.{Given, Packet, Ticked, Submit}
+use Rattle.nop_types.specs.Logs.{Whole}
 use Rattle.nop_types.specs.Meaning.{Meaning}
 use Rattle.nop_types.specs.declared.limits.TheConstants.{MAX_OP_BYTES}
 use Rattle.nop_types.specs.declared.input.Tick.{Tick}
@@ -94,7 +95,7 @@ posted_are c number (ToReplicas dest p ∷ sends) =
 
 module _ {S : Type 0} (m : Meaning S) (c : Configuration) where
   row_are : (b : Bool) (s : Replica) (a : messages.Arrival) → OutsAre c (replica.row_if m b s a).1
-  row_are true s a = posted_are c s.messages (messages.arrive m s.state a).1
+  row_are true s a = posted_are c s.messages (messages.arrive m Whole s.state a).1
   row_are false s a = tt
 
   sender_are : (b : Bool) (s : Replica) (p : Peer) → OutsAre c (replica.of_sender_if m b s p).1

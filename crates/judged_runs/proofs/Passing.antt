@@ -1,5 +1,5 @@
 -- A check of what a run wrote passes it.
-use Rattle.std.proofs.Common.{◌≡◌, ◌∙◌, ℕ, ◌+◌, true, List, [], ◌∷◌, ◌++◌, length, refl, sym, ap, subst, append-nil, arith}
+use Rattle.std.proofs.Common.{◌≡◌, ◌∙◌, ℕ, ◌+◌, ◌≤◌, true, List, [], ◌∷◌, ◌++◌, length, refl, sym, ap, subst, append-nil, arith}
 use Rattle.std.proofs.Common.{Bool, false, Option, Some, None}
 use Rattle.std.specs.Prelude.{◌↔◌, cond, count_by, Result, Ok, Err}
 use Rattle.std.proofs.lemmas.List.{append_cancel_left}
@@ -8,13 +8,13 @@ use Rattle.judge.proofs.ToldLines.{rows_claim, runs_are_judged}
 use Rattle.judge.specs.Checking.{IsChecked, IsTallyOf, IsLegalText, IsPassed, PassesLegal, submits, accepts}
 use Rattle.judge.specs.Saying.{claiming, claims_something}
 use Rattle.judge.specs.declared.tally.Tally.{Tally}
-use Rattle.kv_host.specs.Kv.{IsSound, kv_meaning}
-use Rattle.kv_host.specs.Laws.{opens_sound, stays_sound, answers_short}
 use Rattle.nop_types.specs.Configuration.{Configuration}
 use Rattle.nop_types.specs.Legality.{Legal}
 use Rattle.nop_types.specs.Lines as lines
 use Rattle.nop_types.specs.Lines.{Line}
 use Rattle.nop_types.specs.Meaning.{Meaning}
+use Rattle.nop_types.specs.Services.{AnswersAreBytes}
+use Rattle.nop_types.specs.declared.limits.TheConstants.{MAX_RESULT_BYTES}
 use Rattle.replica_rows.specs.Within.{ResultsShort}
 use Rattle.schedule_text.proofs.Fitting.{headers_fit}
 use Rattle.transcript_reader.proofs.Spellings.{read_in_one_way}
@@ -23,16 +23,13 @@ use Rattle.transcript_reader.specs.declared.check_error.CheckError.{CheckError}
 use Rattle.transcript_reader.specs.declared.check_error.CheckError.TheVariants as errors
 use Rattle.world.specs.WorldSteps.{Happened, opening, history}
 use Rattle.safety.proofs.Results.{results_short}
-use Rattle.replay.specs.Outcome.{EndsWith}
 use Rattle.replay.specs.Output.{Schedule, output}
 use Rattle.replay.specs.Safety.{RunsSafely}
-use Rattle.judged_runs.proofs.Answers.{kv_answers}
 use Rattle.judged_runs.proofs.Ops.{AreRead, schedule_read}
 use Rattle.judged_runs.proofs.Spelled.{run_spells}
 use Rattle.judged_runs.proofs.Texts.{spelled_has_room}
-use Rattle.judged_runs.specs.Passing.{PassesRun}
+use Rattle.judged_runs.specs.Passing.{PassesRun, RunsPass}
 use Rattle.judged_runs.specs.Runs.{HasRoom, IsLegalRun, transcript_of}
-use Rattle.judged_runs.specs.Services.{AnswersAreBytes}
 
 -- ---- the text of a run is a legal transcript
 
@@ -112,9 +109,6 @@ run_tally c h t text tally spells run counts =
 
 -- ---- the two programs
 
-kv_short : ResultsShort kv_meaning
-kv_short = results_short kv_meaning IsSound opens_sound stays_sound answers_short
-
 module _ {S : Type 0} (m : Meaning S) (c : Configuration) (h : Happened) (text : List ℕ) (legal : IsLegalRun m c h text) where
   legal_text : IsLegalText m text
   legal_text = record { whole = transcript_of c h; spells = legal.spells; legal = legal.legal }
@@ -132,14 +126,14 @@ module _ {S : Type 0} (m : Meaning S) (c : Configuration) (h : Happened) (text :
   check_passes rest (Err errors.ReadFault) checked passes = tt
   check_passes rest (Err errors.NoMemory) checked passes = tt
 
-pub replayed_runs_pass : (bytes before text : List ℕ) (left : Option (List ℕ)) (done : Unit {0})
-    → EndsWith kv_meaning (Some bytes) left (Some before) (Some (before ++ text)) (Ok done) → (ran : RunsSafely kv_meaning bytes)
-    → HasRoom text → (rest : Option (List ℕ)) (r : Result Tally CheckError) → IsChecked kv_meaning (Some text) rest r
-    → PassesLegal kv_meaning (Some text) r → PassesRun ran.happened r
-replayed_runs_pass bytes before text None done replayed ran room rest r checked passes = absurd replayed
-replayed_runs_pass bytes before text (Some more) done replayed ran room rest r checked passes =
-    let all : List ℕ = (output kv_meaning true bytes).text in
-    let same : text ≡ all = append_cancel_left before text all replayed.wrote in
-    check_passes kv_meaning ran.config ran.happened text
-    (subst (IsLegalRun kv_meaning ran.config ran.happened) (sym same)
-    ((runs_are_legal kv_meaning kv_short kv_answers bytes ran).0 (subst HasRoom same room))) rest r checked passes
+module _ {S : Type 0} (m : Meaning S) (is_sound : S → Type 0) (opens : is_sound m.opening)
+    (stays : (s : S) (op : List ℕ) → is_sound s → is_sound (m.after s op))
+    (short : (s : S) (op : List ℕ) → is_sound s → length (m.answer s op) ≤ MAX_RESULT_BYTES) (answers : AnswersAreBytes m) where
+  pub replayed_runs_pass : RunsPass m
+  replayed_runs_pass bytes before text None done replayed ran room rest r checked passes = absurd replayed
+  replayed_runs_pass bytes before text (Some more) done replayed ran room rest r checked passes =
+      let all : List ℕ = (output m true bytes).text in
+      let same : text ≡ all = append_cancel_left before text all replayed.wrote in
+      let legal : IsLegalRun m ran.config ran.happened all =
+      (runs_are_legal m (results_short m is_sound opens stays short) answers bytes ran).0 (subst HasRoom same room) in
+      check_passes m ran.config ran.happened text (subst (IsLegalRun m ran.config ran.happened) (sym same) legal) rest r checked passes

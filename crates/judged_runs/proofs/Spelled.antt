@@ -15,6 +15,7 @@ use Rattle.nop_types.specs.Lines as lines
 use Rattle.nop_types.specs.Lines.{Line}
 use Rattle.nop_types.specs.Lists.{Has}
 use Rattle.nop_types.specs.Meaning.{Meaning}
+use Rattle.nop_types.specs.Services.{AnswersAreBytes}
 use Rattle.nop_types.specs.declared.limits.TheConstants.{MAX_SLOTS}
 use Rattle.nop_types.specs.declared.request.Entry.{Entry}
 use Rattle.nop_types.specs.declared.request.Entry.TheVariants.{NoOp, Req}
@@ -51,7 +52,6 @@ use Rattle.judged_runs.proofs.Outs.{IsRequest}
 use Rattle.judged_runs.proofs.Rows.{both, Counts, counts_of, IsResult, IsSent, EntryIs, line_row, state_row, slot_row, member_row}
 use Rattle.judged_runs.proofs.Texts.{run_text, lines_counted}
 use Rattle.judged_runs.specs.Runs.{slot_rows, rows_of, state_rows, transcript_of, is_line_end, HasRoom}
-use Rattle.judged_runs.specs.Services.{AnswersAreBytes}
 
 -- ---- lists of rows
 
@@ -87,7 +87,7 @@ all_slots i slot (e ∷ es) = all_slots i (slot + 1) es
 all_states : (i : ℕ) (ps : List (Seated Replica)) → list_all is_state (state_rows i ps) ≡ true
 all_states i [] = refl
 all_states i (p ∷ ps) =
-    both_all is_state (rows_of i p) (state_rows (i + 1) ps) (all_slots i 1 (take p.state.state.sync.sync_point p.state.state.log))
+    both_all is_state (rows_of i p) (state_rows (i + 1) ps) (all_slots i 1 (take p.state.state.sync.sync_point p.state.state.log.entries))
     (all_states (i + 1) ps)
 
 -- ---- the lines at the end
@@ -106,7 +106,7 @@ module _ (c : Configuration) (counts : Counts c) where
   record IsShown (i : ℕ) (p : Seated Replica) : Type 0 where
     own : i < c.replicas
     within : IsWithin p.state.state
-    logged : (e : Entry) → Has p.state.state.log e → EntryIs c counts e
+    logged : (e : Entry) → Has p.state.state.log.entries e → EntryIs c counts e
 
   log_front : (n : ℕ) (log : List Entry) → length (take n log) ≤ length log
   log_front zero log = omega arith
@@ -116,12 +116,12 @@ module _ (c : Configuration) (counts : Counts c) where
   replica_fits : (i : ℕ) (p : Seated Replica) → IsShown i p → AllFit (rows_of i p)
   replica_fits i p is =
       let s : ReplicaState = p.state.state in
-      let len : length s.log ≤ MAX_SLOTS = is.within.log.len in
-      let short = log_front s.sync.sync_point s.log in (
-        state_row c counts i p.crashed s.status s.view (length s.log) s.sync.sync_point is.own is.within.view len
+      let len : length s.log.entries ≤ MAX_SLOTS = is.within.log.entries.len in
+      let short = log_front s.sync.sync_point s.log.entries in (
+        state_row c counts i p.crashed s.status s.view (length s.log.entries) s.sync.sync_point is.own is.within.view len
             (omega (arith, len, is.within.sync_point)),
-        slots_fit i is.own 1 (take s.sync.sync_point s.log) (omega arith) (omega (arith, len, short))
-            (λ e h. is.logged e (h.0, (slice_get-from_take s.sync.sync_point s.log h.0 e h.1).1)),
+        slots_fit i is.own 1 (take s.sync.sync_point s.log.entries) (omega arith) (omega (arith, len, short))
+            (λ e h. is.logged e (h.0, (slice_get-from_take s.sync.sync_point s.log.entries h.0 e h.1).1)),
       )
 
   states_fit : (i : ℕ) (ps : List (Seated Replica)) → ((j : ℕ) (p : Seated Replica) → slice_get ps j ≡ Some p → IsShown (i + j) p)
@@ -234,7 +234,7 @@ module _ {S : Type 0} (m : Meaning S) (short : ResultsShort m) (bytes : AnswersA
       (reached.at.at.stands.ranges.replicas i (plain p) found).within
 
   entry_is : (i : ℕ) (p : Seated Replica) → i < c.replicas → slice_get h.world.replicas i ≡ Some p → (e : Entry)
-      → Has p.state.state.log e → EntryIs c counts e
+      → Has p.state.state.log.entries e → EntryIs c counts e
   entry_is i p own there NoOp has = tt
   entry_is i p own there (Req r) has =
       let here : slice_get safely.at_last.passed.world.replicas i ≡ Some p =

@@ -47,9 +47,9 @@ slots_text i slot (e ∷ es) =
 one_text : (i : ℕ) (p : Seated Replica) → rows_text (rows_of i p) ≡ replica_text i p
 one_text i p =
     let s : ReplicaState = p.state.state in
-    let slots : List Entry = take s.sync.sync_point s.log in
-    ap (λ (xs : List ℕ). xs ++ rows_text (slot_rows i 1 slots)) (state_as_row i p.crashed s.status s.view (length s.log) s.sync.sync_point)
-    ∙ ap (λ (xs : List ℕ). replica_line i p.crashed s.status s.view (length s.log) s.sync.sync_point ++ xs) (slots_text i 1 slots)
+    let slots : List Entry = take s.sync.sync_point s.log.entries in
+    ap (λ (xs : List ℕ). xs ++ rows_text (slot_rows i 1 slots)) (state_as_row i p.crashed s.status s.view (length s.log.entries) s.sync.sync_point)
+    ∙ ap (λ (xs : List ℕ). replica_line i p.crashed s.status s.view (length s.log.entries) s.sync.sync_point ++ xs) (slots_text i 1 slots)
 
 states_text : (i : ℕ) (ps : List (Seated Replica)) → rows_text (state_rows i ps) ≡ replicas_text i ps
 states_text i [] = refl

@@ -24,7 +24,7 @@ slot_rows replica slot (e ∷ es) = Slot replica slot e ∷ slot_rows replica (s
 abbrev pub rows_of : ℕ → Seated Replica → List Row
 rows_of i p =
     let s : ReplicaState = p.state.state in
-    State i p.crashed s.status s.view (length s.log) s.sync.sync_point ∷ slot_rows i 1 (take s.sync.sync_point s.log)
+    State i p.crashed s.status s.view (length s.log.entries) s.sync.sync_point ∷ slot_rows i 1 (take s.sync.sync_point s.log.entries)
 
 abbrev pub state_rows : ℕ → List (Seated Replica) → List Row
 state_rows i [] = []
