@@ -140,7 +140,7 @@ fn link(rt: &impl Abort, alloc: Global, head: &str, first: usize, failing: &str)
 }
 
 /// Four links, with three polls each.
-fn ports_of(rt: &impl Abort, alloc: Global, head: &str) -> PortsMem<Failing> {
+pub fn ports_of(rt: &impl Abort, alloc: Global, head: &str) -> PortsMem<Failing> {
     let first = link(rt, alloc, head, 1, field(head, "sends of 1: "));
     let second = link(rt, alloc, head, 4, field(head, "sends of 2: "));
     let third = link(rt, alloc, head, 7, field(head, "sends of 3: "));

@@ -1,0 +1,208 @@
+-- How a call over a link ends, from how its client was served.
+use Rattle.std.proofs.Common.{◌≡◌, ℕ, false, Option, Some, None, refl, sym, ap, subst, ◌∙◌, List, [], ◌∷◌, ◌++◌, append-nil}
+use Rattle.std.specs.Prelude.{Result, Ok, Err, option_map}
+use Rattle.std.specs.Io.KnownBytes.{Appends}
+use Rattle.nop_types.specs.Given.{Given}
+use Rattle.nop_types.specs.declared.output.Accept.{Accept}
+use Rattle.outside.specs.Ports.{next_link, GivesNext}
+use Rattle.outside.specs.declared.link.LinkCall.{LinkCall}
+use Rattle.outside.specs.declared.link.PollAnswer.{PollAnswer}
+use Rattle.transcript_text.specs.Transcript.{submit_line, accept_line}
+use Rattle.client_quorum.specs.ClientSteps.{next, timers, is_done}
+use Rattle.client_quorum.specs.Runs.{after, gave}
+use Rattle.client_quorum.specs.declared.state.ClientState.{ClientState}
+use Rattle.udp_node.specs.Effects.{Effect, effects, calls, lines, Stopped}
+use Rattle.udp_node.specs.Folding.{folded, TookSome}
+use Rattle.udp_node.specs.NodeRun.{NodeRun, ServedRun, ServesAfter}
+use Rattle.udp_node.specs.Sends.{LinkSide, Sends, side}
+use Rattle.udp_node.specs.declared.address.Address.{Address}
+use Rattle.udp_node.specs.declared.errors.ServeError.{ServeError}
+use Rattle.udp_node.specs.declared.errors.ServeError.TheVariants as serves
+use Rattle.udp_node.specs.declared.serving.Served.{Served}
+use Rattle.udp_node.proofs.EffectLemmas.{calls_append}
+use Rattle.client_call.specs.Calls.{caller, request, error_of, IsAccepted, IsOpen, Answers, GivesAccepted, attaches_after, run_of}
+use Rattle.client_call.specs.Calls.{Answered, TurnsEnded, SomeCallsMade, EndsRun, EndsObserved}
+use Rattle.client_call.specs.declared.errors.CallError.{CallError}
+use Rattle.client_call.specs.declared.errors.CallError.TheVariants.{PortFault, LinkFault, Unanswered, NoMemory}
+use Rattle.client_call.proofs.Accepting.{stands_ended, is_accepted, is_written, is_open}
+
+state_is : (s : ClientState) (xs : List Given) → (folded next s xs).0 ≡ after s xs
+state_is s [] = refl
+state_is s (x ∷ xs) = state_is (next s x).0 xs
+
+outs_are : (s : ClientState) (xs : List Given) → (folded next s xs).1 ≡ gave s xs
+outs_are s [] = refl
+outs_are s (x ∷ xs) = ap (λ os. (next s x).1 ++ os) (outs_are (next s x).0 xs)
+
+module _ (at : Address) (number : ℕ) (op : List ℕ) (t : ClientState) (h i : Option (List ℕ))
+    (took : TookSome next at (caller at.config number op) t h i) where
+  abbrev start : ClientState
+  start = caller at.config number op
+
+  is_after : t ≡ after start took.inputs
+  is_after = took.state ∙ state_is start took.inputs
+
+  accepted_after : (o : Option Accept) → t.accepted ≡ o → (after start took.inputs).accepted ≡ o
+  accepted_after o is = ap (λ (s : ClientState). s.accepted) (sym is_after) ∙ is
+
+  -- ---- the result
+
+  accepted_answer : (result : List ℕ) (o : Option Accept) → t.accepted ≡ o → GivesAccepted o (Ok result)
+      → IsAccepted at.config number op result
+  accepted_answer result None is gives = absurd gives
+  accepted_answer result (Some a) is gives =
+      subst (IsAccepted at.config number op) (sym gives)
+      (is_accepted at.config number op took.inputs took.outside a (accepted_after (Some a) is))
+
+  open_answer : (o : Option Accept) → t.accepted ≡ o → GivesAccepted o (Err Unanswered) → IsOpen at.config number op
+  open_answer None is gives = record {
+    inputs = took.inputs;
+    outside = took.outside;
+    open_ = is_open at.config number op took.inputs took.outside (accepted_after None is);
+  }
+  open_answer (Some a) is gives = absurd gives
+
+  pub answers_by : (result : Result (List ℕ) CallError) → GivesAccepted t.accepted result → Answers at.config number op result
+  answers_by (Ok result) gives = accepted_answer result t.accepted refl gives
+  answers_by (Err PortFault) gives = tt
+  answers_by (Err LinkFault) gives = tt
+  answers_by (Err Unanswered) gives = open_answer t.accepted refl gives
+  answers_by (Err NoMemory) gives = tt
+
+  -- ---- the run
+
+  same_lines : (now : Option (List ℕ)) (xs ys : List ℕ) → Appends (Some []) now xs → Appends (Some []) now ys → xs ≡ ys
+  same_lines None xs ys a b = absurd a
+  same_lines (Some zs) xs ys a b = sym a ∙ b
+
+  module _ (turns : ℕ) (r : NodeRun) (served : Served) (a b : LinkSide) (empty : h ≡ Some [])
+      (run : ServedRun r served a (record b { lost = served.lost }) h i) (done : served.done ≡ is_done t)
+      (spent : served.done ≡ false → served.turns ≡ turns) where
+    run_lines : lines r.effects ≡ lines (effects at (gave start took.inputs))
+    run_lines =
+        same_lines i (lines r.effects) (lines (effects at (folded next start took.inputs).1)) (rw empty at run.effects.lines)
+        (rw empty at took.written)
+        ∙ ap (λ os. lines (effects at os)) (outs_are start took.inputs)
+
+    run_answered : (result : List ℕ) (o : Option Accept) → t.accepted ≡ o → GivesAccepted o (Ok result) → Answered number op result r a b
+    run_answered result None is gives = absurd gives
+    run_answered result (Some x) is gives =
+        let known = accepted_after (Some x) is in
+        let ended = stands_ended at.config number op took.inputs took.outside x known in
+        record {
+          done = sym run.done ∙ done ∙ ap is_done is_after ∙ ended.done;
+          works = run.works;
+          lines =
+              run_lines ∙ is_written at.config number op took.inputs took.outside at x known
+              ∙ ap (λ (l : List ℕ). submit_line (request number op) ++ accept_line number 1 l) (sym gives);
+          calls = (served.lost, run.effects.sends);
+        }
+
+    run_open : (o : Option Accept) → t.accepted ≡ o → GivesAccepted o (Err Unanswered) → TurnsEnded turns r a b
+    run_open None is gives =
+        let open_ = is_open at.config number op took.inputs took.outside (accepted_after None is) in
+        let not_done = done ∙ ap is_done is_after ∙ open_ in
+        record {
+          all = sym run.turns ∙ spent not_done;
+          done = sym run.done ∙ not_done;
+          works = run.works;
+          calls = (served.lost, run.effects.sends);
+        }
+    run_open (Some x) is gives = absurd gives
+
+    run_ends : (result : Result (List ℕ) CallError) → GivesAccepted t.accepted result → EndsRun number op turns r result a b
+    run_ends (Ok result) gives = run_answered result t.accepted refl gives
+    run_ends (Err PortFault) gives = absurd gives
+    run_ends (Err LinkFault) gives = absurd gives
+    run_ends (Err Unanswered) gives = run_open t.accepted refl gives
+    run_ends (Err NoMemory) gives = (
+      served.lost,
+      record { before = calls r.effects; rest = []; split = sym (append-nil (calls r.effects)); sends = run.effects.sends },
+    )
+
+  pub ends_served : (turns : ℕ) (answers : Option (List PollAnswer)) (values : Option (List ℕ)) (served : Served) (a b : LinkSide)
+      → h ≡ Some [] → ServesAfter next is_done [] timers at turns start answers values (Ok served) a b h i
+      → served.done ≡ is_done t → (served.done ≡ false → served.turns ≡ turns)
+      → (result : Result (List ℕ) CallError) → GivesAccepted t.accepted result
+      → EndsObserved at number op turns answers values result a b
+  ends_served turns None values served a b empty run done spent result gives = tt
+  ends_served turns (Some answers) None served a b empty run done spent result gives = tt
+  ends_served turns (Some answers) (Some values) served a b empty run done spent result gives =
+      run_ends turns (run_of at number op turns answers values) served a b empty run done spent result gives
+
+module _ (at : Address) (number : ℕ) (op : List ℕ) (turns : ℕ) (a b : LinkSide) (h i : Option (List ℕ)) where
+  ends_broken : (answers : Option (List PollAnswer)) (values : Option (List ℕ))
+      → ServesAfter next is_done [] timers at turns (caller at.config number op) answers values (Err serves.LinkFault) a b h i
+      → EndsObserved at number op turns answers values (Err LinkFault) a b
+  ends_broken None values run = tt
+  ends_broken (Some answers) None run = tt
+  ends_broken (Some answers) (Some values) run = record { broken = run.1.broken; calls = (run.0, run.1.effects.sends) }
+
+  stopped_calls : (es : List Effect) (lost : ℕ) → Stopped es a (record b { lost = lost }) h i → SomeCallsMade (calls es) a b
+  stopped_calls es lost s = (
+    lost,
+    record {
+      before = calls s.front;
+      rest = calls s.rest;
+      split = ap calls s.split ∙ calls_append s.front s.rest;
+      sends = s.sends;
+    },
+  )
+
+  ends_stopped : (answers : Option (List PollAnswer)) (values : Option (List ℕ))
+      → ServesAfter next is_done [] timers at turns (caller at.config number op) answers values (Err serves.NoMemory) a b h i
+      → EndsObserved at number op turns answers values (Err NoMemory) a b
+  ends_stopped None values run = tt
+  ends_stopped (Some answers) None run = tt
+  ends_stopped (Some answers) (Some values) run = stopped_calls (run_of at number op turns answers values).effects run.0 run.1
+
+  ends_in_line : (answers : Option (List PollAnswer)) (values : Option (List ℕ))
+      → ServesAfter next is_done [] timers at turns (caller at.config number op) answers values (Err serves.WriteFault) a b h i
+      → EndsObserved at number op turns answers values (Err NoMemory) a b
+  ends_in_line None values run = tt
+  ends_in_line (Some answers) None run = tt
+  ends_in_line (Some answers) (Some values) run = stopped_calls (run_of at number op turns answers values).effects run.0 run.1.stopped
+
+  pub ends_failed : (e : ServeError) (answers : Option (List PollAnswer)) (values : Option (List ℕ))
+      → ServesAfter next is_done [] timers at turns (caller at.config number op) answers values (Err e) a b h i
+      → EndsObserved at number op turns answers values (Err (error_of e)) a b
+  ends_failed serves.LinkFault answers values run = ends_broken answers values run
+  ends_failed serves.WriteFault answers values run = ends_in_line answers values run
+  ends_failed serves.NoMemory answers values run = ends_stopped answers values run
+
+no_calls : (trace : Option (List LinkCall)) (losses : ℕ) → Sends [] (side trace 0 losses) (side trace 0 losses)
+no_calls None losses = record { tries = []; all = refl; trace = tt; lost = refl; losses = refl; told = tt }
+no_calls (Some cs) losses =
+    record { tries = []; all = refl; trace = ap Some (sym (append-nil cs)); lost = refl; losses = refl; told = refl }
+
+-- memory ran out before the first turn
+pub ends_before : (at : Address) (number : ℕ) (op : List ℕ) (turns : ℕ) (answers : Option (List PollAnswer)) (values : Option (List ℕ))
+    (trace : Option (List LinkCall)) (losses : ℕ)
+    → EndsObserved at number op turns answers values (Err NoMemory) (side trace 0 losses) (side trace 0 losses)
+ends_before at number op turns None values trace losses = tt
+ends_before at number op turns (Some answers) None trace losses = tt
+ends_before at number op turns (Some answers) (Some values) trace losses = (
+  0,
+  record { before = []; rest = calls (run_of at number op turns answers values).effects; split = refl; sends = no_calls trace losses },
+)
+
+-- ---- errors
+
+pub no_attach : (result : Result (List ℕ) CallError) (n : ℕ) → ¬ (result ≡ Err PortFault) → attaches_after result n ≡ n
+no_attach (Ok result) n attached = refl
+no_attach (Err PortFault) n attached = absurd (attached refl)
+no_attach (Err LinkFault) n attached = refl
+no_attach (Err Unanswered) n attached = refl
+no_attach (Err NoMemory) n attached = refl
+
+-- ---- a link that ports gave
+
+pub over_given : (at : Address) (number : ℕ) (op : List ℕ) (turns : ℕ) (to_come later : Option (List (List PollAnswer)))
+    (answers : Option (List PollAnswer)) (values : Option (List ℕ)) (result : Result (List ℕ) CallError) (trace : Option (List LinkCall))
+    (losses : ℕ) (b : LinkSide)
+    → GivesNext to_come later answers trace → losses ≡ 0
+    → EndsObserved at number op turns answers values result (side trace 0 losses) b
+    → EndsObserved at number op turns (option_map next_link to_come) values result (side (Some []) 0 0) b
+over_given at number op turns None later answers values result trace losses b gives none ends = tt
+over_given at number op turns (Some links) later answers values result trace losses b gives none ends =
+    rw (gives.1, gives.2, none) at ends

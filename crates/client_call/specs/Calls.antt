@@ -1,0 +1,174 @@
+-- What a call gives.
+use Rattle.std.specs.Prelude.{◌≡◌, ℕ, List, [], ◌∷◌, ◌++◌, true, false, Option, Some, None, Result, Ok, Err, ◌⊎◌, ⊤}
+use Rattle.nop_types.specs.Configuration.{Configuration}
+use Rattle.nop_types.specs.Given.{Given}
+use Rattle.nop_types.specs.Lists.{Has}
+use Rattle.nop_types.specs.declared.output.Accept.{Accept}
+use Rattle.nop_types.specs.declared.output.Actor.TheVariants.{Client}
+use Rattle.nop_types.specs.declared.output.Out.TheVariants.{Submitted, Accepted}
+use Rattle.nop_types.specs.declared.request.Request.{Request}
+use Rattle.outside.specs.Causes.{next_count}
+use Rattle.outside.specs.declared.link.LinkCall.{LinkCall}
+use Rattle.outside.specs.declared.link.PollAnswer.{PollAnswer}
+use Rattle.transcript_text.specs.Transcript.{submit_line, accept_line}
+use Rattle.client_quorum.specs.ClientSteps.{opening, next, timers, is_done}
+use Rattle.client_quorum.specs.Runs.{after, gave, replies_of, IsAgreed}
+use Rattle.client_quorum.specs.declared.state.ClientState.{ClientState}
+use Rattle.udp_node.specs.Effects.{calls, lines}
+use Rattle.udp_node.specs.Folding.{AllOutside}
+use Rattle.udp_node.specs.NodeRun.{NodeRun, run_after}
+use Rattle.udp_node.specs.Ports.{port_of}
+use Rattle.udp_node.specs.Sends.{LinkSide, Sends, SendsFront, side}
+use Rattle.udp_node.specs.declared.address.Address.{Address}
+use Rattle.udp_node.specs.declared.errors.ServeError.{ServeError}
+use Rattle.udp_node.specs.declared.errors.ServeError.TheVariants as serves
+use Rattle.client_call.specs.declared.call.Service.{Service}
+use Rattle.client_call.specs.declared.errors.CallError.{CallError}
+use Rattle.client_call.specs.declared.errors.CallError.TheVariants.{PortFault, LinkFault, Unanswered, NoMemory}
+
+-- ---- the client of a call
+
+abbrev pub address_of : Service → ℕ → Address
+address_of service number = record { base = service.base; own = Client number; config = service.config }
+
+-- this op is all that it has to submit
+abbrev pub caller : Configuration → ℕ → List ℕ → ClientState
+caller config number op = opening config number (op ∷ [])
+
+-- its only request
+abbrev pub request : ℕ → List ℕ → Request
+request number op = record { client = number; id = 1; op = op }
+
+-- ---- the result, over any devices
+
+-- The client took some packets and ticks, submitted its request, and accepted this result. With it replied the leader of a view, and
+-- with that f + 1 replicas at one slot.
+pub record IsAccepted (config : Configuration) (number : ℕ) (op result : List ℕ) : Type 0 where
+  pub inputs : List Given
+  pub outside : AllOutside inputs
+  pub submitted : Has (gave (caller config number op) inputs) (Submitted (request number op))
+  pub accepted : Has (gave (caller config number op) inputs) (Accepted number 1 result)
+  pub agreed : IsAgreed config.replicas (replies_of inputs) number 1 result
+
+-- the client took some packets and ticks, and is not done
+pub record IsOpen (config : Configuration) (number : ℕ) (op : List ℕ) : Type 0 where
+  pub inputs : List Given
+  pub outside : AllOutside inputs
+  pub open_ : is_done (after (caller config number op) inputs) ≡ false
+
+abbrev pub Answers : Configuration → ℕ → List ℕ → Result (List ℕ) CallError → Type 0
+Answers config number op (Ok result) = IsAccepted config number op result
+Answers config number op (Err PortFault) = ⊤
+Answers config number op (Err LinkFault) = ⊤
+Answers config number op (Err Unanswered) = IsOpen config number op
+Answers config number op (Err NoMemory) = ⊤
+
+-- what a client had accepted, if something
+abbrev pub GivesAccepted : Option Accept → Result (List ℕ) CallError → Type 0
+GivesAccepted None (Ok result) = ⊥
+GivesAccepted (Some a) (Ok result) = result ≡ a.result
+GivesAccepted accepted (Err PortFault) = ⊥
+GivesAccepted accepted (Err LinkFault) = ⊥
+GivesAccepted None (Err Unanswered) = ⊤
+GivesAccepted (Some a) (Err Unanswered) = ⊥
+GivesAccepted accepted (Err NoMemory) = ⊤
+
+-- ---- errors
+
+-- the client's lines are kept in memory, so that a write fails only where memory runs out
+abbrev pub error_of : ServeError → CallError
+error_of serves.LinkFault = LinkFault
+error_of serves.WriteFault = NoMemory
+error_of serves.NoMemory = NoMemory
+
+-- of attaches: it rises by one exactly where the port could not be opened
+abbrev pub attaches_after : Result (List ℕ) CallError → ℕ → ℕ
+attaches_after (Ok result) n = n
+attaches_after (Err PortFault) n = next_count n
+attaches_after (Err LinkFault) n = n
+attaches_after (Err Unanswered) n = n
+attaches_after (Err NoMemory) n = n
+
+-- of the polls of a link: it rises by one exactly where a poll failed
+abbrev pub polls_after : Result (List ℕ) CallError → ℕ → ℕ
+polls_after (Ok result) n = n
+polls_after (Err PortFault) n = n
+polls_after (Err LinkFault) n = next_count n
+polls_after (Err Unanswered) n = n
+polls_after (Err NoMemory) n = n
+
+-- ---- the run, over an observable link and clock
+
+abbrev pub run_of : Address → ℕ → List ℕ → ℕ → List PollAnswer → List ℕ → NodeRun
+run_of at number op turns answers values = run_after next is_done at [] timers turns (caller at.config number op) answers values
+
+-- these calls were made on a link and no others; any number of datagrams was counted as lost
+abbrev pub CallsMade : List LinkCall → LinkSide → LinkSide → Type 0
+CallsMade cs a b = (lost : ℕ) × Sends cs a (record b { lost = lost })
+
+-- or only the first of them
+abbrev pub SomeCallsMade : List LinkCall → LinkSide → LinkSide → Type 0
+SomeCallsMade cs a b = (lost : ℕ) × SendsFront cs a (record b { lost = lost })
+
+-- the client was done: the lines of the run are those of its request and of the acceptance with this result
+pub record Answered (number : ℕ) (op result : List ℕ) (r : NodeRun) (a b : LinkSide) : Type 0 where
+  pub done : r.done ≡ true
+  pub works : r.broken ≡ false
+  pub lines : lines r.effects ≡ submit_line (request number op) ++ accept_line number 1 result
+  pub calls : CallsMade (calls r.effects) a b
+
+-- all turns were taken, and the client was not done
+pub record TurnsEnded (turns : ℕ) (r : NodeRun) (a b : LinkSide) : Type 0 where
+  pub all : r.turns ≡ turns
+  pub done : r.done ≡ false
+  pub works : r.broken ≡ false
+  pub calls : CallsMade (calls r.effects) a b
+
+-- a poll failed
+pub record PollFailed (r : NodeRun) (a b : LinkSide) : Type 0 where
+  pub broken : r.broken ≡ true
+  pub calls : CallsMade (calls r.effects) a b
+
+abbrev pub EndsRun : ℕ → List ℕ → ℕ → NodeRun → Result (List ℕ) CallError → LinkSide → LinkSide → Type 0
+EndsRun number op turns r (Ok result) a b = Answered number op result r a b
+EndsRun number op turns r (Err PortFault) a b = ⊥
+EndsRun number op turns r (Err LinkFault) a b = PollFailed r a b
+EndsRun number op turns r (Err Unanswered) a b = TurnsEnded turns r a b
+EndsRun number op turns r (Err NoMemory) a b = SomeCallsMade (calls r.effects) a b
+
+abbrev pub EndsObserved : Address → ℕ → List ℕ → ℕ → Option (List PollAnswer) → Option (List ℕ) → Result (List ℕ) CallError
+    → LinkSide → LinkSide → Type 0
+EndsObserved at number op turns None values result a b = ⊤
+EndsObserved at number op turns (Some answers) None result a b = ⊤
+EndsObserved at number op turns (Some answers) (Some values) result a b =
+    EndsRun number op turns (run_of at number op turns answers values) result a b
+
+-- ---- over ports
+
+-- the error where no link was attached
+abbrev pub IsUnattached : Result (List ℕ) CallError → Type 0
+IsUnattached (Ok result) = ⊥
+IsUnattached (Err PortFault) = ⊤
+IsUnattached (Err LinkFault) = ⊥
+IsUnattached (Err Unanswered) = ⊥
+IsUnattached (Err NoMemory) = ⊤
+
+-- what is seen of a link that was given back: its port, its failed polls, its calls and its losses
+pub record Used : Type 0 where
+  pub port : ℕ
+  pub faults : ℕ
+  pub trace : Option (List LinkCall)
+  pub losses : ℕ
+
+-- the call ran over this link, at the client's port; a poll failed only where that is the error
+pub record RanOver (at : Address) (number : ℕ) (op : List ℕ) (turns : ℕ) (answers : Option (List PollAnswer)) (values : Option (List ℕ))
+    (result : Result (List ℕ) CallError) (used : Used) : Type 0 where
+  pub attached : ¬ (result ≡ Err PortFault)
+  pub port : used.port ≡ port_of at.base at.own
+  pub polls : used.faults ≡ polls_after result 0
+  pub run : EndsObserved at number op turns answers values result (side (Some []) 0 0) (side used.trace 0 used.losses)
+
+-- no link was attached, or the ports hold the one over which the call ran
+abbrev pub EndsOver : {L : Type 0} → (L → Used) → List L → List L → Result (List ℕ) CallError → (Used → Type 0) → Type 0
+EndsOver {L} seen before after result Ran =
+    (after ≡ before) × IsUnattached result ⊎ ((link : L) × (after ≡ before ++ link ∷ []) × Ran (seen link))

@@ -1,0 +1,85 @@
+//! The client of a call, over a link.
+
+ghost use Rattle.std.specs.Prelude.{◌≡◌, ◌≤◌, IfOk, false, Err};
+ghost use Rattle.udp_node.specs.Sends.{side};
+ghost use Rattle.client_call.specs.Calls.{GivesAccepted, Answers, EndsObserved, address_of, caller, error_of, polls_after};
+ghost use Rattle.client_call.specs.declared.errors.CallError.TheVariants as errors;
+
+use crate::{CallError, Service};
+use client_quorum::Client;
+use nop_types::{Actor, Bytes, NoMemory, Op};
+use outside::{Clock, Link, WriteMem};
+use std::alloc::Global;
+use udp_node::{Address, ServeError, serve};
+
+/// The client with this op alone.
+fn caller(alloc: Global, service: &Service, number: u32, op: Op) -> Result<Client, NoMemory>
+    ensures { IfOk result (λ c. c ≡ record {
+      failed = false;
+      state = caller service.now.config number op;
+    }) }
+{
+    let mut ops = Vec::new(alloc);
+    ops.push(op)?;
+    Client::new(alloc, service.config, number, ops)
+}
+
+/// The result that the client accepted.
+fn accepted(core: &Client) -> Result<Bytes, CallError>
+    ensures { GivesAccepted core.now.state.accepted result }
+{
+    match core.accepted() {
+        Some(accept) => Ok(accept.result.try_clone()?),
+        None => Err(CallError::Unanswered),
+    }
+}
+
+pub(crate) fn address(service: &Service, number: u32) -> Address
+    ensures { result ≡ address_of service.now number }
+{
+    Address {
+        base: service.base,
+        own: Actor::Client(number),
+        config: service.config,
+    }
+}
+
+/// Why there is no result. The client's lines are kept in memory, so that a write fails only where memory runs out.
+fn error_of(e: ServeError) -> CallError
+    ensures { result ≡ error_of e }
+{
+    match e {
+        ServeError::LinkFault => CallError::LinkFault,
+        ServeError::WriteFault | ServeError::NoMemory => CallError::NoMemory,
+    }
+}
+
+/// Submits the op over a link at the client's port, and waits for at most `turns` turns.
+#[tactic(auto, using(crate::proofs::Ending::ends_before))]
+pub(crate) fn wait_over<L: Link, C: Clock>(
+    alloc: Global,
+    service: &Service,
+    number: u32,
+    op: Op,
+    turns: u64,
+    link: &mut L,
+    clock: &mut C,
+) -> Result<Bytes, CallError>
+    requires { service.now.base ≤ 65000 }
+    ensures answers { Answers service.now.config number op result }
+    ensures run { EndsObserved (address_of service.now number) number op turns
+        (L.answers link.old) (C.values clock.old) result
+        (side (L.trace link.old) 0 (L.loss_count link.old))
+        (side (L.trace link.new) 0 (L.loss_count link.new)) }
+    ensures attached { ¬ (result ≡ Err errors.PortFault) }
+    ensures port { L.own_port link.new ≡ L.own_port link.old }
+    ensures polls { L.fault_count link.new ≡ polls_after result (L.fault_count link.old) }
+{
+    let mut core = caller(alloc, service, number, op)?;
+    let mut sink = WriteMem::new(alloc);
+    let at = address(service, number);
+    match serve(alloc, &mut core, at, None, link, clock, turns, &mut sink) {
+        Ok(_served) => accepted(&core),
+        Err(e) => Err(error_of(e)),
+    }
+}
