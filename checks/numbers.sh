@@ -1,7 +1,7 @@
 #!/bin/bash
 # The numbers of formats, limits, timers and turns. Where code and definitions name the same constant, a proof holds at any number; so each
-# such constant stands once more in a `prove!` of its crate, and here is the list of them all, as docs/FORMATS.md, docs/STEPS.md and
-# docs/PROTOCOL.md have them. The script looks whether each is proved at its number, and whether a constant is missing here. It takes a
+# such constant stands once more in a `prove!` of its crate, and here is the list of them all, as docs/FORMATS.md and docs/STEPS.md
+# have them. The script looks whether each is proved at its number, and whether a constant is missing here. It takes a
 # second, and ends with status 1 at any difference.
 . "$(dirname "$0")/common.bash" || exit 2
 
