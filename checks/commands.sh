@@ -68,7 +68,8 @@ grep -qx 'accept c0 1 6772616e7465640000000000000001' "$folder/out" || differs "
 made=$((made + 1))
 if examples/cluster.sh > "$folder/out" 2> "$folder/err"; then
     [ "$(grep -c '^status 0$' "$folder/out")" = 3 ] || differs "not each client of examples/cluster.sh ends with status 0"
-    grep -qx 'accept c2 2 3d78' "$folder/out" || differs "the last client of examples/cluster.sh reads another value"
+    grep -qx 'accept c2 2 3d78' "$folder/out" && grep -qx 'answer: =x' "$folder/out" ||
+        differs "the last client of examples/cluster.sh reads another value"
 else
     differs "examples/cluster.sh ends with status $?: $(tail -n 3 "$folder/err")"
 fi

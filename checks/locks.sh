@@ -7,16 +7,22 @@
 . "$(dirname "$0")/common.bash" || exit 2
 needs "${LOCKS:-}" lock_service -- replay
 
-# Acquires of the lock db by ann and bob, ann's release by token 1, and an inspect; and what they are answered.
-ann=4102646203616e6e
-bob=4102646203626f62
-release=5202646203616e6e0000000000000001
-inspect=49026462
-granted_1=6772616e7465640000000000000001
-granted_2=6772616e7465640000000000000002
-held_by_ann=68656c640000000000000001616e6e
-held_by_bob=68656c640000000000000002626f62
-released=72656c6561736564
+locks=$program
+needs "" lock_ops -- op inspect db
+lock_ops=$program
+program=$locks
+
+# Acquires of the lock db by ann and bob, ann's release by token 1, and an inspect.
+ann=$("$lock_ops" op acquire db ann)
+bob=$("$lock_ops" op acquire db bob)
+release=$("$lock_ops" op release db ann 1)
+inspect=$("$lock_ops" op inspect db)
+
+# results: each result of the lines of a client, in words, with a semicolon after it.
+results() {
+    local result
+    sed -n 's/^accept [^ ]* [^ ]* //p' "$1" | while read -r result; do echo "$("$lock_ops" result "$result");"; done | xargs
+}
 
 base=$((20000 + $$ % 2000 * 20))
 site="--replicas 3 --sequencers 1 --base $base"
@@ -56,14 +62,14 @@ answered() {
     # shellcheck disable=SC2086
     timeout 60 "$program" client --id "$client" $site "$@" > "$folder/out" 2>&1
     status=$?
-    [ "$status" = 0 ] && [ "$(sed -n 's/^accept [^ ]* [^ ]* //p' "$folder/out" | xargs)" = "$answers" ] ||
+    [ "$status" = 0 ] && [ "$(results "$folder/out")" = "$answers" ] ||
         differs "client $client: status $status, '$(head -c 300 "$folder/out")' in place of '$answers'"
 }
 
 # ---- commands that need no network
 ends 'the words' 2 'usage: lock_service replay | gen | node | sequencer | controller | client | cluster | check' stop
 ends 'the stored transcript' 0 'legal 6 6 6' check < crates/lock_service/stdout
-sed "s/^accept c1 2 .*/accept c1 2 $granted_1/" crates/lock_service/stdout > "$folder/changed"
+sed "s/^accept c1 2 .*/accept c1 2 6772616e7465640000000000000001/" crates/lock_service/stdout > "$folder/changed"
 ends 'a token that is granted again' 8 'refuted line 31 clause 5' check < "$folder/changed"
 # Nothing that is counted depends on the answers, so it is what the key-value store gives.
 ends 'the longest drawn schedule' 0 'gen 7 100000
@@ -73,8 +79,8 @@ history 39' gen 7 100000
 
 # ---- a cluster: its schedule replays to its transcript, which is legal
 made=$((made + 1))
-"$program" cluster --replicas 3 --sequencers 1 --clients 1 --base "$base" $ann $bob $release $bob > "$folder/cluster" 2> "$folder/err"
-[ $? = 0 ] && [ "$(sed -n 's/^accept [^ ]* [^ ]* //p' "$folder/cluster" | xargs)" = "$granted_1 $held_by_ann $released $granted_2" ] ||
+"$program" cluster --replicas 3 --sequencers 1 --clients 1 --base "$base" "$ann" "$bob" "$release" "$bob" > "$folder/cluster" 2> "$folder/err"
+[ $? = 0 ] && [ "$(results "$folder/cluster")" = 'granted 1; held 1 ann; released; granted 2;' ] ||
     differs "the cluster writes '$(grep -v ^send "$folder/cluster" | head -c 600)'"
 sed '/^transcript /,$d' "$folder/cluster" > "$folder/schedule"
 sed '1,/^transcript /{/^transcript /!d}; /^served /d' "$folder/cluster" > "$folder/transcript"
@@ -86,12 +92,12 @@ start s0 sequencer --id 0
 for i in 0 1 2; do start "r$i" node --id $i; done
 start ctl controller
 sleep 0.5
-answered 0 "$granted_1" $ann
+answered 0 'granted 1;' "$ann"
 kill -9 "${pids[r0]}"
 wait "${pids[r0]}" 2> /dev/null
 unset 'pids[r0]'
-answered 1 "$held_by_ann" $bob
-answered 2 "$released" $release
-answered 3 "$granted_2 $held_by_bob" $bob $inspect
+answered 1 'held 1 ann;' "$bob"
+answered 2 'released;' "$release"
+answered 3 'granted 2; held 2 bob;' "$bob" "$inspect"
 
 concludes

@@ -1,9 +1,10 @@
 #!/bin/bash
 # A cluster on the loopback address: replicas, two sequencers and the controller, each a process of its own. Two clients
-# put and get; then the leader is killed, and a third client still gets its answers. Only processes that were started
+# put and get, in words; then the leader is killed, and a third client still gets its answers. Only processes that were started
 # here are ended, by their ids. docs/FORMATS.md says what the lines mean, docs/RUNNING.md what else there is to know.
 #
 #   examples/cluster.sh [REPLICAS]       3 replicas, or 1, 5 or 7; with 1, nothing is killed
+#   KV_OPS   the program file of `kv_ops`, which turns words into ops and results into words (crates/kv_ops/out/kv_ops)
 #   NOPAXOS  the program file (crates/nopaxos/out/nopaxos, which `rt run` leaves); a relative name counts from the repository
 #   BASE     the port of replica 0, 1024 to 65000 (47000): the ports from there to BASE + 31 belong to the cluster
 #
@@ -35,6 +36,11 @@ if [ ! -x "$program" ]; then
     (cd crates/nopaxos && rt run -- replay < stdin > /dev/null 2>&1)
 fi
 [ -x "$program" ] || { echo "cluster.sh: there is no program file $program" >&2; exit 1; }
+kv_ops=${KV_OPS:-crates/kv_ops/out/kv_ops}
+if [ ! -x "$kv_ops" ]; then
+    (cd crates/kv_ops && rt run -- op get k > /dev/null 2>&1)
+fi
+[ -x "$kv_ops" ] || { echo "cluster.sh: there is no program file $kv_ops" >&2; exit 1; }
 
 folder=$(mktemp -d) || exit 1
 declare -A pids=()
@@ -64,18 +70,27 @@ runs() {
     exit 1
 }
 
-# client NUMBER WHAT OPS..: what it does, its lines, and its exit status. Only a `wait` is left at once for a trap.
+# client NUMBER OPS..: what it does, each op in words, its lines, its answers in words, and its exit status. Only a `wait` is left at
+# once for a trap.
 client() {
-    local number=$1
+    local number=$1 op ops=() status word result
+    shift
     echo
-    echo "client $number: $2"
-    shift 2
+    for op in "$@"; do
+        echo "client $number: $op"
+        # shellcheck disable=SC2086
+        ops+=("$("$kv_ops" op $op)")
+    done
     # shellcheck disable=SC2086
-    timeout 60 "$program" client --id "$number" $site "$@" &
+    timeout 60 "$program" client --id "$number" $site "${ops[@]}" > "$folder/client" 2>&1 &
     pids[client]=$!
     wait "${pids[client]}"
-    local status=$?
+    status=$?
     unset 'pids[client]'
+    while read -r word _ _ result; do
+        if [ "$word" = accept ]; then echo "answer: $("$kv_ops" result "$result")"; fi
+    done < "$folder/client"
+    cat "$folder/client"
     echo "status $status"
     [ "$status" = 0 ] || failed=1
     [ "$status" != 124 ] || echo "client $number had no answer within a minute, and was ended"
@@ -89,9 +104,8 @@ sleep 0.5
 for name in "${!pids[@]}"; do runs "$name"; done
 
 echo "== $replicas replicas at ports $base to $((base + replicas - 1)); replica 0 leads"
-client 0 "put k v, get k, put k w; the answers are 'none', '=v', '=v', in hexadecimal" \
-    5000016b000176 4700016b 5000016b000177
-client 1 "get k; the answer is '=w'" 4700016b
+client 0 'put k v' 'get k' 'put k w'
+client 1 'get k'
 
 if [ "$replicas" -gt 1 ]; then
     echo
@@ -99,6 +113,6 @@ if [ "$replicas" -gt 1 ]; then
     kill -9 "${pids[r0]}"
     wait "${pids[r0]}" 2> /dev/null
     unset 'pids[r0]'
-    client 2 "put k x, get k; the answers are '=w', as it was put while replica 0 led, and '=x'" 5000016b000178 4700016b
+    client 2 'put k x' 'get k'
 fi
 [ "$failed" = 0 ] || exit 1

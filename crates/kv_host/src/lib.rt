@@ -15,7 +15,8 @@
 //! value, and these keys with their values, keys ascending; it loads again, and nothing else does.
 //! The answers to ops of bytes are bytes (law `answers_are_bytes`).
 //!
-//! Calls: `KvHost`, by the trait; crates above name it where they choose the service.
+//! Calls: `KvHost`, by the trait; crates above name it where they choose the service. `read`, for
+//! the text form of ops (`kv_text`).
 //!
 //! Files: `op` (reading), `apply`, `undo`, `saved`, `host`, `laws`; `table` keeps a place for each
 //! key that was ever written, and counts those with a value. Definitions: `specs/Kv` (`answer_to`,
@@ -34,6 +35,6 @@ mod value;
 
 pub use host::KvHost;
 pub use laws::answers_are_bytes;
-pub use op::ops_are_read_as_spelled;
+pub use op::{DELETE, GET, KvOp, PUT, SWAP, ops_are_read_as_spelled, read};
 pub use table::MAX_KEYS;
 pub use undo::KvUndo;

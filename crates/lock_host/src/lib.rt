@@ -22,7 +22,8 @@
 //! places of the locks; it loads again, and nothing else does. To load takes time that grows with
 //! the square of the number of locks.
 //!
-//! Calls: `LockHost`, by the trait; the program `lock_service` names it.
+//! Calls: `LockHost`, by the trait; the program `lock_service` names it. `read` and `number`, for
+//! the text form of ops (`lock_text`).
 //!
 //! Files: `op` and `fields` (reading), `locks` (`LockTable`), `apply`, `answers`, `saved`, `host`,
 //! `laws`. Definitions: `specs/Op` (`read_op`), `Fields`, `Spelling` (`Spells`), `Locks` (`step`,
@@ -41,6 +42,7 @@ mod op;
 mod saved;
 mod undo;
 
+pub use fields::number;
 pub use host::LockHost;
 pub use laws::{
     a_grant_is_answered, a_lock_has_one_holder, answers_are_bytes, only_the_holder_releases,
@@ -49,4 +51,5 @@ pub use laws::{
 pub use lock::Lock;
 pub use locks::{LAST_TOKEN, MAX_LOCKS};
 pub use name::{MAX_NAME_BYTES, Name};
+pub use op::{ACQUIRE, INSPECT, LockOp, RELEASE, read};
 pub use undo::LockUndo;

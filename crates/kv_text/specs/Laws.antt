@@ -1,0 +1,136 @@
+-- The words of an op name it, and what words name is spelled by their bytes.
+use Rattle.std.proofs.Common.{◌≡◌, ℕ, zero, suc, ◌<◌, Bool, true, false, cond, List, [], ◌∷◌, ◌++◌, length, Option, Some, None, refl, sym, ap, subst, ◌∙◌}
+use Rattle.std.proofs.Common.{arith, inl, inr}
+use Rattle.std.specs.Prelude.{⊤, IfSome, nat_le, ◌&&◌}
+use Rattle.std.specs.Int.{w16, to_be_bytes}
+use Rattle.std.specs.Option.{option_and_then}
+use Rattle.std.proofs.lemmas.Bool.{and_parts, leb-true}
+use Rattle.std.proofs.lemmas.Bool.Decides.{nat_tests}
+use Rattle.hex.specs.Hex.{IsBytes}
+use Rattle.nop_types.specs.declared.limits.TheConstants.{MAX_KEY_BYTES, MAX_VALUE_BYTES}
+use Rattle.op_text.specs.Words.{bytes_of, word_of}
+use Rattle.op_text.proofs.WordLemmas.{read_back}
+use Rattle.kv_host.specs.declared.op.TheConstants.{GET, PUT, DELETE, SWAP}
+use Rattle.kv_host.specs.Op.{Op, Get, Put, Delete, Swap, Bad, read_op}
+use Rattle.kv_host.specs.Spelling.{KeyFits, ValueFits, field, Spells}
+use Rattle.kv_host.specs.Reading.{read_spelled}
+use Rattle.kv_text.specs.Text.{named, fits_key, fits_value, spell, op_of, words_in, words_of}
+
+-- ---- the fields of an op of bytes are bytes
+
+bytes_front : (xs ys : List ℕ) → IsBytes (xs ++ ys) → IsBytes xs
+bytes_front [] ys all i = omega arith
+bytes_front (x ∷ xs) ys all zero = all 0
+bytes_front (x ∷ xs) ys all (suc i) = bytes_front xs ys (λ j. all (suc j)) i
+
+bytes_back : (xs ys : List ℕ) → IsBytes (xs ++ ys) → IsBytes ys
+bytes_back [] ys all = all
+bytes_back (x ∷ xs) ys all = bytes_back xs ys (λ j. all (suc j))
+
+field_is : (f : List ℕ) → IsBytes (field f) → IsBytes f
+unfolding field
+field_is f all = bytes_back (to_be_bytes w16 (length f)) f all
+
+first_is : (f rest : List ℕ) → IsBytes (field f ++ rest) → IsBytes f
+first_is f rest all = field_is f (bytes_front (field f) rest all)
+
+abbrev BytesIn : Op → Type 0
+BytesIn (Get key) = IsBytes key
+BytesIn (Put key value) = IsBytes key × IsBytes value
+BytesIn (Delete key) = IsBytes key
+BytesIn (Swap key old new) = IsBytes key × IsBytes old × IsBytes new
+BytesIn Bad = ⊤
+
+after_kind : (kind : ℕ) (bytes fields : List ℕ) → bytes ≡ kind ∷ fields → IsBytes bytes → IsBytes fields
+after_kind kind bytes fields e all j = subst IsBytes e all (suc j)
+
+bytes_in : (op : Op) (bytes : List ℕ) → Spells op bytes → IsBytes bytes → BytesIn op
+bytes_in (Get key) bytes (k, e) all = field_is key (after_kind GET bytes (field key) e all)
+bytes_in (Put key value) bytes (k, v, e) all =
+    let fields = after_kind PUT bytes (field key ++ field value) e all in
+    (first_is key (field value) fields, field_is value (bytes_back (field key) (field value) fields))
+bytes_in (Delete key) bytes (k, e) all = field_is key (after_kind DELETE bytes (field key) e all)
+bytes_in (Swap key old new) bytes (k, o, n, e) all =
+    let fields = after_kind SWAP bytes (field key ++ (field old ++ field new)) e all in
+    let values = bytes_back (field key) (field old ++ field new) fields in
+    (first_is key (field old ++ field new) fields, first_is old (field new) values, field_is new (bytes_back (field old) (field new) values))
+bytes_in Bad bytes h all = absurd h
+
+-- ---- the words of an op name it
+
+named_again : (op : Op) → BytesIn op → IfSome (words_in op) (λ words. named words ≡ Some op)
+unfolding named
+named_again (Get key) k = rw (read_back key k) refl
+named_again (Put key value) (k, v) = rw (read_back key k, read_back value v) refl
+named_again (Delete key) k = rw (read_back key k) refl
+named_again (Swap key old new) (k, o, n) = rw (read_back key k, read_back old o, read_back new n) refl
+named_again Bad h = tt
+
+key_fits : (key : List ℕ) → KeyFits key → fits_key key ≡ true
+key_fits key fits =
+    let least = fits.least in
+    let most = fits.most in
+    grind (arith, nat_tests)
+
+value_fits : (value : List ℕ) → ValueFits value → fits_value value ≡ true
+value_fits value fits =
+    let most = fits.most in
+    grind (arith, nat_tests)
+
+spelled_again : (op : Op) (bytes : List ℕ) → Spells op bytes → spell op ≡ Some bytes
+unfolding spell
+spelled_again (Get key) bytes (k, e) = rw (key_fits key k) (ap Some (sym e))
+spelled_again (Put key value) bytes (k, v, e) = rw (key_fits key k, value_fits value v) (ap Some (sym e))
+spelled_again (Delete key) bytes (k, e) = rw (key_fits key k) (ap Some (sym e))
+spelled_again (Swap key old new) bytes (k, o, n, e) =
+    rw (key_fits key k, value_fits old o, value_fits new n) (ap Some (sym e))
+spelled_again Bad bytes h = absurd h
+
+both : (words : Option (List (List ℕ))) (op : Op) (bytes : List ℕ) → IfSome words (λ w. named w ≡ Some op) → spell op ≡ Some bytes
+    → IfSome words (λ w. op_of w ≡ Some bytes)
+both None op bytes h e = tt
+both (Some w) op bytes h e = ap (λ (o : Option Op). option_and_then spell o) h ∙ e
+
+pub reads_back : (op : List ℕ) → IsBytes op → IfSome (words_of op) (λ words. op_of words ≡ Some op)
+reads_back op all = elim (read_spelled op) [
+  | inl bad ↦ subst (λ (o : Op). IfSome (words_in o) (λ words. op_of words ≡ Some op)) (sym bad) tt
+  | inr spelled ↦ both (words_in (read_op op)) (read_op op) op (named_again (read_op op) (bytes_in (read_op op) op spelled all))
+      (spelled_again (read_op op) op spelled)
+]
+
+-- ---- what words name is spelled
+
+key_fits_back : (key : List ℕ) → fits_key key ≡ true → KeyFits key
+key_fits_back key e =
+    let p = and_parts (nat_le 1 (length key)) (nat_le (length key) MAX_KEY_BYTES) e in
+    record { least = leb-true 1 (length key) p.0; most = leb-true (length key) MAX_KEY_BYTES p.1 }
+
+value_fits_back : (value : List ℕ) → fits_value value ≡ true → ValueFits value
+value_fits_back value e = record { least = omega arith; most = leb-true (length value) MAX_VALUE_BYTES e }
+
+guarded : (b : Bool) (x bytes : List ℕ) → cond b (Some x) None ≡ Some bytes → (b ≡ true) × (bytes ≡ x)
+guarded true x bytes e = (refl, cc)
+guarded false x bytes e = absurd cc
+
+spelled_op : (op : Op) (bytes : List ℕ) → spell op ≡ Some bytes → Spells op bytes
+unfolding spell
+spelled_op (Get key) bytes e =
+    let g = guarded (fits_key key) _ bytes e in
+    (key_fits_back key g.0, g.1)
+spelled_op (Put key value) bytes e =
+    let g = guarded (fits_key key && fits_value value) _ bytes e in
+    let p = and_parts (fits_key key) (fits_value value) g.0 in
+    (key_fits_back key p.0, value_fits_back value p.1, g.1)
+spelled_op (Delete key) bytes e =
+    let g = guarded (fits_key key) _ bytes e in
+    (key_fits_back key g.0, g.1)
+spelled_op (Swap key old new) bytes e =
+    let g = guarded (fits_key key && (fits_value old && fits_value new)) _ bytes e in
+    let p = and_parts (fits_key key) (fits_value old && fits_value new) g.0 in
+    let q = and_parts (fits_value old) (fits_value new) p.1 in
+    (key_fits_back key p.0, value_fits_back old q.0, value_fits_back new q.1, g.1)
+spelled_op Bad bytes e = absurd cc
+
+pub named_spelled : (words : List (List ℕ)) (op : Op) (bytes : List ℕ) → named words ≡ Some op → op_of words ≡ Some bytes
+    → Spells op bytes
+named_spelled words op bytes n e = spelled_op op bytes (sym (ap (λ (o : Option Op). option_and_then spell o) n) ∙ e)

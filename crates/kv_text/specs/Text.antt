@@ -1,0 +1,78 @@
+-- The ops and results of the key-value service as words.
+use Rattle.std.specs.Prelude.{ℕ, List, [], ◌∷◌, ◌++◌, length, Bool, Option, Some, None, codes, nat_le, ◌==◌, ◌&&◌, if◌then◌else◌}
+use Rattle.std.specs.Option.{option_and_then}
+use Rattle.nop_types.specs.declared.limits.TheConstants.{MAX_KEY_BYTES, MAX_VALUE_BYTES}
+use Rattle.line_fields.specs.Fields.{is_text}
+use Rattle.op_text.specs.Words.{bytes_of, word_of}
+use Rattle.kv_host.specs.declared.op.TheConstants.{GET, PUT, DELETE, SWAP}
+use Rattle.kv_host.specs.Op.{Op, Get, Put, Delete, Swap, Bad, read_op}
+use Rattle.kv_host.specs.Spelling.{field}
+
+infixl 10 ◌>>=◌
+abbrev pub ◌>>=◌ : {A B : Type 0} → Option A → (A → Option B) → Option B
+o >>= f = option_and_then f o
+
+-- ---- from words
+
+abbrev pub key_op : List ℕ → List ℕ → Option Op
+key_op word key =
+    if is_text (codes "get") word then Some (Get key) else if is_text (codes "delete") word then Some (Delete key) else None
+
+abbrev pub value_op : List ℕ → List ℕ → List ℕ → Option Op
+value_op word key value = if is_text (codes "put") word then Some (Put key value) else None
+
+abbrev pub swap_op : List ℕ → List ℕ → List ℕ → List ℕ → Option Op
+swap_op word key old new = if is_text (codes "compare-and-set") word then Some (Swap key old new) else None
+
+-- the op that the words name
+unfoldable pub named : List (List ℕ) → Option Op
+named (word ∷ key ∷ []) = do
+  k ← bytes_of key
+  key_op word k
+named (word ∷ key ∷ value ∷ []) = do
+  k ← bytes_of key
+  v ← bytes_of value
+  value_op word k v
+named (word ∷ key ∷ old ∷ new ∷ []) = do
+  k ← bytes_of key
+  o ← bytes_of old
+  n ← bytes_of new
+  swap_op word k o n
+named words = None
+
+-- ---- to bytes
+
+abbrev pub fits_key : List ℕ → Bool
+fits_key key = nat_le 1 (length key) && nat_le (length key) MAX_KEY_BYTES
+
+abbrev pub fits_value : List ℕ → Bool
+fits_value value = nat_le (length value) MAX_VALUE_BYTES
+
+-- the bytes that spell the op, where its fields have lengths that an op may have
+unfoldable pub spell : Op → Option (List ℕ)
+spell (Get key) = if fits_key key then Some (GET ∷ field key) else None
+spell (Put key value) = if fits_key key && fits_value value then Some (PUT ∷ (field key ++ field value)) else None
+spell (Delete key) = if fits_key key then Some (DELETE ∷ field key) else None
+spell (Swap key old new) =
+    if fits_key key && (fits_value old && fits_value new) then Some (SWAP ∷ (field key ++ (field old ++ field new))) else None
+spell Bad = None
+
+abbrev pub op_of : List (List ℕ) → Option (List ℕ)
+op_of words = option_and_then spell (named words)
+
+-- ---- to words
+
+abbrev pub words_in : Op → Option (List (List ℕ))
+words_in (Get key) = Some (codes "get" ∷ word_of key ∷ [])
+words_in (Put key value) = Some (codes "put" ∷ word_of key ∷ word_of value ∷ [])
+words_in (Delete key) = Some (codes "delete" ∷ word_of key ∷ [])
+words_in (Swap key old new) = Some (codes "compare-and-set" ∷ word_of key ∷ word_of old ∷ word_of new ∷ [])
+words_in Bad = None
+
+abbrev pub words_of : List ℕ → Option (List (List ℕ))
+words_of op = words_in (read_op op)
+
+-- a value after `=`, or the result as a word
+abbrev pub result_words : List ℕ → List (List ℕ)
+result_words [] = word_of [] ∷ []
+result_words (b ∷ value) = if b == 61 then (codes "=" ++ word_of value) ∷ [] else word_of (b ∷ value) ∷ []
