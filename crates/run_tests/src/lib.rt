@@ -1,9 +1,7 @@
 //! Tests alone, by the public calls of the crates below: whole runs and commands over devices in
-//! memory, with each call failing in turn; a call of a client; the schedules of `examples/`; sockets and clock.
+//! memory, with each call failing in turn; the schedules of `examples/`; sockets and clock.
 #![tactic(auto)]
 
-#[cfg(test)]
-mod calls;
 #[cfg(test)]
 mod clusters;
 #[cfg(test)]
