@@ -1,22 +1,25 @@
 #!/bin/bash
-# Kills the leader of a cluster of real processes whose logs are long, and times how soon a client is answered again. The other replicas
-# then send their whole logs, each in hundreds of datagrams, to the new leader, and it sends its own to them.
+# Kills the leader of a cluster of real processes whose checkpoints are large, and times how soon a client is answered again. The other
+# replicas then send their checkpoints, each in hundreds of datagrams, to the new leader, and it sends its own to them; and before that
+# each synchronisation sends one, ten times a second while ops come.
 #
 #   bench/bursts.sh [REPLICAS..]  numbers of replicas (3 5);  NOPAXOS  the program file;  KILLS  clusters for each number (20)
-#                                 SLOTS  the length of the logs, at most 3,900 (3500);  BASE  the port of replica 0 (47000)
+#                                 KEYS  in the map (4096);  VALUE  bytes of a value (256);  PUTS  before a kill (8192)
+#                                 BASE  the port of replica 0 (47000)
 #
-# Values have 250 bytes, and receive buffers the system's default size. A leader that is silent is suspected at a follower's second Watch
-# from then on, so after 1 to 2 seconds. It is killed 100 ms before a Watch: of each time here 1.1 s are that wait. The last
-# two numbers are the datagrams that found a receive buffer full, before the kills and after them (RcvbufErrors of /proc/net/snmp, which
-# counts for all programs on the machine). It takes two minutes, and ends with status 1 where a client is not answered within 20 s.
+# The puts are those of bench/long/client.rs (rustc), 16 at once. Receive buffers have the system's default size. A leader that is silent
+# is suspected at a follower's second Watch from then on, so after 1 to 2 seconds. It is killed 100 ms before a Watch: of each time
+# here 1.1 s are that wait. The last two numbers are the datagrams that found a receive buffer full, before the kills and after them
+# (RcvbufErrors of /proc/net/snmp, which counts for all programs of the network namespace). It takes four minutes, and ends with status 1
+# where a client is not answered within 20 s.
 set -u
 cd "$(dirname "$0")/.." || exit 2
 program=$(realpath "${NOPAXOS:-crates/nopaxos/out/nopaxos}") || exit 2
 [ -x "$program" ] || { echo "no program file $program"; exit 2; }
 kills=${KILLS:-20}
-slots=${SLOTS:-3500}
 base=${BASE:-47000}
 folder=$(mktemp -d) || exit 2
+rustc --edition 2021 -O -o "$folder/client" bench/long/client.rs || exit 2
 pids=()
 stop() {
     for pid in "${pids[@]}"; do kill "$pid" 2> /dev/null; done
@@ -55,47 +58,21 @@ cluster() {
     pids+=($!)
 }
 
-value=$(printf 'ab%.0s' {1..250})
-
-# puts CLIENT COUNT: puts of 250 bytes at the client's own key.
-puts() {
-    for ((j = 0; j < $2; j++)); do printf '500002%04x00fa%s ' "$1" "$value"; done
-}
-
-# lane NUMBER: every sixteenth client, one after the other, with 64 puts each; the last one has what is left.
-lane() {
-    local left
-    for ((c = $1; (left = slots - 64 * c) > 0; c += 16)); do
-        # shellcheck disable=SC2046,SC2086
-        timeout 20 "$program" client --id "$c" $site $(puts "$c" $((left < 64 ? left : 64))) > "$folder/c$c" 2>&1
-    done
-}
-
-# The logs get their slots, by sixteen clients at once.
-fill() {
-    local running=()
-    for ((k = 0; k < 16; k++)); do
-        lane "$k" &
-        running+=($!)
-    done
-    for pid in "${running[@]}"; do wait "$pid"; done
-}
-
 # One kill. In the file times: the microseconds until a client is answered, nothing where it is not; in overflows: the datagrams that
 # found no space before the kill, and after it.
-# shellcheck disable=SC2046,SC2086
+# shellcheck disable=SC2086
 kill_leader() {
     local started killed before between
     before=$(overflows)
     cluster
     started=$(now)
     sleep 0.3
-    fill
+    "$folder/client" "$base" "$replicas" 2 16 "${PUTS:-8192}" "${KEYS:-4096}" "${VALUE:-256}" > "$folder/fill" || echo "not all puts were answered" >&2
     sleep_to_watch "$started"
     between=$(overflows)
     killed=$(now)
     kill -9 "${pids[0]}"
-    timeout 20 "$program" client --id 255 $site $(puts 255 1) > "$folder/last" 2>&1
+    timeout 20 "$program" client --id 255 $site 4700016b > "$folder/last" 2>&1
     if grep -q '^accept c255 1 ' "$folder/last"; then echo $(($(now) - killed)) >> "$folder/times"; fi
     stop
     echo $((between - before)) $(($(overflows) - between)) >> "$folder/overflows"

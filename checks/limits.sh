@@ -1,7 +1,7 @@
 #!/bin/bash
-# Replays schedules that meet the limits of logs, queues, messages and groups, and compares the output with a transcript that is written
-# out beside the schedule, event by event, from the rules of the protocol and from its formats. It takes a few seconds, leaves nothing
-# behind, and ends with status 1 at any difference.
+# Replays schedules that meet the limits of logs, queues, messages, maps and groups, and compares the output with a transcript that is
+# written out beside the schedule, event by event, from the rules of the protocol and from its formats. It takes some seconds, leaves
+# nothing behind, and ends with status 1 at any difference.
 #
 #   checks/limits.sh             the program is crates/nopaxos/out/nopaxos, or the file that NOPAXOS names
 . "$(dirname "$0")/common.bash" || exit 2
@@ -69,37 +69,50 @@ same() {
 put=5000016b000176
 get=4700016b
 
-# ---- One replica alone, whose log gets full: the 4,097th request is not logged, and gets no reply. Its next view begins with the full
-# log, of which it answers each request again; then all slots are synchronised.
-begins 'a full log' 1 1 1
-for ((slot = 1; slot <= 4096; slot++)); do
+# asks ID: client 0 submits a get, which is stamped and reaches the one replica.
+asks() {
     event "submit c0 $get"
-    line "submit c0 $slot $get"
+    line "submit c0 $1 $get"
     sends c0 's*' request 22
     event "deliver $((sent - 1)) s0"
     sends s0 'r*' stamped 34
     event "deliver $((sent - 1)) r0"
+}
+
+# answers ID: the replica replies, and the client accepts.
+answers() {
     sends r0 c0 reply 36
     event "deliver $((sent - 1)) c0"
-    line "accept c0 $slot 6e6f6e65"
+    line "accept c0 $1 6e6f6e65"
+}
+
+# ---- One replica alone, whose log gets full: the 4,097th request waits, and gets no reply. Its next view begins with the full log, of
+# which it answers each request again. Then all slots are synchronised: they move out of the log, and the request that waits is logged.
+# So the log goes on, past the slots that it can keep.
+begins 'a full log' 1 1 1
+for ((slot = 1; slot <= 4096; slot++)); do
+    asks "$slot"
+    answers "$slot"
 done
-event "submit c0 $get"
-line "submit c0 4097 $get"
-sends c0 's*' request 22
-event "deliver $((sent - 1)) s0"
-sends s0 'r*' stamped 34
-event "deliver $((sent - 1)) r0"
+asks 4097
 event 'tick r0 suspect'
 for ((slot = 1; slot <= 4096; slot++)); do sends r0 c0 reply 36; done
 event 'tick r0 sync'
-line 'replica r0 up normal 1 1 4096 4096'
-for ((slot = 1; slot <= 4096; slot++)); do line "entry r0 $slot c0 $slot $get"; done
-for ((slot = 1; slot <= 4096; slot++)); do line "history $slot c0 $slot $get"; done
+answers 4097
+asks 4098
+answers 4098
+event 'tick r0 sync'
+asks 4099
+answers 4099
+line 'replica r0 up normal 1 1 4099 4098'
+for ((slot = 1; slot <= 4098; slot++)); do line "entry r0 $slot c0 $slot $get"; done
+for ((slot = 1; slot <= 4099; slot++)); do line "history $slot c0 $slot $get"; done
 same
 
 # ---- Sixteen clients have a put each, and the sequencer stamps them in turn, 4,097 times. The leader misses number 1. While its gap
 # waits, numbers 2 to 1,025 fill its queue, and 1,026 is dropped, as it does not come again in time; the vote lets it take all of the
-# queue at once. Then its log gets full. It is told to both followers, of which one has slot 1 and one nothing, and is synchronised.
+# queue at once. Then its log gets full, and number 4,097 waits. The log is told to both followers, of which one has slot 1 and one
+# nothing; with it their logs are full too. Once it is synchronised, number 4,097 is logged, at the leader and at a follower.
 begins 'a full queue and a full log' 3 1 16
 for ((c = 0; c < 16; c++)); do
     event "submit c$c $put"
@@ -142,25 +155,31 @@ for follower in r2 r1; do
 done
 delivers "$first" "$last" r1
 sends r1 r0 fragment 31
+event 'deliver 4112 r2'
 event "deliver ${vote[2]} r0"
+commit=$sent
 sends r0 'r*' fragment 31
-event "deliver $((sent - 1)) r2"
+sends r0 c0 reply 34
+event "deliver $commit r2"
+sends r2 c0 reply 32
 event "deliver ${vote[1]} r0"
 for replica in 0 1 2; do
-    point=4096
-    [ "$replica" = 1 ] && point=0
-    line "replica r$replica up normal 0 1 4096 $point"
-    [ "$point" = 0 ] && continue
+    if [ "$replica" = 1 ]; then
+        line 'replica r1 up normal 0 1 4096 0'
+        continue
+    fi
+    line "replica r$replica up normal 0 1 4097 4096"
     line "entry r$replica 1 noop"
     for ((n = 2; n <= 4096; n++)); do line "entry r$replica $n c$(((n - 1) % 16)) 1 $put"; done
 done
 for ((n = 2; n <= 17; n++)); do line "history $((n - 1)) c$(((n - 1) % 16)) 1 $put"; done
 same
 
-# ---- The longest peer messages: a request with 640 bytes is stamped 4,096 times, and two of three replicas log all of it. Replica 1
-# leads the next view, merges two full logs, executes them at once, and answers each slot; so do the others, whom it tells the log.
+# ---- The longest peer messages without a checkpoint: a request with 640 bytes is stamped 4,096 times, and two of three replicas log all
+# of it. Replica 1 leads the next view, merges two full logs, executes them at once, and answers each slot; so do the others, whom it
+# tells the log.
 big=$(bytes 78 640)
-begins 'the longest messages' 3 1 1
+begins 'the longest logs' 3 1 1
 event "submit c0 $big"
 line "submit c0 1 $big"
 sends c0 's*' request 658
@@ -189,6 +208,80 @@ for follower in r2 r0; do
 done
 for replica in 0 1 2; do line "replica r$replica up normal 1 1 4096 0"; done
 line "history 1 c0 1 $big"
+same
+
+# ---- The greatest map: 4,096 keys of 64 bytes get values of 256 bytes, at the leader and at a follower, and are synchronised. A put of one
+# key more is answered `full`. The other follower has only that packet; it asks for slot 1, and is told the map in a checkpoint. Then it
+# leads a view, and answers the same. The checkpoint has the map and one client.
+begins 'the greatest checkpoint' 3 1 1
+value=0100$(bytes 76 256)
+key=0040$(bytes 6b 62)
+puts=()
+for ((id = 1; id <= 4097; id++)); do
+    printf -v place %04x "$id"
+    puts[id]=50$key$place$value
+done
+# reaches ID FOLLOWER: the put is stamped, and reaches the leader and this follower.
+reaches() {
+    event "submit c0 ${puts[$1]}"
+    line "submit c0 $1 ${puts[$1]}"
+    sends c0 's*' request 343
+    event "deliver $((sent - 1)) s0"
+    sends s0 'r*' stamped 355
+    stamped=$((sent - 1))
+    event "deliver $stamped r0"
+    sends r0 c0 reply 36
+    event "deliver $stamped $2"
+}
+for ((id = 1; id <= 4096; id++)); do
+    reaches "$id" r1
+    sends r1 c0 reply 32
+    delivers $((sent - 2)) $((sent - 1)) c0
+    line "accept c0 $id 6e6f6e65"
+done
+event 'tick r0 sync'
+first=$sent
+tells r0 'r*' $((18 + 4096 * 340))
+delivers "$first" $((sent - 1)) r1
+sends r1 r0 fragment 31
+event "deliver $((sent - 1)) r0"
+sends r0 'r*' fragment 31
+event "deliver $((sent - 1)) r1"
+reaches 4097 r2
+reply=$((sent - 1))
+sends r2 r0 fragment 31
+event "deliver $((sent - 1)) r0"
+checkpoint=$((4 + (4 + 4096 * (2 + 64 + 2 + 256)) + 4 + 18))
+first=$sent
+tells r0 r2 $((18 + checkpoint))
+delivers "$first" $((sent - 1)) r2
+sends r2 r0 fragment 31
+sends r2 c0 reply 32
+event "deliver $((sent - 1)) c0"
+event "deliver $reply c0"
+line 'accept c0 4097 66756c6c'
+event 'tick r2 suspect'
+sends r2 'r*' fragment 27
+tells r2 r1 $((34 + checkpoint + 340))
+event 'tick r2 suspect'
+sends r2 'r*' fragment 27
+event "deliver $((sent - 1)) r1"
+sends r1 'r*' fragment 27
+first=$sent
+tells r1 r2 $((34 + checkpoint))
+delivers "$first" $((sent - 1)) r2
+tells r2 'r*' $((26 + checkpoint + 340))
+sends r2 c0 reply 36
+event "deliver $((sent - 1)) c0"
+for replica in 0 1 2; do
+    case $replica in
+    0) line 'replica r0 up normal 0 1 4097 4096' ;;
+    1) line 'replica r1 up change 2 1 4096 4096' ;;
+    2) line 'replica r2 up normal 2 1 4097 4096' ;;
+    esac
+    for ((id = 1; id <= 4096; id++)); do line "entry r$replica $id c0 $id ${puts[id]}"; done
+done
+for ((id = 1; id <= 4097; id++)); do line "history $id c0 $id ${puts[id]}"; done
 same
 
 # ---- The greatest group: seven replicas, four sequencers, sixteen clients. The last client puts the longest value at the longest key,

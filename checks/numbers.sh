@@ -15,6 +15,7 @@ nop_types MAX_HOST_BYTES 1_400_000
 nop_types MAX_SERVED 256
 nop_types WINDOW 1
 nop_types MAX_SLOTS 4096
+nop_types MAX_LENGTH 4_294_967_295
 nop_types NUMBER_END 281_474_976_710_656
 nop_types MAX_QUEUED 1024
 nop_types MAX_FRAGMENTS 4096
@@ -78,6 +79,7 @@ apart() {
     cat << 'END'
 peer_codec HEAD_BYTES
 peer_codec SENDER_AT
+peer_codec LEAST_CLIENT
 fragments PARTS_AHEAD
 fragments FIELD_BYTES
 schedule_text MAX_OP_TEXT

@@ -16,7 +16,7 @@ cd "$(dirname "$0")/.." || exit 2
 # usage REASON: the arguments are not taken.
 usage() {
     echo "cluster.sh: $1" >&2
-    echo "usage: [NOPAXOS=FILE] [BASE=PORT] examples/cluster.sh [1 | 3 | 5 | 7]" >&2
+    echo "usage: [NOPAXOS=FILE] [KV_OPS=FILE] [BASE=PORT] examples/cluster.sh [1 | 3 | 5 | 7]" >&2
     exit 2
 }
 

@@ -10,7 +10,7 @@ use Rattle.nop_types.specs.Lists.{Has}
 use Rattle.nop_types.specs.declared.output.Accept.{Accept}
 use Rattle.nop_types.specs.declared.output.Dest.{Dest}
 use Rattle.nop_types.specs.declared.output.Out.{Out}
-use Rattle.nop_types.specs.declared.output.Out.TheVariants.{Send, Submitted, Accepted, Busy}
+use Rattle.nop_types.specs.declared.output.Out.TheVariants.{Send, Submitted, Accepted, Busy, Trimmed}
 use Rattle.nop_types.specs.declared.request.Request.{Request}
 use Rattle.nop_types.specs.declared.datagram.Reply.{Reply}
 use Rattle.transcript_text.specs.Transcript.{submit_line, accept_line}
@@ -35,6 +35,7 @@ none_accepted : (number last : ℕ) (outs : List Out) → TakesTurns number None
 none_accepted number last [] t none client id result h = Has-none (Accepted client id result) h
 none_accepted number last (Submitted r ∷ outs) t none client id result h = absurd cc
 none_accepted number last (Send dest bytes ∷ outs) t none client id result h = absurd t.0
+none_accepted number last (Trimmed first entries ∷ outs) t none client id result h = absurd t
 none_accepted number last (Accepted c k a ∷ outs) t none client id result h = let held = t.0 in absurd cc
 none_accepted number last (Busy c ∷ outs) t none client id result (zero, e) = absurd cc
 none_accepted number last (Busy c ∷ outs) t none client id result (suc i, e) =
@@ -56,6 +57,7 @@ accepted_own number held last (Accepted c k a ∷ outs) t client id result (suc 
     accepted_own number None last outs t.3 client id result (i, e)
 accepted_own number held last (Busy c ∷ outs) t client id result (zero, e) = absurd cc
 accepted_own number held last (Busy c ∷ outs) t client id result (suc i, e) = accepted_own number held last outs t.1 client id result (i, e)
+accepted_own number held last (Trimmed first entries ∷ outs) t client id result h = absurd t
 
 -- a request with these fields
 request_is : (number : ℕ) (op : List ℕ) (client id : ℕ) (given : List ℕ) → client ≡ number → id ≡ 1 → given ≡ op
@@ -70,6 +72,7 @@ first_submitted number op (Submitted r ∷ outs) t one =
     let same : r.op ≡ op = cc in
     (zero, ap (λ (q : Request). Some (Submitted q)) (request_is number op r.client r.id r.op t.1 t.2 same))
 first_submitted number op (Send dest bytes ∷ outs) t one = absurd t.0
+first_submitted number op (Trimmed first entries ∷ outs) t one = absurd t
 first_submitted number op (Accepted c k a ∷ outs) t one = let held = t.0 in absurd cc
 first_submitted number op (Busy c ∷ outs) t one = Has-rest (Submitted (request number op)) (Busy c) outs (first_submitted number op outs t.1 one)
 
@@ -86,6 +89,7 @@ module _ (at : Address) where
   nothing_written number last [] t none = refl
   nothing_written number last (Submitted r ∷ outs) t none = absurd cc
   nothing_written number last (Send dest bytes ∷ outs) t none = absurd t.0
+  nothing_written number last (Trimmed first entries ∷ outs) t none = absurd t
   nothing_written number last (Accepted c k a ∷ outs) t none = let held = t.0 in absurd cc
   nothing_written number last (Busy c ∷ outs) t none = nothing_written number last outs t.1 none
 
@@ -107,6 +111,7 @@ module _ (at : Address) where
   accept_written number last r (Busy c ∷ outs) t none client id result (zero, e) = absurd cc
   accept_written number last r (Busy c ∷ outs) t none client id result (suc i, e) =
       accept_written number last r outs t.1 none client id result (i, e)
+  accept_written number last r (Trimmed first entries ∷ outs) t none client id result h = absurd t
 
   -- with one op to come, the line of its request comes first
   both_written : (number : ℕ) (op : List ℕ) (outs : List Out) → TakesTurns number None 0 outs → ops_of outs ≡ op ∷ []
@@ -121,6 +126,7 @@ module _ (at : Address) where
       ap (λ (q : Request). submit_line q ++ text outs) same
       ∙ ap (λ (l : List ℕ). submit_line (request number op) ++ l) (accept_written number 1 r outs t.3 none client id result (i, e))
   both_written number op (Send dest bytes ∷ outs) t one client id result h = absurd t.0
+  both_written number op (Trimmed first entries ∷ outs) t one client id result h = absurd t
   both_written number op (Accepted c k a ∷ outs) t one client id result h = let held = t.0 in absurd cc
   both_written number op (Busy c ∷ outs) t one client id result (zero, e) = absurd cc
   both_written number op (Busy c ∷ outs) t one client id result (suc i, e) = both_written number op outs t.1 one client id result (i, e)

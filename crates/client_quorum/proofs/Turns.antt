@@ -9,7 +9,7 @@ use Rattle.nop_types.specs.Given.{Given, Packet, Ticked, Submit}
 use Rattle.nop_types.specs.declared.input.Tick.{Tick}
 use Rattle.nop_types.specs.declared.input.Tick.TheVariants as ticks
 use Rattle.nop_types.specs.declared.output.Out.{Out}
-use Rattle.nop_types.specs.declared.output.Out.TheVariants.{Send, Submitted, Accepted, Busy}
+use Rattle.nop_types.specs.declared.output.Out.TheVariants.{Send, Submitted, Accepted, Busy, Trimmed}
 use Rattle.nop_types.specs.declared.request.Request.{Request}
 use Rattle.nop_types.specs.declared.datagram.Reply.{Reply}
 use Rattle.nop_types.specs.declared.datagram.Datagram.{Datagram}
@@ -146,6 +146,7 @@ rest_of number held last (Accepted client id result) outs t =
     record { held_then = None; last_then = last; higher = some_is (has_none held) last t.0; later = omega arith; turns = t.3 }
 rest_of number held last (Busy client) outs t =
     record { held_then = held; last_then = last; higher = omega arith; later = omega arith; turns = t.1 }
+rest_of number held last (Trimmed first entries) outs t = absurd t
 
 -- a first output that is submitted
 submitted_first : (number : ℕ) (held : Option Request) (last : ℕ) (x : Out) (outs : List Out) (r : Request)
@@ -157,6 +158,7 @@ submitted_first number held last (Submitted q) outs r t e =
 submitted_first number held last (Send dest bytes) outs r t e = absurd cc
 submitted_first number held last (Accepted client id result) outs r t e = absurd cc
 submitted_first number held last (Busy client) outs r t e = absurd cc
+submitted_first number held last (Trimmed first entries) outs r t e = absurd t
 
 submitted_above : (number : ℕ) (held : Option Request) (last : ℕ) (outs : List Out) → TakesTurns number held last outs
     → (i : ℕ) (r : Request) → slice_get outs i ≡ Some (Submitted r) → last < r.id
@@ -190,6 +192,7 @@ accepted_first number held last (Submitted q) outs client id result t e = absurd
 accepted_first number held last (Send dest bytes) outs client id result t e = absurd cc
 accepted_first number held last (Accepted c k a) outs client id result t e = let same : k ≡ id = cc in (t.0, sym same ∙ t.2, t.3)
 accepted_first number held last (Busy c) outs client id result t e = absurd cc
+accepted_first number held last (Trimmed first entries) outs client id result t e = absurd t
 
 at_last : (b : Bool) (n : ℕ) → b ≡ false → cond b (n + 1) n ≤ n
 at_last true n e = absurd cc

@@ -10,7 +10,7 @@ use Rattle.nop_types.specs.Lists.{Has}
 use Rattle.nop_types.specs.declared.request.Request.{Request}
 use Rattle.nop_types.specs.declared.datagram.Reply.{Reply}
 use Rattle.nop_types.specs.declared.output.Out.{Out}
-use Rattle.nop_types.specs.declared.output.Out.TheVariants.{Submitted, Send, Accepted, Busy}
+use Rattle.nop_types.specs.declared.output.Out.TheVariants.{Submitted, Send, Accepted, Busy, Trimmed}
 use Rattle.facts.proofs.Members.{Has-append_left, Has-append_right}
 use Rattle.client_quorum.specs.declared.state.ClientState.{ClientState}
 use Rattle.client_quorum.specs.ClientSteps.{opening, next, request_of, is_of, is_expected, kept, accept_if}
@@ -24,6 +24,7 @@ ops_append (Submitted r ∷ xs) ys = ap (λ (l : List (List ℕ)). r.op ∷ l) (
 ops_append (Send dest bytes ∷ xs) ys = ops_append xs ys
 ops_append (Accepted client id result ∷ xs) ys = ops_append xs ys
 ops_append (Busy client ∷ xs) ys = ops_append xs ys
+ops_append (Trimmed first entries ∷ xs) ys = ops_append xs ys
 
 quiet_ops : (outs : List Out) → Quiet outs → ops_of outs ≡ []
 quiet_ops outs Nothing = refl

@@ -7,7 +7,7 @@ use Rattle.nop_types.specs.Views.{leader_of}
 use Rattle.nop_types.specs.declared.view.View.{View}
 use Rattle.nop_types.specs.declared.output.Accept.{Accept}
 use Rattle.nop_types.specs.declared.output.Out.{Out}
-use Rattle.nop_types.specs.declared.output.Out.TheVariants.{Send, Submitted, Accepted, Busy}
+use Rattle.nop_types.specs.declared.output.Out.TheVariants.{Send, Submitted, Accepted, Busy, Trimmed}
 use Rattle.nop_types.specs.declared.request.Request.{Request}
 use Rattle.nop_types.specs.declared.datagram.Reply.{Reply}
 use Rattle.nop_types.specs.declared.datagram.Datagram.{Datagram}
@@ -103,6 +103,7 @@ TakesTurns number held last (Send dest bytes ∷ outs) = SendsOpen held (Send de
 TakesTurns number held last (Accepted client id result ∷ outs) =
     (has_none held ≡ false) × (client ≡ number) × (id ≡ last) × TakesTurns number None last outs
 TakesTurns number held last (Busy client ∷ outs) = (client ≡ number) × TakesTurns number held last outs
+TakesTurns number held last (Trimmed first entries ∷ outs) = ⊥
 
 -- ---- ops
 
@@ -113,6 +114,7 @@ ops_of (Submitted r ∷ outs) = r.op ∷ ops_of outs
 ops_of (Send dest bytes ∷ outs) = ops_of outs
 ops_of (Accepted client id result ∷ outs) = ops_of outs
 ops_of (Busy client ∷ outs) = ops_of outs
+ops_of (Trimmed first entries ∷ outs) = ops_of outs
 
 -- no op comes from outside
 abbrev pub HasNoSubmit : List Given → Type 0

@@ -1,21 +1,47 @@
 use crate::rows::{check_text, request, text};
-use nop_types::{Bytes, Config, Entry, Log, Out, Outbox, View, leader_of};
+use nop_types::{Bytes, Checkpoint, Config, Entry, Log, Out, Outbox, SavedClient, View, leader_of};
 use std::alloc::Global;
 use std::process::Abort;
 
-/// A copy of a log of a request and a NO-OP, each of which is a copy.
+/// A checkpoint with clients of these numbers.
+fn checkpoint(rt: &impl Abort, alloc: Global, numbers: [u32; 2]) -> Option<Checkpoint> {
+    let mut clients = Vec::new(alloc);
+    for client in numbers {
+        let result = Bytes::new(alloc, b"=").expect(rt, "memory");
+        let saved = SavedClient {
+            client,
+            id: 2,
+            result,
+        };
+        clients.push(saved).expect(rt, "memory");
+    }
+    let host = Bytes::new(alloc, b"h").expect(rt, "memory");
+    Checkpoint::new(host, clients)
+}
+
+/// A copy of a log of a checkpoint, a request and a NO-OP, each of which is a copy.
 fn log(rt: &impl Abort, alloc: Global) -> Log {
     let first = request(rt, alloc, 7, 3, b"op");
     let first = first.try_clone().expect(rt, "memory");
     let entries = vec![in alloc; Entry::Req(first), Entry::NoOp].expect(rt, "memory");
-    Log::new(1, entries).try_clone().expect(rt, "memory")
+    let checkpoint = checkpoint(rt, alloc, [7, 8]).expect(rt, "ascending");
+    let checkpoint = checkpoint.try_clone().expect(rt, "memory");
+    let log = Log::new(1, Some(checkpoint), entries);
+    log.try_clone().expect(rt, "memory")
+}
+
+#[test]
+fn checkpoints(rt: HostRuntime) {
+    assert!(rt; checkpoint(&rt, rt.alloc(), [0, u32::MAX]).is_some());
+    assert!(rt; checkpoint(&rt, rt.alloc(), [7, 7]).is_none());
+    assert!(rt; checkpoint(&rt, rt.alloc(), [8, 7]).is_none());
 }
 
 #[test]
 fn copies(rt: HostRuntime) {
     let alloc = rt.alloc();
     let told =
-        "Log { sync_point: 1, entries: [Req(Request { client: 7, id: 3, op: Op { bytes: [111, 112] } }), NoOp] }";
+        "Log { sync_point: 1, checkpoint: Some(Checkpoint { host: Bytes { bytes: [104] }, clients: [SavedClient { client: 7, id: 2, result: Bytes { bytes: [61] } }, SavedClient { client: 8, id: 2, result: Bytes { bytes: [61] } }] }), entries: [Req(Request { client: 7, id: 3, op: Op { bytes: [111, 112] } }), NoOp] }";
     check_text(&rt, &text(&rt, alloc, &log(&rt, alloc)), told);
     let bytes = Bytes::new(alloc, b"abc").expect(&rt, "memory");
     let copy = bytes.try_clone().expect(&rt, "memory").into_vec();

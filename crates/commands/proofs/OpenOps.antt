@@ -6,7 +6,7 @@ use Rattle.nop_types.specs.Given.{Given, Packet, Ticked, Submit}
 use Rattle.nop_types.specs.declared.input.Tick.{Tick}
 use Rattle.nop_types.specs.declared.input.Tick.TheVariants as ticks
 use Rattle.nop_types.specs.declared.output.Out.{Out}
-use Rattle.nop_types.specs.declared.output.Out.TheVariants.{Send, Submitted, Accepted, Busy}
+use Rattle.nop_types.specs.declared.output.Out.TheVariants.{Send, Submitted, Accepted, Busy, Trimmed}
 use Rattle.nop_types.specs.declared.request.Request.{Request}
 use Rattle.nop_types.specs.declared.datagram.Reply.{Reply}
 use Rattle.nop_types.specs.declared.datagram.Datagram.{Datagram}
@@ -26,6 +26,7 @@ accepts_append (Accepted client id result ∷ xs) ys = let rest = accepts_append
 accepts_append (Send dest bytes ∷ xs) ys = accepts_append xs ys
 accepts_append (Submitted r ∷ xs) ys = accepts_append xs ys
 accepts_append (Busy client ∷ xs) ys = accepts_append xs ys
+accepts_append (Trimmed first entries ∷ xs) ys = accepts_append xs ys
 
 -- a row accepts as many requests as are open or wait less after it
 abbrev Keeps : ClientState → ClientState × List Out → Type 0

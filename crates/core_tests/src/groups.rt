@@ -1,21 +1,23 @@
-//! Three groups of replicas of the key-value service that are driven by hand. What is expected was worked out from the rules of the
+//! Groups of three replicas of the key-value service that are driven by hand. What is expected was worked out from the rules of the
 //! protocol and from its formats.
-use crate::rows::{check_text, put_line};
+use crate::rows::{check_text, put_checkpoint, put_entries, put_line};
 use crate::scripts::{play, timers};
 use kv_host::KvHost;
-use nop_types::{Config, Entry, Host, Outbox, View};
+use nop_types::{Config, Host, Outbox, View};
 use replica_core::Replica;
 use std::alloc::Global;
 use std::process::Abort;
 
-/// Adds client and id of a slot's request, 0 and 0 for a NO-OP.
-fn put_entry(rt: &impl Abort, alloc: Global, entry: &Entry, to: &mut String) {
-    let (client, id) = match entry {
-        Entry::NoOp => (0, 0),
-        Entry::Req(request) => (request.client, request.id),
-    };
-    let text = format!(in alloc; " ({client}, {id})").expect(rt, "memory");
-    to.push_str(&text).expect(rt, "memory");
+/// Adds a replica's log: its checkpoint, if it has one, the entries above its sync point, and whether it is full.
+fn put_log<H: Host>(rt: &impl Abort, alloc: Global, core: &Replica<H>, to: &mut String) {
+    let log = core.log();
+    if let Some(checkpoint) = log.checkpoint() {
+        put_checkpoint(rt, alloc, checkpoint, to);
+    }
+    put_entries(rt, alloc, log.entries(), to);
+    if !log.has_room() {
+        to.push_str(" full").expect(rt, "memory");
+    }
 }
 
 /// Adds a replica's view, status, last normal view, sync point, how many slots are executed, and its log.
@@ -28,9 +30,7 @@ fn put_state<H: Host>(rt: &impl Abort, alloc: Global, core: &Replica<H>, to: &mu
         view.leader, view.session, normal.leader, normal.session
     );
     to.push_str(&text.expect(rt, "memory")).expect(rt, "memory");
-    for entry in core.log().entries() {
-        put_entry(rt, alloc, entry, to);
-    }
+    put_log(rt, alloc, core, to);
     put_line(rt, "", to);
 }
 
@@ -164,8 +164,8 @@ Normal (1, 1, 1, 1) (0, 0) (0, 1) (0, 2) (0, 3)
     play_three::<KvHost>(&rt, rt.alloc(), VIEW_CHANGE, told);
 }
 
-/// A follower that missed a request takes it from the leader's log, replies, and votes; then both have it synchronised. Messages made
-/// by hand change nothing: a commit before the log came, a view that is asked for by the replica itself, by one that is not there, and
+/// A follower that missed a request takes it from the leader's log, replies, and votes; then both have it synchronised, and in its
+/// place a checkpoint: the map, and the client with its id and result. Messages made by hand change nothing: a commit before the log came, a view that is asked for by the replica itself, by one that is not there, and
 /// in fragments of another than its sender, and a start of the next view without the request that is synchronised.
 const SYNCHRONISATION: &str = "\
 0 packet 4e4f0202 00000001 0000000000000001 00000000 0000000000000001 0007 5000016b000176
@@ -183,26 +183,28 @@ const SYNCHRONISATION: &str = "\
   4 One(Client(1)) 4e4f020302000000000000000100000002000000010000000000000001000000
 0 sent 3
   5 Replicas 4e4f0208000000000000000002000000011900000000000000000100000001
+  6 trimmed 1 (0, 1)
 2 sent 5
+  7 trimmed 1 (0, 1)
 0 tick sync
-  6 Replicas 4e4f0208000000000000000003000000011900000000000000000100000001
+  8 Replicas 4e4f0208000000000000000003000000011900000000000000000100000001
 2 packet 4e4f0208 01 0000000000000009 0000 0001 16 01 00000001 00000001 0000000000000001 00000000 00000000
 ";
 
 #[test]
 fn a_missed_request_is_synchronised(rt: HostRuntime) {
     let told = "\
-Normal (0, 1, 0, 1) (1, 1) (0, 1)
+Normal (0, 1, 0, 1) (1, 1) 0000000100016b000176 [0, 1, 6e6f6e65]
 Normal (0, 1, 0, 1) (0, 0)
-Normal (0, 1, 0, 1) (1, 1) (0, 1) (1, 1)
+Normal (0, 1, 0, 1) (1, 1) 0000000100016b000176 [0, 1, 6e6f6e65] (1, 1)
 ";
     play_three::<KvHost>(&rt, rt.alloc(), SYNCHRONISATION, told);
 }
 
-/// A leader and a follower have a request synchronised. Messages made by hand then tell of a NO-OP
-/// in its slot: a gap commit and a log in the same view, and what the next view starts with. The
-/// follower answers them, and the request stays. Another follower asks the leader for the slot, and
-/// tells a late change: it gets all that is synchronised, though the view started with nothing.
+/// A leader and a follower have a request synchronised, so it moved out of their logs. Messages made by hand then tell of a NO-OP
+/// in its slot: a gap commit and a log in the same view, and what the next view starts with. The follower answers them, and the
+/// checkpoint stays. Another follower asks the leader for the slot, and tells a late change: it gets the checkpoint, though the view
+/// started with nothing.
 const SYNCHRONISED: &str = "\
 0 packet 4e4f0202 00000001 0000000000000001 00000000 0000000000000001 0007 5000016b000176
   0 One(Client(0)) 4e4f0203000000000000000001000000010000000000000000000000010100046e6f6e65
@@ -213,52 +215,55 @@ const SYNCHRONISED: &str = "\
   3 One(Replica(0)) 4e4f0208020000000000000001000000011802000000000000000100000001
 0 sent 3
   4 Replicas 4e4f0208000000000000000002000000011900000000000000000100000001
+  5 trimmed 1 (0, 1)
 2 sent 4
+  6 trimmed 1 (0, 1)
 2 packet 4e4f0208 00 0000000000000009 0000 0001 12 00 00000000 00000001 00000001
-  5 One(Replica(0)) 4e4f0208020000000000000002000000011302000000000000000100000001
+  7 One(Replica(0)) 4e4f0208020000000000000002000000011302000000000000000100000001
 2 packet 4e4f0208 00 000000000000000a 0000 0001 17 00 00000000 00000001 00000000 00000001 00
-  6 One(Replica(0)) 4e4f0208020000000000000003000000011802000000000000000100000001
+  8 One(Replica(0)) 4e4f0208020000000000000003000000011802000000000000000100000001
 0 packet 4e4f0208 01 0000000000000009 0000 0001 10 01 00000000 00000001 00000001
-  7 One(Replica(1)) 4e4f0208000000000000000003000000011700000000000000000100000001000000010100000000000000000000000100075000016b000176
+  9 One(Replica(1)) 4e4f02080000000000000000030000000117000000000000000001000000010000000a0000000100016b0001760000000100000000000000000000000100046e6f6e6500000000
 0 packet 4e4f0208 01 000000000000000a 0000 0001 15 01 00000000 00000001 00000000 00000001 0000000000000001 00000000 00000000
-  8 One(Replica(1)) 4e4f02080000000000000000040000000116000000000000000001000000000000000200000001000000010100000000000000000000000100075000016b000176
+  10 One(Replica(1)) 4e4f020800000000000000000400000001160000000000000000010000000000000002000000010000000a0000000100016b0001760000000100000000000000000000000100046e6f6e6500000000
 2 packet 4e4f0208 01 000000000000000b 0000 0001 16 01 00000001 00000001 0000000000000003 00000000 00000002 00 00
 ";
 
 #[test]
 fn a_synchronised_slot_stays(rt: HostRuntime) {
     let told = "\
-Normal (0, 1, 0, 1) (1, 1) (0, 1)
+Normal (0, 1, 0, 1) (1, 1) 0000000100016b000176 [0, 1, 6e6f6e65]
 Normal (0, 1, 0, 1) (0, 0)
-Normal (1, 1, 1, 1) (1, 1) (0, 1) (0, 0)
+Normal (1, 1, 1, 1) (1, 1) 0000000100016b000176 [0, 1, 6e6f6e65] (0, 0)
 ";
     play_three::<KvHost>(&rt, rt.alloc(), SYNCHRONISED, told);
 }
 
-/// A follower without a log is told one that is synchronised: it takes that whole, executes it, and replies to nobody. Logs made by
-/// hand then tell of a NO-OP in its slot: with the same sync point, which changes slot 2 alone, and with a greater one, which is taken
-/// whole, and so is what the next view starts with. Another replica starts that view with the sync point of a change that it is told.
+/// A follower without a log is told the checkpoint of a put: it takes that, and replies to nobody. Logs made by hand then tell of an
+/// empty map: with the same sync point, where the own checkpoint stays, and slot 2 alone is taken, and with a greater one, whose
+/// checkpoint is taken. With what the next view starts with the put is there again. Another replica starts that view with the
+/// checkpoint of a change that it is told.
 const TOLD: &str = "\
-2 packet 4e4f0208 00 0000000000000009 0000 0001 17 00 00000000 00000001 00000001 00000001 01 00000000 0000000000000001 0007 5000016b000176
+2 packet 4e4f0208 00 0000000000000009 0000 0001 17 00 00000000 00000001 00000001 0000000a 0000000100016b000176 00000001 00000000 0000000000000001 0004 6e6f6e65 00000000
   0 One(Replica(0)) 4e4f0208020000000000000001000000011802000000000000000100000001
-2 packet 4e4f0208 00 000000000000000a 0000 0001 17 00 00000000 00000001 00000001 00000002 00 01 00000001 0000000000000001 0004 4700016b
+2 packet 4e4f0208 00 000000000000000a 0000 0001 17 00 00000000 00000001 00000001 00000004 00000000 00000000 00000001 01 00000001 0000000000000001 0004 4700016b
   1 One(Client(1)) 4e4f020302000000000000000100000002000000010000000000000001000000
   2 One(Replica(0)) 4e4f0208020000000000000002000000011802000000000000000100000002
-2 packet 4e4f0208 00 000000000000000b 0000 0001 17 00 00000000 00000001 00000002 00000002 00 00
+2 packet 4e4f0208 00 000000000000000b 0000 0001 17 00 00000000 00000001 00000002 00000004 00000000 00000000 00000000
   3 One(Replica(0)) 4e4f0208020000000000000003000000011802000000000000000100000002
-2 packet 4e4f0208 01 0000000000000009 0000 0001 16 01 00000001 00000001 0000000000000004 00000003 00000003 00 00 01 00000000 0000000000000001 0007 5000016b000176
+2 packet 4e4f0208 01 0000000000000009 0000 0001 16 01 00000001 00000001 0000000000000004 00000003 0000000a 0000000100016b000176 00000001 00000000 0000000000000001 0004 6e6f6e65 00000000
 1 tick suspect
   4 Replicas 4e4f02080100000000000000010000000114010000000100000001
-1 packet 4e4f0208 02 0000000000000009 0000 0001 15 02 00000001 00000001 00000000 00000001 0000000000000002 00000001 00000001 01 00000000 0000000000000001 0007 5000016b000176
-  5 Replicas 4e4f02080100000000000000020000000116010000000100000001000000000000000200000001000000010100000000000000000000000100075000016b000176
+1 packet 4e4f0208 02 0000000000000009 0000 0001 15 02 00000001 00000001 00000000 00000001 0000000000000002 00000001 0000000a 0000000100016b000176 00000001 00000000 0000000000000001 0004 6e6f6e65 00000000
+  5 Replicas 4e4f020801000000000000000200000001160100000001000000010000000000000002000000010000000a0000000100016b0001760000000100000000000000000000000100046e6f6e6500000000
 ";
 
 #[test]
 fn a_greater_sync_point_is_taken_with_its_log(rt: HostRuntime) {
     let told = "\
 Normal (0, 1, 0, 1) (0, 0)
-Normal (1, 1, 1, 1) (1, 1) (0, 1)
-Normal (1, 1, 1, 1) (3, 3) (0, 0) (0, 0) (0, 1)
+Normal (1, 1, 1, 1) (1, 1) 0000000100016b000176 [0, 1, 6e6f6e65]
+Normal (1, 1, 1, 1) (3, 3) 0000000100016b000176 [0, 1, 6e6f6e65]
 ";
     play_three::<KvHost>(&rt, rt.alloc(), TOLD, told);
 }

@@ -5,7 +5,7 @@ use crate::groups::{opened, play_three};
 use crate::rows::{bytes_of, check_shown};
 use crate::scripts::play;
 use kv_host::KvHost;
-use nop_types::{Config, Core, Host, Input, MAX_SLOTS, Outbox, Phase};
+use nop_types::{Config, Core, Host, Input, Outbox};
 use replica_core::Replica;
 use sequencer::Sequencer;
 use session_control::Controller;
@@ -182,9 +182,9 @@ fn a_client_ignores_replies_of_others(rt: HostRuntime) {
 }
 
 /// At the leader: fragments of replica 6 and of its own number, and starts of view (1, 1) whose log has an entry more and one less than
-/// it says. At a follower: a commit of 2^32 - 1 slots where nothing is prepared, a gap in the last slot that has a number, a log that
-/// ends before its sync point, the first request from a replica that does not lead. At another one that has left the view: the first
-/// request from the leader of the view that it enters.
+/// it says. At a follower: a gap in the last slot that a log may have, a log of one slot more than that, and, from a replica that does
+/// not lead, a checkpoint and the first request. At another one that has left the view: the first request from the leader of the view
+/// that it enters.
 const FORGED: &str = "\
 0 packet 4e4f0208 06 0000000000000001 0000 0001 14 06 00000007 00000001
 0 packet 4e4f0208 00 0000000000000001 0000 0001 14 00 00000007 00000001
@@ -193,9 +193,9 @@ const FORGED: &str = "\
 0 packet 4e4f0208 01 0000000000000001 0001 0002 00
 0 packet 4e4f0208 01 0000000000000002 0000 0002 16 01 00000001 00000001 0000000000000001 00000000 00000560 00*1374
 0 packet 4e4f0208 01 0000000000000002 0001 0002 00
-1 packet 4e4f0208 00 0000000000000001 0000 0001 19 00 00000000 00000001 ffffffff
 1 packet 4e4f0208 00 0000000000000001 0000 0001 12 00 00000000 00000001 ffffffff
-1 packet 4e4f0208 00 0000000000000001 0000 0001 17 00 00000000 00000001 00000002 00000001 00
+1 packet 4e4f0208 00 0000000000000001 0000 0001 17 00 00000000 00000001 ffffffff 00000004 00000000 00000000 00000001 00
+1 packet 4e4f0208 02 0000000000000001 0000 0001 17 02 00000000 00000001 00000001 00000004 00000000 00000000 00000000
 1 packet 4e4f0208 02 0000000000000001 0000 0001 11 02 00000000 00000001 00000001 00000000 0000000000000001 0000
 2 tick suspect
   0 Replicas 4e4f02080200000000000000010000000114020000000100000001
@@ -211,6 +211,74 @@ Normal (0, 1, 0, 1) (0, 0)
 Change (1, 1, 0, 1) (0, 0)
 ";
     play_three::<KvHost>(&rt, rt.alloc(), FORGED, told);
+}
+
+/// A follower has a request. It is told checkpoints that are no saved map: three bytes, a key that is not there, a byte after the last
+/// key, the first two by its leader and the third one by the leader of the next view. Another replica is told one in a change. It enters
+/// no view then, and later, in that view, does not keep the change; one without a checkpoint starts the view.
+const UNLOADED: &str = "\
+2 packet 4e4f0202 00000001 0000000000000001 00000000 0000000000000001 0007 5000016b000176
+  0 One(Client(0)) 4e4f020302000000000000000100000001000000000000000000000001000000
+2 packet 4e4f0208 00 0000000000000001 0000 0001 17 00 00000000 00000001 00000001 00000003 000000 00000000 00000000
+2 packet 4e4f0208 00 0000000000000002 0000 0001 17 00 00000000 00000001 00000001 00000004 00000001 00000000 00000001 00
+2 packet 4e4f0208 01 0000000000000001 0000 0001 16 01 00000001 00000001 0000000000000003 00000002 00000005 0000000000 00000000 00000000
+1 packet 4e4f0208 02 0000000000000001 0000 0001 15 02 00000001 00000001 00000000 00000001 0000000000000002 00000001 00000003 000000 00000000 00000000
+1 tick suspect
+  1 Replicas 4e4f02080100000000000000010000000114010000000100000001
+1 packet 4e4f0208 02 0000000000000002 0000 0001 15 02 00000001 00000001 00000000 00000001 0000000000000002 00000001 00000003 000000 00000000 00000000
+1 packet 4e4f0208 02 0000000000000003 0000 0001 15 02 00000001 00000001 00000000 00000001 0000000000000001 00000000 00000000
+  2 Replicas 4e4f0208010000000000000002000000011601000000010000000100000000000000010000000000000000
+";
+
+#[test]
+fn checkpoints_that_do_not_load_change_nothing(rt: HostRuntime) {
+    let told = "\
+Normal (0, 1, 0, 1) (0, 0)
+Normal (1, 1, 1, 1) (0, 0)
+Normal (0, 1, 0, 1) (0, 0) (0, 1)
+";
+    play_three::<KvHost>(&rt, rt.alloc(), UNLOADED, told);
+}
+
+/// At a leader with one slot: votes for that length before it asked for them, and then for lengths that it did not ask for. At a follower
+/// with two slots: commits where nothing is prepared, and then, where slot 1 is prepared, of slot 2 and of the last slot that a log may
+/// have. A commit of slot 1 is taken at last.
+const UN4e4f0208000000000000000001000000011700000000000000000100000000000000010100000000000000000000000100075000016b000176D: &str =
+    "\
+0 packet 4e4f0202 00000001 0000000000000001 00000000 0000000000000001 0007 5000016b000176
+  0 One(Client(0)) 4e4f0203000000000000000001000000010000000000000000000000010100046e6f6e65
+0 packet 4e4f0208 01 0000000000000001 0000 0001 18 01 00000000 00000001 00000001
+0 tick sync
+  1 Replicas 4e4f0208000000000000000001000000011700000000000000000100000000000000010100000000000000000000000100075000016b000176
+0 packet 4e4f0208 01 0000000000000002 0000 0001 18 01 00000000 00000001 00000000
+0 packet 4e4f0208 01 0000000000000003 0000 0001 18 01 00000000 00000001 00000002
+2 packet 4e4f0202 00000001 0000000000000001 00000000 0000000000000001 0007 5000016b000176
+  2 One(Client(0)) 4e4f020302000000000000000100000001000000000000000000000001000000
+2 packet 4e4f0202 00000001 0000000000000002 00000001 0000000000000001 0004 4700016b
+  3 One(Client(1)) 4e4f020302000000000000000100000002000000010000000000000001000000
+2 packet 4e4f0208 00 0000000000000002 0000 0001 19 00 00000000 00000001 00000001
+2 packet 4e4f0208 00 0000000000000003 0000 0001 19 00 00000000 00000001 ffffffff
+2 sent 1
+  4 One(Replica(0)) 4e4f0208020000000000000001000000011802000000000000000100000001
+2 packet 4e4f0208 00 0000000000000004 0000 0001 19 00 00000000 00000001 00000002
+2 packet 4e4f0208 00 0000000000000005 0000 0001 19 00 00000000 00000001 ffffffff
+2 packet 4e4f0208 00 0000000000000006 0000 0001 19 00 00000000 00000001 00000001
+  5 trimmed 1 (0, 1)
+";
+
+#[test]
+fn what_is_not_prepared_stays(rt: HostRuntime) {
+    let told = "\
+Normal (0, 1, 0, 1) (0, 1) (0, 1)
+Normal (0, 1, 0, 1) (0, 0)
+Normal (0, 1, 0, 1) (1, 1) 0000000100016b000176 [0, 1, 6e6f6e65] (1, 1)
+";
+    play_three::<KvHost>(
+        &rt,
+        rt.alloc(),
+        UN4e4f0208000000000000000001000000011700000000000000000100000000000000010100000000000000000000000100075000016b000176D,
+        told,
+    );
 }
 
 /// A view with the greatest numbers is asked for, which replica 0 leads. A tick and a packet of its session change no view then. A packet
@@ -278,7 +346,9 @@ Normal (0, 1, 0, 1) (0, 0)
     play_three::<KvHost>(&rt, rt.alloc(), PAST_THE_LAST_NUMBER, told);
 }
 
-/// A view starts with a full log. A NO-OP and a request past it, and a packet of the next number, which is queued, change nothing.
+/// A view starts with a full log, of 4,096 slots. A NO-OP and a request past it, and a packet of the next number, which is queued, change
+/// nothing. Then its leader tells a log of one slot more, of which slot 1 is synchronised: the replica keeps 4,096 entries above that,
+/// and nothing past them is taken.
 const FULL_LOG: &str = "\
 0 packet 4e4f0208 01 0000000000000001 0000 0003 16 01 00000001 00000001 0000000000001001 00000000 00001000 00*1374
 0 packet 4e4f0208 01 0000000000000001 0001 0003 00*1400
@@ -289,18 +359,46 @@ const FULL_LOG: &str = "\
 0 tick resend
 0 packet 4e4f0202 00000001 0000000000001003 00000000 0000000000000001 0007 5000016b000176
 0 tick resend
+0 packet 4e4f0208 01 0000000000000004 0000 0003 17 01 00000001 00000001 00000001 00000004 00000000 00000000 00001000 00*1370
+0 packet 4e4f0208 01 0000000000000004 0001 0003 00*1400
+0 packet 4e4f0208 01 0000000000000004 0002 0003 00*1326
+  0 One(Replica(1)) 4e4f0208000000000000000001000000011800000000010000000100001001
+0 packet 4e4f0208 01 0000000000000005 0000 0001 12 01 00000001 00000001 00001002
+0 packet 4e4f0208 01 0000000000000006 0000 0001 11 01 00000001 00000001 00001002 00000000 0000000000000001 0000
+0 packet 4e4f0202 00000001 0000000000001002 00000000 0000000000000001 0007 5000016b000176
+0 tick resend
 ";
 
-/// A replica that takes it has so many slots, and is Normal.
-fn a_full_log<H: Host>(rt: &impl Abort, alloc: Global) {
-    let mut cores: Vec<Replica<H>> = opened(rt, alloc);
-    play(rt, alloc, &mut cores, &mut Outbox::new(alloc), FULL_LOG);
-    let core = cores.first().expect(rt, "a replica");
-    assert!(rt; core.log().len() as usize == MAX_SLOTS);
-    assert!(rt; core.status() == Phase::Normal && core.messages() == 0);
+#[test]
+fn a_log_takes_no_more_than_it_has_room_for(rt: HostRuntime) {
+    let told = "\
+Normal (1, 1, 1, 1) (1, 1) 00000000 4096 entries full
+Normal (0, 1, 0, 1) (0, 0)
+Normal (0, 1, 0, 1) (0, 0)
+";
+    play_three::<KvHost>(&rt, rt.alloc(), FULL_LOG, told);
 }
 
+/// A view starts with all slots synchronised that a log may have but the last one, which its packet takes. The next packet is queued. A
+/// NO-OP comes into the last slot. Then it is synchronised too, and there is no room all the same.
+const LAST_SLOT: &str = "\
+0 packet 4e4f0208 01 0000000000000001 0000 0001 16 01 00000001 00000001 0000000000000005 fffffffe 00000004 00000000 00000000 00000000
+0 packet 4e4f0202 00000001 0000000000000005 00000000 0000000000000001 0007 5000016b000176
+  0 One(Client(0)) 4e4f0203000000000100000001ffffffff000000000000000000000001000000
+0 packet 4e4f0202 00000001 0000000000000006 00000000 0000000000000002 0004 4700016b
+0 packet 4e4f0208 01 0000000000000002 0000 0001 12 01 00000001 00000001 ffffffff
+  1 One(Replica(1)) 4e4f02080000000000000000010000000113000000000100000001ffffffff
+0 packet 4e4f0208 01 0000000000000003 0000 0001 17 01 00000001 00000001 ffffffff 00000004 00000000 00000000 00000000
+  2 One(Replica(1)) 4e4f02080000000000000000020000000118000000000100000001ffffffff
+0 tick resend
+";
+
 #[test]
-fn a_log_takes_no_more(rt: HostRuntime) {
-    a_full_log::<KvHost>(&rt, rt.alloc());
+fn the_last_slot(rt: HostRuntime) {
+    let told = "\
+Normal (1, 1, 1, 1) (4294967295, 4294967295) 00000000 full
+Normal (0, 1, 0, 1) (0, 0)
+Normal (0, 1, 0, 1) (0, 0)
+";
+    play_three::<KvHost>(&rt, rt.alloc(), LAST_SLOT, told);
 }

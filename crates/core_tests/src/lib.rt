@@ -1,5 +1,6 @@
 //! Tests alone, by the public calls of the crates below: the cores one by one, and groups of
-//! replicas that are driven by hand-written deliveries, forged ones too.
+//! replicas that are driven by hand-written deliveries, forged ones too, with logs that are trimmed
+//! and full ones.
 #![tactic(auto)]
 
 #[cfg(test)]
@@ -16,3 +17,5 @@ mod rows;
 mod scripts;
 #[cfg(test)]
 mod served;
+#[cfg(test)]
+mod trimmed;

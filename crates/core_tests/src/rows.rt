@@ -1,3 +1,4 @@
+use nop_types::{Checkpoint, Entry, SavedClient};
 use std::alloc::Global;
 use std::fmt::Debug;
 use std::process::Abort;
@@ -33,4 +34,48 @@ pub fn check_text(rt: &impl Abort, given: &str, told: &str) {
 pub fn check_shown<T: Debug>(rt: &impl Abort, alloc: Global, value: &T, told: &str) {
     let given = format!(in alloc; "{value:?}").expect(rt, "memory");
     check_text(rt, &given, told);
+}
+
+fn put_text(rt: &impl Abort, text: &str, to: &mut String) {
+    to.push_str(text).expect(rt, "memory");
+}
+
+/// Adds client and id of a slot's request, 0 and 0 for a NO-OP.
+fn put_entry(rt: &impl Abort, alloc: Global, entry: &Entry, to: &mut String) {
+    let (client, id) = match entry {
+        Entry::NoOp => (0, 0),
+        Entry::Req(request) => (request.client, request.id),
+    };
+    let text = format!(in alloc; " ({client}, {id})").expect(rt, "memory");
+    put_text(rt, &text, to);
+}
+
+/// Adds the entries, or how many they are where they are many.
+pub fn put_entries(rt: &impl Abort, alloc: Global, entries: &[Entry], to: &mut String) {
+    let count = entries.len();
+    if count > 8 {
+        let text = format!(in alloc; " {count} entries").expect(rt, "memory");
+        return put_text(rt, &text, to);
+    }
+    for entry in entries {
+        put_entry(rt, alloc, entry, to);
+    }
+}
+
+/// Adds a client of a checkpoint: its number, its greatest id, and the result.
+fn put_client(rt: &impl Abort, alloc: Global, saved: &SavedClient, to: &mut String) {
+    let (client, id) = (saved.client, saved.id);
+    let result = hex::encode(alloc, saved.result.as_slice()).expect(rt, "memory");
+    let text = format!(in alloc; " [{client}, {id}, {result}]").expect(rt, "memory");
+    put_text(rt, &text, to);
+}
+
+/// Adds a checkpoint: the bytes of the host's state, and the clients.
+pub fn put_checkpoint(rt: &impl Abort, alloc: Global, checkpoint: &Checkpoint, to: &mut String) {
+    let host = hex::encode(alloc, checkpoint.host().as_slice()).expect(rt, "memory");
+    let text = format!(in alloc; " {host}").expect(rt, "memory");
+    put_text(rt, &text, to);
+    for saved in checkpoint.clients() {
+        put_client(rt, alloc, saved, to);
+    }
 }

@@ -1,5 +1,5 @@
-use crate::rows::{bytes_of, check_text, put_line};
-use nop_types::{Core, Dest, Input, MAX_OP_BYTES, Op, Out, Outbox, Tick};
+use crate::rows::{bytes_of, check_text, put_entries, put_line};
+use nop_types::{Core, Dest, Input, Log, MAX_OP_BYTES, Op, Out, Outbox, Tick};
 use std::alloc::Global;
 use std::process::Abort;
 
@@ -90,6 +90,13 @@ fn told_accept(rt: &impl Abort, alloc: Global, id: u64, answer: &[u8]) -> String
     format!(in alloc; "accepted {id} {digits}").expect(rt, "memory")
 }
 
+/// The slot of the first entry that moved out of a log, and the entries.
+fn told_trimmed(rt: &impl Abort, alloc: Global, first: u32, entries: &Log) -> String {
+    let mut text = format!(in alloc; "trimmed {first}").expect(rt, "memory");
+    put_entries(rt, alloc, entries.entries(), &mut text);
+    text
+}
+
 /// An output in few words.
 fn told(rt: &impl Abort, alloc: Global, out: &Out) -> String {
     match out {
@@ -99,6 +106,7 @@ fn told(rt: &impl Abort, alloc: Global, out: &Out) -> String {
         }
         Out::Accepted { id, result, .. } => told_accept(rt, alloc, *id, result.as_slice()),
         Out::Busy(_) => String::from_str(alloc, "busy").expect(rt, "memory"),
+        Out::Trimmed { first, entries } => told_trimmed(rt, alloc, *first, entries),
     }
 }
 

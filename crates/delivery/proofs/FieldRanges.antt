@@ -9,7 +9,8 @@ use Rattle.nop_types.specs.declared.view.View.{View}
 use Rattle.nop_types.specs.declared.request.Request.{Request}
 use Rattle.nop_types.specs.declared.datagram.Stamped.{Stamped}
 use Rattle.nop_types.specs.declared.peer.Body.{Body}
-use Rattle.nop_types.specs.Ranges.{RequestFits, BodyFits, ViewFits, ChangeFits}
+use Rattle.nop_types.specs.Logs.{Keeping}
+use Rattle.nop_types.specs.Ranges.{RequestFits, BodyIsIn, ViewFits, ChangeIsIn}
 use Rattle.oum_receiver.specs.declared.verdict.Verdict.{Verdict}
 use Rattle.oum_receiver.specs.declared.verdict.Verdict.TheVariants as verdicts
 use Rattle.oum_receiver.specs.Front.{Nothing, Message, front_at}
@@ -17,9 +18,9 @@ use Rattle.oum_receiver.specs.Receiving.{Receiving, QueuedFits, IsSound, judged,
 use Rattle.replica_state.specs.declared.sending.Sending.{Sending}
 use Rattle.replica_state.specs.declared.state.ReplicaState.{ReplicaState}
 use Rattle.replica_state.specs.State.{others}
-use Rattle.replica_state.specs.Sends.{Effect, still, then_do, when, to_replica, to_all, to_all_if, SendingFits}
+use Rattle.replica_state.specs.Sends.{Effect, still, then_do, when, to_replica, to_all, to_all_if, SendingIsIn}
 use Rattle.replica_state.specs.Moves.{hear, entered, own_change}
-use Rattle.replica_state.specs.Within.{IsWithin}
+use Rattle.replica_state.specs.Within.{IsIn}
 use Rattle.replica_rows.proofs.Fields.{with_heard}
 use Rattle.delivery.specs.Ranges.{StaysInRanges}
 
@@ -30,50 +31,54 @@ below a b e = ltb-true _ _ e
 
 -- ---- a state and what is sent
 
-pub record IsGood (s : ReplicaState) : Type 0 where
-  pub within : IsWithin s
+pub record IsGood (k : Keeping) (s : ReplicaState) : Type 0 where
+  pub within : IsIn k s
   pub sound : IsSound s.receiver
 
-pub good : (e : Effect) → IsGood e.0 → AllByRecursion SendingFits e.1 → StaysInRanges e
+pub good : {k : Keeping} (e : Effect) → IsGood k e.0 → AllByRecursion (SendingIsIn k) e.1 → StaysInRanges k e
 good e g fits = record { within = g.within; receiver = g.sound; sends = fits }
 
-pub after : (e : Effect) → StaysInRanges e → IsGood e.0
+pub after : {k : Keeping} (e : Effect) → StaysInRanges k e → IsGood k e.0
 after e h = record { within = h.within; sound = h.receiver }
 
-pub all_behind : (a b : List Sending) → AllByRecursion SendingFits a → AllByRecursion SendingFits b → AllByRecursion SendingFits (a ++ b)
-all_behind [] b f g = g
-all_behind (x ∷ a) b f g = (f.0, all_behind a b f.1 g)
+pub all_behind : (k : Keeping) (a b : List Sending) → AllByRecursion (SendingIsIn k) a → AllByRecursion (SendingIsIn k) b
+    → AllByRecursion (SendingIsIn k) (a ++ b)
+all_behind k [] b f g = g
+all_behind k (x ∷ a) b f g = (f.0, all_behind k a b f.1 g)
 
-pub still_stays : (s : ReplicaState) → IsGood s → StaysInRanges (still s)
+pub still_stays : {k : Keeping} (s : ReplicaState) → IsGood k s → StaysInRanges k (still s)
 still_stays s g = good (still s) g tt
 
-pub then_stays : (e : Effect) (f : ReplicaState → Effect) → StaysInRanges e → StaysInRanges (f e.0) → StaysInRanges (then_do e f)
-then_stays e f first then =
-    record { within = then.within; receiver = then.receiver; sends = all_behind e.1 (f e.0).1 first.sends then.sends }
+pub then_stays : {k : Keeping} (e : Effect) (f : ReplicaState → Effect) → StaysInRanges k e → StaysInRanges k (f e.0)
+    → StaysInRanges k (then_do e f)
+then_stays {k} e f first then =
+    record { within = then.within; receiver = then.receiver; sends = all_behind k e.1 (f e.0).1 first.sends then.sends }
 
-pub when_stays : (b : Bool) (f : ReplicaState → Effect) (s : ReplicaState) → IsGood s → (b ≡ true → StaysInRanges (f s))
-    → StaysInRanges (when b f s)
+pub when_stays : {k : Keeping} (b : Bool) (f : ReplicaState → Effect) (s : ReplicaState) → IsGood k s → (b ≡ true → StaysInRanges k (f s))
+    → StaysInRanges k (when b f s)
 when_stays true f s g h = h refl
 when_stays false f s g h = still_stays s g
 
 -- ---- messages
 
-pub number_small : (s : ReplicaState) → IsWithin s → s.number ≤ 6
+pub number_small : {k : Keeping} (s : ReplicaState) → IsIn k s → s.number ≤ 6
 number_small s w = let less = w.number in let few = w.few in omega arith
 
-pub own_change_fits : (s : ReplicaState) → IsWithin s → ChangeFits (own_change s)
+pub own_change_fits : {k : Keeping} (s : ReplicaState) → IsIn k s → ChangeIsIn k (own_change s)
 own_change_fits s w =
     record { sender = number_small s w; rest = record { view = w.last_normal; number = w.next; told = w.log } }
 
-pub to_replica_fits : (s : ReplicaState) (q : ℕ) (body : Body) → IsWithin s → BodyFits body
-    → AllByRecursion SendingFits (to_replica s q body)
+pub to_replica_fits : {k : Keeping} (s : ReplicaState) (q : ℕ) (body : Body) → IsIn k s → BodyIsIn k body
+    → AllByRecursion (SendingIsIn k) (to_replica s q body)
 to_replica_fits s q body w fits = (record { sender = number_small s w; view = w.view; body = fits }, tt)
 
-all_if_fits : (b : Bool) (s : ReplicaState) (body : Body) → IsWithin s → BodyFits body → AllByRecursion SendingFits (to_all_if b s body)
+pub all_if_fits : {k : Keeping} (b : Bool) (s : ReplicaState) (body : Body) → IsIn k s → BodyIsIn k body
+    → AllByRecursion (SendingIsIn k) (to_all_if b s body)
 all_if_fits true s body w fits = tt
 all_if_fits false s body w fits = (record { sender = number_small s w; view = w.view; body = fits }, tt)
 
-pub to_all_fits : (s : ReplicaState) (body : Body) → IsWithin s → BodyFits body → AllByRecursion SendingFits (to_all s body)
+pub to_all_fits : {k : Keeping} (s : ReplicaState) (body : Body) → IsIn k s → BodyIsIn k body
+    → AllByRecursion (SendingIsIn k) (to_all s body)
 to_all_fits s body w fits = all_if_fits (others s == 0) s body w fits
 
 -- ---- the receiver
@@ -104,7 +109,7 @@ not_nothing x r e none = absurd cc
 
 -- ---- views and messages of the leader
 
-pub entered_within : (s : ReplicaState) (v : View) → IsWithin s → ViewFits v → IsWithin (entered s v)
+pub entered_within : {k : Keeping} (s : ReplicaState) (v : View) → IsIn k s → ViewFits v → IsIn k (entered s v)
 entered_within s v w view = record {
   number = w.number;
   few = w.few;
@@ -123,5 +128,5 @@ entered_within s v w view = record {
   changes = tt;
 }
 
-pub hears : (s : ReplicaState) → IsGood s → IsGood (hear s)
-hears s g = record { within = with_heard s true g.within; sound = g.sound }
+pub hears : {k : Keeping} (s : ReplicaState) → IsGood k s → IsGood k (hear s)
+hears {k} s g = record { within = with_heard k s true g.within; sound = g.sound }

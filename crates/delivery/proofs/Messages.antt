@@ -9,7 +9,7 @@ use Rattle.fragments.specs.Cutting.{fragments_of}
 use Rattle.fragments.specs.Runs.{Sent, IsCutFrom}
 use Rattle.peer_codec.specs.Spelling.{spelling}
 use Rattle.replica_state.specs.declared.sending.Sending.{Sending}
-use Rattle.replica_state.specs.declared.sending.Sending.TheVariants.{ToClient, ToReplicas}
+use Rattle.replica_state.specs.declared.sending.Sending.TheVariants.{ToClient, ToReplicas, Trims}
 use Rattle.replica_state.specs.Sends.{SendingFits, message_count}
 use Rattle.delivery.specs.Carried.{IsMessage}
 use Rattle.delivery.specs.PostedFragments.{messages_from, fragments_of_all}
@@ -27,6 +27,7 @@ pub posted_next : (r number : ℕ) (sends : List Sending) → AllByRecursion (Is
     → IsNext r number (message_count sends) x
 posted_next r number [] by x h = absurd (Has-none x h)
 posted_next r number (ToClient reply ∷ sends) by x h = posted_next r number sends by.1 x h
+posted_next r number (Trims first entries ∷ sends) by x h = posted_next r number sends by.1 x h
 posted_next r number (ToReplicas dest p ∷ sends) by x h = elim (Has-cases x _ (messages_from (number + 1) sends) h) [
   | inl first ↦
       subst (IsNext r number (message_count sends + 1)) (sym first) (record { sender = by.0; low = omega arith; high = omega arith })
@@ -40,6 +41,7 @@ pub posted_once : (r number : ℕ) (sends : List Sending) → AllByRecursion (Is
     → Has (messages_from number sends) b → a.number ≡ b.number → a.bytes ≡ b.bytes
 posted_once r number [] by a b i j n = absurd (Has-none a i)
 posted_once r number (ToClient reply ∷ sends) by a b i j n = posted_once r number sends by.1 a b i j n
+posted_once r number (Trims first entries ∷ sends) by a b i j n = posted_once r number sends by.1 a b i j n
 posted_once r number (ToReplicas dest p ∷ sends) by a b i j n =
     elim (Has-cases a _ rest i) [
       | inl first ↦ elim (Has-cases b _ rest j) [
@@ -71,6 +73,7 @@ pub posted_message : (number : ℕ) (sends : List Sending) → AllByRecursion Se
     → Has (messages_from number sends) x → IsMessage (peers_in sends) x
 posted_message number [] fits x h = absurd (Has-none x h)
 posted_message number (ToClient reply ∷ sends) fits x h = posted_message number sends fits.1 x h
+posted_message number (Trims first entries ∷ sends) fits x h = posted_message number sends fits.1 x h
 posted_message number (ToReplicas dest p ∷ sends) fits x h = elim (Has-cases x _ (messages_from (number + 1) sends) h) [
   | inl first ↦
       subst (IsMessage (p ∷ peers_in sends)) (sym first)
@@ -86,6 +89,8 @@ pub record IsPosted (number : ℕ) (sends : List Sending) (p : Peer) : Type 0 wh
 pub each_posted : (number : ℕ) (sends : List Sending) (p : Peer) → Has (peers_in sends) p → IsPosted number sends p
 each_posted number [] p h = absurd (Has-none p h)
 each_posted number (ToClient reply ∷ sends) p h = let rest = each_posted number sends p h in record { under = rest.under; has = rest.has }
+each_posted number (Trims first entries ∷ sends) p h =
+    let rest = each_posted number sends p h in record { under = rest.under; has = rest.has }
 each_posted number (ToReplicas dest q ∷ sends) p h = elim (Has-cases p q (peers_in sends) h) [
   | inl first ↦
       subst (IsPosted number (ToReplicas dest q ∷ sends)) (sym first)

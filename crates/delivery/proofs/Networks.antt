@@ -44,6 +44,7 @@ among_outs (outs.Send dest bytes ∷ os) = ap (λ (fs : List Fragment). fragment
 among_outs (outs.Submitted r ∷ os) = among_outs os
 among_outs (outs.Accepted client id result ∷ os) = among_outs os
 among_outs (outs.Busy client ∷ os) = among_outs os
+among_outs (outs.Trimmed first entries ∷ os) = among_outs os
 
 -- a fragment that is read of the bytes of one
 pub among_has : (sent : List (List ℕ)) (bytes : List ℕ) (f : Fragment) → Has sent bytes → reading bytes ≡ Ok (datagrams.Fragment f)

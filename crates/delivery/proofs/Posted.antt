@@ -19,7 +19,7 @@ use Rattle.fragments.specs.Runs.{CanBeCut}
 use Rattle.fragments.proofs.Limits.{cut_fragments_fit}
 use Rattle.peer_codec.specs.Spelling.{spelling}
 use Rattle.replica_state.specs.declared.sending.Sending.{Sending}
-use Rattle.replica_state.specs.declared.sending.Sending.TheVariants.{ToClient, ToReplicas}
+use Rattle.replica_state.specs.declared.sending.Sending.TheVariants.{ToClient, ToReplicas, Trims}
 use Rattle.replica_core.specs.Posting.{message_outs, posted}
 use Rattle.replica_state.specs.Sends.{SendingFits, message_count}
 use Rattle.replica_core.proofs.Lengths.{message_is_cut}
@@ -31,6 +31,7 @@ bytes_append (outs.Send dest bytes ∷ a) b = ap (λ (rest : List (List ℕ)). b
 bytes_append (outs.Submitted r ∷ a) b = bytes_append a b
 bytes_append (outs.Accepted client id result ∷ a) b = bytes_append a b
 bytes_append (outs.Busy client ∷ a) b = bytes_append a b
+bytes_append (outs.Trimmed first entries ∷ a) b = bytes_append a b
 
 -- ---- the fragments of a message
 
@@ -84,6 +85,10 @@ posted_each number (ToReplicas dest p ∷ sends) reply h = elim (Has-cases (ToCl
       (sym (bytes_append (message_outs (number + 1) dest p) (posted (number + 1) sends)))
       (Has-append_right (bytes_in (message_outs (number + 1) dest p)) _ _ (posted_each (number + 1) sends reply later))
 ]
+posted_each number (Trims first entries ∷ sends) reply h = elim (Has-cases (ToClient reply) (Trims first entries) sends h) [
+  | inl first ↦ absurd cc
+  | inr later ↦ posted_each number sends reply later
+]
 
 -- more may be sent
 of_more : (x : Sending) (sends : List Sending) (bytes : List ℕ) → IsReplyIn sends bytes ⊎ IsFragment bytes
@@ -114,6 +119,8 @@ posted_only number (ToReplicas dest p ∷ sends) fits high bytes h =
       | inl piece ↦ inr (message_sent (number + 1) dest p fits.0 (omega arith) (omega (arith, high)) bytes piece)
       | inr later ↦ of_more (ToReplicas dest p) sends bytes (posted_only (number + 1) sends fits.1 (omega (arith, high)) bytes later)
     ]
+posted_only number (Trims first entries ∷ sends) fits high bytes h =
+    of_more (Trims first entries) sends bytes (posted_only number sends fits.1 high bytes h)
 
 pub posts_replies : (number : ℕ) (sends : List Sending) → AllByRecursion SendingFits sends → number + message_count sends < 2 ^ 64
     → PostsReplies number sends

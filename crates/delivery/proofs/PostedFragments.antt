@@ -16,7 +16,7 @@ use Rattle.fragments.specs.Cutting.{fragments_of, sends_of}
 use Rattle.fragments.specs.Runs.{Sent}
 use Rattle.fragments.proofs.Limits.{cut_fragments_fit}
 use Rattle.replica_state.specs.declared.sending.Sending.{Sending}
-use Rattle.replica_state.specs.declared.sending.Sending.TheVariants.{ToClient, ToReplicas}
+use Rattle.replica_state.specs.declared.sending.Sending.TheVariants.{ToClient, ToReplicas, Trims}
 use Rattle.replica_state.specs.Sends.{SendingFits, message_count}
 use Rattle.replica_core.specs.Posting.{reply_out, message_outs, posted}
 use Rattle.delivery.specs.PostedFragments.{fragment_read, fragment_in, fragments_in, messages_from, fragments_of_all, PostsFragments}
@@ -64,11 +64,13 @@ posted_fragments number (ToReplicas dest p ∷ sends) fits high =
     (message_fragments (number + 1) dest p fits.0 (omega arith) (omega (arith, high)))
     ∙ ap (λ (fs : List Fragment). fragments_of p.sender (number + 1) (spelling p) ++ fs)
     (posted_fragments (number + 1) sends fits.1 (omega (arith, high)))
+posted_fragments number (Trims first entries ∷ sends) fits high = posted_fragments number sends fits.1 high
 
 message_numbers : (number : ℕ) (sends : List Sending)
     → map (λ (x : Sent). x.number) (messages_from number sends) ≡ range_with_len (number + 1) (message_count sends)
 message_numbers number [] = refl
 message_numbers number (ToClient r ∷ sends) = message_numbers number sends
+message_numbers number (Trims first entries ∷ sends) = message_numbers number sends
 message_numbers number (ToReplicas dest p ∷ sends) =
     let one : message_count sends + 1 ≡ suc (message_count sends) = omega arith in
     ap (λ (ns : List ℕ). (number + 1) ∷ ns) (message_numbers (number + 1) sends) ∙ ap (range_with_len (number + 1)) (sym one)

@@ -3,6 +3,7 @@ use Rattle.std.proofs.Common.{◌≢◌, ◌<◌, ℕ, refl, sym, subst, ◌∙�
 use Rattle.std.proofs.Common.{List, [], ◌++◌}
 use Rattle.std.specs.Prelude.{IsTrue}
 use Rattle.nop_types.specs.Configuration.{Configuration, is_configuration}
+use Rattle.nop_types.specs.Logs.{Trimmed}
 use Rattle.nop_types.specs.declared.datagram.Fragment.{Fragment}
 use Rattle.facts.specs.Functions.{put}
 use Rattle.facts.proofs.Functions.{put-other}
@@ -18,7 +19,7 @@ use Rattle.delivery.proofs.Networks.{among_append}
 pub opening_in_network : (config : Configuration) (r : ℕ) → IsTrue (is_configuration config) → r < config.replicas
     → InNetwork [] (λ (q : ℕ). 0) r (opening config r)
 opening_in_network config r is below =
-    let ranges = opens_in_ranges config r is below in
+    let ranges = opens_in_ranges Trimmed config r is below in
     record {
       number = refl;
       messages = refl;

@@ -6,7 +6,8 @@ use Rattle.std.specs.List.{AllByRecursion}
 use Rattle.std.proofs.lemmas.Bool.{ltb-true}
 use Rattle.nop_types.specs.Given.{Given, Packet, Ticked, Submit}
 use Rattle.nop_types.specs.Lists.{Has}
-use Rattle.nop_types.specs.Logs.{Whole}
+use Rattle.nop_types.specs.Bounds.{Bounds}
+use Rattle.nop_types.specs.Logs.{Trimmed}
 use Rattle.nop_types.specs.Meaning.{Meaning}
 use Rattle.nop_types.specs.Ranges.{DatagramFits}
 use Rattle.nop_types.specs.declared.datagram.Datagram.{Datagram}
@@ -29,7 +30,7 @@ use Rattle.replica_core.specs.Posting.{posted}
 use Rattle.replica_core.specs.ReplicaSteps.{Replica, post, row_if, row}
 use Rattle.replica_core.specs.ReplicaSteps.{fragment, on_datagram, next}
 use Rattle.replica_state.specs.Sends.{Effect, still, message_count}
-use Rattle.replica_rows.specs.Within.{ArrivalFits, ResultsShort}
+use Rattle.replica_rows.specs.Within.{ArrivalFits}
 use Rattle.replica_rows.proofs.Counting.{arrive_sends_few}
 use Rattle.delivery.specs.Network.{bytes_in, fragments_among, Network, IsNoDatagram, MayCome}
 use Rattle.delivery.specs.Ranges.{StaysInRanges}
@@ -43,7 +44,7 @@ use Rattle.delivery.proofs.Replicas.{came_of_more}
 
 -- what is known of what a row does: it is in its ranges, it is sent under the replica's own number, and its messages find numbers
 record IsPostable (r : ℕ) (s : Replica) (e : Effect) : Type 0 where
-  ranges : StaysInRanges e
+  ranges : StaysInRanges Trimmed e
   number : e.0.number ≡ r
   by : AllByRecursion (IsBy r) e.1
   high : s.messages + message_count e.1 < 2 ^ 64
@@ -98,64 +99,64 @@ module _ {S : Type 0} (m : Meaning S) (told : List Peer) (sent : List (List ℕ)
         high = subst (λ (i : ℕ). i < 2 ^ 64) (sym none) h.range;
       }))
 
-  row_if_delivers : ResultsShort m → (all : List Waiting) (a : Arrival) (b : Bool) → nat_lt s.messages LAST_MESSAGE ≡ b
+  row_if_delivers : Bounds m Trimmed → (all : List Waiting) (a : Arrival) (b : Bool) → nat_lt s.messages LAST_MESSAGE ≡ b
       → AllCame (fragments_among sent) all → Came told sent a → ArrivalFits a → Does (row_if m b (record s { reassembly = all }) a)
-  row_if_delivers short all a true e came arrived fits =
-      let few = arrive_sends_few m s.state a in
+  row_if_delivers bounds all a true e came arrived fits =
+      let few = arrive_sends_few m Trimmed s.state a in
       let low = ltb-true s.messages LAST_MESSAGE e in
-      posts all (arrive m Whole s.state a) came (inl (record { arrival = a; came = arrived; fits = fits; effect = refl }))
+      posts all (arrive m Trimmed s.state a) came (inl (record { arrival = a; came = arrived; fits = fits; effect = refl }))
       (record {
-        ranges = arrive_stays m short s.state a h.within h.receiver fits;
-        number = arrive_keeps_number m s.state a ∙ h.number;
-        by = subst (λ (q : ℕ). AllByRecursion (IsBy q) (arrive m Whole s.state a).1) h.number (arrive_sends_own m s.state a);
+        ranges = arrive_stays m Trimmed bounds s.state a h.within h.receiver fits;
+        number = arrive_keeps_number m Trimmed s.state a ∙ h.number;
+        by = subst (λ (q : ℕ). AllByRecursion (IsBy q) (arrive m Trimmed s.state a).1) h.number (arrive_sends_own m Trimmed s.state a);
         high = omega (arith, few, low);
       })
-  row_if_delivers short all a false e came arrived fits = does_nothing all came
+  row_if_delivers bounds all a false e came arrived fits = does_nothing all came
 
-  row_delivers : ResultsShort m → (all : List Waiting) (a : Arrival) → AllCame (fragments_among sent) all → Came told sent a → ArrivalFits a
+  row_delivers : Bounds m Trimmed → (all : List Waiting) (a : Arrival) → AllCame (fragments_among sent) all → Came told sent a → ArrivalFits a
       → Does (row m (record s { reassembly = all }) a)
-  row_delivers short all a came arrived fits = row_if_delivers short all a (nat_lt s.messages LAST_MESSAGE) refl came arrived fits
+  row_delivers bounds all a came arrived fits = row_if_delivers bounds all a (nat_lt s.messages LAST_MESSAGE) refl came arrived fits
 
-  fragment_delivers : ResultsShort m → (f : Fragment) → Has (fragments_among sent) f → Does (fragment m s f)
-  fragment_delivers short f here = elim (fragment_brings m told (fragments_among sent) used s f n.carried here h.came) [
+  fragment_delivers : Bounds m Trimmed → (f : Fragment) → Has (fragments_among sent) f → Does (fragment m s f)
+  fragment_delivers bounds f here = elim (fragment_brings m told (fragments_among sent) used s f n.carried here h.came) [
     | inl b ↦
-        subst Does (sym b.row) (row_delivers short (taken s.reassembly f).0 (messages.Told b.peer) b.kept b.was_told.has b.was_told.fits)
+        subst Does (sym b.row) (row_delivers bounds (taken s.reassembly f).0 (messages.Told b.peer) b.kept b.was_told.has b.was_told.fits)
     | inr b ↦ subst Does (sym b.same) (does_nothing b.reassembly b.kept)
   ]
 
-  datagram_delivers : ResultsShort m → (d : Datagram) (bytes : List ℕ) → Has sent bytes → bytes ≡ spelling d → DatagramFits d
+  datagram_delivers : Bounds m Trimmed → (d : Datagram) (bytes : List ℕ) → Has sent bytes → bytes ≡ spelling d → DatagramFits d
       → reading bytes ≡ Ok d → Does (on_datagram m s (Ok d))
-  datagram_delivers short (datagrams.Stamped p) bytes has is fits e =
-      row_delivers short s.reassembly (messages.Packet p) h.came (subst (Has sent) is has) fits
-  datagram_delivers short (datagrams.Fragment f) bytes has is fits e = fragment_delivers short f (among_has sent bytes f has e)
-  datagram_delivers short (datagrams.Request q) bytes has is fits e = does_nothing s.reassembly h.came
-  datagram_delivers short (datagrams.Reply p) bytes has is fits e = does_nothing s.reassembly h.came
-  datagram_delivers short (datagrams.Install j x) bytes has is fits e = does_nothing s.reassembly h.came
-  datagram_delivers short (datagrams.Installed j x) bytes has is fits e = does_nothing s.reassembly h.came
-  datagram_delivers short (datagrams.Ping j x) bytes has is fits e = does_nothing s.reassembly h.came
-  datagram_delivers short (datagrams.Pong j x) bytes has is fits e = does_nothing s.reassembly h.came
+  datagram_delivers bounds (datagrams.Stamped p) bytes has is fits e =
+      row_delivers bounds s.reassembly (messages.Packet p) h.came (subst (Has sent) is has) fits
+  datagram_delivers bounds (datagrams.Fragment f) bytes has is fits e = fragment_delivers bounds f (among_has sent bytes f has e)
+  datagram_delivers bounds (datagrams.Request q) bytes has is fits e = does_nothing s.reassembly h.came
+  datagram_delivers bounds (datagrams.Reply p) bytes has is fits e = does_nothing s.reassembly h.came
+  datagram_delivers bounds (datagrams.Install j x) bytes has is fits e = does_nothing s.reassembly h.came
+  datagram_delivers bounds (datagrams.Installed j x) bytes has is fits e = does_nothing s.reassembly h.came
+  datagram_delivers bounds (datagrams.Ping j x) bytes has is fits e = does_nothing s.reassembly h.came
+  datagram_delivers bounds (datagrams.Pong j x) bytes has is fits e = does_nothing s.reassembly h.came
 
-  sent_delivers : ResultsShort m → (bytes : List ℕ) → Has sent bytes → Does (on_datagram m s (reading bytes))
-  sent_delivers short bytes has =
+  sent_delivers : Bounds m Trimmed → (bytes : List ℕ) → Has sent bytes → Does (on_datagram m s (reading bytes))
+  sent_delivers bounds bytes has =
       let d = n.datagrams bytes has in
       let e : reading bytes ≡ Ok d.datagram = ap reading d.spells.spelled ∙ reads_again d.datagram d.spells.fits in
       subst (λ (x : Result Datagram Bad). Does (on_datagram m s x)) (sym e)
-      (datagram_delivers short d.datagram bytes has d.spells.spelled d.spells.fits e)
+      (datagram_delivers bounds d.datagram bytes has d.spells.spelled d.spells.fits e)
 
   refused_delivers : (bytes : List ℕ) → IsNoDatagram bytes → Does (on_datagram m s (reading bytes))
   refused_delivers bytes none =
       subst (λ (x : Result Datagram Bad). Does (on_datagram m s x)) (sym none.refused) (does_nothing s.reassembly h.came)
 
-  delivers : ResultsShort m → (given : Given) → MayCome sent given → Does (next m s given)
+  delivers : Bounds m Trimmed → (given : Given) → MayCome sent given → Does (next m s given)
   unfolding next
-  delivers short (Packet bytes) may = elim may [
-    | inl has ↦ sent_delivers short bytes has
+  delivers bounds (Packet bytes) may = elim may [
+    | inl has ↦ sent_delivers bounds bytes has
     | inr none ↦ refused_delivers bytes none
   ]
-  delivers short (Ticked tick) may = row_delivers short s.reassembly (messages.Ticked tick) h.came tt tt
-  delivers short (Submit op) may = does_nothing s.reassembly h.came
+  delivers bounds (Ticked tick) may = row_delivers bounds s.reassembly (messages.Ticked tick) h.came tt tt
+  delivers bounds (Submit op) may = does_nothing s.reassembly h.came
 
-pub step_delivers : {S : Type 0} (m : Meaning S) → ResultsShort m → (told : List Peer) (sent : List (List ℕ)) (used : ℕ → ℕ) (r : ℕ)
+pub step_delivers : {S : Type 0} (m : Meaning S) → Bounds m Trimmed → (told : List Peer) (sent : List (List ℕ)) (used : ℕ → ℕ) (r : ℕ)
     (s : Replica) (given : Given) → Network told sent used → InNetwork sent used r s → MayCome sent given
     → Delivers m told sent used r s (next m s given)
-step_delivers m short told sent used r s given n h may = delivers m told sent used r s n h short given may
+step_delivers m bounds told sent used r s given n h may = delivers m told sent used r s n h bounds given may

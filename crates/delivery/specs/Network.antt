@@ -26,6 +26,7 @@ bytes_in (outs.Send dest bytes ∷ rest) = bytes ∷ bytes_in rest
 bytes_in (outs.Submitted r ∷ rest) = bytes_in rest
 bytes_in (outs.Accepted client id result ∷ rest) = bytes_in rest
 bytes_in (outs.Busy client ∷ rest) = bytes_in rest
+bytes_in (outs.Trimmed first entries ∷ rest) = bytes_in rest
 
 -- the fragments among datagrams
 abbrev pub fragments_among : List (List ℕ) → List Fragment

@@ -12,7 +12,7 @@ use Rattle.peer_codec.specs.Spelling.{spelling}
 use Rattle.fragments.specs.Cutting.{fragments_of}
 use Rattle.fragments.specs.Runs.{Sent}
 use Rattle.replica_state.specs.declared.sending.Sending.{Sending}
-use Rattle.replica_state.specs.declared.sending.Sending.TheVariants.{ToClient, ToReplicas}
+use Rattle.replica_state.specs.declared.sending.Sending.TheVariants.{ToClient, ToReplicas, Trims}
 use Rattle.replica_state.specs.Sends.{message_count}
 use Rattle.replica_core.specs.Posting.{posted}
 
@@ -34,6 +34,7 @@ fragment_in (outs.Send dest bytes) = fragment_read (reading bytes)
 fragment_in (outs.Submitted r) = []
 fragment_in (outs.Accepted client id result) = []
 fragment_in (outs.Busy client) = []
+fragment_in (outs.Trimmed first entries) = []
 
 abbrev pub fragments_in : List Out → List Fragment
 fragments_in [] = []
@@ -45,6 +46,7 @@ fragments_in (o ∷ os) = fragment_in o ++ fragments_in os
 abbrev pub messages_from : ℕ → List Sending → List Sent
 messages_from number [] = []
 messages_from number (ToClient r ∷ sends) = messages_from number sends
+messages_from number (Trims first entries ∷ sends) = messages_from number sends
 messages_from number (ToReplicas dest p ∷ sends) =
     record { sender = p.sender; number = number + 1; bytes = spelling p } ∷ messages_from (number + 1) sends
 

@@ -2,7 +2,7 @@
 use Rattle.std.specs.Prelude.{◌≡◌, ◌⊎◌, ◌<◌, ◌+◌, ◌^◌, ℕ, List, [], ◌++◌, ⊤}
 use Rattle.std.specs.List.{AllByRecursion}
 use Rattle.nop_types.specs.Lists.{Has}
-use Rattle.nop_types.specs.Logs.{Whole}
+use Rattle.nop_types.specs.Logs.{Trimmed}
 use Rattle.nop_types.specs.Meaning.{Meaning}
 use Rattle.nop_types.specs.declared.datagram.Datagram.TheVariants as datagrams
 use Rattle.nop_types.specs.declared.datagram.Fragment.{Fragment}
@@ -71,7 +71,7 @@ pub record TakesRow {S : Type 0} (m : Meaning S) (told : List Peer) (sent : List
   pub arrival : Arrival
   pub came : Came told sent arrival
   pub fits : ArrivalFits arrival
-  pub effect : e ≡ arrive m Whole s arrival
+  pub effect : e ≡ arrive m Trimmed s arrival
 
 -- what a step of replica r does: the row of what came, or none; what it sends is posted, and the network carries that too
 pub record Delivers {S : Type 0} (m : Meaning S) (told : List Peer) (sent : List (List ℕ)) (used : ℕ → ℕ) (r : ℕ) (s : Replica)

@@ -4,7 +4,8 @@ ghost use Rattle.std.specs.List.{AllByRecursion};
 ghost use Rattle.nop_types.specs.Configuration.{Configuration, is_configuration};
 ghost use Rattle.nop_types.specs.Given.{Given};
 ghost use Rattle.nop_types.specs.Lists.{Has};
-ghost use Rattle.nop_types.specs.Logs.{Whole};
+ghost use Rattle.nop_types.specs.Bounds.{Bounds};
+ghost use Rattle.nop_types.specs.Logs.{Keeping, Trimmed};
 ghost use Rattle.nop_types.specs.Meaning.{Meaning};
 ghost use Rattle.nop_types.specs.declared.datagram.Fragment.{Fragment};
 ghost use Rattle.nop_types.specs.declared.peer.Peer.{Peer};
@@ -20,8 +21,8 @@ ghost use Rattle.replica_core.specs.Posting.{posted};
 ghost use Rattle.replica_core.specs.ReplicaSteps.{Replica, opening, fragment, next};
 ghost use Rattle.replica_state.specs.Sends.{SendingFits, message_count};
 ghost use Rattle.replica_state.specs.State as state;
-ghost use Rattle.replica_rows.specs.Within.{ArrivalFits, ResultsShort};
-ghost use Rattle.replica_state.specs.Within.{IsWithin};
+ghost use Rattle.replica_rows.specs.Within.{ArrivalIsIn};
+ghost use Rattle.replica_state.specs.Within.{IsIn};
 ghost use Rattle.delivery.specs.Carried.{Carried, WasTold};
 ghost use Rattle.delivery.specs.Network.{IsOtherDatagram, MayCome, Network, PostsReplies};
 ghost use Rattle.delivery.specs.PostedFragments.{PostsFragments, fragments_in};
@@ -30,13 +31,15 @@ ghost use Rattle.delivery.specs.Sends.{peers_in, GoesAmong, IsBy};
 ghost use Rattle.delivery.specs.Steps.{InNetwork, Brings, Delivers};
 
 /// A state in its ranges, whose receiver is sound, stays so at whatever arrives in its ranges, and
-/// what is sent is in its ranges, for a service with short results. So it is from the opening on.
+/// what is sent is in its ranges, for a service that keeps its bounds; over logs that are kept whole
+/// and over trimmed ones. So it is from the opening on.
 pub fn rows_stay_in_ranges<S>()
-    ensures opens { (config : Configuration) (n : ℕ) → IsTrue (is_configuration config) →
-        n < config.replicas → IsWithin (state.opening config n)
+    ensures opens { (k : Keeping) (config : Configuration) (n : ℕ)
+        → IsTrue (is_configuration config)
+        → n < config.replicas → IsIn k (state.opening config n)
         × IsSound (state.opening config n).receiver }
-    ensures stays { (m : Meaning S) → ResultsShort m → (s : ReplicaState) (a : Arrival) →
-        IsWithin s → IsSound s.receiver → ArrivalFits a → StaysInRanges (arrive m Whole s a) }
+    ensures stays { (m : Meaning S) (k : Keeping) → Bounds m k → (s : ReplicaState) (a : Arrival)
+        → IsIn k s → IsSound s.receiver → ArrivalIsIn k a → StaysInRanges k (arrive m k s a) }
 {}
 
 /// What is posted are the fragments of the messages that are sent, under the numbers above the one
@@ -49,19 +52,19 @@ pub fn posts_fragments()
 /// A row keeps the number of its replica, and its replies and messages name that number as the
 /// sender.
 pub fn rows_send_under_their_number<S>()
-    ensures number { (m : Meaning S) (s : ReplicaState) (a : Arrival)
-        → (arrive m Whole s a).0.number ≡ s.number }
-    ensures sends { (m : Meaning S) (s : ReplicaState) (a : Arrival)
-        → AllByRecursion (IsBy s.number) (arrive m Whole s a).1 }
+    ensures number { (m : Meaning S) (k : Keeping) (s : ReplicaState) (a : Arrival)
+        → (arrive m k s a).0.number ≡ s.number }
+    ensures sends { (m : Meaning S) (k : Keeping) (s : ReplicaState) (a : Arrival)
+        → AllByRecursion (IsBy s.number) (arrive m k s a).1 }
 {}
 
 /// A row keeps the number of replicas of its configuration, and its messages go to all of them, or
 /// to one of them.
 pub fn rows_send_within_the_configuration<S>()
-    ensures count { (m : Meaning S) (s : ReplicaState) (a : Arrival)
-        → (arrive m Whole s a).0.config.replicas ≡ s.config.replicas }
-    ensures sends { (m : Meaning S) (s : ReplicaState) (a : Arrival)
-        → AllByRecursion (GoesAmong s.config.replicas) (arrive m Whole s a).1 }
+    ensures count { (m : Meaning S) (k : Keeping) (s : ReplicaState) (a : Arrival)
+        → (arrive m k s a).0.config.replicas ≡ s.config.replicas }
+    ensures sends { (m : Meaning S) (k : Keeping) (s : ReplicaState) (a : Arrival)
+        → AllByRecursion (GoesAmong s.config.replicas) (arrive m k s a).1 }
 {}
 
 /// Where the fragments of a network carry what was told, and a reassembly has only parts that came
@@ -122,7 +125,7 @@ pub fn fragments_bring_messages<S>()
 /// Whatever comes to a replica of a network, it takes the row of something that was sent or told,
 /// or none. What it sends is carried, and it stays in the network.
 pub fn steps_deliver<S>()
-    ensures { (m : Meaning S) → ResultsShort m → (told : List Peer) (sent : List (List ℕ))
+    ensures { (m : Meaning S) → Bounds m Trimmed → (told : List Peer) (sent : List (List ℕ))
         (used : ℕ → ℕ) (r : ℕ) (s : Replica) (given : Given) → Network told sent used
         → InNetwork sent used r s → MayCome sent given
         → Delivers m told sent used r s (next m s given) }

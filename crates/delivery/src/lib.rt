@@ -9,12 +9,13 @@
 //! sender sent, of a tick, or none, and what it sends is carried too. Datagrams that are no
 //! fragments leave it so (`network_goes_on`).
 //!
-//! Of the rows, over logs that are kept whole: they keep states and messages in their ranges, each
-//! log with a sync point within it (`rows_stay_in_ranges`); they send under the replica's own number
+//! Of the rows, over logs that are kept whole and over trimmed ones: they keep states and messages in
+//! their ranges (`rows_stay_in_ranges`); they send under the replica's own number
 //! (`rows_send_under_their_number`) and to replicas of the configuration
 //! (`rows_send_within_the_configuration`). What is posted, while message numbers are left, are the
 //! fragments of the messages, under the next numbers (`posts_fragments`), and the replies
-//! (`posts_replies`). The premise on the service is `ResultsShort`: each result fits a reply.
+//! (`posts_replies`). The premise on the service is `Bounds`: results fit a reply, and a log whose sync
+//! point rises stays in its ranges. Each host keeps them (`trimmed_logs_keep_bounds` of `trimming`).
 //!
 //! Files: `laws`; the proofs of `safety` and `replay` cite them. Definitions: `specs/Carried`,
 //! `Network`, `Steps` (`Delivers`). More in docs/PROOF.md, "From programs to the protocol".

@@ -1,6 +1,6 @@
 -- One more executed slot, and one less.
 use Rattle.std.proofs.Common.{◌≡◌, ℕ, ◌+◌, ◌<◌, ◌≤◌, List, [], ◌∷◌, ◌++◌, length, take, Option, Some, None, refl, sym, ap, subst}
-use Rattle.std.proofs.Common.{◌∙◌, inl, inr, arith}
+use Rattle.std.proofs.Common.{suc, add-one, ◌∙◌, inl, inr, arith}
 use Rattle.std.specs.Prelude.{◌⊎◌, slice_get, IfSome, IsSome}
 use Rattle.std.proofs.lemmas.Option.{slice_get_within}
 use Rattle.std.proofs.lemmas.Bool.Decides.{eqb_tells}
@@ -8,33 +8,42 @@ use Rattle.std.proofs.lemmas.List.{length_push}
 use Rattle.nop_types.specs.declared.request.Entry.{Entry}
 use Rattle.nop_types.specs.Meaning.{Meaning}
 use Rattle.nop_types.specs.Tables.{kept_for}
-use Rattle.nop_types.specs.Execution.{Executed, opening, exec, enter_kept}
-use Rattle.facts.proofs.Places.{slice_get-some, slice_get-append_within, slice_get-append_at}
-use Rattle.histories.proofs.Results.{exec_of_next_slot}
+use Rattle.nop_types.specs.Execution.{Executed, exec_kept, enter_kept}
+use Rattle.facts.proofs.Places.{Splits-at, slice_get-some, slice_get-append_within, slice_get-append_at}
+use Rattle.histories.proofs.Steps.{exec_kept_of_append}
 use Rattle.executor.specs.declared.slot_undo.SlotUndo.{SlotUndo}
 use Rattle.executor.specs.Undoing.{slot_undo_of, undone_by, IsExecuted, UndoFits, UndosFit}
 use Rattle.executor.proofs.UndoLemmas.{goes_back, has_kept}
 
-module _ {S U : Type 0} (m : Meaning S) (undo_of : S → List ℕ → U) where
+module _ {S U : Type 0} (m : Meaning S) (undo_of : S → List ℕ → U) (begun : Executed S) (entries : List Entry) where
+  -- what the first entries leave
+  abbrev after : ℕ → Executed S
+  after n = exec_kept m begun (take n entries)
+
+  -- one more entry is one more step
+  next_entry : (i : ℕ) (e : Entry) → slice_get entries i ≡ Some e → after (i + 1) ≡ enter_kept m (after i) e
+  next_entry i e h =
+      let s : take (suc i) entries ≡ take i entries ++ e ∷ [] = (Splits-at entries i e h).front in
+      rw (add-one, s) (exec_kept_of_append m begun (take i entries) (e ∷ []))
+
   -- before the first slot
-  pub executed_nothing : (log : List Entry) (x : Executed S) → x ≡ opening m → IsExecuted m undo_of log x []
-  executed_nothing log x e = record { within = omega arith; execution = e; undoing = λ i e less. absurd (omega (arith, less)) }
+  pub executed_nothing : (x : Executed S) → x ≡ begun → IsExecuted m undo_of begun entries x []
+  executed_nothing x e = record { within = omega arith; execution = e; undoing = λ i e less. absurd (omega (arith, less)) }
 
   -- one more slot
-  pub executed_next : (log : List Entry) (x x' : Executed S) (undos : List (Option (SlotUndo U))) (e : Entry) (s : Option (SlotUndo U))
-      → IsExecuted m undo_of log x undos → slice_get log (length undos) ≡ Some e
-      → x' ≡ enter_kept m x e → s ≡ slot_undo_of undo_of x e → IsExecuted m undo_of log x' (undos ++ s ∷ [])
-  executed_next log x x' undos e s h at next slot_undo =
+  pub executed_next : (x x' : Executed S) (undos : List (Option (SlotUndo U))) (e : Entry) (s : Option (SlotUndo U))
+      → IsExecuted m undo_of begun entries x undos → slice_get entries (length undos) ≡ Some e
+      → x' ≡ enter_kept m x e → s ≡ slot_undo_of undo_of x e → IsExecuted m undo_of begun entries x' (undos ++ s ∷ [])
+  executed_next x x' undos e s h at next slot_undo =
       let more : length (undos ++ s ∷ []) ≡ length undos + 1 = length_push undos s in
       record {
-        within = let less = slice_get_within log (length undos) e at in omega arith;
-        execution = rw (next, h.execution, more) (sym (exec_of_next_slot m log (length undos) e at));
+        within = let less = slice_get_within entries (length undos) e at in omega arith;
+        execution = rw (next, h.execution, more) (sym (next_entry (length undos) e at));
         undoing = λ i d less is. elim (split i (rw more at less)) [
           | inl l ↦ slice_get-append_within undos (s ∷ []) i l ∙ h.undoing i d l is
           | inr same ↦
               let here : e ≡ d = let a = rw same at is in cc in
-              rw (same, slot_undo, h.execution, here)
-              (slice_get-append_at undos (slot_undo_of undo_of (exec m (take (length undos) log)) d) [])
+              rw (same, slot_undo, h.execution, here) (slice_get-append_at undos (slot_undo_of undo_of (after (length undos)) d) [])
         ];
       }
     where
@@ -42,24 +51,24 @@ module _ {S U : Type 0} (m : Meaning S) (undo_of : S → List ℕ → U) where
       split i l = elim (eqb_tells i (length undos)) [ inl p ↦ inr p.1 | inr p ↦ inl (omega arith) ]
 
   -- the last slot, and what was before it
-  record Last (log : List Entry) (x : Executed S) (undos : List (Option (SlotUndo U))) (s : Option (SlotUndo U)) : Type 0 where
+  record Last (x : Executed S) (undos : List (Option (SlotUndo U))) (s : Option (SlotUndo U)) : Type 0 where
     entry : Entry
-    at : slice_get log (length undos) ≡ Some entry
-    slot_undo : s ≡ slot_undo_of undo_of (exec m (take (length undos) log)) entry
-    here : x ≡ enter_kept m (exec m (take (length undos) log)) entry
-    before : IsExecuted m undo_of log (exec m (take (length undos) log)) undos
+    at : slice_get entries (length undos) ≡ Some entry
+    slot_undo : s ≡ slot_undo_of undo_of (after (length undos)) entry
+    here : x ≡ enter_kept m (after (length undos)) entry
+    before : IsExecuted m undo_of begun entries (after (length undos)) undos
 
-  last : (log : List Entry) (x : Executed S) (undos : List (Option (SlotUndo U))) (s : Option (SlotUndo U))
-      → IsExecuted m undo_of log x (undos ++ s ∷ []) → Last log x undos s
-  last log x undos s h =
+  last : (x : Executed S) (undos : List (Option (SlotUndo U))) (s : Option (SlotUndo U))
+      → IsExecuted m undo_of begun entries x (undos ++ s ∷ []) → Last x undos s
+  last x undos s h =
       let more : length (undos ++ s ∷ []) ≡ length undos + 1 = length_push undos s in
-      let within : length (undos ++ s ∷ []) ≤ length log = h.within in
-      let e = slice_get-some log (length undos) (omega arith) in
+      let within : length (undos ++ s ∷ []) ≤ length entries = h.within in
+      let e = slice_get-some entries (length undos) (omega arith) in
       record {
         entry = e.0;
         at = e.1;
         slot_undo = let a = slice_get-append_at undos s [] in let b = h.undoing (length undos) e.0 (omega arith) e.1 in cc;
-        here = h.execution ∙ ap (λ (n : ℕ). exec m (take n log)) more ∙ exec_of_next_slot m log (length undos) e.0 e.1;
+        here = h.execution ∙ ap after more ∙ next_entry (length undos) e.0 e.1;
         before = record {
           within = omega arith;
           execution = refl;
@@ -68,11 +77,11 @@ module _ {S U : Type 0} (m : Meaning S) (undo_of : S → List ℕ → U) where
       }
 
   -- the client of the last slot has an answer
-  pub last_is_kept : (log : List Entry) (x : Executed S) (undos : List (Option (SlotUndo U))) (s : Option (SlotUndo U))
-      → IsExecuted m undo_of log x (undos ++ s ∷ []) → IfSome s (λ t. IsSome (kept_for x.table t.kept.client))
-  last_is_kept log x undos s h =
-      let l = last log x undos s h in
-      kept_along x _ s _ l.here l.slot_undo (has_kept m undo_of (exec m (take (length undos) log)) l.entry)
+  pub last_is_kept : (x : Executed S) (undos : List (Option (SlotUndo U))) (s : Option (SlotUndo U))
+      → IsExecuted m undo_of begun entries x (undos ++ s ∷ []) → IfSome s (λ t. IsSome (kept_for x.table t.kept.client))
+  last_is_kept x undos s h =
+      let l = last x undos s h in
+      kept_along x _ s _ l.here l.slot_undo (has_kept m undo_of (after (length undos)) l.entry)
     where
       kept_along : (x y : Executed S) (s t : Option (SlotUndo U)) → x ≡ y → s ≡ t → IfSome t (λ u. IsSome (kept_for y.table u.kept.client))
           → IfSome s (λ u. IsSome (kept_for x.table u.kept.client))
@@ -80,15 +89,15 @@ module _ {S U : Type 0} (m : Meaning S) (undo_of : S → List ℕ → U) where
 
   -- one slot back
   pub executed_before : (undone : S → U → S) → ((s : S) (op : List ℕ) → undone (m.after s op) (undo_of s op) ≡ s)
-      → (log : List Entry) (x x' : Executed S) (undos : List (Option (SlotUndo U))) (s : Option (SlotUndo U))
-      → IsExecuted m undo_of log x (undos ++ s ∷ []) → x' ≡ undone_by undone x s → IsExecuted m undo_of log x' undos
-  executed_before undone undoes log x x' undos s h e =
-      let l = last log x undos s h in
-      let along : undone_by undone x s ≡ undone_by undone (enter_kept m (exec m (take (length undos) log)) l.entry)
-      (slot_undo_of undo_of (exec m (take (length undos) log)) l.entry) = λ i. undone_by undone (l.here i) (l.slot_undo i) in
-      let same : x' ≡ exec m (take (length undos) log) =
-      e ∙ along ∙ goes_back m undo_of (exec m (take (length undos) log)) undone undoes l.entry in
-      subst (λ (y : Executed S). IsExecuted m undo_of log y undos) (sym same) l.before
+      → (x x' : Executed S) (undos : List (Option (SlotUndo U))) (s : Option (SlotUndo U))
+      → IsExecuted m undo_of begun entries x (undos ++ s ∷ []) → x' ≡ undone_by undone x s → IsExecuted m undo_of begun entries x' undos
+  executed_before undone undoes x x' undos s h e =
+      let l = last x undos s h in
+      let before : Executed S = after (length undos) in
+      let along : undone_by undone x s ≡ undone_by undone (enter_kept m before l.entry) (slot_undo_of undo_of before l.entry) =
+      λ i. undone_by undone (l.here i) (l.slot_undo i) in
+      let same : x' ≡ before = e ∙ along ∙ goes_back m undo_of before undone undoes l.entry in
+      subst (λ (y : Executed S). IsExecuted m undo_of begun entries y undos) (sym same) l.before
 
 -- ---- what the host has the room to undo
 

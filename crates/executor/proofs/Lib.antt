@@ -1,5 +1,5 @@
-pub mod CheckpointLemmas
 pub mod ExecutedLemmas
 pub mod FrontLemmas
+pub mod LimitLemmas
 pub mod ResultLemmas
 pub mod UndoLemmas

@@ -1,5 +1,5 @@
 -- One slot of an execution, forward and back.
-use Rattle.std.proofs.Common.{Option, ◌≡◌, ℕ, Bool, true, false, cond, List, Some, None, refl, ap, ◌∙◌}
+use Rattle.std.proofs.Common.{Option, ◌≡◌, ℕ, Bool, true, false, cond, List, Some, None, refl}
 use Rattle.std.specs.Prelude.{IfSome, IsSome}
 use Rattle.nop_types.specs.declared.limits.TheConstants.{WINDOW}
 use Rattle.nop_types.specs.declared.request.Request.{Request}

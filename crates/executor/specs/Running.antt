@@ -1,5 +1,5 @@
 -- What an executor is: a host, a table, and for each executed slot what undoes it.
-use Rattle.std.specs.Prelude.{ℕ, List, Option, Bool, refl}
+use Rattle.std.specs.Prelude.{ℕ, ◌+◌, List, length, Option, Bool, refl}
 use Rattle.std.specs.Coded.{Coded, code_by, coded×, coded_ℕ, coded_list, coded_option, coded_bool}
 use Rattle.std.specs.FinMap as finite
 use Rattle.nop_types.specs.Tables.{Account, Table, account_code}
@@ -7,10 +7,11 @@ use Rattle.nop_types.specs.Execution.{Executed}
 use Rattle.client_table.specs.Table.{Former}
 use Rattle.executor.specs.declared.slot_undo.SlotUndo.{SlotUndo}
 
--- a slot whose entry did nothing keeps nothing
+-- the slots up to the base are executed and not undone; a slot above it whose entry did nothing keeps nothing
 pub record Running (H U : Type 0) : Type 0 where
   pub host : H
   pub table : Table
+  pub base : ℕ
   pub undos : List (Option (SlotUndo U))
   pub failed : Bool
 
@@ -27,11 +28,16 @@ slot_undo_code {U} u =
 
 abbrev pub running_code : {H U : Type 0} → Coded H → Coded U → Coded (Running H U)
 running_code {H} {U} h u =
-    code_by (H × (Table × (List (Option (SlotUndo U)) × Bool)))
-    (coded× h (coded× (finite.code coded_ℕ account_code) (coded× (coded_list (coded_option (slot_undo_code u))) coded_bool)))
-    (λ r. (r.host, (r.table, (r.undos, r.failed))))
-    (λ p. record { host = p.0; table = p.1.0; undos = p.1.1.0; failed = p.1.1.1 })
+    code_by (H × (Table × (ℕ × (List (Option (SlotUndo U)) × Bool))))
+    (coded× h (coded× (finite.code coded_ℕ account_code)
+    (coded× coded_ℕ (coded× (coded_list (coded_option (slot_undo_code u))) coded_bool))))
+    (λ r. (r.host, (r.table, (r.base, (r.undos, r.failed)))))
+    (λ p. record { host = p.0; table = p.1.0; base = p.1.1.0; undos = p.1.1.1.0; failed = p.1.1.1.1 })
     (λ _. refl)
+
+-- the last slot that is executed
+abbrev pub reached : {H U : Type 0} → Running H U → ℕ
+reached r = r.base + length r.undos
 
 -- a host's state and a table as an execution has them
 abbrev pub execution : {S : Type 0} → S → Table → Executed S

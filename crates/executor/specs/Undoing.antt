@@ -5,7 +5,9 @@ use Rattle.nop_types.specs.declared.request.Entry.{Entry}
 use Rattle.nop_types.specs.declared.request.Entry.TheVariants.{NoOp, Req}
 use Rattle.nop_types.specs.Meaning.{Meaning}
 use Rattle.nop_types.specs.Tables.{Table, kept_for}
-use Rattle.nop_types.specs.Execution.{Executed, exec, takes}
+use Rattle.nop_types.specs.CheckpointedLogs.{beginning}
+use Rattle.nop_types.specs.Execution.{Executed, exec_kept, takes}
+use Rattle.nop_types.specs.Logs.{Log}
 use Rattle.client_table.specs.Table.{former_of, unkept}
 use Rattle.executor.specs.declared.slot_undo.SlotUndo.{SlotUndo}
 use Rattle.executor.specs.Running.{Running, execution}
@@ -21,17 +23,20 @@ abbrev pub undone_by : {S U : Type 0} → (S → U → S) → Executed S → Opt
 undone_by undone x None = x
 undone_by undone x (Some slot_undo) = record { host = undone x.host slot_undo.undo; table = unkept x.table slot_undo.kept }
 
--- as many first entries of the log as there are undos were executed: x is their execution, and each slot has what undoes its entry
-pub record IsExecuted {S U : Type 0} (m : Meaning S) (undo_of : S → List ℕ
-    → U) (log : List Entry) (x : Executed S) (undos : List (Option (SlotUndo U))) : Type 0 where
-  pub within : length undos ≤ length log
-  pub execution : x ≡ exec m (take (length undos) log)
-  pub undoing : (i : ℕ) (e : Entry) → i < length undos → slice_get log i ≡ Some e
-      → slice_get undos i ≡ Some (slot_undo_of undo_of (exec m (take i log)) e)
+-- from where an execution began, as many first entries as there are undos were executed: x is what that left, and each has what undoes
+-- its entry
+pub record IsExecuted {S U : Type 0} (m : Meaning S) (undo_of : S → List ℕ → U) (begun : Executed S) (entries : List Entry)
+    (x : Executed S) (undos : List (Option (SlotUndo U))) : Type 0 where
+  pub within : length undos ≤ length entries
+  pub execution : x ≡ exec_kept m begun (take (length undos) entries)
+  pub undoing : (i : ℕ) (e : Entry) → i < length undos → slice_get entries i ≡ Some e
+      → slice_get undos i ≡ Some (slot_undo_of undo_of (exec_kept m begun (take i entries)) e)
 
--- the executor has executed the first entries of the log
-abbrev pub HasExecuted : {H U S : Type 0} → (H → S) → Meaning S → (S → List ℕ → U) → List Entry → Running H U → Type 0
-HasExecuted state m undo_of log r = IsExecuted m undo_of log (execution (state r.host) r.table) r.undos
+-- the executor has executed a trimmed log up to some slot, from its checkpoint on
+pub record HasExecuted {H U S : Type 0} (state : H → S) (m : Meaning S) (undo_of : S → List ℕ → U) (log : Log)
+    (r : Running H U) : Type 0 where
+  pub base : r.base ≡ log.sync_point
+  pub run : IsExecuted m undo_of (beginning m log.checkpoint) log.entries (execution (state r.host) r.table) r.undos
 
 -- the host has the room to undo a slot
 abbrev pub UndoFits : {U : Type 0} → (U → Type 0) → Option (SlotUndo U) → Type 0

@@ -1,33 +1,37 @@
-ghost use Rattle.std.specs.Prelude.{◌≡◌, ◌≤◌, ℕ, List, [], true, false, length, OnOk, OnErr, IfOk, IsErr, IfSome};
+ghost use Rattle.std.specs.Prelude.{◌≡◌, ◌≤◌, [], true, false, length, Some, None, OnOk, OnErr, IfOk, IsErr, IfSome, IsSome};
 ghost use Rattle.std.specs.Option.{option_copied};
-ghost use Rattle.nop_types.specs.declared.request.Entry.{Entry};
+ghost use Rattle.nop_types.specs.Logs.{Log, Trimmed, length_of};
+ghost use Rattle.nop_types.specs.Ranges.{LogFits};
 ghost use Rattle.nop_types.specs.Tables.{kept_for, result_kept};
 ghost use Rattle.nop_types.specs.Checkpoints.{checkpoint_of};
-ghost use Rattle.executor.specs.Running.{execution};
+ghost use Rattle.nop_types.specs.CheckpointedLogs.{loads, loads_by, beginning, executed, raised};
+ghost use Rattle.executor.specs.Running.{execution, reached};
 ghost use Rattle.executor.specs.Undoing.{HasExecuted};
 ghost use Rattle.executor.specs.Results.{IsResult};
 
 use crate::moves::{advance, go_back};
 use crate::slot_undo::SlotUndo;
 use client_table::{ClientTable, Judged};
-use nop_types::{Bytes, Checkpoint, Host, MAX_RESULT_BYTES, NoMemory};
+use nop_types::{Bytes, Checkpoint, Host, MAX_RESULT_BYTES, NoMemory, SavedClient};
 use replica_log::ReplicaLog;
 use std::alloc::Global;
 use std::marker::Model;
 
-/// The execution of the first slots of a log: a host's state, and what is kept for each client. For each executed slot it
-/// keeps what undoes it. Where a call ran out of memory it has failed, and executes nothing more.
+/// The execution of a log up to a slot: a host's state, and what is kept for each client. It begins with the log's checkpoint, and
+/// for each slot above that it keeps what undoes it. Where a call ran out of memory it has failed, and executes nothing more.
 #[derive(Drop)]
 pub struct Executor<H: Host> {
+    alloc: Global,
     host: H,
     table: ClientTable,
+    base: u32,
     undos: Vec<Option<SlotUndo<H::Undo>>>,
     failed: bool,
 }
 
 impl<H: Host> Model for Executor<H> {
-    ghost use Rattle.std.specs.Prelude.{◌≤◌, length};
-    ghost use Rattle.nop_types.specs.declared.limits.TheConstants.{MAX_SLOTS};
+    ghost use Rattle.std.specs.Prelude.{◌≤◌, ◌+◌, length};
+    ghost use Rattle.nop_types.specs.declared.limits.TheConstants.{MAX_SLOTS, MAX_LENGTH};
     ghost use Rattle.executor.specs.Running.{Running, running_code};
     ghost use Rattle.executor.specs.Undoing.{UndosFit};
 
@@ -38,12 +42,48 @@ impl<H: Host> Model for Executor<H> {
     ghost view = { λ e. record {
       host = e.host;
       table = e.table;
+      base = e.base;
       undos = e.undos.items;
       failed = e.failed;
     } };
 
     ghost invariant = { λ e. (length e.undos.items ≤ MAX_SLOTS)
-        × UndosFit (H.fits e.host) e.undos.items };
+        × ((e.base + length e.undos.items ≤ MAX_LENGTH) × UndosFit (H.fits e.host) e.undos.items) };
+}
+
+/// Whether the checkpoint of a log, if there is one, loads.
+pub fn checkpoint_loads<H: Host>(
+    alloc: Global,
+    checkpoint: Option<&Checkpoint>,
+) -> Result<bool, NoMemory>
+    ensures { IfOk result (λ b. b ≡ loads_by H.meaning (option_copied checkpoint.entry)) }
+{
+    let Some(checkpoint) = checkpoint else {
+        return Ok(true);
+    };
+    let host = H::load(alloc, checkpoint.host().as_slice())?;
+    Ok(host.is_some())
+}
+
+fn cloned(alloc: Global, clients: &[SavedClient]) -> Result<Vec<SavedClient>, NoMemory>
+    ensures { IfOk result (λ copy. copy.items ≡ clients.now) }
+{
+    let mut copy = Vec::with_capacity(alloc, clients.len())?;
+    for client in clients {
+        copy.push(client.try_clone()?)?;
+    }
+    Ok(copy)
+}
+
+/// The execution that a checkpoint has, which loads.
+fn loaded<H: Host>(alloc: Global, checkpoint: &Checkpoint) -> Result<(H, ClientTable), NoMemory>
+    requires { loads_by H.meaning (Some checkpoint.now) ≡ true }
+    ensures { IfOk result (λ r. beginning H.meaning (Some checkpoint.now)
+        ≡ execution (H.state r.0) r.1) }
+{
+    let host = H::load(alloc, checkpoint.host().as_slice())?.unwrap();
+    let clients = cloned(alloc, checkpoint.clients())?;
+    Ok((host, ClientTable::load(alloc, clients)?))
 }
 
 /// The answer that is kept for a request.
@@ -60,37 +100,39 @@ fn kept_result(table: &ClientTable, client: u32, id: u64) -> Option<&Bytes>
 impl<H: Host> Executor<H> {
     /// Nothing is executed yet.
     pub fn new(alloc: Global) -> Result<Executor<H>, NoMemory>
-        ensures executed { IfOk result (λ e. e.undos ≡ []) }
-        ensures run { IfOk result (λ e. (log : List Entry) → HasExecuted H.state H.meaning
-            H.undo_of log e) }
+        ensures reached { IfOk result (λ e. reached e ≡ 0) }
+        ensures run { IfOk result (λ e. (log : Log) → log.sync_point ≡ 0 → log.checkpoint ≡ None
+            → HasExecuted H.state H.meaning H.undo_of log e) }
         ensures failed { IfOk result (λ e. e.failed ≡ false) }
     {
         Ok(Executor {
+            alloc,
             host: H::fresh(alloc)?,
             table: ClientTable::new(alloc),
+            base: 0,
             undos: Vec::new(alloc),
             failed: false,
         })
     }
 
-    /// How many slots are executed.
-    pub fn executed(&self) -> u32
-        ensures { result ≡ length self.now.undos }
+    /// The last slot that is executed.
+    pub fn reached(&self) -> u32
+        ensures { result ≡ reached self.now }
     {
-        self.undos.len() as u32
+        self.base + self.undos.len() as u32
     }
 
     /// Executes the entries of the log up to a slot. The log has the entries that were executed so far.
     pub fn run_to(&mut self, log: &ReplicaLog, slot: u32) -> Result<(), NoMemory>
-        requires from { length self.old.undos ≤ slot }
-        requires there { slot ≤ length log.now.entries }
-        requires run { HasExecuted H.state H.meaning H.undo_of log.now.entries self.old }
-        ensures executed { OnOk result (length self.new.undos ≡ slot) }
-        ensures run { HasExecuted H.state H.meaning H.undo_of log.now.entries self.new }
+        requires from { reached self.old ≤ slot }
+        requires there { slot ≤ length_of Trimmed log.now }
+        requires run { HasExecuted H.state H.meaning H.undo_of log.now self.old }
+        ensures reached { OnOk result (reached self.new ≡ slot) }
+        ensures run { HasExecuted H.state H.meaning H.undo_of log.now self.new }
 
         // After an error it stands at some slot on the way, and has failed.
-        ensures stays { length self.old.undos ≤ length self.new.undos }
-        ensures within { length self.new.undos ≤ slot }
+        ensures stays { reached self.old ≤ reached self.new }
+        ensures within { reached self.new ≤ slot }
         ensures ok { OnOk result (self.new.failed ≡ false) }
         ensures err { OnErr result (self.new.failed ≡ true) }
         ensures for_good { self.old.failed ≡ true → IsErr result }
@@ -102,8 +144,8 @@ impl<H: Host> Executor<H> {
             &mut self.host,
             &mut self.table,
             &mut self.undos,
-            log.entries(),
-            slot as usize,
+            log,
+            (slot - self.base) as usize,
         );
         self.failed = done.is_err();
         done
@@ -114,27 +156,65 @@ impl<H: Host> Executor<H> {
     #[cold]
     #[inline(never)]
     pub fn rewind(&mut self, log: &ReplicaLog, slot: u32)
-        requires back { slot ≤ length self.old.undos }
-        requires run { HasExecuted H.state H.meaning H.undo_of log.now.entries self.old }
-        ensures executed { length self.new.undos ≡ slot }
-        ensures run { HasExecuted H.state H.meaning H.undo_of log.now.entries self.new }
+        requires kept { log.now.sync_point ≤ slot }
+        requires back { slot ≤ reached self.old }
+        requires run { HasExecuted H.state H.meaning H.undo_of log.now self.old }
+        ensures reached { reached self.new ≡ slot }
+        ensures run { HasExecuted H.state H.meaning H.undo_of log.now self.new }
         ensures failed { self.new.failed ≡ self.old.failed }
     {
         go_back(
             &mut self.host,
             &mut self.table,
             &mut self.undos,
-            log.entries(),
-            slot as usize,
+            log,
+            (slot - self.base) as usize,
         );
+    }
+
+    /// Begins anew, from the checkpoint of a log. After an error it has failed.
+    pub fn restart(&mut self, log: &ReplicaLog) -> Result<(), NoMemory>
+        requires some { IsSome log.now.checkpoint }
+        requires loads { loads H.meaning log.now ≡ true }
+        ensures reached { OnOk result (reached self.new ≡ log.now.sync_point) }
+        ensures run { OnOk result (HasExecuted H.state H.meaning H.undo_of log.now self.new) }
+        ensures ok { OnOk result (self.new.failed ≡ self.old.failed) }
+        ensures err { OnErr result (self.new.failed ≡ true) }
+    {
+        match loaded(self.alloc, log.checkpoint().unwrap()) {
+            Ok((host, table)) => {
+                self.host = host;
+                self.table = table;
+                self.base = log.sync_point();
+                self.undos.clear();
+                Ok(())
+            }
+            Err(NoMemory) => {
+                self.failed = true;
+                Err(NoMemory)
+            }
+        }
+    }
+
+    /// What is executed is not undone any more: from now on the log begins with its checkpoint.
+    pub fn rebase(&mut self)
+        ensures reached { reached self.new ≡ reached self.old }
+        ensures run { (log : Log) → HasExecuted H.state H.meaning H.undo_of log self.old
+            → HasExecuted H.state H.meaning H.undo_of
+            (raised H.meaning Trimmed log (reached self.old)) self.new }
+        ensures failed { self.new.failed ≡ self.old.failed }
+    {
+        self.base = self.reached();
+        self.undos.clear();
     }
 
     /// The result of a request, where it is the last executed one of its client. At most `MAX_RESULT_BYTES` bytes.
     pub fn result(&self, client: u32, id: u64) -> Option<&Bytes>
         ensures kept { option_copied result ≡ result_kept (kept_for self.now.table client) id }
-        ensures slots { (log : List Entry) → HasExecuted H.state H.meaning H.undo_of log self.now
-            → IsResult H.meaning log (length self.now.undos) client id (option_copied result) }
-        ensures short { (log : List Entry) → HasExecuted H.state H.meaning H.undo_of log self.now
+        ensures slot { (log : Log) → HasExecuted H.state H.meaning H.undo_of log self.now
+            → IsResult H.meaning log (reached self.now) client id (option_copied result) }
+        ensures short { (log : Log) → LogFits log
+            → HasExecuted H.state H.meaning H.undo_of log self.now
             → IfSome (option_copied result) (λ bytes. length bytes ≤ MAX_RESULT_BYTES) }
     {
         kept_result(&self.table, client, id)
@@ -142,13 +222,17 @@ impl<H: Host> Executor<H> {
 
     /// The execution as a checkpoint.
     pub fn checkpoint(&self) -> Result<Checkpoint, NoMemory>
-        requires run { (log : List Entry)
-            × HasExecuted H.state H.meaning H.undo_of log self.now }
-        ensures { IfOk result (λ c. c
+        requires run { (log : Log) × (LogFits log
+            × HasExecuted H.state H.meaning H.undo_of log self.now) }
+        ensures saved { IfOk result (λ c. c
             ≡ checkpoint_of H.meaning (execution (H.state self.now.host) self.now.table)) }
+        ensures loads { IfOk result (λ c. loads_by H.meaning (Some c) ≡ true) }
+        ensures executed { (log : Log) → HasExecuted H.state H.meaning H.undo_of log self.now
+            → IfOk result (λ c. c
+            ≡ checkpoint_of H.meaning (executed H.meaning Trimmed log (reached self.now))) }
     {
         let host = self.host.save()?;
-        let clients = self.table.saved(*self.undos.allocator())?;
+        let clients = self.table.saved(self.alloc)?;
         Ok(Checkpoint::new(host, clients).unwrap())
     }
 }

@@ -1,11 +1,13 @@
 ghost use Rattle.std.specs.Prelude.{◌≡◌, ◌≤◌, length, OnOk, OnErr, IfOk};
 ghost use Rattle.nop_types.specs.Execution.{enter_kept};
+ghost use Rattle.nop_types.specs.CheckpointedLogs.{beginning};
 ghost use Rattle.executor.specs.Running.{execution};
 ghost use Rattle.executor.specs.Undoing.{slot_undo_of, undone_by, IsExecuted, UndoFits, UndosFit, ClientIsKept};
 
 use crate::slot_undo::SlotUndo;
 use client_table::ClientTable;
-use nop_types::{Entry, Host, NoMemory};
+use nop_types::{Entry, Host, MAX_SLOTS, NoMemory};
+use replica_log::ReplicaLog;
 
 /// Executes an entry, where its client is served and its id is new, and says how to undo that.
 fn enter<H: Host>(
@@ -53,52 +55,54 @@ fn leave<H: Host>(host: &mut H, table: &mut ClientTable, slot_undo: Option<SlotU
     }
 }
 
-/// Executes the entries of a log up to a slot. After an error it stands at some slot on the way.
+/// Executes entries of a log until as many are executed. After an error it stands at some entry on the way.
 pub fn advance<H: Host>(
     host: &mut H,
     table: &mut ClientTable,
     undos: &mut Vec<Option<SlotUndo<H::Undo>>>,
-    log: &[Entry],
-    slot: usize,
+    log: &ReplicaLog,
+    count: usize,
 ) -> Result<(), NoMemory>
-    requires from { length undos.old.items ≤ slot }
-    requires there { slot ≤ length log.now }
-    requires run { IsExecuted H.meaning H.undo_of log.now (execution (H.state host.old) table.old)
-        undos.old.items }
+    requires from { length undos.old.items ≤ count }
+    requires there { count ≤ length log.now.entries }
+    requires run { IsExecuted H.meaning H.undo_of (beginning H.meaning log.now.checkpoint)
+        log.now.entries (execution (H.state host.old) table.old) undos.old.items }
     requires fits { UndosFit (H.fits host.old) undos.old.items }
-    ensures ok { OnOk result (length undos.new.items ≡ slot) }
-    ensures run { IsExecuted H.meaning H.undo_of log.now (execution (H.state host.new) table.new)
-        undos.new.items }
+    ensures ok { OnOk result (length undos.new.items ≡ count) }
+    ensures run { IsExecuted H.meaning H.undo_of (beginning H.meaning log.now.checkpoint)
+        log.now.entries (execution (H.state host.new) table.new) undos.new.items }
     ensures stays { length undos.old.items ≤ length undos.new.items }
-    ensures within { length undos.new.items ≤ slot }
+    ensures within { length undos.new.items ≤ count }
+    ensures room { length undos.new.items ≤ MAX_SLOTS }
     ensures fits { UndosFit (H.fits host.new) undos.new.items }
 {
-    while undos.len() < slot {
+    let entries = log.entries();
+    while undos.len() < count {
         undos.reserve(1)?;
-        let slot_undo = enter(host, table, &log[undos.len()])?;
+        let slot_undo = enter(host, table, &entries[undos.len()])?;
         undos.push(slot_undo).unwrap();
     }
     Ok(())
 }
 
-/// Undoes the entries of a log down to a slot.
+/// Undoes executed entries of a log, from the last one down, until as many are left.
 pub fn go_back<H: Host>(
     host: &mut H,
     table: &mut ClientTable,
     undos: &mut Vec<Option<SlotUndo<H::Undo>>>,
-    log: &[Entry],
-    slot: usize,
+    log: &ReplicaLog,
+    count: usize,
 )
-    requires back { slot ≤ length undos.old.items }
-    requires run { IsExecuted H.meaning H.undo_of log.now (execution (H.state host.old) table.old)
-        undos.old.items }
+    requires back { count ≤ length undos.old.items }
+    requires run { IsExecuted H.meaning H.undo_of (beginning H.meaning log.now.checkpoint)
+        log.now.entries (execution (H.state host.old) table.old) undos.old.items }
     requires fits { UndosFit (H.fits host.old) undos.old.items }
-    ensures len { length undos.new.items ≡ slot }
-    ensures run { IsExecuted H.meaning H.undo_of log.now (execution (H.state host.new) table.new)
-        undos.new.items }
+    ensures len { length undos.new.items ≡ count }
+    ensures run { IsExecuted H.meaning H.undo_of (beginning H.meaning log.now.checkpoint)
+        log.now.entries (execution (H.state host.new) table.new) undos.new.items }
     ensures fits { UndosFit (H.fits host.new) undos.new.items }
 {
-    while undos.len() > slot {
+    while undos.len() > count {
         if let Some(slot_undo) = undos.pop() {
             leave(host, table, slot_undo);
         }

@@ -93,6 +93,7 @@ outs_tell c from there (outs.Accepted client id result ∷ os) all n sent at =
     (outs_tell c from there os all.1 n sent at)
 outs_tell c from there (outs.Busy client ∷ os) all n sent at =
     one_more_line c (sent ++ sends_of from os) (lines.Busy client) (lines_from from n os) all.0 (outs_tell c from there os all.1 n sent at)
+outs_tell c from there (outs.Trimmed first entries ∷ os) all n sent at = outs_tell c from there os all.1 n sent at
 
 -- each datagram has a line
 sends_counted : (from : Actor) (os : List Out) (n : ℕ) → length (sends_of from os) ≤ length (lines_from from n os)
@@ -101,6 +102,7 @@ sends_counted from (outs.Send dest bytes ∷ os) n = let h = sends_counted from 
 sends_counted from (outs.Submitted r ∷ os) n = let h = sends_counted from os n in omega (arith, h)
 sends_counted from (outs.Accepted client id result ∷ os) n = let h = sends_counted from os n in omega (arith, h)
 sends_counted from (outs.Busy client ∷ os) n = let h = sends_counted from os n in omega (arith, h)
+sends_counted from (outs.Trimmed first entries ∷ os) n = sends_counted from os n
 
 -- what an actor did
 abbrev DidTell : Configuration → Did → Type 0

@@ -7,7 +7,7 @@ use Rattle.std.proofs.lemmas.Bool.{and_parts, ltb-true}
 use Rattle.hex.specs.Hex.{IsBytes}
 use Rattle.nop_types.specs.Configuration.{Configuration}
 use Rattle.nop_types.specs.Given.{Given, Packet, Ticked, Submit}
-use Rattle.nop_types.specs.Logs.{Whole}
+use Rattle.nop_types.specs.Logs.{Trimmed}
 use Rattle.nop_types.specs.Meaning.{Meaning}
 use Rattle.nop_types.specs.declared.limits.TheConstants.{MAX_OP_BYTES}
 use Rattle.nop_types.specs.declared.input.Tick.{Tick}
@@ -38,7 +38,7 @@ use Rattle.session_control.specs.declared.state.TheConstants.{MISSED_END}
 use Rattle.session_control.specs.ControllerSteps as controller
 use Rattle.replica_state.specs.State.{is_other}
 use Rattle.replica_state.specs.declared.sending.Sending.{Sending}
-use Rattle.replica_state.specs.declared.sending.Sending.TheVariants.{ToClient, ToReplicas}
+use Rattle.replica_state.specs.declared.sending.Sending.TheVariants.{ToClient, ToReplicas, Trims}
 use Rattle.replica_rows.specs.Messages as messages
 use Rattle.replica_core.specs.Posting.{posted}
 use Rattle.replica_core.specs.ReplicaSteps as replica
@@ -60,6 +60,7 @@ OutIs c (outs.Send dest bytes) = ⊤
 OutIs c (outs.Submitted r) = IsRequest c r
 OutIs c (outs.Accepted client id result) = ⊤
 OutIs c (outs.Busy client) = client < c.clients
+OutIs c (outs.Trimmed first entries) = ⊤
 
 abbrev pub OutsAre : Configuration → List Out → Type 0
 OutsAre c os = AllByRecursion (OutIs c) os
@@ -90,12 +91,13 @@ posted_are : (c : Configuration) (number : ℕ) (sends : List Sending) → OutsA
 unfolding posted
 posted_are c number [] = tt
 posted_are c number (ToClient r ∷ sends) = (tt, posted_are c number sends)
+posted_are c number (Trims first entries ∷ sends) = (tt, posted_are c number sends)
 posted_are c number (ToReplicas dest p ∷ sends) =
     both_are c _ (posted (number + 1) sends) (cut_are c dest _) (posted_are c (number + 1) sends)
 
 module _ {S : Type 0} (m : Meaning S) (c : Configuration) where
   row_are : (b : Bool) (s : Replica) (a : messages.Arrival) → OutsAre c (replica.row_if m b s a).1
-  row_are true s a = posted_are c s.messages (messages.arrive m Whole s.state a).1
+  row_are true s a = posted_are c s.messages (messages.arrive m Trimmed s.state a).1
   row_are false s a = tt
 
   sender_are : (b : Bool) (s : Replica) (p : Peer) → OutsAre c (replica.of_sender_if m b s p).1

@@ -1,5 +1,5 @@
 -- A check of what a run wrote passes it.
-use Rattle.std.proofs.Common.{◌≡◌, ◌∙◌, ℕ, ◌+◌, ◌≤◌, true, List, [], ◌∷◌, ◌++◌, length, refl, sym, ap, subst, append-nil, arith}
+use Rattle.std.proofs.Common.{◌≡◌, ◌∙◌, ℕ, ◌+◌, true, List, [], ◌∷◌, ◌++◌, length, refl, sym, ap, subst, append-nil, arith}
 use Rattle.std.proofs.Common.{Bool, false, Option, Some, None}
 use Rattle.std.specs.Prelude.{◌↔◌, cond, count_by, Result, Ok, Err}
 use Rattle.std.proofs.lemmas.List.{append_cancel_left}
@@ -8,21 +8,19 @@ use Rattle.judge.proofs.ToldLines.{rows_claim, runs_are_judged}
 use Rattle.judge.specs.Checking.{IsChecked, IsTallyOf, IsLegalText, IsPassed, PassesLegal, submits, accepts}
 use Rattle.judge.specs.Saying.{claiming, claims_something}
 use Rattle.judge.specs.declared.tally.Tally.{Tally}
+use Rattle.nop_types.specs.Checkpoints.{KeepsTo}
 use Rattle.nop_types.specs.Configuration.{Configuration}
 use Rattle.nop_types.specs.Legality.{Legal}
 use Rattle.nop_types.specs.Lines as lines
 use Rattle.nop_types.specs.Lines.{Line}
 use Rattle.nop_types.specs.Meaning.{Meaning}
 use Rattle.nop_types.specs.Services.{AnswersAreBytes}
-use Rattle.nop_types.specs.declared.limits.TheConstants.{MAX_RESULT_BYTES}
-use Rattle.replica_rows.specs.Within.{ResultsShort}
 use Rattle.schedule_text.proofs.Fitting.{headers_fit}
 use Rattle.transcript_reader.proofs.Spellings.{read_in_one_way}
 use Rattle.transcript_reader.specs.Transcripts.{Transcript, Spells, said}
 use Rattle.transcript_reader.specs.declared.check_error.CheckError.{CheckError}
 use Rattle.transcript_reader.specs.declared.check_error.CheckError.TheVariants as errors
 use Rattle.world.specs.WorldSteps.{Happened, opening, history}
-use Rattle.safety.proofs.Results.{results_short}
 use Rattle.replay.specs.Output.{Schedule, output}
 use Rattle.replay.specs.Safety.{RunsSafely}
 use Rattle.judged_runs.proofs.Ops.{AreRead, schedule_read}
@@ -33,8 +31,8 @@ use Rattle.judged_runs.specs.Runs.{HasRoom, IsLegalRun, transcript_of}
 
 -- ---- the text of a run is a legal transcript
 
-module _ {S : Type 0} (m : Meaning S) (short : ResultsShort m) (answers : AnswersAreBytes m) (bytes : List ℕ)
-    (ran : RunsSafely m bytes) where
+module _ {S : Type 0} (m : Meaning S) (IsSound : S → Type 0) (keeps : KeepsTo m IsSound) (answers : AnswersAreBytes m)
+    (bytes : List ℕ) (ran : RunsSafely m bytes) where
   read : AreRead ran.events
   read = subst AreRead (ap (λ (s : Schedule). s.events) ran.are) (schedule_read m ran.config (opening ran.config) 1 ran.rest)
 
@@ -46,8 +44,8 @@ module _ {S : Type 0} (m : Meaning S) (short : ResultsShort m) (answers : Answer
   legal_with_room room =
       subst (IsLegalRun m ran.config ran.happened) (sym ran.text) (
       record {
-        spells = run_spells m short answers ran.config (headers_fit ran.header ran.config ran.read) ran.events read ran.happened ran.led
-            ran.safely (subst HasRoom ran.text room);
+        spells = run_spells m IsSound keeps answers ran.config (headers_fit ran.header ran.config ran.read) ran.events read ran.happened
+            ran.led ran.safely (subst HasRoom ran.text room);
         legal = said_is_legal;
       }
       )
@@ -126,14 +124,12 @@ module _ {S : Type 0} (m : Meaning S) (c : Configuration) (h : Happened) (text :
   check_passes rest (Err errors.ReadFault) checked passes = tt
   check_passes rest (Err errors.NoMemory) checked passes = tt
 
-module _ {S : Type 0} (m : Meaning S) (is_sound : S → Type 0) (opens : is_sound m.opening)
-    (stays : (s : S) (op : List ℕ) → is_sound s → is_sound (m.after s op))
-    (short : (s : S) (op : List ℕ) → is_sound s → length (m.answer s op) ≤ MAX_RESULT_BYTES) (answers : AnswersAreBytes m) where
+module _ {S : Type 0} (m : Meaning S) (IsSound : S → Type 0) (keeps : KeepsTo m IsSound) (answers : AnswersAreBytes m) where
   pub replayed_runs_pass : RunsPass m
   replayed_runs_pass bytes before text None done replayed ran room rest r checked passes = absurd replayed
   replayed_runs_pass bytes before text (Some more) done replayed ran room rest r checked passes =
       let all : List ℕ = (output m true bytes).text in
       let same : text ≡ all = append_cancel_left before text all replayed.wrote in
       let legal : IsLegalRun m ran.config ran.happened all =
-      (runs_are_legal m (results_short m is_sound opens stays short) answers bytes ran).0 (subst HasRoom same room) in
+      (runs_are_legal m IsSound keeps answers bytes ran).0 (subst HasRoom same room) in
       check_passes m ran.config ran.happened text (subst (IsLegalRun m ran.config ran.happened) (sym same) legal) rest r checked passes

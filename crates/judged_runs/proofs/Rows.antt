@@ -10,7 +10,7 @@ use Rattle.nop_types.specs.Configuration.{Configuration, is_configuration}
 use Rattle.nop_types.specs.Lines as lines
 use Rattle.nop_types.specs.Lines.{Line}
 use Rattle.nop_types.specs.Ranges.{ViewFits}
-use Rattle.nop_types.specs.declared.limits.TheConstants.{MAX_CLIENTS, MAX_REPLICAS, MAX_RESULT_BYTES, MAX_SEQUENCERS, MAX_SLOTS}
+use Rattle.nop_types.specs.declared.limits.TheConstants.{MAX_CLIENTS, MAX_REPLICAS, MAX_RESULT_BYTES, MAX_SEQUENCERS}
 use Rattle.nop_types.specs.declared.kinds.TheConstants.{REQUEST, FRAGMENT}
 use Rattle.nop_types.specs.declared.output.Actor.{Actor}
 use Rattle.nop_types.specs.declared.output.Actor.TheVariants as actors
@@ -141,30 +141,27 @@ module _ (c : Configuration) (counts : Counts c) where
   EntryIs NoOp = Unit {0}
   EntryIs (Req r) = IsRequest c r
 
-  pub state_row : (i : ℕ) (crashed : Bool) (status : Phase) (v : View) (len sync_point : ℕ) → i < c.replicas → ViewFits v → len ≤ MAX_SLOTS
-      → sync_point ≤ MAX_SLOTS → RowFits (State i crashed status v len sync_point)
+  pub state_row : (i : ℕ) (crashed : Bool) (status : Phase) (v : View) (len sync_point : ℕ) → i < c.replicas → ViewFits v → len < 2 ^ 32
+      → sync_point < 2 ^ 32 → RowFits (State i crashed status v len sync_point)
   state_row i crashed status v len sync_point own view short point = record {
-    ranges =
-        both (nat_lt i MAX_REPLICAS) _ (lt-ltb i MAX_REPLICAS (omega (arith, own, counts.replicas)))
-        (both (nat_le 1 v.session) _ (le-leb 1 v.session view.session.low)
-        (both (nat_le len MAX_SLOTS) (nat_le sync_point MAX_SLOTS) (le-leb len MAX_SLOTS short) (le-leb sync_point MAX_SLOTS point)));
-    typed = (view.leader, view.session.high);
+    ranges = both (nat_lt i MAX_REPLICAS) (nat_le 1 v.session) (lt-ltb i MAX_REPLICAS (omega (arith, own, counts.replicas)))
+        (le-leb 1 v.session view.session.low);
+    typed = record { leader = view.leader; session = view.session.high; len_fits = short; point_fits = point };
   }
 
   entry_in : (e : Entry) → EntryIs e → entry_fits e ≡ true
   entry_in NoOp h = refl
   entry_in (Req r) h = request_in r h
 
-  slot_typed : (i slot : ℕ) (e : Entry) → EntryIs e → row_fits (Slot i slot e) ≡ true → RowFits (Slot i slot e)
-  slot_typed i slot NoOp h ranges = record { ranges = ranges; typed = tt }
-  slot_typed i slot (Req r) h ranges = record { ranges = ranges; typed = typed r h }
+  slot_typed : (i slot : ℕ) (e : Entry) → EntryIs e → slot < 2 ^ 32 → row_fits (Slot i slot e) ≡ true → RowFits (Slot i slot e)
+  slot_typed i slot NoOp h high ranges = record { ranges = ranges; typed = (high, tt) }
+  slot_typed i slot (Req r) h high ranges = record { ranges = ranges; typed = (high, typed r h) }
 
-  pub slot_row : (i slot : ℕ) (e : Entry) → i < c.replicas → 1 ≤ slot → slot ≤ MAX_SLOTS → EntryIs e → RowFits (Slot i slot e)
+  pub slot_row : (i slot : ℕ) (e : Entry) → i < c.replicas → 1 ≤ slot → slot < 2 ^ 32 → EntryIs e → RowFits (Slot i slot e)
   slot_row i slot e own low high h =
-      slot_typed i slot e h
+      slot_typed i slot e h high
       (both (nat_lt i MAX_REPLICAS) _ (lt-ltb i MAX_REPLICAS (omega (arith, own, counts.replicas)))
-      (both (nat_le 1 slot) _ (le-leb 1 slot low)
-      (both (nat_le slot MAX_SLOTS) (entry_fits e) (le-leb slot MAX_SLOTS high) (entry_in e h))))
+      (both (nat_le 1 slot) (entry_fits e) (le-leb 1 slot low) (entry_in e h)))
 
   pub member_row : (place : ℕ) (r : Request) → 1 ≤ place → place < 2 ^ 32 → IsRequest c r → RowFits (Member place r)
   member_row place r low high h =

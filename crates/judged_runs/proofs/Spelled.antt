@@ -7,16 +7,19 @@ use Rattle.std.specs.List.{list_all}
 use Rattle.std.proofs.lemmas.List.{length-map}
 use Rattle.std.proofs.lemmas.List.Folds.{list_all-append}
 use Rattle.std.proofs.lemmas.Option.{slice_get_within}
-use Rattle.facts.proofs.Members.{Has-first, Has-rest}
-use Rattle.facts.proofs.Places.{slice_get-from_take}
+use Rattle.facts.proofs.Members.{Has-append_left, Has-filter, Has-first, Has-from_filter, Has-rest}
+use Rattle.histories.proofs.Shortness.{result_fits}
+use Rattle.nop_types.specs.Checkpoints.{KeepsTo}
 use Rattle.nop_types.specs.Configuration.{Configuration, is_configuration}
 use Rattle.nop_types.specs.Legality.{Legal}
 use Rattle.nop_types.specs.Lines as lines
 use Rattle.nop_types.specs.Lines.{Line}
 use Rattle.nop_types.specs.Lists.{Has}
+use Rattle.nop_types.specs.Logs.{Trimmed, length_of}
 use Rattle.nop_types.specs.Meaning.{Meaning}
 use Rattle.nop_types.specs.Services.{AnswersAreBytes}
-use Rattle.nop_types.specs.declared.limits.TheConstants.{MAX_SLOTS}
+use Rattle.nop_types.specs.declared.limits.TheConstants.{MAX_LENGTH}
+use Rattle.nop_types.specs.declared.output.Actor.{Actor}
 use Rattle.nop_types.specs.declared.request.Entry.{Entry}
 use Rattle.nop_types.specs.declared.request.Entry.TheVariants.{NoOp, Req}
 use Rattle.nop_types.specs.declared.request.Request.{Request}
@@ -25,11 +28,13 @@ use Rattle.protocol.specs.Member.{Member}
 use Rattle.refinement.specs.Projection.{member_of}
 use Rattle.replica_core.specs.ReplicaSteps.{Replica}
 use Rattle.replica_rows.specs.Within.{ResultsShort}
+use Rattle.replica_state.specs.State.{PointsMeet}
 use Rattle.replica_state.specs.declared.state.ReplicaState.{ReplicaState}
 use Rattle.replica_state.specs.Within.{IsWithin}
 use Rattle.replay.proofs.Reaching.{Reached, events_reach, datagrams_go_to_actors}
-use Rattle.safety.proofs.Replicas.{plain_found}
-use Rattle.safety.specs.Following.{plain}
+use Rattle.safety.proofs.Outputs.{bytes_there}
+use Rattle.safety.proofs.Replicas.{WholeSeat, whole_seat}
+use Rattle.safety.specs.Following.{is_spoken, spoken, all_brought, FollowsWhole}
 use Rattle.safety.specs.Safe.{SafelyPassed}
 use Rattle.schedule_text.specs.declared.event.Event.{Event}
 use Rattle.network.specs.Network.{Sent}
@@ -41,10 +46,13 @@ use Rattle.transcript_rows.specs.declared.row.Row.{Row}
 use Rattle.transcript_rows.specs.declared.row.Row.TheVariants.{End}
 use Rattle.transcript_text.specs.Transcript.{transcript_line, lines_text}
 use Rattle.whole_world.proofs.Counts.{counts_from}
-use Rattle.whole_world.specs.Whole.{WholeReplica}
+use Rattle.whole_world.specs.Passed.{Passed, first, passes, passed, passed_from}
+use Rattle.whole_world.specs.Safe.{IsSafe}
+use Rattle.whole_world.specs.Whole.{WholeWorld, Brings, whole_run, whole_step}
+use Rattle.world.specs.Archive.{with_archive}
 use Rattle.world.specs.Ending.{final_text}
 use Rattle.world.specs.Seats.{Seated}
-use Rattle.world.specs.WorldSteps.{WorldState, Happened, run, history}
+use Rattle.world.specs.WorldSteps.{Happened, run, history}
 use Rattle.judged_runs.proofs.Datagrams.{datagram_is}
 use Rattle.judged_runs.proofs.Lines.{Told, runs_tell}
 use Rattle.judged_runs.proofs.Ops.{AreRead, read_fit}
@@ -84,17 +92,17 @@ all_slots : (i slot : ℕ) (es : List Entry) → list_all is_state (slot_rows i 
 all_slots i slot [] = refl
 all_slots i slot (e ∷ es) = all_slots i (slot + 1) es
 
-all_states : (i : ℕ) (ps : List (Seated Replica)) → list_all is_state (state_rows i ps) ≡ true
-all_states i [] = refl
-all_states i (p ∷ ps) =
-    both_all is_state (rows_of i p) (state_rows (i + 1) ps) (all_slots i 1 (take p.state.state.sync.sync_point p.state.state.log.entries))
-    (all_states (i + 1) ps)
+all_states : (archive : List Entry) (i : ℕ) (ps : List (Seated Replica)) → list_all is_state (state_rows archive i ps) ≡ true
+all_states archive i [] = refl
+all_states archive i (p ∷ ps) =
+    both_all is_state (rows_of archive i p) (state_rows archive (i + 1) ps) (all_slots i 1 (take p.state.state.sync.sync_point archive))
+    (all_states archive (i + 1) ps)
 
 -- ---- the lines at the end
 
 module _ (c : Configuration) (counts : Counts c) where
-  -- a log of such entries, short enough
-  slots_fit : (i : ℕ) → i < c.replicas → (slot : ℕ) (es : List Entry) → 1 ≤ slot → slot + length es ≤ MAX_SLOTS + 1
+  -- such entries, not too many
+  slots_fit : (i : ℕ) → i < c.replicas → (slot : ℕ) (es : List Entry) → 1 ≤ slot → slot + length es ≤ 2 ^ 32
       → ((e : Entry) → Has es e → EntryIs c counts e) → AllFit (slot_rows i slot es)
   slots_fit i own slot [] low room all = tt
   slots_fit i own slot (e ∷ es) low room all = (
@@ -102,36 +110,38 @@ module _ (c : Configuration) (counts : Counts c) where
     slots_fit i own (slot + 1) es (omega arith) (omega (arith, room)) (λ x h. all x (Has-rest x e es h)),
   )
 
-  -- what is shown of a replica
-  record IsShown (i : ℕ) (p : Seated Replica) : Type 0 where
-    own : i < c.replicas
-    within : IsWithin p.state.state
-    logged : (e : Entry) → Has p.state.state.log.entries e → EntryIs c counts e
+  -- no more than so many
+  front_short : (n : ℕ) (es : List Entry) → length (take n es) ≤ n
+  front_short zero es = omega arith
+  front_short (suc n) [] = omega arith
+  front_short (suc n) (e ∷ es) = let h = front_short n es in omega (arith, h)
 
-  log_front : (n : ℕ) (log : List Entry) → length (take n log) ≤ length log
-  log_front zero log = omega arith
-  log_front (suc n) [] = omega arith
-  log_front (suc n) (e ∷ log) = let h = log_front n log in omega (arith, h)
+  module _ (archive : List Entry) where
+    -- what is shown of a replica
+    record IsShown (i : ℕ) (p : Seated Replica) : Type 0 where
+      own : i < c.replicas
+      within : IsWithin p.state.state
+      synced : (e : Entry) → Has (take p.state.state.sync.sync_point archive) e → EntryIs c counts e
 
-  replica_fits : (i : ℕ) (p : Seated Replica) → IsShown i p → AllFit (rows_of i p)
-  replica_fits i p is =
-      let s : ReplicaState = p.state.state in
-      let len : length s.log.entries ≤ MAX_SLOTS = is.within.log.entries.len in
-      let short = log_front s.sync.sync_point s.log.entries in (
-        state_row c counts i p.crashed s.status s.view (length s.log.entries) s.sync.sync_point is.own is.within.view len
-            (omega (arith, len, is.within.sync_point)),
-        slots_fit i is.own 1 (take s.sync.sync_point s.log.entries) (omega arith) (omega (arith, len, short))
-            (λ e h. is.logged e (h.0, (slice_get-from_take s.sync.sync_point s.log.entries h.0 e h.1).1)),
-      )
+    replica_fits : (i : ℕ) (p : Seated Replica) → IsShown i p → AllFit (rows_of archive i p)
+    replica_fits i p is =
+        let s : ReplicaState = p.state.state in
+        let len : length_of Trimmed s.log ≤ MAX_LENGTH = is.within.log.limit in
+        let point : s.sync.sync_point ≤ length_of Trimmed s.log = is.within.sync_point in
+        let short = front_short s.sync.sync_point archive in (
+          state_row c counts i p.crashed s.status s.view (length_of Trimmed s.log) s.sync.sync_point is.own is.within.view
+              (omega (arith, len)) (omega (arith, len, point)),
+          slots_fit i is.own 1 (take s.sync.sync_point archive) (omega arith) (omega (arith, len, point, short)) is.synced,
+        )
 
-  states_fit : (i : ℕ) (ps : List (Seated Replica)) → ((j : ℕ) (p : Seated Replica) → slice_get ps j ≡ Some p → IsShown (i + j) p)
-      → AllFit (state_rows i ps)
-  states_fit i [] all = tt
-  states_fit i (p ∷ ps) all =
-      fit_both (rows_of i p) (state_rows (i + 1) ps)
-      (replica_fits i p (let e : i + 0 ≡ i = omega arith in subst (λ (k : ℕ). IsShown k p) e (all 0 p refl)))
-      (states_fit (i + 1) ps
-      (λ j q h. let e : i + suc j ≡ (i + 1) + j = omega arith in subst (λ (k : ℕ). IsShown k q) e (all (suc j) q h)))
+    states_fit : (i : ℕ) (ps : List (Seated Replica)) → ((j : ℕ) (p : Seated Replica) → slice_get ps j ≡ Some p → IsShown (i + j) p)
+        → AllFit (state_rows archive i ps)
+    states_fit i [] all = tt
+    states_fit i (p ∷ ps) all =
+        fit_both (rows_of archive i p) (state_rows archive (i + 1) ps)
+        (replica_fits i p (let e : i + 0 ≡ i = omega arith in subst (λ (k : ℕ). IsShown k p) e (all 0 p refl)))
+        (states_fit (i + 1) ps
+        (λ j q h. let e : i + suc j ≡ (i + 1) + j = omega arith in subst (λ (k : ℕ). IsShown k q) e (all (suc j) q h)))
 
   members_fit : (place : ℕ) (rs : List Request) → 1 ≤ place → place + length rs ≤ 2 ^ 32 → ((r : Request) → Has rs r → IsRequest c r)
       → AllFit (members place rs)
@@ -166,11 +176,22 @@ few c h most =
 
 -- ---- the run
 
-module _ {S : Type 0} (m : Meaning S) (short : ResultsShort m) (bytes : AnswersAreBytes m) (c : Configuration)
+-- the world of what was passed
+passed_world : {S : Type 0} (m : Meaning S) (q : Passed) (bs : List (Actor × Brings)) → (passed_from m q bs).world ≡ whole_run m q.world bs
+passed_world m q [] = refl
+passed_world m q (b ∷ bs) = passed_world m (passes q (whole_step m q.world b.0 b.1)) bs
+
+module _ {S : Type 0} (m : Meaning S) (IsSound : S → Type 0) (keeps : KeepsTo m IsSound) (bytes : AnswersAreBytes m) (c : Configuration)
     (is_one : is_configuration c ≡ true) (es : List Event) (read : AreRead es) (h : Happened) (led : run m c es ≡ Ok h)
     (safely : SafelyPassed m c es h) where
+  short : ResultsShort m
+  short = result_fits m IsSound keeps.opens keeps.stays keeps.short
+
+  abbrev safe : IsSafe m c (all_brought m c es)
+  safe = safely.whole.at_last
+
   abbrev conf : Conf
-  conf = safely.at_last.conf
+  conf = safe.conf
 
   abbrev f : ℕ
   f = c.replicas / 2
@@ -184,8 +205,18 @@ module _ {S : Type 0} (m : Meaning S) (short : ResultsShort m) (bytes : AnswersA
   legal : Legal m h.lines (history h.world)
   legal = safely.safe.legal
 
-  same_lines : conf.lines ≡ h.lines
-  same_lines = sym safely.at_last.shows.lines ∙ safely.lines
+  abbrev whole_one : WholeWorld
+  whole_one = (passed m c (all_brought m c es)).world
+
+  follows : FollowsWhole m h whole_one
+  follows = subst (FollowsWhole m h) (sym (passed_world m (first c) (all_brought m c es))) safely.follows
+
+  same_lines : conf.lines ≡ spoken h.lines
+  same_lines = sym safe.shows.lines ∙ sym follows.lines
+
+  submits_there : (r : Request) → Has conf.lines (lines.Submit r) → Has h.lines (lines.Submit r)
+  submits_there r there =
+      (Has-from_filter is_spoken (lines.Submit r) h.lines (subst (λ (ls : List Line). Has ls (lines.Submit r)) same_lines there)).0
 
   submitted : (r : Request) → Has h.lines (lines.Submit r) → IsRequest c r
   submitted r there = told.lines (lines.Submit r) there
@@ -201,9 +232,10 @@ module _ {S : Type 0} (m : Meaning S) (short : ResultsShort m) (bytes : AnswersA
       let before = legal.later k client id result there in
       let own = submitted before.request (before.place, before.line) in
       let answered = legal.answered k client id result there in
-      let line : slice_get conf.lines k ≡ Some (lines.Accept client id result) =
-      ap (λ (ls : List Line). slice_get ls k) same_lines ∙ there in
-      let sound = safely.at_last.sound.accepts k client id result line in
+      let line : Has conf.lines (lines.Accept client id result) =
+      subst (λ (ls : List Line). Has ls (lines.Accept client id result)) (sym same_lines)
+      (Has-filter is_spoken (lines.Accept client id result) h.lines (k, there) refl) in
+      let sound = safe.sound.accepts line.0 client id result line.1 in
       record {
         client = subst (λ (n : ℕ). n < c.clients) before.same.same_client own.client;
         low = subst (λ (n : ℕ). 1 ≤ n) before.same.same_id own.low;
@@ -214,43 +246,43 @@ module _ {S : Type 0} (m : Meaning S) (short : ResultsShort m) (bytes : AnswersA
 
   sent : (s : Sent) (i : ℕ) → slice_get h.world.sent i ≡ Some s → IsSent c counts s
   sent s i there = record {
-    dest = datagrams_go_to_actors m short c is_one es h (read_fit es read) led s (i, there);
-    spelled = datagram_is s.bytes
-        (safely.at_last.shows.network.spelled s (subst (λ (w : WorldState). Has w.sent s) (sym safely.world) (i, there)));
+    dest = datagrams_go_to_actors m IsSound keeps c is_one es h (read_fit es read) led s (i, there);
+    spelled = datagram_is s.bytes (follows.fragments.network.datagrams s.bytes (bytes_there h.world.sent s (i, there)));
   }
 
   -- ---- replicas
 
   reached : Reached m c h
-  reached = events_reach m c short is_one es h (read_fit es read) led
+  reached = events_reach m IsSound keeps c is_one es h (read_fit es read) led
 
   within : (i : ℕ) (p : Seated Replica) → slice_get h.world.replicas i ≡ Some p → IsWithin p.state.state
-  within i p there =
-      let here : slice_get reached.passed.world.replicas i ≡ Some p =
-      ap (λ (w : WorldState). slice_get w.replicas i) reached.world ∙ there in
-      let found : slice_get reached.at.whole.world.replicas i ≡ Some (plain p) =
-      ap (λ (rs : List (Seated WholeReplica)). slice_get rs i) (sym reached.at.both.beside.alike.replicas)
-      ∙ plain_found reached.passed.world.replicas i p here in
-      (reached.at.at.stands.ranges.replicas i (plain p) found).within
+  within i p there = (reached.at.both.beside.travels.members i p there).within
 
-  entry_is : (i : ℕ) (p : Seated Replica) → i < c.replicas → slice_get h.world.replicas i ≡ Some p → (e : Entry)
-      → Has p.state.state.log.entries e → EntryIs c counts e
-  entry_is i p own there NoOp has = tt
-  entry_is i p own there (Req r) has =
-      let here : slice_get safely.at_last.passed.world.replicas i ≡ Some p =
-      ap (λ (w : WorldState). slice_get w.replicas i) safely.world ∙ there in
-      let same : conf.replicas i ≡ member_of p.state.state = safely.at_last.shows.actors.replicas i p here in
+  -- what is synchronised of a replica's log is in the archive, and of the whole log
+  synced_is : (i : ℕ) (p : Seated Replica) → i < c.replicas → slice_get h.world.replicas i ≡ Some p → (e : Entry)
+      → Has (take p.state.state.sync.sync_point h.world.archive) e → EntryIs c counts e
+  synced_is i p own there NoOp has = tt
+  synced_is i p own there (Req r) has =
+      let q : WholeSeat m whole_one.replicas i p = whole_seat m h.world.replicas whole_one.replicas i p follows.replicas there in
+      let points : PointsMeet p.state.state = (within i p there).points in
+      let in_log : Has (with_archive h.world.archive p.state.state.log) (Req r) =
+      Has-append_left (take p.state.state.log.sync_point h.world.archive) p.state.state.log.entries (Req r)
+      (subst (λ (n : ℕ). Has (take n h.world.archive) (Req r)) (sym points) has) in
+      let in_whole : Has q.seat.state.state.log.entries (Req r) =
+      subst (λ (xs : List Entry). Has xs (Req r)) (follows.logs i p q.seat there q.there) in_log in
+      let same : conf.replicas i ≡ member_of q.seat.state.state = safe.shows.actors.replicas i q.seat q.there in
       let few_replicas : i < 2 * f + 1 = omega (arith, own, (counts_from c is_one).replicas) in
       let line : Has conf.lines (lines.Submit r) =
-      safely.at_last.sound.requests.logged i few_replicas r (subst (λ (q : Member). Has q.log (Req r)) (sym same) has) in
-      submitted r (subst (λ (ls : List Line). Has ls (lines.Submit r)) same_lines line)
+      safe.sound.requests.logged i few_replicas r (subst (λ (x : Member). Has x.log (Req r)) (sym same) in_whole) in
+      submitted r (submits_there r line)
 
-  shown : (i : ℕ) (p : Seated Replica) → slice_get h.world.replicas i ≡ Some p → IsShown c counts (0 + i) p
+  shown : (i : ℕ) (p : Seated Replica) → slice_get h.world.replicas i ≡ Some p → IsShown c counts h.world.archive (0 + i) p
   shown i p there =
       let own : i < c.replicas = omega (arith, slice_get_within h.world.replicas i p there, told.replicas) in
       let same : i ≡ 0 + i = omega arith in
-      let here : IsShown c counts i p = record { own = own; within = within i p there; logged = entry_is i p own there } in
-      subst (λ (k : ℕ). IsShown c counts k p) same here
+      let here : IsShown c counts h.world.archive i p =
+      record { own = own; within = within i p there; synced = synced_is i p own there } in
+      subst (λ (k : ℕ). IsShown c counts h.world.archive k p) same here
 
   -- ---- all of it
 
@@ -262,8 +294,9 @@ module _ {S : Type 0} (m : Meaning S) (short : ResultsShort m) (bytes : AnswersA
   rows_fit : IsFew h → AllFit (body (transcript_of c h))
   rows_fit few =
       let all : List Row = members 1 (history h.world) in
-      fit_both (map row_of h.lines) (state_rows 0 h.world.replicas ++ (all ++ End ∷ [])) (mapped_fit h.lines (line_fits few))
-      (fit_both (state_rows 0 h.world.replicas) (all ++ End ∷ []) (states_fit c counts 0 h.world.replicas shown)
+      let states : List Row = state_rows h.world.archive 0 h.world.replicas in
+      fit_both (map row_of h.lines) (states ++ (all ++ End ∷ [])) (mapped_fit h.lines (line_fits few))
+      (fit_both states (all ++ End ∷ []) (states_fit c counts h.world.archive 0 h.world.replicas shown)
       (fit_both all (End ∷ []) (members_fit c counts 1 (history h.world) (omega arith) (omega (arith, few.members)) member_is)
       (record { ranges = refl; typed = tt }, tt)))
 
@@ -278,7 +311,7 @@ module _ {S : Type 0} (m : Meaning S) (short : ResultsShort m) (bytes : AnswersA
         fits = record {
           config = is_one;
           events = all_events h.lines;
-          states = all_states 0 h.world.replicas;
+          states = all_states h.world.archive 0 h.world.replicas;
           rows = rows_fit (few c h most);
         };
         most = most;

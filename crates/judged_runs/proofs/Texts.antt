@@ -9,6 +9,7 @@ use Rattle.std.proofs.lemmas.List.{length-map}
 use Rattle.std.proofs.lemmas.List.Sums.{sum_by-append, sum_by-cons}
 use Rattle.nop_types.specs.Configuration.{Configuration}
 use Rattle.nop_types.specs.Lines.{Line}
+use Rattle.nop_types.specs.Logs.{Trimmed, length_of}
 use Rattle.nop_types.specs.declared.request.Entry.{Entry}
 use Rattle.nop_types.specs.declared.request.Request.{Request}
 use Rattle.replica_core.specs.ReplicaSteps.{Replica}
@@ -44,19 +45,21 @@ slots_text i slot (e ∷ es) =
     ap (λ (xs : List ℕ). xs ++ rows_text (slot_rows i (slot + 1) es)) (entry_as_row i slot e)
     ∙ ap (λ (xs : List ℕ). entry_line i slot e ++ xs) (slots_text i (slot + 1) es)
 
-one_text : (i : ℕ) (p : Seated Replica) → rows_text (rows_of i p) ≡ replica_text i p
-one_text i p =
-    let s : ReplicaState = p.state.state in
-    let slots : List Entry = take s.sync.sync_point s.log.entries in
-    ap (λ (xs : List ℕ). xs ++ rows_text (slot_rows i 1 slots)) (state_as_row i p.crashed s.status s.view (length s.log.entries) s.sync.sync_point)
-    ∙ ap (λ (xs : List ℕ). replica_line i p.crashed s.status s.view (length s.log.entries) s.sync.sync_point ++ xs) (slots_text i 1 slots)
+module _ (archive : List Entry) where
+  one_text : (i : ℕ) (p : Seated Replica) → rows_text (rows_of archive i p) ≡ replica_text archive i p
+  one_text i p =
+      let s : ReplicaState = p.state.state in
+      let len : ℕ = length_of Trimmed s.log in
+      let slots : List Entry = take s.sync.sync_point archive in
+      ap (λ (xs : List ℕ). xs ++ rows_text (slot_rows i 1 slots)) (state_as_row i p.crashed s.status s.view len s.sync.sync_point)
+      ∙ ap (λ (xs : List ℕ). replica_line i p.crashed s.status s.view len s.sync.sync_point ++ xs) (slots_text i 1 slots)
 
-states_text : (i : ℕ) (ps : List (Seated Replica)) → rows_text (state_rows i ps) ≡ replicas_text i ps
-states_text i [] = refl
-states_text i (p ∷ ps) =
-    flat_map-append row_text (rows_of i p) (state_rows (i + 1) ps)
-    ∙ ap (λ (xs : List ℕ). xs ++ rows_text (state_rows (i + 1) ps)) (one_text i p)
-    ∙ ap (λ (xs : List ℕ). replica_text i p ++ xs) (states_text (i + 1) ps)
+  states_text : (i : ℕ) (ps : List (Seated Replica)) → rows_text (state_rows archive i ps) ≡ replicas_text archive i ps
+  states_text i [] = refl
+  states_text i (p ∷ ps) =
+      flat_map-append row_text (rows_of archive i p) (state_rows archive (i + 1) ps)
+      ∙ ap (λ (xs : List ℕ). xs ++ rows_text (state_rows archive (i + 1) ps)) (one_text i p)
+      ∙ ap (λ (xs : List ℕ). replica_text archive i p ++ xs) (states_text (i + 1) ps)
 
 members_text : (place : ℕ) (rs : List Request) → rows_text (members place rs) ≡ history_text place rs
 members_text place [] = refl
@@ -79,16 +82,16 @@ same_parts a b c x y z e f g =
     ap (λ (xs : List ℕ). xs ++ (b ++ c)) e ∙ ap (λ (xs : List ℕ). x ++ (xs ++ c)) f ∙ ap (λ (xs : List ℕ). x ++ (y ++ xs)) g
     ∙ sym (append_assoc x y z)
 
-ends_text : (w : WorldState) → rows_text (state_rows 0 w.replicas ++ (members 1 (history w) ++ End ∷ [])) ≡ final_text w
+ends_text : (w : WorldState) → rows_text (state_rows w.archive 0 w.replicas ++ (members 1 (history w) ++ End ∷ [])) ≡ final_text w
 unfolding final_text
 ends_text w =
-    let states : List Row = state_rows 0 w.replicas in
+    let states : List Row = state_rows w.archive 0 w.replicas in
     let all : List Row = members 1 (history w) in
     flat_map-append row_text states (all ++ End ∷ [])
     ∙ ap (λ (xs : List ℕ). rows_text states ++ xs) (flat_map-append row_text all (End ∷ []))
     ∙ same_parts (rows_text states) (rows_text all) (rows_text (End ∷ []))
-    (replicas_text 0 w.replicas) (history_text 1 (history w)) end_line
-    (states_text 0 w.replicas) (members_text 1 (history w)) last_text
+    (replicas_text w.archive 0 w.replicas) (history_text 1 (history w)) end_line
+    (states_text w.archive 0 w.replicas) (members_text 1 (history w)) last_text
 
 pub run_text : (c : Configuration) (h : Happened)
     → transcript_text (transcript_of c h) ≡ transcript_line c ++ (lines_text h.lines ++ final_text h.world)

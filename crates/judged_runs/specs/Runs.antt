@@ -1,7 +1,8 @@
 -- The transcript of a run, as a judge reads it.
-use Rattle.std.specs.Prelude.{◌≤◌, ◌+◌, ◌==◌, ℕ, Bool, List, [], ◌∷◌, ◌++◌, length, map, take, count_by}
+use Rattle.std.specs.Prelude.{◌≤◌, ◌+◌, ◌==◌, ℕ, Bool, List, [], ◌∷◌, ◌++◌, map, take, count_by}
 use Rattle.nop_types.specs.Configuration.{Configuration}
 use Rattle.nop_types.specs.Legality.{Legal}
+use Rattle.nop_types.specs.Logs.{Trimmed, length_of}
 use Rattle.nop_types.specs.Meaning.{Meaning}
 use Rattle.nop_types.specs.declared.request.Entry.{Entry}
 use Rattle.replica_state.specs.declared.state.ReplicaState.{ReplicaState}
@@ -20,20 +21,25 @@ abbrev pub slot_rows : ℕ → ℕ → List Entry → List Row
 slot_rows replica slot [] = []
 slot_rows replica slot (e ∷ es) = Slot replica slot e ∷ slot_rows replica (slot + 1) es
 
--- a replica, and then each slot up to its sync point
-abbrev pub rows_of : ℕ → Seated Replica → List Row
-rows_of i p =
+-- a replica, and then each slot up to its sync point, which is in the archive
+abbrev pub rows_of : List Entry → ℕ → Seated Replica → List Row
+rows_of archive i p =
     let s : ReplicaState = p.state.state in
-    State i p.crashed s.status s.view (length s.log.entries) s.sync.sync_point ∷ slot_rows i 1 (take s.sync.sync_point s.log.entries)
+    State i p.crashed s.status s.view (length_of Trimmed s.log) s.sync.sync_point ∷ slot_rows i 1 (take s.sync.sync_point archive)
 
-abbrev pub state_rows : ℕ → List (Seated Replica) → List Row
-state_rows i [] = []
-state_rows i (p ∷ ps) = rows_of i p ++ state_rows (i + 1) ps
+abbrev pub state_rows : List Entry → ℕ → List (Seated Replica) → List Row
+state_rows archive i [] = []
+state_rows archive i (p ∷ ps) = rows_of archive i p ++ state_rows archive (i + 1) ps
 
 -- the lines of the events, the replicas at the end, and the history
 abbrev pub transcript_of : Configuration → Happened → Transcript
 transcript_of c h =
-    record { config = c; events = map row_of h.lines; states = state_rows 0 h.world.replicas; history = history h.world }
+    record {
+      config = c;
+      events = map row_of h.lines;
+      states = state_rows h.world.archive 0 h.world.replicas;
+      history = history h.world;
+    }
 
 -- ---- its lines
 

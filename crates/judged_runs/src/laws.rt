@@ -1,9 +1,7 @@
 //! What is replayed passes a check.
 
 ghost use Rattle.std.specs.Prelude.{◌↔◌, ℕ, List, true};
-ghost use Rattle.nop_types.specs.Meaning.{Meaning};
 ghost use Rattle.nop_types.specs.Services.{AnswersAreBytes};
-ghost use Rattle.replica_rows.specs.Within.{ResultsShort};
 ghost use Rattle.kv_host.specs.Kv.{kv_meaning};
 ghost use Rattle.lock_host.specs.Service.{lock_meaning};
 ghost use Rattle.replay.specs.Output.{output};
@@ -15,11 +13,10 @@ use nop_types::Host;
 
 /// What a replay over such a host writes is a transcript, and its history is legal for its claims, exactly where it has no line
 /// too many.
-pub fn runs_are_legal<S>()
-    ensures { (m : Meaning S) → ResultsShort m → AnswersAreBytes m → (bytes : List ℕ)
-        → (ran : RunsSafely m bytes)
-        → (HasRoom (output m true bytes).text
-        ↔ IsLegalRun m ran.config ran.happened (output m true bytes).text) }
+pub fn runs_are_legal<H: Host>()
+    ensures { AnswersAreBytes H.meaning → (bytes : List ℕ) → (ran : RunsSafely H.meaning bytes)
+        → (HasRoom (output H.meaning true bytes).text
+        ↔ IsLegalRun H.meaning ran.config ran.happened (output H.meaning true bytes).text) }
 {}
 
 /// Whatever a check of the bytes that a replay wrote answers: it passes with the counts of this run, or a read failed or memory

@@ -1,7 +1,7 @@
 //! The two programs meet: what `replay` writes of a schedule, `check` passes. There is no code; each law is the contract of a
 //! function with an empty body.
 //!
-//! - `runs_are_legal`: over any host whose results fit a reply and whose answers to bytes are bytes, what is written for a
+//! - `runs_are_legal`: over any `Host` whose answers to bytes are bytes, what is written for a
 //!   schedule without a bad line is the text of the transcript of its run (`specs/Runs`, `transcript_of`), and its history
 //!   is legal for its claims. So it is exactly where the text has no more lines than a transcript may have (`HasRoom`).
 //! - `replayed_runs_pass`: over any `Host` whose answers to bytes are bytes, where the text has room (`specs/Passing`, `RunsPass`).

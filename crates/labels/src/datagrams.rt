@@ -5,7 +5,7 @@ ghost use Rattle.oum_codec.specs.Reading.{reading};
 ghost use Rattle.labels.specs.Datagrams.{IsNoDatagram, mark_of, mark_shown, purpose_of};
 
 use crate::naming::{note_of, put_bytes, put_request, put_view};
-use nop_types::{Body, Datagram, Fragment, NoMemory, Peer, Reply};
+use nop_types::{Body, Datagram, Fragment, Log, NoMemory, Peer, Reply, View};
 use oum_codec::read_datagram;
 use peer_codec::read_peer;
 use picture::{Mark, Note, Purpose, Text};
@@ -26,6 +26,23 @@ fn put_slot(word: &str, slot: u32, to: &mut Text) {
     to.numbered(word, u64::from(slot));
 }
 
+/// Up to which slot a checkpoint stands in place of the entries, if there is one.
+fn put_checkpoint(log: &Log, to: &mut Text) {
+    if log.sync_point() > 0 {
+        put_slot(", checkpoint ", log.sync_point(), to);
+    }
+}
+
+fn put_log_of_view(word: &str, view: View, log: &Log, to: &mut Text) {
+    put_view(word, view, to);
+    put_checkpoint(log, to);
+}
+
+fn put_prepare(log: &Log, to: &mut Text) {
+    put_slot("SyncPrepare ", log.len(), to);
+    put_checkpoint(log, to);
+}
+
 fn put_peer(peer: &Peer, to: &mut Text) {
     match &peer.body {
         Body::SlotLookup(slot) => put_slot("SlotLookup ", *slot, to),
@@ -33,9 +50,9 @@ fn put_peer(peer: &Peer, to: &mut Text) {
         Body::GapCommit(slot) => put_slot("GapCommit ", *slot, to),
         Body::GapRep(slot) => put_slot("GapRep ", *slot, to),
         Body::ViewChangeReq => put_view("ViewChangeReq ", peer.view, to),
-        Body::ViewChange { .. } => put_view("ViewChange ", peer.view, to),
-        Body::StartView { .. } => put_view("StartView ", peer.view, to),
-        Body::SyncPrepare(log) => to.numbered("SyncPrepare ", log.entries().len() as u64),
+        Body::ViewChange { log, .. } => put_log_of_view("ViewChange ", peer.view, log, to),
+        Body::StartView { log, .. } => put_log_of_view("StartView ", peer.view, log, to),
+        Body::SyncPrepare(log) => put_prepare(log, to),
         Body::SyncRep(len) => put_slot("SyncRep ", *len, to),
         Body::SyncCommit(len) => put_slot("SyncCommit ", *len, to),
     }

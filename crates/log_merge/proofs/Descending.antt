@@ -22,27 +22,36 @@ use Rattle.std.proofs.Common.{
   Some,
   None,
 }
-use Rattle.std.proofs.Common.{refl, sym, ap, ◌∙◌, arith, get_or, map, max, min, take_all, length-append, length-drop}
+use Rattle.std.proofs.Common.{refl, sym, ap, ◌∙◌, arith, get_or, map, max, min, inl, inr, take_all, length-append, length-drop}
 use Rattle.std.proofs.Math.ListN.{drop_of_length-le}
 use Rattle.std.proofs.lemmas.List.{append-nil, get_or-map, length-map, map-append}
 use Rattle.std.proofs.lemmas.List.Elements.{filter-append}
-use Rattle.std.specs.Prelude.{IfSome, nat_le, slice_get, option_map}
+use Rattle.std.specs.Prelude.{◌==◌, IfSome, nat_le, slice_get, option_map}
 use Rattle.std.specs.List.{AllByRecursion, slice_index_or}
 use Rattle.std.specs.List.Sorted.{IsPermutation, IsNonDecreasingBy}
 use Rattle.std.proofs.lemmas.List.Sorted.{Contains-permutation, IsPermutation-map, IsPermutation-sym}
 use Rattle.std.proofs.lemmas.List.Kept.{IsNonDecreasingBy-filter}
-use Rattle.std.proofs.lemmas.Option.{slice_get_within, get_or_from_slice_get}
+use Rattle.std.proofs.lemmas.Option.{slice_get_within, get_or_from_slice_get, slice_get-map}
 use Rattle.std.proofs.lemmas.Bool.Decides.{nat_tests}
 use Rattle.nop_types.specs.declared.request.Entry.{Entry}
 use Rattle.nop_types.specs.declared.request.Entry.TheVariants.{NoOp, Req}
-use Rattle.nop_types.specs.declared.peer.Change as told_change
-use Rattle.nop_types.specs.PlainChanges.{Change, plain}
+use Rattle.nop_types.specs.declared.peer.Change as told
+use Rattle.nop_types.specs.declared.view.View.{View}
+use Rattle.nop_types.specs.Checkpoints.{Checkpoint}
 use Rattle.nop_types.specs.Lists.{Has, slot_of}
+use Rattle.nop_types.specs.Logs.{Trimmed, above}
+use Rattle.nop_types.specs.PlainChanges.{Change, plain, plain_above}
+use Rattle.nop_types.specs.Views.{is_view}
+use Rattle.facts.proofs.Members.{Has-first, Has-rest, Has-none, Has-cases, Has-filter, Has-from_filter}
+use Rattle.log_merge.specs.Given.{rests}
 use Rattle.log_merge.specs.Merge.{Told, told, of_both, of_two, chosen, merge}
+use Rattle.log_merge.specs.Merging.{best, merge_above, merged_from, merged}
 use Rattle.log_merge.specs.Pairs.{of_entries, put_noop, with_noops, of_logs}
 use Rattle.log_merge.specs.Merged.{HasDistinctSenders, Tells}
 use Rattle.log_merge.proofs.Slots.{slot_of-merge, same_slots}
+use Rattle.log_merge.proofs.Best.{best_is_best}
 use Rattle.log_merge.proofs.Merged.{merge_of_same}
+use Rattle.log_merge.proofs.WholeLogs.{map_filter}
 
 -- ---- the places of two logs
 
@@ -181,32 +190,6 @@ ascends (c ∷ cs) h = (
 
 -- ---- the changes that count
 
-has_later : {x : Change} (cs : List Change) (c : Change) → Has cs c → Has (x ∷ cs) c
-has_later cs c h = (suc h.0, h.1)
-
-kept_first : (p : Change → Bool) (x : Change) (cs : List Change) (c : Change) (b : Bool) → p x ≡ b
-    → (Has (filter p cs) c → Has cs c × (p c ≡ true)) → Has (cond b (x ∷ filter p cs) (filter p cs)) c → Has (x ∷ cs) c × (p c ≡ true)
-kept_first p x cs c true e rest (zero, g) = ((zero, g), (let same : x ≡ c = cc in ap p (sym same) ∙ e))
-kept_first p x cs c true e rest (suc i, g) = let found = rest (i, g) in (has_later cs c found.0, found.1)
-kept_first p x cs c false e rest g = let found = rest g in (has_later cs c found.0, found.1)
-
-has_kept : (p : Change → Bool) (cs : List Change) (c : Change) → Has (filter p cs) c → Has cs c × (p c ≡ true)
-has_kept p [] c h = absurd (let e = h.1 in cc)
-has_kept p (x ∷ cs) c h = kept_first p x cs c (p x) refl (has_kept p cs c) h
-
-kept_has : (p : Change → Bool) (cs : List Change) (c : Change) → Has cs c → p c ≡ true → Has (filter p cs) c
-kept_has p [] c h e = absurd (let g = h.1 in cc)
-kept_has p (x ∷ cs) c (zero, g) e = at (p x) refl
-  where
-    at : (b : Bool) → p x ≡ b → Has (cond b (x ∷ filter p cs) (filter p cs)) c
-    at true f = (zero, g)
-    at false f = absurd (let same : x ≡ c = cc in let both = ap p same in cc)
-kept_has p (x ∷ cs) c (suc i, g) e = at (p x) (kept_has p cs c (i, g) e)
-  where
-    at : (b : Bool) → Has (filter p cs) c → Has (cond b (x ∷ filter p cs) (filter p cs)) c
-    at true f = has_later (filter p cs) c f
-    at false f = f
-
 cons_distinct : (x : Change) (ds : List Change) → ((d : Change) → Has ds d → d.sender ≡ x.sender → ⊥) → HasDistinctSenders ds
     → HasDistinctSenders (x ∷ ds)
 cons_distinct x ds apart h zero zero c d e g s = refl
@@ -225,7 +208,7 @@ kept_distinct p (x ∷ cs) h = at (p x) (kept_distinct p cs (tail_distinct x cs 
   where
     apart : (d : Change) → Has (filter p cs) d → d.sender ≡ x.sender → ⊥
     apart d g s =
-        let found = (has_kept p cs d g).0 in
+        let found = (Has-from_filter p d cs g).0 in
         let same = h zero (suc found.0) x d refl found.1 (sym s) in
         omega arith
 
@@ -233,12 +216,12 @@ kept_distinct p (x ∷ cs) h = at (p x) (kept_distinct p cs (tail_distinct x cs 
     at true rest = cons_distinct x (filter p cs) apart rest
     at false rest = rest
 
-found_at : (xs : List Change) (k : ℕ) (x : Change) → k < length xs → slice_index_or xs k x ≡ x → slice_get xs k ≡ Some x
+found_at : {A : Type 0} (xs : List A) (k : ℕ) (x : A) → k < length xs → slice_index_or xs k x ≡ x → slice_get xs k ≡ Some x
 found_at [] k x h e = absurd (omega arith)
-found_at (y ∷ xs) zero x h e = ap (λ (z : Change). Some z) e
+found_at (y ∷ xs) zero x h e = ap (λ z. Some z) e
 found_at (y ∷ xs) (suc k) x h e = found_at xs k x (omega arith) e
 
-has_permuted : (cs ds : List Change) (c : Change) → IsPermutation cs ds → Has cs c → Has ds c
+has_permuted : {A : Type 0} (cs ds : List A) (c : A) → IsPermutation cs ds → Has cs c → Has ds c
 has_permuted cs ds c same h =
     let there = Contains-permutation cs ds c same (h.0, slice_get_within cs h.0 c h.1, get_or_from_slice_get cs h.0 c c h.1) in
     (there.0, found_at ds there.0 c there.1 there.2)
@@ -246,16 +229,16 @@ has_permuted cs ds c same h =
 tells_permuted : (p : Change → Bool) (cs ds : List Change) (s : ℕ) (l : List Entry) → IsPermutation cs ds
     → Tells (filter p cs) s l → Tells (filter p ds) s l
 tells_permuted p cs ds s l same h =
-    let kept = has_kept p cs h.change h.member in
+    let kept = Has-from_filter p h.change cs h.member in
     record {
       change = h.change;
-      member = kept_has p ds h.change (has_permuted cs ds h.change same kept.0) kept.1;
+      member = Has-filter p h.change ds (has_permuted cs ds h.change same kept.0) kept.1;
       sender = h.sender;
       log = h.log;
     }
 
 -- the changes that count, sorted, give the merge of those that count
-pub of_sorted : (p : Change → Bool) (cs ds : List Change) → HasDistinctSenders cs → IsPermutation cs ds
+of_sorted : (p : Change → Bool) (cs ds : List Change) → HasDistinctSenders cs → IsPermutation cs ds
     → IsNonDecreasingBy (λ c. c.sender) ds → of_all (filter p ds) [] ≡ merge (filter p cs)
 of_sorted p cs ds distinct same sorted =
     of_ascending (filter p ds) (ascends (filter p ds) (IsNonDecreasingBy-filter (λ c. c.sender) p ds sorted))
@@ -265,18 +248,115 @@ of_sorted p cs ds distinct same sorted =
 
 -- ---- the changes as they are told
 
-sorted_plain : (cs : List told_change.Change) → IsNonDecreasingBy (λ c. c.sender) cs → IsNonDecreasingBy (λ c. c.sender) (map plain cs)
-sorted_plain [] h i j d le within = absurd (omega arith)
-sorted_plain (c ∷ cs) h i j d le within =
-    let len : j < length (c ∷ cs) = omega (arith, length-map (c ∷ cs) plain) in
-    let at = get_or-map plain (c ∷ cs) i c d (omega arith) in
-    let above = get_or-map plain (c ∷ cs) j c d len in
+other_at : (n : ℕ) (cs : List told.Change) (i : ℕ) (c : Change) → slice_get (map (plain_above Trimmed n) cs) i ≡ Some c
+    → (d : Change) × (slice_get (map plain cs) i ≡ Some d) × (d.sender ≡ c.sender)
+other_at n [] i c e = absurd cc
+other_at n (d ∷ cs) zero c e =
+    let same : plain_above Trimmed n d ≡ c = cc in
+    (plain d, refl, ap (λ (x : Change). x.sender) same)
+other_at n (d ∷ cs) (suc i) c e = other_at n cs i c e
+
+distinct_above : (n : ℕ) (cs : List told.Change) → HasDistinctSenders (map plain cs) → HasDistinctSenders (map (plain_above Trimmed n) cs)
+distinct_above n cs distinct i j c d e g same =
+    let a = other_at n cs i c e in
+    let b = other_at n cs j d g in
+    distinct i j a.0 b.0 a.1 b.1 (a.2 ∙ same ∙ sym b.2)
+
+sorted_above : (n : ℕ) (cs : List told.Change) → IsNonDecreasingBy (λ c. c.sender) cs
+    → IsNonDecreasingBy (λ c. c.sender) (map (plain_above Trimmed n) cs)
+sorted_above n [] h i j d le within = absurd (omega arith)
+sorted_above n (c ∷ cs) h i j d le within =
+    let len : j < length (c ∷ cs) = omega (arith, length-map (c ∷ cs) (plain_above Trimmed n)) in
+    let at = get_or-map (plain_above Trimmed n) (c ∷ cs) i c d (omega arith) in
+    let above = get_or-map (plain_above Trimmed n) (c ∷ cs) j c d len in
     omega (arith, h i j c le len, ap (λ (x : Change). x.sender) at, ap (λ (x : Change). x.sender) above)
 
-pub of_sorted_told : (p : Change → Bool) (cs ds : List told_change.Change) → HasDistinctSenders (map plain cs) → IsPermutation cs ds
-    → IsNonDecreasingBy (λ c. c.sender) ds → of_all (filter p (map plain ds)) [] ≡ merge (filter p (map plain cs))
-of_sorted_told p cs ds distinct same sorted =
-    of_sorted p (map plain cs) (map plain ds) distinct (IsPermutation-map plain cs ds same) (sorted_plain ds sorted)
+-- the changes that count, sorted, give the merge of those that count
+pub of_sorted_told : (view : View) (n : ℕ) (cs ds : List told.Change) → HasDistinctSenders (map plain cs) → IsPermutation cs ds
+    → IsNonDecreasingBy (λ c. c.sender) ds → of_all (rests view n ds) [] ≡ merge (rests view n cs)
+of_sorted_told view n cs ds distinct same sorted =
+    let p : Change → Bool = λ c. is_view c.last_normal view in
+    let f : told.Change → Change = plain_above Trimmed n in
+    ap (λ (xs : List Change). of_all xs []) (map_filter f p ds)
+    ∙ of_sorted p (map f cs) (map f ds) (distinct_above n cs distinct) (IsPermutation-map f cs ds same) (sorted_above n ds sorted)
+    ∙ sym (ap merge (map_filter f p cs))
+
+-- the last of the changes, where it counts
+kept_last : (p : told.Change → Bool) (cs : List told.Change) (c : told.Change) → p c ≡ true
+    → filter p (cs ++ c ∷ []) ≡ filter p cs ++ c ∷ []
+kept_last p cs c e =
+    filter-append p cs (c ∷ []) ∙ ap (λ (b : Bool). filter p cs ++ cond b (c ∷ []) []) e
+
+pub rests_more : (view : View) (n : ℕ) (cs : List told.Change) (c : told.Change) (l : List Entry) → is_view c.last_normal view ≡ true
+    → of_all (rests view n cs) (of_logs (above Trimmed c.log n) l) ≡ of_all (rests view n (cs ++ c ∷ [])) l
+rests_more view n cs c l e =
+    let p : told.Change → Bool = λ d. is_view d.last_normal view in
+    let f : told.Change → Change = plain_above Trimmed n in
+    sym
+    (ap (λ (ds : List told.Change). of_all (map f ds) l) (kept_last p cs c e)
+    ∙ ap (λ (ds : List Change). of_all ds l) (map-append f (filter p cs) (c ∷ []))
+    ∙ of_all_pushed (map f (filter p cs)) (f c) l)
+
+-- ---- the checkpoint of a sender
+
+-- the checkpoint that the changes bring from this sender, else one that is there
+abbrev pub taken : ℕ → List told.Change → Option Checkpoint → Option Checkpoint
+taken s [] o = o
+taken s (c ∷ cs) o = cond (c.sender == s) c.log.checkpoint (taken s cs o)
+
+taken_pushed : (s : ℕ) (cs : List told.Change) (c : told.Change) (o : Option Checkpoint)
+    → taken s (cs ++ c ∷ []) o ≡ taken s cs (cond (c.sender == s) c.log.checkpoint o)
+taken_pushed s [] c o = refl
+taken_pushed s (d ∷ cs) c o = ap (λ (x : Option Checkpoint). cond (d.sender == s) d.log.checkpoint x) (taken_pushed s cs c o)
+
+pub taken_more : (p : told.Change → Bool) (s : ℕ) (cs : List told.Change) (c : told.Change) (o : Option Checkpoint) → p c ≡ true
+    → taken s (filter p cs) (cond (c.sender == s) c.log.checkpoint o) ≡ taken s (filter p (cs ++ c ∷ [])) o
+taken_more p s cs c o e =
+    sym (ap (λ (ds : List told.Change). taken s ds o) (kept_last p cs c e) ∙ taken_pushed s (filter p cs) c o)
+
+taken_is : (s : ℕ) (cs : List told.Change) (g : told.Change) → Has cs g → g.sender ≡ s
+    → ((c : told.Change) → Has cs c → c.sender ≡ s → c ≡ g) → taken s cs None ≡ g.log.checkpoint
+taken_is s [] g has is only = absurd (Has-none g has)
+taken_is s (c ∷ cs) g has is only =
+    on (c.sender == s) refl (λ rest. taken_is s cs g rest is (λ d h. only d (Has-rest d c cs h)))
+  where
+    on : (b : Bool) → (c.sender == s) ≡ b → (Has cs g → taken s cs None ≡ g.log.checkpoint)
+        → cond b c.log.checkpoint (taken s cs None) ≡ g.log.checkpoint
+    on true e later =
+        ap (λ (d : told.Change). d.log.checkpoint) (only c (Has-first c c cs refl) (grind (arith, nat_tests, e)))
+    on false e later =
+        elim (Has-cases g c cs has) [
+          | inl same ↦ absurd (let here = ap (λ (d : told.Change). d.sender) same in grind (arith, nat_tests, e, here, is))
+          | inr rest ↦ later rest
+        ]
+
+same_change : (cs : List told.Change) (c d : told.Change) → HasDistinctSenders (map plain cs) → Has cs c → Has cs d
+    → c.sender ≡ d.sender → c ≡ d
+same_change cs c d distinct (i, e) (j, g) same =
+    let at = distinct i j (plain c) (plain d) (plain_at i c e) (plain_at j d g) same in
+    let both : Some c ≡ Some d = sym e ∙ ap (λ (k : ℕ). slice_get cs k) at ∙ g in
+    cc
+  where
+    plain_at : (k : ℕ) (x : told.Change) → slice_get cs k ≡ Some x → slice_get (map plain cs) k ≡ Some (plain x)
+    plain_at k x f = slice_get-map plain cs k ∙ ap (option_map plain) f
+
+-- the best one's, in whatever order the changes are
+pub taken_best : (p : told.Change → Bool) (cs ds : List told.Change) (g : told.Change) → HasDistinctSenders (map plain cs)
+    → IsPermutation cs ds → best (filter p cs) ≡ Some g → taken g.sender (filter p ds) None ≡ g.log.checkpoint
+taken_best p cs ds g distinct same e =
+    let there = Has-from_filter p g cs (best_is_best (filter p cs) g e).member in
+    taken_is g.sender (filter p ds) g (Has-filter p g ds (has_permuted cs ds g same there.0) there.1) refl (λ c has is.
+    same_change cs c g distinct (has_permuted ds cs c (IsPermutation-sym cs ds same) (Has-from_filter p c ds has).0) there.0 is)
+
+-- the merge, by its parts
+pub merged_of_best : (cs : List told.Change) (g : told.Change) (n : ℕ) (checkpoint : Option Checkpoint) (entries : List Entry)
+    → best cs ≡ Some g → n ≡ g.log.sync_point → checkpoint ≡ g.log.checkpoint → entries ≡ merge_above Trimmed n cs
+    → record { sync_point = n; checkpoint = checkpoint; entries = entries } ≡ merged Trimmed cs
+merged_of_best cs g n checkpoint entries found point same rest =
+    let above : entries ≡ merge_above Trimmed g.log.sync_point cs = rest ∙ ap (λ (m : ℕ). merge_above Trimmed m cs) point in
+    let parts : record { sync_point = n; checkpoint = checkpoint; entries = entries } ≡ merged_from Trimmed cs (Some g) =
+    λ i. record { sync_point = point i; checkpoint = same i; entries = above i } in
+    parts ∙ sym (ap (merged_from Trimmed cs) found)
 
 -- ---- two logs as one vector
 
@@ -297,19 +377,6 @@ shorter_logs l xs ys e h =
 pub longer_logs : (l r xs ys : List Entry) → l ≡ with_noops xs ys → r ≡ l ++ drop (length l) ys → r ≡ of_logs xs ys
 longer_logs l r xs ys e g = let len = ap length e ∙ length-with_noops xs ys in cc
 
--- the last of the changes that count
-last_counts : (p : Change → Bool) (cs : List Change) (c : Change) (l : List Entry) → p c ≡ true
-    → of_all (filter p cs) (of_logs c.log l) ≡ of_all (filter p (cs ++ c ∷ [])) l
-last_counts p cs c l e =
-    sym (of_all_pushed (filter p cs) c l)
-    ∙ ap (λ (ds : List Change). of_all ds l)
-    (ap (λ (ds : List Change). filter p cs ++ ds) (ap (λ (b : Bool). cond b (c ∷ []) []) (sym e)) ∙ sym (filter-append p cs (c ∷ [])))
-
-pub kept_more : (p : Change → Bool) (cs : List told_change.Change) (c : told_change.Change) (l : List Entry) → p (plain c) ≡ true
-    → of_all (filter p (map plain cs)) (of_logs c.log.entries l) ≡ of_all (filter p (map plain (cs ++ c ∷ []))) l
-kept_more p cs c l e =
-    last_counts p (map plain cs) (plain c) l e ∙ ap (λ (ds : List Change). of_all (filter p ds) l) (sym (map-append plain cs (c ∷ [])))
-
-pub none_left : (cs : List told_change.Change) → length cs ≡ 0 → cs ≡ []
+pub none_left : (cs : List told.Change) → length cs ≡ 0 → cs ≡ []
 none_left [] h = refl
 none_left (c ∷ cs) h = absurd (omega arith)

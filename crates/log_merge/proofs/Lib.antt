@@ -1,5 +1,4 @@
 pub mod Best
-pub mod Counted
 pub mod Descending
 pub mod InRanges
 pub mod Merged

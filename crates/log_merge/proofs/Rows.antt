@@ -1,10 +1,14 @@
 -- Rows of the definitions, worked by hand.
-use Rattle.std.proofs.Common.{◌≡◌, ℕ, List, [], ◌∷◌, refl}
+use Rattle.std.proofs.Common.{◌≡◌, ℕ, List, [], ◌∷◌, Some, refl}
 use Rattle.nop_types.specs.declared.request.Entry.{Entry}
 use Rattle.nop_types.specs.declared.request.Entry.TheVariants.{NoOp, Req}
 use Rattle.nop_types.specs.declared.view.View.{View}
+use Rattle.nop_types.specs.declared.peer.Change as told
+use Rattle.nop_types.specs.Checkpoints.{Checkpoint}
+use Rattle.nop_types.specs.Logs.{Log, Trimmed, whole}
 use Rattle.nop_types.specs.PlainChanges.{Change}
 use Rattle.log_merge.specs.Merge.{merge}
+use Rattle.log_merge.specs.Merging.{best, merged}
 use Rattle.log_merge.specs.Starting.{start_of, start_point}
 
 abbrev req : ℕ → Entry
@@ -51,3 +55,23 @@ row_6 = refl
 row_7 : start_point (change_at 1 0 (view 1 1) 3 (req 1 ∷ req 2 ∷ []) ∷ change_at 3 1 (view 0 1) 9 (NoOp ∷ NoOp ∷ NoOp ∷ []) ∷ change_at
     2 2 (view 1 1) 3 (req 1 ∷ req 2 ∷ []) ∷ []) ≡ 2
 row_7 = refl
+
+-- ---- trimmed logs
+
+abbrev state : ℕ → Checkpoint
+state n = record { host = n ∷ []; clients = [] }
+
+abbrev trimmed : ℕ → List Entry → Log
+trimmed point entries = record { sync_point = point; checkpoint = Some (state point); entries = entries }
+
+abbrev tells : ℕ → Log → told.Change
+tells sender log = record { sender = sender; last_normal = view 0 1; next = 1; log = log }
+
+-- sync point and checkpoint of the best; of the others what they have above its sync point, which may be nothing
+row_8 : merged Trimmed (tells 3 (trimmed 2 (req 5 ∷ [])) ∷ tells 4 (trimmed 2 (req 7 ∷ [])) ∷ tells 1 (trimmed 1 (NoOp ∷ req 4 ∷ NoOp ∷
+    [])) ∷ tells 0 (whole 0 (req 1 ∷ [])) ∷ []) ≡ trimmed 2 (req 4 ∷ NoOp ∷ [])
+row_8 = refl
+
+row_9 : best (tells 4 (trimmed 2 (req 7 ∷ [])) ∷ tells 3 (trimmed 2 (req 5 ∷ [])) ∷ tells 1 (trimmed 1 []) ∷ [])
+    ≡ Some (tells 3 (trimmed 2 (req 5 ∷ [])))
+row_9 = refl

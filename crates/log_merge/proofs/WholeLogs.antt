@@ -6,9 +6,8 @@ use Rattle.std.specs.List.{AllByRecursion}
 use Rattle.std.proofs.lemmas.Bool.Decides.{nat_tests}
 use Rattle.nop_types.specs.declared.peer.Change.{Change}
 use Rattle.nop_types.specs.Logs.{Whole, whole}
-use Rattle.nop_types.specs.PlainChanges as plains
 use Rattle.nop_types.specs.PlainChanges.{plain}
-use Rattle.nop_types.specs.Ranges.{ChangeFits}
+use Rattle.nop_types.specs.Ranges.{ChangeIsIn}
 use Rattle.nop_types.specs.Views.{is_view}
 use Rattle.log_merge.specs.Merge.{merge}
 use Rattle.log_merge.specs.Merging.{kept_told, precedes, better, best, merged}
@@ -16,17 +15,17 @@ use Rattle.log_merge.specs.Starting.{greatest, kept, greatest_point}
 
 -- ---- what is kept of changes that are told
 
-plain_first : (b : Bool) (c : Change) (cs : List Change) (ds : List plains.Change) → map plain cs ≡ ds
-    → map plain (cond b (c ∷ cs) cs) ≡ cond b (plain c ∷ ds) ds
-plain_first true c cs ds e = ap (λ (xs : List plains.Change). plain c ∷ xs) e
-plain_first false c cs ds e = e
+map_first : {A B : Type 0} (f : A → B) (b : Bool) (x : A) (xs : List A) (ys : List B) → map f xs ≡ ys
+    → map f (cond b (x ∷ xs) xs) ≡ cond b (f x ∷ ys) ys
+map_first f true x xs ys e = ap (λ zs. f x ∷ zs) e
+map_first f false x xs ys e = e
 
-pub plain_filter : (p : plains.Change → Bool) (cs : List Change) → map plain (filter (λ c. p (plain c)) cs) ≡ filter p (map plain cs)
-plain_filter p [] = refl
-plain_filter p (c ∷ cs) = plain_first (p (plain c)) c (filter (λ d. p (plain d)) cs) (filter p (map plain cs)) (plain_filter p cs)
+pub map_filter : {A B : Type 0} (f : A → B) (p : B → Bool) (xs : List A) → map f (filter (λ x. p (f x)) xs) ≡ filter p (map f xs)
+map_filter f p [] = refl
+map_filter f p (x ∷ xs) = map_first f (p (f x)) x (filter (λ y. p (f y)) xs) (filter p (map f xs)) (map_filter f p xs)
 
 pub kept_is_plain : (cs : List Change) → map plain (kept_told cs) ≡ kept (map plain cs)
-kept_is_plain cs = plain_filter (λ c. is_view c.last_normal (greatest (map plain cs))) cs
+kept_is_plain cs = map_filter plain (λ c. is_view c.last_normal (greatest (map plain cs))) cs
 
 -- ---- the best has the greatest sync point
 
@@ -57,9 +56,9 @@ better_none : (c : Change) (o : Option Change) → c.log.checkpoint ≡ None →
 better_none c None h g = h
 better_none c (Some d) h g = either_none (precedes c d) c d h g
 
-best_none : (cs : List Change) → AllByRecursion ChangeFits cs → IfSome (best cs) (λ d. d.log.checkpoint ≡ None)
+best_none : (cs : List Change) → AllByRecursion (ChangeIsIn Whole) cs → IfSome (best cs) (λ d. d.log.checkpoint ≡ None)
 best_none [] h = tt
-best_none (c ∷ cs) h = better_none c (best cs) h.0.rest.told.whole (best_none cs h.1)
+best_none (c ∷ cs) h = better_none c (best cs) h.0.rest.told.checkpoint (best_none cs h.1)
 
 -- ---- the merge
 
@@ -71,11 +70,11 @@ pub merged_point : (cs : List Change) → (merged Whole cs).sync_point ≡ great
 merged_point [] = refl
 merged_point (c ∷ cs) = best_point (c ∷ cs)
 
-pub merged_has_none : (cs : List Change) → AllByRecursion ChangeFits cs → (merged Whole cs).checkpoint ≡ None
+pub merged_has_none : (cs : List Change) → AllByRecursion (ChangeIsIn Whole) cs → (merged Whole cs).checkpoint ≡ None
 merged_has_none [] h = refl
 merged_has_none (c ∷ cs) h = best_none (c ∷ cs) h
 
-pub merged_is_plain : (cs : List Change) → AllByRecursion ChangeFits cs
+pub merged_is_plain : (cs : List Change) → AllByRecursion (ChangeIsIn Whole) cs
     → merged Whole cs ≡ whole (greatest_point (map plain cs)) (merge (map plain cs))
 merged_is_plain cs h =
     let point = merged_point cs in

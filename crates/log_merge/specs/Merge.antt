@@ -1,12 +1,10 @@
 -- The merge of the logs that replicas tell the leader of a view.
-use Rattle.std.specs.Prelude.{ℕ, Bool, true, max, cond, length, map, List, [], ◌∷◌, Option, Some, None, nat_le}
+use Rattle.std.specs.Prelude.{ℕ, max, cond, length, map, List, [], ◌∷◌, Option, Some, None, nat_le}
 use Rattle.std.specs.List.{range_with_len}
 use Rattle.nop_types.specs.declared.request.Entry.{Entry}
 use Rattle.nop_types.specs.declared.request.Entry.TheVariants.{NoOp, Req}
 use Rattle.nop_types.specs.PlainChanges.{Change}
-use Rattle.nop_types.specs.declared.view.View.{View}
 use Rattle.nop_types.specs.Lists.{slot_of}
-use Rattle.nop_types.specs.Views.{is_view}
 
 -- an entry and who told it
 pub record Told : Type 0 where
@@ -27,11 +25,6 @@ abbrev pub of_two : Option Told → Option Told → Option Told
 of_two None b = b
 of_two (Some a) None = Some a
 of_two (Some a) (Some b) = Some (of_both a.entry b.entry a b)
-
--- whether a change counts: each one where no view is given, else those with this last normal view
-abbrev pub counts : Option View → Change → Bool
-counts None c = true
-counts (Some view) c = is_view c.last_normal view
 
 -- what wins at a slot
 abbrev pub chosen : List Change → ℕ → Option Told

@@ -43,6 +43,6 @@ abbrev pub merged_from : Keeping → List Change → Option Change → Log
 merged_from k cs None = empty
 merged_from k cs (Some g) = record g.log { entries = merge_above k (before k g.log) cs }
 
--- the sync point and the checkpoint of the best; and of the entries, those that it keeps and the others have there are merged
+-- the sync point and the checkpoint of the best, and the merge of what all logs have from its first entry on
 abbrev pub merged : Keeping → List Change → Log
 merged k cs = merged_from k cs (best cs)

@@ -5,8 +5,8 @@ ghost use Rattle.nop_types.specs.declared.peer.Change as told;
 ghost use Rattle.nop_types.specs.PlainChanges.{Change, plain};
 ghost use Rattle.std.specs.List.{AllByRecursion};
 ghost use Rattle.nop_types.specs.Lists.{IsGreatest, slot_of};
-ghost use Rattle.nop_types.specs.Logs.{Whole, whole};
-ghost use Rattle.nop_types.specs.Ranges.{EntriesFit, LogFits, ChangeFits};
+ghost use Rattle.nop_types.specs.Logs.{Keeping, Whole, whole};
+ghost use Rattle.nop_types.specs.Ranges.{EntryFits, LogIsIn, ChangeIsIn};
 ghost use Rattle.log_merge.specs.Merge.{merge};
 ghost use Rattle.log_merge.specs.Merging.{kept_told, best, IsBest, merged};
 ghost use Rattle.log_merge.specs.Starting.{greatest_point, kept};
@@ -30,14 +30,14 @@ pub fn merge_is_of_pairs()
         merge cs ≡ merge ds }
 {}
 
-/// The entries of a merge are in their ranges where those of all logs are, and so is the merge of whole logs, with the greatest of
-/// their sync points within it.
+/// The entries of a merge are in their ranges where those of all logs are, and the merge of logs that are in theirs, kept whole or
+/// trimmed, is in its own.
 #[tactic(auto, using(crate::proofs::InRanges::merge_fits, crate::proofs::InRanges::merged_fits))]
 pub fn merge_is_in_ranges()
-    ensures logs { (cs : List Change) → AllByRecursion (λ c. EntriesFit c.log) cs
-        → EntriesFit (merge cs) }
-    ensures changes { (cs : List told.Change) → AllByRecursion ChangeFits cs
-        → LogFits (merged Whole cs) }
+    ensures logs { (cs : List Change) → AllByRecursion (λ c. AllByRecursion EntryFits c.log) cs
+        → AllByRecursion EntryFits (merge cs) }
+    ensures changes { (k : Keeping) (cs : List told.Change) → AllByRecursion (ChangeIsIn k) cs
+        → LogIsIn k (merged k cs) }
 {}
 
 /// The merge of whole logs has the entries of the plain merge and the greatest of their sync points. The same changes are kept.
@@ -47,7 +47,7 @@ pub fn whole_merge_is_plain()
     ensures point { (cs : List told.Change)
         → (merged Whole cs).sync_point ≡ greatest_point (map plain cs) }
     ensures kept { (cs : List told.Change) → map plain (kept_told cs) ≡ kept (map plain cs) }
-    ensures log { (cs : List told.Change) → AllByRecursion ChangeFits cs
+    ensures log { (cs : List told.Change) → AllByRecursion (ChangeIsIn Whole) cs
         → merged Whole cs ≡ whole (greatest_point (map plain cs)) (merge (map plain cs)) }
 {}
 

@@ -1,11 +1,25 @@
-ghost use Rattle.std.specs.Prelude.{◌≡◌, ◌≤◌, suc, cond, filter, map, length, IfOk, None, option_map};
+ghost use Rattle.std.specs.Prelude.{
+  ◌≡◌,
+  ◌≤◌,
+  ◌+◌,
+  suc,
+  cond,
+  filter,
+  map,
+  length,
+  IfOk,
+  None,
+  option_map,
+};
 ghost use Rattle.nop_types.specs.Lists.{slot_of};
-ghost use Rattle.nop_types.specs.PlainChanges.{plain};
+ghost use Rattle.nop_types.specs.Logs.{Trimmed, above};
 ghost use Rattle.nop_types.specs.Views.{is_view};
-ghost use Rattle.log_merge.specs.Merge.{told, of_both, of_two, counts, chosen, entry_of, longest, merge};
-ghost use Rattle.log_merge.specs.Given.{given};
+ghost use Rattle.log_merge.specs.Merge.{told, of_both, of_two, chosen, entry_of, longest, merge};
+ghost use Rattle.log_merge.specs.Merging.{merged};
+ghost use Rattle.log_merge.specs.Given.{given, rests};
 
-use nop_types::{Change, Entry, MAX_SLOTS, NoMemory, View};
+use crate::choosing::best;
+use nop_types::{Change, Entry, Log, LogRef, MAX_LENGTH, MAX_SLOTS, NoMemory, View};
 use std::alloc::Global;
 
 /// An entry and who told it.
@@ -15,26 +29,28 @@ struct Told<'a> {
     entry: &'a Entry,
 }
 
-/// Whether a change counts: each one where no view is given, else those with this last normal view.
-fn counts(change: &Change, of: Option<View>) -> bool
-    ensures { result ≡ counts of (plain change.now) }
+/// What a log has above a slot.
+fn above(log: &Log, slot: u32) -> &[Entry]
+    requires { slot ≤ MAX_LENGTH }
+    ensures entries { result.now ≡ above Trimmed log.now slot }
+    ensures room { length result.now ≤ MAX_SLOTS }
+    ensures limit { slot + length result.now ≤ MAX_LENGTH }
 {
-    match of {
-        Some(view) => change.last_normal.is(view),
-        None => true,
-    }
+    let entries = log.entries();
+    let front = slot.saturating_sub(log.sync_point()) as usize;
+    &entries[front.min(entries.len())..]
 }
 
-/// What a change that counts tells of a place of its log. The others tell nothing.
-fn told_at(change: &Change, of: Option<View>, place: usize) -> Option<Told<'_>>
-    ensures { option_map given result
-        ≡ cond (counts of (plain change.now))
-        (told change.now.sender (slot_of change.now.log.entries (suc place))) None }
+/// What a change with this last normal view tells of a place above the slot. The others tell nothing.
+fn told_at(change: &Change, view: View, slot: u32, place: usize) -> Option<Told<'_>>
+    requires { slot ≤ MAX_LENGTH }
+    ensures { option_map given result ≡ cond (is_view change.now.last_normal view)
+        (told change.now.sender (slot_of (above Trimmed change.now.log slot) (suc place))) None }
 {
-    if !counts(change, of) {
+    if !change.last_normal.is(view) {
         return None;
     }
-    let entry = change.log.entries().get(place)?;
+    let entry = above(&change.log, slot).get(place)?;
     Some(Told {
         sender: change.sender,
         entry,
@@ -64,68 +80,82 @@ fn of_two<'a>(a: Option<Told<'a>>, b: Option<Told<'a>>) -> Option<Told<'a>>
     }
 }
 
-/// What wins at a place of the logs.
-fn chosen(changes: &[Change], of: Option<View>, place: usize) -> Option<Told<'_>>
-    ensures { option_map given result ≡ chosen (filter (counts of) (map plain changes.now)) (suc place) }
+/// What wins at a place above the slot.
+fn chosen(changes: &[Change], view: View, slot: u32, place: usize) -> Option<Told<'_>>
+    requires { slot ≤ MAX_LENGTH }
+    ensures { option_map given result ≡ chosen (rests view slot changes.now) (suc place) }
 {
-    let mut best = None;
+    let mut won = None;
     for change in changes {
-        best = of_two(best, told_at(change, of, place));
+        won = of_two(won, told_at(change, view, slot, place));
     }
-    best
+    won
 }
 
-fn entry_at(changes: &[Change], of: Option<View>, place: usize) -> Result<Entry, NoMemory>
+fn entry_at(changes: &[Change], view: View, slot: u32, place: usize) -> Result<Entry, NoMemory>
+    requires { slot ≤ MAX_LENGTH }
     ensures { IfOk result (λ entry.
-        entry ≡ entry_of (chosen (filter (counts of) (map plain changes.now)) (suc place))) }
+        entry ≡ entry_of (chosen (rests view slot changes.now) (suc place))) }
 {
-    match chosen(changes, of, place) {
+    match chosen(changes, view, slot, place) {
         Some(told) => told.entry.try_clone(),
         None => Ok(Entry::NoOp),
     }
 }
 
-fn longest(changes: &[Change], of: Option<View>) -> usize
-    ensures value { result ≡ longest (filter (counts of) (map plain changes.now)) }
-    ensures limit { result ≤ MAX_SLOTS }
+/// How many entries the longest log has above the slot.
+fn longest(changes: &[Change], view: View, slot: u32) -> usize
+    requires { slot ≤ MAX_LENGTH }
+    ensures value { result ≡ longest (rests view slot changes.now) }
+    ensures room { result ≤ MAX_SLOTS }
+    ensures limit { slot + result ≤ MAX_LENGTH }
 {
     let mut most = 0;
     for change in changes {
-        if counts(change, of) {
-            most = most.max(change.log.entries().len());
+        if change.last_normal.is(view) {
+            most = most.max(above(&change.log, slot).len());
         }
     }
     most
 }
 
-/// The merge of the changes that count. Only the entries of the result are copied.
-fn merged(alloc: Global, changes: &[Change], of: Option<View>) -> Result<Vec<Entry>, NoMemory>
-    ensures entries { IfOk result (λ v.
-        v.items ≡ merge (filter (counts of) (map plain changes.now))) }
-    ensures limit { IfOk result (λ v. length v.items ≤ MAX_SLOTS) }
+/// The merge of what the changes with this last normal view have above the slot. Only the entries of the result are copied.
+fn merged_above(
+    alloc: Global,
+    changes: &[Change],
+    view: View,
+    slot: u32,
+) -> Result<Vec<Entry>, NoMemory>
+    requires { slot ≤ MAX_LENGTH }
+    ensures entries { IfOk result (λ v. v.items ≡ merge (rests view slot changes.now)) }
+    ensures room { IfOk result (λ v. length v.items ≤ MAX_SLOTS) }
+    ensures limit { IfOk result (λ v. slot + length v.items ≤ MAX_LENGTH) }
 {
-    let slots = longest(changes, of);
+    let slots = longest(changes, view, slot);
     let mut entries = Vec::with_capacity(alloc, slots)?;
     for place in 0..slots {
-        entries.push(entry_at(changes, of, place)?)?;
+        entries.push(entry_at(changes, view, slot, place)?)?;
     }
     Ok(entries)
 }
 
-/// As long as the longest log. In each slot stands a NO-OP where any log has one there, else the request of the lowest sender
-/// whose log has the slot.
-pub fn merge(alloc: Global, changes: &[Change]) -> Result<Vec<Entry>, NoMemory>
-    ensures entries { IfOk result (λ v. v.items ≡ merge (map plain changes.now)) }
-    ensures limit { IfOk result (λ v. length v.items ≤ MAX_SLOTS) }
+/// The merge of the changes with this last normal view. The best one's checkpoint is copied, and the entries of the result.
+pub fn merge_of_view(alloc: Global, changes: &[Change], view: View) -> Result<Log, NoMemory>
+    ensures { IfOk result (λ l. l
+        ≡ merged Trimmed (filter (λ c. is_view c.last_normal view) changes.now)) }
 {
-    merged(alloc, changes, None)
-}
-
-/// The merge of the changes with this last normal view.
-pub fn merge_of_view(alloc: Global, changes: &[Change], view: View) -> Result<Vec<Entry>, NoMemory>
-    ensures entries { IfOk result (λ v. v.items
-        ≡ merge (filter (λ c. is_view c.last_normal view) (map plain changes.now))) }
-    ensures limit { IfOk result (λ v. length v.items ≤ MAX_SLOTS) }
-{
-    merged(alloc, changes, Some(view))
+    let Some(best) = best(changes, view) else {
+        return Ok(Log::new(0, None, Vec::new(alloc)));
+    };
+    let LogRef {
+        sync_point,
+        checkpoint,
+        entries: _entries,
+    } = best.log.as_ref();
+    let entries = merged_above(alloc, changes, view, sync_point)?;
+    let checkpoint = match checkpoint {
+        Some(checkpoint) => Some(checkpoint.try_clone()?),
+        None => None,
+    };
+    Ok(Log::new(sync_point, checkpoint, entries))
 }

@@ -1,12 +1,27 @@
-ghost use Rattle.std.specs.Prelude.{◌≡◌, ◌≤◌, ◌++◌, ◌<◌, drop, length, filter, map, IfOk, OnOk};
+ghost use Rattle.std.specs.Prelude.{
+  ◌≡◌,
+  ◌≤◌,
+  ◌++◌,
+  ◌+◌,
+  ◌<◌,
+  cond,
+  drop,
+  length,
+  filter,
+  map,
+  IfOk,
+  OnOk,
+};
 ghost use Rattle.std.specs.List.Sorted.{IsPermutation, IsNonDecreasingBy};
+ghost use Rattle.nop_types.specs.Logs.{Trimmed, above};
 ghost use Rattle.nop_types.specs.PlainChanges.{plain};
 ghost use Rattle.nop_types.specs.Views.{is_view};
-ghost use Rattle.log_merge.specs.Merge.{merge};
+ghost use Rattle.log_merge.specs.Merging.{merged};
 ghost use Rattle.log_merge.specs.Pairs.{put_noop, with_noops, of_logs};
 ghost use Rattle.log_merge.specs.Merged.{HasDistinctSenders};
 
-use nop_types::{Change, Entry, MAX_SLOTS, NoMemory, View};
+use crate::choosing::best;
+use nop_types::{Change, Checkpoint, Entry, Log, MAX_LENGTH, MAX_SLOTS, NoMemory, View};
 use std::alloc::Global;
 
 /// Puts a NO-OP where another log has one.
@@ -59,23 +74,47 @@ fn sort_by_sender(changes: &mut Vec<Change>) -> Result<(), NoMemory>
     Ok(())
 }
 
-/// The merge of the changes with this last normal view, whose entries are moved and not copied.
-pub fn merge_moved(
-    alloc: Global,
-    mut changes: Vec<Change>,
-    view: View,
-) -> Result<Vec<Entry>, NoMemory>
-    requires { HasDistinctSenders (map plain changes.items) }
-    ensures entries { IfOk result (λ v. v.items
-        ≡ merge (filter (λ c. is_view c.last_normal view) (map plain changes.items))) }
-    ensures limit { IfOk result (λ v. length v.items ≤ MAX_SLOTS) }
+/// The checkpoint of a log, and its entries above a slot. The others are dropped.
+fn split_above(log: Log, slot: u32) -> (Option<Checkpoint>, Vec<Entry>)
+    requires { slot ≤ MAX_LENGTH }
+    ensures checkpoint { result.0 ≡ log.checkpoint }
+    ensures entries { result.1.items ≡ above Trimmed log slot }
+    ensures room { length result.1.items ≤ MAX_SLOTS }
+    ensures limit { slot + length result.1.items ≤ MAX_LENGTH }
 {
+    let front = slot.saturating_sub(log.sync_point()) as usize;
+    let (checkpoint, mut entries) = log.into_parts();
+    let end = front.min(entries.len());
+    entries.drain(..end);
+    (checkpoint, entries)
+}
+
+/// The own checkpoint of the best change, else the one that is there.
+fn one_of(is_best: bool, own: Option<Checkpoint>, there: Option<Checkpoint>) -> Option<Checkpoint>
+    ensures { result ≡ cond is_best own there }
+{
+    if is_best { own } else { there }
+}
+
+/// The merge of the changes with this last normal view, whose entries and checkpoint are moved and not copied.
+pub fn merge_moved(alloc: Global, mut changes: Vec<Change>, view: View) -> Result<Log, NoMemory>
+    requires { HasDistinctSenders (map plain changes.items) }
+    ensures { IfOk result (λ l. l
+        ≡ merged Trimmed (filter (λ c. is_view c.last_normal view) changes.items)) }
+{
+    let Some(best) = best(&changes, view) else {
+        return Ok(Log::new(0, None, Vec::new(alloc)));
+    };
+    let (sender, sync_point) = (best.sender, best.log.sync_point());
     sort_by_sender(&mut changes)?;
+    let mut checkpoint = None;
     let mut entries = Vec::new(alloc);
     while let Some(change) = changes.pop() {
         if change.last_normal.is(view) {
-            entries = of_logs(change.log.into_entries(), entries);
+            let (own, rest) = split_above(change.log, sync_point);
+            entries = of_logs(rest, entries);
+            checkpoint = one_of(change.sender == sender, own, checkpoint);
         }
     }
-    Ok(entries)
+    Ok(Log::new(sync_point, checkpoint, entries))
 }

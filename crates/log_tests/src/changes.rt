@@ -1,21 +1,21 @@
 use crate::checking::{check, check_row};
-use crate::logs::{full, is_full, is_log, log_of};
-use log_merge::{merge, merge_of_view};
-use nop_types::{Change, Entry, View};
+use crate::logs::{Ids, full, is_full, is_told, log_of};
+use log_merge::merge_of_view;
+use nop_types::{Change, Log, View};
 use std::alloc::Global;
 use std::process::Abort;
 use view_change::{Changes, Start, Step};
 
-/// A change in numbers: its sender, leader and session of its last normal view, its next number, its sync point, and the ids of its log.
-type Told = (u8, u32, u32, u64, u32, &'static [u64]);
+/// A change in numbers: its sender, leader and session of its last normal view, its next number, and its log.
+type Told = (u8, u32, u32, u64, Ids);
 
 fn change(rt: &impl Abort, alloc: Global, told: &Told) -> Change {
-    let (sender, leader, session, next, sync_point, log) = *told;
+    let (sender, leader, session, next, log) = *told;
     Change {
         sender,
         last_normal: View { leader, session },
         next,
-        log: log_of(rt, alloc, (sync_point, log)),
+        log: log_of(rt, alloc, log),
     }
 }
 
@@ -45,24 +45,24 @@ const MERGES: [(&[(u8, &[u64])], &[u64]); 6] = [
 fn changes_of(rt: &impl Abort, alloc: Global, told: &[(u8, &'static [u64])]) -> Vec<Change> {
     let mut changes = Vec::new(alloc);
     for (sender, log) in told {
-        let change = change(rt, alloc, &(*sender, 0, 1, 1, 0, *log));
+        let change = change(rt, alloc, &(*sender, 0, 1, 1, (0, 0, *log)));
         changes.push(change).expect(rt, "memory");
     }
     changes
 }
 
-/// A change of another view, of which neither the NO-OPs nor the length count.
-const OTHER: Told = (0, 1, 1, 1, 5, &[0, 0, 0, 0, 0]);
+/// A change of another view, of which neither the sync point nor the entries count.
+const OTHER: Told = (0, 1, 1, 1, (5, 9, &[0, 0, 0, 0, 0]));
 
 /// The log of the changes, and that of those and one of another view.
-fn merged(rt: &impl Abort, alloc: Global, mut changes: Vec<Change>) -> (Vec<Entry>, Vec<Entry>) {
-    let first = merge(alloc, &changes).expect(rt, "memory");
-    let other = change(rt, alloc, &OTHER);
-    changes.push(other).expect(rt, "memory");
+fn merged(rt: &impl Abort, alloc: Global, mut changes: Vec<Change>) -> (Log, Log) {
     let view = View {
         leader: 0,
         session: 1,
     };
+    let first = merge_of_view(alloc, &changes, view).expect(rt, "memory");
+    let other = change(rt, alloc, &OTHER);
+    changes.push(other).expect(rt, "memory");
     let second = merge_of_view(alloc, &changes, view).expect(rt, "memory");
     (first, second)
 }
@@ -72,81 +72,87 @@ fn merges(rt: HostRuntime) {
     for (row, (changes, log)) in MERGES.iter().enumerate() {
         let changes = changes_of(&rt, rt.alloc(), changes);
         let (first, second) = merged(&rt, rt.alloc(), changes);
-        check_row(&rt, is_log(&first, log), row);
-        check_row(&rt, is_log(&second, log), row);
+        check_row(&rt, is_told(first.as_ref(), (0, 0, log)), row);
+        check_row(&rt, is_told(second.as_ref(), (0, 0, log)), row);
     }
 }
 
 /// The leader, the session and the count of the others that the start waits for; then the changes, of which only the last one starts
-/// the view; then the next number that it starts with, the sync point, and the log.
-type Case = (u32, u32, u8, &'static [Told], u64, u32, &'static [u64]);
+/// the view; then the next number that it starts with, and the log.
+type Case = (u32, u32, u8, &'static [Told], u64, Ids);
 
-/// Of five replicas a change of an older view counts, and its log does not; a second one of a sender does not count. Of three: in one
-/// session next is the greater one; in a new session numbers begin at 1; sessions rank before leader numbers; in a session the greater
-/// leader number ranks higher. The sync point is the greatest of those that count. Then a leader alone.
-const STARTS: [Case; 8] = [
+/// Of five replicas a change of an older view counts, and its log does not; a second one of a sender does not count; what stands below
+/// the greatest sync point is not merged. Of three: in one session next is the greater one; in a new session numbers begin at 1;
+/// sessions rank before leader numbers; in a session the greater leader number ranks higher; of equal sync points the lower sender's
+/// checkpoint is taken. Then a leader alone.
+const STARTS: [Case; 9] = [
     (
         2,
         1,
         2,
         &[
-            (2, 1, 1, 4, 1, &[1, 2, 3]),
-            (0, 0, 1, 9, 1, &[0]),
-            (0, 1, 1, 8, 4, &[4, 4, 4, 4]),
-            (2, 1, 1, 8, 4, &[4, 4, 4, 4]),
-            (4, 1, 1, 3, 2, &[1, 0]),
+            (2, 1, 1, 4, (1, 7, &[2, 3])),
+            (0, 0, 1, 9, (1, 6, &[])),
+            (0, 1, 1, 8, (4, 5, &[4])),
+            (2, 1, 1, 8, (4, 5, &[4])),
+            (4, 1, 1, 3, (2, 8, &[])),
         ],
         4,
-        2,
-        &[1, 0, 3],
+        (2, 8, &[3]),
     ),
     (
         1,
         1,
         1,
-        &[(1, 0, 1, 3, 1, &[1, 2]), (2, 0, 1, 5, 0, &[1, 0, 3, 4])],
+        &[
+            (1, 0, 1, 3, (1, 7, &[2])),
+            (2, 0, 1, 5, (0, 0, &[1, 0, 3, 4])),
+        ],
         5,
-        1,
-        &[1, 0, 3, 4],
+        (1, 7, &[0, 3, 4]),
     ),
     (
         1,
         2,
         1,
-        &[(1, 0, 1, 3, 2, &[1, 2]), (2, 0, 1, 2, 1, &[1])],
+        &[(1, 0, 1, 3, (2, 7, &[])), (2, 0, 1, 2, (1, 8, &[]))],
         1,
-        2,
-        &[1, 2],
+        (2, 7, &[]),
     ),
     (
         6,
         2,
         1,
-        &[(0, 5, 1, 3, 1, &[1]), (1, 0, 2, 7, 0, &[2])],
+        &[(0, 5, 1, 3, (1, 7, &[])), (1, 0, 2, 7, (0, 0, &[2]))],
         7,
-        0,
-        &[2],
+        (0, 0, &[2]),
     ),
     (
         9,
         2,
         1,
-        &[(0, 8, 2, 1, 0, &[]), (1, 7, 2, 7, 2, &[2, 3])],
+        &[(0, 8, 2, 1, (0, 0, &[])), (1, 7, 2, 7, (2, 8, &[]))],
         1,
-        0,
-        &[],
+        (0, 0, &[]),
     ),
     (
         9,
         3,
         1,
-        &[(0, 6, 2, 9, 2, &[0, 0]), (1, 7, 2, 7, 1, &[2, 3])],
+        &[(0, 6, 2, 9, (2, 7, &[])), (1, 7, 2, 7, (1, 8, &[3]))],
         1,
-        1,
-        &[2, 3],
+        (1, 8, &[3]),
     ),
-    (1, 1, 0, &[(0, 0, 1, 3, 2, &[1, 0])], 3, 2, &[1, 0]),
-    (1, 2, 0, &[(0, 0, 1, 3, 1, &[1, 0])], 1, 1, &[1, 0]),
+    (
+        1,
+        1,
+        1,
+        &[(2, 0, 1, 4, (3, 7, &[0, 5])), (1, 0, 1, 4, (3, 8, &[4]))],
+        4,
+        (3, 8, &[0, 5]),
+    ),
+    (1, 1, 0, &[(0, 0, 1, 3, (2, 7, &[0]))], 3, (2, 7, &[0])),
+    (1, 2, 0, &[(0, 0, 1, 3, (1, 7, &[0]))], 1, (1, 7, &[0])),
 ];
 
 /// What a view is started with by the last of these changes, of which the first is the leader's own; none before it starts the view.
@@ -178,7 +184,7 @@ fn started_alone(rt: &impl Abort, alloc: Global, view: View, own: &Told) -> Opti
 
 /// What a view is started with by the changes of a case.
 fn started_by(rt: &impl Abort, alloc: Global, case: &Case) -> Option<Start> {
-    let (leader, session, f, told, _next, _sync_point, _log) = *case;
+    let (leader, session, f, told, _next, _log) = *case;
     let view = View { leader, session };
     match told {
         [own] => started_alone(rt, alloc, view, own),
@@ -186,14 +192,10 @@ fn started_by(rt: &impl Abort, alloc: Global, case: &Case) -> Option<Start> {
     }
 }
 
-/// The view is started with the next number, the sync point and the log of the case.
+/// The view is started with the next number and the log of the case.
 fn is_started(start: Option<Start>, case: &Case) -> bool {
     match start {
-        Some(start) => {
-            start.next == case.4
-                && start.log.sync_point() == case.5
-                && is_log(start.log.entries(), case.6)
-        }
+        Some(start) => start.next == case.4 && is_told(start.log.as_ref(), case.5),
         None => false,
     }
 }
@@ -211,13 +213,13 @@ fn starts(rt: HostRuntime) {
 fn full_logs_are_merged(rt: HostRuntime) {
     let mut changes = Vec::new(rt.alloc());
     for sender in 0..3 {
-        let mut change = change(&rt, rt.alloc(), &(sender, 0, 1, 1, 0, &[1]));
+        let mut change = change(&rt, rt.alloc(), &(sender, 0, 1, 1, (0, 0, &[1])));
         if sender > 0 {
             change.log = full(&rt, rt.alloc());
         }
         changes.push(change).expect(&rt, "memory");
     }
     let (first, second) = merged(&rt, rt.alloc(), changes);
-    check(&rt, is_full(&first), "by the slots");
-    check(&rt, is_full(&second), "of the view");
+    check(&rt, is_full(first.entries()), "of one view");
+    check(&rt, is_full(second.entries()), "beside another one");
 }

@@ -26,6 +26,7 @@ sends_of-append from (outs.Send dest bytes ∷ xs) ys =
 sends_of-append from (outs.Submitted r ∷ xs) ys = sends_of-append from xs ys
 sends_of-append from (outs.Accepted client id result ∷ xs) ys = sends_of-append from xs ys
 sends_of-append from (outs.Busy client ∷ xs) ys = sends_of-append from xs ys
+sends_of-append from (outs.Trimmed first entries ∷ xs) ys = sends_of-append from xs ys
 
 at_count : (from : Actor) (n k : ℕ) (ys : List Out) → n ≡ k → lines_from from n ys ≡ lines_from from k ys
 at_count from n k ys e = ap (λ (i : ℕ). lines_from from i ys) e
@@ -42,6 +43,7 @@ lines_from-append from n (outs.Submitted r ∷ xs) ys = ap (λ (l : List Line). 
 lines_from-append from n (outs.Accepted client id result ∷ xs) ys =
     ap (λ (l : List Line). lines.Accept client id result ∷ l) (lines_from-append from n xs ys)
 lines_from-append from n (outs.Busy client ∷ xs) ys = ap (λ (l : List Line). lines.Busy client ∷ l) (lines_from-append from n xs ys)
+lines_from-append from n (outs.Trimmed first entries ∷ xs) ys = lines_from-append from n xs ys
 
 pub Grows-then : (a b c : Tally) (xs ys : List Line) → Grows a b xs → Grows b c ys → Grows a c (xs ++ ys)
 Grows-then a b c xs ys p q = record {

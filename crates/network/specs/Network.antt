@@ -18,14 +18,16 @@ sends_of from (outs.Send dest bytes ∷ rest) = record { from = from; dest = des
 sends_of from (outs.Submitted r ∷ rest) = sends_of from rest
 sends_of from (outs.Accepted client id result ∷ rest) = sends_of from rest
 sends_of from (outs.Busy client ∷ rest) = sends_of from rest
+sends_of from (outs.Trimmed first entries ∷ rest) = sends_of from rest
 
--- a line for each output, where `count` datagrams were sent before
+-- a line for each output but entries that moved out of a log, where `count` datagrams were sent before
 abbrev pub lines_from : Actor → ℕ → List Out → List Line
 lines_from from count [] = []
 lines_from from count (outs.Send dest bytes ∷ rest) = Send count from dest bytes ∷ lines_from from (count + 1) rest
 lines_from from count (outs.Submitted r ∷ rest) = Submit r ∷ lines_from from count rest
 lines_from from count (outs.Accepted client id result ∷ rest) = Accept client id result ∷ lines_from from count rest
 lines_from from count (outs.Busy client ∷ rest) = Busy client ∷ lines_from from count rest
+lines_from from count (outs.Trimmed first entries ∷ rest) = lines_from from count rest
 
 -- what an actor did, or that it crashed before
 pub data Did : Type 0 where

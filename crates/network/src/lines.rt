@@ -64,7 +64,7 @@ fn carry_accept(client: u32, id: u64, answer: &Bytes, tally: &mut Tally) -> Resu
     Ok(())
 }
 
-/// Carries out one output: its line, and for a send the datagram.
+/// Carries out one output: its line, and for a send the datagram. Entries that moved out of a log have none.
 fn carry_out_one(
     network: &mut Network,
     from: Actor,
@@ -82,6 +82,7 @@ fn carry_out_one(
         Out::Submitted(request) => submit_line(request, &mut tally.text),
         Out::Accepted { client, id, result } => carry_accept(*client, *id, result, tally),
         Out::Busy(client) => busy_line(*client, &mut tally.text),
+        Out::Trimmed { .. } => Ok(()),
     }
 }
 
@@ -128,19 +129,20 @@ pub fn carry_out(
     alloc: Global,
     network: &mut Network,
     from: Actor,
-    did: Option<Outbox>,
+    did: &Option<Outbox>,
 ) -> Result<Lines, NoMemory>
-    ensures network { OnOk result (network.new ≡ network.old ++ sends_by from (did_of did)) }
-    ensures lines { IfOk result (λ l. Shows l (lines_by from (length network.old) (did_of did))) }
+    ensures network { OnOk result (network.new ≡ network.old ++ sends_by from (did_of did.now)) }
+    ensures lines { IfOk result (λ l.
+        Shows l (lines_by from (length network.old) (did_of did.now))) }
     ensures front { OnErr result (SendsFront network.old network.new
-        (sends_by from (did_of did))) }
+        (sends_by from (did_of did.now))) }
 {
     let mut tally = Tally {
         text: Vec::new(alloc),
         sends: 0,
         accepts: 0,
     };
-    carry(network, from, &did, &mut tally)?;
+    carry(network, from, did, &mut tally)?;
     Ok(Lines {
         text: Bytes::from_vec(tally.text),
         sends: tally.sends,

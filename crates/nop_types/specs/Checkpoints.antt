@@ -1,6 +1,6 @@
 -- An execution as a checkpoint, from which it goes on without the entries before.
-use Rattle.std.specs.Prelude.{◌≡◌, ◌≤◌, ◌+◌, ◌&&◌, ℕ, List, [], ◌∷◌, length, Option, Some, Bool, true, nat_le}
-use Rattle.std.specs.List.{list_all}
+use Rattle.std.specs.Prelude.{◌≡◌, ◌≤◌, ◌<◌, ◌+◌, ◌^◌, ◌&&◌, ℕ, List, [], ◌∷◌, length, Option, Some, Bool, true, nat_le, IsTrue}
+use Rattle.std.specs.List.{list_all, AllByRecursion}
 use Rattle.std.specs.Option.{option_map}
 use Rattle.std.specs.FinMap as finite
 use Rattle.nop_types.specs.declared.limits.TheConstants.{MAX_RESULT_BYTES, MAX_HOST_BYTES, MAX_SERVED}
@@ -37,6 +37,18 @@ are_saved least (e ∷ es) = nat_le least e.0 && (are_short e.1.kept && are_save
 
 abbrev pub is_checkpoint : Checkpoint → Bool
 is_checkpoint c = nat_le (length c.host) MAX_HOST_BYTES && (nat_le (length c.clients) MAX_SERVED && are_saved 0 c.clients)
+
+-- a client as it is saved, its number and id in their ranges
+pub record IsSavedAccount (e : ℕ × Account) : Type 0 where
+  pub saved : SavedClient
+  pub is : e ≡ saved_account saved
+  pub client : saved.client < 2 ^ 32
+  pub id : saved.id < 2 ^ 64
+
+-- within the limits, and each client is as it is saved
+pub record CheckpointFits (c : Checkpoint) : Type 0 where
+  pub limits : IsTrue (is_checkpoint c)
+  pub clients : AllByRecursion IsSavedAccount c.clients
 
 -- ---- hosts
 

@@ -1,4 +1,5 @@
 pub mod BorrowedLogs
+pub mod Bounds
 pub mod CheckpointedLogs
 pub mod Checkpoints
 pub mod Configuration

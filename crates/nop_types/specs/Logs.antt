@@ -1,5 +1,6 @@
 -- A log that is kept whole, or trimmed: in place of its entries up to the sync point a checkpoint stands.
-use Rattle.std.specs.Prelude.{ℕ, ◌+◌, ◌-◌, ◌≤◌, List, [], ◌∷◌, ◌++◌, length, take, drop, cond, Option, None, nat_lt}
+use Rattle.std.specs.Prelude.{ℕ, ◌+◌, ◌-◌, ◌≤◌, List, [], ◌∷◌, ◌++◌, length, take, drop, cond, Option, None, Bool, nat_lt, ◌&&◌}
+use Rattle.nop_types.specs.declared.limits.TheConstants.{MAX_SLOTS, MAX_LENGTH}
 use Rattle.nop_types.specs.declared.request.Entry.{Entry}
 use Rattle.nop_types.specs.declared.request.Entry.TheVariants.{NoOp}
 use Rattle.nop_types.specs.Lists.{slot_of}
@@ -50,9 +51,21 @@ upto k l n = take (place_of k l n) l.entries
 abbrev pub entry_at : Keeping → Log → ℕ → Option Entry
 entry_at k l n = slot_of l.entries (place_of k l n)
 
+-- how many slots are above the sync point
+abbrev pub unsynced : Keeping → Log → ℕ
+unsynced k l = length_of k l - l.sync_point
+
+-- whether one more entry may be appended
+abbrev pub has_room : Keeping → Log → Bool
+has_room k l = nat_lt (unsynced k l) MAX_SLOTS && nat_lt (length_of k l) MAX_LENGTH
+
 -- the sync point of a whole log is within it
 abbrev pub IsWithin : Log → Type 0
 IsWithin l = l.sync_point ≤ length l.entries
+
+-- the entries above the sync point, up to a slot
+abbrev pub between : Keeping → Log → ℕ → List Entry
+between k l n = take (n - l.sync_point) (above k l l.sync_point)
 
 -- ---- what becomes of a log
 

@@ -1,9 +1,10 @@
 -- The ranges of the fields of messages.
-use Rattle.std.specs.Prelude.{◌≡◌, ℕ, ◌+◌, ◌<◌, ◌≤◌, ◌^◌, length, List, None, ⊤}
+use Rattle.std.specs.Prelude.{◌≡◌, ℕ, ◌+◌, ◌<◌, ◌≤◌, ◌^◌, length, Option, None, is_some, nat_lt, IfSome, ⊤}
 use Rattle.std.specs.List.{AllByRecursion}
-use Rattle.nop_types.specs.declared.limits.TheConstants.{MAX_OP_BYTES, MAX_RESULT_BYTES, MAX_SLOTS, MAX_FRAGMENTS, FRAGMENT_BYTES}
-use Rattle.nop_types.specs.declared.limits.TheConstants.{NUMBER_END}
-use Rattle.nop_types.specs.Logs.{Log}
+use Rattle.nop_types.specs.declared.limits.TheConstants.{MAX_OP_BYTES, MAX_RESULT_BYTES, MAX_SLOTS, MAX_LENGTH, MAX_FRAGMENTS}
+use Rattle.nop_types.specs.declared.limits.TheConstants.{FRAGMENT_BYTES, NUMBER_END}
+use Rattle.nop_types.specs.Checkpoints.{Checkpoint, CheckpointFits}
+use Rattle.nop_types.specs.Logs.{Log, Keeping, Whole, Trimmed, unsynced, length_of}
 use Rattle.nop_types.specs.declared.view.View.{View}
 use Rattle.nop_types.specs.declared.request.Request.{Request}
 use Rattle.nop_types.specs.declared.request.Entry.{Entry}
@@ -86,51 +87,70 @@ abbrev pub EntryFits : Entry → Type 0
 EntryFits NoOp = ⊤
 EntryFits (Req r) = RequestFits r
 
-pub record EntriesFit (entries : List Entry) : Type 0 where
-  pub len : length entries ≤ MAX_SLOTS
-  pub each : AllByRecursion EntryFits entries
+-- a trimmed log has a checkpoint exactly where its sync point is above 0; a whole one has none
+abbrev pub CheckpointIsIn : Keeping → ℕ → Option Checkpoint → Type 0
+CheckpointIsIn Whole sync_point checkpoint = checkpoint ≡ None
+CheckpointIsIn Trimmed sync_point checkpoint = (is_some checkpoint ≡ nat_lt 0 sync_point) × IfSome checkpoint CheckpointFits
 
--- a log is kept whole, with its sync point within it
-pub record LogFits (log : Log) : Type 0 where
-  pub whole : log.checkpoint ≡ None
-  pub entries : EntriesFit log.entries
-  pub point : log.sync_point ≤ length log.entries
+-- a log, kept whole or trimmed, in its ranges
+pub record LogIsIn (k : Keeping) (log : Log) : Type 0 where
+  pub entries : AllByRecursion EntryFits log.entries
+  pub room : unsynced k log ≤ MAX_SLOTS
+  pub limit : length_of k log ≤ MAX_LENGTH
+  pub point : log.sync_point ≤ length_of k log
+  pub checkpoint : CheckpointIsIn k log.sync_point log.checkpoint
+
+-- as messages carry it
+abbrev pub LogFits : Log → Type 0
+LogFits log = LogIsIn Trimmed log
 
 -- the number of the next request of a session
 pub record NextFits (next : ℕ) : Type 0 where
   pub low : 1 ≤ next
   pub high : next ≤ NUMBER_END
 
-pub record LogChangeFits (last_normal : View) (next : ℕ) (log : Log) : Type 0 where
+pub record LogChangeIsIn (k : Keeping) (last_normal : View) (next : ℕ) (log : Log) : Type 0 where
   pub view : ViewFits last_normal
   pub number : NextFits next
-  pub told : LogFits log
+  pub told : LogIsIn k log
 
-pub record LogStartFits (next : ℕ) (log : Log) : Type 0 where
+pub record LogStartIsIn (k : Keeping) (next : ℕ) (log : Log) : Type 0 where
   pub number : NextFits next
-  pub told : LogFits log
+  pub told : LogIsIn k log
 
 pub record FoundFits (slot : ℕ) (r : Request) : Type 0 where
   pub place : SlotFits slot
   pub request : RequestFits r
 
-abbrev pub BodyFits : Body → Type 0
-BodyFits (bodies.SlotLookup slot) = SlotFits slot
-BodyFits (bodies.Found slot r) = FoundFits slot r
-BodyFits (bodies.GapCommit slot) = SlotFits slot
-BodyFits (bodies.GapRep slot) = SlotFits slot
-BodyFits bodies.ViewChangeReq = ⊤
-BodyFits (bodies.ViewChange last_normal next log) = LogChangeFits last_normal next log
-BodyFits (bodies.StartView next log) = LogStartFits next log
-BodyFits (bodies.SyncPrepare log) = LogFits log
-BodyFits (bodies.SyncRep len) = len < 2 ^ 32
-BodyFits (bodies.SyncCommit len) = len < 2 ^ 32
+abbrev pub BodyIsIn : Keeping → Body → Type 0
+BodyIsIn k (bodies.SlotLookup slot) = SlotFits slot
+BodyIsIn k (bodies.Found slot r) = FoundFits slot r
+BodyIsIn k (bodies.GapCommit slot) = SlotFits slot
+BodyIsIn k (bodies.GapRep slot) = SlotFits slot
+BodyIsIn k bodies.ViewChangeReq = ⊤
+BodyIsIn k (bodies.ViewChange last_normal next log) = LogChangeIsIn k last_normal next log
+BodyIsIn k (bodies.StartView next log) = LogStartIsIn k next log
+BodyIsIn k (bodies.SyncPrepare log) = LogIsIn k log
+BodyIsIn k (bodies.SyncRep len) = len < 2 ^ 32
+BodyIsIn k (bodies.SyncCommit len) = len < 2 ^ 32
 
-pub record PeerFits (p : Peer) : Type 0 where
+-- a message in its ranges; its log, if it has one, is kept whole or trimmed
+pub record PeerIsIn (k : Keeping) (p : Peer) : Type 0 where
   pub sender : p.sender ≤ 6
   pub view : ViewFits p.view
-  pub body : BodyFits p.body
+  pub body : BodyIsIn k p.body
 
-pub record ChangeFits (c : Change) : Type 0 where
+pub record ChangeIsIn (k : Keeping) (c : Change) : Type 0 where
   pub sender : c.sender ≤ 6
-  pub rest : LogChangeFits c.last_normal c.next c.log
+  pub rest : LogChangeIsIn k c.last_normal c.next c.log
+
+-- ---- with trimmed logs, as they travel
+
+abbrev pub BodyFits : Body → Type 0
+BodyFits body = BodyIsIn Trimmed body
+
+abbrev pub PeerFits : Peer → Type 0
+PeerFits p = PeerIsIn Trimmed p
+
+abbrev pub ChangeFits : Change → Type 0
+ChangeFits c = ChangeIsIn Trimmed c

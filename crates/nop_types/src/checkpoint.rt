@@ -1,7 +1,8 @@
-ghost use Rattle.std.specs.Prelude.{◌≡◌, map, IsTrue, is_some, IfSome};
-ghost use Rattle.nop_types.specs.Checkpoints.{saved_account, are_saved, is_checkpoint};
+ghost use Rattle.std.specs.Prelude.{◌≡◌, map, IsTrue, is_some, IfSome, IfOk};
+ghost use Rattle.std.specs.List.{AllByRecursion};
+ghost use Rattle.nop_types.specs.Checkpoints.{saved_account, are_saved, is_checkpoint, IsSavedAccount, CheckpointFits};
 
-use crate::{Bytes, MAX_HOST_BYTES, MAX_RESULT_BYTES, MAX_SERVED};
+use crate::{Bytes, MAX_HOST_BYTES, MAX_RESULT_BYTES, MAX_SERVED, NoMemory};
 use std::marker::Model;
 
 /// A client with its greatest executed id and that id's result.
@@ -21,29 +22,51 @@ pub struct Checkpoint {
 }
 
 impl Model for Checkpoint {
-    ghost use Rattle.std.specs.Prelude.{map, IsTrue};
-    ghost use Rattle.nop_types.specs.Checkpoints.{saved_account, is_checkpoint};
+    ghost use Rattle.std.specs.Prelude.{map};
+    ghost use Rattle.nop_types.specs.Checkpoints.{saved_account, CheckpointFits};
     ghost use Rattle.nop_types.specs.Checkpoints as saved;
 
     ghost Value = { saved.Checkpoint };
 
     ghost view = { λ c. record { host = c.host; clients = map saved_account c.clients.items } };
 
-    ghost invariant = { λ c. IsTrue (is_checkpoint (record {
+    ghost invariant = { λ c. CheckpointFits (record {
       host = c.host;
       clients = map saved_account c.clients.items;
-    })) };
+    }) };
+}
+
+impl SavedClient {
+    pub fn try_clone(&self) -> Result<SavedClient, NoMemory>
+        ensures { IfOk result (λ c. c ≡ self.now) }
+    {
+        Ok(SavedClient {
+            client: self.client,
+            id: self.id,
+            result: self.result.try_clone()?,
+        })
+    }
+}
+
+/// A client is as it is saved: its fields have their types.
+fn typed(saved: &SavedClient)
+    ensures { IsSavedAccount (saved_account saved.now) }
+{
+    let _client = saved.client;
+    let _id = saved.id;
 }
 
 /// Whether the clients ascend, each with a short result.
 fn are_saved(clients: &[SavedClient]) -> bool
-    ensures { result ≡ are_saved 0 (map saved_account clients.now) }
+    ensures saved { result ≡ are_saved 0 (map saved_account clients.now) }
+    ensures each { IsTrue result → AllByRecursion IsSavedAccount (map saved_account clients.now) }
 {
     let mut least = 0u64;
     for saved in clients {
         if u64::from(saved.client) < least || saved.result.as_slice().len() > MAX_RESULT_BYTES {
             return false;
         }
+        typed(saved);
         least = u64::from(saved.client) + 1;
     }
     true
@@ -68,14 +91,14 @@ impl Checkpoint {
 
     pub fn host(&self) -> &Bytes
         ensures host { result.now ≡ self.now.host }
-        ensures limits { IsTrue (is_checkpoint self.now) }
+        ensures fits { CheckpointFits self.now }
     {
         &self.host
     }
 
     pub fn clients(&self) -> &[SavedClient]
         ensures clients { map saved_account result.now ≡ self.now.clients }
-        ensures limits { IsTrue (is_checkpoint self.now) }
+        ensures fits { CheckpointFits self.now }
     {
         &self.clients
     }
@@ -84,10 +107,23 @@ impl Checkpoint {
     pub fn into_parts(self) -> (Bytes, Vec<SavedClient>)
         ensures host { result.0 ≡ self.host }
         ensures clients { map saved_account result.1.items ≡ self.clients }
-        ensures limits { IsTrue (is_checkpoint self) }
+        ensures fits { CheckpointFits self }
         ensures saved { IsTrue (are_saved 0 (map saved_account result.1.items)) }
     {
         let Checkpoint { host, clients } = self;
         (host, clients)
+    }
+
+    pub fn try_clone(&self) -> Result<Checkpoint, NoMemory>
+        ensures { IfOk result (λ c. c ≡ self.now) }
+    {
+        let mut clients = Vec::with_capacity(*self.clients.allocator(), self.clients.len())?;
+        for client in &self.clients {
+            clients.push(client.try_clone()?)?;
+        }
+        Ok(Checkpoint {
+            host: self.host.try_clone()?,
+            clients,
+        })
     }
 }

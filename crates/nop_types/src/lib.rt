@@ -10,20 +10,24 @@
 //! the same state. What `save` gives has at most `MAX_HOST_BYTES` bytes, and `load` of it gives a
 //! host in the same state; `load` is None exactly where bytes are no saved state.
 //!
-//! Besides, an `Op` has at most `MAX_OP_BYTES` bytes and a `Log` at most `MAX_SLOTS` entries;
-//! `Config::new` and `Checkpoint::new` are None exactly outside the limits; `View::le` is the order
-//! of views by both parts, `View::join` the least view above two (law `join_is_least`), and
-//! `leader_of` one of the n replicas. In each crate, a call that takes memory may answer `NoMemory`
-//! instead.
+//! A `Log` is trimmed: a sync point, the checkpoint that stands in place of the entries up to it,
+//! and at most `MAX_SLOTS` entries above it; it has at most `MAX_LENGTH` slots in all. Where the
+//! sync point of a replica rises, the entries up to it go out as `Out::Trimmed`.
 //!
-//! Files: `view`, `request`, `datagram`, `peer`, `output`, `checkpoint`, `core_trait`, `host`,
-//! `limits`. Definitions: `specs/Execution` (`exec`, what the execution of a log leaves;
+//! Besides, an `Op` has at most `MAX_OP_BYTES` bytes; `Config::new` and `Checkpoint::new` are None
+//! exactly outside the limits, and each `Checkpoint` is within them (`CheckpointFits`); `View::le`
+//! is the order of views by both parts, `View::join` the least view above two (law
+//! `join_is_least`), and `leader_of` one of the n replicas. In each crate, a call that takes memory
+//! may answer `NoMemory` instead.
+//!
+//! Files: `view`, `request`, `log`, `checkpoint`, `datagram`, `peer`, `output`, `core_trait`,
+//! `host`, `limits`. Definitions: `specs/Execution` (`exec`, what the execution of a log leaves;
 //! `is_executed`, by `Windows` and the first clients of the log), `Tables` (what is kept for a
 //! client), `Checkpoints`, `Histories` (`history_of`: the requests that are executed), `Legality`
 //! (`Legal`: when lines agree with a history), `Services` (`AnswersAreBytes`), `Ranges` (of each
-//! field of a message), `Logs` and `CheckpointedLogs` (a log with its sync point, kept whole or
-//! trimmed; what runs keeps it whole), `PlainChanges` (a change whose log is a list, as the
-//! protocol tells it).
+//! field of a message), `Logs` and `CheckpointedLogs` (a log with its sync point, trimmed as in
+//! what runs, or kept whole), `PlainChanges` (a change whose log is a list, as the protocol tells
+//! it).
 #![tactic(auto)]
 
 mod bytes;
@@ -55,8 +59,9 @@ pub use host::Host;
 pub use input::{Input, Tick};
 pub use limits::{
     FRAGMENT_BYTES, MAX_CLIENTS, MAX_DATAGRAM_BYTES, MAX_FRAGMENTS, MAX_HOST_BYTES, MAX_KEY_BYTES,
-    MAX_LINE_BYTES, MAX_LINES, MAX_OP_BYTES, MAX_QUEUED, MAX_REPLICAS, MAX_RESULT_BYTES,
-    MAX_SEQUENCERS, MAX_SERVED, MAX_SLOTS, MAX_UNFINISHED, MAX_VALUE_BYTES, NUMBER_END, WINDOW,
+    MAX_LENGTH, MAX_LINE_BYTES, MAX_LINES, MAX_OP_BYTES, MAX_QUEUED, MAX_REPLICAS,
+    MAX_RESULT_BYTES, MAX_SEQUENCERS, MAX_SERVED, MAX_SLOTS, MAX_UNFINISHED, MAX_VALUE_BYTES,
+    NUMBER_END, WINDOW,
 };
 pub use log::{Log, LogRef};
 pub use memory::NoMemory;

@@ -21,8 +21,11 @@ pub const MAX_SERVED: usize = 256;
 /// How far a client's requests may be apart: one is executed where its id plus the window exceeds the greatest id of its client.
 pub const WINDOW: u64 = 1;
 
-/// The most slots of a log.
+/// The most entries of a log above its sync point.
 pub const MAX_SLOTS: usize = 4096;
+
+/// The most slots of a log.
+pub const MAX_LENGTH: u32 = 0xffff_ffff;
 
 /// Message numbers of a session are below this one.
 pub const NUMBER_END: u64 = 0x1_0000_0000_0000;
@@ -67,6 +70,7 @@ const _: () = prove!(
         && MAX_SERVED == 256
         && WINDOW == 1
         && MAX_SLOTS == 4096
+        && MAX_LENGTH == 4_294_967_295
         && NUMBER_END == 281_474_976_710_656
         && MAX_QUEUED == 1024
         && MAX_FRAGMENTS == 4096

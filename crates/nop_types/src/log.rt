@@ -1,15 +1,18 @@
-ghost use Rattle.std.specs.Prelude.{◌≡◌, ◌≤◌, None, length, IfOk};
-ghost use Rattle.nop_types.specs.Logs.{whole};
+ghost use Rattle.std.specs.Prelude.{◌≡◌, ◌≤◌, ◌+◌, length, IfOk};
+ghost use Rattle.std.specs.Option.{option_copied};
+ghost use Rattle.nop_types.specs.Logs.{Log};
 ghost use Rattle.nop_types.specs.BorrowedLogs.{log_of};
 
-use crate::{Entry, MAX_SLOTS, NoMemory};
+use crate::{Checkpoint, Entry, MAX_LENGTH, MAX_SLOTS, NoMemory};
 use std::alloc::Global;
 use std::marker::Model;
 
-/// A log that is kept whole, as messages carry it: its sync point, and at most `MAX_SLOTS` entries, that of slot 1 first.
+/// A trimmed log, as messages carry it: its sync point, the checkpoint that stands in place of the entries up to there, and the
+/// entries above, at most `MAX_SLOTS`. It has at most `MAX_LENGTH` slots.
 #[derive(Debug)]
 pub struct Log {
     sync_point: u32,
+    checkpoint: Option<Checkpoint>,
     entries: Vec<Entry>,
 }
 
@@ -17,6 +20,7 @@ pub struct Log {
 #[derive(Debug, Clone, Copy)]
 pub struct LogRef<'a> {
     pub sync_point: u32,
+    pub checkpoint: Option<&'a Checkpoint>,
     pub entries: &'a [Entry],
 }
 
@@ -25,31 +29,43 @@ impl Drop for Log {
     fn drop(self) {
         let Log {
             sync_point: _sync_point,
+            checkpoint: _checkpoint,
             entries: _entries,
         } = self;
     }
 }
 
 impl Model for Log {
-    ghost use Rattle.std.specs.Prelude.{length, ◌≤◌};
-    ghost use Rattle.nop_types.specs.declared.limits.TheConstants.{MAX_SLOTS};
+    ghost use Rattle.std.specs.Prelude.{length, ◌≤◌, ◌+◌};
+    ghost use Rattle.nop_types.specs.declared.limits.TheConstants.{MAX_SLOTS, MAX_LENGTH};
     ghost use Rattle.nop_types.specs.Logs as logs;
 
     ghost Value = { logs.Log };
 
-    ghost view = { λ l. logs.whole l.sync_point l.entries.items };
+    ghost view = { λ l. record {
+      sync_point = l.sync_point;
+      checkpoint = l.checkpoint;
+      entries = l.entries.items;
+    } };
 
-    ghost invariant = { λ l. length l.entries.items ≤ MAX_SLOTS };
+    ghost invariant = { λ l. (length l.entries.items ≤ MAX_SLOTS)
+        × (l.sync_point + length l.entries.items ≤ MAX_LENGTH) };
 }
 
 impl Log {
-    /// A log with these entries, without a copy.
-    pub fn new(sync_point: u32, entries: Vec<Entry>) -> Log
-        requires { length entries.items ≤ MAX_SLOTS }
-        ensures { result ≡ whole sync_point entries.items }
+    /// A log of these parts, without a copy.
+    pub fn new(sync_point: u32, checkpoint: Option<Checkpoint>, entries: Vec<Entry>) -> Log
+        requires room { length entries.items ≤ MAX_SLOTS }
+        requires limit { sync_point + length entries.items ≤ MAX_LENGTH }
+        ensures { result ≡ record {
+          sync_point = sync_point;
+          checkpoint = checkpoint;
+          entries = entries.items;
+        } }
     {
         Log {
             sync_point,
+            checkpoint,
             entries,
         }
     }
@@ -60,33 +76,52 @@ impl Log {
         self.sync_point
     }
 
+    pub fn checkpoint(&self) -> Option<&Checkpoint>
+        ensures { option_copied result ≡ self.now.checkpoint }
+    {
+        self.checkpoint.as_ref()
+    }
+
     pub fn entries(&self) -> &[Entry]
         ensures entries { result.now ≡ self.now.entries }
         ensures len { length self.now.entries ≤ MAX_SLOTS }
+        ensures limit { self.now.sync_point + length self.now.entries ≤ MAX_LENGTH }
     {
         &self.entries
     }
 
-    /// The entries as a vector, without a copy.
-    pub fn into_entries(self) -> Vec<Entry>
-        ensures entries { result.items ≡ self.entries }
+    /// How many slots there are, those up to the sync point among them.
+    pub fn len(&self) -> u32
+        ensures len { result ≡ self.now.sync_point + length self.now.entries }
+        ensures room { length self.now.entries ≤ MAX_SLOTS }
+        ensures limit { result ≤ MAX_LENGTH }
+    {
+        self.sync_point + self.entries.len() as u32
+    }
+
+    /// The checkpoint, if there is one, and the entries, without a copy.
+    pub fn into_parts(self) -> (Option<Checkpoint>, Vec<Entry>)
+        ensures checkpoint { result.0 ≡ self.checkpoint }
+        ensures entries { result.1.items ≡ self.entries }
         ensures len { length self.entries ≤ MAX_SLOTS }
-        ensures whole { self.checkpoint ≡ None }
+        ensures limit { self.sync_point + length self.entries ≤ MAX_LENGTH }
     {
         let Log {
             sync_point: _sync_point,
+            checkpoint,
             entries,
         } = self;
-        entries
+        (checkpoint, entries)
     }
 
     pub fn as_ref(&self) -> LogRef<'_>
         ensures log { log_of result ≡ self.now }
         ensures len { length self.now.entries ≤ MAX_SLOTS }
-        ensures whole { self.now.checkpoint ≡ None }
+        ensures limit { self.now.sync_point + length self.now.entries ≤ MAX_LENGTH }
     {
         LogRef {
             sync_point: self.sync_point,
+            checkpoint: self.checkpoint.as_ref(),
             entries: &self.entries,
         }
     }
@@ -98,8 +133,13 @@ impl Log {
         for entry in &self.entries {
             entries.push(entry.try_clone()?)?;
         }
+        let checkpoint = match &self.checkpoint {
+            Some(checkpoint) => Some(checkpoint.try_clone()?),
+            None => None,
+        };
         Ok(Log {
             sync_point: self.sync_point,
+            checkpoint,
             entries,
         })
     }

@@ -1,6 +1,6 @@
 ghost use Rattle.std.specs.Prelude.{◌≡◌, ◌++◌, ◌∷◌, [], take, OnOk, OnErr};
 
-use crate::{Bytes, NoMemory, Request};
+use crate::{Bytes, Log, NoMemory, Request};
 use std::alloc::Global;
 use std::marker::Model;
 
@@ -35,6 +35,9 @@ pub enum Out {
     Submitted(Request),
     Accepted { client: u32, id: u64, result: Bytes },
     Busy(u32),
+    /// The sync point of a replica rose: these entries, from the slot `first` on, moved out of its log. The log has no checkpoint and
+    /// sync point 0.
+    Trimmed { first: u32, entries: Log },
 }
 
 /// What a step gave, in order.
@@ -83,6 +86,14 @@ impl Outbox {
         let Outbox { mut outs } = other;
         self.outs.append(&mut outs)?;
         Ok(())
+    }
+
+    /// The outputs as a vector, without a copy.
+    pub fn into_vec(self) -> Vec<Out>
+        ensures { result.items ≡ self }
+    {
+        let Outbox { outs } = self;
+        outs
     }
 
     /// Keeps the first `len` outputs, and the capacity.

@@ -8,7 +8,7 @@ pub struct Peer {
     pub body: Body,
 }
 
-/// The kinds of peer messages. A number of a slot or a length counts slots from 1. The sync point of a log is within it.
+/// The kinds of peer messages. A number of a slot or a length counts slots from 1, those up to a sync point too.
 #[derive(Debug, Drop)]
 pub enum Body {
     SlotLookup(u32),

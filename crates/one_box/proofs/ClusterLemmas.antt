@@ -6,6 +6,7 @@ use Rattle.std.proofs.lemmas.List.Sums.{sum_by-cons}
 use Rattle.std.specs.Prelude.{◌⊎◌, ◌==◌, sum, IsErrOf}
 use Rattle.std.specs.Io.KnownBytes.{Appends}
 use Rattle.std.proofs.lemmas.Grind.{common_steps}
+use Rattle.nop_types.specs.Checkpoints.{KeepsTo}
 use Rattle.nop_types.specs.Configuration.{Configuration, is_configuration}
 use Rattle.nop_types.specs.Meaning.{Meaning}
 use Rattle.outside.specs.Causes.{Rose, HasCauseFor}
@@ -15,7 +16,6 @@ use Rattle.outside.specs.declared.errors.DeviceError.{DeviceError}
 use Rattle.outside.specs.declared.errors.DeviceError.TheVariants.{Failed}
 use Rattle.outside.specs.declared.errors.DeviceError.TheVariants as devices
 use Rattle.outside.specs.declared.link.PollAnswer.{PollAnswer}
-use Rattle.replica_rows.specs.Within.{ResultsShort}
 use Rattle.safety.proofs.Whole.{runs_are_safe}
 use Rattle.transcript_text.specs.Transcript.{lines_text}
 use Rattle.udp_node.specs.Effects.{WroteFront}
@@ -151,8 +151,8 @@ err_is x y is = cc
 
 module _ {S L : Type 0} (m : Meaning S) (v : LinkView L) (config : Configuration) (ops : List (List ℕ)) (base turns : ℕ)
     (polls : Option (List (List PollAnswer))) (values : Option (List ℕ)) (det there : List L) where
-  module _ (short : ResultsShort m) (fits : is_configuration config ≡ true) (d : Course) (taken : Taken) (lost : ℕ)
-      (xs : List (code.Node L)) (here : List L) (t : RanTurns m v config ops base turns polls values det here taken d xs)
+  module _ (IsSound : S → Type 0) (keeps : KeepsTo m IsSound) (fits : is_configuration config ≡ true) (d : Course) (taken : Taken)
+      (lost : ℕ) (xs : List (code.Node L)) (here : List L) (t : RanTurns m v config ops base turns polls values det here taken d xs)
       (lost_is : lost ≡ lost_by xs) (given : there ≡ here ++ map (λ x. x.link) xs) where
     abbrev boxed : Boxed
     boxed = record { turns = taken.turns; lost = lost; stray = d.stray; done = taken.done }
@@ -185,7 +185,7 @@ module _ {S L : Type 0} (m : Meaning S) (v : LinkView L) (config : Configuration
       events = d.events;
       happened = happened;
       led = t.led.is;
-      safely = runs_are_safe m short config d.events happened fits t.led.fit t.led.is;
+      safely = runs_are_safe m IsSound keeps config d.events happened fits t.led.fit t.led.is;
       done = t.done ∙ ap (λ (n : ℕ). n == length ops) t.led.accepts;
       spent = t.spent;
       nodes = xs;

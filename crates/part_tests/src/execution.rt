@@ -1,162 +1,16 @@
-ghost use Rattle.std.specs.Prelude.{◌≡◌, ◌&&◌, IsSome};
-ghost use Rattle.nop_types.specs.declared.limits.TheConstants.{WINDOW};
-ghost use Rattle.nop_types.specs.Tables.{is_new_to, kept_for, serves};
+ghost use Rattle.std.specs.Prelude.{◌≡◌};
+ghost use Rattle.nop_types.specs.Ranges.{EntryFits, LogFits};
+ghost use Rattle.executor.specs.Running.{reached};
 ghost use Rattle.executor.specs.Undoing.{HasExecuted};
 
 use crate::logs::full_log;
-use crate::requests::request;
-use client_table::{ClientTable, Judged, Kept};
-use executor::Executor;
+use crate::requests::{is_told, request};
+use executor::{Executor, checkpoint_loads};
 use kv_host::KvHost;
-use nop_types::{Bytes, Checkpoint, Entry, Host, MAX_SLOTS, SavedClient};
+use nop_types::{Bytes, Checkpoint, Entry, Host, MAX_SLOTS};
 use replica_log::ReplicaLog;
 use std::alloc::Global;
 use std::process::Abort;
-
-/// The answer is the one that is told.
-fn is_told(answer: Option<&Bytes>, told: Option<&[u8]>) -> bool {
-    match (answer, told) {
-        (Some(answer), Some(told)) => answer.as_slice() == told,
-        (None, None) => true,
-        _ => false,
-    }
-}
-
-fn is_fresh(table: &ClientTable, client: u32, id: u64) -> bool {
-    matches!(table.judge(client, id), Judged::Fresh)
-}
-
-/// The table takes a request of the client with this id.
-fn takes(rt: &impl Abort, alloc: Global, table: &ClientTable, client: u32, id: u64) -> bool
-    ensures { result ≡ (serves table.now client
-        && is_new_to WINDOW (kept_for table.now client) id) }
-{
-    table.takes(&request(rt, alloc, client, id, b"x"))
-}
-
-/// A client, an id, and the verdict, where the last id of client 7 is 5.
-#[test]
-fn last_answers(rt: HostRuntime) {
-    let mut table = ClientTable::new(rt.alloc());
-    let Judged::Fresh = table.judge(7, 5) else {
-        panic!(rt; "not fresh")
-    };
-    assert!(rt; takes(&rt, rt.alloc(), &table, 7, 5));
-    let answer = Bytes::new(rt.alloc(), b"=v").expect(&rt, "memory");
-    let kept = table.keep(7, 5, answer).expect(&rt, "memory");
-    assert!(rt; matches!(table.judge(7, 4), Judged::Stale));
-    assert!(rt; !takes(&rt, rt.alloc(), &table, 7, 4));
-    assert!(rt; !takes(&rt, rt.alloc(), &table, 7, 5));
-    assert!(rt; takes(&rt, rt.alloc(), &table, 7, 6));
-    let Judged::Same(answer) = table.judge(7, 5) else {
-        panic!(rt; "not the same")
-    };
-    assert!(rt; is_told(Some(answer), Some(b"=v")));
-    assert!(rt; is_fresh(&table, 7, 6));
-    assert!(rt; is_fresh(&table, 6, 5));
-    assert!(rt; is_fresh(&table, u32::MAX, u64::MAX));
-    table.unkeep(kept);
-    assert!(rt; is_fresh(&table, 7, 5));
-}
-
-/// A request that has the greatest id, which no client has here, is taken.
-fn serves(rt: &impl Abort, alloc: Global, table: &ClientTable, client: u32) -> bool {
-    takes(rt, alloc, table, client, u64::MAX)
-}
-
-/// Keeps an answer to a request of the client that the table takes.
-fn keep(rt: &impl Abort, alloc: Global, table: &mut ClientTable, client: u32, id: u64) -> Kept
-    ensures { IsSome (kept_for table.new result.client) }
-{
-    assert!(rt; takes(rt, alloc, table, client, id));
-    let answer = Bytes::new(alloc, &client.to_be_bytes()).expect(rt, "memory");
-    table.keep(client, id, answer).expect(rt, "memory")
-}
-
-/// With 256 clients in the table each of them is served, and no other one. So it is again after the last one was taken out.
-#[test]
-fn as_many_clients_as_are_served(rt: HostRuntime) {
-    let mut table = ClientTable::new(rt.alloc());
-    for client in 0..255u32 {
-        let _kept = keep(&rt, rt.alloc(), &mut table, client, 1);
-    }
-    let _kept = keep(&rt, rt.alloc(), &mut table, 0, 2);
-    assert!(rt; serves(&rt, rt.alloc(), &table, 255) && serves(&rt, rt.alloc(), &table, u32::MAX));
-    let last = keep(&rt, rt.alloc(), &mut table, u32::MAX, 1);
-    assert!(rt; serves(&rt, rt.alloc(), &table, 0) && serves(&rt, rt.alloc(), &table, 254));
-    assert!(rt; serves(&rt, rt.alloc(), &table, u32::MAX));
-    assert!(rt; !serves(&rt, rt.alloc(), &table, 255) && is_fresh(&table, 255, 1));
-    assert!(rt; !serves(&rt, rt.alloc(), &table, 256));
-    table.unkeep(last);
-    assert!(rt; serves(&rt, rt.alloc(), &table, 255) && serves(&rt, rt.alloc(), &table, 256));
-}
-
-/// A client with an id, as they were kept, and as they are saved.
-const KEPT: [(u32, u64); 4] = [(9, 3), (u32::MAX, u64::MAX), (0, 1), (9, 4)];
-
-const SAVED: [(u32, u64); 3] = [(0, 1), (9, 4), (u32::MAX, u64::MAX)];
-
-fn are_saved(clients: &[SavedClient], told: &[(u32, u64)]) -> bool {
-    if clients.len() != told.len() {
-        return false;
-    }
-    for (saved, (client, id)) in clients.iter().zip(told) {
-        let result = client.to_be_bytes();
-        if saved.client != *client
-            || saved.id != *id
-            || saved.result.as_slice() != result.as_slice()
-        {
-            return false;
-        }
-    }
-    true
-}
-
-#[test]
-fn a_table_is_saved_and_loaded(rt: HostRuntime) {
-    let mut table = ClientTable::new(rt.alloc());
-    for (client, id) in &KEPT {
-        let _kept = keep(&rt, rt.alloc(), &mut table, *client, *id);
-    }
-    let clients = table.saved(rt.alloc()).expect(&rt, "memory");
-    assert!(rt; are_saved(&clients, &SAVED));
-    let host = Bytes::new(rt.alloc(), b"").expect(&rt, "memory");
-    let checkpoint = Checkpoint::new(host, clients).expect(&rt, "a checkpoint");
-    let (_host, clients) = checkpoint.into_parts();
-    let loaded = ClientTable::load(rt.alloc(), clients).expect(&rt, "memory");
-    assert!(rt; matches!(loaded.judge(9, 4), Judged::Same(_)) && is_fresh(&loaded, 9, 5));
-    assert!(rt; matches!(loaded.judge(9, 3), Judged::Stale) && is_fresh(&loaded, 1, 1));
-    let again = loaded.saved(rt.alloc()).expect(&rt, "memory");
-    assert!(rt; are_saved(&again, &SAVED));
-}
-
-/// Clients that stand twice or do not ascend are none of a checkpoint; so is a host of one byte too many.
-#[test]
-fn what_is_no_checkpoint(rt: HostRuntime) {
-    let rows: [(usize, &[u32], bool); 6] = [
-        (0, &[], true),
-        (1_400_000, &[0, 1, u32::MAX], true),
-        (1_400_001, &[], false),
-        (0, &[3, 3], false),
-        (0, &[3, 2], false),
-        (0, &[0], true),
-    ];
-    for (row, (len, numbers, told)) in rows.iter().enumerate() {
-        let bytes = vec![in rt.alloc(); 7u8; *len].expect(&rt, "memory");
-        let mut clients = Vec::new(rt.alloc());
-        for number in *numbers {
-            let result = Bytes::new(rt.alloc(), b"none").expect(&rt, "memory");
-            let saved = SavedClient {
-                client: *number,
-                id: 1,
-                result,
-            };
-            clients.push(saved).expect(&rt, "memory");
-        }
-        let made = Checkpoint::new(Bytes::from_vec(bytes), clients);
-        assert!(rt; made.is_some() == *told, "row {row}");
-    }
-}
 
 /// The entries of a log: a client, an id and an op, or a NO-OP for the id 0.
 const SLOTS: [(u32, u64, &[u8]); 9] = [
@@ -183,14 +37,18 @@ const RESULTS: [(u32, u64, Option<&[u8]>); 8] = [
     (0, 0, None),
 ];
 
-fn entry(rt: &impl Abort, alloc: Global, client: u32, id: u64, op: &[u8]) -> Entry {
+fn entry(rt: &impl Abort, alloc: Global, client: u32, id: u64, op: &[u8]) -> Entry
+    ensures { EntryFits result }
+{
     if id == 0 {
         return Entry::NoOp;
     }
     Entry::Req(request(rt, alloc, client, id, op))
 }
 
-fn log_of_slots(rt: &impl Abort, alloc: Global) -> ReplicaLog {
+fn log_of_slots(rt: &impl Abort, alloc: Global) -> ReplicaLog
+    ensures { LogFits result }
+{
     let mut log = ReplicaLog::new(alloc);
     for (client, id, op) in &SLOTS {
         assert!(rt; log.has_room());
@@ -200,26 +58,31 @@ fn log_of_slots(rt: &impl Abort, alloc: Global) -> ReplicaLog {
     log
 }
 
-/// Executes the whole log, undoes it down to slot 1, and executes it again.
+/// Executes a log without a checkpoint, undoes it down to slot 1, and executes it again.
 fn executed_again<H: Host>(rt: &impl Abort, alloc: Global, log: &ReplicaLog) -> Executor<H>
-    ensures { HasExecuted H.state H.meaning H.undo_of log.now.entries result }
+    ensures { HasExecuted H.state H.meaning H.undo_of log.now result }
 {
+    assert!(rt; log.sync_point() == 0 && log.checkpoint().is_none());
     let mut executor: Executor<H> = Executor::new(alloc).expect(rt, "memory");
     executor.run_to(log, log.len()).expect(rt, "memory");
-    assert!(rt; executor.executed() >= 1);
+    assert!(rt; executor.reached() >= 1);
     executor.rewind(log, 1);
-    assert!(rt; executor.executed() == 1 && executor.result(2, 1).is_none());
+    assert!(rt; executor.reached() == 1 && executor.result(2, 1).is_none());
     executor.run_to(log, log.len()).expect(rt, "memory");
     executor
+}
+
+fn check_answers<H: Host>(rt: &impl Abort, executor: &Executor<H>) {
+    for (row, (client, id, told)) in RESULTS.iter().enumerate() {
+        let answer = executor.result(*client, *id);
+        assert!(rt; is_told(answer, *told), "row {row}");
+    }
 }
 
 fn check_results<H: Host>(rt: &impl Abort, alloc: Global) {
     let log = log_of_slots(rt, alloc);
     let executor: Executor<H> = executed_again(rt, alloc, &log);
-    for (row, (client, id, told)) in RESULTS.iter().enumerate() {
-        let answer = executor.result(*client, *id);
-        assert!(rt; is_told(answer, *told), "row {row}");
-    }
+    check_answers(rt, &executor);
 }
 
 #[test]
@@ -231,7 +94,7 @@ fn executed_and_undone(rt: HostRuntime) {
 fn check_full<H: Host>(rt: &impl Abort, alloc: Global) {
     let log = full_log(rt, alloc);
     let executor: Executor<H> = executed_again(rt, alloc, &log);
-    assert!(rt; executor.executed() == log.len());
+    assert!(rt; executor.reached() == log.len());
     let answer = executor.result(7, MAX_SLOTS as u64);
     assert!(rt; is_told(answer, Some(b"bad")));
 }
@@ -310,4 +173,74 @@ fn check_checkpoint<H: Host>(rt: &impl Abort, alloc: Global) {
 #[test]
 fn an_execution_has_a_checkpoint(rt: HostRuntime) {
     check_checkpoint::<KvHost>(&rt, rt.alloc());
+}
+
+/// The log begins with the checkpoint of what is executed.
+fn trim<H: Host>(rt: &impl Abort, log: &mut ReplicaLog, executor: &mut Executor<H>)
+    requires fits { LogFits log.old }
+    requires run { HasExecuted H.state H.meaning H.undo_of log.old executor.old }
+    ensures run { HasExecuted H.state H.meaning H.undo_of log.new executor.new }
+    ensures point { log.new.sync_point ≡ reached executor.new }
+{
+    let slot = executor.reached();
+    let checkpoint = executor.checkpoint().expect(rt, "memory");
+    let _passed = log.raise(slot, checkpoint).expect(rt, "memory");
+    executor.rebase();
+}
+
+/// The log up to slot 5 is executed, and a checkpoint stands in place of its entries. The rest is executed, undone and executed
+/// again.
+fn check_trimmed<H: Host>(rt: &impl Abort, alloc: Global) -> (ReplicaLog, Executor<H>)
+    ensures { HasExecuted H.state H.meaning H.undo_of result.0 result.1 }
+{
+    let mut log = log_of_slots(rt, alloc);
+    assert!(rt; log.sync_point() == 0 && log.checkpoint().is_none() && log.len() == 9);
+    let mut executor: Executor<H> = Executor::new(alloc).expect(rt, "memory");
+    executor.run_to(&log, 5).expect(rt, "memory");
+    trim(rt, &mut log, &mut executor);
+    assert!(rt; log.sync_point() == 5 && log.len() == 9 && executor.reached() == 5);
+    executor.run_to(&log, 9).expect(rt, "memory");
+    check_answers(rt, &executor);
+    executor.rewind(&log, 5);
+    assert!(rt; executor.reached() == 5 && executor.result(2, 1).is_none());
+    assert!(rt; is_told(executor.result(1, 2), Some(b"none")));
+    executor.run_to(&log, 9).expect(rt, "memory");
+    check_answers(rt, &executor);
+    (log, executor)
+}
+
+/// An executor that is anywhere begins anew with the checkpoint of the log, and has the same answers.
+fn check_restarted<H: Host>(rt: &impl Abort, alloc: Global) {
+    let (log, mut executor) = check_trimmed::<H>(rt, alloc);
+    let loads = checkpoint_loads::<H>(alloc, log.checkpoint()).expect(rt, "memory");
+    assert!(rt; loads && log.checkpoint().is_some() && log.len() == 9);
+    executor.restart(&log).expect(rt, "memory");
+    assert!(rt; executor.reached() == 5 && executor.result(2, 1).is_none());
+    assert!(rt; is_told(executor.result(1, 2), Some(b"none")));
+    executor.run_to(&log, 9).expect(rt, "memory");
+    check_answers(rt, &executor);
+    executor.rewind(&log, 5);
+    assert!(rt; executor.reached() == 5 && executor.result(2, 1).is_none());
+}
+
+#[test]
+fn begun_with_a_checkpoint(rt: HostRuntime) {
+    check_restarted::<KvHost>(&rt, rt.alloc());
+}
+
+/// No checkpoint loads, and so does that of no keys; without its count it does not.
+fn check_what_loads<H: Host>(rt: &impl Abort, alloc: Global) {
+    assert!(rt; checkpoint_loads::<H>(alloc, None).expect(rt, "memory"));
+    let rows: [(&[u8], bool); 2] = [(b"\0\0\0\0", true), (b"", false)];
+    for (row, (bytes, told)) in rows.iter().enumerate() {
+        let host = Bytes::new(alloc, bytes).expect(rt, "memory");
+        let checkpoint = Checkpoint::new(host, Vec::new(alloc)).expect(rt, "a checkpoint");
+        let loads = checkpoint_loads::<H>(alloc, Some(&checkpoint)).expect(rt, "memory");
+        assert!(rt; loads == *told, "row {row}");
+    }
+}
+
+#[test]
+fn what_loads(rt: HostRuntime) {
+    check_what_loads::<KvHost>(&rt, rt.alloc());
 }

@@ -1,5 +1,5 @@
-//! Tests alone, by the public calls of the crates below: how a replica executes its log (client
-//! table, executor, checkpoints).
+//! Tests alone, by the public calls of the crates below: how a replica executes its log, whole or
+//! from a checkpoint on (`execution`), and what it keeps for each client (`tables`).
 #![tactic(auto)]
 
 #[cfg(test)]
@@ -8,3 +8,5 @@ mod execution;
 mod logs;
 #[cfg(test)]
 mod requests;
+#[cfg(test)]
+mod tables;

@@ -1,6 +1,7 @@
 ghost use Rattle.std.specs.Prelude.{◌≡◌};
+ghost use Rattle.nop_types.specs.Ranges.{RequestFits};
 
-use nop_types::{MAX_OP_BYTES, Op, Request};
+use nop_types::{Bytes, MAX_OP_BYTES, Op, Request};
 use std::alloc::Global;
 use std::process::Abort;
 
@@ -8,11 +9,21 @@ use std::process::Abort;
 pub fn request(rt: &impl Abort, alloc: Global, client: u32, id: u64, op: &[u8]) -> Request
     ensures client { result.client ≡ client }
     ensures id { result.id ≡ id }
+    ensures fits { RequestFits result }
 {
-    assert!(rt; op.len() <= MAX_OP_BYTES);
+    assert!(rt; id >= 1 && op.len() <= MAX_OP_BYTES);
     Request {
         client,
         id,
         op: Op::new(alloc, op).expect(rt, "memory"),
+    }
+}
+
+/// The answer is the one that is told.
+pub fn is_told(answer: Option<&Bytes>, told: Option<&[u8]>) -> bool {
+    match (answer, told) {
+        (Some(answer), Some(told)) => answer.as_slice() == told,
+        (None, None) => true,
+        _ => false,
     }
 }

@@ -1,11 +1,12 @@
 -- A field that is read is the field that was written, and what was written is read again.
 use Rattle.std.proofs.Common.{◌≡◌, ℕ, ◌^◌, ◌<◌, ◌≤◌, Bool, true, List, [], ◌∷◌, ◌++◌, length, Option, Some, None, Result, Ok, refl, sym, ap}
 use Rattle.std.proofs.Common.{subst, ◌∙◌, append_assoc, arith}
-use Rattle.std.specs.Prelude.{nat_lt, nat_le, ◌&&◌}
+use Rattle.std.specs.Prelude.{◌+◌, nat_lt, nat_le, ◌&&◌}
 use Rattle.std.specs.Int.{Width, w16, w32, w64}
 use Rattle.std.proofs.lemmas.Bool.Decides.{nat_tests}
 use Rattle.nop_types.specs.Ranges.{ViewFits, SlotFits, NextFits, RequestFits}
-use Rattle.nop_types.specs.declared.limits.TheConstants.{MAX_OP_BYTES, MAX_REPLICAS, MAX_SLOTS, NUMBER_END}
+use Rattle.nop_types.specs.declared.limits.TheConstants.{MAX_HOST_BYTES, MAX_LENGTH, MAX_OP_BYTES, MAX_REPLICAS, MAX_RESULT_BYTES, MAX_SERVED}
+use Rattle.nop_types.specs.declared.limits.TheConstants.{MAX_SLOTS, NUMBER_END}
 use Rattle.nop_types.specs.declared.view.View.{View}
 use Rattle.nop_types.specs.declared.request.Request.{Request}
 use Rattle.oum_codec.specs.Numbers.{IsBytes, be_bytes, number_at, byte_at, bytes_at}
@@ -17,7 +18,7 @@ use Rattle.oum_codec.proofs.Numbers.{byte_takes, bytes_take, bytes_again, view_t
 use Rattle.peer_codec.specs.declared.bad_peer.BadPeer.{BadPeer}
 use Rattle.peer_codec.specs.declared.bad_peer.BadPeer.TheVariants.{Short, Field}
 use Rattle.peer_codec.specs.Fields.{there, in_range, sender_at, view_at, slot_at, next_at, length_at, count_at, id_at, op_at}
-use Rattle.peer_codec.specs.Fields.{request_at}
+use Rattle.peer_codec.specs.Fields.{counted_at, request_at, host_at, served_at, client_at, greatest_at, result_at}
 
 abbrev done : {A : Type 0} → A → Result A BadPeer
 done x = Ok x
@@ -89,23 +90,65 @@ length_again n rest high = rw (u32_again n rest high) refl
 
 pub record CountFits (sync_point count : ℕ) : Type 0 where
   pub most : count ≤ MAX_SLOTS
-  pub point : sync_point ≤ count
+  pub limit : sync_point + count ≤ MAX_LENGTH
 
 pub count_takes : (sync_point : ℕ) (bytes : List ℕ) (x : ℕ × List ℕ) → IsBytes bytes → count_at sync_point bytes ≡ Ok x
     → Takes bytes (be_bytes w32 x.0) x.1 × CountFits sync_point x.0
 unfolding count_at
 count_takes sync_point bytes x fits e =
-    let t = number_in_range w32 (2 ^ 32) wide32 (λ n. nat_le n MAX_SLOTS && nat_le sync_point n) bytes x fits e in
+    let t = number_in_range w32 (2 ^ 32) wide32 (λ n. nat_le n MAX_SLOTS && nat_le (sync_point + n) MAX_LENGTH) bytes x fits e in
     let most : x.0 ≤ MAX_SLOTS = grind (arith, nat_tests, t.passes) in
-    let point : sync_point ≤ x.0 = grind (arith, nat_tests, t.passes) in
-    (t.takes, record { most = most; point = point })
+    let limit : sync_point + x.0 ≤ MAX_LENGTH = grind (arith, nat_tests, t.passes) in
+    (t.takes, record { most = most; limit = limit })
 
-pub count_again : (sync_point n : ℕ) (rest : List ℕ) → n ≤ MAX_SLOTS → sync_point ≤ n
+pub count_again : (sync_point n : ℕ) (rest : List ℕ) → n ≤ MAX_SLOTS → sync_point + n ≤ MAX_LENGTH
     → count_at sync_point (be_bytes w32 n ++ rest) ≡ Ok (n, rest)
 unfolding count_at
-count_again sync_point n rest most point =
-    let passes : (nat_le n MAX_SLOTS && nat_le sync_point n) ≡ true = grind (arith, nat_tests, most, point) in
-    number_in_range_again w32 (2 ^ 32) wide32 (λ n. nat_le n MAX_SLOTS && nat_le sync_point n) n rest (omega (arith, most)) passes
+count_again sync_point n rest most limit =
+    let passes : (nat_le n MAX_SLOTS && nat_le (sync_point + n) MAX_LENGTH) ≡ true = grind (arith, nat_tests, most, limit) in
+    number_in_range_again w32 (2 ^ 32) wide32 (λ n. nat_le n MAX_SLOTS && nat_le (sync_point + n) MAX_LENGTH) n rest (omega (arith, most))
+    passes
+
+pub served_takes : (bytes : List ℕ) (x : ℕ × List ℕ) → IsBytes bytes → served_at bytes ≡ Ok x
+    → Takes bytes (be_bytes w32 x.0) x.1 × (x.0 ≤ MAX_SERVED)
+unfolding served_at
+served_takes bytes x fits e =
+    let t = number_in_range w32 (2 ^ 32) wide32 (λ n. nat_le n MAX_SERVED) bytes x fits e in
+    let most : x.0 ≤ MAX_SERVED = grind (arith, nat_tests, t.passes) in
+    (t.takes, most)
+
+pub served_again : (n : ℕ) (rest : List ℕ) → n ≤ MAX_SERVED → served_at (be_bytes w32 n ++ rest) ≡ Ok (n, rest)
+unfolding served_at
+served_again n rest most =
+    let passes : nat_le n MAX_SERVED ≡ true = grind (arith, nat_tests, most) in
+    number_in_range_again w32 (2 ^ 32) wide32 (λ n. nat_le n MAX_SERVED) n rest (omega (arith, most)) passes
+
+pub record ClientFits (least client : ℕ) : Type 0 where
+  pub low : least ≤ client
+  pub high : client < 2 ^ 32
+
+pub client_takes : (least : ℕ) (bytes : List ℕ) (x : ℕ × List ℕ) → IsBytes bytes → client_at least bytes ≡ Ok x
+    → Takes bytes (be_bytes w32 x.0) x.1 × ClientFits least x.0
+unfolding client_at
+client_takes least bytes x fits e =
+    let t = number_in_range w32 (2 ^ 32) wide32 (λ n. nat_le least n) bytes x fits e in
+    let low : least ≤ x.0 = grind (arith, nat_tests, t.passes) in
+    (t.takes, record { low = low; high = t.below })
+
+pub client_again : (least n : ℕ) (rest : List ℕ) → least ≤ n → n < 2 ^ 32 → client_at least (be_bytes w32 n ++ rest) ≡ Ok (n, rest)
+unfolding client_at
+client_again least n rest low high =
+    let passes : nat_le least n ≡ true = grind (arith, nat_tests, low) in
+    number_in_range_again w32 (2 ^ 32) wide32 (λ n. nat_le least n) n rest high passes
+
+pub greatest_takes : (bytes : List ℕ) (x : ℕ × List ℕ) → IsBytes bytes → greatest_at bytes ≡ Ok x
+    → Takes bytes (be_bytes w64 x.0) x.1 × (x.0 < 2 ^ 64)
+unfolding greatest_at
+greatest_takes bytes x fits e = number_takes w64 (2 ^ 64) wide64 bytes x fits (ok_or_ok (number_at w64 bytes) Short x e)
+
+pub greatest_again : (n : ℕ) (rest : List ℕ) → n < 2 ^ 64 → greatest_at (be_bytes w64 n ++ rest) ≡ Ok (n, rest)
+unfolding greatest_at
+greatest_again n rest high = rw (number_again w64 (2 ^ 64) wide64 n rest high) refl
 
 record IdFits (id : ℕ) : Type 0 where
   pub low : 1 ≤ id
@@ -152,30 +195,54 @@ started_again v rest fits =
     let passes : nat_lt 0 v.session ≡ true = grind (arith, nat_tests, fits.session.low) in
     rw (view_again v rest (record { leader = fits.leader; session = fits.session.high }), passes) refl
 
--- ---- an op and a request
+-- ---- bytes behind their length
+
+counted_takes : (w : Width) (limit : ℕ) → IsWide w limit → (most : ℕ) (bytes : List ℕ) (x : List ℕ × List ℕ) → IsBytes bytes
+    → counted_at w most bytes ≡ Ok x → Takes bytes (be_bytes w (length x.0) ++ x.0) x.1 × (length x.0 ≤ most)
+unfolding counted_at
+counted_takes w limit wide most bytes x fits e =
+    let a = bind_ok (in_range (λ n. nat_le n most) (number_at w bytes)) (λ len. there (bytes_at len.0 len.1)) x e in
+    let t = number_in_range w limit wide (λ n. nat_le n most) bytes a.0 fits a.1 in
+    let s = bytes_take a.0.0 a.0.1 x t.takes.rest_fits (ok_or_ok (bytes_at a.0.0 a.0.1) Short x a.2) in
+    let both = Takes-then bytes _ _ _ _ t.takes s.0 in
+    let small : a.0.0 ≤ most = grind (arith, nat_tests, t.passes) in
+    (subst (λ (n : ℕ). Takes bytes (be_bytes w n ++ x.0) x.1) (sym s.1) both, omega (arith, small, s.1))
+
+counted_again : (w : Width) (limit : ℕ) → IsWide w limit → (most : ℕ) (text rest : List ℕ) → most < limit → length text ≤ most
+    → counted_at w most (be_bytes w (length text) ++ text ++ rest) ≡ Ok (text, rest)
+unfolding counted_at
+counted_again w limit wide most text rest lt le =
+    let passes : nat_le (length text) most ≡ true = grind (arith, nat_tests, le) in
+    rw (
+      append_assoc (be_bytes w (length text)) text rest,
+      number_again w limit wide (length text) (text ++ rest) (omega (arith, le, lt)),
+      passes,
+      bytes_again (length text) text rest refl,
+    ) refl
 
 op_takes : (bytes : List ℕ) (x : List ℕ × List ℕ) → IsBytes bytes → op_at bytes ≡ Ok x
     → Takes bytes (counted_bytes x.0) x.1 × (length x.0 ≤ MAX_OP_BYTES)
-unfolding op_at
-op_takes bytes x fits e =
-    let a = bind_ok (in_range (λ n. nat_le n MAX_OP_BYTES) (number_at w16 bytes)) (λ len. there (bytes_at len.0 len.1)) x e in
-    let t = number_in_range w16 (2 ^ 16) wide16 (λ n. nat_le n MAX_OP_BYTES) bytes a.0 fits a.1 in
-    let s = bytes_take a.0.0 a.0.1 x t.takes.rest_fits (ok_or_ok (bytes_at a.0.0 a.0.1) Short x a.2) in
-    let both = Takes-then bytes _ _ _ _ t.takes s.0 in
-    let small : a.0.0 ≤ MAX_OP_BYTES = grind (arith, nat_tests, t.passes) in
-    (subst (λ (n : ℕ). Takes bytes (be_bytes w16 n ++ x.0) x.1) (sym s.1) both, omega (arith, small, s.1))
+op_takes bytes x fits e = counted_takes w16 (2 ^ 16) wide16 MAX_OP_BYTES bytes x fits e
 
 op_again : (op rest : List ℕ) → length op ≤ MAX_OP_BYTES → op_at (counted_bytes op ++ rest) ≡ Ok (op, rest)
-unfolding op_at
-op_again op rest le =
-    let regrouped : counted_bytes op ++ rest ≡ be_bytes w16 (length op) ++ (op ++ rest) = append_assoc (be_bytes w16 (length op)) op rest in
-    let passes : nat_le (length op) MAX_OP_BYTES ≡ true = grind (arith, nat_tests, le) in
-    rw (
-      regrouped,
-      number_again w16 (2 ^ 16) wide16 (length op) (op ++ rest) (omega (arith, le)),
-      passes,
-      bytes_again (length op) op rest refl,
-    ) refl
+op_again op rest le = counted_again w16 (2 ^ 16) wide16 MAX_OP_BYTES op rest (omega arith) le
+
+pub result_takes : (bytes : List ℕ) (x : List ℕ × List ℕ) → IsBytes bytes → result_at bytes ≡ Ok x
+    → Takes bytes (counted_bytes x.0) x.1 × (length x.0 ≤ MAX_RESULT_BYTES)
+result_takes bytes x fits e = counted_takes w16 (2 ^ 16) wide16 MAX_RESULT_BYTES bytes x fits e
+
+pub result_again : (result rest : List ℕ) → length result ≤ MAX_RESULT_BYTES → result_at (counted_bytes result ++ rest) ≡ Ok (result, rest)
+result_again result rest le = counted_again w16 (2 ^ 16) wide16 MAX_RESULT_BYTES result rest (omega arith) le
+
+pub host_takes : (bytes : List ℕ) (x : List ℕ × List ℕ) → IsBytes bytes → host_at bytes ≡ Ok x
+    → Takes bytes (be_bytes w32 (length x.0) ++ x.0) x.1 × (length x.0 ≤ MAX_HOST_BYTES)
+host_takes bytes x fits e = counted_takes w32 (2 ^ 32) wide32 MAX_HOST_BYTES bytes x fits e
+
+pub host_again : (host rest : List ℕ) → length host ≤ MAX_HOST_BYTES
+    → host_at (be_bytes w32 (length host) ++ host ++ rest) ≡ Ok (host, rest)
+host_again host rest le = counted_again w32 (2 ^ 32) wide32 MAX_HOST_BYTES host rest (omega arith) le
+
+-- ---- a request
 
 pub request_takes : (bytes : List ℕ) (x : Request × List ℕ) → IsBytes bytes → request_at bytes ≡ Ok x
     → Takes bytes (request_bytes x.0) x.1 × RequestFits x.0

@@ -4,8 +4,8 @@ use Rattle.std.proofs.Common.{inr, ◌⊎◌}
 use Rattle.std.specs.Prelude.{◌<◌, ◌^◌}
 use Rattle.std.specs.Int.{w32, w64}
 use Rattle.std.proofs.lemmas.Bool.{eqb-true}
-use Rattle.nop_types.specs.Logs.{Log}
-use Rattle.nop_types.specs.Ranges.{RequestFits, LogFits, SlotFits, LogChangeFits, LogStartFits, BodyFits}
+use Rattle.nop_types.specs.Logs.{Log, Trimmed}
+use Rattle.nop_types.specs.Ranges.{RequestFits, LogFits, SlotFits, LogChangeIsIn, LogStartIsIn, BodyFits}
 use Rattle.nop_types.specs.declared.view.View.{View}
 use Rattle.nop_types.specs.declared.request.Request.{Request}
 use Rattle.nop_types.specs.declared.peer.Body.{Body}
@@ -23,7 +23,7 @@ use Rattle.peer_codec.specs.Logs.{log_at}
 use Rattle.peer_codec.specs.Reading.{found_at, view_change_at, start_view_at, sync_prepare_at, body_at}
 use Rattle.peer_codec.proofs.EachField.{slot_takes, slot_again, next_takes, next_again, length_takes, length_again, started_takes}
 use Rattle.peer_codec.proofs.EachField.{started_again, request_takes, request_again}
-use Rattle.peer_codec.proofs.Entries.{log_takes, log_again}
+use Rattle.peer_codec.proofs.EachLog.{log_takes, log_again}
 
 abbrev pub ReadBody : Type 0
 ReadBody = Result (Body × List ℕ) BadPeer
@@ -176,7 +176,7 @@ found_again slot r rest slot_fits fits =
     append_assoc (be_bytes w32 slot) (request_bytes r) rest in
     rw (regrouped, slot_again slot (request_bytes r ++ rest) slot_fits, request_again r rest fits) refl
 
-start_view_again : (next : ℕ) (log : Log) (rest : List ℕ) → LogStartFits next log
+start_view_again : (next : ℕ) (log : Log) (rest : List ℕ) → LogStartIsIn Trimmed next log
     → start_view_at (be_bytes w64 next ++ log_bytes log ++ rest) ≡ Ok (StartView next log, rest)
 unfolding start_view_at
 start_view_again next log rest fits =
@@ -184,7 +184,7 @@ start_view_again next log rest fits =
     append_assoc (be_bytes w64 next) (log_bytes log) rest in
     rw (regrouped, next_again next (log_bytes log ++ rest) fits.number, log_again log rest fits.told) refl
 
-view_change_again : (v : View) (next : ℕ) (log : Log) (rest : List ℕ) → LogChangeFits v next log
+view_change_again : (v : View) (next : ℕ) (log : Log) (rest : List ℕ) → LogChangeIsIn Trimmed v next log
     → view_change_at (view_bytes v ++ be_bytes w64 next ++ log_bytes log ++ rest) ≡ Ok (ViewChange v next log, rest)
 unfolding view_change_at
 view_change_again v next log rest fits =

@@ -1,6 +1,9 @@
+pub mod Accounts
 pub mod EachField
 pub mod EachKind
+pub mod EachLog
 pub mod Entries
+pub mod Longest
 pub mod Loop
 pub mod Peers
 pub mod SpelledLengths

@@ -1,29 +1,37 @@
 -- How many bytes spellings have.
-use Rattle.std.proofs.Common.{◌≡◌, ℕ, ◌+◌, List, ◌++◌, length, length-append, arith}
+use Rattle.std.proofs.Common.{◌≡◌, ℕ, ◌+◌, List, ◌++◌, length, length-append, arith, ap, ◌∙◌}
+use Rattle.std.specs.Prelude.{map}
 use Rattle.std.specs.Int.{w16, w32, w64}
 use Rattle.std.specs.List.{flat_map, sum_by}
 use Rattle.std.proofs.lemmas.List.Concat.{length-flat_map}
-use Rattle.nop_types.specs.Logs.{whole}
+use Rattle.nop_types.specs.Checkpoints.{Checkpoint, saved_account}
+use Rattle.nop_types.specs.Logs.{Log}
+use Rattle.nop_types.specs.declared.checkpoint.SavedClient.{SavedClient}
 use Rattle.nop_types.specs.declared.view.View.{View}
 use Rattle.nop_types.specs.declared.request.Request.{Request}
 use Rattle.nop_types.specs.declared.request.Entry.{Entry}
 use Rattle.nop_types.specs.declared.peer.Peer.{Peer}
-use Rattle.nop_types.specs.declared.peer.Body.TheVariants.{Found, ViewChange, StartView, SyncPrepare}
+use Rattle.nop_types.specs.declared.peer.Body.TheVariants.{Found, ViewChange, StartView}
 use Rattle.oum_codec.specs.Numbers.{be_bytes}
-use Rattle.oum_codec.specs.Spelling.{view_bytes, request_bytes}
+use Rattle.oum_codec.specs.Spelling.{view_bytes, counted_bytes, request_bytes}
 use Rattle.oum_codec.proofs.Numbers.{wide16, wide32, wide64}
-use Rattle.peer_codec.specs.Spelling.{entry_bytes, entries_bytes, log_bytes, body_bytes, head_bytes, kind_of, spelling}
+use Rattle.peer_codec.specs.Spelling.{entry_bytes, entries_bytes, account_bytes, accounts_bytes, checkpoint_bytes, told_bytes, log_bytes}
+use Rattle.peer_codec.specs.Spelling.{body_bytes, head_bytes, kind_of, spelling}
+use Rattle.peer_codec.proofs.Accounts.{saved_bytes, accounts_saved}
 
 view_len : (v : View) → length (view_bytes v) ≡ 8
 view_len v = omega (arith, length-append (be_bytes w32 v.leader) (be_bytes w32 v.session), wide32.len v.leader, wide32.len v.session)
 
+counted_len : (bytes : List ℕ) → length (counted_bytes bytes) ≡ 2 + length bytes
+counted_len bytes = omega (arith, length-append (be_bytes w16 (length bytes)) bytes, wide16.len (length bytes))
+
+-- ---- entries
+
 pub request_len : (r : Request) → length (request_bytes r) ≡ 14 + length r.op
 request_len r =
-    let counted : length (be_bytes w16 (length r.op) ++ r.op) ≡ 2 + length r.op =
-    omega (arith, length-append (be_bytes w16 (length r.op)) r.op, wide16.len (length r.op)) in
     let front : length (be_bytes w32 r.client ++ be_bytes w64 r.id) ≡ 12 =
     omega (arith, length-append (be_bytes w32 r.client) (be_bytes w64 r.id), wide32.len r.client, wide64.len r.id) in
-    omega (arith, length-append (be_bytes w32 r.client ++ be_bytes w64 r.id) (be_bytes w16 (length r.op) ++ r.op), counted, front)
+    omega (arith, length-append (be_bytes w32 r.client ++ be_bytes w64 r.id) (counted_bytes r.op), counted_len r.op, front)
 
 pub entries_len : (entries : List Entry) → length (entries_bytes entries) ≡ 4 + sum_by (λ e. length (entry_bytes e)) entries
 entries_len entries =
@@ -34,8 +42,41 @@ entries_len entries =
       length-flat_map entry_bytes entries,
     )
 
-log_len : (z : ℕ) (entries : List Entry) → length (log_bytes (whole z entries)) ≡ 4 + length (entries_bytes entries)
-log_len z entries = omega (arith, length-append (be_bytes w32 z) (entries_bytes entries), wide32.len z)
+-- ---- checkpoints
+
+pub account_len : (c : SavedClient) → length (account_bytes (saved_account c)) ≡ 14 + length c.result
+account_len c =
+    let front : length (be_bytes w32 c.client ++ be_bytes w64 c.id) ≡ 12 =
+    omega (arith, length-append (be_bytes w32 c.client) (be_bytes w64 c.id), wide32.len c.client, wide64.len c.id) in
+    let parts : length (be_bytes w32 c.client ++ be_bytes w64 c.id ++ counted_bytes c.result) ≡ 14 + length c.result =
+    omega (arith, length-append (be_bytes w32 c.client ++ be_bytes w64 c.id) (counted_bytes c.result), counted_len c.result, front) in
+    ap length (saved_bytes c) ∙ parts
+
+pub accounts_len : (clients : List SavedClient)
+    → length (accounts_bytes (map saved_account clients)) ≡ 4 + sum_by (λ c. length (account_bytes (saved_account c))) clients
+accounts_len clients =
+    let each : SavedClient → List ℕ = λ c. account_bytes (saved_account c) in
+    omega (
+      arith,
+      ap length (accounts_saved clients),
+      length-append (be_bytes w32 (length clients)) (flat_map each clients),
+      wide32.len (length clients),
+      length-flat_map each clients,
+    )
+
+pub checkpoint_len : (c : Checkpoint) → length (checkpoint_bytes c) ≡ 4 + length c.host + length (accounts_bytes c.clients)
+checkpoint_len c =
+    let front : length (be_bytes w32 (length c.host) ++ c.host) ≡ 4 + length c.host =
+    omega (arith, length-append (be_bytes w32 (length c.host)) c.host, wide32.len (length c.host)) in
+    omega (arith, length-append (be_bytes w32 (length c.host) ++ c.host) (accounts_bytes c.clients), front)
+
+-- ---- messages
+
+pub log_len : (log : Log) → length (log_bytes log) ≡ 4 + length (told_bytes log.checkpoint) + length (entries_bytes log.entries)
+log_len log =
+    let z : List ℕ = be_bytes w32 log.sync_point in
+    let told : List ℕ = told_bytes log.checkpoint in
+    omega (arith, length-append (z ++ told) (entries_bytes log.entries), length-append z told, wide32.len log.sync_point)
 
 pub number_len : (n : ℕ) → length (be_bytes w32 n) ≡ 4
 number_len n = wide32.len n
@@ -43,25 +84,18 @@ number_len n = wide32.len n
 pub found_len : (slot : ℕ) (r : Request) → length (body_bytes (Found slot r)) ≡ 4 + length (request_bytes r)
 found_len slot r = omega (arith, length-append (be_bytes w32 slot) (request_bytes r), wide32.len slot)
 
-pub start_view_len : (next z : ℕ) (entries : List Entry)
-    → length (body_bytes (StartView next (whole z entries))) ≡ 12 + length (entries_bytes entries)
-start_view_len next z entries =
-    omega (arith, length-append (be_bytes w64 next) (log_bytes (whole z entries)), wide64.len next, log_len z entries)
+pub start_view_len : (next : ℕ) (log : Log) → length (body_bytes (StartView next log)) ≡ 8 + length (log_bytes log)
+start_view_len next log = omega (arith, length-append (be_bytes w64 next) (log_bytes log), wide64.len next)
 
-pub view_change_len : (v : View) (next z : ℕ) (entries : List Entry)
-    → length (body_bytes (ViewChange v next (whole z entries))) ≡ 20 + length (entries_bytes entries)
-view_change_len v next z entries =
+pub view_change_len : (v : View) (next : ℕ) (log : Log) → length (body_bytes (ViewChange v next log)) ≡ 16 + length (log_bytes log)
+view_change_len v next log =
     let front : length (view_bytes v ++ be_bytes w64 next) ≡ 16 =
     omega (arith, length-append (view_bytes v) (be_bytes w64 next), view_len v, wide64.len next) in
-    omega (arith, length-append (view_bytes v ++ be_bytes w64 next) (log_bytes (whole z entries)), front, log_len z entries)
-
-pub sync_prepare_len : (z : ℕ) (entries : List Entry)
-    → length (body_bytes (SyncPrepare (whole z entries))) ≡ 4 + length (entries_bytes entries)
-sync_prepare_len z entries = log_len z entries
+    omega (arith, length-append (view_bytes v ++ be_bytes w64 next) (log_bytes log), front)
 
 pub spelling_len : (p : Peer) → length (spelling p) ≡ 10 + length (body_bytes p.body)
 spelling_len p =
     let head : length (head_bytes (kind_of p.body) p.sender p.view) ≡ 10 = omega (arith, view_len p.view) in
     omega (arith, length-append (head_bytes (kind_of p.body) p.sender p.view) (body_bytes p.body), head)
 
-pub ruleset body_lens = (number_len, found_len, start_view_len, view_change_len, sync_prepare_len)
+pub ruleset body_lens = (number_len, found_len, start_view_len, view_change_len)

@@ -1,7 +1,8 @@
 -- The fields of messages at the front of the bytes: each with the bytes after it, or the first test that fails.
-use Rattle.std.specs.Prelude.{ℕ, Bool, List, Option, ok_or, Result, Ok, Err, nat_lt, nat_le, ◌&&◌, if◌then◌else◌}
-use Rattle.std.specs.Int.{w16, w32, w64}
-use Rattle.nop_types.specs.declared.limits.TheConstants.{MAX_OP_BYTES, MAX_REPLICAS, MAX_SLOTS, NUMBER_END}
+use Rattle.std.specs.Prelude.{ℕ, ◌+◌, Bool, List, Option, ok_or, Result, Ok, Err, nat_lt, nat_le, ◌&&◌, if◌then◌else◌}
+use Rattle.std.specs.Int.{Width, w16, w32, w64}
+use Rattle.nop_types.specs.declared.limits.TheConstants.{MAX_HOST_BYTES, MAX_LENGTH, MAX_OP_BYTES, MAX_REPLICAS, MAX_RESULT_BYTES, MAX_SERVED}
+use Rattle.nop_types.specs.declared.limits.TheConstants.{MAX_SLOTS, NUMBER_END}
 use Rattle.nop_types.specs.declared.view.View.{View}
 use Rattle.nop_types.specs.declared.request.Request.{Request}
 use Rattle.oum_codec.specs.Numbers.{number_at, byte_at, bytes_at}
@@ -37,19 +38,22 @@ next_at bytes = in_range (λ n. nat_lt 0 n && nat_le n NUMBER_END) (number_at w6
 unfoldable pub length_at : List ℕ → Result (ℕ × List ℕ) BadPeer
 length_at bytes = there (number_at w32 bytes)
 
--- the number of the entries of a log with this sync point, which is within it
+-- how many entries a log has above this sync point
 unfoldable pub count_at : ℕ → List ℕ → Result (ℕ × List ℕ) BadPeer
-count_at sync_point bytes = in_range (λ n. nat_le n MAX_SLOTS && nat_le sync_point n) (number_at w32 bytes)
+count_at sync_point bytes = in_range (λ n. nat_le n MAX_SLOTS && nat_le (sync_point + n) MAX_LENGTH) (number_at w32 bytes)
 
 -- ids count from 1
 unfoldable pub id_at : List ℕ → Result (ℕ × List ℕ) BadPeer
 id_at bytes = in_range (λ n. nat_lt 0 n) (number_at w64 bytes)
 
--- an op's length, and the op
-unfoldable pub op_at : List ℕ → Result (List ℕ × List ℕ) BadPeer
-op_at bytes = do
-  len ← in_range (λ n. nat_le n MAX_OP_BYTES) (number_at w16 bytes)
+-- a length in the bytes of a width, and that many bytes
+unfoldable pub counted_at : Width → ℕ → List ℕ → Result (List ℕ × List ℕ) BadPeer
+counted_at w most bytes = do
+  len ← in_range (λ n. nat_le n most) (number_at w bytes)
   there (bytes_at len.0 len.1)
+
+abbrev pub op_at : List ℕ → Result (List ℕ × List ℕ) BadPeer
+op_at bytes = counted_at w16 MAX_OP_BYTES bytes
 
 unfoldable pub request_at : List ℕ → Result (Request × List ℕ) BadPeer
 request_at bytes = do
@@ -57,3 +61,24 @@ request_at bytes = do
   id ← id_at client.1
   op ← op_at id.1
   Ok (record { client = client.0; id = id.0; op = op.0 }, op.1)
+
+-- ---- of a checkpoint
+
+-- the saved state of a host
+abbrev pub host_at : List ℕ → Result (List ℕ × List ℕ) BadPeer
+host_at bytes = counted_at w32 MAX_HOST_BYTES bytes
+
+-- how many clients there are
+unfoldable pub served_at : List ℕ → Result (ℕ × List ℕ) BadPeer
+served_at bytes = in_range (λ n. nat_le n MAX_SERVED) (number_at w32 bytes)
+
+-- a client's number, from this one on
+unfoldable pub client_at : ℕ → List ℕ → Result (ℕ × List ℕ) BadPeer
+client_at least bytes = in_range (λ n. nat_le least n) (number_at w32 bytes)
+
+-- the greatest id that a client has executed
+unfoldable pub greatest_at : List ℕ → Result (ℕ × List ℕ) BadPeer
+greatest_at bytes = there (number_at w64 bytes)
+
+abbrev pub result_at : List ℕ → Result (List ℕ × List ℕ) BadPeer
+result_at bytes = counted_at w16 MAX_RESULT_BYTES bytes

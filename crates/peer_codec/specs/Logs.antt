@@ -1,12 +1,14 @@
--- Entries and logs at the front of the bytes.
-use Rattle.std.specs.Prelude.{ℕ, zero, suc, List, [], ◌∷◌, Result, Ok, Err}
+-- Entries, checkpoints and logs at the front of the bytes.
+use Rattle.std.specs.Prelude.{ℕ, zero, suc, ◌+◌, List, [], ◌∷◌, Option, Some, None, Result, Ok, Err, nat_lt, if◌then◌else◌}
 use Rattle.nop_types.specs.declared.request.Entry.{Entry}
 use Rattle.nop_types.specs.declared.request.Entry.TheVariants.{NoOp, Req}
-use Rattle.nop_types.specs.Logs.{Log, whole}
+use Rattle.nop_types.specs.Checkpoints.{Checkpoint, saved_account}
+use Rattle.nop_types.specs.Logs.{Log}
+use Rattle.nop_types.specs.Tables.{Account}
 use Rattle.oum_codec.specs.Reading.{◌>>=◌}
 use Rattle.peer_codec.specs.declared.bad_peer.BadPeer.{BadPeer}
 use Rattle.peer_codec.specs.declared.bad_peer.BadPeer.TheVariants.{Short, Field}
-use Rattle.peer_codec.specs.Fields.{length_at, count_at, request_at}
+use Rattle.peer_codec.specs.Fields.{length_at, count_at, request_at, host_at, served_at, client_at, greatest_at, result_at}
 
 -- the tag is 0 for a NO-OP, and 1 for a request
 unfoldable pub entry_at : List ℕ → Result (Entry × List ℕ) BadPeer
@@ -23,10 +25,39 @@ entries_at (suc n) bytes = do
   others ← entries_at n first.1
   Ok (first.0 ∷ others.0, others.1)
 
--- a log's sync point, the number of its entries, then the entries: what follows them stands at the end
+-- a client, from this number on, its greatest id, and that id's result
+unfoldable pub account_at : ℕ → List ℕ → Result ((ℕ × Account) × List ℕ) BadPeer
+account_at least bytes = do
+  client ← client_at least bytes
+  id ← greatest_at client.1
+  result ← result_at id.1
+  Ok (saved_account (record { client = client.0; id = id.0; result = result.0 }), result.1)
+
+-- a given number of clients, from a number on, ascending
+unfoldable pub accounts_at : ℕ → ℕ → List ℕ → Result (List (ℕ × Account) × List ℕ) BadPeer
+accounts_at zero least bytes = Ok ([], bytes)
+accounts_at (suc n) least bytes = do
+  first ← account_at least bytes
+  others ← accounts_at n (first.0.0 + 1) first.1
+  Ok (first.0 ∷ others.0, others.1)
+
+-- the host's saved state, the number of clients, and the clients
+unfoldable pub checkpoint_at : List ℕ → Result (Checkpoint × List ℕ) BadPeer
+checkpoint_at bytes = do
+  host ← host_at bytes
+  count ← served_at host.1
+  clients ← accounts_at count.0 0 count.1
+  Ok (record { host = host.0; clients = clients.0 }, clients.1)
+
+-- a checkpoint, where the sync point is above 0
+unfoldable pub told_at : ℕ → List ℕ → Result (Option Checkpoint × List ℕ) BadPeer
+told_at sync_point bytes = if nat_lt 0 sync_point then (checkpoint_at bytes >>= λ c. Ok (Some c.0, c.1)) else Ok (None, bytes)
+
+-- a log's sync point, its checkpoint, the number of its entries, then the entries: what follows them stands at the end
 unfoldable pub log_at : List ℕ → Result (Log × List ℕ) BadPeer
 log_at bytes = do
   sync_point ← length_at bytes
-  count ← count_at sync_point.0 sync_point.1
+  checkpoint ← told_at sync_point.0 sync_point.1
+  count ← count_at sync_point.0 checkpoint.1
   entries ← entries_at count.0 count.1
-  Ok (whole sync_point.0 entries.0, entries.1)
+  Ok (record { sync_point = sync_point.0; checkpoint = checkpoint.0; entries = entries.0 }, entries.1)

@@ -1,9 +1,12 @@
 -- The one spelling of each message.
-use Rattle.std.specs.Prelude.{◌≡◌, ℕ, List, [], ◌∷◌, ◌++◌, length}
+use Rattle.std.specs.Prelude.{◌≡◌, ℕ, List, [], ◌∷◌, ◌++◌, length, Option, Some, None}
 use Rattle.std.specs.Int.{w32, w64}
 use Rattle.std.specs.List.{flat_map}
+use Rattle.std.specs.Option.{unwrap_or}
+use Rattle.nop_types.specs.Checkpoints.{Checkpoint}
 use Rattle.nop_types.specs.Logs.{Log}
 use Rattle.nop_types.specs.Ranges.{PeerFits}
+use Rattle.nop_types.specs.Tables.{Account, result_in}
 use Rattle.nop_types.specs.declared.view.View.{View}
 use Rattle.nop_types.specs.declared.request.Entry.{Entry}
 use Rattle.nop_types.specs.declared.request.Entry.TheVariants.{NoOp, Req}
@@ -12,7 +15,7 @@ use Rattle.nop_types.specs.declared.peer.Body.{Body}
 use Rattle.nop_types.specs.declared.peer.Body.TheVariants as bodies
 use Rattle.nop_types.specs.declared.kinds.TheConstants as kinds
 use Rattle.oum_codec.specs.Numbers.{be_bytes}
-use Rattle.oum_codec.specs.Spelling.{view_bytes, request_bytes}
+use Rattle.oum_codec.specs.Spelling.{view_bytes, counted_bytes, request_bytes}
 
 -- a tag, and the request if there is one
 abbrev pub entry_bytes : Entry → List ℕ
@@ -23,9 +26,26 @@ entry_bytes (Req r) = 1 ∷ [] ++ request_bytes r
 abbrev pub entries_bytes : List Entry → List ℕ
 entries_bytes entries = be_bytes w32 (length entries) ++ flat_map entry_bytes entries
 
--- the entries behind the sync point
+-- a client, its greatest id, and the result that is kept with that id
+abbrev pub account_bytes : ℕ × Account → List ℕ
+account_bytes e = be_bytes w32 e.0 ++ be_bytes w64 e.1.greatest ++ counted_bytes (unwrap_or (result_in e.1.kept e.1.greatest) [])
+
+-- four bytes of number, and the clients
+abbrev pub accounts_bytes : List (ℕ × Account) → List ℕ
+accounts_bytes clients = be_bytes w32 (length clients) ++ flat_map account_bytes clients
+
+-- four bytes of length and the host's saved state, then the clients
+abbrev pub checkpoint_bytes : Checkpoint → List ℕ
+checkpoint_bytes c = be_bytes w32 (length c.host) ++ c.host ++ accounts_bytes c.clients
+
+-- nothing stands for no checkpoint
+abbrev pub told_bytes : Option Checkpoint → List ℕ
+told_bytes None = []
+told_bytes (Some c) = checkpoint_bytes c
+
+-- the sync point, the checkpoint, and the entries
 abbrev pub log_bytes : Log → List ℕ
-log_bytes log = be_bytes w32 log.sync_point ++ entries_bytes log.entries
+log_bytes log = be_bytes w32 log.sync_point ++ told_bytes log.checkpoint ++ entries_bytes log.entries
 
 abbrev pub kind_of : Body → ℕ
 kind_of (bodies.SlotLookup slot) = kinds.SLOT_LOOKUP

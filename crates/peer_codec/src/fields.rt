@@ -1,12 +1,18 @@
 //! The fields of messages, read from the front of the bytes: each answers its value and the bytes after it.
 
-ghost use Rattle.std.specs.Prelude.{◌≤◌, IfOk};
-ghost use Rattle.nop_types.specs.declared.limits.TheConstants.{MAX_SLOTS};
+ghost use Rattle.std.specs.Prelude.{◌≤◌, ◌+◌, length, IfOk};
+ghost use Rattle.std.specs.Int.{w16, w32};
+ghost use Rattle.nop_types.specs.declared.limits.TheConstants.{MAX_HOST_BYTES, MAX_LENGTH, MAX_RESULT_BYTES};
+ghost use Rattle.nop_types.specs.declared.limits.TheConstants.{MAX_SERVED, MAX_SLOTS};
 ghost use Rattle.peer_codec.specs.Answers.{GivesBy};
-ghost use Rattle.peer_codec.specs.Fields.{sender_at, view_at, slot_at, next_at, length_at, count_at, id_at, op_at, request_at};
+ghost use Rattle.peer_codec.specs.Fields.{sender_at, view_at, slot_at, next_at, length_at, count_at, id_at, counted_at, op_at};
+ghost use Rattle.peer_codec.specs.Fields.{request_at, host_at, served_at, client_at, greatest_at, result_at};
 
 use crate::BadPeer;
-use nop_types::{MAX_OP_BYTES, MAX_REPLICAS, MAX_SLOTS, NUMBER_END, Op, Request, View};
+use nop_types::{
+    Bytes, MAX_HOST_BYTES, MAX_LENGTH, MAX_OP_BYTES, MAX_REPLICAS, MAX_RESULT_BYTES, MAX_SERVED,
+    MAX_SLOTS, NUMBER_END, Op, Request, View,
+};
 use oum_codec::{split_bytes, split_u8, split_u16, split_u32, split_u64, split_view};
 use std::alloc::Global;
 
@@ -72,16 +78,17 @@ pub fn split_length(bytes: &[u8]) -> Result<(u32, &[u8]), BadPeer>
     split_u32(bytes).ok_or(BadPeer::Short)
 }
 
-/// The number of a log's entries, which is not below its sync point.
+/// The number of a log's entries above its sync point.
 #[tactic(auto, unfolding(crate::specs::Fields::count_at))]
 pub fn split_count(sync_point: u32, bytes: &[u8]) -> Result<(u32, &[u8]), BadPeer>
     ensures exact { GivesBy (λ x. (x.0, x.1.now)) result (count_at sync_point bytes.now) }
     ensures small { IfOk result (λ x. x.0 ≤ MAX_SLOTS) }
+    ensures limit { IfOk result (λ x. sync_point + x.0 ≤ MAX_LENGTH) }
 {
     let Some((count, rest)) = split_u32(bytes) else {
         return Err(BadPeer::Short);
     };
-    if MAX_SLOTS < count as usize || count < sync_point {
+    if MAX_SLOTS < count as usize || MAX_LENGTH - sync_point < count {
         return Err(BadPeer::Field);
     }
     Ok((count, rest))
@@ -100,21 +107,26 @@ fn split_id(bytes: &[u8]) -> Result<(u64, &[u8]), BadPeer>
     Ok((id, rest))
 }
 
-/// An op's length, and the op.
-#[tactic(auto, unfolding(crate::specs::Fields::op_at))]
-fn split_op(alloc: Global, bytes: &[u8]) -> Result<(Op, &[u8]), BadPeer>
-    ensures { GivesBy (λ x. (x.0, x.1.now)) result (op_at bytes.now) }
+/// A length in two bytes, and that many bytes, at most `most`.
+#[tactic(auto, unfolding(crate::specs::Fields::counted_at))]
+fn split_short(most: usize, bytes: &[u8]) -> Result<(&[u8], &[u8]), BadPeer>
+    ensures exact { GivesBy (λ x. (x.0.now, x.1.now)) result (counted_at w16 most bytes.now) }
+    ensures small { IfOk result (λ x. length x.0.now ≤ most) }
 {
     let Some((len, rest)) = split_u16(bytes) else {
         return Err(BadPeer::Short);
     };
     let len = len as usize;
-    if MAX_OP_BYTES < len {
+    if most < len {
         return Err(BadPeer::Field);
     }
-    let Some((op, rest)) = split_bytes(rest, len) else {
-        return Err(BadPeer::Short);
-    };
+    split_bytes(rest, len).ok_or(BadPeer::Short)
+}
+
+fn split_op(alloc: Global, bytes: &[u8]) -> Result<(Op, &[u8]), BadPeer>
+    ensures { GivesBy (λ x. (x.0, x.1.now)) result (op_at bytes.now) }
+{
+    let (op, rest) = split_short(MAX_OP_BYTES, bytes)?;
     Ok((Op::new(alloc, op)?, rest))
 }
 
@@ -128,4 +140,67 @@ pub fn split_request(alloc: Global, bytes: &[u8]) -> Result<(Request, &[u8]), Ba
     let (id, rest) = split_id(rest)?;
     let (op, rest) = split_op(alloc, rest)?;
     Ok((Request { client, id, op }, rest))
+}
+
+/// The saved state of a host, behind its length.
+#[tactic(auto, unfolding(crate::specs::Fields::counted_at))]
+pub fn split_host(alloc: Global, bytes: &[u8]) -> Result<(Bytes, &[u8]), BadPeer>
+    ensures exact { GivesBy (λ x. (x.0, x.1.now)) result (host_at bytes.now) }
+    ensures small { IfOk result (λ x. length x.0 ≤ MAX_HOST_BYTES) }
+{
+    let Some((len, rest)) = split_u32(bytes) else {
+        return Err(BadPeer::Short);
+    };
+    let len = len as usize;
+    if MAX_HOST_BYTES < len {
+        return Err(BadPeer::Field);
+    }
+    let Some((host, rest)) = split_bytes(rest, len) else {
+        return Err(BadPeer::Short);
+    };
+    Ok((Bytes::new(alloc, host)?, rest))
+}
+
+/// The number of a checkpoint's clients.
+#[tactic(auto, unfolding(crate::specs::Fields::served_at))]
+pub fn split_served(bytes: &[u8]) -> Result<(u32, &[u8]), BadPeer>
+    ensures exact { GivesBy (λ x. (x.0, x.1.now)) result (served_at bytes.now) }
+    ensures small { IfOk result (λ x. x.0 ≤ MAX_SERVED) }
+{
+    let Some((count, rest)) = split_u32(bytes) else {
+        return Err(BadPeer::Short);
+    };
+    if MAX_SERVED < count as usize {
+        return Err(BadPeer::Field);
+    }
+    Ok((count, rest))
+}
+
+/// A client's number, which is not below `least`.
+#[tactic(auto, unfolding(crate::specs::Fields::client_at))]
+pub fn split_client(least: u64, bytes: &[u8]) -> Result<(u32, &[u8]), BadPeer>
+    ensures { GivesBy (λ x. (x.0, x.1.now)) result (client_at least bytes.now) }
+{
+    let Some((client, rest)) = split_u32(bytes) else {
+        return Err(BadPeer::Short);
+    };
+    if u64::from(client) < least {
+        return Err(BadPeer::Field);
+    }
+    Ok((client, rest))
+}
+
+/// The greatest id that a client has executed.
+#[tactic(auto, unfolding(crate::specs::Fields::greatest_at))]
+pub fn split_greatest(bytes: &[u8]) -> Result<(u64, &[u8]), BadPeer>
+    ensures { GivesBy (λ x. (x.0, x.1.now)) result (greatest_at bytes.now) }
+{
+    split_u64(bytes).ok_or(BadPeer::Short)
+}
+
+pub fn split_result(alloc: Global, bytes: &[u8]) -> Result<(Bytes, &[u8]), BadPeer>
+    ensures { GivesBy (λ x. (x.0, x.1.now)) result (result_at bytes.now) }
+{
+    let (result, rest) = split_short(MAX_RESULT_BYTES, bytes)?;
+    Ok((Bytes::new(alloc, result)?, rest))
 }

@@ -1,6 +1,6 @@
 //! What the definitions of spelling and reading say together.
 
-ghost use Rattle.std.specs.Prelude.{◌≡◌, Ok, List, ℕ};
+ghost use Rattle.std.specs.Prelude.{◌≡◌, ◌≤◌, Ok, List, ℕ, length};
 ghost use Rattle.nop_types.specs.Ranges.{PeerFits};
 ghost use Rattle.nop_types.specs.declared.peer.Peer.{Peer};
 ghost use Rattle.oum_codec.specs.Numbers.{IsBytes};
@@ -23,4 +23,10 @@ pub fn read_is_spelled()
 #[tactic(auto, using(crate::proofs::Peers::spelling_is_injective))]
 pub fn spelling_is_injective()
     ensures { (p q : Peer) → PeerFits p → PeerFits q → spelling p ≡ spelling q → p ≡ q }
+{}
+
+/// No message has more bytes.
+#[tactic(auto, using(crate::proofs::Longest::spelling_most))]
+pub fn spelling_is_limited()
+    ensures { (p : Peer) → PeerFits p → length (spelling p) ≤ 4152298 }
 {}

@@ -1,13 +1,18 @@
 //! How many bytes spellings have.
 
-ghost use Rattle.std.specs.Prelude.{◌≡◌, ◌≤◌, ◌+◌, ◌*◌, length};
-ghost use Rattle.nop_types.specs.declared.limits.TheConstants.{MAX_OP_BYTES, MAX_SLOTS};
+ghost use Rattle.std.specs.Prelude.{◌≡◌, ◌≤◌, ◌+◌, ◌*◌, length, map, All};
+ghost use Rattle.std.specs.Option.{option_copied};
+ghost use Rattle.nop_types.specs.declared.limits.TheConstants.{MAX_HOST_BYTES, MAX_OP_BYTES, MAX_RESULT_BYTES, MAX_SERVED};
+ghost use Rattle.nop_types.specs.declared.limits.TheConstants.{MAX_SLOTS};
+ghost use Rattle.nop_types.specs.BorrowedLogs.{log_of};
+ghost use Rattle.nop_types.specs.Checkpoints.{saved_account};
 ghost use Rattle.oum_codec.specs.Spelling.{request_bytes};
 ghost use Rattle.peer_codec.specs.LogBodies.{log_in, with_log};
-ghost use Rattle.peer_codec.specs.Spelling.{entry_bytes, entries_bytes, body_bytes, spelling};
+ghost use Rattle.peer_codec.specs.Spelling.{entry_bytes, entries_bytes, account_bytes, accounts_bytes, checkpoint_bytes};
+ghost use Rattle.peer_codec.specs.Spelling.{told_bytes, log_bytes, body_bytes, spelling};
 
 use crate::LogBody;
-use nop_types::{Body, Entry, Peer, Request};
+use nop_types::{Body, Checkpoint, Entry, LogRef, Peer, Request, SavedClient};
 
 /// The bytes of a spelling before the fields of its kind: kind, sender and view.
 pub const HEAD_BYTES: usize = 10;
@@ -42,10 +47,60 @@ fn entries_len(entries: &[Entry]) -> usize
     len
 }
 
+#[tactic(auto, using(crate::proofs::SpelledLengths::account_len))]
+fn account_len(saved: &SavedClient) -> usize
+    requires { length saved.now.result ≤ MAX_RESULT_BYTES }
+    ensures exact { result ≡ length (account_bytes (saved_account saved.now)) }
+    ensures small { result ≤ 14 + MAX_RESULT_BYTES }
+{
+    14 + saved.result.as_slice().len()
+}
+
+fn accounts_len(clients: &[SavedClient]) -> usize
+    requires few { length clients.now ≤ MAX_SERVED }
+    requires short { All (λ c. length c.result ≤ MAX_RESULT_BYTES) clients.now }
+    ensures exact { result ≡ length (accounts_bytes (map saved_account clients.now)) }
+    ensures small { result ≤ 4 + MAX_SERVED * (14 + MAX_RESULT_BYTES) }
+{
+    let mut len: usize = 4;
+    for saved in clients {
+        len += account_len(saved);
+    }
+    len
+}
+
+fn checkpoint_len(checkpoint: &Checkpoint) -> usize
+    ensures exact { result ≡ length (checkpoint_bytes checkpoint.now) }
+    ensures small { result ≤ 8 + MAX_HOST_BYTES + MAX_SERVED * (14 + MAX_RESULT_BYTES) }
+{
+    4 + checkpoint.host().as_slice().len() + accounts_len(checkpoint.clients())
+}
+
+fn told_len(checkpoint: Option<&Checkpoint>) -> usize
+    ensures exact { result ≡ length (told_bytes (option_copied checkpoint.entry)) }
+    ensures small { result ≤ 8 + MAX_HOST_BYTES + MAX_SERVED * (14 + MAX_RESULT_BYTES) }
+{
+    match checkpoint {
+        Some(checkpoint) => checkpoint_len(checkpoint),
+        None => 0,
+    }
+}
+
+#[tactic(auto, using(crate::proofs::SpelledLengths::log_len))]
+fn log_len(log: LogRef<'_>) -> usize
+    requires { length log.entries.now ≤ MAX_SLOTS }
+    ensures exact { result ≡ length (log_bytes (log_of log.entry)) }
+    ensures small { result ≤ 16 + MAX_HOST_BYTES + MAX_SERVED * (14 + MAX_RESULT_BYTES)
+        + MAX_SLOTS * (15 + MAX_OP_BYTES) }
+{
+    4 + told_len(log.checkpoint) + entries_len(log.entries)
+}
+
 #[tactic(auto, using(crate::proofs::SpelledLengths::body_lens))]
 fn body_len(body: &Body) -> usize
     ensures exact { result ≡ length (body_bytes body.now) }
-    ensures small { result ≤ 24 + MAX_SLOTS * (15 + MAX_OP_BYTES) }
+    ensures small { result ≤ 32 + MAX_HOST_BYTES + MAX_SERVED * (14 + MAX_RESULT_BYTES)
+        + MAX_SLOTS * (15 + MAX_OP_BYTES) }
 {
     match body {
         Body::SlotLookup(_)
@@ -55,9 +110,9 @@ fn body_len(body: &Body) -> usize
         | Body::SyncCommit(_) => 4,
         Body::Found(_, request) => 4 + request_len(request),
         Body::ViewChangeReq => 0,
-        Body::ViewChange { log, .. } => 20 + entries_len(log.entries()),
-        Body::StartView { log, .. } => 12 + entries_len(log.entries()),
-        Body::SyncPrepare(log) => 4 + entries_len(log.entries()),
+        Body::ViewChange { log, .. } => 16 + log_len(log.as_ref()),
+        Body::StartView { log, .. } => 8 + log_len(log.as_ref()),
+        Body::SyncPrepare(log) => log_len(log.as_ref()),
     }
 }
 
@@ -72,11 +127,12 @@ pub fn spelled_len(message: &Peer) -> usize
 pub fn log_body_len(body: LogBody<'_>) -> usize
     requires { length (log_in body).entries ≤ MAX_SLOTS }
     ensures exact { result ≡ length (body_bytes (with_log body.entry)) }
-    ensures small { result ≤ 24 + MAX_SLOTS * (15 + MAX_OP_BYTES) }
+    ensures small { result ≤ 32 + MAX_HOST_BYTES + MAX_SERVED * (14 + MAX_RESULT_BYTES)
+        + MAX_SLOTS * (15 + MAX_OP_BYTES) }
 {
     match body {
-        LogBody::ViewChange { log, .. } => 20 + entries_len(log.entries),
-        LogBody::StartView { log, .. } => 12 + entries_len(log.entries),
-        LogBody::SyncPrepare(log) => 4 + entries_len(log.entries),
+        LogBody::ViewChange { log, .. } => 16 + log_len(log),
+        LogBody::StartView { log, .. } => 8 + log_len(log),
+        LogBody::SyncPrepare(log) => log_len(log),
     }
 }

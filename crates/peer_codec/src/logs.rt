@@ -1,13 +1,17 @@
 //! Logs, read from the front of the bytes.
 
-ghost use Rattle.std.specs.Prelude.{◌≤◌, length, IfOk};
-ghost use Rattle.nop_types.specs.declared.limits.TheConstants.{MAX_SLOTS};
+ghost use Rattle.std.specs.Prelude.{◌≡◌, ◌≤◌, length, map, IsTrue, IfOk};
+ghost use Rattle.nop_types.specs.declared.limits.TheConstants.{MAX_SERVED, MAX_SLOTS};
+ghost use Rattle.nop_types.specs.Checkpoints.{saved_account, are_saved};
 ghost use Rattle.peer_codec.specs.Answers.{GivesBy};
-ghost use Rattle.peer_codec.specs.Logs.{entry_at, entries_at, log_at};
+ghost use Rattle.peer_codec.specs.Logs.{entry_at, entries_at, account_at, accounts_at, checkpoint_at, told_at, log_at};
 
 use crate::BadPeer;
-use crate::fields::{split_count, split_length, split_request};
-use nop_types::{Entry, Log};
+use crate::fields::{
+    split_client, split_count, split_greatest, split_host, split_length, split_request,
+    split_result, split_served,
+};
+use nop_types::{Checkpoint, Entry, Log, SavedClient};
 use std::alloc::Global;
 
 /// With tag 0 a NO-OP, with tag 1 a request.
@@ -30,7 +34,7 @@ fn split_entry(alloc: Global, bytes: &[u8]) -> Result<(Entry, &[u8]), BadPeer>
 fn split_entries(alloc: Global, count: u32, bytes: &[u8]) -> Result<(Vec<Entry>, &[u8]), BadPeer>
     requires { count ≤ MAX_SLOTS }
     ensures exact { GivesBy (λ x. (x.0.items, x.1.now)) result (entries_at count bytes.now) }
-    ensures small { IfOk result (λ x. length x.0.items ≤ MAX_SLOTS) }
+    ensures len { IfOk result (λ x. length x.0.items ≡ count) }
 {
     let mut entries = Vec::with_capacity(alloc, bytes.len().min(count as usize))?;
     let mut rest = bytes;
@@ -42,13 +46,80 @@ fn split_entries(alloc: Global, count: u32, bytes: &[u8]) -> Result<(Vec<Entry>,
     Ok((entries, rest))
 }
 
-/// The sync point, the number of entries, and the entries.
+/// The fewest bytes of a client: its number, its greatest id, and the length of the result.
+const LEAST_CLIENT: usize = 14;
+
+#[tactic(auto, unfolding(crate::specs::Logs::account_at))]
+fn split_account(alloc: Global, least: u64, bytes: &[u8]) -> Result<(SavedClient, &[u8]), BadPeer>
+    ensures { GivesBy (λ x. (saved_account x.0, x.1.now)) result (account_at least bytes.now) }
+{
+    let (client, rest) = split_client(least, bytes)?;
+    let (id, rest) = split_greatest(rest)?;
+    let (result, rest) = split_result(alloc, rest)?;
+    Ok((SavedClient { client, id, result }, rest))
+}
+
+/// `count` clients, ascending. There is room for no more than have bytes.
+fn split_accounts(
+    alloc: Global,
+    count: u32,
+    bytes: &[u8],
+) -> Result<(Vec<SavedClient>, &[u8]), BadPeer>
+    requires { count ≤ MAX_SERVED }
+    ensures exact { GivesBy (λ x. (map saved_account x.0.items, x.1.now)) result
+        (accounts_at count 0 bytes.now) }
+    ensures len { IfOk result (λ x. length x.0.items ≡ count) }
+    ensures saved { IfOk result (λ x. IsTrue (are_saved 0 (map saved_account x.0.items))) }
+{
+    let room = (bytes.len() / LEAST_CLIENT).min(count as usize);
+    let mut clients = Vec::with_capacity(alloc, room)?;
+    let mut least = 0;
+    let mut rest = bytes;
+    for _ in 0..count {
+        let (saved, after) = split_account(alloc, least, rest)?;
+        least = u64::from(saved.client) + 1;
+        clients.push(saved)?;
+        rest = after;
+    }
+    Ok((clients, rest))
+}
+
+#[tactic(auto, unfolding(crate::specs::Logs::checkpoint_at))]
+fn split_checkpoint(alloc: Global, bytes: &[u8]) -> Result<(Checkpoint, &[u8]), BadPeer>
+    ensures { GivesBy (λ x. (x.0, x.1.now)) result (checkpoint_at bytes.now) }
+{
+    let (host, rest) = split_host(alloc, bytes)?;
+    let (count, rest) = split_served(rest)?;
+    let (clients, rest) = split_accounts(alloc, count, rest)?;
+    // It is within the limits, as each field was.
+    let checkpoint = Checkpoint::new(host, clients).unwrap();
+    Ok((checkpoint, rest))
+}
+
+/// A checkpoint, where the sync point is above 0.
+#[tactic(auto, unfolding(crate::specs::Logs::told_at))]
+fn split_told(
+    alloc: Global,
+    sync_point: u32,
+    bytes: &[u8],
+) -> Result<(Option<Checkpoint>, &[u8]), BadPeer>
+    ensures { GivesBy (λ x. (x.0, x.1.now)) result (told_at sync_point bytes.now) }
+{
+    if sync_point == 0 {
+        return Ok((None, bytes));
+    }
+    let (checkpoint, rest) = split_checkpoint(alloc, bytes)?;
+    Ok((Some(checkpoint), rest))
+}
+
+/// The sync point, the checkpoint, the number of entries, and the entries.
 #[tactic(auto, unfolding(crate::specs::Logs::log_at))]
 pub fn split_log(alloc: Global, bytes: &[u8]) -> Result<(Log, &[u8]), BadPeer>
     ensures { GivesBy (λ x. (x.0, x.1.now)) result (log_at bytes.now) }
 {
     let (sync_point, rest) = split_length(bytes)?;
+    let (checkpoint, rest) = split_told(alloc, sync_point, rest)?;
     let (count, rest) = split_count(sync_point, rest)?;
     let (entries, rest) = split_entries(alloc, count, rest)?;
-    Ok((Log::new(sync_point, entries), rest))
+    Ok((Log::new(sync_point, checkpoint, entries), rest))
 }

@@ -118,7 +118,7 @@ fn peer(alloc: Global, bytes: &[u8]) -> Result<Peer, BadPeer>
 }
 
 /// The message that the bytes spell, or the first test that they fail. No more memory is taken than the bytes could need: for
-/// the entries of a log, as many as have bytes, and for each op its own bytes.
+/// the entries and the clients of a log, as many as have bytes, and for an op, a result or a host's state its own bytes.
 pub fn decode_peer(alloc: Global, bytes: &[u8]) -> Result<Peer, BadPeer>
     // What is read is spelled so.
     ensures found { IfOk result (λ p. Spells p bytes.now) }

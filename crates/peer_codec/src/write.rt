@@ -1,17 +1,19 @@
-ghost use Rattle.std.specs.Prelude.{◌≡◌, ◌≤◌, ◌++◌, ◌∷◌, [], length, OnOk, OnErr};
+ghost use Rattle.std.specs.Prelude.{◌≡◌, ◌≤◌, ◌++◌, ◌∷◌, [], length, map, All, OnOk, OnErr};
 ghost use Rattle.std.specs.Int.{w16, w32, w64};
-ghost use Rattle.nop_types.specs.declared.limits.TheConstants.{MAX_SLOTS};
+ghost use Rattle.std.specs.Option.{option_copied};
+ghost use Rattle.nop_types.specs.declared.limits.TheConstants.{MAX_RESULT_BYTES, MAX_SERVED, MAX_SLOTS};
 ghost use Rattle.nop_types.specs.BorrowedLogs.{log_of};
+ghost use Rattle.nop_types.specs.Checkpoints.{saved_account};
 ghost use Rattle.nop_types.specs.Ranges.{PeerFits};
 ghost use Rattle.oum_codec.specs.Numbers.{be_bytes};
 ghost use Rattle.oum_codec.specs.Spelling.{view_bytes};
 ghost use Rattle.peer_codec.specs.LogBodies.{log_in, with_log, log_message};
-ghost use Rattle.peer_codec.specs.Spelling.{entry_bytes, entries_bytes, log_bytes, kind_of, head_bytes, body_bytes};
-ghost use Rattle.peer_codec.specs.Spelling.{spelling};
+ghost use Rattle.peer_codec.specs.Spelling.{entry_bytes, entries_bytes, account_bytes, accounts_bytes, checkpoint_bytes};
+ghost use Rattle.peer_codec.specs.Spelling.{told_bytes, log_bytes, kind_of, head_bytes, body_bytes, spelling};
 
 use crate::LogBody;
 use crate::lengths::{HEAD_BYTES, log_body_len, spelled_len};
-use nop_types::{Body, Entry, LogRef, NoMemory, Peer, View, kinds};
+use nop_types::{Body, Checkpoint, Entry, LogRef, NoMemory, Peer, SavedClient, View, kinds};
 use oum_codec::{put_request, put_u32, put_u64, put_view};
 use std::alloc::Global;
 
@@ -53,11 +55,67 @@ fn put_entries(to: &mut Vec<u8>, entries: &[Entry]) -> Result<(), NoMemory>
     Ok(())
 }
 
+/// The fields of a client before its result: its number, its greatest id and the length of the result.
+#[tactic(auto, unfolding(oum_codec::specs::Numbers::be_bytes))]
+fn account_front(client: u32, id: u64, result_len: u16) -> [u8; 14]
+    ensures { result ≡ be_bytes w32 client ++ be_bytes w64 id ++ be_bytes w16 result_len }
+{
+    let [c0, c1, c2, c3] = client.to_be_bytes();
+    let [i0, i1, i2, i3, i4, i5, i6, i7] = id.to_be_bytes();
+    let [n0, n1] = result_len.to_be_bytes();
+    [c0, c1, c2, c3, i0, i1, i2, i3, i4, i5, i6, i7, n0, n1]
+}
+
+fn put_account(to: &mut Vec<u8>, saved: &SavedClient) -> Result<(), NoMemory>
+    requires { length saved.now.result ≤ MAX_RESULT_BYTES }
+    ensures { OnOk result (to.new.items
+        ≡ to.old.items ++ account_bytes (saved_account saved.now)) }
+{
+    let result = saved.result.as_slice();
+    let front = account_front(saved.client, saved.id, result.len() as u16);
+    to.extend_from_slice(&front)?;
+    to.extend_from_slice(result)?;
+    Ok(())
+}
+
+fn put_accounts(to: &mut Vec<u8>, clients: &[SavedClient]) -> Result<(), NoMemory>
+    requires few { length clients.now ≤ MAX_SERVED }
+    requires short { All (λ c. length c.result ≤ MAX_RESULT_BYTES) clients.now }
+    ensures { OnOk result (to.new.items
+        ≡ to.old.items ++ accounts_bytes (map saved_account clients.now)) }
+{
+    put_u32(to, clients.len() as u32)?;
+    for saved in clients {
+        put_account(to, saved)?;
+    }
+    Ok(())
+}
+
+fn put_checkpoint(to: &mut Vec<u8>, checkpoint: &Checkpoint) -> Result<(), NoMemory>
+    ensures { OnOk result (to.new.items ≡ to.old.items ++ checkpoint_bytes checkpoint.now) }
+{
+    let host = checkpoint.host().as_slice();
+    put_u32(to, host.len() as u32)?;
+    to.extend_from_slice(host)?;
+    put_accounts(to, checkpoint.clients())
+}
+
+fn put_told(to: &mut Vec<u8>, checkpoint: Option<&Checkpoint>) -> Result<(), NoMemory>
+    ensures { OnOk result (to.new.items
+        ≡ to.old.items ++ told_bytes (option_copied checkpoint.entry)) }
+{
+    match checkpoint {
+        Some(checkpoint) => put_checkpoint(to, checkpoint),
+        None => Ok(()),
+    }
+}
+
 fn put_log(to: &mut Vec<u8>, log: LogRef<'_>) -> Result<(), NoMemory>
     requires { length log.entries.now ≤ MAX_SLOTS }
     ensures { OnOk result (to.new.items ≡ to.old.items ++ log_bytes (log_of log.entry)) }
 {
     put_u32(to, log.sync_point)?;
+    put_told(to, log.checkpoint)?;
     put_entries(to, log.entries)
 }
 

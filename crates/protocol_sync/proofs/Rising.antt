@@ -11,14 +11,13 @@ use Rattle.nop_types.specs.declared.request.Entry.{Entry}
 use Rattle.nop_types.specs.Lists.{IsPrefixOf}
 use Rattle.nop_types.specs.Meaning.{Meaning}
 use Rattle.nop_types.specs.Views.{Below, leader_of}
-use Rattle.gap_agree.specs.Votes.{vote_of, with_vote}
 use Rattle.started_views.specs.Logs.{SameTo, Toward}
 use Rattle.started_views.specs.Past.{HadLog, LeaderHad}
 use Rattle.started_views.proofs.Keeping.{start_synchronised}
 use Rattle.started_views.proofs.Logs.{same_from_prefix, same_grown, toward_keeps_same}
 use Rattle.facts.proofs.Prefixes.{IsPrefixOf-trans, IsPrefixOf-take}
 use Rattle.facts.proofs.Views.{cases_View, AtMost-refl}
-use Rattle.sync_points.specs.Synchronisation.{Round, Synchronisation, closed, counted_in}
+use Rattle.sync_points.specs.Synchronisation.{Round, Synchronisation, closed, counted_in, with_vote_for, round_vote}
 use Rattle.protocol.specs.Conf.{Conf, last_normals}
 use Rattle.protocol.specs.Evolves.{Evolves}
 use Rattle.protocol.specs.Invariant.{Inv}
@@ -26,16 +25,16 @@ use Rattle.protocol.specs.Member.{Member, leads}
 use Rattle.protocol.specs.Moves.{entered, enter_as}
 use Rattle.protocol.specs.Runs.{Act, Queue, TakeFront, Fill, OpenGap, CountGapVote, WriteGap, AddGap, Enter, KeepChange, OpenView, Adopt}
 use Rattle.protocol.specs.Runs.{Say, Overlay, Obey, OpenSync, CountSyncVote, RepeatCommit, Move, Acts, MoveTo, Installed, Install, Stamp}
-use Rattle.protocol.specs.Runs.{Submit, Keep, Accept, Tell, effect, happens, May, run, MayAll}
+use Rattle.protocol.specs.Runs.{Submit, Keep, Accept, Tell, effect, happens, run}
 use Rattle.protocol.proofs.Grounding.{grounds_of}
 use Rattle.facts.proofs.Functions.{put-all}
-use Rattle.protocol.proofs.Runs.{happens_keeps, run_keeps}
+use Rattle.protocol.proofs.Runs.{run_keeps}
 use Rattle.facts.proofs.Options.{same_Some-at}
 use Rattle.protocol_sync.specs.Laws.{SyncPointsNeverFall}
 use Rattle.protocol_sync.specs.Synced.{GoodSync, Sync}
 use Rattle.protocol_sync.proofs.Agreeing.{fixed_from}
 use Rattle.protocol_sync.proofs.Lasting.{anchored_lasts}
-use Rattle.protocol_sync.proofs.Runs.{happens_syncs, run_syncs}
+use Rattle.protocol_sync.proofs.Runs.{run_syncs}
 
 -- ---- by one move
 
@@ -53,67 +52,62 @@ round_rises s k false a is = omega arith
 round_rises s k true true is = grind (arith, nat_tests, is)
 round_rises s k true false is = omega arith
 
--- a round that is closed was above the sync point
-closed_rises : (s : Synchronisation) (x y : Round) (b : Bool) (v : Vote) → s.sync_point < x.len → y.len ≡ x.len
-    → Rises s (closed s (cond b y x) (cond b v Waiting))
-closed_rises s x y false v low same = omega arith
-closed_rises s x y true Waiting low same = omega arith
-closed_rises s x y true Settled low same = omega (arith, low, same)
+closed_rises : (s : Synchronisation) (x : Round) (v : Vote) → Rises s (closed s x v)
+closed_rises s x Waiting = omega arith
+closed_rises s x Settled = omega arith
 
-vote_rises : (s : Synchronisation) (q k : ℕ) (o : Option Round) → ((x : Round) → o ≡ Some x → s.sync_point < x.len)
-    → Rises s (counted_in s o q k)
-vote_rises s q k None low = omega arith
-vote_rises s q k (Some x) low = closed_rises s x (record x { votes = with_vote x.votes q }) (x.len == k)
-    (vote_of s.f (with_vote x.votes q)) (low x refl) refl
+vote_rises : (s : Synchronisation) (q k : ℕ) (o : Option Round) → Rises s (counted_in s o q k)
+vote_rises s q k None = omega arith
+vote_rises s q k (Some x) = closed_rises s (with_vote_for x q k) (round_vote s.f x q k)
 
 entered_rises : (p : Member) (v : View) (b : Bool) → Rises p.sync (enter_as b (entered p v)).state.sync
 entered_rises p v true = omega arith
 entered_rises p v false = omega arith
 
 module _ {S : Type 0} (m : Meaning S) (f : ℕ) where
-  act_rises : (c : Conf) (r : ℕ) → GoodSync f c r (c.replicas r) → (a : Act)
-      → Rises (c.replicas r).sync (effect m (c.replicas r) a).state.sync
-  act_rises c r own (Queue x) = omega arith
-  act_rises c r own (TakeFront q) = omega arith
-  act_rises c r own (Fill q) = omega arith
-  act_rises c r own OpenGap = omega arith
-  act_rises c r own (CountGapVote g q) = omega arith
-  act_rises c r own (WriteGap k) = omega arith
-  act_rises c r own AddGap = omega arith
-  act_rises c r own (Enter v) = entered_rises (c.replicas r) v (leads (entered (c.replicas r) v))
-  act_rises c r own (KeepChange g x) = omega arith
-  act_rises c r own (OpenView g) = omega arith
-  act_rises c r own (Adopt v x z l) = omega arith
-  act_rises c r own (Say x) = omega arith
-  act_rises c r own (Overlay z l) = omega arith
-  act_rises c r own (Obey k) = commit_rises (c.replicas r).sync k (nat_le k (c.replicas r).sync.prepared)
-  act_rises c r own OpenSync = let s = (c.replicas r).sync in let k = length (c.replicas r).log in
+  act_rises : (p : Member) (a : Act) → Rises p.sync (effect m p a).state.sync
+  act_rises p (Queue x) = omega arith
+  act_rises p (TakeFront q) = omega arith
+  act_rises p (Fill q) = omega arith
+  act_rises p OpenGap = omega arith
+  act_rises p (CountGapVote g q) = omega arith
+  act_rises p (WriteGap k) = omega arith
+  act_rises p AddGap = omega arith
+  act_rises p (Enter v) = entered_rises p v (leads (entered p v))
+  act_rises p (KeepChange g x) = omega arith
+  act_rises p (OpenView g) = omega arith
+  act_rises p (Adopt v x z l) = omega arith
+  act_rises p (Say x) = omega arith
+  act_rises p (Overlay z l) = omega arith
+  act_rises p (Obey k) = commit_rises p.sync k (nat_le k p.sync.prepared)
+  act_rises p OpenSync =
+      let s = p.sync in
+      let k = length p.log in
       round_rises s k (nat_lt s.sync_point k) (s.f == 0) refl
-  act_rises c r own (CountSyncVote q k) = vote_rises (c.replicas r).sync q k (c.replicas r).sync.syncing (λ x e. (own.syncing x e).above)
-  act_rises c r own RepeatCommit = omega arith
+  act_rises p (CountSyncVote q k) = vote_rises p.sync q k p.sync.syncing
+  act_rises p RepeatCommit = omega arith
 
   abbrev AllRise : Conf → Conf → Type 0
   AllRise c d = (r : ℕ) → Rises (c.replicas r).sync (d.replicas r).sync
 
-  happens_rises : (c : Conf) → Sync f c → (x : Move) → May f c x → AllRise c (happens m f c x)
-  happens_rises c sync (Acts r a) may =
+  happens_rises : (c : Conf) (x : Move) → AllRise c (happens m f c x)
+  happens_rises c (Acts r a) =
       put-all (λ q t. Rises (c.replicas q).sync t.sync) c.replicas r (effect m (c.replicas r) a).state
-      (act_rises c r (sync.own r may.0) a) (λ q n. omega arith)
-  happens_rises c sync (MoveTo k j s) may = λ r. omega arith
-  happens_rises c sync (Installed k) may = λ r. omega arith
-  happens_rises c sync (Install j s) may = λ r. omega arith
-  happens_rises c sync (Stamp j q) may = λ r. omega arith
-  happens_rises c sync (Submit k op waiting) may = λ r. omega arith
-  happens_rises c sync (Keep k p) may = λ r. omega arith
-  happens_rises c sync (Accept k p leaders) may = λ r. omega arith
-  happens_rises c sync (Tell more) may = λ r. omega arith
+      (act_rises (c.replicas r) a) (λ q n. omega arith)
+  happens_rises c (MoveTo k j s) = λ r. omega arith
+  happens_rises c (Installed k) = λ r. omega arith
+  happens_rises c (Install j s) = λ r. omega arith
+  happens_rises c (Stamp j q) = λ r. omega arith
+  happens_rises c (Submit k op waiting) = λ r. omega arith
+  happens_rises c (Keep k p) = λ r. omega arith
+  happens_rises c (Accept k p leaders) = λ r. omega arith
+  happens_rises c (Tell more) = λ r. omega arith
 
-  run_rises : (c : Conf) (xs : List Move) → Inv m f c → Sync f c → MayAll m f c xs → AllRise c (run m f c xs)
-  run_rises c [] inv sync may = λ r. omega arith
-  run_rises c (x ∷ xs) inv sync (may, rest) =
-      let d = happens m f c x in
-      let one = happens_rises c sync x may in
-      let more = run_rises d xs (happens_keeps m f c x inv may).0 (happens_syncs m f c x inv sync may) rest in
+  run_rises : (c : Conf) (xs : List Move) → AllRise c (run m f c xs)
+  run_rises c [] = λ r. omega arith
+  run_rises c (x ∷ xs) =
+      let one = happens_rises c x in
+      let more = run_rises (happens m f c x) xs in
       λ r. omega (arith, one r, more r)
 
   -- ---- what is synchronised stays
@@ -172,6 +166,6 @@ pub sync_points_never_fall : {S : Type 0} (m : Meaning S) → SyncPointsNeverFal
 sync_points_never_fall m f c xs inv sync may =
     let kept = run_keeps m f c xs inv may in
     record {
-      points = run_rises m f c xs inv sync may;
+      points = run_rises m f c xs;
       prefixes = λ r l. (synchronised_stays m f c (run m f c xs) inv sync kept.1 kept.0 (run_syncs m f c xs inv sync may) r l).same;
     }

@@ -1,7 +1,7 @@
 -- The rounds of a leader.
 use Rattle.std.proofs.Common.{◌≡◌, ℕ, ◌+◌, ◌*◌, ◌<◌, ◌≤◌, Bool, true, false, cond, Option, Some, None, refl, sym, ap, subst, ◌∙◌, arith}
 use Rattle.std.proofs.Common.{inr, length, []}
-use Rattle.std.specs.Prelude.{◌==◌, nat_le, nat_lt}
+use Rattle.std.specs.Prelude.{◌==◌, max, nat_le, nat_lt}
 use Rattle.std.proofs.lemmas.Bool.Decides.{nat_tests}
 use Rattle.nop_types.specs.declared.view.View.{View}
 use Rattle.nop_types.specs.declared.replica_state.Vote.{Vote}
@@ -215,6 +215,7 @@ module _ {S : Type 0} (m : Meaning S) (f : ℕ) (c : Conf) (r : ℕ) (inv : Inv 
           let same : x.len ≡ k = eqb-true x.len k is in
           let said = said_lasts m f c d kept.1 q p.view (SyncRep k) vote.vote.said in
           let h = more d g said same in
+          let top : x.len ≡ max p.sync.sync_point x.len = omega (arith, h.above) in
           let enough : p.sync.f ≤ length (with_vote x.votes q) = enough_from p.sync.f (length (with_vote x.votes q))
           (nat_le p.sync.f (length (with_vote x.votes q))) refl settles in
           let synced : Synced f d p.view x.len = record {
@@ -248,8 +249,8 @@ module _ {S : Type 0} (m : Meaning S) (f : ℕ) (c : Conf) (r : ℕ) (inv : Inv 
           (tells_unless (others p == 0) f d p (SyncCommit k) tt)
           (record {
             count = g.count;
-            anchored = subst (λ (w : View). Anchored f d w x.len) (sym view) anchored;
-            agrees = all_agree d x.len had h.within;
+            anchored = subst (λ (n : ℕ). Anchored f d p.last_normal n) top (subst (λ (w : View). Anchored f d w x.len) (sym view) anchored);
+            agrees = subst (λ (n : ℕ). Agrees f d p.last_normal p.log n) top (all_agree d x.len had h.within);
             prepared = λ one. absurd ((g.prepared one).follows mine);
             syncing = λ y i. absurd cc;
           })

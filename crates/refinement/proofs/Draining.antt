@@ -6,7 +6,7 @@ use Rattle.nop_types.specs.declared.limits.TheConstants.{MAX_SLOTS}
 use Rattle.nop_types.specs.declared.replica_state.Phase.TheVariants.{Normal}
 use Rattle.nop_types.specs.declared.request.Request.{Request}
 use Rattle.nop_types.specs.declared.request.Entry.TheVariants.{NoOp, Req}
-use Rattle.nop_types.specs.Logs.{Whole}
+use Rattle.nop_types.specs.Logs.{Whole, unsynced}
 use Rattle.nop_types.specs.Meaning.{Meaning}
 use Rattle.oum_receiver.specs.Front.{Front, Nothing, Message, Dropped}
 use Rattle.oum_receiver.specs.Receiving.{front_of}
@@ -93,4 +93,4 @@ module _ {S : Type 0} (m : Meaning S) (f : ℕ) (r : ℕ) where
   -- the whole drain
   pub drain_in_view : (c : Conf) (s : ReplicaState) → Matches m f c r s → InView m f c r s (drain m Whole s)
   unfolding drain
-  drain_in_view c s h = drain_by_in_view (MAX_SLOTS - length s.log.entries) c s h
+  drain_in_view c s h = drain_by_in_view (MAX_SLOTS - unsynced Whole s.log) c s h

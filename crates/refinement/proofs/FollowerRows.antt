@@ -14,7 +14,7 @@ use Rattle.replica_state.specs.declared.state.ReplicaState.{ReplicaState}
 use Rattle.replica_state.specs.State.{PointsMeet, may_append}
 use Rattle.replica_state.specs.Sends.{then_do, when}
 use Rattle.replica_state.specs.Moves.{hear, gap_written, write_gap, add_gap, fill, overlay, obey, sync_commit, drain}
-use Rattle.replica_rows.specs.Rows.{gap_commit_if, gap_commit, found, sync_prepare, drain_if_risen}
+use Rattle.replica_rows.specs.Rows.{gap_commit_if, gap_commit, found, sync_prepare, raise_and_drain}
 use Rattle.replica_rows.specs.Rows as rows
 use Rattle.sync_points.specs.Synchronisation.{committed}
 use Rattle.protocol.specs.Conf.{Conf}
@@ -28,6 +28,7 @@ use Rattle.refinement.proofs.Composing.{InView, in_view_then, nothing_in_view, m
 use Rattle.refinement.proofs.Draining.{drain_in_view}
 use Rattle.refinement.proofs.Matching.{follows_last}
 use Rattle.refinement.proofs.Parts.{Stays, point_stays}
+use Rattle.refinement.proofs.Points.{commit_rises}
 use Rattle.refinement.proofs.Rising.{rise_in_view, still_in_view}
 use Rattle.refinement.proofs.Same.{fill_same, overlay_same}
 use Rattle.refinement.proofs.Splices.{overlaid_entries, overlay_begins, gap_entries, gap_meets}
@@ -126,12 +127,12 @@ module _ {S : Type 0} (m : Meaning S) (f : ℕ) (c : Conf) (r : ℕ) (s : Replic
 
   -- where so much is prepared
   commit_by : (b : Bool) (k : ℕ) → MayFollow c (member_of s) (SyncCommit k) → nat_le k s.sync.prepared ≡ b
-      → InView m f c r s (then_do (when b (λ t. obey (hear t) k) s) (drain_if_risen m Whole s.sync.sync_point))
+      → InView m f c r s (then_do (when b (λ t. obey (hear t) k) s) (raise_and_drain m Whole))
   commit_by true k may e =
       rise_in_view m f c r s h (obey (hear s) k).0 [] (Obey k) (record { may_follow = may; within = leb-true k s.sync.prepared e })
       (record { state = refl; said = refl; replies = refl })
-      (point_stays f r (standing (member_of s)) (committed s.sync k).sync_point) refl
-  commit_by false k may e = still_in_view m f c r s h s.sync.sync_point
+      (point_stays f r (standing (member_of s)) (committed s.sync k).sync_point) refl (commit_rises s.sync k)
+  commit_by false k may e = still_in_view m f c r s h
 
   pub sync_commit_in_view : (k : ℕ) → MayFollow c (member_of s) (SyncCommit k) → InView m f c r s (rows.sync_commit m Whole k s)
   unfolding rows.sync_commit sync_commit

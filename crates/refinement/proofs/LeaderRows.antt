@@ -1,21 +1,21 @@
 -- The rows of a leader that its followers speak to.
 use Rattle.std.proofs.Common.{◌≡◌, ℕ, ◌+◌, Bool, true, false, Option, None, Some, refl, sym, subst, length}
-use Rattle.std.specs.Prelude.{◌&&◌, ◌==◌, not, nat_lt, nat_le, take}
+use Rattle.std.specs.Prelude.{◌&&◌, ◌==◌, not, cond, nat_lt, nat_le, take}
 use Rattle.std.proofs.lemmas.Bool.{and_parts, eqb-true}
-use Rattle.nop_types.specs.declared.limits.TheConstants.{MAX_SLOTS, NUMBER_END}
+use Rattle.nop_types.specs.declared.limits.TheConstants.{NUMBER_END}
 use Rattle.nop_types.specs.declared.peer.Body.TheVariants as bodies
 use Rattle.nop_types.specs.declared.request.Entry.{Entry}
 use Rattle.nop_types.specs.declared.request.Entry.TheVariants.{NoOp, Req}
 use Rattle.nop_types.specs.Lists.{slot_of}
-use Rattle.nop_types.specs.Logs.{Whole}
+use Rattle.nop_types.specs.Logs.{Whole, has_room}
 use Rattle.nop_types.specs.Meaning.{Meaning}
 use Rattle.gap_agree.specs.Agreement.{Agreement}
-use Rattle.slot_lookup.specs.Answer.{answer_by, may_begin}
+use Rattle.slot_lookup.specs.Answer.{Below, answer_by, answer_above, may_begin}
 use Rattle.replica_state.specs.declared.state.ReplicaState.{ReplicaState}
 use Rattle.replica_state.specs.State.{waits}
 use Rattle.replica_state.specs.Sends.{to_replica}
 use Rattle.replica_state.specs.Moves.{open_gap, count_gap_vote, count_sync_vote, tell_synced, drain}
-use Rattle.replica_rows.specs.Rows.{begin_gap, slot_lookup_by, slot_lookup_if, slot_lookup, gap_reply_at, gap_reply, sync_reply}
+use Rattle.replica_rows.specs.Rows.{begin_gap, slot_lookup_by, slot_lookup, gap_reply_at, gap_reply, sync_reply}
 use Rattle.sync_points.specs.Synchronisation.{counted}
 use Rattle.protocol.specs.Conf.{Conf}
 use Rattle.protocol.specs.Member.{standing}
@@ -29,6 +29,7 @@ use Rattle.refinement.proofs.Draining.{open_gap_in_view, drain_in_view}
 use Rattle.refinement.proofs.Matching.{leader_has, may_say_synced}
 use Rattle.refinement.proofs.Parts.{stays_still, point_stays}
 use Rattle.refinement.proofs.Rising.{rise_in_view}
+use Rattle.refinement.proofs.Points.{vote_rises}
 use Rattle.refinement.proofs.Same.{count_sync_vote_same}
 use Rattle.refinement.proofs.Staying.{no_gap_from}
 
@@ -52,12 +53,13 @@ module _ {S : Type 0} (m : Meaning S) (f : ℕ) (c : Conf) (r : ℕ) (s : Replic
       (record { true = leader_has m f c r s h k NoOp may at; point = tt })
       (record { state = refl; said = refl; replies = refl }) (stays_still f r (standing (member_of s))) h.points
   answer_in_view None true q k may at begins =
-      let room = and_parts (k == length s.log.entries + 1) (not (waits s.gap) && nat_lt (length s.log.entries) MAX_SLOTS) begins in
-      let free = and_parts (not (waits s.gap)) (nat_lt (length s.log.entries) MAX_SLOTS) room.1 in
+      let room = and_parts (k == length s.log.entries + 1) (not (waits s.gap) && has_room Whole s.log) begins in
+      let free = and_parts (not (waits s.gap)) (has_room Whole s.log) room.1 in
       begin_gap_in_view may (no_gap_from s.gap free.0)
   answer_in_view None false q k may at begins = nothing_in_view m f r c s s h refl h.points
 
-  lookup_if_in_view : (b : Bool) (q k : ℕ) → MayLead (member_of s) → InView m f c r s (slot_lookup_if m Whole b q k s)
+  lookup_if_in_view : (b : Bool) (q k : ℕ) → MayLead (member_of s)
+      → InView m f c r s (slot_lookup_by m Whole (cond b Below (answer_above Whole s.log (waits s.gap) k)) q k s)
   lookup_if_in_view true q k may =
       move_in_view m f r c s (tell_synced Whole s q) (Say (SyncPrepare s.log.sync_point (take s.sync.sync_point s.log.entries))) h
       (may_say_synced m f c r s h may)
@@ -67,7 +69,7 @@ module _ {S : Type 0} (m : Meaning S) (f : ℕ) (c : Conf) (r : ℕ) (s : Replic
 
   pub slot_lookup_in_view : (q k : ℕ) → MayLead (member_of s) → InView m f c r s (slot_lookup m Whole q k s)
   unfolding slot_lookup
-  slot_lookup_in_view q k may = lookup_if_in_view (nat_le k s.sync.sync_point) q k may
+  slot_lookup_in_view q k may = lookup_if_in_view (nat_le k s.log.sync_point) q k may
 
   -- ---- a follower votes
 
@@ -92,4 +94,4 @@ module _ {S : Type 0} (m : Meaning S) (f : ℕ) (c : Conf) (r : ℕ) (s : Replic
   sync_reply_in_view q k may vote =
       rise_in_view m f c r s h (count_sync_vote s q k).0 (count_sync_vote s q k).1 (CountSyncVote q k)
       (record { may_lead = may; vote = vote }) (count_sync_vote_same s q k)
-      (point_stays f r (standing (member_of s)) (counted s.sync q k).sync_point) refl
+      (point_stays f r (standing (member_of s)) (counted s.sync q k).sync_point) refl (vote_rises s.sync q k)

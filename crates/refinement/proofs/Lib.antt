@@ -17,6 +17,7 @@ pub mod Openings
 pub mod OpeningViews
 pub mod Outputs
 pub mod Parts
+pub mod Points
 pub mod Puts
 pub mod ResendRows
 pub mod Rising

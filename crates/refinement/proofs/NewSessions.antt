@@ -20,7 +20,7 @@ use Rattle.replica_state.specs.State.{others, leads, drains, is_normal, waits, h
 use Rattle.replica_state.specs.Sends.{Effect, then_do, to_all_if}
 use Rattle.replica_state.specs.Moves.{session_view, begin_session, queue, drain, left, listening, entered, enter_as, enter, change_told}
 use Rattle.replica_rows.specs.Rows.{enter_and_drain}
-use Rattle.replica_rows.proofs.Draining.{drains_by_front}
+use Rattle.replica_rows.proofs.Draining.{drains_nothing}
 use Rattle.replica_rows.proofs.Opening.{enters_with_others}
 
 -- ---- the session begins before the view is entered, or after it
@@ -106,6 +106,6 @@ pub enters_only : {S : Type 0} (m : Meaning S) (s : ReplicaState) (v : View) →
     → enter_and_drain m Whole v s ≡ enter s v
 enters_only m s v more =
     let here : 0 < others (enter s v).0 = subst (λ (c : Configuration). 0 < c.replicas / 2) (sym (config_after s v)) more in
-    ap (λ (e : Effect). then_do e (drain m Whole)) (enters_with_others m s v here)
-    ∙ ap (λ (x : Effect). (x.0, (enter s v).1 ++ x.1)) ((drains_by_front m (enter s v).0).rests (changing (enter s v).0 (status_after s v)))
+    ap (λ (e : Effect). then_do e (drain m Whole)) (enters_with_others m Whole s v here)
+    ∙ ap (λ (x : Effect). (x.0, (enter s v).1 ++ x.1)) (drains_nothing m Whole (enter s v).0 (changing (enter s v).0 (status_after s v)))
     ∙ ap (λ (xs : List Sending). ((enter s v).0, xs)) (append-nil (enter s v).1)

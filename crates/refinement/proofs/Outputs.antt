@@ -12,7 +12,7 @@ use Rattle.nop_types.specs.declared.datagram.Datagram.{Datagram}
 use Rattle.nop_types.specs.declared.datagram.Datagram.TheVariants as datagrams
 use Rattle.nop_types.specs.declared.output.Dest.{Dest}
 use Rattle.nop_types.specs.declared.output.Out.{Out}
-use Rattle.nop_types.specs.declared.output.Out.TheVariants.{Send, Submitted, Accepted, Busy}
+use Rattle.nop_types.specs.declared.output.Out.TheVariants.{Send, Submitted, Accepted, Busy, Trimmed}
 use Rattle.facts.proofs.Members.{Has-none, Has-one}
 use Rattle.oum_codec.specs.Spelling.{spelling}
 use Rattle.protocol.specs.Conf.{Conf, Install}
@@ -52,6 +52,7 @@ pub says_none_first : (outs : List Out) → lines_in outs ≡ [] → SaysFirst o
 says_none_first [] e = tt
 says_none_first (Send dest bytes ∷ outs) e = e
 says_none_first (Busy client ∷ outs) e = e
+says_none_first (Trimmed first entries ∷ outs) e = e
 says_none_first (Submitted r ∷ outs) e = absurd cc
 says_none_first (Accepted client id result ∷ outs) e = absurd cc
 

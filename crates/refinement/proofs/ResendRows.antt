@@ -1,5 +1,5 @@
 -- The rows of the ticks Resend and Sync.
-use Rattle.std.proofs.Common.{◌≡◌, ℕ, ◌+◌, Bool, true, false, Option, None, Some, refl, length}
+use Rattle.std.proofs.Common.{◌≡◌, ℕ, ◌+◌, Bool, true, false, Option, None, Some, refl, length, le_refl}
 use Rattle.std.specs.Prelude.{◌&&◌, ◌==◌, not, nat_lt}
 use Rattle.std.proofs.lemmas.Bool.{and_parts, ltb-true}
 use Rattle.nop_types.specs.declared.peer.Body.{Body}
@@ -29,6 +29,7 @@ use Rattle.refinement.specs.Replicas.{Matches}
 use Rattle.refinement.proofs.Composing.{InView, in_view_then, nothing_in_view, move_in_view, when_in_view}
 use Rattle.refinement.proofs.Matching.{own, leader_has, entered_with_it}
 use Rattle.refinement.proofs.Parts.{stays_still, point_stays}
+use Rattle.refinement.proofs.Points.{round_rises}
 use Rattle.refinement.proofs.Rising.{rise_in_view, still_in_view}
 use Rattle.refinement.proofs.Same.{change_said, open_sync_same, repeat_commit_same}
 use Rattle.refinement.proofs.Staying.{normal_from, no_gap_from}
@@ -67,25 +68,26 @@ module _ {S : Type 0} (m : Meaning S) (f : ℕ) (c : Conf) (r : ℕ) (s : Replic
   -- ---- sync points
 
   sync_if_in_view : (b : Bool) → nat_lt s.sync.sync_point (length s.log.entries) ≡ b → MayLead (member_of s) → s.gap ≡ None
-      → InView m f c r s (then_do (sync_if Whole b s) (rows.drain_if_risen m Whole s.sync.sync_point))
+      → InView m f c r s (then_do (sync_if Whole b s) (rows.raise_and_drain m Whole))
   sync_if_in_view true longer may none =
       rise_in_view m f c r s h (open_sync Whole s).0 (open_sync Whole s).1 OpenSync
       (record { may_lead = may; no_gap = none; longer = ltb-true s.sync.sync_point (length s.log.entries) longer })
       (open_sync_same s h.points)
       (point_stays f r (standing (member_of s)) (with_round s.sync (length s.log.entries)).sync_point) refl
+      (round_rises s.sync (length s.log.entries))
   sync_if_in_view false longer may none =
       rise_in_view m f c r s h s (repeat_commit s).1 RepeatCommit may (repeat_commit_same s)
-      (stays_still f r (standing (member_of s))) refl
+      (stays_still f r (standing (member_of s))) refl (le_refl s.sync.sync_point)
 
   sync_by : (b : Bool) → (is_normal s.status && (leads s && not (waits s.gap))) ≡ b
       → InView m f c r s (then_do (when b (λ t. sync_if Whole (nat_lt t.sync.sync_point (length t.log.entries)) t) s)
-      (rows.drain_if_risen m Whole s.sync.sync_point))
+      (rows.raise_and_drain m Whole))
   sync_by true e =
       let one = and_parts (is_normal s.status) (leads s && not (waits s.gap)) e in
       let two = and_parts (leads s) (not (waits s.gap)) one.1 in
       sync_if_in_view (nat_lt s.sync.sync_point (length s.log.entries)) refl
       (record { normal = normal_from s.status one.0; leads = two.0 }) (no_gap_from s.gap two.1)
-  sync_by false e = still_in_view m f c r s h s.sync.sync_point
+  sync_by false e = still_in_view m f c r s h
 
   pub sync_row_in_view : InView m f c r s (rows.sync m Whole s)
   unfolding rows.sync sync

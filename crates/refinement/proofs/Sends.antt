@@ -4,7 +4,7 @@ use Rattle.nop_types.specs.declared.datagram.Reply.{Reply}
 use Rattle.nop_types.specs.declared.peer.Body.{Body}
 use Rattle.facts.proofs.Members.{Has-append_left, Has-append_right, Has-append_cases, Has-none}
 use Rattle.replica_state.specs.declared.sending.Sending.{Sending}
-use Rattle.replica_state.specs.declared.sending.Sending.TheVariants.{ToClient, ToReplicas}
+use Rattle.replica_state.specs.declared.sending.Sending.TheVariants.{ToClient, ToReplicas, Trims}
 use Rattle.replica_state.specs.declared.state.ReplicaState.{ReplicaState}
 use Rattle.replica_state.specs.Sends.{to_all_if}
 use Rattle.protocol.specs.Conf.{Conf}
@@ -17,11 +17,13 @@ pub said_in-append : (a b : List Sending) → said_in (a ++ b) ≡ said_in a ++ 
 said_in-append [] b = refl
 said_in-append (ToClient r ∷ a) b = said_in-append a b
 said_in-append (ToReplicas dest p ∷ a) b = ap (λ (xs : List Said). said_of p ∷ xs) (said_in-append a b)
+said_in-append (Trims first entries ∷ a) b = said_in-append a b
 
 pub replied_in-append : (a b : List Sending) → replied_in (a ++ b) ≡ replied_in a ++ replied_in b
 replied_in-append [] b = refl
 replied_in-append (ToClient r ∷ a) b = ap (λ (xs : List Reply). r ∷ xs) (replied_in-append a b)
 replied_in-append (ToReplicas dest p ∷ a) b = replied_in-append a b
+replied_in-append (Trims first entries ∷ a) b = replied_in-append a b
 
 -- a replica that is alone sends nothing to all
 pub said_in-to_all : (b : Bool) (s : ReplicaState) (body : Body) → said_in (to_all_if b s body) ≡ say_unless b (member_of s) (word_of body)

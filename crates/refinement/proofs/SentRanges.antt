@@ -11,7 +11,7 @@ use Rattle.nop_types.specs.declared.datagram.Datagram.{Datagram}
 use Rattle.nop_types.specs.declared.datagram.Datagram.TheVariants as datagrams
 use Rattle.facts.proofs.Members.{Has-none, Has-cases}
 use Rattle.replica_state.specs.declared.sending.Sending.{Sending}
-use Rattle.replica_state.specs.declared.sending.Sending.TheVariants.{ToClient, ToReplicas}
+use Rattle.replica_state.specs.declared.sending.Sending.TheVariants.{ToClient, ToReplicas, Trims}
 use Rattle.replica_state.specs.Sends.{SendingFits}
 use Rattle.protocol.specs.Conf.{Conf, Install}
 use Rattle.refinement.specs.Projection.{replied_in}
@@ -39,6 +39,7 @@ replies_fit (ToClient r ∷ sends) fit p h = elim (Has-cases p r (replied_in sen
   | inr rest ↦ replies_fit sends fit.1 p rest
 ]
 replies_fit (ToReplicas dest x ∷ sends) fit p h = replies_fit sends fit.1 p h
+replies_fit (Trims first entries ∷ sends) fit p h = replies_fit sends fit.1 p h
 
 pub replicas_stay_in_ranges : {S : Type 0} (m : Meaning S) → ReplicasStayInRanges m
 replicas_stay_in_ranges m f c r s e all fit one = record {

@@ -9,7 +9,7 @@ use Rattle.nop_types.specs.declared.peer.Body.{Body}
 use Rattle.nop_types.specs.declared.peer.Body.TheVariants as bodies
 use Rattle.view_change.specs.Gathering.{Gathering}
 use Rattle.replica_state.specs.declared.sending.Sending.{Sending}
-use Rattle.replica_state.specs.declared.sending.Sending.TheVariants.{ToClient, ToReplicas}
+use Rattle.replica_state.specs.declared.sending.Sending.TheVariants.{ToClient, ToReplicas, Trims}
 use Rattle.replica_state.specs.declared.state.ReplicaState.{ReplicaState}
 use Rattle.protocol.specs.Member.{Member}
 use Rattle.protocol.specs.Said.{Said, Word, Plain, Found, GapCommit, GapRep, ViewChange, StartView, SyncPrepare, SyncRep, SyncCommit, says}
@@ -56,9 +56,11 @@ abbrev pub said_in : List Sending → List Said
 said_in [] = []
 said_in (ToClient r ∷ sends) = said_in sends
 said_in (ToReplicas dest p ∷ sends) = said_of p ∷ said_in sends
+said_in (Trims first entries ∷ sends) = said_in sends
 
 -- the replies to clients
 abbrev pub replied_in : List Sending → List Reply
 replied_in [] = []
 replied_in (ToClient r ∷ sends) = r ∷ replied_in sends
 replied_in (ToReplicas dest p ∷ sends) = replied_in sends
+replied_in (Trims first entries ∷ sends) = replied_in sends

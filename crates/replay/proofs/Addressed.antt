@@ -37,7 +37,7 @@ use Rattle.session_control.specs.declared.state.ControllerState.{ControllerState
 use Rattle.session_control.specs.declared.state.TheConstants.{MISSED_END}
 use Rattle.session_control.specs.ControllerSteps as controller
 use Rattle.replica_state.specs.declared.sending.Sending.{Sending}
-use Rattle.replica_state.specs.declared.sending.Sending.TheVariants.{ToClient, ToReplicas}
+use Rattle.replica_state.specs.declared.sending.Sending.TheVariants.{ToClient, ToReplicas, Trims}
 use Rattle.replica_core.specs.Posting.{posted}
 use Rattle.delivery.specs.Sends.{IsAmong, GoesAmong}
 use Rattle.replica_state.specs.Sends.{SendingFits}
@@ -67,6 +67,7 @@ OutGoes c (outs.Send dest bytes) = Goes c dest bytes
 OutGoes c (outs.Submitted r) = r.client < c.clients
 OutGoes c (outs.Accepted client id result) = ⊤
 OutGoes c (outs.Busy client) = ⊤
+OutGoes c (outs.Trimmed first entries) = ⊤
 
 abbrev pub OutsGo : Configuration → List Out → Type 0
 OutsGo c os = AllByRecursion (OutGoes c) os
@@ -93,6 +94,7 @@ sent_goes c from (outs.Send dest bytes ∷ os) all s h =
 sent_goes c from (outs.Submitted r ∷ os) all s h = sent_goes c from os all.1 s h
 sent_goes c from (outs.Accepted client id result ∷ os) all s h = sent_goes c from os all.1 s h
 sent_goes c from (outs.Busy client ∷ os) all s h = sent_goes c from os all.1 s h
+sent_goes c from (outs.Trimmed first entries ∷ os) all s h = sent_goes c from os all.1 s h
 
 -- each line that submits is of a client of the configuration
 abbrev pub SubmitsOf : Configuration → List Line → Type 0
@@ -117,6 +119,7 @@ lines_are_of c from n (outs.Accepted client id result ∷ os) all =
     other_line c (lines.Accept client id result) (lines_from from n os) (λ r e. cc) (lines_are_of c from n os all.1)
 lines_are_of c from n (outs.Busy client ∷ os) all =
     other_line c (lines.Busy client) (lines_from from n os) (λ r e. cc) (lines_are_of c from n os all.1)
+lines_are_of c from n (outs.Trimmed first entries ∷ os) all = lines_are_of c from n os all.1
 
 pub dead_is_of : (c : Configuration) (from : Actor) → SubmitsOf c (lines.Dead from ∷ [])
 dead_is_of c from = other_line c (lines.Dead from) [] (λ r e. cc) (λ r h. absurd (Has-none _ h))
@@ -143,6 +146,7 @@ posted_goes c number (ToClient r ∷ sends) some fits all =
     (record { reply = r; fits = fits.0; spelled = refl; to = refl }, posted_goes c number sends some fits.1 all.1)
 posted_goes c number (ToReplicas dest p ∷ sends) some fits all =
     both_go c _ (posted (number + 1) sends) (cut_goes c dest _ some all.0) (posted_goes c (number + 1) sends some fits.1 all.1)
+posted_goes c number (Trims first entries ∷ sends) some fits all = (tt, posted_goes c number sends some fits.1 all.1)
 
 -- ---- sequencers
 

@@ -6,6 +6,7 @@ use Rattle.std.proofs.lemmas.List.Sums.{sum_by-append}
 use Rattle.schedule_text.specs.EventText.{HasLine, IsEventOf}
 use Rattle.std.specs.Prelude.{Result, Ok, Err, count_by}
 use Rattle.rand_pcg.specs.Lcg.{Lcg}
+use Rattle.nop_types.specs.Checkpoints.{KeepsTo}
 use Rattle.nop_types.specs.Lines.{Line}
 use Rattle.nop_types.specs.Meaning.{Meaning}
 use Rattle.nop_types.specs.declared.output.Actor.{Actor}
@@ -14,7 +15,6 @@ use Rattle.client_quorum.specs.ClientSteps as client
 use Rattle.sequencer.specs.SequencerSteps as sequencer
 use Rattle.session_control.specs.ControllerSteps as controller
 use Rattle.replica_core.specs.ReplicaSteps as replica
-use Rattle.replica_rows.specs.Within.{ResultsShort}
 use Rattle.schedule_text.specs.declared.event.Event.{Event}
 use Rattle.schedule_text.specs.Fits.{EventFits, EventsFit}
 use Rattle.network.specs.Network.{sends_by, Did}
@@ -140,14 +140,14 @@ module _ {S : Type 0} (m : Meaning S) where
       → DrawnTo m number count left es w g ls → MayDraw m w
   may_draw number count left es w g ls d = record { events = es; lines = ls; led = d.led; some = d.some }
 
-  module _ (short : ResultsShort m) where
+  module _ (IsSound : S → Type 0) (keeps : KeepsTo m IsSound) where
     pub first_taken : IsTaken (step m (opening drawn_config) first_event)
-    first_taken = taken_there m short [] (opening drawn_config) [] first_event opening_led (omega arith) tt
+    first_taken = taken_there m IsSound keeps [] (opening drawn_config) [] first_event opening_led (omega arith) tt
 
     -- an event that is drawn is taken
     pub draws_taken : (w : WorldState) (g : Lcg) (e : Event) (h : Lcg) → MayDraw m w → event_drawn w.sent g ≡ (e, h)
         → GoesOn m w e
-    draws_taken w g e h may is = subst (GoesOn m w) (ap (λ (p : Event × Lcg). p.0) is) (drawn_goes_on m short w g may)
+    draws_taken w g e h may is = subst (GoesOn m w) (ap (λ (p : Event × Lcg). p.0) is) (drawn_goes_on m IsSound keeps w g may)
 
     pub drawn_next : (number count left : ℕ) (es : List Event) (w : WorldState) (g : Lcg) (ls : List Line) (e : Event) (v : WorldState)
         (h : Lcg) (are : List Line) → DrawnTo m number count (suc left) es w g ls → Draws m w g e v h are
@@ -183,7 +183,7 @@ module _ {S : Type 0} (m : Meaning S) where
     runs_to number count (suc left) es w g ls d =
         let e : Event = (event_drawn w.sent g).0 in
         let h : Lcg = (event_drawn w.sent g).1 in
-        let goes = drawn_goes_on m short w g (may_draw number count (suc left) es w g ls d) in
+        let goes = drawn_goes_on m IsSound keeps w g (may_draw number count (suc left) es w g ls d) in
         let t : Happened = goes.taken.0 in
         runs_to number count left (es ++ e ∷ []) t.world h (ls ++ t.lines)
         (drawn_next number count left es w g ls e t.world h t.lines d (record { event = refl; happened = goes.taken.1 }))

@@ -1,15 +1,19 @@
 -- In each world of a run the datagrams go to actors of the configuration.
 use Rattle.std.proofs.Common.{◌≡◌, ◌≤◌, ◌<◌, ◌+◌, ◌*◌, ℕ, Bool, true, false, Some, refl, sym, ap, subst, ◌∙◌, arith, length}
 use Rattle.std.proofs.Common.{List, [], ◌∷◌, ◌++◌, inl, inr}
-use Rattle.std.specs.Prelude.{◌⊎◌, ◌/◌, ⊤, Result, Ok, Err, slice_get}
+use Rattle.std.specs.Prelude.{◌⊎◌, ◌/◌, ⊤, not, Result, Ok, Err, slice_get}
 use Rattle.std.specs.List.{AllByRecursion}
 use Rattle.std.proofs.lemmas.Option.{slice_get_within}
+use Rattle.nop_types.specs.Bounds.{Bounds}
+use Rattle.nop_types.specs.Checkpoints.{KeepsTo}
 use Rattle.nop_types.specs.Configuration.{Configuration, is_configuration}
 use Rattle.nop_types.specs.Given.{Given}
 use Rattle.nop_types.specs.Lines as lines
 use Rattle.nop_types.specs.Lines.{Line}
 use Rattle.nop_types.specs.Lists.{Has}
+use Rattle.nop_types.specs.Logs.{Trimmed}
 use Rattle.nop_types.specs.Meaning.{Meaning}
+use Rattle.nop_types.specs.declared.datagram.Datagram.{Datagram}
 use Rattle.nop_types.specs.declared.datagram.Datagram.TheVariants as datagrams
 use Rattle.nop_types.specs.declared.datagram.Reply.{Reply}
 use Rattle.nop_types.specs.declared.output.Actor.{Actor}
@@ -19,7 +23,10 @@ use Rattle.nop_types.specs.declared.output.Dest.TheVariants.{Replicas, Sequencer
 use Rattle.nop_types.specs.declared.output.Out.{Out}
 use Rattle.oum_codec.specs.Reading.{reading}
 use Rattle.oum_codec.proofs.Datagrams.{reads_again}
-use Rattle.facts.proofs.Members.{Has-none, Has-append_cases, Has-from_filter}
+use Rattle.oum_codec.specs.declared.bad.Bad.{Bad}
+use Rattle.facts.proofs.Members.{Has-none, Has-append_cases, Has-filter, Has-from_filter}
+use Rattle.histories.proofs.Shortness.{result_fits}
+use Rattle.trimming.proofs.Bounds.{trimmed_keep_bounds}
 use Rattle.client_quorum.specs.declared.state.ClientState.{ClientState}
 use Rattle.client_quorum.specs.ClientSteps as client
 use Rattle.sequencer.specs.declared.state.SequencerState.{SequencerState}
@@ -46,23 +53,34 @@ use Rattle.world.specs.Seats.{Seated, Stimulus, Takes, Crashes, moved_if, seat_s
 use Rattle.world.specs.WorldSteps as world
 use Rattle.world.specs.WorldSteps.{WorldState, Happened, Refusal, actor_of, stimulus_of, at_replica, at_sequencer, at_client, at_controller}
 use Rattle.world.specs.WorldSteps.{step_of, step, go_on, run_from}
-use Rattle.safety.specs.Passed.{Passed, passes}
-use Rattle.whole_world.specs.Shows as whole
-use Rattle.whole_world.specs.Whole.{WholeReplica}
+use Rattle.whole_world.specs.Passed as whole_passed
+use Rattle.whole_world.specs.Shows.{ShowsActors}
+use Rattle.whole_world.specs.Whole.{WholeReplica, WholeWorld, Brings}
+use Rattle.whole_world.proofs.At as whole_at
 use Rattle.whole_world.proofs.Counts.{counts_from}
+use Rattle.whole_world.proofs.Events as whole_events
 use Rattle.whole_world.proofs.Moving.{ran_holds}
-use Rattle.safety.specs.Following.{is_spoken, plain}
-use Rattle.safety.specs.Shows.{bytes_of}
-use Rattle.safety.proofs.At.{At, first, opening_at, event_leads}
-use Rattle.safety.proofs.Beside.{Alike, Travels}
+use Rattle.whole_world.proofs.Opening.{opening_stands}
+use Rattle.whole_world.proofs.Steps.{steps_lead}
+use Rattle.safety.specs.Following.{is_spoken, is_fragment, bytes_of, brought}
+use Rattle.safety.proofs.Beside.{Alike, Travels, real_letters}
 use Rattle.safety.proofs.Coming.{AllMayCome, event_comes}
-use Rattle.safety.proofs.Replicas.{plain_found}
-use Rattle.safety.proofs.Shown.{carried}
+use Rattle.safety.proofs.Following.{Both, world_after, opening_beside, both_then}
+use Rattle.safety.proofs.Replicas.{WholeSeat, whole_seat}
 use Rattle.safety.proofs.Taking.{took}
 use Rattle.replay.specs.Destinations.{IsDestOf}
 use Rattle.replay.proofs.Addressed.{IsReplyTo, Goes, OutsGo, SubmitsOf, sent_goes, lines_are_of, dead_is_of, posted_goes, sequencer_goes}
 use Rattle.replay.proofs.Addressed.{client_goes, controller_goes, controller_keeps_config}
 use Rattle.replay.proofs.Asked.{AllAsked, HasAsked, moves_asked, none_asked}
+
+-- ---- the whole world beside a world
+
+-- what was brought led to a whole world beside this one, and the configuration of the protocol shows that one
+pub record At {S : Type 0} (m : Meaning S) (config : Configuration) (w : WorldState) (ls : List Line) : Type 0 where
+  pub came : List (Actor × Brings)
+  pub both : Both m config w ls came
+  pub conf : Conf
+  pub at : whole_at.At m (config.replicas / 2) config (whole_passed.passed m config came) conf
 
 -- ---- what holds of a world
 
@@ -117,24 +135,24 @@ seat_goes c next p true what go = tt
 seat_goes c next p false (Takes i) go = go i refl
 seat_goes c next p false Crashes go = tt
 
-module _ {S : Type 0} (m : Meaning S) (config : Configuration) (short : ResultsShort m)
-    (count : config.replicas ≡ 2 * (config.replicas / 2) + 1) (p : Passed) (at : At m config p) where
+module _ {S : Type 0} (m : Meaning S) (config : Configuration) (bounds : Bounds m Trimmed)
+    (count : config.replicas ≡ 2 * (config.replicas / 2) + 1) (w : WorldState) (ls : List Line) (at : At m config w ls) where
   abbrev f : ℕ
   f = config.replicas / 2
 
-  abbrev w : WorldState
-  w = p.world
+  abbrev whole_one : WholeWorld
+  whole_one = world_after m config at.came
 
   abbrev c : Conf
   c = at.conf
 
-  abbrev shown : whole.ShowsActors f at.whole.world c
+  abbrev shown : ShowsActors f whole_one c
   shown = at.at.stands.actors
 
-  abbrev alike : Alike w p.lines at.whole.world
+  abbrev alike : Alike m w ls whole_one
   alike = at.both.beside.alike
 
-  abbrev travels : Travels w.sent w.replicas at.whole.world.letters
+  abbrev travels : Travels w.sent w.replicas (real_letters m whole_one)
   travels = at.both.beside.travels
 
   inv : Inv m f c
@@ -144,27 +162,29 @@ module _ {S : Type 0} (m : Meaning S) (config : Configuration) (short : ResultsS
 
   module _ (r : ℕ) (old : Seated Replica) (there : slice_get w.replicas r ≡ Some old) (i : Given) (may : MayCome (bytes_of w.sent) i) where
     delivers : Delivers m travels.posts.told (bytes_of w.sent) travels.used r old.state (replica.next m old.state i)
-    delivers = step_delivers m short travels.posts.told (bytes_of w.sent) travels.used r old.state i travels.posts.network
+    delivers = step_delivers m bounds travels.posts.told (bytes_of w.sent) travels.used r old.state i travels.posts.network
         (travels.members r old there) may
 
-    found : slice_get at.whole.world.replicas r ≡ Some (plain old)
-    found = ap (λ (rs : List (Seated WholeReplica)). slice_get rs r) (sym alike.replicas) ∙ plain_found w.replicas r old there
+    of_whole : WholeSeat m whole_one.replicas r old
+    of_whole = whole_seat m w.replicas whole_one.replicas r old alike.replicas there
 
     -- a replica knows how many there are
     counts : old.state.state.config.replicas ≡ config.replicas
     counts =
+        let q : Seated WholeReplica = of_whole.seat in
         let within : r < 2 * f + 1 =
-        omega (arith, slice_get_within at.whole.world.replicas r (plain old) found, shown.replica_count, shown.config) in
+        omega (arith, slice_get_within whole_one.replicas r q of_whole.there, shown.replica_count, shown.config) in
         let own = (inv.own r within).replicas in
-        let same = ap (λ (q : _). q.replicas) (shown.replicas r (plain old) found) in
-        sym same ∙ own ∙ sym shown.config ∙ ap (λ (k : Configuration). k.replicas) at.at.stands.same
+        let same = ap (λ (x : _). x.replicas) (shown.replicas r q of_whole.there) in
+        ap (λ (x : Seated WholeReplica). x.state.state.config.replicas) of_whole.same
+        ∙ (sym same ∙ own ∙ sym shown.config ∙ ap (λ (k : Configuration). k.replicas) at.at.stands.same)
 
     row_among : (e : effects.Effect) → TakesRow m travels.posts.told (bytes_of w.sent) old.state.state e ⊎ (e ≡ still old.state.state)
         → AllByRecursion (GoesAmong config.replicas) e.1
     row_among e (inl row) =
         subst (λ (n : ℕ). AllByRecursion (GoesAmong n) e.1) counts
         (subst (λ (x : effects.Effect). AllByRecursion (GoesAmong old.state.state.config.replicas) x.1) (sym row.effect)
-        (arrive_goes_among m old.state.state row.arrival))
+        (arrive_goes_among m Trimmed old.state.state row.arrival))
     row_among e (inr same) = subst (λ (x : effects.Effect). AllByRecursion (GoesAmong config.replicas) x.1) (sym same) tt
 
     some : 1 ≤ config.replicas
@@ -201,13 +221,13 @@ module _ {S : Type 0} (m : Meaning S) (config : Configuration) (short : ResultsS
 
   own_number : (k : ℕ) (old : Seated ClientState) → slice_get w.clients k ≡ Some old → old.state.number < config.clients
   own_number k old there =
-      let found : slice_get at.whole.world.clients k ≡ Some old =
+      let found : slice_get whole_one.clients k ≡ Some old =
       ap (λ (xs : List (Seated ClientState)). slice_get xs k) (sym alike.clients) ∙ there in
       let is : old.state.number ≡ k = ap (λ (s : ClientState). s.number) (sym (shown.clients k old found)) ∙ (inv.clients k).number in
       omega (
         arith,
         is,
-        slice_get_within at.whole.world.clients k old found,
+        slice_get_within whole_one.clients k old found,
         shown.client_count,
         ap (λ (q : Configuration). q.clients) at.at.stands.same,
       )
@@ -271,58 +291,66 @@ module _ {S : Type 0} (m : Meaning S) (config : Configuration) (short : ResultsS
 
 -- where events lead, as the protocol shows it
 pub record Reached {S : Type 0} (m : Meaning S) (config : Configuration) (h : Happened) : Type 0 where
-  pub passed : Passed
-  pub at : At m config passed
-  pub world : passed.world ≡ h.world
-  pub lines : passed.lines ≡ h.lines
+  pub at : At m config h.world h.lines
   pub sent : (s : Sent) → Has h.world.sent s → Goes config s.dest s.bytes
   pub submits : SubmitsOf config h.lines
 
-module _ {S : Type 0} (m : Meaning S) (config : Configuration) (short : ResultsShort m)
-    (count : config.replicas ≡ 2 * (config.replicas / 2) + 1) where
-  one_good : (p : Passed) (x : Event) (h : Happened) → At m config p → step m p.world x ≡ Ok h → Good config p.world p.lines
-      → (next : At m config (passes p h)) → Good config h.world (p.lines ++ h.lines)
-  one_good p x h at is good next =
-      kept_good config p.world p.lines h good
-      (step_keeps m config short count p at x h
+module _ {S : Type 0} (m : Meaning S) (IsSound : S → Type 0) (keeps : KeepsTo m IsSound) (config : Configuration)
+    (is_one : is_configuration config ≡ true) where
+  count : config.replicas ≡ 2 * (config.replicas / 2) + 1
+  count = (counts_from config is_one).replicas
+
+  short : ResultsShort m
+  short = result_fits m IsSound keeps.opens keeps.stays keeps.short
+
+  -- the protocol shows the whole world after what was brought
+  shown_after : (w : WorldState) (ls : List Line) (bs : List (Actor × Brings)) → Both m config w ls bs → At m config w ls
+  shown_after w ls bs both =
+      let half : ℕ = config.replicas / 2 in
+      let r = whole_events.events_reach m half config (steps_lead m half config short) bs (whole_passed.first config) (opening config)
+      both.fits (opening_stands m half config is_one count) in
+      record { came = bs; both = both; conf = r.last; at = r.at }
+
+  one_good : (w : WorldState) (ls : List Line) (x : Event) (h : Happened) → At m config w ls → step m w x ≡ Ok h → Good config w ls
+      → At m config h.world (ls ++ h.lines) → Good config h.world (ls ++ h.lines)
+  one_good w ls x h at is good next =
+      kept_good config w ls h good
+      (step_keeps m config (trimmed_keep_bounds m IsSound keeps) count w ls at x h
       (subst (λ (q : Seated ControllerState). controller.IsWithin q.state) (sym next.both.beside.alike.controller)
       next.at.stands.ranges.controller) good.controller is)
 
-  reach_then : (x : Event) (es : List Event) (p : Passed) (h : Happened) → At m config p → EventFits x
-      → Good config p.world p.lines
-      → ((q : Passed) → At m config q → Good config q.world q.lines → run_from m q.lines q.world es ≡ Ok h → Reached m config h)
-      → (r : Result Happened Refusal) → step m p.world x ≡ r → go_on m p.lines r (λ more v. run_from m more v es) ≡ Ok h
+  reach_then : (x : Event) (es : List Event) (w : WorldState) (ls : List Line) (h : Happened) → At m config w ls → EventFits x
+      → Good config w ls
+      → ((v : WorldState) (more : List Line) → At m config v more → Good config v more → run_from m more v es ≡ Ok h → Reached m config h)
+      → (r : Result Happened Refusal) → step m w x ≡ r → go_on m ls r (λ more v. run_from m more v es) ≡ Ok h
       → Reached m config h
-  reach_then x es p h at fits good rest (Err refusal) is e = absurd cc
-  reach_then x es p h at fits good rest (Ok g) is e =
-      let next : At m config (passes p g) = event_leads m short config p x g at fits is in
-      rest (passes p g) next (one_good p x g at is good next) e
+  reach_then x es w ls h at fits good rest (Err refusal) is e = absurd cc
+  reach_then x es w ls h at fits good rest (Ok g) is e =
+      let next : At m config g.world (ls ++ g.lines) =
+      shown_after g.world (ls ++ g.lines) (at.came ++ (actor_of x, brought w x) ∷ [])
+      (both_then m IsSound keeps config is_one w ls at.came x g at.both fits is) in
+      rest g.world (ls ++ g.lines) next (one_good w ls x g at is good next) e
 
-  reach : (es : List Event) (p : Passed) (h : Happened) → At m config p → EventsFit es → Good config p.world p.lines
-      → run_from m p.lines p.world es ≡ Ok h → Reached m config h
-  reach [] p h at fit good e =
-      let same : record { world = p.world; lines = p.lines } ≡ h = cc in
-      let world : p.world ≡ h.world = ap (λ (t : Happened). t.world) same in
-      let lines : p.lines ≡ h.lines = ap (λ (t : Happened). t.lines) same in
-      record {
-        passed = p;
-        at = at;
-        world = world;
-        lines = lines;
-        sent = subst (λ (v : WorldState). (s : Sent) → Has v.sent s → Goes config s.dest s.bytes) world good.sent;
-        submits = subst (SubmitsOf config) lines good.submits;
-      }
-  reach (x ∷ es) p h at fit good e =
-      reach_then x es p h at fit.0 good (λ q at_q good_q g. reach es q h at_q fit.1 good_q g) (step m p.world x) refl e
+  reach : (es : List Event) (w : WorldState) (ls : List Line) (h : Happened) → At m config w ls → EventsFit es → Good config w ls
+      → run_from m ls w es ≡ Ok h → Reached m config h
+  reach [] w ls h at fit good e =
+      let same : record { world = w; lines = ls } ≡ h = cc in
+      subst (Reached m config) same (record { at = at; sent = good.sent; submits = good.submits })
+  reach (x ∷ es) w ls h at fit good e =
+      reach_then x es w ls h at fit.0 good (λ v more at_v good_v g. reach es v more h at_v fit.1 good_v g) (step m w x) refl e
 
   nothing_sent : Good config (world.opening config) []
   nothing_sent = record { sent = λ s h. absurd (Has-none s h); submits = λ r h. absurd (Has-none _ h); controller = refl }
 
-pub events_reach : {S : Type 0} (m : Meaning S) (config : Configuration) → ResultsShort m → is_configuration config ≡ true
-    → (es : List Event) (h : Happened) → EventsFit es → world.run m config es ≡ Ok h → Reached m config h
-events_reach m config short is_one es h fit e =
-    let count = (counts_from config is_one).replicas in
-    reach m config short count es (first config) h (opening_at m config is_one count) fit (nothing_sent m config short count) e
+  opening_at : At m config (world.opening config) []
+  opening_at = shown_after (world.opening config) [] [] (record { fits = tt; beside = opening_beside m config is_one })
+
+pub events_reach : {S : Type 0} (m : Meaning S) (IsSound : S → Type 0) → KeepsTo m IsSound → (config : Configuration)
+    → is_configuration config ≡ true → (es : List Event) (h : Happened) → EventsFit es → world.run m config es ≡ Ok h
+    → Reached m config h
+events_reach m IsSound keeps config is_one es h fit e =
+    reach m IsSound keeps config is_one es (world.opening config) [] h (opening_at m IsSound keeps config is_one) fit
+    (nothing_sent m IsSound keeps config is_one) e
 
 -- ---- destinations
 
@@ -331,7 +359,7 @@ module _ {S : Type 0} (m : Meaning S) (config : Configuration) (h : Happened) (r
   abbrev half : ℕ
   half = config.replicas / 2
 
-  abbrev same_worlds : Alike r.passed.world r.passed.lines r.at.whole.world
+  abbrev same_worlds : Alike m h.world h.lines (world_after m config r.at.came)
   same_worlds = r.at.both.beside.alike
 
   asked : AllAsked r.at.conf
@@ -339,15 +367,19 @@ module _ {S : Type 0} (m : Meaning S) (config : Configuration) (h : Happened) (r
       (moves_asked m half (opening config) r.at.at.ran.moves (opening_meets m half config (counts_from config is_one).replicas) r.at.at.ran.may
       (none_asked config))
 
+  -- a reply is no fragment
+  also_whole : (s : Sent) (y : Reply) → Has h.world.sent s → reading s.bytes ≡ Ok (datagrams.Reply y)
+      → Has (world_after m config r.at.came).sent s
+  also_whole s y i e = subst (λ (xs : List Sent). Has xs s) same_worlds.sent
+      (Has-filter (λ (x : Sent). not (is_fragment (reading x.bytes))) s h.world.sent i
+      (ap (λ (d : Result Datagram Bad). not (is_fragment d)) e))
+
   replied : (s : Sent) (y : Reply) → Has h.world.sent s → reading s.bytes ≡ Ok (datagrams.Reply y) → HasAsked r.at.conf.lines y.client
-  replied s y i e =
-      asked y (carried r.at.conf r.passed.world.sent r.at.whole.world.sent same_worlds.sent r.at.at.stands.carries s (datagrams.Reply y)
-      (subst (λ (w : WorldState). Has w.sent s) (sym r.world) i) e)
+  replied s y i e = asked y (r.at.at.stands.carries.only s (datagrams.Reply y) (also_whole s y i e) e)
 
   -- what the configuration says is among the lines
   said_there : (l : Line) → Has r.at.conf.lines l → Has h.lines l
-  said_there l i = subst (λ (ls : List Line). Has ls l) r.lines
-      (Has-from_filter is_spoken l r.passed.lines (subst (λ (ls : List Line). Has ls l) (sym (same_worlds.lines ∙ r.at.at.lines)) i)).0
+  said_there l i = (Has-from_filter is_spoken l h.lines (subst (λ (ls : List Line). Has ls l) (sym (same_worlds.lines ∙ r.at.at.lines)) i)).0
 
   -- who is sent a reply submitted a request
   client_there : (k : ℕ) (s : Sent) → Has h.world.sent s → IsReplyTo k s.bytes → k < config.clients
@@ -368,6 +400,8 @@ module _ {S : Type 0} (m : Meaning S) (config : Configuration) (h : Happened) (r
   pub sent_to_actors : (s : Sent) → Has h.world.sent s → IsDestOf config s.dest
   sent_to_actors s i = dest_of s i s.dest (r.sent s i)
 
-pub datagrams_go_to_actors : {S : Type 0} (m : Meaning S) → ResultsShort m → (c : Configuration) → is_configuration c ≡ true
-    → (es : List Event) (h : Happened) → EventsFit es → world.run m c es ≡ Ok h → (s : Sent) → Has h.world.sent s → IsDestOf c s.dest
-datagrams_go_to_actors m short c is_one es h fit e = sent_to_actors m c h (events_reach m c short is_one es h fit e) is_one
+pub datagrams_go_to_actors : {S : Type 0} (m : Meaning S) (IsSound : S → Type 0) → KeepsTo m IsSound → (c : Configuration)
+    → is_configuration c ≡ true → (es : List Event) (h : Happened) → EventsFit es → world.run m c es ≡ Ok h → (s : Sent)
+    → Has h.world.sent s → IsDestOf c s.dest
+datagrams_go_to_actors m IsSound keeps c is_one es h fit e =
+    sent_to_actors m c h (events_reach m IsSound keeps c is_one es h fit e) is_one

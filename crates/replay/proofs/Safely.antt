@@ -1,6 +1,7 @@
 -- A schedule without a bad line runs safely.
 use Rattle.std.proofs.Common.{◌≡◌, ℕ, ◌+◌, true, Option, Some, None, refl, ap, ◌∙◌, List, [], ◌∷◌, ◌++◌}
 use Rattle.std.specs.Prelude.{Result, Ok, Err, OnOk}
+use Rattle.nop_types.specs.Checkpoints.{KeepsTo}
 use Rattle.nop_types.specs.Configuration.{Configuration}
 use Rattle.nop_types.specs.Lines.{Line}
 use Rattle.nop_types.specs.Meaning.{Meaning}
@@ -12,7 +13,6 @@ use Rattle.schedule_text.specs.Rules.{header_of, event_of}
 use Rattle.transcript_text.specs.Transcript.{transcript_line}
 use Rattle.schedule_text.proofs.Fitting.{events_fit, headers_fit}
 use Rattle.world.specs.WorldSteps.{WorldState, Refusal, Happened, step, go_on, run_from, opening}
-use Rattle.replica_rows.specs.Within.{ResultsShort}
 use Rattle.safety.proofs.Whole.{runs_are_safe}
 use Rattle.replay.specs.declared.error.ReplayError.{ReplayError}
 use Rattle.replay.specs.Output.{BadLine, Schedule, stepped, scheduled, schedule_from, text_after, output}
@@ -50,7 +50,7 @@ module _ {S : Type 0} (m : Meaning S) (c : Configuration) where
   schedule_well w k (line ∷ lines) good =
       line_well w k line (λ v. schedule_from m c v (k + 1) lines) (λ v g. schedule_well v (k + 1) lines g) (event_of c k line) refl good
 
-module _ {S : Type 0} (m : Meaning S) (short : ResultsShort m) (bytes : List ℕ) where
+module _ {S : Type 0} (m : Meaning S) (IsSound : S → Type 0) (keeps : KeepsTo m IsSound) (bytes : List ℕ) where
   with_header : (line : List ℕ) (lines : List (List ℕ)) → lines_of true 0 bytes ≡ line ∷ lines → (r : Result Configuration Rule)
       → header_of line ≡ r → (begun m true lines r).bad ≡ None → RunsSafely m bytes
   unfolding output
@@ -69,7 +69,7 @@ module _ {S : Type 0} (m : Meaning S) (short : ResultsShort m) (bytes : List ℕ
         are = λ i. record { events = s.events; bad = good i };
         happened = h.0;
         led = h.1;
-        safely = runs_are_safe m short c s.events h.0 (headers_fit line c is) well.fit h.1;
+        safely = runs_are_safe m IsSound keeps c s.events h.0 (headers_fit line c is) well.fit h.1;
         text =
             ap (λ (ls : List (List ℕ)). (output_of_lines m true ls).text) cut
             ∙ ap (λ (r : Result Configuration Rule). (begun m true lines r).text) is
@@ -86,13 +86,13 @@ module _ {S : Type 0} (m : Meaning S) (short : ResultsShort m) (bytes : List ℕ
   good_is_safe good = by_lines (lines_of true 0 bytes) refl good
 
 -- a replay that is done ran safely
-pub done_is_safe : {S : Type 0} (m : Meaning S) → ResultsShort m
+pub done_is_safe : {S : Type 0} (m : Meaning S) (IsSound : S → Type 0) → KeepsTo m IsSound
     → (bytes left before now : Option (List ℕ)) (r : Result (Unit {0}) ReplayError) → EndsWith m bytes left before now r
     → OnOk r (RunsSafelyOf m bytes)
-done_is_safe m short None left before now (Ok x) ends = tt
-done_is_safe m short (Some bytes) None before now (Ok x) ends = absurd ends
-done_is_safe m short (Some bytes) (Some left) before now (Ok x) ends = good_is_safe m short bytes ends.good
-done_is_safe m short bytes left before now (Err e) ends = tt
+done_is_safe m IsSound keeps None left before now (Ok x) ends = tt
+done_is_safe m IsSound keeps (Some bytes) None before now (Ok x) ends = absurd ends
+done_is_safe m IsSound keeps (Some bytes) (Some left) before now (Ok x) ends = good_is_safe m IsSound keeps bytes ends.good
+done_is_safe m IsSound keeps bytes left before now (Err e) ends = tt
 
 -- of one that ended with an error nothing is said
 pub failed_is_safe : {S : Type 0} (m : Meaning S) (bytes : Option (List ℕ)) (r : Result (Unit {0}) ReplayError) (e : ReplayError)

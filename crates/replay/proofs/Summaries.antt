@@ -1,12 +1,20 @@
--- A summary is not empty.
-use Rattle.std.proofs.Common.{◌≡◌, ◌≢◌, ℕ, List, [], ◌++◌}
-use Rattle.std.specs.Prelude.{Option, Result, Ok, Err}
+-- A summary is not empty, and counts of a log in two parts.
+use Rattle.std.proofs.Common.{◌≡◌, ◌≢◌, ◌+◌, ℕ, List, [], ◌++◌, cond, length, length-append}
+use Rattle.std.specs.Prelude.{Option, Result, Ok, Err, count_by}
+use Rattle.std.proofs.lemmas.List.Sums.{sum_by-append}
 use Rattle.nop_types.specs.Meaning.{Meaning}
+use Rattle.nop_types.specs.declared.request.Entry.{Entry}
 use Rattle.world.specs.WorldSteps.{Refusal, Happened, run}
 use Rattle.replay.specs.declared.error.GenError.{GenError}
 use Rattle.replay.specs.declared.error.GenError.TheVariants.{NoMemory}
-use Rattle.replay.specs.Generated.{drawn_config, drawn_events, gen_line, tally_text, summary_of, drawn_summary, WritesText}
+use Rattle.replay.specs.Generated.{drawn_config, drawn_events, is_noop, gen_line, tally_text, summary_of, drawn_summary, WritesText}
 use Rattle.replay.proofs.Fronts.{some_left, part_nil}
+
+pub length_both : (xs ys : List Entry) → length (xs ++ ys) ≡ length xs + length ys
+length_both xs ys = length-append xs ys
+
+pub noops_both : (xs ys : List Entry) → count_by is_noop (xs ++ ys) ≡ count_by is_noop xs + count_by is_noop ys
+noops_both xs ys = sum_by-append (λ (e : Entry). cond (is_noop e) 1 0) xs ys
 
 gen_some : (number count : ℕ) → gen_line number count ≢ []
 unfolding gen_line

@@ -3,7 +3,9 @@ use Rattle.std.proofs.Common.{◌≡◌, ◌≤◌, ◌<◌, ◌-◌, ℕ, Bool,
 use Rattle.std.proofs.Common.{length, List, min}
 use Rattle.std.specs.Prelude.{⊤, nat_lt, nat_le, ◌==◌, if◌then◌else◌, Result, Ok, slice_get}
 use Rattle.std.proofs.lemmas.Bool.{lt-ltb}
+use Rattle.std.proofs.lemmas.List.{length-map}
 use Rattle.rand_pcg.specs.Lcg.{Lcg}
+use Rattle.nop_types.specs.Checkpoints.{KeepsTo}
 use Rattle.nop_types.specs.Configuration.{Configuration}
 use Rattle.nop_types.specs.Given.{Given, Packet, Ticked, Submit}
 use Rattle.nop_types.specs.Lists.{Has}
@@ -19,7 +21,6 @@ use Rattle.facts.proofs.Places.{slice_get-some}
 use Rattle.client_quorum.specs.ClientSteps as client
 use Rattle.sequencer.specs.SequencerSteps as sequencer
 use Rattle.replica_core.specs.ReplicaSteps as replica
-use Rattle.replica_rows.specs.Within.{ResultsShort}
 use Rattle.schedule_text.specs.declared.event.Event.{Event}
 use Rattle.schedule_text.specs.declared.event.Event.TheVariants as events
 use Rattle.line_fields.specs.Fields.{IsActorOf}
@@ -36,7 +37,10 @@ use Rattle.replay.specs.Drawing.{often_drawn, seldom_drawn, event_drawn}
 use Rattle.replay.specs.Generated.{drawn_config}
 use Rattle.replay.specs.Generating.{IsTaken, Led, MayDraw}
 use Rattle.replay.specs.Destinations.{IsDestOf}
-use Rattle.safety.proofs.At.{actors_at, config_at}
+use Rattle.whole_world.specs.Whole.{WholeWorld}
+use Rattle.safety.specs.Following.{plain, trimmed_seat}
+use Rattle.safety.proofs.Beside.{Alike}
+use Rattle.safety.proofs.Following.{world_after}
 use Rattle.replay.proofs.Reaching.{Reached, events_reach, sent_to_actors}
 
 -- ---- events that are not refused
@@ -199,22 +203,26 @@ pub record GoesOn {S : Type 0} (m : Meaning S) (w : WorldState) (e : Event) : Ty
   pub line : HasLine e
   pub of : IsEventOf drawn_config e
 
-module _ {S : Type 0} (m : Meaning S) (short : ResultsShort m) where
+module _ {S : Type 0} (m : Meaning S) (IsSound : S → Type 0) (keeps : KeepsTo m IsSound) where
   reached : (es : List Event) (w : WorldState) (ls : List _) → Led m es w ls
       → Reached m drawn_config (record { world = w; lines = ls })
-  reached es w ls led = events_reach m drawn_config short refl es (record { world = w; lines = ls }) led.fit led.is
+  reached es w ls led = events_reach m IsSound keeps drawn_config refl es (record { world = w; lines = ls }) led.fit led.is
 
-  has_actors : (h : Happened) → (r : Reached m drawn_config h) → HasActors h.world
+  has_actors : (h : Happened) → Reached m drawn_config h → HasActors h.world
   has_actors h r =
-      let shown = actors_at m drawn_config r.passed r.at in
-      subst HasActors r.world (record {
-        replicas = shown.replica_count;
-        sequencers = shown.sequencer_count;
-        clients = shown.client_count;
-      })
+      let v : WholeWorld = world_after m drawn_config r.at.came in
+      let alike : Alike m h.world h.lines v = r.at.both.beside.alike in
+      let shown = r.at.at.stands.actors in
+      let same : v.config ≡ h.world.config = sym alike.config in
+      record {
+        replicas = sym (length-map h.world.replicas plain) ∙ ap length alike.replicas ∙ length-map v.replicas (trimmed_seat m)
+            ∙ shown.replica_count ∙ ap (λ (c : Configuration). c.replicas) same;
+        sequencers = ap length alike.sequencers ∙ shown.sequencer_count ∙ ap (λ (c : Configuration). c.sequencers) same;
+        clients = ap length alike.clients ∙ shown.client_count ∙ ap (λ (c : Configuration). c.clients) same;
+      }
 
-  config_is : (h : Happened) → (r : Reached m drawn_config h) → h.world.config ≡ drawn_config
-  config_is h r = ap (λ (w : WorldState). w.config) (sym r.world) ∙ config_at m drawn_config r.passed r.at
+  config_is : (h : Happened) → Reached m drawn_config h → h.world.config ≡ drawn_config
+  config_is h r = r.at.both.beside.alike.config ∙ r.at.at.stands.same
 
   pub taken_there : (es : List Event) (w : WorldState) (ls : List _) (e : Event) → Led m es w ls → IsEventOf drawn_config e
       → IsSent w.sent e

@@ -36,7 +36,7 @@ end_line_some = λ e. absurd cc
 
 pub final_text_some : (w : WorldState) → final_text w ≢ []
 unfolding final_text
-final_text_some w = some_right (replicas_text 0 w.replicas ++ history_text 1 (history w)) end_line end_line_some
+final_text_some w = some_right (replicas_text w.archive 0 w.replicas ++ history_text 1 (history w)) end_line end_line_some
 
 -- nothing of what is gathered and of an error line was written
 pub refused_unwritten : (a : Option (List ℕ)) (pending : List ℕ) (b : BadLine) → LeavesSome a a (pending ++ bad_text b)

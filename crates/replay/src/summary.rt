@@ -1,6 +1,7 @@
 //! The summary of a drawn schedule.
 
-ghost use Rattle.std.specs.Prelude.{◌≡◌, ◌++◌, OnOk, length, count_by};
+ghost use Rattle.std.specs.Prelude.{◌≡◌, ◌+◌, ◌++◌, IfOk, OnOk, length, count_by};
+ghost use Rattle.world.specs.Parts.{parts_of};
 ghost use Rattle.world.specs.WorldSteps.{main_view, main_log, history};
 ghost use Rattle.replay.specs.Generated.{counted, is_noop, gen_line, sends_line, view_line};
 ghost use Rattle.replay.specs.Generated.{members_line, tally_text};
@@ -8,7 +9,7 @@ ghost use Rattle.transcript_text.specs.Transcript.{line_end};
 
 use crate::generated::Counts;
 use nop_types::{Entry, Host, NoMemory, View};
-use world::World;
+use world::{LogParts, World};
 
 fn put_counted(text: &str, n: u64, to: &mut Vec<u8>) -> Result<(), NoMemory>
     ensures { OnOk result (to.new.items ≡ to.old.items ++ counted text.now n) }
@@ -67,10 +68,34 @@ fn put_members(members: usize, to: &mut Vec<u8>) -> Result<(), NoMemory>
     Ok(())
 }
 
-fn noops(log: &[Entry]) -> usize
-    ensures { result ≡ count_by is_noop log.now }
+fn noops(entries: &[Entry]) -> usize
+    ensures { result ≡ count_by is_noop entries.now }
 {
-    log.iter().filter(|e| matches!(e, Entry::NoOp)).count()
+    entries.iter().filter(|e| matches!(e, Entry::NoOp)).count()
+}
+
+/// A sum past its type answers NoMemory, since no memory holds that many entries.
+fn added(a: usize, b: usize) -> Result<usize, NoMemory>
+    ensures { IfOk result (λ n. n ≡ a + b) }
+{
+    match a.checked_add(b) {
+        Some(n) => Ok(n),
+        None => Err(NoMemory),
+    }
+}
+
+#[tactic(auto, using(crate::proofs::Summaries::length_both))]
+fn len_of(log: LogParts<'_>) -> Result<usize, NoMemory>
+    ensures { IfOk result (λ n. n ≡ length (parts_of log.entry)) }
+{
+    added(log.synchronised.len(), log.kept.len())
+}
+
+#[tactic(auto, using(crate::proofs::Summaries::noops_both))]
+fn noops_of(log: LogParts<'_>) -> Result<usize, NoMemory>
+    ensures { IfOk result (λ n. n ≡ count_by is_noop (parts_of log.entry)) }
+{
+    added(noops(log.synchronised), noops(log.kept))
 }
 
 /// Appends the summary of a run.
@@ -86,9 +111,10 @@ pub fn put_summary<H: Host>(
         ++ tally_text number count world.now.state counts.sends counts.accepts) }
 {
     let log = world.main_log();
+    let (len, noops) = (len_of(log)?, noops_of(log)?);
     let history = world.history()?;
     put_gen(number, count, to)?;
     put_sends(counts.sends, counts.accepts, to)?;
-    put_view(world.main_view(), log.len(), noops(log), to)?;
+    put_view(world.main_view(), len, noops, to)?;
     put_members(history.len(), to)
 }

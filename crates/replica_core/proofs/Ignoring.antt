@@ -1,10 +1,10 @@
 -- What changes nothing at a replica.
-use Rattle.std.proofs.Common.{◌≡◌, ℕ, ◌<◌, ◌≤◌, ◌+◌, ◌-◌, List, [], length, refl, ap, ◌∙◌, Bool, true, false, Result, Ok, Err, arith}
-use Rattle.std.specs.Prelude.{nat_lt, nat_le, not, ◌==◌, ◌&&◌}
-use Rattle.std.proofs.lemmas.Bool.{eq-eqb, ltb-true}
+use Rattle.std.proofs.Common.{◌≡◌, ℕ, ◌<◌, ◌≤◌, ◌+◌, ◌-◌, List, [], refl, ap, ◌∙◌, Bool, true, false, Result, Ok, Err, arith}
+use Rattle.std.specs.Prelude.{nat_lt, nat_le, ◌==◌, ◌&&◌}
+use Rattle.std.proofs.lemmas.Bool.{ltb-true}
 use Rattle.std.proofs.lemmas.Bool.Decides.{nat_tests}
 use Rattle.nop_types.specs.Given.{Packet, Submit}
-use Rattle.nop_types.specs.Logs.{Log, Whole}
+use Rattle.nop_types.specs.Logs.{Log, Trimmed, length_of}
 use Rattle.nop_types.specs.Meaning.{Meaning}
 use Rattle.nop_types.specs.declared.datagram.Fragment.{Fragment}
 use Rattle.nop_types.specs.declared.datagram.Datagram.{Datagram}
@@ -23,11 +23,11 @@ use Rattle.replica_core.specs.declared.replica.TheConstants.{LAST_MESSAGE}
 use Rattle.replica_core.specs.Ignoring.{is_for, IsIgnored, IgnoresPacket, is_of_view, Rests, IgnoresMessage}
 use Rattle.replica_rows.specs.Messages.{loads_in, Arrival, by_role, in_view, on_body, on_message, arrive}
 use Rattle.replica_core.specs.ReplicaSteps.{Replica, row_if, row, fragment_if, fragment, on_datagram, next}
-use Rattle.replica_rows.specs.Rows.{gap_commit_if, gap_commit, found, sync_prepare, sync_commit, drain_if_risen, begin_gap}
+use Rattle.replica_rows.specs.Rows.{gap_commit_if, gap_commit, found, sync_prepare, sync_commit, raise_and_drain, begin_gap}
 use Rattle.replica_rows.specs.Rows.{suspect, last_leader}
 use Rattle.replica_state.specs.Moves as moves
 use Rattle.replica_state.specs.Sends.{Effect, still, then_do, when}
-use Rattle.replica_state.specs.State.{may_append, is_current, is_from_leader, is_to_leader, is_other}
+use Rattle.replica_state.specs.State.{PointsMeet, has_risen, may_append, is_current, is_from_leader, is_to_leader, is_other}
 use Rattle.replica_rows.proofs.Counting.{arrive_sends_few}
 
 -- ---- datagrams
@@ -79,18 +79,18 @@ front_fails false b e = refl
 front_fails true b e = absurd cc
 
 no_role : {S : Type 0} (m : Meaning S) (a b : Bool) (q : ℕ) (body : Body) (s : ReplicaState) → a ≡ false → b ≡ false
-    → by_role m Whole a b q body s ≡ still s
+    → by_role m Trimmed a b q body s ≡ still s
 no_role m false false q body s d e = refl
 no_role m true b q body s d e = absurd cc
 no_role m false true q body s d e = absurd cc
 
 not_in_view : {S : Type 0} (m : Meaning S) (q : ℕ) (v : View) (body : Body) (s : ReplicaState) → is_current s v ≡ false
-    → in_view m Whole q v body s ≡ still s
+    → in_view m Trimmed q v body s ≡ still s
 not_in_view m q v body s e =
     no_role m (is_from_leader s v q) (is_to_leader s v) q body s (front_fails (is_current s v) _ e) (front_fails (is_current s v) _ e)
 
 body_rests : {S : Type 0} (m : Meaning S) (p : Peer) (body : Body) (s : ReplicaState) → is_of_view body ≡ true → is_current s p.view ≡ false
-    → on_body m Whole p body s ≡ still s
+    → on_body m Trimmed p body s ≡ still s
 body_rests m p (bodies.SlotLookup n) s of e = not_in_view m p.sender p.view (bodies.SlotLookup n) s e
 body_rests m p (bodies.Found n r) s of e = not_in_view m p.sender p.view (bodies.Found n r) s e
 body_rests m p (bodies.GapCommit n) s of e = not_in_view m p.sender p.view (bodies.GapCommit n) s e
@@ -109,14 +109,14 @@ when_rests s f false e = refl
 stranger_rests : {S : Type 0} (m : Meaning S) (s : ReplicaState) (p : Peer) → is_other s p.sender ≡ false → Rests m s p
 unfolding arrive on_message
 stranger_rests m s p e =
-    when_rests s (on_message m Whole p) (loads_in m p.body) (no_message s (on_body m Whole p p.body) (is_other s p.sender) e)
+    when_rests s (on_message m Trimmed p) (loads_in m p.body) (no_message s (on_body m Trimmed p p.body) (is_other s p.sender) e)
 
 elsewhere_rests : {S : Type 0} (m : Meaning S) (s : ReplicaState) (p : Peer) → is_of_view p.body ≡ true → is_current s p.view ≡ false
     → Rests m s p
 unfolding arrive on_message
 elsewhere_rests m s p of e =
-    when_rests s (on_message m Whole p) (loads_in m p.body)
-    (when_rests s (on_body m Whole p p.body) (is_other s p.sender) (body_rests m p p.body s of e))
+    when_rests s (on_message m Trimmed p) (loads_in m p.body)
+    (when_rests s (on_body m Trimmed p p.body) (is_other s p.sender) (body_rests m p p.body s of e))
 
 pub ignores_message : {S : Type 0} (m : Meaning S) (s : ReplicaState) (p : Peer) → IgnoresMessage m s p
 ignores_message m s p = record { stranger = stranger_rests m s p; elsewhere = elsewhere_rests m s p }
@@ -124,7 +124,7 @@ ignores_message m s p = record { stranger = stranger_rests m s p; elsewhere = el
 -- ---- limits
 
 no_gap : {S : Type 0} (m : Meaning S) (a b : Bool) (n : ℕ) (s : ReplicaState) → a ≡ false → b ≡ false
-    → gap_commit_if m Whole a b n s ≡ still s
+    → gap_commit_if m Trimmed a b n s ≡ still s
 no_gap m false false n s d e = refl
 no_gap m true b n s d e = absurd cc
 no_gap m false true n s d e = absurd cc
@@ -139,44 +139,45 @@ above n k lt = grind (arith, nat_tests, lt)
 not_below : (n k : ℕ) → k ≤ n → nat_lt n k ≡ false
 not_below n k le = grind (arith, nat_tests, le)
 
-pub gap_rests : {S : Type 0} (m : Meaning S) (s : ReplicaState) (n : ℕ) → may_append Whole s ≡ false → length s.log.entries < n
-    → gap_commit m Whole n s ≡ still s
+pub gap_rests : {S : Type 0} (m : Meaning S) (s : ReplicaState) (n : ℕ) → may_append Trimmed s ≡ false → length_of Trimmed s.log < n
+    → gap_commit m Trimmed n s ≡ still s
 unfolding gap_commit
 gap_rests m s n full past =
-    let len : ℕ = length s.log.entries in
-    no_gap m (nat_le n len) ((n == len + 1) && may_append Whole s) n s (above len n past)
-    (back_fails (n == len + 1) (may_append Whole s) full)
+    let len : ℕ = length_of Trimmed s.log in
+    no_gap m (nat_le n len) ((n == len + 1) && may_append Trimmed s) n s (above len n past)
+    (back_fails (n == len + 1) (may_append Trimmed s) full)
 
-pub found_rests : {S : Type 0} (m : Meaning S) (s : ReplicaState) (n : ℕ) (r : Request) → may_append Whole s ≡ false
-    → found m Whole n r s ≡ still s
+pub found_rests : {S : Type 0} (m : Meaning S) (s : ReplicaState) (n : ℕ) (r : Request) → may_append Trimmed s ≡ false
+    → found m Trimmed n r s ≡ still s
 unfolding found
 found_rests m s n r full =
-    let next : Bool = n == length s.log.entries + 1 in
-    no_message s _ (next && may_append Whole s) (back_fails next (may_append Whole s) full)
+    let next : Bool = n == length_of Trimmed s.log + 1 in
+    no_message s _ (next && may_append Trimmed s) (back_fails next (may_append Trimmed s) full)
 
 pub prepare_rests : {S : Type 0} (m : Meaning S) (s : ReplicaState) (l : Log)
-    → NUMBER_END < s.next + (length l.entries - length s.log.entries) → sync_prepare m Whole l s ≡ still s
+    → NUMBER_END < s.next + (length_of Trimmed l - length_of Trimmed s.log) → sync_prepare m Trimmed l s ≡ still s
 unfolding sync_prepare
 prepare_rests m s l past =
-    let last : ℕ = s.next + (length l.entries - length s.log.entries) in
+    let last : ℕ = s.next + (length_of Trimmed l - length_of Trimmed s.log) in
     no_message s _ (nat_le last NUMBER_END) (above NUMBER_END last past)
 
-pub begin_rests : {S : Type 0} (m : Meaning S) (s : ReplicaState) → NUMBER_END ≤ s.next → begin_gap m Whole s ≡ still s
+pub begin_rests : {S : Type 0} (m : Meaning S) (s : ReplicaState) → NUMBER_END ≤ s.next → begin_gap m Trimmed s ≡ still s
 begin_rests m s past = no_message s _ (nat_lt s.next NUMBER_END) (not_below s.next NUMBER_END past)
 
--- nothing is obeyed, so no sync point rises
+-- nothing is obeyed, so the sync point stays where it met the log's
 obey_rests : (s : ReplicaState) (n : ℕ) → s.sync.prepared < n → moves.sync_commit n s ≡ still s
 unfolding moves.sync_commit
 obey_rests s n past = no_message s _ (nat_le n s.sync.prepared) (above s.sync.prepared n past)
 
-pub commit_rests : {S : Type 0} (m : Meaning S) (s : ReplicaState) (n : ℕ) → s.sync.prepared < n → sync_commit m Whole n s ≡ still s
+pub commit_rests : {S : Type 0} (m : Meaning S) (s : ReplicaState) (n : ℕ) → PointsMeet s → s.sync.prepared < n
+    → sync_commit m Trimmed n s ≡ still s
 unfolding sync_commit
-commit_rests m s n past =
+commit_rests m s n meet past =
     let z : ℕ = s.sync.sync_point in
-    ap (λ (e : Effect). then_do e (drain_if_risen m Whole z)) (obey_rests s n past)
-    ∙ no_message s _ (not (z == z)) (ap not (eq-eqb z z refl))
+    ap (λ (e : Effect). then_do e (raise_and_drain m Trimmed)) (obey_rests s n past)
+    ∙ no_message s _ (has_risen s) (not_below s.log.sync_point z (omega (arith, meet)))
 
-pub leader_rests : {S : Type 0} (m : Meaning S) (s : ReplicaState) → last_leader ≤ s.view.leader → suspect m Whole s ≡ still s
+pub leader_rests : {S : Type 0} (m : Meaning S) (s : ReplicaState) → last_leader ≤ s.view.leader → suspect m Trimmed s ≡ still s
 leader_rests m s past = no_message s _ (nat_lt s.view.leader last_leader) (not_below s.view.leader last_leader past)
 
 -- ---- message numbers
@@ -192,7 +193,7 @@ row_below : {S : Type 0} (m : Meaning S) (b : Bool) (s : Replica) (a : Arrival) 
     → s.messages < LAST_MESSAGE + 8 → (row_if m b s a).0.messages < LAST_MESSAGE + 8
 row_below m false s a e below = below
 row_below m true s a e below =
-    let few = arrive_sends_few m s.state a in
+    let few = arrive_sends_few m Trimmed s.state a in
     let room : s.messages < LAST_MESSAGE = ltb-true s.messages LAST_MESSAGE e in
     omega (arith, few, room)
 

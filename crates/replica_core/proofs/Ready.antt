@@ -3,7 +3,8 @@ use Rattle.std.proofs.Common.{◌≡◌, ℕ, ap, ◌∙◌, sym, [], length}
 use Rattle.std.proofs.lemmas.List.{length-replicate}
 use Rattle.nop_types.specs.declared.host.Host.{Ghosts}
 use Rattle.nop_types.specs.Configuration.{Configuration}
-use Rattle.nop_types.specs.Logs.{Whole}
+use Rattle.nop_types.specs.Logs.{Trimmed}
+use Rattle.executor.specs.Running.{reached}
 use Rattle.fragments.specs.Joining as joining
 use Rattle.replica_state.specs.declared.state.ReplicaState.{ReplicaState}
 use Rattle.replica_state.specs.State.{opening, executed_to}
@@ -13,7 +14,8 @@ use Rattle.replica_core.specs.Within.{IsReady}
 
 pub opens_ready : {H U : Type 0} (host : Ghosts H U) (config : Configuration) (number : ℕ) (n : Node H U) (k : ℕ)
     → n.member.state ≡ opening config number → IsRunning host n.member
-    → length n.member.executor.undos ≡ executed_to Whole n.member.state → n.member.sends ≡ [] → n.reassembly ≡ joining.opening k → k ≡ config.replicas → IsReady host n
+    → reached n.member.executor ≡ executed_to Trimmed n.member.state → n.member.sends ≡ [] → n.reassembly ≡ joining.opening k
+    → k ≡ config.replicas → IsReady host n
 opens_ready host config number n k is runs executed nothing all count = record {
   runs = runs;
   executed = executed;

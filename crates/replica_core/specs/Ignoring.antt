@@ -1,7 +1,7 @@
 -- What changes nothing at a replica.
 use Rattle.std.specs.Prelude.{◌≡◌, ℕ, List, [], Bool, true, false, Ok, Err}
 use Rattle.nop_types.specs.Given.{Given, Packet}
-use Rattle.nop_types.specs.Logs.{Whole}
+use Rattle.nop_types.specs.Logs.{Trimmed}
 use Rattle.nop_types.specs.Meaning.{Meaning}
 use Rattle.nop_types.specs.declared.datagram.Datagram.{Datagram}
 use Rattle.nop_types.specs.declared.datagram.Datagram.TheVariants as datagrams
@@ -54,7 +54,7 @@ is_of_view (bodies.ViewChange u x l) = false
 is_of_view (bodies.StartView x l) = false
 
 abbrev pub Rests : {S : Type 0} → Meaning S → ReplicaState → Peer → Type 0
-Rests m s p = arrive m Whole s (Told p) ≡ still s
+Rests m s p = arrive m Trimmed s (Told p) ≡ still s
 
 -- a message of no other replica of the group, and one of another view or status
 pub record IgnoresMessage {S : Type 0} (m : Meaning S) (s : ReplicaState) (p : Peer) : Type 0 where

@@ -2,7 +2,7 @@
 -- cut into datagrams.
 use Rattle.std.specs.Prelude.{ℕ, ◌+◌, List, [], ◌∷◌, Bool, true, false, Option, Some, None, Result, Ok, Err, nat_lt, ◌==◌}
 use Rattle.nop_types.specs.Configuration.{Configuration}
-use Rattle.nop_types.specs.Logs.{Whole}
+use Rattle.nop_types.specs.Logs.{Trimmed}
 use Rattle.nop_types.specs.Meaning.{Meaning}
 use Rattle.nop_types.specs.Given.{Given, Packet, Ticked, Submit}
 use Rattle.nop_types.specs.declared.input.Tick.{Tick}
@@ -43,12 +43,12 @@ opening config number = record { state = state.opening config number; messages =
 abbrev pub timers : List (Tick × ℕ)
 timers = (ticks.Resend, RESEND_MILLIS) ∷ (ticks.Sync, SYNC_MILLIS) ∷ (ticks.Watch, WATCH_MILLIS) ∷ []
 
--- the state of a row, and what it sends as datagrams
+-- the state of a row, and what it sends as outputs
 abbrev pub post : Replica → Effect → Replica × List Out
 post s e = (record s { state = e.0; messages = s.messages + message_count e.1 }, posted s.messages e.1)
 
 abbrev pub row_if : {S : Type 0} → Meaning S → Bool → Replica → messages.Arrival → Replica × List Out
-row_if m true s a = post s (messages.arrive m Whole s.state a)
+row_if m true s a = post s (messages.arrive m Trimmed s.state a)
 row_if m false s a = (s, [])
 
 -- while message numbers are left, the row for what arrives

@@ -1,6 +1,6 @@
-ghost use Rattle.std.specs.Prelude.{◌≡◌, ◌≤◌, ◌<◌, ◌+◌, ◌-◌, ℕ, List, [], false, length};
+ghost use Rattle.std.specs.Prelude.{◌≡◌, ◌≤◌, ◌<◌, ◌+◌, ◌-◌, ℕ, List, [], false};
 ghost use Rattle.nop_types.specs.Given.{Submit};
-ghost use Rattle.nop_types.specs.Logs.{Log, Whole};
+ghost use Rattle.nop_types.specs.Logs.{Log, Trimmed, length_of};
 ghost use Rattle.nop_types.specs.Meaning.{Meaning};
 ghost use Rattle.nop_types.specs.Ranges.{PeerFits};
 ghost use Rattle.nop_types.specs.declared.limits.TheConstants.{NUMBER_END};
@@ -12,7 +12,7 @@ ghost use Rattle.replica_state.specs.declared.state.ReplicaState.{ReplicaState};
 ghost use Rattle.replica_rows.specs.Rows.{gap_commit, found, sync_prepare, sync_commit, begin_gap};
 ghost use Rattle.replica_rows.specs.Rows.{suspect, last_leader};
 ghost use Rattle.replica_state.specs.Sends.{still};
-ghost use Rattle.replica_state.specs.State.{may_append};
+ghost use Rattle.replica_state.specs.State.{may_append, PointsMeet};
 ghost use Rattle.replica_rows.specs.Messages.{Arrival};
 ghost use Rattle.replica_core.specs.declared.replica.TheConstants.{LAST_MESSAGE};
 ghost use Rattle.replica_core.specs.Ignoring.{IsIgnored, IgnoresPacket, IgnoresMessage};
@@ -32,22 +32,22 @@ pub fn ignores_what_is_for_others<S>()
     ensures messages { (m : Meaning S) (s : ReplicaState) (p : Peer) → IgnoresMessage m s p }
 {}
 
-/// A row that would pass a limit changes nothing and sends nothing: one that would log an entry in a full log or past the last number,
-/// or raise the sync point above what is prepared, or the leader number past its end.
+/// A row that would pass a limit changes nothing and sends nothing: one that would log an entry in a log without room or past the last number,
+/// or raise the sync point above what is prepared, or the leader number past its end. Between two steps `PointsMeet` holds.
 pub fn rows_rest_at_limits<S>()
-    ensures gap { (m : Meaning S) (s : ReplicaState) (n : ℕ) → may_append Whole s ≡ false →
-        length s.log.entries < n → gap_commit m Whole n s ≡ still s }
+    ensures gap { (m : Meaning S) (s : ReplicaState) (n : ℕ) → may_append Trimmed s ≡ false →
+        length_of Trimmed s.log < n → gap_commit m Trimmed n s ≡ still s }
     ensures found { (m : Meaning S) (s : ReplicaState) (n : ℕ) (r : Request) →
-        may_append Whole s ≡ false → found m Whole n r s ≡ still s }
+        may_append Trimmed s ≡ false → found m Trimmed n r s ≡ still s }
     ensures prepare { (m : Meaning S) (s : ReplicaState) (l : Log) →
-        NUMBER_END < s.next + (length l.entries - length s.log.entries) →
-        sync_prepare m Whole l s ≡ still s }
+        NUMBER_END < s.next + (length_of Trimmed l - length_of Trimmed s.log) →
+        sync_prepare m Trimmed l s ≡ still s }
     ensures begin { (m : Meaning S) (s : ReplicaState) → NUMBER_END ≤ s.next →
-        begin_gap m Whole s ≡ still s }
-    ensures commit { (m : Meaning S) (s : ReplicaState) (n : ℕ) → s.sync.prepared < n →
-        sync_commit m Whole n s ≡ still s }
+        begin_gap m Trimmed s ≡ still s }
+    ensures commit { (m : Meaning S) (s : ReplicaState) (n : ℕ) → PointsMeet s →
+        s.sync.prepared < n → sync_commit m Trimmed n s ≡ still s }
     ensures leader { (m : Meaning S) (s : ReplicaState) → last_leader ≤ s.view.leader →
-        suspect m Whole s ≡ still s }
+        suspect m Trimmed s ≡ still s }
 {}
 
 /// Once `LAST_MESSAGE` or a greater number was used no row is taken, so the numbers of messages never rise to their end.

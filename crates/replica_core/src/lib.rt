@@ -1,5 +1,6 @@
 //! The replica core, over any host: it reads datagrams, joins fragments, takes the rows of
-//! `replica_rows`, and sends their messages as fragments.
+//! `replica_rows`, and sends their messages as fragments. Entries that a row moves out of the log
+//! are moved on, as `Out::Trimmed`.
 //!
 //! `Replica` meets `Core` with the step table `next`, from `opening` on, whatever comes, forged
 //! datagrams too. While it has not failed each field of its state is in its range. Its log, next

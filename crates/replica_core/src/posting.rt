@@ -40,43 +40,42 @@ fn post_message(
     }
 }
 
-/// Makes datagrams of one thing that is sent, and gives the message number that was used last.
-#[tactic(auto, using(crate::proofs::Posted::posted_client, crate::proofs::Posted::posted_message))]
-fn post_one(
-    alloc: Global,
-    number: u64,
-    sending: &Sending,
-    out: &mut Outbox,
-) -> Result<u64, NoMemory>
-    requires fits { SendingFits sending.now }
-    requires room { number + message_count (sending.now ∷ []) < 2 ^ 64 }
-    ensures number { IfOk result (λ last. last ≡ number + message_count (sending.now ∷ [])) }
-    ensures ok { OnOk result (out.new ≡ out.old ++ posted number (sending.now ∷ [])) }
+/// Makes outputs of one thing that is sent, and gives the message number that was used last.
+#[tactic(auto, using(crate::proofs::Posted::posted_one))]
+fn post_one(alloc: Global, number: u64, sending: Sending, out: &mut Outbox) -> Result<u64, NoMemory>
+    requires fits { SendingFits sending }
+    requires room { number + message_count (sending ∷ []) < 2 ^ 64 }
+    ensures number { IfOk result (λ last. last ≡ number + message_count (sending ∷ [])) }
+    ensures ok { OnOk result (out.new ≡ out.old ++ posted number (sending ∷ [])) }
     ensures err { OnErr result (out.new ≡ out.old) }
 {
     match sending {
         Sending::ToClient(reply) => {
-            post_reply(alloc, reply, out)?;
+            post_reply(alloc, &reply, out)?;
             Ok(number)
         }
         Sending::ToReplicas(dest, message) => {
-            post_message(alloc, number + 1, *dest, message, out)?;
+            post_message(alloc, number + 1, dest, &message, out)?;
             Ok(number + 1)
+        }
+        Sending::Trims(first, entries) => {
+            out.push(Out::Trimmed { first, entries })?;
+            Ok(number)
         }
     }
 }
 
-/// Makes datagrams of what is sent, in order. After an error some of them stand behind what stood there before.
+/// Makes outputs of what is sent, in order. After an error some of them stand behind what stood there before.
 fn post_each(
     alloc: Global,
     messages: u64,
-    sends: &[Sending],
+    sends: Vec<Sending>,
     out: &mut Outbox,
 ) -> Result<u64, NoMemory>
-    requires fit { AllByRecursion SendingFits sends.now }
-    requires room { messages + message_count sends.now < 2 ^ 64 }
-    ensures number { IfOk result (λ number. number ≡ messages + message_count sends.now) }
-    ensures ok { OnOk result (out.new ≡ out.old ++ posted messages sends.now) }
+    requires fit { AllByRecursion SendingFits sends.items }
+    requires room { messages + message_count sends.items < 2 ^ 64 }
+    ensures number { IfOk result (λ number. number ≡ messages + message_count sends.items) }
+    ensures ok { OnOk result (out.new ≡ out.old ++ posted messages sends.items) }
     ensures front { take (length out.old) out.new ≡ out.old }
 {
     let mut number = messages;
@@ -86,16 +85,22 @@ fn post_each(
     Ok(number)
 }
 
-/// Makes datagrams of what is sent, in order, and gives the message number that was used last. Each message takes the number
-/// after the one before it.
-pub fn post(alloc: Global, messages: u64, sends: &Sends, out: &mut Outbox) -> Result<u64, NoMemory>
-    requires { messages + message_count sends.now < 2 ^ 64 }
-    ensures number { IfOk result (λ number. number ≡ messages + message_count sends.now) }
-    ensures ok { OnOk result (out.new ≡ out.old ++ posted messages sends.now) }
+/// Makes outputs of what is sent, in order, and gives the message number that was used last. Each message takes the number
+/// after the one before it. Entries that moved out of the log are moved on, and nothing is left to send.
+pub fn post(
+    alloc: Global,
+    messages: u64,
+    sends: &mut Sends,
+    out: &mut Outbox,
+) -> Result<u64, NoMemory>
+    requires { messages + message_count sends.old < 2 ^ 64 }
+    ensures number { IfOk result (λ number. number ≡ messages + message_count sends.old) }
+    ensures ok { OnOk result (out.new ≡ out.old ++ posted messages sends.old) }
     ensures err { OnErr result (out.new ≡ out.old) }
+    ensures none { sends.new ≡ [] }
 {
     let len = out.as_slice().len();
-    let posted = post_each(alloc, messages, sends.as_slice(), out);
+    let posted = post_each(alloc, messages, sends.take(), out);
     if posted.is_err() {
         out.truncate(len);
     }

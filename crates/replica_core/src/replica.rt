@@ -1,9 +1,9 @@
 ghost use Rattle.std.specs.Prelude.{◌≡◌, ◌≤◌, ◌<◌, ◌*◌, ◌++◌, false, OnOk, OnErr, IfOk};
 ghost use Rattle.fragments.specs.Held.{held};
-ghost use Rattle.nop_types.specs.declared.limits.TheConstants.{MAX_SLOTS, MAX_UNFINISHED, MAX_FRAGMENTS};
+ghost use Rattle.nop_types.specs.declared.limits.TheConstants.{MAX_LENGTH, MAX_UNFINISHED, MAX_FRAGMENTS};
 ghost use Rattle.nop_types.specs.declared.limits.TheConstants.{FRAGMENT_BYTES};
 ghost use Rattle.nop_types.specs.Given.{given};
-ghost use Rattle.nop_types.specs.Logs.{Whole};
+ghost use Rattle.nop_types.specs.Logs.{Trimmed};
 ghost use Rattle.nop_types.specs.Ranges.{ViewFits, LogFits};
 ghost use Rattle.peer_codec.specs.Reading as peer;
 ghost use Rattle.replica_rows.specs.Messages.{arrival_of, arrive};
@@ -104,7 +104,7 @@ impl<H: Host> Node<H> {
         })
     }
 
-    /// The row for what arrives, while message numbers are left, and the datagrams of what it sends.
+    /// The row for what arrives, while message numbers are left, and the outputs of what it sends.
     #[tactic(auto, using(replica_rows::proofs::Counting::arrive_sends_few, replica_rows::proofs::Counting::arrive_keeps_config))]
     fn row(&mut self, arrival: Arrival, out: &mut Outbox) -> Result<(), NoMemory>
         requires ready { IsReady H.Host self.old }
@@ -121,8 +121,7 @@ impl<H: Host> Node<H> {
         }
         self.member.take(arrival)?;
         let member = &mut self.member;
-        self.messages = post(member.alloc, self.messages, &member.sends, out)?;
-        member.sends.clear();
+        self.messages = post(member.alloc, self.messages, &mut member.sends, out)?;
         Ok(())
     }
 
@@ -238,7 +237,7 @@ impl<H: Host> Replica<H> {
     /// Up to this slot the replica's log is synchronised.
     pub fn sync_point(&self) -> u32
         ensures value { result ≡ self.now.state.state.sync.sync_point }
-        ensures limit { self.now.failed ≡ false → result ≤ MAX_SLOTS }
+        ensures limit { self.now.failed ≡ false → result ≤ MAX_LENGTH }
     {
         self.node.member.state.sync.sync_point()
     }
@@ -268,9 +267,9 @@ impl<H: Host> Replica<H> {
     /// While the replica has not failed, how many slots its host has executed: of a leader in Normal the whole log, of another what is
     /// synchronised.
     pub fn executed(&self) -> u32
-        ensures { self.now.failed ≡ false → result ≡ executed_to Whole self.now.state.state }
+        ensures { self.now.failed ≡ false → result ≡ executed_to Trimmed self.now.state.state }
     {
-        self.node.member.executor.executed()
+        self.node.member.executor.reached()
     }
 }
 

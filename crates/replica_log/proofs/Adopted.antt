@@ -1,15 +1,14 @@
 -- What a log is after another one was taken, or laid over it.
-use Rattle.std.proofs.Common.{◌≡◌, ℕ, ◌<◌, ◌≤◌, Bool, true, false, cond, List, [], ◌∷◌, ◌++◌, length, take, drop, max, None, refl, sym, ap, ◌∙◌, arith}
-use Rattle.std.specs.Prelude.{nat_lt}
+use Rattle.std.proofs.Common.{◌≡◌, ℕ, zero, suc, ◌+◌, ◌<◌, ◌≤◌, Bool, true, false, cond, List, [], ◌∷◌, ◌++◌, length, take, drop, max, refl, sym, ap, ◌∙◌, arith}
+use Rattle.std.proofs.Common.{length-append}
+use Rattle.std.specs.Prelude.{◌-◌, nat_lt, slice_get}
 use Rattle.std.proofs.lemmas.Bool.{ltb-true, ltb-false, lt-ltb, le-ltb}
-use Rattle.std.proofs.lemmas.List.{length-take-le, take-append-drop}
+use Rattle.std.proofs.lemmas.List.{length-take-le, length-drop, take-append-drop}
 use Rattle.nop_types.specs.declared.request.Entry.{Entry}
 use Rattle.nop_types.specs.Lists.{slot_of}
-use Rattle.nop_types.specs.Logs.{Log, Whole, whole, further, adopted, overlaid, IsWithin}
+use Rattle.nop_types.specs.Logs.{Log, Whole, Trimmed, length_of, above, further, adopted, overlaid, IsWithin}
 use Rattle.nop_types.specs.Slots.{laid}
 use Rattle.facts.proofs.Slots.{length-laid, laid-shorter}
-use Rattle.replica_log.specs.Splices.{spliced, MayStay}
-use Rattle.replica_log.proofs.Splices.{length-spliced, spliced_below, spliced_above}
 
 -- ---- the further one
 
@@ -18,21 +17,56 @@ further_point : (new own : Log) (b : Bool) → nat_lt own.sync_point new.sync_po
 further_point new own true e = omega (arith, ltb-true own.sync_point new.sync_point e)
 further_point new own false e = omega (arith, ltb-false own.sync_point new.sync_point e)
 
-further_whole : (new own : Log) (b : Bool) → new.checkpoint ≡ None → own.checkpoint ≡ None → (cond b new own).checkpoint ≡ None
-further_whole new own true c d = c
-further_whole new own false c d = d
-
 further_within : (new own : Log) (b : Bool) → IsWithin new → IsWithin own → IsWithin (cond b new own)
 further_within new own true c d = c
 further_within new own false c d = d
 
+-- in either reading
 pub adopted_point : (new own : Log) → (adopted Whole new own).sync_point ≡ max own.sync_point new.sync_point
 adopted_point new own = further_point new own (nat_lt own.sync_point new.sync_point) refl
 
 pub overlaid_point : (new own : Log) → (overlaid Whole new own).sync_point ≡ max own.sync_point new.sync_point
 overlaid_point new own = further_point new own (nat_lt own.sync_point new.sync_point) refl
 
--- ---- taken
+-- ---- the front of one list, and what another one has above
+
+none-above : (n : ℕ) (l : List Entry) → length l ≤ n → drop n l ≡ []
+none-above zero [] h = refl
+none-above zero (x ∷ l) h = absurd (omega (arith, h))
+none-above (suc n) [] h = refl
+none-above (suc n) (x ∷ l) h = none-above n l (omega (arith, h))
+
+pub length-spliced : (n : ℕ) (own l : List Entry) → n ≤ length own → length (take n own ++ drop n l) ≡ n + (length l - n)
+length-spliced n own l h =
+    let both = length-append (take n own) (drop n l) in
+    let front = length-take-le n own h in
+    let rest = length-drop n l in
+    omega (arith, both, front, rest)
+
+place_below : (n i : ℕ) (own rest : List Entry) → i < n → n ≤ length own → slice_get (take n own ++ rest) i ≡ slice_get own i
+place_below zero i own rest less low = absurd (omega (arith, less))
+place_below (suc n) i [] rest less low = absurd (omega (arith, low))
+place_below (suc n) zero (y ∷ own) rest less low = refl
+place_below (suc n) (suc i) (y ∷ own) rest less low = place_below n i own rest (omega (arith, less)) (omega (arith, low))
+
+place_above : (n i : ℕ) (own l : List Entry) → n ≤ i → n ≤ length own → slice_get (take n own ++ drop n l) i ≡ slice_get l i
+place_above zero i own l high low = refl
+place_above (suc n) i [] l high low = absurd (omega (arith, low))
+place_above (suc n) zero (y ∷ own) l high low = absurd (omega (arith, high))
+place_above (suc n) (suc i) (y ∷ own) [] high low =
+    ap (λ (t : List Entry). slice_get (take n own ++ t) i) (sym (none-above n [] (omega arith)))
+    ∙ place_above n i own [] (omega (arith, high)) (omega (arith, low))
+place_above (suc n) (suc i) (y ∷ own) (x ∷ l) high low = place_above n i own l (omega (arith, high)) (omega (arith, low))
+
+spliced_below : (n : ℕ) (own l : List Entry) (i : ℕ) → n ≤ length own → i ≤ n → slot_of (take n own ++ drop n l) i ≡ slot_of own i
+spliced_below n own l zero low le = refl
+spliced_below n own l (suc i) low le = place_below n i own (drop n l) (omega (arith, le)) low
+
+spliced_above : (n : ℕ) (own l : List Entry) (i : ℕ) → n ≤ length own → n < i → slot_of (take n own ++ drop n l) i ≡ slot_of l i
+spliced_above n own l zero low less = absurd (omega (arith, less))
+spliced_above n own l (suc i) low less = place_above n i own l (omega (arith, less)) low
+
+-- ---- a whole log is taken
 
 abbrev taken_by : Log → Log → Bool → List Entry
 taken_by new own b = take (cond b new own).sync_point (cond b new own).entries ++ drop (cond b new own).sync_point new.entries
@@ -44,7 +78,7 @@ adopted_further new own h =
 
 -- else what it has above the own sync point
 pub adopted_near : (new own : Log) → new.sync_point ≤ own.sync_point
-    → (adopted Whole new own).entries ≡ spliced own.sync_point own.entries new.entries
+    → (adopted Whole new own).entries ≡ take own.sync_point own.entries ++ drop own.sync_point new.entries
 adopted_near new own h = ap (taken_by new own) (le-ltb own.sync_point new.sync_point h)
 
 pub length-adopted : (new own : Log) → IsWithin own → IsWithin new
@@ -75,7 +109,7 @@ adopted_above new own i h less = by (nat_lt own.sync_point new.sync_point) refl
         ap (λ (t : List Entry). slot_of t i) (adopted_near new own (ltb-false own.sync_point new.sync_point e))
         ∙ spliced_above own.sync_point own.entries new.entries i h less
 
--- ---- laid over the own one
+-- ---- it is laid over the own one
 
 laid_behind : (front l own : List Entry) → laid (front ++ l) own ≡ front ++ laid l (drop (length front) own)
 laid_behind [] l own = refl
@@ -100,30 +134,42 @@ length-overlaid new own h g =
     let parts = ap (λ (t : List Entry). length t) (overlaid_parts new own h g) in
     omega (arith, h, parts, length-laid (adopted Whole new own).entries own.entries, length-adopted new own h g)
 
--- ---- as records
+-- ---- a trimmed log is taken, or laid over the own one
 
-pub adopted_whole : (new own : Log) → new.checkpoint ≡ None → own.checkpoint ≡ None → (adopted Whole new own).checkpoint ≡ None
-adopted_whole new own = further_whole new own (nat_lt own.sync_point new.sync_point)
+-- the entries of a trimmed log begin above its sync point
+begins : (n : ℕ) → n - n ≡ 0
+begins n = omega arith
 
-pub overlaid_whole : (new own : Log) → new.checkpoint ≡ None → own.checkpoint ≡ None → (overlaid Whole new own).checkpoint ≡ None
-overlaid_whole new own = further_whole new own (nat_lt own.sync_point new.sync_point)
+pub trimmed_adopted : (new own : Log)
+    → let g : Log = further new own in record g { entries = above Trimmed new g.sync_point } ≡ adopted Trimmed new own
+trimmed_adopted new own =
+    let g : Log = further new own in
+    ap (λ (n : ℕ). record g { entries = take n g.entries ++ above Trimmed new g.sync_point }) (sym (begins g.sync_point))
 
--- a log that is as long or longer is taken
-pub overlaid_longer : (new own : Log) → IsWithin own → IsWithin new → length own.entries ≤ length new.entries
-    → adopted Whole new own ≡ overlaid Whole new own
-overlaid_longer new own h g len =
-    let all : (adopted Whole new own).entries ≡ (overlaid Whole new own).entries =
-    sym (laid-shorter (adopted Whole new own).entries own.entries (omega (arith, len, length-adopted new own h g)))
-    ∙ sym (overlaid_parts new own h g) in
-    ap (λ (t : List Entry). record (adopted Whole new own) { entries = t }) all
+pub trimmed_overlaid : (new own : Log)
+    → let g : Log = further new own in
+    record g { entries = laid (above Trimmed new g.sync_point) (above Trimmed own g.sync_point) } ≡ overlaid Trimmed new own
+trimmed_overlaid new own =
+    let g : Log = further new own in
+    let over = laid (above Trimmed new g.sync_point) (above Trimmed own g.sync_point) in
+    ap (λ (n : ℕ). record g { entries = take n g.entries ++ over }) (sym (begins g.sync_point))
 
--- one that is shorter goes over the own entries that need not stay
-pub is_overlaid : (kept : ℕ) (new own : Log) (n : ℕ) (entries : List Entry) → new.checkpoint ≡ None → own.checkpoint ≡ None
-    → IsWithin own → IsWithin new → MayStay kept own new → n ≡ max own.sync_point new.sync_point
-    → entries ≡ laid (spliced kept own.entries new.entries) own.entries → whole n entries ≡ overlaid Whole new own
-is_overlaid kept new own n entries c d h g stay point put =
-    let at : n ≡ (overlaid Whole new own).sync_point = point ∙ sym (overlaid_point new own) in
-    let none : None ≡ (overlaid Whole new own).checkpoint = sym (overlaid_whole new own c d) in
-    let all : entries ≡ (overlaid Whole new own).entries =
-    put ∙ ap (λ (t : List Entry). laid t own.entries) stay.same ∙ sym (overlaid_parts new own h g) in
-    λ i. record { sync_point = at i; checkpoint = none i; entries = all i }
+pub length-trimmed_adopted : (new own : Log) → length_of Trimmed (adopted Trimmed new own) ≡ max own.sync_point (length_of Trimmed new)
+length-trimmed_adopted new own =
+    let g : Log = further new own in
+    let len = ap (λ (l : Log). length l.entries) (trimmed_adopted new own) in
+    omega (arith, len, adopted_point new own, length-drop (g.sync_point - new.sync_point) new.entries)
+
+pub length-trimmed_overlaid : (new own : Log)
+    → length_of Trimmed (overlaid Trimmed new own) ≡ max (length_of Trimmed own) (length_of Trimmed new)
+length-trimmed_overlaid new own =
+    let g : Log = further new own in
+    let len = ap (λ (l : Log). length l.entries) (trimmed_overlaid new own) in
+    omega (
+      arith,
+      len,
+      adopted_point new own,
+      length-laid (above Trimmed new g.sync_point) (above Trimmed own g.sync_point),
+      length-drop (g.sync_point - new.sync_point) new.entries,
+      length-drop (g.sync_point - own.sync_point) own.entries,
+    )

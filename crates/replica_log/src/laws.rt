@@ -1,11 +1,9 @@
-ghost use Rattle.std.specs.Prelude.{◌≡◌, ◌≢◌, ◌<◌, ◌≤◌, ℕ, List, Some, length, max};
+ghost use Rattle.std.specs.Prelude.{◌≡◌, ◌≢◌, ◌<◌, ◌≤◌, ℕ, List, Some, length, max, true};
 ghost use Rattle.nop_types.specs.declared.request.Entry.{Entry};
 ghost use Rattle.nop_types.specs.Lists.{slot_of};
-ghost use Rattle.nop_types.specs.Logs.{Log, Whole, first, appended, with_noop, adopted, overlaid};
-ghost use Rattle.nop_types.specs.Ranges.{EntryFits, LogFits};
+ghost use Rattle.nop_types.specs.Logs.{Log, Keeping, Whole, length_of, has_room, first, appended, with_noop, adopted, overlaid};
+ghost use Rattle.nop_types.specs.Ranges.{EntryFits, LogIsIn};
 ghost use Rattle.nop_types.specs.Slots.{set_slot, laid};
-
-use nop_types::MAX_SLOTS;
 
 /// One slot becomes the entry, and all others stay.
 pub fn set_slot_by_slot()
@@ -25,17 +23,36 @@ pub fn laid_by_slot()
         ≡ slot_of k i }
 {}
 
-/// A log in its ranges stays so, whatever entries and logs in their ranges come in.
+/// A log in its ranges, kept whole or trimmed, stays so, whatever entries and logs in their ranges come in; a whole one also where its
+/// sync point rises.
 pub fn log_stays_in_ranges()
-    ensures append { (l : Log) (e : Entry) → LogFits l → EntryFits e → length l.entries
-        < MAX_SLOTS → LogFits (appended l e) }
-    ensures noop { (l : Log) (n : ℕ) → LogFits l → LogFits (with_noop Whole l n) }
-    ensures raise { (l : Log) (n : ℕ) → LogFits l → n ≤ length l.entries
-        → LogFits (record l { sync_point = n }) }
-    ensures adopt { (new own : Log) → LogFits new → LogFits own → LogFits (adopted Whole new own) }
-    ensures overlay { (new own : Log) → LogFits new → LogFits own
-        → LogFits (overlaid Whole new own) }
-    ensures first { (l : Log) (n : ℕ) → LogFits l → l.sync_point ≤ n → LogFits (first Whole l n) }
+    ensures append { (k : Keeping) (l : Log) (e : Entry) → LogIsIn k l → EntryFits e
+        → has_room k l ≡ true → LogIsIn k (appended l e) }
+    ensures noop { (k : Keeping) (l : Log) (n : ℕ) → LogIsIn k l → LogIsIn k (with_noop k l n) }
+    ensures raise { (l : Log) (n : ℕ) → LogIsIn Whole l → l.sync_point ≤ n → n ≤ length l.entries
+        → LogIsIn Whole (record l { sync_point = n }) }
+    ensures adopt { (k : Keeping) (new own : Log) → LogIsIn k new → LogIsIn k own
+        → LogIsIn k (adopted k new own) }
+    ensures overlay { (k : Keeping) (new own : Log) → LogIsIn k new → LogIsIn k own
+        → LogIsIn k (overlaid k new own) }
+    ensures first { (k : Keeping) (l : Log) (n : ℕ) → LogIsIn k l → l.sync_point ≤ n
+        → LogIsIn k (first k l n) }
+{}
+
+/// Where a log is taken, its last slot is the last one then, unless the own sync point is above it.
+pub fn adopted_is_as_long()
+    ensures point { (k : Keeping) (new own : Log) → (adopted k new own).sync_point
+        ≡ max own.sync_point new.sync_point }
+    ensures len { (k : Keeping) (new own : Log) → LogIsIn k new → LogIsIn k own
+        → length_of k (adopted k new own) ≡ max own.sync_point (length_of k new) }
+{}
+
+/// Where a log is laid over the own one, the greater last slot is the last one then.
+pub fn overlaid_is_as_long()
+    ensures point { (k : Keeping) (new own : Log) → (overlaid k new own).sync_point
+        ≡ max own.sync_point new.sync_point }
+    ensures len { (k : Keeping) (new own : Log) → LogIsIn k new → LogIsIn k own
+        → length_of k (overlaid k new own) ≡ max (length_of k own) (length_of k new) }
 {}
 
 /// Where a log is taken, the greater sync point is taken, and so are all entries of the other log; but where its sync point is not

@@ -1,23 +1,26 @@
-//! The log that a replica keeps, whole: a sync point, and at most 4,096 entries by slots that count
-//! from 1.
+//! The log that a replica keeps, trimmed: a sync point, the checkpoint that stands in place of the
+//! entries up to there, and at most 4,096 entries above. Slots count from 1.
 //!
-//! Each call gives what the definition of its name gives, at the reading `Whole`: `len`
-//! (`length_of`), `at` (`entry_at`), `append` (`appended`), `put_noop` (`with_noop`), `first`,
-//! `adopt` (`adopted`), `overlay` (`overlaid`). `raise` sets the sync point; `entries`, `as_ref` and
-//! `copy` give the log. `kept_front` says how many of the own entries `adopt` and `overlay` need not
-//! write (`MayStay`). On an error the log is as before.
+//! Each call gives what the definition of its name gives, at the reading `Trimmed`: `len`
+//! (`length_of`), `has_room`, `at` (`entry_at`), `first`, `append` (`appended`), `put_noop`
+//! (`with_noop`), `adopt` (`adopted`), `overlay` (`overlaid`). `raise` puts a checkpoint in place of
+//! the entries up to a slot, and returns those (`between`). `sync_point`, `checkpoint`, `entries`,
+//! `as_ref` and `copy` give the log. Entries move from log to log; `copy` alone copies them. On an
+//! error the log is as before.
 //!
 //! Laws: `set_slot_by_slot`, `laid_by_slot`, `adopted_by_slot` and `overlaid_by_slot` say what each
-//! slot has then, and `log_stays_in_ranges` that a log stays in its ranges.
+//! slot of a whole log has then. Of a log that is kept whole or trimmed, `adopted_is_as_long` and
+//! `overlaid_is_as_long` say the sync point and the last slot, and `log_stays_in_ranges` that it
+//! stays in its ranges.
 //!
-//! Files: `log`, `laws`. Definitions: `specs/Splices`, and those of `nop_types`: `Logs`, `Slots`,
-//! `Lists`.
+//! Files: `log`, `laws`. Definitions are those of `nop_types`: `Logs`, `Slots`, `Lists`, `Ranges`.
 #![tactic(auto)]
 
 mod laws;
 mod log;
 
 pub use laws::{
-    adopted_by_slot, laid_by_slot, log_stays_in_ranges, overlaid_by_slot, set_slot_by_slot,
+    adopted_by_slot, adopted_is_as_long, laid_by_slot, log_stays_in_ranges, overlaid_by_slot,
+    overlaid_is_as_long, set_slot_by_slot,
 };
 pub use log::ReplicaLog;

@@ -1,48 +1,69 @@
 ghost use Rattle.std.specs.Prelude.{
   ◌≡◌,
-  ◌++◌,
   ◌+◌,
   ◌<◌,
   ◌≤◌,
   ◌↔◌,
-  [],
+  Some,
+  true,
   length,
-  take,
   drop,
-  IsTrue,
+  max,
   IsSome,
   IfOk,
   OnOk,
   OnErr,
   option_map,
 };
+ghost use Rattle.std.specs.Option.{option_copied};
 ghost use Rattle.nop_types.specs.BorrowedLogs.{log_of};
-ghost use Rattle.nop_types.specs.Logs.{Whole, empty, length_of, entry_at, first, appended, with_noop, adopted, overlaid};
+ghost use Rattle.nop_types.specs.Logs.{
+  Trimmed,
+  empty,
+  whole,
+  length_of,
+  has_room,
+  entry_at,
+  between,
+  above,
+  further,
+  first,
+  appended,
+  with_noop,
+  adopted,
+  overlaid,
+};
 ghost use Rattle.nop_types.specs.Slots.{laid};
-ghost use Rattle.replica_log.specs.Splices.{spliced, MayStay};
 
-use nop_types::{Entry, Log, LogRef, MAX_SLOTS, NoMemory};
+use nop_types::{Checkpoint, Entry, Log, LogRef, MAX_LENGTH, MAX_SLOTS, NoMemory};
 use std::alloc::Global;
 use std::marker::Model;
 use std::mem;
 
-/// A log that is kept whole: its sync point, and at most `MAX_SLOTS` entries. Slots count from 1.
+/// The log of a replica: its sync point, the checkpoint that stands in place of the entries up to there, and at most `MAX_SLOTS`
+/// entries above. Slots count from 1, and there are at most `MAX_LENGTH`.
 #[derive(Debug, Drop)]
 pub struct ReplicaLog {
     sync_point: u32,
+    checkpoint: Option<Checkpoint>,
     entries: Vec<Entry>,
 }
 
 impl Model for ReplicaLog {
-    ghost use Rattle.std.specs.Prelude.{length, ◌≤◌};
-    ghost use Rattle.nop_types.specs.declared.limits.TheConstants.{MAX_SLOTS};
-    ghost use Rattle.nop_types.specs.Logs.{Log, whole};
+    ghost use Rattle.std.specs.Prelude.{length, ◌≤◌, ◌+◌};
+    ghost use Rattle.nop_types.specs.declared.limits.TheConstants.{MAX_SLOTS, MAX_LENGTH};
+    ghost use Rattle.nop_types.specs.Logs.{Log};
 
     ghost Value = { Log };
 
-    ghost view = { λ l. whole l.sync_point l.entries.items };
+    ghost view = { λ l. record {
+      sync_point = l.sync_point;
+      checkpoint = l.checkpoint;
+      entries = l.entries.items;
+    } };
 
-    ghost invariant = { λ l. length l.entries.items ≤ MAX_SLOTS };
+    ghost invariant = { λ l. (length l.entries.items ≤ MAX_SLOTS)
+        × (l.sync_point + length l.entries.items ≤ MAX_LENGTH) };
 }
 
 fn cloned(alloc: Global, entries: &[Entry]) -> Result<Vec<Entry>, NoMemory>
@@ -55,56 +76,27 @@ fn cloned(alloc: Global, entries: &[Entry]) -> Result<Vec<Entry>, NoMemory>
     Ok(copy)
 }
 
-fn is_same(entry: &Entry, other: &Entry) -> bool
-    ensures { IsTrue result ↔ (entry.now ≡ other.now) }
+/// Drops the first `count` entries, or all where there are fewer.
+fn drop_front(entries: &mut Vec<Entry>, count: u32)
+    ensures { entries.new.items ≡ drop count entries.old.items }
 {
-    match (entry, other) {
-        (Entry::NoOp, Entry::NoOp) => true,
-        (Entry::Req(a), Entry::Req(b)) => {
-            a.client == b.client && a.id == b.id && a.op.as_slice() == b.op.as_slice()
-        }
-        _ => false,
-    }
+    let count = entries.len().min(count as usize);
+    entries.drain(..count);
 }
 
-fn are_same(entries: &[Entry], others: &[Entry]) -> bool
-    requires { length entries.now ≡ length others.now }
-    ensures { IsTrue result ↔ (entries.now ≡ others.now) }
+/// Puts other entries in the place of as many first ones, and of all where there are no more.
+#[tactic(auto, using(facts::proofs::Slots::laid_parts))]
+fn lay_over(entries: &mut Vec<Entry>, mut more: Vec<Entry>)
+    ensures over { entries.new.items ≡ laid more.items entries.old.items }
+    ensures len { length entries.new.items ≡ max (length more.items) (length entries.old.items) }
 {
-    for at in 0..entries.len() {
-        if !is_same(&entries[at], &others[at]) {
-            return false;
-        }
+    if more.len() >= entries.len() {
+        *entries = more;
+        return;
     }
-    true
-}
-
-/// Puts the entries of `more` in the place of as many after the first `at`.
-fn replace_at(entries: &mut Vec<Entry>, at: usize, mut more: Vec<Entry>)
-    requires { length more.items + at ≤ length entries.old.items }
-    ensures { entries.new.items
-        ≡ take at entries.old.items ++ more.items ++ drop (length more.items + at) entries.old.items }
-{
     while let Some(entry) = more.pop() {
-        entries[more.len() + at] = entry;
+        entries[more.len()] = entry;
     }
-}
-
-/// Puts the entries of `more` above the first `kept` over those there, which are as many or more.
-#[tactic(auto, using(crate::proofs::Splices::laid_none))]
-fn lay_above(entries: &mut Vec<Entry>, kept: usize, more: &[Entry]) -> Result<(), NoMemory>
-    requires there { kept ≤ length entries.old.items }
-    requires len { length more.now ≤ length entries.old.items }
-    ensures ok { OnOk result (entries.new.items ≡ laid (spliced kept entries.old.items more.now) entries.old.items) }
-    ensures err { OnErr result (entries.new.items ≡ entries.old.items) }
-    ensures stays { length entries.new.items ≡ length entries.old.items }
-{
-    if more.len() <= kept {
-        return Ok(());
-    }
-    let above = cloned(*entries.allocator(), &more[kept..])?;
-    replace_at(entries, kept, above);
-    Ok(())
 }
 
 impl ReplicaLog {
@@ -114,65 +106,79 @@ impl ReplicaLog {
     {
         ReplicaLog {
             sync_point: 0,
+            checkpoint: None,
             entries: Vec::new(alloc),
         }
     }
 
-    /// How many slots there are.
-    pub fn len(&self) -> u32
-        ensures len { result ≡ length_of Whole self.now }
-        ensures limit { length self.now.entries ≤ MAX_SLOTS }
+    /// The slots up to this one are synchronised; a checkpoint stands in place of their entries.
+    pub fn sync_point(&self) -> u32
+        ensures { result ≡ self.now.sync_point }
     {
-        self.entries.len() as u32
+        self.sync_point
     }
 
-    pub fn is_empty(&self) -> bool
-        ensures { IsTrue result ↔ (self.now.entries ≡ []) }
+    pub fn checkpoint(&self) -> Option<&Checkpoint>
+        ensures { option_copied result ≡ self.now.checkpoint }
     {
-        self.entries.is_empty()
+        self.checkpoint.as_ref()
+    }
+
+    /// The last slot.
+    pub fn len(&self) -> u32
+        ensures len { result ≡ length_of Trimmed self.now }
+        ensures room { length self.now.entries ≤ MAX_SLOTS }
+        ensures limit { result ≤ MAX_LENGTH }
+    {
+        self.sync_point + self.entries.len() as u32
     }
 
     /// Whether one more entry can be appended.
     pub fn has_room(&self) -> bool
-        ensures { IsTrue result ↔ (length self.now.entries < MAX_SLOTS) }
+        ensures { result ≡ has_room Trimmed self.now }
     {
-        self.entries.len() < MAX_SLOTS
+        self.entries.len() < MAX_SLOTS && self.len() < MAX_LENGTH
     }
 
-    /// All entries, that of slot 1 first.
+    /// The entries above the sync point, in the order of their slots.
     pub fn entries(&self) -> &[Entry]
         ensures entries { result.now ≡ self.now.entries }
-        ensures limit { length self.now.entries ≤ MAX_SLOTS }
+        ensures room { length self.now.entries ≤ MAX_SLOTS }
+        ensures limit { length_of Trimmed self.now ≤ MAX_LENGTH }
     {
         &self.entries
     }
 
-    /// What stands in a slot.
+    /// What stands in a slot above the sync point.
     pub fn at(&self, slot: u32) -> Option<&Entry>
-        ensures entry { option_map (λ e. e.now) result ≡ entry_at Whole self.now slot }
-        ensures some { IsSome result ↔ ((1 ≤ slot) × (slot ≤ length self.now.entries)) }
+        ensures entry { option_map (λ e. e.now) result ≡ entry_at Trimmed self.now slot }
+        ensures some { IsSome result
+            ↔ ((self.now.sync_point < slot) × (slot ≤ length_of Trimmed self.now)) }
     {
-        let place = slot.checked_sub(1)?;
+        let place = slot.checked_sub(self.sync_point)?.checked_sub(1)?;
         self.entries.get(place as usize)
     }
 
-    /// The first `len` entries, with the sync point, for a message.
-    pub fn first(&self, len: u32) -> LogRef<'_>
-        requires { len ≤ length self.now.entries }
-        ensures { log_of result ≡ first Whole self.now len }
+    /// The log up to a slot, no lower than the sync point, for a message.
+    pub fn first(&self, slot: u32) -> LogRef<'_>
+        requires low { self.now.sync_point ≤ slot }
+        requires there { slot ≤ length_of Trimmed self.now }
+        ensures { log_of result ≡ first Trimmed self.now slot }
     {
         LogRef {
             sync_point: self.sync_point,
-            entries: &self.entries[..len as usize],
+            checkpoint: self.checkpoint.as_ref(),
+            entries: &self.entries[..(slot - self.sync_point) as usize],
         }
     }
 
-    /// The whole log, for a message.
+    /// All of it, for a message.
     pub fn as_ref(&self) -> LogRef<'_>
         ensures { log_of result ≡ self.now }
     {
         LogRef {
             sync_point: self.sync_point,
+            checkpoint: self.checkpoint.as_ref(),
             entries: &self.entries,
         }
     }
@@ -182,11 +188,15 @@ impl ReplicaLog {
         ensures { IfOk result (λ log. log ≡ self.now) }
     {
         let entries = cloned(*self.entries.allocator(), &self.entries)?;
-        Ok(Log::new(self.sync_point, entries))
+        let checkpoint = match &self.checkpoint {
+            Some(checkpoint) => Some(checkpoint.try_clone()?),
+            None => None,
+        };
+        Ok(Log::new(self.sync_point, checkpoint, entries))
     }
 
     pub fn append(&mut self, entry: Entry) -> Result<(), NoMemory>
-        requires { length self.old.entries < MAX_SLOTS }
+        requires { has_room Trimmed self.old ≡ true }
         ensures ok { OnOk result (self.new ≡ appended self.old entry) }
         ensures err { OnErr result (self.new ≡ self.old) }
     {
@@ -194,80 +204,74 @@ impl ReplicaLog {
         Ok(())
     }
 
-    /// Puts a NO-OP into a slot, over whatever stands there.
+    /// Puts a NO-OP into a slot above the sync point, over whatever stands there.
     pub fn put_noop(&mut self, slot: u32)
-        requires from_one { 1 ≤ slot }
-        requires there { slot ≤ length self.old.entries }
-        ensures { self.new ≡ with_noop Whole self.old slot }
+        requires above { self.old.sync_point < slot }
+        requires there { slot ≤ length_of Trimmed self.old }
+        ensures { self.new ≡ with_noop Trimmed self.old slot }
     {
-        self.entries[slot as usize - 1] = Entry::NoOp;
+        self.entries[(slot - self.sync_point) as usize - 1] = Entry::NoOp;
     }
 
-    /// The sync point goes to a slot.
-    pub fn raise(&mut self, slot: u32)
-        ensures { self.new ≡ record self.old { sync_point = slot } }
-    {
-        self.sync_point = slot;
-    }
-
-    /// Whether the entries up to a slot are those of another log.
-    fn agrees_with(&self, log: &Log, slot: u32) -> bool
-        requires own { slot ≤ length self.now.entries }
-        requires other { slot ≤ length log.now.entries }
-        ensures { IsTrue result ↔ (take slot self.now.entries ≡ take slot log.now.entries) }
-    {
-        let len = slot as usize;
-        are_same(&self.entries[..len], &log.entries()[..len])
-    }
-
-    /// How many of the own entries need not be written where another log is taken: those up to the own sync point; none where the
-    /// other one's is greater and the logs differ up to there.
-    pub fn kept_front(&self, log: &Log) -> u32
-        requires own { self.now.sync_point ≤ length self.now.entries }
-        requires told { log.now.sync_point ≤ length log.now.entries }
-        ensures stay { MayStay result self.now log.now }
-        ensures low { result ≤ self.now.sync_point }
-    {
-        let own = self.sync_point;
-        if log.sync_point() <= own || self.agrees_with(log, own) {
-            return own;
-        }
-        0
-    }
-
-    /// Takes the entries of another log in place of the own ones above the first `kept`, without a copy. The greater sync point is
-    /// taken.
-    pub fn adopt(&mut self, kept: u32, log: Log)
-        requires { MayStay kept self.old log }
-        ensures { self.new ≡ adopted Whole log self.old }
-    {
-        self.sync_point = self.sync_point.max(log.sync_point());
-        let mut entries = log.into_entries();
-        self.entries.truncate(kept as usize);
-        if entries.len() <= kept as usize {
-            return;
-        }
-        mem::swap(&mut self.entries, &mut entries);
-        replace_at(&mut self.entries, 0, entries);
-    }
-
-    /// Takes the entries of another log over the own ones above the first `kept`. The own entries above the other log stay. The
-    /// greater sync point is taken.
-    #[tactic(auto, using(crate::proofs::Adopted::overlaid_longer, crate::proofs::Adopted::is_overlaid))]
-    pub fn overlay(&mut self, kept: u32, log: &Log) -> Result<(), NoMemory>
-        requires stay { MayStay kept self.old log.now }
-        requires own { self.old.sync_point ≤ length self.old.entries }
-        requires told { log.now.sync_point ≤ length log.now.entries }
-        ensures ok { OnOk result (self.new ≡ overlaid Whole log.now self.old) }
+    /// The sync point rises to a slot, with the checkpoint of the slots up to there. The entries between are handed out, as a log
+    /// without a checkpoint. On an error the log is as before.
+    pub fn raise(&mut self, slot: u32, checkpoint: Checkpoint) -> Result<Log, NoMemory>
+        requires low { self.old.sync_point ≤ slot }
+        requires there { slot ≤ length_of Trimmed self.old }
+        ensures between { IfOk result (λ log. log ≡ whole 0 (between Trimmed self.old slot)) }
+        ensures ok { OnOk result (self.new ≡ record {
+          sync_point = slot;
+          checkpoint = Some checkpoint;
+          entries = above Trimmed self.old slot;
+        }) }
         ensures err { OnErr result (self.new ≡ self.old) }
     {
-        let more = log.as_ref();
-        if more.entries.len() > self.entries.len() {
-            self.adopt(kept, log.try_clone()?);
-            return Ok(());
+        let count = (slot - self.sync_point) as usize;
+        let kept = self.entries.split_off(count)?;
+        let passed = mem::replace(&mut self.entries, kept);
+        self.sync_point = slot;
+        self.checkpoint = Some(checkpoint);
+        Ok(Log::new(0, None, passed))
+    }
+
+    /// The greater sync point of the two logs is the own one then, with its checkpoint. The own entries up to there go; the result
+    /// is the other log's entries above.
+    fn take_sync_point(&mut self, log: Log) -> Vec<Entry>
+        ensures own { let g = further log self.old in self.new ≡ record g {
+          entries = above Trimmed self.old g.sync_point;
+        } }
+        ensures other { result.items ≡ above Trimmed log (further log self.old).sync_point }
+        ensures room { length result.items ≤ MAX_SLOTS }
+        ensures limit { self.new.sync_point + length result.items ≤ MAX_LENGTH }
+    {
+        let sync_point = log.sync_point();
+        let (checkpoint, mut entries) = log.into_parts();
+        if sync_point > self.sync_point {
+            drop_front(&mut self.entries, sync_point - self.sync_point);
+            self.sync_point = sync_point;
+            self.checkpoint = checkpoint;
+        } else {
+            drop_front(&mut entries, self.sync_point - sync_point);
         }
-        lay_above(&mut self.entries, kept as usize, more.entries)?;
-        self.sync_point = self.sync_point.max(more.sync_point);
+        entries
+    }
+
+    /// Takes another log: all of it where its sync point is greater than the own one, else its entries above the own sync point.
+    #[tactic(auto, using(crate::proofs::Adopted::trimmed_adopted))]
+    pub fn adopt(&mut self, log: Log)
+        ensures { self.new ≡ adopted Trimmed log self.old }
+    {
+        self.entries = self.take_sync_point(log);
+    }
+
+    /// Takes another log likewise, but the own entries above its end stay. On an error the log is as before.
+    #[tactic(auto, using(crate::proofs::Adopted::trimmed_overlaid))]
+    pub fn overlay(&mut self, log: Log) -> Result<(), NoMemory>
+        ensures ok { OnOk result (self.new ≡ overlaid Trimmed log self.old) }
+        ensures err { OnErr result (self.new ≡ self.old) }
+    {
+        let entries = self.take_sync_point(log);
+        lay_over(&mut self.entries, entries);
         Ok(())
     }
 }

@@ -5,7 +5,7 @@ use Rattle.nop_types.specs.declared.host.Host.{Ghosts}
 use Rattle.nop_types.specs.declared.peer.Change.{Change}
 use Rattle.nop_types.specs.declared.peer.Body.{Body}
 use Rattle.nop_types.specs.declared.peer.Body.TheVariants as bodies
-use Rattle.nop_types.specs.Logs.{Log, Whole}
+use Rattle.nop_types.specs.Logs.{Log, Trimmed}
 use Rattle.nop_types.specs.Meaning.{Meaning}
 use Rattle.nop_types.specs.Ranges.{ChangeFits}
 use Rattle.executor.specs.Running.{Running}
@@ -19,13 +19,17 @@ use Rattle.replica_state.specs.Sends.{to_all_if}
 use Rattle.replica_state.specs.Moves.{adopt, open_with}
 use Rattle.replica_rows.specs.Gathering.{step_by}
 use Rattle.replica_state.specs.Within.{IsWithin}
-use Rattle.replica_rows.specs.Within.{Runs}
+use Rattle.replica_rows.specs.Within.{ChangeLoads, LogsLoad, Runs}
 use Rattle.replica_rows.proofs.Opening.{Gathers, gathers}
 use Rattle.replica_rows.proofs.Running.{with_changes}
 
 pub left_runs : {H U : Type 0} (host : Ghosts H U) (s t : ReplicaState) (x : Running H U) → t ≡ record s { changes = None }
     → Runs host s x → Runs host t x
-left_runs host s t x is r = rw is (record { within = with_changes s None r.within tt; run = r.run })
+left_runs host s t x is r = rw is (record {
+  within = with_changes Trimmed s None r.within tt;
+  loads = record { own = r.loads.own; gathered = tt };
+  run = r.run;
+})
 
 told_left : (b : Bool) (s : ReplicaState) (o : Option (Gathering Change)) (body : Body)
     → to_all_if b (record s { changes = o }) body ≡ to_all_if b (record s { changes = None }) body
@@ -34,25 +38,26 @@ told_left false s o body = refl
 
 -- what was gathered has no part in how a view is opened
 opens_left : {S : Type 0} (m : Meaning S) (s : ReplicaState) (o : Option (Gathering Change)) (n : ℕ) (l : Log)
-    → open_with m Whole (record s { changes = o }) n l ≡ open_with m Whole (record s { changes = None }) n l
+    → open_with m Trimmed (record s { changes = o }) n l ≡ open_with m Trimmed (record s { changes = None }) n l
 unfolding adopt
 opens_left m s o n l =
     let t : ReplicaState = record s { changes = None } in
-    ap (λ (sends : List Sending). ((adopt m Whole t t.view n l).0, sends ++ (adopt m Whole t t.view n l).1))
+    ap (λ (sends : List Sending). ((adopt m Trimmed t t.view n l).0, sends ++ (adopt m Trimmed t t.view n l).1))
     (told_left (others s == 0) s o (bodies.StartView n l))
 
 pub gathers_taken : {S : Type 0} (m : Meaning S) (s t : ReplicaState) (o : Option (Gathering Change)) (c : Change) (start : Start)
-    → o ≡ s.changes
-    → IsWithin s → ChangeFits c → t ≡ record s { changes = None } → step_by o c ≡ Started start → Gathers m s t c start
-gathers_taken m s t None c start e w fits left step = absurd cc
-gathers_taken m s t (Some g) c start e w fits left step =
+    → o ≡ s.changes → IsWithin s → LogsLoad m s → ChangeFits c → ChangeLoads m c → t ≡ record s { changes = None }
+    → step_by o c ≡ Started start → Gathers m s t c start
+gathers_taken m s t None c start e w load fits one left step = absurd cc
+gathers_taken m s t (Some g) c start e w load fits one left step =
     let k : ReplicaState = record s { changes = Some (counted teller g c) } in
-    let begun = gathers m s k (Some g) c start e w fits refl step in
+    let begun = gathers m s k (Some g) c start e w load fits one refl step in
     record {
       next = begun.next;
       told = begun.told;
+      loads = begun.loads;
       row =
           begun.row
           ∙ opens_left m s (Some (counted teller g c)) start.next start.log
-          ∙ ap (λ (p : ReplicaState). open_with m Whole p start.next start.log) (sym left);
+          ∙ ap (λ (p : ReplicaState). open_with m Trimmed p start.next start.log) (sym left);
     }

@@ -1,12 +1,12 @@
 pub mod Counting
 pub mod Draining
 pub mod Fields
+pub mod Following
 pub mod Gathered
 pub mod Loading
 pub mod Opening
 pub mod Ready
 pub mod Replying
-pub mod Rising
 pub mod Rows
 pub mod Running
 pub mod Synchronised

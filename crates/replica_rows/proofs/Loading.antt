@@ -1,34 +1,40 @@
--- A message in its ranges has no checkpoint, so it is taken; and one whose checkpoint does not load is not.
-use Rattle.std.proofs.Common.{◌≡◌, Bool, true, false, Option, None, refl, ap}
-use Rattle.nop_types.specs.Checkpoints.{Checkpoint}
-use Rattle.nop_types.specs.CheckpointedLogs.{loads_by}
-use Rattle.nop_types.specs.Logs.{Keeping}
+-- A message whose checkpoint does not load does nothing, and the merge of logs that load loads.
+use Rattle.std.proofs.Common.{◌≡◌, Bool, true, false, cond, List, [], ◌∷◌, Option, Some, None, refl, ap}
+use Rattle.std.specs.Prelude.{IfSome}
+use Rattle.std.specs.List.{AllByRecursion}
+use Rattle.nop_types.specs.CheckpointedLogs.{loads}
+use Rattle.nop_types.specs.Logs.{Keeping, Trimmed}
 use Rattle.nop_types.specs.Meaning.{Meaning}
-use Rattle.nop_types.specs.Ranges.{BodyFits}
-use Rattle.nop_types.specs.declared.peer.Body.{Body}
-use Rattle.nop_types.specs.declared.peer.Body.TheVariants as bodies
+use Rattle.nop_types.specs.declared.peer.Change.{Change}
 use Rattle.nop_types.specs.declared.peer.Peer.{Peer}
+use Rattle.log_merge.specs.Merging.{precedes, better, best, merged_from, merged}
 use Rattle.replica_state.specs.declared.state.ReplicaState.{ReplicaState}
 use Rattle.replica_state.specs.Sends.{still, when}
 use Rattle.replica_rows.specs.Messages.{Told, loads_in, on_message, arrive}
-
-without_loads : {S : Type 0} (m : Meaning S) (o : Option Checkpoint) → o ≡ None → loads_by m o ≡ true
-without_loads m o e = ap (loads_by m) e
-
-pub fits_loads : {S : Type 0} (m : Meaning S) (body : Body) → BodyFits body → loads_in m body ≡ true
-unfolding loads_in
-fits_loads m (bodies.ViewChange u x l) fits = without_loads m l.checkpoint fits.told.whole
-fits_loads m (bodies.StartView x l) fits = without_loads m l.checkpoint fits.told.whole
-fits_loads m (bodies.SyncPrepare l) fits = without_loads m l.checkpoint fits.whole
-fits_loads m (bodies.SlotLookup n) fits = refl
-fits_loads m (bodies.Found n r) fits = refl
-fits_loads m (bodies.GapCommit n) fits = refl
-fits_loads m (bodies.GapRep n) fits = refl
-fits_loads m bodies.ViewChangeReq fits = refl
-fits_loads m (bodies.SyncRep n) fits = refl
-fits_loads m (bodies.SyncCommit n) fits = refl
+use Rattle.replica_rows.specs.Within.{ChangeLoads}
 
 pub unloaded_rests : {S : Type 0} (m : Meaning S) (k : Keeping) (s : ReplicaState) (p : Peer) → loads_in m p.body ≡ false
     → arrive m k s (Told p) ≡ still s
 unfolding arrive
 unloaded_rests m k s p e = ap (λ (b : Bool). when b (on_message m k p) s) e
+
+module _ {S : Type 0} (m : Meaning S) where
+  either_loads : (b : Bool) (c d : Change) → ChangeLoads m c → ChangeLoads m d → ChangeLoads m (cond b c d)
+  either_loads true c d h g = h
+  either_loads false c d h g = g
+
+  better_loads : (c : Change) (o : Option Change) → ChangeLoads m c → IfSome o (ChangeLoads m) → ChangeLoads m (better c o)
+  better_loads c None h g = h
+  better_loads c (Some d) h g = either_loads (precedes c d) c d h g
+
+  best_loads : (cs : List Change) → AllByRecursion (ChangeLoads m) cs → IfSome (best cs) (ChangeLoads m)
+  best_loads [] h = tt
+  best_loads (c ∷ cs) h = better_loads c (best cs) h.0 (best_loads cs h.1)
+
+  -- the merge of logs has the checkpoint of one of them
+  pub merged_loads : (cs : List Change) → AllByRecursion (ChangeLoads m) cs → loads m (merged Trimmed cs) ≡ true
+  merged_loads cs h = from (best cs) (best_loads cs h)
+    where
+      from : (o : Option Change) → IfSome o (ChangeLoads m) → loads m (merged_from Trimmed cs o) ≡ true
+      from None g = refl
+      from (Some c) g = g

@@ -10,17 +10,16 @@ use Rattle.std.proofs.lemmas.Option.{same_Some}
 use Rattle.nop_types.specs.declared.limits.TheConstants.{NUMBER_END}
 use Rattle.nop_types.specs.declared.view.View.{View}
 use Rattle.nop_types.specs.declared.peer.Change.{Change}
-use Rattle.nop_types.specs.Logs.{Log, Whole, whole}
+use Rattle.nop_types.specs.Logs.{Keeping, Trimmed}
+use Rattle.nop_types.specs.CheckpointedLogs.{loads}
 use Rattle.nop_types.specs.PlainChanges as plains
 use Rattle.nop_types.specs.PlainChanges.{plain}
-use Rattle.nop_types.specs.Ranges.{ChangeFits, NextFits, LogFits}
+use Rattle.nop_types.specs.Ranges.{ChangeIsIn, ChangeFits, NextFits, LogIsIn, LogFits}
 use Rattle.nop_types.specs.Views.{is_view, outranks}
 use Rattle.nop_types.specs.Meaning.{Meaning}
-use Rattle.log_merge.specs.Merge.{merge}
 use Rattle.log_merge.specs.Merging.{kept_told, merged}
-use Rattle.log_merge.specs.Starting.{greatest, greatest_next, greatest_point, kept, start_of}
+use Rattle.log_merge.specs.Starting.{greatest, greatest_next, kept, start_of}
 use Rattle.log_merge.proofs.InRanges.{merged_fits}
-use Rattle.log_merge.proofs.WholeLogs.{kept_is_plain, merged_is_plain}
 use Rattle.view_change.specs.Gathering.{Gathering, teller, started, counted, has_sender, step_of}
 use Rattle.view_change.specs.declared.starting.Step.TheVariants.{Started, Waiting}
 use Rattle.view_change.specs.declared.starting.Start.{Start}
@@ -32,10 +31,12 @@ use Rattle.replica_state.specs.Moves.{entered, enter, enter_as, open_with, open_
 use Rattle.replica_rows.specs.Rows.{enter_view, gather}
 use Rattle.replica_rows.specs.Gathering.{kept_by, step_by}
 use Rattle.replica_state.specs.Within.{IsWithin}
+use Rattle.replica_rows.specs.Within.{ChangeLoads, LogsLoad}
+use Rattle.replica_rows.proofs.Loading.{merged_loads}
 
 -- ---- ranges
 
-filter_all : {A : Type 0} (P : A → Type 0) (test : A → Bool) (cs : List A) → AllByRecursion P cs → AllByRecursion P (filter test cs)
+pub filter_all : {A : Type 0} (P : A → Type 0) (test : A → Bool) (cs : List A) → AllByRecursion P cs → AllByRecursion P (filter test cs)
 filter_all P test [] h = tt
 filter_all P test (c ∷ cs) h = put (test c) (filter_all P test cs h.1)
   where
@@ -46,9 +47,9 @@ filter_all P test (c ∷ cs) h = put (test c) (filter_all P test cs h.1)
 abbrev HasNext : plains.Change → Type 0
 HasNext c = NextFits c.next
 
-nexts_fit : (cs : List Change) → AllByRecursion ChangeFits cs → AllByRecursion HasNext (map plain cs)
-nexts_fit [] h = tt
-nexts_fit (c ∷ cs) h = (h.0.rest.number, nexts_fit cs h.1)
+nexts_fit : (k : Keeping) (cs : List Change) → AllByRecursion (ChangeIsIn k) cs → AllByRecursion HasNext (map plain cs)
+nexts_fit k [] h = tt
+nexts_fit k (c ∷ cs) h = (h.0.rest.number, nexts_fit k cs h.1)
 
 next_high : (cs : List plains.Change) → AllByRecursion HasNext cs → greatest_next cs ≤ NUMBER_END
 next_high [] h = omega arith
@@ -105,22 +106,14 @@ next_fits w (c ∷ cs) h some = at ((greatest (c ∷ cs)).session == w.session)
     }
     at false = record { low = omega arith; high = omega arith }
 
-pub opened_next_fits : (w : View) (cs : List Change) → AllByRecursion ChangeFits cs → 0 < length cs
+pub opened_next_fits : (k : Keeping) (w : View) (cs : List Change) → AllByRecursion (ChangeIsIn k) cs → 0 < length cs
     → NextFits (start_of w (map plain cs)).next
-opened_next_fits w [] h some = absurd (omega (arith, some))
-opened_next_fits w (c ∷ cs) h some = next_fits w (map plain (c ∷ cs)) (nexts_fit (c ∷ cs) h) (omega arith)
+opened_next_fits k w [] h some = absurd (omega (arith, some))
+opened_next_fits k w (c ∷ cs) h some = next_fits w (map plain (c ∷ cs)) (nexts_fit k (c ∷ cs) h) (omega arith)
 
-kept_fit : (cs : List Change) → AllByRecursion ChangeFits cs → AllByRecursion ChangeFits (kept_told cs)
-kept_fit cs h = filter_all ChangeFits (λ d. is_view d.last_normal (greatest (map plain cs))) cs h
-
-pub opened_told_fits : (cs : List Change) → AllByRecursion ChangeFits cs → LogFits (merged Whole (kept_told cs))
-opened_told_fits cs h = merged_fits (kept_told cs) (kept_fit cs h)
-
--- the merge of the kept logs is what the code starts a view with
-starts_merged : (w : View) (cs : List Change) → AllByRecursion ChangeFits cs → merged Whole (kept_told cs) ≡ (started w cs).log
-starts_merged w cs h =
-    merged_is_plain (kept_told cs) (kept_fit cs h)
-    ∙ ap (λ (ds : List plains.Change). whole (greatest_point ds) (merge ds)) (kept_is_plain cs)
+pub opened_told_fits : (k : Keeping) (cs : List Change) → AllByRecursion (ChangeIsIn k) cs → LogIsIn k (merged k (kept_told cs))
+opened_told_fits k cs h =
+    merged_fits k (kept_told cs) (filter_all (ChangeIsIn k) (λ d. is_view d.last_normal (greatest (map plain cs))) cs h)
 
 -- ---- entering a view
 
@@ -143,59 +136,65 @@ pub own : (s : ReplicaState) (v : View) (g : Gathering Change) → (enter s v).0
 unfolding enter
 own s v g is = own_as (leads (entered s v)) (entered s v) g is refl
 
-module _ {S : Type 0} (m : Meaning S) where
+module _ {S : Type 0} (m : Meaning S) (k : Keeping) where
   by_gathering : (o : Option (Gathering Change)) (t : ReplicaState) → o ≡ t.changes
       → ((g : Gathering Change) → t.changes ≡ Some g → IsOwn t g)
-      → 0 < others t → open_if_enough m Whole o t ≡ still t
+      → 0 < others t → open_if_enough m k o t ≡ still t
   by_gathering None t is owns more = refl
   by_gathering (Some g) t is owns more =
       let mine = owns g (sym is) in
       let many : length g.changes ≤ g.f = omega (arith, mine.one, mine.f) in
-      ap (λ b. when b (open_view m Whole g) t) (le-ltb _ _ many)
+      ap (λ b. when b (open_view m k g) t) (le-ltb _ _ many)
 
   -- with others the view does not start at once
-  pub enters_with_others : (s : ReplicaState) (v : View) → 0 < others (enter s v).0 → enter_view m Whole v s ≡ enter s v
+  pub enters_with_others : (s : ReplicaState) (v : View) → 0 < others (enter s v).0 → enter_view m k v s ≡ enter s v
   unfolding enter_view
   enters_with_others s v more =
-      none_after (enter s v) (λ t. open_if_enough m Whole t.changes t)
+      none_after (enter s v) (λ t. open_if_enough m k t.changes t)
       (by_gathering (enter s v).0.changes (enter s v).0 refl (own s v) more)
 
+module _ {S : Type 0} (m : Meaning S) where
   -- a replica that is alone starts it with what it has
   pub enters_alone : (s : ReplicaState) (v : View) (g : Gathering Change) → (enter s v).0.changes ≡ Some g → g.f ≡ 0
-      → enter_view m Whole v s ≡ then_do (enter s v) (open_view m Whole g)
+      → enter_view m Trimmed v s ≡ then_do (enter s v) (open_view m Trimmed g)
   unfolding enter_view
   enters_alone s v g is none =
       let mine = own s v g is in
       let enough : nat_lt g.f (length g.changes) ≡ true = lt-ltb _ _ (omega (arith, mine.one, none)) in
-      let rest : open_if_enough m Whole (enter s v).0.changes (enter s v).0 ≡ open_view m Whole g (enter s v).0 =
-      ap (λ (o : Option (Gathering Change)). open_if_enough m Whole o (enter s v).0) is
-      ∙ ap (λ b. when b (open_view m Whole g) (enter s v).0) enough in
+      let rest : open_if_enough m Trimmed (enter s v).0.changes (enter s v).0 ≡ open_view m Trimmed g (enter s v).0 =
+      ap (λ (o : Option (Gathering Change)). open_if_enough m Trimmed o (enter s v).0) is
+      ∙ ap (λ b. when b (open_view m Trimmed g) (enter s v).0) enough in
       ap (λ (x : Effect). (x.0, (enter s v).1 ++ x.1)) rest
 
   -- a view is opened with what the code starts it with
-  opens_started : (s : ReplicaState) (g : Gathering Change) (start : Start) → AllByRecursion ChangeFits g.changes
-      → start ≡ started g.view g.changes → open_view m Whole g s ≡ open_with m Whole s start.next start.log
-  opens_started s g start all begins =
-      ap (λ (l : Log). open_with m Whole s (started g.view g.changes).next l) (starts_merged g.view g.changes all)
-      ∙ ap (λ (b : Start). open_with m Whole s b.next b.log) (sym begins)
+  opens_started : (s : ReplicaState) (g : Gathering Change) (start : Start) → start ≡ started g.view g.changes
+      → open_view m Trimmed g s ≡ open_with m Trimmed s start.next start.log
+  opens_started s g start begins = ap (λ (b : Start). open_with m Trimmed s b.next b.log) (sym begins)
 
   -- the same, with what the code has after each part
   pub opens_alone : (s t p : ReplicaState) (v : View) (g : Gathering Change) (start : Start) → t ≡ (enter s v).0
-      → t.changes ≡ Some g → g.f ≡ 0
-      → p ≡ t → AllByRecursion ChangeFits g.changes → start ≡ started g.view g.changes
-      → enter_view m Whole v s ≡ then_do (enter s v) (λ _. open_with m Whole p start.next start.log)
-  opens_alone s t p v g start e is none same all begins =
+      → t.changes ≡ Some g → g.f ≡ 0 → p ≡ t → start ≡ started g.view g.changes
+      → enter_view m Trimmed v s ≡ then_do (enter s v) (λ _. open_with m Trimmed p start.next start.log)
+  opens_alone s t p v g start e is none same begins =
       enters_alone s v g (ap (λ (q : ReplicaState). q.changes) (sym e) ∙ is) none
       ∙ ap (λ (x : Effect). (x.0, (enter s v).1 ++ x.1))
-      (ap (λ (q : ReplicaState). open_view m Whole g q) (sym e ∙ sym same) ∙ opens_started p g start all begins)
+      (ap (λ (q : ReplicaState). open_view m Trimmed g q) (sym e ∙ sym same) ∙ opens_started p g start begins)
 
+-- what a view is started with is in its ranges
 pub start_fits : (g : Gathering Change) (start : Start) → AllByRecursion ChangeFits g.changes → 0 < length g.changes
     → start ≡ started g.view g.changes → NextFits start.next × LogFits start.log
 start_fits g start all some begins =
-    let told = subst LogFits (starts_merged g.view g.changes all) (opened_told_fits g.changes all) in
     let fits : NextFits (started g.view g.changes).next × LogFits (started g.view g.changes).log =
-    (opened_next_fits g.view g.changes all some, told) in
+    (opened_next_fits Trimmed g.view g.changes all some, opened_told_fits Trimmed g.changes all) in
     subst (λ (b : Start). NextFits b.next × LogFits b.log) (sym begins) fits
+
+-- and loads
+pub start_loads : {S : Type 0} (m : Meaning S) (g : Gathering Change) (start : Start) → AllByRecursion (ChangeLoads m) g.changes
+    → start ≡ started g.view g.changes → loads m start.log ≡ true
+start_loads m g start all begins =
+    ap (λ (b : Start). loads m b.log) begins
+    ∙ merged_loads m (kept_told g.changes)
+    (filter_all (ChangeLoads m) (λ d. is_view d.last_normal (greatest (map plain g.changes))) g.changes all)
 
 -- what is put back after a look
 pub put_back : (t : ReplicaState) (g h : Gathering Change) → h ≡ g → t.changes ≡ Some g → record t { changes = Some h } ≡ t
@@ -203,17 +202,18 @@ put_back t g h same is = ap (λ (o : Option (Gathering Change)). record t { chan
 
 -- ---- a change is kept
 
-all_behind : (cs : List Change) (c : Change) → AllByRecursion ChangeFits cs → ChangeFits c → AllByRecursion ChangeFits (cs ++ c ∷ [])
-all_behind [] c h fits = (fits, tt)
-all_behind (d ∷ cs) c h fits = (h.0, all_behind cs c h.1 fits)
+all_behind : (P : Change → Type 0) (cs : List Change) (c : Change) → AllByRecursion P cs → P c → AllByRecursion P (cs ++ c ∷ [])
+all_behind P [] c h fits = (fits, tt)
+all_behind P (d ∷ cs) c h fits = (h.0, all_behind P cs c h.1 fits)
 
-pub counted_fits : (g : Gathering Change) (c : Change) → AllByRecursion ChangeFits g.changes → ChangeFits c
-    → AllByRecursion ChangeFits (counted teller g c).changes
-counted_fits g c h fits = at (has_sender teller g.changes c.sender)
+-- what holds of each change holds with one more
+pub counted_fits : (P : Change → Type 0) (g : Gathering Change) (c : Change) → AllByRecursion P g.changes → P c
+    → AllByRecursion P (counted teller g c).changes
+counted_fits P g c h fits = at (has_sender teller g.changes c.sender)
   where
-    at : (b : Bool) → AllByRecursion ChangeFits (cond b g.changes (g.changes ++ c ∷ []))
+    at : (b : Bool) → AllByRecursion P (cond b g.changes (g.changes ++ c ∷ []))
     at true = h
-    at false = all_behind g.changes c h fits
+    at false = all_behind P g.changes c h fits
 
 begun_by : (b : Bool) (s start : Start) → cond b (Started s) Waiting ≡ Started start → (b ≡ true) × (start ≡ s)
 begun_by true s start e = (refl, cc)
@@ -232,36 +232,38 @@ waiting_by false s e = refl
 pub record Gathers {S : Type 0} (m : Meaning S) (s t : ReplicaState) (c : Change) (start : Start) : Type 0 where
   pub next : NextFits start.next
   pub told : LogFits start.log
-  pub row : gather m Whole s.changes c s ≡ open_with m Whole t start.next start.log
+  pub loads : loads m start.log ≡ true
+  pub row : gather m Trimmed s.changes c s ≡ open_with m Trimmed t start.next start.log
 
 module _ {S : Type 0} (m : Meaning S) where
   pub gathers : (s t : ReplicaState) (o : Option (Gathering Change)) (c : Change) (start : Start) → o ≡ s.changes → IsWithin s
-      → ChangeFits c
-      → t ≡ kept_by s o c → step_by o c ≡ Started start → Gathers m s t c start
-  gathers s t None c start e w fits kept step = absurd cc
-  gathers s t (Some g) c start e w fits kept step =
+      → LogsLoad m s → ChangeFits c → ChangeLoads m c → t ≡ kept_by s o c → step_by o c ≡ Started start → Gathers m s t c start
+  gathers s t None c start e w load fits one kept step = absurd cc
+  gathers s t (Some g) c start e w load fits one kept step =
       let all = subst (λ o. IfSome o (λ x. AllByRecursion ChangeFits x.changes)) (sym e) w.changes in
+      let each = subst (λ o. IfSome o (λ x. AllByRecursion (ChangeLoads m) x.changes)) (sym e) load.gathered in
       let enough = begins (counted teller g c) start step in
-      let every = counted_fits g c all fits in
-      let fit = start_fits (counted teller g c) start every (omega (arith, enough.0)) enough.1 in
+      let fit =
+      start_fits (counted teller g c) start (counted_fits ChangeFits g c all fits) (omega (arith, enough.0)) enough.1 in
       let k : ReplicaState = (keep_change s g c).0 in
       record {
         next = fit.0;
         told = fit.1;
+        loads = start_loads m (counted teller g c) start (counted_fits (ChangeLoads m) g c each one) enough.1;
         row =
-            ap (λ (o : Option (Gathering Change)). gather m Whole o c s) (sym e)
-            ∙ ap (λ b. when b (open_view m Whole (counted teller g c)) k) (lt-ltb _ _ enough.0)
-            ∙ opens_started m k (counted teller g c) start every enough.1
-            ∙ ap (λ (p : ReplicaState). open_with m Whole p start.next start.log) (sym kept);
+            ap (λ (o : Option (Gathering Change)). gather m Trimmed o c s) (sym e)
+            ∙ ap (λ b. when b (open_view m Trimmed (counted teller g c)) k) (lt-ltb _ _ enough.0)
+            ∙ opens_started m k (counted teller g c) start enough.1
+            ∙ ap (λ (p : ReplicaState). open_with m Trimmed p start.next start.log) (sym kept);
       }
 
   -- and where it does not start yet
   pub gathers_more : (s t : ReplicaState) (o : Option (Gathering Change)) (c : Change) → o ≡ s.changes → t ≡ kept_by s o c
       → step_by o c ≡ Waiting
-      → gather m Whole s.changes c s ≡ still t
-  gathers_more s t None c e kept step = ap (λ (o : Option (Gathering Change)). gather m Whole o c s) (sym e) ∙ ap still (sym kept)
+      → gather m Trimmed s.changes c s ≡ still t
+  gathers_more s t None c e kept step = ap (λ (o : Option (Gathering Change)). gather m Trimmed o c s) (sym e) ∙ ap still (sym kept)
   gathers_more s t (Some g) c e kept step =
       let k : ReplicaState = (keep_change s g c).0 in
-      ap (λ (o : Option (Gathering Change)). gather m Whole o c s) (sym e)
-      ∙ ap (λ b. when b (open_view m Whole (counted teller g c)) k) (waiting_by (nat_lt g.f (length (counted teller g c).changes)) _ step)
+      ap (λ (o : Option (Gathering Change)). gather m Trimmed o c s) (sym e)
+      ∙ ap (λ b. when b (open_view m Trimmed (counted teller g c)) k) (waiting_by (nat_lt g.f (length (counted teller g c).changes)) _ step)
       ∙ ap still (sym kept)

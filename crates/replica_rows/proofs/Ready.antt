@@ -1,9 +1,11 @@
 -- A replica's first state is in its ranges.
-use Rattle.std.proofs.Common.{◌≡◌, ℕ, ◌<◌, ◌≤◌, List, refl, sym, subst, arith}
+use Rattle.std.proofs.Common.{◌≡◌, ℕ, ◌<◌, ◌≤◌, None, refl, arith}
 use Rattle.std.specs.Prelude.{IsTrue}
+use Rattle.std.proofs.lemmas.Bool.Decides.{nat_tests}
 use Rattle.nop_types.specs.declared.host.Host.{Ghosts}
 use Rattle.nop_types.specs.declared.limits.TheConstants.{MAX_REPLICAS}
-use Rattle.nop_types.specs.declared.request.Entry.{Entry}
+use Rattle.nop_types.specs.Logs.{Log, Keeping, Whole, Trimmed, empty, length_of}
+use Rattle.nop_types.specs.Ranges.{LogIsIn}
 use Rattle.nop_types.specs.Configuration.{Configuration, is_configuration}
 use Rattle.facts.proofs.Limits.{is_configuration-few_replicas}
 use Rattle.executor.specs.Running.{Running}
@@ -11,19 +13,19 @@ use Rattle.executor.specs.Undoing.{HasExecuted}
 use Rattle.replica_state.specs.declared.state.ReplicaState.{ReplicaState}
 use Rattle.replica_state.specs.State.{opening}
 use Rattle.replica_rows.specs.Within.{Runs}
-use Rattle.replica_state.specs.Within.{IsWithin}
+use Rattle.replica_state.specs.Within.{IsIn}
 
-pub opens_within : (config : Configuration) (number : ℕ) → number < config.replicas → config.replicas ≤ MAX_REPLICAS
-    → IsWithin (opening config number)
-opens_within config number there few = record {
+pub opens_within : (k : Keeping) (config : Configuration) (number : ℕ) → number < config.replicas → config.replicas ≤ MAX_REPLICAS
+    → IsIn k (opening config number)
+opens_within k config number there few = record {
   number = there;
   few = few;
   view = record { leader = omega arith; session = record { low = omega arith; high = omega arith } };
   last_normal = record { leader = omega arith; session = record { low = omega arith; high = omega arith } };
-  log = record { whole = refl; entries = record { len = omega arith; each = tt }; point = omega arith };
+  log = empty_fits k;
   next = record { low = omega arith; high = omega arith };
   base = omega arith;
-  start = omega arith;
+  start = omega (arith, empty_len k);
   receiver = λ normal. refl;
   gap = tt;
   points = refl;
@@ -32,11 +34,22 @@ opens_within config number there few = record {
   prepared = omega arith;
   changes = tt;
 }
+  where
+    empty_len : (k : Keeping) → length_of k empty ≡ 0
+    empty_len Whole = refl
+    empty_len Trimmed = refl
+
+    empty_fits : (k : Keeping) → LogIsIn k empty
+    empty_fits Whole = record { entries = tt; room = omega arith; limit = omega arith; point = omega arith; checkpoint = refl }
+    empty_fits Trimmed =
+        record { entries = tt; room = omega arith; limit = omega arith; point = omega arith; checkpoint = (grind (arith, nat_tests), tt) }
 
 pub opens_running : {H U : Type 0} (host : Ghosts H U) (config : Configuration) (number : ℕ) (s : ReplicaState) (x : Running H U)
     → s ≡ opening config number → number < config.replicas → IsTrue (is_configuration config)
-    → ((log : List Entry) → HasExecuted host.state host.meaning host.undo_of log x) → Runs host s x
-opens_running host config number s x is there limits run = record {
-  within = subst IsWithin (sym is) (opens_within config number there (is_configuration-few_replicas config limits));
-  run = run s.log.entries;
-}
+    → ((log : Log) → log.sync_point ≡ 0 → log.checkpoint ≡ None → HasExecuted host.state host.meaning host.undo_of log x) → Runs host s x
+opens_running host config number s x is there limits run =
+    rw is (record {
+      within = opens_within Trimmed config number there (is_configuration-few_replicas config limits);
+      loads = record { own = refl; gathered = tt };
+      run = run empty refl refl;
+    })

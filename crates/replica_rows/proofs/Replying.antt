@@ -1,14 +1,13 @@
 -- Replies for one slot after the other.
-use Rattle.std.proofs.Common.{◌≡◌, ℕ, zero, suc, ◌+◌, ◌<◌, List, [], ◌∷◌, ◌++◌, length, drop, true, false, Option, Some, refl, sym}
-use Rattle.std.proofs.Common.{ap, subst, ◌∙◌}
-use Rattle.std.proofs.Common.{arith, append_assoc}
+use Rattle.std.proofs.Common.{◌≡◌, ℕ, zero, suc, ◌+◌, ◌-◌, ◌<◌, ◌≤◌, List, [], ◌∷◌, ◌++◌, length, drop, true, false, Option, Some}
+use Rattle.std.proofs.Common.{refl, sym, ap, subst, ◌∙◌, arith, append_assoc}
 use Rattle.std.specs.Prelude.{slice_get}
 use Rattle.nop_types.specs.declared.request.Request.{Request}
 use Rattle.nop_types.specs.declared.request.Entry.{Entry}
 use Rattle.nop_types.specs.declared.request.Entry.TheVariants.{Req}
-use Rattle.nop_types.specs.Execution.{result_at}
+use Rattle.nop_types.specs.CheckpointedLogs.{slot_result}
 use Rattle.nop_types.specs.Lists.{slot_of}
-use Rattle.nop_types.specs.Logs.{Whole}
+use Rattle.nop_types.specs.Logs.{Trimmed, length_of, entry_at}
 use Rattle.nop_types.specs.Meaning.{Meaning}
 use Rattle.facts.proofs.Places.{Splits-at}
 use Rattle.replica_state.specs.declared.sending.Sending.{Sending}
@@ -22,37 +21,40 @@ has_place (x ∷ l) zero less = (x, refl)
 has_place (x ∷ l) (suc i) less = has_place l i (omega (arith, less))
 
 module _ {S : Type 0} (m : Meaning S) where
-  first : (s : ReplicaState) (i : ℕ) → i < length s.log.entries
-      → replies_above m Whole s i ≡ reply_at m Whole s (i + 1) ++ replies_above m Whole s (i + 1)
-  first s i less =
-      let place = has_place s.log.entries i less in
-      let next : i + 1 ≡ suc i = omega arith in
-      ap (replies_to m Whole s (i + 1)) (Splits-at s.log.entries i place.0 place.1).back
-      ∙ ap (λ (o : Option Entry). reply_for_any m Whole s (i + 1) o ++ replies_to m Whole s (i + 1 + 1) (drop (suc i) s.log.entries))
+  first : (s : ReplicaState) (i : ℕ) → s.log.sync_point ≤ i → i < length_of Trimmed s.log
+      → replies_above m Trimmed s i ≡ reply_at m Trimmed s (i + 1) ++ replies_above m Trimmed s (i + 1)
+  first s i low less =
+      let j : ℕ = i - s.log.sync_point in
+      let place = has_place s.log.entries j (omega (arith, low, less)) in
+      let next : i + 1 - s.log.sync_point ≡ suc j = omega (arith, low) in
+      ap (replies_to m Trimmed s (i + 1)) (Splits-at s.log.entries j place.0 place.1).back
+      ∙ ap (λ (o : Option Entry). reply_for_any m Trimmed s (i + 1) o ++ replies_to m Trimmed s (i + 1 + 1) (drop (suc j) s.log.entries))
       (sym (ap (slot_of s.log.entries) next ∙ place.1))
-      ∙ ap (λ k. reply_at m Whole s (i + 1) ++ replies_to m Whole s (i + 1 + 1) (drop k s.log.entries)) (sym next)
+      ∙ ap (λ n. reply_at m Trimmed s (i + 1) ++ replies_to m Trimmed s (i + 1 + 1) (drop n s.log.entries)) (sym next)
 
   -- replying for one slot more, of what is to be replied in all
-  pub replies_on : (s t : ReplicaState) (i : ℕ) (old new total : List Sending) → s ≡ t → i < length s.log.entries
-      → new ≡ old ++ reply_at m Whole s (i + 1) → old ++ replies_above m Whole t i ≡ total → new ++ replies_above m Whole t (i + 1) ≡ total
-  replies_on s t i old new total same less sent so_far =
-      let here : i < length t.log.entries = subst (λ (p : ReplicaState). i < length p.log.entries) same less in
-      ap (λ (xs : List Sending). xs ++ replies_above m Whole t (i + 1))
-      (sent ∙ ap (λ (p : ReplicaState). old ++ reply_at m Whole p (i + 1)) same)
-      ∙ append_assoc old (reply_at m Whole t (i + 1)) (replies_above m Whole t (i + 1))
-      ∙ ap (λ (xs : List Sending). old ++ xs) (sym (first t i here))
+  pub replies_on : (s t : ReplicaState) (i : ℕ) (old new total : List Sending) → s ≡ t → s.log.sync_point ≤ i
+      → i < length_of Trimmed s.log → new ≡ old ++ reply_at m Trimmed s (i + 1) → old ++ replies_above m Trimmed t i ≡ total
+      → new ++ replies_above m Trimmed t (i + 1) ≡ total
+  replies_on s t i old new total same low less sent so_far =
+      let low_here : t.log.sync_point ≤ i = subst (λ (p : ReplicaState). p.log.sync_point ≤ i) same low in
+      let here : i < length_of Trimmed t.log = subst (λ (p : ReplicaState). i < length_of Trimmed p.log) same less in
+      ap (λ (xs : List Sending). xs ++ replies_above m Trimmed t (i + 1))
+      (sent ∙ ap (λ (p : ReplicaState). old ++ reply_at m Trimmed p (i + 1)) same)
+      ∙ append_assoc old (reply_at m Trimmed t (i + 1)) (replies_above m Trimmed t (i + 1))
+      ∙ ap (λ (xs : List Sending). old ++ xs) (sym (first t i low_here here))
       ∙ so_far
 
   -- where a request stands in the slot, a leader replies with the result there
-  pub leader_replies : (s : ReplicaState) (slot : ℕ) (r : Request) → leads s ≡ true → slot_of s.log.entries slot ≡ Some (Req r)
-      → leader_reply s slot r (result_at m s.log.entries slot) ≡ reply_at m Whole s slot
+  pub leader_replies : (s : ReplicaState) (slot : ℕ) (r : Request) → leads s ≡ true → entry_at Trimmed s.log slot ≡ Some (Req r)
+      → leader_reply s slot r (slot_result m Trimmed s.log slot) ≡ reply_at m Trimmed s slot
   unfolding reply_to
   leader_replies s slot r leading there =
-      sym (ap (λ b. reply_if m Whole b s slot r) leading) ∙ sym (ap (λ (e : Option Entry). reply_for_any m Whole s slot e) there)
+      sym (ap (λ b. reply_if m Trimmed b s slot r) leading) ∙ sym (ap (λ (e : Option Entry). reply_for_any m Trimmed s slot e) there)
 
   -- and a follower without
-  pub follower_replies : (s : ReplicaState) (slot : ℕ) (r : Request) → leads s ≡ false → slot_of s.log.entries slot ≡ Some (Req r)
-      → reply_with s slot r.client r.id 0 [] ≡ reply_at m Whole s slot
+  pub follower_replies : (s : ReplicaState) (slot : ℕ) (r : Request) → leads s ≡ false → entry_at Trimmed s.log slot ≡ Some (Req r)
+      → reply_with s slot r.client r.id 0 [] ≡ reply_at m Trimmed s slot
   unfolding reply_to
   follower_replies s slot r follows there =
-      sym (ap (λ b. reply_if m Whole b s slot r) follows) ∙ sym (ap (λ (e : Option Entry). reply_for_any m Whole s slot e) there)
+      sym (ap (λ b. reply_if m Trimmed b s slot r) follows) ∙ sym (ap (λ (e : Option Entry). reply_for_any m Trimmed s slot e) there)

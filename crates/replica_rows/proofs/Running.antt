@@ -1,21 +1,20 @@
 -- Moves keep a replica's state within its ranges, and what was executed.
-use Rattle.std.proofs.Common.{◌≡◌, ◌<◌, ◌≤◌, ◌+◌, ◌-◌, ℕ, zero, suc, Bool, true, false, List, [], ◌∷◌, ◌++◌, length, take, refl, sym, ap}
-use Rattle.std.proofs.Common.{subst, ◌∙◌, arith, append_assoc, append-nil, length-append}
+use Rattle.std.proofs.Common.{◌≡◌, ◌<◌, ◌≤◌, ◌+◌, ◌-◌, ℕ, Bool, true, false, List, [], ◌++◌, length, take, refl, sym, ap}
+use Rattle.std.proofs.Common.{subst, ◌∙◌, arith, append_assoc, append-nil}
 use Rattle.std.specs.Prelude.{cond, max, not, ◌==◌, ◌&&◌, nat_le, nat_lt, IfSome}
 use Rattle.std.specs.Prelude.{Option, Some, None, Result, Ok, Err, OnOk}
 use Rattle.std.specs.List.{AllByRecursion}
-use Rattle.std.proofs.lemmas.Bool.{ltb-true, and_parts}
+use Rattle.std.proofs.lemmas.Bool.{ltb-true, le-ltb, and_parts}
 use Rattle.std.proofs.lemmas.Bool.Decides.{nat_tests}
 use Rattle.nop_types.specs.declared.host.Host.{Ghosts}
-use Rattle.nop_types.specs.declared.limits.TheConstants.{MAX_SLOTS, NUMBER_END}
+use Rattle.nop_types.specs.declared.limits.TheConstants.{MAX_SLOTS, MAX_LENGTH, NUMBER_END}
 use Rattle.nop_types.specs.declared.request.Request.{Request}
 use Rattle.nop_types.specs.declared.request.Entry.{Entry}
 use Rattle.nop_types.specs.declared.request.Entry.TheVariants.{NoOp, Req}
 use Rattle.nop_types.specs.Logs as logs
-use Rattle.nop_types.specs.Logs.{Log, Whole, with_noop}
-use Rattle.nop_types.specs.Slots.{laid}
-use Rattle.nop_types.specs.Meaning.{Meaning}
-use Rattle.nop_types.specs.Ranges.{EntryFits, RequestFits, LogFits, SlotFits, ViewFits, NextFits, ChangeFits}
+use Rattle.nop_types.specs.Logs.{Log, Keeping, Whole, Trimmed, length_of, unsynced, with_noop}
+use Rattle.nop_types.specs.CheckpointedLogs.{loads}
+use Rattle.nop_types.specs.Ranges.{EntryFits, RequestFits, LogIsIn, LogFits, SlotFits, ViewFits, NextFits, ChangeIsIn, ChangeFits}
 use Rattle.gap_agree.specs.Agreement.{Agreement, begun}
 use Rattle.gap_agree.specs.Votes.{vote_of}
 use Rattle.nop_types.specs.declared.replica_state.Vote.{Vote}
@@ -25,27 +24,28 @@ use Rattle.nop_types.specs.declared.datagram.Stamped.{Stamped}
 use Rattle.nop_types.specs.declared.peer.Change.{Change}
 use Rattle.facts.proofs.Slots.{length-set_slot}
 use Rattle.oum_receiver.specs.Receiving.{Receiving}
-use Rattle.sync_points.specs.Synchronisation.{with_round, committed}
+use Rattle.sync_points.specs.Synchronisation.{Synchronisation, with_round, committed}
 use Rattle.sync_points.specs.Synchronisation as synchronisation
 use Rattle.view_change.specs.Gathering.{Gathering, counted, teller}
-use Rattle.executor.specs.Running.{Running}
-use Rattle.executor.proofs.FrontLemmas.{on_front, on_append, on_slot}
-use Rattle.replica_log.proofs.Adopted.{adopted_point, overlaid_point, length-overlaid, overlaid_parts}
-use Rattle.replica_log.proofs.InRanges.{append_fits, noop_fits, adopt_fits, overlay_fits}
-use Rattle.replica_log.specs.Splices.{spliced, MayStay}
+use Rattle.executor.specs.Running.{Running, reached}
+use Rattle.executor.specs.Undoing.{HasExecuted}
+use Rattle.executor.proofs.FrontLemmas.{executed_append, executed_noop, executed_other}
+use Rattle.replica_log.proofs.Adopted.{adopted_point, overlaid_point}
+use Rattle.replica_log.proofs.InRanges.{append_fits, noop_fits, adopt_fits, overlay_fits, length-overlaid_in}
 use Rattle.replica_state.specs.declared.state.ReplicaState.{ReplicaState}
-use Rattle.replica_state.specs.State.{may_append, drains, leads, others, waits, is_normal, unless_settled}
+use Rattle.replica_state.specs.State.{may_append, drains, has_room, has_risen, leads, others, waits, is_normal, unless_settled}
 use Rattle.replica_state.specs.Moves.{begin_session, appended, gap_opened, gap_written, ask_if, ask, logged, adopted, overlaid}
 use Rattle.replica_state.specs.Moves.{hear, obey, sync_commit, count_sync_vote, risen}
 use Rattle.replica_state.specs.Repeating.{sync_if, sync}
 use Rattle.replica_rows.specs.Gathering.{kept_by}
-use Rattle.replica_state.specs.Within.{IsWithin}
-use Rattle.replica_state.specs.Sends.{Effect, still, then_do, when}
+use Rattle.replica_state.specs.Within.{IsIn, IsWithin}
+use Rattle.replica_state.specs.Sends.{Effect, still, when}
 use Rattle.replica_rows.specs.declared.member.Member.{Member}
-use Rattle.replica_rows.specs.Within.{Runs, IsRunning, Does}
+use Rattle.replica_rows.specs.Rising.{follows}
+use Rattle.replica_rows.specs.Within.{ChangeLoads, LogsLoad, Executes, Runs, IsRunning, Does}
 use Rattle.replica_rows.proofs.Opening.{counted_fits}
-use Rattle.replica_rows.proofs.Fields.{sync_of, sync_longer, with_asked, with_heard, with_sync}
-use Rattle.replica_rows.proofs.Fields.{with_round_fits, committed_fits, counted_in_fits}
+use Rattle.replica_rows.proofs.Fields.{length-appended, SyncFits, sync_of, sync_longer, with_asked, with_heard, with_sync, risen_within}
+use Rattle.replica_rows.proofs.Fields.{with_round_fits, committed_fits, counted_in_fits, with_round_grows, committed_grows, counted_grows}
 
 -- ---- at Ok
 
@@ -76,40 +76,33 @@ does_nothing host old h same runs = record {
   sends = sym (append-nil old.sends) ∙ sym (ap (λ (e : Effect). old.sends ++ e.1) same);
 }
 
--- two rows
-pub does_both : {H U : Type 0} (host : Ghosts H U) (old mid new : Member H U) (f h : ReplicaState → Effect) → Does host old mid f
-    → Does host mid new h → Does host old new (λ s. then_do (f s) h)
-does_both host old mid new f h first then = record {
-  runs = then.runs;
-  state = then.state ∙ ap (λ (s : ReplicaState). (h s).0) first.state;
-  sends = sent_on old.sends _ mid.sends _ new.sends first.sends (then.sends ∙ ap (λ (s : ReplicaState). mid.sends ++ (h s).1) first.state);
-}
-
 pub waiting_fits : (g : Agreement) → SlotFits g.slot → (v : Vote) → IfSome (unless_settled g v) (λ g. SlotFits g.slot)
 waiting_fits g fits Settled = tt
 waiting_fits g fits Waiting = fits
 
 -- ---- an entry is appended
 
-pub append_within : (s : ReplicaState) (e : Entry) → IsWithin s → EntryFits e → may_append Whole s ≡ true → IsWithin (appended s e)
-append_within s e w fits may =
-    let tests = and_parts (nat_lt (length s.log.entries) MAX_SLOTS) (nat_lt s.next NUMBER_END) may in
-    let room : length s.log.entries < MAX_SLOTS = ltb-true _ _ tests.0 in
+room_of : (k : Keeping) (s : ReplicaState) → has_room k s ≡ true → length_of k s.log < MAX_LENGTH
+room_of k s room = ltb-true _ _ (and_parts (nat_lt (unsynced k s.log) MAX_SLOTS) (nat_lt (length_of k s.log) MAX_LENGTH) room).1
+
+pub append_within : (k : Keeping) (s : ReplicaState) (e : Entry) → IsIn k s → EntryFits e → may_append k s ≡ true → IsIn k (appended s e)
+append_within k s e w fits may =
+    let tests = and_parts (has_room k s) (nat_lt s.next NUMBER_END) may in
     let more : s.next < NUMBER_END = ltb-true _ _ tests.1 in
     let low = w.next.low in
     let base = w.base in
     let start = w.start in
-    let len = length-append s.log.entries (e ∷ []) in
-    let sync = sync_longer (length s.log.entries) (length (s.log.entries ++ e ∷ [])) s.sync (omega (arith, len)) (sync_of s w) in
+    let len = length-appended k s.log e in
+    let sync = sync_longer (length_of k s.log) (length_of k (logs.appended s.log e)) s.sync (omega (arith, len)) (sync_of k s w) in
     record {
       number = w.number;
       few = w.few;
       view = w.view;
       last_normal = w.last_normal;
-      log = append_fits s.log e w.log fits room;
-      next = record { low = omega arith; high = omega arith };
-      base = omega arith;
-      start = omega arith;
+      log = append_fits k s.log e w.log fits tests.0;
+      next = record { low = omega arith; high = omega (arith, more) };
+      base = omega (arith, len, base);
+      start = omega (arith, len, start);
       receiver = λ _. refl;
       gap = w.gap;
       points = w.points;
@@ -119,11 +112,10 @@ append_within s e w fits may =
       changes = w.changes;
     }
 
-pub open_gap_within : (s : ReplicaState) → IsWithin s → may_append Whole s ≡ true → IsWithin (gap_opened Whole s)
-open_gap_within s w may =
-    let a = append_within s NoOp w tt may in
-    let room : length s.log.entries < MAX_SLOTS =
-    ltb-true _ _ (and_parts (nat_lt (length s.log.entries) MAX_SLOTS) (nat_lt s.next NUMBER_END) may).0 in
+pub open_gap_within : (k : Keeping) (s : ReplicaState) → IsIn k s → may_append k s ≡ true → IsIn k (gap_opened k s)
+open_gap_within k s w may =
+    let a = append_within k s NoOp w tt may in
+    let room = room_of k s (and_parts (has_room k s) (nat_lt s.next NUMBER_END) may).0 in
     record {
       number = a.number;
       few = a.few;
@@ -135,8 +127,8 @@ open_gap_within s w may =
       start = a.start;
       receiver = a.receiver;
       gap =
-          waiting_fits (begun (length s.log.entries + 1) (others s))
-          (record { low = omega arith; high = omega arith })
+          waiting_fits (begun (length_of k s.log + 1) (others s))
+          (record { low = omega arith; high = omega (arith, room) })
           (vote_of (others s) []);
       points = a.points;
       sync_point = a.sync_point;
@@ -145,26 +137,24 @@ open_gap_within s w may =
       changes = a.changes;
     }
 
-pub logged_within : (s : ReplicaState) (r : Request) → IsWithin s → RequestFits r → drains Whole s ≡ true → s.next < NUMBER_END
-    → IsWithin (logged s r)
-logged_within s r w fits d more =
-    let normal = and_parts (is_normal s.status) _ d in
-    let room : length s.log.entries < MAX_SLOTS =
-    ltb-true _ _ (and_parts (not (waits s.gap)) (nat_lt (length s.log.entries) MAX_SLOTS) normal.1).1 in
+pub logged_within : (k : Keeping) (s : ReplicaState) (r : Request) → IsIn k s → RequestFits r → drains k s ≡ true → s.next < NUMBER_END
+    → IsIn k (logged s r)
+logged_within k s r w fits d more =
+    let room = (and_parts (not (waits s.gap)) (has_room k s) (and_parts (is_normal s.status) _ d).1).1 in
     let low = w.next.low in
     let base = w.base in
     let start = w.start in
-    let len = length-append s.log.entries (Req r ∷ []) in
-    let sync = sync_longer (length s.log.entries) (length (s.log.entries ++ Req r ∷ [])) s.sync (omega (arith, len)) (sync_of s w) in
+    let len = length-appended k s.log (Req r) in
+    let sync = sync_longer (length_of k s.log) (length_of k (logs.appended s.log (Req r))) s.sync (omega (arith, len)) (sync_of k s w) in
     record {
       number = w.number;
       few = w.few;
       view = w.view;
       last_normal = w.last_normal;
-      log = append_fits s.log (Req r) w.log fits room;
-      next = record { low = omega arith; high = omega arith };
-      base = omega arith;
-      start = omega arith;
+      log = append_fits k s.log (Req r) w.log fits room;
+      next = record { low = omega arith; high = omega (arith, more) };
+      base = omega (arith, len, base);
+      start = omega (arith, len, start);
       receiver = λ e. ap (λ n. n + 1) (w.receiver e);
       gap = w.gap;
       points = w.points;
@@ -176,23 +166,28 @@ logged_within s r w fits d more =
 
 -- ---- a slot becomes a NO-OP
 
+length-noop : (k : Keeping) (l : Log) (n : ℕ) → length_of k (with_noop k l n) ≡ length_of k l
+length-noop Whole l n = length-set_slot l.entries n NoOp
+length-noop Trimmed l n = ap (λ i. l.sync_point + i) (length-set_slot l.entries (n - l.sync_point) NoOp)
+
 -- a log in its ranges, of the same length and with the same sync point
-record Fits (n z : ℕ) (l : Log) : Type 0 where
-  log : LogFits l
-  len : length l.entries ≡ n
-  point : l.sync_point ≡ z
+record Fits (k : Keeping) (n point : ℕ) (l : Log) : Type 0 where
+  log : LogIsIn k l
+  len : length_of k l ≡ n
+  told : l.sync_point ≡ point
 
-unless_fits : (b : Bool) (k : ℕ) (l : Log) → LogFits l → Fits (length l.entries) l.sync_point (cond b l (with_noop Whole l k))
-unless_fits true k l fits = record { log = fits; len = refl; point = refl }
-unless_fits false k l fits = record { log = noop_fits l k fits; len = length-set_slot l.entries k NoOp; point = refl }
+unless_fits : (k : Keeping) (b : Bool) (n : ℕ) (l : Log) → LogIsIn k l
+    → Fits k (length_of k l) l.sync_point (cond b l (with_noop k l n))
+unless_fits k true n l fits = record { log = fits; len = refl; told = refl }
+unless_fits k false n l fits = record { log = noop_fits k l n fits; len = length-noop k l n; told = refl }
 
-pub noop_within : (s : ReplicaState) (k : ℕ) → IsWithin s → IsWithin (gap_written Whole s k)
-noop_within s k w =
-    let new = unless_fits (nat_le k s.sync.sync_point) k s.log w.log in
+pub noop_within : (k : Keeping) (s : ReplicaState) (n : ℕ) → IsIn k s → IsIn k (gap_written k s n)
+noop_within k s n w =
+    let new = unless_fits k (nat_le n s.sync.sync_point) n s.log w.log in
     let same = new.len in
     let base = w.base in
     let start = w.start in
-    let sync = sync_longer (length s.log.entries) (length (gap_written Whole s k).log.entries) s.sync (omega (arith, same)) (sync_of s w) in
+    let sync = sync_longer (length_of k s.log) (length_of k (gap_written k s n).log) s.sync (omega (arith, same)) (sync_of k s w) in
     record {
       number = w.number;
       few = w.few;
@@ -204,7 +199,7 @@ noop_within s k w =
       start = omega (arith, same, start);
       receiver = w.receiver;
       gap = w.gap;
-      points = new.point ∙ w.points;
+      points = new.told ∙ w.points;
       sync_point = sync.sync_point;
       syncing = sync.syncing;
       prepared = sync.prepared;
@@ -217,13 +212,13 @@ from_next : (b : Bool) (r q : Receiving) (x : ℕ) → r.next ≡ x → q.next �
 from_next true r q x e f = e
 from_next false r q x e f = f
 
-pub adopted_within : (s : ReplicaState) (v : View) (x : ℕ) (l : Log) → IsWithin s → ViewFits v → NextFits x → LogFits l
-    → IsWithin (adopted Whole s v x l)
-adopted_within s v x l w view next told =
+pub adopted_within : (k : Keeping) (s : ReplicaState) (v : View) (x : ℕ) (l : Log) → IsIn k s → ViewFits v → NextFits x → LogIsIn k l
+    → IsIn k (adopted k s v x l)
+adopted_within k s v x l w view next told =
     let low = next.low in
-    let log = adopt_fits l s.log told w.log in
+    let log = adopt_fits k l s.log told w.log in
     let points = w.points in
-    let point : (logs.adopted Whole l s.log).sync_point ≡ max s.sync.sync_point l.sync_point =
+    let point : (logs.adopted k l s.log).sync_point ≡ max s.sync.sync_point l.sync_point =
     adopted_point l s.log ∙ ap (λ (n : ℕ). max n l.sync_point) points in
     let within = log.point in
     record {
@@ -234,7 +229,7 @@ adopted_within s v x l w view next told =
       log = log;
       next = next;
       base = omega arith;
-      start = omega arith;
+      start = omega (arith, low);
       receiver = λ _. from_next (nat_lt s.receiver.session v.session) _ _ x refl refl;
       gap = tt;
       points = point;
@@ -244,8 +239,8 @@ adopted_within s v x l w view next told =
       changes = tt;
     }
 
-pub begun_within : (s : ReplicaState) (p : Stamped) → IsWithin s → IsWithin (begin_session s p)
-begun_within s p w = record {
+pub begun_within : (k : Keeping) (s : ReplicaState) (p : Stamped) → IsIn k s → IsIn k (begin_session s p)
+begun_within k s p w = record {
   number = w.number;
   few = w.few;
   view = w.view;
@@ -263,9 +258,9 @@ begun_within s p w = record {
   changes = w.changes;
 }
 
-pub with_changes : (s : ReplicaState) (o : Option (Gathering Change)) → IsWithin s → IfSome o (λ g. AllByRecursion ChangeFits g.changes)
-    → IsWithin (record s { changes = o })
-with_changes s o w fits = record {
+pub with_changes : (k : Keeping) (s : ReplicaState) (o : Option (Gathering Change)) → IsIn k s
+    → IfSome o (λ g. AllByRecursion (ChangeIsIn k) g.changes) → IsIn k (record s { changes = o })
+with_changes k s o w fits = record {
   number = w.number;
   few = w.few;
   view = w.view;
@@ -283,54 +278,26 @@ with_changes s o w fits = record {
   changes = fits;
 }
 
-pub gathers_within : (s : ReplicaState) (g : Gathering Change) → IsWithin s → AllByRecursion ChangeFits g.changes
-    → IsWithin (record s { changes = Some g })
-gathers_within s g w fits = with_changes s (Some g) w fits
-
-pub front_of_front : (i n : ℕ) (l : List Entry) → i ≤ n → take i (take n l) ≡ take i l
-front_of_front zero n l h = refl
-front_of_front (suc i) zero l h = absurd (omega (arith, h))
-front_of_front (suc i) (suc n) [] h = refl
-front_of_front (suc i) (suc n) (x ∷ l) h = ap (λ (t : List Entry). x ∷ t) (front_of_front i n l (omega (arith, h)))
-
--- what is kept in front of another log
-pub spliced_front : (i n : ℕ) (own l : List Entry) → i ≤ n → n ≤ length own → take i (spliced n own l) ≡ take i own
-spliced_front zero n own l low high = refl
-spliced_front (suc i) zero own l low high = absurd (omega (arith, low))
-spliced_front (suc i) (suc n) [] l low high = absurd (omega (arith, high))
-spliced_front (suc i) (suc n) (y ∷ own) [] low high =
-    ap (λ (t : List Entry). y ∷ take i t) (append-nil (take n own))
-    ∙ ap (λ (t : List Entry). y ∷ t) (front_of_front i n own (omega (arith, low)))
-spliced_front (suc i) (suc n) (y ∷ own) (x ∷ l) low high =
-    ap (λ (t : List Entry). y ∷ t) (spliced_front i n own l (omega (arith, low)) (omega (arith, high)))
+pub gathers_within : (k : Keeping) (s : ReplicaState) (g : Gathering Change) → IsIn k s → AllByRecursion (ChangeIsIn k) g.changes
+    → IsIn k (record s { changes = Some g })
+gathers_within k s g w fits = with_changes k s (Some g) w fits
 
 -- ---- the leader's log is laid over
 
--- where both logs agree, so does what is laid over
-pub laid_front : (l k : List Entry) (n : ℕ) → take n l ≡ take n k → n ≤ length k → take n (laid l k) ≡ take n k
-laid_front [] k n same le = refl
-laid_front (x ∷ l) [] n same le = same
-laid_front (x ∷ l) (y ∷ k) zero same le = refl
-laid_front (x ∷ l) (y ∷ k) (suc n) same le =
-    let heads : x ≡ y = cc in
-    let tails : take n l ≡ take n k = cc in
-    ap (λ z. z ∷ take n (laid l k)) heads ∙ ap (λ t. y ∷ t) (laid_front l k n tails (omega (arith, le)))
-
-pub overlaid_within : (s : ReplicaState) (l : Log) → IsWithin s → LogFits l
-    → s.next + (length l.entries - length s.log.entries) ≤ NUMBER_END → IsWithin (overlaid Whole s l)
-overlaid_within s l w told high =
-    let log = overlay_fits l s.log told w.log in
-    let len = length-overlaid l s.log w.log.point told.point in
+pub overlaid_within : (k : Keeping) (s : ReplicaState) (l : Log) → IsIn k s → LogIsIn k l
+    → s.next + (length_of k l - length_of k s.log) ≤ NUMBER_END → IsIn k (overlaid k s l)
+overlaid_within k s l w told high =
+    let log = overlay_fits k l s.log told w.log in
+    let len = length-overlaid_in k l s.log told w.log in
     let points = w.points in
-    let point : (logs.overlaid Whole l s.log).sync_point ≡ max s.sync.sync_point l.sync_point =
+    let point : (logs.overlaid k l s.log).sync_point ≡ max s.sync.sync_point l.sync_point =
     overlaid_point l s.log ∙ ap (λ (n : ℕ). max n l.sync_point) points in
     let within = log.point in
     let low = w.next.low in
     let base = w.base in
     let start = w.start in
     let prepared = w.prepared in
-    let sync =
-    sync_longer (length s.log.entries) (length (logs.overlaid Whole l s.log).entries) s.sync (omega (arith, len)) (sync_of s w) in
+    let sync = sync_longer (length_of k s.log) (length_of k (logs.overlaid k l s.log)) s.sync (omega (arith, len)) (sync_of k s w) in
     record {
       number = w.number;
       few = w.few;
@@ -349,136 +316,216 @@ overlaid_within s l w told high =
       changes = w.changes;
     }
 
+-- ---- the sync point moves
+
+-- the synchronisation alone moved, beside whether the leader is heard; its sync point is in the log, and did not fall
+pub record Moves (k : Keeping) (s t : ReplicaState) : Type 0 where
+  pub sync : Synchronisation
+  pub heard : Bool
+  pub is : t ≡ record s { sync = sync; heard = heard }
+  pub fits : SyncFits (length_of k s.log) sync
+  pub grows : s.sync.sync_point ≤ sync.sync_point
+
+unmoved : (k : Keeping) (s : ReplicaState) → IsIn k s → Moves k s s
+unmoved k s w = record { sync = s.sync; heard = s.heard; is = refl; fits = sync_of k s w; grows = omega arith }
+
+pub sync_moves : (k : Keeping) (s t : ReplicaState) → t ≡ (sync k s).0 → IsIn k s → Moves k s t
+unfolding sync
+sync_moves k s t is w = rw is (at (is_normal s.status && (leads s && not (waits s.gap))))
+  where
+    by : (b : Bool) → Moves k s (sync_if k b s).0
+    by true = record {
+      sync = with_round s.sync (length_of k s.log);
+      heard = s.heard;
+      is = refl;
+      fits = with_round_fits (length_of k s.log) s.sync (length_of k s.log) (sync_of k s w) (omega arith);
+      grows = with_round_grows s.sync (length_of k s.log);
+    }
+    by false = unmoved k s w
+
+    at : (b : Bool) → Moves k s (when b (λ t. sync_if k (nat_lt t.sync.sync_point (length_of k t.log)) t) s).0
+    at true = by (nat_lt s.sync.sync_point (length_of k s.log))
+    at false = unmoved k s w
+
+pub commit_moves : (k : Keeping) (n : ℕ) (s t : ReplicaState) → t ≡ (sync_commit n s).0 → IsIn k s → Moves k s t
+unfolding sync_commit
+commit_moves k n s t is w = rw is (at (nat_le n s.sync.prepared))
+  where
+    at : (b : Bool) → Moves k s (when b (λ t. obey (hear t) n) s).0
+    at true = record {
+      sync = committed s.sync n;
+      heard = true;
+      is = refl;
+      fits = committed_fits (length_of k s.log) s.sync n (sync_of k s w);
+      grows = committed_grows s.sync n;
+    }
+    at false = unmoved k s w
+
+pub vote_moves : (k : Keeping) (q n : ℕ) (s t : ReplicaState) → t ≡ (count_sync_vote s q n).0 → IsIn k s → Moves k s t
+vote_moves k q n s t is w = record {
+  sync = synchronisation.counted s.sync q n;
+  heard = s.heard;
+  is = is;
+  fits = counted_in_fits (length_of k s.log) s.sync s.sync.syncing q n (sync_of k s w) w.syncing;
+  grows = counted_grows s.sync s.sync.syncing q n;
+}
+
+-- ---- what was executed
+
 module _ {H U : Type 0} (host : Ghosts H U) where
   pub append_runs : (s t : ReplicaState) (x : Running H U) (e : Entry) → t ≡ appended s e → Runs host s x → EntryFits e
-      → may_append Whole s ≡ true → Runs host t x
+      → may_append Trimmed s ≡ true → Runs host t x
   append_runs s t x e is r fits may =
       rw is (record {
-        within = append_within s e r.within fits may;
-        run = on_append host.meaning host.undo_of s.log.entries (e ∷ []) _ _ r.run;
+        within = append_within Trimmed s e r.within fits may;
+        loads = record { own = r.loads.own; gathered = r.loads.gathered };
+        run = executed_append host.state host.meaning host.undo_of s.log x e r.run;
       })
 
-  pub open_gap_runs : (s t : ReplicaState) (x : Running H U) → t ≡ gap_opened Whole s → Runs host s x → may_append Whole s ≡ true
+  pub open_gap_runs : (s t : ReplicaState) (x : Running H U) → t ≡ gap_opened Trimmed s → Runs host s x → may_append Trimmed s ≡ true
       → Runs host t x
   open_gap_runs s t x is r may =
       rw is (record {
-        within = open_gap_within s r.within may;
-        run = on_append host.meaning host.undo_of s.log.entries (NoOp ∷ []) _ _ r.run;
+        within = open_gap_within Trimmed s r.within may;
+        loads = record { own = r.loads.own; gathered = r.loads.gathered };
+        run = executed_append host.state host.meaning host.undo_of s.log x NoOp r.run;
       })
 
   pub logged_runs : (s t : ReplicaState) (x : Running H U) (r : Request) → t ≡ logged s r → Runs host s x → RequestFits r
-      → drains Whole s ≡ true
+      → drains Trimmed s ≡ true
       → s.next < NUMBER_END → Runs host t x
   logged_runs s t x r is h fits d more =
       rw is (record {
-        within = logged_within s r h.within fits d more;
-        run = on_append host.meaning host.undo_of s.log.entries (Req r ∷ []) _ _ h.run;
+        within = logged_within Trimmed s r h.within fits d more;
+        loads = record { own = h.loads.own; gathered = h.loads.gathered };
+        run = executed_append host.state host.meaning host.undo_of s.log x (Req r) h.run;
       })
 
-  pub noop_runs : (s t : ReplicaState) (x : Running H U) (k : ℕ) → t ≡ record s { log = with_noop Whole s.log k } → Runs host s x
-      → length x.undos ≤ s.sync.sync_point → s.sync.sync_point < k → Runs host t x
-  noop_runs s t x k is r behind above =
-      let free : nat_le k s.sync.sync_point ≡ false = grind (arith, nat_tests, above) in
-      let same : gap_written Whole s k ≡ record s { log = with_noop Whole s.log k } =
-      ap (λ (b : Bool). record s { log = cond b s.log (with_noop Whole s.log k) }) free in
+  pub noop_runs : (s t : ReplicaState) (x : Running H U) (n : ℕ) → t ≡ record s { log = with_noop Trimmed s.log n } → Runs host s x
+      → reached x ≤ s.sync.sync_point → s.sync.sync_point < n → Runs host t x
+  noop_runs s t x n is r behind above =
+      let free : nat_le n s.sync.sync_point ≡ false = grind (arith, nat_tests, above) in
+      let same : gap_written Trimmed s n ≡ record s { log = with_noop Trimmed s.log n } =
+      ap (λ (b : Bool). record s { log = cond b s.log (with_noop Trimmed s.log n) }) free in
       rw is (record {
-        within = subst IsWithin same (noop_within s k r.within);
-        run = on_slot host.meaning host.undo_of s.log.entries k NoOp _ _ r.run (omega (arith, behind, above));
+        within = subst IsWithin same (noop_within Trimmed s n r.within);
+        loads = record { own = r.loads.own; gathered = r.loads.gathered };
+        run = executed_noop host.state host.meaning host.undo_of s.log x n r.run (omega (arith, behind, above));
       })
 
-  pub gathers_runs : (s t : ReplicaState) (x : Running H U) (g : Gathering Change) → t ≡ record s { changes = Some g } → Runs host s x
-      → AllByRecursion ChangeFits g.changes → Runs host t x
-  gathers_runs s t x g is r fits = rw is (record { within = gathers_within s g r.within fits; run = r.run })
+  -- what is executed up to the sync point is so of each log with the same checkpoint
+  begins : (l log : Log) (x : Running H U) → HasExecuted host.state host.meaning host.undo_of l x → reached x ≤ l.sync_point
+      → log.sync_point ≡ l.sync_point → log.checkpoint ≡ l.checkpoint → HasExecuted host.state host.meaning host.undo_of log x
+  begins l log x run behind point checkpoint =
+      let base = run.base in
+      let none : length x.undos ≡ 0 = omega (arith, base, behind) in
+      executed_other host.state host.meaning host.undo_of l log x run point checkpoint
+      (ap (λ n. take n log.entries) none ∙ sym (ap (λ n. take n l.entries) none))
 
-  -- of what is taken, n entries are the own ones
-  taken_front : (own l : Log) (x : Running H U) (n : ℕ) → MayStay n own l → length x.undos ≤ n
-      → take (length x.undos) (logs.adopted Whole l own).entries ≡ take (length x.undos) own.entries
-  taken_front own l x n stay behind =
-      ap (λ (t : List Entry). take (length x.undos) t) (sym stay.same)
-      ∙ spliced_front (length x.undos) n own.entries l.entries behind stay.there
+  -- ---- another log comes in
 
-  pub adopted_runs : (s t : ReplicaState) (x : Running H U) (n : ℕ) (v : View) (k : ℕ) (l : Log) → t ≡ adopted Whole s v k l
-      → Runs host s x → MayStay n s.log l → length x.undos ≤ n → ViewFits v → NextFits k → LogFits l → Runs host t x
-  adopted_runs s t x n v k l is r stay behind view next told =
+  -- where its sync point is not greater, the own checkpoint stays
+  near : (l own : Log) → l.sync_point ≤ own.sync_point → logs.further l own ≡ own
+  near l own le = ap (λ (b : Bool). cond b l own) (le-ltb own.sync_point l.sync_point le)
+
+  further_loads : (l own : Log) → loads host.meaning l ≡ true → loads host.meaning own ≡ true
+      → loads host.meaning (logs.further l own) ≡ true
+  further_loads l own h g = at (nat_lt own.sync_point l.sync_point)
+    where
+      at : (b : Bool) → loads host.meaning (cond b l own) ≡ true
+      at true = h
+      at false = g
+
+  pub overlaid_runs : (s t : ReplicaState) (x : Running H U) (l : Log) → t ≡ overlaid Trimmed s l → IsWithin s
+      → LogsLoad host.meaning s → LogFits l → loads host.meaning l ≡ true
+      → s.next + (length_of Trimmed l - length_of Trimmed s.log) ≤ NUMBER_END
+      → HasExecuted host.state host.meaning host.undo_of t.log x → Runs host t x
+  overlaid_runs s t x l is w load told loaded high run =
       rw is (record {
-        within = adopted_within s v k l r.within view next told;
-        run = on_front host.meaning host.undo_of s.log.entries (logs.adopted Whole l s.log).entries _ _ r.run
-            (taken_front s.log l x n stay behind);
+        within = overlaid_within Trimmed s l w told high;
+        loads = record { own = further_loads l s.log loaded load.own; gathered = load.gathered };
+        run = subst (λ (p : ReplicaState). HasExecuted host.state host.meaning host.undo_of p.log x) is run;
       })
 
-  pub overlaid_runs : (s t : ReplicaState) (x : Running H U) (n : ℕ) (l : Log) → t ≡ overlaid Whole s l → Runs host s x
-      → MayStay n s.log l → length x.undos ≤ n → LogFits l → s.next + (length l.entries - length s.log.entries) ≤ NUMBER_END
-      → Runs host t x
-  overlaid_runs s t x n l is r stay behind told high =
-      let parts = overlaid_parts l s.log r.within.log.point told.point in
-      rw is (record {
-        within = overlaid_within s l r.within told high;
-        run = on_front host.meaning host.undo_of s.log.entries (logs.overlaid Whole l s.log).entries _ _ r.run
-            (ap (λ (t : List Entry). take (length x.undos) t) parts
-            ∙ laid_front (logs.adopted Whole l s.log).entries s.log.entries (length x.undos) (taken_front s.log l x n stay behind)
-            r.run.within);
-      })
+  pub overlaid_near : (s t : ReplicaState) (x : Running H U) (l : Log) → t ≡ overlaid Trimmed s l → Runs host s x
+      → LogFits l → loads host.meaning l ≡ true → s.next + (length_of Trimmed l - length_of Trimmed s.log) ≤ NUMBER_END
+      → l.sync_point ≤ s.log.sync_point → reached x ≤ s.log.sync_point → Runs host t x
+  overlaid_near s t x l is r told loaded high le behind =
+      let own = near l s.log le in
+      overlaid_runs s t x l is r.within r.loads told loaded high
+      (begins s.log t.log x r.run behind
+      (ap (λ (p : ReplicaState). p.log.sync_point) is ∙ ap (λ (g : Log). g.sync_point) own)
+      (ap (λ (p : ReplicaState). p.log.checkpoint) is ∙ ap (λ (g : Log). g.checkpoint) own))
+
+  -- ---- other moves
 
   pub begun_runs : (s t : ReplicaState) (x : Running H U) (p : Stamped) → t ≡ begin_session s p → Runs host s x → Runs host t x
-  begun_runs s t x p is r = rw is (record { within = begun_within s p r.within; run = r.run })
-
-  pub kept_runs : (s t : ReplicaState) (x : Running H U) (o : Option (Gathering Change)) (c : Change) → o ≡ s.changes → t ≡ kept_by s o c
-      → Runs host s x → ChangeFits c → Runs host t x
-  kept_runs s t x None c e is r fits = rw is r
-  kept_runs s t x (Some g) c e is r fits =
-      gathers_runs s t x (counted teller g c) is r
-      (counted_fits g c
-      (subst (λ (o : Option (Gathering Change)). IfSome o (λ g. AllByRecursion ChangeFits g.changes)) (sym e) r.within.changes)
-      fits)
-
-  pub ask_runs : (s t : ReplicaState) (x : Running H U) → t ≡ (ask Whole s).0 → Runs host s x → Runs host t x
-  ask_runs s t x is r = rw is (at (s.asked == length s.log.entries + 1))
-    where
-      at : (b : Bool) → Runs host (ask_if Whole b s).0 x
-      at true = r
-      at false = record { within = with_asked s (length s.log.entries + 1) r.within; run = r.run }
-
-  -- ---- the sync point moves, and the log is told with it
-
-  -- where nothing moved
-  same_runs : {S : Type 0} (m : Meaning S) (s : ReplicaState) (x : Running H U) → Runs host s x → Runs host (risen m Whole s) x
-  same_runs m s x r = record { within = with_sync s s.sync r.within (sync_of s r.within); run = r.run }
-
-  pub sync_runs : {S : Type 0} (m : Meaning S) (s t : ReplicaState) (x : Running H U) → t ≡ risen m Whole (sync Whole s).0 → Runs host s x
-      → Runs host t x
-  unfolding sync
-  sync_runs m s t x is r = rw is (at (is_normal s.status && (leads s && not (waits s.gap))))
-    where
-      by : (b : Bool) → Runs host (risen m Whole (sync_if Whole b s).0) x
-      by true = record {
-        within = with_sync s (with_round s.sync (length s.log.entries)) r.within
-            (with_round_fits (length s.log.entries) s.sync (length s.log.entries) (sync_of s r.within) (omega arith));
-        run = r.run;
-      }
-      by false = same_runs m s x r
-
-      at : (b : Bool) → Runs host (risen m Whole (when b (λ t. sync_if Whole (nat_lt t.sync.sync_point (length t.log.entries)) t) s).0) x
-      at true = by (nat_lt s.sync.sync_point (length s.log.entries))
-      at false = same_runs m s x r
-
-  pub commit_runs : {S : Type 0} (m : Meaning S) (k : ℕ) (s t : ReplicaState) (x : Running H U) → t ≡ risen m Whole (sync_commit k s).0
-      → Runs host s x → Runs host t x
-  unfolding sync_commit
-  commit_runs m k s t x is r = rw is (at (nat_le k s.sync.prepared))
-    where
-      at : (b : Bool) → Runs host (risen m Whole (when b (λ t. obey (hear t) k) s).0) x
-      at true = record {
-        within = with_sync (hear s) (committed s.sync k) (with_heard s true r.within)
-            (committed_fits (length s.log.entries) s.sync k (sync_of s r.within));
-        run = r.run;
-      }
-      at false = same_runs m s x r
-
-  pub vote_runs : {S : Type 0} (m : Meaning S) (q k : ℕ) (s t : ReplicaState) (x : Running H U)
-      → t ≡ risen m Whole (count_sync_vote s q k).0 → Runs host s x → Runs host t x
-  vote_runs m q k s t x is r =
+  begun_runs s t x p is r =
       rw is (record {
-        within = with_sync s (synchronisation.counted s.sync q k) r.within
-            (counted_in_fits (length s.log.entries) s.sync s.sync.syncing q k (sync_of s r.within) r.within.syncing);
+        within = begun_within Trimmed s p r.within;
+        loads = record { own = r.loads.own; gathered = r.loads.gathered };
         run = r.run;
       })
+
+  pub kept_runs : (s t : ReplicaState) (x : Running H U) (o : Option (Gathering Change)) (c : Change) → o ≡ s.changes → t ≡ kept_by s o c
+      → Runs host s x → ChangeFits c → ChangeLoads host.meaning c → Runs host t x
+  kept_runs s t x None c e is r fits load = rw is r
+  kept_runs s t x (Some g) c e is r fits load =
+      let all = subst (λ (o : Option (Gathering Change)). IfSome o (λ g. AllByRecursion ChangeFits g.changes)) (sym e) r.within.changes in
+      let each =
+      subst (λ (o : Option (Gathering Change)). IfSome o (λ g. AllByRecursion (ChangeLoads host.meaning) g.changes)) (sym e)
+      r.loads.gathered in
+      rw is (record {
+        within = gathers_within Trimmed s (counted teller g c) r.within (counted_fits ChangeFits g c all fits);
+        loads = record { own = r.loads.own; gathered = counted_fits (ChangeLoads host.meaning) g c each load };
+        run = r.run;
+      })
+
+  pub ask_runs : (s t : ReplicaState) (x : Running H U) → t ≡ (ask Trimmed s).0 → Runs host s x → Runs host t x
+  ask_runs s t x is r = rw is (at (s.asked == length_of Trimmed s.log + 1))
+    where
+      at : (b : Bool) → Runs host (ask_if Trimmed b s).0 x
+      at true = r
+      at false = record {
+        within = with_asked Trimmed s (length_of Trimmed s.log + 1) r.within;
+        loads = record { own = r.loads.own; gathered = r.loads.gathered };
+        run = r.run;
+      }
+
+  -- ---- the sync point moves, and the log follows
+
+  pub moved_executes : (s t : ReplicaState) (x : Running H U) → Runs host s x → Moves Trimmed s t → Executes host t.log x
+  moved_executes s t x r h =
+      subst (λ (p : ReplicaState). Executes host p.log x) (sym h.is)
+      (record { fits = r.within.log; loads = r.loads.own; run = r.run })
+
+  pub moved_there : (s t : ReplicaState) → Moves Trimmed s t → t.sync.sync_point ≤ length_of Trimmed t.log
+  moved_there s t h =
+      subst (λ (p : ReplicaState). p.sync.sync_point ≤ length_of Trimmed p.log) (sym h.is) h.fits.sync_point
+
+  -- by whether the sync point passed that of the log
+  follows_by : (s : ReplicaState) (x : Synchronisation) (y : Running H U) (b : Bool) → has_risen (record s { sync = x }) ≡ b → IsWithin s
+      → LogsLoad host.meaning s → SyncFits (length_of Trimmed s.log) x → s.sync.sync_point ≤ x.sync_point
+      → let p : ReplicaState = record s { sync = x } in
+      let u : ReplicaState = cond b (risen host.meaning Trimmed p) p in Executes host u.log y → Runs host u y
+  follows_by s x y true rose w load fits grows e = record {
+    within = risen_within host.meaning Trimmed s x w fits grows e.fits;
+    loads = record { own = e.loads; gathered = load.gathered };
+    run = e.run;
+  }
+  follows_by s x y false stayed w load fits grows e = record {
+    within = let points = w.points in with_sync Trimmed s x w fits (grind (arith, nat_tests, stayed, points, grows));
+    loads = record { own = e.loads; gathered = load.gathered };
+    run = e.run;
+  }
+
+  pub followed_runs : (s t u : ReplicaState) (x y : Running H U) → Runs host s x → Moves Trimmed s t → u ≡ follows host.meaning t
+      → Executes host u.log y → Runs host u y
+  followed_runs s t u x y r h is e =
+      let q : ReplicaState = record s { heard = h.heard } in
+      let p : ReplicaState = record q { sync = h.sync } in
+      let same : u ≡ follows host.meaning p = is ∙ ap (follows host.meaning) h.is in
+      let load : LogsLoad host.meaning q = record { own = r.loads.own; gathered = r.loads.gathered } in
+      rw same
+      (follows_by q h.sync y (has_risen p) refl (with_heard Trimmed s h.heard r.within) load h.fits h.grows
+      (subst (λ (v : ReplicaState). Executes host v.log y) same e))

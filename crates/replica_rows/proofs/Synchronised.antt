@@ -1,4 +1,4 @@
--- What is synchronised stays, whatever arrives, unless a log is told with a greater sync point.
+-- Where logs are kept whole, what is synchronised stays, whatever arrives, unless a log is told with a greater sync point.
 use Rattle.std.proofs.Common.{◌≡◌, ◌≤◌, ℕ, zero, suc, ◌+◌, ◌-◌, Bool, true, false, cond, Option, Some, None, refl, sym, ap, subst, ◌∙◌}
 use Rattle.std.proofs.Common.{arith, List, [], ◌∷◌, ◌++◌, length, take, drop, filter, length-append}
 use Rattle.std.specs.Prelude.{not, map, max, nat_le, nat_lt, ◌==◌, ◌&&◌, slice_set}
@@ -8,7 +8,7 @@ use Rattle.std.proofs.lemmas.List.{take-append-le, length-take-le}
 use Rattle.nop_types.specs.declared.limits.TheConstants.{MAX_SLOTS, NUMBER_END}
 use Rattle.nop_types.specs.Meaning.{Meaning}
 use Rattle.nop_types.specs.Logs as logs
-use Rattle.nop_types.specs.Logs.{Log, Whole, with_noop}
+use Rattle.nop_types.specs.Logs.{Log, Whole, unsynced, with_noop}
 use Rattle.nop_types.specs.PlainChanges as plains
 use Rattle.nop_types.specs.PlainChanges.{plain}
 use Rattle.nop_types.specs.Slots.{set_slot, laid}
@@ -33,26 +33,37 @@ use Rattle.log_merge.specs.Starting.{greatest, greatest_point, start_of}
 use Rattle.log_merge.proofs.WholeLogs.{kept_is_plain, merged_point}
 use Rattle.oum_receiver.specs.Front.{Front, Nothing, Message, Dropped}
 use Rattle.oum_receiver.specs.Receiving.{front_of}
-use Rattle.replica_log.proofs.Adopted.{adopted_near, adopted_point, overlaid_point}
-use Rattle.replica_log.proofs.Splices.{length-spliced}
-use Rattle.slot_lookup.specs.Answer.{Answer, Found, GapAgain, Begin, answer_of}
+use Rattle.replica_log.proofs.Adopted.{adopted_near, adopted_point, overlaid_point, length-spliced}
+use Rattle.slot_lookup.specs.Answer.{Answer, Below, Found, GapAgain, Begin, answer_of}
 use Rattle.slot_lookup.specs.Answer as answers
 use Rattle.view_change.specs.Gathering.{Gathering, teller, counted, has_sender}
 use Rattle.replica_state.specs.declared.state.ReplicaState.{ReplicaState}
 use Rattle.replica_state.specs.State.{PointsMeet, leads, is_normal, drains, waits, has_room, may_append, may_adopt}
-use Rattle.replica_state.specs.State.{is_from_leader, is_to_leader, is_other}
+use Rattle.replica_state.specs.State.{is_from_leader, is_to_leader, is_other, has_risen}
 use Rattle.replica_state.specs.Sends.{Effect, then_do, when}
 use Rattle.replica_state.specs.Moves.{ask_if, gap_opened, open_gap, gap_written, write_gap, add_gap, drain_drop, drain_at, drain_by, drain}
 use Rattle.replica_state.specs.Moves.{entered, enter_as, enter, adopted, adopt, open_view, open_if_enough, overlay}
 use Rattle.replica_state.specs.Moves.{queue, keep_change, count_gap_vote, count_sync_vote, logged, appended, begin_session}
-use Rattle.replica_state.specs.Moves.{hear, sync_commit, risen}
-use Rattle.replica_state.specs.Repeating.{gap_again, lookup_again, change_again, resend_by, resend, sync}
+use Rattle.replica_state.specs.Moves.{hear, obey, sync_commit, risen, raise}
+use Rattle.replica_state.specs.Repeating.{gap_again, lookup_again, change_again, resend_by, resend, sync_if, sync}
 use Rattle.replica_rows.specs.Rows as rows
 use Rattle.replica_rows.specs.Messages.{loads_in, Arrival, Packet, Told, Ticked, from_leader, from_follower, by_role, in_view, on_body}
 use Rattle.replica_rows.specs.Messages.{on_message, ticked, arrive}
 use Rattle.replica_rows.specs.Telling.{told_in, told_by, gathered_point}
-use Rattle.replica_rows.proofs.Rising.{obeyed_log, synced_log}
-use Rattle.replica_rows.proofs.Running.{front_of_front, spliced_front}
+
+-- ---- fronts of lists
+
+front_of_front : (i n : ℕ) (l : List Entry) → i ≤ n → take i (take n l) ≡ take i l
+front_of_front zero n l h = refl
+front_of_front (suc i) zero l h = absurd (omega (arith, h))
+front_of_front (suc i) (suc n) [] h = refl
+front_of_front (suc i) (suc n) (x ∷ l) h = ap (λ (t : List Entry). x ∷ t) (front_of_front i n l (omega (arith, h)))
+
+-- what is kept in front of another log
+spliced_front : (i n : ℕ) (own l : List Entry) → i ≤ n → n ≤ length own → take i (take n own ++ drop n l) ≡ take i own
+spliced_front i n own l low high =
+    let one = length-take-le n own high in
+    take-append-le i (take n own) (drop n l) (omega (arith, one, low)) ∙ front_of_front i n own low
 
 -- ---- steps that leave the sync point
 
@@ -192,7 +203,7 @@ drain_by_grows m (suc room) =
 
 drain_grows : {S : Type 0} (m : Meaning S) (s : ReplicaState) → Grows s (drain m Whole s).0
 unfolding drain
-drain_grows m s = (drain_by_grows m (MAX_SLOTS - length s.log.entries)).at s
+drain_grows m s = (drain_by_grows m (MAX_SLOTS - unsynced Whole s.log)).at s
 
 drain_keeps : {S : Type 0} (m : Meaning S) (s : ReplicaState) → Low s → Keeps s (drain m Whole s).0
 drain_keeps m s low = grown s (drain m Whole s).0 low (drain_grows m s)
@@ -453,6 +464,7 @@ prepare_keeps m l s le low =
 
 lookup_by_keeps : {S : Type 0} (m : Meaning S) (r : Answer) (q k : ℕ) (s : ReplicaState) → Low s
     → Keeps s (rows.slot_lookup_by m Whole r q k s).0
+lookup_by_keeps m Below q k s low = same s s refl refl refl low
 lookup_by_keeps m (Found r) q k s low = same s s refl refl refl low
 lookup_by_keeps m GapAgain q k s low = same s s refl refl refl low
 lookup_by_keeps m Begin q k s low =
@@ -460,14 +472,9 @@ lookup_by_keeps m Begin q k s low =
     (and_drain m s (open_gap Whole s) (open_gap_keeps s low))
 lookup_by_keeps m answers.Nothing q k s low = same s s refl refl refl low
 
-lookup_if_keeps : {S : Type 0} (m : Meaning S) (b : Bool) (q k : ℕ) (s : ReplicaState) → Low s
-    → Keeps s (rows.slot_lookup_if m Whole b q k s).0
-lookup_if_keeps m true q k s low = same s s refl refl refl low
-lookup_if_keeps m false q k s low = lookup_by_keeps m (answer_of Whole s.log (waits s.gap) k) q k s low
-
 lookup_keeps : {S : Type 0} (m : Meaning S) (q k : ℕ) (s : ReplicaState) → Low s → Keeps s (rows.slot_lookup m Whole q k s).0
 unfolding rows.slot_lookup
-lookup_keeps m q k s low = lookup_if_keeps m (nat_le k s.sync.sync_point) q k s low
+lookup_keeps m q k s low = lookup_by_keeps m (answer_of Whole s.log (waits s.gap) k) q k s low
 
 gap_reply_at_keeps : {S : Type 0} (m : Meaning S) (o : Option Agreement) (q k : ℕ) (s : ReplicaState) → Low s
     → Keeps s (rows.gap_reply_at m Whole o q k s).0
@@ -482,12 +489,32 @@ gap_reply_keeps m q k s low = gap_reply_at_keeps m s.gap q k s low
 
 -- ---- rows that move the sync point leave the log, and may drain
 
+obeyed_log : (k : ℕ) (s : ReplicaState) → (sync_commit k s).0.log ≡ s.log
+unfolding sync_commit
+obeyed_log k s = at (nat_le k s.sync.prepared)
+  where
+    at : (b : Bool) → (when b (λ t. obey (hear t) k) s).0.log ≡ s.log
+    at true = refl
+    at false = refl
+
+synced_log : (s : ReplicaState) → (sync Whole s).0.log ≡ s.log
+unfolding sync
+synced_log s = at (is_normal s.status && (leads s && not (waits s.gap)))
+  where
+    by : (b : Bool) → (sync_if Whole b s).0.log ≡ s.log
+    by true = refl
+    by false = refl
+
+    at : (b : Bool) → (when b (λ t. sync_if Whole (nat_lt t.sync.sync_point (length t.log.entries)) t) s).0.log ≡ s.log
+    at true = by (nat_lt s.sync.sync_point (length s.log.entries))
+    at false = refl
+
 -- the entries up to the sync point stay
 abbrev Stays : ReplicaState → ReplicaState → Type 0
 Stays s t = take s.sync.sync_point t.log.entries ≡ take s.sync.sync_point s.log.entries
 
 risen_by : {S : Type 0} (m : Meaning S) (b : Bool) (s t : ReplicaState) → Low s → t.log ≡ s.log
-    → Stays s (when b (λ p. drain m Whole (risen m Whole p)) t).0
+    → Stays s (when b (λ p. then_do (raise m Whole p) (drain m Whole)) t).0
 risen_by m true s t low l =
     let len = ap (λ (x : Log). length x.entries) l in
     let w = low.within in
@@ -499,19 +526,19 @@ commit_front : {S : Type 0} (m : Meaning S) (k : ℕ) (s : ReplicaState) → Low
 unfolding rows.sync_commit
 commit_front m k s low =
     let t : ReplicaState = (sync_commit k s).0 in
-    risen_by m (not (s.sync.sync_point == t.sync.sync_point)) s t low (obeyed_log k s)
+    risen_by m (has_risen t) s t low (obeyed_log k s)
 
 reply_front : {S : Type 0} (m : Meaning S) (q k : ℕ) (s : ReplicaState) → Low s → Stays s (rows.sync_reply m Whole q k s).0
 unfolding rows.sync_reply
 reply_front m q k s low =
     let t : ReplicaState = (count_sync_vote s q k).0 in
-    risen_by m (not (s.sync.sync_point == t.sync.sync_point)) s t low refl
+    risen_by m (has_risen t) s t low refl
 
 sync_front : {S : Type 0} (m : Meaning S) (s : ReplicaState) → Low s → Stays s (rows.sync m Whole s).0
 unfolding rows.sync
 sync_front m s low =
     let t : ReplicaState = (sync Whole s).0 in
-    risen_by m (not (s.sync.sync_point == t.sync.sync_point)) s t low (synced_log s)
+    risen_by m (has_risen t) s t low (synced_log s)
 
 -- ---- messages
 

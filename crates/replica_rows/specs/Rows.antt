@@ -12,11 +12,11 @@ use Rattle.nop_types.specs.declared.datagram.Stamped.{Stamped}
 use Rattle.nop_types.specs.declared.peer.Change.{Change}
 use Rattle.nop_types.specs.declared.peer.Body.TheVariants as bodies
 use Rattle.gap_agree.specs.Agreement.{Agreement}
-use Rattle.slot_lookup.specs.Answer.{Answer, Found, GapAgain, Begin, answer_of}
+use Rattle.slot_lookup.specs.Answer.{Answer, Below, Found, GapAgain, Begin, answer_of}
 use Rattle.slot_lookup.specs.Answer as answers
 use Rattle.view_change.specs.Gathering.{Gathering}
 use Rattle.replica_state.specs.declared.state.ReplicaState.{ReplicaState}
-use Rattle.replica_state.specs.State.{leads, is_normal, waits, may_append, may_adopt}
+use Rattle.replica_state.specs.State.{leads, is_normal, waits, has_risen, may_append, may_adopt}
 use Rattle.replica_state.specs.Sends.{Effect, still, then_do, when, to_replica}
 use Rattle.replica_state.specs.Moves as moves
 use Rattle.replica_state.specs.Repeating as repeating
@@ -26,7 +26,7 @@ use Rattle.replica_state.specs.Moves.{
   session_view,
   hear,
   drain,
-  risen,
+  raise,
   enter,
   open_if_enough,
   keep_change,
@@ -44,9 +44,9 @@ use Rattle.replica_state.specs.Moves.{
 
 -- ---- the sync point rises
 
--- where it is n no longer, the log is told with it, and what waits is taken
-abbrev pub drain_if_risen : {S : Type 0} → Meaning S → Keeping → ℕ → ReplicaState → Effect
-drain_if_risen m k n s = when (not (n == s.sync.sync_point)) (λ t. drain m k (risen m k t)) s
+-- where it passed that of the log, the log follows, and what waits is taken
+abbrev pub raise_and_drain : {S : Type 0} → Meaning S → Keeping → ReplicaState → Effect
+raise_and_drain m k s = when (has_risen s) (λ t. then_do (raise m k t) (drain m k)) s
 
 -- ---- a greater view
 
@@ -115,7 +115,7 @@ sync_prepare m k l s =
 
 -- up to a length that is prepared
 unfoldable pub sync_commit : {S : Type 0} → Meaning S → Keeping → ℕ → ReplicaState → Effect
-sync_commit m k n s = then_do (moves.sync_commit n s) (drain_if_risen m k s.sync.sync_point)
+sync_commit m k n s = then_do (moves.sync_commit n s) (raise_and_drain m k)
 
 -- ---- messages of a follower to the leader
 
@@ -124,18 +124,15 @@ abbrev pub begin_gap : {S : Type 0} → Meaning S → Keeping → ReplicaState �
 begin_gap m k s = when (nat_lt s.next NUMBER_END) (λ t. then_do (open_gap k t) (drain m k)) s
 
 abbrev pub slot_lookup_by : {S : Type 0} → Meaning S → Keeping → Answer → ℕ → ℕ → ReplicaState → Effect
+slot_lookup_by m k Below q n s = tell_synced k s q
 slot_lookup_by m k (Found r) q n s = (s, to_replica s q (bodies.Found n r))
 slot_lookup_by m k GapAgain q n s = (s, to_replica s q (bodies.GapCommit n))
 slot_lookup_by m k Begin q n s = begin_gap m k s
 slot_lookup_by m k answers.Nothing q n s = still s
 
-abbrev pub slot_lookup_if : {S : Type 0} → Meaning S → Keeping → Bool → ℕ → ℕ → ReplicaState → Effect
-slot_lookup_if m k true q n s = tell_synced k s q
-slot_lookup_if m k false q n s = slot_lookup_by m k (answer_of k s.log (waits s.gap) n) q n s
-
--- of a slot that is synchronised, or of another
+-- by the answer for the slot
 unfoldable pub slot_lookup : {S : Type 0} → Meaning S → Keeping → ℕ → ℕ → ReplicaState → Effect
-slot_lookup m k q n s = slot_lookup_if m k (nat_le n s.sync.sync_point) q n s
+slot_lookup m k q n s = slot_lookup_by m k (answer_of k s.log (waits s.gap) n) q n s
 
 abbrev pub gap_reply_at : {S : Type 0} → Meaning S → Keeping → Option Agreement → ℕ → ℕ → ReplicaState → Effect
 gap_reply_at m k None q n s = still s
@@ -147,7 +144,7 @@ gap_reply m k q n s = gap_reply_at m k s.gap q n s
 
 -- a vote for the round under way
 unfoldable pub sync_reply : {S : Type 0} → Meaning S → Keeping → ℕ → ℕ → ReplicaState → Effect
-sync_reply m k q n s = then_do (count_sync_vote s q n) (drain_if_risen m k s.sync.sync_point)
+sync_reply m k q n s = then_do (count_sync_vote s q n) (raise_and_drain m k)
 
 -- ---- ticks
 
@@ -172,4 +169,4 @@ watch m k s = watch_if m k (is_normal s.status && leads s) s.heard s
 
 -- a leader that is alone has its whole log synchronised at once
 unfoldable pub sync : {S : Type 0} → Meaning S → Keeping → ReplicaState → Effect
-sync m k s = then_do (repeating.sync k s) (drain_if_risen m k s.sync.sync_point)
+sync m k s = then_do (repeating.sync k s) (raise_and_drain m k)

@@ -1,16 +1,20 @@
-ghost use Rattle.std.specs.Prelude.{◌≡◌, ◌<◌, length, OnOk};
+ghost use Rattle.std.specs.Prelude.{◌≡◌, ◌<◌, true, OnOk, IfOk};
 ghost use Rattle.nop_types.specs.declared.limits.TheConstants.{MAX_REPLICAS};
-ghost use Rattle.nop_types.specs.Logs.{Whole};
+ghost use Rattle.nop_types.specs.Logs.{Trimmed};
 ghost use Rattle.nop_types.specs.Ranges.{StampedFits, PeerFits, BodyFits};
+ghost use Rattle.executor.specs.Running.{reached};
 ghost use Rattle.replica_state.specs.Moves.{begin_session, queue};
 ghost use Rattle.replica_rows.specs.Rows.{new_session, stamped};
 ghost use Rattle.replica_rows.specs.Messages.{from_leader, from_follower, in_view, on_body, on_message, ticked};
-ghost use Rattle.replica_rows.specs.Messages.{arrival_of, arrive};
+ghost use Rattle.replica_rows.specs.Messages.{arrival_of, loads_in, arrive};
 ghost use Rattle.replica_state.specs.State.{executed_to, is_from_leader, is_to_leader, is_other};
+ghost use Rattle.replica_state.specs.Sends.{when};
 ghost use Rattle.replica_rows.specs.Within.{ArrivalFits, IsRunning, Does};
 
 use crate::member::Member;
+use executor::checkpoint_loads;
 use nop_types::{Body, Change, Host, NoMemory, Peer, Stamped, Tick, View};
+use std::alloc::Global;
 
 /// What a whole input is: a stamped request, a message of another replica, or a tick.
 #[derive(Drop)]
@@ -20,12 +24,26 @@ pub enum Arrival {
     Ticked(Tick),
 }
 
+/// Whether the log of a message, if it has one, has no checkpoint or one that loads.
+#[tactic(auto, unfolding(crate::specs::Messages::loads_in))]
+fn loads_in<H: Host>(alloc: Global, body: &Body) -> Result<bool, NoMemory>
+    ensures { IfOk result (λ b. b ≡ loads_in H.meaning body.now) }
+{
+    match body {
+        Body::ViewChange { log, .. } | Body::StartView { log, .. } | Body::SyncPrepare(log) => {
+            checkpoint_loads::<H>(alloc, log.checkpoint())
+        }
+        _ => Ok(true),
+    }
+}
+
 impl<H: Host> Member<H> {
     /// A packet of a greater session comes: the receiver begins that session, and the view of it is entered.
     fn new_session(&mut self, packet: &Stamped) -> Result<(), NoMemory>
         requires runs { IsRunning H.Host self.old }
         requires fits { StampedFits packet.now }
-        ensures { OnOk result (Does H.Host self.old self.new (new_session H.meaning Whole packet.now)) }
+        ensures { OnOk result (Does H.Host self.old self.new
+            (new_session H.meaning Trimmed packet.now)) }
     {
         self.state.begin_session(self.alloc, packet)?;
         let leader = self.state.view.leader;
@@ -40,7 +58,7 @@ impl<H: Host> Member<H> {
     pub(crate) fn stamped(&mut self, packet: Stamped) -> Result<(), NoMemory>
         requires runs { IsRunning H.Host self.old }
         requires fits { StampedFits packet }
-        ensures { OnOk result (Does H.Host self.old self.new (stamped H.meaning Whole packet)) }
+        ensures { OnOk result (Does H.Host self.old self.new (stamped H.meaning Trimmed packet)) }
     {
         if self.state.view.session < packet.session {
             return self.new_session(&packet);
@@ -50,15 +68,17 @@ impl<H: Host> Member<H> {
     }
 
     /// A message of the leader to a follower comes.
+    #[tactic(auto, unfolding(crate::specs::Messages::loads_in))]
     fn from_leader(&mut self, body: Body) -> Result<(), NoMemory>
         requires runs { IsRunning H.Host self.old }
         requires fits { BodyFits body }
-        ensures { OnOk result (Does H.Host self.old self.new (from_leader H.meaning Whole body)) }
+        requires loads { loads_in H.meaning body ≡ true }
+        ensures { OnOk result (Does H.Host self.old self.new (from_leader H.meaning Trimmed body)) }
     {
         match body {
             Body::GapCommit(slot) => self.gap_commit(slot),
             Body::Found(slot, request) => self.found(slot, request),
-            Body::SyncPrepare(log) => self.sync_prepare(&log),
+            Body::SyncPrepare(log) => self.sync_prepare(log),
             Body::SyncCommit(slot) => self.sync_commit(slot),
             _ => Ok(()),
         }
@@ -70,7 +90,7 @@ impl<H: Host> Member<H> {
         requires sender { sender < MAX_REPLICAS }
         requires fits { BodyFits body }
         ensures { OnOk result (Does H.Host self.old self.new
-            (from_follower H.meaning Whole sender body)) }
+            (from_follower H.meaning Trimmed sender body)) }
     {
         match body {
             Body::SlotLookup(slot) => self.slot_lookup(sender, slot),
@@ -85,7 +105,9 @@ impl<H: Host> Member<H> {
         requires runs { IsRunning H.Host self.old }
         requires sender { sender < MAX_REPLICAS }
         requires fits { BodyFits body }
-        ensures { OnOk result (Does H.Host self.old self.new (in_view H.meaning Whole sender view body)) }
+        requires loads { loads_in H.meaning body ≡ true }
+        ensures { OnOk result (Does H.Host self.old self.new
+            (in_view H.meaning Trimmed sender view body)) }
     {
         if self.state.is_from_leader(view, sender) {
             return self.from_leader(body);
@@ -97,11 +119,13 @@ impl<H: Host> Member<H> {
     }
 
     /// The row of a message, by its body.
+    #[tactic(auto, unfolding(crate::specs::Messages::loads_in))]
     fn on_body(&mut self, message: Peer) -> Result<(), NoMemory>
         requires runs { IsRunning H.Host self.old }
         requires fits { PeerFits message }
+        requires loads { loads_in H.meaning message.body ≡ true }
         ensures { OnOk result (Does H.Host self.old self.new
-            (on_body H.meaning Whole message message.body)) }
+            (on_body H.meaning Trimmed message message.body)) }
     {
         let Peer { sender, view, body } = message;
         match body {
@@ -124,12 +148,14 @@ impl<H: Host> Member<H> {
         }
     }
 
-    /// A message of another replica comes.
+    /// A message of another replica comes, with no checkpoint or one that loads.
     #[tactic(auto, unfolding(crate::specs::Messages::on_message))]
-    pub(crate) fn on_message(&mut self, message: Peer) -> Result<(), NoMemory>
+    fn on_message(&mut self, message: Peer) -> Result<(), NoMemory>
         requires runs { IsRunning H.Host self.old }
         requires fits { PeerFits message }
-        ensures { OnOk result (Does H.Host self.old self.new (on_message H.meaning Whole message)) }
+        requires loads { loads_in H.meaning message.body ≡ true }
+        ensures { OnOk result (Does H.Host self.old self.new
+            (on_message H.meaning Trimmed message)) }
     {
         if !self.state.is_other(message.sender) {
             return Ok(());
@@ -137,10 +163,23 @@ impl<H: Host> Member<H> {
         self.on_body(message)
     }
 
+    /// A message comes. Where its checkpoint does not load it does nothing.
+    fn told(&mut self, message: Peer) -> Result<(), NoMemory>
+        requires runs { IsRunning H.Host self.old }
+        requires fits { PeerFits message }
+        ensures { OnOk result (Does H.Host self.old self.new
+            (when (loads_in H.meaning message.body) (on_message H.meaning Trimmed message))) }
+    {
+        if !loads_in::<H>(self.alloc, &message.body)? {
+            return Ok(());
+        }
+        self.on_message(message)
+    }
+
     /// A tick comes.
     pub(crate) fn ticked(&mut self, tick: Tick) -> Result<(), NoMemory>
         requires runs { IsRunning H.Host self.old }
-        ensures { OnOk result (Does H.Host self.old self.new (ticked H.meaning Whole tick)) }
+        ensures { OnOk result (Does H.Host self.old self.new (ticked H.meaning Trimmed tick)) }
     {
         match tick {
             Tick::Suspect => self.suspect(),
@@ -151,17 +190,17 @@ impl<H: Host> Member<H> {
         }
     }
 
-    /// The row for what arrives. A message has no checkpoint that would have to load.
-    #[tactic(auto, using(crate::proofs::Loading::fits_loads), unfolding(crate::specs::Messages::arrive))]
+    /// The row for what arrives.
+    #[tactic(auto, unfolding(crate::specs::Messages::arrive))]
     fn arrive(&mut self, arrival: Arrival) -> Result<(), NoMemory>
         requires runs { IsRunning H.Host self.old }
         requires fits { ArrivalFits (arrival_of arrival) }
         ensures { OnOk result
-            (Does H.Host self.old self.new (λ s. arrive H.meaning Whole s (arrival_of arrival))) }
+            (Does H.Host self.old self.new (λ s. arrive H.meaning Trimmed s (arrival_of arrival))) }
     {
         match arrival {
             Arrival::Stamped(packet) => self.stamped(packet),
-            Arrival::Told(message) => self.on_message(message),
+            Arrival::Told(message) => self.told(message),
             Arrival::Ticked(tick) => self.ticked(tick),
         }
     }
@@ -172,9 +211,9 @@ impl<H: Host> Member<H> {
         requires runs { IsRunning H.Host self.old }
         requires fits { ArrivalFits (arrival_of arrival) }
         ensures does { OnOk result
-            (Does H.Host self.old self.new (λ s. arrive H.meaning Whole s (arrival_of arrival))) }
-        ensures executed { OnOk result (length self.new.executor.undos
-            ≡ executed_to Whole self.new.state) }
+            (Does H.Host self.old self.new (λ s. arrive H.meaning Trimmed s (arrival_of arrival))) }
+        ensures executed { OnOk result (reached self.new.executor
+            ≡ executed_to Trimmed self.new.state) }
     {
         self.arrive(arrival)?;
         self.settle()

@@ -1,11 +1,10 @@
 ghost use Rattle.std.specs.Prelude.{◌≡◌, true, OnOk, IfOk};
-ghost use Rattle.nop_types.specs.Logs.{Whole};
+ghost use Rattle.nop_types.specs.Logs.{Trimmed};
 ghost use Rattle.nop_types.specs.Ranges.{EntryFits};
 ghost use Rattle.replica_state.specs.State.{drains, may_append, leads};
 ghost use Rattle.replica_state.specs.Moves.{appended, open_gap, drain};
 ghost use Rattle.replica_state.specs.Within.{IsWithin};
 ghost use Rattle.replica_rows.specs.Within.{IsRunning, Does};
-ghost use Rattle.replica_rows.specs.Rows.{drain_if_risen};
 ghost use Rattle.replica_rows.specs.Draining.{TakesOne};
 ghost use Rattle.replica_rows.specs.Taking.{TakesFront};
 
@@ -16,7 +15,7 @@ use nop_types::{Body, Entry, Host, MAX_SLOTS, NoMemory};
 /// Logs the request in front, where one stands there. An error may leave it neither queued nor logged.
 fn take_front(state: &mut ReplicaState) -> Result<bool, NoMemory>
     requires within { IsWithin state.old }
-    requires drains { drains Whole state.old ≡ true }
+    requires drains { drains Trimmed state.old ≡ true }
     ensures { IfOk result (TakesFront state.old state.new) }
 {
     let Some(request) = state.receiver.take_message() else {
@@ -31,7 +30,7 @@ impl<H: Host> Member<H> {
     /// The same, with what was executed.
     pub(crate) fn append(&mut self, entry: Entry) -> Result<(), NoMemory>
         requires runs { IsRunning H.Host self.old }
-        requires room { may_append Whole self.old.state ≡ true }
+        requires room { may_append Trimmed self.old.state ≡ true }
         requires fits { EntryFits entry }
         ensures runs { OnOk result (IsRunning H.Host self.new) }
         ensures executor { self.new.executor ≡ self.old.executor }
@@ -45,8 +44,8 @@ impl<H: Host> Member<H> {
     #[tactic(auto, using(crate::proofs::Running::open_gap_runs), unfolding(replica_state::specs::Moves::open_gap))]
     pub(crate) fn open_gap(&mut self) -> Result<(), NoMemory>
         requires runs { IsRunning H.Host self.old }
-        requires room { may_append Whole self.old.state ≡ true }
-        ensures { OnOk result (Does H.Host self.old self.new (open_gap Whole)) }
+        requires room { may_append Trimmed self.old.state ≡ true }
+        ensures { OnOk result (Does H.Host self.old self.new (open_gap Trimmed)) }
     {
         self.state.put_gap()?;
         let slot = self.state.log.len();
@@ -59,7 +58,7 @@ impl<H: Host> Member<H> {
     fn drain_one(&mut self) -> Result<bool, NoMemory>
         requires runs { IsRunning H.Host self.old }
         ensures runs { OnOk result (IsRunning H.Host self.new) }
-        ensures taken { IfOk result (TakesOne H.meaning
+        ensures taken { IfOk result (TakesOne H.meaning Trimmed
             self.old.state self.old.sends self.new.state self.new.sends) }
     {
         if !self.state.drains() {
@@ -81,21 +80,10 @@ impl<H: Host> Member<H> {
         Ok(false)
     }
 
-    /// Takes what stands in front, where the sync point rose from a slot.
-    pub(crate) fn drain_if_risen(&mut self, slot: u32) -> Result<(), NoMemory>
-        requires runs { IsRunning H.Host self.old }
-        ensures { OnOk result (Does H.Host self.old self.new (drain_if_risen H.meaning Whole slot)) }
-    {
-        if self.state.sync.sync_point() == slot {
-            return Ok(());
-        }
-        self.drain()
-    }
-
     /// Takes what stands in front, one after the other.
     pub(crate) fn drain(&mut self) -> Result<(), NoMemory>
         requires runs { IsRunning H.Host self.old }
-        ensures { OnOk result (Does H.Host self.old self.new (drain H.meaning Whole)) }
+        ensures { OnOk result (Does H.Host self.old self.new (drain H.meaning Trimmed)) }
     {
         for _ in 0..MAX_SLOTS {
             if !self.drain_one()? {

@@ -1,5 +1,5 @@
 ghost use Rattle.std.specs.Prelude.{OnOk};
-ghost use Rattle.nop_types.specs.Logs.{Whole};
+ghost use Rattle.nop_types.specs.Logs.{Trimmed};
 ghost use Rattle.nop_types.specs.Ranges.{ViewFits};
 ghost use Rattle.replica_state.specs.Moves.{enter};
 ghost use Rattle.replica_rows.specs.Rows.{enter_view, enter_and_drain};
@@ -29,7 +29,7 @@ impl<H: Host> Member<H> {
     fn enter_view(&mut self, view: View) -> Result<(), NoMemory>
         requires runs { IsRunning H.Host self.old }
         requires fits { ViewFits view }
-        ensures { OnOk result (Does H.Host self.old self.new (enter_view H.meaning Whole view)) }
+        ensures { OnOk result (Does H.Host self.old self.new (enter_view H.meaning Trimmed view)) }
     {
         self.enter(view)?;
         if self.state.others() > 0 {
@@ -45,7 +45,8 @@ impl<H: Host> Member<H> {
     pub(crate) fn enter_and_drain(&mut self, view: View) -> Result<(), NoMemory>
         requires runs { IsRunning H.Host self.old }
         requires fits { ViewFits view }
-        ensures { OnOk result (Does H.Host self.old self.new (enter_and_drain H.meaning Whole view)) }
+        ensures { OnOk result (Does H.Host self.old self.new
+            (enter_and_drain H.meaning Trimmed view)) }
     {
         self.enter_view(view)?;
         self.drain()

@@ -1,6 +1,7 @@
-ghost use Rattle.std.specs.Prelude.{◌≡◌, ◌≤◌, ◌+◌, ◌-◌, length, true, OnOk};
+ghost use Rattle.std.specs.Prelude.{◌≡◌, ◌≤◌, ◌+◌, ◌-◌, true, OnOk};
 ghost use Rattle.nop_types.specs.declared.limits.TheConstants.{NUMBER_END};
-ghost use Rattle.nop_types.specs.Logs.{Whole};
+ghost use Rattle.nop_types.specs.CheckpointedLogs.{loads};
+ghost use Rattle.nop_types.specs.Logs.{Trimmed, length_of};
 ghost use Rattle.nop_types.specs.Ranges.{SlotFits, RequestFits, LogFits};
 ghost use Rattle.replica_state.specs.State.{may_append};
 ghost use Rattle.replica_state.specs.Moves.{gap_written, write_gap, add_gap, fill, overlay};
@@ -14,9 +15,8 @@ impl<H: Host> Member<H> {
     /// Puts a NO-OP into a slot of the log, unless the slot is synchronised.
     fn put_noop(&mut self, slot: u32)
         requires runs { IsRunning H.Host self.old }
-        requires from_one { 1 ≤ slot }
-        requires there { slot ≤ length self.old.state.log.entries }
-        ensures state { self.new.state ≡ gap_written Whole self.old.state slot }
+        requires there { slot ≤ length_of Trimmed self.old.state.log }
+        ensures state { self.new.state ≡ gap_written Trimmed self.old.state slot }
         ensures sends { self.new.sends ≡ self.old.sends }
         ensures runs { IsRunning H.Host self.new }
     {
@@ -32,8 +32,8 @@ impl<H: Host> Member<H> {
     fn write_gap(&mut self, slot: u32) -> Result<(), NoMemory>
         requires runs { IsRunning H.Host self.old }
         requires fits { SlotFits slot }
-        requires there { slot ≤ length self.old.state.log.entries }
-        ensures { OnOk result (Does H.Host self.old self.new (λ s. write_gap Whole s slot)) }
+        requires there { slot ≤ length_of Trimmed self.old.state.log }
+        ensures { OnOk result (Does H.Host self.old self.new (λ s. write_gap Trimmed s slot)) }
     {
         self.put_noop(slot);
         self.to_leader(Body::GapRep(slot))
@@ -42,8 +42,8 @@ impl<H: Host> Member<H> {
     /// Puts a NO-OP into the next slot, and tells the leader so.
     fn add_gap(&mut self) -> Result<(), NoMemory>
         requires runs { IsRunning H.Host self.old }
-        requires room { may_append Whole self.old.state ≡ true }
-        ensures { OnOk result (Does H.Host self.old self.new (add_gap Whole)) }
+        requires room { may_append Trimmed self.old.state ≡ true }
+        ensures { OnOk result (Does H.Host self.old self.new (add_gap Trimmed)) }
     {
         self.append(Entry::NoOp)?;
         let slot = self.state.log.len();
@@ -53,9 +53,10 @@ impl<H: Host> Member<H> {
     /// Logs a request that was missed, and replies for it.
     fn fill(&mut self, request: Request) -> Result<(), NoMemory>
         requires runs { IsRunning H.Host self.old }
-        requires room { may_append Whole self.old.state ≡ true }
+        requires room { may_append Trimmed self.old.state ≡ true }
         requires fits { RequestFits request }
-        ensures { OnOk result (Does H.Host self.old self.new (λ s. fill H.meaning Whole s request)) }
+        ensures { OnOk result (Does H.Host self.old self.new
+            (λ s. fill H.meaning Trimmed s request)) }
     {
         self.append(Entry::Req(request))?;
         let slot = self.state.log.len();
@@ -68,7 +69,7 @@ impl<H: Host> Member<H> {
     pub(crate) fn gap_commit(&mut self, slot: u32) -> Result<(), NoMemory>
         requires runs { IsRunning H.Host self.old }
         requires fits { SlotFits slot }
-        ensures { OnOk result (Does H.Host self.old self.new (gap_commit H.meaning Whole slot)) }
+        ensures { OnOk result (Does H.Host self.old self.new (gap_commit H.meaning Trimmed slot)) }
     {
         let len = self.state.log.len();
         if slot <= len {
@@ -76,7 +77,7 @@ impl<H: Host> Member<H> {
             self.write_gap(slot)?;
             return self.drain();
         }
-        if slot != len + 1 || !self.state.may_append() {
+        if !self.state.may_append() || slot != len + 1 {
             return Ok(());
         }
         self.state.heard = true;
@@ -89,9 +90,10 @@ impl<H: Host> Member<H> {
     pub(crate) fn found(&mut self, slot: u32, request: Request) -> Result<(), NoMemory>
         requires runs { IsRunning H.Host self.old }
         requires fits { RequestFits request }
-        ensures { OnOk result (Does H.Host self.old self.new (found H.meaning Whole slot request)) }
+        ensures { OnOk result (Does H.Host self.old self.new
+            (found H.meaning Trimmed slot request)) }
     {
-        if slot != self.state.log.len() + 1 || !self.state.may_append() {
+        if !self.state.may_append() || slot != self.state.log.len() + 1 {
             return Ok(());
         }
         self.state.heard = true;
@@ -99,46 +101,46 @@ impl<H: Host> Member<H> {
         self.drain()
     }
 
-    /// Takes the entries of the leader's log, replies for those that are new and above the sync point, and tells the leader so. What was executed of entries that stay is not executed again.
+    /// Takes the entries of the leader's log, replies for those that are new and above the sync point, and tells the leader so.
     #[tactic(auto, unfolding(replica_state::specs::Moves::overlay))]
-    fn overlay(&mut self, log: &Log, appended: u64) -> Result<(), NoMemory>
+    fn overlay(&mut self, log: Log, appended: u64) -> Result<(), NoMemory>
         requires runs { IsRunning H.Host self.old }
-        requires told { LogFits log.now }
-        requires appended { appended ≡ length log.now.entries - length self.old.state.log.entries }
+        requires told { LogFits log }
+        requires loads { loads H.meaning log ≡ true }
+        requires appended { appended
+            ≡ length_of Trimmed log - length_of Trimmed self.old.state.log }
         requires within { self.old.state.next + appended ≤ NUMBER_END }
         ensures { OnOk result (Does H.Host self.old self.new
-            (λ s. overlay H.meaning Whole s log.now)) }
+            (λ s. overlay H.meaning Trimmed s log)) }
     {
         let len = self.state.log.len();
-        let kept = self.state.log.kept_front(log);
-        self.go_back(kept);
-        self.state.lay_over(kept, log, appended)?;
+        let told = log.len();
+        self.lay_over(log, appended)?;
         let answered = len.max(self.state.sync.sync_point());
         self.replies_above(answered)?;
-        self.to_leader(Body::SyncRep(log.entries().len() as u32))
+        self.to_leader(Body::SyncRep(told))
     }
 
     /// The leader says that the slots up to this one are synchronised.
     #[tactic(auto, unfolding(crate::specs::Rows::sync_commit))]
     pub(crate) fn sync_commit(&mut self, slot: u32) -> Result<(), NoMemory>
         requires runs { IsRunning H.Host self.old }
-        ensures { OnOk result (Does H.Host self.old self.new (sync_commit H.meaning Whole slot)) }
+        ensures { OnOk result (Does H.Host self.old self.new (sync_commit H.meaning Trimmed slot)) }
     {
-        let sync_point = self.state.sync.sync_point();
         self.state.sync_commit(slot);
-        self.state.raise_log();
-        self.drain_if_risen(sync_point)
+        let passed = self.follow()?;
+        self.let_go(passed)
     }
 
     /// The leader tells its log.
     #[tactic(auto, unfolding(crate::specs::Rows::sync_prepare))]
-    pub(crate) fn sync_prepare(&mut self, log: &Log) -> Result<(), NoMemory>
+    pub(crate) fn sync_prepare(&mut self, log: Log) -> Result<(), NoMemory>
         requires runs { IsRunning H.Host self.old }
-        requires told { LogFits log.now }
-        ensures { OnOk result (Does H.Host self.old self.new (sync_prepare H.meaning Whole log.now)) }
+        requires told { LogFits log }
+        requires loads { loads H.meaning log ≡ true }
+        ensures { OnOk result (Does H.Host self.old self.new (sync_prepare H.meaning Trimmed log)) }
     {
-        let len = self.state.log.len() as usize;
-        let appended = log.entries().len().saturating_sub(len) as u64;
+        let appended = u64::from(log.len().saturating_sub(self.state.log.len()));
         if self.state.next.get() + appended > NUMBER_END {
             return Ok(());
         }

@@ -1,5 +1,5 @@
 ghost use Rattle.std.specs.Prelude.{◌≡◌, ◌≤◌, false, length, take};
-ghost use Rattle.nop_types.specs.Logs.{Keeping, Whole};
+ghost use Rattle.nop_types.specs.Logs.{Keeping, Whole, length_of};
 ghost use Rattle.nop_types.specs.Meaning.{Meaning};
 ghost use Rattle.nop_types.specs.declared.peer.Peer.{Peer};
 ghost use Rattle.replica_state.specs.declared.state.ReplicaState.{ReplicaState};
@@ -11,17 +11,16 @@ ghost use Rattle.replica_rows.specs.Telling.{told_by, gathered_point};
 
 /// Whatever arrives, a row sends at most eight messages to other replicas, and keeps the configuration. So message numbers
 /// never pass their end.
-#[tactic(auto, using(crate::proofs::Counting::arrive_sends_few, crate::proofs::Counting::arrive_keeps_config))]
 pub fn rows_send_few_messages<S>()
-    ensures few { (m : Meaning S) (s : ReplicaState) (a : Arrival)
-        → message_count (arrive m Whole s a).1 ≤ 8 }
-    ensures config { (m : Meaning S) (s : ReplicaState) (a : Arrival)
-        → (arrive m Whole s a).0.config ≡ s.config }
+    ensures few { (m : Meaning S) (k : Keeping) (s : ReplicaState) (a : Arrival)
+        → message_count (arrive m k s a).1 ≤ 8 }
+    ensures config { (m : Meaning S) (k : Keeping) (s : ReplicaState) (a : Arrival)
+        → (arrive m k s a).0.config ≡ s.config }
 {}
 
-/// Whatever arrives, forged messages too, the entries up to the sync point stay as they are, unless a log is told with a greater
-/// sync point: in what arrives, or in the changes that are gathered. The own log is told with that sync point, as that of a member
-/// that runs.
+/// Where logs are kept whole: whatever arrives, forged messages too, the entries up to the sync point stay as they are, unless a
+/// log is told with a greater sync point: in what arrives, or in the changes that are gathered. The own log is told with that sync
+/// point, as that of a member that runs.
 #[tactic(auto, using(crate::proofs::Synchronised::synchronised_stays))]
 pub fn synchronised_entries_stay<S>()
     ensures { (m : Meaning S) (s : ReplicaState) (a : Arrival)
@@ -33,9 +32,11 @@ pub fn synchronised_entries_stay<S>()
         ≡ take s.sync.sync_point s.log.entries }
 {}
 
-/// A drain takes a request, opens a gap, asks or ends, by what stands in front.
+/// A drain takes a request, opens a gap, asks or ends, by what stands in front; of a log that its sync point is within, as that of
+/// a trimmed one always is.
 pub fn drains_by_front<S>()
-    ensures { (m : Meaning S) (s : ReplicaState) → DrainsByFront m s }
+    ensures { (m : Meaning S) (k : Keeping) (s : ReplicaState)
+        → s.log.sync_point ≤ length_of k s.log → DrainsByFront m k s }
 {}
 
 /// A message whose checkpoint does not load does nothing: no view is entered either.

@@ -1,14 +1,14 @@
-ghost use Rattle.std.specs.Prelude.{◌<◌, length, OnOk};
-ghost use Rattle.nop_types.specs.Logs.{Whole};
+ghost use Rattle.std.specs.Prelude.{◌≡◌, ◌<◌, true, OnOk, IfOk};
+ghost use Rattle.nop_types.specs.Logs.{Trimmed, has_room};
 ghost use Rattle.nop_types.specs.Ranges.{SlotFits};
-ghost use Rattle.nop_types.specs.declared.limits.TheConstants.{MAX_REPLICAS, MAX_SLOTS};
-ghost use Rattle.replica_state.specs.State.{waits};
+ghost use Rattle.nop_types.specs.declared.limits.TheConstants.{MAX_REPLICAS};
 ghost use Rattle.replica_state.specs.Moves.{count_gap_vote, count_sync_vote, tell_synced};
 ghost use Rattle.replica_rows.specs.Rows.{begin_gap, slot_lookup, gap_reply, sync_reply};
-ghost use Rattle.replica_rows.specs.Rising.{raised_by};
+ghost use Rattle.replica_rows.specs.Rising.{raised_by, passed_by};
 ghost use Rattle.replica_rows.specs.Within.{IsRunning, Does};
 
 use crate::member::Member;
+use crate::passing::Passed;
 use nop_types::{Body, Host, NUMBER_END, NoMemory, Vote};
 use slot_lookup::{Answer, answer};
 
@@ -16,8 +16,8 @@ impl<H: Host> Member<H> {
     /// Begins a gap agreement in the next slot, where there is a number after it.
     fn begin_gap(&mut self) -> Result<(), NoMemory>
         requires runs { IsRunning H.Host self.old }
-        requires room { length self.old.state.log.entries < MAX_SLOTS }
-        ensures { OnOk result (Does H.Host self.old self.new (begin_gap H.meaning Whole)) }
+        requires room { has_room Trimmed self.old.state.log ≡ true }
+        ensures { OnOk result (Does H.Host self.old self.new (begin_gap H.meaning Trimmed)) }
     {
         if self.state.next.get() >= NUMBER_END {
             return Ok(());
@@ -29,24 +29,23 @@ impl<H: Host> Member<H> {
     /// Tells a replica what is synchronised.
     fn tell_synced(&mut self, replica: u8) -> Result<(), NoMemory>
         requires runs { IsRunning H.Host self.old }
-        ensures { OnOk result (Does H.Host self.old self.new (λ s. tell_synced Whole s replica)) }
+        ensures { OnOk result (Does H.Host self.old self.new (λ s. tell_synced Trimmed s replica)) }
     {
         self.state.tell_synced(replica, &mut self.sends)?;
         Ok(())
     }
 
-    /// Another replica asks for a slot: for one that is synchronised, or for another.
+    /// Another replica asks for a slot.
     #[tactic(auto, unfolding(crate::specs::Rows::slot_lookup))]
     pub(crate) fn slot_lookup(&mut self, sender: u8, slot: u32) -> Result<(), NoMemory>
         requires runs { IsRunning H.Host self.old }
         requires fits { SlotFits slot }
-        ensures { OnOk result (Does H.Host self.old self.new (slot_lookup H.meaning Whole sender slot)) }
+        ensures { OnOk result (Does H.Host self.old self.new
+            (slot_lookup H.meaning Trimmed sender slot)) }
     {
-        if slot <= self.state.sync.sync_point() {
-            return self.tell_synced(sender);
-        }
         let waits = self.state.waits();
         match answer(&self.state.log, waits, slot) {
+            Answer::Below => self.tell_synced(sender),
             Answer::Found(request) => {
                 let request = request.try_clone()?;
                 self.to_replica(sender, Body::Found(slot, request))
@@ -62,7 +61,8 @@ impl<H: Host> Member<H> {
     pub(crate) fn gap_reply(&mut self, sender: u8, slot: u32) -> Result<(), NoMemory>
         requires runs { IsRunning H.Host self.old }
         requires sender { sender < MAX_REPLICAS }
-        ensures { OnOk result (Does H.Host self.old self.new (gap_reply H.meaning Whole sender slot)) }
+        ensures { OnOk result (Does H.Host self.old self.new
+            (gap_reply H.meaning Trimmed sender slot)) }
     {
         let Some(gap) = &self.state.gap else {
             return Ok(());
@@ -79,26 +79,31 @@ impl<H: Host> Member<H> {
     pub(crate) fn sync_reply(&mut self, sender: u8, len: u32) -> Result<(), NoMemory>
         requires runs { IsRunning H.Host self.old }
         requires sender { sender < MAX_REPLICAS }
-        ensures { OnOk result (Does H.Host self.old self.new (sync_reply H.meaning Whole sender len)) }
+        ensures { OnOk result (Does H.Host self.old self.new
+            (sync_reply H.meaning Trimmed sender len)) }
     {
-        let sync_point = self.state.sync.sync_point();
-        self.count_sync_vote(sender, len)?;
-        self.drain_if_risen(sync_point)
+        let passed = self.count_sync_vote(sender, len)?;
+        self.let_go(passed)
     }
 
-    /// Counts a vote for a length of the log; at enough votes the sync point rises, with which the
-    /// log is told then, and all others are told.
-    fn count_sync_vote(&mut self, sender: u8, len: u32) -> Result<(), NoMemory>
+    /// Counts a vote for a length of the log. At enough votes the sync point rises, the log follows, and all others are told. The
+    /// entries that were passed are handed out.
+    fn count_sync_vote(&mut self, sender: u8, len: u32) -> Result<Option<Passed>, NoMemory>
         requires runs { IsRunning H.Host self.old }
         requires sender { sender < MAX_REPLICAS }
-        ensures { OnOk result (Does H.Host self.old self.new
+        ensures does { OnOk result (Does H.Host self.old self.new
             (raised_by H.meaning (λ s. count_sync_vote s sender len))) }
+        ensures passed { IfOk result (λ passed. passed
+            ≡ passed_by (count_sync_vote self.old.state sender len).0) }
     {
         let vote = self.state.sync.on_rep(sender, len);
-        self.state.raise_log();
+        let passed = self.follow()?;
         match vote {
-            Vote::Settled => self.to_all(Body::SyncCommit(len)),
-            Vote::Waiting => Ok(()),
+            Vote::Settled => {
+                self.to_all(Body::SyncCommit(len))?;
+                Ok(passed)
+            }
+            Vote::Waiting => Ok(passed),
         }
     }
 }

@@ -1,6 +1,7 @@
-ghost use Rattle.std.specs.Prelude.{◌≡◌, ◌<◌, [], length, OnOk, IfOk};
-ghost use Rattle.nop_types.specs.Logs.{Whole};
+ghost use Rattle.std.specs.Prelude.{◌≡◌, ◌<◌, [], OnOk, IfOk};
+ghost use Rattle.nop_types.specs.Logs.{Trimmed};
 ghost use Rattle.nop_types.specs.Ranges.{BodyFits};
+ghost use Rattle.executor.specs.Running.{reached};
 ghost use Rattle.replica_state.specs.Sends.{to_replica, to_leader, to_all};
 ghost use Rattle.replica_state.specs.State.{opening, executed_to};
 ghost use Rattle.replica_rows.specs.Within.{IsRunning, Does};
@@ -25,7 +26,7 @@ impl<H: Host> Member<H> {
         requires { number < config.replicas }
         ensures state { IfOk result (λ x. x.state ≡ opening config number) }
         ensures runs { IfOk result (λ x. IsRunning H.Host x) }
-        ensures executed { IfOk result (λ x. length x.executor.undos ≡ executed_to Whole x.state) }
+        ensures executed { IfOk result (λ x. reached x.executor ≡ executed_to Trimmed x.state) }
         ensures nothing { IfOk result (λ x. x.sends ≡ []) }
     {
         let state = ReplicaState::opening(alloc, config, number)?;

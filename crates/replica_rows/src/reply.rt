@@ -1,11 +1,11 @@
-ghost use Rattle.std.specs.Prelude.{◌≡◌, ◌≤◌, ◌<◌, ◌++◌, length, Some, OnOk};
+ghost use Rattle.std.specs.Prelude.{◌≡◌, ◌≤◌, ◌<◌, ◌++◌, Some, OnOk};
 ghost use Rattle.nop_types.specs.declared.request.Request.{Request};
 ghost use Rattle.nop_types.specs.declared.request.Entry.TheVariants.{Req};
-ghost use Rattle.nop_types.specs.Execution.{result_at};
+ghost use Rattle.nop_types.specs.CheckpointedLogs.{slot_result};
 ghost use Rattle.nop_types.specs.Legality.{IsOf};
-ghost use Rattle.nop_types.specs.Lists.{slot_of};
-ghost use Rattle.nop_types.specs.Logs.{Whole};
+ghost use Rattle.nop_types.specs.Logs.{Trimmed, length_of, entry_at};
 ghost use Rattle.nop_types.specs.Ranges.{SlotFits};
+ghost use Rattle.executor.specs.Running.{reached};
 ghost use Rattle.replica_state.specs.Replies.{leader_reply, reply_at, replies_above};
 ghost use Rattle.replica_rows.specs.Within.{IsRunning};
 
@@ -17,16 +17,16 @@ impl<H: Host> Member<H> {
     fn reply_with_result(&mut self, slot: u32, client: u32, id: u64) -> Result<(), NoMemory>
         requires runs { IsRunning H.Host self.old }
         requires slot { SlotFits slot }
-        requires there { slot ≤ length self.old.state.log.entries }
-        requires ahead { length self.old.executor.undos ≤ slot }
+        requires there { slot ≤ length_of Trimmed self.old.state.log }
+        requires ahead { reached self.old.executor ≤ slot }
         requires id { 1 ≤ id }
         ensures state { self.new.state ≡ self.old.state }
         ensures runs { OnOk result (IsRunning H.Host self.new) }
-        ensures behind { OnOk result (length self.new.executor.undos ≤ slot) }
+        ensures behind { OnOk result (reached self.new.executor ≤ slot) }
         ensures sends { (r : Request) → IsOf client id r
-            → slot_of self.old.state.log.entries slot ≡ Some (Req r) → OnOk result (self.new.sends
+            → entry_at Trimmed self.old.state.log slot ≡ Some (Req r) → OnOk result (self.new.sends
             ≡ self.old.sends ++ leader_reply self.old.state slot r
-            (result_at H.meaning self.old.state.log.entries slot)) }
+            (slot_result H.meaning Trimmed self.old.state.log slot)) }
     {
         self.executor.run_to(&self.state.log, slot)?;
         let answer = self.executor.result(client, id);
@@ -37,13 +37,13 @@ impl<H: Host> Member<H> {
     /// Replies for a slot, where a request stands there: a leader with its result, a follower without.
     pub(crate) fn reply_at(&mut self, slot: u32) -> Result<(), NoMemory>
         requires runs { IsRunning H.Host self.old }
-        requires there { slot ≤ length self.old.state.log.entries }
-        requires ahead { length self.old.executor.undos < slot }
+        requires there { slot ≤ length_of Trimmed self.old.state.log }
+        requires ahead { reached self.old.executor < slot }
         ensures state { self.new.state ≡ self.old.state }
         ensures runs { OnOk result (IsRunning H.Host self.new) }
-        ensures behind { OnOk result (length self.new.executor.undos ≤ slot) }
+        ensures behind { OnOk result (reached self.new.executor ≤ slot) }
         ensures sends { OnOk result (self.new.sends
-            ≡ self.old.sends ++ reply_at H.meaning Whole self.old.state slot) }
+            ≡ self.old.sends ++ reply_at H.meaning Trimmed self.old.state slot) }
     {
         let Some(Entry::Req(request)) = self.state.log.at(slot) else {
             return Ok(());
@@ -56,14 +56,15 @@ impl<H: Host> Member<H> {
             .send_short(self.alloc, slot, client, id, &mut self.sends)
     }
 
-    /// Replies for each request above a slot, in the order of their slots.
+    /// Replies for each request above a slot, no lower than the sync point, in the order of their slots.
     pub(crate) fn replies_above(&mut self, slot: u32) -> Result<(), NoMemory>
         requires runs { IsRunning H.Host self.old }
-        requires behind { length self.old.executor.undos ≤ slot }
+        requires kept { self.old.state.log.sync_point ≤ slot }
+        requires behind { reached self.old.executor ≤ slot }
         ensures state { self.new.state ≡ self.old.state }
         ensures runs { OnOk result (IsRunning H.Host self.new) }
         ensures sends { OnOk result (self.new.sends
-            ≡ self.old.sends ++ replies_above H.meaning Whole self.old.state slot) }
+            ≡ self.old.sends ++ replies_above H.meaning Trimmed self.old.state slot) }
     {
         for at in slot..self.state.log.len() {
             self.reply_at(at + 1)?;

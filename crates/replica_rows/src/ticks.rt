@@ -1,5 +1,5 @@
 ghost use Rattle.std.specs.Prelude.{OnOk};
-ghost use Rattle.nop_types.specs.Logs.{Whole};
+ghost use Rattle.nop_types.specs.Logs.{Trimmed};
 ghost use Rattle.replica_rows.specs.Rows.{suspect, watch, sync};
 ghost use Rattle.replica_rows.specs.Within.{IsRunning, Does};
 
@@ -10,7 +10,7 @@ impl<H: Host> Member<H> {
     /// The view's leader is suspected: the next leader's view is entered.
     pub(crate) fn suspect(&mut self) -> Result<(), NoMemory>
         requires runs { IsRunning H.Host self.old }
-        ensures { OnOk result (Does H.Host self.old self.new (suspect H.meaning Whole)) }
+        ensures { OnOk result (Does H.Host self.old self.new (suspect H.meaning Trimmed)) }
     {
         let view = self.state.view;
         if view.leader == u32::MAX {
@@ -25,7 +25,7 @@ impl<H: Host> Member<H> {
     /// A replica that is not the leader in Normal suspects a leader of which it heard nothing since the last tick.
     pub(crate) fn watch(&mut self) -> Result<(), NoMemory>
         requires runs { IsRunning H.Host self.old }
-        ensures { OnOk result (Does H.Host self.old self.new (watch H.meaning Whole)) }
+        ensures { OnOk result (Does H.Host self.old self.new (watch H.meaning Trimmed)) }
     {
         if self.state.is_normal() && self.state.leads() {
             return Ok(());
@@ -41,11 +41,10 @@ impl<H: Host> Member<H> {
     #[tactic(auto, unfolding(crate::specs::Rows::sync))]
     pub(crate) fn sync(&mut self) -> Result<(), NoMemory>
         requires runs { IsRunning H.Host self.old }
-        ensures { OnOk result (Does H.Host self.old self.new (sync H.meaning Whole)) }
+        ensures { OnOk result (Does H.Host self.old self.new (sync H.meaning Trimmed)) }
     {
-        let sync_point = self.state.sync.sync_point();
         self.state.sync(&mut self.sends)?;
-        self.state.raise_log();
-        self.drain_if_risen(sync_point)
+        let passed = self.follow()?;
+        self.let_go(passed)
     }
 }

@@ -1,11 +1,11 @@
-ghost use Rattle.std.specs.Prelude.{◌≡◌, ◌<◌, OnOk, IfOk};
-ghost use Rattle.nop_types.specs.Logs.{Whole};
+ghost use Rattle.std.specs.Prelude.{◌≡◌, true, OnOk, IfOk};
+ghost use Rattle.nop_types.specs.CheckpointedLogs.{loads};
+ghost use Rattle.nop_types.specs.Logs.{Trimmed};
 ghost use Rattle.nop_types.specs.Ranges.{ViewFits, NextFits, LogFits, ChangeFits};
 ghost use Rattle.replica_state.specs.Moves.{resend_start};
 ghost use Rattle.replica_rows.specs.Rows.{view_change_request, take_change, gather, view_change, start_view};
-ghost use Rattle.replica_state.specs.State.{may_adopt};
 ghost use Rattle.replica_rows.specs.Gathering.{kept_after, step_by};
-ghost use Rattle.replica_rows.specs.Within.{IsRunning, Does};
+ghost use Rattle.replica_rows.specs.Within.{ChangeLoads, IsRunning, Does};
 
 use crate::ReplicaState;
 use crate::member::Member;
@@ -35,7 +35,8 @@ impl<H: Host> Member<H> {
     pub(crate) fn view_change_request(&mut self, view: View) -> Result<(), NoMemory>
         requires runs { IsRunning H.Host self.old }
         requires fits { ViewFits view }
-        ensures { OnOk result (Does H.Host self.old self.new (view_change_request H.meaning Whole view)) }
+        ensures { OnOk result (Does H.Host self.old self.new
+            (view_change_request H.meaning Trimmed view)) }
     {
         let join = View::join(self.state.view, view);
         if join.is(self.state.view) {
@@ -47,7 +48,8 @@ impl<H: Host> Member<H> {
     /// Tells a late replica once more what the view started with.
     fn resend_start(&mut self, replica: u8) -> Result<(), NoMemory>
         requires runs { IsRunning H.Host self.old }
-        ensures { OnOk result (Does H.Host self.old self.new (λ s. resend_start Whole s replica)) }
+        ensures { OnOk result (Does H.Host self.old self.new
+            (λ s. resend_start Trimmed s replica)) }
     {
         self.state.tell_start(replica, &mut self.sends)?;
         Ok(())
@@ -57,8 +59,9 @@ impl<H: Host> Member<H> {
     fn gather(&mut self, change: Change) -> Result<(), NoMemory>
         requires runs { IsRunning H.Host self.old }
         requires fits { ChangeFits change }
+        requires loads { ChangeLoads H.meaning change }
         ensures { OnOk result (Does H.Host self.old self.new
-            (λ s. gather H.meaning Whole s.changes change s)) }
+            (λ s. gather H.meaning Trimmed s.changes change s)) }
     {
         match keep_change(&mut self.state, change)? {
             Step::Started(start) => self.open_view(start),
@@ -69,7 +72,9 @@ impl<H: Host> Member<H> {
     fn take_change(&mut self, view: View, change: Change) -> Result<(), NoMemory>
         requires runs { IsRunning H.Host self.old }
         requires fits { ChangeFits change }
-        ensures { OnOk result (Does H.Host self.old self.new (take_change H.meaning Whole view change)) }
+        requires loads { ChangeLoads H.meaning change }
+        ensures { OnOk result (Does H.Host self.old self.new
+            (take_change H.meaning Trimmed view change)) }
     {
         if !view.is(self.state.view) || !self.state.leads() {
             return Ok(());
@@ -86,7 +91,9 @@ impl<H: Host> Member<H> {
         requires runs { IsRunning H.Host self.old }
         requires view { ViewFits view }
         requires change { ChangeFits change }
-        ensures { OnOk result (Does H.Host self.old self.new (view_change H.meaning Whole view change)) }
+        requires loads { ChangeLoads H.meaning change }
+        ensures { OnOk result (Does H.Host self.old self.new
+            (view_change H.meaning Trimmed view change)) }
     {
         self.view_change_request(view)?;
         self.take_change(view, change)
@@ -105,8 +112,9 @@ impl<H: Host> Member<H> {
         requires view { ViewFits view }
         requires next { NextFits next }
         requires told { LogFits log }
+        requires loads { loads H.meaning log ≡ true }
         ensures { OnOk result (Does H.Host self.old self.new
-            (start_view H.meaning Whole sender view next log)) }
+            (start_view H.meaning Trimmed sender view next log)) }
     {
         if !self.state.may_adopt(sender, view, &log) {
             return Ok(());

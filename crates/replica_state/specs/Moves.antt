@@ -1,12 +1,12 @@
 -- The moves of which the rows of a replica are made. Each says what becomes of the state and what is sent; the rows say when it
 -- is made.
-use Rattle.std.specs.Prelude.{ℕ, zero, suc, ◌+◌, ◌-◌, List, [], ◌++◌, length, map, Bool, true, false, cond, not, Option, Some, None}
+use Rattle.std.specs.Prelude.{ℕ, zero, suc, ◌+◌, ◌-◌, List, [], ◌∷◌, ◌++◌, length, map, Bool, true, false, cond, not, Option, Some, None}
 use Rattle.std.specs.Prelude.{nat_le, nat_lt, max, ◌==◌, ◌&&◌}
 use Rattle.nop_types.specs.declared.limits.TheConstants.{MAX_SLOTS}
 use Rattle.nop_types.specs.Meaning.{Meaning}
 use Rattle.nop_types.specs.CheckpointedLogs as checkpointed
 use Rattle.nop_types.specs.Logs as logs
-use Rattle.nop_types.specs.Logs.{Log, Keeping, length_of, first, with_noop}
+use Rattle.nop_types.specs.Logs.{Log, Keeping, length_of, unsynced, between, whole, first, with_noop}
 use Rattle.nop_types.specs.PlainChanges.{plain}
 use Rattle.nop_types.specs.declared.view.View.{View}
 use Rattle.nop_types.specs.declared.replica_state.Phase.TheVariants as phases
@@ -29,6 +29,7 @@ use Rattle.sync_points.specs.Synchronisation.{cleared, raised, with_round, commi
 use Rattle.view_change.specs.Gathering as gathering
 use Rattle.view_change.specs.Gathering.{Gathering, teller}
 use Rattle.replica_state.specs.declared.sending.Sending.{Sending}
+use Rattle.replica_state.specs.declared.sending.Sending.TheVariants.{Trims}
 use Rattle.replica_state.specs.declared.state.ReplicaState.{ReplicaState}
 use Rattle.replica_state.specs.State.{others, leads, drains, waiting, waiting_in}
 use Rattle.replica_state.specs.Sends.{Effect, still, then_do, when, to_replica, to_leader, to_all}
@@ -120,9 +121,9 @@ abbrev pub drain_by : {S : Type 0} → Meaning S → Keeping → ℕ → Replica
 drain_by m k zero s = still s
 drain_by m k (suc room) s = drain_at m k (drain_by m k room) s (drains k s) (front_of s.receiver)
 
--- at most as often as the log has free slots
+-- at most as often as the log has room
 unfoldable pub drain : {S : Type 0} → Meaning S → Keeping → ReplicaState → Effect
-drain m k s = drain_by m k (MAX_SLOTS - length_of k s.log) s
+drain m k s = drain_by m k (MAX_SLOTS - unsynced k s.log) s
 
 -- ---- a greater view is entered
 
@@ -244,9 +245,17 @@ abbrev pub commit_if : ReplicaState → ℕ → Vote → List Sending
 commit_if s n Settled = to_all s (bodies.SyncCommit n)
 commit_if s n Waiting = []
 
--- the log is told with the sync point from now on
+-- the sync point of the log becomes that for which votes are counted
 abbrev pub risen : {S : Type 0} → Meaning S → Keeping → ReplicaState → ReplicaState
 risen m k s = record s { log = checkpointed.raised m k s.log s.sync.sync_point }
+
+-- the entries between the two, as a log without a checkpoint
+abbrev pub passed_entries : Keeping → ReplicaState → Log
+passed_entries k s = whole 0 (between k s.log s.sync.sync_point)
+
+-- and these entries move out of the log, where it is trimmed
+abbrev pub raise : {S : Type 0} → Meaning S → Keeping → ReplicaState → Effect
+raise m k s = (risen m k s, Trims (s.log.sync_point + 1) (passed_entries k s) ∷ [])
 
 -- a leader counts a vote; at enough of them its sync point rises, and it tells all
 abbrev pub count_sync_vote : ReplicaState → ℕ → ℕ → Effect

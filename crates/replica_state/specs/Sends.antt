@@ -1,12 +1,13 @@
 -- What a replica sends, and what one thing after another does.
-use Rattle.std.specs.Prelude.{ℕ, ◌+◌, List, [], ◌∷◌, ◌++◌, Bool, true, false, ◌==◌}
-use Rattle.nop_types.specs.Ranges.{ReplyFits, PeerFits}
+use Rattle.std.specs.Prelude.{ℕ, ◌+◌, List, [], ◌∷◌, ◌++◌, Bool, true, false, ◌==◌, ⊤}
+use Rattle.nop_types.specs.Logs.{Keeping, Trimmed}
+use Rattle.nop_types.specs.Ranges.{ReplyFits, PeerIsIn}
 use Rattle.nop_types.specs.declared.output.Dest.TheVariants.{Replicas, One}
 use Rattle.nop_types.specs.declared.output.Actor.TheVariants.{Replica}
 use Rattle.nop_types.specs.declared.peer.Peer.{Peer}
 use Rattle.nop_types.specs.declared.peer.Body.{Body}
 use Rattle.replica_state.specs.declared.sending.Sending.{Sending}
-use Rattle.replica_state.specs.declared.sending.Sending.TheVariants.{ToClient, ToReplicas}
+use Rattle.replica_state.specs.declared.sending.Sending.TheVariants.{ToClient, ToReplicas, Trims}
 use Rattle.replica_state.specs.declared.state.ReplicaState.{ReplicaState}
 use Rattle.replica_state.specs.State.{others, leader}
 
@@ -48,12 +49,18 @@ to_all s body = to_all_if (others s == 0) s body
 
 -- ---- ranges and numbers
 
+-- of a replica that keeps its logs whole or trimmed; of entries that move out of its log nothing is said
+abbrev pub SendingIsIn : Keeping → Sending → Type 0
+SendingIsIn k (ToClient r) = ReplyFits r
+SendingIsIn k (ToReplicas dest p) = PeerIsIn k p
+SendingIsIn k (Trims first entries) = ⊤
+
 abbrev pub SendingFits : Sending → Type 0
-SendingFits (ToClient r) = ReplyFits r
-SendingFits (ToReplicas dest p) = PeerFits p
+SendingFits x = SendingIsIn Trimmed x
 
 -- how many messages go to other replicas
 abbrev pub message_count : List Sending → ℕ
 message_count [] = 0
 message_count (ToClient r ∷ sends) = message_count sends
 message_count (ToReplicas dest p ∷ sends) = message_count sends + 1
+message_count (Trims first entries ∷ sends) = message_count sends

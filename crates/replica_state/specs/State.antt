@@ -1,7 +1,7 @@
 -- Words on the state of a replica.
 use Rattle.std.specs.Prelude.{◌≡◌, ℕ, ◌/◌, min, cond, Bool, true, false, Option, Some, None, nat_le, nat_lt, not, ◌==◌}
 use Rattle.std.specs.Prelude.{◌&&◌, ◌||◌}
-use Rattle.nop_types.specs.declared.limits.TheConstants.{MAX_SLOTS, NUMBER_END}
+use Rattle.nop_types.specs.declared.limits.TheConstants.{NUMBER_END}
 use Rattle.nop_types.specs.declared.replica_state.Phase.{Phase}
 use Rattle.nop_types.specs.declared.replica_state.Phase.TheVariants.{Normal, Change}
 use Rattle.nop_types.specs.declared.replica_state.Vote.{Vote}
@@ -10,6 +10,7 @@ use Rattle.nop_types.specs.Configuration.{Configuration}
 use Rattle.nop_types.specs.Views.{leader_of, first_view, is_view}
 use Rattle.nop_types.specs.declared.view.View.{View}
 use Rattle.nop_types.specs.Logs.{Log, Keeping, empty, length_of}
+use Rattle.nop_types.specs.Logs as logs
 use Rattle.gap_agree.specs.Agreement.{Agreement, begun}
 use Rattle.gap_agree.specs.Votes.{vote_of}
 use Rattle.oum_receiver.specs.Receiving as receiving
@@ -67,7 +68,7 @@ abbrev pub waiting_in : ℕ → ℕ → Option Agreement
 waiting_in slot f = waiting (begun slot f)
 
 abbrev pub has_room : Keeping → ReplicaState → Bool
-has_room k s = nat_lt (length_of k s.log) MAX_SLOTS
+has_room k s = logs.has_room k s.log
 
 -- the log has room, and there is a next number
 abbrev pub may_append : Keeping → ReplicaState → Bool
@@ -76,6 +77,10 @@ may_append k s = has_room k s && nat_lt s.next NUMBER_END
 -- what stands in front of the receiver may be taken
 abbrev pub drains : Keeping → ReplicaState → Bool
 drains k s = is_normal s.status && (not (waits s.gap) && has_room k s)
+
+-- the sync point passed that of the log
+abbrev pub has_risen : ReplicaState → Bool
+has_risen s = nat_lt s.log.sync_point s.sync.sync_point
 
 -- the log is told with the sync point for which votes are counted
 abbrev pub PointsMeet : ReplicaState → Type 0

@@ -5,17 +5,20 @@
 //! Each call that changes the state leaves, at Ok, what the definition of the move gives, and each
 //! call that sends appends what its definition says. On an error the state is as it was, and
 //! nothing more is sent. What is sent of a state that is in its ranges (`IsWithin`) is in its
-//! ranges. `may_adopt` takes what a view starts with only from the leader of that view. A log is
-//! told with its sync point, that for which votes are counted (`PointsMeet`). One that is taken is
-//! taken above the own sync point, or whole where the told one is greater, which is the own one
-//! then (`adopted`, `overlaid` of logs); nothing else is written at or below the sync point.
+//! ranges. `may_adopt` takes what a view starts with only from the leader of that view.
+//!
+//! The log is trimmed: a checkpoint stands in place of its entries up to its sync point, which is
+//! that for which votes are counted (`PointsMeet`). Of a log that is taken, all is taken where its
+//! sync point is greater than the own one, and is the own one then; else its entries above the own
+//! one (`adopted`, `overlaid` of logs). Where the sync point rose otherwise, `raise_log` lets the log
+//! follow, with a checkpoint that the caller has, and hands out the entries that leave it.
 //!
 //! Calls, for `replica_rows`: `ReplicaState::opening`; `append`, `put_gap`, `ask`,
 //! `count_gap_vote`, `lay_over`, `raise_log` (the log); `begin_session`, `queue`, `go_to`,
 //! `begin_gathering`, `take_part` (views); `send_to`, `send_to_all`, `tell_change`, `tell_start`,
 //! `tell_synced`, `send_short`, `send_result` (messages); `sync_commit` and `sync`, which move the
 //! sync point; and the row `resend`. None of them executes or drains. `Sends` is what one step
-//! sends, in order.
+//! sends, in order, the entries that left the log (`push_trimmed`) among it; `take` hands it out.
 //!
 //! Files: `state`, `sending`, `number`; `logging`, `views`, `telling`, `repeating`. Definitions:
 //! `specs/State`, `Sends` (`Effect`, `then_do`), `Moves`, `Repeating`, `Replies`, `Within`.

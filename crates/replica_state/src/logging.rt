@@ -1,18 +1,18 @@
-ghost use Rattle.std.specs.Prelude.{◌≡◌, ◌≤◌, ◌<◌, ◌+◌, ◌-◌, ◌++◌, ◌↔◌, [], length, true, nat_le, IsTrue, OnOk};
-ghost use Rattle.std.specs.Prelude.{OnErr, IfSome, IfNone};
-ghost use Rattle.nop_types.specs.declared.limits.TheConstants.{MAX_REPLICAS, MAX_SLOTS, NUMBER_END};
-ghost use Rattle.nop_types.specs.Logs.{Whole};
+ghost use Rattle.std.specs.Prelude.{◌≡◌, ◌≤◌, ◌<◌, ◌+◌, ◌-◌, ◌++◌, ◌↔◌, [], Some, true, nat_le, IsTrue, OnOk};
+ghost use Rattle.std.specs.Prelude.{OnErr, IfOk, IfSome, IfNone};
+ghost use Rattle.nop_types.specs.declared.limits.TheConstants.{MAX_REPLICAS, NUMBER_END};
+ghost use Rattle.nop_types.specs.Logs.{Trimmed, length_of, above};
 ghost use Rattle.nop_types.specs.Ranges.{LogFits};
 ghost use Rattle.oum_receiver.specs.Front.{Dropped};
 ghost use Rattle.oum_receiver.specs.Receiving.{front_of};
-ghost use Rattle.replica_state.specs.State.{may_append, waiting_in};
-ghost use Rattle.replica_log.specs.Splices.{MayStay};
+ghost use Rattle.replica_state.specs.State.{has_room, may_append, waiting_in};
 ghost use Rattle.replica_state.specs.Moves.{appended, gap_opened, ask, count_gap_vote, overlaid, obey, sync_commit};
+ghost use Rattle.replica_state.specs.Moves.{passed_entries};
 ghost use Rattle.replica_state.specs.Within.{IsWithin};
 
 use crate::{ReplicaState, Sends};
 use gap_agree::Gap;
-use nop_types::{Body, Entry, Log, NUMBER_END, NoMemory, Vote};
+use nop_types::{Body, Checkpoint, Entry, Log, NUMBER_END, NoMemory, Vote};
 use oum_receiver::Upcall;
 
 /// The gap that waits for votes in a slot, unless nobody has to vote.
@@ -28,7 +28,7 @@ fn gap_in(slot: u32, f: u8) -> Option<Gap>
 impl ReplicaState {
     /// Appends an entry that did not come through the receiver, which goes to the number after it.
     pub fn append(&mut self, entry: Entry) -> Result<(), NoMemory>
-        requires { may_append Whole self.old ≡ true }
+        requires { may_append Trimmed self.old ≡ true }
         ensures ok { OnOk result (self.new ≡ appended self.old entry) }
         ensures err { OnErr result (self.new ≡ self.old) }
     {
@@ -41,8 +41,8 @@ impl ReplicaState {
 
     /// Puts a NO-OP into the next slot, for which votes are then counted.
     pub fn put_gap(&mut self) -> Result<(), NoMemory>
-        requires { may_append Whole self.old ≡ true }
-        ensures ok { OnOk result (self.new ≡ gap_opened Whole self.old) }
+        requires { may_append Trimmed self.old ≡ true }
+        ensures ok { OnOk result (self.new ≡ gap_opened Trimmed self.old) }
         ensures err { OnErr result (self.new ≡ self.old) }
     {
         self.append(Entry::NoOp)?;
@@ -62,9 +62,9 @@ impl ReplicaState {
     /// Asks the leader for the next slot, once. An error leaves the state, and what is sent, as they were.
     pub fn ask(&mut self, sends: &mut Sends) -> Result<(), NoMemory>
         requires within { IsWithin self.old }
-        requires room { length self.old.log.entries < MAX_SLOTS }
-        ensures state { OnOk result (self.new ≡ (ask Whole self.old).0) }
-        ensures sends { OnOk result (sends.new ≡ sends.old ++ (ask Whole self.old).1) }
+        requires room { has_room Trimmed self.old ≡ true }
+        ensures state { OnOk result (self.new ≡ (ask Trimmed self.old).0) }
+        ensures sends { OnOk result (sends.new ≡ sends.old ++ (ask Trimmed self.old).1) }
         ensures err { OnErr result ((self.new ≡ self.old) × (sends.new ≡ sends.old)) }
     {
         let slot = self.log.len() + 1;
@@ -91,33 +91,43 @@ impl ReplicaState {
         }
     }
 
-    /// Takes the entries of the leader's log above the first `kept`, of which so many are new.
-    pub fn lay_over(&mut self, kept: u32, log: &Log, appended: u64) -> Result<(), NoMemory>
+    /// Takes the entries of the leader's log, of which so many are new. Own ones above its end stay.
+    pub fn lay_over(&mut self, log: Log, appended: u64) -> Result<(), NoMemory>
         requires own { IsWithin self.old }
-        requires told { LogFits log.now }
-        requires stay { MayStay kept self.old.log log.now }
-        requires appended { appended ≡ length log.now.entries - length self.old.log.entries }
+        requires told { LogFits log }
+        requires appended { appended ≡ length_of Trimmed log - length_of Trimmed self.old.log }
         requires within { self.old.next + appended ≤ NUMBER_END }
-        ensures ok { OnOk result (self.new ≡ overlaid Whole self.old log.now) }
+        ensures ok { OnOk result (self.new ≡ overlaid Trimmed self.old log) }
         ensures err { OnErr result (self.new ≡ self.old) }
     {
-        self.log.overlay(kept, log)?;
+        let len = log.len();
+        let sync_point = log.sync_point();
+        self.log.overlay(log)?;
         let next = self.next.get() + appended;
         self.next.set(next);
         self.receiver.advance(next);
-        self.sync.on_prepare(log.entries().len() as u32);
-        self.sync.raise(log.sync_point());
+        self.sync.on_prepare(len);
+        self.sync.raise(sync_point);
         Ok(())
     }
 
-    /// The log is told with the sync point for which votes are counted, from now on.
-    pub fn raise_log(&mut self)
-        ensures { self.new ≡ record self.old {
-          log = record self.old.log { sync_point = self.old.sync.sync_point };
-        } }
+    /// The log's sync point becomes that for which votes are counted, with the checkpoint of the slots up to there. The entries
+    /// between move out of the log.
+    pub fn raise_log(&mut self, checkpoint: Checkpoint) -> Result<Log, NoMemory>
+        requires low { self.old.log.sync_point ≤ self.old.sync.sync_point }
+        requires there { self.old.sync.sync_point ≤ length_of Trimmed self.old.log }
+        ensures ok { OnOk result (self.new ≡ record self.old {
+          log = record {
+            sync_point = self.old.sync.sync_point;
+            checkpoint = Some checkpoint;
+            entries = above Trimmed self.old.log self.old.sync.sync_point;
+          };
+        }) }
+        ensures entries { IfOk result (λ log. log ≡ passed_entries Trimmed self.old) }
+        ensures err { OnErr result (self.new ≡ self.old) }
     {
         let sync_point = self.sync.sync_point();
-        self.log.raise(sync_point);
+        self.log.raise(sync_point, checkpoint)
     }
 
     /// Lets the sync point rise to what the leader says, where so much is prepared. Says whether it is.

@@ -1,6 +1,6 @@
 ghost use Rattle.std.specs.Prelude.{◌≡◌, ◌++◌, OnOk, OnErr};
 ghost use Rattle.nop_types.specs.declared.replica_state.Phase.TheVariants.{Change};
-ghost use Rattle.nop_types.specs.Logs.{Whole};
+ghost use Rattle.nop_types.specs.Logs.{Trimmed};
 ghost use Rattle.oum_receiver.specs.Receiving.{front_of};
 ghost use Rattle.replica_state.specs.State.{leads};
 ghost use Rattle.replica_state.specs.Moves.{open_sync, repeat_commit};
@@ -27,7 +27,7 @@ impl ReplicaState {
     fn lookup_again(&self, sends: &mut Sends) -> Result<(), NoMemory>
         requires { IsWithin self.now }
         ensures ok { OnOk result (sends.new
-            ≡ sends.old ++ (lookup_again Whole (front_of self.now.receiver) self.now).1) }
+            ≡ sends.old ++ (lookup_again Trimmed (front_of self.now.receiver) self.now).1) }
         ensures err { OnErr result (sends.new ≡ sends.old) }
     {
         if !self.has_drop() || !self.log.has_room() {
@@ -54,7 +54,7 @@ impl ReplicaState {
     fn enter_again(&self, sends: &mut Sends) -> Result<(), NoMemory>
         requires { IsWithin self.now }
         ensures ok { OnOk result (sends.new
-            ≡ sends.old ++ (resend_by Whole Change (leads self.now) self.now).1) }
+            ≡ sends.old ++ (resend_by Trimmed Change (leads self.now) self.now).1) }
         ensures err { OnErr result (sends.new ≡ sends.old) }
     {
         let len = sends.len();
@@ -70,8 +70,8 @@ impl ReplicaState {
     #[tactic(auto, unfolding(crate::specs::Repeating::resend))]
     pub fn resend(&self, sends: &mut Sends) -> Result<(), NoMemory>
         requires within { IsWithin self.now }
-        ensures state { (resend Whole self.now).0 ≡ self.now }
-        ensures ok { OnOk result (sends.new ≡ sends.old ++ (resend Whole self.now).1) }
+        ensures state { (resend Trimmed self.now).0 ≡ self.now }
+        ensures ok { OnOk result (sends.new ≡ sends.old ++ (resend Trimmed self.now).1) }
         ensures err { OnErr result (sends.new ≡ sends.old) }
     {
         if !self.is_normal() {
@@ -86,8 +86,8 @@ impl ReplicaState {
     /// Tells the log, and waits for votes.
     fn open_sync(&mut self, sends: &mut Sends) -> Result<(), NoMemory>
         requires { IsWithin self.old }
-        ensures state { OnOk result (self.new ≡ (open_sync Whole self.old).0) }
-        ensures sends { OnOk result (sends.new ≡ sends.old ++ (open_sync Whole self.old).1) }
+        ensures state { OnOk result (self.new ≡ (open_sync Trimmed self.old).0) }
+        ensures sends { OnOk result (sends.new ≡ sends.old ++ (open_sync Trimmed self.old).1) }
         ensures err { OnErr result ((self.new ≡ self.old) × (sends.new ≡ sends.old)) }
     {
         self.tell_log(sends)?;
@@ -110,8 +110,8 @@ impl ReplicaState {
     #[tactic(auto, unfolding(crate::specs::Repeating::sync))]
     pub fn sync(&mut self, sends: &mut Sends) -> Result<(), NoMemory>
         requires within { IsWithin self.old }
-        ensures state { OnOk result (self.new ≡ (sync Whole self.old).0) }
-        ensures sends { OnOk result (sends.new ≡ sends.old ++ (sync Whole self.old).1) }
+        ensures state { OnOk result (self.new ≡ (sync Trimmed self.old).0) }
+        ensures sends { OnOk result (sends.new ≡ sends.old ++ (sync Trimmed self.old).1) }
         ensures err { OnErr result ((self.new ≡ self.old) × (sends.new ≡ sends.old)) }
     {
         if !self.is_normal() || !self.leads() || self.waits() {

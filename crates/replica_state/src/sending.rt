@@ -2,20 +2,22 @@ ghost use Rattle.std.specs.Prelude.{◌≡◌, ◌++◌, ◌∷◌, [], length, 
 ghost use Rattle.std.specs.List.{AllByRecursion};
 ghost use Rattle.nop_types.specs.Ranges.{ReplyFits, PeerFits};
 ghost use Rattle.peer_codec.specs.LogBodies.{log_message};
-ghost use Rattle.replica_state.specs.declared.sending.Sending.TheVariants.{ToClient, ToReplicas};
+ghost use Rattle.replica_state.specs.declared.sending.Sending.TheVariants.{ToClient, ToReplicas, Trims};
 ghost use Rattle.replica_state.specs.Sends.{SendingFits};
 
-use nop_types::{Dest, NoMemory, Peer, Reply, View};
+use nop_types::{Dest, Log, NoMemory, Peer, Reply, View};
 use peer_codec::{EncodedPeer, LogBody};
 use std::alloc::Global;
 use std::marker::Model;
+use std::mem;
 
-/// What a replica sends: a reply to the client that it names, or a whole message to another replica or to all. A message is
-/// encoded at once, so that a log is copied only into its bytes.
+/// What a replica gives: a reply to the client that it names; a whole message to another replica or to all; or the entries, from a
+/// slot on, that moved out of its log. A message is encoded at once, so that a log is copied only into its bytes.
 #[derive(Drop)]
 pub enum Sending {
     ToClient(Reply),
     ToReplicas(Dest, EncodedPeer),
+    Trims(u32, Log),
 }
 
 /// What a replica sends in one step, in order. Each field of it is in its range.
@@ -91,6 +93,14 @@ impl Sends {
         self.push(Sending::ToReplicas(dest, message))
     }
 
+    /// The entries from a slot on moved out of the log.
+    pub fn push_trimmed(&mut self, first: u32, entries: Log) -> Result<(), NoMemory>
+        ensures ok { OnOk result (self.new ≡ self.old ++ Trims first entries ∷ []) }
+        ensures err { OnErr result (self.new ≡ self.old) }
+    {
+        self.push(Sending::Trims(first, entries))
+    }
+
     /// How many they are.
     pub(crate) fn len(&self) -> usize
         ensures { result ≡ length self.now }
@@ -105,18 +115,13 @@ impl Sends {
         self.sends.truncate(len);
     }
 
-    /// All of them, in order.
-    pub fn as_slice(&self) -> &[Sending]
-        ensures sends { result.now ≡ self.now }
-        ensures fit { AllByRecursion SendingFits self.now }
+    /// All of them, in order. None is left.
+    pub fn take(&mut self) -> Vec<Sending>
+        ensures sends { result.items ≡ self.old }
+        ensures fit { AllByRecursion SendingFits self.old }
+        ensures none { self.new ≡ [] }
     {
-        &self.sends
-    }
-
-    /// None of them is left, but the room for them.
-    pub fn clear(&mut self)
-        ensures { self.new ≡ [] }
-    {
-        self.sends.clear();
+        let alloc = *self.sends.allocator();
+        mem::replace(&mut self.sends, Vec::new(alloc))
     }
 }

@@ -1,5 +1,5 @@
-ghost use Rattle.std.specs.Prelude.{◌≡◌, ◌≤◌, ◌<◌, ◌-◌, length};
-ghost use Rattle.nop_types.specs.Logs.{Whole};
+ghost use Rattle.std.specs.Prelude.{◌≡◌, ◌≤◌, ◌<◌, ◌-◌};
+ghost use Rattle.nop_types.specs.Logs.{Trimmed, length_of};
 ghost use Rattle.replica_state.specs.State.{others, leader, leads, is_normal, may_append, drains};
 ghost use Rattle.replica_state.specs.State.{is_other, is_current, is_from_leader, is_to_leader, may_adopt};
 ghost use Rattle.replica_state.specs.State as words;
@@ -15,7 +15,7 @@ use sync_points::SyncPoints;
 use view_change::Changes;
 
 /// What a replica knows, apart from how its messages travel. `next` is the number of the request that it logs next, `base` how
-/// many entries its view started with, `asked` the slot that it asked for last (0 is none), and `heard` whether it heard of its
+/// many slots its view started with, `asked` the slot that it asked for last (0 is none), and `heard` whether it heard of its
 /// leader since the last tick Watch.
 #[derive(Drop)]
 pub struct ReplicaState {
@@ -74,36 +74,36 @@ impl ReplicaState {
 
     /// Whether the log has room for an entry, and there is a number for the one after it.
     pub fn may_append(&self) -> bool
-        ensures { result ≡ may_append Whole self.now }
+        ensures { result ≡ may_append Trimmed self.now }
     {
         self.log.has_room() && self.next.get() < NUMBER_END
     }
 
     /// Whether what stands in front of the receiver may be taken.
     pub fn drains(&self) -> bool
-        ensures { result ≡ drains Whole self.now }
+        ensures { result ≡ drains Trimmed self.now }
     {
         self.is_normal() && !self.waits() && self.log.has_room()
     }
 
-    /// How many entries a late replica is told: those that the view started with, and those that
+    /// How many slots a late replica is told: those that the view started with, and those that
     /// are synchronised.
     pub(crate) fn start_len(&self) -> u32
         requires { IsWithin self.now }
         ensures value { result ≡ start_len self.now }
         ensures low { self.now.base ≤ result }
-        ensures within { result ≤ length self.now.log.entries }
+        ensures within { result ≤ length_of Trimmed self.now.log }
     {
         self.base.max(self.sync.sync_point())
     }
 
-    /// The number of the request after the first `len` entries, which are no fewer than the view
+    /// The number of the request after the first `len` slots, which are no fewer than the view
     /// started with.
     pub(crate) fn number_after(&self, len: u32) -> u64
         requires within { IsWithin self.now }
         requires low { self.now.base ≤ len }
-        requires high { len ≤ length self.now.log.entries }
-        ensures value { result ≡ self.now.next - (length self.now.log.entries - len) }
+        requires high { len ≤ length_of Trimmed self.now.log }
+        ensures value { result ≡ self.now.next - (length_of Trimmed self.now.log - len) }
         ensures low { 1 ≤ result }
     {
         self.next.get() - u64::from(self.log.len() - len)
@@ -139,11 +139,11 @@ impl ReplicaState {
 
     /// Whether a replica adopts what a view starts with.
     pub fn may_adopt(&self, sender: u8, view: View, log: &Log) -> bool
-        ensures { result ≡ may_adopt Whole self.now sender view log.now }
+        ensures { result ≡ may_adopt Trimmed self.now sender view log.now }
     {
         sender == leader_of(view, self.config.replicas())
             && View::le(self.view, view)
             && (!view.is(self.view) || !self.is_normal())
-            && self.sync.sync_point() as usize <= log.entries().len()
+            && self.sync.sync_point() <= log.len()
     }
 }

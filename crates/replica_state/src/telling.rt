@@ -4,7 +4,7 @@ ghost use Rattle.nop_types.specs.declared.limits.TheConstants.{MAX_RESULT_BYTES}
 ghost use Rattle.nop_types.specs.declared.peer.Body.TheVariants.{SyncPrepare};
 ghost use Rattle.nop_types.specs.declared.request.Request.{Request};
 ghost use Rattle.nop_types.specs.Legality.{IsOf};
-ghost use Rattle.nop_types.specs.Logs.{Whole};
+ghost use Rattle.nop_types.specs.Logs.{Trimmed};
 ghost use Rattle.nop_types.specs.Ranges.{SlotFits, BodyFits};
 ghost use Rattle.peer_codec.specs.LogBodies.{with_log};
 ghost use Rattle.replica_state.specs.Sends.{message, to_replica, to_all};
@@ -94,7 +94,8 @@ impl ReplicaState {
     /// Tells a late replica what the view started with, and what is synchronised beyond that.
     pub fn tell_start(&self, replica: u8, sends: &mut Sends) -> Result<(), NoMemory>
         requires { IsWithin self.now }
-        ensures ok { OnOk result (sends.new ≡ sends.old ++ (resend_start Whole self.now replica).1) }
+        ensures ok { OnOk result (sends.new
+            ≡ sends.old ++ (resend_start Trimmed self.now replica).1) }
         ensures err { OnErr result (sends.new ≡ sends.old) }
     {
         let len = self.start_len();
@@ -108,7 +109,8 @@ impl ReplicaState {
     /// Tells a replica what is synchronised.
     pub fn tell_synced(&self, replica: u8, sends: &mut Sends) -> Result<(), NoMemory>
         requires { IsWithin self.now }
-        ensures ok { OnOk result (sends.new ≡ sends.old ++ (tell_synced Whole self.now replica).1) }
+        ensures ok { OnOk result (sends.new
+            ≡ sends.old ++ (tell_synced Trimmed self.now replica).1) }
         ensures err { OnErr result (sends.new ≡ sends.old) }
     {
         let log = self.log.first(self.sync.sync_point());

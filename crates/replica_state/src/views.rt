@@ -1,10 +1,9 @@
 ghost use Rattle.std.specs.Prelude.{◌≡◌, ◌≤◌, true, IsTrue, OnOk, OnErr, IfOk};
 ghost use Rattle.nop_types.specs.declared.limits.TheConstants.{NUMBER_END};
-ghost use Rattle.nop_types.specs.Logs.{Whole};
+ghost use Rattle.nop_types.specs.Logs.{Trimmed};
 ghost use Rattle.nop_types.specs.Configuration.{is_configuration};
 ghost use Rattle.nop_types.specs.Ranges.{StampedFits};
 ghost use Rattle.replica_state.specs.State.{opening};
-ghost use Rattle.replica_log.specs.Splices.{MayStay};
 ghost use Rattle.replica_state.specs.Moves.{left, entered, enter_as, own_change, adopted, begin_session, queue};
 
 use crate::{NextNumber, ReplicaState};
@@ -112,11 +111,10 @@ impl ReplicaState {
         Ok(())
     }
 
-    /// Takes part in a view from what it starts with. The first `kept` own entries stay.
-    pub fn take_part(&mut self, kept: u32, view: View, next: u64, log: Log)
-        requires stay { MayStay kept self.old.log log }
+    /// Takes part in a view from what it starts with.
+    pub fn take_part(&mut self, view: View, next: u64, log: Log)
         requires next { next ≤ NUMBER_END }
-        ensures { self.new ≡ adopted Whole self.old view next log }
+        ensures { self.new ≡ adopted Trimmed self.old view next log }
     {
         if self.receiver.session() < view.session {
             self.receiver.reset(view.session, next);
@@ -128,7 +126,7 @@ impl ReplicaState {
         self.status = Phase::Normal;
         self.last_normal = view;
         self.sync.raise(log.sync_point());
-        self.log.adopt(kept, log);
+        self.log.adopt(log);
         self.next.set(next);
         self.base = self.log.len();
     }

@@ -789,4 +789,45 @@ replica r2 up normal 0 2 2 0
 history 1 c0 1 5000016b000176
 history 2 c1 1 4700016b
 end
+----
+nopaxos 1 replicas 3 sequencers 1 clients 1
+submit c0 5000016b000176
+deliver 0 s0
+deliver 1 r0
+deliver 1 r1
+tick r0 sync
+deliver 4 r1
+deliver 5 r0
+deliver 2 c0
+deliver 3 c0
+submit c0 4700016b
+deliver 7 s0
+deliver 8 r2
+deliver 9 r0
+deliver 10 r2
+=>
+transcript 1 replicas 3 sequencers 1 clients 1
+submit c0 1 5000016b000176
+send 0 c0 s* request 25
+send 1 s0 r* stamped 37
+send 2 r0 c0 reply 36
+send 3 r1 c0 reply 32
+send 4 r0 r* fragment 57
+send 5 r1 r0 fragment 31
+send 6 r0 r* fragment 31
+accept c0 1 6e6f6e65
+submit c0 2 4700016b
+send 7 c0 s* request 22
+send 8 s0 r* stamped 34
+send 9 r2 r0 fragment 31
+send 10 r0 r2 fragment 71
+send 11 r2 r0 fragment 31
+send 12 r2 c0 reply 32
+replica r0 up normal 0 1 1 1
+entry r0 1 c0 1 5000016b000176
+replica r1 up normal 0 1 1 0
+replica r2 up normal 0 1 2 1
+entry r2 1 c0 1 5000016b000176
+history 1 c0 1 5000016b000176
+end
 ";

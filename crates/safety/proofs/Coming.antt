@@ -15,7 +15,7 @@ use Rattle.network.specs.Network.{Sent}
 use Rattle.world.specs.Seats.{Stimulus, Takes, Crashes}
 use Rattle.world.specs.WorldSteps.{tick_if, datagram_at, junk_of, stimulus_of}
 use Rattle.delivery.specs.Network.{MayCome}
-use Rattle.safety.specs.Shows.{bytes_of}
+use Rattle.safety.specs.Following.{bytes_of}
 use Rattle.safety.proofs.Outputs.{bytes_there}
 
 -- the input may come where these datagrams were sent; a crash brings nothing

@@ -26,12 +26,13 @@ use Rattle.safety.proofs.Sends.{AreOther, client_sends, sequencer_sends, control
 pub record NoFragments (more : List Sent) : Type 0 where
   pub each : (s : Sent) → Has more s → is_fragment (reading s.bytes) ≡ false
 
--- the world after the event has these datagrams more, and the same replicas
+-- the world after the event has these datagrams more, and the same replicas and archive
 pub record SentOthers (t : WorldState) (h : Happened) : Type 0 where
   pub more : List Sent
   pub none : NoFragments more
   pub sent : h.world.sent ≡ t.sent ++ more
   pub replicas : h.world.replicas ≡ t.replicas
+  pub archive : h.world.archive ≡ t.archive
 
 none_sent : NoFragments []
 none_sent = record { each = λ s h. absurd (Has-none s h) }
@@ -47,6 +48,7 @@ others_in from (outs.Send dest bytes ∷ rest) all = record {
 others_in from (outs.Submitted r ∷ rest) all = others_in from rest all
 others_in from (outs.Accepted client id result ∷ rest) all = others_in from rest all
 others_in from (outs.Busy client ∷ rest) all = others_in from rest all
+others_in from (outs.Trimmed first entries ∷ rest) all = others_in from rest all
 
 module _ {A : Type 0} (next : A → Given → A × List Out) (sends : (s : A) (g : Given) → AreOther (next s g).1) (from : Actor) where
   moved_others : (p : Seated A) (b : Bool) (what : Stimulus) → NoFragments (sends_by from (moved_if next b p what).1)
@@ -55,7 +57,8 @@ module _ {A : Type 0} (next : A → Given → A × List Out) (sends : (s : A) (g
   moved_others p false Crashes = none_sent
 
   seat_others : (t : WorldState) (act : Seated A × Did → Happened) (o : Option (Seated A)) (r : Result Stimulus Refusal) (h : Happened)
-      → ((x : Seated A × Did) → ((act x).world.sent ≡ t.sent ++ sends_by from x.1) × ((act x).world.replicas ≡ t.replicas))
+      → ((x : Seated A × Did) → ((act x).world.sent ≡ t.sent ++ sends_by from x.1)
+      × (((act x).world.replicas ≡ t.replicas) × ((act x).world.archive ≡ t.archive)))
       → then_at act (step_at next o r) ≡ Ok h → SentOthers t h
   seat_others t act None r h is e = absurd cc
   seat_others t act (Some p) (Err refusal) h is e = absurd cc
@@ -65,7 +68,8 @@ module _ {A : Type 0} (next : A → Given → A × List Out) (sends : (s : A) (g
         more = sends_by from (seat_step next p what).1;
         none = moved_others p p.crashed what;
         sent = (is (seat_step next p what)).0;
-        replicas = (is (seat_step next p what)).1;
+        replicas = (is (seat_step next p what)).1.0;
+        archive = (is (seat_step next p what)).1.1;
       })
 
 module _ {S : Type 0} (m : Meaning S) (t : WorldState) (h : Happened) where
@@ -73,11 +77,11 @@ module _ {S : Type 0} (m : Meaning S) (t : WorldState) (h : Happened) where
   actor_sends (actors.Replica i) r other e = absurd cc
   actor_sends (actors.Sequencer j) r other e =
       seat_others sequencer.next sequencer_sends (actors.Sequencer j) t (at_sequencer t j) (slice_get t.sequencers j) r h
-      (λ x. (refl, refl)) e
+      (λ x. (refl, (refl, refl))) e
   actor_sends (actors.Client k) r other e =
-      seat_others client.next client_sends (actors.Client k) t (at_client t k) (slice_get t.clients k) r h (λ x. (refl, refl)) e
+      seat_others client.next client_sends (actors.Client k) t (at_client t k) (slice_get t.clients k) r h (λ x. (refl, (refl, refl))) e
   actor_sends actors.Controller r other e =
-      seat_others controller.next controller_sends actors.Controller t (at_controller t) (Some t.controller) r h (λ x. (refl, refl)) e
+      seat_others controller.next controller_sends actors.Controller t (at_controller t) (Some t.controller) r h (λ x. (refl, (refl, refl))) e
 
   pub others_send : (e : Event) → is_replica (actor_of e) ≡ false → step m t e ≡ Ok h → SentOthers t h
   unfolding step

@@ -180,7 +180,7 @@ module _ {A : Type 0} (next : A → Given → A × List Out) where
 
 -- ---- the worlds afterwards
 
-module _ {S : Type 0} (m : Meaning S) (t : WorldState) (ls : List Line) (w : WholeWorld) (f : Alike t ls w) where
+module _ {S : Type 0} (m : Meaning S) (t : WorldState) (ls : List Line) (w : WholeWorld) (f : Alike m t ls w) where
   pub lines_go_on : (more : List Line) (said : List Line) → filter is_spoken more ≡ said → filter is_spoken (ls ++ more) ≡ w.lines ++ said
   lines_go_on more said e = filter-append is_spoken ls more
       ∙ ap (λ (x : List Line). x ++ filter is_spoken more) f.lines ∙ ap (λ (x : List Line). w.lines ++ x) e
@@ -190,7 +190,7 @@ module _ {S : Type 0} (m : Meaning S) (t : WorldState) (ls : List Line) (w : Who
       ∙ ap (λ (x : List Sent). x ++ other_datagrams more) f.sent ∙ ap (λ (x : List Sent). w.sent ++ x) e
 
   abbrev After : Happened → WholeWorld → Type 0
-  After h v = Alike h.world (ls ++ h.lines) v
+  After h v = Alike m h.world (ls ++ h.lines) v
 
   client_after : (i : ℕ) (x : Seated ClientState × Did) (y : Seated ClientState × List Out) → SameSeat client.next (actors.Client i) x y
       → After (at_client t i x) (whole.gave w (actors.Client i) y.1 (record w { clients = slice_set w.clients i y.0 }))
@@ -289,7 +289,7 @@ module _ {S : Type 0} (m : Meaning S) (t : WorldState) (ls : List Line) (w : Who
 
 -- what comes to an actor that is no replica
 pub others_follow : {S : Type 0} (m : Meaning S) (t : WorldState) (ls : List Line) (w : WholeWorld) (e : Event) (h : Happened)
-    → Alike t ls w → is_replica (actor_of e) ≡ false → step m t e ≡ Ok h
-    → Alike h.world (ls ++ h.lines) (whole_step m w (actor_of e) (brought t e))
+    → Alike m t ls w → is_replica (actor_of e) ≡ false → step m t e ≡ Ok h
+    → Alike m h.world (ls ++ h.lines) (whole_step m w (actor_of e) (brought t e))
 unfolding step
 others_follow m t ls w e h f other at = by_actor m t ls w f e (actor_of e) refl other h at

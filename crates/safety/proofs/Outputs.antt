@@ -8,7 +8,7 @@ use Rattle.nop_types.specs.Lists.{Has}
 use Rattle.network.specs.Network.{Sent, sends_of}
 use Rattle.delivery.specs.Network.{bytes_in}
 use Rattle.whole_world.proofs.Mapped.{Has-map}
-use Rattle.safety.specs.Shows.{bytes_of}
+use Rattle.safety.specs.Following.{bytes_of}
 
 pub bytes_of_sends : (from : Actor) (xs : List Out) → bytes_of (sends_of from xs) ≡ bytes_in xs
 bytes_of_sends from [] = refl
@@ -16,6 +16,7 @@ bytes_of_sends from (outs.Send dest bytes ∷ xs) = ap (λ (t : List (List ℕ))
 bytes_of_sends from (outs.Submitted r ∷ xs) = bytes_of_sends from xs
 bytes_of_sends from (outs.Accepted client id result ∷ xs) = bytes_of_sends from xs
 bytes_of_sends from (outs.Busy client ∷ xs) = bytes_of_sends from xs
+bytes_of_sends from (outs.Trimmed first entries ∷ xs) = bytes_of_sends from xs
 
 -- the bytes of the network after a step
 pub bytes_after : (sent : List Sent) (from : Actor) (xs : List Out) → bytes_of (sent ++ sends_of from xs) ≡ bytes_of sent ++ bytes_in xs

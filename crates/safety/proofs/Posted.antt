@@ -25,7 +25,7 @@ use Rattle.fragments.proofs.Limits.{cut_fragments_fit}
 use Rattle.replica_core.proofs.Lengths.{message_is_cut}
 use Rattle.replica_core.specs.Posting.{message_outs, posted}
 use Rattle.replica_state.specs.declared.sending.Sending.{Sending}
-use Rattle.replica_state.specs.declared.sending.Sending.TheVariants.{ToClient, ToReplicas}
+use Rattle.replica_state.specs.declared.sending.Sending.TheVariants.{ToClient, ToReplicas, Trims}
 use Rattle.replica_state.specs.Sends.{SendingFits, message_count}
 use Rattle.network.specs.Network.{Sent, sends_of}
 use Rattle.network.proofs.LineLemmas.{sends_of-append}
@@ -90,3 +90,4 @@ posted_others from number (ToReplicas dest p ∷ sends) fits high =
     ∙ ap (λ (xs : List Sent). xs ++ other_datagrams (sends_of from rest))
     (message_gone from (number + 1) dest p fits.0 (omega arith) (omega (arith, high)))
     ∙ posted_others from (number + 1) sends fits.1 (omega (arith, high))
+posted_others from number (Trims first entries ∷ sends) fits high = posted_others from number sends fits.1 high

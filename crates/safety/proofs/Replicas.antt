@@ -1,9 +1,13 @@
 -- An event of a replica: its row is that of the whole replica, and what it posts are the letters.
 use Rattle.std.proofs.Common.{◌≡◌, ℕ, zero, suc, ◌+◌, Bool, true, false, List, [], ◌∷◌, ◌++◌, length, Option, Some, None}
 use Rattle.std.proofs.Common.{refl, sym, ap, subst, ◌∙◌, arith}
-use Rattle.std.specs.Prelude.{Result, Ok, Err, ◌&&◌, not, filter, map, slice_get, slice_set, nat_lt}
+use Rattle.std.specs.Prelude.{Result, Ok, Err, ◌&&◌, ◌||◌, ◌<◌, ◌^◌, not, filter, map, cond, slice_get, slice_set, nat_lt}
+use Rattle.std.specs.List.{AllByRecursion}
+use Rattle.std.specs.Option.{option_map}
+use Rattle.replica_state.specs.Sends.{SendingFits}
+use Rattle.delivery.specs.Sends.{IsBy}
 use Rattle.std.proofs.lemmas.Bool.{eq-eqb}
-use Rattle.std.proofs.lemmas.List.{append-nil}
+use Rattle.std.proofs.lemmas.List.{append-nil, map-append}
 use Rattle.nop_types.specs.Given.{Given, Packet, Ticked}
 use Rattle.nop_types.specs.Lines.{Line}
 use Rattle.nop_types.specs.Meaning.{Meaning}
@@ -28,14 +32,17 @@ use Rattle.fragments.specs.Joining.{Waiting, taken}
 use Rattle.replica_state.specs.State.{is_other}
 use Rattle.replica_state.specs.Sends.{Effect, still, message_count}
 use Rattle.replica_state.specs.declared.sending.Sending.{Sending}
-use Rattle.replica_state.specs.declared.sending.Sending.TheVariants.{ToClient, ToReplicas}
+use Rattle.replica_state.specs.declared.sending.Sending.TheVariants.{ToClient, ToReplicas, Trims}
 use Rattle.replica_state.specs.declared.state.ReplicaState.{ReplicaState}
 use Rattle.replica_rows.specs.Messages as messages
 use Rattle.replica_core.specs.declared.replica.TheConstants.{LAST_MESSAGE}
-use Rattle.replica_core.specs.Posting.{posted}
+use Rattle.replica_core.specs.Posting.{posted, reply_out}
 use Rattle.replica_core.specs.ReplicaSteps as replica
 use Rattle.replica_core.specs.ReplicaSteps.{Replica}
-use Rattle.replica_rows.specs.Within.{ResultsShort}
+use Rattle.nop_types.specs.Bounds.{Bounds}
+use Rattle.nop_types.specs.Logs.{Trimmed}
+use Rattle.nop_types.specs.declared.request.Entry.{Entry}
+use Rattle.trimmed_rows.specs.Trimmed.{trimmed, trimmed_peer, trimmed_sending, trimmed_effect, trimmed_arrival}
 use Rattle.delivery.specs.Network.{MayCome}
 use Rattle.delivery.proofs.Steps.{step_delivers}
 use Rattle.schedule_text.specs.Ticks.{takes_tick}
@@ -46,13 +53,17 @@ use Rattle.world.specs.Seats.{Seated, Stimulus, Takes, Crashes, seated, moved_if
 use Rattle.world.specs.WorldSteps.{WorldState, Happened, Refusal, actor_of, tick_if, datagram_at, junk_of, stimulus_of, then_at, step_at}
 use Rattle.world.specs.WorldSteps.{step_of, step, at_replica}
 use Rattle.world.proofs.Places.{slice_set-found}
-use Rattle.safety.specs.Following.{brought, sent_to, datagram_to, fragment_at, fragment_if, completes, is_spoken, is_fragment, other_datagrams, plain}
-use Rattle.safety.specs.Shows.{bytes_of}
-use Rattle.safety.proofs.Beside.{Alike, Travels, Beside, JoinsLetter, whole_of}
+use Rattle.safety.specs.Following.{brought, sent_to, datagram_to, fragment_at, fragment_if, completes, is_spoken, is_fragment, other_datagrams}
+use Rattle.safety.specs.Following.{plain, trimmed_seat, trimmed_letter}
+use Rattle.safety.specs.Following.{bytes_of}
+use Rattle.safety.proofs.Beside.{Alike, Travels, JoinsTrimmed, real_letters}
 use Rattle.safety.proofs.Coming.{AllMayCome}
-use Rattle.whole_world.proofs.RowRanges.{RowFits}
+use Rattle.whole_world.proofs.Mapped.{slice_get-from_map}
+use Rattle.whole_world.specs.Archives.{with_sends, row_sends}
+use Rattle.whole_world.specs.Trimming.{RowsTrim}
+use Rattle.world.specs.Archive.{with_entries, with_outs, archived}
 use Rattle.whole_world.specs.Whole as whole
-use Rattle.whole_world.specs.Whole.{WholeReplica, WholeWorld, Letter, Brings, given_if, junk_if, is_crash, lines_of}
+use Rattle.whole_world.specs.Whole.{WholeReplica, WholeWorld, Letter, Brings, given_if, junk_if, is_crash, lines_of, letters_in, replies_in}
 use Rattle.whole_world.specs.Whole.{whole_step, step_replica, effect_of, arrival_of, arrival_given, arrival_read, told_if}
 use Rattle.safety.proofs.Others.{other_was_sent, lines_go_on, sends_go_on}
 use Rattle.safety.proofs.Posted.{posted_others}
@@ -74,6 +85,70 @@ plain_found [] i p e = absurd cc
 plain_found (x ∷ ps) zero p e = let same : x ≡ p = cc in ap (λ (y : Seated Replica). Some (plain y)) same
 plain_found (x ∷ ps) (suc i) p e = plain_found ps i p e
 
+module _ {S : Type 0} (m : Meaning S) where
+  pub trimmed_set : (qs : List (Seated WholeReplica)) (i : ℕ) (q : Seated WholeReplica)
+      → map (trimmed_seat m) (slice_set qs i q) ≡ slice_set (map (trimmed_seat m) qs) i (trimmed_seat m q)
+  trimmed_set [] i q = refl
+  trimmed_set (x ∷ qs) zero q = refl
+  trimmed_set (x ∷ qs) (suc i) q = ap (λ (rs : List (Seated WholeReplica)). trimmed_seat m x ∷ rs) (trimmed_set qs i q)
+
+  -- the whole replica at the place of a real one
+  pub record WholeSeat (qs : List (Seated WholeReplica)) (i : ℕ) (p : Seated Replica) : Type 0 where
+    pub seat : Seated WholeReplica
+    pub there : slice_get qs i ≡ Some seat
+    pub same : plain p ≡ trimmed_seat m seat
+
+  pub whole_seat : (ps : List (Seated Replica)) (qs : List (Seated WholeReplica)) (i : ℕ) (p : Seated Replica)
+      → map plain ps ≡ map (trimmed_seat m) qs → slice_get ps i ≡ Some p → WholeSeat qs i p
+  whole_seat ps qs i p alike e =
+      let x = slice_get-from_map (trimmed_seat m) qs i (plain p)
+      (ap (λ (rs : List (Seated WholeReplica)). slice_get rs i) (sym alike) ∙ plain_found ps i p e) in
+      record { seat = x.from; there = x.there; same = sym x.is }
+
+-- ---- what is trimmed of what a row sends
+
+module _ {S : Type 0} (m : Meaning S) where
+  trimmed_count : (xs : List Sending) → message_count (map (trimmed_sending m) xs) ≡ message_count xs
+  trimmed_count [] = refl
+  trimmed_count (ToClient r ∷ xs) = trimmed_count xs
+  trimmed_count (ToReplicas dest p ∷ xs) = ap (λ (n : ℕ). n + 1) (trimmed_count xs)
+  trimmed_count (Trims first entries ∷ xs) = trimmed_count xs
+
+  trimmed_replies : (xs : List Sending) → replies_in (map (trimmed_sending m) xs) ≡ replies_in xs
+  trimmed_replies [] = refl
+  trimmed_replies (ToClient r ∷ xs) = ap (λ (os : List Out). reply_out r ∷ os) (trimmed_replies xs)
+  trimmed_replies (ToReplicas dest p ∷ xs) = trimmed_replies xs
+  trimmed_replies (Trims first entries ∷ xs) = trimmed_replies xs
+
+  trimmed_letters : (n : ℕ) (xs : List Sending) → letters_in n (map (trimmed_sending m) xs) ≡ map (trimmed_letter m) (letters_in n xs)
+  trimmed_letters n [] = refl
+  trimmed_letters n (ToClient r ∷ xs) = trimmed_letters n xs
+  trimmed_letters n (ToReplicas dest p ∷ xs) =
+      ap (λ (ls : List Letter). record { number = n + 1; dest = dest; peer = trimmed_peer m p } ∷ ls) (trimmed_letters (n + 1) xs)
+  trimmed_letters n (Trims first entries ∷ xs) = trimmed_letters n xs
+
+  trimmed_archive : (archive : List Entry) (xs : List Sending) → with_sends archive (map (trimmed_sending m) xs) ≡ with_sends archive xs
+  trimmed_archive archive [] = refl
+  trimmed_archive archive (ToClient r ∷ xs) = trimmed_archive archive xs
+  trimmed_archive archive (ToReplicas dest p ∷ xs) = trimmed_archive archive xs
+  trimmed_archive archive (Trims first entries ∷ xs) = trimmed_archive (with_entries archive first entries.entries) xs
+
+-- ---- what is posted adds to the archive what was sent
+
+fragments_add_nothing : (archive : List Entry) (dest : Dest) (fs : List Fragment) (more : List Out)
+    → with_outs archive (cutting.sends_of dest fs ++ more) ≡ with_outs archive more
+fragments_add_nothing archive dest [] more = refl
+fragments_add_nothing archive dest (f ∷ fs) more = fragments_add_nothing archive dest fs more
+
+posted_adds : (archive : List Entry) (n : ℕ) (sends : List Sending) → with_outs archive (posted n sends) ≡ with_sends archive sends
+unfolding posted
+posted_adds archive n [] = refl
+posted_adds archive n (ToClient r ∷ sends) = posted_adds archive n sends
+posted_adds archive n (ToReplicas dest p ∷ sends) =
+    fragments_add_nothing archive dest (cutting.fragments_of p.sender (n + 1) (peer.spelling p)) (posted (n + 1) sends)
+    ∙ posted_adds archive (n + 1) sends
+posted_adds archive n (Trims first entries ∷ sends) = posted_adds (with_entries archive first entries.entries) n sends
+
 -- ---- what is posted has no lines
 
 lines_append : (xs ys : List Out) → lines_of xs ≡ [] → lines_of ys ≡ [] → lines_of (xs ++ ys) ≡ []
@@ -82,6 +157,7 @@ lines_append (outs.Send dest bytes ∷ xs) ys a b = lines_append xs ys a b
 lines_append (outs.Submitted r ∷ xs) ys a b = absurd cc
 lines_append (outs.Accepted client id result ∷ xs) ys a b = absurd cc
 lines_append (outs.Busy client ∷ xs) ys a b = absurd cc
+lines_append (outs.Trimmed first entries ∷ xs) ys a b = lines_append xs ys a b
 
 fragments_silent : (dest : Dest) (fs : List Fragment) → lines_of (cutting.sends_of dest fs) ≡ []
 fragments_silent dest [] = refl
@@ -94,6 +170,7 @@ posted_silent n (ToClient r ∷ sends) = posted_silent n sends
 posted_silent n (ToReplicas dest p ∷ sends) =
     lines_append (cutting.sends_of dest (cutting.fragments_of p.sender (n + 1) (peer.spelling p))) (posted (n + 1) sends)
     (fragments_silent dest (cutting.fragments_of p.sender (n + 1) (peer.spelling p))) (posted_silent (n + 1) sends)
+posted_silent n (Trims first entries ∷ sends) = posted_silent n sends
 
 -- ---- a row
 
@@ -108,39 +185,53 @@ unfolding posted
 rests s t a b = record { state = a; messages = b ∙ (let more : s.messages ≡ s.messages + 0 = omega arith in more); outs = refl }
 
 module _ {S : Type 0} (m : Meaning S) where
+  -- a row over trimmed logs, while message numbers are left
+  abbrev pub real_if : Bool → ReplicaState → messages.Arrival → Effect
+  real_if true s a = messages.arrive m Trimmed s a
+  real_if false s a = still s
+
+  abbrev pub real_effect : Replica → Option messages.Arrival → Effect
+  real_effect s None = still s.state
+  real_effect s (Some a) = real_if (nat_lt s.messages LAST_MESSAGE) s.state a
+
+  -- what comes in the whole world, with its log trimmed
+  abbrev pub real_arrival : WholeWorld → Brings → Option messages.Arrival
+  real_arrival w g = option_map (trimmed_arrival m) (arrival_of w g)
+
   row_if_does : (b : Bool) (s : Replica) (waiting : List Waiting) (a : messages.Arrival)
-      → Does s (replica.row_if m b (record s { reassembly = waiting }) a) (whole.row_if m b s.state a)
+      → Does s (replica.row_if m b (record s { reassembly = waiting }) a) (real_if b s.state a)
   row_if_does true s waiting a = record { state = refl; messages = refl; outs = refl }
   row_if_does false s waiting a = rests s (record s { reassembly = waiting }) refl refl
 
   row_does : (s : Replica) (waiting : List Waiting) (a : messages.Arrival)
-      → Does s (replica.row m (record s { reassembly = waiting }) a) (effect_of m (whole_of s) (Some a))
+      → Does s (replica.row m (record s { reassembly = waiting }) a) (real_effect s (Some a))
   row_does s waiting a = row_if_does (nat_lt s.messages LAST_MESSAGE) s waiting a
 
   module _ (w : WholeWorld) (s : Replica) where
     abbrev DoesOf : Replica × List Out → Brings → Type 0
-    DoesOf result g = Does s result (effect_of m (whole_of s) (arrival_of w g))
+    DoesOf result g = Does s result (real_effect s (real_arrival w g))
 
-    letter_does : (f : Fragment) (bytes : List ℕ) (waiting : List Waiting) → JoinsLetter w f bytes
+    letter_does : (f : Fragment) (bytes : List ℕ) (waiting : List Waiting) → JoinsTrimmed m w f bytes
         → DoesOf (replica.read m (record s { reassembly = waiting }) f.replica (peers.reading bytes)) (whole.Message f.replica f.message)
     letter_does f bytes waiting j =
-        let told : arrival_of w (whole.Message f.replica f.message) ≡ Some (messages.Told j.peer) =
-        ap told_if j.letter in
+        let p : Peer = trimmed_peer m j.peer in
+        let told : real_arrival w (whole.Message f.replica f.message) ≡ Some (messages.Told p) =
+        ap (λ (o : Option Peer). option_map (trimmed_arrival m) (told_if o)) j.letter in
         let took : replica.read m (record s { reassembly = waiting }) f.replica (peers.reading bytes)
-        ≡ replica.row m (record s { reassembly = waiting }) (messages.Told j.peer) =
+        ≡ replica.row m (record s { reassembly = waiting }) (messages.Told p) =
         ap (λ (r : Result Peer BadPeer). replica.read m (record s { reassembly = waiting }) f.replica r) j.read
-        ∙ ap (λ (x : Bool). replica.of_sender_if m x (record s { reassembly = waiting }) j.peer) (eq-eqb j.peer.sender f.replica j.sender) in
+        ∙ ap (λ (x : Bool). replica.of_sender_if m x (record s { reassembly = waiting }) p) (eq-eqb j.peer.sender f.replica j.sender) in
         subst (λ (r : Replica × List Out). DoesOf r (whole.Message f.replica f.message)) (sym took)
-        (subst (λ (o : Option messages.Arrival). Does s (replica.row m (record s { reassembly = waiting }) (messages.Told j.peer))
-        (effect_of m (whole_of s) o)) (sym told) (row_does s waiting (messages.Told j.peer)))
+        (subst (λ (o : Option messages.Arrival). Does s (replica.row m (record s { reassembly = waiting }) (messages.Told p))
+        (real_effect s o)) (sym told) (row_does s waiting (messages.Told p)))
 
     joined_does : (f : Fragment) (waiting : List Waiting) (o : Option (List ℕ))
-        → ((bytes : List ℕ) → o ≡ Some bytes → JoinsLetter w f bytes)
+        → ((bytes : List ℕ) → o ≡ Some bytes → JoinsTrimmed m w f bytes)
         → DoesOf (replica.joined m (record s { reassembly = waiting }) f.replica o) (completes f o)
     joined_does f waiting None j = rests s (record s { reassembly = waiting }) refl refl
     joined_does f waiting (Some bytes) j = letter_does f bytes waiting (j bytes refl)
 
-    fragment_if_does : (f : Fragment) (c : Bool) → ((bytes : List ℕ) → (taken s.reassembly f).1 ≡ Some bytes → JoinsLetter w f bytes)
+    fragment_if_does : (f : Fragment) (c : Bool) → ((bytes : List ℕ) → (taken s.reassembly f).1 ≡ Some bytes → JoinsTrimmed m w f bytes)
         → DoesOf (replica.fragment_if m c s f) (fragment_if c s f)
     fragment_if_does f true j = joined_does f (taken s.reassembly f).0 (taken s.reassembly f).1 j
     fragment_if_does f false j = rests s s refl refl
@@ -150,11 +241,11 @@ module _ {S : Type 0} (m : Meaning S) where
         → arrival_of w g ≡ arrival_read (reading bytes) → DoesOf (replica.on_datagram m s r) g
     read_does g bytes (Ok (datagrams.Fragment f)) is c a = absurd cc
     read_does g bytes r is c a =
-        subst (λ (o : Option messages.Arrival). Does s (replica.on_datagram m s r) (effect_of m (whole_of s) o))
+        subst (λ (o : Option messages.Arrival). Does s (replica.on_datagram m s r) (real_effect s (option_map (trimmed_arrival m) o)))
         (sym (a ∙ ap arrival_read is)) (by r c)
       where
         by : (x : Result Datagram Bad) → is_fragment x ≡ false
-            → Does s (replica.on_datagram m s x) (effect_of m (whole_of s) (arrival_read x))
+            → Does s (replica.on_datagram m s x) (real_effect s (option_map (trimmed_arrival m) (arrival_read x)))
         by (Ok (datagrams.Stamped p)) d = row_does s s.reassembly (messages.Packet p)
         by (Ok (datagrams.Fragment f)) d = absurd cc
         by (Ok (datagrams.Request q)) d = rests s s refl refl
@@ -164,6 +255,12 @@ module _ {S : Type 0} (m : Meaning S) where
         by (Ok (datagrams.Ping j n)) d = rests s s refl refl
         by (Ok (datagrams.Pong j n)) d = rests s s refl refl
         by (Err bad) d = rests s s refl refl
+
+-- what a row sends is in its ranges, under the replica's own number, and finds message numbers
+pub record RowFits {S : Type 0} (m : Meaning S) (i : ℕ) (s : Replica) (e : Effect) : Type 0 where
+  pub sends : AllByRecursion SendingFits e.1
+  pub by : AllByRecursion (IsBy i) e.1
+  pub high : s.messages + message_count e.1 < 2 ^ 64
 
 -- ---- by the event
 
@@ -175,7 +272,7 @@ fragment_is : (c : Bool) (s : Replica) (f : Fragment) → is_crash (fragment_if 
 fragment_is true s f = completes_is f (taken s.reassembly f).1
 fragment_is false s f = refl
 
-module _ {S : Type 0} (m : Meaning S) (t : WorldState) (ls : List Line) (v : WholeWorld) (follows : Alike t ls v) (i : ℕ)
+module _ {S : Type 0} (m : Meaning S) (t : WorldState) (ls : List Line) (v : WholeWorld) (follows : Alike m t ls v) (i : ℕ)
     (p : Seated Replica) (found : slice_get t.replicas i ≡ Some p) where
   abbrev s : Replica
   s = p.state
@@ -183,10 +280,10 @@ module _ {S : Type 0} (m : Meaning S) (t : WorldState) (ls : List Line) (v : Who
   -- what fragments complete here is the letter of their sender and number
   abbrev pub Joins : Type 0
   Joins = (k : ℕ) (x : Sent) (f : Fragment) (bytes : List ℕ) → slice_get t.sent k ≡ Some x → reading x.bytes ≡ Ok (datagrams.Fragment f)
-      → (taken s.reassembly f).1 ≡ Some bytes → JoinsLetter v f bytes
+      → (taken s.reassembly f).1 ≡ Some bytes → JoinsTrimmed m v f bytes
 
   abbrev Goes : Given → Brings → Type 0
-  Goes g x = (is_crash x ≡ false) × Does s (replica.next m s g) (effect_of m (whole_of s) (arrival_of v x))
+  Goes g x = (is_crash x ≡ false) × Does s (replica.next m s g) (real_effect m s (real_arrival m v x))
 
   module _ (live : p.crashed ≡ false) where
     bytes_go : (x : Brings) (bytes : List ℕ) (r : Result Datagram Bad) → reading bytes ≡ r → is_fragment r ≡ false → is_crash x ≡ false
@@ -194,7 +291,7 @@ module _ {S : Type 0} (m : Meaning S) (t : WorldState) (ls : List Line) (v : Who
     unfolding replica.next
     bytes_go x bytes r is c crash a = (
       crash,
-      subst (λ (y : Result Datagram Bad). Does s (replica.on_datagram m s y) (effect_of m (whole_of s) (arrival_of v x)))
+      subst (λ (y : Result Datagram Bad). Does s (replica.on_datagram m s y) (real_effect m s (real_arrival m v x)))
           (sym is) (read_does m v s x bytes r is c a),
     )
 
@@ -206,7 +303,7 @@ module _ {S : Type 0} (m : Meaning S) (t : WorldState) (ls : List Line) (v : Who
         (other_was_sent t.sent v.sent k x follows.sent at (ap is_fragment is ∙ c)))
 
     fragment_goes : (x : Sent) (f : Fragment) → reading x.bytes ≡ Ok (datagrams.Fragment f)
-        → ((bytes : List ℕ) → (taken s.reassembly f).1 ≡ Some bytes → JoinsLetter v f bytes)
+        → ((bytes : List ℕ) → (taken s.reassembly f).1 ≡ Some bytes → JoinsTrimmed m v f bytes)
         → Goes (Packet x.bytes) (datagram_to t (actors.Replica i) x.bytes (Ok (datagrams.Fragment f)))
     unfolding replica.next replica.fragment
     fragment_goes x f is joins =
@@ -216,13 +313,13 @@ module _ {S : Type 0} (m : Meaning S) (t : WorldState) (ls : List Line) (v : Who
         subst (λ (y : Brings). Goes (Packet x.bytes) y) (sym here) (
           fragment_is (is_other s.state f.replica) s f,
           subst (λ (y : Result Datagram Bad). Does s (replica.on_datagram m s y)
-              (effect_of m (whole_of s) (arrival_of v (fragment_if (is_other s.state f.replica) s f)))) (sym is)
+              (real_effect m s (real_arrival m v (fragment_if (is_other s.state f.replica) s f)))) (sym is)
               (fragment_if_does m v s f (is_other s.state f.replica) joins),
         )
 
     packet_goes : (k : ℕ) (x : Sent) → slice_get t.sent k ≡ Some x → (r : Result Datagram Bad) → reading x.bytes ≡ r
         → ((f : Fragment) (bytes : List ℕ) → reading x.bytes ≡ Ok (datagrams.Fragment f) → (taken s.reassembly f).1 ≡ Some bytes
-        → JoinsLetter v f bytes) → Goes (Packet x.bytes) (datagram_to t (actors.Replica i) x.bytes r)
+        → JoinsTrimmed m v f bytes) → Goes (Packet x.bytes) (datagram_to t (actors.Replica i) x.bytes r)
     packet_goes k x at (Ok (datagrams.Fragment f)) is joins = fragment_goes x f is (λ bytes. joins f bytes is)
     packet_goes k x at (Ok (datagrams.Stamped q)) is joins = equal_goes k x at (Ok (datagrams.Stamped q)) is refl
     packet_goes k x at (Ok (datagrams.Request q)) is joins = equal_goes k x at (Ok (datagrams.Request q)) is refl
@@ -235,7 +332,7 @@ module _ {S : Type 0} (m : Meaning S) (t : WorldState) (ls : List Line) (v : Who
 
     sent_goes : (k : ℕ) (o : Option Sent) → slice_get t.sent k ≡ o → (g : Given) → datagram_at k (length t.sent) o ≡ Ok (Takes g)
         → ((x : Sent) (f : Fragment) (bytes : List ℕ) → slice_get t.sent k ≡ Some x → reading x.bytes ≡ Ok (datagrams.Fragment f)
-        → (taken s.reassembly f).1 ≡ Some bytes → JoinsLetter v f bytes) → Goes g (sent_to t (actors.Replica i) o)
+        → (taken s.reassembly f).1 ≡ Some bytes → JoinsTrimmed m v f bytes) → Goes g (sent_to t (actors.Replica i) o)
     sent_goes k None at g is joins = absurd cc
     sent_goes k (Some x) at g is joins =
         let same : Packet x.bytes ≡ g = cc in
@@ -294,105 +391,160 @@ module _ {S : Type 0} (m : Meaning S) (t : WorldState) (ls : List Line) (v : Who
 
   -- ---- the worlds afterwards
 
-  module _ (short : ResultsShort m) (travels : Travels t.sent t.replicas v.letters) where
+  module _ (bounds : Bounds m Trimmed) (trims : RowsTrim m v) (carried : Travels t.sent t.replicas (real_letters m v))
+      (q : Seated WholeReplica) (there : slice_get v.replicas i ≡ Some q) (same : plain p ≡ trimmed_seat m q) where
     abbrev from : Actor
     from = actors.Replica i
 
-    abbrev After : Happened → WholeWorld → Type 0
-    After h u = Beside h.world (ls ++ h.lines) u
+    -- both worlds after an event, and what was added to the archive
+    pub record After (h : Happened) (u : WholeWorld) (sends : List Sending) : Type 0 where
+      pub alike : Alike m h.world (ls ++ h.lines) u
+      pub travels : Travels h.world.sent h.world.replicas (real_letters m u)
+      pub archive : h.world.archive ≡ with_sends t.archive sends
 
-    abbrev row_of : Event → Effect
-    row_of e = effect_of m (whole_of s) (arrival_of v (brought t e))
+    abbrev pub row_of : Event → Effect
+    row_of e = effect_of m q.state (arrival_of v (brought t e))
 
-    set_plain : (x : Seated Replica) (q : Seated WholeReplica) → plain x ≡ q
-        → map plain (slice_set t.replicas i x) ≡ slice_set v.replicas i q
-    set_plain x q e = plain_set t.replicas i x
+    abbrev pub real_of : Event → Effect
+    real_of e = real_effect m s (real_arrival m v (brought t e))
+
+    -- the row over the trimmed log is that over the whole one, trimmed
+    state_is : s.state ≡ trimmed m q.state.state
+    state_is = ap (λ (x : Seated WholeReplica). x.state.state) same
+
+    count_is : s.messages ≡ q.state.messages
+    count_is = ap (λ (x : Seated WholeReplica). x.state.messages) same
+
+    row_trims : (e : Event) (o : Option messages.Arrival) → arrival_of v (brought t e) ≡ o
+        → real_effect m s (option_map (trimmed_arrival m) o) ≡ trimmed_effect m (effect_of m q.state o)
+    row_trims e None is = ap (λ (x : ReplicaState). still x) state_is
+    row_trims e (Some a) is =
+        ap (λ (x : ReplicaState). real_if m (nat_lt s.messages LAST_MESSAGE) x (trimmed_arrival m a)) state_is
+        ∙ ap (λ (n : ℕ). real_if m (nat_lt n LAST_MESSAGE) (trimmed m q.state.state) (trimmed_arrival m a)) count_is
+        ∙ by (nat_lt q.state.messages LAST_MESSAGE)
+      where
+        by : (b : Bool) → real_if m b (trimmed m q.state.state) (trimmed_arrival m a) ≡ trimmed_effect m (whole.row_if m b q.state.state a)
+        by true = trims i q (brought t e) a there is
+        by false = refl
+
+    pub real_is : (e : Event) → real_of e ≡ trimmed_effect m (row_of e)
+    real_is e = row_trims e (arrival_of v (brought t e)) refl
+
+    set_same : (x : Seated Replica) (y : Seated WholeReplica) → plain x ≡ trimmed_seat m y
+        → map plain (slice_set t.replicas i x) ≡ map (trimmed_seat m) (slice_set v.replicas i y)
+    set_same x y e = plain_set t.replicas i x
         ∙ ap (λ (qs : List (Seated WholeReplica)). slice_set qs i (plain x)) follows.replicas
-        ∙ ap (λ (y : Seated WholeReplica). slice_set v.replicas i y) e
+        ∙ ap (λ (z : Seated WholeReplica). slice_set (map (trimmed_seat m) v.replicas) i z) e
+        ∙ sym (trimmed_set m v.replicas i y)
 
-    -- where the real replica is x, and the whole ones are plain
+    -- where the real replica is x
     settles : (x : Seated Replica × Did) (qs : List (Seated WholeReplica)) (more : List Sent) (letters : List Letter)
-        → map plain (slice_set t.replicas i x.0) ≡ qs → other_datagrams (sends_by from x.1) ≡ more
-        → filter is_spoken (lines_by from (length t.sent) x.1) ≡ [] → Travels (t.sent ++ sends_by from x.1) (slice_set t.replicas i x.0) letters
-        → After (at_replica t i x) (record v { replicas = qs; sent = v.sent ++ more; letters = letters })
-    settles x qs more letters same sent silent carries = record {
+        (sends : List Sending)
+        → map plain (slice_set t.replicas i x.0) ≡ map (trimmed_seat m) qs → other_datagrams (sends_by from x.1) ≡ more
+        → filter is_spoken (lines_by from (length t.sent) x.1) ≡ []
+        → Travels (t.sent ++ sends_by from x.1) (slice_set t.replicas i x.0) (map (trimmed_letter m) letters)
+        → archived t.archive x.1 ≡ with_sends t.archive sends
+        → After (at_replica t i x) (record v { replicas = qs; sent = v.sent ++ more; letters = letters }) sends
+    settles x qs more letters sends seats sent silent carries archive = record {
       alike = record {
         lines = lines_go_on m t ls v follows (lines_by from (length t.sent) x.1) [] silent ∙ append-nil v.lines;
         sent = sends_go_on m t ls v follows (sends_by from x.1) more sent;
         config = follows.config;
-        replicas = same;
+        replicas = seats;
         sequencers = follows.sequencers;
         clients = follows.clients;
         controller = follows.controller;
       };
       travels = carries;
+      archive = archive;
     }
 
-    -- the whole world where nothing is sent
-    nothing_more : (x : Seated Replica) (did : Did) (qs : List (Seated WholeReplica)) → map plain (slice_set t.replicas i x) ≡ qs
+    -- where nothing is sent
+    nothing_more : (x : Seated Replica) (did : Did) (qs : List (Seated WholeReplica))
+        → map plain (slice_set t.replicas i x) ≡ map (trimmed_seat m) qs
         → sends_by from did ≡ [] → filter is_spoken (lines_by from (length t.sent) did) ≡ [] → x.state ≡ s
-        → After (at_replica t i (x, did)) (record v { replicas = qs })
-    nothing_more x did qs same none silent keeps =
-        subst (λ (ss : List Sent). After (at_replica t i (x, did)) (record v { replicas = qs; sent = ss })) (append-nil v.sent)
-        (settles (x, did) qs [] v.letters same (ap other_datagrams none) silent
-        (subst (λ (ss : List Sent). Travels (t.sent ++ ss) (slice_set t.replicas i x) v.letters) (sym none)
-        (travels_quiet t.sent t.replicas v.letters i p x found keeps travels)))
+        → archived t.archive did ≡ t.archive → After (at_replica t i (x, did)) (record v { replicas = qs }) []
+    nothing_more x did qs seats none silent keeps archive =
+        subst (λ (ss : List Sent). After (at_replica t i (x, did)) (record v { replicas = qs; sent = ss }) []) (append-nil v.sent)
+        (settles (x, did) qs [] v.letters [] seats (ap other_datagrams none) silent
+        (subst (λ (ss : List Sent). Travels (t.sent ++ ss) (slice_set t.replicas i x) (real_letters m v)) (sym none)
+        (travels_quiet t.sent t.replicas (real_letters m v) i p x found keeps carried)) archive)
 
-    row_after : (g : Given) (e : Effect) → Does s (replica.next m s g) e → RowFits i (whole_of s) e → MayCome (bytes_of t.sent) g
-        → After (at_replica t i (seated (replica.next m s g).0, Outputs (replica.next m s g).1)) (whole.posts v i (whole_of s) e)
+    row_after : (g : Given) (e : Effect) → Does s (replica.next m s g) (trimmed_effect m e) → RowFits m i s (trimmed_effect m e)
+        → MayCome (bytes_of t.sent) g
+        → After (at_replica t i (seated (replica.next m s g).0, Outputs (replica.next m s g).1)) (whole.posts v i q.state e) e.1
     row_after g e does fits may =
         let r : Replica × List Out = replica.next m s g in
-        let delivers = step_delivers m short travels.posts.told (bytes_of t.sent) travels.used i s g travels.posts.network
-        (travels.members i p found) may in
-        settles (seated r.0, Outputs r.1) (slice_set v.replicas i (seated (whole.after_row (whole_of s) e)))
-        (sends_of from (whole.replies_in e.1)) (v.letters ++ whole.letters_in s.messages e.1)
-        (set_plain (seated r.0) (seated (whole.after_row (whole_of s) e))
-        (ap (λ (y : ReplicaState). made y r.0.messages false) does.state ∙ ap (λ (n : ℕ). made e.0 n false) does.messages))
+        let ts : List Sending = map (trimmed_sending m) e.1 in
+        let delivers = step_delivers m bounds carried.posts.told (bytes_of t.sent) carried.used i s g carried.posts.network
+        (carried.members i p found) may in
+        let counts : r.0.messages ≡ q.state.messages + message_count e.1 =
+        does.messages ∙ ap (λ (n : ℕ). s.messages + n) (trimmed_count m e.1) ∙ ap (λ (n : ℕ). n + message_count e.1) count_is in
+        let letters : real_letters m v ++ letters_in s.messages ts ≡ map (trimmed_letter m) (v.letters ++ letters_in q.state.messages e.1) =
+        ap (λ (n : ℕ). real_letters m v ++ letters_in n ts) count_is
+        ∙ ap (λ (xs : List Letter). real_letters m v ++ xs) (trimmed_letters m q.state.messages e.1)
+        ∙ sym (map-append (trimmed_letter m) v.letters (letters_in q.state.messages e.1)) in
+        settles (seated r.0, Outputs r.1) (slice_set v.replicas i (seated (whole.after_row q.state e)))
+        (sends_of from (replies_in e.1)) (v.letters ++ letters_in q.state.messages e.1) e.1
+        (set_same (seated r.0) (seated (whole.after_row q.state e))
+        (ap (λ (y : ReplicaState). made y r.0.messages false) does.state
+        ∙ ap (λ (n : ℕ). made (trimmed m e.0) n false) counts))
         (ap (λ (os : List Out). other_datagrams (sends_of from os)) does.outs
-        ∙ posted_others from s.messages e.1 fits.ranges.sends fits.high)
-        (lines_spoken from (length t.sent) r.1 ∙ ap lines_of does.outs ∙ posted_silent s.messages e.1)
-        (travels_row t.sent t.replicas v.letters i p (seated r.0) r.1 e.1 found fits.ranges.sends fits.by fits.high does.outs does.messages
-        travels delivers.replica)
+        ∙ posted_others from s.messages ts fits.sends fits.high
+        ∙ ap (λ (os : List Out). sends_of from os) (trimmed_replies m e.1))
+        (lines_spoken from (length t.sent) r.1 ∙ ap lines_of does.outs ∙ posted_silent s.messages ts)
+        (subst (λ (xs : List Letter). Travels (t.sent ++ sends_of from r.1) (slice_set t.replicas i (seated r.0)) xs) letters
+        (travels_row t.sent t.replicas (real_letters m v) i p (seated r.0) r.1 ts found fits.sends fits.by fits.high does.outs does.messages
+        carried delivers.replica))
+        (ap (with_outs t.archive) does.outs ∙ posted_adds t.archive s.messages ts ∙ trimmed_archive m t.archive e.1)
 
-    acts : (e : Event) → actor_of e ≡ actors.Replica i → Joins → RowFits i (whole_of s) (row_of e) → (what : Stimulus)
+    crashed_is : p.crashed ≡ q.crashed
+    crashed_is = ap (λ (x : Seated WholeReplica). x.crashed) same
+
+    abbrev sends_if : Bool → Event → List Sending
+    sends_if c e = cond (c || is_crash (brought t e)) [] (row_of e).1
+
+    acts : (e : Event) → actor_of e ≡ actors.Replica i → Joins → RowFits m i s (real_of e) → (what : Stimulus)
         → stimulus_of t.config t.sent e ≡ Ok what → AllMayCome (bytes_of t.sent) what → (c : Bool) → p.crashed ≡ c
-        → After (at_replica t i (moved_if (replica.next m) c p what)) (whole.at_replica m v i (plain p) c (brought t e))
+        → After (at_replica t i (moved_if (replica.next m) c p what)) (whole.at_replica m v i q c (brought t e)) (sends_if c e)
     acts e at joins fits what is may true c =
         nothing_more p Nothing v.replicas
-        (ap (map plain) (slice_set-found t.replicas i p found) ∙ follows.replicas) refl refl refl
+        (ap (map plain) (slice_set-found t.replicas i p found) ∙ follows.replicas) refl refl refl refl
     acts e at joins fits Crashes is may false c =
         let gone : Seated Replica = record { state = s; crashed = true } in
-        subst (λ (y : Bool). After (at_replica t i (gone, Outputs [])) (whole.live_replica m v i (plain p) y (brought t e)))
+        subst (λ (y : Bool). After (at_replica t i (gone, Outputs [])) (whole.live_replica m v i q y (brought t e))
+        (cond (false || y) [] (row_of e).1))
         (sym (crash_brings e is))
-        (nothing_more gone (Outputs []) (slice_set v.replicas i (made s.state s.messages true))
-        (set_plain gone (made s.state s.messages true) refl) refl refl refl)
+        (nothing_more gone (Outputs []) (slice_set v.replicas i (record q { crashed = true }))
+        (set_same gone (record q { crashed = true })
+        (ap (λ (x : Seated WholeReplica). (let y : Seated WholeReplica = record x { crashed = true } in y)) same)) refl refl refl refl)
     acts e at joins fits (Takes g) is may false c =
         let goes : Goes g (brought t e) = event_goes c e at joins g is in
         subst (λ (y : Bool). After (at_replica t i (seated (replica.next m s g).0, Outputs (replica.next m s g).1))
-        (whole.live_replica m v i (plain p) y (brought t e))) (sym goes.0)
-        (row_after g (row_of e) goes.1 fits may)
+        (whole.live_replica m v i q y (brought t e)) (cond (false || y) [] (row_of e).1)) (sym goes.0)
+        (row_after g (row_of e) (subst (λ (x : Effect). Does s (replica.next m s g) x) (real_is e) goes.1)
+        (subst (RowFits m i s) (real_is e) fits) may)
 
-    steps : (e : Event) → actor_of e ≡ actors.Replica i → Joins → RowFits i (whole_of s) (row_of e)
+    steps : (e : Event) → actor_of e ≡ actors.Replica i → Joins → RowFits m i s (real_of e)
         → ((what : Stimulus) → stimulus_of t.config t.sent e ≡ Ok what → AllMayCome (bytes_of t.sent) what)
         → (h : Happened) (r : Result Stimulus Refusal)
         → stimulus_of t.config t.sent e ≡ r → then_at (at_replica t i) (step_at (replica.next m) (Some p) r) ≡ Ok h
-        → After h (step_replica m v i (Some (plain p)) (brought t e))
+        → After h (step_replica m v i (Some q) (brought t e)) (row_sends m v (Some q) (brought t e))
     steps e at joins fits may h (Err refusal) is got = absurd cc
     steps e at joins fits may h (Ok what) is got =
         let same : at_replica t i (seat_step (replica.next m) p what) ≡ h = cc in
-        subst (λ (y : Happened). After y (step_replica m v i (Some (plain p)) (brought t e))) same
-        (acts e at joins fits what is (may what is) p.crashed refl)
+        subst (λ (y : Happened). After y (step_replica m v i (Some q) (brought t e)) (row_sends m v (Some q) (brought t e))) same
+        (subst (λ (c : Bool). After (at_replica t i (seat_step (replica.next m) p what)) (whole.at_replica m v i q c (brought t e)) (sends_if c e))
+        crashed_is (acts e at joins fits what is (may what is) p.crashed refl))
 
-    pub replica_follows : (e : Event) → actor_of e ≡ actors.Replica i → Joins → RowFits i (whole_of s) (row_of e)
+    pub replica_follows : (e : Event) → actor_of e ≡ actors.Replica i → Joins → RowFits m i s (real_of e)
         → ((what : Stimulus) → stimulus_of t.config t.sent e ≡ Ok what → AllMayCome (bytes_of t.sent) what)
-        → (h : Happened) → step m t e ≡ Ok h → After h (whole_step m v (actor_of e) (brought t e))
+        → (h : Happened) → step m t e ≡ Ok h
+        → After h (whole_step m v (actors.Replica i) (brought t e)) (row_sends m v (slice_get v.replicas i) (brought t e))
     unfolding step
     replica_follows e at joins fits may h is =
-        let there : slice_get v.replicas i ≡ Some (plain p) =
-        ap (λ (qs : List (Seated WholeReplica)). slice_get qs i) (sym follows.replicas) ∙ plain_found t.replicas i p found in
         let real : then_at (at_replica t i) (step_at (replica.next m) (Some p) (stimulus_of t.config t.sent e)) ≡ Ok h =
         ap (λ (o : Option (Seated Replica)). then_at (at_replica t i) (step_at (replica.next m) o (stimulus_of t.config t.sent e)))
         (sym found) ∙ ap (λ (a : Actor). step_of m t a (stimulus_of t.config t.sent e)) (sym at) ∙ is in
-        subst (λ (a : Actor). After h (whole_step m v a (brought t e))) (sym at)
-        (subst (λ (o : Option (Seated WholeReplica)). After h (step_replica m v i o (brought t e))) (sym there)
-        (steps e at joins fits may h (stimulus_of t.config t.sent e) refl real))
+        subst (λ (o : Option (Seated WholeReplica)). After h (step_replica m v i o (brought t e)) (row_sends m v o (brought t e))) (sym there)
+        (steps e at joins fits may h (stimulus_of t.config t.sent e) refl real)

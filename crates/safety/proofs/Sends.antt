@@ -112,6 +112,7 @@ AreOther (outs.Send dest bytes ∷ rest) = IsOther (reading bytes) × AreOther r
 AreOther (outs.Submitted r ∷ rest) = AreOther rest
 AreOther (outs.Accepted client id result ∷ rest) = AreOther rest
 AreOther (outs.Busy client ∷ rest) = AreOther rest
+AreOther (outs.Trimmed first entries ∷ rest) = AreOther rest
 
 pub one_kept : (s : Sent) (b : Bool) (xs ys : List Sent) → b ≡ false → xs ≡ ys → cond (not b) (s ∷ xs) xs ≡ s ∷ ys
 one_kept s true xs ys e same = absurd cc
@@ -125,6 +126,7 @@ others_kept from (outs.Send dest bytes ∷ rest) h =
 others_kept from (outs.Submitted r ∷ rest) h = others_kept from rest h
 others_kept from (outs.Accepted client id result ∷ rest) h = others_kept from rest h
 others_kept from (outs.Busy client ∷ rest) h = others_kept from rest h
+others_kept from (outs.Trimmed first entries ∷ rest) h = others_kept from rest h
 
 pub lines_spoken : (from : Actor) (n : ℕ) (os : List Out) → filter is_spoken (lines_from from n os) ≡ lines_of os
 lines_spoken from n [] = refl
@@ -133,6 +135,7 @@ lines_spoken from n (outs.Submitted r ∷ rest) = ap (λ (l : List Line). lines.
 lines_spoken from n (outs.Accepted client id result ∷ rest) =
     ap (λ (l : List Line). lines.Accept client id result ∷ l) (lines_spoken from n rest)
 lines_spoken from n (outs.Busy client ∷ rest) = ap (λ (l : List Line). lines.Busy client ∷ l) (lines_spoken from n rest)
+lines_spoken from n (outs.Trimmed first entries ∷ rest) = lines_spoken from n rest
 
 -- ---- the client
 

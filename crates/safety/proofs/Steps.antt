@@ -1,9 +1,17 @@
 -- One event: the real world follows the whole one.
-use Rattle.std.proofs.Common.{◌≡◌, ℕ, Bool, true, false, List, ◌++◌, Option, Some, None, refl, sym, ap, subst, ◌∙◌}
-use Rattle.std.specs.Prelude.{not, ◌&&◌, Result, Ok, Err, slice_get}
+use Rattle.std.proofs.Common.{◌≡◌, ℕ, arith, Bool, true, false, List, ◌++◌, Option, Some, None, refl, sym, ap, subst, ◌∙◌}
+use Rattle.std.specs.Prelude.{not, ◌&&◌, Result, Ok, Err, map, nat_lt, slice_get}
+use Rattle.std.specs.List.{AllByRecursion}
+use Rattle.std.specs.Option.{option_map}
+use Rattle.std.proofs.lemmas.Bool.{ltb-true}
 use Rattle.nop_types.specs.Lines.{Line}
 use Rattle.nop_types.specs.Lists.{Has}
+use Rattle.nop_types.specs.Checkpoints.{KeepsTo}
+use Rattle.nop_types.specs.Logs.{Whole, Trimmed}
 use Rattle.nop_types.specs.Meaning.{Meaning}
+use Rattle.nop_types.specs.Ranges.{BodyIsIn}
+use Rattle.nop_types.specs.declared.peer.Body.{Body}
+use Rattle.nop_types.specs.declared.peer.Body.TheVariants as bodies
 use Rattle.nop_types.specs.declared.datagram.Datagram.{Datagram}
 use Rattle.nop_types.specs.declared.datagram.Datagram.TheVariants as datagrams
 use Rattle.nop_types.specs.declared.datagram.Fragment.{Fragment}
@@ -16,7 +24,17 @@ use Rattle.client_quorum.specs.declared.state.ClientState.{ClientState}
 use Rattle.sequencer.specs.declared.state.SequencerState.{SequencerState}
 use Rattle.fragments.specs.Joining.{taken}
 use Rattle.replica_state.specs.State.{is_other}
-use Rattle.replica_rows.specs.Within.{ResultsShort}
+use Rattle.trimming.proofs.Bounds.{trimmed_keep_bounds, trimmed_is_in}
+use Rattle.trimmed_rows.specs.Trimmed.{trimmed_body, trimmed_arrival}
+use Rattle.replica_rows.specs.Messages as messages
+use Rattle.replica_rows.specs.Messages.{arrive}
+use Rattle.replica_rows.specs.Within.{ArrivalIsIn}
+use Rattle.replica_rows.proofs.Counting.{arrive_sends_few}
+use Rattle.replica_core.specs.declared.replica.TheConstants.{LAST_MESSAGE}
+use Rattle.delivery.specs.Sends.{IsBy}
+use Rattle.delivery.specs.Steps.{InNetwork}
+use Rattle.delivery.proofs.InRanges.{arrive_stays}
+use Rattle.delivery.proofs.Own.{arrive_sends_own}
 use Rattle.replica_core.specs.ReplicaSteps as replica
 use Rattle.replica_core.specs.ReplicaSteps.{Replica}
 use Rattle.schedule_text.specs.declared.event.Event.{Event}
@@ -29,19 +47,21 @@ use Rattle.world.specs.WorldSteps.{WorldState, Happened, actor_of, at_replica, s
 use Rattle.delivery.specs.Network.{IsDatagram}
 use Rattle.whole_world.specs.Safe.{BringsFits}
 use Rattle.whole_world.specs.Shows.{Carries, Tells, peers_of}
-use Rattle.whole_world.specs.Whole.{WholeWorld, Brings, arrival_of, step_client, step_sequencer, whole_step}
+use Rattle.nop_types.specs.declared.request.Entry.{Entry}
+use Rattle.whole_world.specs.Whole.{WholeWorld, Letter, Brings, arrival_of, step_client, step_sequencer, whole_step}
 use Rattle.whole_world.proofs.Coming.{arrives}
 use Rattle.whole_world.proofs.Mapped.{slice_get-from_map}
-use Rattle.whole_world.proofs.RowRanges.{row_fits}
-use Rattle.safety.specs.Following.{brought, sent_to, datagram_to, fragment_at, fragment_if, fragment_to, completes, is_fragment}
-use Rattle.safety.specs.Shows.{bytes_of}
-use Rattle.safety.proofs.Beside.{Alike, Travels, Beside, is_replica, whole_of}
+use Rattle.whole_world.specs.Archives.{archive_after}
+use Rattle.whole_world.specs.Trimming.{RowsTrim}
+use Rattle.safety.specs.Following.{trimmed_letter, brought, sent_to, datagram_to, fragment_at, fragment_if, fragment_to, completes, is_fragment}
+use Rattle.safety.specs.Following.{bytes_of}
+use Rattle.safety.proofs.Beside.{Alike, Travels, Beside, is_replica, real_letters}
 use Rattle.safety.proofs.Coming.{event_comes}
 use Rattle.safety.proofs.Others.{others_follow}
 use Rattle.safety.proofs.OtherSends.{SentOthers, others_send}
 use Rattle.safety.proofs.Outputs.{bytes_there}
-use Rattle.safety.proofs.Replicas.{replica_follows}
-use Rattle.safety.proofs.Travels.{travels_others, joins_letter}
+use Rattle.safety.proofs.Replicas.{real_if, real_effect, RowFits, WholeSeat, whole_seat, replica_follows}
+use Rattle.safety.proofs.Travels.{travels_others, joins_letter, joins_trimmed}
 
 -- ---- what an event brings is in its ranges
 
@@ -87,15 +107,58 @@ module _ (t : WorldState) where
   brought_fits (events.Crash actor) fits = tt
   brought_fits (events.Junk actor bytes) fits = tt
 
+-- ---- what arrives trimmed is in its ranges
+
+module _ {S : Type 0} (m : Meaning S) (IsSound : S → Type 0) (keeps : KeepsTo m IsSound) where
+  body_is_in : (b : Body) → BodyIsIn Whole b → BodyIsIn Trimmed (trimmed_body m b)
+  body_is_in (bodies.SlotLookup n) h = h
+  body_is_in (bodies.Found n r) h = h
+  body_is_in (bodies.GapCommit n) h = h
+  body_is_in (bodies.GapRep n) h = h
+  body_is_in bodies.ViewChangeReq h = tt
+  body_is_in (bodies.ViewChange u x l) h = record { view = h.view; number = h.number; told = trimmed_is_in m IsSound keeps l h.told }
+  body_is_in (bodies.StartView x l) h = record { number = h.number; told = trimmed_is_in m IsSound keeps l h.told }
+  body_is_in (bodies.SyncPrepare l) h = trimmed_is_in m IsSound keeps l h
+  body_is_in (bodies.SyncRep n) h = h
+  body_is_in (bodies.SyncCommit n) h = h
+
+  arrival_is_in : (a : messages.Arrival) → ArrivalIsIn Whole a → ArrivalIsIn Trimmed (trimmed_arrival m a)
+  arrival_is_in (messages.Packet p) h = h
+  arrival_is_in (messages.Told p) h = record { sender = h.sender; view = h.view; body = body_is_in p.body h.body }
+  arrival_is_in (messages.Ticked tick) h = tt
+
+  -- a row of a replica in the network is in its ranges
+  module _ (sent : List (List ℕ)) (used : ℕ → ℕ) (i : ℕ) (s : Replica) (member : InNetwork sent used i s) where
+    if_row_fits : (b : Bool) (a : messages.Arrival) → nat_lt s.messages LAST_MESSAGE ≡ b → ArrivalIsIn Trimmed a
+        → RowFits m i s (real_if m b s.state a)
+    if_row_fits true a is fit =
+        let few = arrive_sends_few m Trimmed s.state a in
+        let low = ltb-true s.messages LAST_MESSAGE is in
+        record {
+          sends = (arrive_stays m Trimmed (trimmed_keep_bounds m IsSound keeps) s.state a member.within member.receiver fit).sends;
+          by = subst (λ (q : ℕ). AllByRecursion (IsBy q) (arrive m Trimmed s.state a).1) member.number (arrive_sends_own m Trimmed s.state a);
+          high = omega (arith, few, low);
+        }
+    if_row_fits false a is fit = record { sends = tt; by = tt; high = let h = member.range in omega (arith, h) }
+
+    pub row_fits : (o : Option messages.Arrival) → ((a : messages.Arrival) → o ≡ Some a → ArrivalIsIn Whole a)
+        → RowFits m i s (real_effect m s (option_map (trimmed_arrival m) o))
+    row_fits None good = record { sends = tt; by = tt; high = let h = member.range in omega (arith, h) }
+    row_fits (Some a) good =
+        if_row_fits (nat_lt s.messages LAST_MESSAGE) (trimmed_arrival m a) refl (arrival_is_in a (good a refl))
+
 -- ---- one event
 
-module _ {S : Type 0} (m : Meaning S) (short : ResultsShort m) (t : WorldState) (ls : List Line) (w : WholeWorld) (c : Conf)
-    (carries : Carries w.sent c) (tells : Tells (peers_of w.letters) c.said) (beside : Beside t ls w) (e : Event) (h : Happened)
-    (is : step m t e ≡ Ok h) where
-  abbrev After : WholeWorld → Type 0
-  After v = Beside h.world (ls ++ h.lines) v
+-- both worlds after an event, and what became of the archive
+pub record Followed {S : Type 0} (m : Meaning S) (t : WorldState) (ls : List Line) (w : WholeWorld) (e : Event) (h : Happened) : Type 0 where
+  pub alike : Alike m h.world (ls ++ h.lines) (whole_step m w (actor_of e) (brought t e))
+  pub travels : Travels h.world.sent h.world.replicas (real_letters m (whole_step m w (actor_of e) (brought t e)))
+  pub archive : h.world.archive ≡ archive_after m t.archive w (actor_of e) (brought t e)
 
-  abbrev travels : Travels t.sent t.replicas w.letters
+module _ {S : Type 0} (m : Meaning S) (IsSound : S → Type 0) (keeps : KeepsTo m IsSound) (t : WorldState) (ls : List Line) (w : WholeWorld)
+    (c : Conf) (carries : Carries w.sent c) (tells : Tells (peers_of w.letters) c.said) (trims : RowsTrim m w) (beside : Beside m t ls w)
+    (e : Event) (h : Happened) (is : step m t e ≡ Ok h) where
+  abbrev travels : Travels t.sent t.replicas (real_letters m w)
   travels = beside.travels
 
   -- an event of a replica that is not there is refused
@@ -107,25 +170,32 @@ module _ {S : Type 0} (m : Meaning S) (short : ResultsShort m) (t : WorldState) 
       ∙ ap (λ (a : Actor). step_of m t a (stimulus_of t.config t.sent e)) (sym at) ∙ is in
       cc
 
-  replica_step : (i : ℕ) (o : Option (Seated Replica)) → slice_get t.replicas i ≡ o → actor_of e ≡ actors.Replica i
-      → After (whole_step m w (actor_of e) (brought t e))
+  replica_step : (i : ℕ) (o : Option (Seated Replica)) → slice_get t.replicas i ≡ o → actor_of e ≡ actors.Replica i → Followed m t ls w e h
   replica_step i None found at = absurd (absent i at found)
   replica_step i (Some p) found at =
       let member = travels.members i p found in
-      replica_follows m t ls w beside.alike i p found short travels e at
-      (λ k x f bytes there read gave. joins_letter w (bytes_of t.sent) travels.used p.state x.bytes f bytes travels.posts tells.fits
-      member.came (bytes_there t.sent x (k, there)) read gave)
-      (row_fits m short i (whole_of p.state)
-      (record { number = member.number; range = member.range; within = member.within; receiver = member.receiver })
-      (arrival_of w (brought t e)) (λ a arrived. (arrives c w carries tells (brought t e) a arrived).fits))
-      (event_comes t.sent t.config e) h is
+      let q : WholeSeat m w.replicas i p = whole_seat m t.replicas w.replicas i p beside.alike.replicas found in
+      let a = replica_follows m t ls w beside.alike i p found (trimmed_keep_bounds m IsSound keeps) trims travels q.seat q.there q.same e at
+      (λ k x f bytes there read gave. joins_trimmed m w f bytes
+      (joins_letter (real_letters m w) (bytes_of t.sent) travels.used p.state x.bytes f bytes travels.posts travels.fits
+      member.came (bytes_there t.sent x (k, there)) read gave))
+      (row_fits m IsSound keeps (bytes_of t.sent) travels.used i p.state member (arrival_of w (brought t e))
+      (λ a arrived. (arrives c w carries tells (brought t e) a arrived).fits))
+      (event_comes t.sent t.config e) h is in
+      record {
+        alike = subst (λ (x : Actor). Alike m h.world (ls ++ h.lines) (whole_step m w x (brought t e))) (sym at) a.alike;
+        travels = subst (λ (x : Actor). Travels h.world.sent h.world.replicas (real_letters m (whole_step m w x (brought t e)))) (sym at)
+            a.travels;
+        archive = a.archive ∙ ap (λ (x : Actor). archive_after m t.archive w x (brought t e)) (sym at);
+      }
 
   module _ (spelled : (s : Sent) → Has (whole_step m w (actor_of e) (brought t e)).sent s → IsDatagram s.bytes)
-      (same : (whole_step m w (actor_of e) (brought t e)).letters ≡ w.letters) where
-    other_step : is_replica (actor_of e) ≡ false → After (whole_step m w (actor_of e) (brought t e))
+      (same : (whole_step m w (actor_of e) (brought t e)).letters ≡ w.letters)
+      (kept : archive_after m t.archive w (actor_of e) (brought t e) ≡ t.archive) where
+    other_step : is_replica (actor_of e) ≡ false → Followed m t ls w e h
     other_step other =
         let v : WholeWorld = whole_step m w (actor_of e) (brought t e) in
-        let alike : Alike h.world (ls ++ h.lines) v = others_follow m t ls w e h beside.alike other is in
+        let alike : Alike m h.world (ls ++ h.lines) v = others_follow m t ls w e h beside.alike other is in
         let s : SentOthers t h = others_send m t h e other is in
         let one : (x : Sent) → Has s.more x → IsDatagram x.bytes =
         λ x i. spelled x (subst (λ (xs : List Sent). Has xs x) alike.sent
@@ -136,13 +206,14 @@ module _ {S : Type 0} (m : Meaning S) (short : ResultsShort m) (t : WorldState) 
         subst IsDatagram from.is (one from.from (i.0, from.there))) in
         record {
           alike = alike;
-          travels = subst (λ (xs : List Sent). Travels xs h.world.replicas v.letters) (sym s.sent)
-              (subst (λ (rs : List (Seated Replica)). Travels (t.sent ++ s.more) rs v.letters) (sym s.replicas)
-              (subst (Travels (t.sent ++ s.more) t.replicas) (sym same)
-              (travels_others t.sent s.more t.replicas w.letters s.none.each all travels)));
+          travels = subst (λ (xs : List Sent). Travels xs h.world.replicas (real_letters m v)) (sym s.sent)
+              (subst (λ (rs : List (Seated Replica)). Travels (t.sent ++ s.more) rs (real_letters m v)) (sym s.replicas)
+              (subst (λ (xs : List Letter). Travels (t.sent ++ s.more) t.replicas (map (trimmed_letter m) xs)) (sym same)
+              (travels_others t.sent s.more t.replicas (real_letters m w) s.none.each all travels)));
+          archive = s.archive ∙ sym kept;
         }
 
--- ---- letters are of replicas
+-- ---- letters and what moves out of logs are of replicas
 
 module _ {S : Type 0} (m : Meaning S) (w : WholeWorld) (b : Brings) where
   client_writes : (k : ℕ) (o : Option (Seated ClientState)) → (step_client w k o b).letters ≡ w.letters
@@ -159,18 +230,25 @@ module _ {S : Type 0} (m : Meaning S) (w : WholeWorld) (b : Brings) where
   others_write (actors.Client k) other = client_writes k (slice_get w.clients k)
   others_write actors.Controller other = refl
 
--- each event is followed, where what the whole world sends for it is in its ranges
-pub event_follows : {S : Type 0} (m : Meaning S) → ResultsShort m → (t : WorldState) (ls : List Line) (w : WholeWorld) (c : Conf)
-    → Carries w.sent c → Tells (peers_of w.letters) c.said → Beside t ls w → (e : Event) (h : Happened) → step m t e ≡ Ok h
-    → ((s : Sent) → Has (whole_step m w (actor_of e) (brought t e)).sent s → IsDatagram s.bytes)
-    → Beside h.world (ls ++ h.lines) (whole_step m w (actor_of e) (brought t e))
-event_follows m short t ls w c carries tells beside e h is spelled = by (actor_of e) refl
-  where
-    other : is_replica (actor_of e) ≡ false → Beside h.world (ls ++ h.lines) (whole_step m w (actor_of e) (brought t e))
-    other none = other_step m short t ls w c carries tells beside e h is spelled (others_write m w (brought t e) (actor_of e) none) none
+  pub others_keep : (archive : List Entry) (a : Actor) → is_replica a ≡ false → archive_after m archive w a b ≡ archive
+  others_keep archive (actors.Replica i) other = absurd cc
+  others_keep archive (actors.Sequencer j) other = refl
+  others_keep archive (actors.Client k) other = refl
+  others_keep archive actors.Controller other = refl
 
-    by : (a : Actor) → actor_of e ≡ a → Beside h.world (ls ++ h.lines) (whole_step m w (actor_of e) (brought t e))
-    by (actors.Replica i) at = replica_step m short t ls w c carries tells beside e h is i (slice_get t.replicas i) refl at
+-- each event is followed, where what the whole world sends for it is in its ranges
+pub event_follows : {S : Type 0} (m : Meaning S) (IsSound : S → Type 0) → KeepsTo m IsSound → (t : WorldState) (ls : List Line)
+    (w : WholeWorld) (c : Conf) → Carries w.sent c → Tells (peers_of w.letters) c.said → RowsTrim m w → Beside m t ls w
+    → (e : Event) (h : Happened) → step m t e ≡ Ok h
+    → ((s : Sent) → Has (whole_step m w (actor_of e) (brought t e)).sent s → IsDatagram s.bytes) → Followed m t ls w e h
+event_follows m IsSound keeps t ls w c carries tells trims beside e h is spelled = by (actor_of e) refl
+  where
+    other : is_replica (actor_of e) ≡ false → Followed m t ls w e h
+    other none = other_step m IsSound keeps t ls w c carries tells trims beside e h is spelled
+        (others_write m w (brought t e) (actor_of e) none) (others_keep m w (brought t e) t.archive (actor_of e) none) none
+
+    by : (a : Actor) → actor_of e ≡ a → Followed m t ls w e h
+    by (actors.Replica i) at = replica_step m IsSound keeps t ls w c carries tells trims beside e h is i (slice_get t.replicas i) refl at
     by (actors.Sequencer j) at = other (ap is_replica at)
     by (actors.Client k) at = other (ap is_replica at)
     by actors.Controller at = other (ap is_replica at)

@@ -1,11 +1,12 @@
 -- The network goes on to carry the letters.
 use Rattle.std.proofs.Common.{◌≡◌, ◌<◌, ◌+◌, ◌^◌, ℕ, Bool, true, false, cond, Some, refl, sym, ap, subst, ◌∙◌, inl, inr, List, [], ◌∷◌}
 use Rattle.std.proofs.Common.{◌++◌}
-use Rattle.std.specs.Prelude.{◌==◌, ◌&&◌, Result, Ok, Err, slice_get, slice_set}
+use Rattle.std.specs.Prelude.{◌==◌, ◌&&◌, Result, Ok, Err, map, slice_get, slice_set}
 use Rattle.std.specs.List.{AllByRecursion}
 use Rattle.std.proofs.lemmas.Bool.{eqb-true, eq-eqb, and_parts}
 use Rattle.std.proofs.lemmas.List.{append-nil, map-append}
 use Rattle.nop_types.specs.Lists.{Has}
+use Rattle.nop_types.specs.Meaning.{Meaning}
 use Rattle.nop_types.specs.Ranges.{PeerFits}
 use Rattle.nop_types.specs.declared.datagram.Datagram.{Datagram}
 use Rattle.nop_types.specs.declared.datagram.Datagram.TheVariants as datagrams
@@ -30,7 +31,8 @@ use Rattle.replica_core.specs.Posting.{posted}
 use Rattle.replica_core.specs.ReplicaSteps.{Replica}
 use Rattle.replica_state.specs.Sends.{SendingFits, message_count}
 use Rattle.replica_state.specs.declared.sending.Sending.{Sending}
-use Rattle.replica_state.specs.declared.sending.Sending.TheVariants.{ToClient, ToReplicas}
+use Rattle.replica_state.specs.declared.sending.Sending.TheVariants.{ToClient, ToReplicas, Trims}
+use Rattle.trimmed_rows.specs.Trimmed.{trimmed_peer}
 use Rattle.network.specs.Network.{Sent, sends_of}
 use Rattle.world.specs.Seats.{Seated}
 use Rattle.delivery.specs.Carried.{Carried}
@@ -46,9 +48,9 @@ use Rattle.whole_world.specs.Whole.{WholeWorld, Letter, letters_in, letter_of}
 use Rattle.whole_world.proofs.Mapped.{slice_get-from_map, Has-map}
 use Rattle.whole_world.proofs.ReplicaSteps.{letters_peers}
 use Rattle.whole_world.proofs.Seats.{seats_become, seats_same}
-use Rattle.safety.specs.Following.{is_fragment}
-use Rattle.safety.specs.Shows.{bytes_of}
-use Rattle.safety.proofs.Beside.{message_of, messages_of, SameMembers, Posts, Travels, JoinsLetter}
+use Rattle.safety.specs.Following.{bytes_of}
+use Rattle.safety.specs.Following.{is_fragment, message_of, trimmed_letter, SameMembers, CarriesLetters}
+use Rattle.safety.proofs.Beside.{Travels, JoinsLetter, JoinsTrimmed, real_letters}
 use Rattle.safety.proofs.Outputs.{bytes_after}
 
 -- ---- members of lists
@@ -68,12 +70,13 @@ joined_members more xs ys zs is h = record {
 
 -- ---- the letters of a row
 
-letters_messages : (number : ℕ) (sends : List Sending) → messages_of (letters_in number sends) ≡ messages_from number sends
+letters_messages : (number : ℕ) (sends : List Sending) → map message_of (letters_in number sends) ≡ messages_from number sends
 letters_messages number [] = refl
 letters_messages number (ToClient r ∷ sends) = letters_messages number sends
 letters_messages number (ToReplicas dest p ∷ sends) =
     ap (λ (xs : List fragments.Sent). record { sender = p.sender; number = number + 1; bytes = spelling p } ∷ xs)
     (letters_messages (number + 1) sends)
+letters_messages number (Trims first entries ∷ sends) = letters_messages number sends
 
 -- ---- what others send has no fragments
 
@@ -110,18 +113,18 @@ under : (told : List Peer) (bytes : List (List ℕ)) (used : ℕ → ℕ) (sent 
 under told bytes used sent all h = record { network = record { datagrams = all; carried = h.carried }; is = h.is }
 
 posts_by : (bytes : List (List ℕ)) (used : ℕ → ℕ) (letters : List Letter) (told : List Peer) (sent : List fragments.Sent)
-    → Under told bytes used sent → SameMembers told (peers_of letters) → SameMembers sent (messages_of letters) → Posts bytes used letters
+    → Under told bytes used sent → SameMembers told (peers_of letters) → SameMembers sent (map message_of letters) → CarriesLetters bytes used letters
 posts_by bytes used letters told sent h peers messages = record {
   told = told;
   network = h.network;
   peers = peers;
-  messages = subst (λ (xs : List fragments.Sent). SameMembers xs (messages_of letters)) (sym h.is) messages;
+  messages = subst (λ (xs : List fragments.Sent). SameMembers xs (map message_of letters)) (sym h.is) messages;
 }
 
-module _ (bytes : List (List ℕ)) (used : ℕ → ℕ) (letters : List Letter) (h : Posts bytes used letters) where
+module _ (bytes : List (List ℕ)) (used : ℕ → ℕ) (letters : List Letter) (h : CarriesLetters bytes used letters) where
   -- datagrams that are no fragments
   pub posts_others : (more : List (List ℕ)) → fragments_among more ≡ [] → ((b : List ℕ) → Has more b → IsDatagram b)
-      → Posts (bytes ++ more) used letters
+      → CarriesLetters (bytes ++ more) used letters
   posts_others more none all =
       let same : fragments_among (bytes ++ more) ≡ fragments_among bytes =
       among_append bytes more ∙ ap (λ (fs : List Fragment). fragments_among bytes ++ fs) none ∙ append-nil (fragments_among bytes) in
@@ -134,7 +137,7 @@ module _ (bytes : List (List ℕ)) (used : ℕ → ℕ) (letters : List Letter) 
   -- what a replica posts
   pub posts_row : (r : ℕ) (sends : List Sending) → AllByRecursion SendingFits sends → AllByRecursion (IsBy r) sends
       → used r + message_count sends < 2 ^ 64
-      → Posts (bytes ++ bytes_in (posted (used r) sends)) (put used r (used r + message_count sends)) (letters ++ letters_in (used r) sends)
+      → CarriesLetters (bytes ++ bytes_in (posted (used r) sends)) (put used r (used r + message_count sends)) (letters ++ letters_in (used r) sends)
   posts_row r sends fits by high =
       let os : List Out = posted (used r) sends in
       let told : List Peer = peers_in sends ++ h.told in
@@ -151,11 +154,32 @@ module _ (bytes : List (List ℕ)) (used : ℕ → ℕ) (letters : List Letter) 
       (joined_members (peers_in sends) h.told (peers_of letters) (peers_of all)
       (map-append (λ (x : Letter). x.peer) letters (letters_in (used r) sends)
       ∙ ap (λ (ps : List Peer). peers_of letters ++ ps) (letters_peers (used r) sends)) h.peers)
-      (joined_members (messages_from (used r) sends) h.network.carried.sent (messages_of letters) (messages_of all)
+      (joined_members (messages_from (used r) sends) h.network.carried.sent (map message_of letters) (map message_of all)
       (map-append message_of letters (letters_in (used r) sends)
-      ∙ ap (λ (xs : List fragments.Sent). messages_of letters ++ xs) (letters_messages (used r) sends)) h.messages)
+      ∙ ap (λ (xs : List fragments.Sent). map message_of letters ++ xs) (letters_messages (used r) sends)) h.messages)
 
 -- ---- with the replicas
+
+sent_fit : (sends : List Sending) (p : Peer) → AllByRecursion SendingFits sends → Has (peers_in sends) p → PeerFits p
+sent_fit [] p fits h = absurd (Has-none p h)
+sent_fit (ToClient r ∷ sends) p fits h = sent_fit sends p fits.1 h
+sent_fit (Trims first entries ∷ sends) p fits h = sent_fit sends p fits.1 h
+sent_fit (ToReplicas dest q ∷ sends) p fits h = elim (Has-cases p q (peers_in sends) h) [
+  | inl e ↦ subst PeerFits (sym e) fits.0
+  | inr j ↦ sent_fit sends p fits.1 j
+]
+
+-- letters of a row more
+more_fit : (letters : List Letter) (number : ℕ) (sends : List Sending) → ((p : Peer) → Has (peers_of letters) p → PeerFits p)
+    → AllByRecursion SendingFits sends → (p : Peer) → Has (peers_of (letters ++ letters_in number sends)) p → PeerFits p
+more_fit letters number sends old fits p h =
+    let parts : peers_of (letters ++ letters_in number sends) ≡ peers_of letters ++ peers_in sends =
+    map-append (λ (x : Letter). x.peer) letters (letters_in number sends)
+    ∙ ap (λ (ps : List Peer). peers_of letters ++ ps) (letters_peers number sends) in
+    elim (Has-append_cases (peers_of letters) (peers_in sends) p (subst (λ (ps : List Peer). Has ps p) parts h)) [
+      | inl was ↦ old p was
+      | inr fresh ↦ sent_fit sends p fits fresh
+    ]
 
 -- a replica keeps its state, and nothing is sent
 pub travels_quiet : (sent : List Sent) (replicas : List (Seated Replica)) (letters : List Letter) (i : ℕ) (old new : Seated Replica)
@@ -166,6 +190,7 @@ travels_quiet sent replicas letters i old new there same h =
     (record {
       used = h.used;
       posts = h.posts;
+      fits = h.fits;
       members = seats_same (λ j s. InNetwork (bytes_of sent) h.used j s) replicas i old new there same h.members;
     })
 
@@ -177,8 +202,9 @@ travels_others sent more replicas letters others all h =
     let after : bytes_of (sent ++ more) ≡ bytes_of sent ++ bytes_of more = map-append (λ (s : Sent). s.bytes) sent more in
     record {
       used = h.used;
-      posts = subst (λ (b : List (List ℕ)). Posts b h.used letters) (sym after)
+      posts = subst (λ (b : List (List ℕ)). CarriesLetters b h.used letters) (sym after)
           (posts_others (bytes_of sent) h.used letters h.posts (bytes_of more) (none_among more others) all);
+      fits = h.fits;
       members = λ i q e. subst (λ (b : List (List ℕ)). InNetwork b h.used i q.state) (sym after)
           (stays_in_network (bytes_of sent) (bytes_of more) h.used i q.state (h.members i q e));
     }
@@ -198,16 +224,17 @@ travels_row sent replicas letters i old new outs sends there fits by high are co
     let last : old.state.messages ≡ h.used i = (h.members i old there).messages in
     let count : new.state.messages ≡ h.used i + message_count sends =
     counts ∙ ap (λ (n : ℕ). n + message_count sends) last in
-    let posts : Posts (bytes_of sent ++ bytes_in outs) used (letters ++ letters_in old.state.messages sends) =
-    subst (λ (n : ℕ). Posts (bytes_of sent ++ bytes_in outs) (put h.used i n) (letters ++ letters_in old.state.messages sends)) (sym count)
-    (subst (λ (n : ℕ). Posts (bytes_of sent ++ bytes_in outs) (put h.used i (h.used i + message_count sends)) (letters ++ letters_in n sends))
+    let posts : CarriesLetters (bytes_of sent ++ bytes_in outs) used (letters ++ letters_in old.state.messages sends) =
+    subst (λ (n : ℕ). CarriesLetters (bytes_of sent ++ bytes_in outs) (put h.used i n) (letters ++ letters_in old.state.messages sends)) (sym count)
+    (subst (λ (n : ℕ). CarriesLetters (bytes_of sent ++ bytes_in outs) (put h.used i (h.used i + message_count sends)) (letters ++ letters_in n sends))
     (sym last)
-    (subst (λ (os : List Out). Posts (bytes_of sent ++ bytes_in os) (put h.used i (h.used i + message_count sends))
+    (subst (λ (os : List Out). CarriesLetters (bytes_of sent ++ bytes_in os) (put h.used i (h.used i + message_count sends))
     (letters ++ letters_in (h.used i) sends)) (sym (are ∙ ap (λ (n : ℕ). posted n sends) last))
     (posts_row (bytes_of sent) h.used letters h.posts i sends fits by (subst (λ (n : ℕ). n + message_count sends < 2 ^ 64) last high)))) in
     record {
       used = used;
-      posts = subst (λ (b : List (List ℕ)). Posts b used (letters ++ letters_in old.state.messages sends)) (sym after) posts;
+      posts = subst (λ (b : List (List ℕ)). CarriesLetters b used (letters ++ letters_in old.state.messages sends)) (sym after) posts;
+      fits = more_fit letters old.state.messages sends h.fits fits;
       members = seats_become (λ j s. InNetwork (bytes_of sent) h.used j s) (λ j s. InNetwork (bytes_of (sent ++ sends_of from outs)) used j s)
           replicas i new
           (subst (λ (b : List (List ℕ)). InNetwork b used i new.state) (sym after) fresh)
@@ -251,7 +278,7 @@ letter_is (y ∷ letters) q n p same x h sender number =
     by false e rest = elim (Has-cases x y letters h) [ inl first ↦ absurd (not_first e first) | inr later ↦ rest later ]
 
 found_message : (letters : List Letter) (q n : ℕ) (bytes : List ℕ)
-    → Has (messages_of letters) (record { sender = q; number = n; bytes = bytes }) → IsLetter letters q n bytes
+    → Has (map message_of letters) (record { sender = q; number = n; bytes = bytes }) → IsLetter letters q n bytes
 found_message letters q n bytes h =
     let t = slice_get-from_map message_of letters h.0 (record { sender = q; number = n; bytes = bytes }) h.1 in
     record {
@@ -262,26 +289,66 @@ found_message letters q n bytes h =
       spelled = ap (λ (x : fragments.Sent). x.bytes) t.is;
     }
 
-pub joins_letter : (w : WholeWorld) (bytes : List (List ℕ)) (used : ℕ → ℕ) (s : Replica) (k : List ℕ) (f : Fragment) (joined : List ℕ)
-    → Posts bytes used w.letters → ((p : Peer) → Has (peers_of w.letters) p → PeerFits p) → AllCame (fragments_among bytes) s.reassembly
-    → Has bytes k → reading k ≡ Ok (datagrams.Fragment f) → (taken s.reassembly f).1 ≡ Some joined → JoinsLetter w f joined
-joins_letter w bytes used s k f joined posts fit came has read is =
+pub joins_letter : (letters : List Letter) (bytes : List (List ℕ)) (used : ℕ → ℕ) (s : Replica) (k : List ℕ) (f : Fragment)
+    (joined : List ℕ) → CarriesLetters bytes used letters → ((p : Peer) → Has (peers_of letters) p → PeerFits p)
+    → AllCame (fragments_among bytes) s.reassembly
+    → Has bytes k → reading k ≡ Ok (datagrams.Fragment f) → (taken s.reassembly f).1 ≡ Some joined → JoinsLetter letters f joined
+joins_letter letters bytes used s k f joined posts fit came has read is =
     let net : List Fragment = fragments_among bytes in
     let here : Has net f = among_has bytes k f has read in
     let parts = (keeps_what_came net s.reassembly f here came).gave joined is in
     let carried : Carried posts.told net used = posts.network.carried in
     let sent = joins_what_was_sent carried.sent net f joined carried.distinct carried.cut here parts in
-    let x = found_message w.letters f.replica f.message joined (posts.messages.to _ sent) in
-    let fits : PeerFits x.letter.peer = fit x.letter.peer (Has-map (λ (y : Letter). y.peer) w.letters x.letter x.has) in
+    let x = found_message letters f.replica f.message joined (posts.messages.to _ sent) in
+    let fits : PeerFits x.letter.peer = fit x.letter.peer (Has-map (λ (y : Letter). y.peer) letters x.letter x.has) in
     record {
       peer = x.letter.peer;
       read = ap peers.reading (sym x.spelled) ∙ reads_again x.letter.peer fits;
       sender = x.sender;
-      letter = letter_is w.letters f.replica f.message x.letter.peer
+      letter = letter_is letters f.replica f.message x.letter.peer
           (λ y i sender number. spelling_is_injective y.peer x.letter.peer
-          (fit y.peer (Has-map (λ (z : Letter). z.peer) w.letters y i)) fits
-          (carried.distinct (message_of y) (message_of x.letter) (posts.messages.from (message_of y) (Has-map message_of w.letters y i))
-          (posts.messages.from (message_of x.letter) (Has-map message_of w.letters x.letter x.has))
+          (fit y.peer (Has-map (λ (z : Letter). z.peer) letters y i)) fits
+          (carried.distinct (message_of y) (message_of x.letter) (posts.messages.from (message_of y) (Has-map message_of letters y i))
+          (posts.messages.from (message_of x.letter) (Has-map message_of letters x.letter x.has))
           (sender ∙ sym x.sender) (number ∙ sym x.number)))
           x.letter x.has x.sender x.number;
+    }
+
+-- ---- letters as they travel
+
+-- a letter is found by its sender and number, trimmed or not
+pub record FindsWhole {S : Type 0} (m : Meaning S) (letters : List Letter) (q n : ℕ) (p : Peer) : Type 0 where
+  pub peer : Peer
+  pub found : letter_of letters q n ≡ Some peer
+  pub is : trimmed_peer m peer ≡ p
+
+pub finds_whole : {S : Type 0} (m : Meaning S) (letters : List Letter) (q n : ℕ) (p : Peer)
+    → letter_of (map (trimmed_letter m) letters) q n ≡ Some p → FindsWhole m letters q n p
+finds_whole m [] q n p e = absurd cc
+finds_whole m (x ∷ letters) q n p e = by ((x.peer.sender == q) && (x.number == n)) refl (λ r. finds_whole m letters q n p r) e
+  where
+    by : (b : Bool) → ((x.peer.sender == q) && (x.number == n)) ≡ b
+        → (letter_of (map (trimmed_letter m) letters) q n ≡ Some p → FindsWhole m letters q n p)
+        → cond b (Some (trimmed_peer m x.peer)) (letter_of (map (trimmed_letter m) letters) q n) ≡ Some p
+        → FindsWhole m (x ∷ letters) q n p
+    by true b others g = record {
+      peer = x.peer;
+      found = ap (λ (t : Bool). cond t (Some x.peer) (letter_of letters q n)) b;
+      is = cc;
+    }
+    by false b others g = let rest = others g in record {
+      peer = rest.peer;
+      found = ap (λ (t : Bool). cond t (Some x.peer) (letter_of letters q n)) b ∙ rest.found;
+      is = rest.is;
+    }
+
+pub joins_trimmed : {S : Type 0} (m : Meaning S) (w : WholeWorld) (f : Fragment) (bytes : List ℕ) → JoinsLetter (real_letters m w) f bytes
+    → JoinsTrimmed m w f bytes
+joins_trimmed m w f bytes h =
+    let x = finds_whole m w.letters f.replica f.message h.peer h.letter in
+    record {
+      peer = x.peer;
+      read = h.read ∙ ap Ok (sym x.is);
+      sender = ap (λ (p : Peer). p.sender) x.is ∙ h.sender;
+      letter = x.found;
     }

@@ -10,21 +10,29 @@ use Rattle.nop_types.specs.declared.datagram.Fragment.{Fragment}
 use Rattle.nop_types.specs.declared.input.Tick.TheVariants as ticks
 use Rattle.nop_types.specs.declared.output.Actor.{Actor}
 use Rattle.nop_types.specs.declared.output.Actor.TheVariants as actors
+use Rattle.nop_types.specs.declared.peer.Peer.{Peer}
+use Rattle.nop_types.specs.Lists.{Has}
 use Rattle.oum_codec.specs.declared.bad.Bad.{Bad}
 use Rattle.oum_codec.specs.Reading.{reading}
 use Rattle.fragments.specs.Joining.{taken}
+use Rattle.fragments.specs.Runs as fragments
+use Rattle.fragments.specs.Runs.{AllCame}
+use Rattle.peer_codec.specs.Spelling.{spelling}
 use Rattle.replica_state.specs.State.{is_other}
-use Rattle.replica_rows.specs.Within.{ResultsShort}
+use Rattle.trimmed_rows.specs.Trimmed.{trimmed, trimmed_peer}
 use Rattle.replica_core.specs.ReplicaSteps.{Replica}
 use Rattle.schedule_text.specs.declared.event.Event.{Event}
 use Rattle.schedule_text.specs.declared.event.Event.TheVariants as events
 use Rattle.schedule_text.specs.Fits.{EventsFit}
 use Rattle.network.specs.Network.{Sent}
+use Rattle.world.specs.Archive.{with_archive}
 use Rattle.world.specs.Seats.{Seated}
 use Rattle.world.specs.StateLines.{replicas_text}
 use Rattle.world.specs.WorldSteps.{WorldState, Happened, Refusal, actor_of, step, opening, run, history}
+use Rattle.delivery.specs.Network.{fragments_among, Network}
+use Rattle.whole_world.specs.Shows.{peers_of}
 use Rattle.whole_world.specs.Whole as whole
-use Rattle.whole_world.specs.Whole.{WholeReplica, WholeWorld, Brings, Nothing, Op, Timer, Junk, Equal, Message, Crash, whole_run}
+use Rattle.whole_world.specs.Whole.{WholeReplica, WholeWorld, Letter, Brings, Nothing, Op, Timer, Junk, Equal, Message, Crash, whole_run}
 
 -- ---- what an event brings
 
@@ -120,27 +128,70 @@ is_fragment (Err e) = false
 abbrev pub other_datagrams : List Sent → List Sent
 other_datagrams sent = filter (λ s. not (is_fragment (reading s.bytes))) sent
 
+-- ---- replicas
+
 -- a replica without what it keeps of fragments
 abbrev pub plain : Seated Replica → Seated WholeReplica
 plain p = record { state = record { state = p.state.state; messages = p.state.messages }; crashed = p.crashed }
 
+-- a whole replica whose log is trimmed: its checkpoint is the execution of the entries up to the sync point, and the others are kept
+abbrev pub trimmed_seat : {S : Type 0} → Meaning S → Seated WholeReplica → Seated WholeReplica
+trimmed_seat m p = record p { state = record p.state { state = trimmed m p.state.state } }
+
+-- ---- letters
+
+-- a message as it travels
+abbrev pub trimmed_letter : {S : Type 0} → Meaning S → Letter → Letter
+trimmed_letter m x = record x { peer = trimmed_peer m x.peer }
+
+-- the bytes of all datagrams, the oldest first
+abbrev pub bytes_of : List Sent → List (List ℕ)
+bytes_of sent = map (λ s. s.bytes) sent
+
+-- a letter as bytes, under its sender and number
+abbrev pub message_of : Letter → fragments.Sent
+message_of x = record { sender = x.peer.sender; number = x.number; bytes = spelling x.peer }
+
+-- two lists have the same members
+pub record SameMembers {A : Type 0} (xs ys : List A) : Type 0 where
+  pub to : (x : A) → Has xs x → Has ys x
+  pub from : (x : A) → Has ys x → Has xs x
+
+-- the fragments among the datagrams carry these letters, each under its number, and nothing else
+pub record CarriesLetters (bytes : List (List ℕ)) (used : ℕ → ℕ) (letters : List Letter) : Type 0 where
+  pub told : List Peer
+  pub network : Network told bytes used
+  pub peers : SameMembers told (peers_of letters)
+  pub messages : SameMembers network.carried.sent (map message_of letters)
+
+-- ---- all of it
+
 -- the real world, with its lines so far, shows what the whole one shows
-pub record FollowsWhole (h : Happened) (w : WholeWorld) : Type 0 where
+pub record FollowsWhole {S : Type 0} (m : Meaning S) (h : Happened) (w : WholeWorld) : Type 0 where
   -- lines that submit, accept, or find a client busy
   pub lines : spoken h.lines ≡ w.lines
   -- datagrams that are no fragments; so the replies
   pub sent : other_datagrams h.world.sent ≡ w.sent
+  -- and the fragments, which carry the letters with their logs trimmed; `used` gives the last message number that each replica used
+  pub used : ℕ → ℕ
+  pub fragments : CarriesLetters (bytes_of h.world.sent) used (map (trimmed_letter m) w.letters)
   pub config : h.world.config ≡ w.config
-  -- each replica's state, its message number, and whether it crashed
-  pub replicas : map plain h.world.replicas ≡ w.replicas
+  -- each replica's state but for its log, which is the whole one trimmed; its message number, and whether it crashed
+  pub replicas : map plain h.world.replicas ≡ map (trimmed_seat m) w.replicas
   pub sequencers : h.world.sequencers ≡ w.sequencers
   pub clients : h.world.clients ≡ w.clients
   pub controller : h.world.controller ≡ w.controller
+  -- what a replica keeps of messages that are not complete came in fragments of the network
+  pub kept : (i : ℕ) (p : Seated Replica) → slice_get h.world.replicas i ≡ Some p
+      → AllCame (fragments_among (bytes_of h.world.sent)) p.state.reassembly
+  -- the archive and a replica's log are its whole log
+  pub logs : (i : ℕ) (p : Seated Replica) (q : Seated WholeReplica) → slice_get h.world.replicas i ≡ Some p
+      → slice_get w.replicas i ≡ Some q → with_archive h.world.archive p.state.state.log ≡ q.state.state.log.entries
   -- the printed lines of replicas and their entries, and the history
-  pub text : replicas_text 0 h.world.replicas ≡ whole.replicas_text 0 w.replicas
+  pub text : replicas_text h.world.archive 0 h.world.replicas ≡ whole.replicas_text 0 w.replicas
   pub history : history h.world ≡ whole.history w
 
--- over each host with short results, and for every list of events that are not refused
+-- for every list of events that are not refused
 abbrev pub RunsFollowWhole : {S : Type 0} → Meaning S → Type 0
-RunsFollowWhole m = ResultsShort m → (config : Configuration) (es : List Event) (h : Happened) → is_configuration config ≡ true
-    → EventsFit es → run m config es ≡ Ok h → FollowsWhole h (whole_after m config es)
+RunsFollowWhole m = (config : Configuration) (es : List Event) (h : Happened) → is_configuration config ≡ true → EventsFit es
+    → run m config es ≡ Ok h → FollowsWhole m h (whole_after m config es)

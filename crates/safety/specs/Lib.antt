@@ -1,4 +1,2 @@
 pub mod Following
-pub mod Passed
-pub mod Shows
 pub mod Safe

@@ -1,50 +1,44 @@
 -- Safety: in each world that events lead to.
-use Rattle.std.specs.Prelude.{◌≡◌, ◌++◌, ◌/◌, ℕ, ⊤, List, take, drop, true, Result, Ok, Err}
+use Rattle.std.specs.Prelude.{◌≡◌, ◌++◌, ℕ, ⊤, List, take, drop, true, Result, Ok, Err}
 use Rattle.nop_types.specs.Configuration.{Configuration, is_configuration}
 use Rattle.nop_types.specs.Legality.{Legal}
 use Rattle.nop_types.specs.Lines.{Line}
 use Rattle.nop_types.specs.Meaning.{Meaning}
-use Rattle.replica_rows.specs.Within.{ResultsShort}
+use Rattle.nop_types.specs.declared.output.Actor.{Actor}
 use Rattle.schedule_text.specs.declared.event.Event.{Event}
 use Rattle.schedule_text.specs.Fits.{EventsFit}
 use Rattle.world.specs.Agreement.{Agreed}
 use Rattle.world.specs.WorldSteps.{WorldState, Happened, Refusal, NoSuchActor, NoSuchDatagram, Forged, run_from, run, history}
 use Rattle.world.specs.declared.step_error.StepError.{StepError}
 use Rattle.world.specs.declared.step_error.StepError.TheVariants as errors
-use Rattle.protocol.specs.Conf.{Conf}
-use Rattle.protocol_sync.specs.Sound.{Sound, GoesOn}
-use Rattle.safety.specs.Passed.{Passed, passed}
-use Rattle.safety.specs.Shows.{Shows}
+use Rattle.whole_world.specs.Safe.{IsSafeThroughout}
+use Rattle.whole_world.specs.Whole.{Brings}
+use Rattle.safety.specs.Following.{all_brought, whole_after, FollowsWhole}
 
 -- replicas agree as far as they are synchronised, and what was accepted is of the one history
 pub record Safe {S : Type 0} (m : Meaning S) (h : Happened) : Type 0 where
   pub agreed : Agreed h.world
   pub legal : Legal m h.lines (history h.world)
 
--- what the events passed, as the protocol shows it: all that was stamped, said, logged, replied and accepted is sound
-pub record SoundlyPassed {S : Type 0} (m : Meaning S) (config : Configuration) (es : List Event) : Type 0 where
-  pub passed : Passed
-  pub is : Rattle.safety.specs.Passed.passed m config es ≡ Ok passed
-  pub conf : Conf
-  pub shows : Shows (config.replicas / 2) passed conf
-  pub sound : Sound m (config.replicas / 2) conf
+-- after the first events the real world followed the whole one, and all that they brought comes first of what all bring
+pub record Followed {S : Type 0} (m : Meaning S) (config : Configuration) (es front : List Event) : Type 0 where
+  pub happened : Happened
+  pub is : run m config front ≡ Ok happened
+  pub follows : FollowsWhole m happened (whole_after m config front)
+  pub rest : List (Actor × Brings)
+  pub parts : all_brought m config es ≡ all_brought m config front ++ rest
 
--- so it was at each time before, and nothing of that was taken back
-pub record WasSound {S : Type 0} (m : Meaning S) (config : Configuration) (front : List Event) (last : Conf) : Type 0 where
-  pub then : SoundlyPassed m config front
-  pub goes_on : GoesOn (config.replicas / 2) then.conf last
-
--- what the events passed, with all that holds of it
+-- what the events brought led the whole world, safely at each time: a configuration of the protocol shows it, in which all that was
+-- stamped, said, logged, replied and accepted is sound, and nothing of that was taken back; the real world followed it at each time
 pub record SafelyPassed {S : Type 0} (m : Meaning S) (config : Configuration) (es : List Event) (h : Happened) : Type 0 where
-  pub at_last : SoundlyPassed m config es
-  pub world : at_last.passed.world ≡ h.world
-  pub lines : at_last.passed.lines ≡ h.lines
-  pub before : (front rest : List Event) → es ≡ front ++ rest → WasSound m config front at_last.conf
+  pub whole : IsSafeThroughout m config (all_brought m config es)
+  pub follows : FollowsWhole m h (whole_after m config es)
+  pub before : (front rest : List Event) → es ≡ front ++ rest → Followed m config es front
   pub safe : Safe m h
 
--- over each host, and for every list of events that are not refused
+-- for every list of events that are not refused
 abbrev pub RunsAreSafe : {S : Type 0} → Meaning S → Type 0
-RunsAreSafe m = ResultsShort m → (config : Configuration) (es : List Event) (h : Happened) → is_configuration config ≡ true → EventsFit es
+RunsAreSafe m = (config : Configuration) (es : List Event) (h : Happened) → is_configuration config ≡ true → EventsFit es
     → run m config es ≡ Ok h → SafelyPassed m config es h
 
 -- the events lead to this world, and all of that holds of it

@@ -2,24 +2,25 @@
 //! of the call that carries them out.
 //!
 //! For each configuration, each list of events in their ranges of which none is refused, and each
-//! host whose results fit a reply (`ResultsShort`), what the events lead to is `SafelyPassed`:
+//! host, what the events lead to is `SafelyPassed`:
 //!
-//! - Replicas agree as far as they are synchronised (`Agreed`), and the lines are legal of the
+//! - It follows the whole world of `whole_world`, in which replicas keep all of their logs
+//!   (`FollowsWhole`): the same datagrams, lines and history; the same actors, but that each log is
+//!   trimmed: its checkpoint is the execution of the entries up to its sync point, and the others are
+//!   kept. The archive and a replica's log are its whole log, and the fragments carry the letters.
+//! - The whole world is safe (`IsSafeThroughout`): there is a configuration of `protocol` that shows
+//!   it, and in it all that was stamped, sent, logged, replied and accepted is sound (`Sound`,
+//!   docs/THEOREMS.md, "Soundness").
+//! - The same held after every prefix of the events (`Followed`), and from then to the end the
+//!   configuration only went on.
+//! - So replicas agree as far as they are synchronised (`Agreed`), and the lines are legal of the
 //!   history (`Legal`).
-//! - There is a configuration of `protocol` that shows exactly this world (`Shows`), and in it all
-//!   that was stamped, sent, logged, replied and accepted is sound (`Sound`, docs/THEOREMS.md,
-//!   "Soundness").
-//! - The same held after every prefix of the events, and from then to the end the configuration
-//!   only went on (`WasSound`, `GoesOn`).
-//!
-//! It is proved through the whole world of `whole_world`, which this one follows (law
-//! `runs_follow_whole`): the same states of actors, datagrams but for fragments, lines and history.
 //!
 //! `run_events` gives the world, or the refusal of the first event that is refused; its types keep
 //! the other premises. The law `runs_are_safe` says the same of each run, whoever carries it out.
 //!
-//! Files: `run`. Definitions: `specs/Safe` (`SafelyPassed`), `Shows`, `Passed`, `Following`. How
-//! the proof goes is told in docs/PROOF.md.
+//! Files: `run`. Definitions: `specs/Safe` (`SafelyPassed`), `Following` (`FollowsWhole`). How the
+//! proof goes is told in docs/PROOF.md.
 #![tactic(auto)]
 
 mod run;

@@ -1,5 +1,4 @@
 ghost use Rattle.std.specs.Prelude.{◌≡◌, IfOk, IfErr, false};
-ghost use Rattle.nop_types.specs.Meaning.{Meaning};
 ghost use Rattle.world.specs.WorldSteps.{run};
 ghost use Rattle.safety.specs.Following.{RunsFollowWhole};
 ghost use Rattle.safety.specs.Safe.{RunsAreSafe, LeadTo, IsRefusedBy};
@@ -30,15 +29,14 @@ pub fn run_events<H: Host>(
     Ok(world)
 }
 
-/// Each run is safe: over any host whose results fit a reply, and for every list of events that are in their ranges and not
-/// refused.
-#[tactic(auto, using(crate::proofs::Whole::runs_are_safe))]
-pub fn runs_are_safe<S>()
-    ensures { (m : Meaning S) → RunsAreSafe m }
+/// Each run is safe: over any host, and for every list of events that are in their ranges and not refused.
+pub fn runs_are_safe<H: Host>()
+    ensures { RunsAreSafe H.meaning }
 {}
 
-/// Each run follows the whole world: over any such host and events, the world in which replicas keep all of their logs and
-/// messages travel whole has the same actors, datagrams, lines and history after what the events bring.
-pub fn runs_follow_whole<S>()
-    ensures { (m : Meaning S) → RunsFollowWhole m }
+/// Each run follows the whole world, in which replicas keep all of their logs and messages travel whole: over any host and such
+/// events it has the same datagrams, lines and history after what the events bring, and the same actors, but that each log is
+/// trimmed: its checkpoint is the execution of the entries up to the sync point, and the others are kept.
+pub fn runs_follow_whole<H: Host>()
+    ensures { RunsFollowWhole H.meaning }
 {}

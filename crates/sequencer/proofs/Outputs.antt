@@ -22,6 +22,7 @@ to_replicas_append (outs.Send (One actor) bytes ∷ xs) ys = to_replicas_append 
 to_replicas_append (outs.Submitted r ∷ xs) ys = to_replicas_append xs ys
 to_replicas_append (outs.Accepted client id result ∷ xs) ys = to_replicas_append xs ys
 to_replicas_append (outs.Busy client ∷ xs) ys = to_replicas_append xs ys
+to_replicas_append (outs.Trimmed first entries ∷ xs) ys = to_replicas_append xs ys
 
 packet_sent : (p : Option Stamped) → to_replicas (send_packet p) ≡ map spelled (one_or_none p)
 packet_sent None = refl

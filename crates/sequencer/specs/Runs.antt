@@ -70,3 +70,4 @@ to_replicas (outs.Send (One actor) bytes ∷ os) = to_replicas os
 to_replicas (outs.Submitted r ∷ os) = to_replicas os
 to_replicas (outs.Accepted client id result ∷ os) = to_replicas os
 to_replicas (outs.Busy client ∷ os) = to_replicas os
+to_replicas (outs.Trimmed first entries ∷ os) = to_replicas os

@@ -1,5 +1,5 @@
 ghost use Rattle.std.specs.Prelude.{◌≡◌};
-ghost use Rattle.nop_types.specs.Logs.{Whole};
+ghost use Rattle.nop_types.specs.Logs.{Trimmed};
 ghost use Rattle.slot_lookup.specs.Answer.{given, answer_of};
 
 use crate::Answer;
@@ -8,12 +8,15 @@ use replica_log::ReplicaLog;
 
 /// The answer of a leader with this log. `waiting` says whether one of its gap agreements waits for votes. It takes no memory.
 pub fn answer(log: &ReplicaLog, waiting: bool, slot: u32) -> Answer<'_>
-    ensures { given result ≡ answer_of Whole log.now waiting slot }
+    ensures { given result ≡ answer_of Trimmed log.now waiting slot }
 {
+    if slot <= log.sync_point() {
+        return Answer::Below;
+    }
     match log.at(slot) {
         Some(Entry::Req(request)) => Answer::Found(request),
         Some(Entry::NoOp) => Answer::GapAgain,
-        None if slot == log.len() + 1 && !waiting && log.has_room() => Answer::Begin,
+        None if !waiting && log.has_room() && slot == log.len() + 1 => Answer::Begin,
         None => Answer::Nothing,
     }
 }

@@ -37,7 +37,7 @@ pub fn watch<H: Host>(
 ) -> Result<(), NoMemory> {
     for number in 0..world.config().replicas() {
         if let Some(replica) = world.replica(number) {
-            recorder.watch(standing_of(alloc, number, replica)?);
+            recorder.watch(standing_of(alloc, number, world, replica)?);
         }
     }
     Ok(())
@@ -71,7 +71,7 @@ fn observe_standing<H: Host>(
     let Some(replica) = world.replica(number) else {
         return Ok(());
     };
-    recorder.put_standing(turn, standing_of(alloc, number, replica)?);
+    recorder.put_standing(turn, standing_of(alloc, number, world, replica)?);
     Ok(())
 }
 

@@ -6,6 +6,7 @@ use nop_types::{Entry, Host, NoMemory, Phase, View, leader_of};
 use picture::{Mark, Role, Text};
 use replica_core::Replica;
 use std::alloc::Global;
+use world::World;
 
 /// How many changed slots of a step have notes of their own, at most.
 const MAX_SLOT_NOTES: usize = 4;
@@ -37,18 +38,27 @@ fn request_in(entry: &Entry) -> Option<Held> {
     }
 }
 
-fn slots_of(alloc: Global, log: &[Entry]) -> Result<Vec<Option<Held>>, NoMemory> {
+/// The slots of a replica's log, those that moved out of it among them.
+fn slots_of<H: Host>(
+    alloc: Global,
+    number: u8,
+    world: &World<H>,
+    len: u32,
+) -> Result<Vec<Option<Held>>, NoMemory> {
     let mut slots = Vec::new(alloc);
-    for entry in log {
-        slots.push(request_in(entry))?;
+    for place in 0..len {
+        if let Some(entry) = world.entry(number, place + 1) {
+            slots.push(request_in(entry))?;
+        }
     }
     Ok(slots)
 }
 
-/// How a replica stands.
+/// How a replica of a world stands.
 pub fn standing_of<H: Host>(
     alloc: Global,
     number: u8,
+    world: &World<H>,
     replica: &Replica<H>,
 ) -> Result<Standing, NoMemory> {
     Ok(Standing {
@@ -56,7 +66,7 @@ pub fn standing_of<H: Host>(
         view: replica.view(),
         status: replica.status(),
         sync_point: replica.sync_point(),
-        slots: slots_of(alloc, replica.log().entries())?,
+        slots: slots_of(alloc, number, world, replica.log().len())?,
     })
 }
 

@@ -51,9 +51,9 @@ with_vote_for x q len = cond (x.len == len) (record x { votes = with_vote x.vote
 abbrev pub round_vote : ℕ → Round → ℕ → ℕ → Vote
 round_vote f x q len = cond (x.len == len) (vote_of f (with_vote x.votes q)) Waiting
 
--- a settled round makes its length the sync point
+-- a settled round makes its length the sync point, which never falls
 abbrev pub closed : Synchronisation → Round → Vote → Synchronisation
-closed s x Settled = record s { sync_point = x.len; syncing = None }
+closed s x Settled = record s { sync_point = max s.sync_point x.len; syncing = None }
 closed s x Waiting = record s { syncing = Some x }
 
 abbrev pub counted_in : Synchronisation → Option Round → ℕ → ℕ → Synchronisation

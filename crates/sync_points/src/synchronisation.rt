@@ -139,8 +139,8 @@ impl SyncPoints {
         self.prepared = self.prepared.max(len);
     }
 
-    /// Counts the vote of another replica for a length, where that is the length of the round. At `f` votes the sync point is
-    /// that length, and no round is under way.
+    /// Counts the vote of another replica for a length, where that is the length of the round. At `f` votes the sync point rises
+    /// to that length, and no round is under way.
     pub fn on_rep(&mut self, sender: u8, len: u32) -> Vote
         requires { sender < MAX_REPLICAS }
         ensures after { self.new ≡ counted self.old sender len }
@@ -151,7 +151,7 @@ impl SyncPoints {
             None => Vote::Waiting,
         };
         if let Vote::Settled = vote {
-            self.sync_point = len;
+            self.sync_point = self.sync_point.max(len);
             self.syncing = None;
         }
         vote

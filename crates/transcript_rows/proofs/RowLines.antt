@@ -16,7 +16,7 @@ use Rattle.nop_types.specs.declared.replica_state.Phase.TheVariants.{Normal, Cha
 use Rattle.nop_types.specs.declared.request.Entry.{Entry}
 use Rattle.nop_types.specs.declared.request.Entry.TheVariants.{NoOp, Req}
 use Rattle.nop_types.specs.declared.request.Request.{Request}
-use Rattle.transcript_rows.proofs.RowTexts.{small, actor_there, kind_read, sent_parts, state_parts, slot_parts, word_marked, fields_marked}
+use Rattle.transcript_rows.proofs.RowTexts.{small, actor_there, kind_read, sent_parts, state_named, slot_parts, word_marked, fields_marked}
 use Rattle.transcript_rows.proofs.RowTexts.{header_fields, header_marked, spelled, spelled_header}
 use Rattle.transcript_rows.specs.Reading.{limits}
 use Rattle.transcript_rows.specs.Rows.{row_word, row_fields, actor_fits, dest_fits, pair_fits, request_fits, entry_fits, row_fits}
@@ -114,14 +114,13 @@ fields_width (Sent index from dest kind len) e typed =
     (one_more (decimal len) [] 20 0 21 (decimal_short len (omega arith)) no_field (omega arith)) (omega arith)) (omega arith)) (omega arith))
     (omega arith)
 fields_width (State replica crashed status view len sync_point) e typed =
-    let p = state_parts replica view.session len sync_point e in
-    let short = p.len_fits in
-    let point = p.sync_fits in
-    let leader = typed.0 in
-    let session = typed.1 in
+    let leader = typed.leader in
+    let session = typed.session in
+    let short = typed.len_fits in
+    let point = typed.point_fits in
     one_more (actor_text (actors.Replica replica))
     (up_text crashed ∷ phase_text status ∷ decimal view.leader ∷ decimal view.session ∷ decimal len ∷ decimal sync_point ∷ []) 21 126 1400
-    (name_short (actors.Replica replica) p.named)
+    (name_short (actors.Replica replica) (state_named replica view.session e))
     (one_more (up_text crashed) (phase_text status ∷ decimal view.leader ∷ decimal view.session ∷ decimal len ∷ decimal sync_point ∷ []) 20 105
     126 (up_short crashed)
     (one_more (phase_text status) (decimal view.leader ∷ decimal view.session ∷ decimal len ∷ decimal sync_point ∷ []) 20 84 105
@@ -134,9 +133,9 @@ fields_width (State replica crashed status view len sync_point) e typed =
     (omega arith)) (omega arith)) (omega arith)) (omega arith)
 fields_width (Slot replica slot entry) e typed =
     let p = slot_parts replica slot entry e in
-    let low = p.slot_fits in
+    let low = typed.0 in
     one_more (actor_text (actors.Replica replica)) (decimal slot ∷ entry_fields entry) 21 1345 1400 (name_short (actors.Replica replica) p.named)
-    (one_more (decimal slot) (entry_fields entry) 20 1324 1345 (decimal_short slot (omega arith)) (entry_width entry p.fits typed) (omega arith))
+    (one_more (decimal slot) (entry_fields entry) 20 1324 1345 (decimal_short slot (omega arith)) (entry_width entry p.fits typed.1) (omega arith))
     (omega arith)
 fields_width (Member place request) e typed =
     let p = and_parts (nat_le 1 place) (request_fits request) e in

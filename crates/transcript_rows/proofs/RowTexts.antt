@@ -12,7 +12,6 @@ use Rattle.line_fields.proofs.FieldTexts.{is_mark, decimal_marked, number_again,
 use Rattle.line_fields.proofs.FieldTexts.{hex_marked, hex_within, AllMarked, line_fields, actor_marked}
 use Rattle.line_fields.proofs.FieldTexts.{starts_with_digit}
 use Rattle.nop_types.specs.declared.limits.TheConstants.{MAX_CLIENTS, MAX_OP_BYTES, MAX_REPLICAS, MAX_RESULT_BYTES, MAX_SEQUENCERS}
-use Rattle.nop_types.specs.declared.limits.TheConstants.{MAX_SLOTS}
 use Rattle.nop_types.specs.declared.output.Actor.{Actor}
 use Rattle.nop_types.specs.declared.output.Actor.TheVariants as actors
 use Rattle.nop_types.specs.declared.output.Dest.{Dest}
@@ -180,44 +179,27 @@ sent_parts from dest kind len e =
       len_fits = leb-true len MAX_SENT_BYTES g.1;
     }
 
-pub record StateParts (replica session len sync_point : ℕ) : Type 0 where
-  pub named : nat_lt replica MAX_REPLICAS ≡ true
-  pub len_fits : len ≤ 4096
-  pub sync_fits : sync_point ≤ 4096
+-- what the ranges of a replica's line are
+pub state_named : (replica session : ℕ) → (nat_lt replica MAX_REPLICAS && nat_le 1 session) ≡ true → nat_lt replica MAX_REPLICAS ≡ true
+state_named replica session e = (and_parts (nat_lt replica MAX_REPLICAS) (nat_le 1 session) e).0
 
-pub state_parts : (replica session len sync_point : ℕ)
-    → (nat_lt replica MAX_REPLICAS && (nat_le 1 session && (nat_le len MAX_SLOTS && nat_le sync_point MAX_SLOTS))) ≡ true
-    → StateParts replica session len sync_point
-state_parts replica session len sync_point e =
-    let a = and_parts (nat_lt replica MAX_REPLICAS) (nat_le 1 session && (nat_le len MAX_SLOTS && nat_le sync_point MAX_SLOTS)) e in
-    let b = and_parts (nat_le 1 session) (nat_le len MAX_SLOTS && nat_le sync_point MAX_SLOTS) a.1 in
-    let d = and_parts (nat_le len MAX_SLOTS) (nat_le sync_point MAX_SLOTS) b.1 in
-    record { named = a.0; len_fits = leb-true len MAX_SLOTS d.0; sync_fits = leb-true sync_point MAX_SLOTS d.1 }
-
-pub record SlotParts (replica slot : ℕ) (entry : Entry) : Type 0 where
+pub record SlotParts (replica : ℕ) (entry : Entry) : Type 0 where
   pub named : nat_lt replica MAX_REPLICAS ≡ true
-  pub slot_fits : slot ≤ 4096
   pub fits : entry_fits entry ≡ true
 
 pub slot_parts : (replica slot : ℕ) (entry : Entry)
-    → (nat_lt replica MAX_REPLICAS && (nat_le 1 slot && (nat_le slot MAX_SLOTS && entry_fits entry))) ≡ true
-    → SlotParts replica slot entry
+    → (nat_lt replica MAX_REPLICAS && (nat_le 1 slot && entry_fits entry)) ≡ true → SlotParts replica entry
 slot_parts replica slot entry e =
-    let a = and_parts (nat_lt replica MAX_REPLICAS) (nat_le 1 slot && (nat_le slot MAX_SLOTS && entry_fits entry)) e in
-    let b = and_parts (nat_le 1 slot) (nat_le slot MAX_SLOTS && entry_fits entry) a.1 in
-    let d = and_parts (nat_le slot MAX_SLOTS) (entry_fits entry) b.1 in
-    record { named = a.0; slot_fits = leb-true slot MAX_SLOTS d.0; fits = d.1 }
+    let a = and_parts (nat_lt replica MAX_REPLICAS) (nat_le 1 slot && entry_fits entry) e in
+    record { named = a.0; fits = (and_parts (nat_le 1 slot) (entry_fits entry) a.1).1 }
 
 -- the word of a client is no word of an entry
-slot_read : (replica slot : ℕ) (entry : Entry) → SlotParts replica slot entry → IsTypedEntry entry
+slot_read : (replica slot : ℕ) (entry : Entry) → SlotParts replica entry → slot < 2 ^ 32 → IsTypedEntry entry
     → row_of_fields (codes "entry" ∷ row_fields (Slot replica slot entry)) ≡ Some (Slot replica slot entry)
 unfolding row_of_fields
-slot_read replica slot NoOp parts typed =
-    let low = parts.slot_fits in
-    rw (replica_read replica parts.named, word_read slot (omega arith)) refl
-slot_read replica slot (Req r) parts typed =
-    let low = parts.slot_fits in
-    rw (replica_read replica parts.named, word_read slot (omega arith), request_read r parts.fits typed) refl
+slot_read replica slot NoOp parts low typed = rw (replica_read replica parts.named, word_read slot low) refl
+slot_read replica slot (Req r) parts low typed =
+    rw (replica_read replica parts.named, word_read slot low, request_read r parts.fits typed) refl
 
 row_read : (row : Row) → row_fits row ≡ true → IsTyped row → row_of_fields (row_word row ∷ row_fields row) ≡ Some row
 unfolding row_of_fields
@@ -235,15 +217,12 @@ row_read (Sent index from dest kind len) e typed =
     (rw (actor_read from p.from_fits)
     (rw (dest_read dest p.to_fits) (rw ((kind_read kind p.low p.high).read) (rw (word_read len (omega arith)) refl))))
 row_read (State replica crashed status view len sync_point) e typed =
-    let p = state_parts replica view.session len sync_point e in
-    let short = p.len_fits in
-    let point = p.sync_fits in
-    rw (replica_read replica p.named)
-    (rw (word_read view.leader typed.0)
-    (rw (word_read view.session typed.1)
-    (rw (word_read len (omega arith))
-    (rw (word_read sync_point (omega arith)) (rw (crashed_read crashed, status_read status) refl)))))
-row_read (Slot replica slot entry) e typed = slot_read replica slot entry (slot_parts replica slot entry e) typed
+    rw (replica_read replica (state_named replica view.session e))
+    (rw (word_read view.leader typed.leader)
+    (rw (word_read view.session typed.session)
+    (rw (word_read len typed.len_fits)
+    (rw (word_read sync_point typed.point_fits) (rw (crashed_read crashed, status_read status) refl)))))
+row_read (Slot replica slot entry) e typed = slot_read replica slot entry (slot_parts replica slot entry e) typed.0 typed.1
 row_read (Member place request) e typed =
     let p = and_parts (nat_le 1 place) (request_fits request) e in
     rw (word_read place typed.0) (rw (request_read request p.1 typed.1) refl)
@@ -271,12 +250,11 @@ fields_marked (Sent index from dest kind len) e typed =
       ),
     )
 fields_marked (State replica crashed status view len sync_point) e typed =
-    let p = state_parts replica view.session len sync_point e in
-    let short = p.len_fits in
-    let point = p.sync_fits in
-    let leader = typed.0 in
-    let session = typed.1 in (
-      name_marked (actors.Replica replica) p.named,
+    let leader = typed.leader in
+    let session = typed.session in
+    let short = typed.len_fits in
+    let point = typed.point_fits in (
+      name_marked (actors.Replica replica) (state_named replica view.session e),
       (
         up_marked crashed,
         (
@@ -290,8 +268,8 @@ fields_marked (State replica crashed status view len sync_point) e typed =
     )
 fields_marked (Slot replica slot entry) e typed =
     let p = slot_parts replica slot entry e in
-    let low = p.slot_fits in
-    (name_marked (actors.Replica replica) p.named, (decimal_marked slot (omega arith), entry_marked entry p.fits typed))
+    let low = typed.0 in
+    (name_marked (actors.Replica replica) p.named, (decimal_marked slot (omega arith), entry_marked entry p.fits typed.1))
 fields_marked (Member place request) e typed =
     let p = and_parts (nat_le 1 place) (request_fits request) e in
     let low = typed.0 in

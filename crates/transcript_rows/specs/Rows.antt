@@ -2,13 +2,14 @@
 use Rattle.std.specs.Prelude.{◌≡◌, ℕ, ◌<◌, ◌≤◌, ◌^◌, ⊤, List, [], ◌∷◌, length, codes, decimal, Bool, true, ◌&&◌, nat_lt, nat_le}
 use Rattle.hex.specs.Hex.{IsBytes}
 use Rattle.nop_types.specs.declared.limits.TheConstants.{MAX_CLIENTS, MAX_OP_BYTES, MAX_REPLICAS, MAX_RESULT_BYTES}
-use Rattle.nop_types.specs.declared.limits.TheConstants.{MAX_SEQUENCERS, MAX_SLOTS}
+use Rattle.nop_types.specs.declared.limits.TheConstants.{MAX_SEQUENCERS}
 use Rattle.nop_types.specs.declared.kinds.TheConstants.{REQUEST, FRAGMENT}
 use Rattle.nop_types.specs.declared.output.Actor.{Actor}
 use Rattle.nop_types.specs.declared.output.Actor.TheVariants.{Replica, Sequencer, Client, Controller}
 use Rattle.nop_types.specs.declared.output.Dest.{Dest}
 use Rattle.nop_types.specs.declared.output.Dest.TheVariants.{Replicas, Sequencers, One}
 use Rattle.nop_types.specs.declared.request.Request.{Request}
+use Rattle.nop_types.specs.declared.view.View.{View}
 use Rattle.nop_types.specs.declared.request.Entry.{Entry}
 use Rattle.nop_types.specs.declared.request.Entry.TheVariants.{NoOp, Req}
 use Rattle.transcript_rows.specs.declared.row.Row.{Row}
@@ -87,9 +88,8 @@ row_fits (Accept client id result) = pair_fits client id && nat_le (length resul
 row_fits (Busy client) = nat_lt client MAX_CLIENTS
 row_fits (Sent index from dest kind len) =
     actor_fits from && (dest_fits dest && (nat_le REQUEST kind && (nat_le kind FRAGMENT && nat_le len MAX_SENT_BYTES)))
-row_fits (State replica crashed status view len sync_point) =
-    nat_lt replica MAX_REPLICAS && (nat_le 1 view.session && (nat_le len MAX_SLOTS && nat_le sync_point MAX_SLOTS))
-row_fits (Slot replica slot entry) = nat_lt replica MAX_REPLICAS && (nat_le 1 slot && (nat_le slot MAX_SLOTS && entry_fits entry))
+row_fits (State replica crashed status view len sync_point) = nat_lt replica MAX_REPLICAS && nat_le 1 view.session
+row_fits (Slot replica slot entry) = nat_lt replica MAX_REPLICAS && (nat_le 1 slot && entry_fits entry)
 row_fits (Member place request) = nat_le 1 place && request_fits request
 row_fits End = true
 
@@ -104,14 +104,21 @@ abbrev pub IsTypedEntry : Entry → Type 0
 IsTypedEntry NoOp = ⊤
 IsTypedEntry (Req r) = IsTypedRequest r
 
+-- a view, a length and a sync point
+pub record IsTypedState (view : View) (len sync_point : ℕ) : Type 0 where
+  pub leader : view.leader < 2 ^ 32
+  pub session : view.session < 2 ^ 32
+  pub len_fits : len < 2 ^ 32
+  pub point_fits : sync_point < 2 ^ 32
+
 abbrev pub IsTyped : Row → Type 0
 IsTyped (Dead actor) = ⊤
 IsTyped (Submit request) = IsTypedRequest request
 IsTyped (Accept client id result) = (id < 2 ^ 64) × IsBytes result
 IsTyped (Busy client) = ⊤
 IsTyped (Sent index from dest kind len) = index < 2 ^ 64
-IsTyped (State replica crashed status view len sync_point) = (view.leader < 2 ^ 32) × (view.session < 2 ^ 32)
-IsTyped (Slot replica slot entry) = IsTypedEntry entry
+IsTyped (State replica crashed status view len sync_point) = IsTypedState view len sync_point
+IsTyped (Slot replica slot entry) = (slot < 2 ^ 32) × IsTypedEntry entry
 IsTyped (Member place request) = (place < 2 ^ 32) × IsTypedRequest request
 IsTyped End = ⊤
 

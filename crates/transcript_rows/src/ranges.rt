@@ -8,8 +8,8 @@ ghost use Rattle.transcript_rows.specs.Rows.{IsTyped};
 
 use crate::row::{MAX_SENT_BYTES, Row};
 use nop_types::{
-    Actor, Dest, Entry, MAX_CLIENTS, MAX_REPLICAS, MAX_RESULT_BYTES, MAX_SEQUENCERS, MAX_SLOTS,
-    Request, View, kinds,
+    Actor, Dest, Entry, MAX_CLIENTS, MAX_REPLICAS, MAX_RESULT_BYTES, MAX_SEQUENCERS, Request, View,
+    kinds,
 };
 
 fn actor_fits(actor: Actor) -> bool
@@ -76,28 +76,12 @@ pub(crate) fn row_fits(row: &Row) -> bool
                 && *kind <= kinds::FRAGMENT
                 && *len <= MAX_SENT_BYTES
         }
-        Row::State {
-            replica,
-            view,
-            len,
-            sync_point,
-            ..
-        } => {
-            *replica < MAX_REPLICAS
-                && 1 <= view.session
-                && *len as usize <= MAX_SLOTS
-                && *sync_point as usize <= MAX_SLOTS
-        }
+        Row::State { replica, view, .. } => *replica < MAX_REPLICAS && 1 <= view.session,
         Row::Slot {
             replica,
             slot,
             entry,
-        } => {
-            *replica < MAX_REPLICAS
-                && 1 <= *slot
-                && *slot as usize <= MAX_SLOTS
-                && entry_fits(entry)
-        }
+        } => *replica < MAX_REPLICAS && 1 <= *slot && entry_fits(entry),
         Row::Member { place, request } => 1 <= *place && request_fits(request),
         Row::End => true,
     }
@@ -144,8 +128,20 @@ pub(crate) fn typed(row: &Row)
         Row::Sent { index, .. } => {
             let _index = *index;
         }
-        Row::State { view, .. } => typed_view(*view),
-        Row::Slot { entry, .. } => typed_entry(entry),
+        Row::State {
+            view,
+            len,
+            sync_point,
+            ..
+        } => {
+            let _len = *len;
+            let _sync_point = *sync_point;
+            typed_view(*view);
+        }
+        Row::Slot { slot, entry, .. } => {
+            let _slot = *slot;
+            typed_entry(entry);
+        }
         Row::Member { place, request } => {
             let _place = *place;
             typed_request(request);

@@ -3,7 +3,6 @@ use Rattle.std.proofs.Common.{◌≡◌, ℕ, zero, suc, ◌+◌, ◌-◌, ◌�
 use Rattle.std.proofs.Common.{Option, Some, None, refl, sym, ap, ◌∙◌, arith}
 use Rattle.std.specs.Prelude.{nat_lt, nat_le, ◌==◌, ◌&&◌, not}
 use Rattle.std.specs.Option.{option_map}
-use Rattle.std.proofs.lemmas.Bool.{eqb-true}
 use Rattle.std.proofs.lemmas.List.{length-map}
 use Rattle.std.proofs.lemmas.Bool.Decides.{nat_tests}
 use Rattle.nop_types.specs.declared.limits.TheConstants.{MAX_SLOTS}
@@ -19,7 +18,7 @@ use Rattle.nop_types.specs.declared.peer.Change.{Change}
 use Rattle.nop_types.specs.CheckpointedLogs.{slot_result}
 use Rattle.nop_types.specs.Checkpoints.{KeepsTo}
 use Rattle.nop_types.specs.Logs as logs
-use Rattle.nop_types.specs.Logs.{Log, Whole, Trimmed, IsWithin, length_of, above, first}
+use Rattle.nop_types.specs.Logs.{Log, Whole, Trimmed, whole, IsWithin, length_of, above, unsynced, first}
 use Rattle.nop_types.specs.Meaning.{Meaning}
 use Rattle.nop_types.specs.PlainChanges.{plain}
 use Rattle.gap_agree.specs.Votes.{with_vote}
@@ -27,26 +26,28 @@ use Rattle.log_merge.specs.Merging.{kept_told, merged}
 use Rattle.log_merge.specs.Starting.{start_of}
 use Rattle.oum_receiver.specs.Front.{Front, Nothing, Message, Dropped}
 use Rattle.oum_receiver.specs.Receiving.{advanced, front_taken, front_of}
-use Rattle.replica_log.proofs.Adopted.{adopted_point, overlaid_point}
 use Rattle.sync_points.specs.Synchronisation as synchronisation
 use Rattle.sync_points.specs.Synchronisation.{Synchronisation, Round, cleared, raised, with_round, committed, vote_for, vote_in}
 use Rattle.trimming.specs.Merging.{trim_change}
 use Rattle.trimming.specs.Trimming.{trim}
 use Rattle.trimming.proofs.Executions.{result_trims}
-use Rattle.trimming.proofs.Logs.{length_trims, above_trims, append_trims, noop_trims, first_trims, raise_trims, adopt_trims, overlay_trims}
-use Rattle.trimming.proofs.Logs.{further_within, adopted_within, overlaid_within, appended_within, noop_within}
+use Rattle.trimming.proofs.Logs as trims
+use Rattle.trimming.proofs.Logs.{length_trims, above_trims, unsynced_trims, between_trims, append_trims, noop_trims, first_trims}
+use Rattle.trimming.proofs.Logs.{raise_trims, adopt_trims, overlay_trims, adopted_point, overlaid_point, further_within, adopted_within, overlaid_within}
+use Rattle.trimming.proofs.Logs.{appended_within, noop_within}
 use Rattle.view_change.specs.Gathering.{Gathering}
 use Rattle.replica_state.specs.declared.sending.Sending.{Sending}
+use Rattle.replica_state.specs.declared.sending.Sending.TheVariants.{Trims}
 use Rattle.replica_state.specs.declared.state.ReplicaState.{ReplicaState}
 use Rattle.replica_state.specs.Moves as moves
 use Rattle.replica_state.specs.Moves.{entered, enter, enter_as, change_told, left, listening_from, hear, start_len}
 use Rattle.replica_state.specs.Replies as replies
 use Rattle.replica_state.specs.Sends.{Effect, still, then_do, when, to_all, to_replica, to_leader}
 use Rattle.replica_state.specs.State as state
-use Rattle.replica_state.specs.State.{PointsMeet, others, leads, waits, is_normal, has_room, drains}
+use Rattle.replica_state.specs.State.{PointsMeet, others, leads, waits, is_normal, has_risen, has_room, drains}
 use Rattle.replica_state.specs.Repeating as repeating
 use Rattle.replica_rows.specs.Rows as rows
-use Rattle.replica_rows.specs.Rows.{drain_if_risen}
+use Rattle.replica_rows.specs.Rows.{raise_and_drain}
 use Rattle.trimmed_rows.specs.Premises.{PointsWithin, Opens}
 use Rattle.trimmed_rows.specs.Trimmed.{trimmed_sending, trimmed_gathering}
 use Rattle.trimmed_rows.proofs.Composing.{Stands, st, ts, ef, Goes, map-both, still_goes, then_goes, then_same, when_goes, all_trims}
@@ -56,7 +57,7 @@ module _ {S : Type 0} (m : Meaning S) where
   -- ---- words on the state
 
   pub room_trims : (s : ReplicaState) → Stands s → has_room Trimmed (st m s) ≡ has_room Whole s
-  room_trims s h = ap (λ (n : ℕ). nat_lt n MAX_SLOTS) (length_trims m s.log h.within)
+  room_trims s h = trims.room_trims m s.log h.within
 
   drains_trims : (s : ReplicaState) → Stands s → drains Trimmed (st m s) ≡ drains Whole s
   drains_trims s h = ap (λ (b : Bool). is_normal s.status && (not (waits s.gap) && b)) (room_trims s h)
@@ -158,13 +159,13 @@ module _ {S : Type 0} (m : Meaning S) where
   adopted_stands : (s : ReplicaState) (w : View) (x : ℕ) (l : Log) → IsWithin l → Stands s → Stands (moves.adopted Whole s w x l)
   adopted_stands s w x l g h = record {
     within = adopted_within l s.log (further_within l s.log g h.within);
-    points = adopted_point l s.log ∙ ap (λ (n : ℕ). max n l.sync_point) h.points;
+    points = adopted_point Whole l s.log ∙ ap (λ (n : ℕ). max n l.sync_point) h.points;
   }
 
   overlaid_stands : (s : ReplicaState) (l : Log) → IsWithin l → Stands s → Stands (moves.overlaid Whole s l)
   overlaid_stands s l g h = record {
     within = overlaid_within l s.log (further_within l s.log g h.within);
-    points = overlaid_point l s.log ∙ ap (λ (n : ℕ). max n l.sync_point) h.points;
+    points = overlaid_point Whole l s.log ∙ ap (λ (n : ℕ). max n l.sync_point) h.points;
   }
 
   adopted_trims : (s : ReplicaState) (w : View) (x : ℕ) (l : Log) → IsWithin l → Stands s
@@ -328,9 +329,9 @@ module _ {S : Type 0} (m : Meaning S) (IsSound : S → Type 0) (keeps : KeepsTo 
   pub drain_goes : (s : ReplicaState) → Stands s → Goes m (moves.drain m Trimmed (st m s)) (moves.drain m Whole s)
   unfolding moves.drain
   drain_goes s h =
-      let r = drain_by_goes (MAX_SLOTS - length s.log.entries) s h in
+      let r = drain_by_goes (MAX_SLOTS - unsynced Whole s.log) s h in
       record {
-        same = ap (λ (n : ℕ). moves.drain_by m Trimmed (MAX_SLOTS - n) (st m s)) (length_trims m s.log h.within) ∙ r.same;
+        same = ap (λ (n : ℕ). moves.drain_by m Trimmed (MAX_SLOTS - n) (st m s)) (unsynced_trims m s.log h.within) ∙ r.same;
         stands = r.stands;
       }
 
@@ -424,24 +425,31 @@ module _ {S : Type 0} (m : Meaning S) (IsSound : S → Type 0) (keeps : KeepsTo 
   risen_stands : (s : ReplicaState) → s.sync.sync_point ≤ length s.log.entries → Stands (moves.risen m Whole s)
   risen_stands s most = record { within = most; points = refl }
 
-  -- of votes the sync point of the log knows only once it rises
-  pub drain_if_risen_goes : (n : ℕ) (s : ReplicaState) → s.log.sync_point ≡ n → n ≤ s.sync.sync_point
-      → s.sync.sync_point ≤ length s.log.entries → Goes m (drain_if_risen m Trimmed n (st m s)) (drain_if_risen m Whole n s)
-  drain_if_risen_goes n s e low most = on (n == s.sync.sync_point) refl
+  raise_goes : (s : ReplicaState) → s.log.sync_point < s.sync.sync_point → s.sync.sync_point ≤ length s.log.entries
+      → Goes m (moves.raise m Trimmed (st m s)) (moves.raise m Whole s)
+  raise_goes s less most = record {
+    same =
+        ap (λ (u : ReplicaState). (u, Trims (s.log.sync_point + 1) (moves.passed_entries Trimmed (st m s)) ∷ []))
+        (risen_trims s (omega (arith, less)) (omega (arith, less)))
+        ∙ ap (λ (es : List Entry). (st m (moves.risen m Whole s), Trims (s.log.sync_point + 1) (whole 0 es) ∷ []))
+        (between_trims m s.log s.sync.sync_point);
+    stands = risen_stands s most;
+  }
+
+  -- of votes the log knows only once its sync point rises
+  pub raise_and_drain_goes : (s : ReplicaState) → s.log.sync_point ≤ s.sync.sync_point → s.sync.sync_point ≤ length s.log.entries
+      → Goes m (raise_and_drain m Trimmed (st m s)) (raise_and_drain m Whole s)
+  raise_and_drain_goes s low most = on (has_risen s) refl
     where
-      on : (b : Bool) → (n == s.sync.sync_point) ≡ b
-          → Goes m (when (not b) (λ t. moves.drain m Trimmed (moves.risen m Trimmed t)) (st m s))
-          (when (not b) (λ t. moves.drain m Whole (moves.risen m Whole t)) s)
-      on false is =
-          let less : n < s.sync.sync_point = grind (arith, nat_tests, is, low) in
-          let r = drain_goes (moves.risen m Whole s) (risen_stands s most) in
-          record {
-            same = ap (moves.drain m Trimmed) (risen_trims s (omega (arith, e, low)) (omega (arith, less))) ∙ r.same;
-            stands = r.stands;
-          }
+      on : (b : Bool) → has_risen s ≡ b
+          → Goes m (when b (λ t. then_do (moves.raise m Trimmed t) (moves.drain m Trimmed)) (st m s))
+          (when b (λ t. then_do (moves.raise m Whole t) (moves.drain m Whole)) s)
       on true is =
-          let same : n ≡ s.sync.sync_point = eqb-true n s.sync.sync_point is in
-          still_goes m s (record { within = omega (arith, e, most, same); points = omega (arith, e, same) })
+          let less : s.log.sync_point < s.sync.sync_point = grind (arith, nat_tests, is) in
+          drained (moves.raise m Trimmed (st m s)) (moves.raise m Whole s) (raise_goes s less most)
+      on false is =
+          let high : s.sync.sync_point ≤ s.log.sync_point = grind (arith, nat_tests, is) in
+          still_goes m s (record { within = omega (arith, low, high, most); points = omega (arith, low, high) })
 
   -- ---- votes
 
@@ -450,17 +458,23 @@ module _ {S : Type 0} (m : Meaning S) (IsSound : S → Type 0) (keeps : KeepsTo 
   sync_commit_goes n s h = on (nat_le n s.sync.prepared) refl
     where
       on : (b : Bool) → nat_le n s.sync.prepared ≡ b
-          → Goes m (then_do (when b (λ t. moves.obey (hear t) n) (st m s)) (drain_if_risen m Trimmed s.sync.sync_point))
-          (then_do (when b (λ t. moves.obey (hear t) n) s) (drain_if_risen m Whole s.sync.sync_point))
+          → Goes m (then_do (when b (λ t. moves.obey (hear t) n) (st m s)) (raise_and_drain m Trimmed))
+          (then_do (when b (λ t. moves.obey (hear t) n) s) (raise_and_drain m Whole))
       on true is =
           let few : n ≤ s.sync.prepared = grind (arith, nat_tests, is) in
           let u : ReplicaState = record (hear s) { sync = committed s.sync n } in
           let point : u.sync.sync_point ≡ max s.sync.sync_point n = ap (λ (b : Bool). (cond b (record s.sync { sync_point = max s.sync.sync_point n }) s.sync).sync_point) is in
-          let r = drain_if_risen_goes s.sync.sync_point u h.points (omega (arith, point)) (omega (arith, point, few, h.prepared, h.sync_point)) in
-          record { same = then_same m (still (st m u)) (still u) (drain_if_risen m Trimmed s.sync.sync_point) (drain_if_risen m Whole s.sync.sync_point) refl r.same; stands = r.stands }
+          let r = raise_and_drain_goes u (omega (arith, h.points, point)) (omega (arith, point, few, h.prepared, h.sync_point)) in
+          record {
+            same = then_same m (still (st m u)) (still u) (raise_and_drain m Trimmed) (raise_and_drain m Whole) refl r.same;
+            stands = r.stands;
+          }
       on false is =
-          let r = drain_if_risen_goes s.sync.sync_point s h.points (omega arith) h.sync_point in
-          record { same = then_same m (still (st m s)) (still s) (drain_if_risen m Trimmed s.sync.sync_point) (drain_if_risen m Whole s.sync.sync_point) refl r.same; stands = r.stands }
+          let r = raise_and_drain_goes s (omega (arith, h.points)) h.sync_point in
+          record {
+            same = then_same m (still (st m s)) (still s) (raise_and_drain m Trimmed) (raise_and_drain m Whole) refl r.same;
+            stands = r.stands;
+          }
 
   commit_trims : (s : ReplicaState) (n : ℕ) (w : Vote) → moves.commit_if (st m s) n w ≡ ts m (moves.commit_if s n w)
   commit_trims s n Settled = all_trims m (others s == 0) s (bodies.SyncCommit n)
@@ -468,7 +482,7 @@ module _ {S : Type 0} (m : Meaning S) (IsSound : S → Type 0) (keeps : KeepsTo 
 
   -- where a vote leaves the sync point
   voted : (f : ℕ) (y : Synchronisation) (o : Option Round) (q n top : ℕ) → y.sync_point ≤ top
-      → ((x : Round) → o ≡ Some x → (y.sync_point < x.len) × (x.len ≤ top))
+      → ((x : Round) → o ≡ Some x → x.len ≤ top)
       → (y.sync_point ≤ (synchronisation.counted_in y o q n).sync_point) × ((synchronisation.counted_in y o q n).sync_point ≤ top)
   voted f y None q n top low rounds = (omega arith, low)
   voted f y (Some x) q n top low rounds = on (x.len == n) (synchronisation.round_vote y.f x q n)
@@ -476,8 +490,8 @@ module _ {S : Type 0} (m : Meaning S) (IsSound : S → Type 0) (keeps : KeepsTo 
       on : (b : Bool) (w : Vote)
           → (y.sync_point ≤ (synchronisation.closed y (cond b (record x { votes = with_vote x.votes q }) x) w).sync_point)
           × ((synchronisation.closed y (cond b (record x { votes = with_vote x.votes q }) x) w).sync_point ≤ top)
-      on true Settled = (let r = rounds x refl in omega (arith, r.0), let r = rounds x refl in r.1)
-      on false Settled = (let r = rounds x refl in omega (arith, r.0), let r = rounds x refl in r.1)
+      on true Settled = (omega arith, omega (arith, low, rounds x refl))
+      on false Settled = (omega arith, omega (arith, low, rounds x refl))
       on b Waiting = (omega arith, low)
 
   pub sync_reply_goes : (q n : ℕ) (s : ReplicaState) → PointsWithin s → Goes m (rows.sync_reply m Trimmed q n (st m s)) (rows.sync_reply m Whole q n s)
@@ -486,11 +500,11 @@ module _ {S : Type 0} (m : Meaning S) (IsSound : S → Type 0) (keeps : KeepsTo 
       let u : ReplicaState = record s { sync = synchronisation.counted s.sync q n } in
       let d : Effect = (st m u, moves.commit_if (st m s) n (vote_for s.sync q n)) in
       let e : Effect = (u, moves.commit_if s n (vote_for s.sync q n)) in
-      let points = voted s.sync.f s.sync s.sync.syncing q n (length s.log.entries) h.sync_point h.round in
-      let r = drain_if_risen_goes s.sync.sync_point u h.points points.0 points.1 in
+      let points = voted s.sync.f s.sync s.sync.syncing q n (length s.log.entries) h.sync_point (λ x e. (h.round x e).1) in
+      let r = raise_and_drain_goes u (omega (arith, h.points, points.0)) points.1 in
       record {
         same =
-            then_same m d e (drain_if_risen m Trimmed s.sync.sync_point) (drain_if_risen m Whole s.sync.sync_point)
+            then_same m d e (raise_and_drain m Trimmed) (raise_and_drain m Whole)
             (ap (λ (xs : List Sending). (st m u, xs)) (commit_trims s n (vote_for s.sync q n))) r.same;
         stands = r.stands;
       }
@@ -498,17 +512,17 @@ module _ {S : Type 0} (m : Meaning S) (IsSound : S → Type 0) (keeps : KeepsTo 
   -- ---- the tick Sync
 
   open_sync_goes : (s : ReplicaState) → PointsWithin s → s.sync.sync_point < length s.log.entries
-      → Goes m (then_do (moves.open_sync Trimmed (st m s)) (drain_if_risen m Trimmed s.sync.sync_point))
-      (then_do (moves.open_sync Whole s) (drain_if_risen m Whole s.sync.sync_point))
+      → Goes m (then_do (moves.open_sync Trimmed (st m s)) (raise_and_drain m Trimmed))
+      (then_do (moves.open_sync Whole s) (raise_and_drain m Whole))
   open_sync_goes s h less =
       let top : ℕ = length s.log.entries in
       let u : ReplicaState = record s { sync = with_round s.sync top } in
       let points = rounded (s.sync.f == 0) (nat_lt s.sync.sync_point top) in
-      let r = drain_if_risen_goes s.sync.sync_point u h.points points.0 points.1 in
+      let r = raise_and_drain_goes u (omega (arith, h.points, points.0)) points.1 in
       record {
         same =
-            then_same m (moves.open_sync Trimmed (st m s)) (moves.open_sync Whole s) (drain_if_risen m Trimmed s.sync.sync_point)
-            (drain_if_risen m Whole s.sync.sync_point)
+            then_same m (moves.open_sync Trimmed (st m s)) (moves.open_sync Whole s) (raise_and_drain m Trimmed)
+            (raise_and_drain m Whole)
             (ap (λ (n : ℕ). (record (st m s) { sync = with_round s.sync n }, to_all (st m s) (bodies.SyncPrepare (trim m s.log))))
             (length_trims m s.log (omega (arith, h.points, h.sync_point)))
             ∙ ap (λ (xs : List Sending). (st m u, xs)) (all_trims m (others s == 0) s (bodies.SyncPrepare s.log))) r.same;
@@ -530,26 +544,27 @@ module _ {S : Type 0} (m : Meaning S) (IsSound : S → Type 0) (keeps : KeepsTo 
       stands = record { within = omega (arith, h.points, h.sync_point); points = h.points }
 
       by : (b : Bool) → nat_lt s.sync.sync_point (length s.log.entries) ≡ b
-          → Goes m (then_do (repeating.sync_if Trimmed b (st m s)) (drain_if_risen m Trimmed s.sync.sync_point))
-          (then_do (repeating.sync_if Whole b s) (drain_if_risen m Whole s.sync.sync_point))
+          → Goes m (then_do (repeating.sync_if Trimmed b (st m s)) (raise_and_drain m Trimmed))
+          (then_do (repeating.sync_if Whole b s) (raise_and_drain m Whole))
       by true is = open_sync_goes s h (let less : s.sync.sync_point < length s.log.entries = grind (arith, nat_tests, is) in less)
       by false is =
-          then_goes m (moves.repeat_commit (st m s)) (moves.repeat_commit s) (drain_if_risen m Trimmed s.sync.sync_point)
-          (drain_if_risen m Whole s.sync.sync_point) (repeat_goes m s stands)
-          (λ g. drain_if_risen_goes s.sync.sync_point s h.points (omega arith) h.sync_point)
+          then_goes m (moves.repeat_commit (st m s)) (moves.repeat_commit s) (raise_and_drain m Trimmed)
+          (raise_and_drain m Whole) (repeat_goes m s stands)
+          (λ g. raise_and_drain_goes s (omega (arith, h.points)) h.sync_point)
 
       on : (b : Bool)
-          → Goes m (then_do (when b (λ t. repeating.sync_if Trimmed (nat_lt t.sync.sync_point (length_of Trimmed t.log)) t) (st m s)) (drain_if_risen m Trimmed s.sync.sync_point))
-          (then_do (when b (λ t. repeating.sync_if Whole (nat_lt t.sync.sync_point (length_of Whole t.log)) t) s) (drain_if_risen m Whole s.sync.sync_point))
+          → Goes m (then_do (when b (λ t. repeating.sync_if Trimmed (nat_lt t.sync.sync_point (length_of Trimmed t.log)) t) (st m s))
+          (raise_and_drain m Trimmed))
+          (then_do (when b (λ t. repeating.sync_if Whole (nat_lt t.sync.sync_point (length_of Whole t.log)) t) s) (raise_and_drain m Whole))
       on true =
           let r = by (nat_lt s.sync.sync_point (length s.log.entries)) refl in
           record {
             same =
-                ap (λ (n : ℕ). then_do (repeating.sync_if Trimmed (nat_lt s.sync.sync_point n) (st m s)) (drain_if_risen m Trimmed s.sync.sync_point))
+                ap (λ (n : ℕ). then_do (repeating.sync_if Trimmed (nat_lt s.sync.sync_point n) (st m s)) (raise_and_drain m Trimmed))
                 (length_trims m s.log stands.within)
                 ∙ r.same;
             stands = r.stands;
           }
       on false =
-          then_goes m (still (st m s)) (still s) (drain_if_risen m Trimmed s.sync.sync_point) (drain_if_risen m Whole s.sync.sync_point)
-          (still_goes m s stands) (λ g. drain_if_risen_goes s.sync.sync_point s h.points (omega arith) h.sync_point)
+          then_goes m (still (st m s)) (still s) (raise_and_drain m Trimmed) (raise_and_drain m Whole)
+          (still_goes m s stands) (λ g. raise_and_drain_goes s (omega (arith, h.points)) h.sync_point)

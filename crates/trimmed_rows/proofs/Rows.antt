@@ -1,10 +1,11 @@
 -- Each row over trimmed logs.
-use Rattle.std.proofs.Common.{◌≡◌, ℕ, ◌+◌, ◌-◌, ◌<◌, Bool, true, false, List, length, Option, Some, None, refl, sym, ap, subst, ◌∙◌, arith}
+use Rattle.std.proofs.Common.{◌≡◌, ℕ, ◌+◌, ◌-◌, ◌<◌, Bool, true, false, cond, List, length, Option, Some, None}
+use Rattle.std.proofs.Common.{refl, sym, ap, subst, ◌∙◌, arith}
 use Rattle.std.specs.Prelude.{nat_lt, nat_le, ◌==◌, ◌&&◌, ◌||◌, not}
 use Rattle.std.specs.Option.{option_map}
 use Rattle.std.proofs.lemmas.Bool.Decides.{nat_tests}
 use Rattle.std.proofs.lemmas.Option.{same_Some}
-use Rattle.nop_types.specs.declared.limits.TheConstants.{NUMBER_END, MAX_SLOTS}
+use Rattle.nop_types.specs.declared.limits.TheConstants.{NUMBER_END}
 use Rattle.nop_types.specs.declared.view.View.{View}
 use Rattle.nop_types.specs.declared.datagram.Stamped.{Stamped}
 use Rattle.nop_types.specs.declared.input.Tick.{Tick}
@@ -27,7 +28,7 @@ use Rattle.gap_agree.specs.Agreement.{Agreement}
 use Rattle.oum_receiver.specs.Front.{Front, Nothing, Message, Dropped}
 use Rattle.oum_receiver.specs.Receiving.{front_of}
 use Rattle.slot_lookup.specs.Answer as answers
-use Rattle.slot_lookup.specs.Answer.{Answer, answer_by, answer_of}
+use Rattle.slot_lookup.specs.Answer.{Answer, answer_by, answer_above, answer_of}
 use Rattle.trimming.specs.Merging.{trim_change}
 use Rattle.trimming.specs.Trimming.{trim}
 use Rattle.trimming.proofs.Executions.{checkpoint_loads}
@@ -57,6 +58,23 @@ first_of false b e = absurd cc
 module _ {S : Type 0} (m : Meaning S) where
   may_append_trims : (s : ReplicaState) → Stands s → may_append Trimmed (st m s) ≡ may_append Whole s
   may_append_trims s h = ap (λ (b : Bool). b && nat_lt s.next NUMBER_END) (room_trims m s h)
+
+  -- what a slot holds is read above the sync point only
+  answer_if_trims : (b : Bool) (s : ReplicaState) (n : ℕ) → nat_le n s.log.sync_point ≡ b → Stands s
+      → cond b answers.Below (answer_above Trimmed (trim m s.log) (waits s.gap) n)
+      ≡ cond b answers.Below (answer_above Whole s.log (waits s.gap) n)
+  answer_if_trims true s n e h = refl
+  answer_if_trims false s n e h =
+      let above : s.log.sync_point < n = grind (arith, nat_tests, e) in
+      ap (λ (o : Option Entry). answer_by o (answers.may_begin Trimmed (trim m s.log) (waits s.gap) n)) (entry_trims m s.log n above)
+      ∙ ap (λ (k : ℕ). answer_by (entry_at Whole s.log n) ((n == k + 1) && (not (waits s.gap) && has_room Trimmed (st m s))))
+      (length_trims m s.log h.within)
+      ∙ ap (λ (b : Bool). answer_by (entry_at Whole s.log n) ((n == length s.log.entries + 1) && (not (waits s.gap) && b)))
+      (room_trims m s h)
+
+  answer_trims : (s : ReplicaState) (n : ℕ) → Stands s
+      → answer_of Trimmed (trim m s.log) (waits s.gap) n ≡ answer_of Whole s.log (waits s.gap) n
+  answer_trims s n h = answer_if_trims (nat_le n s.log.sync_point) s n refl h
 
   -- ---- what is told again
 
@@ -230,30 +248,20 @@ module _ {S : Type 0} (m : Meaning S) (IsSound : S → Type 0) (keeps : KeepsTo 
 
   answer_goes : (a : Answer) (q n : ℕ) (s : ReplicaState) → Stands s
       → Goes m (rows.slot_lookup_by m Trimmed a q n (st m s)) (rows.slot_lookup_by m Whole a q n s)
+  answer_goes answers.Below q n s h = tell_synced_goes m s q h
   answer_goes (answers.Found r) q n s h = record { same = refl; stands = h }
   answer_goes answers.GapAgain q n s h = record { same = refl; stands = h }
   answer_goes answers.Begin q n s h = begin_gap_goes s h
   answer_goes answers.Nothing q n s h = still_goes m s h
 
-  lookup_goes : (b : Bool) (q n : ℕ) (s : ReplicaState) → nat_le n s.sync.sync_point ≡ b → Stands s
-      → Goes m (rows.slot_lookup_if m Trimmed b q n (st m s)) (rows.slot_lookup_if m Whole b q n s)
-  lookup_goes true q n s e h = tell_synced_goes m s q h
-  lookup_goes false q n s e h =
-      let above : s.sync.sync_point < n = grind (arith, nat_tests, e) in
-      let r = answer_goes (answer_of Whole s.log (waits s.gap) n) q n s h in
-      record {
-        same =
-            ap (λ (o : Option Entry). rows.slot_lookup_by m Trimmed (answer_by o (answers.may_begin Trimmed (trim m s.log) (waits s.gap) n)) q n (st m s))
-            (entry_trims m s.log n (omega (arith, h.points, above)))
-            ∙ ap (λ (k : ℕ). rows.slot_lookup_by m Trimmed (answer_by (entry_at Whole s.log n)
-            ((n == k + 1) && (not (waits s.gap) && nat_lt k MAX_SLOTS))) q n (st m s)) (length_trims m s.log h.within)
-            ∙ r.same;
-        stands = r.stands;
-      }
-
   slot_lookup_goes : (q n : ℕ) (s : ReplicaState) → Stands s → Goes m (rows.slot_lookup m Trimmed q n (st m s)) (rows.slot_lookup m Whole q n s)
   unfolding rows.slot_lookup
-  slot_lookup_goes q n s h = lookup_goes (nat_le n s.sync.sync_point) q n s refl h
+  slot_lookup_goes q n s h =
+      let r = answer_goes (answer_of Whole s.log (waits s.gap) n) q n s h in
+      record {
+        same = ap (λ (a : Answer). rows.slot_lookup_by m Trimmed a q n (st m s)) (answer_trims m s n h) ∙ r.same;
+        stands = r.stands;
+      }
 
   gap_reply_at_goes : (o : Option Agreement) (q n : ℕ) (s : ReplicaState) → Stands s
       → Goes m (rows.gap_reply_at m Trimmed o q n (st m s)) (rows.gap_reply_at m Whole o q n s)

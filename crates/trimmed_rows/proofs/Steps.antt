@@ -13,7 +13,7 @@ use Rattle.gap_agree.specs.Votes.{with_vote}
 use Rattle.oum_receiver.specs.Receiving.{Receiving, opened}
 use Rattle.trimming.proofs.Worked.{entries-empty, entries-insert}
 use Rattle.replica_state.specs.declared.sending.Sending.{Sending}
-use Rattle.replica_state.specs.declared.sending.Sending.TheVariants.{ToReplicas}
+use Rattle.replica_state.specs.declared.sending.Sending.TheVariants.{ToReplicas, Trims}
 use Rattle.replica_state.specs.declared.state.ReplicaState.{ReplicaState}
 use Rattle.replica_state.specs.Moves as moves
 use Rattle.replica_state.specs.Moves.{drain, drain_by}
@@ -57,11 +57,15 @@ module _ {S : Type 0} (m : Meaning S) where
       ∙ ap (λ (e : Effect). (e.0, ToReplicas (One (Replica 0)) (says 1 (bodies.SyncRep 1)) ∷ e.1)) (stops m 4094 (after (opened 1 2)) (front_none 1 2))
 
   settles : arrive m Whole (stands 0 one 2 (opened 1 2) (sync_of 0 0 round) 0) (Told (says 1 (bodies.SyncRep 1)))
-      ≡ (stands 0 (synced m Whole []) 2 (opened 1 2) (sync_of 1 0 None) 0, ToReplicas Replicas (says 0 (bodies.SyncCommit 1)) ∷ [])
+      ≡ (
+        stands 0 (synced m Whole []) 2 (opened 1 2) (sync_of 1 0 None) 0,
+        ToReplicas Replicas (says 0 (bodies.SyncCommit 1)) ∷ Trims 1 (whole 0 (Req put ∷ [])) ∷ [],
+      )
   unfolding messages.arrive messages.loads_in messages.on_message rows.sync_reply moves.drain with_vote
   settles =
       let after : ReplicaState = stands 0 (synced m Whole []) 2 (opened 1 2) (sync_of 1 0 None) 0 in
-      ap (λ (e : Effect). (e.0, ToReplicas Replicas (says 0 (bodies.SyncCommit 1)) ∷ e.1)) (stops m 4094 after (front_none 1 2))
+      ap (λ (e : Effect). (e.0, ToReplicas Replicas (says 0 (bodies.SyncCommit 1)) ∷ Trims 1 (whole 0 (Req put ∷ [])) ∷ e.1))
+      (stops m 4095 after (front_none 1 2))
 
   asks_for : arrive m Whole (start 2) (Packet (stamp 2 get))
       ≡ (stands 2 (whole 0 []) 1 (queued 1 2 get) (sync_of 0 0 None) 1, ToReplicas (One (Replica 0)) (says 2 (bodies.SlotLookup 1)) ∷ [])
@@ -82,9 +86,9 @@ module _ {S : Type 0} (m : Meaning S) where
       let after : Receiving → ReplicaState = λ x. stands 2 (synced m Whole (Req get ∷ [])) 3 x (sync_of 1 1 None) 1 in
       let said : Sending = ToReplicas (One (Replica 0)) (says 2 (bodies.SyncRep 1)) in
       ap (λ (x : Receiving). then_do (middle x, said ∷ []) (drain m Whole)) (advanced_lone 1 1 2 2 get (omega arith))
-      ∙ ap (λ (e : Effect). (e.0, said ∷ e.1)) (takes m 4094 (middle (lone 1 2 2 get)) get refl (front_lone 1 2 get))
-      ∙ ap (λ (x : Receiving). then_do (after x, said ∷ replies 2 2 get 0 [] ∷ []) (drain_by m Whole 4094)) (taken_lone 1 2 get)
-      ∙ ap (λ (e : Effect). (e.0, said ∷ replies 2 2 get 0 [] ∷ e.1)) (stops m 4093 (after (opened 1 3)) (front_none 1 3))
+      ∙ ap (λ (e : Effect). (e.0, said ∷ e.1)) (takes m 4095 (middle (lone 1 2 2 get)) get refl (front_lone 1 2 get))
+      ∙ ap (λ (x : Receiving). then_do (after x, said ∷ replies 2 2 get 0 [] ∷ []) (drain_by m Whole 4095)) (taken_lone 1 2 get)
+      ∙ ap (λ (e : Effect). (e.0, said ∷ replies 2 2 get 0 [] ∷ e.1)) (stops m 4094 (after (opened 1 3)) (front_none 1 3))
 
   pub whole_row : Row37 m Whole
   unfolding messages.arrive messages.loads_in messages.on_message rows.sync repeating.sync rows.slot_lookup reply_to

@@ -23,7 +23,7 @@ use Rattle.oum_receiver.specs.Receiving as receiving
 use Rattle.oum_receiver.specs.Receiving.{Receiving}
 use Rattle.sync_points.specs.Synchronisation.{Synchronisation, Round}
 use Rattle.replica_state.specs.declared.sending.Sending.{Sending}
-use Rattle.replica_state.specs.declared.sending.Sending.TheVariants.{ToClient, ToReplicas}
+use Rattle.replica_state.specs.declared.sending.Sending.TheVariants.{ToClient, ToReplicas, Trims}
 use Rattle.replica_state.specs.declared.state.ReplicaState.{ReplicaState}
 use Rattle.replica_rows.specs.Messages.{Packet, Told, Ticked, arrive}
 
@@ -95,13 +95,17 @@ module _ {S : Type 0} (m : Meaning S) where
         ≡ (stands 0 one 2 (receiving.opened 1 2) (sync_of 0 0 None) 0, replies 0 1 put 1 (m.answer m.opening put.op) ∷ [])
     pub follower_takes : arrive m k (start 1) (Packet (stamp 1 put))
         ≡ (stands 1 one 2 (receiving.opened 1 2) (sync_of 0 0 None) 0, replies 1 1 put 0 [] ∷ [])
-    -- the leader tells its log, the follower votes, and the log is synchronised: where it is trimmed, a checkpoint stands in place of the put
+    -- the leader tells its log, the follower votes, and the log is synchronised. The put moves out of the log: where that is trimmed, a
+    -- checkpoint stands in its place
     pub leader_tells : arrive m k (stands 0 one 2 (receiving.opened 1 2) (sync_of 0 0 None) 0) (Ticked ticks.Sync)
         ≡ (stands 0 one 2 (receiving.opened 1 2) (sync_of 0 0 round) 0, ToReplicas Replicas (says 0 (bodies.SyncPrepare one)) ∷ [])
     pub follower_votes : arrive m k (stands 1 one 2 (receiving.opened 1 2) (sync_of 0 0 None) 0) (Told (says 0 (bodies.SyncPrepare one)))
         ≡ (stands 1 one 2 (receiving.opened 1 2) (sync_of 0 1 None) 0, ToReplicas (One (Replica 0)) (says 1 (bodies.SyncRep 1)) ∷ [])
     pub leader_settles : arrive m k (stands 0 one 2 (receiving.opened 1 2) (sync_of 0 0 round) 0) (Told (says 1 (bodies.SyncRep 1)))
-        ≡ (stands 0 (synced k []) 2 (receiving.opened 1 2) (sync_of 1 0 None) 0, ToReplicas Replicas (says 0 (bodies.SyncCommit 1)) ∷ [])
+        ≡ (
+          stands 0 (synced k []) 2 (receiving.opened 1 2) (sync_of 1 0 None) 0,
+          ToReplicas Replicas (says 0 (bodies.SyncCommit 1)) ∷ Trims 1 (whole 0 (Req put ∷ [])) ∷ [],
+        )
     -- the third replica gets the next request alone, and asks for slot 1; it is told what is synchronised, and goes on from there
     pub third_asks : arrive m k (start 2) (Packet (stamp 2 get))
         ≡ (stands 2 (whole 0 []) 1 (queued 1 2 get) (sync_of 0 0 None) 1, ToReplicas (One (Replica 0)) (says 2 (bodies.SlotLookup 1)) ∷ [])

@@ -10,7 +10,7 @@ use Rattle.trimming.specs.Merging.{trim_change}
 use Rattle.trimming.specs.Trimming.{trim}
 use Rattle.view_change.specs.Gathering.{Gathering}
 use Rattle.replica_state.specs.declared.sending.Sending.{Sending}
-use Rattle.replica_state.specs.declared.sending.Sending.TheVariants.{ToClient, ToReplicas}
+use Rattle.replica_state.specs.declared.sending.Sending.TheVariants.{ToClient, ToReplicas, Trims}
 use Rattle.replica_state.specs.declared.state.ReplicaState.{ReplicaState}
 use Rattle.replica_state.specs.Sends.{Effect}
 use Rattle.replica_rows.specs.Messages.{Arrival, Packet, Told, Ticked}
@@ -39,9 +39,11 @@ module _ {S : Type 0} (m : Meaning S) where
   abbrev pub trimmed_peer : Peer → Peer
   trimmed_peer p = record p { body = trimmed_body p.body }
 
+  -- the entries that move out of the log are the same
   abbrev pub trimmed_sending : Sending → Sending
   trimmed_sending (ToClient r) = ToClient r
   trimmed_sending (ToReplicas dest p) = ToReplicas dest (trimmed_peer p)
+  trimmed_sending (Trims first entries) = Trims first entries
 
   abbrev pub trimmed_effect : Effect → Effect
   trimmed_effect e = (trimmed e.0, map trimmed_sending e.1)

@@ -8,7 +8,7 @@ ghost use Rattle.trimmed_rows.specs.Trimmed.{trimmed, trimmed_effect, trimmed_ar
 use nop_types::Host;
 
 /// Whatever arrives at a replica, a stamped request, a message of another replica or a tick: the row over its trimmed log does
-/// what the row over the whole one does, trimmed: in its state, and in all that it sends.
+/// what the row over the whole one does, trimmed: in its state, in all that it sends, and in the entries that move out of its log.
 pub fn rows_trim<H: Host>()
     ensures { (s : ReplicaState) (a : Arrival) → PointsWithin s → ArrivesWithin H.meaning s a
         → arrive H.meaning Trimmed (trimmed H.meaning s) (trimmed_arrival H.meaning a)

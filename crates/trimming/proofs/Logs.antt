@@ -1,9 +1,10 @@
 -- What becomes of a whole log and of the trimmed one.
-use Rattle.std.proofs.Common.{◌≡◌, ℕ, zero, suc, ◌-◌, ◌≤◌, ◌<◌, Bool, true, false, cond, List, [], ◌∷◌, ◌++◌, length, take, drop, max, Option}
-use Rattle.std.proofs.Common.{Some, None, refl, sym, ap, ◌∙◌, arith, length-drop, length-append, length-take, take-append-drop}
-use Rattle.std.specs.Prelude.{nat_lt}
+use Rattle.std.proofs.Common.{◌≡◌, ℕ, zero, suc, ◌-◌, ◌≤◌, ◌<◌, Bool, true, false, cond, List, [], ◌∷◌, ◌++◌, length, take, drop, max}
+use Rattle.std.proofs.Common.{Option, Some, None, refl, sym, ap, ◌∙◌, arith, length-drop, length-append, length-take, take-append-drop}
+use Rattle.std.specs.Prelude.{nat_lt, ◌&&◌}
 use Rattle.std.proofs.lemmas.Bool.Decides.{nat_tests}
 use Rattle.std.proofs.lemmas.List.{take-append-le, drop-append-le, take-take}
+use Rattle.nop_types.specs.declared.limits.TheConstants.{MAX_SLOTS, MAX_LENGTH}
 use Rattle.nop_types.specs.declared.request.Entry.{Entry}
 use Rattle.nop_types.specs.declared.request.Entry.TheVariants.{NoOp}
 use Rattle.nop_types.specs.Meaning.{Meaning}
@@ -11,8 +12,8 @@ use Rattle.nop_types.specs.Lists.{slot_of}
 use Rattle.nop_types.specs.Slots.{set_slot, laid}
 use Rattle.nop_types.specs.Execution.{Executed, exec}
 use Rattle.nop_types.specs.Checkpoints.{Checkpoint, checkpoint_of, KeepsTo}
-use Rattle.nop_types.specs.Logs.{Log, Keeping, Whole, Trimmed, length_of, above, entry_at, IsWithin, appended, with_noop, first, further}
-use Rattle.nop_types.specs.Logs.{adopted, overlaid}
+use Rattle.nop_types.specs.Logs.{Log, Keeping, Whole, Trimmed, length_of, above, entry_at, unsynced, has_room, IsWithin, between}
+use Rattle.nop_types.specs.Logs.{appended, with_noop, first, further, adopted, overlaid}
 use Rattle.nop_types.specs.CheckpointedLogs.{raised}
 use Rattle.facts.proofs.Slots.{length-set_slot}
 use Rattle.trimming.specs.Trimming.{checkpoint_at, trim}
@@ -47,6 +48,16 @@ module _ {S : Type 0} (m : Meaning S) where
 
   pub entry_trims : (l : Log) (n : ℕ) → l.sync_point < n → entry_at Trimmed (trim m l) n ≡ entry_at Whole l n
   entry_trims l n h = slot_of-drop l.sync_point n l.entries h
+
+  -- it has as many entries above the sync point, those of the whole log, and the same room
+  pub unsynced_trims : (l : Log) → IsWithin l → unsynced Trimmed (trim m l) ≡ unsynced Whole l
+  unsynced_trims l h = ap (λ (n : ℕ). n - l.sync_point) (length_trims l h)
+
+  pub room_trims : (l : Log) → IsWithin l → has_room Trimmed (trim m l) ≡ has_room Whole l
+  room_trims l h = ap (λ (n : ℕ). nat_lt (n - l.sync_point) MAX_SLOTS && nat_lt n MAX_LENGTH) (length_trims l h)
+
+  pub between_trims : (l : Log) (n : ℕ) → between Trimmed (trim m l) n ≡ between Whole l n
+  between_trims l n = ap (take (n - l.sync_point)) (above_trims l l.sync_point (omega arith))
 
   pub append_trims : (l : Log) (e : Entry) → IsWithin l → appended (trim m l) e ≡ trim m (appended l e)
   append_trims l e h =

@@ -1,8 +1,10 @@
 ghost use Rattle.std.specs.Prelude.{◌≡◌, ◌≤◌, ◌<◌, ℕ, true, None, is_some, nat_lt, take};
 ghost use Rattle.nop_types.specs.Meaning.{Meaning};
+ghost use Rattle.nop_types.specs.Bounds.{Bounds};
 ghost use Rattle.nop_types.specs.Execution.{exec};
 ghost use Rattle.nop_types.specs.Logs.{Log, Keeping, Whole, Trimmed, length_of, entry_at};
 ghost use Rattle.nop_types.specs.CheckpointedLogs.{loads, beginning, executed, slot_result, raised};
+ghost use Rattle.nop_types.specs.Ranges.{LogIsIn};
 ghost use Rattle.trimming.specs.Trimming.{trim};
 
 use nop_types::Host;
@@ -57,4 +59,15 @@ pub fn raises_keep<H: Host>()
     ensures results { (l : Log) (n k : ℕ) → l.sync_point ≤ n → n < k
         → slot_result H.meaning Trimmed (raised H.meaning Trimmed l n) k
         ≡ slot_result H.meaning Trimmed l k }
+{}
+
+/// Over a service, results fit a reply, and a trimmed log whose sync point rises stays in its
+/// ranges, whatever its checkpoint was before.
+pub fn trimmed_logs_keep_bounds<H: Host>()
+    ensures { Bounds H.meaning Trimmed }
+{}
+
+/// A whole log in its ranges is in those of a trimmed one where it is trimmed.
+pub fn trims_in_ranges<H: Host>()
+    ensures { (l : Log) → LogIsIn Whole l → LogIsIn Trimmed (trim H.meaning l) }
 {}

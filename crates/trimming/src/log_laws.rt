@@ -10,6 +10,9 @@ ghost use Rattle.nop_types.specs.Logs.{
   length_of,
   above,
   entry_at,
+  unsynced,
+  has_room,
+  between,
   appended,
   with_noop,
   first,
@@ -31,6 +34,27 @@ pub fn length_trims<S>()
 pub fn above_trims<S>()
     ensures { (m : Meaning S) (l : Log) (n : ℕ) → l.sync_point ≤ n
         → above Trimmed (trim m l) n ≡ above Whole l n }
+{}
+
+/// It has as many entries above its sync point.
+#[tactic(auto, using(crate::proofs::Logs::unsynced_trims))]
+pub fn unsynced_trims<S>()
+    ensures { (m : Meaning S) (l : Log) → IsWithin l
+        → unsynced Trimmed (trim m l) ≡ unsynced Whole l }
+{}
+
+/// It has room where the whole one has.
+#[tactic(auto, using(crate::proofs::Logs::room_trims))]
+pub fn room_trims<S>()
+    ensures { (m : Meaning S) (l : Log) → IsWithin l
+        → has_room Trimmed (trim m l) ≡ has_room Whole l }
+{}
+
+/// The entries above its sync point up to a slot are those of the whole one.
+#[tactic(auto, using(crate::proofs::Logs::between_trims))]
+pub fn between_trims<S>()
+    ensures { (m : Meaning S) (l : Log) (n : ℕ)
+        → between Trimmed (trim m l) n ≡ between Whole l n }
 {}
 
 /// It has the same entry in each slot above the sync point, and none in a slot at or below it.

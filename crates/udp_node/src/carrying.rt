@@ -67,7 +67,7 @@ fn carry_out<L: Link, W: Sink>(
         },
         Out::Submitted(request) => write_submit(alloc, request, sink),
         Out::Accepted { client, id, result } => write_accept(alloc, *client, *id, result, sink),
-        Out::Busy(_) => Ok(()),
+        Out::Busy(_) | Out::Trimmed { .. } => Ok(()),
     }
 }
 

@@ -1,9 +1,9 @@
 //! The network and the clock of the operating system: UDP sockets at ports of the loopback address as the devices `Ports` and
 //! `Link` of `outside`, and the monotonic clock as its `Clock`. `main` makes them and hands them to `commands::run`.
 //!
-//! Bursts of large datagrams are paced. A socket's receive buffer holds some 90 of them, and a log of 4,096 slots takes up to 1,917:
-//! so a link sends only the first ones to each port at once, and the others by and by, while it is polled. Small datagrams never wait.
-//! A poll has the memory for a datagram before it receives one.
+//! Bursts of large datagrams are paced. A socket's receive buffer holds some 90 of them, and a message with a checkpoint and a log
+//! takes up to 2,966: so a link sends only the first ones to each port at once, and the others by and by, while it is polled. Small
+//! datagrams never wait. A poll has the memory for a datagram before it receives one.
 //!
 //! Proved: the contracts of the traits, so that counts of faults and losses rise exactly where they have to; at most `MOST_WAITING`
 //! datagrams wait, each new one is the last of them, and only the first one leaves. The contracts of std don't say what a socket

@@ -4,9 +4,10 @@ use Rattle.std.specs.List.{list_any}
 use Rattle.nop_types.specs.declared.peer.Change.{Change}
 use Rattle.nop_types.specs.declared.view.View.{View}
 use Rattle.nop_types.specs.Lists.{Has}
-use Rattle.nop_types.specs.Logs.{whole}
+use Rattle.nop_types.specs.Logs.{Trimmed}
 use Rattle.nop_types.specs.PlainChanges.{plain}
 use Rattle.nop_types.specs.Views.{outranks}
+use Rattle.log_merge.specs.Merging.{merged, kept_told}
 use Rattle.log_merge.specs.Starting as starting
 use Rattle.view_change.specs.declared.starting.Start.{Start}
 use Rattle.view_change.specs.declared.starting.Step.{Step}
@@ -48,10 +49,9 @@ teller c = c.sender
 abbrev pub greater : View → View → View
 greater a b = cond (outranks b a) b a
 
--- what the code gives of changes with whole logs
+-- the number of the next request, and the merge of the trimmed logs that are kept
 abbrev pub started : View → List Change → Start
-started w cs =
-    let s = starting.start_of w (map plain cs) in record { next = s.next; log = whole (starting.start_point (map plain cs)) s.log }
+started w cs = record { next = (starting.start_of w (map plain cs)).next; log = merged Trimmed (kept_told cs) }
 
 -- the view is started where f + 1 senders are there
 abbrev pub step_of : Gathering Change → Step

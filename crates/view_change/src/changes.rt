@@ -122,7 +122,7 @@ impl Changes {
         len >= self.f as usize
     }
 
-    /// What the view is started with from this change and those that are there, whose entries are moved and not copied.
+    /// What the view is started with from this change and those that are there, whose logs are moved and not copied.
     pub fn start_with(mut self, change: Change) -> Result<Start, NoMemory>
         ensures { IfOk result (λ s. s
             ≡ started self.view (counted teller self change).changes) }

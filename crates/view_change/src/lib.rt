@@ -3,12 +3,13 @@
 //!
 //! `Changes` has one change of each sender, the first that came (`senders_count_once`). The view is
 //! started exactly where f + 1 senders are there, its own among them, with what the starting rule of
-//! `log_merge` gives for their changes, read plain: a whole log, with the merged entries (`start_of`)
-//! and the greatest sync point (`start_point`).
+//! `log_merge` gives for their changes: the next number (`start_of`), and the merge of their trimmed
+//! logs, whose sync point and checkpoint are those of the best of them (`merged`). Only the logs of
+//! the last normal view of greatest rank count (`kept_told`).
 //!
 //! Calls, for the state and the rows of a replica: `Changes::enter`, `on_change`, `is_enough_with`,
-//! `as_slice`; `start_with` moves the entries of the logs instead of copying them, and `start_now`
-//! is for a leader without others.
+//! `as_slice`; `start_with` moves the logs instead of copying them, and `start_now` is for a leader
+//! without others.
 //!
 //! Files: `changes`, `starting`; `specs/Gathering` (`with_change`, `step_of`). A gathering there is
 //! of the changes that are told, or of plain ones, as the protocol has it.

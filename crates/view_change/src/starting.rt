@@ -2,14 +2,14 @@ ghost use Rattle.std.specs.Prelude.{◌≡◌, ◌==◌, cond, filter, map, IfOk
 ghost use Rattle.nop_types.specs.PlainChanges.{plain};
 ghost use Rattle.nop_types.specs.Views.{is_view};
 ghost use Rattle.log_merge.specs.Merged.{HasDistinctSenders};
-ghost use Rattle.log_merge.specs.Starting.{greatest, greatest_next, greatest_point};
+ghost use Rattle.log_merge.specs.Starting.{greatest, greatest_next};
 ghost use Rattle.view_change.specs.Gathering.{greater, started};
 
 use log_merge::{merge_moved, merge_of_view};
 use nop_types::{Change, Log, NoMemory, View};
 use std::alloc::Global;
 
-/// What a view is started with: the next message number, and the log with its sync point.
+/// What a view is started with: the next message number, and the log.
 #[derive(Drop)]
 pub struct Start {
     pub next: u64,
@@ -58,20 +58,6 @@ fn greatest_next(changes: &[Change], view: View) -> u64
     most
 }
 
-/// The greatest sync point of the changes with this last normal view.
-fn greatest_point(changes: &[Change], view: View) -> u32
-    ensures { result
-        ≡ greatest_point (filter (λ c. is_view c.last_normal view) (map plain changes.now)) }
-{
-    let mut most = 0;
-    for change in changes {
-        if change.last_normal.is(view) {
-            most = most.max(change.log.sync_point());
-        }
-    }
-    most
-}
-
 /// The number of the next request that a view is started with, where `last` is the last normal view of greatest rank.
 fn next_of(view: View, changes: &[Change], last: View) -> u64
     ensures { result ≡ cond (last.session == view.session)
@@ -89,26 +75,18 @@ pub fn start_of(alloc: Global, view: View, changes: &[Change]) -> Result<Start, 
     ensures { IfOk result (λ s. s ≡ started view changes.now) }
 {
     let last = greatest(changes);
-    let entries = merge_of_view(alloc, changes, last)?;
+    let log = merge_of_view(alloc, changes, last)?;
     let next = next_of(view, changes, last);
-    let sync_point = greatest_point(changes, last);
-    Ok(Start {
-        next,
-        log: Log::new(sync_point, entries),
-    })
+    Ok(Start { next, log })
 }
 
-/// The same from changes whose entries are moved and not copied.
+/// The same from changes whose logs are moved and not copied.
 pub fn start_moved(alloc: Global, view: View, changes: Vec<Change>) -> Result<Start, NoMemory>
     requires { HasDistinctSenders (map plain changes.items) }
     ensures { IfOk result (λ s. s ≡ started view changes.items) }
 {
     let last = greatest(&changes);
     let next = next_of(view, &changes, last);
-    let sync_point = greatest_point(&changes, last);
-    let entries = merge_moved(alloc, changes, last)?;
-    Ok(Start {
-        next,
-        log: Log::new(sync_point, entries),
-    })
+    let log = merge_moved(alloc, changes, last)?;
+    Ok(Start { next, log })
 }

@@ -2,11 +2,12 @@
 use Rattle.std.specs.Prelude.{◌≡◌, ◌++◌, ◌<◌, ◌^◌, ℕ, List, Some, slice_get}
 use Rattle.nop_types.specs.Configuration.{Configuration}
 use Rattle.nop_types.specs.Lines.{Line}
+use Rattle.nop_types.specs.Logs.{Whole}
 use Rattle.nop_types.specs.Meaning.{Meaning}
 use Rattle.client_quorum.specs.declared.state.ClientState.{ClientState}
 use Rattle.session_control.specs.ControllerSteps as controller
 use Rattle.oum_receiver.specs.Receiving.{IsSound}
-use Rattle.replica_state.specs.Within.{IsWithin}
+use Rattle.replica_state.specs.Within.{IsIn}
 use Rattle.protocol.specs.Conf.{Conf, opening}
 use Rattle.protocol.specs.Moves.{MayTell}
 use Rattle.protocol.specs.Runs.{Move, run, MayAll}
@@ -19,11 +20,11 @@ use Rattle.whole_world.specs.Shows.{Carries, Tells, ShowsActors, peers_of}
 
 -- ---- ranges
 
--- a replica has its number, its state is in its ranges, and message numbers are left
+-- a replica has its number, its state is in its ranges with a whole log, and message numbers are left
 pub record ReplicaFits (i : ℕ) (r : WholeReplica) : Type 0 where
   pub number : r.state.number ≡ i
   pub range : r.messages < 2 ^ 64
-  pub within : IsWithin r.state
+  pub within : IsIn Whole r.state
   pub receiver : IsSound r.state.receiver
 
 pub record InRanges (w : WholeWorld) : Type 0 where

@@ -7,6 +7,7 @@ use Rattle.std.proofs.lemmas.Slice.Eq.{bytes_eq-Decides}
 use Rattle.nop_types.specs.Given.{Given}
 use Rattle.nop_types.specs.Given as given
 use Rattle.nop_types.specs.Lists.{Has}
+use Rattle.nop_types.specs.Logs.{Whole}
 use Rattle.nop_types.specs.declared.datagram.Datagram.{Datagram}
 use Rattle.nop_types.specs.declared.datagram.Datagram.TheVariants as datagrams
 use Rattle.nop_types.specs.declared.peer.Peer.{Peer}
@@ -14,7 +15,7 @@ use Rattle.facts.proofs.Members.{Has-first, Has-rest}
 use Rattle.oum_codec.specs.declared.bad.Bad.{Bad}
 use Rattle.oum_codec.specs.Reading.{reading}
 use Rattle.replica_rows.specs.Messages.{Arrival, Packet, Told, Ticked}
-use Rattle.replica_rows.specs.Within.{ArrivalFits}
+use Rattle.replica_rows.specs.Within.{ArrivalIsIn}
 use Rattle.protocol.specs.Conf.{Conf}
 use Rattle.network.specs.Network.{Sent}
 use Rattle.refinement.specs.Datagrams.{MayCome}
@@ -132,7 +133,7 @@ module _ (c : Conf) (sent : List Sent) (carries : Carries sent c) where
 -- it was sent in the protocol too, in its ranges
 pub record Arrives (c : Conf) (a : Arrival) : Type 0 where
   pub came : Came c a
-  pub fits : ArrivalFits a
+  pub fits : ArrivalIsIn Whole a
 
 module _ (c : Conf) (w : WholeWorld) (carries : Carries w.sent c) (tells : Tells (peers_of w.letters) c.said) where
   read_arrives : (bytes : List ℕ) (r : Result Datagram Bad) (a : Arrival) → IsBytesOf w.sent bytes → reading bytes ≡ r

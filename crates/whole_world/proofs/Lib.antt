@@ -1,4 +1,5 @@
 pub mod ActorSteps
+pub mod Archives
 pub mod At
 pub mod Coming
 pub mod Concluding
@@ -14,6 +15,7 @@ pub mod Outputs
 pub mod Pasts
 pub mod Quiet
 pub mod ReplicaSteps
+pub mod RowPoints
 pub mod RowRanges
 pub mod Safe
 pub mod Seats

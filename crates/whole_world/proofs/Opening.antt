@@ -4,6 +4,7 @@ use Rattle.std.proofs.Common.{[], ◌∷◌}
 use Rattle.std.specs.Prelude.{slice_get, IsTrue}
 use Rattle.std.proofs.lemmas.Option.{slice_get_within}
 use Rattle.nop_types.specs.Configuration.{Configuration, is_configuration}
+use Rattle.nop_types.specs.Logs.{Whole}
 use Rattle.nop_types.specs.Meaning.{Meaning}
 use Rattle.facts.proofs.Members.{Has-none}
 use Rattle.facts.proofs.Places.{slice_get-push_cases}
@@ -32,7 +33,7 @@ controller_opens config is = record {
   missed = omega arith;
 }
 
-counted_length : {S : Type 0} (make : ℕ → S) (n : ℕ) → length (counted make n) ≡ n
+pub counted_length : {S : Type 0} (make : ℕ → S) (n : ℕ) → length (counted make n) ≡ n
 counted_length make zero = refl
 counted_length make (suc n) = omega (arith, length-append (counted make n) (seated (make n) ∷ []), counted_length make n)
 
@@ -55,7 +56,7 @@ client_opens config is k l =
 replica_opens : (config : Configuration) → IsTrue (is_configuration config) → (i : ℕ) → i < config.replicas
     → ReplicaFits i (opening_replica config i)
 replica_opens config is i l =
-    let ranges = opens_in_ranges config i is l in
+    let ranges = opens_in_ranges Whole config i is l in
     record { number = refl; range = omega arith; within = ranges.0; receiver = ranges.1 }
 
 pub opening_stands : {S : Type 0} (m : Meaning S) (f : ℕ) (config : Configuration) → IsTrue (is_configuration config)

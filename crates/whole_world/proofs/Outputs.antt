@@ -31,6 +31,8 @@ sends_there from (outs.Accepted client id result ∷ xs) dest bytes h =
     [ inl g ↦ absurd cc | inr t ↦ sends_there from xs dest bytes t ]
 sends_there from (outs.Busy client ∷ xs) dest bytes h =
     elim (Has-cases (outs.Send dest bytes) (outs.Busy client) xs h) [ inl g ↦ absurd cc | inr t ↦ sends_there from xs dest bytes t ]
+sends_there from (outs.Trimmed n l ∷ xs) dest bytes h =
+    elim (Has-cases (outs.Send dest bytes) (outs.Trimmed n l) xs h) [ inl g ↦ absurd cc | inr t ↦ sends_there from xs dest bytes t ]
 
 -- and each that goes there is among them
 pub record IsOutput (xs : List Out) (s : Sent) : Type 0 where
@@ -54,6 +56,7 @@ sends_are_outputs from (outs.Submitted r ∷ xs) s h = output_later (outs.Submit
 sends_are_outputs from (outs.Accepted client id result ∷ xs) s h =
     output_later (outs.Accepted client id result) xs s (sends_are_outputs from xs s h)
 sends_are_outputs from (outs.Busy client ∷ xs) s h = output_later (outs.Busy client) xs s (sends_are_outputs from xs s h)
+sends_are_outputs from (outs.Trimmed n l ∷ xs) s h = output_later (outs.Trimmed n l) xs s (sends_are_outputs from xs s h)
 
 -- ---- lines
 
@@ -71,6 +74,7 @@ quiet_lines (outs.Send dest bytes ∷ xs) e = quiet_lines xs e
 quiet_lines (outs.Submitted r ∷ xs) e = absurd cc
 quiet_lines (outs.Accepted client id result ∷ xs) e = absurd cc
 quiet_lines (outs.Busy client ∷ xs) e = one_more (Busy client) (lines_of xs) tt (quiet_lines xs e)
+quiet_lines (outs.Trimmed n l ∷ xs) e = quiet_lines xs e
 
 -- the lines of some outputs: what they submit and accept, and then others
 pub record Speaks (xs : List Out) : Type 0 where
@@ -90,3 +94,4 @@ lines_told (outs.Accepted client id result ∷ xs) first =
     record { others = t.others; are = ap (λ (ls : List Line). Accept client id result ∷ ls) t.are; may = t.may }
 lines_told (outs.Send dest bytes ∷ xs) first = speaks_others (outs.Send dest bytes ∷ xs) first
 lines_told (outs.Busy client ∷ xs) first = speaks_others (outs.Busy client ∷ xs) first
+lines_told (outs.Trimmed n l ∷ xs) first = speaks_others (outs.Trimmed n l ∷ xs) first

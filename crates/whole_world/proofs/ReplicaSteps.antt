@@ -7,6 +7,7 @@ use Rattle.std.proofs.lemmas.List.{append-nil, length-set, map-append}
 use Rattle.std.proofs.lemmas.Option.{slice_get_within}
 use Rattle.nop_types.specs.Configuration.{Configuration}
 use Rattle.nop_types.specs.Lists.{Has}
+use Rattle.nop_types.specs.Logs.{Whole}
 use Rattle.nop_types.specs.Meaning.{Meaning}
 use Rattle.nop_types.specs.declared.datagram.Datagram.{Datagram}
 use Rattle.nop_types.specs.declared.datagram.Datagram.TheVariants as datagrams
@@ -26,8 +27,8 @@ use Rattle.client_quorum.specs.declared.state.ClientState.{ClientState}
 use Rattle.sequencer.specs.declared.state.SequencerState.{SequencerState}
 use Rattle.replica_core.specs.declared.replica.TheConstants.{LAST_MESSAGE}
 use Rattle.replica_state.specs.declared.sending.Sending.{Sending}
-use Rattle.replica_state.specs.declared.sending.Sending.TheVariants.{ToClient, ToReplicas}
-use Rattle.replica_state.specs.Sends.{Effect, SendingFits, still}
+use Rattle.replica_state.specs.declared.sending.Sending.TheVariants.{ToClient, ToReplicas, Trims}
+use Rattle.replica_state.specs.Sends.{Effect, SendingIsIn, still}
 use Rattle.replica_state.specs.State.{PointsMeet}
 use Rattle.replica_rows.specs.Messages.{Arrival}
 use Rattle.replica_rows.specs.Within.{ResultsShort}
@@ -72,14 +73,15 @@ pub letters_peers : (number : ℕ) (sends : List Sending) → peers_of (letters_
 letters_peers number [] = refl
 letters_peers number (ToClient r ∷ sends) = letters_peers number sends
 letters_peers number (ToReplicas dest p ∷ sends) = ap (λ (ps : List Peer). p ∷ ps) (letters_peers (number + 1) sends)
+letters_peers number (Trims n l ∷ sends) = letters_peers number sends
 
 -- what was said before, and what is said now, is what was told
-tells_on : (told : List Peer) (old new : List Said) (sends : List Sending) → AllByRecursion SendingFits sends
+tells_on : (told : List Peer) (old new : List Said) (sends : List Sending) → AllByRecursion (SendingIsIn Whole) sends
     → Adds old new (said_in sends) → Tells told old → Tells (told ++ peers_in sends) new
 tells_on told old new sends fits adds h = record {
   fits = λ p i. elim (Has-append_cases told (peers_in sends) p i) [
     | inl before ↦ h.fits p before
-    | inr fresh ↦ peers_fit sends p fits fresh
+    | inr fresh ↦ peers_fit Whole sends p fits fresh
   ];
   all = λ p i. elim (Has-append_cases told (peers_in sends) p i) [
     | inl before ↦ adds.kept (said_of p) (h.all p before)
@@ -118,6 +120,7 @@ module _ (from : Actor) where
     | inr j ↦ later_reply (ToClient r) sends s (replies_only sends s j)
   ]
   replies_only (ToReplicas dest p ∷ sends) s h = later_reply (ToReplicas dest p) sends s (replies_only sends s h)
+  replies_only (Trims n l ∷ sends) s h = later_reply (Trims n l) sends s (replies_only sends s h)
 
   replies_each : (sends : List Sending) (y : Reply) → Has sends (ToClient y) → Has (sends_of from (replies_in sends)) (reply_sent y)
   replies_each [] y h = absurd (Has-none (ToClient y) h)
@@ -129,10 +132,14 @@ module _ (from : Actor) where
     | inl e ↦ absurd cc
     | inr j ↦ replies_each sends y j
   ]
+  replies_each (Trims n l ∷ sends) y h = elim (Has-cases (ToClient y) (Trims n l) sends h) [
+    | inl e ↦ absurd cc
+    | inr j ↦ replies_each sends y j
+  ]
 
 -- the datagrams after a replica's step
 module _ (c d : Conf) (sent : List Sent) (from : Actor) (sends : List Sending) (keeps : Keeps c d) (adds : AddsSends c d sends)
-    (fits : AllByRecursion SendingFits sends) where
+    (fits : AllByRecursion (SendingIsIn Whole) sends) where
   abbrev more : List Sent
   more = sends_of from (replies_in sends)
 
@@ -140,7 +147,7 @@ module _ (c d : Conf) (sent : List Sent) (from : Actor) (sends : List Sending) (
   step_spelled old s h = elim (Has-append_cases sent more s h) [
     | inl i ↦ old.spelled s i
     | inr i ↦ (let t = replies_only from sends s i in
-        record { datagram = datagrams.Reply t.reply; spells = record { fits = reply_fits sends t.reply fits t.has; spelled = t.bytes } })
+        record { datagram = datagrams.Reply t.reply; spells = record { fits = reply_fits Whole sends t.reply fits t.has; spelled = t.bytes } })
   ]
 
   step_only : Carries sent c → (s : Sent) (x : Datagram) → Has (sent ++ more) s → reading s.bytes ≡ Ok x → WasSent d x
@@ -148,7 +155,7 @@ module _ (c d : Conf) (sent : List Sent) (from : Actor) (sends : List Sending) (
     | inl i ↦ sent_lasts c d keeps x (old.only s x i e)
     | inr i ↦ (let t = replies_only from sends s i in
         subst (WasSent d) (read_as s.bytes (datagrams.Reply t.reply) x
-        (record { fits = reply_fits sends t.reply fits t.has; spelled = t.bytes }) e)
+        (record { fits = reply_fits Whole sends t.reply fits t.has; spelled = t.bytes }) e)
         (adds.replies.added t.reply (sent_is_replied sends t.reply t.has)))
   ]
 
@@ -159,7 +166,7 @@ module _ (c d : Conf) (sent : List Sent) (from : Actor) (sends : List Sending) (
         record {
           datagram = reply_sent from y;
           has = Has-append_right sent more (reply_sent from y) (replies_each from sends y has);
-          spells = record { fits = reply_fits sends y fits has; spelled = refl };
+          spells = record { fits = reply_fits Whole sends y fits has; spelled = refl };
         })
   ]
 

@@ -2,13 +2,14 @@
 use Rattle.std.proofs.Common.{◌≡◌, refl, ap, subst, sym, inl, inr, List, [], ◌∷◌}
 use Rattle.std.specs.List.{AllByRecursion}
 use Rattle.nop_types.specs.Lists.{Has}
-use Rattle.nop_types.specs.Ranges.{PeerFits, ReplyFits}
+use Rattle.nop_types.specs.Logs.{Keeping}
+use Rattle.nop_types.specs.Ranges.{PeerIsIn, ReplyFits}
 use Rattle.nop_types.specs.declared.datagram.Reply.{Reply}
 use Rattle.nop_types.specs.declared.peer.Peer.{Peer}
 use Rattle.facts.proofs.Members.{Has-none, Has-first, Has-rest, Has-cases}
 use Rattle.replica_state.specs.declared.sending.Sending.{Sending}
-use Rattle.replica_state.specs.declared.sending.Sending.TheVariants.{ToClient, ToReplicas}
-use Rattle.replica_state.specs.Sends.{SendingFits}
+use Rattle.replica_state.specs.declared.sending.Sending.TheVariants.{ToClient, ToReplicas, Trims}
+use Rattle.replica_state.specs.Sends.{SendingIsIn}
 use Rattle.protocol.specs.Said.{Said}
 use Rattle.delivery.specs.Sends.{peers_in}
 use Rattle.refinement.specs.Projection.{said_of, said_in, replied_in}
@@ -23,6 +24,7 @@ replied_is_sent (ToClient r ∷ sends) y h = elim (Has-cases y r (replied_in sen
   | inr j ↦ Has-rest (ToClient y) (ToClient r) sends (replied_is_sent sends y j)
 ]
 replied_is_sent (ToReplicas dest p ∷ sends) y h = Has-rest (ToClient y) (ToReplicas dest p) sends (replied_is_sent sends y h)
+replied_is_sent (Trims n l ∷ sends) y h = Has-rest (ToClient y) (Trims n l) sends (replied_is_sent sends y h)
 
 pub sent_is_replied : (sends : List Sending) (y : Reply) → Has sends (ToClient y) → Has (replied_in sends) y
 sent_is_replied [] y h = absurd (Has-none (ToClient y) h)
@@ -34,23 +36,28 @@ sent_is_replied (ToReplicas dest p ∷ sends) y h = elim (Has-cases (ToClient y)
   | inl e ↦ absurd cc
   | inr j ↦ sent_is_replied sends y j
 ]
+sent_is_replied (Trims n l ∷ sends) y h = elim (Has-cases (ToClient y) (Trims n l) sends h) [
+  | inl e ↦ absurd cc
+  | inr j ↦ sent_is_replied sends y j
+]
 
-pub reply_fits : (sends : List Sending) (y : Reply) → AllByRecursion SendingFits sends → Has sends (ToClient y) → ReplyFits y
-reply_fits [] y fits h = absurd (Has-none (ToClient y) h)
-reply_fits (x ∷ sends) y fits h = elim (Has-cases (ToClient y) x sends h) [
-  | inl e ↦ subst SendingFits (sym e) fits.0
-  | inr j ↦ reply_fits sends y fits.1 j
+pub reply_fits : (k : Keeping) (sends : List Sending) (y : Reply) → AllByRecursion (SendingIsIn k) sends → Has sends (ToClient y) → ReplyFits y
+reply_fits k [] y fits h = absurd (Has-none (ToClient y) h)
+reply_fits k (x ∷ sends) y fits h = elim (Has-cases (ToClient y) x sends h) [
+  | inl e ↦ subst (SendingIsIn k) (sym e) fits.0
+  | inr j ↦ reply_fits k sends y fits.1 j
 ]
 
 -- ---- messages
 
-pub peers_fit : (sends : List Sending) (p : Peer) → AllByRecursion SendingFits sends → Has (peers_in sends) p → PeerFits p
-peers_fit [] p fits h = absurd (Has-none p h)
-peers_fit (ToClient r ∷ sends) p fits h = peers_fit sends p fits.1 h
-peers_fit (ToReplicas dest q ∷ sends) p fits h = elim (Has-cases p q (peers_in sends) h) [
-  | inl e ↦ subst PeerFits (sym e) fits.0
-  | inr j ↦ peers_fit sends p fits.1 j
+pub peers_fit : (k : Keeping) (sends : List Sending) (p : Peer) → AllByRecursion (SendingIsIn k) sends → Has (peers_in sends) p → PeerIsIn k p
+peers_fit k [] p fits h = absurd (Has-none p h)
+peers_fit k (ToClient r ∷ sends) p fits h = peers_fit k sends p fits.1 h
+peers_fit k (ToReplicas dest q ∷ sends) p fits h = elim (Has-cases p q (peers_in sends) h) [
+  | inl e ↦ subst (PeerIsIn k) (sym e) fits.0
+  | inr j ↦ peers_fit k sends p fits.1 j
 ]
+peers_fit k (Trims n l ∷ sends) p fits h = peers_fit k sends p fits.1 h
 
 pub peers_said : (sends : List Sending) (p : Peer) → Has (peers_in sends) p → Has (said_in sends) (said_of p)
 peers_said [] p h = absurd (Has-none p h)
@@ -59,6 +66,7 @@ peers_said (ToReplicas dest q ∷ sends) p h = elim (Has-cases p q (peers_in sen
   | inl e ↦ Has-first (said_of p) (said_of q) (said_in sends) (ap said_of e)
   | inr j ↦ Has-rest (said_of p) (said_of q) (said_in sends) (peers_said sends p j)
 ]
+peers_said (Trims n l ∷ sends) p h = peers_said sends p h
 
 pub said_by_peers : (sends : List Sending) (x : Said) → Has (said_in sends) x → WasTold (peers_in sends) x
 said_by_peers [] x h = absurd (Has-none x h)
@@ -68,3 +76,4 @@ said_by_peers (ToReplicas dest q ∷ sends) x h = elim (Has-cases x (said_of q) 
   | inr j ↦ (let t = said_by_peers sends x j in
       record { peer = t.peer; has = Has-rest t.peer q (peers_in sends) t.has; says = t.says })
 ]
+said_by_peers (Trims n l ∷ sends) x h = said_by_peers sends x h

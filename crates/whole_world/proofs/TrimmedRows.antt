@@ -34,7 +34,7 @@ read_is_not_told (Ok (datagrams.Ping j s)) y e = absurd cc
 read_is_not_told (Ok (datagrams.Pong j s)) y e = absurd cc
 read_is_not_told (Err bad) y e = absurd cc
 
-given_is_not_told : (o : Option Given) (y : Peer) → arrival_given o ≡ Some (Told y) → ⊥
+pub given_is_not_told : (o : Option Given) (y : Peer) → arrival_given o ≡ Some (Told y) → ⊥
 given_is_not_told None y e = absurd cc
 given_is_not_told (Some (given.Packet bytes)) y e = read_is_not_told (reading bytes) y e
 given_is_not_told (Some (given.Ticked tick)) y e = absurd cc

@@ -4,9 +4,9 @@ use Rattle.std.specs.Prelude.{◌/◌, slice_get}
 use Rattle.std.proofs.lemmas.Option.{slice_get_within, same_Some}
 use Rattle.nop_types.specs.Configuration.{Configuration}
 use Rattle.nop_types.specs.Lists.{Has, IsPrefixOf}
-use Rattle.nop_types.specs.Logs.{Log}
+use Rattle.nop_types.specs.Logs.{Log, Whole}
 use Rattle.nop_types.specs.Meaning.{Meaning}
-use Rattle.nop_types.specs.Ranges.{BodyFits}
+use Rattle.nop_types.specs.Ranges.{BodyIsIn}
 use Rattle.nop_types.specs.declared.output.Actor.{Actor}
 use Rattle.nop_types.specs.declared.peer.Body.{Body}
 use Rattle.nop_types.specs.declared.peer.Body.TheVariants as bodies
@@ -70,10 +70,10 @@ fronts_same : (s t n : ℕ) (l k a : List Entry) → SameTo s l a → SameTo t k
 fronts_same s t n l k a h g low other = same_trans n l a k (same_less s n l a low h) (same_sym n k a (same_less t n k a other g))
 
 -- a log that is told is whole
-no_checkpoint : (b : Body) (l : Log) → BodyFits b → told_log b ≡ Some l → l.checkpoint ≡ None
-no_checkpoint (bodies.ViewChange u n l) k fits e = subst (λ (x : Log). x.checkpoint ≡ None) (same_Some l k e) fits.told.whole
-no_checkpoint (bodies.StartView n l) k fits e = subst (λ (x : Log). x.checkpoint ≡ None) (same_Some l k e) fits.told.whole
-no_checkpoint (bodies.SyncPrepare l) k fits e = subst (λ (x : Log). x.checkpoint ≡ None) (same_Some l k e) fits.whole
+no_checkpoint : (b : Body) (l : Log) → BodyIsIn Whole b → told_log b ≡ Some l → l.checkpoint ≡ None
+no_checkpoint (bodies.ViewChange u n l) k fits e = subst (λ (x : Log). x.checkpoint ≡ None) (same_Some l k e) fits.told.checkpoint
+no_checkpoint (bodies.StartView n l) k fits e = subst (λ (x : Log). x.checkpoint ≡ None) (same_Some l k e) fits.told.checkpoint
+no_checkpoint (bodies.SyncPrepare l) k fits e = subst (λ (x : Log). x.checkpoint ≡ None) (same_Some l k e) fits.checkpoint
 no_checkpoint (bodies.SlotLookup n) k fits e = absurd cc
 no_checkpoint (bodies.Found n r) k fits e = absurd cc
 no_checkpoint (bodies.GapCommit n) k fits e = absurd cc

@@ -4,3 +4,4 @@ pub mod Coming
 pub mod Shows
 pub mod Safe
 pub mod Trimming
+pub mod Archives

@@ -7,7 +7,8 @@ use Rattle.nop_types.specs.declared.datagram.Datagram.TheVariants as datagrams
 use Rattle.nop_types.specs.declared.datagram.Reply.{Reply}
 use Rattle.nop_types.specs.declared.datagram.Stamped.{Stamped}
 use Rattle.nop_types.specs.declared.request.Request.{Request}
-use Rattle.nop_types.specs.Ranges.{PeerFits}
+use Rattle.nop_types.specs.Logs.{Whole}
+use Rattle.nop_types.specs.Ranges.{PeerIsIn}
 use Rattle.nop_types.specs.declared.peer.Peer.{Peer}
 use Rattle.oum_codec.specs.Reading.{reading}
 use Rattle.oum_codec.specs.Spelling.{Spells}
@@ -41,9 +42,9 @@ pub record WasTold (told : List Peer) (x : Said) : Type 0 where
   pub has : Has told peer
   pub says : said_of peer ≡ x
 
--- what was said is what was told, in its ranges
+-- what was said is what was told, with whole logs in their ranges
 pub record Tells (told : List Peer) (said : List Said) : Type 0 where
-  pub fits : (p : Peer) → Has told p → PeerFits p
+  pub fits : (p : Peer) → Has told p → PeerIsIn Whole p
   pub all : (p : Peer) → Has told p → Has said (said_of p)
   pub only : (x : Said) → Has said x → WasTold told x
 

@@ -27,7 +27,7 @@ use Rattle.nop_types.specs.declared.view.View.{View}
 use Rattle.oum_codec.specs.declared.bad.Bad.{Bad}
 use Rattle.oum_codec.specs.Reading.{reading}
 use Rattle.replica_state.specs.declared.sending.Sending.{Sending}
-use Rattle.replica_state.specs.declared.sending.Sending.TheVariants.{ToClient, ToReplicas}
+use Rattle.replica_state.specs.declared.sending.Sending.TheVariants.{ToClient, ToReplicas, Trims}
 use Rattle.replica_state.specs.declared.state.ReplicaState.{ReplicaState}
 use Rattle.replica_state.specs.State as state
 use Rattle.replica_state.specs.Sends.{Effect, still, message_count}
@@ -147,12 +147,14 @@ arrival_of w Crash = None
 abbrev pub letters_in : ℕ → List Sending → List Letter
 letters_in number [] = []
 letters_in number (ToClient r ∷ sends) = letters_in number sends
+letters_in number (Trims first entries ∷ sends) = letters_in number sends
 letters_in number (ToReplicas dest p ∷ sends) = record { number = number + 1; dest = dest; peer = p } ∷ letters_in (number + 1) sends
 
 abbrev pub replies_in : List Sending → List Out
 replies_in [] = []
 replies_in (ToClient r ∷ sends) = reply_out r ∷ replies_in sends
 replies_in (ToReplicas dest p ∷ sends) = replies_in sends
+replies_in (Trims first entries ∷ sends) = replies_in sends
 
 -- the lines of which the whole world speaks
 abbrev pub lines_of : List Out → List Line
@@ -161,6 +163,7 @@ lines_of (outs.Submitted r ∷ rest) = lines.Submit r ∷ lines_of rest
 lines_of (outs.Accepted client id result ∷ rest) = lines.Accept client id result ∷ lines_of rest
 lines_of (outs.Busy client ∷ rest) = lines.Busy client ∷ lines_of rest
 lines_of (outs.Send dest bytes ∷ rest) = lines_of rest
+lines_of (outs.Trimmed first entries ∷ rest) = lines_of rest
 
 abbrev pub is_crash : Brings → Bool
 is_crash Crash = true

@@ -1,12 +1,13 @@
-ghost use Rattle.std.specs.Prelude.{◌≡◌, List, true};
+ghost use Rattle.std.specs.Prelude.{◌≡◌, List, [], true};
 ghost use Rattle.nop_types.specs.Configuration.{Configuration, is_configuration};
 ghost use Rattle.nop_types.specs.Meaning.{Meaning};
 ghost use Rattle.nop_types.specs.declared.output.Actor.{Actor};
+ghost use Rattle.whole_world.specs.Archives.{IsArchive, ArchivesGoOn};
 ghost use Rattle.whole_world.specs.Coming.{DatagramsWereSent, JunkIsNoDatagram, MessagesWereSent};
 ghost use Rattle.whole_world.specs.Passed.{passed};
 ghost use Rattle.whole_world.specs.Safe.{AllFit, CrashedStay, WholeRunsAreSafe};
 ghost use Rattle.whole_world.specs.Trimming.{RowsTrim, SafeCanTrim, WholeCanTrim};
-ghost use Rattle.whole_world.specs.Whole.{Brings};
+ghost use Rattle.whole_world.specs.Whole.{Brings, opening};
 
 use nop_types::Host;
 
@@ -34,6 +35,14 @@ pub fn what_comes_was_sent()
 pub fn whole_can_trim<S>()
     ensures events { (m : Meaning S) → WholeCanTrim m }
     ensures safe { (m : Meaning S) → SafeCanTrim m }
+{}
+
+/// The entries that move out of logs as sync points rise are an archive of what is synchronised: empty
+/// at the opening, and after each event again.
+pub fn archives_go_on<S>()
+    ensures opens { (config : Configuration) → is_configuration config ≡ true
+        → IsArchive [] (opening config) }
+    ensures goes_on { (m : Meaning S) → ArchivesGoOn m }
 {}
 
 /// After any list of events in their ranges, whatever the next event brings to a replica: the row over its trimmed log does what the row

@@ -18,13 +18,16 @@
 //! to what is gathered (`StartsAgree`). What is synchronised is the same in all replicas and messages (`FrontsAgree`). So each row
 //! that such a world takes is, over trimmed logs, the same row trimmed (`whole_rows_trim`, by `rows_trim` of `trimmed_rows`).
 //!
-//! Files: `laws`. Definitions: `specs/Whole` (the world), `Passed`, `Shows`, `Safe` (the claims); `Coming`, `Trimming`. The proof of
-//! `safety` shows that the world of the program follows this one. More in docs/PROOF.md.
+//! `archives_go_on`: the entries that move out of logs as sync points rise, each appended once, are what
+//! is synchronised of each replica (`IsArchive`).
+//!
+//! Files: `laws`. Definitions: `specs/Whole` (the world), `Passed`, `Shows`, `Safe` (the claims); `Coming`, `Trimming`, `Archives`.
+//! The proof of `safety` shows that the world of the program follows this one. More in docs/PROOF.md.
 #![tactic(auto)]
 
 mod laws;
 
 pub use laws::{
-    crashed_replicas_stay, what_comes_was_sent, whole_can_trim, whole_rows_trim,
+    archives_go_on, crashed_replicas_stay, what_comes_was_sent, whole_can_trim, whole_rows_trim,
     whole_runs_are_safe,
 };

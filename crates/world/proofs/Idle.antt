@@ -6,6 +6,7 @@ use Rattle.nop_types.specs.Given.{Given, Packet}
 use Rattle.nop_types.specs.Lines.{Dead}
 use Rattle.nop_types.specs.Meaning.{Meaning}
 use Rattle.nop_types.specs.declared.datagram.Datagram.{Datagram}
+use Rattle.nop_types.specs.declared.request.Entry.{Entry}
 use Rattle.nop_types.specs.declared.output.Actor.{Actor}
 use Rattle.nop_types.specs.declared.output.Actor.TheVariants as actors
 use Rattle.nop_types.specs.declared.output.Out.{Out}
@@ -22,29 +23,40 @@ use Rattle.session_control.specs.declared.state.ControllerState.{ControllerState
 use Rattle.schedule_text.specs.declared.event.Event.{Event}
 use Rattle.schedule_text.specs.declared.event.Event.TheVariants.{Junk}
 use Rattle.network.specs.Network.{Sent, sends_by, Did, Nothing, Outputs}
+use Rattle.world.specs.Archive.{archived}
 use Rattle.world.specs.Seats.{Seated, Stimulus, Takes, seated, moved_if}
 use Rattle.world.specs.WorldSteps.{WorldState, Refusal, Happened, actor_of, junk_of, stimulus_of, crashed_in, has_crashed}
 use Rattle.world.specs.WorldSteps.{at_replica, at_sequencer, at_client, at_controller, then_at, step_at, step_of, step}
 use Rattle.world.proofs.Places.{slice_set-found}
 
--- ---- an actor that stays as it is and sends nothing
+-- ---- an actor that stays as it is, sends nothing and moves nothing out of its log
+
+pub record IsSilent (did : Did) : Type 0 where
+  pub unsent : (from : Actor) → sends_by from did ≡ []
+  pub unkept : (archive : List Entry) → archived archive did ≡ archive
+
+nothing_is_silent : IsSilent Nothing
+nothing_is_silent = record { unsent = λ from. refl; unkept = λ archive. refl }
+
+no_outputs_are_silent : IsSilent (Outputs [])
+no_outputs_are_silent = record { unsent = λ from. refl; unkept = λ archive. refl }
 
 pub record Idles {S : Type 0} (f : Seated S × Did → Happened) (o : Option (Seated S)) (h : Happened) (did : Did) : Type 0 where
   pub seat : Seated S
   pub found : o ≡ Some seat
   pub is : h ≡ f (seat, did)
 
-module _ (w : WorldState) (did : Did) (silent : (from : Actor) → sends_by from did ≡ []) where
+module _ (w : WorldState) (did : Did) (silent : IsSilent did) where
   unsent : (from : Actor) → w.sent ++ sends_by from did ≡ w.sent
-  unsent from = ap (λ (more : List Sent). w.sent ++ more) (silent from) ∙ append-nil w.sent
+  unsent from = ap (λ (more : List Sent). w.sent ++ more) (silent.unsent from) ∙ append-nil w.sent
 
   stays : (v : WorldState) (from : Actor) → v ≡ w → record v { sent = w.sent ++ sends_by from did } ≡ w
   stays v from same = ap (λ (u : WorldState). record u { sent = w.sent ++ sends_by from did }) same
       ∙ ap (λ (s : List Sent). record w { sent = s }) (unsent from)
 
   replica_idles : (i : ℕ) (p : Seated Replica) → slice_get w.replicas i ≡ Some p → (at_replica w i (p, did)).world ≡ w
-  replica_idles i p found = stays (record w { replicas = slice_set w.replicas i p }) (actors.Replica i)
-      (ap (λ (ps : List (Seated Replica)). record w { replicas = ps }) (slice_set-found w.replicas i p found))
+  replica_idles i p found = stays (record w { replicas = slice_set w.replicas i p; archive = archived w.archive did }) (actors.Replica i)
+      (λ j. record w { replicas = slice_set-found w.replicas i p found j; archive = silent.unkept w.archive j })
 
   sequencer_idles : (i : ℕ) (p : Seated SequencerState) → slice_get w.sequencers i ≡ Some p → (at_sequencer w i (p, did)).world ≡ w
   sequencer_idles i p found = stays (record w { sequencers = slice_set w.sequencers i p }) (actors.Sequencer i)
@@ -77,17 +89,17 @@ crashed_rests : {S : Type 0} (m : Meaning S) (w : WorldState) (actor : Actor) (w
     → has_crashed w actor ≡ true → step_of m w actor what ≡ Ok h → h ≡ record { world = w; lines = Dead actor ∷ [] }
 crashed_rests m w (actors.Replica i) what h c e =
     let r = rests (replica.next m) (at_replica w i) (slice_get w.replicas i) what h c e in
-    dead w _ (actors.Replica i) h r.is (replica_idles w Nothing (λ from. refl) i r.seat r.found)
+    dead w _ (actors.Replica i) h r.is (replica_idles w Nothing nothing_is_silent i r.seat r.found)
 crashed_rests m w (actors.Sequencer i) what h c e =
     let r = rests sequencer.next (at_sequencer w i) (slice_get w.sequencers i) what h c e in
-    dead w _ (actors.Sequencer i) h r.is (sequencer_idles w Nothing (λ from. refl) i r.seat r.found)
+    dead w _ (actors.Sequencer i) h r.is (sequencer_idles w Nothing nothing_is_silent i r.seat r.found)
 crashed_rests m w (actors.Client i) what h c e =
     let r = rests client.next (at_client w i) (slice_get w.clients i) what h c e in
-    dead w _ (actors.Client i) h r.is (client_idles w Nothing (λ from. refl) i r.seat r.found)
+    dead w _ (actors.Client i) h r.is (client_idles w Nothing nothing_is_silent i r.seat r.found)
 crashed_rests m w actors.Controller what h c e =
     let r = rests controller.next (at_controller w) (Some w.controller) what h c e in
     let same : w.controller ≡ r.seat = cc in
-    dead w _ actors.Controller h r.is (controller_idles w Nothing (λ from. refl) r.seat same)
+    dead w _ actors.Controller h r.is (controller_idles w Nothing nothing_is_silent r.seat same)
 
 pub crashed_takes_no_step : {S : Type 0} (m : Meaning S) (w : WorldState) (e : Event) (h : Happened) → has_crashed w (actor_of e) ≡ true
     → step m w e ≡ Ok h → h ≡ record { world = w; lines = Dead (actor_of e) ∷ [] }
@@ -119,7 +131,7 @@ controller_ignores bytes b e s = ap (controller.on_datagram s) e
 ignores : {S : Type 0} (next : S → Given → S × List Out) (f : Seated S × Did → Happened) (o : Option (Seated S)) (bytes : List ℕ)
     (r : Result Datagram Bad) (h : Happened) → ((b : Bad) → r ≡ Err b → (s : S) → next s (Packet bytes) ≡ (s, []))
     → then_at f (step_at next o (junk_of bytes r)) ≡ Ok h
-    → (did : Did) × ((from : Actor) → sends_by from did ≡ []) × Idles f o h did
+    → (did : Did) × IsSilent did × Idles f o h did
 ignores next f None bytes r h quiet e = absurd cc
 ignores next f (Some p) bytes (Ok d) h quiet e = absurd cc
 ignores {S} next f (Some p) bytes (Err b) h quiet e = by p.crashed refl
@@ -130,14 +142,14 @@ ignores {S} next f (Some p) bytes (Err b) h quiet e = by p.crashed refl
     came : h ≡ f (moved_if next p.crashed p what)
     came = let same : f (moved_if next p.crashed p what) ≡ h = cc in sym same
 
-    by : (c : Bool) → p.crashed ≡ c → (did : Did) × ((from : Actor) → sends_by from did ≡ []) × Idles f (Some p) h did
-    by true c = (Nothing, λ from. refl, record { seat = p; found = refl; is = came ∙ ap (λ (d : Bool). f (moved_if next d p what)) c })
+    by : (c : Bool) → p.crashed ≡ c → (did : Did) × IsSilent did × Idles f (Some p) h did
+    by true c = (Nothing, nothing_is_silent, record { seat = p; found = refl; is = came ∙ ap (λ (d : Bool). f (moved_if next d p what)) c })
     by false c =
         let same : h ≡ f (p, Outputs []) =
         came ∙ ap (λ (d : Bool). f (moved_if next d p what)) c
         ∙ ap (λ (x : S × List Out). f (seated x.0, Outputs x.1)) (quiet b refl p.state)
         ∙ ap (λ (d : Bool). f (record { state = p.state; crashed = d }, Outputs [])) (sym c) in
-        (Outputs [], λ from. refl, record { seat = p; found = refl; is = same })
+        (Outputs [], no_outputs_are_silent, record { seat = p; found = refl; is = same })
 
 world_stays : (w : WorldState) (h g : Happened) → h ≡ g → g.world ≡ w → h.world ≡ w
 world_stays w h g e same = ap (λ (x : Happened). x.world) e ∙ same

@@ -5,4 +5,5 @@ pub mod Opening
 pub mod Places
 pub mod Refusals
 pub mod SeatLemmas
+pub mod Slots
 pub mod StateLines

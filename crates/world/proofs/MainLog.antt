@@ -45,12 +45,20 @@ pub main_view_is : {H U : Type 0} (a : Actors H U) (view : View)
 unfolding main_view
 main_view_is a view is = is ∙ ap greatest_of (normals a.replicas.items)
 
-pub main_log_is : {H U : Type 0} (a : Actors H U) (view : View) (n i : ℕ) (log : List Entry)
+pub main_log_is : {H U : Type 0} (a : Actors H U) (view : View) (n i : ℕ) (archive log : List Entry)
     → view ≡ greatest_of (map (λ p. p.core.state.state.last_normal) a.replicas.items) → n ≡ a.config.replicas → i ≡ leader_of view n
-    → log ≡ log_of (slice_get (map (seated_of (λ r. r.state)) a.replicas.items) i) → log ≡ main_log (world_of a)
+    → archive ≡ a.archive → log ≡ log_of archive (slice_get (map (seated_of (λ r. r.state)) a.replicas.items) i)
+    → log ≡ main_log (world_of a)
 unfolding main_view main_log
-main_log_is a view n i log view_is n_is i_is log_is =
+main_log_is a view n i archive log view_is n_is i_is archive_is log_is =
     let seats = a.replicas.items in
     let same : i ≡ leader_of (main_view (world_of a)) a.config.replicas =
     i_is ∙ ap (λ (v : View). leader_of v n) (view_is ∙ ap greatest_of (normals seats)) ∙ ap (leader_of (main_view (world_of a))) n_is in
-    log_is ∙ ap (λ (k : ℕ). log_of (slice_get (map place seats) k)) same
+    log_is ∙ (λ j. log_of (archive_is j) (slice_get (map place seats) (same j)))
+
+-- the log of any replica
+pub log_at_is : {H U : Type 0} (a : Actors H U) (i : ℕ) (archive log : List Entry) (seats : List (Seat (Machine Replica)))
+    → archive ≡ a.archive → seats ≡ a.replicas.items → log ≡ log_of archive (slice_get (map (seated_of (λ r. r.state)) seats) i)
+    → log ≡ log_of (world_of a).archive (slice_get (world_of a).replicas i)
+log_at_is a i archive log seats archive_is seats_are log_is =
+    log_is ∙ (λ j. log_of (archive_is j) (slice_get (map (seated_of (λ r. r.state)) (seats_are j)) i))

@@ -23,16 +23,16 @@ pub entries_end : (replica i : ℕ) (es : List Entry) (now all : List ℕ) → l
 entries_end replica i es now all le so_far =
     sym (append-nil now) ∙ ap (λ (xs : List Entry). now ++ entries_text replica (i + 1) xs) (sym (drop_all i es le)) ∙ so_far
 
-pub replicas_next : {X : Type 0} (f : X → Seated Replica) (i : ℕ) (ps : List X) (p : X) (now new all : List ℕ) → i < length ps
-    → p ≡ get_or ps i p → new ≡ now ++ replica_text i (f p) → now ++ replicas_text i (map f (drop i ps)) ≡ all
-    → new ++ replicas_text (i + 1) (map f (drop (i + 1) ps)) ≡ all
-replicas_next {X} f i ps p now new all lt is put so_far =
-    let left : List ℕ = replicas_text (i + 1) (map f (drop (i + 1) ps)) in
-    let next : drop i ps ≡ p ∷ drop (i + 1) ps = drop_more ps i p lt ∙ ap (λ (x : X). x ∷ drop (i + 1) ps) (sym is) in
-    ap (λ (t : List ℕ). t ++ left) put ∙ append_assoc now (replica_text i (f p)) left
-    ∙ ap (λ (xs : List X). now ++ replicas_text i (map f xs)) (sym next) ∙ so_far
+module _ {X : Type 0} (archive : List Entry) (f : X → Seated Replica) (i : ℕ) (ps : List X) where
+  pub replicas_next : (p : X) (now new all : List ℕ) → i < length ps → p ≡ get_or ps i p → new ≡ now ++ replica_text archive i (f p)
+      → now ++ replicas_text archive i (map f (drop i ps)) ≡ all
+      → new ++ replicas_text archive (i + 1) (map f (drop (i + 1) ps)) ≡ all
+  replicas_next p now new all lt is put so_far =
+      let left : List ℕ = replicas_text archive (i + 1) (map f (drop (i + 1) ps)) in
+      let next : drop i ps ≡ p ∷ drop (i + 1) ps = drop_more ps i p lt ∙ ap (λ (x : X). x ∷ drop (i + 1) ps) (sym is) in
+      ap (λ (t : List ℕ). t ++ left) put ∙ append_assoc now (replica_text archive i (f p)) left
+      ∙ ap (λ (xs : List X). now ++ replicas_text archive i (map f xs)) (sym next) ∙ so_far
 
-pub replicas_end : {X : Type 0} (f : X → Seated Replica) (i : ℕ) (ps : List X) (now all : List ℕ) → length ps ≤ i
-    → now ++ replicas_text i (map f (drop i ps)) ≡ all → now ≡ all
-replicas_end {X} f i ps now all le so_far =
-    sym (append-nil now) ∙ ap (λ (xs : List X). now ++ replicas_text i (map f xs)) (sym (drop_all i ps le)) ∙ so_far
+  pub replicas_end : (now all : List ℕ) → length ps ≤ i → now ++ replicas_text archive i (map f (drop i ps)) ≡ all → now ≡ all
+  replicas_end now all le so_far =
+      sym (append-nil now) ∙ ap (λ (xs : List X). now ++ replicas_text archive i (map f xs)) (sym (drop_all i ps le)) ∙ so_far

@@ -1,9 +1,13 @@
 -- What the actors of the code stand for.
 use Rattle.std.specs.Prelude.{◌≡◌, List, map, Result, Ok}
 use Rattle.nop_types.specs.Lines.{Line}
+use Rattle.nop_types.specs.declared.output.Actor.{Actor}
+use Rattle.nop_types.specs.declared.output.Actor.TheVariants as actors
 use Rattle.world.specs.declared.actors.Actors.{Actors}
 use Rattle.network.specs.declared.lines.Lines.{Lines}
 use Rattle.network.specs.LineCounts.{Shows}
+use Rattle.network.specs.Network.{Did}
+use Rattle.world.specs.Archive.{archived}
 use Rattle.world.specs.SeatOutcomes.{seated_of}
 use Rattle.world.specs.WorldSteps.{WorldState, Refusal, Happened}
 
@@ -16,7 +20,15 @@ world_of a =
       clients = map (seated_of (λ c. c.state)) a.clients.items;
       controller = seated_of (λ c. c.state) a.controller;
       sent = a.network;
+      archive = a.archive;
     }
+
+-- the world with what moved out of logs, which only replicas have, in its archive
+abbrev pub moved_out : Actor → Did → WorldState → WorldState
+moved_out (actors.Replica i) did w = record w { archive = archived w.archive did }
+moved_out (actors.Sequencer i) did w = w
+moved_out (actors.Client i) did w = w
+moved_out actors.Controller did w = w
 
 -- the event happened: this is the world after it, and the lines are these
 pub record Happens (r : Result Happened Refusal) (new : WorldState) (lines : Lines) : Type 0 where

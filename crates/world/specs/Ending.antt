@@ -12,4 +12,4 @@ history_text i (r ∷ rs) = history_line i r ++ history_text (i + 1) rs
 
 -- the replicas, the history, and the end
 unfoldable pub final_text : WorldState → List ℕ
-final_text w = replicas_text 0 w.replicas ++ history_text 1 (history w) ++ end_line
+final_text w = replicas_text w.archive 0 w.replicas ++ history_text 1 (history w) ++ end_line

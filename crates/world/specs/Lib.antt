@@ -1,8 +1,10 @@
 pub mod Actors
 pub mod Agreement
+pub mod Archive
 pub mod Ending
 pub mod Ids
 pub mod Lookups
+pub mod Parts
 pub mod Refusals
 pub mod SeatOutcomes
 pub mod Seats

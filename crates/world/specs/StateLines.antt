@@ -1,5 +1,6 @@
 -- The lines that show the replicas at the end of a run.
-use Rattle.std.specs.Prelude.{ℕ, ◌+◌, List, [], ◌∷◌, ◌++◌, length, take}
+use Rattle.std.specs.Prelude.{ℕ, ◌+◌, List, [], ◌∷◌, ◌++◌, take}
+use Rattle.nop_types.specs.Logs.{Trimmed, length_of}
 use Rattle.nop_types.specs.declared.request.Entry.{Entry}
 use Rattle.transcript_text.specs.Transcript.{replica_line, entry_line}
 use Rattle.replica_state.specs.declared.state.ReplicaState.{ReplicaState}
@@ -10,13 +11,13 @@ abbrev pub entries_text : ℕ → ℕ → List Entry → List ℕ
 entries_text replica slot [] = []
 entries_text replica slot (e ∷ es) = entry_line replica slot e ++ entries_text replica (slot + 1) es
 
--- a replica, and then each slot up to its sync point
-abbrev pub replica_text : ℕ → Seated Replica → List ℕ
-replica_text i p =
+-- a replica, and then each slot up to its sync point, which is in the archive
+abbrev pub replica_text : List Entry → ℕ → Seated Replica → List ℕ
+replica_text archive i p =
     let s : ReplicaState = p.state.state in
-    replica_line i p.crashed s.status s.view (length s.log.entries) s.sync.sync_point
-    ++ entries_text i 1 (take s.sync.sync_point s.log.entries)
+    replica_line i p.crashed s.status s.view (length_of Trimmed s.log) s.sync.sync_point
+    ++ entries_text i 1 (take s.sync.sync_point archive)
 
-abbrev pub replicas_text : ℕ → List (Seated Replica) → List ℕ
-replicas_text i [] = []
-replicas_text i (p ∷ ps) = replica_text i p ++ replicas_text (i + 1) ps
+abbrev pub replicas_text : List Entry → ℕ → List (Seated Replica) → List ℕ
+replicas_text archive i [] = []
+replicas_text archive i (p ∷ ps) = replica_text archive i p ++ replicas_text archive (i + 1) ps

@@ -31,6 +31,8 @@ use Rattle.schedule_text.specs.declared.event.Event.TheVariants as events
 use Rattle.schedule_text.specs.Ticks.{takes_tick}
 use Rattle.world.specs.Seats.{Seated, Stimulus, Takes, Crashes, seated, seat_step}
 use Rattle.network.specs.Network.{Did, Sent, sends_by, lines_by}
+use Rattle.world.specs.Archive.{archived, with_archive}
+use Rattle.nop_types.specs.Lists.{slot_of}
 
 pub record WorldState : Type 0 where
   pub config : Configuration
@@ -39,6 +41,8 @@ pub record WorldState : Type 0 where
   pub clients : List (Seated ClientState)
   pub controller : Seated ControllerState
   pub sent : List Sent
+  -- the synchronised entries that moved out of logs, from slot 1 on
+  pub archive : List Entry
 
 -- the actor is not of the configuration, or has no such input; no datagram has this number; or the junk spells a datagram
 pub data Refusal : Type 0 where
@@ -91,7 +95,8 @@ carried old from did new = record
     { world = record new { sent = old.sent ++ sends_by from did }; lines = lines_by from (length old.sent) did }
 
 abbrev pub at_replica : WorldState → ℕ → Seated Replica × Did → Happened
-at_replica w i p = carried w (actors.Replica i) p.1 (record w { replicas = slice_set w.replicas i p.0 })
+at_replica w i p =
+    carried w (actors.Replica i) p.1 (record w { replicas = slice_set w.replicas i p.0; archive = archived w.archive p.1 })
 
 abbrev pub at_sequencer : WorldState → ℕ → Seated SequencerState × Did → Happened
 at_sequencer w i p = carried w (actors.Sequencer i) p.1 (record w { sequencers = slice_set w.sequencers i p.0 })
@@ -159,6 +164,7 @@ opening c =
       clients = counted (opening_client c) c.clients;
       controller = seated (controller.opening c 1);
       sent = [];
+      archive = [];
     }
 
 -- the world after the events, and all their lines
@@ -180,17 +186,22 @@ greatest_of (v ∷ vs) = greatest_view v vs
 unfoldable pub main_view : WorldState → View
 main_view w = greatest_of (map (λ p. p.state.state.last_normal) w.replicas)
 
-abbrev pub log_of : Option (Seated Replica) → List Entry
-log_of None = []
-log_of (Some p) = p.state.state.log.entries
+-- all entries of a replica's log
+abbrev pub log_of : List Entry → Option (Seated Replica) → List Entry
+log_of archive None = []
+log_of archive (Some p) = with_archive archive p.state.state.log
 
 -- the log of that view's leader
 unfoldable pub main_log : WorldState → List Entry
-main_log w = log_of (slice_get w.replicas (leader_of (main_view w) w.config.replicas))
+main_log w = log_of w.archive (slice_get w.replicas (leader_of (main_view w) w.config.replicas))
 
 -- its requests that are executed, in order
 abbrev pub history : WorldState → List Request
 history w = history_of (main_log w)
+
+-- what stands in a slot of a replica's log, if anything
+abbrev pub entry : WorldState → ℕ → ℕ → Option Entry
+entry w i slot = slot_of (log_of w.archive (slice_get w.replicas i)) slot
 
 abbrev pub crashed_in : {S : Type 0} → Option (Seated S) → Bool
 crashed_in None = false

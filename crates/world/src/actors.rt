@@ -1,7 +1,7 @@
 ghost use Rattle.std.specs.Prelude.{◌≡◌, [], IfOk, IfErr, Ok, length, map};
 ghost use Rattle.replica_core.specs.ReplicaSteps as replica;
 ghost use Rattle.sequencer.specs.SequencerSteps as sequencer;
-ghost use Rattle.world.specs.Actors.{world_of, Happens};
+ghost use Rattle.world.specs.Actors.{world_of, moved_out, Happens};
 ghost use Rattle.network.specs.Network.{did_of};
 ghost use Rattle.world.specs.SeatOutcomes.{seated_of, Refuses};
 ghost use Rattle.world.specs.WorldSteps.{
@@ -15,6 +15,7 @@ ghost use Rattle.world.specs.WorldSteps.{
   stimulus_of,
 };
 
+use crate::archive::Archive;
 use crate::seat::{Seat, is_crashed, take_at};
 use crate::step_error::StepError;
 use crate::stimulus::actor_of;
@@ -27,7 +28,7 @@ use sequencer::Sequencer;
 use session_control::Controller;
 use std::alloc::Global;
 
-/// All actors, and the network between them.
+/// All actors, the network between them, and what moved out of logs.
 #[derive(Drop)]
 pub struct Actors<H: Host> {
     pub config: Config,
@@ -36,6 +37,7 @@ pub struct Actors<H: Host> {
     pub clients: Vec<Seat<Client>>,
     pub controller: Seat<Controller>,
     pub network: Network,
+    pub archive: Archive,
 }
 
 fn replicas<H: Host>(alloc: Global, config: Config) -> Result<Vec<Seat<Replica<H>>>, NoMemory>
@@ -88,6 +90,7 @@ impl<H: Host> Actors<H> {
             clients: clients(alloc, config)?,
             controller: Seat::new(Controller::new(alloc, config, 1)?),
             network,
+            archive: Archive::new(alloc),
         })
     }
 
@@ -101,9 +104,11 @@ impl<H: Host> Actors<H> {
         ensures config { self.new.config ≡ self.old.config }
         ensures count { length self.new.replicas.items ≡ length self.old.replicas.items }
         ensures network { self.new.network ≡ self.old.network }
+        ensures archive { self.new.archive ≡ self.old.archive }
         ensures ok { IfOk result (λ outs. step_of H.meaning (world_of self.old) actor
             (stimulus_of self.old.config self.old.network event.now)
-            ≡ Ok (carried (world_of self.old) actor (did_of outs) (world_of self.new))) }
+            ≡ Ok (carried (world_of self.old) actor (did_of outs)
+            (moved_out actor (did_of outs) (world_of self.new)))) }
         ensures err { IfErr result (λ e. Refuses e (step_of H.meaning (world_of self.old) actor
             (stimulus_of self.old.config self.old.network event.now))
             (world_of self.new ≡ world_of self.old)) }
@@ -150,7 +155,11 @@ impl<H: Host> Actors<H> {
     {
         let actor = actor_of(event);
         let did = self.take(alloc, actor, event)?;
-        Ok(carry_out(alloc, &mut self.network, actor, did)?)
+        let lines = carry_out(alloc, &mut self.network, actor, &did)?;
+        if let Actor::Replica(_) = actor {
+            self.archive.keep(did)?;
+        }
+        Ok(lines)
     }
 
     /// Whether an actor crashed, false for an actor that is not of the configuration.

@@ -1,9 +1,12 @@
-ghost use Rattle.std.specs.Prelude.{◌≡◌, ◌==◌, ◌+◌, ℕ, OnOk, IfOk, Some, is_some, if◌then◌else◌};
+ghost use Rattle.std.specs.Prelude.{◌≡◌, ◌==◌, ◌+◌, ◌++◌, ℕ, List, OnOk, IfOk, Some, is_some, if◌then◌else◌};
 ghost use Rattle.std.specs.Ordering.{nat_cmp};
 ghost use Rattle.std.specs.BTreeMap.{get, btree_map_len};
 ghost use Rattle.nop_types.specs.Histories.{history_of};
-ghost use Rattle.world.specs.Ids.{is_new_beside, Adds};
+ghost use Rattle.nop_types.specs.declared.request.Entry.{Entry};
+ghost use Rattle.world.specs.Ids.{is_new_beside, HasGreatest, Adds};
+ghost use Rattle.world.specs.Parts.{parts_of};
 
+use crate::main_log::LogParts;
 use nop_types::{Entry, MAX_SERVED, NoMemory, Request};
 use std::alloc::Global;
 use std::collections::BTreeMap;
@@ -49,14 +52,30 @@ fn add_entry(
     set_greatest(greatest, request.client, request.id)
 }
 
+/// The entries that come next.
+fn add_entries(
+    greatest: &mut BTreeMap<u32, u64>,
+    requests: &mut Vec<Request>,
+    entries: &[Entry],
+) -> Result<(), NoMemory>
+    ensures { OnOk result ((log : List Entry) → HasGreatest greatest.old log
+        → requests.old.items ≡ history_of log
+        → HasGreatest greatest.new (log ++ entries.now)
+        × (requests.new.items ≡ history_of (log ++ entries.now))) }
+{
+    for entry in entries {
+        add_entry(greatest, requests, entry)?;
+    }
+    Ok(())
+}
+
 /// The requests of a log that are executed, in order.
-pub fn history_of(alloc: Global, log: &[Entry]) -> Result<Vec<Request>, NoMemory>
-    ensures { IfOk result (λ v. v.items ≡ history_of log.now) }
+pub fn history_of(alloc: Global, log: LogParts<'_>) -> Result<Vec<Request>, NoMemory>
+    ensures { IfOk result (λ v. v.items ≡ history_of (parts_of log.entry)) }
 {
     let mut greatest = BTreeMap::new(alloc);
     let mut requests = Vec::new(alloc);
-    for entry in log {
-        add_entry(&mut greatest, &mut requests, entry)?;
-    }
+    add_entries(&mut greatest, &mut requests, log.synchronised)?;
+    add_entries(&mut greatest, &mut requests, log.kept)?;
     Ok(requests)
 }

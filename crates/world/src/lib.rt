@@ -1,4 +1,5 @@
-//! All actors and the network. One event is one step of one actor.
+//! All actors, the network, and the archive of what moved out of logs. One event is one step of one
+//! actor.
 //!
 //! `World::step` carries out `step` of the definition: at Ok world and lines are those of it, and
 //! an event that it refuses is refused so, and changes nothing. After NoMemory each later step
@@ -8,18 +9,19 @@
 //! bytes change nothing (`junk_changes_nothing`).
 //!
 //! The other calls read what the definition of their name reads: `config`, `sent`, `sent_to`,
-//! `sent_count`, `replica`, `crashed`, `timer`, `history`, `main_view`, `main_log`,
+//! `sent_count`, `replica`, `entry`, `crashed`, `timer`, `history`, `main_view`, `main_log`,
 //! `replica_lines`. `final_lines` appends the lines at the end of a transcript, or nothing on an
 //! error. `find` is the first index of a datagram with the given bytes. `takes(client)`:
 //! whether a submit would be accepted: the client exists, is up, has no open request, and an id is
 //! left. `with_index` is `new` with an index for `find`.
 //!
 //! Files: `world_state`, `actors`, `stimulus` (what an event delivers, and to whom), `seat` (any
-//! core, and whether it crashed), `main_log`, `history`, `state_lines`, `ending`. Definitions:
-//! `specs/WorldSteps` (`WorldState`, `step`, `run`, `history`), `Agreement` (`Agreed`), `Refusals`.
+//! core, and whether it crashed), `archive`, `main_log`, `history`, `state_lines`, `ending`. Definitions:
+//! `specs/WorldSteps` (`WorldState`, `step`, `run`, `history`), `Archive`, `Refusals`.
 #![tactic(auto)]
 
 mod actors;
+mod archive;
 mod ending;
 mod history;
 mod laws;
@@ -32,6 +34,7 @@ mod world_state;
 
 pub use ending::final_lines;
 pub use laws::{crashed_actors_take_no_step, junk_changes_nothing, refuses_by_first_cause};
+pub use main_log::LogParts;
 pub use network::Lines;
 pub use step_error::StepError;
 pub use world_state::World;

@@ -1,5 +1,6 @@
-ghost use Rattle.std.specs.Prelude.{◌≡◌, ◌∷◌, [], map, slice_get};
+ghost use Rattle.std.specs.Prelude.{◌≡◌, ◌≤◌, ◌∷◌, [], map, slice_get, take, length};
 ghost use Rattle.world.specs.Actors.{world_of};
+ghost use Rattle.world.specs.Parts.{parts_of};
 ghost use Rattle.world.specs.SeatOutcomes.{seated_of};
 ghost use Rattle.world.specs.WorldSteps.{greatest_view, greatest_of, log_of, main_view, main_log};
 
@@ -46,22 +47,52 @@ pub fn main_view<H: Host>(actors: &Actors<H>) -> View
     greatest_last_normal(&actors.replicas)
 }
 
+/// A log in two parts: what is synchronised, from the archive, and what the replica keeps above.
+#[derive(Clone, Copy)]
+pub struct LogParts<'a> {
+    pub synchronised: &'a [Entry],
+    pub kept: &'a [Entry],
+}
+
+/// The first entries, all where there are fewer.
+pub fn front(entries: &[Entry], count: u32) -> &[Entry]
+    ensures front { result.now ≡ take count entries.now }
+    ensures count { length result.now ≤ count }
+{
+    let count = (count as usize).min(entries.len());
+    &entries[..count]
+}
+
 /// The log of a replica, empty where there is none.
-fn log_at<H: Host>(seats: &[Seat<Replica<H>>], i: u8) -> &[Entry]
-    ensures { result.now
-        ≡ log_of (slice_get (map (seated_of (λ r. r.state)) seats.now) i) }
+pub fn log_at<'a, H: Host>(
+    archive: &'a [Entry],
+    seats: &'a [Seat<Replica<H>>],
+    i: u8,
+) -> LogParts<'a>
+    ensures { parts_of result
+        ≡ log_of archive.now (slice_get (map (seated_of (λ r. r.state)) seats.now) i) }
 {
     match seat_at(seats, i as usize) {
-        Some(seat) => seat.core.log().entries(),
-        None => &[],
+        Some(seat) => {
+            let log = seat.core.log();
+            LogParts {
+                synchronised: front(archive, log.sync_point()),
+                kept: log.entries(),
+            }
+        }
+        None => LogParts {
+            synchronised: &[],
+            kept: &[],
+        },
     }
 }
 
 /// The log of the leader of the greatest last normal view.
 #[tactic(auto, unfolding(crate::specs::WorldSteps::main_view, crate::specs::WorldSteps::main_log))]
-pub fn main_log<H: Host>(actors: &Actors<H>) -> &[Entry]
-    ensures { result.now ≡ main_log (world_of actors.now) }
+pub fn main_log<H: Host>(actors: &Actors<H>) -> LogParts<'_>
+    ensures { parts_of result ≡ main_log (world_of actors.now) }
 {
     let view = greatest_last_normal(&actors.replicas);
-    log_at(&actors.replicas, leader_of(view, actors.config.replicas()))
+    let leader = leader_of(view, actors.config.replicas());
+    log_at(actors.archive.entries(), &actors.replicas, leader)
 }

@@ -1,14 +1,15 @@
-ghost use Rattle.std.specs.Prelude.{◌≡◌, ◌≤◌, ◌++◌, OnOk, length, map, take};
+ghost use Rattle.std.specs.Prelude.{◌≡◌, ◌≤◌, ◌++◌, OnOk, length, map};
 ghost use Rattle.world.specs.SeatOutcomes.{seated_of};
 ghost use Rattle.world.specs.StateLines.{entries_text, replica_text, replicas_text};
 
+use crate::main_log::front;
 use crate::seat::Seat;
-use nop_types::{Entry, Host, MAX_REPLICAS, MAX_SLOTS, NoMemory};
+use nop_types::{Entry, Host, MAX_LENGTH, MAX_REPLICAS, NoMemory};
 use replica_core::Replica;
 use transcript_text::{entry_line, replica_line};
 
 fn put_entries(replica: u8, entries: &[Entry], to: &mut Vec<u8>) -> Result<(), NoMemory>
-    requires { length entries.now ≤ MAX_SLOTS }
+    requires { length entries.now ≤ MAX_LENGTH }
     ensures { OnOk result (to.new.items ≡ to.old.items ++ entries_text replica 1 entries.now) }
 {
     for (i, entry) in entries.iter().enumerate() {
@@ -17,26 +18,17 @@ fn put_entries(replica: u8, entries: &[Entry], to: &mut Vec<u8>) -> Result<(), N
     Ok(())
 }
 
-/// The first entries of a log, all where it has fewer.
-fn front(entries: &[Entry], count: u32) -> &[Entry]
-    ensures front { result.now ≡ take count entries.now }
-    ensures count { length result.now ≤ length entries.now }
-{
-    let count = (count as usize).min(entries.len());
-    &entries[..count]
-}
-
 fn put_replica<H: Host>(
+    archive: &[Entry],
     number: u8,
     seat: &Seat<Replica<H>>,
     to: &mut Vec<u8>,
 ) -> Result<(), NoMemory>
     ensures { OnOk result (to.new.items ≡ to.old.items
-        ++ replica_text number (seated_of (λ r. r.state) seat.now)) }
+        ++ replica_text archive.now number (seated_of (λ r. r.state) seat.now)) }
 {
     let core = &seat.core;
-    let log = core.log().entries();
-    let len = log.len() as u32;
+    let len = core.log().len();
     replica_line(
         number,
         seat.crashed,
@@ -46,17 +38,22 @@ fn put_replica<H: Host>(
         core.sync_point(),
         to,
     )?;
-    put_entries(number, front(log, core.sync_point()), to)
+    put_entries(number, front(archive, core.sync_point()), to)
 }
 
-/// Appends the lines of all replicas. Where memory runs out, `to` keeps the lines before, each of them whole.
-pub fn put_replicas<H: Host>(seats: &[Seat<Replica<H>>], to: &mut Vec<u8>) -> Result<(), NoMemory>
+/// Appends the lines of all replicas, whose synchronised entries are in the archive. Where memory runs out, `to` keeps the lines
+/// before, each of them whole.
+pub fn put_replicas<H: Host>(
+    archive: &[Entry],
+    seats: &[Seat<Replica<H>>],
+    to: &mut Vec<u8>,
+) -> Result<(), NoMemory>
     requires { length seats.now ≤ MAX_REPLICAS }
     ensures { OnOk result (to.new.items ≡ to.old.items
-        ++ replicas_text 0 (map (seated_of (λ r. r.state)) seats.now)) }
+        ++ replicas_text archive.now 0 (map (seated_of (λ r. r.state)) seats.now)) }
 {
     for (i, seat) in seats.iter().enumerate() {
-        put_replica(i as u8, seat, to)?;
+        put_replica(archive, i as u8, seat, to)?;
     }
     Ok(())
 }

@@ -170,13 +170,17 @@ impl<H: Host> World<H> {
     /// Appends a line for each replica, and one for each slot of it up to its sync point.
     pub fn replica_lines(&self, to: &mut Vec<u8>) -> Result<(), NoMemory>
         ensures ok { OnOk result (to.new.items ≡ to.old.items
-            ++ replicas_text 0 self.now.state.replicas) }
+            ++ replicas_text self.now.state.archive 0 self.now.state.replicas) }
         ensures err { OnErr result (to.new.items ≡ to.old.items) }
     {
         // at most seven
         let _count = self.actors.config.replicas();
         let mut lines = Vec::new(self.alloc);
-        put_replicas(&self.actors.replicas, &mut lines)?;
+        put_replicas(
+            self.actors.archive.entries(),
+            &self.actors.replicas,
+            &mut lines,
+        )?;
         to.extend_from_slice(&lines)?;
         Ok(())
     }

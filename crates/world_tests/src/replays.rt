@@ -6,7 +6,9 @@ use replay::replay;
 use std::alloc::Global;
 use std::process::Abort;
 
-/// A schedule, and its transcript: no events, two crashes of one replica, a refused event, an actor that is not there.
+/// A schedule, and its transcript: no events, two crashes of one replica, a refused event, an actor that is not there. In the last one a
+/// put is synchronised by replicas 0 and 2 while replica 1 has nothing. That one asks for the slot, is told the checkpoint, and leads the
+/// next view, in which a get finds the value; at the end the put is in its log too.
 const REPLAYS: &str = "\
 nopaxos 1 replicas 1 sequencers 1 clients 1
 |
@@ -39,6 +41,64 @@ deliver 0 r1
 |
 transcript 1 replicas 1 sequencers 1 clients 1
 error line 2 rule 7
+----
+nopaxos 1 replicas 3 sequencers 1 clients 2
+submit c0 5000016b000176
+deliver 0 s0
+deliver 1 r0
+deliver 1 r2
+deliver 2 c0
+deliver 3 c0
+tick r0 sync
+deliver 4 r2
+deliver 5 r0
+deliver 6 r2
+submit c1 4700016b
+deliver 7 s0
+deliver 8 r1
+deliver 9 r0
+deliver 10 r1
+crash r0
+tick r2 suspect
+deliver 13 r1
+deliver 14 r1
+deliver 16 r2
+deliver 17 c1
+deliver 18 c1
+|
+transcript 1 replicas 3 sequencers 1 clients 2
+submit c0 1 5000016b000176
+send 0 c0 s* request 25
+send 1 s0 r* stamped 37
+send 2 r0 c0 reply 36
+send 3 r2 c0 reply 32
+accept c0 1 6e6f6e65
+send 4 r0 r* fragment 57
+send 5 r2 r0 fragment 31
+send 6 r0 r* fragment 31
+submit c1 1 4700016b
+send 7 c1 s* request 22
+send 8 s0 r* stamped 34
+send 9 r1 r0 fragment 31
+send 10 r0 r1 fragment 71
+send 11 r1 r0 fragment 31
+send 12 r1 c1 reply 32
+send 13 r2 r* fragment 27
+send 14 r2 r1 fragment 87
+send 15 r1 r* fragment 27
+send 16 r1 r* fragment 98
+send 17 r1 c1 reply 34
+send 18 r2 c1 reply 32
+accept c1 1 3d76
+replica r0 crashed normal 0 1 1 1
+entry r0 1 c0 1 5000016b000176
+replica r1 up normal 1 1 2 1
+entry r1 1 c0 1 5000016b000176
+replica r2 up normal 1 1 2 1
+entry r2 1 c0 1 5000016b000176
+history 1 c0 1 5000016b000176
+history 2 c1 1 4700016b
+end
 ";
 
 /// Replays what stands before the bar, with reads of at most so many bytes, and compares what is written with what stands below it.

@@ -1,5 +1,5 @@
 use kv_host::KvHost;
-use nop_types::{Actor, Config, Host};
+use nop_types::{Actor, Config, Entry, Host};
 use outside::ReadMem;
 use safety::run_events;
 use schedule_text::{Event, Reader};
@@ -7,8 +7,8 @@ use std::alloc::Global;
 use std::process::Abort;
 use world::{StepError, World};
 
-/// One put that each of three replicas logs, where the last replica crashes before the stamped request comes a second time. The last
-/// event is refused.
+/// One put that each of three replicas logs, and that the leader has synchronised; the last replica crashes before the stamped request
+/// comes a second time. The last event is refused.
 const ONE_PUT: &str = "\
 nopaxos 1 replicas 3 sequencers 1 clients 1
 submit c0 5000016b000176
@@ -18,9 +18,12 @@ deliver 1 r0
 deliver 1 r2
 deliver 2 c0
 deliver 3 c0
+tick r0 sync
+deliver 5 r1
+deliver 6 r0
 crash r2
 deliver 1 r2
-deliver 5 r2
+deliver 8 r2
 ";
 
 /// The datagrams of it, in their order.
@@ -29,11 +32,15 @@ const SENT: &str = "\
 4e4f0202 00000001 0000000000000001 00000000 0000000000000001 0007 5000016b000176
 4e4f0203 01 00000000 00000001 00000001 00000000 0000000000000001 00 0000
 4e4f0203 00 00000000 00000001 00000001 00000000 0000000000000001 01 0004 6e6f6e65
-4e4f0203 02 00000000 00000001 00000001 00000000 0000000000000001 00 0000";
+4e4f0203 02 00000000 00000001 00000001 00000000 0000000000000001 00 0000
+4e4f0208 00 0000000000000001 0000 0001 17 00 00000000 00000001 00000000 00000001 01 00000000 0000000000000001 0007 5000016b000176
+4e4f0208 01 0000000000000001 0000 0001 18 01 00000000 00000001 00000001
+4e4f0208 00 0000000000000002 0000 0001 19 00 00000000 00000001 00000001";
 
 /// The lines of the replicas at the end.
 const REPLICAS: &str = "\
-replica r0 up normal 0 1 1 0
+replica r0 up normal 0 1 1 1
+entry r0 1 c0 1 5000016b000176
 replica r1 up normal 0 1 1 0
 replica r2 crashed normal 0 1 1 0
 ";
@@ -41,6 +48,17 @@ replica r2 crashed normal 0 1 1 0
 /// The requests that every completion of the run keeps.
 const HISTORY: &str =
     "[Request { client: 0, id: 1, op: Op { bytes: [80, 0, 1, 107, 0, 1, 118] } }]";
+
+/// A replica, a slot, and whether the put stands there: at the leader, out of whose log it moved, and at another one. There is no slot 0
+/// and no fourth replica.
+const SLOTS: [(u8, u32, bool); 6] = [
+    (0, 1, true),
+    (0, 0, false),
+    (0, 2, false),
+    (1, 1, true),
+    (1, 2, false),
+    (3, 1, false),
+];
 
 /// The next event of a schedule, none at its end.
 fn next(rt: &impl Abort, reader: &mut Reader, source: &mut ReadMem) -> Option<Event> {
@@ -75,14 +93,29 @@ fn check_sent<H: Host>(rt: &impl Abort, alloc: Global, world: &World<H>, index: 
     assert!(rt; given == told.as_slice(), "{index}");
 }
 
+/// The put alone stands in its slot. Of the main log it is what is synchronised.
+fn check_slots<H: Host>(rt: &impl Abort, world: &World<H>) {
+    for (replica, slot, there) in &SLOTS {
+        let found = match world.entry(*replica, *slot) {
+            Some(Entry::Req(request)) => request.id == 1 && *there,
+            Some(Entry::NoOp) => false,
+            None => !*there,
+        };
+        assert!(rt; found, "r{} {}", *replica, *slot);
+    }
+    let log = world.main_log();
+    assert!(rt; log.synchronised.len() == 1 && log.kept.is_empty());
+}
+
 fn check_world<H: Host>(rt: &impl Abort, alloc: Global, world: &World<H>) {
     let mut index = 0u64;
     for row in SENT.lines() {
         check_sent(rt, alloc, world, index, row);
         index = index.saturating_add(1);
     }
-    assert!(rt; world.sent_count() == index && index == 5);
+    assert!(rt; world.sent_count() == index && index == 8);
     assert!(rt; world.crashed(Actor::Replica(2)) && !world.crashed(Actor::Replica(1)));
+    check_slots(rt, world);
     let mut lines = Vec::new(alloc);
     world.replica_lines(&mut lines).expect(rt, "memory");
     assert!(rt; lines.as_slice() == REPLICAS.as_bytes());
@@ -94,7 +127,7 @@ fn check_world<H: Host>(rt: &impl Abort, alloc: Global, world: &World<H>) {
 /// The events without the last one give that world; with it they are refused.
 fn check_events<H: Host>(rt: &impl Abort, alloc: Global, config: Config, events: &[Event]) {
     let refused: Result<World<H>, StepError> = run_events(alloc, config, events);
-    let told = StepError::NoSuchDatagram { index: 5, sent: 5 };
+    let told = StepError::NoSuchDatagram { index: 8, sent: 8 };
     assert!(rt; refused.err() == Some(told));
     let (_last, events) = events.split_last().expect(rt, "events");
     let world: Result<World<H>, StepError> = run_events(alloc, config, events);

@@ -1,10 +1,12 @@
 //! What else is read from a world.
 
 ghost use Rattle.std.specs.Prelude.{◌≡◌, option_map, slice_get};
-ghost use Rattle.world.specs.WorldSteps.{main_view, main_log};
+ghost use Rattle.std.specs.Option.{option_copied};
+ghost use Rattle.world.specs.Parts.{parts_of};
+ghost use Rattle.world.specs.WorldSteps.{main_view, main_log, entry};
 
 use super::World;
-use crate::main_log::{main_log, main_view};
+use crate::main_log::{LogParts, log_at, main_log, main_view};
 use nop_types::{Dest, Entry, Host, View};
 
 impl<H: Host> World<H> {
@@ -22,10 +24,27 @@ impl<H: Host> World<H> {
         main_view(&self.actors)
     }
 
-    /// The log of the leader of that view, from which the history is read.
-    pub fn main_log(&self) -> &[Entry]
-        ensures { result.now ≡ main_log self.now.state }
+    /// The log of the leader of that view, from which the history is read: what is synchronised, and what is above.
+    pub fn main_log(&self) -> LogParts<'_>
+        ensures { parts_of result ≡ main_log self.now.state }
     {
         main_log(&self.actors)
+    }
+
+    /// What stands in a slot of a replica's log, also in one that is synchronised. None exactly where the replica is not of the
+    /// configuration or no entry stands there.
+    pub fn entry(&self, replica: u8, slot: u32) -> Option<&Entry>
+        ensures { option_copied result ≡ entry self.now.state replica slot }
+    {
+        let log = log_at(
+            self.actors.archive.entries(),
+            &self.actors.replicas,
+            replica,
+        );
+        let place = slot.checked_sub(1)? as usize;
+        match log.synchronised.get(place) {
+            Some(entry) => Some(entry),
+            None => log.kept.get(place - log.synchronised.len()),
+        }
     }
 }

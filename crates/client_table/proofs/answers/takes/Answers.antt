@@ -1,8 +1,7 @@
-use Rattle.std.proofs.Common.{◌≡◌, Option, None, ap, sym, ◌∙◌, rules}
+use Rattle.std.proofs.Common.{◌≡◌, None, ap, sym, ◌∙◌, rules}
 use Rattle.std.specs.Prelude.{option_map}
 use Rattle.std.specs.Option.{option_copied}
-use Rattle.std.specs.FinMap as finite
-use Rattle.nop_types.specs.Tables.{Account, kept_for}
+use Rattle.nop_types.specs.Tables.{kept_for}
 use Rattle.client_table.specs.Answers.{account_of, table_of}
 use Rattle.client_table.proofs.SavedLemmas.{len-table_of}
 use Rattle.client_table.proofs.answers.takes.Goals as goal

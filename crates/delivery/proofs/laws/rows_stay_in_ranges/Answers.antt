@@ -5,4 +5,4 @@ pub returns-clause-opens : goal.returns-clause-opens
 returns-clause-opens g c = opens_in_ranges
 
 pub returns-clause-stays : goal.returns-clause-stays
-returns-clause-stays g c = λ m short. arrive_stays m short
+returns-clause-stays g c = λ m k bounds. arrive_stays m k bounds

@@ -1,6 +1,5 @@
 use Rattle.std.proofs.Common.{◌≡◌, rules}
-use Rattle.replica_rows.specs.Within.{ResultsShort}
-use Rattle.safety.proofs.Results.{results_short}
+use Rattle.nop_types.specs.Checkpoints.{KeepsTo}
 use Rattle.one_box.specs.Attaching.{lost_by}
 use Rattle.one_box.specs.Showing.{course_of, link_view}
 use Rattle.one_box.proofs.ClusterLemmas.{run_ends, ends_early, caused, no_run, never_link, never_written, all_back}
@@ -9,13 +8,12 @@ use Rattle.one_box.proofs.cluster.serve_all.Goals as goal
 pub returns-in-Ok-ran-clause-ends : goal.returns-in-Ok-ran-clause-ends
 returns-in-Ok-ran-clause-ends g c =
     let v = link_view g.P.L.Link.answers g.P.L.Link.own_port g.P.L.Link.trace g.P.L.Link.loss_count g.P.L.Link.fault_count in
-    let short : ResultsShort g.H.Host.meaning =
-    results_short g.H.Host.meaning g.H.Host.is_sound g.met.H.Host.opens_sound g.met.H.Host.stays_sound g.met.H.Host.answers_short in
+    let keeps : KeepsTo g.H.Host.meaning g.H.Host.is_sound = search (g.met.H.Host) in
     let xs = c.run_turns-ran.new.nodes.items in
     let lost_is : c.lost_by-lost.result ≡ lost_by xs = search rules in
     run_ends g.H.Host.meaning v c.args.config c.args.ops.now c.args.base c.args.turns (g.P.Ports.to_come c.args.ports.now)
-    (g.C.Clock.values c.args.clock.now) (g.P.Ports.detached c.args.ports.now) (g.P.Ports.detached c.detach_all.new.ports) short
-    c.replicas.ensures.limits (course_of c.run_turns-ran.new.course) c.in-Ok-ran.taken c.lost_by-lost.result xs
+    (g.C.Clock.values c.args.clock.now) (g.P.Ports.detached c.args.ports.now) (g.P.Ports.detached c.detach_all.new.ports)
+    g.H.Host.is_sound keeps c.replicas.ensures.limits (course_of c.run_turns-ran.new.course) c.in-Ok-ran.taken c.lost_by-lost.result xs
     (g.P.Ports.detached c.run_turns-ran.new.ports) c.in-Ok-ran.ensures.runs lost_is c.detach_all.ensures.detached c.write_run.result
     (g.K.Sink.held c.args.sink.now) (g.K.Sink.held c.write_run.new.sink) c.write_run.ensures.writes
 

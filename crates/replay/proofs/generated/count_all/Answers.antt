@@ -1,7 +1,7 @@
 use Rattle.std.proofs.Common.{◌≡◌, ℕ, suc, ◌+◌, ◌-◌, [], ◌∷◌, ◌++◌, sym, subst, arith}
 use Rattle.rand_pcg.specs.Lcg.{Lcg}
 use Rattle.schedule_text.specs.declared.event.Event.{Event}
-use Rattle.safety.proofs.Results.{results_short}
+use Rattle.nop_types.specs.Checkpoints.{KeepsTo}
 use Rattle.network.specs.LineCounts.{is_send, is_accept}
 use Rattle.replay.specs.Generating.{DrawnTo}
 use Rattle.replay.proofs.Drawn.{begins, drawn_next, count_by_both}
@@ -25,7 +25,7 @@ loop-done-init g c =
 pub loop-done-preserved : goal.loop-done-preserved
 loop-done-preserved g c =
     let m = g.H.Host.meaning in
-    let short = results_short m g.H.Host.is_sound g.met.H.Host.opens_sound g.met.H.Host.stays_sound g.met.H.Host.answers_short in
+    let keeps : KeepsTo m g.H.Host.is_sound = search (g.met.H.Host) in
     let k = c.loop-done.invariant in
     let d = c.in_ok-next_drawn.ensures in
     let e : Event = c.in_ok-next_drawn.field-0.event in
@@ -38,7 +38,7 @@ loop-done-preserved g c =
     record {
       events = k.events ++ e ∷ [];
       lines = k.lines ++ d.are;
-      to = drawn_next m short c.args.number c.args.count left k.events c.loop-done.world.state c.loop-done.words k.lines e
+      to = drawn_next m g.H.Host.is_sound keeps c.args.number c.args.count left k.events c.loop-done.world.state c.loop-done.words k.lines e
           c.next_drawn.new.world.state c.next_drawn.new.words d.are to d.draws;
       sends_are = omega (arith, k.sends_are, c.in_ok-counts-2.ensures.sends, d.shown.sends, s);
       accepts_are = omega (arith, k.accepts_are, c.in_ok-counts-2.ensures.accepts, d.shown.accepts, a);

@@ -1,7 +1,7 @@
 use Rattle.std.proofs.Common.{◌≡◌, ℕ, suc, ◌+◌, ◌-◌, List, [], ◌∷◌, ◌++◌, sym, subst, arith}
 use Rattle.rand_pcg.specs.Lcg.{Lcg}
 use Rattle.schedule_text.specs.declared.event.Event.{Event}
-use Rattle.safety.proofs.Results.{results_short}
+use Rattle.nop_types.specs.Checkpoints.{KeepsTo}
 use Rattle.replay.specs.Generating.{DrawnTo}
 use Rattle.replay.proofs.Drawn.{begins, drawn_next, events_first}
 use Rattle.replay.proofs.generated.keep_all.Goals as goal
@@ -25,7 +25,7 @@ loop-done-init g c =
 pub loop-done-preserved : goal.loop-done-preserved
 loop-done-preserved g c =
     let m = g.H.Host.meaning in
-    let short = results_short m g.H.Host.is_sound g.met.H.Host.opens_sound g.met.H.Host.stays_sound g.met.H.Host.answers_short in
+    let keeps : KeepsTo m g.H.Host.is_sound = search (g.met.H.Host) in
     let k = c.loop-done.invariant in
     let d = c.in_ok-next_drawn.ensures in
     let e : Event = c.in_ok-next_drawn.field-0.event in
@@ -39,6 +39,6 @@ loop-done-preserved g c =
       lines = k.lines ++ d.are;
       to = subst (λ (xs : List Event). DrawnTo m c.args.number c.args.count left xs c.next_drawn.new.world.state
           c.next_drawn.new.words (k.lines ++ d.are)) (sym {A = List Event} c.in_ok-keep-2.ensures)
-          (drawn_next m short c.args.number c.args.count left c.loop-done.events.items c.loop-done.world.state c.loop-done.words k.lines e
+          (drawn_next m g.H.Host.is_sound keeps c.args.number c.args.count left c.loop-done.events.items c.loop-done.world.state c.loop-done.words k.lines e
           c.next_drawn.new.world.state c.next_drawn.new.words d.are to d.draws);
     }

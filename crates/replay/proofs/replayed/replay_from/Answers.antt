@@ -5,7 +5,7 @@ use Rattle.nop_types.specs.declared.limits.TheConstants.{MAX_LINES}
 use Rattle.schedule_text.specs.Reading.{Reading}
 use Rattle.transcript_text.specs.Transcript.{transcript_line}
 use Rattle.replay.specs.Progress.{begins, GoesOn}
-use Rattle.safety.proofs.Results.{results_short}
+use Rattle.nop_types.specs.Checkpoints.{KeepsTo}
 use Rattle.replay.proofs.Beginning.{opened, unopened, text_first, counts_from_one}
 use Rattle.replay.proofs.Causes.{cause_since, stop_reads, starved_reads, same_time}
 use Rattle.replay.proofs.Decided.{may_begin}
@@ -65,9 +65,9 @@ returns-clause-safe g c =
     let m = g.H.Host.meaning in
     let left = g.S.Source.left in
     let held = g.K.Sink.held in
-    let short = results_short m g.H.Host.is_sound g.met.H.Host.opens_sound g.met.H.Host.stays_sound g.met.H.Host.answers_short in
+    let keeps : KeepsTo m g.H.Host.is_sound = search (g.met.H.Host) in
     let is : g.start ≡ begins (left c.args.source.now) (held c.args.sink.now) = search (rules, c.requires) in
-    done_is_safe m short (left c.args.source.now) (left c.take_events.new.source) (held c.args.sink.now) (held c.take_events.new.sink)
+    done_is_safe m g.H.Host.is_sound keeps (left c.args.source.now) (left c.take_events.new.source) (held c.args.sink.now) (held c.take_events.new.sink)
     c.take_events.result (rw is at c.take_events.ensures.ends)
 
 pub returns-clause-read : goal.returns-clause-read

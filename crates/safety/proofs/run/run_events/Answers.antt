@@ -1,8 +1,7 @@
 use Rattle.std.proofs.Common.{◌≡◌, length, refl}
 use Rattle.std.proofs.lemmas.Option.{slice_get_read}
 use Rattle.std.proofs.lemmas.Result.{err_from_is_err_and}
-use Rattle.replica_rows.specs.Within.{ResultsShort}
-use Rattle.safety.proofs.Results.{results_short}
+use Rattle.nop_types.specs.Checkpoints.{KeepsTo}
 use Rattle.safety.proofs.Whole.{running_on, run_led, run_refused}
 use Rattle.safety.proofs.run.run_events.Goals as goal
 
@@ -19,9 +18,8 @@ loop-event-preserved g c =
 
 pub returns-clause-ok : goal.returns-clause-ok
 returns-clause-ok g c =
-    let short : ResultsShort g.H.Host.meaning =
-    results_short g.H.Host.meaning g.H.Host.is_sound g.met.H.Host.opens_sound g.met.H.Host.stays_sound g.met.H.Host.answers_short in
-    run_led g.H.Host.meaning short c.args.config c.replicas.ensures.limits c.args.events.now c.loop-event.world.state
+    let keeps : KeepsTo g.H.Host.meaning g.H.Host.is_sound = search (g.met.H.Host) in
+    run_led g.H.Host.meaning g.H.Host.is_sound keeps c.args.config c.replicas.ensures.limits c.args.events.now c.loop-event.world.state
     c.loop-event.event-index c.loop-event-test.false c.loop-event.invariant.runs
 
 pub returns-in_err-step-clause-err : goal.returns-in_err-step-clause-err

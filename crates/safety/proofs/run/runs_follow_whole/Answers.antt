@@ -1,5 +1,8 @@
+use Rattle.nop_types.specs.Checkpoints.{KeepsTo}
 use Rattle.safety.proofs.Whole.{runs_follow_whole}
 use Rattle.safety.proofs.run.runs_follow_whole.Goals as goal
 
 pub returns : goal.returns
-returns g c = λ m. runs_follow_whole m
+returns g c =
+    let keeps : KeepsTo g.H.Host.meaning g.H.Host.is_sound = search (g.met.H.Host) in
+    runs_follow_whole g.H.Host.meaning g.H.Host.is_sound keeps

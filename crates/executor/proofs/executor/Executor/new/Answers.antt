@@ -1,10 +1,17 @@
+use Rattle.std.proofs.Common.{sym, ap, ◌∙◌}
+use Rattle.nop_types.specs.CheckpointedLogs.{beginning}
 use Rattle.executor.proofs.UndoLemmas.{opens}
 use Rattle.executor.proofs.ExecutedLemmas.{executed_nothing}
 use Rattle.executor.proofs.executor.Executor.new.Goals as goal
 
 pub returns-clause-run : goal.returns-clause-run
-returns-clause-run g c log =
+returns-clause-run g c log point checkpoint =
     let m = g.H.Host.meaning in
     rw c.new-2.ensures.items
-    (executed_nothing m g.H.Host.undo_of log _
-    (opens m (g.H.Host.state c.in_ok-fresh.field-0) c.new.result c.in_ok-fresh.ensures c.new.ensures))
+    (record {
+      base = sym point;
+      run =
+          executed_nothing m g.H.Host.undo_of (beginning m log.checkpoint) log.entries _
+          (opens m (g.H.Host.state c.in_ok-fresh.field-0) c.new.result c.in_ok-fresh.ensures c.new.ensures
+          ∙ sym (ap (beginning m) checkpoint));
+    })

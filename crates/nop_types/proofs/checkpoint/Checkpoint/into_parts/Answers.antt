@@ -9,5 +9,5 @@ pub returns-clause-saved : goal.returns-clause-saved
 returns-clause-saved c =
     let clients = map saved_account c.self.inside.clients.items in
     let within = and_parts (nat_le (length c.self.inside.host) MAX_HOST_BYTES) (nat_le (length clients) MAX_SERVED && are_saved 0 clients)
-    c.self.invariant in
+    c.self.invariant.limits in
     (and_parts (nat_le (length clients) MAX_SERVED) (are_saved 0 clients) within.1).1

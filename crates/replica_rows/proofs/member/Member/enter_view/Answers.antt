@@ -1,9 +1,11 @@
 use Rattle.std.proofs.Common.{◌≡◌, ap, ◌∙◌, ◌++◌, sym, subst, arith}
 use Rattle.std.specs.Prelude.{IfSome}
 use Rattle.std.specs.List.{AllByRecursion}
+use Rattle.nop_types.specs.Logs.{Trimmed}
 use Rattle.nop_types.specs.Ranges.{ChangeFits}
 use Rattle.replica_state.specs.State.{others}
-use Rattle.replica_rows.proofs.Opening.{own, enters_with_others, opens_alone, start_fits, put_back}
+use Rattle.replica_rows.specs.Within.{ChangeLoads}
+use Rattle.replica_rows.proofs.Opening.{own, enters_with_others, opens_alone, start_fits, start_loads, put_back}
 use Rattle.replica_rows.proofs.Running.{on_ok, sent_on}
 use Rattle.replica_rows.proofs.member.Member.enter_view.Goals as goal
 
@@ -11,7 +13,7 @@ pub returns-then-others-gt0 : goal.returns-then-others-gt0
 returns-then-others-gt0 g c =
     let e = c.in_ok-enter.ensures.state in
     let same =
-    enters_with_others g.H.Host.meaning c.args.self.now.state c.args.view
+    enters_with_others g.H.Host.meaning Trimmed c.args.self.now.state c.args.view
     (omega (arith, c.if-others-gt0.true, c.others.ensures, ap others e)) in
     record {
       runs = c.in_ok-enter.ensures.runs;
@@ -39,16 +41,22 @@ open_view-requires-clause-told g c =
     let all = subst (λ o. IfSome o (λ x. AllByRecursion ChangeFits x.changes)) c.in-Some.is c.in_ok-enter.ensures.runs.within.changes in
     (start_fits c.in-Some.changes c.in_ok-start.start all (omega (arith, mine.one)) c.in_ok-start.ensures.start).1
 
+pub open_view-requires-clause-loads : goal.open_view-requires-clause-loads
+open_view-requires-clause-loads g c =
+    let m = g.H.Host.meaning in
+    let load = c.in_ok-enter.ensures.runs.loads in
+    let all = subst (λ o. IfSome o (λ x. AllByRecursion (ChangeLoads m) x.changes)) c.in-Some.is load.gathered in
+    start_loads m c.in-Some.changes c.in_ok-start.start all c.in_ok-start.ensures.start
+
 pub returns : goal.returns
 returns g c =
     let e = c.in_ok-enter.ensures.state in
     let back = put_back c.enter.new.self.state c.in-Some.changes c.start_now.new.self c.start_now.ensures.same c.in-Some.is in
     let mine = own c.args.self.now.state c.args.view c.in-Some.changes (ap (λ s. s.changes) (sym e) ∙ c.in-Some.is) in
     let none : c.in-Some.changes.f ≡ 0 = omega (arith, mine.f, c.if-others-gt0.false, c.others.ensures, ap others e) in
-    let all = subst (λ o. IfSome o (λ x. AllByRecursion ChangeFits x.changes)) c.in-Some.is c.in_ok-enter.ensures.runs.within.changes in
     let both =
     opens_alone g.H.Host.meaning c.args.self.now.state c.enter.new.self.state
-    _ c.args.view c.in-Some.changes c.in_ok-start.start e c.in-Some.is none back all c.in_ok-start.ensures.start in
+    _ c.args.view c.in-Some.changes c.in_ok-start.start e c.in-Some.is none back c.in_ok-start.ensures.start in
     let so_far = c.in_ok-enter.ensures.sends in
     on_ok c.open_view.result _ _
     (λ does. record {

@@ -1,5 +1,9 @@
-use Rattle.std.proofs.Common.{◌∙◌, [], ◌∷◌, ap, length, length-append, arith}
+use Rattle.std.proofs.Common.{◌∙◌, ap, arith}
 use Rattle.nop_types.specs.declared.request.Entry.TheVariants.{Req}
+use Rattle.nop_types.specs.Logs.{Trimmed, length_of}
+use Rattle.executor.specs.Running.{reached}
+use Rattle.executor.proofs.FrontLemmas.{reached_within}
+use Rattle.replica_rows.proofs.Fields.{length-appended}
 use Rattle.replica_rows.proofs.Rows.{fill_sends}
 use Rattle.replica_rows.proofs.member.Member.fill.Goals as goal
 
@@ -8,10 +12,13 @@ reply_at-requires-clause-there g c = omega (arith, c.len-slot.ensures.len)
 
 pub reply_at-requires-clause-ahead : goal.reply_at-requires-clause-ahead
 reply_at-requires-clause-ahead g c =
-    let run = ap (λ e. length e.undos) c.append.ensures.executor in
-    let longer = ap (λ s. length s.log.entries) c.in_ok-append.ensures.state in
-    let one = length-append c.args.self.now.state.log.entries (Req c.args.request ∷ []) in
-    omega (arith, c.requires.runs.run.within, run, longer, one, c.len-slot.ensures.len)
+    let s = c.args.self.now.state in
+    let executed =
+    reached_within g.H.Host.state g.H.Host.meaning g.H.Host.undo_of s.log c.args.self.now.executor c.requires.runs.run in
+    let run = ap (λ e. reached e) c.append.ensures.executor in
+    let longer = ap (λ t. length_of Trimmed t.log) c.in_ok-append.ensures.state in
+    let one = length-appended Trimmed s.log (Req c.args.request) in
+    omega (arith, executed, run, longer, one, c.len-slot.ensures.len)
 
 pub returns : goal.returns
 returns g c = record {

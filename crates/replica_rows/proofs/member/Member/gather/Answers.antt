@@ -14,20 +14,30 @@ pub open_view-requires-clause-next : goal.open_view-requires-clause-next
 open_view-requires-clause-next g c =
     let left = c.in_ok-start.ensures.kept ∙ ap (λ step. kept_after step c.args.self.now.state c.args.change) c.in-Started.is in
     (gathers_taken g.H.Host.meaning c.args.self.now.state c.keep_change.new.state c.args.self.now.state.changes c.args.change
-    c.in-Started.start refl c.requires.runs.within c.requires.fits left (sym c.in_ok-start.ensures.step ∙ c.in-Started.is)).next
+    c.in-Started.start refl c.requires.runs.within c.requires.runs.loads c.requires.fits c.requires.loads left
+    (sym c.in_ok-start.ensures.step ∙ c.in-Started.is)).next
 
 pub open_view-requires-clause-told : goal.open_view-requires-clause-told
 open_view-requires-clause-told g c =
     let left = c.in_ok-start.ensures.kept ∙ ap (λ step. kept_after step c.args.self.now.state c.args.change) c.in-Started.is in
     (gathers_taken g.H.Host.meaning c.args.self.now.state c.keep_change.new.state c.args.self.now.state.changes c.args.change
-    c.in-Started.start refl c.requires.runs.within c.requires.fits left (sym c.in_ok-start.ensures.step ∙ c.in-Started.is)).told
+    c.in-Started.start refl c.requires.runs.within c.requires.runs.loads c.requires.fits c.requires.loads left
+    (sym c.in_ok-start.ensures.step ∙ c.in-Started.is)).told
+
+pub open_view-requires-clause-loads : goal.open_view-requires-clause-loads
+open_view-requires-clause-loads g c =
+    let left = c.in_ok-start.ensures.kept ∙ ap (λ step. kept_after step c.args.self.now.state c.args.change) c.in-Started.is in
+    (gathers_taken g.H.Host.meaning c.args.self.now.state c.keep_change.new.state c.args.self.now.state.changes c.args.change
+    c.in-Started.start refl c.requires.runs.within c.requires.runs.loads c.requires.fits c.requires.loads left
+    (sym c.in_ok-start.ensures.step ∙ c.in-Started.is)).loads
 
 pub returns-in-Started : goal.returns-in-Started
 returns-in-Started g c =
     let left = c.in_ok-start.ensures.kept ∙ ap (λ step. kept_after step c.args.self.now.state c.args.change) c.in-Started.is in
     let starts =
     gathers_taken g.H.Host.meaning c.args.self.now.state c.keep_change.new.state c.args.self.now.state.changes c.args.change
-    c.in-Started.start refl c.requires.runs.within c.requires.fits left (sym c.in_ok-start.ensures.step ∙ c.in-Started.is) in
+    c.in-Started.start refl c.requires.runs.within c.requires.runs.loads c.requires.fits c.requires.loads left
+    (sym c.in_ok-start.ensures.step ∙ c.in-Started.is) in
     on_ok c.open_view.result _ _
     (λ does. record {
       runs = does.runs;
@@ -45,7 +55,7 @@ returns-in-Waiting g c =
     record {
       runs =
           kept_runs g.H.Host c.args.self.now.state c.keep_change.new.state
-          _ c.args.self.now.state.changes c.args.change refl kept c.requires.runs c.requires.fits;
+          _ c.args.self.now.state.changes c.args.change refl kept c.requires.runs c.requires.fits c.requires.loads;
       state = ap (λ x. x.0) (sym waits);
       sends = sym (append-nil c.args.self.now.sends) ∙ ap (λ x. c.args.self.now.sends ++ x.1) (sym waits);
     }

@@ -1,5 +1,6 @@
-use Rattle.std.proofs.Common.{◌≡◌, ◌≤◌, ◌++◌, length}
-use Rattle.nop_types.specs.Logs.{Whole}
+use Rattle.std.proofs.Common.{◌≡◌, ◌≤◌, ◌++◌}
+use Rattle.nop_types.specs.Logs.{Trimmed, length_of}
+use Rattle.executor.specs.Running.{reached}
 use Rattle.replica_rows.specs.Within.{Runs}
 use Rattle.replica_state.specs.Replies.{replies_above}
 use Rattle.replica_rows.proofs.member.Member.replies_above.Given as goal
@@ -10,9 +11,10 @@ invariant-loop-at g l =
     record {
       runs : Runs g.H.Host l.self.state l.self.executor;
       state : l.self.state ≡ l.initial.self.state;
-      ends : l.at-end ≡ length l.self.state.log.entries;
-      behind : length l.self.executor.undos ≤ l.at;
+      ends : l.at-end ≡ length_of Trimmed l.self.state.log;
+      kept : l.self.state.log.sync_point ≤ l.at;
+      behind : reached l.self.executor ≤ l.at;
       replied :
-          l.self.sends ++ replies_above g.H.Host.meaning Whole l.initial.self.state l.at
-          ≡ l.initial.self.sends ++ replies_above g.H.Host.meaning Whole l.initial.self.state l.slot;
+          l.self.sends ++ replies_above g.H.Host.meaning Trimmed l.initial.self.state l.at
+          ≡ l.initial.self.sends ++ replies_above g.H.Host.meaning Trimmed l.initial.self.state l.slot;
     }

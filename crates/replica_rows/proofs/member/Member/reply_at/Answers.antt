@@ -1,7 +1,7 @@
 use Rattle.std.proofs.Common.{◌≡◌, Some, ap, ◌∙◌, ◌++◌, refl, sym}
 use Rattle.nop_types.specs.declared.request.Entry.TheVariants.{Req}
 use Rattle.nop_types.specs.Legality.{IsOf}
-use Rattle.nop_types.specs.Lists.{slot_of}
+use Rattle.nop_types.specs.Logs.{Trimmed, entry_at}
 use Rattle.replica_rows.proofs.Replying.{leader_replies, follower_replies}
 use Rattle.replica_rows.proofs.Running.{on_ok}
 use Rattle.replica_rows.proofs.member.Member.reply_at.Goals as goal
@@ -11,7 +11,7 @@ returns-then-leads-clause-sends g c =
     let s = c.args.self.now.state in
     let request = c.in-Some-Req.request in
     let of : IsOf request.client request.id request = record { same_client = refl; same_id = refl } in
-    let there : slot_of s.log.entries c.args.slot ≡ Some (Req request) =
+    let there : entry_at Trimmed s.log c.args.slot ≡ Some (Req request) =
     sym c.in-Some-Req.ensures.entry ∙ ap Some c.in-Some-Req.field-0-is in
     on_ok c.reply_with_result.result _ _
     (λ sent. sent
@@ -23,7 +23,7 @@ pub returns-clause-sends : goal.returns-clause-sends
 returns-clause-sends g c =
     let s = c.args.self.now.state in
     let request = c.in-Some-Req.request in
-    let there : slot_of s.log.entries c.args.slot ≡ Some (Req request) =
+    let there : entry_at Trimmed s.log c.args.slot ≡ Some (Req request) =
     sym c.in-Some-Req.ensures.entry ∙ ap Some c.in-Some-Req.field-0-is in
     on_ok c.send_short.result _ _
     (λ sent. sent

@@ -1,24 +1,25 @@
-use Rattle.std.proofs.Common.{ap, sym, ◌∙◌, ◌++◌, append-nil}
-use Rattle.nop_types.specs.Logs.{Whole}
-use Rattle.replica_state.specs.Moves.{risen}
-use Rattle.replica_rows.proofs.Rising.{commit_does}
-use Rattle.replica_rows.proofs.Running.{on_ok, commit_runs}
+use Rattle.nop_types.specs.Logs.{Trimmed}
+use Rattle.replica_rows.proofs.Running.{commit_moves, moved_executes, moved_there, followed_runs}
 use Rattle.replica_rows.proofs.member.Member.sync_commit.Goals as goal
 
-pub drain_if_risen-requires : goal.drain_if_risen-requires
-drain_if_risen-requires g c =
-    let state = c.raise_log.ensures ∙ ap (λ s. risen g.H.Host.meaning Whole s) c.sync_commit.ensures.state in
-    record { runs = commit_runs g.H.Host g.H.Host.meaning c.args.slot c.args.self.now.state _ _ state c.requires.runs }
+pub follow-requires-clause-executes : goal.follow-requires-clause-executes
+follow-requires-clause-executes g c =
+    let s = c.args.self.now.state in
+    moved_executes g.H.Host s c.sync_commit.new.self _ c.requires.runs
+    (commit_moves Trimmed c.args.slot s _ c.sync_commit.ensures.state c.requires.runs.within)
 
-pub returns : goal.returns
-returns g c =
-    let state = c.raise_log.ensures ∙ ap (λ s. risen g.H.Host.meaning Whole s) c.sync_commit.ensures.state in
-    let none = sym (append-nil c.args.self.now.sends) ∙ ap (λ xs. c.args.self.now.sends ++ xs) (sym c.sync_commit.ensures.nothing) in
-    on_ok c.drain_if_risen.result _ _
-    (commit_does g.H.Host c.args.self.now _ _ c.sync_point-sync_point.result c.args.slot c.sync_point-sync_point.ensures c.requires.runs
-    (record {
-      runs = commit_runs g.H.Host g.H.Host.meaning c.args.slot c.args.self.now.state _ _ state c.requires.runs;
-      state = state;
-      sends = none;
-    }))
-    c.drain_if_risen.ensures
+pub follow-requires-clause-there : goal.follow-requires-clause-there
+follow-requires-clause-there g c =
+    let s = c.args.self.now.state in
+    moved_there g.H.Host s c.sync_commit.new.self
+    (commit_moves Trimmed c.args.slot s _ c.sync_commit.ensures.state c.requires.runs.within)
+
+pub let_go-requires : goal.let_go-requires
+let_go-requires g c =
+    let s = c.args.self.now.state in
+    record {
+      runs =
+          followed_runs g.H.Host s c.sync_commit.new.self _ _ _ c.requires.runs
+          (commit_moves Trimmed c.args.slot s _ c.sync_commit.ensures.state c.requires.runs.within) c.in_ok-passed.ensures.state
+          c.in_ok-passed.ensures.executes;
+    }

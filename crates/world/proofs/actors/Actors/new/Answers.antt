@@ -4,8 +4,8 @@ use Rattle.world.proofs.actors.Actors.new.Goals as goal
 
 pub returns-clause-opening : goal.returns-clause-opening
 returns-clause-opening g c =
-    world_opens _ _ _ _ _ _ c.in_ok-replicas.ensures.seats c.in_ok-sequencers.ensures c.in_ok-clients.ensures
-    (c.new-2.ensures ∙ ap (λ k. record { core = k; crashed = _ }) c.in_ok-new.ensures) c.requires
+    world_opens _ _ _ _ _ _ _ c.in_ok-replicas.ensures.seats c.in_ok-sequencers.ensures c.in_ok-clients.ensures
+    (c.new-2.ensures ∙ ap (λ k. record { core = k; crashed = _ }) c.in_ok-new.ensures) c.requires c.new-3.ensures
 
 pub returns-clause-count : goal.returns-clause-count
 returns-clause-count g c = c.in_ok-replicas.ensures.count

@@ -1,0 +1,5 @@
+use Rattle.executor.proofs.FrontLemmas.{reached_within}
+use Rattle.executor.proofs.laws.reached_is_within.Goals as goal
+
+pub returns : goal.returns
+returns g c = reached_within
