@@ -1,8 +1,9 @@
 -- A message whose checkpoint does not load does nothing, and the merge of logs that load loads.
-use Rattle.std.proofs.Common.{◌≡◌, Bool, true, false, cond, List, [], ◌∷◌, Option, Some, None, refl, ap}
-use Rattle.std.specs.Prelude.{IfSome}
+use Rattle.std.proofs.Common.{◌≡◌, ℕ, Bool, true, false, cond, List, [], ◌∷◌, Option, Some, None, refl, sym, ap, ◌∙◌}
+use Rattle.std.specs.Prelude.{IfSome, is_some, option_map}
 use Rattle.std.specs.List.{AllByRecursion}
-use Rattle.nop_types.specs.CheckpointedLogs.{loads}
+use Rattle.nop_types.specs.CheckpointedLogs.{loads, loads_by}
+use Rattle.nop_types.specs.Checkpoints.{Checkpoint}
 use Rattle.nop_types.specs.Logs.{Keeping, Trimmed}
 use Rattle.nop_types.specs.Meaning.{Meaning}
 use Rattle.nop_types.specs.declared.peer.Change.{Change}
@@ -38,3 +39,18 @@ module _ {S : Type 0} (m : Meaning S) where
       from : (o : Option Change) → IfSome o (ChangeLoads m) → loads m (merged_from Trimmed cs o) ≡ true
       from None g = refl
       from (Some c) g = g
+
+-- ---- whether a checkpoint loads rests on the state of its host alone
+
+some_mapped : {A B : Type 0} (f : A → B) (o : Option A) → is_some (option_map f o) ≡ is_some o
+some_mapped f None = refl
+some_mapped f (Some x) = refl
+
+pub same_state_loads : {S : Type 0} (m : Meaning S) (c d : Option Checkpoint)
+    → option_map (λ x. x.host) c ≡ option_map (λ x. x.host) d → loads_by m d ≡ true → loads_by m c ≡ true
+same_state_loads m None d e h = refl
+same_state_loads m (Some c) None e h = absurd cc
+same_state_loads m (Some c) (Some d) e h =
+    let same : c.host ≡ d.host = cc in
+    some_mapped _ (m.loaded c.host)
+    ∙ ap (λ (bytes : List ℕ). is_some (m.loaded bytes)) same ∙ sym (some_mapped _ (m.loaded d.host)) ∙ h

@@ -1,5 +1,7 @@
-ghost use Rattle.std.specs.Prelude.{◌≡◌, ◌<◌, true, OnOk, IfOk};
+ghost use Rattle.std.specs.Prelude.{◌≡◌, ◌<◌, true, OnOk, IfOk, option_map};
+ghost use Rattle.std.specs.Option.{option_copied};
 ghost use Rattle.nop_types.specs.declared.limits.TheConstants.{MAX_REPLICAS};
+ghost use Rattle.nop_types.specs.CheckpointedLogs.{loads_by};
 ghost use Rattle.nop_types.specs.Logs.{Trimmed};
 ghost use Rattle.nop_types.specs.Ranges.{StampedFits, PeerFits, BodyFits};
 ghost use Rattle.executor.specs.Running.{reached};
@@ -13,8 +15,7 @@ ghost use Rattle.replica_rows.specs.Within.{ArrivalFits, IsRunning, Does};
 
 use crate::member::Member;
 use executor::checkpoint_loads;
-use nop_types::{Body, Change, Host, NoMemory, Peer, Stamped, Tick, View};
-use std::alloc::Global;
+use nop_types::{Body, Change, Checkpoint, Host, NoMemory, Peer, Stamped, Tick, View};
 
 /// What a whole input is: a stamped request, a message of another replica, or a tick.
 #[derive(Drop)]
@@ -24,20 +25,43 @@ pub enum Arrival {
     Ticked(Tick),
 }
 
-/// Whether the log of a message, if it has one, has no checkpoint or one that loads.
-#[tactic(auto, unfolding(crate::specs::Messages::loads_in))]
-fn loads_in<H: Host>(alloc: Global, body: &Body) -> Result<bool, NoMemory>
-    ensures { IfOk result (λ b. b ≡ loads_in H.meaning body.now) }
+/// Whether there are two checkpoints, of the same state of the host.
+fn have_same_state(a: Option<&Checkpoint>, b: Option<&Checkpoint>) -> bool
+    ensures { result ≡ true → option_map (λ c. c.host) (option_copied a.entry)
+        ≡ option_map (λ c. c.host) (option_copied b.entry) }
 {
-    match body {
-        Body::ViewChange { log, .. } | Body::StartView { log, .. } | Body::SyncPrepare(log) => {
-            checkpoint_loads::<H>(alloc, log.checkpoint())
-        }
-        _ => Ok(true),
+    match (a, b) {
+        (Some(a), Some(b)) => a.host().as_slice() == b.host().as_slice(),
+        _ => false,
     }
 }
 
 impl<H: Host> Member<H> {
+    /// Whether a checkpoint, if there is one, loads. Where it has the state that the own one has, it need not be tried.
+    #[tactic(auto, using(crate::proofs::Loading::same_state_loads))]
+    fn loads(&self, checkpoint: Option<&Checkpoint>) -> Result<bool, NoMemory>
+        requires runs { IsRunning H.Host self.now }
+        ensures { IfOk result (λ b. b ≡ loads_by H.meaning (option_copied checkpoint.entry)) }
+    {
+        if have_same_state(checkpoint, self.state.log.checkpoint()) {
+            return Ok(true);
+        }
+        checkpoint_loads::<H>(self.alloc, checkpoint)
+    }
+
+    /// Whether the log of a message, if it has one, has no checkpoint or one that loads.
+    #[tactic(auto, unfolding(crate::specs::Messages::loads_in))]
+    fn loads_in(&self, body: &Body) -> Result<bool, NoMemory>
+        requires runs { IsRunning H.Host self.now }
+        ensures { IfOk result (λ b. b ≡ loads_in H.meaning body.now) }
+    {
+        match body {
+            Body::ViewChange { log, .. } | Body::StartView { log, .. } | Body::SyncPrepare(log) =>
+                self.loads(log.checkpoint()),
+            _ => Ok(true),
+        }
+    }
+
     /// A packet of a greater session comes: the receiver begins that session, and the view of it is entered.
     fn new_session(&mut self, packet: &Stamped) -> Result<(), NoMemory>
         requires runs { IsRunning H.Host self.old }
@@ -170,7 +194,7 @@ impl<H: Host> Member<H> {
         ensures { OnOk result (Does H.Host self.old self.new
             (when (loads_in H.meaning message.body) (on_message H.meaning Trimmed message))) }
     {
-        if !loads_in::<H>(self.alloc, &message.body)? {
+        if !self.loads_in(&message.body)? {
             return Ok(());
         }
         self.on_message(message)
