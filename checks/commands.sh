@@ -63,6 +63,8 @@ runs docs/OWN-SERVICE.md 'crates/lock_service/out/lock_service check < crates/lo
 grep -qx 'legal 6 6 6' "$folder/out" || differs "the story of the lock is judged '$(cat "$folder/out")'"
 runs docs/OWN-SERVICE.md 'crates/lock_service/out/lock_service cluster --replicas 3 --sequencers 1 --clients 1 4102646203616e6e'
 grep -qx 'accept c0 1 6772616e7465640000000000000001' "$folder/out" || differs "the cluster grants no lock"
+runs docs/OWN-SERVICE.md 'crates/lock_spacetime/out/lock_spacetime < crates/lock_service/stdin > my.svg'
+is_picture
 
 # A cluster of processes, whose leader is killed: three clients put and get, and the last reads its own value.
 made=$((made + 1))

@@ -103,7 +103,7 @@ while IFS=: read -r file constant; do
     name=${file#crates/}
     name=${name%%/*}
     case $name in
-    picture | labels | spacetime | udp_ports | *_tests) continue ;;
+    picture | labels | drawing | udp_ports | *_tests) continue ;;
     esac
     if ! { numbers; apart; } | grep -qE "^$name $constant( |$)"; then
         differs "$constant of $name is not in the list"

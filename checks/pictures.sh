@@ -1,10 +1,14 @@
 #!/bin/bash
 # Pictures whose texts are known: of characters that SVG spells in its own way, of strings at and past the length that shows, of messages in
-# several fragments, of crosses that stand for more than one datagram, of long schedules, of changed slots and views; and how `spacetime` ends
-# at a bad line and at an argument. It takes a second or two, leaves nothing behind, and ends with status 1 at any difference.
+# several fragments, of crosses that stand for more than one datagram, of long schedules, of changed slots and views; how `spacetime` ends
+# at a bad line and at an argument; and the words of the lock service. It takes a second or two, leaves nothing behind, and ends with status 1
+# at any difference.
 #
-#   checks/pictures.sh           the program is crates/spacetime/out/spacetime, or the file that SPACETIME names
+#   checks/pictures.sh           the programs are crates/spacetime/out/spacetime and crates/lock_spacetime/out/lock_spacetime, or the files
+#                                that SPACETIME and LOCK_SPACETIME name
 . "$(dirname "$0")/common.bash" || exit 2
+needs "${LOCK_SPACETIME:-}" lock_spacetime
+locks=$program
 needs "${SPACETIME:-}" spacetime
 
 # drawn NAME LINE..: draws the picture of a schedule with these lines.
@@ -55,6 +59,25 @@ drawn 'a delete, and no op of the service' "$two" 'submit c0 4400016b' 'submit c
 shows 1 'delete k'
 shows 1 '010203040506'
 
+# ops with a byte too few, and with one too many
+drawn 'ops that are none' "$two" 'submit c0 5000016b0002' 'submit c1 4700016b00'
+shows 1 '5000016b0002'
+shows 1 '4700016b00'
+
+# no value, a value of 3 bytes that are no letters, one of 12 letters: each is put and read
+drawn 'values that are read' "$two" 'submit c0 5000016b0000' 'deliver 0 s0' 'deliver 1 r0' 'deliver 1 r1' 'deliver 2 c0' 'deliver 3 c0' \
+    'submit c1 4700016b' 'deliver 4 s0' 'deliver 5 r0' 'deliver 5 r1' 'deliver 6 c1' 'deliver 7 c1' \
+    'submit c0 5000016b000300ff20' 'deliver 8 s0' 'deliver 9 r0' 'deliver 9 r1' 'deliver 10 c0' 'deliver 11 c0' \
+    'submit c1 4700016b' 'deliver 12 s0' 'deliver 13 r0' 'deliver 13 r1' 'deliver 14 c1' 'deliver 15 c1' \
+    'submit c0 5000016b000c6162636465666768696a6b6c' 'deliver 16 s0' 'deliver 17 r0' 'deliver 17 r1' 'deliver 18 c0' 'deliver 19 c0' \
+    'submit c1 4700016b' 'deliver 20 s0' 'deliver 21 r0' 'deliver 21 r1' 'deliver 22 c1' 'deliver 23 c1'
+shows 1 'put k '
+shows 1 '#1 =0x'
+shows 1 'put k 00ff20'
+shows 1 '#2 =0x00ff20'
+shows 1 'put k abcdefghijkl'
+shows 1 '#3 =abcdefghijk..'
+
 # a log of three requests with ops of 640 bytes: 1,979 bytes in two fragments to each follower, neither of which is delivered
 big=$(printf 'ff%.0s' $(seq 640))
 drawn 'fragments of a longer message' 'nopaxos 1 replicas 3 sequencers 1 clients 3' "submit c0 $big" "submit c1 $big" "submit c2 $big" \
@@ -99,5 +122,26 @@ name='an argument that is no text'
 "$program" $'\xff' < examples/one-put.schedule > "$folder/out" 2> "$folder/err"
 status=$?
 ends 2 'usage: spacetime < SCHEDULE > PICTURE'
+
+# ---- the lock service
+program=$locks
+# ann acquires a and releases it; both ask who holds the lock of 13 letters, whose owner has 2 bytes that are no letters
+drawn 'words of the lock service' "$two" 'submit c0 41016103616e6e' 'deliver 0 s0' 'deliver 1 r0' 'deliver 1 r1' 'deliver 2 c0' 'deliver 3 c0' \
+    'submit c0 52016103616e6e0000000000000001' 'deliver 4 s0' 'deliver 5 r0' 'deliver 5 r1' 'deliver 6 c0' 'deliver 7 c0' \
+    'submit c1 410d6162636465666768696a6b6c6d02ff00' 'deliver 8 s0' 'deliver 9 r0' 'deliver 9 r1' 'deliver 10 c1' 'deliver 11 c1' \
+    'submit c1 490d6162636465666768696a6b6c6d' 'deliver 12 s0' 'deliver 13 r0' 'deliver 13 r1' 'deliver 14 c1' 'deliver 15 c1' \
+    'submit c0 4700016b' 'deliver 16 s0' 'deliver 17 r0' 'deliver 17 r1' 'deliver 18 c0' 'deliver 19 c0'
+shows 1 'acquire a ann'
+shows 1 'reply c0#1 slot 1 granted 1'
+shows 1 '#1 granted 1'
+shows 1 'release a ann 1'
+shows 1 '#2 released'
+shows 1 'acquire abcdefghijkl.. ff00'
+shows 1 '#1 granted 2'
+shows 1 'inspect abcdefghijkl..'
+shows 1 '#2 held 2 ff00'
+# a get of the key-value store
+shows 1 '4700016b'
+shows 1 '#3 bad'
 
 concludes

@@ -1,24 +1,43 @@
 #!/bin/bash
 # The stories of examples/: what a story quotes is the whole transcript beside it, in order; a story of a schedule shows its picture; and
-# the pictures there are what `spacetime` draws of the schedules beside them. Then how `spacetime` ends where there is nothing to draw. It takes a few seconds, leaves
-# nothing behind, and ends with status 1 at any difference. checks/transcripts.sh compares the transcripts with what the
+# the pictures there are what `spacetime` draws of the schedules beside them. A story whose name begins with `lock-` is of the stored run of
+# `lock_service`, and its picture is what `lock_spacetime` draws. Then how both end where there is nothing to draw. It takes a few seconds,
+# leaves nothing behind, and ends with status 1 at any difference. checks/transcripts.sh compares the transcripts with what the
 # program writes, and checks/links.sh follows the links of the stories.
 #
-#   checks/stories.sh            the program is crates/spacetime/out/spacetime, or the file that SPACETIME names
+#   checks/stories.sh            the programs are crates/spacetime/out/spacetime and crates/lock_spacetime/out/lock_spacetime, or the files
+#                                that SPACETIME and LOCK_SPACETIME name
 #   checks/stories.sh --draw     writes the pictures that are there anew
 . "$(dirname "$0")/common.bash" || exit 2
+needs "${LOCK_SPACETIME:-}" lock_spacetime
+locks=$program
 needs "${SPACETIME:-}" spacetime
+
+# files NAME: the program, the schedule and the transcript of a story.
+files() {
+    drawer=$program
+    schedule=examples/$1.schedule
+    transcript=examples/$1.transcript
+    case $1 in
+    lock-*)
+        drawer=$locks
+        schedule=crates/lock_service/stdin
+        transcript=crates/lock_service/stdout
+        ;;
+    esac
+}
 
 # told NAME: the story quotes its transcript, shows its picture where it has a schedule, and is named in the list.
 told() {
-    local base=examples/$1
+    local base=examples/$1 schedule transcript drawer
     made=$((made + 1))
-    if [ ! -e "$base.transcript" ]; then
+    files "$1"
+    if [ ! -e "$transcript" ]; then
         differs "$1: there is no transcript beside it"
         return
     fi
-    sed -n 's/^    //p' "$base.md" | cmp -s - "$base.transcript" || differs "$1: it does not quote its transcript"
-    if [ -e "$base.schedule" ]; then
+    sed -n 's/^    //p' "$base.md" | cmp -s - "$transcript" || differs "$1: it does not quote its transcript"
+    if [ -e "$schedule" ]; then
         { [ -e "$base.svg" ] && grep -qF "]($1.svg)" "$base.md"; } || differs "$1: it does not show its picture"
     fi
     grep -qF "]($1.md)" examples/README.md || differs "$1: examples/README.md does not name it"
@@ -26,9 +45,10 @@ told() {
 
 # drawn NAME: the picture of a schedule.
 drawn() {
-    local base=examples/$1 status
+    local base=examples/$1 status schedule transcript drawer
     made=$((made + 1))
-    "$program" < "$base.schedule" > "$folder/out" 2> "$folder/err"
+    files "$1"
+    "$drawer" < "$schedule" > "$folder/out" 2> "$folder/err"
     status=$?
     if [ "$status" != 0 ] || [ -s "$folder/err" ]; then
         differs "$1: status $status, and on standard error '$(head -c 300 "$folder/err")'"
@@ -75,5 +95,9 @@ same 'a word' $? 2 'usage: spacetime < SCHEDULE > PICTURE'
 same 'a folder as input' $? 3 'error reading the schedule'
 "$program" < examples/one-put.schedule > /dev/full 2> "$folder/err"
 same 'a full disk' $? 4 'error writing the picture'
+"$locks" < examples/deliver-before-sent.schedule > "$folder/out" 2> "$folder/err"
+same 'locks, a datagram that was not sent' $? 1 "$(tail -n 1 examples/deliver-before-sent.transcript)"
+"$locks" --help < /dev/null > "$folder/out" 2> "$folder/err"
+same 'locks, a word' $? 2 'usage: lock_spacetime < SCHEDULE > PICTURE'
 
 concludes

@@ -4,8 +4,9 @@ ghost use Rattle.std.specs.Prelude.{◌≡◌, IfOk, OnErr};
 ghost use Rattle.oum_codec.specs.Reading.{reading};
 ghost use Rattle.labels.specs.Datagrams.{IsNoDatagram, mark_of, mark_shown, purpose_of};
 
-use crate::naming::{note_of, put_bytes, put_request, put_view};
+use crate::naming::{note_of, put_request, put_result, put_view};
 use nop_types::{Body, Datagram, Fragment, Log, NoMemory, Peer, Reply, View};
+use op_text::OpText;
 use oum_codec::read_datagram;
 use peer_codec::read_peer;
 use picture::{Mark, Note, Purpose, Text};
@@ -71,14 +72,14 @@ fn put_fragment(fragment: &Fragment, peer: &Option<Peer>, to: &mut Text) {
     }
 }
 
-fn put_reply(reply: &Reply, to: &mut Text) {
+fn put_reply<T: OpText>(alloc: Global, reply: &Reply, to: &mut Text) -> Result<(), NoMemory> {
     to.put("reply ");
     put_request(reply.client, reply.id, to);
     put_slot(" slot ", reply.slot, to);
     if reply.tag == 1 {
-        to.put(" ");
-        put_bytes(reply.result.as_slice(), to);
+        put_result::<T>(alloc, reply.result.as_slice(), to)?;
     }
+    Ok(())
 }
 
 fn put_stamp(session: u32, number: u64, to: &mut Text) {
@@ -93,7 +94,12 @@ fn put_stamped(session: u32, number: u64, client: u32, id: u64, to: &mut Text) {
     put_request(client, id, to);
 }
 
-fn put_datagram(datagram: &Datagram, peer: &Option<Peer>, to: &mut Text) {
+fn put_datagram<T: OpText>(
+    alloc: Global,
+    datagram: &Datagram,
+    peer: &Option<Peer>,
+    to: &mut Text,
+) -> Result<(), NoMemory> {
     match datagram {
         Datagram::Request(request) => {
             to.put("request ");
@@ -109,22 +115,29 @@ fn put_datagram(datagram: &Datagram, peer: &Option<Peer>, to: &mut Text) {
                 to,
             );
         }
-        Datagram::Reply(reply) => put_reply(reply, to),
+        Datagram::Reply(reply) => put_reply::<T>(alloc, reply, to)?,
         Datagram::Install { session, .. } => put_slot("install session ", *session, to),
         Datagram::Installed { session, .. } => put_slot("installed session ", *session, to),
         Datagram::Ping { round, .. } => put_slot("ping ", *round, to),
         Datagram::Pong { round, .. } => put_slot("pong ", *round, to),
         Datagram::Fragment(fragment) => put_fragment(fragment, peer, to),
     }
+    Ok(())
 }
 
-fn put_brief(datagram: &Datagram, peer: &Option<Peer>, to: &mut Text) {
+fn put_brief<T: OpText>(
+    alloc: Global,
+    datagram: &Datagram,
+    peer: &Option<Peer>,
+    to: &mut Text,
+) -> Result<(), NoMemory> {
     match datagram {
         Datagram::Request(request) => to.numbered("#", request.id),
         Datagram::Stamped(stamped) => put_stamp(stamped.session, stamped.number, to),
         Datagram::Reply(reply) => to.numbered("reply #", reply.id),
-        _ => put_datagram(datagram, peer, to),
+        _ => put_datagram::<T>(alloc, datagram, peer, to)?,
     }
+    Ok(())
 }
 
 fn purpose_of(datagram: &Datagram) -> Purpose
@@ -180,24 +193,36 @@ fn peer_in(alloc: Global, datagram: &Datagram) -> Result<Option<Peer>, NoMemory>
     }
 }
 
-fn text_of(alloc: Global, datagram: &Datagram, peer: &Option<Peer>) -> Result<String, NoMemory> {
+fn text_of<T: OpText>(
+    alloc: Global,
+    datagram: &Datagram,
+    peer: &Option<Peer>,
+) -> Result<String, NoMemory> {
     let mut text = Text::new(alloc);
-    put_datagram(datagram, peer, &mut text);
+    put_datagram::<T>(alloc, datagram, peer, &mut text)?;
     text.finish()
 }
 
-fn brief_of(alloc: Global, datagram: &Datagram, peer: &Option<Peer>) -> Result<String, NoMemory> {
+fn brief_of<T: OpText>(
+    alloc: Global,
+    datagram: &Datagram,
+    peer: &Option<Peer>,
+) -> Result<String, NoMemory> {
     let mut brief = Text::new(alloc);
-    put_brief(datagram, peer, &mut brief);
+    put_brief::<T>(alloc, datagram, peer, &mut brief)?;
     brief.finish()
 }
 
-fn label_with(alloc: Global, datagram: &Datagram, peer: &Option<Peer>) -> Result<Label, NoMemory>
+fn label_with<T: OpText>(
+    alloc: Global,
+    datagram: &Datagram,
+    peer: &Option<Peer>,
+) -> Result<Label, NoMemory>
     ensures purpose { IfOk result (λ l. l.purpose ≡ purpose_of datagram.now) }
     ensures mark { IfOk result (λ l. mark_shown l.note ≡ mark_of datagram.now) }
 {
-    let text = text_of(alloc, datagram, peer)?;
-    let brief = brief_of(alloc, datagram, peer)?;
+    let text = text_of::<T>(alloc, datagram, peer)?;
+    let brief = brief_of::<T>(alloc, datagram, peer)?;
     Ok(Label {
         purpose: purpose_of(datagram),
         text,
@@ -206,12 +231,12 @@ fn label_with(alloc: Global, datagram: &Datagram, peer: &Option<Peer>) -> Result
     })
 }
 
-fn label_of(alloc: Global, datagram: &Datagram) -> Result<Label, NoMemory>
+fn label_of<T: OpText>(alloc: Global, datagram: &Datagram) -> Result<Label, NoMemory>
     ensures purpose { IfOk result (λ l. l.purpose ≡ purpose_of datagram.now) }
     ensures mark { IfOk result (λ l. mark_shown l.note ≡ mark_of datagram.now) }
 {
     let peer = peer_in(alloc, datagram)?;
-    label_with(alloc, datagram, &peer)
+    label_with::<T>(alloc, datagram, &peer)
 }
 
 fn no_label(alloc: Global) -> Result<Label, NoMemory>
@@ -226,14 +251,14 @@ fn no_label(alloc: Global) -> Result<Label, NoMemory>
 }
 
 /// What the bytes of a datagram are for, their texts, and what shows where they were sent.
-pub fn describe(alloc: Global, bytes: &[u8]) -> Result<Label, NoMemory>
+pub fn describe<T: OpText>(alloc: Global, bytes: &[u8]) -> Result<Label, NoMemory>
     ensures purpose { IfOk result (λ l. IfOk (reading bytes.now) (λ d. l.purpose ≡ purpose_of d)) }
     ensures mark { IfOk result (λ l. IfOk (reading bytes.now) (λ d.
         mark_shown l.note ≡ mark_of d)) }
     ensures none { IfOk result (λ l. OnErr (reading bytes.now) (IsNoDatagram l)) }
 {
     match read_datagram(alloc, bytes)? {
-        Some(datagram) => label_of(alloc, &datagram),
+        Some(datagram) => label_of::<T>(alloc, &datagram),
         None => no_label(alloc),
     }
 }

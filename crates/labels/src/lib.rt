@@ -3,10 +3,13 @@
 //! `describe` goes by the datagram that the bytes spell: what it is for (`purpose_of`), and which
 //! mark shows at the actor that sent it (`mark_of`). Bytes that spell none are called "no
 //! datagram", and have no mark (`IsNoDatagram`). `read_lines` gives the notes of a client's lines,
-//! with marks of clients alone (`IsOfClient`). The texts themselves are tested.
+//! with marks of clients alone (`IsOfClient`).
 //!
-//! Calls, for `spacetime`: `describe`, `read_lines`, `note_of`, `put_op`, `put_request`,
-//! `put_view`.
+//! Ops and results are in the words of their service, its `OpText`. A word shows up to 12
+//! characters, and one that begins with `0x` its digits alone; the first word of an op shows whole.
+//! The texts themselves are tested (`checks/pictures.sh`).
+//!
+//! Calls, for `drawing`: `describe`, `read_lines`, `note_of`, `put_op`, `put_request`, `put_view`.
 //!
 //! Files: `datagrams`, `said` (clients), `naming`; `specs/Datagrams`, `Clients`.
 #![tactic(auto)]

@@ -2,11 +2,12 @@
 
 ghost use Rattle.std.specs.Prelude.{◌≡◌, IfOk};
 
-use nop_types::{Actor, NoMemory, View};
-use oum_codec::split_u16;
+use nop_types::{Actor, Bytes, NoMemory, View};
+use op_text::OpText;
 use picture::{Mark, Note, Text};
+use std::alloc::Global;
 
-/// The most characters of one string of an op or a result.
+/// The most characters of one word of an op or a result.
 const MAX_SHOWN: usize = 12;
 
 /// A note with this text.
@@ -33,9 +34,44 @@ pub fn put_view(word: &str, view: View, to: &mut Text) {
     to.put(")");
 }
 
-fn put_characters(bytes: &[u8], to: &mut Text) {
-    for b in bytes.iter().take(MAX_SHOWN) {
-        to.character(*b as char);
+/// Appends a character of a word; one that is not printable ASCII as a question mark.
+fn put_character(b: u8, to: &mut Text) {
+    to.character(if b.is_ascii_graphic() { b as char } else { '?' });
+}
+
+/// Appends as many characters as show, and dots where there are more.
+fn put_front(characters: &[u8], to: &mut Text) {
+    for b in characters.iter().take(MAX_SHOWN) {
+        put_character(*b, to);
+    }
+    if characters.len() > MAX_SHOWN {
+        to.put("..");
+    }
+}
+
+/// Appends the front of a word; of one that begins with `0x` the digits alone.
+fn put_word(word: &[u8], to: &mut Text) {
+    match word {
+        [b'0', b'x', digits @ ..] => put_front(digits, to),
+        _ => put_front(word, to),
+    }
+}
+
+/// Appends words, each after a space.
+fn put_spaced(words: &[Bytes], to: &mut Text) {
+    for word in words {
+        to.put(" ");
+        put_word(word.as_slice(), to);
+    }
+}
+
+/// Appends the words of an op: the first one whole, since it says what the op does.
+fn put_op_words(words: &[Bytes], to: &mut Text) {
+    if let [name, fields @ ..] = words {
+        for b in name.as_slice() {
+            put_character(*b, to);
+        }
+        put_spaced(fields, to);
     }
 }
 
@@ -50,63 +86,17 @@ fn put_hex(bytes: &[u8], to: &mut Text) {
     }
 }
 
-fn put_dots(bytes: &[u8], most: usize, to: &mut Text) {
-    if bytes.len() > most {
-        to.put("..");
+/// Appends an op in the words of its service; of bytes that are none the first, in hexadecimal.
+pub fn put_op<T: OpText>(alloc: Global, op: &[u8], to: &mut Text) -> Result<(), NoMemory> {
+    match T::words(alloc, op)? {
+        Some(words) => put_op_words(words.as_slice(), to),
+        None => put_hex(op, to),
     }
+    Ok(())
 }
 
-/// Appends the first bytes as characters where all are printable ASCII, else in hexadecimal.
-pub fn put_bytes(bytes: &[u8], to: &mut Text) {
-    if bytes.iter().all(|b| b.is_ascii_graphic()) {
-        put_characters(bytes, to);
-        put_dots(bytes, MAX_SHOWN, to);
-    } else {
-        put_hex(bytes, to);
-        put_dots(bytes, MAX_SHOWN / 2, to);
-    }
-}
-
-/// The first string of an op, and what follows it.
-fn first_string(bytes: &[u8]) -> Option<(&[u8], &[u8])> {
-    let (len, rest) = split_u16(bytes)?;
-    let len = len as usize;
-    if len > rest.len() {
-        return None;
-    }
-    Some(rest.split_at(len))
-}
-
-fn put_strings(bytes: &[u8], to: &mut Text) {
-    let mut rest = bytes;
-    for _ in 0..3u8 {
-        let Some((string, more)) = first_string(rest) else {
-            return;
-        };
-        to.put(" ");
-        put_bytes(string, to);
-        rest = more;
-    }
-}
-
-fn op_word(kind: u8) -> Option<&'static str> {
-    match kind {
-        b'G' => Some("get"),
-        b'P' => Some("put"),
-        b'D' => Some("delete"),
-        b'C' => Some("compare-and-set"),
-        _ => None,
-    }
-}
-
-/// Appends an op of the key-value host by its word and strings, any other bytes in hexadecimal.
-pub fn put_op(op: &[u8], to: &mut Text) {
-    if let [kind, rest @ ..] = op {
-        if let Some(word) = op_word(*kind) {
-            to.put(word);
-            put_strings(rest, to);
-            return;
-        }
-    }
-    put_hex(op, to);
+/// Appends a result after a space, in the words of its service.
+pub fn put_result<T: OpText>(alloc: Global, answer: &[u8], to: &mut Text) -> Result<(), NoMemory> {
+    put_spaced(T::result(alloc, answer)?.as_slice(), to);
+    Ok(())
 }

@@ -3,8 +3,9 @@
 ghost use Rattle.std.specs.Prelude.{◌≡◌, All, IfOk, IfSome};
 ghost use Rattle.labels.specs.Clients.{IsOfClient};
 
-use crate::naming::{note_of, put_bytes};
+use crate::naming::{note_of, put_result};
 use nop_types::NoMemory;
+use op_text::OpText;
 use picture::{Mark, Note, Text};
 use std::alloc::Global;
 
@@ -28,7 +29,7 @@ fn mark_of(word: &str) -> Option<Mark>
     }
 }
 
-fn put_words(word: &str, id: &str, answer: &[u8], to: &mut Text) {
+fn put_said(word: &str, id: &str, to: &mut Text) {
     match word {
         "busy" => to.put("busy"),
         "dead" => to.put("crashed"),
@@ -36,10 +37,6 @@ fn put_words(word: &str, id: &str, answer: &[u8], to: &mut Text) {
             to.put("#");
             to.put(id);
         }
-    }
-    if word == "accept" {
-        to.put(" ");
-        put_bytes(answer, to);
     }
 }
 
@@ -51,37 +48,39 @@ fn first_word(line: &str) -> (&str, &str) {
     }
 }
 
-fn line_note(alloc: Global, mark: Mark, word: &str, rest: &str) -> Result<Note, NoMemory>
+fn line_note<T: OpText>(alloc: Global, mark: Mark, word: &str, rest: &str) -> Result<Note, NoMemory>
     ensures { IfOk result (λ n. n.mark ≡ mark) }
 {
     let (_client, rest) = first_word(rest);
     let (id, hex) = first_word(rest);
-    let answer = answer_of(alloc, hex)?;
     let mut text = Text::new(alloc);
-    put_words(word, id, &answer, &mut text);
+    put_said(word, id, &mut text);
+    if word == "accept" {
+        put_result::<T>(alloc, &answer_of(alloc, hex)?, &mut text)?;
+    }
     note_of(mark, text)
 }
 
 /// The notes of the lines that have one.
-fn line_notes(alloc: Global, text: &str) -> Result<Vec<Note>, NoMemory>
+fn line_notes<T: OpText>(alloc: Global, text: &str) -> Result<Vec<Note>, NoMemory>
     ensures { IfOk result (λ notes. All (λ n. IsOfClient n.mark) notes.items) }
 {
     let mut notes = Vec::new(alloc);
     for line in text.lines() {
         let (word, rest) = first_word(line);
         if let Some(mark) = mark_of(word) {
-            notes.push(line_note(alloc, mark, word, rest)?)?;
+            notes.push(line_note::<T>(alloc, mark, word, rest)?)?;
         }
     }
     Ok(notes)
 }
 
 /// What a client did, by the lines of an event.
-pub fn read_lines(alloc: Global, text: &[u8]) -> Result<Vec<Note>, NoMemory>
+pub fn read_lines<T: OpText>(alloc: Global, text: &[u8]) -> Result<Vec<Note>, NoMemory>
     ensures { IfOk result (λ notes. All (λ n. IsOfClient n.mark) notes.items) }
 {
     match str::from_utf8(text) {
-        Ok(text) => line_notes(alloc, text),
+        Ok(text) => line_notes::<T>(alloc, text),
         Err(_) => Ok(Vec::new(alloc)),
     }
 }

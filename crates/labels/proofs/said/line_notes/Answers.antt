@@ -15,5 +15,5 @@ longer xs ys n e before h =
 
 pub loop-line-preserved-in_ok-push : goal.loop-line-preserved-in_ok-push
 unfolding AllOfClient
-loop-line-preserved-in_ok-push c =
+loop-line-preserved-in_ok-push g c =
     longer c.loop-line.notes.items c.push.new.self.items c.in_ok-line_note.field-0 (search rules) c.loop-line.invariant (search rules)

@@ -3,4 +3,4 @@ use Rattle.labels.specs.Clients.{IsOfClient}
 use Rattle.labels.proofs.said.line_notes.Given as goal
 
 abbrev pub invariant-loop-line : goal.invariant-loop-line
-invariant-loop-line l = All (λ n. IsOfClient n.mark) l.notes.items
+invariant-loop-line g l = All (λ n. IsOfClient n.mark) l.notes.items

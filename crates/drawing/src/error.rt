@@ -19,7 +19,7 @@ pub enum DrawError {
 
 impl From<OutOfMemory> for DrawError {
     ghost use Rattle.std.specs.Prelude.{◌≡◌};
-    ghost use Rattle.spacetime.specs.declared.error.DrawError.TheVariants.{NoMemory};
+    ghost use Rattle.drawing.specs.declared.error.DrawError.TheVariants.{NoMemory};
 
     ghost from_gives = { λ _ e. e ≡ NoMemory };
 
@@ -30,7 +30,7 @@ impl From<OutOfMemory> for DrawError {
 
 impl From<NextError> for DrawError {
     ghost use Rattle.std.specs.Prelude.{◌≡◌};
-    ghost use Rattle.spacetime.specs.Errors.{of_reader};
+    ghost use Rattle.drawing.specs.Errors.{of_reader};
 
     ghost from_gives = { λ e d. d ≡ of_reader e };
 
@@ -49,7 +49,7 @@ impl From<NextError> for DrawError {
 
 impl From<WriteError> for DrawError {
     ghost use Rattle.std.specs.Prelude.{◌≡◌};
-    ghost use Rattle.spacetime.specs.Errors.{of_sink};
+    ghost use Rattle.drawing.specs.Errors.{of_sink};
 
     ghost from_gives = { λ e d. d ≡ of_sink e };
 

@@ -1,12 +1,13 @@
 //! From a schedule to a picture.
 
 ghost use Rattle.std.specs.Prelude.{◌≡◌, IfErr};
-ghost use Rattle.spacetime.specs.Errors.{IsOfSchedule};
+ghost use Rattle.drawing.specs.Errors.{IsOfSchedule};
 
 use crate::error::DrawError;
 use crate::observing::{observe, refusal, watch};
 use crate::recorder::Recorder;
 use nop_types::{Config, Host, MAX_LINES, NoMemory};
+use op_text::OpText;
 use outside::{Sink, Source, write_all};
 use picture::Text;
 use schedule_text::{Event, Reader};
@@ -14,7 +15,7 @@ use std::alloc::Global;
 use world::{Lines, World};
 
 /// Keeps what is seen of an event that was carried out.
-fn keep<H: Host>(
+fn keep<H: Host, T: OpText>(
     alloc: Global,
     world: &World<H>,
     line: u32,
@@ -23,12 +24,12 @@ fn keep<H: Host>(
     recorder: &mut Recorder,
 ) -> Result<(), NoMemory> {
     let turn = recorder.turn(event);
-    observe(alloc, world, turn, lines, recorder)?;
-    recorder.end(line, event, turn)
+    observe::<H, T>(alloc, world, turn, lines, recorder)?;
+    recorder.end::<T>(line, event, turn)
 }
 
 /// Carries out the event of a line.
-fn carry_out<H: Host>(
+fn carry_out<H: Host, T: OpText>(
     alloc: Global,
     world: &mut World<H>,
     line: u32,
@@ -36,13 +37,13 @@ fn carry_out<H: Host>(
     recorder: &mut Recorder,
 ) -> Result<(), DrawError> {
     match world.step(event) {
-        Ok(lines) => Ok(keep(alloc, world, line, event, &lines, recorder)?),
+        Ok(lines) => Ok(keep::<H, T>(alloc, world, line, event, &lines, recorder)?),
         Err(error) => Err(refusal(line, error)),
     }
 }
 
 /// Carries out the events of a schedule, from a world in its opening state on, and draws what was seen.
-fn record<H: Host, S: Source>(
+fn record<H: Host, T: OpText, S: Source>(
     alloc: Global,
     reader: &mut Reader,
     source: &mut S,
@@ -54,13 +55,13 @@ fn record<H: Host, S: Source>(
         let Some(event) = reader.next(source)? else {
             break;
         };
-        carry_out(alloc, world, reader.line(), &event, recorder)?;
+        carry_out::<H, T>(alloc, world, reader.line(), &event, recorder)?;
     }
     Ok(recorder.drawing()?)
 }
 
 /// The picture of a schedule whose first line was read.
-fn drawing_of<H: Host, S: Source>(
+fn drawing_of<H: Host, T: OpText, S: Source>(
     alloc: Global,
     config: Config,
     reader: &mut Reader,
@@ -68,25 +69,28 @@ fn drawing_of<H: Host, S: Source>(
 ) -> Result<String, DrawError> {
     let mut world: World<H> = World::new(alloc, config)?;
     let mut recorder = Recorder::new(alloc, config);
-    record(alloc, reader, source, &mut world, &mut recorder)
+    record::<H, T, S>(alloc, reader, source, &mut world, &mut recorder)
 }
 
-fn drawing<H: Host, S: Source>(alloc: Global, source: &mut S) -> Result<String, DrawError> {
+fn drawing<H: Host, T: OpText, S: Source>(
+    alloc: Global,
+    source: &mut S,
+) -> Result<String, DrawError> {
     let mut reader = Reader::new(alloc);
     let config = reader.open(source)?;
-    drawing_of::<H, S>(alloc, config, &mut reader, source)
+    drawing_of::<H, T, S>(alloc, config, &mut reader, source)
 }
 
 /// Reads a schedule, carries it out, and writes the picture. Nothing is written where the schedule
 /// is bad or cannot be read.
-pub fn run<H: Host, S: Source, K: Sink>(
+pub fn run<H: Host, T: OpText, S: Source, K: Sink>(
     alloc: Global,
     source: &mut S,
     sink: &mut K,
 ) -> Result<(), DrawError>
     ensures { IfErr result (λ e. IsOfSchedule e → K.held sink.new ≡ K.held sink.old) }
 {
-    let text = drawing::<H, S>(alloc, source)?;
+    let text = drawing::<H, T, S>(alloc, source)?;
     write_all(sink, text.as_bytes())?;
     Ok(())
 }

@@ -1,9 +1,9 @@
 ghost use Rattle.std.specs.Prelude.{◌≡◌};
-ghost use Rattle.spacetime.specs.Errors.{status_of};
+ghost use Rattle.drawing.specs.Errors.{status_of};
 
 use crate::error::DrawError;
 
-/// How the program ends; the number is its exit status, the same as that of `nopaxos replay`.
+/// How a program ends that draws; the number is its exit status, the same as that of `nopaxos replay`.
 #[derive(Clone, Copy)]
 pub enum Status {
     /// The picture was written.

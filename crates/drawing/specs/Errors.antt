@@ -4,10 +4,10 @@ use Rattle.outside.specs.declared.errors.DeviceError.{DeviceError}
 use Rattle.outside.specs.declared.errors.DeviceError.TheVariants as devices
 use Rattle.schedule_text.specs.declared.next_error.NextError.{NextError}
 use Rattle.schedule_text.specs.declared.next_error.NextError.TheVariants as nexts
-use Rattle.spacetime.specs.declared.error.DrawError.{DrawError}
-use Rattle.spacetime.specs.declared.error.DrawError.TheVariants.{Malformed, ReadFault, WriteFault, NoMemory}
-use Rattle.spacetime.specs.declared.status.Status.{Status}
-use Rattle.spacetime.specs.declared.status.Status.TheVariants as statuses
+use Rattle.drawing.specs.declared.error.DrawError.{DrawError}
+use Rattle.drawing.specs.declared.error.DrawError.TheVariants.{Malformed, ReadFault, WriteFault, NoMemory}
+use Rattle.drawing.specs.declared.status.Status.{Status}
+use Rattle.drawing.specs.declared.status.Status.TheVariants as statuses
 
 abbrev pub of_reader : NextError → DrawError
 of_reader (nexts.BadLine line rule) = Malformed line rule None

@@ -5,6 +5,7 @@ use crate::recorder::{Recorder, Turn};
 use crate::standing::standing_of;
 use labels::{describe, read_lines};
 use nop_types::{Actor, Host, NoMemory};
+use op_text::OpText;
 use schedule_text::Rule;
 use std::alloc::Global;
 use world::{Lines, StepError, World};
@@ -44,7 +45,7 @@ pub fn watch<H: Host>(
 }
 
 /// The datagram with this index, if a turn sent one.
-fn observe_datagram<H: Host>(
+fn observe_datagram<H: Host, T: OpText>(
     alloc: Global,
     world: &World<H>,
     turn: Turn,
@@ -54,7 +55,7 @@ fn observe_datagram<H: Host>(
     let (Some(dest), Some(bytes)) = (world.sent_to(index), world.sent(index)) else {
         return Ok(());
     };
-    recorder.put_sent(turn, dest, describe(alloc, bytes)?);
+    recorder.put_sent(turn, dest, describe::<T>(alloc, bytes)?);
     Ok(())
 }
 
@@ -76,16 +77,16 @@ fn observe_standing<H: Host>(
 }
 
 /// What is seen after a turn with these lines.
-pub fn observe<H: Host>(
+pub fn observe<H: Host, T: OpText>(
     alloc: Global,
     world: &World<H>,
     turn: Turn,
     lines: &Lines,
     recorder: &mut Recorder,
 ) -> Result<(), NoMemory> {
-    recorder.put_said(read_lines(alloc, lines.text.as_slice())?);
+    recorder.put_said(read_lines::<T>(alloc, lines.text.as_slice())?);
     for index in turn.sent_before..world.sent_count() {
-        observe_datagram(alloc, world, turn, index, recorder)?;
+        observe_datagram::<H, T>(alloc, world, turn, index, recorder)?;
     }
     observe_standing(alloc, world, turn, recorder)
 }

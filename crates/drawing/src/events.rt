@@ -5,6 +5,7 @@ ghost use Rattle.world.specs.WorldSteps.{actor_of};
 
 use labels::put_op;
 use nop_types::{Actor, NoMemory, Tick};
+use op_text::OpText;
 use picture::Text;
 use schedule_text::Event;
 use std::alloc::Global;
@@ -73,10 +74,15 @@ fn put_junk(bytes: &[u8], to: &mut Text) {
 }
 
 /// Appends the op that is submitted, or how many bytes of junk come.
-pub fn put_submitted(event: &Event, to: &mut Text) {
+pub fn put_submitted<T: OpText>(
+    alloc: Global,
+    event: &Event,
+    to: &mut Text,
+) -> Result<(), NoMemory> {
     match event {
-        Event::Submit(_, op) => put_op(op.as_slice(), to),
+        Event::Submit(_, op) => put_op::<T>(alloc, op.as_slice(), to)?,
         Event::Junk(_, bytes) => put_junk(bytes.as_slice(), to),
         _ => {}
     }
+    Ok(())
 }

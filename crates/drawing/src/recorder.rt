@@ -6,6 +6,7 @@ use crate::standing::{Standing, put_changes, role};
 use flights::{Crash, Flight, Leg, actors, deliver, lanes, losses};
 use labels::Label;
 use nop_types::{Actor, Config, Dest, NoMemory};
+use op_text::OpText;
 use picture::{Mark, Note, Picture, Role, Row, Stretch, Text, draw, same};
 use schedule_text::Event;
 use std::alloc::Global;
@@ -163,11 +164,11 @@ impl Recorder {
     }
 
     /// What was delivered or submitted.
-    fn detail(&mut self, event: &Event, row: usize) -> Result<String, NoMemory> {
+    fn detail<T: OpText>(&mut self, event: &Event, row: usize) -> Result<String, NoMemory> {
         let mut detail = Text::new(self.alloc);
         match event {
             Event::Deliver(index, to) => self.deliver(*index, *to, row, &mut detail),
-            _ => put_submitted(event, &mut detail),
+            _ => put_submitted::<T>(self.alloc, event, &mut detail)?,
         }
         detail.finish()
     }
@@ -230,12 +231,12 @@ impl Recorder {
     }
 
     /// The row of a turn, after all that was seen of it.
-    pub fn end(&mut self, line: u32, event: &Event, turn: Turn) -> Result<(), NoMemory> {
+    pub fn end<T: OpText>(&mut self, line: u32, event: &Event, turn: Turn) -> Result<(), NoMemory> {
         if let Event::Crash(_) = event {
             self.put_crash(turn);
         }
         self.fill(turn);
-        let detail = self.detail(event, turn.row)?;
+        let detail = self.detail::<T>(event, turn.row)?;
         if self.failed {
             return Err(NoMemory);
         }

@@ -1,0 +1,30 @@
+//! Draws runs of any service: what a program does that reads a schedule and writes a picture as SVG.
+//!
+//! It steps the same `world` as the replay does, with a service and the words of its ops, and is
+//! outside the theorem. What is proved: nothing is written where the schedule is bad or cannot be
+//! read (`run`), each error has its status (`status_of`), and a row is of the actor whose step it
+//! is, as the world has it (`actor_of`). That the record goes with the world's network, and the
+//! picture as a whole, are tested (`checks/pictures.sh`, `checks/stories.sh`).
+//!
+//! Calls, for `spacetime` and `lock_spacetime`: `run_program`. `run` does the same over any
+//! `Source` and `Sink`; `status_of` and `complaint` say what becomes of its errors.
+//!
+//! Files: `program`; `running` steps the world; `observing` tells `recorder` what a step shows, in
+//! the words of `labels`; `recorder` keeps it, and sees no world; `standing` (how replicas stand in
+//! their views), `events`, `notes`; `error`, `status`. `specs/Errors`.
+#![tactic(auto)]
+
+mod error;
+mod events;
+mod notes;
+mod observing;
+mod program;
+mod recorder;
+mod running;
+mod standing;
+mod status;
+
+pub use error::DrawError;
+pub use program::run_program;
+pub use running::{complaint, run};
+pub use status::{Status, status_of};
