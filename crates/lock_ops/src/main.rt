@@ -13,6 +13,7 @@ use lock_text::LockText;
 use op_text::{Status, Words, run};
 use outside::WriteError;
 use standard_io::StandardOut;
+use std::io::ErrorKind;
 use std::process::ExitCode;
 
 const USAGE_LINE: &str = "usage: lock_ops op WORDS | text OP | result RESULT";
@@ -21,7 +22,8 @@ fn main(rt: HostRuntime) -> ExitCode {
     let words = match std::env::args(&rt) {
         Ok(args) => args.collect(rt.alloc()),
         // A word that is no text: no words are taken.
-        Err(_) => Ok(Vec::new(rt.alloc())),
+        Err(e) if e.kind() == ErrorKind::InvalidData => Ok(Vec::new(rt.alloc())),
+        Err(_) => return ExitCode::from(Status::NoMemory as u8),
     };
     let Ok(words) = words else {
         return ExitCode::from(Status::NoMemory as u8);

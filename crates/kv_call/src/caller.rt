@@ -1,0 +1,68 @@
+//! Who calls which service.
+
+ghost use Rattle.std.specs.Prelude.{◌≡◌, ◌≤◌, IfSome};
+ghost use Rattle.kv_call.specs.Arguments.{number_in, service_of, caller_of};
+
+use client_call::Service;
+use line_fields::{number, small_number};
+use nop_types::{Bytes, Config};
+
+/// A service, the number of the client that calls it, and the most turns of the call.
+#[derive(Clone, Copy, Debug, PartialEq, Eq)]
+pub struct Caller {
+    pub service: Service,
+    pub number: u32,
+    pub turns: u64,
+}
+
+/// A number from `least` to `most`.
+fn number_in(least: u64, most: u64, word: &[u8]) -> Option<u64>
+    ensures number { result ≡ number_in least most word.now }
+    ensures limit { IfSome result (λ n. n ≤ most) }
+{
+    let n = number(word)?;
+    if least <= n && n <= most {
+        Some(n)
+    } else {
+        None
+    }
+}
+
+/// The service at these ports. Its configuration has one client, since no client reads that number.
+fn service_of(port: &[u8], replicas: &[u8], sequencers: &[u8]) -> Option<Service>
+    ensures service { result ≡ service_of port.now replicas.now sequencers.now }
+    ensures base { IfSome result (λ s. s.base ≤ 65000) }
+{
+    let base = number_in(1024, 65000, port)?;
+    let replicas = small_number(256, replicas)?;
+    let sequencers = small_number(256, sequencers)?;
+    match Config::new(replicas, sequencers, 1) {
+        Some(config) => Some(Service {
+            base: base as u16,
+            config,
+        }),
+        None => None,
+    }
+}
+
+/// The caller that the first words name.
+pub fn caller_of(
+    port: &Bytes,
+    replicas: &Bytes,
+    sequencers: &Bytes,
+    client: &Bytes,
+    turns: &Bytes,
+) -> Option<Caller>
+    ensures caller { result
+        ≡ caller_of port.now replicas.now sequencers.now client.now turns.now }
+    ensures base { IfSome result (λ c. c.service.base ≤ 65000) }
+{
+    let service = service_of(port.as_slice(), replicas.as_slice(), sequencers.as_slice())?;
+    let client = number_in(0, u64::from(u32::MAX), client.as_slice())?;
+    let turns = number_in(1, u64::MAX, turns.as_slice())?;
+    Some(Caller {
+        service,
+        number: client as u32,
+        turns,
+    })
+}

@@ -1,0 +1,57 @@
+//! One op of the key-value store, in words, executed by a running service: an example of a program
+//! that calls one, by `client_call` and over sockets, without another process.
+//!
+//!     kv_call 47000 3 2 9 5000 put k v             none
+//!     kv_call 47000 3 2 10 5000 get k              =v
+//!
+//! The arguments are the port of replica 0, how many replicas and how many sequencers there are, the
+//! client's number, which was never used before, the most turns to wait, and an op in the words of
+//! `kv_text`.
+//!
+//! Proved of `run`: a line is written only where the arguments name a call, and it is the text of a
+//! result that the call's client accepted; what else it may write is the usage line; and which status
+//! stands for which end. That it waits until the result comes, and for as many turns, is seen on
+//! running clusters by `checks/calls.sh`. Proved of `main` is that it is safe and ends.
+//!
+//! Files: `caller` (the first five arguments), `calling` (the call), `running` (what is written),
+//! `status`. Definitions: `specs/Arguments`, `Calls`, `Ending`.
+#![tactic(auto)]
+
+mod caller;
+mod calling;
+mod running;
+mod status;
+
+use op_text::Words;
+use outside::WriteError;
+use running::run;
+use standard_io::StandardOut;
+use status::Status;
+use std::io::ErrorKind;
+use std::process::ExitCode;
+use udp_ports::{SystemClock, UdpPorts};
+
+fn main(rt: HostRuntime) -> ExitCode {
+    let words = match std::env::args(&rt) {
+        Ok(args) => args.collect(rt.alloc()),
+        // A word that is no text: no words are taken.
+        Err(e) if e.kind() == ErrorKind::InvalidData => Ok(Vec::new(rt.alloc())),
+        Err(_) => return ExitCode::from(Status::NoMemory as u8),
+    };
+    let Ok(words) = words else {
+        return ExitCode::from(Status::NoMemory as u8);
+    };
+    let words: Vec<String> = words;
+    let Ok(words) = Words::of_arguments(rt.alloc(), &words) else {
+        return ExitCode::from(Status::NoMemory as u8);
+    };
+    let mut sink = StandardOut::new(std::io::writer(&rt));
+    let mut ports = UdpPorts::new(&rt, rt.alloc());
+    let mut clock = SystemClock::new(&rt);
+    let status = match run(rt.alloc(), &words, &mut sink, &mut ports, &mut clock) {
+        Ok(status) => status,
+        Err(WriteError::Failed) => Status::WriteFault,
+        Err(WriteError::NoMemory) => Status::NoMemory,
+    };
+    ExitCode::from(status as u8)
+}
