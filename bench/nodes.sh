@@ -3,7 +3,7 @@
 #
 #   bench/nodes.sh [REPLICAS]     NOPAXOS  the program file;  LANES  clients at once (16);  BASE  the port of replica 0 (46000)
 #
-# 62 clients, each with 63 puts at a key of its own and then a get of it: 3,906 puts in one cluster, whose log has 4,096 slots. Each
+# 62 clients, each with 63 puts at a key of its own and then a get of it: 3,906 puts in one cluster. Each
 # client has to be answered, and to read its own last value. The rate counts all ops and includes the starts of the client
 # processes; then one client of 64 ops less one of 1 op, in a fresh cluster, gives the time of an op without a start.
 # EVENT names what happens in the middle: kill (the leader), install (a controller that installs sequencer 1 in session 10) or stop
