@@ -10,7 +10,7 @@ many turns. There are three rounds, each with a cluster of its own:
            datagrams and datagrams with flipped bits, of all kinds, each of which spells nothing, or a datagram that its
            receiver has no use for. Each client has to be answered, and to read its own last value.
   forged   once the clients were served, COUNT / 4 datagrams that may spell anything, and those that take the most memory:
-           unfinished messages of the most fragments, and the longest logs. Who can forge datagrams can stop the protocol, so
+           unfinished messages of the most fragments, and the longest logs, some with the greatest checkpoints, of a state or of none. Who can forge datagrams can stop the protocol, so
            no client is there to be answered.
 
 At the end of the first two rounds each node gets datagrams of no bytes until its turns are taken, and has to end with its
@@ -48,6 +48,7 @@ NODES |= {f"sequencer {j}": (["sequencer", "--id", str(j)], BASE + 8 + j) for j 
 NODES |= {"controller": (["controller"], BASE + 12)}
 # A client of another cluster, which is not there: it has no answer, and so it takes all its turns.
 NODES |= {"client": (["client", "--id", str(2**32 - 1)], BASE + 100 + 31)}
+HEAD = b"NO\2"
 # The kinds of datagrams that an actor has a use for.
 TAKES = {"replica": {2, 8}, "sequencer": {1, 4, 6}, "controller": {5, 7}, "client": {3}}
 OPS = 16
@@ -75,9 +76,17 @@ def view(rng):
     return number(4, rng.choice([0, 0, 1, 5])) + number(4, rng.choice([1, 1, 2, 9]))
 
 
+def checkpoint(host, clients):
+    """A checkpoint of the host's state, and of so many clients with results of the greatest length."""
+    saved = [number(4, c) + number(8, 1) + number(2, 257) + b"=" * 257 for c in range(clients)]
+    return number(4, len(host)) + host + number(4, clients) + b"".join(saved)
+
+
 def log(rng):
+    point = rng.choice([0, 0, 1, 100])
+    front = checkpoint(rng.choice([number(4, 0), rng.randbytes(20)]), rng.randrange(3)) if point else b""
     entries = [b"\0" if rng.randrange(4) == 0 else b"\1" + request(rng) for _ in range(rng.choice([0, 1, 2]))]
-    return number(4, len(entries)) + b"".join(entries)[:1300]
+    return number(4, point) + front + number(4, len(entries)) + b"".join(entries)[:700]
 
 
 def message(rng):
@@ -104,12 +113,12 @@ def whole(rng):
         rest = number(1, rng.randrange(SEQUENCERS)) + number(4, rng.choice([1, 2, 9]))
     else:
         rest = number(1, rng.randrange(REPLICAS)) + number(8, rng.randrange(1, 5000)) + number(2, 0) + number(2, 1) + message(rng)
-    return b"NO\1" + bytes([kind]) + rest
+    return HEAD + bytes([kind]) + rest
 
 
 def spelled(data):
     """The kind of the datagram that the bytes spell, or None."""
-    if len(data) < 4 or data[:3] != b"NO\1" or not 1 <= data[3] <= 8:
+    if len(data) < 4 or data[:3] != HEAD or not 1 <= data[3] <= 8:
         return None
     kind, at, values = data[3], 4, []
     layout = {1: [4, 8, 2], 2: [4, 8, 4, 8, 2], 3: [1, 4, 4, 4, 4, 8, 1, 2], 8: [1, 8, 2, 2]}.get(kind, [1, 4])
@@ -124,7 +133,7 @@ def spelled(data):
         fits = session >= 1 and 1 <= place < 2**48 and identity >= 1 and length <= 640 and rest == length
     elif kind == 3:
         replica, _, session, slot, _, identity, tag, length = values
-        fits = replica <= 6 and session >= 1 and 1 <= slot <= 4096 and identity >= 1 and tag <= 1
+        fits = replica <= 6 and session >= 1 and slot >= 1 and identity >= 1 and tag <= 1
         fits = fits and length <= (257 if tag else 0) and rest == length
     elif kind == 8:
         replica, place, index, count = values
@@ -139,7 +148,7 @@ def damaged(rng):
     """The sort of damage and the bytes."""
     sort = rng.choice(["random", "cut", "flipped"])
     if sort == "random":
-        head = b"NO\1" + bytes([rng.randrange(10)]) if rng.randrange(2) else b""
+        head = HEAD + bytes([rng.randrange(10)]) if rng.randrange(2) else b""
         return sort, head + rng.randbytes(rng.choice([0, 1, 5, 21, 33, 48, rng.randrange(1497)]))
     data = whole(rng)
     if sort == "cut":
@@ -153,13 +162,15 @@ def damaged(rng):
 def fragments(sender, place, data, last=True):
     """The fragments of a message; all but the last one where the message is to stay unfinished."""
     pieces = [data[i : i + 1400] for i in range(0, len(data), 1400)]
-    head = b"NO\1\x08" + bytes([sender]) + number(8, place)
+    head = HEAD + b"\x08" + bytes([sender]) + number(8, place)
     cut = [head + number(2, i) + number(2, len(pieces)) + piece for i, piece in enumerate(pieces)]
     return cut if last else cut[:-1]
 
 
 def greatest(rng):
     """What takes the most memory, as pairs of a replica and a datagram."""
+    # A map of the most keys, and bytes that are no state.
+    full = number(4, 4096) + b"".join(b"\0\x40" + number(64, i) + b"\1\0" + bytes(256) for i in range(4096))
     entries = number(4, 4096)
     for i in range(4096):
         put = b"P\0\x40" + number(64, i) + b"\1\0" + rng.randbytes(256)
@@ -169,12 +180,15 @@ def greatest(rng):
         others = [sender for sender in range(REPLICAS) if sender != replica]
         for sender in others:
             # The log of a started view, of a synchronisation, and of a view change that makes this replica the leader.
-            start = bytes([22, sender]) + number(4, 30 + sender) + number(4, 50) + position + entries
-            prepare = bytes([23, sender]) + start[2:10] + entries
-            change = bytes([21, sender]) + number(4, 60 + replica) + number(4, 60) + start[2:10] + position + entries
-            for place, data in enumerate((start, prepare, change)):
-                for piece in fragments(sender, 10**6 + place, data):
-                    yield replica, piece
+            logs = [number(4, 0) + entries, number(4, 4096) + checkpoint(full, 256) + entries]
+            logs += [number(4, 4096) + checkpoint(bytes(1_400_000), 256) + entries]
+            for place, told in enumerate(logs):
+                start = bytes([22, sender]) + number(4, 30 + 3 * place + sender) + number(4, 50) + position + told
+                prepare = bytes([23, sender]) + start[2:10] + told
+                change = bytes([21, sender]) + number(4, 60 + 3 * place + replica) + number(4, 60) + start[2:10] + position + told
+                for more, data in enumerate((start, prepare, change)):
+                    for piece in fragments(sender, 10**6 + 3 * place + more, data):
+                        yield replica, piece
         for place in range(4):
             for sender in others:
                 for piece in fragments(sender, 2 * 10**6 + place, bytes(4096 * 1400), last=False):
