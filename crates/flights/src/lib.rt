@@ -11,7 +11,7 @@
 //! sent before it crashed; what is for all sequencers is missed where none took it. That is the
 //! contract of `missed`, inside; that the crosses of `losses` show it is tested.
 //!
-//! Calls, for `spacetime`: `deliver`, `losses`, `actors`, `lanes`, and the records `Flight`, `Leg`,
+//! Calls, for `drawing`: `deliver`, `losses`, `actors`, `lanes`, and the records `Flight`, `Leg`,
 //! `Crash`.
 //!
 //! Files: `flight`, `missed`, `lane_actors`; `specs/Deliveries`, `Missed`, `Actors`.
