@@ -1,7 +1,12 @@
 //! The program that draws runs of the lock service: `spacetime` with another service and its words.
+//! A schedule on standard input, a picture as SVG on standard output.
 //!
-//! In the stored run `stdin` and `stdout` beside `src/` ann is granted a lock, a release by another
-//! token is refused, and two ops are none. The story of `lock_service` is drawn in `examples/`.
+//! What is proved of drawing is said at the head of `drawing`; of `main`, only that it is safe and
+//! ends. The pictures are tested (`checks/stories.sh`, `checks/pictures.sh`). In the stored run,
+//! `stdin` and `stdout` beside `src/`, ann is granted a lock, a release by another token is refused,
+//! and two ops are none. The story of `lock_service` is drawn in `examples/`.
+//!
+//! Begin to read at `drawing::run_program`.
 #![tactic(auto)]
 
 use drawing::run_program;

@@ -1,8 +1,12 @@
 //! The program that draws runs of the key-value store: a schedule on standard input, a picture as
-//! SVG on standard output. It is `drawing` with a service and its words.
+//! SVG on standard output, a column for each actor and a row for each line.
 //!
-//! Proved of `main` is that it is safe and ends. That the status becomes the exit status is tested
-//! (`checks/stories.sh`).
+//! It is one call of `drawing`, with the service and its words. What is proved of drawing is said
+//! there: a bad schedule writes no picture, each error has its status, each row is of the actor
+//! whose step it is. Proved of `main` is only that it is safe and ends. That the status becomes the
+//! exit status, and the pictures as a whole, are tested (`checks/stories.sh`, `checks/pictures.sh`).
+//!
+//! Begin to read at `drawing::run_program`; the words of the labels come from `labels`.
 #![tactic(auto)]
 
 use drawing::run_program;
