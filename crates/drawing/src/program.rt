@@ -3,9 +3,10 @@
 use crate::error::DrawError;
 use crate::running::{complaint, run};
 use crate::status::{Status, status_of};
-use nop_types::Host;
+use nop_types::{Host, NoMemory};
 use op_text::OpText;
 use standard_io::{StandardIn, StandardOut};
+use std::io::ErrorKind;
 use std::rt::Env;
 
 /// Says on standard error why there is no picture.
@@ -16,10 +17,25 @@ fn complain<R: AllocGlobal + Eprint>(rt: &R, error: DrawError) {
 }
 
 /// Whether there are words on the command line.
-fn has_words<R: AllocGlobal + Env>(rt: &R) -> bool {
+fn has_words<R: AllocGlobal + Env>(rt: &R) -> Result<bool, NoMemory> {
     match std::env::args(rt) {
-        Ok(args) => args.count() > 1,
-        Err(_) => true,
+        Ok(args) => Ok(args.count() > 1),
+        // A word that is no text.
+        Err(e) if e.kind() == ErrorKind::InvalidData => Ok(true),
+        Err(_) => Err(NoMemory),
+    }
+}
+
+/// Draws from standard input to standard output. Where there is no picture, standard error says why.
+fn draw<H: Host, T: OpText, R: AllocGlobal + Input + Print + Eprint>(rt: &R) -> Status {
+    let mut source = StandardIn::new(rt.reader());
+    let mut sink = StandardOut::new(std::io::writer(rt));
+    match run::<H, T, _, _>(rt.alloc(), &mut source, &mut sink) {
+        Ok(()) => Status::Done,
+        Err(error) => {
+            complain(rt, error);
+            status_of(error)
+        }
     }
 }
 
@@ -29,17 +45,15 @@ pub fn run_program<H: Host, T: OpText, R: AllocGlobal + Input + Print + Eprint +
     rt: &R,
     usage: &str,
 ) -> Status {
-    if has_words(rt) {
-        let _ = rt.eprintln(usage);
-        return Status::Usage;
-    }
-    let mut source = StandardIn::new(rt.reader());
-    let mut sink = StandardOut::new(std::io::writer(rt));
-    match run::<H, T, _, _>(rt.alloc(), &mut source, &mut sink) {
-        Ok(()) => Status::Done,
-        Err(error) => {
-            complain(rt, error);
-            status_of(error)
+    match has_words(rt) {
+        Ok(false) => draw::<H, T, _>(rt),
+        Ok(true) => {
+            let _ = rt.eprintln(usage);
+            Status::Usage
+        }
+        Err(NoMemory) => {
+            complain(rt, DrawError::NoMemory);
+            Status::NoMemory
         }
     }
 }
