@@ -16,7 +16,7 @@ pub fn actor_of(event: &Event) -> Actor
 {
     match event {
         Event::Submit(client, _) => Actor::Client(*client),
-        Event::Install(_) => Actor::Controller,
+        Event::Install(controller, _) => Actor::Controller(*controller),
         Event::Deliver(_, actor)
         | Event::Tick(actor, _)
         | Event::Crash(actor)
@@ -47,6 +47,14 @@ fn put_deliver(index: u64, actor: Actor, to: &mut Text) {
     put_named(" ", actor, to);
 }
 
+/// The controller is named where it is not controller 0.
+fn put_install(controller: u8, sequencer: u8, to: &mut Text) {
+    put_named("install ", Actor::Sequencer(sequencer), to);
+    if controller != 0 {
+        put_named(" ", Actor::Controller(controller), to);
+    }
+}
+
 fn put_event(event: &Event, to: &mut Text) {
     match event {
         Event::Submit(client, _) => put_named("submit ", Actor::Client(*client), to),
@@ -55,7 +63,7 @@ fn put_event(event: &Event, to: &mut Text) {
             put_named("tick ", *actor, to);
             to.put(tick_word(*tick));
         }
-        Event::Install(number) => put_named("install ", Actor::Sequencer(*number), to),
+        Event::Install(controller, sequencer) => put_install(*controller, *sequencer, to),
         Event::Crash(actor) => put_named("crash ", *actor, to),
         Event::Junk(actor, _) => put_named("junk ", *actor, to),
     }

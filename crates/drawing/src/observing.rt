@@ -38,7 +38,7 @@ pub fn watch<H: Host>(
 ) -> Result<(), NoMemory> {
     for number in 0..world.config().replicas() {
         if let Some(replica) = world.replica(number) {
-            recorder.watch(standing_of(alloc, number, world, replica)?);
+            recorder.watch(standing_of(alloc, number, world, replica, 0)?);
         }
     }
     Ok(())
@@ -72,7 +72,8 @@ fn observe_standing<H: Host>(
     let Some(replica) = world.replica(number) else {
         return Ok(());
     };
-    recorder.put_standing(turn, standing_of(alloc, number, world, replica)?);
+    let known = recorder.synced(number);
+    recorder.put_standing(turn, standing_of(alloc, number, world, replica, known)?);
     Ok(())
 }
 

@@ -195,6 +195,14 @@ impl Recorder {
         self.failed |= self.flights.push(flight).is_err();
     }
 
+    /// The sync point of a replica as it stands, 0 of one that is not there: the slots up to it stay as they are.
+    pub fn synced(&self, number: u8) -> u32 {
+        match self.watched.get(number as usize) {
+            Some(watched) => watched.standing.sync_point,
+            None => 0,
+        }
+    }
+
     /// How a replica stands after a turn.
     pub fn put_standing(&mut self, turn: Turn, after: Standing) {
         let replicas = self.config.replicas();

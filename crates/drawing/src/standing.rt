@@ -18,13 +18,15 @@ pub struct Held {
     id: u64,
 }
 
-/// What a picture shows of the replica with a number: its view, whether it takes part, its sync point, and its slots, None for a NO-OP.
+/// What a picture shows of the replica with a number: its view, whether it takes part, its sync point, and its slots after the first
+/// `known` ones, None for a NO-OP. The first ones were synchronised before, so they stay as they are.
 #[derive(Drop)]
 pub struct Standing {
     pub number: u8,
     view: View,
     status: Phase,
-    sync_point: u32,
+    pub sync_point: u32,
+    known: u32,
     slots: Vec<Option<Held>>,
 }
 
@@ -38,15 +40,16 @@ fn request_in(entry: &Entry) -> Option<Held> {
     }
 }
 
-/// The slots of a replica's log, those that moved out of it among them.
+/// The slots of a replica's log after the first ones, those that moved out of it among them.
 fn slots_of<H: Host>(
     alloc: Global,
     number: u8,
     world: &World<H>,
+    known: u32,
     len: u32,
 ) -> Result<Vec<Option<Held>>, NoMemory> {
     let mut slots = Vec::new(alloc);
-    for place in 0..len {
+    for place in known..len {
         if let Some(entry) = world.entry(number, place + 1) {
             slots.push(request_in(entry))?;
         }
@@ -54,19 +57,21 @@ fn slots_of<H: Host>(
     Ok(slots)
 }
 
-/// How a replica of a world stands.
+/// How a replica of a world stands, whose first slots are known.
 pub fn standing_of<H: Host>(
     alloc: Global,
     number: u8,
     world: &World<H>,
     replica: &Replica<H>,
+    known: u32,
 ) -> Result<Standing, NoMemory> {
     Ok(Standing {
         number,
         view: replica.view(),
         status: replica.status(),
         sync_point: replica.sync_point(),
-        slots: slots_of(alloc, number, world, replica.log().len())?,
+        known,
+        slots: slots_of(alloc, number, world, known, replica.log().len())?,
     })
 }
 
@@ -115,8 +120,8 @@ fn note_view(alloc: Global, after: &Standing, notes: &mut Notes) {
     notes.put(mark, text);
 }
 
-fn put_held(slot: usize, held: Option<Held>, to: &mut Text) -> Mark {
-    to.number(slot as u64);
+fn put_held(slot: u64, held: Option<Held>, to: &mut Text) -> Mark {
+    to.number(slot);
     match held {
         None => {
             to.put(": NO-OP");
@@ -130,7 +135,7 @@ fn put_held(slot: usize, held: Option<Held>, to: &mut Text) -> Mark {
     }
 }
 
-fn note_slot(alloc: Global, slot: usize, held: Option<Held>, notes: &mut Notes) {
+fn note_slot(alloc: Global, slot: u64, held: Option<Held>, notes: &mut Notes) {
     let mut text = Text::new(alloc);
     let mark = put_held(slot, held, &mut text);
     notes.put(mark, text);
@@ -144,26 +149,33 @@ fn is_same(a: Option<Held>, b: Option<Held>) -> bool {
     }
 }
 
-/// Whether the slot with this place, counted from 0, has another entry than before.
-fn is_changed(before: &[Option<Held>], place: usize, held: Option<Held>) -> bool {
-    match before.get(place) {
-        Some(old) => !is_same(*old, held),
-        None => true,
+impl Standing {
+    /// The number of slots.
+    fn len(&self) -> u64 {
+        u64::from(self.known).saturating_add(self.slots.len() as u64)
+    }
+
+    /// Whether a slot has this entry.
+    fn has(&self, slot: u64, held: Option<Held>) -> bool {
+        let Some(place) = slot.checked_sub(u64::from(self.known) + 1) else {
+            return false;
+        };
+        match self.slots.get(place as usize) {
+            Some(own) => is_same(*own, held),
+            None => false,
+        }
     }
 }
 
 /// Appends the notes of the first slots with another entry than before, and says how many such slots there are.
-fn put_changed(
-    alloc: Global,
-    before: &[Option<Held>],
-    after: &[Option<Held>],
-    notes: &mut Notes,
-) -> usize {
+fn put_changed(alloc: Global, before: &Standing, after: &Standing, notes: &mut Notes) -> usize {
     let mut changed = 0usize;
-    for (place, held) in after.iter().enumerate() {
-        if is_changed(before, place, *held) {
+    let mut slot = u64::from(after.known);
+    for held in &after.slots {
+        slot = slot.saturating_add(1);
+        if !before.has(slot, *held) {
             if changed < MAX_SLOT_NOTES {
-                note_slot(alloc, place.saturating_add(1), *held, notes);
+                note_slot(alloc, slot, *held, notes);
             }
             changed = changed.saturating_add(1);
         }
@@ -171,15 +183,14 @@ fn put_changed(
     changed
 }
 
-fn put_log(alloc: Global, before: &[Option<Held>], after: &[Option<Held>], notes: &mut Notes) {
+fn put_log(alloc: Global, before: &Standing, after: &Standing, notes: &mut Notes) {
     let changed = put_changed(alloc, before, after, notes);
     let more = changed.saturating_sub(MAX_SLOT_NOTES) as u64;
     if more > 0 {
         put_count(alloc, Mark::Logged, "", more, " more slots", notes);
     }
     if after.len() < before.len() {
-        let len = after.len() as u64;
-        put_count(alloc, Mark::Logged, "log of ", len, "", notes);
+        put_count(alloc, Mark::Logged, "log of ", after.len(), "", notes);
     }
 }
 
@@ -188,7 +199,7 @@ pub fn put_changes(alloc: Global, before: &Standing, after: &Standing, notes: &m
     if !before.view.is(after.view) || before.status != after.status {
         note_view(alloc, after, notes);
     }
-    put_log(alloc, &before.slots, &after.slots, notes);
+    put_log(alloc, before, after, notes);
     if before.sync_point != after.sync_point {
         let point = u64::from(after.sync_point);
         put_count(alloc, Mark::Synced, "synced to ", point, "", notes);

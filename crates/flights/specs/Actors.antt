@@ -13,7 +13,8 @@ counted make zero = []
 counted make (suc n) = counted make n ++ make n ∷ []
 
 abbrev pub actors_of : Configuration → List Actor
-actors_of c = ((Controller ∷ [] ++ counted Client c.clients) ++ counted Sequencer c.sequencers) ++ counted Replica c.replicas
+actors_of c =
+    ((counted Controller c.controllers ++ counted Client c.clients) ++ counted Sequencer c.sequencers) ++ counted Replica c.replicas
 
 abbrev pub has : List Actor → Actor → Bool
 has actors a = list_any (λ b. same b a) actors

@@ -42,6 +42,16 @@ pub fn is_sequencer(actor: Actor) -> bool
     }
 }
 
+fn put_controllers(count: u8, actors: &mut Vec<Actor>) -> Result<(), NoMemory>
+    ensures { OnOk result (actors.new.items
+        ≡ actors.old.items ++ counted kinds.Controller count) }
+{
+    for i in 0..count {
+        actors.push(Actor::Controller(i))?;
+    }
+    Ok(())
+}
+
 fn put_clients(count: u8, actors: &mut Vec<Actor>) -> Result<(), NoMemory>
     ensures { OnOk result (actors.new.items ≡ actors.old.items ++ counted kinds.Client count) }
 {
@@ -69,12 +79,12 @@ fn put_replicas(count: u8, actors: &mut Vec<Actor>) -> Result<(), NoMemory>
     Ok(())
 }
 
-/// All actors of a configuration, from left to right: the controller, clients, sequencers, replicas.
+/// All actors of a configuration, from left to right: controllers, clients, sequencers, replicas.
 pub fn actors(alloc: Global, config: Config) -> Result<Vec<Actor>, NoMemory>
     ensures { IfOk result (λ v. v.items ≡ actors_of config) }
 {
     let mut actors = Vec::new(alloc);
-    actors.push(Actor::Controller)?;
+    put_controllers(config.controllers(), &mut actors)?;
     put_clients(config.clients(), &mut actors)?;
     put_sequencers(config.sequencers(), &mut actors)?;
     put_replicas(config.replicas(), &mut actors)?;

@@ -19,8 +19,8 @@ purpose_of _ = purposes.Session
 -- a stamp, or a session that is ordered or confirmed
 abbrev pub mark_of : Datagram → Option Mark
 mark_of (datagrams.Stamped stamped) = Some marks.Stamped
-mark_of (datagrams.Install sequencer session) = Some marks.Session
-mark_of (datagrams.Installed sequencer session) = Some marks.Session
+mark_of (datagrams.Install controller sequencer session) = Some marks.Session
+mark_of (datagrams.Installed controller sequencer session) = Some marks.Session
 mark_of _ = None
 
 abbrev pub mark_shown : Option Note → Option Mark

@@ -4,7 +4,7 @@ ghost use Rattle.std.specs.Prelude.{◌≡◌, IfOk, OnErr};
 ghost use Rattle.oum_codec.specs.Reading.{reading};
 ghost use Rattle.labels.specs.Datagrams.{IsNoDatagram, mark_of, mark_shown, purpose_of};
 
-use crate::naming::{note_of, put_request, put_result, put_view};
+use crate::naming::{note_of, put_request, put_result, put_session, put_view};
 use nop_types::{Body, Datagram, Fragment, Log, NoMemory, Peer, Reply, View};
 use op_text::OpText;
 use oum_codec::read_datagram;
@@ -82,12 +82,18 @@ fn put_reply<T: OpText>(alloc: Global, reply: &Reply, to: &mut Text) -> Result<(
     Ok(())
 }
 
-fn put_stamp(session: u32, number: u64, to: &mut Text) {
-    to.number(u64::from(session));
+/// A word and a session.
+fn put_ordered(word: &str, session: u64, to: &mut Text) {
+    to.put(word);
+    put_session(session, to);
+}
+
+fn put_stamp(session: u64, number: u64, to: &mut Text) {
+    put_session(session, to);
     to.numbered(":", number);
 }
 
-fn put_stamped(session: u32, number: u64, client: u32, id: u64, to: &mut Text) {
+fn put_stamped(session: u64, number: u64, client: u32, id: u64, to: &mut Text) {
     to.put("stamped ");
     put_stamp(session, number, to);
     to.put(" ");
@@ -116,8 +122,8 @@ fn put_datagram<T: OpText>(
             );
         }
         Datagram::Reply(reply) => put_reply::<T>(alloc, reply, to)?,
-        Datagram::Install { session, .. } => put_slot("install session ", *session, to),
-        Datagram::Installed { session, .. } => put_slot("installed session ", *session, to),
+        Datagram::Install { session, .. } => put_ordered("install session ", *session, to),
+        Datagram::Installed { session, .. } => put_ordered("installed session ", *session, to),
         Datagram::Ping { round, .. } => put_slot("ping ", *round, to),
         Datagram::Pong { round, .. } => put_slot("pong ", *round, to),
         Datagram::Fragment(fragment) => put_fragment(fragment, peer, to),
@@ -160,13 +166,17 @@ fn put_mark(datagram: &Datagram, to: &mut Text) -> Option<Mark>
             put_stamp(stamped.session, stamped.number, to);
             Some(Mark::Stamped)
         }
-        Datagram::Install { sequencer, session } => {
-            put_slot("session ", *session, to);
+        Datagram::Install {
+            sequencer,
+            session,
+            ..
+        } => {
+            put_ordered("session ", *session, to);
             to.numbered(" at s", u64::from(*sequencer));
             Some(Mark::Session)
         }
         Datagram::Installed { session, .. } => {
-            put_slot("session ", *session, to);
+            put_ordered("session ", *session, to);
             Some(Mark::Session)
         }
         _ => None,

@@ -26,11 +26,22 @@ pub fn put_request(client: u32, id: u64, to: &mut Text) {
     to.numbered("#", id);
 }
 
+/// A session by its count, behind its epoch and a point where that is not 0.
+pub fn put_session(session: u64, to: &mut Text) {
+    let epoch = session / 0x1_0000_0000;
+    if epoch != 0 {
+        to.number(epoch);
+        to.put(".");
+    }
+    to.number(session % 0x1_0000_0000);
+}
+
 /// A view: its leader number and its session.
 pub fn put_view(word: &str, view: View, to: &mut Text) {
     to.put(word);
     to.numbered("(", u64::from(view.leader));
-    to.numbered(",", u64::from(view.session));
+    to.put(",");
+    put_session(view.session, to);
     to.put(")");
 }
 

@@ -1,5 +1,5 @@
 -- When two actors are the same.
-use Rattle.std.specs.Prelude.{Bool, true, false, ◌==◌}
+use Rattle.std.specs.Prelude.{Bool, false, ◌==◌}
 use Rattle.nop_types.specs.declared.output.Actor.{Actor}
 use Rattle.nop_types.specs.declared.output.Actor.TheVariants.{Replica, Sequencer, Client, Controller}
 
@@ -7,5 +7,5 @@ abbrev pub same : Actor → Actor → Bool
 same (Replica i) (Replica j) = i == j
 same (Sequencer i) (Sequencer j) = i == j
 same (Client i) (Client j) = i == j
-same Controller Controller = true
+same (Controller i) (Controller j) = i == j
 same _ _ = false

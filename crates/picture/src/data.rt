@@ -11,7 +11,7 @@ pub enum Mark {
     Refused,
     /// A sequencer stamped a request.
     Stamped,
-    /// The controller orders a session, or a sequencer confirms one.
+    /// A controller orders a session, or a sequencer confirms one.
     Session,
     /// A request stands in a slot of a replica's log.
     Logged,

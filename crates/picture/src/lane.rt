@@ -22,7 +22,7 @@ pub fn same(a: Actor, b: Actor) -> bool
         (Actor::Replica(i), Actor::Replica(j)) => i == j,
         (Actor::Sequencer(i), Actor::Sequencer(j)) => i == j,
         (Actor::Client(i), Actor::Client(j)) => i == j,
-        (Actor::Controller, Actor::Controller) => true,
+        (Actor::Controller(i), Actor::Controller(j)) => i == j,
         _ => false,
     }
 }

@@ -5,7 +5,7 @@
 //! name (`lane_of`); `lay_out` makes one for each actor that the picture gives, in that order, and
 //! while the picture is narrower than 2^32 - 1 pixels each is left of the next (`StandApart`).
 //! `same` says whether two actors are equal. The rest is safe and ends; that it looks right is
-//! tested (`spacetime`, `checks/stories.sh`).
+//! tested (`drawing`, `checks/stories.sh`).
 //!
 //! Calls: `draw` gives the text of a `Picture`; `Text` grows by parts, and tells want of memory at
 //! its end; `same`.

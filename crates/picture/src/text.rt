@@ -41,7 +41,8 @@ impl Text {
             Actor::Replica(i) => self.numbered("r", u64::from(i)),
             Actor::Sequencer(i) => self.numbered("s", u64::from(i)),
             Actor::Client(i) => self.numbered("c", u64::from(i)),
-            Actor::Controller => self.put("ctl"),
+            Actor::Controller(0) => self.put("ctl"),
+            Actor::Controller(i) => self.numbered("ctl", u64::from(i)),
         }
     }
 
