@@ -54,7 +54,7 @@ cluster() {
         "$program" sequencer --id $i $site > "$folder/s$i" 2>&1 &
         pids+=($!)
     done
-    "$program" controller $site > "$folder/ctl" 2>&1 &
+    "$program" controller --id 0 $site > "$folder/ctl" 2>&1 &
     pids+=($!)
 }
 

@@ -8,7 +8,7 @@
 #                           COMPARED  how many of them the other program replays too (50,000)
 #                           NUMBER    what the cases are drawn from (1);  FIRST  the first case (0)
 #                           PEER      the other program; it takes the words `replay`, and `schedule SEED STEPS REPLICAS
-#                                     SEQUENCERS CLIENTS`, which writes a valid schedule
+#                                     SEQUENCERS CLIENTS CONTROLLERS`, which writes a valid schedule
 #                           NOPAXOS   the program file (crates/nopaxos/out/nopaxos)
 #
 # The same numbers, with the same PEER, give the same cases. The schedules that are damaged are those of examples/, and 400 that PEER
@@ -33,7 +33,7 @@ if [ -n "$peer" ]; then
     seed=0
     for replicas in 1 3 5 7; do
         for steps in 3 8 20 40 80; do
-            for others in '1 1' '1 3' '2 2' '4 16'; do
+            for others in '1 1 1' '1 3 2' '2 2 2' '4 16 4'; do
                 for _ in 1 2 3 4 5; do
                     seed=$((seed + 1))
                     # shellcheck disable=SC2086

@@ -15,16 +15,7 @@ program=$(realpath "${NOPAXOS:-crates/nopaxos/out/nopaxos}") || exit 2
 [ -x "$program" ] || { echo "no program file $program"; exit 2; }
 base=${BASE:-45000}
 folder=$(mktemp -d) || exit 2
-holder=
-stop() {
-    if [ -n "$holder" ]; then
-        kill "$holder" 2> /dev/null
-        wait "$holder" 2> /dev/null
-    fi
-    rm -rf "$folder"
-}
-trap stop EXIT
-trap 'exit 130' INT TERM
+. checks/nodes.bash
 failed=0
 schedule=examples/one-put.schedule
 site="--replicas 3 --sequencers 1 --base $base"
@@ -80,7 +71,7 @@ put=5000016b000176
     row 'node: a full disk' $? 4 /dev/null
     "$program" sequencer --id 0 $site --turns 2 > /dev/full 2> "$folder/err"
     row 'sequencer: a full disk' $? 4 /dev/null
-    "$program" controller $site --turns 2 > /dev/full 2> "$folder/err"
+    "$program" controller --id 0 $site --turns 2 > /dev/full 2> "$folder/err"
     row 'controller: a full disk' $? 4 /dev/null
     "$program" client --id 0 $site --turns 2 $put > /dev/full 2> "$folder/err"
     row 'client: a full disk' $? 4 /dev/null
@@ -102,7 +93,7 @@ for port in (0, 8, 12, 16):
 open(sys.argv[2], "w").write("held")
 signal.pause()
 PYTHON
-    holder=$!
+    pids[holder]=$!
     for ((i = 0; i < 50; i++)); do
         [ -s "$folder/held" ] && break
         sleep 0.1
@@ -111,13 +102,11 @@ PYTHON
     row 'node: a port in use' $? 5 /dev/null
     "$program" sequencer --id 0 $site --turns 2 > "$folder/out" 2> "$folder/err"
     row 'sequencer: a port in use' $? 5 /dev/null
-    "$program" controller $site --turns 2 > "$folder/out" 2> "$folder/err"
+    "$program" controller --id 0 $site --turns 2 > "$folder/out" 2> "$folder/err"
     row 'controller: a port in use' $? 5 /dev/null
     "$program" client --id 0 $site --turns 2 $put > "$folder/out" 2> "$folder/err"
     row 'client: a port in use' $? 5 /dev/null
-    kill "$holder"
-    wait "$holder" 2> /dev/null
-    holder=
+    kills holder
 }
 
 # ---- the flood

@@ -1,5 +1,5 @@
 #!/bin/sh
-# Measures `cut` and `Reassembly::take` on the longest peer message, 4,152,298 bytes in 2,966 fragments: megabytes a second, and
+# Measures `cut` and `Reassembly::take` on the longest peer message, 4,152,306 bytes in 2,966 fragments: megabytes a second, and
 # instructions a byte, counted with valgrind's callgrind. Beside them stands a plain copy of the message into fresh memory.
 #
 #   bench/fragments.sh [ROUNDS]
@@ -40,7 +40,7 @@ use std::alloc::Global;
 use std::process::ExitCode;
 use std::time::Instant;
 
-const BYTES: usize = 4_152_298;
+const BYTES: usize = 4_152_306;
 
 fn message(alloc: Global) -> Option<Vec<u8>> {
     let mut bytes = Vec::with_capacity(alloc, BYTES).ok()?;
@@ -173,7 +173,7 @@ import sys
 
 folder, rounds = sys.argv[1], int(sys.argv[2])
 program = folder + "/crates/measured/out/measured"
-size = 4_152_298
+size = 4_152_306
 
 
 def instructions(what, count):

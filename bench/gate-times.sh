@@ -11,7 +11,7 @@
 # A crate has the seconds of all its processes together, each with the last figures that were seen of it, five times a second, and the
 # memory of its largest process. Proof: the crate itself, and what builds a program. Tests: the crate proved once more with its tests, and
 # what builds them. Edits: each must-fail edit. What `rt` does beside them, runs of tests and programs, and checks/*.sh are in the last line alone. Lines of code have
-# the contracts and no tests. `rt selftest`, which proves and builds one example of the toolchain, runs first, and its seconds stand below the
+# the contracts and no tests. Crates that take less than 90 seconds in all stand in one row. `rt selftest`, which proves and builds one example of the toolchain, runs first, and its seconds stand below the
 # table: how fast the machine is by itself.
 set -eu
 
@@ -64,7 +64,7 @@ def watched(seen, top):
         while above in parents and above != top:
             above = parents[above]
         try:
-            words = open(f"/proc/{name}/cmdline", encoding="utf-8").read().split("\0")
+            words = open(f"/proc/{name}/cmdline", encoding="utf-8", errors="replace").read().split("\0")
             where = os.readlink(f"/proc/{name}/cwd")
         except OSError:
             continue
@@ -74,13 +74,19 @@ def watched(seen, top):
 
 
 def table_of(seen, crates):
-    rows, sums = [], [0] * 6
+    rows, small, sums = [], [], [0] * 6
     for crate in crates:
         counts = [lines_of(crate, "src", "rt"), lines_of(crate, "specs", "antt"), lines_of(crate, "proofs", "antt")]
         seconds = [sum(s for key, s, _ in seen.values() if key == (crate, kind)) for kind in ("proof", "edits", "tests")]
         memory = max((m for key, _, m in seen.values() if key[0] == crate), default=0)
         sums = [a + b for a, b in zip(sums, [*counts, *seconds])]
-        rows.append(row(f"`{crate}`", *counts, seconds[0], f"{memory / 2**30:.1f} GB", *seconds[1:]))
+        if sum(seconds) < 90:
+            small.append([*counts, *seconds])
+        else:
+            rows.append(row(f"`{crate}`", *counts, seconds[0], f"{memory / 2**30:.1f} GB", *seconds[1:]))
+    if small:
+        counts = [sum(it) for it in zip(*small)]
+        rows.append(row(f"{len(small)} others", *counts[:4], "", *counts[4:]))
     head = ["| crate | code | specs | proofs | proof, s | peak memory | edits, s | tests, s |", "|---|---|---|---|---|---|---|---|"]
     return "\n".join([*head, *rows, row("all", *sums[:4], "", *sums[4:])])
 
@@ -110,9 +116,12 @@ try:
     crates = [name.strip() for name, colon, _ in lines if colon]
     seen, began, processors = {}, time.time(), len(os.sched_getaffinity(0))
     with open(folder + "/log", "w", encoding="utf-8") as log:
-        words = ["rt", "ci", "--anew", *names]
+        # some kits keep what they proved, unless they are told not to
+        said = subprocess.run(["rt", "help"], capture_output=True, text=True, check=False)
+        anew = ["--anew"] if "--anew" in said.stdout + said.stderr else []
+        words = ["rt", "ci", *anew, *names]
         if not names:
-            words = ["sh", "-c", 'rt ci --anew || exit; for check in checks/*.sh; do "$check" || exit; done']
+            words = ["sh", "-c", f'rt ci {" ".join(anew)} || exit; for check in checks/*.sh; do "$check" || exit; done']
         given = {"RT_JOBS": str(processors), **os.environ}
         gate = subprocess.Popen(words, cwd=tree, env=given, stdin=subprocess.DEVNULL, stdout=log, stderr=log)
         while gate.returncode is None:

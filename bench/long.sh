@@ -52,7 +52,7 @@ for ((i = 0; i < replicas; i++)); do start node --id $i $site; done
 # shellcheck disable=SC2086
 for ((i = 0; i < 2; i++)); do start sequencer --id $i $site; done
 # shellcheck disable=SC2086
-start controller $site
+start controller --id 0 $site
 sleep 0.5
 full=$(overflows)
 stopped=0

@@ -18,28 +18,9 @@ fi
 folder=$(mktemp -d)
 trap 'rm -rf "$folder"' EXIT
 
-schedule() {
-    python3 - "$1" <<'PYTHON'
-import itertools
-import sys
-
-count = int(sys.argv[1])
-lines = ["nopaxos 1 replicas 3 sequencers 1 clients 1"]
-again = []
-for k in range(10):
-    request, stamped, leads, follows = range(4 * k, 4 * k + 4)
-    lines += ["submit c0 5000016b000176", f"deliver {request} s0", f"deliver {stamped} r0"]
-    lines += [f"deliver {stamped} r1", f"deliver {leads} c0", f"deliver {follows} c0"]
-    again += [f"deliver {request} s0", f"deliver {stamped} r0", f"deliver {stamped} r1"]
-    again += [f"deliver {leads} c0", f"deliver {follows} c0"]
-lines += itertools.islice(itertools.cycle(again), max(0, count - len(lines)))
-print("\n".join(lines[:count]))
-PYTHON
-}
-
 # lines, the status that is wanted, and the sum of the transcript
 replays() {
-    schedule "$1" >"$folder/schedule"
+    python3 "$crate/../../bench/replay/steady.py" "$1" requests >"$folder/schedule"
     status=0
     "$program" replay <"$folder/schedule" >"$folder/transcript" || status=$?
     sum=$(sha256sum <"$folder/transcript" | cut -d' ' -f1)
@@ -50,5 +31,5 @@ replays() {
     echo "$1 lines: as wanted"
 }
 
-replays 1000000 0 06abb19e83461d7e89da03a7259ff03eddc2e446457335d284f6e21e8e101d20
-replays 1000001 1 d7946e80d15df00ebd03cf1dfd30dfd077211d5f04ddf16b0c5ae4f6a9cc7368
+replays 1000000 0 3672c9e10da2defecda440bd917aa62a8e658194e9935f8a48791ff4422a27d6
+replays 1000001 1 4f9263089127ccbe877848301324dfa75443eb749dbc156fb1afc651cc9e428e

@@ -6,39 +6,23 @@
 # 62 clients, each with 63 puts at a key of its own and then a get of it: 3,906 puts in one cluster. Each
 # client has to be answered, and to read its own last value. The rate counts all ops and includes the starts of the client
 # processes; then one client of 64 ops less one of 1 op, in a fresh cluster, gives the time of an op without a start.
-# EVENT names what happens in the middle: kill (the leader), install (a controller that installs sequencer 1 in session 10) or stop
-# (a follower stands still for two seconds).
+# EVENT names what happens in the middle: kill (the leader), install (the controller is killed, and another one
+# installs sequencer 1) or stop (a follower stands still for two seconds).
 set -u
 cd "$(dirname "$0")/.." || exit 2
 program=$(realpath "${NOPAXOS:-crates/nopaxos/out/nopaxos}") || exit 2
 [ -x "$program" ] || { echo "no program file $program"; exit 2; }
 replicas=${1:-3}
 lanes=${LANES:-16}
-base=${BASE:-46000}
 event=${EVENT:-none}
-site="--replicas $replicas --sequencers 2 --base $base"
 folder=$(mktemp -d) || exit 2
-pids=()
-stop() {
-    for pid in "${pids[@]}"; do kill "$pid" 2> /dev/null; done
-    for pid in "${pids[@]}"; do wait "$pid" 2> /dev/null; done
-    pids=()
-}
-trap 'stop; rm -rf "$folder"' EXIT
-trap 'exit 130' INT TERM
+. checks/nodes.bash
+nodes_of "$program" --replicas "$replicas" --sequencers 2 --base "${BASE:-46000}"
 
-start() {
-    local name=$1
-    shift
-    "$program" "$@" > "$folder/$name" 2>&1 &
-    pids+=($!)
-}
-
-# shellcheck disable=SC2086
 cluster() {
-    for ((i = 0; i < 2; i++)); do start "s$i" sequencer --id $i $site; done
-    for ((i = 0; i < replicas; i++)); do start "r$i" node --id $i $site; done
-    start ctl controller $site
+    for ((i = 0; i < 2; i++)); do start "s$i" sequencer --id $i; done
+    for ((i = 0; i < replicas; i++)); do start "r$i" node --id $i; done
+    start ctl controller --id 0
     sleep 0.5
 }
 
@@ -61,19 +45,18 @@ lane() {
     done
 }
 
-# shellcheck disable=SC2086
 happen() {
     case $event in
-        kill) kill -9 "${pids[2]}" ;;
+        kill) kills r0 ;;
         install)
-            kill "${pids[$((2 + replicas))]}"
+            kills ctl
+            start ctl1 controller --id 1 --install 1
             sleep 0.2
-            start ctl2 controller $site --session 10 --install 1
             ;;
         stop)
-            kill -STOP "${pids[3]}"
+            kill -STOP "${pids[r1]}"
             sleep 2
-            kill -CONT "${pids[3]}"
+            kill -CONT "${pids[r1]}"
             ;;
     esac
 }

@@ -15,16 +15,7 @@ program=$(realpath "${NOPAXOS:-crates/nopaxos/out/nopaxos}") || exit 2
 [ -x "$program" ] || { echo "no program file $program"; exit 2; }
 base=${BASE:-44000}
 folder=$(mktemp -d) || exit 2
-peer=
-stop() {
-    if [ -n "$peer" ]; then
-        kill "$peer" 2> /dev/null
-        wait "$peer" 2> /dev/null
-    fi
-    rm -rf "$folder"
-}
-trap stop EXIT
-trap 'exit 130' INT TERM
+. checks/nodes.bash
 cc -O1 -Wall -shared -fPIC -o "$folder/refuse.so" bench/refused-memory/refuse.c || exit 2
 failed=0
 
@@ -100,7 +91,7 @@ sweep 'words that are not taken' 2 "$folder/usage" /dev/null node --id 3 --repli
 # ---- nodes
 mkfifo "$folder/held"
 python3 bench/refused-memory/peer.py "$base" < "$folder/held" > "$folder/peer" &
-peer=$!
+pids[peer]=$!
 exec 3> "$folder/held"
 for ((i = 0; i < 50; i++)); do
     [ -s "$folder/peer" ] && break
@@ -119,7 +110,7 @@ echo "$served" > "$folder/served"
         --base $((base + 100)) --turns 2 $put
     sweep 'node' 0 "$folder/served" /dev/null node --id 0 $site --turns 2
     sweep 'sequencer' 0 "$folder/served" /dev/null sequencer --id 0 --replicas 3 --sequencers 1 --base $((base + 100)) --turns 2
-    sweep 'controller, with an install' 0 "$folder/served" /dev/null controller $site --turns 2 --install 0
+    sweep 'controller, with an install' 0 "$folder/served" /dev/null controller --id 0 $site --turns 2 --install 0
 }
 
 # ---- all actors in one process
@@ -132,8 +123,8 @@ deliver 2 c0
 transcript 1 replicas 1 sequencers 1 clients 1
 submit c0 1 $put
 send 0 c0 s* request 25
-send 1 s0 r* stamped 37
-send 2 r0 c0 reply 36
+send 1 s0 r* stamped 41
+send 2 r0 c0 reply 40
 accept c0 1 6e6f6e65
 replica r0 up normal 0 1 1 0
 history 1 c0 1 $put

@@ -21,28 +21,9 @@ fi
 folder=$(mktemp -d)
 trap 'rm -rf "$folder"' EXIT
 
-# Ten puts of one client, one after the other; from then on each line delivers again what was delivered.
-schedule() {
-    python3 - "$1" <<'PYTHON'
-import itertools
-import sys
-
-count = int(sys.argv[1])
-lines = ["nopaxos 1 replicas 3 sequencers 1 clients 1"]
-again = []
-for k in range(10):
-    request, stamped, leads, follows = range(4 * k, 4 * k + 4)
-    lines += ["submit c0 5000016b000176", f"deliver {request} s0", f"deliver {stamped} r0"]
-    lines += [f"deliver {stamped} r1", f"deliver {leads} c0", f"deliver {follows} c0"]
-    again += [f"deliver {stamped} r0", f"deliver {stamped} r1", f"deliver {leads} c0", f"deliver {follows} c0"]
-lines += itertools.islice(itertools.cycle(again), max(0, count - len(lines)))
-print("\n".join(lines[:count]))
-PYTHON
-}
-
 echo "lines instructions instructions/line seconds events/second peak-KiB"
 for lines in "$@"; do
-    schedule "$lines" >"$folder/schedule"
+    python3 "$crate/../../bench/replay/steady.py" "$lines" >"$folder/schedule"
     valgrind --tool=callgrind --callgrind-out-file="$folder/out" "$program" replay \
         <"$folder/schedule" >/dev/null 2>"$folder/log"
     counted=$(sed -n 's/.*Collected : \([0-9]*\).*/\1/p' "$folder/log")

@@ -8,23 +8,9 @@ needs "${NOPAXOS:-}" nopaxos -- replay
 nopaxos=$program
 needs "" kv_call
 
+. checks/nodes.bash
 base=$((20000 + $$ % 2000 * 20))
-site="--replicas 3 --sequencers 1 --base $base"
-declare -A pids=()
-stop() {
-    for pid in "${pids[@]}"; do kill "$pid" 2> /dev/null; done
-    rm -rf "$folder"
-}
-trap stop EXIT
-
-# start NAME WORDS..: a node.
-start() {
-    local name=$1
-    shift
-    # shellcheck disable=SC2086
-    "$nopaxos" "$@" $site > "$folder/$name" 2>&1 &
-    pids[$name]=$!
-}
+nodes_of "$nopaxos" --replicas 3 --sequencers 1 --base "$base"
 
 # ends STATUS WANTED ARGUMENTS..: the program ends with this status, and writes what is wanted.
 ends() {
@@ -56,15 +42,14 @@ called() {
 
 start s0 sequencer --id 0
 for i in 0 1 2; do start "r$i" node --id $i; done
-start ctl controller
+start ctl controller --id 0
 sleep 0.5
 called 0 none put k v
 called 1 '=v' get k
 called 2 yes compare-and-set k v 0x00
 called 3 no compare-and-set k v w
 fails "$base" 3 1 4 20000 put k x
-{ kill -9 "${pids[r0]}" && wait "${pids[r0]}"; } 2> /dev/null
-unset 'pids[r0]'
+kills r0
 called 5 '=x' get k
 called 6 yes compare-and-set k x 0x206b
 called 4294967295 '=0x206b' delete k

@@ -66,11 +66,12 @@ grep -qx 'accept c0 1 6772616e7465640000000000000001' "$folder/out" || differs "
 runs docs/OWN-SERVICE.md 'crates/lock_spacetime/out/lock_spacetime < crates/lock_service/stdin > my.svg'
 is_picture
 
-# A cluster of processes, whose leader is killed: three clients put and get, and the last reads its own value.
+# A cluster of processes, whose leader is killed, and then its sequencer and a controller: four clients put and get, and the last reads
+# its own value.
 made=$((made + 1))
 if examples/cluster.sh > "$folder/out" 2> "$folder/err"; then
-    [ "$(grep -c '^status 0$' "$folder/out")" = 3 ] || differs "not each client of examples/cluster.sh ends with status 0"
-    grep -qx 'accept c2 2 3d78' "$folder/out" && grep -qx 'answer: =x' "$folder/out" ||
+    [ "$(grep -c '^status 0$' "$folder/out")" = 4 ] || differs "not each client of examples/cluster.sh ends with status 0"
+    grep -qx 'accept c3 2 3d79' "$folder/out" && grep -qx 'answer: =y' "$folder/out" ||
         differs "the last client of examples/cluster.sh reads another value"
 else
     differs "examples/cluster.sh ends with status $?: $(tail -n 3 "$folder/err")"

@@ -24,6 +24,23 @@ differs() {
     wrong=$((wrong + 1))
 }
 
+# same NAME STATUS WANTED_STATUS WANTED [err]: what a process wrote lies in out, and on standard error in err; it is WANTED in the one, or with
+# a last word in that one, and nothing in the other.
+same() {
+    local has=${5:-out} other=err
+    [ "$has" = out ] || other=out
+    made=$((made + 1))
+    if [ "$2" != "$3" ]; then
+        differs "$1: status $2 and not $3"
+    elif [ "$(cat "$folder/$has")" != "$4" ]; then
+        differs "$1: in $has '$(head -c 300 "$folder/$has")' and not '$4'"
+    elif [ -s "$folder/$other" ]; then
+        differs "$1: in $other '$(head -c 300 "$folder/$other")'"
+    fi
+    : > "$folder/out"
+    : > "$folder/err"
+}
+
 # concludes: says how many were looked at, and ends with status 1 where one differs.
 concludes() {
     if [ "$wrong" != 0 ]; then

@@ -7,13 +7,16 @@
 . "$(dirname "$0")/common.bash" || exit 2
 needs "${NOPAXOS:-}" nopaxos -- replay
 
-# begins NAME REPLICAS SEQUENCERS CLIENTS: a schedule, of which nothing was sent.
+# begins NAME REPLICAS SEQUENCERS CLIENTS [CONTROLLERS]: a schedule, of which nothing was sent. Its header has the form without controllers
+# where there is one.
 begins() {
+    local group="1 replicas $2 sequencers $3 clients $4"
+    [ $# = 4 ] || group="2 replicas $2 sequencers $3 clients $4 controllers $5"
     name=$1
     sent=0
     exec 3> "$folder/schedule" 4> "$folder/transcript"
-    event "nopaxos 1 replicas $2 sequencers $3 clients $4"
-    line "transcript 1 replicas $2 sequencers $3 clients $4"
+    event "nopaxos $group"
+    line "transcript $group"
 }
 
 # event LINE: one more line of the schedule.
@@ -75,13 +78,13 @@ asks() {
     line "submit c0 $1 $get"
     sends c0 's*' request 22
     event "deliver $((sent - 1)) s0"
-    sends s0 'r*' stamped 34
+    sends s0 'r*' stamped 38
     event "deliver $((sent - 1)) r0"
 }
 
 # answers ID: the replica replies, and the client accepts.
 answers() {
-    sends r0 c0 reply 36
+    sends r0 c0 reply 40
     event "deliver $((sent - 1)) c0"
     line "accept c0 $1 6e6f6e65"
 }
@@ -96,7 +99,7 @@ for ((slot = 1; slot <= 4096; slot++)); do
 done
 asks 4097
 event 'tick r0 suspect'
-for ((slot = 1; slot <= 4096; slot++)); do sends r0 c0 reply 36; done
+for ((slot = 1; slot <= 4096; slot++)); do sends r0 c0 reply 40; done
 event 'tick r0 sync'
 answers 4097
 asks 4098
@@ -122,16 +125,16 @@ done
 # Number n is datagram 15 + n, and has the request of client (n - 1) % 16.
 for ((n = 1; n <= 4097; n++)); do
     event "deliver $(((n - 1) % 16)) s0"
-    sends s0 'r*' stamped 37
+    sends s0 'r*' stamped 41
 done
 event 'deliver 17 r0'
-sends r0 'r*' fragment 31
+sends r0 'r*' fragment 35
 delivers 18 1041 r0
 event "deliver $((sent - 1)) r1"
-sends r1 r0 fragment 31
+sends r1 r0 fragment 35
 event "deliver $((sent - 1)) r0"
 # The first put found nothing, and the others v. It is that of client 1, in slot 2.
-lengths=(34 36 34 34 34 34 34 34 34 34 34 34 34 34 34 34)
+lengths=(38 40 38 38 38 38 38 38 38 38 38 38 38 38 38 38)
 for ((n = 2; n <= 1025; n++)); do
     c=$(((n - 1) % 16))
     sends r0 "c$c" reply "${lengths[c]}"
@@ -145,23 +148,23 @@ event 'deliver 4112 r0'
 # A log of a NO-OP and 4,095 puts, in 65 fragments.
 event 'tick r0 sync'
 first=$sent
-tells r0 'r*' $((18 + 1 + 4095 * 22))
+tells r0 'r*' $((22 + 1 + 4095 * 22))
 last=$((sent - 1))
 for follower in r2 r1; do
     delivers "$first" "$last" "$follower"
-    for ((n = 2; n <= 4096; n++)); do sends "$follower" "c$(((n - 1) % 16))" reply 32; done
-    sends "$follower" r0 fragment 31
+    for ((n = 2; n <= 4096; n++)); do sends "$follower" "c$(((n - 1) % 16))" reply 36; done
+    sends "$follower" r0 fragment 35
     vote[${follower#r}]=$((sent - 1))
 done
 delivers "$first" "$last" r1
-sends r1 r0 fragment 31
+sends r1 r0 fragment 35
 event 'deliver 4112 r2'
 event "deliver ${vote[2]} r0"
 commit=$sent
-sends r0 'r*' fragment 31
-sends r0 c0 reply 34
+sends r0 'r*' fragment 35
+sends r0 c0 reply 38
 event "deliver $commit r2"
-sends r2 c0 reply 32
+sends r2 c0 reply 36
 event "deliver ${vote[1]} r0"
 for replica in 0 1 2; do
     if [ "$replica" = 1 ]; then
@@ -185,26 +188,26 @@ line "submit c0 1 $big"
 sends c0 's*' request 658
 for ((n = 1; n <= 4096; n++)); do
     event 'deliver 0 s0'
-    sends s0 'r*' stamped 670
+    sends s0 'r*' stamped 674
 done
 for follower in r1 r2; do
     delivers 1 4096 "$follower"
-    for ((n = 1; n <= 4096; n++)); do sends "$follower" c0 reply 32; done
+    for ((n = 1; n <= 4096; n++)); do sends "$follower" c0 reply 36; done
 done
 event 'tick r1 suspect'
-sends r1 'r*' fragment 27
+sends r1 'r*' fragment 31
 event "deliver $((sent - 1)) r2"
-sends r2 'r*' fragment 27
+sends r2 'r*' fragment 31
 first=$sent
-tells r2 r1 $((34 + 4096 * 655))
+tells r2 r1 $((42 + 4096 * 655))
 delivers "$first" $((sent - 1)) r1
 first=$sent
-tells r1 'r*' $((26 + 4096 * 655))
+tells r1 'r*' $((30 + 4096 * 655))
 last=$((sent - 1))
-for ((n = 1; n <= 4096; n++)); do sends r1 c0 reply 35; done
+for ((n = 1; n <= 4096; n++)); do sends r1 c0 reply 39; done
 for follower in r2 r0; do
     delivers "$first" "$last" "$follower"
-    for ((n = 1; n <= 4096; n++)); do sends "$follower" c0 reply 32; done
+    for ((n = 1; n <= 4096; n++)); do sends "$follower" c0 reply 36; done
 done
 for replica in 0 1 2; do line "replica r$replica up normal 1 1 4096 0"; done
 line "history 1 c0 1 $big"
@@ -227,51 +230,51 @@ reaches() {
     line "submit c0 $1 ${puts[$1]}"
     sends c0 's*' request 343
     event "deliver $((sent - 1)) s0"
-    sends s0 'r*' stamped 355
+    sends s0 'r*' stamped 359
     stamped=$((sent - 1))
     event "deliver $stamped r0"
-    sends r0 c0 reply 36
+    sends r0 c0 reply 40
     event "deliver $stamped $2"
 }
 for ((id = 1; id <= 4096; id++)); do
     reaches "$id" r1
-    sends r1 c0 reply 32
+    sends r1 c0 reply 36
     delivers $((sent - 2)) $((sent - 1)) c0
     line "accept c0 $id 6e6f6e65"
 done
 event 'tick r0 sync'
 first=$sent
-tells r0 'r*' $((18 + 4096 * 340))
+tells r0 'r*' $((22 + 4096 * 340))
 delivers "$first" $((sent - 1)) r1
-sends r1 r0 fragment 31
+sends r1 r0 fragment 35
 event "deliver $((sent - 1)) r0"
-sends r0 'r*' fragment 31
+sends r0 'r*' fragment 35
 event "deliver $((sent - 1)) r1"
 reaches 4097 r2
 reply=$((sent - 1))
-sends r2 r0 fragment 31
+sends r2 r0 fragment 35
 event "deliver $((sent - 1)) r0"
 checkpoint=$((4 + (4 + 4096 * (2 + 64 + 2 + 256)) + 4 + 18))
 first=$sent
-tells r0 r2 $((18 + checkpoint))
+tells r0 r2 $((22 + checkpoint))
 delivers "$first" $((sent - 1)) r2
-sends r2 r0 fragment 31
-sends r2 c0 reply 32
+sends r2 r0 fragment 35
+sends r2 c0 reply 36
 event "deliver $((sent - 1)) c0"
 event "deliver $reply c0"
 line 'accept c0 4097 66756c6c'
 event 'tick r2 suspect'
-sends r2 'r*' fragment 27
-tells r2 r1 $((34 + checkpoint + 340))
+sends r2 'r*' fragment 31
+tells r2 r1 $((42 + checkpoint + 340))
 event 'tick r2 suspect'
-sends r2 'r*' fragment 27
+sends r2 'r*' fragment 31
 event "deliver $((sent - 1)) r1"
-sends r1 'r*' fragment 27
+sends r1 'r*' fragment 31
 first=$sent
-tells r1 r2 $((34 + checkpoint))
+tells r1 r2 $((42 + checkpoint))
 delivers "$first" $((sent - 1)) r2
-tells r2 'r*' $((26 + checkpoint + 340))
-sends r2 c0 reply 36
+tells r2 'r*' $((30 + checkpoint + 340))
+sends r2 c0 reply 40
 event "deliver $((sent - 1)) c0"
 for replica in 0 1 2; do
     case $replica in
@@ -284,71 +287,72 @@ done
 for ((id = 1; id <= 4097; id++)); do line "history $id c0 $id ${puts[id]}"; done
 same
 
-# ---- The greatest group: seven replicas, four sequencers, sixteen clients. The last client puts the longest value at the longest key,
-# twice. Sequencer 3 gets the next session, and stamps the longest op, which is no op of the service. The sequencer's packet brings a
-# view change, for which the leader waits for four logs.
+# ---- The greatest group: seven replicas, four sequencers, sixteen clients, four controllers. The last client puts the longest value at the
+# longest key, twice. Controller 3 gives sequencer 3 the first session of its first epoch, and that one stamps the longest op, which is no op
+# of the service. The sequencer's packet brings a view change, for which the leader waits for four logs.
+session=$((3 * 2 ** 32 + 1))
 put=500040$(bytes 6b 64)0100$(bytes 76 256)
-begins 'the greatest group' 7 4 16
+begins 'the greatest group' 7 4 16 4
 for id in 1 2; do
     event "submit c15 $put"
     line "submit c15 $id $put"
     sends c15 's*' request 343
     event "deliver $((sent - 1)) s0"
-    sends s0 'r*' stamped 355
+    sends s0 'r*' stamped 359
     stamped=$((sent - 1))
     event "deliver $stamped r0"
     # none, and then the value
-    if [ "$id" = 1 ]; then sends r0 c15 reply 36; else sends r0 c15 reply 289; fi
+    if [ "$id" = 1 ]; then sends r0 c15 reply 40; else sends r0 c15 reply 293; fi
     for replica in r1 r2 r3 r4 r5 r6; do
         event "deliver $stamped $replica"
-        sends "$replica" c15 reply 32
+        sends "$replica" c15 reply 36
     done
     delivers $((stamped + 2)) $((stamped + 4)) c15
     event "deliver $((stamped + 1)) c15"
     if [ "$id" = 1 ]; then line 'accept c15 1 6e6f6e65'; else line "accept c15 2 3d$(bytes 76 256)"; fi
 done
-event 'install s3'
-sends ctl s3 install 9
+event 'install s3 ctl3'
+sends ctl3 s3 install 14
 event 'deliver 18 s3'
-sends s3 ctl installed 9
+sends s3 ctl3 installed 14
 event "submit c0 $big"
 line "submit c0 1 $big"
 sends c0 's*' request 658
 event 'deliver 20 s3'
-sends s3 'r*' stamped 670
+sends s3 'r*' stamped 674
 # Each change has both puts.
 event 'deliver 21 r6'
-sends r6 'r*' fragment 27
-tells r6 r0 $((34 + 2 * 340))
+sends r6 'r*' fragment 31
+tells r6 r0 $((42 + 2 * 340))
 for replica in r1 r2 r3 r4 r5; do
     event "deliver 22 $replica"
-    sends "$replica" 'r*' fragment 27
-    tells "$replica" r0 $((34 + 2 * 340))
+    sends "$replica" 'r*' fragment 31
+    tells "$replica" r0 $((42 + 2 * 340))
 done
 event 'deliver 23 r0'
-sends r0 'r*' fragment 27
+sends r0 'r*' fragment 31
 event 'deliver 25 r0'
 event 'deliver 27 r0'
-tells r0 'r*' $((26 + 2 * 340))
+tells r0 'r*' $((30 + 2 * 340))
 start=$((sent - 1))
-sends r0 c15 reply 36
-sends r0 c15 reply 289
+sends r0 c15 reply 40
+sends r0 c15 reply 293
 # Replica 6 has the packet of the new session already.
 for replica in r6 r1 r2; do
     event "deliver $start $replica"
-    sends "$replica" c15 reply 32
-    sends "$replica" c15 reply 32
+    sends "$replica" c15 reply 36
+    sends "$replica" c15 reply 36
     [ "$replica" = r6 ] || event "deliver 21 $replica"
-    sends "$replica" c0 reply 32
+    sends "$replica" c0 reply 36
     event "deliver $((sent - 1)) c0"
 done
 event 'deliver 21 r0'
-sends r0 c0 reply 35
+sends r0 c0 reply 39
 event "deliver $((sent - 1)) c0"
 line 'accept c0 1 626164'
-for replica in 0 1 2; do line "replica r$replica up normal 0 2 3 0"; done
-for replica in 3 4 5; do line "replica r$replica up change 0 2 2 0"; done
-line 'replica r6 up normal 0 2 3 0'
+for replica in 0 1 2; do line "replica r$replica up normal 0 $session 3 0"; done
+for replica in 3 4 5; do line "replica r$replica up change 0 $session 2 0"; done
+line "replica r6 up normal 0 $session 3 0"
 line "history 1 c15 1 $put"
 line "history 2 c15 2 $put"
 line "history 3 c0 1 $big"

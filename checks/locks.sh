@@ -24,14 +24,9 @@ results() {
     sed -n 's/^accept [^ ]* [^ ]* //p' "$1" | while read -r result; do echo "$("$lock_ops" result "$result");"; done | xargs
 }
 
+. checks/nodes.bash
 base=$((20000 + $$ % 2000 * 20))
-site="--replicas 3 --sequencers 1 --base $base"
-declare -A pids=()
-stop() {
-    for pid in "${pids[@]}"; do kill "$pid" 2> /dev/null; done
-    rm -rf "$folder"
-}
-trap stop EXIT
+nodes_of "$program" --replicas 3 --sequencers 1 --base "$base"
 
 # ends NAME WANTED_STATUS WANTED WORDS..: the program is run with these words, and writes what is wanted.
 ends() {
@@ -43,15 +38,6 @@ ends() {
     if [ "$status" != "$wanted" ] || [ "$(cat "$folder/out")" != "$text" ] || [ -s "$folder/err" ]; then
         differs "$name: status $status, '$(head -c 300 "$folder/out")', and on standard error '$(head -c 300 "$folder/err")'"
     fi
-}
-
-# start NAME WORDS..: a node.
-start() {
-    local name=$1
-    shift
-    # shellcheck disable=SC2086
-    "$program" "$@" $site > "$folder/$name" 2>&1 &
-    pids[$name]=$!
 }
 
 # answered CLIENT ANSWERS OPS..: a new client is answered so.
@@ -73,9 +59,9 @@ sed "s/^accept c1 2 .*/accept c1 2 6772616e7465640000000000000001/" crates/lock_
 ends 'a token that is granted again' 8 'refuted line 31 clause 5' check < "$folder/changed"
 # Nothing that is counted depends on the answers, so it is what the key-value store gives.
 ends 'the longest drawn schedule' 0 'gen 7 100000
-sends 40214 accepts 36
-view 222 381 length 293 noops 126
-history 39' gen 7 100000
+sends 37609 accepts 25
+view 197 360 length 304 noops 117
+history 29' gen 7 100000
 
 # ---- a cluster: its schedule replays to its transcript, which is legal
 made=$((made + 1))
@@ -90,12 +76,10 @@ ends 'the transcript of the cluster' 0 'legal 4 4 4' check < "$folder/transcript
 # ---- nodes
 start s0 sequencer --id 0
 for i in 0 1 2; do start "r$i" node --id $i; done
-start ctl controller
+start ctl controller --id 0
 sleep 0.5
 answered 0 'granted 1;' "$ann"
-kill -9 "${pids[r0]}"
-wait "${pids[r0]}" 2> /dev/null
-unset 'pids[r0]'
+kills r0
 answered 1 'held 1 ann;' "$bob"
 answered 2 'released;' "$release"
 answered 3 'granted 2; held 2 bob;' "$bob" "$inspect"

@@ -16,6 +16,7 @@ nop_types MAX_SERVED 256
 nop_types WINDOW 1
 nop_types MAX_SLOTS 4096
 nop_types MAX_LENGTH 4_294_967_295
+nop_types EPOCH_STEP 4
 nop_types NUMBER_END 281_474_976_710_656
 nop_types MAX_QUEUED 1024
 nop_types MAX_FRAGMENTS 4096
@@ -24,12 +25,13 @@ nop_types MAX_UNFINISHED 4
 nop_types MAX_DATAGRAM_BYTES 1500
 nop_types MAX_REPLICAS 7
 nop_types MAX_SEQUENCERS 4
+nop_types MAX_CONTROLLERS 4
 nop_types MAX_CLIENTS 16
 nop_types MAX_LINE_BYTES 4096
 nop_types MAX_LINES 1_000_000
 nop_types FIRST_MAGIC 0x4e
 nop_types SECOND_MAGIC 0x4f
-nop_types VERSION 2
+nop_types VERSION 3
 nop_types REQUEST 1
 nop_types STAMPED 2
 nop_types REPLY 3
@@ -77,6 +79,7 @@ END
 # apart: constants whose number no definition names and no user meets (how much is gathered or reserved), or that are made of others.
 apart() {
     cat << 'END'
+session_control PART_END
 peer_codec HEAD_BYTES
 peer_codec SENDER_AT
 peer_codec LEAST_CLIENT

@@ -78,7 +78,7 @@ shows 1 '#2 =0x00ff20'
 shows 1 'put k abcdefghijkl'
 shows 1 '#3 =abcdefghijk..'
 
-# a log of three requests with ops of 640 bytes: 1,979 bytes in two fragments to each follower, neither of which is delivered
+# a log of three requests with ops of 640 bytes: 1,987 bytes in two fragments to each follower, neither of which is delivered
 big=$(printf 'ff%.0s' $(seq 640))
 drawn 'fragments of a longer message' 'nopaxos 1 replicas 3 sequencers 1 clients 3' "submit c0 $big" "submit c1 $big" "submit c2 $big" \
     'deliver 0 s0' 'deliver 1 s0' 'deliver 2 s0' 'deliver 3 r0' 'deliver 4 r0' 'deliver 5 r0' 'tick r0 sync'
@@ -113,6 +113,15 @@ shows 2 'view (2,2) starts'
 drawn 'a change of view within a session' "$two" 'tick r1 suspect' 'deliver 0 r2' 'deliver 2 r1' 'deliver 3 r2'
 shows 2 'enters view (1,1)'
 shows 2 'view (1,1) starts'
+
+# controller 1 gives sequencer 0 the first session of its first epoch, and the one replica follows
+drawn 'a session of a second controller' 'nopaxos 2 replicas 1 sequencers 1 clients 1 controllers 2' 'install s0 ctl1' 'deliver 0 s0' \
+    'submit c0 4700016b' 'deliver 2 s0' 'deliver 3 r0'
+shows 1 ctl1
+shows 0 ctl
+shows 1 'session 1.1 at s0'
+shows 1 'stamped 1.1:1 c0#1'
+shows 1 'view (0,1.1) starts'
 
 name='a datagram that was not sent'
 printf '%s\n' "$two" 'submit c0 4700016b' 'deliver 7 s0' | "$program" > "$folder/out" 2> "$folder/err"

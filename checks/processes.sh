@@ -14,20 +14,6 @@ usage='usage: nopaxos replay | gen | node | sequencer | controller | client | cl
 server=
 trap '[ -z "$server" ] || kill "$server" 2> /dev/null; rm -rf "$folder"' EXIT
 
-# same NAME STATUS WANTED_STATUS WANTED_OUTPUT: what a process wrote lies in out, and on standard error in err.
-same() {
-    made=$((made + 1))
-    if [ "$2" != "$3" ]; then
-        differs "$1: status $2 and not $3"
-    elif [ "$(cat "$folder/out")" != "$4" ]; then
-        differs "$1: it wrote '$(head -c 300 "$folder/out")' and not '$4'"
-    elif [ -s "$folder/err" ]; then
-        differs "$1: on standard error '$(head -c 300 "$folder/err")'"
-    fi
-    : > "$folder/out"
-    : > "$folder/err"
-}
-
 # answered NAME WANTED: the process that is running writes this and no more, within ten seconds.
 answered() {
     made=$((made + 1))
@@ -72,8 +58,8 @@ send 0 c0 s* request 25"
 answered 'the other half' "$answers"
 printf 'deliver 0 s0\ndeliver 1 r0\n' >&3
 answers="$answers
-send 1 s0 r* stamped 37
-send 2 r0 c0 reply 36"
+send 1 s0 r* stamped 41
+send 2 r0 c0 reply 40"
 answered 'two lines at once' "$answers"
 echo 'deliver 9 r0' >&3
 wait "$server"
@@ -103,9 +89,9 @@ same 'a schedule drawn twice' $? 0 "$(cat "$folder/whole")"
 # As two other programs for the same protocol have it.
 "$program" gen 7 100000 > "$folder/out" 2> "$folder/err"
 same 'the longest schedule' $? 0 'gen 7 100000
-sends 40214 accepts 36
-view 222 381 length 293 noops 126
-history 39'
+sends 37609 accepts 25
+view 197 360 length 304 noops 117
+history 29'
 "$program" gen 7 1 > /dev/full 2> "$folder/err"
 same 'a summary on a full disk' $? 4 ''
 
@@ -117,6 +103,9 @@ for words in '' 'stop' 'replay replay' 'gen 1 0' 'gen 1 100001' 'node' 'node --h
     'node --id 3 --replicas 3 --sequencers 1' \
     'node --id 0 --replicas 2 --sequencers 1' \
     'node --id 0 --replicas 3 --sequencers 1 --base 65001' \
+    'controller --replicas 3 --sequencers 1' \
+    'controller --id 4 --replicas 3 --sequencers 1' \
+    'controller --id 0 --replicas 3 --sequencers 1 --session 2' \
     'client --id 0 --replicas 3 --sequencers 1' \
     'client --id 0 --replicas 3 --sequencers 1 5x' \
     "client --id 0 --replicas 3 --sequencers 1 ${big}78" \
@@ -149,7 +138,7 @@ same 'a verdict on a full disk' $? 4 ''
 {
     "$program" sequencer --id 0 $site --turns 3 > "$folder/out" 2> "$folder/err"
     same 'a sequencer' $? 0 'served 3 lost 0'
-    "$program" controller $site --install 0 --turns 2 > "$folder/out" 2> "$folder/err"
+    "$program" controller --id 3 $site --install 0 --turns 2 > "$folder/out" 2> "$folder/err"
     same 'a controller' $? 0 'served 2 lost 0'
     "$program" node --id 2 $site --turns 2 > "$folder/out" 2> "$folder/err"
     same 'a replica' $? 0 'served 2 lost 0'

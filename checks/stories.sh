@@ -59,19 +59,6 @@ drawn() {
     fi
 }
 
-# same NAME STATUS WANTED_STATUS WANTED_LINE: nothing was drawn, and standard error has the one line.
-same() {
-    made=$((made + 1))
-    if [ "$2" != "$3" ]; then
-        differs "$1: status $2 and not $3"
-    elif [ "$(cat "$folder/err")" != "$4" ]; then
-        differs "$1: on standard error '$(head -c 300 "$folder/err")' and not '$4'"
-    elif [ -s "$folder/out" ]; then
-        differs "$1: it wrote '$(head -c 300 "$folder/out")'"
-    fi
-    : > "$folder/out"
-}
-
 draw=0
 if [ "${1:-}" = --draw ]; then draw=1; fi
 for story in examples/*.md; do
@@ -84,20 +71,20 @@ done
 : > "$folder/out"
 
 "$program" < /dev/null > "$folder/out" 2> "$folder/err"
-same 'no bytes' $? 1 'error line 1 rule 3'
+same 'no bytes' $? 1 'error line 1 rule 3' err
 "$program" < examples/deliver-before-sent.schedule > "$folder/out" 2> "$folder/err"
-same 'a datagram that was not sent' $? 1 "$(tail -n 1 examples/deliver-before-sent.transcript)"
+same 'a datagram that was not sent' $? 1 "$(tail -n 1 examples/deliver-before-sent.transcript)" err
 "$program" < examples/junk-spells-a-datagram.schedule > "$folder/out" 2> "$folder/err"
-same 'junk that spells a datagram' $? 1 "$(tail -n 1 examples/junk-spells-a-datagram.transcript)"
+same 'junk that spells a datagram' $? 1 "$(tail -n 1 examples/junk-spells-a-datagram.transcript)" err
 "$program" --help < /dev/null > "$folder/out" 2> "$folder/err"
-same 'a word' $? 2 'usage: spacetime < SCHEDULE > PICTURE'
+same 'a word' $? 2 'usage: spacetime < SCHEDULE > PICTURE' err
 "$program" < "$folder" > "$folder/out" 2> "$folder/err"
-same 'a folder as input' $? 3 'error reading the schedule'
+same 'a folder as input' $? 3 'error reading the schedule' err
 "$program" < examples/one-put.schedule > /dev/full 2> "$folder/err"
-same 'a full disk' $? 4 'error writing the picture'
+same 'a full disk' $? 4 'error writing the picture' err
 "$locks" < examples/deliver-before-sent.schedule > "$folder/out" 2> "$folder/err"
-same 'locks, a datagram that was not sent' $? 1 "$(tail -n 1 examples/deliver-before-sent.transcript)"
+same 'locks, a datagram that was not sent' $? 1 "$(tail -n 1 examples/deliver-before-sent.transcript)" err
 "$locks" --help < /dev/null > "$folder/out" 2> "$folder/err"
-same 'locks, a word' $? 2 'usage: lock_spacetime < SCHEDULE > PICTURE'
+same 'locks, a word' $? 2 'usage: lock_spacetime < SCHEDULE > PICTURE' err
 
 concludes

@@ -22,13 +22,13 @@ enum Entry {
 }
 
 enum Datagram {
-    Stamped { session: u32, number: u64, request: Request },
+    Stamped { session: u64, number: u64, request: Request },
     Fragment { replica: u8, message: u64, index: u16, count: u16, payload: Vec<u8> },
 }
 
 struct StartView {
     sender: u8,
-    view: (u32, u32),
+    view: (u32, u64),
     next: u64,
     sync_point: u32,
     log: Vec<Entry>,
@@ -36,8 +36,8 @@ struct StartView {
 
 struct ViewChange {
     sender: u8,
-    view: (u32, u32),
-    last_normal: (u32, u32),
+    view: (u32, u64),
+    last_normal: (u32, u64),
     next: u64,
     sync_point: u32,
     log: Vec<Entry>,
@@ -50,7 +50,7 @@ enum Message {
 
 struct Reply {
     replica: u8,
-    view: (u32, u32),
+    view: (u32, u64),
     slot: u32,
     client: u32,
     id: u64,
@@ -81,9 +81,9 @@ fn split_u64(bytes: &[u8]) -> Option<(u64, &[u8])> {
     split(bytes).map(|(front, rest)| (u64::from_be_bytes(front), rest))
 }
 
-fn split_view(bytes: &[u8]) -> Option<((u32, u32), &[u8])> {
+fn split_view(bytes: &[u8]) -> Option<((u32, u64), &[u8])> {
     let (leader, rest) = split_u32(bytes)?;
-    let (session, rest) = split_u32(rest)?;
+    let (session, rest) = split_u64(rest)?;
     (session > 0).then_some(((leader, session), rest))
 }
 
@@ -99,11 +99,11 @@ fn split_request(bytes: &[u8]) -> Option<(Request, &[u8])> {
 }
 
 fn decode(bytes: &[u8]) -> Option<Datagram> {
-    let ([b'N', b'O', 2, kind], rest) = split(bytes)? else {
+    let ([b'N', b'O', 3, kind], rest) = split(bytes)? else {
         return None;
     };
     if kind == 2 {
-        let (session, rest) = split_u32(rest)?;
+        let (session, rest) = split_u64(rest)?;
         let (number, rest) = split_u64(rest)?;
         let (request, rest) = split_request(rest)?;
         let fits = session > 0 && 0 < number && number < 1 << 48 && rest.is_empty();
@@ -171,7 +171,7 @@ fn encode_start_view(message: &StartView) -> Vec<u8> {
         Entry::NoOp => 1,
         Entry::Req(request) => 15 + request.op.len(),
     };
-    let mut to = Vec::with_capacity(26 + message.log.iter().map(len).sum::<usize>());
+    let mut to = Vec::with_capacity(30 + message.log.iter().map(len).sum::<usize>());
     to.push(22);
     to.push(message.sender);
     to.extend_from_slice(&message.view.0.to_be_bytes());
@@ -199,7 +199,7 @@ fn cut(sender: u8, message: u64, bytes: &[u8], out: &mut Vec<Vec<u8>>) {
     let count = parts.len() as u16;
     for (index, part) in parts.enumerate() {
         let mut to = Vec::with_capacity(17 + part.len());
-        to.extend_from_slice(b"NO\x02\x08");
+        to.extend_from_slice(b"NO\x03\x08");
         to.push(sender);
         to.extend_from_slice(&message.to_be_bytes());
         to.extend_from_slice(&(index as u16).to_be_bytes());
@@ -210,8 +210,8 @@ fn cut(sender: u8, message: u64, bytes: &[u8], out: &mut Vec<Vec<u8>>) {
 }
 
 fn encode(reply: &Reply) -> Vec<u8> {
-    let mut to = Vec::with_capacity(32 + reply.result.len());
-    to.extend_from_slice(b"NO\x02\x03");
+    let mut to = Vec::with_capacity(36 + reply.result.len());
+    to.extend_from_slice(b"NO\x03\x03");
     to.push(reply.replica);
     to.extend_from_slice(&reply.view.0.to_be_bytes());
     to.extend_from_slice(&reply.view.1.to_be_bytes());
@@ -226,9 +226,9 @@ fn encode(reply: &Reply) -> Vec<u8> {
 
 struct Replica {
     number: u8,
-    view: (u32, u32),
+    view: (u32, u64),
     is_normal: bool,
-    last_normal: (u32, u32),
+    last_normal: (u32, u64),
     messages: u64,
     next: u64,
     sync_point: u32,
@@ -416,7 +416,7 @@ fn request(number: u32, to: &mut Vec<u8>) {
 }
 
 fn stamped(number: u32) -> Vec<u8> {
-    let mut to = b"NO\x02\x02\0\0\0\x01".to_vec();
+    let mut to = b"NO\x03\x02\0\0\0\0\0\0\0\x01".to_vec();
     to.extend_from_slice(&u64::from(number).to_be_bytes());
     request(number, &mut to);
     to
@@ -424,7 +424,7 @@ fn stamped(number: u32) -> Vec<u8> {
 
 /// The fragments of replica 2's ViewChange to view (1, 1).
 fn view_change(entries: u32) -> Vec<Vec<u8>> {
-    let mut bytes = b"\x15\x02\0\0\0\x01\0\0\0\x01\0\0\0\0\0\0\0\x01".to_vec();
+    let mut bytes = b"\x15\x02\0\0\0\x01\0\0\0\0\0\0\0\x01\0\0\0\0\0\0\0\0\0\0\0\x01".to_vec();
     bytes.extend_from_slice(&u64::from(entries + 1).to_be_bytes());
     log(entries, &mut bytes);
     let mut fragments = Vec::new();
@@ -434,7 +434,7 @@ fn view_change(entries: u32) -> Vec<Vec<u8>> {
 
 /// The fragments of replica 1's StartView in view (1, 1).
 fn start_view(entries: u32) -> Vec<Vec<u8>> {
-    let mut bytes = b"\x16\x01\0\0\0\x01\0\0\0\x01".to_vec();
+    let mut bytes = b"\x16\x01\0\0\0\x01\0\0\0\0\0\0\0\x01".to_vec();
     bytes.extend_from_slice(&u64::from(entries + 1).to_be_bytes());
     log(entries, &mut bytes);
     let mut fragments = Vec::new();

@@ -19,16 +19,17 @@ import time
 LIMITS = [0, 1, 2, 3, 4, 5, 6, 7, 8, 9, 15, 16, 17, 255, 256, 640, 4095, 4096, 65535, 65536, 999_999, 1_000_000]
 LIMITS += [2**31 - 1, 2**31, 2**32 - 1, 2**32, 2**48 - 1, 2**48, 2**63 - 1, 2**63, 2**64 - 2, 2**64 - 1, 2**64, 2**64 + 1, 10**19]
 LIMITS += [10**20, 10**40]
-WORDS = b"nopaxos replicas sequencers clients submit deliver tick install crash junk suspect watch resend sync retry".split()
-WORDS += b"probe next gen end transcript - ctl ctl0 ctl1 r0 r1 r2 r6 r7 r00 s0 s1 s3 s4 c0 c1 c15 c16 c00 R0 x".split()
+WORDS = b"nopaxos replicas sequencers clients controllers submit deliver tick install crash junk suspect watch resend sync retry".split()
+WORDS += b"probe next gen end transcript - ctl ctl0 ctl1 ctl3 ctl4 r0 r1 r2 r6 r7 r00 s0 s1 s3 s4 c0 c1 c15 c16 c00 R0 x".split()
 # A datagram of each kind, and what is refused beside them.
-DATAGRAMS = """4e4f020100000000000000000000000100075000016b000176
-4e4f020200000001000000000000000100000000000000000000000100075000016b000176
-4e4f0203000000000000000001000000010000000000000000000000010100046e6f6e65
-4e4f020301000000000000000100000001000000000000000000000001000000
-4e4f0208010000000000000001000000011001000000000000000100000001
-4e4f02040000000002 4e4f02050000000002 4e4f02060000000001 4e4f02070300000001 4e4f02040000000000 4e4f02060400000001
-4e4f02 4e4e0101 4e4f0101 4e4f0209 4e4f0200 4e4f020400000002 4e4f0204000000000200 -""".split()
+DATAGRAMS = """4e4f030100000000000000000000000100075000016b000176
+4e4f03020000000000000001000000000000000100000000000000000000000100075000016b000176
+4e4f030300000000000000000000000001000000010000000000000000000000010100046e6f6e65
+4e4f03030100000000000000000000000100000001000000000000000000000001000000
+4e4f030801000000000000000100000001100100000000000000000000000100000001
+4e4f030400000000000000000002 4e4f030503030000000300000001 4e4f0306010000000001 4e4f0307030300000001
+4e4f030400000000000000000000 4e4f030404000000000000000002 4e4f030600040000000001 4e4f0306010000000000
+4e4f03 4e4e0301 4e4f0201 4e4f0309 4e4f0300 4e4f03040000000000000002 4e4f03040000000000000000000200 -""".split()
 
 
 def some_number(rng):
@@ -153,7 +154,7 @@ def reword(rng, lines, other):
 
 def compose(rng, lines, other):
     """A line made of words, actors, numbers and hexadecimal at their limits."""
-    actor = rng.choice([b"ctl", b"r%d", b"s%d", b"c%d"])
+    actor = rng.choice([b"ctl", b"ctl%d", b"r%d", b"s%d", b"c%d"])
     if actor != b"ctl":
         actor %= rng.choice([0, 0, 0, 1, 1, 2, 3, 6, 7, 15, 16, 255, 256, 2**32 - 1, 2**32])
     line = rng.choice(
@@ -166,6 +167,7 @@ def compose(rng, lines, other):
             b"deliver 0 " + actor,
             b"tick " + actor + b" " + rng.choice(b"suspect watch resend sync retry probe next install".split()),
             b"install " + actor,
+            b"install s0 " + actor,
             b"crash " + actor,
         ]
     )
@@ -176,7 +178,10 @@ def compose(rng, lines, other):
 def head(rng, lines, other):
     """Another first line."""
     counts = rng.choice([1, 3, 5, 7, 2, 8]), rng.choice([1, 2, 4, 0, 5]), rng.choice([1, 2, 16, 0, 17])
-    return [b"nopaxos 1 replicas %d sequencers %d clients %d" % counts] + lines[1:]
+    group = b"replicas %d sequencers %d clients %d" % counts
+    controllers = b" controllers %d" % rng.choice([1, 2, 3, 4, 0, 5])
+    form = rng.choice([1, 1, 1, 2, 2, 2, 0, 3])
+    return [b"nopaxos %d " % form + group + controllers * rng.choice([form > 1, form > 1, form > 1, form == 1])] + lines[1:]
 
 
 DAMAGES = [by_bytes(flip)] * 4 + [by_bytes(cut)] * 2 + [by_bytes(insert)] + [join, glue, lengthen, head, reword, reword]
@@ -228,7 +233,7 @@ def outcome(status, output, errors):
         return None
     last = output[output.rfind(b"\n", 0, -1) + 1 :]
     if status == 0:
-        return "done" if output.startswith(b"transcript 1 ") and last == b"end\n" else None
+        return "done" if output.startswith((b"transcript 1 ", b"transcript 2 ")) and last == b"end\n" else None
     error = ERROR.fullmatch(last)
     if not error or (error[2] == b"8") != (error[3] is not None) or (error[1] == b"1") != (output == last):
         return None

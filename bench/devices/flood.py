@@ -2,7 +2,7 @@
 
     flood.py PROGRAM BASE COUNT NUMBER RATE
 
-Three replicas, two sequencers, the controller and a client without an answer run on the loopback address, all for as
+Three replicas, two sequencers, two controllers and a client without an answer run on the loopback address, all for as
 many turns. There are three rounds, each with a cluster of its own:
 
   quiet    clients alone
@@ -40,15 +40,15 @@ import threading
 import time
 
 PROGRAM, BASE, COUNT, NUMBER, RATE = sys.argv[1], *map(int, sys.argv[2:])
-REPLICAS, SEQUENCERS, CLIENTS, LANES = 3, 2, 62, 16
+REPLICAS, SEQUENCERS, CONTROLLERS, CLIENTS, LANES = 3, 2, 2, 62, 16
 TURNS = {"quiet": 60_000, "strays": COUNT // 4 + 60_000, "forged": 2**64 - 1}
 SITE = f"--replicas {REPLICAS} --sequencers {SEQUENCERS} --base {BASE}".split()
 NODES = {f"replica {i}": (["node", "--id", str(i)], BASE + i) for i in range(REPLICAS)}
 NODES |= {f"sequencer {j}": (["sequencer", "--id", str(j)], BASE + 8 + j) for j in range(SEQUENCERS)}
-NODES |= {"controller": (["controller"], BASE + 12)}
+NODES |= {f"controller {k}": (["controller", "--id", str(k)], BASE + 12 + k) for k in range(CONTROLLERS)}
 # A client of another cluster, which is not there: it has no answer, and so it takes all its turns.
 NODES |= {"client": (["client", "--id", str(2**32 - 1)], BASE + 100 + 31)}
-HEAD = b"NO\2"
+HEAD = b"NO\3"
 # The kinds of datagrams that an actor has a use for.
 TAKES = {"replica": {2, 8}, "sequencer": {1, 4, 6}, "controller": {5, 7}, "client": {3}}
 OPS = 16
@@ -73,7 +73,7 @@ def request(rng, op=None):
 
 
 def view(rng):
-    return number(4, rng.choice([0, 0, 1, 5])) + number(4, rng.choice([1, 1, 2, 9]))
+    return number(4, rng.choice([0, 0, 1, 5])) + number(8, rng.choice([1, 1, 2, 2**32 + 1]))
 
 
 def checkpoint(host, clients):
@@ -105,12 +105,12 @@ def whole(rng):
     if kind == 1:
         rest = request(rng)
     elif kind == 2:
-        rest = number(4, rng.choice([1, 1, 2])) + number(8, rng.choice([1, rng.randrange(1, 4000), 2**48 - 1])) + request(rng)
+        rest = number(8, rng.choice([1, 1, 2])) + number(8, rng.choice([1, rng.randrange(1, 4000), 2**48 - 1])) + request(rng)
     elif kind == 3:
         rest = number(1, rng.randrange(REPLICAS)) + view(rng) + number(4, rng.randrange(1, 4097)) + number(4, rng.randrange(62))
         rest += number(8, rng.randrange(1, 64)) + rng.choice([b"\0\0\0", b"\1\0\4none"])
     elif kind < 8:
-        rest = number(1, rng.randrange(SEQUENCERS)) + number(4, rng.choice([1, 2, 9]))
+        rest = number(1, rng.randrange(CONTROLLERS)) + number(1, rng.randrange(SEQUENCERS)) + number(8 if kind < 6 else 4, rng.choice([1, 2, 9]))
     else:
         rest = number(1, rng.randrange(REPLICAS)) + number(8, rng.randrange(1, 5000)) + number(2, 0) + number(2, 1) + message(rng)
     return HEAD + bytes([kind]) + rest
@@ -121,7 +121,8 @@ def spelled(data):
     if len(data) < 4 or data[:3] != HEAD or not 1 <= data[3] <= 8:
         return None
     kind, at, values = data[3], 4, []
-    layout = {1: [4, 8, 2], 2: [4, 8, 4, 8, 2], 3: [1, 4, 4, 4, 4, 8, 1, 2], 8: [1, 8, 2, 2]}.get(kind, [1, 4])
+    layout = {1: [4, 8, 2], 2: [8, 8, 4, 8, 2], 3: [1, 4, 8, 4, 4, 8, 1, 2], 8: [1, 8, 2, 2]}
+    layout = layout.get(kind, [1, 1, 8 if kind < 6 else 4])
     if len(data) < 4 + sum(layout):
         return None
     for size in layout:
@@ -140,7 +141,7 @@ def spelled(data):
         fits = replica <= 6 and place >= 1 and 1 <= count <= 4096 and index < count
         fits = fits and (rest == 1400 if index + 1 < count else 1 <= rest <= 1400)
     else:
-        fits = values[0] <= 3 and values[1] >= 1 and rest == 0
+        fits = values[0] <= 3 and values[1] <= 3 and values[2] >= 1 and rest == 0
     return kind if fits else None
 
 
@@ -183,9 +184,9 @@ def greatest(rng):
             logs = [number(4, 0) + entries, number(4, 4096) + checkpoint(full, 256) + entries]
             logs += [number(4, 4096) + checkpoint(bytes(1_400_000), 256) + entries]
             for place, told in enumerate(logs):
-                start = bytes([22, sender]) + number(4, 30 + 3 * place + sender) + number(4, 50) + position + told
-                prepare = bytes([23, sender]) + start[2:10] + told
-                change = bytes([21, sender]) + number(4, 60 + 3 * place + replica) + number(4, 60) + start[2:10] + position + told
+                start = bytes([22, sender]) + number(4, 30 + 3 * place + sender) + number(8, 50) + position + told
+                prepare = bytes([23, sender]) + start[2:14] + told
+                change = bytes([21, sender]) + number(4, 60 + 3 * place + replica) + number(8, 60) + start[2:14] + position + told
                 for more, data in enumerate((start, prepare, change)):
                     for piece in fragments(sender, 10**6 + 3 * place + more, data):
                         yield replica, piece

@@ -57,7 +57,8 @@ def drawn(rng):
             lines.append(f"accept c{client} {ids[client]} {text(result)}")
             del open_ops[client]
     states = ["replica r0 up normal 0 1 0 0"] * rng.randrange(2)
-    return "\n".join(["transcript 1 replicas 3 sequencers 1 clients 16", *lines, *states, *history, "end", ""]).encode()
+    head = rng.choice(["1 replicas 3 sequencers 1 clients 16", "2 replicas 3 sequencers 1 clients 16 controllers 4"])
+    return "\n".join(["transcript " + head, *lines, *states, *history, "end", ""]).encode()
 
 
 def flip(rng, lines):

@@ -29,14 +29,14 @@ struct Counts {
     // microseconds, since the last line and in all
     longest: AtomicU64,
     longest_of_all: AtomicU64,
-    // the greatest view of an accepted reply: session and leader number
-    view: AtomicU64,
+    // the greatest session of an accepted reply, and its leader number
+    view: Mutex<(u64, u32)>,
     given_up: AtomicBool,
 }
 
 #[derive(Clone)]
 struct Reply {
-    view: (u32, u32),
+    view: (u32, u64),
     slot: u32,
     result: Option<Vec<u8>>,
 }
@@ -47,15 +47,15 @@ fn number(bytes: &[u8]) -> u64 {
 
 // A reply of a replica to this client's request.
 fn reply(bytes: &[u8], client: u32, id: u64) -> Option<(usize, Reply)> {
-    if bytes.len() < 32 || bytes[..4] != *b"NO\x02\x03" {
+    if bytes.len() < 36 || bytes[..4] != *b"NO\x03\x03" {
         return None;
     }
-    if number(&bytes[17..21]) != u64::from(client) || number(&bytes[21..29]) != id {
+    if number(&bytes[21..25]) != u64::from(client) || number(&bytes[25..33]) != id {
         return None;
     }
-    let view = (number(&bytes[5..9]) as u32, number(&bytes[9..13]) as u32);
-    let result = (bytes[29] == 1).then(|| bytes[32..].to_vec());
-    Some((bytes[4] as usize, Reply { view, slot: number(&bytes[13..17]) as u32, result }))
+    let view = (number(&bytes[5..9]) as u32, number(&bytes[9..17]));
+    let result = (bytes[33] == 1).then(|| bytes[36..].to_vec());
+    Some((bytes[4] as usize, Reply { view, slot: number(&bytes[17..21]) as u32, result }))
 }
 
 // The result, where f + 1 replicas replied for one slot of one view and the leader is one of them.
@@ -71,7 +71,7 @@ fn request(client: u32, id: u64, key: u64, value: &[u8]) -> Vec<u8> {
     op.extend(key.to_be_bytes());
     op.extend((value.len() as u16).to_be_bytes());
     op.extend(value);
-    let mut bytes = b"NO\x02\x01".to_vec();
+    let mut bytes = b"NO\x03\x01".to_vec();
     bytes.extend(client.to_be_bytes());
     bytes.extend(id.to_be_bytes());
     bytes.extend((op.len() as u16).to_be_bytes());
@@ -110,8 +110,8 @@ fn run(site: &Site, client: u32, puts: u64, counts: &Counts) {
                 }
                 kept[replica] = Some(r.clone());
                 if let Some(result) = accepted(&kept, &r) {
-                    let view = u64::from(r.view.1) << 32 | u64::from(r.view.0);
-                    counts.view.fetch_max(view, Ordering::Relaxed);
+                    let mut view = counts.view.lock().expect("a lock");
+                    *view = (*view).max((r.view.1, r.view.0));
                     break 'answer result;
                 }
             }
@@ -176,14 +176,13 @@ fn main() {
         }
     }
     let answered = counts.answered.load(Ordering::Relaxed);
+    let (session, leader_number) = *counts.view.lock().expect("a lock");
     println!(
-        "all answered {answered} wrong {} retries {} longest_wait_ms {} seconds {:.1} leader_number {} session {}",
+        "all answered {answered} wrong {} retries {} longest_wait_ms {} seconds {:.1} leader_number {leader_number} session {session}",
         counts.wrong.load(Ordering::Relaxed),
         counts.retries.load(Ordering::Relaxed),
         counts.longest_of_all.load(Ordering::Relaxed) / 1000,
-        began.elapsed().as_secs_f64(),
-        counts.view.load(Ordering::Relaxed) as u32,
-        counts.view.load(Ordering::Relaxed) >> 32
+        began.elapsed().as_secs_f64()
     );
     let failed = answered != puts || counts.wrong.load(Ordering::Relaxed) > 0 || counts.given_up.load(Ordering::Relaxed);
     std::process::exit(i32::from(failed));

@@ -17,7 +17,7 @@ enum Entry {
 struct StartView {
     sender: u8,
     leader: u32,
-    session: u32,
+    session: u64,
     next: u64,
     sync_point: u32,
     log: Vec<Entry>,
@@ -65,7 +65,7 @@ fn decode(bytes: &[u8]) -> Result<StartView, Bad> {
     let (leader, rest) = split(rest)?;
     let leader = u32::from_be_bytes(leader);
     let (session, rest) = split(rest)?;
-    let session = within(u32::from_be_bytes(session), 1, u32::MAX)?;
+    let session = within(u64::from_be_bytes(session), 1, u64::MAX)?;
     let (next, rest) = split(rest)?;
     let next = within(u64::from_be_bytes(next), 1, 1 << 48)?;
     let (sync_point, rest) = split(rest)?;
@@ -93,7 +93,7 @@ fn entry_len(entry: &Entry) -> usize {
 
 fn encode(message: &StartView) -> Vec<u8> {
     let len: usize = message.log.iter().map(entry_len).sum();
-    let mut to = Vec::with_capacity(26 + len);
+    let mut to = Vec::with_capacity(30 + len);
     to.extend_from_slice(&[22, message.sender]);
     to.extend_from_slice(&message.leader.to_be_bytes());
     to.extend_from_slice(&message.session.to_be_bytes());

@@ -18,10 +18,10 @@ while True:
     if sys.stdin in ready:
         break
     request = link.recv(1500)
-    if len(request) < 18 or request[:4] != b"NO\x02\x01":
+    if len(request) < 18 or request[:4] != b"NO\x03\x01":
         continue
     client, identity = request[4:8], request[8:16]
     for replica, tag, result in ((0, 1, b"none"), (1, 0, b"")):
-        reply = b"NO\x02\x03" + bytes([replica]) + bytes.fromhex("00000000 00000001 00000001") + client + identity
+        reply = b"NO\x03\x03" + bytes([replica]) + bytes.fromhex("00000000 0000000000000001 00000001") + client + identity
         reply += bytes([tag]) + len(result).to_bytes(2, "big") + result
         link.sendto(reply, ("127.0.0.1", base + 16 + int.from_bytes(client, "big") % 16))
