@@ -1,9 +1,10 @@
 #!/bin/bash
-# A cluster on the loopback address: replicas, two sequencers and the controller, each a process of its own. Two clients
-# put and get, in words; then the leader is killed, and a third client still gets its answers. Only processes that were started
-# here are ended, by their ids. docs/FORMATS.md says what the lines mean, docs/RUNNING.md what else there is to know.
+# A cluster on the loopback address: replicas, two sequencers and two controllers, each a process of its own. Two clients
+# put and get, in words; then the leader is killed, and a third client still gets its answers; then the sequencer and one of the
+# controllers are, and so does a fourth. Only processes that were started here are ended, by their ids. docs/FORMATS.md says what
+# the lines mean, docs/RUNNING.md what else there is to know.
 #
-#   examples/cluster.sh [REPLICAS]       3 replicas, or 1, 5 or 7; with 1, nothing is killed
+#   examples/cluster.sh [REPLICAS]       3 replicas, or 1, 5 or 7; with 1, the leader is not killed
 #   KV_OPS   the program file of `kv_ops`, which turns words into ops and results into words (crates/kv_ops/out/kv_ops)
 #   NOPAXOS  the program file (crates/nopaxos/out/nopaxos, which `rt run` leaves); a relative name counts from the repository
 #   BASE     the port of replica 0, 1024 to 65000 (47000): the ports from there to BASE + 31 belong to the cluster
@@ -96,10 +97,20 @@ client() {
     [ "$status" != 124 ] || echo "client $number had no answer within a minute, and was ended"
 }
 
+# ends NAME..: these nodes are killed.
+ends() {
+    local name
+    for name in "$@"; do
+        kill -9 "${pids[$name]}"
+        wait "${pids[$name]}" 2> /dev/null
+        unset "pids[$name]"
+    done
+}
+
 failed=0
 for ((i = 0; i < 2; i++)); do start "s$i" sequencer --id $i; done
 for ((i = 0; i < replicas; i++)); do start "r$i" node --id $i; done
-start ctl controller
+for ((i = 0; i < 2; i++)); do start "ctl$i" controller --id $i; done
 sleep 0.5
 for name in "${!pids[@]}"; do runs "$name"; done
 
@@ -110,9 +121,12 @@ client 1 'get k'
 if [ "$replicas" -gt 1 ]; then
     echo
     echo "== replica 0, the leader, is killed; the others suspect it after a second or two, and one of them leads then"
-    kill -9 "${pids[r0]}"
-    wait "${pids[r0]}" 2> /dev/null
-    unset 'pids[r0]'
+    ends r0
     client 2 'put k x' 'get k'
 fi
+
+echo
+echo "== sequencer 0, which numbers the requests, and controller 0 are killed; within two seconds controller 1 has sequencer 1 go on"
+ends s0 ctl0
+client 3 'put k y' 'get k'
 [ "$failed" = 0 ] || exit 1

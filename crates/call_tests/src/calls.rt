@@ -8,9 +8,10 @@ use std::alloc::Global;
 use std::process::Abort;
 
 /// What the leader replies to the request, and what a follower does.
-const LEADER: &str = "4e4f0203000000000000000001000000010000000000000000000000010100046e6f6e65";
+const LEADER: &str =
+    "4e4f030300000000000000000000000001000000010000000000000000000000010100046e6f6e65";
 
-const FOLLOWER: &str = "4e4f020301000000000000000100000001000000000000000000000001000000";
+const FOLLOWER: &str = "4e4f03030100000000000000000000000100000001000000000000000000000001000000";
 
 /// A datagram in hexadecimal.
 fn datagram(rt: &impl Abort, alloc: Global, digits: &str) -> Bytes
@@ -54,7 +55,7 @@ fn call(
 ) -> (Result<Bytes, CallError>, usize) {
     let service = Service {
         base: 41000,
-        config: Config::new(3, 1, 1).expect(rt, "a group"),
+        config: Config::new(3, 1, 1, 1).expect(rt, "a group"),
     };
     let op = Op::new(alloc, b"put").expect(rt, "an op");
     let mut ports = ports(rt, alloc, polls, failing);

@@ -97,10 +97,10 @@ module _ (xs : List Given) (rest : (t : ClientState) → IsTidy t → TakesTurns
   packet_goes (Ok (datagrams.Reply p)) = reply_goes p (is_expected s p) refl
   packet_goes (Ok (datagrams.Request r)) = rest s tidy
   packet_goes (Ok (datagrams.Stamped p)) = rest s tidy
-  packet_goes (Ok (datagrams.Install sequencer session)) = rest s tidy
-  packet_goes (Ok (datagrams.Installed sequencer session)) = rest s tidy
-  packet_goes (Ok (datagrams.Ping sequencer round)) = rest s tidy
-  packet_goes (Ok (datagrams.Pong sequencer round)) = rest s tidy
+  packet_goes (Ok (datagrams.Install controller sequencer session)) = rest s tidy
+  packet_goes (Ok (datagrams.Installed controller sequencer session)) = rest s tidy
+  packet_goes (Ok (datagrams.Ping controller sequencer round)) = rest s tidy
+  packet_goes (Ok (datagrams.Pong controller sequencer round)) = rest s tidy
   packet_goes (Ok (datagrams.Fragment f)) = rest s tidy
   packet_goes (Err e) = rest s tidy
 

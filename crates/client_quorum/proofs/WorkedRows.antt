@@ -67,10 +67,10 @@ module _ (P : ClientState × List Out → Type 0) (s : ClientState) (x : Given)
   packet_does (Ok (datagrams.Reply p)) its = reply_does p (its p (zero, refl)) (is_expected s p) refl
   packet_does (Ok (datagrams.Request r)) its = stays [] Nothing
   packet_does (Ok (datagrams.Stamped p)) its = stays [] Nothing
-  packet_does (Ok (datagrams.Install sequencer session)) its = stays [] Nothing
-  packet_does (Ok (datagrams.Installed sequencer session)) its = stays [] Nothing
-  packet_does (Ok (datagrams.Ping sequencer round)) its = stays [] Nothing
-  packet_does (Ok (datagrams.Pong sequencer round)) its = stays [] Nothing
+  packet_does (Ok (datagrams.Install controller sequencer session)) its = stays [] Nothing
+  packet_does (Ok (datagrams.Installed controller sequencer session)) its = stays [] Nothing
+  packet_does (Ok (datagrams.Ping controller sequencer round)) its = stays [] Nothing
+  packet_does (Ok (datagrams.Pong controller sequencer round)) its = stays [] Nothing
   packet_does (Ok (datagrams.Fragment f)) its = stays [] Nothing
   packet_does (Err e) its = stays [] Nothing
 

@@ -160,10 +160,10 @@ abbrev pub on_datagram : ClientState → Result Datagram Bad → ClientState × 
 on_datagram s (Ok (datagrams.Reply p)) = reply s p
 on_datagram s (Ok (datagrams.Request r)) = (s, [])
 on_datagram s (Ok (datagrams.Stamped p)) = (s, [])
-on_datagram s (Ok (datagrams.Install sequencer session)) = (s, [])
-on_datagram s (Ok (datagrams.Installed sequencer session)) = (s, [])
-on_datagram s (Ok (datagrams.Ping sequencer round)) = (s, [])
-on_datagram s (Ok (datagrams.Pong sequencer round)) = (s, [])
+on_datagram s (Ok (datagrams.Install controller sequencer session)) = (s, [])
+on_datagram s (Ok (datagrams.Installed controller sequencer session)) = (s, [])
+on_datagram s (Ok (datagrams.Ping controller sequencer round)) = (s, [])
+on_datagram s (Ok (datagrams.Pong controller sequencer round)) = (s, [])
 on_datagram s (Ok (datagrams.Fragment f)) = (s, [])
 on_datagram s (Err e) = (s, [])
 

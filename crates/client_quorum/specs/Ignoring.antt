@@ -15,10 +15,10 @@ abbrev pub is_for : ClientState → Datagram → Bool
 is_for s (datagrams.Reply p) = is_expected s p
 is_for s (datagrams.Request r) = false
 is_for s (datagrams.Stamped p) = false
-is_for s (datagrams.Install sequencer session) = false
-is_for s (datagrams.Installed sequencer session) = false
-is_for s (datagrams.Ping sequencer round) = false
-is_for s (datagrams.Pong sequencer round) = false
+is_for s (datagrams.Install controller sequencer session) = false
+is_for s (datagrams.Installed controller sequencer session) = false
+is_for s (datagrams.Ping controller sequencer round) = false
+is_for s (datagrams.Pong controller sequencer round) = false
 is_for s (datagrams.Fragment f) = false
 
 abbrev pub is_tick_for : Tick → Bool

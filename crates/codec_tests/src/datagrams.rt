@@ -8,59 +8,71 @@ use std::process::Abort;
 
 /// The examples of the formats: bytes, and the value that they spell.
 const EXAMPLES: &str = "\
-4e4f0201 00000000 0000000000000001 0007 5000016b000176 = Request(Request { client: 0, id: 1, op: Op { bytes: [80, 0, 1, 107, 0, 1, 118] } })
-4e4f0202 00000001 0000000000000001 00000000 0000000000000001 0007 5000016b000176 = Stamped(Stamped { session: 1, number: 1, request: Request { client: 0, id: 1, op: Op { bytes: [80, 0, 1, 107, 0, 1, 118] } } })
-4e4f0203 00 00000000 00000001 00000001 00000000 0000000000000001 01 0004 6e6f6e65 = Reply(Reply { replica: 0, view: View { leader: 0, session: 1 }, slot: 1, client: 0, id: 1, tag: 1, result: Bytes { bytes: [110, 111, 110, 101] } })
-4e4f0203 01 00000000 00000001 00000001 00000000 0000000000000001 00 0000 = Reply(Reply { replica: 1, view: View { leader: 0, session: 1 }, slot: 1, client: 0, id: 1, tag: 0, result: Bytes { bytes: [] } })
-4e4f0208 01 0000000000000001 0000 0001 1001000000000000000100000001 = Fragment(Fragment { replica: 1, message: 1, index: 0, count: 1, payload: Bytes { bytes: [16, 1, 0, 0, 0, 0, 0, 0, 0, 1, 0, 0, 0, 1] } })
-4e4f0202 00000002 0000000000000002 00000000 0000000000000001 0007 5000016b000176 = Stamped(Stamped { session: 2, number: 2, request: Request { client: 0, id: 1, op: Op { bytes: [80, 0, 1, 107, 0, 1, 118] } } })";
+4e4f0301 00000000 0000000000000001 0007 5000016b000176 = Request(Request { client: 0, id: 1, op: Op { bytes: [80, 0, 1, 107, 0, 1, 118] } })
+4e4f0302 0000000000000001 0000000000000001 00000000 0000000000000001 0007 5000016b000176 = Stamped(Stamped { session: 1, number: 1, request: Request { client: 0, id: 1, op: Op { bytes: [80, 0, 1, 107, 0, 1, 118] } } })
+4e4f0303 00 00000000 0000000000000001 00000001 00000000 0000000000000001 01 0004 6e6f6e65 = Reply(Reply { replica: 0, view: View { leader: 0, session: 1 }, slot: 1, client: 0, id: 1, tag: 1, result: Bytes { bytes: [110, 111, 110, 101] } })
+4e4f0303 01 00000000 0000000000000001 00000001 00000000 0000000000000001 00 0000 = Reply(Reply { replica: 1, view: View { leader: 0, session: 1 }, slot: 1, client: 0, id: 1, tag: 0, result: Bytes { bytes: [] } })
+4e4f0304 00 01 0000000000000002 = Install { controller: 0, sequencer: 1, session: 2 }
+4e4f0305 01 02 0000000100000001 = Installed { controller: 1, sequencer: 2, session: 4294967297 }
+4e4f0306 00 02 00000001 = Ping { controller: 0, sequencer: 2, round: 1 }
+4e4f0307 02 00 00000001 = Pong { controller: 2, sequencer: 0, round: 1 }
+4e4f0308 01 0000000000000001 0000 0001 100100000000000000000000000100000001 = Fragment(Fragment { replica: 1, message: 1, index: 0, count: 1, payload: Bytes { bytes: [16, 1, 0, 0, 0, 0, 0, 0, 0, 0, 0, 0, 0, 1, 0, 0, 0, 1] } })
+4e4f0302 0000000000000002 0000000000000002 00000000 0000000000000001 0007 5000016b000176 = Stamped(Stamped { session: 2, number: 2, request: Request { client: 0, id: 1, op: Op { bytes: [80, 0, 1, 107, 0, 1, 118] } } })";
 
 /// Each field at its least, then at its greatest.
 const LIMITS: &str = "\
-4e4f0201 00000000 0000000000000001 0000 = Request(Request { client: 0, id: 1, op: Op { bytes: [] } })
-4e4f0201 ffffffff ffffffffffffffff 0280 ff*640 = Request(Request { client: 4294967295, id: 18446744073709551615, op: Op { bytes: [255, 255..
-4e4f0202 00000001 0000000000000001 00000000 0000000000000001 0000 = Stamped(Stamped { session: 1, number: 1, request: Request { client: 0, id: 1, op: Op { bytes: [] } } })
-4e4f0202 ffffffff 0000ffffffffffff ffffffff ffffffffffffffff 0280 ff*640 = Stamped(Stamped { session: 4294967295, number: 281474976710655, request: Request { client: 4294967295, id: 18446744073709551615, op: Op { bytes: [255, 255..
-4e4f0203 06 ffffffff ffffffff ffffffff ffffffff ffffffffffffffff 01 0101 ff*257 = Reply(Reply { replica: 6, view: View { leader: 4294967295, session: 4294967295 }, slot: 4294967295, client: 4294967295, id: 18446744073709551615, tag: 1, result: Bytes { bytes: [255, 255..
-4e4f0204 00 00000001 = Install { sequencer: 0, session: 1 }
-4e4f0204 03 ffffffff = Install { sequencer: 3, session: 4294967295 }
-4e4f0205 00 00000001 = Installed { sequencer: 0, session: 1 }
-4e4f0205 03 ffffffff = Installed { sequencer: 3, session: 4294967295 }
-4e4f0206 00 00000001 = Ping { sequencer: 0, round: 1 }
-4e4f0206 03 ffffffff = Ping { sequencer: 3, round: 4294967295 }
-4e4f0207 00 00000001 = Pong { sequencer: 0, round: 1 }
-4e4f0207 03 ffffffff = Pong { sequencer: 3, round: 4294967295 }
-4e4f0208 00 0000000000000001 0000 0001 00 = Fragment(Fragment { replica: 0, message: 1, index: 0, count: 1, payload: Bytes { bytes: [0] } })
-4e4f0208 06 ffffffffffffffff 0fff 1000 ff*1400 = Fragment(Fragment { replica: 6, message: 18446744073709551615, index: 4095, count: 4096, payload: Bytes { bytes: [255, 255..";
+4e4f0301 00000000 0000000000000001 0000 = Request(Request { client: 0, id: 1, op: Op { bytes: [] } })
+4e4f0301 ffffffff ffffffffffffffff 0280 ff*640 = Request(Request { client: 4294967295, id: 18446744073709551615, op: Op { bytes: [255, 255..
+4e4f0302 0000000000000001 0000000000000001 00000000 0000000000000001 0000 = Stamped(Stamped { session: 1, number: 1, request: Request { client: 0, id: 1, op: Op { bytes: [] } } })
+4e4f0302 ffffffffffffffff 0000ffffffffffff ffffffff ffffffffffffffff 0280 ff*640 = Stamped(Stamped { session: 18446744073709551615, number: 281474976710655, request: Request { client: 4294967295, id: 18446744073709551615, op: Op { bytes: [255, 255..
+4e4f0303 06 ffffffff ffffffffffffffff ffffffff ffffffff ffffffffffffffff 01 0101 ff*257 = Reply(Reply { replica: 6, view: View { leader: 4294967295, session: 18446744073709551615 }, slot: 4294967295, client: 4294967295, id: 18446744073709551615, tag: 1, result: Bytes { bytes: [255, 255..
+4e4f0304 00 00 0000000000000001 = Install { controller: 0, sequencer: 0, session: 1 }
+4e4f0304 03 03 ffffffffffffffff = Install { controller: 3, sequencer: 3, session: 18446744073709551615 }
+4e4f0305 00 00 0000000000000001 = Installed { controller: 0, sequencer: 0, session: 1 }
+4e4f0305 03 03 ffffffffffffffff = Installed { controller: 3, sequencer: 3, session: 18446744073709551615 }
+4e4f0306 00 00 00000001 = Ping { controller: 0, sequencer: 0, round: 1 }
+4e4f0306 03 03 ffffffff = Ping { controller: 3, sequencer: 3, round: 4294967295 }
+4e4f0307 00 00 00000001 = Pong { controller: 0, sequencer: 0, round: 1 }
+4e4f0307 03 03 ffffffff = Pong { controller: 3, sequencer: 3, round: 4294967295 }
+4e4f0308 00 0000000000000001 0000 0001 00 = Fragment(Fragment { replica: 0, message: 1, index: 0, count: 1, payload: Bytes { bytes: [0] } })
+4e4f0308 06 ffffffffffffffff 0fff 1000 ff*1400 = Fragment(Fragment { replica: 6, message: 18446744073709551615, index: 4095, count: 4096, payload: Bytes { bytes: [255, 255..";
 
-/// Bytes, and the first test that they fail. Among them are the versions before and after this one, an op of 641 bytes, a message number
-/// of 2^48, a sequencer out of range with a byte of the round missing, a payload that is not the last and is not full, one too many, none,
-/// and an index at the count. The last ones have a stamped op of 641 bytes, an op of 640 with a byte behind it, a result of 258 bytes, a
-/// slot of 0, and 4,097 fragments.
+/// Bytes, and the first test that they fail. Among them are two versions before this one and one after it, a controller and a sequencer
+/// out of range, an op of 641 bytes, a message number of 2^48, a sequencer out of range with a byte of the round missing, a payload that
+/// is not the last and is not full, one too many, none, and an index at the count. The last ones have a stamped op of 641 bytes, an op of
+/// 640 with a byte behind it, a result of 258 bytes, a slot of 0, and 4,097 fragments.
 const REFUSALS: &str = "\
-4e4f02 = Short
+4e4f03 = Short
 4e4e0101 = Magic
 4e4f0101 = Version
-4e4f0301 = Version
-4e4f0201 = Short
-4e4f0209 = Kind
-4e4f0204 00 00000000 = Field
-4e4f0203 01 00000000 00000001 00000001 00000000 0000000000000001 00 0000 00 = Trailing
-4e4f0203 01 00000000 00000001 00000001 00000000 0000000000000001 00 0001 00 = Field
-4e4f0204 00 000002 = Short
-4e4f0201 00000000 0000000000000001 0281 ff*641 = Field
-4e4f0202 00000001 0001000000000000 00000000 0000000000000001 0000 = Field
-4e4f0206 04 000000 = Short
-4e4f0201 00000000 0000000000000001 0002 6b = Short
-4e4f0208 00 0000000000000001 0000 0002 ff*1399 = Short
-4e4f0208 00 0000000000000001 0000 0002 ff*1401 = Trailing
-4e4f0208 00 0000000000000001 0000 0001 = Short
-4e4f0208 00 0000000000000001 0001 0001 00 = Field
-4e4f0202 00000001 0000000000000001 00000000 0000000000000001 0281 ff*641 = Field
-4e4f0201 00000000 0000000000000001 0280 ff*641 = Trailing
-4e4f0203 00 00000000 00000001 00000001 00000000 0000000000000001 01 0102 ff*258 = Field
-4e4f0203 01 00000000 00000001 00000000 00000000 0000000000000001 00 0000 = Field
-4e4f0208 00 0000000000000001 0000 1001 ff*1400 = Field";
+4e4f0201 = Version
+4e4f0401 = Version
+4e4f0301 = Short
+4e4f0309 = Kind
+4e4f0304 00 00 0000000000000000 = Field
+4e4f0304 04 00 0000000000000001 = Field
+4e4f0305 00 04 0000000000000001 = Field
+4e4f0306 04 00 00000001 = Field
+4e4f0307 00 04 00000001 = Field
+4e4f0307 00 00 00000000 = Field
+4e4f0303 01 00000000 0000000000000001 00000001 00000000 0000000000000001 00 0000 00 = Trailing
+4e4f0303 01 00000000 0000000000000001 00000001 00000000 0000000000000001 00 0001 00 = Field
+4e4f0304 00 00 00000000000002 = Short
+4e4f0304 00 00 0000000000000002 00 = Trailing
+4e4f0306 00 00 00000001 00 = Trailing
+4e4f0301 00000000 0000000000000001 0281 ff*641 = Field
+4e4f0302 0000000000000001 0001000000000000 00000000 0000000000000001 0000 = Field
+4e4f0306 00 04 000000 = Short
+4e4f0301 00000000 0000000000000001 0002 6b = Short
+4e4f0308 00 0000000000000001 0000 0002 ff*1399 = Short
+4e4f0308 00 0000000000000001 0000 0002 ff*1401 = Trailing
+4e4f0308 00 0000000000000001 0000 0001 = Short
+4e4f0308 00 0000000000000001 0001 0001 00 = Field
+4e4f0302 0000000000000001 0000000000000001 00000000 0000000000000001 0281 ff*641 = Field
+4e4f0301 00000000 0000000000000001 0280 ff*641 = Trailing
+4e4f0303 00 00000000 0000000000000001 00000001 00000000 0000000000000001 01 0102 ff*258 = Field
+4e4f0303 01 00000000 0000000000000001 00000000 00000000 0000000000000001 00 0000 = Field
+4e4f0308 00 0000000000000001 0000 1001 ff*1400 = Field";
 
 /// The bytes that a datagram is written as.
 fn spelled(rt: &impl Abort, alloc: Global, datagram: &Datagram) -> Vec<u8>
@@ -104,13 +116,18 @@ fn rows(rt: HostRuntime) {
 #[test]
 fn fields(rt: HostRuntime) {
     let alloc = rt.alloc();
-    let bytes = bytes_of(&rt, alloc, "4e4f0201 00000002 0000000000000001 0002 6b30");
+    let bytes = bytes_of(&rt, alloc, "4e4f0301 00000002 0000000000000001 0002 6b30");
     assert!(rt; read_u16(&bytes, 16) == Some(2));
-    assert!(rt; read_u32(&bytes, 0) == Some(0x4e4f_0201));
+    assert!(rt; read_u32(&bytes, 0) == Some(0x4e4f_0301));
     assert!(rt; read_u64(&bytes, 8) == Some(1));
     assert!(rt; read_u64(&bytes, 13) == None);
     let view = text(&rt, alloc, &read_view(&bytes, 0));
-    check_text(&rt, &view, "Some(View { leader: 1313800705, session: 2 })");
+    check_text(
+        &rt,
+        &view,
+        "Some(View { leader: 1313800961, session: 8589934592 })",
+    );
+    assert!(rt; read_view(&bytes, 9) == None);
     let request = read_request(alloc, &bytes, 4).expect(&rt, "memory");
     let told = "Some(Request { client: 2, id: 1, op: Op { bytes: [107, 48] } })";
     check_text(&rt, &text(&rt, alloc, &request), told);

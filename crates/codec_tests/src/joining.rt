@@ -104,7 +104,7 @@ fn messages_are_cut_and_joined(rt: HostRuntime) {
     check_length(&rt, rt.alloc(), 1, 1, 18);
     check_length(&rt, rt.alloc(), 1400, 1, 1417);
     check_length(&rt, rt.alloc(), 1401, 2, 18);
-    check_length(&rt, rt.alloc(), 4_152_298, 2966, 1315);
+    check_length(&rt, rt.alloc(), 4_152_306, 2966, 1323);
     check_length(&rt, rt.alloc(), 5_734_400, 4096, 1417);
 }
 

@@ -11,26 +11,27 @@ use std::process::Abort;
 /// saves a map of one key, where one client has written it, and the second has nothing in it. The last eight messages have fields and
 /// logs at their greatest: two clients, an id and a result too, and a sync point with as many entries as it leaves, 4,096 or none.
 const EXAMPLES: &str = "\
-10 01 00000000 00000001 00000001 = Peer { sender: 1, view: View { leader: 0, session: 1 }, body: SlotLookup(1) }
-11 00 00000000 00000001 00000001 00000000 0000000000000001 0007 5000016b000176 = Peer { sender: 0, view: View { leader: 0, session: 1 }, body: Found(1, Request { client: 0, id: 1, op: Op { bytes: [80, 0, 1, 107, 0, 1, 118] } }) }
-12 00 00000000 00000001 00000001 = Peer { sender: 0, view: View { leader: 0, session: 1 }, body: GapCommit(1) }
-13 01 00000000 00000001 00000001 = Peer { sender: 1, view: View { leader: 0, session: 1 }, body: GapRep(1) }
-14 01 00000001 00000001 = Peer { sender: 1, view: View { leader: 1, session: 1 }, body: ViewChangeReq }
-15 02 00000001 00000001 00000000 00000001 0000000000000003 00000001 0000000a 0000000100016b000176 00000001 00000000 0000000000000001 0004 6e6f6e65 00000001 01 00000001 0000000000000001 0004 4700016b = Peer { sender: 2, view: View { leader: 1, session: 1 }, body: ViewChange { last_normal: View { leader: 0, session: 1 }, next: 3, log: Log { sync_point: 1, checkpoint: Some(Checkpoint { host: Bytes { bytes: [0, 0, 0, 1, 0, 1, 107, 0, 1, 118] }, clients: [SavedClient { client: 0, id: 1, result: Bytes { bytes: [110, 111, 110, 101] } }] }), entries: [Req(Request { client: 1, id: 1, op: Op { bytes: [71, 0, 1, 107] } })] } } }
-16 01 00000001 00000001 0000000000000003 00000002 00000000 00000000 00000002 00 01 00000001 0000000000000001 0004 4700016b = Peer { sender: 1, view: View { leader: 1, session: 1 }, body: StartView { next: 3, log: Log { sync_point: 2, checkpoint: Some(Checkpoint { host: Bytes { bytes: [] }, clients: [] }), entries: [NoOp, Req(Request { client: 1, id: 1, op: Op { bytes: [71, 0, 1, 107] } })] } } }
-17 00 00000000 00000001 00000000 00000001 01 00000000 0000000000000001 0007 5000016b000176 = Peer { sender: 0, view: View { leader: 0, session: 1 }, body: SyncPrepare(Log { sync_point: 0, checkpoint: None, entries: [Req(Request { client: 0, id: 1, op: Op { bytes: [80, 0, 1, 107, 0, 1, 118] } })] }) }
-18 01 00000000 00000001 00000001 = Peer { sender: 1, view: View { leader: 0, session: 1 }, body: SyncRep(1) }
-19 00 00000000 00000001 00000001 = Peer { sender: 0, view: View { leader: 0, session: 1 }, body: SyncCommit(1) }
-16 01 00000001 00000001 0001000000000000 00000000 00000000 = Peer { sender: 1, view: View { leader: 1, session: 1 }, body: StartView { next: 281474976710656, log: Log { sync_point: 0, checkpoint: None, entries: [] } } }
-18 01 00000000 00000001 00000000 = Peer { sender: 1, view: View { leader: 0, session: 1 }, body: SyncRep(0) }
-10 06 ffffffff ffffffff ffffffff = Peer { sender: 6, view: View { leader: 4294967295, session: 4294967295 }, body: SlotLookup(4294967295) }
-18 06 ffffffff ffffffff ffffffff = Peer { sender: 6, view: View { leader: 4294967295, session: 4294967295 }, body: SyncRep(4294967295) }
-19 00 00000000 00000001 ffffffff = Peer { sender: 0, view: View { leader: 0, session: 1 }, body: SyncCommit(4294967295) }
-17 06 ffffffff ffffffff ffffefff 00000000 00000000 00001000 00*4096 = Peer { sender: 6, view: View { leader: 4294967295, session: 4294967295 }, body: SyncPrepare(Log { sync_point: 4294963199, checkpoint: Some(Checkpoint { host: Bytes { bytes: [] }, clients: [] }), entries: [NoOp, NoOp..
-17 00 00000000 00000001 ffffffff 00000000 00000002 00000000 0000000000000000 0000 ffffffff ffffffffffffffff 0001 ff 00000000 = Peer { sender: 0, view: View { leader: 0, session: 1 }, body: SyncPrepare(Log { sync_point: 4294967295, checkpoint: Some(Checkpoint { host: Bytes { bytes: [] }, clients: [SavedClient { client: 0, id: 0, result: Bytes { bytes: [] } }, SavedClient { client: 4294967295, id: 18446744073709551615, result: Bytes { bytes: [255] } }] }), entries: [] }) }
-17 00 00000000 00000001 00000000 00000001 01 ffffffff ffffffffffffffff 0280 ff*640 = Peer { sender: 0, view: View { leader: 0, session: 1 }, body: SyncPrepare(Log { sync_point: 0, checkpoint: None, entries: [Req(Request { client: 4294967295, id: 18446744073709551615, op: Op { bytes: [255, 255..
-11 00 00000000 00000001 ffffffff ffffffff ffffffffffffffff 0280 ff*640 = Peer { sender: 0, view: View { leader: 0, session: 1 }, body: Found(4294967295, Request { client: 4294967295, id: 18446744073709551615, op: Op { bytes: [255, 255..
-15 06 ffffffff ffffffff ffffffff ffffffff 0001000000000000 ffffefff 00000002 ffff 00000001 ffffffff ffffffffffffffff 0101 ff*257 00001000 01ffffffffffffffffffffffff0000*4096 = Peer { sender: 6, view: View { leader: 4294967295, session: 4294967295 }, body: ViewChange { last_normal: View { leader: 4294967295, session: 4294967295 }, next: 281474976710656, log: Log { sync_point: 4294963199, checkpoint: Some(Checkpoint { host: Bytes { bytes: [255, 255] }, clients: [SavedClient { client: 4294967295, id: 18446744073709551615, result: Bytes { bytes: [255, 255..";
+10 01 00000000 0000000000000001 00000001 = Peer { sender: 1, view: View { leader: 0, session: 1 }, body: SlotLookup(1) }
+11 00 00000000 0000000000000001 00000001 00000000 0000000000000001 0007 5000016b000176 = Peer { sender: 0, view: View { leader: 0, session: 1 }, body: Found(1, Request { client: 0, id: 1, op: Op { bytes: [80, 0, 1, 107, 0, 1, 118] } }) }
+12 00 00000000 0000000000000001 00000001 = Peer { sender: 0, view: View { leader: 0, session: 1 }, body: GapCommit(1) }
+13 01 00000000 0000000000000001 00000001 = Peer { sender: 1, view: View { leader: 0, session: 1 }, body: GapRep(1) }
+14 01 00000001 0000000000000001 = Peer { sender: 1, view: View { leader: 1, session: 1 }, body: ViewChangeReq }
+14 01 00000001 0000000100000000 = Peer { sender: 1, view: View { leader: 1, session: 4294967296 }, body: ViewChangeReq }
+15 02 00000001 0000000000000001 00000000 0000000000000001 0000000000000003 00000001 0000000a 0000000100016b000176 00000001 00000000 0000000000000001 0004 6e6f6e65 00000001 01 00000001 0000000000000001 0004 4700016b = Peer { sender: 2, view: View { leader: 1, session: 1 }, body: ViewChange { last_normal: View { leader: 0, session: 1 }, next: 3, log: Log { sync_point: 1, checkpoint: Some(Checkpoint { host: Bytes { bytes: [0, 0, 0, 1, 0, 1, 107, 0, 1, 118] }, clients: [SavedClient { client: 0, id: 1, result: Bytes { bytes: [110, 111, 110, 101] } }] }), entries: [Req(Request { client: 1, id: 1, op: Op { bytes: [71, 0, 1, 107] } })] } } }
+16 01 00000001 0000000000000001 0000000000000003 00000002 00000000 00000000 00000002 00 01 00000001 0000000000000001 0004 4700016b = Peer { sender: 1, view: View { leader: 1, session: 1 }, body: StartView { next: 3, log: Log { sync_point: 2, checkpoint: Some(Checkpoint { host: Bytes { bytes: [] }, clients: [] }), entries: [NoOp, Req(Request { client: 1, id: 1, op: Op { bytes: [71, 0, 1, 107] } })] } } }
+17 00 00000000 0000000000000001 00000000 00000001 01 00000000 0000000000000001 0007 5000016b000176 = Peer { sender: 0, view: View { leader: 0, session: 1 }, body: SyncPrepare(Log { sync_point: 0, checkpoint: None, entries: [Req(Request { client: 0, id: 1, op: Op { bytes: [80, 0, 1, 107, 0, 1, 118] } })] }) }
+18 01 00000000 0000000000000001 00000001 = Peer { sender: 1, view: View { leader: 0, session: 1 }, body: SyncRep(1) }
+19 00 00000000 0000000000000001 00000001 = Peer { sender: 0, view: View { leader: 0, session: 1 }, body: SyncCommit(1) }
+16 01 00000001 0000000000000001 0001000000000000 00000000 00000000 = Peer { sender: 1, view: View { leader: 1, session: 1 }, body: StartView { next: 281474976710656, log: Log { sync_point: 0, checkpoint: None, entries: [] } } }
+18 01 00000000 0000000000000001 00000000 = Peer { sender: 1, view: View { leader: 0, session: 1 }, body: SyncRep(0) }
+10 06 ffffffff ffffffffffffffff ffffffff = Peer { sender: 6, view: View { leader: 4294967295, session: 18446744073709551615 }, body: SlotLookup(4294967295) }
+18 06 ffffffff ffffffffffffffff ffffffff = Peer { sender: 6, view: View { leader: 4294967295, session: 18446744073709551615 }, body: SyncRep(4294967295) }
+19 00 00000000 0000000000000001 ffffffff = Peer { sender: 0, view: View { leader: 0, session: 1 }, body: SyncCommit(4294967295) }
+17 06 ffffffff ffffffffffffffff ffffefff 00000000 00000000 00001000 00*4096 = Peer { sender: 6, view: View { leader: 4294967295, session: 18446744073709551615 }, body: SyncPrepare(Log { sync_point: 4294963199, checkpoint: Some(Checkpoint { host: Bytes { bytes: [] }, clients: [] }), entries: [NoOp, NoOp..
+17 00 00000000 0000000000000001 ffffffff 00000000 00000002 00000000 0000000000000000 0000 ffffffff ffffffffffffffff 0001 ff 00000000 = Peer { sender: 0, view: View { leader: 0, session: 1 }, body: SyncPrepare(Log { sync_point: 4294967295, checkpoint: Some(Checkpoint { host: Bytes { bytes: [] }, clients: [SavedClient { client: 0, id: 0, result: Bytes { bytes: [] } }, SavedClient { client: 4294967295, id: 18446744073709551615, result: Bytes { bytes: [255] } }] }), entries: [] }) }
+17 00 00000000 0000000000000001 00000000 00000001 01 ffffffff ffffffffffffffff 0280 ff*640 = Peer { sender: 0, view: View { leader: 0, session: 1 }, body: SyncPrepare(Log { sync_point: 0, checkpoint: None, entries: [Req(Request { client: 4294967295, id: 18446744073709551615, op: Op { bytes: [255, 255..
+11 00 00000000 0000000000000001 ffffffff ffffffff ffffffffffffffff 0280 ff*640 = Peer { sender: 0, view: View { leader: 0, session: 1 }, body: Found(4294967295, Request { client: 4294967295, id: 18446744073709551615, op: Op { bytes: [255, 255..
+15 06 ffffffff ffffffffffffffff ffffffff ffffffffffffffff 0001000000000000 ffffefff 00000002 ffff 00000001 ffffffff ffffffffffffffff 0101 ff*257 00001000 01ffffffffffffffffffffffff0000*4096 = Peer { sender: 6, view: View { leader: 4294967295, session: 18446744073709551615 }, body: ViewChange { last_normal: View { leader: 4294967295, session: 18446744073709551615 }, next: 281474976710656, log: Log { sync_point: 4294963199, checkpoint: Some(Checkpoint { host: Bytes { bytes: [255, 255] }, clients: [SavedClient { client: 4294967295, id: 18446744073709551615, result: Bytes { bytes: [255, 255..";
 
 /// Bytes, and the first test that they fail: no bytes, other kinds, a sender of 7, a session of 0, a slot of 0, a next number of 2^48 + 1,
 /// bytes that are missing within a sync point and after one, 4,097 entries, a tag of 2, an op of 641 bytes, and bytes that are missing or
@@ -43,34 +44,35 @@ const REFUSALS: &str = "\
 1a = Kind
 10 = Short
 10 07 = Field
-10 01 00000000 0000 = Short
-10 01 00000000 00000000 = Field
-10 01 00000000 00000001 0000 = Short
-10 01 00000000 00000001 00000000 = Field
-10 01 00000000 00000001 00000001 00 = Trailing
-16 01 00000001 00000001 0001000000000001 00000000 = Field
-17 00 00000000 00000001 000000 = Short
-16 01 00000001 00000001 0000000000000003 0000 = Short
-17 00 00000000 00000001 ffffffff = Short
-17 00 00000000 00000001 00000000 00001001 = Field
-17 00 00000000 00000001 00000000 00000001 = Short
-17 00 00000000 00000001 00000000 00000001 02 = Field
-17 00 00000000 00000001 00000000 00000001 01 00000000 0000000000000001 0281 = Field
-11 00 00000000 00000001 00000001 00000000 0000000000000001 0281 ff*641 = Field
-11 00 00000000 00000001 00000001 00000000 0000000000000001 0280 ff*641 = Trailing
-11 00 00000000 00000001 00000001 00000000 0000000000000001 0280 ff*639 = Short
-17 00 00000000 00000001 00000001 00155cc1 = Field
-17 00 00000000 00000001 00000001 00000002 00 = Short
-17 00 00000000 00000001 00000001 00000000 00000101 = Field
-17 00 00000000 00000001 00000001 00000000 00000001 0000 = Short
-17 00 00000000 00000001 00000002 00000000 00000002 00000001 0000000000000001 0000 00000001 = Field
-17 00 00000000 00000001 00000002 00000000 00000002 00000001 0000000000000001 0000 00000000 = Field
-17 00 00000000 00000001 00000001 00000000 00000001 00000000 0000000000000001 0102 = Field
-17 00 00000000 00000001 00000001 00000000 00000001 00000000 0000000000000001 0001 = Short
-17 00 00000000 00000001 00000001 00000000 00000000 = Short
-17 00 00000000 00000001 ffffffff 00000000 00000000 00000001 = Field
-17 00 00000000 00000001 fffff000 00000000 00000000 00001000 = Field
-17 00 00000000 00000001 00000000 00000000 00000000 00000000 = Trailing";
+10 01 00000000 00000000000001 = Short
+10 01 00000000 0000000000000000 = Field
+15 02 00000001 0000000000000001 00000000 0000000000000000 = Field
+10 01 00000000 0000000000000001 0000 = Short
+10 01 00000000 0000000000000001 00000000 = Field
+10 01 00000000 0000000000000001 00000001 00 = Trailing
+16 01 00000001 0000000000000001 0001000000000001 00000000 = Field
+17 00 00000000 0000000000000001 000000 = Short
+16 01 00000001 0000000000000001 0000000000000003 0000 = Short
+17 00 00000000 0000000000000001 ffffffff = Short
+17 00 00000000 0000000000000001 00000000 00001001 = Field
+17 00 00000000 0000000000000001 00000000 00000001 = Short
+17 00 00000000 0000000000000001 00000000 00000001 02 = Field
+17 00 00000000 0000000000000001 00000000 00000001 01 00000000 0000000000000001 0281 = Field
+11 00 00000000 0000000000000001 00000001 00000000 0000000000000001 0281 ff*641 = Field
+11 00 00000000 0000000000000001 00000001 00000000 0000000000000001 0280 ff*641 = Trailing
+11 00 00000000 0000000000000001 00000001 00000000 0000000000000001 0280 ff*639 = Short
+17 00 00000000 0000000000000001 00000001 00155cc1 = Field
+17 00 00000000 0000000000000001 00000001 00000002 00 = Short
+17 00 00000000 0000000000000001 00000001 00000000 00000101 = Field
+17 00 00000000 0000000000000001 00000001 00000000 00000001 0000 = Short
+17 00 00000000 0000000000000001 00000002 00000000 00000002 00000001 0000000000000001 0000 00000001 = Field
+17 00 00000000 0000000000000001 00000002 00000000 00000002 00000001 0000000000000001 0000 00000000 = Field
+17 00 00000000 0000000000000001 00000001 00000000 00000001 00000000 0000000000000001 0102 = Field
+17 00 00000000 0000000000000001 00000001 00000000 00000001 00000000 0000000000000001 0001 = Short
+17 00 00000000 0000000000000001 00000001 00000000 00000000 = Short
+17 00 00000000 0000000000000001 ffffffff 00000000 00000000 00000001 = Field
+17 00 00000000 0000000000000001 fffff000 00000000 00000000 00001000 = Field
+17 00 00000000 0000000000000001 00000000 00000000 00000000 00000000 = Trailing";
 
 /// The bytes that a message is written as.
 fn spelled(rt: &impl Abort, alloc: Global, message: &Peer) -> Vec<u8>
@@ -156,7 +158,7 @@ fn spells_a_borrowed_change(rt: HostRuntime) {
     let bytes = bytes_of(
         &rt,
         rt.alloc(),
-        "15 02 00000001 00000001 00000000 00000001 0000000000000003 00000001 00000002 6b76 00000001 00000007 0000000000000002 0002 3d76 00000002 00 00",
+        "15 02 00000001 0000000000000001 00000000 0000000000000001 0000000000000003 00000001 00000002 6b76 00000001 00000007 0000000000000002 0002 3d76 00000002 00 00",
     );
     assert!(rt; change.sender() == 2);
     assert!(rt; change.as_slice() == bytes.as_slice());
@@ -177,7 +179,7 @@ fn spells_a_borrowed_start(rt: HostRuntime) {
     let bytes = bytes_of(
         &rt,
         rt.alloc(),
-        "16 01 00000001 00000001 0000000000000003 00000002 00000002 6b76 00000001 00000007 0000000000000002 0002 3d76 00000002 00 00",
+        "16 01 00000001 0000000000000001 0000000000000003 00000002 00000002 6b76 00000001 00000007 0000000000000002 0002 3d76 00000002 00 00",
     );
     assert!(rt; start.sender() == 1);
     assert!(rt; start.as_slice() == bytes.as_slice());
@@ -193,14 +195,14 @@ fn appends_a_borrowed_log(rt: HostRuntime) {
         entries: &NO_OPS,
     });
     encode_with_log(alloc, 0, FIRST, body, &mut to).expect(&rt, "memory");
-    let bytes = b"before\x17\0\0\0\0\0\0\0\0\x01\0\0\0\0\0\0\0\x02\0\0";
+    let bytes = b"before\x17\0\0\0\0\0\0\0\0\0\0\0\0\x01\0\0\0\0\0\0\0\x02\0\0";
     assert!(rt; to.as_slice() == bytes.as_slice());
 }
 
 /// The parts of a ViewChange with the greatest log: all fields before its host's state, its clients without their numbers, and its
 /// entries.
 const BEFORE_HOST: &str =
-    "15 06 ffffffff ffffffff ffffffff ffffffff 0001000000000000 ffffefff 00155cc0";
+    "15 06 ffffffff ffffffffffffffff ffffffff ffffffffffffffff 0001000000000000 ffffefff 00155cc0";
 
 const OF_CLIENT: &str = "ffffffffffffffff 0101 ff*257";
 
@@ -234,7 +236,7 @@ fn longest(rt: &impl Abort, alloc: Global) -> Vec<u8> {
 fn longest_message(rt: HostRuntime) {
     let alloc = rt.alloc();
     let bytes = longest(&rt, alloc);
-    assert!(rt; bytes.len() == 4_152_298);
+    assert!(rt; bytes.len() == 4_152_306);
     let message = decode_peer(alloc, &bytes).expect(&rt, "a message");
     assert!(rt; spelled(&rt, alloc, &message) == bytes);
 }

@@ -1,7 +1,8 @@
 use crate::rows::{check_text, request};
+use nop_types::Dest::One;
 use nop_types::{Actor, Bytes, Config, Dest, Entry, Phase, View};
 use outside::ReadMem;
-use schedule_text::{Event, NextError, Reader};
+use schedule_text::{Event, NextError, Reader, event_line};
 use std::alloc::Global;
 use std::process::Abort;
 use transcript_text::{
@@ -16,7 +17,7 @@ fn event_letter(event: &Event) -> u8 {
         Event::Submit(..) => b's',
         Event::Deliver(..) => b'd',
         Event::Tick(..) => b't',
-        Event::Install(_) => b'i',
+        Event::Install(..) => b'i',
         Event::Crash(_) => b'c',
         Event::Junk(..) => b'j',
     }
@@ -63,7 +64,12 @@ const READ: &str = "\
 +|install s0;install s|1|1|ii..
 +|install s|2|1|7777
 +|install ct|l|1|7777
-+|install s0 ctl|;|1|4444
++|install s0 ctl|;|1|i...
++|install s0 ctl ctl|;|1|4444
++|install s0 ctl|1|1|7777
++|install s0 ctl|0|1|7777
++|install s0| |1|7777
++|install ctl s|0|1|7777
 +|junk r0 4e4f;junk s1 -;junk ctl |0|3000|jjj.
 +|junk ctl |0|3001|5555
 +|junk r0 |g|2|6666
@@ -89,6 +95,17 @@ const READ: &str = "\
 -|Nopaxos 1 replicas 3 sequencers 2 clients |2|1|3333
 -|nopaxos 1 replicas 3 sequencers 2 clients 2| |1|4444
 -|nopaxos 2 replicas 3 sequencers 2 clients |2|1|5555
+-|nopaxos 1 replicas 3 sequencers 2 clients 1 controllers |1|1|5555
+-|nopaxos 3 replicas 3 sequencers 2 clients 1 controllers |1|1|5555
+-|nopaxos 2 replicas 3 sequencers 2 clients 1 controllers|;|1|4444
+-|nopaxos 2 replicas 3 sequencers 2 clients 1 controllers 2| |1|4444
+-|nopaxos 2 replicas 3 sequencers 2 clients 1 controller |2|1|5555
+-|nopaxos 2 replicas 3 sequencers 2 clients 1 controllers |0|1|5555
+-|nopaxos 2 replicas 3 sequencers 2 clients 1 controllers |5|1|5555
+-|nopaxos 2 replicas 3 sequencers 2 clients 1 controllers |1|1|....
+-|nopaxos 2 replicas 3 sequencers 2 clients 1 controllers 2;install s1 ctl1;install s1;install s1 ct|l|1|iii.
+-|nopaxos 2 replicas 3 sequencers 2 clients 1 controllers 2;install s1 ctl|2|1|7777
+-|nopaxos 2 replicas 3 sequencers 2 clients 1 controllers 4;crash ctl3;tick ctl1 probe;junk ctl2 -;deliver 0 ctl|3|1|ctjd
 -|nopaxos 1 replicas 2 sequencers 2 clients |2|1|5555
 -|nopaxos 1 replicas 03 sequencers 2 clients |2|1|5555
 -|nopaxos 1 replicas 259 sequencers 2 clients |2|1|5555
@@ -142,22 +159,60 @@ fn lines_that_are_read(rt: HostRuntime) {
     }
 }
 
+/// What the next line orders: the controller, and the sequencer to move to.
+fn next_install(rt: &impl Abort, reader: &mut Reader, source: &mut ReadMem) -> (u8, u8) {
+    match reader.next(source) {
+        Ok(Some(Event::Install(controller, sequencer))) => (controller, sequencer),
+        _ => panic!(rt; "no install"),
+    }
+}
+
+const INSTALLS: &[u8] = b"\
+nopaxos 2 replicas 3 sequencers 2 clients 1 controllers 3
+install s1 ctl2
+install s1
+install s0 ctl
+";
+
+#[test]
+fn installs_that_are_read(rt: HostRuntime) {
+    let text = Vec::from_slice(rt.alloc(), INSTALLS).expect(&rt, "memory");
+    let mut source = ReadMem::with_limit(text, 4096);
+    let mut reader = Reader::new(rt.alloc());
+    assert!(rt; reader.form() == 0);
+    assert!(rt; next_install(&rt, &mut reader, &mut source) == (2, 1));
+    assert!(rt; next_install(&rt, &mut reader, &mut source) == (0, 1));
+    assert!(rt; next_install(&rt, &mut reader, &mut source) == (0, 0));
+    assert!(rt; reader.form() == 2);
+}
+
+#[test]
+fn installs_that_are_written(rt: HostRuntime) {
+    let mut to = Vec::new(rt.alloc());
+    event_line(&Event::Install(2, 1), &mut to).expect(&rt, "memory");
+    event_line(&Event::Install(0, 1), &mut to).expect(&rt, "memory");
+    let text = std::str::from_utf8(&to).expect(&rt, "text");
+    check_text(&rt, text, "install s1 ctl2\ninstall s1\n");
+}
+
 const LINES: &str = "\
 transcript 1 replicas 3 sequencers 2 clients 16
+transcript 2 replicas 3 sequencers 2 clients 16 controllers 4
 dead ctl
+dead ctl3
 dead c15
 submit c4294967295 18446744073709551615 -
 accept c1 2 6e6f6e65
 busy c3
 send 0 c0 s* request 25
-send 1 s0 r* stamped 37
-send 2 r0 c0 reply 36
-send 3 ctl s1 install 9
-send 4 s1 ctl installed 9
-send 5 ctl s0 ping 9
-send 6 s0 ctl pong 9
-send 18446744073709551615 r1 r2 fragment 31
-replica r6 crashed change 4294967295 2 4096 7
+send 1 s0 r* stamped 41
+send 2 r0 c0 reply 40
+send 3 ctl s1 install 14
+send 4 s1 ctl1 installed 14
+send 5 ctl2 s0 ping 10
+send 6 s0 ctl3 pong 10
+send 18446744073709551615 r1 r2 fragment 35
+replica r6 crashed change 4294967295 18446744073709551615 4096 7
 entry r0 1 noop
 entry r2 4096 c7 9 00ff1a
 history 4096 c7 9 00ff1a
@@ -168,9 +223,12 @@ error line 5 rule 8 index 7 sent 2
 
 /// The lines of requests and of what clients do.
 fn put_requests(rt: &impl Abort, alloc: Global, to: &mut Vec<u8>) {
-    let config = Config::new(3, 2, 16).expect(rt, "limits");
-    transcript_line(config, to).expect(rt, "memory");
-    dead_line(Actor::Controller, to).expect(rt, "memory");
+    let one = Config::new(3, 2, 16, 1).expect(rt, "limits");
+    transcript_line(1, one, to).expect(rt, "memory");
+    let four = Config::new(3, 2, 16, 4).expect(rt, "limits");
+    transcript_line(2, four, to).expect(rt, "memory");
+    dead_line(Actor::Controller(0), to).expect(rt, "memory");
+    dead_line(Actor::Controller(3), to).expect(rt, "memory");
     dead_line(Actor::Client(15), to).expect(rt, "memory");
     let empty = request(rt, alloc, u32::MAX, u64::MAX, b"");
     submit_line(&empty, to).expect(rt, "memory");
@@ -182,25 +240,19 @@ fn put_requests(rt: &impl Abort, alloc: Global, to: &mut Vec<u8>) {
 /// Datagrams: an index, from whom, to whom, a kind and a length.
 const SENDS: [(u64, Actor, Dest, u8, usize); 8] = [
     (0, Actor::Client(0), Dest::Sequencers, 1, 25),
-    (1, Actor::Sequencer(0), Dest::Replicas, 2, 37),
-    (2, Actor::Replica(0), Dest::One(Actor::Client(0)), 3, 36),
-    (3, Actor::Controller, Dest::One(Actor::Sequencer(1)), 4, 9),
-    (4, Actor::Sequencer(1), Dest::One(Actor::Controller), 5, 9),
-    (5, Actor::Controller, Dest::One(Actor::Sequencer(0)), 6, 9),
-    (6, Actor::Sequencer(0), Dest::One(Actor::Controller), 7, 9),
-    (
-        u64::MAX,
-        Actor::Replica(1),
-        Dest::One(Actor::Replica(2)),
-        8,
-        31,
-    ),
+    (1, Actor::Sequencer(0), Dest::Replicas, 2, 41),
+    (2, Actor::Replica(0), One(Actor::Client(0)), 3, 40),
+    (3, Actor::Controller(0), One(Actor::Sequencer(1)), 4, 14),
+    (4, Actor::Sequencer(1), One(Actor::Controller(1)), 5, 14),
+    (5, Actor::Controller(2), One(Actor::Sequencer(0)), 6, 10),
+    (6, Actor::Sequencer(0), One(Actor::Controller(3)), 7, 10),
+    (u64::MAX, Actor::Replica(1), One(Actor::Replica(2)), 8, 35),
 ];
 
 /// The lines of sends.
 fn put_sends(rt: &impl Abort, alloc: Global, to: &mut Vec<u8>) {
     for (index, from, dest, kind, len) in &SENDS {
-        let mut datagram = Vec::from_slice(alloc, &[0x4e, 0x4f, 2, *kind]).expect(rt, "memory");
+        let mut datagram = Vec::from_slice(alloc, &[0x4e, 0x4f, 3, *kind]).expect(rt, "memory");
         datagram.resize(*len, 0).expect(rt, "memory");
         send_line(*index, *from, *dest, &datagram, to).expect(rt, "memory");
     }
@@ -210,7 +262,7 @@ fn put_sends(rt: &impl Abort, alloc: Global, to: &mut Vec<u8>) {
 fn put_state(rt: &impl Abort, alloc: Global, to: &mut Vec<u8>) {
     let view = View {
         leader: u32::MAX,
-        session: 2,
+        session: u64::MAX,
     };
     replica_line(6, true, Phase::Change, view, 4096, 7, to).expect(rt, "memory");
     entry_line(0, 1, &Entry::NoOp, to).expect(rt, "memory");

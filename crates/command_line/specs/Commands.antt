@@ -9,7 +9,7 @@ use Rattle.clap.specs.declared.error.kind.ErrorKind.{ErrorKind}
 use Rattle.hex.specs.Hex.{decode_of}
 use Rattle.hex.specs.declared.error.FromHexError.{FromHexError}
 use Rattle.nop_types.specs.Configuration.{Configuration, is_configuration}
-use Rattle.nop_types.specs.declared.limits.TheConstants.{MAX_OP_BYTES, MAX_SEQUENCERS}
+use Rattle.nop_types.specs.declared.limits.TheConstants.{MAX_OP_BYTES, MAX_SEQUENCERS, MAX_CONTROLLERS}
 use Rattle.command_line.specs.Numbers.{number_of}
 use Rattle.command_line.specs.Program.{program_app}
 use Rattle.command_line.specs.declared.command.Command.{Command}
@@ -35,35 +35,35 @@ choice_of (Some text) = option_map Some (number_of 0 255 text)
 
 -- ---- where a node is
 
-abbrev pub config_of : ℕ → ℕ → ℕ → Configuration
-config_of replicas sequencers clients = record { replicas = replicas; sequencers = sequencers; clients = clients }
+abbrev pub config_of : (replicas sequencers clients controllers : ℕ) → Configuration
+config_of r s c k = record { replicas = r; sequencers = s; clients = c; controllers = k }
 
 abbrev pub site_if : Bool → Configuration → ℕ → ℕ → Option Site
 site_if true config base turns = Some (record { config = config; base = base; turns = turns })
 site_if false config base turns = None
 
-abbrev pub site_by : Option ℕ → Option ℕ → Option ℕ → Option ℕ → Option ℕ → Option Site
-site_by None sequencers clients base turns = None
-site_by (Some r) None clients base turns = None
-site_by (Some r) (Some s) None base turns = None
-site_by (Some r) (Some s) (Some c) None turns = None
-site_by (Some r) (Some s) (Some c) (Some b) None = None
-site_by (Some r) (Some s) (Some c) (Some b) (Some t) = site_if (is_configuration (config_of r s c)) (config_of r s c) b t
+abbrev pub site_by : Option ℕ → Option ℕ → Option ℕ → ℕ → Option ℕ → Option ℕ → Option Site
+site_by None sequencers clients k base turns = None
+site_by (Some r) None clients k base turns = None
+site_by (Some r) (Some s) None k base turns = None
+site_by (Some r) (Some s) (Some c) k None turns = None
+site_by (Some r) (Some s) (Some c) k (Some b) None = None
+site_by (Some r) (Some s) (Some c) k (Some b) (Some t) = site_if (is_configuration (config_of r s c k)) (config_of r s c k) b t
 
 abbrev pub last_turns : ℕ
 last_turns = 2 ^ 64 - 1
 
--- of a node; its configuration has one client, since no core reads that number
+-- of a node; its configuration has one client, since no core reads that number, and the most controllers, of which any may run
 abbrev pub site_of : List Row → Option Site
 site_of rows =
     site_by (value_of rows (codes "replicas") None 0 255) (value_of rows (codes "sequencers") None 0 255) (Some 1)
-    (value_of rows (codes "base") (Some 41000) 1024 65000) (value_of rows (codes "turns") (Some last_turns) 1 last_turns)
+    MAX_CONTROLLERS (value_of rows (codes "base") (Some 41000) 1024 65000) (value_of rows (codes "turns") (Some last_turns) 1 last_turns)
 
--- of a cluster
+-- of a cluster, which has one controller
 abbrev pub cluster_site_of : List Row → Option Site
 cluster_site_of rows =
     site_by (value_of rows (codes "replicas") None 0 255) (value_of rows (codes "sequencers") None 0 255)
-    (value_of rows (codes "clients") None 0 255) (value_of rows (codes "base") (Some 41000) 1024 65000)
+    (value_of rows (codes "clients") None 0 255) 1 (value_of rows (codes "base") (Some 41000) 1024 65000)
     (value_of rows (codes "turns") (Some MAX_CLUSTER_TURNS) 1 MAX_CLUSTER_TURNS)
 
 -- ---- ops
@@ -112,14 +112,14 @@ sequencer_by (Some id) None = None
 sequencer_by (Some id) (Some site) = if nat_lt id site.config.sequencers then Some (Sequencer id site) else None
 
 abbrev pub install_by : Site → ℕ → Option ℕ → Option Command
-install_by site session None = Some (Controller site session None)
-install_by site session (Some j) = if nat_lt j site.config.sequencers then Some (Controller site session (Some j)) else None
+install_by site id None = Some (Controller site id None)
+install_by site id (Some j) = if nat_lt j site.config.sequencers then Some (Controller site id (Some j)) else None
 
 abbrev pub controller_by : Option Site → Option ℕ → Option (Option ℕ) → Option Command
-controller_by None session install = None
+controller_by None id install = None
 controller_by (Some site) None install = None
-controller_by (Some site) (Some session) None = None
-controller_by (Some site) (Some session) (Some install) = install_by site session install
+controller_by (Some site) (Some id) None = None
+controller_by (Some site) (Some id) (Some install) = if nat_lt id site.config.controllers then install_by site id install else None
 
 abbrev pub client_by : Option ℕ → Option Site → Option (List (List ℕ)) → Option Command
 client_by None site ops = None
@@ -143,8 +143,7 @@ abbrev pub sequencer_in : List Row → Option Command
 sequencer_in rows = sequencer_by (value_of rows (codes "id") None 0 255) (site_of rows)
 
 abbrev pub controller_in : List Row → Option Command
-controller_in rows =
-    controller_by (site_of rows) (value_of rows (codes "session") (Some 1) 1 (2 ^ 32 - 1)) (choice_of (first_of (codes "install") rows))
+controller_in rows = controller_by (site_of rows) (value_of rows (codes "id") None 0 255) (choice_of (first_of (codes "install") rows))
 
 abbrev pub client_in : List Row → Option Command
 client_in rows = client_by (value_of rows (codes "id") None 0 (2 ^ 32 - 1)) (site_of rows) (ops_of (all_of (codes "ops") rows))
@@ -206,9 +205,9 @@ IsFit Replay = ⊤
 IsFit (Gen number count) = (1 ≤ count) × (count ≤ 100000)
 IsFit (Node id site) = (id < site.config.replicas) × (site.base ≤ 65000)
 IsFit (Sequencer id site) = (id < MAX_SEQUENCERS) × (site.base ≤ 65000)
-IsFit (Controller site session install) = (1 ≤ session) × (site.base ≤ 65000)
+IsFit (Controller site id install) = (id < MAX_CONTROLLERS) × (site.base ≤ 65000)
 IsFit (Client id site ops) = site.base ≤ 65000
-IsFit (Cluster site ops) = site.base ≤ 65000
+IsFit (Cluster site ops) = (site.base ≤ 65000) × (site.config.controllers ≡ 1)
 IsFit Check = ⊤
 
 abbrev pub texts_of : {Z : Type 0} → List (String Z) → List Text

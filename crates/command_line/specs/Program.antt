@@ -30,10 +30,7 @@ unfoldable pub member_app : Text → App
 member_app name = with_rule (site_app name) (option_rule (codes "id") true)
 
 unfoldable pub controller_app : App
-controller_app =
-    with_rule (with_rule (site_app (codes "controller"))
-    (option_rule (codes "session") false))
-    (option_rule (codes "install") false)
+controller_app = with_rule (member_app (codes "controller")) (option_rule (codes "install") false)
 
 unfoldable pub client_app : App
 client_app = with_rule (member_app (codes "client")) ops_rule

@@ -19,8 +19,8 @@ pub enum Command {
     Node(u8, Site),
     /// A sequencer with this number.
     Sequencer(u8, Site),
-    /// The controller, its first session, and the sequencer that it installs at once.
-    Controller(Site, u32, Option<u8>),
+    /// A controller with this number, and the sequencer that it installs at once.
+    Controller(Site, u8, Option<u8>),
     /// A client with this number, and the ops that it submits.
     Client(u32, Site, Ops),
     /// All actors in one process, and the ops that its clients submit.

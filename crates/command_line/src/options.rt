@@ -7,7 +7,7 @@ ghost use Rattle.command_line.specs.Commands.{value_of, choice_of, texts_in, sit
 use crate::command::Site;
 use crate::number::number;
 use clap::ArgMatches;
-use nop_types::Config;
+use nop_types::{Config, MAX_CONTROLLERS};
 
 /// The most turns of a cluster, which keeps each event.
 pub const MAX_CLUSTER_TURNS: u64 = 10_000;
@@ -47,19 +47,10 @@ pub(crate) fn small(matches: &ArgMatches<'_>, name: &str) -> Option<u8>
 }
 
 /// A number of 32 bits.
-pub(crate) fn medium(
-    matches: &ArgMatches<'_>,
-    name: &str,
-    default: Option<u64>,
-    least: u64,
-) -> Option<u32>
-    requires least { IfSome default (λ n. least ≤ n) }
-    requires limit { IfSome default (λ n. n ≤ 4294967295) }
-    ensures value { result ≡ value_of (rows_of (found_of matches.now)) name.now default
-        least 4294967295 }
-    ensures least { IfSome result (λ n. least ≤ n) }
+pub(crate) fn medium(matches: &ArgMatches<'_>, name: &str) -> Option<u32>
+    ensures { result ≡ value_of (rows_of (found_of matches.now)) name.now None 0 4294967295 }
 {
-    match value(matches, name, default, least, 4_294_967_295) {
+    match value(matches, name, None, 0, 4_294_967_295) {
         Some(n) => Some(n as u32),
         None => None,
     }
@@ -131,19 +122,21 @@ fn site_by(
     replicas: Option<u8>,
     sequencers: Option<u8>,
     clients: Option<u8>,
+    controllers: u8,
     base: Option<u16>,
     turns: Option<u64>,
 ) -> Option<Site>
     requires { IfSome base (λ n. n ≤ 65000) }
-    ensures value { result ≡ site_by replicas sequencers clients base turns }
+    ensures value { result ≡ site_by replicas sequencers clients controllers base turns }
     ensures base { IfSome result (λ s. s.base ≤ 65000) }
+    ensures controllers { IfSome result (λ s. s.config.controllers ≡ controllers) }
 {
     let (Some(replicas), Some(sequencers), Some(clients), Some(base), Some(turns)) = (
         replicas, sequencers, clients, base, turns,
     ) else {
         return None;
     };
-    match Config::new(replicas, sequencers, clients) {
+    match Config::new(replicas, sequencers, clients, controllers) {
         Some(config) => Some(Site {
             config,
             base,
@@ -162,6 +155,7 @@ pub(crate) fn site(matches: &ArgMatches<'_>) -> Option<Site>
         small(matches, "replicas"),
         small(matches, "sequencers"),
         Some(1),
+        MAX_CONTROLLERS,
         base(matches),
         turns(matches, u64::MAX),
     )
@@ -171,11 +165,13 @@ pub(crate) fn site(matches: &ArgMatches<'_>) -> Option<Site>
 pub(crate) fn cluster_site(matches: &ArgMatches<'_>) -> Option<Site>
     ensures value { result ≡ cluster_site_of (rows_of (found_of matches.now)) }
     ensures base { IfSome result (λ s. s.base ≤ 65000) }
+    ensures controllers { IfSome result (λ s. s.config.controllers ≡ 1) }
 {
     site_by(
         small(matches, "replicas"),
         small(matches, "sequencers"),
         small(matches, "clients"),
+        1,
         base(matches),
         turns(matches, MAX_CLUSTER_TURNS),
     )

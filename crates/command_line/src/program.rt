@@ -30,7 +30,7 @@ struct Row<'a> {
     own: &'a [Word<'a>],
 }
 
-/// The number of a replica, a sequencer or a client.
+/// The number of a replica, a sequencer, a controller or a client.
 const ID: Word<'static> = Word::Required("id");
 
 /// The options of a node and of a cluster.
@@ -66,7 +66,7 @@ const COMMANDS: &[Row<'static>] = &[
     Row {
         name: "controller",
         shared: SITE,
-        own: &[Word::Optional("session"), Word::Optional("install")],
+        own: &[ID, Word::Optional("install")],
     },
     Row {
         name: "client",

@@ -1,4 +1,5 @@
-ghost use Rattle.std.specs.Prelude.{◌≡◌, ◌≤◌, IfOk, IfSome, MatchOption};
+ghost use Rattle.std.specs.Prelude.{◌≡◌, ◌<◌, ◌≤◌, IfOk, IfSome, MatchOption};
+ghost use Rattle.nop_types.specs.declared.limits.TheConstants.{MAX_CONTROLLERS};
 ghost use Rattle.clap.specs.Words.{app_of, found_of, rows_of, subcommand_rows_of};
 ghost use Rattle.command_line.specs.Program.{program_app};
 ghost use Rattle.command_line.specs.Commands.{IsFit, gen_by, gen_in, node_by, node_in, sequencer_by, sequencer_in};
@@ -72,30 +73,27 @@ fn sequencer(matches: &ArgMatches<'_>) -> Option<Command>
     sequencer_by(small(matches, "id"), site(matches))
 }
 
-fn install_by(site: Site, session: u32, install: Option<u8>) -> Option<Command>
-    requires session { 1 ≤ session }
+fn install_by(site: Site, id: u8, install: Option<u8>) -> Option<Command>
+    requires id { id < MAX_CONTROLLERS }
     requires base { site.base ≤ 65000 }
-    ensures value { result ≡ install_by site session install }
+    ensures value { result ≡ install_by site id install }
     ensures fits { IfSome result IsFit }
 {
     match install {
         Some(j) if j >= site.config.sequencers() => None,
-        _ => Some(Command::Controller(site, session, install)),
+        _ => Some(Command::Controller(site, id, install)),
     }
 }
 
-fn controller_by(
-    site: Option<Site>,
-    session: Option<u32>,
-    install: Option<Option<u8>>,
-) -> Option<Command>
-    requires session { IfSome session (λ n. 1 ≤ n) }
-    requires base { IfSome site (λ s. s.base ≤ 65000) }
-    ensures value { result ≡ controller_by site session install }
+fn controller_by(site: Option<Site>, id: Option<u8>, install: Option<Option<u8>>) -> Option<Command>
+    requires { IfSome site (λ s. s.base ≤ 65000) }
+    ensures value { result ≡ controller_by site id install }
     ensures fits { IfSome result IsFit }
 {
-    match (site, session, install) {
-        (Some(site), Some(session), Some(install)) => install_by(site, session, install),
+    match (site, id, install) {
+        (Some(site), Some(id), Some(install)) if id < site.config.controllers() => {
+            install_by(site, id, install)
+        }
         _ => None,
     }
 }
@@ -106,7 +104,7 @@ fn controller(matches: &ArgMatches<'_>) -> Option<Command>
 {
     controller_by(
         site(matches),
-        medium(matches, "session", Some(1), 1),
+        small(matches, "id"),
         choice(matches, "install"),
     )
 }
@@ -133,14 +131,15 @@ fn client(alloc: Global, matches: &ArgMatches<'_>) -> Result<Option<Command>, No
     ensures value { IfOk result (λ c. c ≡ client_in (rows_of (found_of matches.now))) }
     ensures fits { IfOk result (λ c. IfSome c IsFit) }
 {
-    match (medium(matches, "id", None, 0), site(matches)) {
+    match (medium(matches, "id"), site(matches)) {
         (Some(id), Some(site)) => client_by(alloc, id, site, ops(matches)),
         _ => Ok(None),
     }
 }
 
 fn cluster_by(alloc: Global, site: Site, ops: Option<&[&str]>) -> Result<Option<Command>, NoMemory>
-    requires { site.base ≤ 65000 }
+    requires base { site.base ≤ 65000 }
+    requires controllers { site.config.controllers ≡ 1 }
     ensures value { IfOk result (λ c. c ≡ cluster_by (Some site) (ops_of (texts_in ops.entry))) }
     ensures fits { IfOk result (λ c. IfSome c IsFit) }
 {

@@ -97,7 +97,7 @@ module _ {S L : Type 0} (m : Meaning S) (w : LinkView L) (p : PortsView L) (valu
   client_answers (Some (Gen number count)) s h i ends = tt
   client_answers (Some (Node id site)) s h i ends = tt
   client_answers (Some (Sequencer id site)) s h i ends = tt
-  client_answers (Some (Controller site session install)) s h i ends = tt
+  client_answers (Some (Controller site number install)) s h i ends = tt
   client_answers (Some (Client id site ops)) s h i ends = answers_ops id site ops w p values h i s ends
   client_answers (Some (Cluster site ops)) s h i ends = tt
   client_answers (Some Check) s h i ends = tt
@@ -108,7 +108,7 @@ no_answers (Some Replay) h = tt
 no_answers (Some (Gen number count)) h = tt
 no_answers (Some (Node id site)) h = tt
 no_answers (Some (Sequencer id site)) h = tt
-no_answers (Some (Controller site session install)) h = tt
+no_answers (Some (Controller site number install)) h = tt
 no_answers (Some (Client id site ops)) h = tt
 no_answers (Some (Cluster site ops)) h = tt
 no_answers (Some Check) h = tt

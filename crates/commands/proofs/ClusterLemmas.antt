@@ -25,7 +25,7 @@ module _ {S L : Type 0} (m : Meaning S) (w : boxed.LinkView L) (p : PortsView L)
   not_served (Some (Gen number count)) h = tt
   not_served (Some (Node id site)) h = tt
   not_served (Some (Sequencer id site)) h = tt
-  not_served (Some (Controller site session install)) h = tt
+  not_served (Some (Controller site number install)) h = tt
   not_served (Some (Client id site ops)) h = tt
   not_served (Some (Cluster site ops)) h = inl refl
   not_served (Some Check) h = tt
@@ -39,7 +39,7 @@ module _ {S L : Type 0} (m : Meaning S) (w : boxed.LinkView L) (p : PortsView L)
   cluster_ends_well (Some (Gen number count)) s h i x y runs ends ports write sink polls = absurd cc
   cluster_ends_well (Some (Node id site)) s h i x y runs ends ports write sink polls = absurd cc
   cluster_ends_well (Some (Sequencer id site)) s h i x y runs ends ports write sink polls = absurd cc
-  cluster_ends_well (Some (Controller site session install)) s h i x y runs ends ports write sink polls = absurd cc
+  cluster_ends_well (Some (Controller site number install)) s h i x y runs ends ports write sink polls = absurd cc
   cluster_ends_well (Some (Client id site ops)) s h i x y runs ends ports write sink polls = absurd cc
   cluster_ends_well (Some (Cluster site ops)) statuses.Done h i x y runs ends ports write sink polls = tt
   cluster_ends_well (Some (Cluster site ops)) statuses.Malformed h i x y runs ends ports write sink polls = ends

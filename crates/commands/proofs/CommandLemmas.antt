@@ -42,8 +42,8 @@ module _ {S L : Type 0} (m : Meaning S) (w : LinkView L) (p : PortsView L) (valu
       ends_well (replica_task m id site) w p values h i s x y ends ports write sink polls
   command_ends_well (Some (Sequencer id site)) s h i x y runs ends ports write sink polls =
       ends_well (sequencer_task id site) w p values h i s x y ends ports write sink polls
-  command_ends_well (Some (Controller site session install)) s h i x y runs ends ports write sink polls =
-      ends_well (controller_task site session install) w p values h i s x y ends ports write sink polls
+  command_ends_well (Some (Controller site number install)) s h i x y runs ends ports write sink polls =
+      ends_well (controller_task site number install) w p values h i s x y ends ports write sink polls
   command_ends_well (Some (Client id site ops)) s h i x y runs ends ports write sink polls =
       ends_well (client_task id site ops) w p values h i s x y ends ports write sink polls
   command_ends_well (Some (Cluster site ops)) s h i x y runs ends ports write sink polls = absurd cc
@@ -59,7 +59,7 @@ module _ {S L : Type 0} (m : Meaning S) (w : LinkView L) (p : PortsView L) (valu
   not_begun (Some (Gen number count)) h same = tt
   not_begun (Some (Node id site)) h same = nowhere (replica_task m id site) h same
   not_begun (Some (Sequencer id site)) h same = nowhere (sequencer_task id site) h same
-  not_begun (Some (Controller site session install)) h same = nowhere (controller_task site session install) h same
+  not_begun (Some (Controller site number install)) h same = nowhere (controller_task site number install) h same
   not_begun (Some (Client id site ops)) h same = nowhere (client_task id site ops) h same
   not_begun (Some (Cluster site ops)) h same = tt
   not_begun (Some Check) h same = tt
@@ -84,7 +84,7 @@ no_drawing m (Some Replay) h = tt
 no_drawing m (Some (Gen number count)) h = part_nil h (drawn_summary m number count) (summary_some m number count)
 no_drawing m (Some (Node id site)) h = tt
 no_drawing m (Some (Sequencer id site)) h = tt
-no_drawing m (Some (Controller site session install)) h = tt
+no_drawing m (Some (Controller site number install)) h = tt
 no_drawing m (Some (Client id site ops)) h = tt
 no_drawing m (Some (Cluster site ops)) h = tt
 no_drawing m (Some Check) h = tt
@@ -105,7 +105,7 @@ draws_well m (Some (Gen number count)) statuses.Unanswered h i x y is ends write
 draws_well m (Some (Gen number count)) statuses.Refuted h i x y is ends write sink = ends
 draws_well m (Some (Node id site)) s h i x y is ends write sink = absurd cc
 draws_well m (Some (Sequencer id site)) s h i x y is ends write sink = absurd cc
-draws_well m (Some (Controller site session install)) s h i x y is ends write sink = absurd cc
+draws_well m (Some (Controller site number install)) s h i x y is ends write sink = absurd cc
 draws_well m (Some (Client id site ops)) s h i x y is ends write sink = absurd cc
 draws_well m (Some (Cluster site ops)) s h i x y is ends write sink = absurd cc
 draws_well m (Some Check) s h i x y is ends write sink = absurd cc

@@ -68,10 +68,10 @@ datagram_keeps : (s : ClientState) (r : Result Datagram Bad) → Keeps s (on_dat
 datagram_keeps s (Ok (datagrams.Reply p)) = reply_keeps s p (is_expected s p) refl
 datagram_keeps s (Ok (datagrams.Request r)) = nothing_kept s
 datagram_keeps s (Ok (datagrams.Stamped p)) = nothing_kept s
-datagram_keeps s (Ok (datagrams.Install sequencer session)) = nothing_kept s
-datagram_keeps s (Ok (datagrams.Installed sequencer session)) = nothing_kept s
-datagram_keeps s (Ok (datagrams.Ping sequencer round)) = nothing_kept s
-datagram_keeps s (Ok (datagrams.Pong sequencer round)) = nothing_kept s
+datagram_keeps s (Ok (datagrams.Install controller sequencer session)) = nothing_kept s
+datagram_keeps s (Ok (datagrams.Installed controller sequencer session)) = nothing_kept s
+datagram_keeps s (Ok (datagrams.Ping controller sequencer round)) = nothing_kept s
+datagram_keeps s (Ok (datagrams.Pong controller sequencer round)) = nothing_kept s
 datagram_keeps s (Ok (datagrams.Fragment f)) = nothing_kept s
 datagram_keeps s (Err e) = nothing_kept s
 

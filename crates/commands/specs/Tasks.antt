@@ -48,9 +48,9 @@ install_tick (Some j) = Some (Install j)
 
 -- the install order is a tick before the first turn
 abbrev pub controller_task : Site → ℕ → Option ℕ → NodeTask ControllerState
-controller_task site session install =
-    task_of controller.next never_done controller.timers (controller.opening site.config session)
-    (address_of site actors.Controller) (first_inputs (install_tick install)) site.turns false
+controller_task site number install =
+    task_of controller.next never_done controller.timers (controller.opening site.config number)
+    (address_of site (actors.Controller number)) (first_inputs (install_tick install)) site.turns false
 
 -- the client waits until its ops are accepted
 abbrev pub client_task : ℕ → Site → List (List ℕ) → NodeTask ClientState
@@ -66,7 +66,7 @@ CommandEnds m (Some Replay) w p values s h i = ⊤
 CommandEnds m (Some (Gen number count)) w p values s h i = ⊤
 CommandEnds m (Some (Node id site)) w p values s h i = NodeEnds (replica_task m id site) w p values s h i
 CommandEnds m (Some (Sequencer id site)) w p values s h i = NodeEnds (sequencer_task id site) w p values s h i
-CommandEnds m (Some (Controller site session install)) w p values s h i = NodeEnds (controller_task site session install) w p values s h i
+CommandEnds m (Some (Controller site number install)) w p values s h i = NodeEnds (controller_task site number install) w p values s h i
 CommandEnds m (Some (Client id site ops)) w p values s h i = NodeEnds (client_task id site ops) w p values s h i
 CommandEnds m (Some (Cluster site ops)) w p values s h i = ⊤
 CommandEnds m (Some Check) w p values s h i = ⊤
@@ -100,7 +100,7 @@ ClientAnswers (Some Replay) s h i = ⊤
 ClientAnswers (Some (Gen number count)) s h i = ⊤
 ClientAnswers (Some (Node id site)) s h i = ⊤
 ClientAnswers (Some (Sequencer id site)) s h i = ⊤
-ClientAnswers (Some (Controller site session install)) s h i = ⊤
+ClientAnswers (Some (Controller site number install)) s h i = ⊤
 ClientAnswers (Some (Client id site ops)) s h i = AnswersOps (address_of site (actors.Client id)) (length ops) s h i
 ClientAnswers (Some (Cluster site ops)) s h i = ⊤
 ClientAnswers (Some Check) s h i = ⊤
@@ -112,7 +112,7 @@ runs_node (Some Replay) = false
 runs_node (Some (Gen number count)) = false
 runs_node (Some (Node id site)) = true
 runs_node (Some (Sequencer id site)) = true
-runs_node (Some (Controller site session install)) = true
+runs_node (Some (Controller site number install)) = true
 runs_node (Some (Client id site ops)) = true
 runs_node (Some (Cluster site ops)) = false
 runs_node (Some Check) = false
@@ -124,7 +124,7 @@ waits_for_ops (Some Replay) = false
 waits_for_ops (Some (Gen number count)) = false
 waits_for_ops (Some (Node id site)) = false
 waits_for_ops (Some (Sequencer id site)) = false
-waits_for_ops (Some (Controller site session install)) = false
+waits_for_ops (Some (Controller site number install)) = false
 waits_for_ops (Some (Client id site ops)) = true
 waits_for_ops (Some (Cluster site ops)) = false
 waits_for_ops (Some Check) = false
@@ -138,7 +138,7 @@ DrawingEnds m (Some Replay) s h i = ⊤
 DrawingEnds m (Some (Gen number count)) s h i = GenEnds m number count h i s
 DrawingEnds m (Some (Node id site)) s h i = ⊤
 DrawingEnds m (Some (Sequencer id site)) s h i = ⊤
-DrawingEnds m (Some (Controller site session install)) s h i = ⊤
+DrawingEnds m (Some (Controller site number install)) s h i = ⊤
 DrawingEnds m (Some (Client id site ops)) s h i = ⊤
 DrawingEnds m (Some (Cluster site ops)) s h i = ⊤
 DrawingEnds m (Some Check) s h i = ⊤
@@ -150,7 +150,7 @@ draws (Some Replay) = false
 draws (Some (Gen number count)) = true
 draws (Some (Node id site)) = false
 draws (Some (Sequencer id site)) = false
-draws (Some (Controller site session install)) = false
+draws (Some (Controller site number install)) = false
 draws (Some (Client id site ops)) = false
 draws (Some (Cluster site ops)) = false
 draws (Some Check) = false

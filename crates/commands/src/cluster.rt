@@ -21,7 +21,8 @@ pub(crate) fn run_cluster<H: Host, P: Ports, T: Clock, K: Sink>(
     clock: &mut T,
     sink: &mut K,
 ) -> Status
-    requires { site.now.base ≤ 65000 }
+    requires base { site.now.base ≤ 65000 }
+    requires controllers { site.now.config.controllers ≡ 1 }
     ensures ends { ClusterEnds H.meaning site.now ops
         (boxed.link_view P.L.answers P.L.own_port P.L.trace P.L.loss_count P.L.fault_count)
         (ports_view (P.to_come ports.old) (P.detached ports.old) (P.detached ports.new)

@@ -1,7 +1,7 @@
 //! The commands that run a node.
 
 ghost use Rattle.std.specs.Prelude.{◌≡◌, ◌≤◌, ◌<◌, ◌+◌, false, length, true};
-ghost use Rattle.nop_types.specs.declared.limits.TheConstants.{MAX_SEQUENCERS};
+ghost use Rattle.nop_types.specs.declared.limits.TheConstants.{MAX_SEQUENCERS, MAX_CONTROLLERS};
 ghost use Rattle.outside.specs.Causes.{Rose};
 ghost use Rattle.commands.specs.Nodes.{IsNodeStatus, link_view, ports_view, NodeEnds, writes_after};
 ghost use Rattle.commands.specs.Tasks.{install_tick, replica_task, sequencer_task, controller_task, client_task};
@@ -119,15 +119,15 @@ fn install(j: Option<u8>) -> Option<Tick>
 pub(crate) fn run_controller<P: Ports, T: Clock, K: Sink>(
     alloc: Global,
     site: &Site,
-    session: u32,
+    number: u8,
     j: Option<u8>,
     ports: &mut P,
     clock: &mut T,
     sink: &mut K,
 ) -> Status
-    requires session { 1 ≤ session }
+    requires number { number < MAX_CONTROLLERS }
     requires base { site.now.base ≤ 65000 }
-    ensures ends { NodeEnds (controller_task site.now session j)
+    ensures ends { NodeEnds (controller_task site.now number j)
         (link_view P.L.own_port P.L.trace P.L.loss_count P.L.fault_count)
         (ports_view (P.to_come ports.old) (P.detached ports.old) (P.detached ports.new)
         (P.fault_count ports.old) (P.fault_count ports.new))
@@ -139,10 +139,10 @@ pub(crate) fn run_controller<P: Ports, T: Clock, K: Sink>(
         (K.fault_count sink.new) }
     ensures writes { K.fault_count sink.new ≡ writes_after result (K.fault_count sink.old) }
 {
-    match Controller::new(alloc, site.config, session) {
+    match Controller::new(alloc, site.config, number) {
         Ok(core) => {
             let mut core = core;
-            let at = address(site, Actor::Controller);
+            let at = address(site, Actor::Controller(number));
             let task = endless(site, install(j));
             run_core(alloc, &mut core, &at, &task, ports, clock, sink)
         }

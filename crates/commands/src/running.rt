@@ -132,8 +132,8 @@ fn carry_out<H: Host, S: Source, K: Sink, P: Ports, C: Clock>(
         Command::Gen(number, count) => run_gen::<H, K>(alloc, number, count, sink),
         Command::Node(id, site) => run_replica::<H, P, C, K>(alloc, id, &site, ports, clock, sink),
         Command::Sequencer(id, site) => run_sequencer(alloc, id, &site, ports, clock, sink),
-        Command::Controller(site, session, install) => {
-            run_controller(alloc, &site, session, install, ports, clock, sink)
+        Command::Controller(site, number, install) => {
+            run_controller(alloc, &site, number, install, ports, clock, sink)
         }
         Command::Client(id, site, ops) => run_client(alloc, id, &site, ops, ports, clock, sink),
         Command::Cluster(site, ops) => {

@@ -1,39 +1,47 @@
-ghost use Rattle.std.specs.Prelude.{◌≤◌};
+ghost use Rattle.std.specs.Prelude.{◌<◌};
 
 use crate::rows::{check_shown, check_text};
 use crate::scripts::{play, timers};
 use client_quorum::Client;
-use nop_types::{Config, Core, Op, Outbox, Request};
+use nop_types::{Config, Core, MAX_CONTROLLERS, Op, Outbox, Request};
 use sequencer::Sequencer;
 use session_control::Controller;
 use std::alloc::Global;
 use std::process::Abort;
 use std::slice::from_mut;
 
-/// Sequencer 1 stamps nothing without a session, and answers pings of its own. Session 2 is installed twice, and the numbers go on;
-/// an older session is not taken, and a newer one is. What is for others, what does not decode, and what is no packet change nothing.
+/// Sequencer 1 stamps nothing without a session, and answers pings of its own, each to its controller. Session 2 is installed twice, and
+/// the numbers go on. A greater session of another controller is taken, and a smaller one is answered with that. What is for others, what
+/// does not decode, and what is no packet change nothing.
 const SEQUENCER: &str = "\
-0 packet 4e4f0201 00000000 0000000000000001 0007 5000016b000176
-0 packet 4e4f0206 01 00000003
-  0 One(Controller) 4e4f02070100000003
-0 packet 4e4f0206 00 00000003
-0 packet 4e4f0204 02 00000002
-0 packet 4e4f0204 01 00000002
-  1 One(Controller) 4e4f02050100000002
-0 packet 4e4f0201 00000000 0000000000000001 0007 5000016b000176
-  2 Replicas 4e4f020200000002000000000000000100000000000000000000000100075000016b000176
-0 packet 4e4f0204 01 00000002
-  3 One(Controller) 4e4f02050100000002
-0 packet 4e4f0201 00000000 0000000000000001 0007 5000016b000176
-  4 Replicas 4e4f020200000002000000000000000200000000000000000000000100075000016b000176
-0 packet 4e4f0204 01 00000001
-0 packet 4e4f0204 01 ffffffff
-  5 One(Controller) 4e4f020501ffffffff
-0 packet 4e4f0205 01 00000002
-0 packet 4e4f0207 01 00000002
-0 packet 4e4f0202 00000001 0000000000000001 00000000 0000000000000001 0000
-0 packet 4e4f0204 01 00000000
-0 packet 4e4f0204 01 000000
+0 packet 4e4f0301 00000000 0000000000000001 0007 5000016b000176
+0 packet 4e4f0306 00 01 00000003
+  0 One(Controller(0)) 4e4f0307000100000003
+0 packet 4e4f0306 03 01 00000003
+  1 One(Controller(3)) 4e4f0307030100000003
+0 packet 4e4f0306 00 00 00000003
+0 packet 4e4f0304 00 02 0000000000000002
+0 packet 4e4f0304 00 01 0000000000000002
+  2 One(Controller(0)) 4e4f030500010000000000000002
+0 packet 4e4f0301 00000000 0000000000000001 0007 5000016b000176
+  3 Replicas 4e4f03020000000000000002000000000000000100000000000000000000000100075000016b000176
+0 packet 4e4f0304 00 01 0000000000000002
+  4 One(Controller(0)) 4e4f030500010000000000000002
+0 packet 4e4f0301 00000000 0000000000000001 0007 5000016b000176
+  5 Replicas 4e4f03020000000000000002000000000000000200000000000000000000000100075000016b000176
+0 packet 4e4f0304 01 01 0000000100000001
+  6 One(Controller(1)) 4e4f030501010000000100000001
+0 packet 4e4f0304 00 01 0000000000000003
+  7 One(Controller(0)) 4e4f030500010000000100000001
+0 packet 4e4f0301 00000000 0000000000000001 0007 5000016b000176
+  8 Replicas 4e4f03020000000100000001000000000000000100000000000000000000000100075000016b000176
+0 packet 4e4f0304 03 01 ffffffffffffffff
+  9 One(Controller(3)) 4e4f03050301ffffffffffffffff
+0 packet 4e4f0305 00 01 0000000000000002
+0 packet 4e4f0307 00 01 00000002
+0 packet 4e4f0302 0000000000000001 0000000000000001 00000000 0000000000000001 0000
+0 packet 4e4f0304 00 01 0000000000000000
+0 packet 4e4f0304 00 01 00000000000000
 0 packet 4e
 0 submit 6f70
 0 tick resend
@@ -46,7 +54,7 @@ fn a_sequencer(rt: HostRuntime) {
     let mut core = Sequencer::new(alloc, 1).expect(&rt, "memory");
     let mut sent = Outbox::new(alloc);
     play(&rt, alloc, from_mut(&mut core), &mut sent, SEQUENCER);
-    let told = "SequencerState { number: 1, session: 4294967295, next: 1 }";
+    let told = "SequencerState { number: 1, session: 18446744073709551615, next: 1 }";
     check_shown(&rt, alloc, &core.state(), told);
     check_text(&rt, &timers(&rt, alloc, &core), "None None None None");
     let request = Request {
@@ -56,93 +64,161 @@ fn a_sequencer(rt: HostRuntime) {
     };
     let stamped = core.stamp(&request).expect(&rt, "memory");
     let told =
-        "Some(Stamped { session: 4294967295, number: 1, request: Request { client: 7, id: 5, op: Op { bytes: [111, 112] } } })";
+        "Some(Stamped { session: 18446744073709551615, number: 1, request: Request { client: 7, id: 5, op: Op { bytes: [111, 112] } } })";
     check_shown(&rt, alloc, &stamped, told);
 }
 
-/// Probes that are answered and some that are not, and orders, with two sequencers. Answers of an older round, of another sequencer
-/// and for another session do not count. After three misses the next sequencer gets a new session, and after the last the first.
+/// Probes that are answered and some that are not, and orders, with two sequencers. Answers of an older round, of another sequencer,
+/// for another session and for another controller do not count. After three misses the next sequencer gets a new session, and after the
+/// last the first.
 const CONTROLLER: &str = "\
 0 tick resend
 0 tick probe
-  0 One(Sequencer(0)) 4e4f02060000000001
+  0 One(Sequencer(0)) 4e4f0306000000000001
 0 tick probe
-  1 One(Sequencer(0)) 4e4f02060000000002
-0 packet 4e4f0207 00 00000001
-0 packet 4e4f0207 01 00000002
-0 packet 4e4f0207 00 00000002
+  1 One(Sequencer(0)) 4e4f0306000000000002
+0 packet 4e4f0307 00 00 00000001
+0 packet 4e4f0307 00 01 00000002
+0 packet 4e4f0307 00 00 00000002
 0 tick probe
-  2 One(Sequencer(0)) 4e4f02060000000003
+  2 One(Sequencer(0)) 4e4f0306000000000003
 0 tick probe
-  3 One(Sequencer(0)) 4e4f02060000000004
+  3 One(Sequencer(0)) 4e4f0306000000000004
 0 tick probe
-  4 One(Sequencer(0)) 4e4f02060000000005
+  4 One(Sequencer(0)) 4e4f0306000000000005
+0 packet 4e4f0307 01 00 00000005
 0 tick probe
-  5 One(Sequencer(1)) 4e4f02040100000002
+  5 One(Sequencer(1)) 4e4f030400010000000000000002
 0 tick resend
-  6 One(Sequencer(1)) 4e4f02040100000002
-0 packet 4e4f0205 00 00000002
-0 packet 4e4f0205 01 00000001
+  6 One(Sequencer(1)) 4e4f030400010000000000000002
+0 packet 4e4f0305 00 00 0000000000000002
+0 packet 4e4f0305 00 01 0000000000000001
+0 packet 4e4f0305 01 01 0000000000000002
 0 tick resend
-  7 One(Sequencer(1)) 4e4f02040100000002
-0 packet 4e4f0205 01 00000002
+  7 One(Sequencer(1)) 4e4f030400010000000000000002
+0 packet 4e4f0305 00 01 0000000000000002
 0 tick resend
 0 tick install 2
 0 tick install 1
-  8 One(Sequencer(1)) 4e4f02040100000003
+  8 One(Sequencer(1)) 4e4f030400010000000000000003
 0 tick probe
-  9 One(Sequencer(1)) 4e4f02060100000006
+  9 One(Sequencer(1)) 4e4f0306000100000006
 0 tick probe
-  10 One(Sequencer(1)) 4e4f02060100000007
+  10 One(Sequencer(1)) 4e4f0306000100000007
 0 tick probe
-  11 One(Sequencer(1)) 4e4f02060100000008
+  11 One(Sequencer(1)) 4e4f0306000100000008
 0 tick probe
-  12 One(Sequencer(0)) 4e4f02040000000004
+  12 One(Sequencer(0)) 4e4f030400000000000000000004
 0 tick suspect
-0 packet 4e4f0204 00 00000009
-0 packet 4e4f0206 00 00000009
-0 packet 4e4f0205 00 00000004 00
+0 packet 4e4f0304 00 00 0000000000000009
+0 packet 4e4f0306 00 00 00000009
+0 packet 4e4f0305 00 00 0000000000000004 00
 0 submit 6f70
 ";
 
-/// A controller of a group with one client.
-fn controller(rt: &impl Abort, alloc: Global, group: (u8, u8), session: u32) -> Controller
-    requires { 1 ≤ session }
+/// A controller of a group with one client and four controllers.
+fn controller(rt: &impl Abort, alloc: Global, group: (u8, u8), number: u8) -> Controller
+    requires { number < MAX_CONTROLLERS }
 {
     let (replicas, sequencers) = group;
-    let config = Config::new(replicas, sequencers, 1).expect(rt, "a group");
-    Controller::new(alloc, config, session).expect(rt, "memory")
+    let config = Config::new(replicas, sequencers, 1, 4).expect(rt, "a group");
+    Controller::new(alloc, config, number).expect(rt, "memory")
 }
 
 #[test]
 fn a_controller(rt: HostRuntime) {
     let alloc = rt.alloc();
-    let mut core = controller(&rt, alloc, (3, 2), 1);
+    let mut core = controller(&rt, alloc, (3, 2), 0);
     let mut sent = Outbox::new(alloc);
     play(&rt, alloc, from_mut(&mut core), &mut sent, CONTROLLER);
     let told =
-        "ControllerState { config: Config { replicas: 3, sequencers: 2, clients: 1 }, session: 4, current: 0, confirmed: false, round: 8, heard: true, missed: 0 }";
+        "ControllerState { config: Config { replicas: 3, sequencers: 2, clients: 1, controllers: 4 }, number: 0, session: 4, seen: 0, current: 0, confirmed: false, round: 8, heard: true, missed: 0 }";
     check_shown(&rt, alloc, &core.state(), told);
     let told = "Some((Resend, 100)) Some((Probe, 300)) None None";
     check_text(&rt, &timers(&rt, alloc, &core), told);
 }
 
-/// With the last session no move is made.
+/// Two controllers give sessions to one sequencer, the other one the greater. The first is told that, and passes it: its next session is
+/// the first one of its next epoch.
+const CONTROLLERS: &str = "\
+1 tick install 1
+  0 One(Sequencer(1)) 4e4f030401010000000100000001
+0 tick install 1
+  1 One(Sequencer(1)) 4e4f030400010000000000000002
+1 packet 4e4f0305 01 01 0000000100000001
+0 packet 4e4f0305 00 01 0000000100000001
+0 tick resend
+  2 One(Sequencer(1)) 4e4f030400010000000000000002
+0 tick install 1
+  3 One(Sequencer(1)) 4e4f030400010000000400000001
+0 packet 4e4f0305 00 01 0000000400000001
+0 tick resend
+1 tick resend
+";
+
+#[test]
+fn two_controllers(rt: HostRuntime) {
+    let alloc = rt.alloc();
+    let mut cores = Vec::new(alloc);
+    for number in 0..2u8 {
+        let core = controller(&rt, alloc, (3, 2), number);
+        cores.push(core).expect(&rt, "memory");
+    }
+    let mut sent = Outbox::new(alloc);
+    play(&rt, alloc, &mut cores, &mut sent, CONTROLLERS);
+    let first = cores.first().expect(&rt, "a controller").state();
+    assert!(rt; first.session == 17_179_869_185 && first.seen == 4_294_967_297);
+}
+
+/// The greatest session that a controller saw counts, of whatever sequencer: smaller ones, and those told to others, change nothing. In
+/// the epoch that it goes on to, the count rises again.
+const SEEN: &str = "\
+0 tick install 0
+  0 One(Sequencer(0)) 4e4f030403000000000300000001
+0 packet 4e4f0305 03 01 0000000400000003
+0 packet 4e4f0305 03 00 0000000300000002
+0 packet 4e4f0305 02 00 0000000900000001
+0 tick install 1
+  1 One(Sequencer(1)) 4e4f030403010000000700000001
+0 tick install 0
+  2 One(Sequencer(0)) 4e4f030403000000000700000002
+0 packet 4e4f0305 03 00 0000000700000009
+0 tick install 1
+  3 One(Sequencer(1)) 4e4f030403010000000b00000001
+";
+
+#[test]
+fn a_greater_session_is_passed(rt: HostRuntime) {
+    let alloc = rt.alloc();
+    let mut core = controller(&rt, alloc, (3, 2), 3);
+    let mut sent = Outbox::new(alloc);
+    play(&rt, alloc, from_mut(&mut core), &mut sent, SEEN);
+    let state = core.state();
+    assert!(rt; state.session == 47_244_640_257 && state.seen == 30_064_771_081);
+}
+
+/// In the last epoch of its own the controller still moves. Above that it does not.
 const LAST_SESSION: &str = "\
+0 packet 4e4f0305 00 02 fffffffb00000005
+0 tick install 1
+  0 One(Sequencer(1)) 4e4f03040001fffffffc00000001
+0 tick install 0
+  1 One(Sequencer(0)) 4e4f03040000fffffffc00000002
+0 packet 4e4f0305 00 02 fffffffc00000003
 0 tick install 1
 0 tick probe
-  0 One(Sequencer(0)) 4e4f02060000000001
+  2 One(Sequencer(0)) 4e4f0306000000000001
 0 tick probe
-  1 One(Sequencer(0)) 4e4f02060000000002
+  3 One(Sequencer(0)) 4e4f0306000000000002
 0 tick probe
-  2 One(Sequencer(0)) 4e4f02060000000003
+  4 One(Sequencer(0)) 4e4f0306000000000003
 0 tick probe
 ";
 
 #[test]
 fn the_last_session(rt: HostRuntime) {
     let alloc = rt.alloc();
-    let mut core = controller(&rt, alloc, (1, 4), u32::MAX);
+    let mut core = controller(&rt, alloc, (1, 4), 0);
     let mut sent = Outbox::new(alloc);
     play(&rt, alloc, from_mut(&mut core), &mut sent, LAST_SESSION);
 }
@@ -151,23 +227,23 @@ fn the_last_session(rt: HostRuntime) {
 const CLIENT: &str = "\
 0 tick next
   0 submitted 1
-  1 Sequencers 4e4f020100000000000000000000000100075000016b000176
+  1 Sequencers 4e4f030100000000000000000000000100075000016b000176
 0 submit 5000016b000176
   2 busy
-0 packet 4e4f0203 01 00000000 00000001 00000001 00000000 0000000000000001 00 0000
-0 packet 4e4f0203 01 00000000 00000001 00000001 00000000 0000000000000001 00 0000
+0 packet 4e4f0303 01 00000000 0000000000000001 00000001 00000000 0000000000000001 00 0000
+0 packet 4e4f0303 01 00000000 0000000000000001 00000001 00000000 0000000000000001 00 0000
 0 tick retry
-  3 Sequencers 4e4f020100000000000000000000000100075000016b000176
-0 packet 4e4f0203 00 00000000 00000001 00000001 00000000 0000000000000001 01 0004 6e6f6e65
+  3 Sequencers 4e4f030100000000000000000000000100075000016b000176
+0 packet 4e4f0303 00 00000000 0000000000000001 00000001 00000000 0000000000000001 01 0004 6e6f6e65
   4 accepted 1 6e6f6e65
-0 packet 4e4f0203 00 00000000 00000001 00000001 00000000 0000000000000001 01 0004 6e6f6e65
+0 packet 4e4f0303 00 00000000 0000000000000001 00000001 00000000 0000000000000001 01 0004 6e6f6e65
 0 tick retry
 0 tick next
 ";
 
 /// A client of three replicas with one op.
 pub fn client(rt: &impl Abort, alloc: Global) -> Client {
-    let config = Config::new(3, 1, 1).expect(rt, "a group");
+    let config = Config::new(3, 1, 1, 1).expect(rt, "a group");
     let op = Op::new(alloc, b"P\0\x01k\0\x01v").expect(rt, "memory");
     let mut ops = Vec::new(alloc);
     ops.push(op).expect(rt, "memory");

@@ -9,8 +9,8 @@ use session_control::Controller;
 use std::alloc::Global;
 use std::process::Abort;
 
-/// A ping of sequencer 0.
-const PING: &[u8] = b"NO\x01\x06\0\0\0\0\x01";
+/// A ping of controller 0 for sequencer 0.
+const PING: &[u8] = b"NO\x03\x06\0\0\0\0\0\x01";
 
 /// Whether the core has no memory for a step. It then has none for one that needs none, and sends nothing.
 fn fails_for_good<C: Core + Drop>(
@@ -37,7 +37,7 @@ fn replica_fails(rt: &impl Abort, alloc: Global, config: Config) -> bool {
 }
 
 fn controller_fails(rt: &impl Abort, alloc: Global, config: Config) -> bool {
-    let core = Controller::new(alloc, config, 1);
+    let core = Controller::new(alloc, config, 0);
     fails_for_good(rt, alloc, core, Input::Tick(Tick::Probe))
 }
 
@@ -49,7 +49,7 @@ fn sequencer_fails(rt: &impl Abort, alloc: Global) -> bool {
 #[test]
 fn cores_fail_for_good(rt: HostRuntime) {
     let alloc = rt.alloc();
-    let config = Config::new(3, 2, 1).expect(&rt, "a group");
+    let config = Config::new(3, 2, 1, 1).expect(&rt, "a group");
     let mut failed = replica_fails(&rt, alloc, config);
     failed |= controller_fails(&rt, alloc, config);
     failed |= sequencer_fails(&rt, alloc);

@@ -78,7 +78,7 @@ fn take<C: Core>(
 /// A datagram with its destination and its bytes, or how many they are where they are many.
 fn told_send(rt: &impl Abort, alloc: Global, dest: &Dest, bytes: &[u8]) -> String {
     let len = bytes.len();
-    if len > 80 {
+    if len > 84 {
         return format!(in alloc; "{dest:?} {len} bytes").expect(rt, "memory");
     }
     let digits = hex::encode(alloc, bytes).expect(rt, "memory");

@@ -9,7 +9,7 @@ use std::process::Abort;
 
 /// A get, stamped in session 1.
 fn stamped(rt: &impl Abort, alloc: Global, number: u64, client: u32, id: u64) -> Vec<u8> {
-    let mut bytes = bytes_of(rt, alloc, "4e4f0202 00000001");
+    let mut bytes = bytes_of(rt, alloc, "4e4f0302 0000000000000001");
     let (number, client, id) = (number.to_be_bytes(), client.to_be_bytes(), id.to_be_bytes());
     bytes.extend_from_slice(&number).expect(rt, "memory");
     bytes.extend_from_slice(&client).expect(rt, "memory");

@@ -27,7 +27,7 @@ IsAmong n Sequencers = ⊥
 IsAmong n (One (actors.Replica i)) = 1 ≤ n → i < n
 IsAmong n (One (actors.Sequencer i)) = ⊥
 IsAmong n (One (actors.Client i)) = ⊥
-IsAmong n (One actors.Controller) = ⊥
+IsAmong n (One (actors.Controller i)) = ⊥
 
 -- a message goes to replicas of this number of them; of a reply nothing is said
 abbrev pub GoesAmong : ℕ → Sending → Type 0

@@ -43,22 +43,22 @@ spelling_is (datagrams.Reply r) fits = record {
   most = omega arith;
   short = simp (length-append, len16, len32, len64) (omega (arith, fits.result_length));
 }
-spelling_is (datagrams.Install j session) fits = record {
+spelling_is (datagrams.Install k j session) fits = record {
   least = omega arith;
   most = omega arith;
   short = simp (length-append, len16, len32, len64) (omega arith);
 }
-spelling_is (datagrams.Installed j session) fits = record {
+spelling_is (datagrams.Installed k j session) fits = record {
   least = omega arith;
   most = omega arith;
   short = simp (length-append, len16, len32, len64) (omega arith);
 }
-spelling_is (datagrams.Ping j round) fits = record {
+spelling_is (datagrams.Ping k j round) fits = record {
   least = omega arith;
   most = omega arith;
   short = simp (length-append, len16, len32, len64) (omega arith);
 }
-spelling_is (datagrams.Pong j round) fits = record {
+spelling_is (datagrams.Pong k j round) fits = record {
   least = omega arith;
   most = omega arith;
   short = simp (length-append, len16, len32, len64) (omega arith);

@@ -124,6 +124,7 @@ pub record Told (c : Configuration) (w : WorldState) (ls : List Line) : Type 0 w
   pub replicas : length w.replicas ≡ c.replicas
   pub sequencers : length w.sequencers ≡ c.sequencers
   pub clients : length w.clients ≡ c.clients
+  pub controllers : length w.controllers ≡ c.controllers
   pub own : (k : ℕ) (q : Seated ClientState) → slice_get w.clients k ≡ Some q → ClientIs k q.state
   pub count : length w.sent ≤ length ls
   pub lines : LinesAre c w.sent ls
@@ -139,6 +140,7 @@ record Tells (c : Configuration) (w : WorldState) (h : Happened) : Type 0 where
   replicas : length h.world.replicas ≡ length w.replicas
   sequencers : length h.world.sequencers ≡ length w.sequencers
   clients : length h.world.clients ≡ length w.clients
+  controllers : length h.world.controllers ≡ length w.controllers
   own : (k : ℕ) (q : Seated ClientState) → slice_get h.world.clients k ≡ Some q → ClientIs k q.state
 
 told_on : (c : Configuration) (w : WorldState) (ls : List Line) (h : Happened) → Told c w ls → Tells c w h → Told c h.world (ls ++ h.lines)
@@ -146,6 +148,7 @@ told_on c w ls h told t = record {
   replicas = t.replicas ∙ told.replicas;
   sequencers = t.sequencers ∙ told.sequencers;
   clients = t.clients ∙ told.clients;
+  controllers = t.controllers ∙ told.controllers;
   own = t.own;
   count = omega (
     arith,
@@ -193,6 +196,7 @@ module _ {S : Type 0} (m : Meaning S) (c : Configuration) (w : WorldState) (ls :
     replicas = length-set w.replicas i (seat_step (replica.next m) old what).0;
     sequencers = refl;
     clients = refl;
+    controllers = refl;
     own = told.own;
   }
 
@@ -208,6 +212,7 @@ module _ {S : Type 0} (m : Meaning S) (c : Configuration) (w : WorldState) (ls :
     replicas = refl;
     sequencers = length-set w.sequencers j (seat_step sequencer.next old what).0;
     clients = refl;
+    controllers = refl;
     own = told.own;
   }
 
@@ -227,6 +232,7 @@ module _ {S : Type 0} (m : Meaning S) (c : Configuration) (w : WorldState) (ls :
         replicas = refl;
         sequencers = refl;
         clients = length-set w.clients k new;
+        controllers = refl;
         own = λ j q h. elim (slice_get-set_cases w.clients k new j q h) [
           | inl here ↦
               subst (λ (i : ℕ). ClientIs i q.state) (sym here.0)
@@ -235,17 +241,19 @@ module _ {S : Type 0} (m : Meaning S) (c : Configuration) (w : WorldState) (ls :
         ];
       }
 
-  controller_step : (what : Stimulus) → Tells c w (at_controller w (seat_step controller.next w.controller what))
-  controller_step what = record {
-    from = actors.Controller;
-    there = tt;
-    did = (seat_step controller.next w.controller what).1;
-    tells = seat_tells c controller.next w.controller w.controller.crashed what (λ given is. controller_tells c w.controller.state given);
+  controller_step : (k : ℕ) (old : Seated ControllerState) (what : Stimulus) → slice_get w.controllers k ≡ Some old
+      → Tells c w (at_controller w k (seat_step controller.next old what))
+  controller_step k old what there = record {
+    from = actors.Controller k;
+    there = omega (arith, slice_get_within w.controllers k old there, told.controllers);
+    did = (seat_step controller.next old what).1;
+    tells = seat_tells c controller.next old old.crashed what (λ given is. controller_tells c old.state given);
     sent = refl;
     lines = refl;
     replicas = refl;
     sequencers = refl;
     clients = refl;
+    controllers = length-set w.controllers k (seat_step controller.next old what).0;
     own = told.own;
   }
 
@@ -260,12 +268,9 @@ module _ {S : Type 0} (m : Meaning S) (c : Configuration) (w : WorldState) (ls :
   actor_step (actors.Client k) r h fits e =
       let t = took (at_client w k) client.next (slice_get w.clients k) r h e in
       subst (Tells c w) t.gives (client_step k t.seat t.what t.there (fits t.what t.brought))
-  actor_step actors.Controller r h fits e =
-      let t = took (at_controller w) controller.next (Some w.controller) r h e in
-      let seat : w.controller ≡ t.seat = (let g : Some w.controller ≡ Some t.seat = t.there in cc) in
-      let gives : at_controller w (seat_step controller.next w.controller t.what) ≡ h =
-      ap (λ (q : Seated ControllerState). at_controller w (seat_step controller.next q t.what)) seat ∙ t.gives in
-      subst (Tells c w) gives (controller_step t.what)
+  actor_step (actors.Controller k) r h fits e =
+      let t = took (at_controller w k) controller.next (slice_get w.controllers k) r h e in
+      subst (Tells c w) t.gives (controller_step k t.seat t.what t.there)
 
 -- ---- events
 
@@ -290,7 +295,7 @@ event_is c sent (events.Submit number op) read what e =
     subst StimulusIs same is
 event_is c sent (events.Deliver index actor) read what e = datagram_is index (length sent) (slice_get sent index) what e
 event_is c sent (events.Tick actor tick) read what e = tick_is (takes_tick actor tick) tick what e
-event_is c sent (events.Install number) read what e = tick_is (nat_lt number c.sequencers) (ticks.Install number) what e
+event_is c sent (events.Install k j) read what e = tick_is (nat_lt j c.sequencers) (ticks.Install j) what e
 event_is c sent (events.Crash actor) read what e = let same : Crashes ≡ what = cc in subst StimulusIs same tt
 event_is c sent (events.Junk actor bytes) read what e = junk_is bytes (reading bytes) what e
 
@@ -339,6 +344,7 @@ opening_told c = record {
   replicas = counted_length (replica.opening c) c.replicas;
   sequencers = counted_length sequencer.opening c.sequencers;
   clients = counted_length (opening_client c) c.clients;
+  controllers = counted_length (controller.opening c) c.controllers;
   own = λ k q h. opening_own c c.clients k q h;
   count = omega arith;
   lines = λ l h. absurd (Has-none l h);

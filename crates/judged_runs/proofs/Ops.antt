@@ -11,6 +11,7 @@ use Rattle.nop_types.specs.Meaning.{Meaning}
 use Rattle.nop_types.specs.declared.limits.TheConstants.{MAX_LINES}
 use Rattle.schedule_text.specs.Fits.{EventFits, EventsFit}
 use Rattle.schedule_text.specs.Rules.{◌>>=◌, or_rule, keeps_rule, max_op_text, max_junk_text, one_field, two_fields, submit_event}
+use Rattle.schedule_text.specs.Rules.{one_or_two_fields, ordered, install_event}
 use Rattle.schedule_text.specs.Rules.{submit_of, deliver_event, deliver_of, tick_event, tick_of, install_of, crash_of, junk_event}
 use Rattle.schedule_text.specs.Rules.{junk_of, event_of_fields, plain_line}
 use Rattle.schedule_text.specs.Rules.{event_of}
@@ -28,7 +29,7 @@ abbrev pub OpIsBytes : Event → Type 0
 OpIsBytes (Submit client op) = IsBytes op
 OpIsBytes (Deliver index actor) = ⊤
 OpIsBytes (Tick actor tick) = ⊤
-OpIsBytes (Install sequencer) = ⊤
+OpIsBytes (Install controller sequencer) = ⊤
 OpIsBytes (Crash actor) = ⊤
 OpIsBytes (Junk actor bytes) = ⊤
 
@@ -88,9 +89,10 @@ tick_of_bytes c rest e h =
 
 install_of_bytes : (c : Configuration) (rest : List (List ℕ)) (e : Event) → install_of c rest ≡ Ok e → OpIsBytes e
 install_of_bytes c rest e h =
-    let a = then_ok (one_field rest) _ e h in
-    let b = then_ok (or_rule WrongActor (sequencer_number (actor_of c a.0))) _ e a.2 in
-    let is : Install b.0 ≡ e = (let g = b.2 in cc) in
+    let a = then_ok (one_or_two_fields rest) (λ p. install_event c p.0 p.1) e h in
+    let b = then_ok (or_rule WrongActor (sequencer_number (actor_of c a.0.0))) _ e a.2 in
+    let d = then_ok (or_rule WrongActor (ordered c a.0.1)) _ e b.2 in
+    let is : Install d.0 b.0 ≡ e = (let g = d.2 in cc) in
     subst OpIsBytes is tt
 
 junk_of_bytes : (c : Configuration) (rest : List (List ℕ)) (e : Event) → junk_of c rest ≡ Ok e → OpIsBytes e

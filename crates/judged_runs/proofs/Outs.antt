@@ -125,10 +125,10 @@ module _ {S : Type 0} (m : Meaning S) (c : Configuration) where
   took_are s (Ok (datagrams.Fragment f)) = fragment_are s f
   took_are s (Ok (datagrams.Request r)) = tt
   took_are s (Ok (datagrams.Reply p)) = tt
-  took_are s (Ok (datagrams.Install j session)) = tt
-  took_are s (Ok (datagrams.Installed j session)) = tt
-  took_are s (Ok (datagrams.Ping j round)) = tt
-  took_are s (Ok (datagrams.Pong j round)) = tt
+  took_are s (Ok (datagrams.Install k j session)) = tt
+  took_are s (Ok (datagrams.Installed k j session)) = tt
+  took_are s (Ok (datagrams.Ping k j round)) = tt
+  took_are s (Ok (datagrams.Pong k j round)) = tt
   took_are s (Err e) = tt
 
   pub replica_tells : (s : Replica) (i : Given) → OutsAre c (replica.next m s i).1
@@ -143,22 +143,22 @@ packet_are : (c : Configuration) (o : Option Stamped) → OutsAre c (sequencer.s
 packet_are c (Some p) = (tt, tt)
 packet_are c None = tt
 
-install_are : (c : Configuration) (b : Bool) (s : SequencerState) (session : ℕ) → OutsAre c (sequencer.install_if b s session).1
-install_are c true s session = (tt, tt)
-install_are c false s session = tt
+install_are : (c : Configuration) (b : Bool) (s : SequencerState) (k session : ℕ) → OutsAre c (sequencer.install_if b s k session).1
+install_are c true s k session = (tt, tt)
+install_are c false s k session = tt
 
-ping_are : (c : Configuration) (b : Bool) (s : SequencerState) (round : ℕ) → OutsAre c (sequencer.ping_if b s round).1
-ping_are c true s round = (tt, tt)
-ping_are c false s round = tt
+ping_are : (c : Configuration) (b : Bool) (s : SequencerState) (k round : ℕ) → OutsAre c (sequencer.ping_if b s k round).1
+ping_are c true s k round = (tt, tt)
+ping_are c false s k round = tt
 
 stamping_are : (c : Configuration) (s : SequencerState) (r : Result Datagram Bad) → OutsAre c (sequencer.on_datagram s r).1
 stamping_are c s (Ok (datagrams.Request r)) = packet_are c (sequencer.stamped_by s r)
 stamping_are c s (Ok (datagrams.Stamped p)) = tt
 stamping_are c s (Ok (datagrams.Reply p)) = tt
-stamping_are c s (Ok (datagrams.Install j session)) = install_are c (sequencer.can_install s j session) s session
-stamping_are c s (Ok (datagrams.Installed j session)) = tt
-stamping_are c s (Ok (datagrams.Ping j round)) = ping_are c (j == s.number) s round
-stamping_are c s (Ok (datagrams.Pong j round)) = tt
+stamping_are c s (Ok (datagrams.Install k j session)) = install_are c (j == s.number) s k session
+stamping_are c s (Ok (datagrams.Installed k j session)) = tt
+stamping_are c s (Ok (datagrams.Ping k j round)) = ping_are c (j == s.number) s k round
+stamping_are c s (Ok (datagrams.Pong k j round)) = tt
 stamping_are c s (Ok (datagrams.Fragment f)) = tt
 stamping_are c s (Err e) = tt
 
@@ -168,15 +168,15 @@ sequencer_tells c s (Packet bytes) = stamping_are c s (reading bytes)
 sequencer_tells c s (Ticked tick) = tt
 sequencer_tells c s (Submit op) = tt
 
--- ---- the controller
+-- ---- controllers
 
 module _ (c : Configuration) where
-  move_are : (b : Bool) (s : ControllerState) (j : ℕ) → OutsAre c (controller.move_if b s j).1
-  move_are true s j = (tt, tt)
-  move_are false s j = tt
+  move_are : (o : Option ℕ) (s : ControllerState) (j : ℕ) → OutsAre c (controller.move_by o s j).1
+  move_are (Some session) s j = (tt, tt)
+  move_are None s j = tt
 
   move_to_are : (s : ControllerState) (j : ℕ) → OutsAre c (controller.move_to s j).1
-  move_to_are s j = move_are (nat_lt s.session controller.last_number) s j
+  move_to_are s j = move_are (controller.next_session s.number s.session s.seen) s j
 
   order_are : (b : Bool) (s : ControllerState) (j : ℕ) → OutsAre c (controller.order_if b s j).1
   order_are true s j = move_to_are s j
@@ -212,13 +212,13 @@ module _ (c : Configuration) where
   controller_tick_are s ticks.Next = tt
 
   controller_took_are : (s : ControllerState) (r : Result Datagram Bad) → OutsAre c (controller.on_datagram s r).1
-  controller_took_are s (Ok (datagrams.Pong j round)) = tt
-  controller_took_are s (Ok (datagrams.Installed j session)) = tt
+  controller_took_are s (Ok (datagrams.Pong k j round)) = tt
+  controller_took_are s (Ok (datagrams.Installed k j session)) = tt
   controller_took_are s (Ok (datagrams.Request r)) = tt
   controller_took_are s (Ok (datagrams.Stamped p)) = tt
   controller_took_are s (Ok (datagrams.Reply p)) = tt
-  controller_took_are s (Ok (datagrams.Install j session)) = tt
-  controller_took_are s (Ok (datagrams.Ping j round)) = tt
+  controller_took_are s (Ok (datagrams.Install k j session)) = tt
+  controller_took_are s (Ok (datagrams.Ping k j round)) = tt
   controller_took_are s (Ok (datagrams.Fragment f)) = tt
   controller_took_are s (Err e) = tt
 
@@ -294,10 +294,10 @@ module _ (c : Configuration) (k : ℕ) (within : k < c.clients) (s : ClientState
   answer_tells (Ok (datagrams.Reply p)) = reply_tells (client.is_expected s p) p
   answer_tells (Ok (datagrams.Request r)) = quiet_client
   answer_tells (Ok (datagrams.Stamped p)) = quiet_client
-  answer_tells (Ok (datagrams.Install j session)) = quiet_client
-  answer_tells (Ok (datagrams.Installed j session)) = quiet_client
-  answer_tells (Ok (datagrams.Ping j round)) = quiet_client
-  answer_tells (Ok (datagrams.Pong j round)) = quiet_client
+  answer_tells (Ok (datagrams.Install k j session)) = quiet_client
+  answer_tells (Ok (datagrams.Installed k j session)) = quiet_client
+  answer_tells (Ok (datagrams.Ping k j round)) = quiet_client
+  answer_tells (Ok (datagrams.Pong k j round)) = quiet_client
   answer_tells (Ok (datagrams.Fragment f)) = quiet_client
   answer_tells (Err e) = quiet_client
 

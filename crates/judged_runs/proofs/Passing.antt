@@ -9,7 +9,7 @@ use Rattle.judge.specs.Checking.{IsChecked, IsTallyOf, IsLegalText, IsPassed, Pa
 use Rattle.judge.specs.Saying.{claiming, claims_something}
 use Rattle.judge.specs.declared.tally.Tally.{Tally}
 use Rattle.nop_types.specs.Checkpoints.{KeepsTo}
-use Rattle.nop_types.specs.Configuration.{Configuration}
+use Rattle.nop_types.specs.declared.header.Header.{Header}
 use Rattle.nop_types.specs.Legality.{Legal}
 use Rattle.nop_types.specs.Lines as lines
 use Rattle.nop_types.specs.Lines.{Line}
@@ -34,25 +34,25 @@ use Rattle.judged_runs.specs.Runs.{HasRoom, IsLegalRun, transcript_of}
 module _ {S : Type 0} (m : Meaning S) (IsSound : S → Type 0) (keeps : KeepsTo m IsSound) (answers : AnswersAreBytes m)
     (bytes : List ℕ) (ran : RunsSafely m bytes) where
   read : AreRead ran.events
-  read = subst AreRead (ap (λ (s : Schedule). s.events) ran.are) (schedule_read m ran.config (opening ran.config) 1 ran.rest)
+  read = subst AreRead (ap (λ (s : Schedule). s.events) ran.are) (schedule_read m ran.header.config (opening ran.header.config) 1 ran.rest)
 
-  said_is_legal : Legal m (said (transcript_of ran.config ran.happened)) (history ran.happened.world)
+  said_is_legal : Legal m (said (transcript_of ran.header ran.happened)) (history ran.happened.world)
   said_is_legal =
       (runs_are_judged m ran.happened.lines (history ran.happened.world)).1 ran.safely.safe.legal
 
-  legal_with_room : HasRoom (output m true bytes).text → IsLegalRun m ran.config ran.happened (output m true bytes).text
+  legal_with_room : HasRoom (output m true bytes).text → IsLegalRun m ran.header ran.happened (output m true bytes).text
   legal_with_room room =
-      subst (IsLegalRun m ran.config ran.happened) (sym ran.text) (
+      subst (IsLegalRun m ran.header ran.happened) (sym ran.text) (
       record {
-        spells = run_spells m IsSound keeps answers ran.config (headers_fit ran.header ran.config ran.read) ran.events read ran.happened
+        spells = run_spells m IsSound keeps answers ran.header (headers_fit ran.first ran.header ran.read) ran.events read ran.happened
             ran.led ran.safely (subst HasRoom ran.text room);
         legal = said_is_legal;
       }
       )
 
-  pub runs_are_legal : HasRoom (output m true bytes).text ↔ IsLegalRun m ran.config ran.happened (output m true bytes).text
+  pub runs_are_legal : HasRoom (output m true bytes).text ↔ IsLegalRun m ran.header ran.happened (output m true bytes).text
   runs_are_legal =
-      (legal_with_room, λ legal. spelled_has_room (transcript_of ran.config ran.happened) (output m true bytes).text legal.spells)
+      (legal_with_room, λ legal. spelled_has_room (transcript_of ran.header ran.happened) (output m true bytes).text legal.spells)
 
 -- ---- what is counted
 
@@ -94,10 +94,10 @@ claims_count p silent [] = refl
 claims_count p silent (x ∷ ls) = claims_more p x ls (silent x) (claims_count p silent ls)
 
 -- a transcript that says what the run says has its counts
-run_tally : (c : Configuration) (h : Happened) (t : Transcript) (text : List ℕ) (tally : Tally) → Spells t text
-    → Spells (transcript_of c h) text → IsTallyOf (said t) t.history tally → IsTallyOf h.lines (history h.world) tally
-run_tally c h t text tally spells run counts =
-    let same = read_in_one_way t (transcript_of c h) text spells run in
+run_tally : (d : Header) (h : Happened) (t : Transcript) (text : List ℕ) (tally : Tally) → Spells t text
+    → Spells (transcript_of d h) text → IsTallyOf (said t) t.history tally → IsTallyOf h.lines (history h.world) tally
+run_tally d h t text tally spells run counts =
+    let same = read_in_one_way t (transcript_of d h) text spells run in
     let claims : said t ≡ claiming h.lines = same.claims ∙ rows_claim h.lines in
     record {
       submits = counts.submits ∙ ap (count_by submits) claims ∙ claims_count submits submits_silent h.lines;
@@ -107,15 +107,15 @@ run_tally c h t text tally spells run counts =
 
 -- ---- the two programs
 
-module _ {S : Type 0} (m : Meaning S) (c : Configuration) (h : Happened) (text : List ℕ) (legal : IsLegalRun m c h text) where
+module _ {S : Type 0} (m : Meaning S) (d : Header) (h : Happened) (text : List ℕ) (legal : IsLegalRun m d h text) where
   legal_text : IsLegalText m text
-  legal_text = record { whole = transcript_of c h; spells = legal.spells; legal = legal.legal }
+  legal_text = record { whole = transcript_of d h; spells = legal.spells; legal = legal.legal }
 
   passed_counts : (rest : Option (List ℕ)) (tally : Tally) → IsPassed m (Some text) rest tally → IsTallyOf h.lines (history h.world) tally
   passed_counts None tally p = absurd p.went.source
   passed_counts (Some more) tally p =
       let same : text ≡ p.all = p.went.source ∙ ap (λ (xs : List ℕ). p.all ++ xs) (p.went.end refl) ∙ append-nil p.all in
-      run_tally c h p.text.whole text tally (subst (Spells p.text.whole) (sym same) p.text.spells) legal.spells p.counts
+      run_tally d h p.text.whole text tally (subst (Spells p.text.whole) (sym same) p.text.spells) legal.spells p.counts
 
   check_passes : (rest : Option (List ℕ)) (r : Result Tally CheckError) → IsChecked m (Some text) rest r → PassesLegal m (Some text) r
       → PassesRun h r
@@ -130,6 +130,6 @@ module _ {S : Type 0} (m : Meaning S) (IsSound : S → Type 0) (keeps : KeepsTo 
   replayed_runs_pass bytes before text (Some more) done replayed ran room rest r checked passes =
       let all : List ℕ = (output m true bytes).text in
       let same : text ≡ all = append_cancel_left before text all replayed.wrote in
-      let legal : IsLegalRun m ran.config ran.happened all =
+      let legal : IsLegalRun m ran.header ran.happened all =
       (runs_are_legal m IsSound keeps answers bytes ran).0 (subst HasRoom same room) in
-      check_passes m ran.config ran.happened text (subst (IsLegalRun m ran.config ran.happened) (sym same) legal) rest r checked passes
+      check_passes m ran.header ran.happened text (subst (IsLegalRun m ran.header ran.happened) (sym same) legal) rest r checked passes

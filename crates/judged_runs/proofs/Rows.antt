@@ -1,8 +1,8 @@
 -- The rows of a run are in their ranges.
 use Rattle.std.proofs.Common.{◌≡◌, ◌≤◌, ◌<◌, ◌^◌, ℕ, Bool, true, false, refl, arith, length, slice_index}
 use Rattle.std.proofs.Common.{List, Some}
-use Rattle.std.specs.Prelude.{◌==◌, ◌%◌, ◌&&◌, nat_lt, nat_le, slice_get}
-use Rattle.std.proofs.lemmas.Bool.{and_parts, leb-true, le-leb, lt-ltb}
+use Rattle.std.specs.Prelude.{◌&&◌, nat_lt, nat_le, slice_get}
+use Rattle.std.proofs.lemmas.Bool.{le-leb, lt-ltb}
 use Rattle.std.proofs.lemmas.Option.{slice_get_within}
 use Rattle.hex.specs.Hex.{IsBytes}
 use Rattle.line_fields.specs.Fields.{IsActorOf}
@@ -10,7 +10,7 @@ use Rattle.nop_types.specs.Configuration.{Configuration, is_configuration}
 use Rattle.nop_types.specs.Lines as lines
 use Rattle.nop_types.specs.Lines.{Line}
 use Rattle.nop_types.specs.Ranges.{ViewFits}
-use Rattle.nop_types.specs.declared.limits.TheConstants.{MAX_CLIENTS, MAX_REPLICAS, MAX_RESULT_BYTES, MAX_SEQUENCERS}
+use Rattle.nop_types.specs.declared.limits.TheConstants.{MAX_CLIENTS, MAX_CONTROLLERS, MAX_REPLICAS, MAX_RESULT_BYTES, MAX_SEQUENCERS}
 use Rattle.nop_types.specs.declared.kinds.TheConstants.{REQUEST, FRAGMENT}
 use Rattle.nop_types.specs.declared.output.Actor.{Actor}
 use Rattle.nop_types.specs.declared.output.Actor.TheVariants as actors
@@ -43,30 +43,22 @@ pub record Counts (c : Configuration) : Type 0 where
   pub replicas : c.replicas ≤ MAX_REPLICAS
   pub sequencers : c.sequencers ≤ MAX_SEQUENCERS
   pub clients : c.clients ≤ MAX_CLIENTS
+  pub controllers : c.controllers ≤ MAX_CONTROLLERS
 
 pub counts_of : (c : Configuration) → is_configuration c ≡ true → Counts c
-counts_of c e =
-    let a = and_parts (c.replicas % 2 == 1)
-    (nat_le c.replicas MAX_REPLICAS &&
-    (nat_lt 0 c.sequencers && (nat_le c.sequencers MAX_SEQUENCERS && (nat_lt 0 c.clients && nat_le c.clients MAX_CLIENTS)))) e in
-    let b = and_parts (nat_le c.replicas MAX_REPLICAS)
-    (nat_lt 0 c.sequencers && (nat_le c.sequencers MAX_SEQUENCERS && (nat_lt 0 c.clients && nat_le c.clients MAX_CLIENTS))) a.1 in
-    let d = and_parts (nat_lt 0 c.sequencers) (nat_le c.sequencers MAX_SEQUENCERS && (nat_lt 0 c.clients && nat_le c.clients MAX_CLIENTS))
-    b.1 in
-    let g = and_parts (nat_le c.sequencers MAX_SEQUENCERS) (nat_lt 0 c.clients && nat_le c.clients MAX_CLIENTS) d.1 in
-    let h = and_parts (nat_lt 0 c.clients) (nat_le c.clients MAX_CLIENTS) g.1 in
-    record {
-      replicas = leb-true c.replicas MAX_REPLICAS b.0;
-      sequencers = leb-true c.sequencers MAX_SEQUENCERS g.0;
-      clients = leb-true c.clients MAX_CLIENTS h.1;
-    }
+counts_of c e = record {
+  replicas = grind (arith, e);
+  sequencers = grind (arith, e);
+  clients = grind (arith, e);
+  controllers = grind (arith, e);
+}
 
 module _ (c : Configuration) (counts : Counts c) where
   actor_in : (a : Actor) → IsActorOf c a → actor_fits a ≡ true
   actor_in (actors.Replica i) h = lt-ltb i MAX_REPLICAS (omega (arith, h, counts.replicas))
   actor_in (actors.Sequencer i) h = lt-ltb i MAX_SEQUENCERS (omega (arith, h, counts.sequencers))
   actor_in (actors.Client i) h = lt-ltb i MAX_CLIENTS (omega (arith, h, counts.clients))
-  actor_in actors.Controller h = refl
+  actor_in (actors.Controller i) h = lt-ltb i MAX_CONTROLLERS (omega (arith, h, counts.controllers))
 
   dest_in : (d : Dest) → IsDestOf c d → dest_fits d ≡ true
   dest_in Replicas h = refl

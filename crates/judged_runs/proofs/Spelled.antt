@@ -4,6 +4,7 @@ use Rattle.std.proofs.Common.{sym, ap, subst}
 use Rattle.std.proofs.Common.{arith, length-append, Some}
 use Rattle.std.specs.Prelude.{◌/◌, Ok, count_by, slice_get}
 use Rattle.std.specs.List.{list_all}
+use Rattle.std.proofs.lemmas.Bool.{and_parts}
 use Rattle.std.proofs.lemmas.List.{length-map}
 use Rattle.std.proofs.lemmas.List.Folds.{list_all-append}
 use Rattle.std.proofs.lemmas.Option.{slice_get_within}
@@ -11,6 +12,7 @@ use Rattle.facts.proofs.Members.{Has-append_left, Has-filter, Has-first, Has-fro
 use Rattle.histories.proofs.Shortness.{result_fits}
 use Rattle.nop_types.specs.Checkpoints.{KeepsTo}
 use Rattle.nop_types.specs.Configuration.{Configuration, is_configuration}
+use Rattle.nop_types.specs.Headers.{gives, is_header}
 use Rattle.nop_types.specs.Legality.{Legal}
 use Rattle.nop_types.specs.Lines as lines
 use Rattle.nop_types.specs.Lines.{Line}
@@ -19,6 +21,7 @@ use Rattle.nop_types.specs.Logs.{Trimmed, length_of}
 use Rattle.nop_types.specs.Meaning.{Meaning}
 use Rattle.nop_types.specs.Services.{AnswersAreBytes}
 use Rattle.nop_types.specs.declared.limits.TheConstants.{MAX_LENGTH}
+use Rattle.nop_types.specs.declared.header.Header.{Header}
 use Rattle.nop_types.specs.declared.output.Actor.{Actor}
 use Rattle.nop_types.specs.declared.request.Entry.{Entry}
 use Rattle.nop_types.specs.declared.request.Entry.TheVariants.{NoOp, Req}
@@ -162,17 +165,17 @@ record IsFew (h : Happened) : Type 0 where
   lines : length h.lines ≤ MAX_TRANSCRIPT_LINES
   members : length (history h.world) + 2 ≤ MAX_TRANSCRIPT_LINES
 
-few : (c : Configuration) (h : Happened) → length (transcript_lines (transcript_of c h)) ≤ MAX_TRANSCRIPT_LINES → IsFew h
-few c h most =
-    let t : Transcript = transcript_of c h in
+few : (d : Header) (h : Happened) → length (transcript_lines (transcript_of d h)) ≤ MAX_TRANSCRIPT_LINES → IsFew h
+few d h most =
+    let t : Transcript = transcript_of d h in
     let all : List Row = members 1 (history h.world) in
     let a = length-map (body t) row_text in
     let b = length-append t.events (t.states ++ (all ++ End ∷ [])) in
-    let d = length-append t.states (all ++ End ∷ []) in
+    let e = length-append t.states (all ++ End ∷ []) in
     let g = length-append all (End ∷ []) in
     let k = length_members 1 (history h.world) in
     let l = length-map h.lines row_of in
-    record { lines = omega (arith, most, a, b, d, g, k, l); members = omega (arith, most, a, b, d, g, k, l) }
+    record { lines = omega (arith, most, a, b, e, g, k, l); members = omega (arith, most, a, b, e, g, k, l) }
 
 -- ---- the run
 
@@ -181,9 +184,15 @@ passed_world : {S : Type 0} (m : Meaning S) (q : Passed) (bs : List (Actor × Br
 passed_world m q [] = refl
 passed_world m q (b ∷ bs) = passed_world m (passes q (whole_step m q.world b.0 b.1)) bs
 
-module _ {S : Type 0} (m : Meaning S) (IsSound : S → Type 0) (keeps : KeepsTo m IsSound) (bytes : AnswersAreBytes m) (c : Configuration)
-    (is_one : is_configuration c ≡ true) (es : List Event) (read : AreRead es) (h : Happened) (led : run m c es ≡ Ok h)
-    (safely : SafelyPassed m c es h) where
+module _ {S : Type 0} (m : Meaning S) (IsSound : S → Type 0) (keeps : KeepsTo m IsSound) (bytes : AnswersAreBytes m) (header : Header)
+    (is : is_header header ≡ true) (es : List Event) (read : AreRead es) (h : Happened) (led : run m header.config es ≡ Ok h)
+    (safely : SafelyPassed m header.config es h) where
+  abbrev c : Configuration
+  c = header.config
+
+  is_one : is_configuration c ≡ true
+  is_one = (and_parts (gives header.form c) (is_configuration c) is).1
+
   short : ResultsShort m
   short = result_fits m IsSound keeps.opens keeps.stays keeps.short
 
@@ -291,7 +300,7 @@ module _ {S : Type 0} (m : Meaning S) (IsSound : S → Type 0) (keeps : KeepsTo 
       line_row c counts h.world.sent l (told.lines l there) (omega (arith, told.count, few.lines))
       (λ client id result e. accepted there.0 client id result (there.1 ∙ ap Some e)) sent
 
-  rows_fit : IsFew h → AllFit (body (transcript_of c h))
+  rows_fit : IsFew h → AllFit (body (transcript_of header h))
   rows_fit few =
       let all : List Row = members 1 (history h.world) in
       let states : List Row = state_rows h.world.archive 0 h.world.replicas in
@@ -300,19 +309,19 @@ module _ {S : Type 0} (m : Meaning S) (IsSound : S → Type 0) (keeps : KeepsTo 
       (fit_both all (End ∷ []) (members_fit c counts 1 (history h.world) (omega arith) (omega (arith, few.members)) member_is)
       (record { ranges = refl; typed = tt }, tt)))
 
-  pub run_spells : HasRoom (transcript_line c ++ (lines_text h.lines ++ final_text h.world))
-      → Spells (transcript_of c h) (transcript_line c ++ (lines_text h.lines ++ final_text h.world))
+  pub run_spells : HasRoom (transcript_line header.form c ++ (lines_text h.lines ++ final_text h.world))
+      → Spells (transcript_of header h) (transcript_line header.form c ++ (lines_text h.lines ++ final_text h.world))
   run_spells room =
-      let t : Transcript = transcript_of c h in
+      let t : Transcript = transcript_of header h in
       let most : length (transcript_lines t) ≤ MAX_TRANSCRIPT_LINES =
-      omega (arith, lines_counted t, ap (count_by is_line_end) (run_text c h), room) in
+      omega (arith, lines_counted t is, ap (count_by is_line_end) (run_text header h), room) in
       record {
-        text = sym (run_text c h);
+        text = sym (run_text header h);
         fits = record {
-          config = is_one;
+          header = is;
           events = all_events h.lines;
           states = all_states h.world.archive 0 h.world.replicas;
-          rows = rows_fit (few c h most);
+          rows = rows_fit (few header h most);
         };
         most = most;
       }

@@ -7,7 +7,8 @@ use Rattle.std.proofs.lemmas.Bool.{and_parts, leb-true, ne_eqb}
 use Rattle.std.proofs.lemmas.Grind.{flat_map-append}
 use Rattle.std.proofs.lemmas.List.{length-map}
 use Rattle.std.proofs.lemmas.List.Sums.{sum_by-append, sum_by-cons}
-use Rattle.nop_types.specs.Configuration.{Configuration}
+use Rattle.nop_types.specs.Headers.{is_header}
+use Rattle.nop_types.specs.declared.header.Header.{Header}
 use Rattle.nop_types.specs.Lines.{Line}
 use Rattle.nop_types.specs.Logs.{Trimmed, length_of}
 use Rattle.nop_types.specs.declared.request.Entry.{Entry}
@@ -93,11 +94,11 @@ ends_text w =
     (replicas_text w.archive 0 w.replicas) (history_text 1 (history w)) end_line
     (states_text w.archive 0 w.replicas) (members_text 1 (history w)) last_text
 
-pub run_text : (c : Configuration) (h : Happened)
-    → transcript_text (transcript_of c h) ≡ transcript_line c ++ (lines_text h.lines ++ final_text h.world)
-run_text c h =
-    let t : Transcript = transcript_of c h in
-    ap (λ (xs : List ℕ). transcript_line c ++ xs)
+pub run_text : (d : Header) (h : Happened)
+    → transcript_text (transcript_of d h) ≡ transcript_line d.form d.config ++ (lines_text h.lines ++ final_text h.world)
+run_text d h =
+    let t : Transcript = transcript_of d h in
+    ap (λ (xs : List ℕ). transcript_line d.form d.config ++ xs)
     (joined (body t)
     ∙ flat_map-append row_text t.events (t.states ++ (members 1 t.history ++ End ∷ []))
     ∙ ap (λ (xs : List ℕ). xs ++ rows_text (t.states ++ (members 1 t.history ++ End ∷ []))) (events_text h.lines)
@@ -120,11 +121,13 @@ rows_end (row ∷ rows) =
     let all = count_both (row_text row) (rows_text rows) in
     omega (arith, here, rest, all)
 
-pub lines_counted : (t : Transcript) → length (transcript_lines t) ≤ count_by is_line_end (transcript_text t)
-lines_counted t =
-    let here = one_end (transcript_line t.config) (texts.spelled_header t.config) (texts.whole_header t.config) in
+pub lines_counted : (t : Transcript) → is_header t.header ≡ true
+    → length (transcript_lines t) ≤ count_by is_line_end (transcript_text t)
+lines_counted t is =
+    let line : List ℕ = transcript_line t.header.form t.header.config in
+    let here = one_end line (texts.spelled_header t.header) (texts.whole_header t.header is) in
     let rest = rows_end (body t) in
-    let all = count_both (transcript_line t.config) (flat_map (λ (line : List ℕ). line) (map row_text (body t))) in
+    let all = count_both line (flat_map (λ (l : List ℕ). l) (map row_text (body t))) in
     omega (arith, here, rest, all, ap (count_by is_line_end) (joined (body t)))
 
 -- ---- and no other
@@ -154,9 +157,9 @@ rows_counted (row ∷ rows) fit =
 -- so bytes that spell a transcript have no line too many
 pub spelled_has_room : (t : Transcript) (text : List ℕ) → Spells t text → HasRoom text
 spelled_has_room t text spells =
-    let line : List ℕ = transcript_line t.config in
-    let inside = (header_is_line t.config spells.fits.config).inside in
-    let here = only_end line (texts.spelled_header t.config) (texts.whole_header t.config) inside in
+    let line : List ℕ = transcript_line t.header.form t.header.config in
+    let is = spells.fits.header in
+    let here = only_end line (texts.spelled_header t.header) (texts.whole_header t.header is) (header_is_line t.header is).inside in
     let rest = rows_counted (body t) spells.fits.rows in
     let all = count_both line (flat_map (λ (l : List ℕ). l) (map row_text (body t))) in
     omega (

@@ -1,6 +1,6 @@
 -- The transcript of a run, as a judge reads it.
 use Rattle.std.specs.Prelude.{◌≤◌, ◌+◌, ◌==◌, ℕ, Bool, List, [], ◌∷◌, ◌++◌, map, take, count_by}
-use Rattle.nop_types.specs.Configuration.{Configuration}
+use Rattle.nop_types.specs.declared.header.Header.{Header}
 use Rattle.nop_types.specs.Legality.{Legal}
 use Rattle.nop_types.specs.Logs.{Trimmed, length_of}
 use Rattle.nop_types.specs.Meaning.{Meaning}
@@ -32,10 +32,10 @@ state_rows archive i [] = []
 state_rows archive i (p ∷ ps) = rows_of archive i p ++ state_rows archive (i + 1) ps
 
 -- the lines of the events, the replicas at the end, and the history
-abbrev pub transcript_of : Configuration → Happened → Transcript
-transcript_of c h =
+abbrev pub transcript_of : Header → Happened → Transcript
+transcript_of header h =
     record {
-      config = c;
+      header = header;
       events = map row_of h.lines;
       states = state_rows h.world.archive 0 h.world.replicas;
       history = history h.world;
@@ -53,6 +53,6 @@ HasRoom text = count_by is_line_end text ≤ MAX_TRANSCRIPT_LINES
 -- ---- what a judge finds
 
 -- the bytes are the text of the run's transcript, and its history is legal for its claims
-pub record IsLegalRun {S : Type 0} (m : Meaning S) (c : Configuration) (h : Happened) (text : List ℕ) : Type 0 where
-  pub spells : Spells (transcript_of c h) text
-  pub legal : Legal m (said (transcript_of c h)) (history h.world)
+pub record IsLegalRun {S : Type 0} (m : Meaning S) (header : Header) (h : Happened) (text : List ℕ) : Type 0 where
+  pub spells : Spells (transcript_of header h) text
+  pub legal : Legal m (said (transcript_of header h)) (history h.world)

@@ -16,7 +16,7 @@ use nop_types::Host;
 pub fn runs_are_legal<H: Host>()
     ensures { AnswersAreBytes H.meaning → (bytes : List ℕ) → (ran : RunsSafely H.meaning bytes)
         → (HasRoom (output H.meaning true bytes).text
-        ↔ IsLegalRun H.meaning ran.config ran.happened (output H.meaning true bytes).text) }
+        ↔ IsLegalRun H.meaning ran.header ran.happened (output H.meaning true bytes).text) }
 {}
 
 /// Whatever a check of the bytes that a replay wrote answers: it passes with the counts of this run, or a read failed or memory

@@ -1,6 +1,7 @@
 -- The call that arguments name.
 use Rattle.std.specs.Prelude.{ℕ, ◌-◌, ◌^◌, List, ◌∷◌, Option, Some, None, nat_le, ◌&&◌, if◌then◌else◌}
 use Rattle.nop_types.specs.Configuration.{Configuration, is_configuration}
+use Rattle.nop_types.specs.declared.limits.TheConstants.{MAX_CONTROLLERS}
 use Rattle.line_fields.specs.Fields.{number_of, number_below}
 use Rattle.client_call.specs.declared.call.Service.{Service}
 use Rattle.kv_text.specs.Text.{◌>>=◌, op_of}
@@ -24,7 +25,7 @@ service_of port replicas sequencers = do
   base ← number_in 1024 65000 port
   r ← number_below 256 replicas
   s ← number_below 256 sequencers
-  service_at base (record { replicas = r; sequencers = s; clients = 1 })
+  service_at base (record { replicas = r; sequencers = s; clients = 1; controllers = MAX_CONTROLLERS })
 
 abbrev pub caller_of : List ℕ → List ℕ → List ℕ → List ℕ → List ℕ → Option Caller
 caller_of port replicas sequencers client turns = do

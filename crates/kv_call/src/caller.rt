@@ -5,7 +5,7 @@ ghost use Rattle.kv_call.specs.Arguments.{number_in, service_of, caller_of};
 
 use client_call::Service;
 use line_fields::{number, small_number};
-use nop_types::{Bytes, Config};
+use nop_types::{Bytes, Config, MAX_CONTROLLERS};
 
 /// A service, the number of the client that calls it, and the most turns of the call.
 #[derive(Clone, Copy, Debug, PartialEq, Eq)]
@@ -28,7 +28,7 @@ fn number_in(least: u64, most: u64, word: &[u8]) -> Option<u64>
     }
 }
 
-/// The service at these ports. Its configuration has one client, since no client reads that number.
+/// The service at these ports. Its configuration is that of a node: one client and the most controllers, numbers that no client reads.
 fn service_of(port: &[u8], replicas: &[u8], sequencers: &[u8]) -> Option<Service>
     ensures service { result ≡ service_of port.now replicas.now sequencers.now }
     ensures base { IfSome result (λ s. s.base ≤ 65000) }
@@ -36,7 +36,7 @@ fn service_of(port: &[u8], replicas: &[u8], sequencers: &[u8]) -> Option<Service
     let base = number_in(1024, 65000, port)?;
     let replicas = small_number(256, replicas)?;
     let sequencers = small_number(256, sequencers)?;
-    match Config::new(replicas, sequencers, 1) {
+    match Config::new(replicas, sequencers, 1, MAX_CONTROLLERS) {
         Some(config) => Some(Service {
             base: base as u16,
             config,

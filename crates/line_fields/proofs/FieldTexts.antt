@@ -1,8 +1,8 @@
 -- Reading the text of a field gives the field again.
-use Rattle.std.proofs.Common.{◌≡◌, ℕ, suc, ◌+◌, ◌-◌, ◌*◌, ◌/◌, ◌%◌, ◌^◌, ◌<◌, ◌≤◌, Bool, true, false, Option, Some, None, refl, ap}
+use Rattle.std.proofs.Common.{◌≡◌, ℕ, zero, suc, ◌+◌, ◌-◌, ◌*◌, ◌/◌, ◌%◌, ◌^◌, ◌<◌, ◌≤◌, Bool, true, false, Option, Some, None, refl, ap}
 use Rattle.std.proofs.Common.{◌∙◌, arith, length, List, [], ◌∷◌, ◌++◌, append_assoc, append-nil, slice_index, get_or}
-use Rattle.std.proofs.Common.{decimal, codes, nat_lt, nat_le, inl, inr}
-use Rattle.std.specs.Prelude.{◌&&◌, ◌==◌, Ok, nat_eq, IsTrue}
+use Rattle.std.proofs.Common.{decimal, codes, take, nat_lt, nat_le, inl, inr}
+use Rattle.std.specs.Prelude.{if◌then◌else◌, ◌&&◌, ◌==◌, Ok, nat_eq, IsTrue}
 use Rattle.std.specs.Cmp.Lexicographic.{pointwise}
 use Rattle.std.specs.List.{flat_map, list_all}
 use Rattle.std.proofs.lemmas.Bool.{le-leb, lt-ltb, leb-true, ne_eqb, and_parts, and_left, and_right, cases_lt}
@@ -13,11 +13,11 @@ use Rattle.hex.specs.Hex.{IsBytes, decode_of, encode_lower, encode_with, lower_d
 use Rattle.hex.proofs.HexLemmas.{decode_of-encode_lower, length-encode_with}
 use Rattle.nop_types.specs.Configuration.{Configuration, is_configuration}
 use Rattle.nop_types.specs.declared.limits.TheConstants.{MAX_REPLICAS}
-use Rattle.nop_types.specs.declared.limits.TheConstants.{MAX_SEQUENCERS, MAX_CLIENTS}
+use Rattle.nop_types.specs.declared.limits.TheConstants.{MAX_SEQUENCERS, MAX_CLIENTS, MAX_CONTROLLERS}
 use Rattle.nop_types.specs.declared.output.Actor.{Actor}
 use Rattle.nop_types.specs.declared.output.Actor.TheVariants as actors
 use Rattle.line_fields.specs.Fields.{fields, fields_on, is_text, digit_on, number_on, number_of, number_below, numbered, actor_of}
-use Rattle.line_fields.specs.Fields.{as_option, bytes_of, IsActorOf}
+use Rattle.line_fields.specs.Fields.{from_one, by_number, as_option, bytes_of, IsActorOf}
 use Rattle.transcript_text.specs.LineText.{after_space}
 use Rattle.transcript_text.specs.Transcript.{actor_text, hex_text}
 
@@ -123,41 +123,61 @@ starts_with_digit = decimal_by_steps (λ m ds. StartsWithDigit ds) one more
       high = h.high;
     }
 
--- so a client's name is not the controller's
-no_name : (ds : List ℕ) → StartsWithDigit ds → pointwise nat_eq ds (codes "tl") ≡ false
-no_name ds h =
-    let e : (h.first == 116) ≡ false = ne_eqb h.first 116 (λ same. let low = h.low in omega arith) in
-    rw h.is (and_left (h.first == 116) _ e)
+-- so a client's name does not begin as a controller's
+no_name : (d : ℕ) (ds : List ℕ) → d < 58 → pointwise nat_eq (d ∷ ds) (codes "tl") ≡ false
+no_name d ds low = and_left (d == 116) _ (ne_eqb d 116 (λ same. omega arith))
+
+client_is_other : (c : Configuration) (ds : List ℕ) → StartsWithDigit ds
+    → actor_of c (99 ∷ ds) ≡ numbered actors.Client (number_below c.clients ds)
+unfolding actor_of
+client_is_other c ds h = rw h.is (rw (no_name h.first h.rest h.low, no_name h.first (take 1 h.rest) h.low) refl)
+
+later_text : (k : ℕ) → actor_text (actors.Controller (suc k)) ≡ codes "ctl" ++ decimal (suc k)
+later_text k = rw (ne_eqb (suc k) 0 (λ e. omega (arith, e))) refl
+
+-- `ctl` and a number is a controller from 1 on
+controller_is_later : (c : Configuration) (ds : List ℕ) → StartsWithDigit ds → actor_of c (codes "ctl" ++ ds) ≡ by_number c ds
+unfolding actor_of
+controller_is_later c ds h = rw h.is refl
 
 pub record Small (c : Configuration) : Type 0 where
   pub replicas : c.replicas ≤ 7
   pub sequencers : c.sequencers ≤ 4
   pub clients : c.clients ≤ 16
+  pub controllers : c.controllers ≤ 4
 
 pub actor_again : (c : Configuration) → Small c → (a : Actor) → IsActorOf c a → actor_of c (actor_text a) ≡ Some a
 unfolding actor_of
 actor_again c small (actors.Replica i) h = ap (numbered actors.Replica) (small_again c.replicas i h (omega (arith, small.replicas)))
 actor_again c small (actors.Sequencer i) h = ap (numbered actors.Sequencer) (small_again c.sequencers i h (omega (arith, small.sequencers)))
 actor_again c small (actors.Client i) h =
-    rw (no_name (decimal i) (starts_with_digit i (omega (arith, small.clients))))
-    (ap (numbered actors.Client) (small_again c.clients i h (omega (arith, small.clients))))
-actor_again c small actors.Controller h = refl
+    client_is_other c (decimal i) (starts_with_digit i (omega (arith, small.clients)))
+    ∙ ap (numbered actors.Client) (small_again c.clients i h (omega (arith, small.clients)))
+actor_again c small (actors.Controller zero) h = refl
+actor_again c small (actors.Controller (suc k)) h =
+    ap (actor_of c) (later_text k)
+    ∙ controller_is_later c (decimal (suc k)) (starts_with_digit (suc k) (omega (arith, small.controllers)))
+    ∙ ap (λ (n : Option ℕ). numbered actors.Controller (from_one n))
+    (small_again c.controllers (suc k) h (omega (arith, small.controllers)))
 
 pub small_counts : (c : Configuration) → IsTrue (is_configuration c) → Small c
 small_counts c e =
-    let a = and_parts (c.replicas % 2 == 1)
-    (nat_le c.replicas MAX_REPLICAS &&
-    (nat_lt 0 c.sequencers && (nat_le c.sequencers MAX_SEQUENCERS && (nat_lt 0 c.clients && nat_le c.clients MAX_CLIENTS)))) e in
-    let b = and_parts (nat_le c.replicas MAX_REPLICAS)
-    (nat_lt 0 c.sequencers && (nat_le c.sequencers MAX_SEQUENCERS && (nat_lt 0 c.clients && nat_le c.clients MAX_CLIENTS))) a.1 in
-    let d = and_parts (nat_lt 0 c.sequencers) (nat_le c.sequencers MAX_SEQUENCERS && (nat_lt 0 c.clients && nat_le c.clients MAX_CLIENTS))
-    b.1 in
-    let g = and_parts (nat_le c.sequencers MAX_SEQUENCERS) (nat_lt 0 c.clients && nat_le c.clients MAX_CLIENTS) d.1 in
-    let h = and_parts (nat_lt 0 c.clients) (nat_le c.clients MAX_CLIENTS) g.1 in
+    let controllers = nat_lt 0 c.controllers && nat_le c.controllers MAX_CONTROLLERS in
+    let clients = nat_le c.clients MAX_CLIENTS && controllers in
+    let sequencers = nat_le c.sequencers MAX_SEQUENCERS && (nat_lt 0 c.clients && clients) in
+    let replicas = nat_le c.replicas MAX_REPLICAS && (nat_lt 0 c.sequencers && sequencers) in
+    let a = and_parts (c.replicas % 2 == 1) replicas e in
+    let b = and_parts (nat_le c.replicas MAX_REPLICAS) (nat_lt 0 c.sequencers && sequencers) a.1 in
+    let d = and_parts (nat_lt 0 c.sequencers) sequencers b.1 in
+    let g = and_parts (nat_le c.sequencers MAX_SEQUENCERS) (nat_lt 0 c.clients && clients) d.1 in
+    let h = and_parts (nat_lt 0 c.clients) clients g.1 in
+    let k = and_parts (nat_le c.clients MAX_CLIENTS) controllers h.1 in
+    let m = and_parts (nat_lt 0 c.controllers) (nat_le c.controllers MAX_CONTROLLERS) k.1 in
     record {
       replicas = leb-true c.replicas MAX_REPLICAS b.0;
       sequencers = leb-true c.sequencers MAX_SEQUENCERS g.0;
-      clients = leb-true c.clients MAX_CLIENTS h.1;
+      clients = leb-true c.clients MAX_CLIENTS k.0;
+      controllers = leb-true c.controllers MAX_CONTROLLERS m.1;
     }
 
 pub actor_named_again : (c : Configuration) (a : Actor) → IsTrue (is_configuration c) → IsActorOf c a → actor_of c (actor_text a) ≡ Some a
@@ -249,15 +269,29 @@ decimal_short n fits = length-decimal-le 20 n (omega arith) (omega arith) fits
 
 -- ---- the names of actors
 
+numbers_marked : (b : Bool) (i : ℕ) → i < 2 ^ 64 → list_all is_mark (codes "ctl" ++ (if b then [] else decimal i)) ≡ true
+numbers_marked true i fits = refl
+numbers_marked false i fits = decimal_marked i fits
+
+controller_marked : (i : ℕ) → i < 2 ^ 64 → list_all is_mark (actor_text (actors.Controller i)) ≡ true
+controller_marked i fits = numbers_marked (i == 0) i fits
+
+controller_short : (i : ℕ) → i < 10 → length (actor_text (actors.Controller i)) ≤ 21
+controller_short i small = by_zero (i == 0)
+  where
+    by_zero : (b : Bool) → length (codes "ctl" ++ (if b then [] else decimal i)) ≤ 21
+    by_zero true = omega arith
+    by_zero false = omega (arith, ap length (decimal_digit i small))
+
 module _ (c : Configuration) (small : Small c) where
   pub actor_marked : (a : Actor) → IsActorOf c a → list_all is_mark (actor_text a) ≡ true
   actor_marked (actors.Replica i) h = decimal_marked i (let k = small.replicas in omega arith)
   actor_marked (actors.Sequencer i) h = decimal_marked i (let k = small.sequencers in omega arith)
   actor_marked (actors.Client i) h = decimal_marked i (let k = small.clients in omega arith)
-  actor_marked actors.Controller h = refl
+  actor_marked (actors.Controller i) h = controller_marked i (let k = small.controllers in omega arith)
 
   pub actor_short : (a : Actor) → IsActorOf c a → length (actor_text a) ≤ 21
   actor_short (actors.Replica i) h = omega (arith, decimal_short i (let k = small.replicas in omega arith))
   actor_short (actors.Sequencer i) h = omega (arith, decimal_short i (let k = small.sequencers in omega arith))
   actor_short (actors.Client i) h = omega (arith, decimal_short i (let k = small.clients in omega arith))
-  actor_short actors.Controller h = omega arith
+  actor_short (actors.Controller i) h = controller_short i (let k = small.controllers in omega arith)

@@ -1,6 +1,6 @@
 -- The fields of a line, and what single fields spell.
-use Rattle.std.specs.Prelude.{ℕ, ◌<◌, ⊤, ◌+◌, ◌-◌, ◌*◌, ◌^◌, List, [], ◌∷◌, ◌++◌, Bool, Option, Some, None, Result, Ok, Err, codes, nat_eq}
-use Rattle.std.specs.Prelude.{nat_lt, nat_le, ◌==◌, ◌&&◌, if◌then◌else◌}
+use Rattle.std.specs.Prelude.{ℕ, zero, suc, take, drop, ◌<◌, ◌+◌, ◌-◌, ◌*◌, ◌^◌, List, [], ◌∷◌, ◌++◌, Bool, Option, Some, None}
+use Rattle.std.specs.Prelude.{Result, Ok, Err, codes, nat_eq, nat_lt, nat_le, ◌==◌, ◌&&◌, if◌then◌else◌}
 use Rattle.std.specs.Cmp.Lexicographic.{pointwise}
 use Rattle.hex.specs.Hex.{decode_of}
 use Rattle.hex.specs.declared.error.FromHexError.{FromHexError}
@@ -61,30 +61,50 @@ abbrev pub by_letter : Configuration → List ℕ → Option Actor
 by_letter c [] = None
 by_letter c (letter ∷ digits) = lettered c letter digits
 
--- the actor of this configuration that the field names: `ctl`, or `r`, `s` or `c` and a number
+-- a number from 1
+abbrev pub from_one : Option ℕ → Option ℕ
+from_one None = None
+from_one (Some zero) = None
+from_one (Some (suc k)) = Some (suc k)
+
+-- `ctl` and a number from 1
+abbrev pub by_number : Configuration → List ℕ → Option Actor
+by_number c digits = numbered Controller (from_one (number_below c.controllers digits))
+
+-- the actor of this configuration that the field names: `ctl` is controller 0; `ctl` and a number, or `r`, `s` or `c` and a number
 unfoldable pub actor_of : Configuration → List ℕ → Option Actor
-actor_of c field = if is_text (codes "ctl") field then Some Controller else by_letter c field
+actor_of c field =
+    if is_text (codes "ctl") field then Some (Controller 0)
+    else if is_text (codes "ctl") (take 3 field) then by_number c (drop 3 field)
+    else by_letter c field
 
 -- the actor is of the configuration
 abbrev pub IsActorOf : Configuration → Actor → Type 0
 IsActorOf c (Replica i) = i < c.replicas
 IsActorOf c (Sequencer i) = i < c.sequencers
 IsActorOf c (Client i) = i < c.clients
-IsActorOf c Controller = ⊤
+IsActorOf c (Controller i) = i < c.controllers
 
 abbrev pub client_number : Option Actor → Option ℕ
 client_number None = None
 client_number (Some (Replica i)) = None
 client_number (Some (Sequencer i)) = None
 client_number (Some (Client i)) = Some i
-client_number (Some Controller) = None
+client_number (Some (Controller i)) = None
 
 abbrev pub sequencer_number : Option Actor → Option ℕ
 sequencer_number None = None
 sequencer_number (Some (Replica i)) = None
 sequencer_number (Some (Sequencer i)) = Some i
 sequencer_number (Some (Client i)) = None
-sequencer_number (Some Controller) = None
+sequencer_number (Some (Controller i)) = None
+
+abbrev pub controller_number : Option Actor → Option ℕ
+controller_number None = None
+controller_number (Some (Replica i)) = None
+controller_number (Some (Sequencer i)) = None
+controller_number (Some (Client i)) = None
+controller_number (Some (Controller i)) = Some i
 
 -- ---- bytes in hexadecimal
 

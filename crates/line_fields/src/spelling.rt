@@ -1,7 +1,7 @@
 //! What single fields spell.
 
 ghost use Rattle.std.specs.Prelude.{◌≡◌, ◌*◌, ◌≤◌, length, IfOk};
-ghost use Rattle.line_fields.specs.Fields.{actor_of, bytes_of, digit_on, lettered, number_of};
+ghost use Rattle.line_fields.specs.Fields.{actor_of, by_number, bytes_of, digit_on, lettered, number_of};
 ghost use Rattle.line_fields.specs.Fields.{number_on, number_below};
 
 use crate::split::is_word;
@@ -67,16 +67,27 @@ fn lettered(config: Config, letter: u8, digits: &[u8]) -> Option<Actor>
     }
 }
 
+/// A controller by what follows `ctl`, a number from 1.
+fn numbered_controller(config: Config, digits: &[u8]) -> Option<Actor>
+    ensures { result ≡ by_number config digits.now }
+{
+    match numbered(config.controllers(), digits)? {
+        0 => None,
+        number => Some(Actor::Controller(number)),
+    }
+}
+
 /// An actor of the configuration.
 #[tactic(auto, unfolding(crate::specs::Fields::actor_of))]
 pub fn actor(config: Config, field: &[u8]) -> Option<Actor>
     ensures { result ≡ actor_of config field.now }
 {
     if is_word(field, "ctl") {
-        return Some(Actor::Controller);
+        return Some(Actor::Controller(0));
     }
     match field {
         [] => None,
+        [b'c', b't', b'l', digits @ ..] => numbered_controller(config, digits),
         [letter, digits @ ..] => lettered(config, *letter, digits),
     }
 }

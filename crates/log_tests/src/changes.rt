@@ -6,8 +6,11 @@ use std::alloc::Global;
 use std::process::Abort;
 use view_change::{Changes, Start, Step};
 
+/// The sessions of the second epoch are above this one.
+const EPOCH: u64 = 4_294_967_296;
+
 /// A change in numbers: its sender, leader and session of its last normal view, its next number, and its log.
-type Told = (u8, u32, u32, u64, Ids);
+type Told = (u8, u32, u64, u64, Ids);
 
 fn change(rt: &impl Abort, alloc: Global, told: &Told) -> Change {
     let (sender, leader, session, next, log) = *told;
@@ -79,7 +82,7 @@ fn merges(rt: HostRuntime) {
 
 /// The leader, the session and the count of the others that the start waits for; then the changes, of which only the last one starts
 /// the view; then the next number that it starts with, and the log.
-type Case = (u32, u32, u8, &'static [Told], u64, Ids);
+type Case = (u32, u64, u8, &'static [Told], u64, Ids);
 
 /// Of five replicas a change of an older view counts, and its log does not; a second one of a sender does not count; what stands below
 /// the greatest sync point is not merged. Of three: in one session next is the greater one; in a new session numbers begin at 1;
@@ -113,7 +116,7 @@ const STARTS: [Case; 9] = [
     ),
     (
         1,
-        2,
+        EPOCH + 1,
         1,
         &[(1, 0, 1, 3, (2, 7, &[])), (2, 0, 1, 2, (1, 8, &[]))],
         1,
@@ -121,9 +124,12 @@ const STARTS: [Case; 9] = [
     ),
     (
         6,
-        2,
+        EPOCH + 1,
         1,
-        &[(0, 5, 1, 3, (1, 7, &[])), (1, 0, 2, 7, (0, 0, &[2]))],
+        &[
+            (0, 5, 2, 3, (1, 7, &[])),
+            (1, 0, EPOCH + 1, 7, (0, 0, &[2])),
+        ],
         7,
         (0, 0, &[2]),
     ),

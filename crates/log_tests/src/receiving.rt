@@ -8,7 +8,7 @@ use std::alloc::Global;
 use std::process::Abort;
 
 /// A packet whose request has the message number as its id.
-fn packet(rt: &impl Abort, alloc: Global, session: u32, number: u64) -> Stamped
+fn packet(rt: &impl Abort, alloc: Global, session: u64, number: u64) -> Stamped
     ensures { StampedFits result }
 {
     assert!(rt; session > 0 && number > 0 && number < NUMBER_END);
@@ -24,7 +24,7 @@ fn offer(
     rt: &impl Abort,
     alloc: Global,
     receiver: &mut Receiver,
-    session: u32,
+    session: u64,
     number: u64,
 ) -> Verdict {
     let packet = packet(rt, alloc, session, number);
@@ -43,11 +43,11 @@ fn take_front(rt: &impl Abort, receiver: &mut Receiver) {
 /// A call of a receiver, with its arguments. A packet is offered by its session and its number, with the verdict on it.
 #[derive(Clone, Copy)]
 enum Call {
-    Offer(u32, u64, Verdict),
+    Offer(u64, u64, Verdict),
     Message,
     Front,
     Advance(u64),
-    Reset(u32, u64),
+    Reset(u64, u64),
 }
 
 /// Carries out a call, and tells whether a packet has the verdict that is told.
@@ -81,9 +81,12 @@ fn front(receiver: &Receiver) -> Option<u64> {
 /// The last message number of a session.
 const LAST: u64 = 281_474_976_710_655;
 
+/// The session of the second epoch whose count is 2.
+const SECOND: u64 = 4_294_967_298;
+
 /// A call, and the session, the next number and the front then: in order, out of order with a packet that comes twice, other sessions,
 /// a drop, down and up past some of what is queued, another session, the last number.
-const CALLS: [(Call, u32, u64, Option<u64>); 32] = [
+const CALLS: [(Call, u64, u64, Option<u64>); 32] = [
     (Call::Message, 2, 1, None),
     (Call::Offer(2, 1, Verdict::Queued), 2, 1, Some(1)),
     (Call::Front, 2, 2, None),
@@ -96,7 +99,12 @@ const CALLS: [(Call, u32, u64, Option<u64>); 32] = [
     (Call::Offer(2, 2, Verdict::Old), 2, 3, Some(3)),
     (Call::Message, 2, 4, Some(4)),
     (Call::Offer(1, 9, Verdict::Old), 2, 4, Some(4)),
-    (Call::Offer(3, 1, Verdict::Terminated(3)), 2, 4, Some(4)),
+    (
+        Call::Offer(SECOND, 1, Verdict::Terminated(SECOND)),
+        2,
+        4,
+        Some(4),
+    ),
     (Call::Offer(2, 6, Verdict::Queued), 2, 4, Some(4)),
     (Call::Front, 2, 5, Some(0)),
     (Call::Front, 2, 6, Some(6)),
@@ -110,16 +118,21 @@ const CALLS: [(Call, u32, u64, Option<u64>); 32] = [
     (Call::Offer(2, 6, Verdict::Queued), 2, 6, Some(6)),
     (Call::Advance(9), 2, 9, None),
     (Call::Offer(2, 9, Verdict::Queued), 2, 9, Some(9)),
-    (Call::Reset(3, 9), 3, 9, None),
-    (Call::Offer(2, 9, Verdict::Old), 3, 9, None),
-    (Call::Offer(3, 9, Verdict::Queued), 3, 9, Some(9)),
-    (Call::Advance(LAST), 3, LAST, None),
-    (Call::Offer(3, LAST, Verdict::Queued), 3, LAST, Some(LAST)),
-    (Call::Front, 3, LAST + 1, None),
+    (Call::Reset(SECOND, 9), SECOND, 9, None),
+    (Call::Offer(2, 9, Verdict::Old), SECOND, 9, None),
+    (Call::Offer(SECOND, 9, Verdict::Queued), SECOND, 9, Some(9)),
+    (Call::Advance(LAST), SECOND, LAST, None),
+    (
+        Call::Offer(SECOND, LAST, Verdict::Queued),
+        SECOND,
+        LAST,
+        Some(LAST),
+    ),
+    (Call::Front, SECOND, LAST + 1, None),
 ];
 
 /// The receiver has this session, this next number and this front.
-fn is_at(receiver: &Receiver, session: u32, next: u64, told: Option<u64>) -> bool {
+fn is_at(receiver: &Receiver, session: u64, next: u64, told: Option<u64>) -> bool {
     receiver.session() == session && receiver.next() == next && front(receiver) == told
 }
 

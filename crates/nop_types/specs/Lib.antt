@@ -5,6 +5,7 @@ pub mod Checkpoints
 pub mod Configuration
 pub mod Execution
 pub mod Given
+pub mod Headers
 pub mod Histories
 pub mod Legality
 pub mod Lines
@@ -15,6 +16,7 @@ pub mod Meaning
 pub mod PlainChanges
 pub mod Ranges
 pub mod Services
+pub mod Sessions
 pub mod Slots
 pub mod Stamps
 pub mod Tables

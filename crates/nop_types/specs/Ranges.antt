@@ -24,9 +24,14 @@ pub record IsCount (n : ℕ) : Type 0 where
   pub low : 1 ≤ n
   pub high : n < 2 ^ 32
 
+-- sessions count from 1, and are numbers of 64 bits
+pub record SessionFits (session : ℕ) : Type 0 where
+  pub low : 1 ≤ session
+  pub high : session < 2 ^ 64
+
 pub record ViewFits (v : View) : Type 0 where
   pub leader : v.leader < 2 ^ 32
-  pub session : IsCount v.session
+  pub session : SessionFits v.session
 
 pub record RequestFits (r : Request) : Type 0 where
   pub client : r.client < 2 ^ 32
@@ -35,7 +40,7 @@ pub record RequestFits (r : Request) : Type 0 where
   pub op : length r.op ≤ MAX_OP_BYTES
 
 pub record StampedFits (s : Stamped) : Type 0 where
-  pub session : IsCount s.session
+  pub session : SessionFits s.session
   pub number_low : 1 ≤ s.number
   pub number : s.number < NUMBER_END
   pub request : RequestFits s.request
@@ -67,20 +72,27 @@ pub record FragmentFits (f : Fragment) : Type 0 where
   pub most : length f.payload ≤ FRAGMENT_BYTES
   pub full : f.index + 1 < f.count → length f.payload ≡ FRAGMENT_BYTES
 
--- of a sequencer's number, and a session or a round
-pub record SignalFits (sequencer n : ℕ) : Type 0 where
-  pub number : sequencer ≤ 3
-  pub count : IsCount n
+-- of an Install or its answer: the numbers of the controller and the sequencer, and a session
+pub record InstallFits (k j session : ℕ) : Type 0 where
+  pub controller : k ≤ 3
+  pub sequencer : j ≤ 3
+  pub fits : SessionFits session
+
+-- of a Ping or its answer: the same numbers, and a round
+pub record PingFits (k j round : ℕ) : Type 0 where
+  pub controller : k ≤ 3
+  pub sequencer : j ≤ 3
+  pub fits : IsCount round
 
 -- each field is in its range
 abbrev pub DatagramFits : Datagram → Type 0
 DatagramFits (datagrams.Request r) = RequestFits r
 DatagramFits (datagrams.Stamped s) = StampedFits s
 DatagramFits (datagrams.Reply r) = ReplyFits r
-DatagramFits (datagrams.Install sequencer session) = SignalFits sequencer session
-DatagramFits (datagrams.Installed sequencer session) = SignalFits sequencer session
-DatagramFits (datagrams.Ping sequencer round) = SignalFits sequencer round
-DatagramFits (datagrams.Pong sequencer round) = SignalFits sequencer round
+DatagramFits (datagrams.Install controller sequencer session) = InstallFits controller sequencer session
+DatagramFits (datagrams.Installed controller sequencer session) = InstallFits controller sequencer session
+DatagramFits (datagrams.Ping controller sequencer round) = PingFits controller sequencer round
+DatagramFits (datagrams.Pong controller sequencer round) = PingFits controller sequencer round
 DatagramFits (datagrams.Fragment f) = FragmentFits f
 
 abbrev pub EntryFits : Entry → Type 0

@@ -1,15 +1,16 @@
 ghost use Rattle.std.specs.Prelude.{◌≡◌, ◌↔◌, ◌<◌, ◌≤◌, IsTrue, IsSome, IfSome};
 ghost use Rattle.nop_types.specs.Configuration.{Configuration, is_configuration};
 
-use crate::{MAX_CLIENTS, MAX_REPLICAS, MAX_SEQUENCERS};
+use crate::{MAX_CLIENTS, MAX_CONTROLLERS, MAX_REPLICAS, MAX_SEQUENCERS};
 use std::marker::Model;
 
-/// How many actors there are: 1, 3, 5 or 7 replicas, 1 to 4 sequencers and 1 to 16 clients, and always one controller.
+/// How many actors there are: 1, 3, 5 or 7 replicas, 1 to 4 sequencers, 1 to 16 clients and 1 to 4 controllers.
 #[derive(Clone, Copy, Debug, PartialEq, Eq)]
 pub struct Config {
     replicas: u8,
     sequencers: u8,
     clients: u8,
+    controllers: u8,
 }
 
 impl Model for Config {
@@ -19,29 +20,45 @@ impl Model for Config {
     ghost Value = { Configuration };
 
     ghost view = { λ c.
-        record { replicas = c.replicas; sequencers = c.sequencers; clients = c.clients } };
+        record {
+          replicas = c.replicas;
+          sequencers = c.sequencers;
+          clients = c.clients;
+          controllers = c.controllers;
+        } };
 
     ghost invariant = { λ c. IsTrue (is_configuration (record {
       replicas = c.replicas;
       sequencers = c.sequencers;
       clients = c.clients;
+      controllers = c.controllers;
     })) };
 
     ghost inverse = { λ d.
-        record { replicas = d.replicas; sequencers = d.sequencers; clients = d.clients } };
+        record {
+          replicas = d.replicas;
+          sequencers = d.sequencers;
+          clients = d.clients;
+          controllers = d.controllers;
+        } };
 }
 
 impl Config {
     /// None exactly outside the limits.
-    pub fn new(replicas: u8, sequencers: u8, clients: u8) -> Option<Config>
+    pub fn new(replicas: u8, sequencers: u8, clients: u8, controllers: u8) -> Option<Config>
         ensures some { IsSome result
             ↔ IsTrue (is_configuration (record {
               replicas = replicas;
               sequencers = sequencers;
               clients = clients;
+              controllers = controllers;
             })) }
-        ensures value { IfSome result (λ c.
-            c ≡ record { replicas = replicas; sequencers = sequencers; clients = clients }) }
+        ensures value { IfSome result (λ c. c ≡ record {
+          replicas = replicas;
+          sequencers = sequencers;
+          clients = clients;
+          controllers = controllers;
+        }) }
     {
         if replicas % 2 == 0 || replicas > MAX_REPLICAS {
             return None;
@@ -52,10 +69,14 @@ impl Config {
         if clients == 0 || clients > MAX_CLIENTS {
             return None;
         }
+        if controllers == 0 || controllers > MAX_CONTROLLERS {
+            return None;
+        }
         Some(Config {
             replicas,
             sequencers,
             clients,
+            controllers,
         })
     }
 
@@ -77,5 +98,12 @@ impl Config {
         ensures { result ≡ self.clients }
     {
         self.clients
+    }
+
+    pub fn controllers(self) -> u8
+        ensures count { result ≡ self.controllers }
+        ensures limits { IsTrue (is_configuration self) }
+    {
+        self.controllers
     }
 }

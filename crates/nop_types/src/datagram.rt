@@ -3,7 +3,7 @@ use crate::{Bytes, Request, View};
 /// A request with the session and the message number that a sequencer wrote on it.
 #[derive(Debug, Drop)]
 pub struct Stamped {
-    pub session: u32,
+    pub session: u64,
     pub number: u64,
     pub request: Request,
 }
@@ -30,15 +30,31 @@ pub struct Fragment {
     pub payload: Bytes,
 }
 
-/// What the network carries.
+/// What the network carries. Installs and pings name the controller that sent them, and their answers the one that they are for.
 #[derive(Debug, Drop)]
 pub enum Datagram {
     Request(Request),
     Stamped(Stamped),
     Reply(Reply),
-    Install { sequencer: u8, session: u32 },
-    Installed { sequencer: u8, session: u32 },
-    Ping { sequencer: u8, round: u32 },
-    Pong { sequencer: u8, round: u32 },
+    Install {
+        controller: u8,
+        sequencer: u8,
+        session: u64,
+    },
+    Installed {
+        controller: u8,
+        sequencer: u8,
+        session: u64,
+    },
+    Ping {
+        controller: u8,
+        sequencer: u8,
+        round: u32,
+    },
+    Pong {
+        controller: u8,
+        sequencer: u8,
+        round: u32,
+    },
     Fragment(Fragment),
 }

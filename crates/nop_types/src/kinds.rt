@@ -7,7 +7,7 @@ pub const FIRST_MAGIC: u8 = 0x4e;
 pub const SECOND_MAGIC: u8 = 0x4f;
 
 /// The version of the formats, the third byte of each datagram.
-pub const VERSION: u8 = 2;
+pub const VERSION: u8 = 3;
 
 /// The kinds of datagrams, the fourth byte of each.
 pub const REQUEST: u8 = 1;
@@ -48,7 +48,7 @@ pub const SYNC_REP: u8 = 24;
 pub const SYNC_COMMIT: u8 = 25;
 
 // A number that both code and definitions name would be proved whatever it was; so here each stands once more.
-const _: () = prove!(FIRST_MAGIC == 0x4e && SECOND_MAGIC == 0x4f && VERSION == 2);
+const _: () = prove!(FIRST_MAGIC == 0x4e && SECOND_MAGIC == 0x4f && VERSION == 3);
 
 const _: () = prove!(
     REQUEST == 1

@@ -23,7 +23,8 @@
 //! Files: `view`, `request`, `log`, `checkpoint`, `datagram`, `peer`, `output`, `core_trait`,
 //! `host`, `limits`. Definitions: `specs/Execution` (`exec`, what the execution of a log leaves;
 //! `is_executed`, by `Windows` and the first clients of the log), `Tables` (what is kept for a
-//! client), `Checkpoints`, `Histories` (`history_of`: the requests that are executed), `Legality`
+//! client), `Checkpoints`, `Sessions` (`home`: the controller that gives out a session), `Headers`
+//! (the first line of a schedule, in its two forms), `Histories` (`history_of`: the requests that are executed), `Legality`
 //! (`Legal`: when lines agree with a history), `Services` (`AnswersAreBytes`), `Ranges` (of each
 //! field of a message), `Logs` and `CheckpointedLogs` (a log with its sync point, trimmed as in
 //! what runs, or kept whole), `PlainChanges` (a change whose log is a list, as the protocol tells
@@ -36,6 +37,7 @@ mod config;
 mod core_trait;
 mod datagram;
 mod ending;
+mod header;
 mod host;
 mod input;
 pub mod kinds;
@@ -55,13 +57,14 @@ pub use config::Config;
 pub use core_trait::Core;
 pub use datagram::{Datagram, Fragment, Reply, Stamped};
 pub use ending::end_step;
+pub use header::Header;
 pub use host::Host;
 pub use input::{Input, Tick};
 pub use limits::{
-    FRAGMENT_BYTES, MAX_CLIENTS, MAX_DATAGRAM_BYTES, MAX_FRAGMENTS, MAX_HOST_BYTES, MAX_KEY_BYTES,
-    MAX_LENGTH, MAX_LINE_BYTES, MAX_LINES, MAX_OP_BYTES, MAX_QUEUED, MAX_REPLICAS,
-    MAX_RESULT_BYTES, MAX_SEQUENCERS, MAX_SERVED, MAX_SLOTS, MAX_UNFINISHED, MAX_VALUE_BYTES,
-    NUMBER_END, WINDOW,
+    EPOCH_STEP, FRAGMENT_BYTES, MAX_CLIENTS, MAX_CONTROLLERS, MAX_DATAGRAM_BYTES, MAX_FRAGMENTS,
+    MAX_HOST_BYTES, MAX_KEY_BYTES, MAX_LENGTH, MAX_LINE_BYTES, MAX_LINES, MAX_OP_BYTES, MAX_QUEUED,
+    MAX_REPLICAS, MAX_RESULT_BYTES, MAX_SEQUENCERS, MAX_SERVED, MAX_SLOTS, MAX_UNFINISHED,
+    MAX_VALUE_BYTES, NUMBER_END, WINDOW,
 };
 pub use log::{Log, LogRef};
 pub use memory::NoMemory;

@@ -27,6 +27,9 @@ pub const MAX_SLOTS: usize = 4096;
 /// The most slots of a log.
 pub const MAX_LENGTH: u32 = 0xffff_ffff;
 
+/// The epochs of controller j are j modulo this number: a session names its controller, however many there are.
+pub const EPOCH_STEP: u64 = 4;
+
 /// Message numbers of a session are below this one.
 pub const NUMBER_END: u64 = 0x1_0000_0000_0000;
 
@@ -51,6 +54,9 @@ pub const MAX_REPLICAS: u8 = 7;
 /// The most sequencers.
 pub const MAX_SEQUENCERS: u8 = 4;
 
+/// The most controllers.
+pub const MAX_CONTROLLERS: u8 = 4;
+
 /// The most clients of a schedule.
 pub const MAX_CLIENTS: u8 = 16;
 
@@ -71,6 +77,7 @@ const _: () = prove!(
         && WINDOW == 1
         && MAX_SLOTS == 4096
         && MAX_LENGTH == 4_294_967_295
+        && EPOCH_STEP == 4
         && NUMBER_END == 281_474_976_710_656
         && MAX_QUEUED == 1024
         && MAX_FRAGMENTS == 4096
@@ -79,6 +86,7 @@ const _: () = prove!(
         && MAX_DATAGRAM_BYTES == 1500
         && MAX_REPLICAS == 7
         && MAX_SEQUENCERS == 4
+        && MAX_CONTROLLERS == 4
         && MAX_CLIENTS == 16
         && MAX_LINE_BYTES == 4096
         && MAX_LINES == 1_000_000

@@ -10,7 +10,7 @@ pub enum Actor {
     Replica(u8),
     Sequencer(u8),
     Client(u32),
-    Controller,
+    Controller(u8),
 }
 
 /// Where a datagram is sent: to all replicas, to all sequencers, or to one actor.

@@ -2,11 +2,11 @@ ghost use Rattle.std.specs.Prelude.{◌≡◌, ◌↔◌, ◌≤◌, ◌<◌, Is
 ghost use Rattle.nop_types.specs.Views.{AtMost, is_view, join_of, leader_of, outranks};
 
 /// A view: a leader number, and the session of the sequencer. The leader number is no replica's number; `leader_of` says
-/// which replica leads.
+/// which replica leads. A session is an epoch times 2^32 plus a count; `specs/Sessions` says which controller gives it out.
 #[derive(Clone, Copy, Debug, PartialEq, Eq)]
 pub struct View {
     pub leader: u32,
-    pub session: u32,
+    pub session: u64,
 }
 
 impl View {

@@ -47,7 +47,7 @@ pub few_timers : (w : WorldState) (a : Actor) → length (timers_of w a) ≤ 255
 few_timers w (kinds.Replica i) = few_if (slice_get w.replicas i) _ (omega arith)
 few_timers w (kinds.Sequencer i) = few_if (slice_get w.sequencers i) [] (omega arith)
 few_timers w (kinds.Client i) = few_if (slice_get w.clients i) _ (omega arith)
-few_timers w kinds.Controller = omega arith
+few_timers w (kinds.Controller i) = few_if (slice_get w.controllers i) _ (omega arith)
 
 -- ---- links
 

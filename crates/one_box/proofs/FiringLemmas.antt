@@ -76,7 +76,7 @@ module _ {S : Type 0} (m : Meaning S) (ops : List (List ℕ)) (c : Course) (n : 
   next_by (actors.Client i) = submit_by (takes_op c.world i) i (slice_get ops n.next_op)
   next_by (actors.Replica i) = refl
   next_by (actors.Sequencer i) = refl
-  next_by actors.Controller = refl
+  next_by (actors.Controller i) = refl
 
   tick_by : (t : Tick) → on_tick m ops c n t ≡ take_event m (tick_event c.world n.at.own (slice_get ops n.next_op) t) c n
   unfolding on_tick
@@ -107,7 +107,7 @@ next_free : (w : WorldState) (a : Actor) (op : Option (List ℕ)) → HasNoJunk 
 next_free w (actors.Client i) op = submit_free (takes_op w i) i op
 next_free w (actors.Replica i) op = tt
 next_free w (actors.Sequencer i) op = tt
-next_free w actors.Controller op = tt
+next_free w (actors.Controller i) op = tt
 
 tick_free : (w : WorldState) (a : Actor) (op : Option (List ℕ)) (t : Tick) → HasNoJunk (tick_event w a op t)
 tick_free w a op ticks.Next = next_free w a op

@@ -71,7 +71,7 @@ of_refusal : {S : Type 0} (m : Meaning S) (w : WorldState) (a : Actor) (r : Refu
 of_refusal m w (actors.Replica i) r h is = at_refusal _ _ (slice_get w.replicas i) r h is
 of_refusal m w (actors.Sequencer i) r h is = at_refusal _ _ (slice_get w.sequencers i) r h is
 of_refusal m w (actors.Client i) r h is = at_refusal _ _ (slice_get w.clients i) r h is
-of_refusal m w actors.Controller r h is = cc
+of_refusal m w (actors.Controller i) r h is = at_refusal _ _ (slice_get w.controllers i) r h is
 
 tick_taken : {S : Type 0} (m : Meaning S) (w : WorldState) (a : Actor) (tick : Tick) (h : Happened) (b : Bool)
     → step_of m w a (tick_if b tick) ≡ Ok h → b ≡ true
@@ -88,18 +88,18 @@ word_of a ticks.Probe is = tt
 word_of (actors.Replica i) ticks.Next is = absurd cc
 word_of (actors.Sequencer i) ticks.Next is = absurd cc
 word_of (actors.Client i) ticks.Next is = absurd cc
-word_of actors.Controller ticks.Next is = absurd cc
+word_of (actors.Controller i) ticks.Next is = absurd cc
 word_of (actors.Replica i) (ticks.Install j) is = absurd cc
 word_of (actors.Sequencer i) (ticks.Install j) is = absurd cc
 word_of (actors.Client i) (ticks.Install j) is = absurd cc
-word_of actors.Controller (ticks.Install j) is = absurd cc
+word_of (actors.Controller i) (ticks.Install j) is = absurd cc
 
 happened_line : {S : Type 0} (m : Meaning S) (w : WorldState) (e : Event) (h : Happened) → IsNoJunk e → step m w e ≡ Ok h → HasLine e
 unfolding step stimulus_of
 happened_line m w (events.Submit client op) h free is = tt
 happened_line m w (events.Deliver index a) h free is = tt
 happened_line m w (events.Tick a tick) h free is = word_of a tick (tick_taken m w a tick h (takes_tick a tick) is)
-happened_line m w (events.Install number) h free is = tt
+happened_line m w (events.Install controller sequencer) h free is = tt
 happened_line m w (events.Crash a) h free is = tt
 happened_line m w (events.Junk a bytes) h free is = absurd free
 

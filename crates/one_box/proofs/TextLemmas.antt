@@ -12,7 +12,7 @@ joined : (a h es t x f s : List ℕ) → (((((a ++ h) ++ es) ++ t) ++ x) ++ f) +
 joined a h es t x f s = simp append_assoc
 
 pub all_put : (config : Configuration) (es : List Event) (text : List ℕ) (w : WorldState) (turns lost stray : ℕ) (a b c d e f g : List ℕ)
-    → b ≡ a ++ header_line config → c ≡ b ++ flat_map event_line es → d ≡ c ++ transcript_line config → e ≡ d ++ text
+    → b ≡ a ++ header_line config → c ≡ b ++ flat_map event_line es → d ≡ c ++ transcript_line 1 config → e ≡ d ++ text
     → f ≡ e ++ final_text w → g ≡ f ++ served_line turns lost stray → g ≡ a ++ cluster_text config es text w turns lost stray
 unfolding cluster_text schedule_text transcript_of
 all_put config es text w turns lost stray a b c d e f g hb hc hd he hf hg =
@@ -21,9 +21,9 @@ all_put config es text w turns lost stray a b c d e f g hb hc hd he hf hg =
     ∙ ap (λ (z : List ℕ). z ++ s)
     (hf ∙ ap (λ (z : List ℕ). z ++ final_text w)
     (he ∙ ap (λ (z : List ℕ). z ++ text)
-    (hd ∙ ap (λ (z : List ℕ). z ++ transcript_line config)
+    (hd ∙ ap (λ (z : List ℕ). z ++ transcript_line 1 config)
     (hc ∙ ap (λ (z : List ℕ). z ++ flat_map event_line es) hb))))
-    ∙ joined a (header_line config) (flat_map event_line es) (transcript_line config) text (final_text w) s
+    ∙ joined a (header_line config) (flat_map event_line es) (transcript_line 1 config) text (final_text w) s
 
 labels_joined : (a k d l e m f x : List ℕ) → (((a ++ (k ++ d)) ++ (l ++ e)) ++ (m ++ f)) ++ x ≡ a ++ (k ++ d ++ l ++ e ++ m ++ f ++ x)
 labels_joined a k d l e m f x = simp append_assoc

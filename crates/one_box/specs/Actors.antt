@@ -9,13 +9,14 @@ abbrev pub numbered : (ℕ → Actor) → ℕ → List Actor
 numbered kind zero = []
 numbered kind (suc n) = numbered kind n ++ kind n ∷ []
 
--- replicas, sequencers, the controller, clients
+-- replicas, sequencers, controllers, clients
 abbrev pub actors_of : Configuration → List Actor
-actors_of c = numbered Replica c.replicas ++ numbered Sequencer c.sequencers ++ (Controller ∷ []) ++ numbered Client c.clients
+actors_of c =
+    numbered Replica c.replicas ++ numbered Sequencer c.sequencers ++ numbered Controller c.controllers ++ numbered Client c.clients
 
 -- the number of the first op of an actor: the ops go to the clients in turn
 abbrev pub first_op : Actor → ℕ
 first_op (Replica i) = 0
 first_op (Sequencer i) = 0
-first_op Controller = 0
+first_op (Controller i) = 0
 first_op (Client i) = i

@@ -22,7 +22,7 @@ abbrev pub next_event : WorldState → Actor → Option (List ℕ) → Option Ev
 next_event w (actors.Client i) op = submit_if (takes_op w i) i op
 next_event w (actors.Replica i) op = None
 next_event w (actors.Sequencer i) op = None
-next_event w actors.Controller op = None
+next_event w (actors.Controller i) op = None
 
 -- the tick Next gives a client this op, Install comes by no timer, and each other tick is an event
 abbrev pub tick_event : WorldState → Actor → Option (List ℕ) → Tick → Option Event
@@ -48,7 +48,7 @@ abbrev pub next_after : Event → ℕ → ℕ → ℕ
 next_after (events.Submit client op) place clients = place + clients
 next_after (events.Deliver index actor) place clients = place
 next_after (events.Tick actor tick) place clients = place
-next_after (events.Install number) place clients = place
+next_after (events.Install controller sequencer) place clients = place
 next_after (events.Crash actor) place clients = place
 next_after (events.Junk actor bytes) place clients = place
 

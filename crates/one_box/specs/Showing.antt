@@ -49,7 +49,7 @@ abbrev pub IsNoJunk : Event → Type 0
 IsNoJunk (Submit client op) = ⊤
 IsNoJunk (Deliver index actor) = ⊤
 IsNoJunk (Tick actor tick) = ⊤
-IsNoJunk (Install number) = ⊤
+IsNoJunk (Install controller sequencer) = ⊤
 IsNoJunk (Crash actor) = ⊤
 IsNoJunk (Junk actor bytes) = ⊥
 

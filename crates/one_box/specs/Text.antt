@@ -12,7 +12,7 @@ use Rattle.world.specs.WorldSteps.{WorldState}
 abbrev pub line_of : List ℕ → ℕ → List ℕ → ℕ → List ℕ → ℕ → List ℕ
 line_of first a second b third c = first ++ decimal a ++ second ++ decimal b ++ third ++ decimal c ++ 10 ∷ []
 
--- line 1 of a schedule
+-- line 1 of a schedule, in form 1, which means one controller
 unfoldable pub header_of : (replicas sequencers clients : ℕ) → List ℕ
 header_of replicas sequencers clients =
     line_of (codes "nopaxos 1 replicas ") replicas (codes " sequencers ") sequencers (codes " clients ") clients
@@ -27,9 +27,9 @@ event_line e = event_text e ++ 10 ∷ []
 unfoldable pub schedule_text : Configuration → List Event → List ℕ
 schedule_text c es = header_line c ++ flat_map event_line es
 
--- the transcript of a run, given the text of its lines
+-- the transcript of a run, given the text of its lines; its first line is in form 1 too
 unfoldable pub transcript_of : Configuration → List ℕ → WorldState → List ℕ
-transcript_of c text w = transcript_line c ++ (text ++ final_text w)
+transcript_of c text w = transcript_line 1 c ++ (text ++ final_text w)
 
 unfoldable pub served_line : ℕ → ℕ → ℕ → List ℕ
 served_line turns lost stray = line_of (codes "served ") turns (codes " lost ") lost (codes " stray ") stray

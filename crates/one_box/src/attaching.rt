@@ -45,6 +45,16 @@ fn add_sequencers(actors: &mut Vec<Actor>, count: u8) -> Result<(), NoMemory>
     Ok(())
 }
 
+fn add_controllers(actors: &mut Vec<Actor>, count: u8) -> Result<(), NoMemory>
+    ensures { OnOk result (actors.new.items
+        ≡ actors.old.items ++ numbered kinds.Controller count) }
+{
+    for i in 0..count {
+        actors.push(Actor::Controller(i))?;
+    }
+    Ok(())
+}
+
 fn add_clients(actors: &mut Vec<Actor>, count: u8) -> Result<(), NoMemory>
     ensures { OnOk result (actors.new.items
         ≡ actors.old.items ++ numbered kinds.Client count) }
@@ -62,7 +72,7 @@ pub(crate) fn actors_of(alloc: Global, config: Config) -> Result<Vec<Actor>, NoM
     let mut actors = Vec::new(alloc);
     add_replicas(&mut actors, config.replicas())?;
     add_sequencers(&mut actors, config.sequencers())?;
-    actors.push(Actor::Controller)?;
+    add_controllers(&mut actors, config.controllers())?;
     add_clients(&mut actors, config.clients())?;
     Ok(actors)
 }
@@ -121,7 +131,7 @@ fn first_op(actor: Actor) -> usize
 {
     match actor {
         Actor::Client(i) => i as usize,
-        Actor::Replica(_) | Actor::Sequencer(_) | Actor::Controller => 0,
+        Actor::Replica(_) | Actor::Sequencer(_) | Actor::Controller(_) => 0,
     }
 }
 

@@ -1,4 +1,5 @@
-ghost use Rattle.std.specs.Prelude.{◌≡◌, ◌≤◌, ◌+◌, ◌⊎◌, [], length, IsErrOf};
+ghost use Rattle.std.specs.Prelude.{◌≡◌, ◌≤◌, ◌+◌, ◌⊎◌, [], length, IsTrue, IsErrOf};
+ghost use Rattle.nop_types.specs.Headers.{gives};
 ghost use Rattle.outside.specs.Causes.{Rose};
 ghost use Rattle.one_box.specs.Attaching.{HasRoom, Holds};
 ghost use Rattle.one_box.specs.Boxing.{error_of, EndsWith, IsNoRun, PollFailed, RunsOr, writes_after};
@@ -75,7 +76,8 @@ fn error_of(error: LinkError) -> ClusterError
 /// Serves all actors of a configuration in one process, its replicas with hosts of this type, each
 /// actor over a link of its own at its port, for at most `turns` turns and until all ops are
 /// accepted; the ops go to the clients in turn. At the end it writes the schedule of the events that
-/// happened, its transcript, and a last line; before that it writes nothing.
+/// happened, its transcript, and a last line; before that it writes nothing. The first lines of
+/// schedule and transcript are of form 1, so there is one controller.
 pub fn serve_all<H: Host, P: Ports, C: Clock, K: Sink>(
     alloc: Global,
     config: Config,
@@ -86,7 +88,8 @@ pub fn serve_all<H: Host, P: Ports, C: Clock, K: Sink>(
     clock: &mut C,
     sink: &mut K,
 ) -> Result<Boxed, ClusterError>
-    requires { base ≤ 65000 }
+    requires base { base ≤ 65000 }
+    requires form { IsTrue (gives 1 config) }
     ensures ends { EndsWith H.meaning
         (link_view P.L.answers P.L.own_port P.L.trace P.L.loss_count P.L.fault_count)
         config ops.now base turns (P.to_come ports.old) (C.values clock.old)

@@ -15,7 +15,8 @@
 //! are given back as were attached. `link`: LinkFault comes only where an attach or a poll failed;
 //! `write`, `writes`: WriteFault comes exactly where a write failed.
 //!
-//! Call, for `commands`: `serve_all`, over any host.
+//! Call, for `commands`: `serve_all`, over any host. The configuration has one controller, since the
+//! first lines of schedule and transcript are of form 1.
 //!
 //! Files: `cluster`, `attaching`, `serving`, `turn`, `firing`, `polling`, `taking`, `sending`,
 //! `writing`. Definitions: `specs/Boxing` (`EndsWith`), `ClusterRun`, `Text`.

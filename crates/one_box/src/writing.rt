@@ -1,4 +1,5 @@
-ghost use Rattle.std.specs.Prelude.{◌≡◌, ◌++◌, decimal, OnOk, IsErrOf};
+ghost use Rattle.std.specs.Prelude.{◌≡◌, ◌++◌, decimal, IsTrue, OnOk, IsErrOf};
+ghost use Rattle.nop_types.specs.Headers.{gives};
 ghost use Rattle.outside.specs.Causes.{Rose};
 ghost use Rattle.one_box.specs.Boxing.{WritesRun, writes_after};
 ghost use Rattle.one_box.specs.declared.errors.ClusterError.TheVariants as errors;
@@ -53,7 +54,7 @@ fn put_line(
     Ok(())
 }
 
-/// Line 1 of the schedule.
+/// Line 1 of the schedule, in form 1.
 #[tactic(auto, unfolding(crate::specs::Text::header_of))]
 fn put_header(config: Config, to: &mut Vec<u8>) -> Result<(), NoMemory>
     ensures { OnOk result (to.new.items ≡ to.old.items ++ header_line config) }
@@ -95,14 +96,15 @@ fn put_all<H: Host>(
     lost: u64,
     to: &mut Vec<u8>,
 ) -> Result<(), NoMemory>
-    requires { All HasLine course.now.events.items }
+    requires form { IsTrue (gives 1 config) }
+    requires lines { All HasLine course.now.events.items }
     ensures { OnOk result (to.new.items ≡ to.old.items ++ cluster_text config
         course.now.events.items course.now.text.items course.now.world.state turns lost
         course.now.stray) }
 {
     put_header(config, to)?;
     put_events(&course.events, to)?;
-    transcript_line(config, to)?;
+    transcript_line(1, config, to)?;
     to.extend_from_slice(&course.text)?;
     final_lines(&course.world, to)?;
     put_served(turns, lost, course.stray, to)?;
@@ -118,7 +120,8 @@ pub(crate) fn write_run<H: Host, K: Sink>(
     lost: u64,
     sink: &mut K,
 ) -> Result<Boxed, ClusterError>
-    requires { All HasLine course.now.events.items }
+    requires form { IsTrue (gives 1 config) }
+    requires lines { All HasLine course.now.events.items }
     ensures writes { WritesRun (cluster_text config course.now.events.items
         course.now.text.items course.now.world.state taken.turns lost course.now.stray)
         (record {

@@ -11,11 +11,11 @@ use Rattle.oum_codec.specs.declared.bad.Bad.{Bad}
 use Rattle.oum_codec.specs.declared.bad.Bad.TheVariants.{Short, Magic, Version, Kind, Field, Trailing, NoMemory}
 use Rattle.oum_codec.specs.Numbers.{IsBytes}
 use Rattle.oum_codec.specs.Spelling.{header, spelling, Spells}
-use Rattle.oum_codec.specs.Reading.{Gives, ◌>>=◌, request_of, stamped_of, reply_of, signal_of, fragment_of, body_of, reading}
+use Rattle.oum_codec.specs.Reading.{Gives, request_of, stamped_of, reply_of, fragment_of, body_of, reading}
 use Rattle.oum_codec.proofs.Steps.{ok_is, guard_ok}
 use Rattle.oum_codec.proofs.Numbers.{IsBytes-rest}
-use Rattle.oum_codec.proofs.EachKind.{request_takes, request_again, stamped_takes, stamped_again, reply_takes, reply_again, signal_again}
-use Rattle.oum_codec.proofs.EachKind.{kind_takes, fragment_takes, fragment_again}
+use Rattle.oum_codec.proofs.EachKind.{request_takes, request_again, stamped_takes, stamped_again, reply_takes, reply_again, install_as}
+use Rattle.oum_codec.proofs.EachKind.{install_as_takes, install_again, ping_as, ping_as_takes, ping_again, fragment_takes, fragment_again}
 
 -- the first of two readings, where its test holds, else the second
 chosen : (b : Bool) (x y z : Result Datagram Bad) → cond b x y ≡ z → ((b ≡ true) × (x ≡ z)) ⊎ ((b ≡ false) × (y ≡ z))
@@ -31,30 +31,25 @@ body_takes kind rest d fits e =
         | inl here ↦ rw (eqb-true _ _ here.0) (stamped_takes rest d fits here.1)
         | inr next ↦ elim (chosen (eqb kind 3) (reply_of rest) _ (Ok d) next.1) [
           | inl here ↦ rw (eqb-true _ _ here.0) (reply_takes rest d fits here.1)
-          | inr next ↦ elim (chosen (eqb kind 4) (signal_of rest >>= λ f. Ok (datagrams.Install f.sequencer f.number)) _ (Ok d) next.1) [
+          | inr next ↦ elim (chosen (eqb kind 4) (install_as datagrams.Install rest) _ (Ok d) next.1) [
             | inl here ↦
-                rw (eqb-true _ _ here.0) (kind_takes 4 datagrams.Install rest d (λ sequencer n h. h) (λ sequencer n. refl) fits here.1)
+                rw (eqb-true _ _ here.0) (install_as_takes 4 datagrams.Install rest d (λ i j n h. h) (λ i j n. refl) fits here.1)
             | inr next ↦
-                elim (chosen (eqb kind 5) (signal_of rest >>= λ f. Ok (datagrams.Installed f.sequencer f.number)) _ (Ok d) next.1) [
+                elim (chosen (eqb kind 5) (install_as datagrams.Installed rest) _ (Ok d) next.1) [
                   | inl here ↦
-                      rw (eqb-true _ _ here.0) (kind_takes 5 datagrams.Installed rest d (λ sequencer n h. h) (λ sequencer n. refl)
-                      fits here.1)
-                  | inr next ↦ elim (chosen (eqb kind 6) (signal_of rest >>= λ f. Ok (datagrams.Ping f.sequencer f.number)) _
-                      (Ok d) next.1) [
-                        | inl here ↦
-                            rw (eqb-true _ _ here.0) (kind_takes 6 datagrams.Ping rest d (λ sequencer n h. h) (λ sequencer n. refl)
-                            fits here.1)
-                        | inr next ↦ elim (chosen (eqb kind 7) (signal_of rest >>= λ f. Ok (datagrams.Pong f.sequencer f.number)) _
-                            (Ok d) next.1) [
-                              | inl here ↦
-                                  rw (eqb-true _ _ here.0) (kind_takes 7 datagrams.Pong rest d (λ sequencer n h. h) (λ sequencer n. refl)
-                                  fits here.1)
-                              | inr next ↦ elim (chosen (eqb kind 8) (fragment_of rest) _ (Ok d) next.1) [
-                                | inl here ↦ rw (eqb-true _ _ here.0) (fragment_takes rest d fits here.1)
-                                | inr none ↦ absurd (let h = none.1 in cc)
-                              ]
-                            ]
+                      rw (eqb-true _ _ here.0) (install_as_takes 5 datagrams.Installed rest d (λ i j n h. h) (λ i j n. refl) fits here.1)
+                  | inr next ↦ elim (chosen (eqb kind 6) (ping_as datagrams.Ping rest) _ (Ok d) next.1) [
+                    | inl here ↦
+                        rw (eqb-true _ _ here.0) (ping_as_takes 6 datagrams.Ping rest d (λ i j n h. h) (λ i j n. refl) fits here.1)
+                    | inr next ↦ elim (chosen (eqb kind 7) (ping_as datagrams.Pong rest) _ (Ok d) next.1) [
+                      | inl here ↦
+                          rw (eqb-true _ _ here.0) (ping_as_takes 7 datagrams.Pong rest d (λ i j n h. h) (λ i j n. refl) fits here.1)
+                      | inr next ↦ elim (chosen (eqb kind 8) (fragment_of rest) _ (Ok d) next.1) [
+                        | inl here ↦ rw (eqb-true _ _ here.0) (fragment_takes rest d fits here.1)
+                        | inr none ↦ absurd (let h = none.1 in cc)
                       ]
+                    ]
+                  ]
                 ]
           ]
         ]
@@ -69,13 +64,13 @@ is_spelled (a ∷ b ∷ []) d fits e = absurd cc
 is_spelled (a ∷ b ∷ c ∷ []) d fits e = absurd cc
 is_spelled (a ∷ b ∷ c ∷ kind ∷ rest) d fits e =
     let magic = guard_ok (not (eqb a 0x4e && eqb b 0x4f)) Magic _ d e in
-    let version = guard_ok (not (eqb c 2)) Version _ d magic.1 in
+    let version = guard_ok (not (eqb c 3)) Version _ d magic.1 in
     let t =
     body_takes kind rest d (IsBytes-rest kind rest
     (IsBytes-rest c (kind ∷ rest) (IsBytes-rest b (c ∷ kind ∷ rest) (IsBytes-rest a (b ∷ c ∷ kind ∷ rest) fits)))) version.1 in
     let is_a : a ≡ 0x4e = grind (arith, nat_tests, magic.0) in
     let is_b : b ≡ 0x4f = grind (arith, nat_tests, magic.0) in
-    let is_c : c ≡ 2 = grind (arith, nat_tests, version.0) in
+    let is_c : c ≡ 3 = grind (arith, nat_tests, version.0) in
     record { fits = t.0; spelled = rw (is_a, is_b, is_c) t.1 }
 
 pub reads_again : (d : Datagram) → DatagramFits d → reading (spelling d) ≡ Ok d
@@ -83,10 +78,10 @@ unfolding reading
 reads_again (datagrams.Request r) fits = request_again r fits
 reads_again (datagrams.Stamped s) fits = stamped_again s fits
 reads_again (datagrams.Reply r) fits = reply_again r fits
-reads_again (datagrams.Install sequencer session) fits = rw (signal_again sequencer session fits) refl
-reads_again (datagrams.Installed sequencer session) fits = rw (signal_again sequencer session fits) refl
-reads_again (datagrams.Ping sequencer round) fits = rw (signal_again sequencer round fits) refl
-reads_again (datagrams.Pong sequencer round) fits = rw (signal_again sequencer round fits) refl
+reads_again (datagrams.Install controller sequencer session) fits = rw (install_again controller sequencer session fits) refl
+reads_again (datagrams.Installed controller sequencer session) fits = rw (install_again controller sequencer session fits) refl
+reads_again (datagrams.Ping controller sequencer round) fits = rw (ping_again controller sequencer round fits) refl
+reads_again (datagrams.Pong controller sequencer round) fits = rw (ping_again controller sequencer round fits) refl
 reads_again (datagrams.Fragment f) fits = fragment_again f fits
 
 pub is_found : (bytes : List ℕ) (r : Result Datagram Bad) → IsBytes bytes → Gives r (reading bytes) → IfOk r (λ d. Spells d bytes)

@@ -1,35 +1,39 @@
 -- Each kind after its four bytes: what was spelled is read, and what is read is spelled.
 use Rattle.std.proofs.Common.{◌≡◌, ℕ, ◌<◌, ◌≤◌, Bool, true, false, cond, ltb, List, [], ◌∷◌, ◌++◌, length, Some, Ok, refl, sym, ap, subst}
-use Rattle.std.proofs.Common.{◌∙◌, append_assoc, arith}
+use Rattle.std.proofs.Common.{Result, ◌∙◌, append_assoc, arith}
 use Rattle.std.specs.Prelude.{zero, suc, ◌+◌}
 use Rattle.std.specs.Int.{w16, w32, w64}
 use Rattle.std.proofs.lemmas.Bool.{ltb-false, ltb-true}
 use Rattle.std.proofs.lemmas.Bool.Decides.{nat_tests}
 use Rattle.std.proofs.lemmas.List.{append-nil, nil_from_length}
-use Rattle.nop_types.specs.Ranges.{DatagramFits, RequestFits, StampedFits, ReplyFits, SignalFits, FragmentFits}
+use Rattle.nop_types.specs.Ranges.{DatagramFits, RequestFits, StampedFits, ReplyFits, InstallFits, PingFits, FragmentFits}
 use Rattle.nop_types.specs.declared.request.Request.{Request}
 use Rattle.nop_types.specs.declared.datagram.Stamped.{Stamped}
 use Rattle.nop_types.specs.declared.datagram.Reply.{Reply}
 use Rattle.nop_types.specs.declared.datagram.Fragment.{Fragment}
 use Rattle.nop_types.specs.declared.datagram.Datagram.{Datagram}
 use Rattle.nop_types.specs.declared.datagram.Datagram.TheVariants as datagrams
+use Rattle.oum_codec.specs.declared.bad.Bad.{Bad}
 use Rattle.oum_codec.specs.declared.fixed.RequestFields.{RequestFields}
 use Rattle.oum_codec.specs.declared.fixed.StampedFields.{StampedFields}
 use Rattle.oum_codec.specs.declared.fixed.ReplyFields.{ReplyFields}
-use Rattle.oum_codec.specs.declared.fixed.SignalFields.{SignalFields}
+use Rattle.oum_codec.specs.declared.fixed.InstallFields.{InstallFields}
+use Rattle.oum_codec.specs.declared.fixed.PingFields.{PingFields}
 use Rattle.oum_codec.specs.declared.fixed.FragmentFields.{FragmentFields}
 use Rattle.oum_codec.specs.Numbers.{IsBytes, be_bytes}
-use Rattle.oum_codec.specs.Spelling.{view_bytes, header, request_bytes, stamped_bytes, reply_bytes, signal_bytes, fragment_bytes, spelling}
+use Rattle.oum_codec.specs.Spelling.{view_bytes, header, request_bytes, stamped_bytes, reply_bytes, install_bytes, ping_bytes}
+use Rattle.oum_codec.specs.Spelling.{fragment_bytes, spelling}
 use Rattle.nop_types.specs.declared.limits.TheConstants.{FRAGMENT_BYTES, MAX_FRAGMENTS, MAX_OP_BYTES, MAX_RESULT_BYTES}
 use Rattle.nop_types.specs.declared.limits.TheConstants.{NUMBER_END}
 use Rattle.oum_codec.specs.Fixed.{tag_fits, request_fields_at, request_in_range, stamped_fields_at, stamped_in_range, reply_fields_at}
-use Rattle.oum_codec.specs.Fixed.{reply_in_range, signal_fields_at, signal_in_range, fragment_fields_at, fragment_in_range, least_payload}
-use Rattle.oum_codec.specs.Reading.{◌>>=◌, request_of, stamped_of, reply_of, signal_of, fragment_of}
+use Rattle.oum_codec.specs.Fixed.{reply_in_range, install_fields_at, install_in_range, ping_fields_at, ping_in_range, fragment_fields_at}
+use Rattle.oum_codec.specs.Fixed.{fragment_in_range, least_payload}
+use Rattle.oum_codec.specs.Reading.{◌>>=◌, request_of, stamped_of, reply_of, install_of, ping_of, fragment_of}
 use Rattle.oum_codec.proofs.Steps.{bind_ok, ok_is}
 use Rattle.oum_codec.proofs.FixedFields.{StampedWidths, ReplyWidths, request_fields_bytes, request_fields_take, request_fields_again}
 use Rattle.oum_codec.proofs.FixedFields.{stamped_fields_bytes, stamped_fields_take, stamped_fields_again, reply_fields_bytes}
-use Rattle.oum_codec.proofs.FixedFields.{reply_fields_take, reply_fields_again, signal_fields_take, signal_fields_again, FragmentWidths}
-use Rattle.oum_codec.proofs.FixedFields.{fragment_fields_take, fragment_fields_again}
+use Rattle.oum_codec.proofs.FixedFields.{reply_fields_take, reply_fields_again, install_fields_take, install_fields_again}
+use Rattle.oum_codec.proofs.FixedFields.{ping_fields_take, ping_fields_again, FragmentWidths, fragment_fields_take, fragment_fields_again}
 use Rattle.oum_codec.proofs.Bodies.{body_ok, body_again}
 
 -- ---- a request
@@ -74,8 +78,8 @@ stamped_made f op =
 
 stamped_whole : (f : StampedFields) (op : List ℕ) → f.request.op_len ≡ length op
     → stamped_fields_bytes f ++ op ≡ stamped_bytes (stamped_made f op)
-stamped_whole f op len = append_assoc (be_bytes w32 f.session ++ be_bytes w64 f.number) (request_fields_bytes f.request) op
-    ∙ ap (λ (x : List ℕ). be_bytes w32 f.session ++ be_bytes w64 f.number ++ x) (request_whole f.request op len)
+stamped_whole f op len = append_assoc (be_bytes w64 f.session ++ be_bytes w64 f.number) (request_fields_bytes f.request) op
+    ∙ ap (λ (x : List ℕ). be_bytes w64 f.session ++ be_bytes w64 f.number ++ x) (request_whole f.request op len)
 
 pub stamped_takes : (rest : List ℕ) (d : Datagram) → IsBytes rest → stamped_of rest ≡ Ok d
     → DatagramFits d × (header 2 ++ rest ≡ spelling d)
@@ -207,44 +211,99 @@ reply_again r fits =
     tag_again (suc zero) len low high none = grind (arith, nat_tests)
     tag_again (suc (suc tag)) len low high none = absurd (omega arith)
 
--- ---- signals
+-- ---- an install or an installed
 
-pub signal_takes : (rest : List ℕ) (f : SignalFields) → IsBytes rest → signal_of rest ≡ Ok f
-    → SignalFits f.sequencer f.number × (rest ≡ signal_bytes f.sequencer f.number)
-unfolding signal_of
-signal_takes rest f fits e =
-    let b = body_ok (signal_fields_at rest) signal_in_range (λ f. 0) (λ f. 0) (λ f nothing. f) f e in
-    let t = signal_fields_take rest (b.f, b.out) fits b.there in
+pub install_takes : (rest : List ℕ) (f : InstallFields) → IsBytes rest → install_of rest ≡ Ok f
+    → InstallFits f.controller f.sequencer f.session × (rest ≡ install_bytes f.controller f.sequencer f.session)
+unfolding install_of
+install_takes rest f fits e =
+    let b = body_ok (install_fields_at rest) install_in_range (λ f. 0) (λ f. 0) (λ f nothing. f) f e in
+    let t = install_fields_take rest (b.f, b.out) fits b.there in
     let none : b.out ≡ [] = nil_from_length b.out (omega (arith, b.no_more)) in
-    let low : 1 ≤ b.f.number = grind (arith, nat_tests, b.ranges) in
+    let low : 1 ≤ b.f.session = grind (arith, nat_tests, b.ranges) in
+    let controller : b.f.controller ≤ 3 = grind (arith, nat_tests, b.ranges) in
     let sequencer : b.f.sequencer ≤ 3 = grind (arith, nat_tests, b.ranges) in
-    subst (λ (x : SignalFields). SignalFits x.sequencer x.number × (rest ≡ signal_bytes x.sequencer x.number)) b.is (
-      record { number = sequencer; count = record { low = low; high = t.1 } },
-      t.0.parts
-          ∙ ap (λ (x : List ℕ). signal_bytes b.f.sequencer b.f.number ++ x) none ∙ append-nil (signal_bytes b.f.sequencer b.f.number),
+    let text : List ℕ = install_bytes b.f.controller b.f.sequencer b.f.session in
+    subst (λ (x : InstallFields). InstallFits x.controller x.sequencer x.session
+    × (rest ≡ install_bytes x.controller x.sequencer x.session)) b.is (
+      record { controller = controller; sequencer = sequencer; fits = record { low = low; high = t.1 } },
+      t.0.parts ∙ ap (λ (x : List ℕ). text ++ x) none ∙ append-nil text,
     )
 
-pub signal_again : (sequencer n : ℕ) → SignalFits sequencer n
-    → signal_of (signal_bytes sequencer n) ≡ Ok (record { sequencer = sequencer; number = n })
-unfolding signal_of
-signal_again sequencer n fits =
-    let f : SignalFields = record { sequencer = sequencer; number = n } in
-    let there : signal_fields_at (signal_bytes sequencer n) ≡ Some (f, []) =
-    ap signal_fields_at (sym (append-nil (signal_bytes sequencer n))) ∙ signal_fields_again f [] fits.count.high in
-    let ranges : signal_in_range f ≡ true = grind (arith, nat_tests, fits.number, fits.count.low) in
-    body_again (signal_fields_at (signal_bytes sequencer n)) signal_in_range (λ f. 0) (λ f. 0) (λ f nothing. f) f [] there ranges
-    (omega arith) (omega arith)
+pub install_again : (controller sequencer session : ℕ) → InstallFits controller sequencer session
+    → install_of (install_bytes controller sequencer session)
+    ≡ Ok (record { controller = controller; sequencer = sequencer; session = session })
+unfolding install_of
+install_again controller sequencer session fits =
+    let f : InstallFields = record { controller = controller; sequencer = sequencer; session = session } in
+    let text : List ℕ = install_bytes controller sequencer session in
+    let there : install_fields_at text ≡ Some (f, []) =
+    ap install_fields_at (sym (append-nil text)) ∙ install_fields_again f [] fits.fits.high in
+    let ranges : install_in_range f ≡ true = grind (arith, nat_tests, fits.controller, fits.sequencer, fits.fits.low) in
+    body_again (install_fields_at text) install_in_range (λ f. 0) (λ f. 0) (λ f nothing. f) f [] there ranges (omega arith) (omega arith)
 
--- a kind that is a signal
-pub kind_takes : (kind : ℕ) (make : ℕ → ℕ → Datagram) (rest : List ℕ) (d : Datagram)
-    → ((sequencer n : ℕ) → SignalFits sequencer n → DatagramFits (make sequencer n))
-    → ((sequencer n : ℕ) → spelling (make sequencer n) ≡ header kind ++ signal_bytes sequencer n)
-    → IsBytes rest → (signal_of rest >>= λ f. Ok (make f.sequencer f.number)) ≡ Ok d → DatagramFits d × (header kind ++ rest ≡ spelling d)
-kind_takes kind make rest d ranges spelled fits e =
-    let a = bind_ok (signal_of rest) (λ f. Ok (make f.sequencer f.number)) d e in
-    let t = signal_takes rest a.0 fits a.1 in
-    subst (λ (x : Datagram). DatagramFits x × (header kind ++ rest ≡ spelling x)) (ok_is (make a.0.sequencer a.0.number) d a.2)
-    (ranges a.0.sequencer a.0.number t.0, ap (λ (x : List ℕ). header kind ++ x) t.1 ∙ sym (spelled a.0.sequencer a.0.number))
+-- read as one of these kinds
+abbrev pub install_as : (ℕ → ℕ → ℕ → Datagram) → List ℕ → Result Datagram Bad
+install_as make rest = install_of rest >>= λ f. Ok (make f.controller f.sequencer f.session)
+
+pub install_as_takes : (kind : ℕ) (make : ℕ → ℕ → ℕ → Datagram) (rest : List ℕ) (d : Datagram)
+    → ((i j n : ℕ) → InstallFits i j n → DatagramFits (make i j n))
+    → ((i j n : ℕ) → spelling (make i j n) ≡ header kind ++ install_bytes i j n)
+    → IsBytes rest → install_as make rest ≡ Ok d → DatagramFits d × (header kind ++ rest ≡ spelling d)
+install_as_takes kind make rest d ranges spelled fits e =
+    let a = bind_ok (install_of rest) (λ f. Ok (make f.controller f.sequencer f.session)) d e in
+    let f = a.0 in
+    let t = install_takes rest f fits a.1 in
+    subst (λ (x : Datagram). DatagramFits x × (header kind ++ rest ≡ spelling x)) (ok_is (make f.controller f.sequencer f.session) d a.2) (
+      ranges f.controller f.sequencer f.session t.0,
+      ap (λ (x : List ℕ). header kind ++ x) t.1 ∙ sym (spelled f.controller f.sequencer f.session),
+    )
+
+-- ---- a ping or a pong
+
+pub ping_takes : (rest : List ℕ) (f : PingFields) → IsBytes rest → ping_of rest ≡ Ok f
+    → PingFits f.controller f.sequencer f.round × (rest ≡ ping_bytes f.controller f.sequencer f.round)
+unfolding ping_of
+ping_takes rest f fits e =
+    let b = body_ok (ping_fields_at rest) ping_in_range (λ f. 0) (λ f. 0) (λ f nothing. f) f e in
+    let t = ping_fields_take rest (b.f, b.out) fits b.there in
+    let none : b.out ≡ [] = nil_from_length b.out (omega (arith, b.no_more)) in
+    let low : 1 ≤ b.f.round = grind (arith, nat_tests, b.ranges) in
+    let controller : b.f.controller ≤ 3 = grind (arith, nat_tests, b.ranges) in
+    let sequencer : b.f.sequencer ≤ 3 = grind (arith, nat_tests, b.ranges) in
+    let text : List ℕ = ping_bytes b.f.controller b.f.sequencer b.f.round in
+    subst (λ (x : PingFields). PingFits x.controller x.sequencer x.round × (rest ≡ ping_bytes x.controller x.sequencer x.round)) b.is (
+      record { controller = controller; sequencer = sequencer; fits = record { low = low; high = t.1 } },
+      t.0.parts ∙ ap (λ (x : List ℕ). text ++ x) none ∙ append-nil text,
+    )
+
+pub ping_again : (controller sequencer round : ℕ) → PingFits controller sequencer round
+    → ping_of (ping_bytes controller sequencer round) ≡ Ok (record { controller = controller; sequencer = sequencer; round = round })
+unfolding ping_of
+ping_again controller sequencer round fits =
+    let f : PingFields = record { controller = controller; sequencer = sequencer; round = round } in
+    let text : List ℕ = ping_bytes controller sequencer round in
+    let there : ping_fields_at text ≡ Some (f, []) =
+    ap ping_fields_at (sym (append-nil text)) ∙ ping_fields_again f [] fits.fits.high in
+    let ranges : ping_in_range f ≡ true = grind (arith, nat_tests, fits.controller, fits.sequencer, fits.fits.low) in
+    body_again (ping_fields_at text) ping_in_range (λ f. 0) (λ f. 0) (λ f nothing. f) f [] there ranges (omega arith) (omega arith)
+
+-- read as one of these kinds
+abbrev pub ping_as : (ℕ → ℕ → ℕ → Datagram) → List ℕ → Result Datagram Bad
+ping_as make rest = ping_of rest >>= λ f. Ok (make f.controller f.sequencer f.round)
+
+pub ping_as_takes : (kind : ℕ) (make : ℕ → ℕ → ℕ → Datagram) (rest : List ℕ) (d : Datagram)
+    → ((i j n : ℕ) → PingFits i j n → DatagramFits (make i j n))
+    → ((i j n : ℕ) → spelling (make i j n) ≡ header kind ++ ping_bytes i j n)
+    → IsBytes rest → ping_as make rest ≡ Ok d → DatagramFits d × (header kind ++ rest ≡ spelling d)
+ping_as_takes kind make rest d ranges spelled fits e =
+    let a = bind_ok (ping_of rest) (λ f. Ok (make f.controller f.sequencer f.round)) d e in
+    let f = a.0 in
+    let t = ping_takes rest f fits a.1 in
+    subst (λ (x : Datagram). DatagramFits x × (header kind ++ rest ≡ spelling x)) (ok_is (make f.controller f.sequencer f.round) d a.2) (
+      ranges f.controller f.sequencer f.round t.0,
+      ap (λ (x : List ℕ). header kind ++ x) t.1 ∙ sym (spelled f.controller f.sequencer f.round),
+    )
 
 -- ---- a fragment
 

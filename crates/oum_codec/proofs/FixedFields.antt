@@ -4,12 +4,14 @@ use Rattle.std.specs.Int.{w16, w32, w64}
 use Rattle.oum_codec.specs.declared.fixed.RequestFields.{RequestFields}
 use Rattle.oum_codec.specs.declared.fixed.StampedFields.{StampedFields}
 use Rattle.oum_codec.specs.declared.fixed.ReplyFields.{ReplyFields}
-use Rattle.oum_codec.specs.declared.fixed.SignalFields.{SignalFields}
+use Rattle.oum_codec.specs.declared.fixed.InstallFields.{InstallFields}
+use Rattle.oum_codec.specs.declared.fixed.PingFields.{PingFields}
 use Rattle.oum_codec.specs.declared.fixed.FragmentFields.{FragmentFields}
 use Rattle.oum_codec.specs.Numbers.{IsBytes, be_bytes, number_at, byte_at, view_at}
-use Rattle.oum_codec.specs.Spelling.{view_bytes, signal_bytes}
+use Rattle.oum_codec.specs.Spelling.{view_bytes, install_bytes, ping_bytes}
 use Rattle.oum_codec.specs.Places.{ViewWidths}
-use Rattle.oum_codec.specs.Fixed.{request_fields_at, stamped_fields_at, reply_fields_at, signal_fields_at, fragment_fields_at}
+use Rattle.oum_codec.specs.Fixed.{request_fields_at, stamped_fields_at, reply_fields_at, install_fields_at, ping_fields_at}
+use Rattle.oum_codec.specs.Fixed.{fragment_fields_at}
 use Rattle.oum_codec.proofs.Steps.{bind_some, some_is}
 use Rattle.oum_codec.proofs.Numbers.{Takes, Takes-then, u16_takes, u32_takes, u64_takes, u16_again, u32_again, u64_again, byte_takes}
 use Rattle.oum_codec.proofs.Numbers.{view_takes, view_again}
@@ -51,10 +53,10 @@ request_fields_again f rest fits =
 -- ---- a stamped request
 
 abbrev pub stamped_fields_bytes : StampedFields → List ℕ
-stamped_fields_bytes f = be_bytes w32 f.session ++ be_bytes w64 f.number ++ request_fields_bytes f.request
+stamped_fields_bytes f = be_bytes w64 f.session ++ be_bytes w64 f.number ++ request_fields_bytes f.request
 
 pub record StampedWidths (f : StampedFields) : Type 0 where
-  pub session : f.session < 2 ^ 32
+  pub session : f.session < 2 ^ 64
   pub number : f.number < 2 ^ 64
   pub request : RequestWidths f.request
 
@@ -62,10 +64,10 @@ pub stamped_fields_take : (bytes : List ℕ) (x : StampedFields × List ℕ) →
     → Takes bytes (stamped_fields_bytes x.0) x.1 × StampedWidths x.0
 unfolding stamped_fields_at
 stamped_fields_take bytes x fits e =
-    let a = bind_some (number_at w32 bytes) _ x e in
+    let a = bind_some (number_at w64 bytes) _ x e in
     let b = bind_some (number_at w64 a.0.1) _ x a.2 in
     let c = bind_some (request_fields_at b.0.1) _ x b.2 in
-    let t0 = u32_takes bytes a.0 fits a.1 in
+    let t0 = u64_takes bytes a.0 fits a.1 in
     let t1 = u64_takes a.0.1 b.0 t0.0.rest_fits b.1 in
     let t2 = request_fields_take b.0.1 c.0 t1.0.rest_fits c.1 in
     let e1 = Takes-then bytes _ _ _ _ t0.0 t1.0 in
@@ -79,10 +81,10 @@ pub stamped_fields_again : (f : StampedFields) (rest : List ℕ) → StampedWidt
 unfolding stamped_fields_at
 stamped_fields_again f rest fits =
     let regrouped : stamped_fields_bytes f ++ rest
-    ≡ be_bytes w32 f.session ++ (be_bytes w64 f.number ++ (request_fields_bytes f.request ++ rest)) =
-    append_assoc (be_bytes w32 f.session ++ be_bytes w64 f.number) (request_fields_bytes f.request) rest
-    ∙ append_assoc (be_bytes w32 f.session) (be_bytes w64 f.number) (request_fields_bytes f.request ++ rest) in
-    rw (regrouped, u32_again f.session _ fits.session, u64_again f.number _ fits.number, request_fields_again f.request rest fits.request)
+    ≡ be_bytes w64 f.session ++ (be_bytes w64 f.number ++ (request_fields_bytes f.request ++ rest)) =
+    append_assoc (be_bytes w64 f.session ++ be_bytes w64 f.number) (request_fields_bytes f.request) rest
+    ∙ append_assoc (be_bytes w64 f.session) (be_bytes w64 f.number) (request_fields_bytes f.request ++ rest) in
+    rw (regrouped, u64_again f.session _ fits.session, u64_again f.number _ fits.number, request_fields_again f.request rest fits.request)
     refl
 
 -- ---- a reply
@@ -142,25 +144,52 @@ reply_fields_again f rest fits =
       u16_again f.result_len rest fits.result_len,
     ) refl
 
--- ---- a signal
+-- ---- an install
 
-pub signal_fields_take : (bytes : List ℕ) (x : SignalFields × List ℕ) → IsBytes bytes → signal_fields_at bytes ≡ Some x
-    → Takes bytes (signal_bytes x.0.sequencer x.0.number) x.1 × (x.0.number < 2 ^ 32)
-unfolding signal_fields_at
-signal_fields_take bytes x fits e =
+pub install_fields_take : (bytes : List ℕ) (x : InstallFields × List ℕ) → IsBytes bytes → install_fields_at bytes ≡ Some x
+    → Takes bytes (install_bytes x.0.controller x.0.sequencer x.0.session) x.1 × (x.0.session < 2 ^ 64)
+unfolding install_fields_at
+install_fields_take bytes x fits e =
     let a = bind_some (byte_at bytes) _ x e in
-    let b = bind_some (number_at w32 a.0.1) _ x a.2 in
+    let b = bind_some (byte_at a.0.1) _ x a.2 in
+    let c = bind_some (number_at w64 b.0.1) _ x b.2 in
     let t0 = byte_takes bytes a.0 fits a.1 in
-    let t1 = u32_takes a.0.1 b.0 t0.rest_fits b.1 in
-    let e1 = Takes-then bytes _ _ _ _ t0 t1.0 in
-    let made : SignalFields × List ℕ = (record { sequencer = a.0.0; number = b.0.0 }, b.0.1) in
-    subst (λ (y : SignalFields × List ℕ). Takes bytes (signal_bytes y.0.sequencer y.0.number) y.1 × (y.0.number < 2 ^ 32))
-    (some_is made x b.2) (e1, t1.1)
+    let t1 = byte_takes a.0.1 b.0 t0.rest_fits b.1 in
+    let t2 = u64_takes b.0.1 c.0 t1.rest_fits c.1 in
+    let e1 = Takes-then bytes _ _ _ _ t0 t1 in
+    let e2 = Takes-then bytes _ _ _ _ e1 t2.0 in
+    let made : InstallFields × List ℕ = (record { controller = a.0.0; sequencer = b.0.0; session = c.0.0 }, c.0.1) in
+    subst (λ (y : InstallFields × List ℕ). Takes bytes (install_bytes y.0.controller y.0.sequencer y.0.session) y.1
+    × (y.0.session < 2 ^ 64))
+    (some_is made x c.2) (e2, t2.1)
 
-pub signal_fields_again : (f : SignalFields) (rest : List ℕ) → f.number < 2 ^ 32
-    → signal_fields_at (signal_bytes f.sequencer f.number ++ rest) ≡ Some (f, rest)
-unfolding signal_fields_at
-signal_fields_again f rest fits = rw (u32_again f.number rest fits) refl
+pub install_fields_again : (f : InstallFields) (rest : List ℕ) → f.session < 2 ^ 64
+    → install_fields_at (install_bytes f.controller f.sequencer f.session ++ rest) ≡ Some (f, rest)
+unfolding install_fields_at
+install_fields_again f rest fits = rw (u64_again f.session rest fits) refl
+
+-- ---- a ping
+
+pub ping_fields_take : (bytes : List ℕ) (x : PingFields × List ℕ) → IsBytes bytes → ping_fields_at bytes ≡ Some x
+    → Takes bytes (ping_bytes x.0.controller x.0.sequencer x.0.round) x.1 × (x.0.round < 2 ^ 32)
+unfolding ping_fields_at
+ping_fields_take bytes x fits e =
+    let a = bind_some (byte_at bytes) _ x e in
+    let b = bind_some (byte_at a.0.1) _ x a.2 in
+    let c = bind_some (number_at w32 b.0.1) _ x b.2 in
+    let t0 = byte_takes bytes a.0 fits a.1 in
+    let t1 = byte_takes a.0.1 b.0 t0.rest_fits b.1 in
+    let t2 = u32_takes b.0.1 c.0 t1.rest_fits c.1 in
+    let e1 = Takes-then bytes _ _ _ _ t0 t1 in
+    let e2 = Takes-then bytes _ _ _ _ e1 t2.0 in
+    let made : PingFields × List ℕ = (record { controller = a.0.0; sequencer = b.0.0; round = c.0.0 }, c.0.1) in
+    subst (λ (y : PingFields × List ℕ). Takes bytes (ping_bytes y.0.controller y.0.sequencer y.0.round) y.1 × (y.0.round < 2 ^ 32))
+    (some_is made x c.2) (e2, t2.1)
+
+pub ping_fields_again : (f : PingFields) (rest : List ℕ) → f.round < 2 ^ 32
+    → ping_fields_at (ping_bytes f.controller f.sequencer f.round ++ rest) ≡ Some (f, rest)
+unfolding ping_fields_at
+ping_fields_again f rest fits = rw (u32_again f.round rest fits) refl
 
 -- ---- a fragment
 

@@ -134,9 +134,9 @@ pub view_takes : (bytes : List ℕ) (x : View × List ℕ) → IsBytes bytes →
 unfolding view_at
 view_takes bytes x fits e =
     let a = bind_some (number_at w32 bytes) _ x e in
-    let b = bind_some (number_at w32 a.0.1) _ x a.2 in
+    let b = bind_some (number_at w64 a.0.1) _ x a.2 in
     let t0 = u32_takes bytes a.0 fits a.1 in
-    let t1 = u32_takes a.0.1 b.0 t0.0.rest_fits b.1 in
+    let t1 = u64_takes a.0.1 b.0 t0.0.rest_fits b.1 in
     let both = Takes-then bytes _ _ _ _ t0.0 t1.0 in
     let made : View × List ℕ = (record { leader = a.0.0; session = b.0.0 }, b.0.1) in
     subst (λ (y : View × List ℕ). Takes bytes (view_bytes y.0) y.1 × ViewWidths y.0) (some_is made x b.2)
@@ -145,6 +145,6 @@ view_takes bytes x fits e =
 pub view_again : (v : View) (rest : List ℕ) → ViewWidths v → view_at (view_bytes v ++ rest) ≡ Some (v, rest)
 unfolding view_at
 view_again v rest fits =
-    let regrouped : view_bytes v ++ rest ≡ be_bytes w32 v.leader ++ (be_bytes w32 v.session ++ rest) =
-    append_assoc (be_bytes w32 v.leader) (be_bytes w32 v.session) rest in
-    rw (regrouped, u32_again v.leader (be_bytes w32 v.session ++ rest) fits.leader, u32_again v.session rest fits.session) refl
+    let regrouped : view_bytes v ++ rest ≡ be_bytes w32 v.leader ++ (be_bytes w64 v.session ++ rest) =
+    append_assoc (be_bytes w32 v.leader) (be_bytes w64 v.session) rest in
+    rw (regrouped, u32_again v.leader (be_bytes w64 v.session ++ rest) fits.leader, u64_again v.session rest fits.session) refl

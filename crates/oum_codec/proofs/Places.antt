@@ -64,11 +64,11 @@ second_stands at a b bytes s = record {
 pub view_found : (at : ℕ) (v : View) (bytes : List ℕ) → ViewWidths v → StandsAt at (view_bytes v) bytes → view_in at bytes ≡ Some v
 view_found at v bytes fits s =
     let a : number_in w32 at bytes ≡ Some v.leader =
-    u32_found at v.leader bytes fits.leader (first_stands at _ (be_bytes w32 v.session) bytes s) in
+    u32_found at v.leader bytes fits.leader (first_stands at _ (be_bytes w64 v.session) bytes s) in
     let place : at + length (be_bytes w32 v.leader) ≡ at + 4 = ap (λ n. at + n) (wide32.len v.leader) in
-    let b : number_in w32 (at + 4) bytes ≡ Some v.session =
-    u32_found (at + 4) v.session bytes fits.session
-    (subst (λ (k : ℕ). StandsAt k (be_bytes w32 v.session) bytes) place (second_stands at (be_bytes w32 v.leader) _ bytes s)) in
+    let b : number_in w64 (at + 4) bytes ≡ Some v.session =
+    u64_found (at + 4) v.session bytes fits.session
+    (subst (λ (k : ℕ). StandsAt k (be_bytes w64 v.session) bytes) place (second_stands at (be_bytes w32 v.leader) _ bytes s)) in
     rw (a, b) refl
 
 request_again : (r : Request) (rest : List ℕ) → RequestFits r → request_at (request_bytes r ++ rest) ≡ Some (r, rest)
@@ -151,13 +151,13 @@ pub view_stands : (at : ℕ) (v : View) (bytes : List ℕ) → IsBytes bytes →
     → ViewWidths v × StandsAt at (view_bytes v) bytes
 view_stands at v bytes fits e =
     let a = bind_some (number_in w32 at bytes) _ v e in
-    let b = bind_some (number_in w32 (at + 4) bytes) (λ (session : ℕ). Some (record { leader = a.0; session = session })) v a.2 in
+    let b = bind_some (number_in w64 (at + 4) bytes) (λ (session : ℕ). Some (record { leader = a.0; session = session })) v a.2 in
     let t0 = u32_stands at a.0 bytes fits a.1 in
-    let t1 = u32_stands (at + 4) b.0 bytes fits b.1 in
+    let t1 = u64_stands (at + 4) b.0 bytes fits b.1 in
     let place : at + 4 ≡ at + length (be_bytes w32 a.0) = ap (λ n. at + n) (sym (wide32.len a.0)) in
     let both =
-    both_stand at (be_bytes w32 a.0) (be_bytes w32 b.0) bytes t0.1
-    (subst (λ (k : ℕ). StandsAt k (be_bytes w32 b.0) bytes) place t1.1) in
+    both_stand at (be_bytes w32 a.0) (be_bytes w64 b.0) bytes t0.1
+    (subst (λ (k : ℕ). StandsAt k (be_bytes w64 b.0) bytes) place t1.1) in
     let made : View = record { leader = a.0; session = b.0 } in
     subst (λ (x : View). ViewWidths x × StandsAt at (view_bytes x) bytes) (some_is made v b.2)
     (record { leader = t0.0; session = t1.0 }, both)

@@ -2,12 +2,13 @@
 -- whether all of them are in range.
 use Rattle.std.specs.Prelude.{ℕ, ◌+◌, Bool, List, Option, Some, nat_lt, nat_le, ◌&&◌, ◌||◌, if◌then◌else◌}
 use Rattle.std.specs.Int.{w16, w32, w64}
-use Rattle.nop_types.specs.declared.limits.TheConstants.{FRAGMENT_BYTES, MAX_FRAGMENTS, MAX_OP_BYTES, MAX_REPLICAS, MAX_RESULT_BYTES}
-use Rattle.nop_types.specs.declared.limits.TheConstants.{MAX_SEQUENCERS, NUMBER_END}
+use Rattle.nop_types.specs.declared.limits.TheConstants.{FRAGMENT_BYTES, MAX_CONTROLLERS, MAX_FRAGMENTS, MAX_OP_BYTES, MAX_REPLICAS}
+use Rattle.nop_types.specs.declared.limits.TheConstants.{MAX_RESULT_BYTES, MAX_SEQUENCERS, NUMBER_END}
 use Rattle.oum_codec.specs.declared.fixed.RequestFields.{RequestFields}
 use Rattle.oum_codec.specs.declared.fixed.StampedFields.{StampedFields}
 use Rattle.oum_codec.specs.declared.fixed.ReplyFields.{ReplyFields}
-use Rattle.oum_codec.specs.declared.fixed.SignalFields.{SignalFields}
+use Rattle.oum_codec.specs.declared.fixed.InstallFields.{InstallFields}
+use Rattle.oum_codec.specs.declared.fixed.PingFields.{PingFields}
 use Rattle.oum_codec.specs.declared.fixed.FragmentFields.{FragmentFields}
 use Rattle.oum_codec.specs.Numbers.{◌>>=◌, number_at, byte_at, view_at}
 
@@ -26,7 +27,7 @@ request_in_range f = nat_lt 0 f.id && nat_le f.op_len MAX_OP_BYTES
 -- of a stamped request: session and number, then those of a request
 unfoldable pub stamped_fields_at : List ℕ → Option (StampedFields × List ℕ)
 stamped_fields_at bytes = do
-  session ← number_at w32 bytes
+  session ← number_at w64 bytes
   number ← number_at w64 session.1
   request ← request_fields_at number.1
   Some (record { session = session.0; number = number.0; request = request.0 }, request.1)
@@ -59,16 +60,29 @@ abbrev pub reply_in_range : ReplyFields → Bool
 reply_in_range f =
     nat_lt f.replica MAX_REPLICAS && (nat_lt 0 f.view.session && (nat_lt 0 f.slot && (nat_lt 0 f.id && tag_fits f.tag f.result_len)))
 
--- of an install, an installed, a ping or a pong: a sequencer's number, and a session or a round
-unfoldable pub signal_fields_at : List ℕ → Option (SignalFields × List ℕ)
-signal_fields_at bytes = do
-  sequencer ← byte_at bytes
-  number ← number_at w32 sequencer.1
-  Some (record { sequencer = sequencer.0; number = number.0 }, number.1)
+-- of an install or an installed: the numbers of a controller and a sequencer, and a session
+unfoldable pub install_fields_at : List ℕ → Option (InstallFields × List ℕ)
+install_fields_at bytes = do
+  controller ← byte_at bytes
+  sequencer ← byte_at controller.1
+  session ← number_at w64 sequencer.1
+  Some (record { controller = controller.0; sequencer = sequencer.0; session = session.0 }, session.1)
 
--- sessions and rounds count from 1
-abbrev pub signal_in_range : SignalFields → Bool
-signal_in_range f = nat_lt f.sequencer MAX_SEQUENCERS && nat_lt 0 f.number
+-- sessions count from 1
+abbrev pub install_in_range : InstallFields → Bool
+install_in_range f = nat_lt f.controller MAX_CONTROLLERS && (nat_lt f.sequencer MAX_SEQUENCERS && nat_lt 0 f.session)
+
+-- of a ping or a pong: the same numbers, and a round
+unfoldable pub ping_fields_at : List ℕ → Option (PingFields × List ℕ)
+ping_fields_at bytes = do
+  controller ← byte_at bytes
+  sequencer ← byte_at controller.1
+  round ← number_at w32 sequencer.1
+  Some (record { controller = controller.0; sequencer = sequencer.0; round = round.0 }, round.1)
+
+-- rounds count from 1
+abbrev pub ping_in_range : PingFields → Bool
+ping_in_range f = nat_lt f.controller MAX_CONTROLLERS && (nat_lt f.sequencer MAX_SEQUENCERS && nat_lt 0 f.round)
 
 -- of a fragment
 unfoldable pub fragment_fields_at : List ℕ → Option (FragmentFields × List ℕ)

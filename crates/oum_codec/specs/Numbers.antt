@@ -1,7 +1,7 @@
 -- Numbers as bytes, the highest byte first.
 use Rattle.std.specs.Prelude.{ℕ, ◌<◌, List, [], ◌∷◌, length, slice_index, take, drop, Option, Some, None, option_and_then, nat_lt}
 use Rattle.std.specs.Prelude.{if◌then◌else◌}
-use Rattle.std.specs.Int.{Width, w32, byte_len, from_be_bytes, to_be_bytes}
+use Rattle.std.specs.Int.{Width, w32, w64, byte_len, from_be_bytes, to_be_bytes}
 use Rattle.nop_types.specs.declared.view.View.{View}
 
 -- each of the list is a byte
@@ -35,5 +35,5 @@ bytes_at n bytes = if nat_lt (length bytes) n then None else Some (take n bytes,
 unfoldable pub view_at : List ℕ → Option (View × List ℕ)
 view_at bytes = do
   leader ← number_at w32 bytes
-  session ← number_at w32 leader.1
+  session ← number_at w64 leader.1
   Some (record { leader = leader.0; session = session.0 }, session.1)

@@ -1,6 +1,6 @@
 -- Fields at a place of the bytes.
 use Rattle.std.specs.Prelude.{◌≡◌, ℕ, ◌+◌, ◌<◌, ◌^◌, ◌++◌, List, length, take, drop, Option, Some, None, option_map, nat_lt, if◌then◌else◌}
-use Rattle.std.specs.Int.{Width, w32, byte_len, from_be_bytes}
+use Rattle.std.specs.Int.{Width, w32, w64, byte_len, from_be_bytes}
 use Rattle.nop_types.specs.declared.view.View.{View}
 use Rattle.nop_types.specs.declared.request.Request.{Request}
 use Rattle.oum_codec.specs.Numbers.{◌>>=◌, bytes_at}
@@ -21,13 +21,13 @@ number_in w at bytes = if nat_lt (length bytes) (at + byte_len w) then None else
 abbrev pub view_in : ℕ → List ℕ → Option View
 view_in at bytes = do
   leader ← number_in w32 at bytes
-  session ← number_in w32 (at + 4) bytes
+  session ← number_in w64 (at + 4) bytes
   Some (record { leader = leader; session = session })
 
 -- a view's parts fit their widths; a view in range has a session from 1 besides
 pub record ViewWidths (v : View) : Type 0 where
   pub leader : v.leader < 2 ^ 32
-  pub session : v.session < 2 ^ 32
+  pub session : v.session < 2 ^ 64
 
 -- client, id, length and op at the front, where all of them are there and in range, and the bytes after them
 unfoldable pub request_at : List ℕ → Option (Request × List ℕ)

@@ -5,11 +5,13 @@ use Rattle.nop_types.specs.declared.datagram.Datagram.{Datagram}
 use Rattle.nop_types.specs.declared.datagram.Datagram.TheVariants as datagrams
 use Rattle.oum_codec.specs.declared.bad.Bad.{Bad}
 use Rattle.oum_codec.specs.declared.bad.Bad.TheVariants.{Short, Magic, Version, Kind, Field, Trailing, NoMemory}
-use Rattle.oum_codec.specs.declared.fixed.SignalFields.{SignalFields}
+use Rattle.oum_codec.specs.declared.fixed.InstallFields.{InstallFields}
+use Rattle.oum_codec.specs.declared.fixed.PingFields.{PingFields}
 use Rattle.nop_types.specs.declared.kinds.TheConstants as kinds
 use Rattle.nop_types.specs.declared.limits.TheConstants.{FRAGMENT_BYTES}
 use Rattle.oum_codec.specs.Fixed.{request_fields_at, request_in_range, stamped_fields_at, stamped_in_range, reply_fields_at, reply_in_range}
-use Rattle.oum_codec.specs.Fixed.{signal_fields_at, signal_in_range, fragment_fields_at, fragment_in_range, least_payload}
+use Rattle.oum_codec.specs.Fixed.{install_fields_at, install_in_range, ping_fields_at, ping_in_range, fragment_fields_at, fragment_in_range}
+use Rattle.oum_codec.specs.Fixed.{least_payload}
 
 -- reading fails with this error; being out of memory says nothing of it
 abbrev pub Fails : {A : Type 0} → Bad → Result A Bad → Type 0
@@ -72,10 +74,17 @@ reply_of bytes = do
   Ok (datagrams.Reply
       (record { replica = f.0.replica; view = f.0.view; slot = f.0.slot; client = f.0.client; id = f.0.id; tag = f.0.tag; result = bytes }))
 
--- of an install, an installed, a ping or a pong: nothing follows their fields
-unfoldable pub signal_of : List ℕ → Result SignalFields Bad
-signal_of bytes = do
-  f ← fields_of (signal_fields_at bytes) signal_in_range
+-- of an install or an installed: nothing follows their fields
+unfoldable pub install_of : List ℕ → Result InstallFields Bad
+install_of bytes = do
+  f ← fields_of (install_fields_at bytes) install_in_range
+  nothing ← sized 0 0 f.1
+  Ok f.0
+
+-- of a ping or a pong, likewise
+unfoldable pub ping_of : List ℕ → Result PingFields Bad
+ping_of bytes = do
+  f ← fields_of (ping_fields_at bytes) ping_in_range
   nothing ← sized 0 0 f.1
   Ok f.0
 
@@ -92,10 +101,10 @@ body_of kind rest =
     if kind == kinds.REQUEST then request_of rest
     else if kind == kinds.STAMPED then stamped_of rest
     else if kind == kinds.REPLY then reply_of rest
-    else if kind == kinds.INSTALL then (signal_of rest >>= λ f. Ok (datagrams.Install f.sequencer f.number))
-    else if kind == kinds.INSTALLED then (signal_of rest >>= λ f. Ok (datagrams.Installed f.sequencer f.number))
-    else if kind == kinds.PING then (signal_of rest >>= λ f. Ok (datagrams.Ping f.sequencer f.number))
-    else if kind == kinds.PONG then (signal_of rest >>= λ f. Ok (datagrams.Pong f.sequencer f.number))
+    else if kind == kinds.INSTALL then (install_of rest >>= λ f. Ok (datagrams.Install f.controller f.sequencer f.session))
+    else if kind == kinds.INSTALLED then (install_of rest >>= λ f. Ok (datagrams.Installed f.controller f.sequencer f.session))
+    else if kind == kinds.PING then (ping_of rest >>= λ f. Ok (datagrams.Ping f.controller f.sequencer f.round))
+    else if kind == kinds.PONG then (ping_of rest >>= λ f. Ok (datagrams.Pong f.controller f.sequencer f.round))
     else if kind == kinds.FRAGMENT then fragment_of rest
     else Err Kind
 

@@ -17,7 +17,7 @@ abbrev pub header : ℕ → List ℕ
 header kind = kinds.FIRST_MAGIC ∷ kinds.SECOND_MAGIC ∷ kinds.VERSION ∷ kind ∷ []
 
 abbrev pub view_bytes : View → List ℕ
-view_bytes v = be_bytes w32 v.leader ++ be_bytes w32 v.session
+view_bytes v = be_bytes w32 v.leader ++ be_bytes w64 v.session
 
 -- two bytes of length, and that many bytes
 abbrev pub counted_bytes : List ℕ → List ℕ
@@ -27,15 +27,19 @@ abbrev pub request_bytes : Request → List ℕ
 request_bytes r = be_bytes w32 r.client ++ be_bytes w64 r.id ++ counted_bytes r.op
 
 abbrev pub stamped_bytes : Stamped → List ℕ
-stamped_bytes s = be_bytes w32 s.session ++ be_bytes w64 s.number ++ request_bytes s.request
+stamped_bytes s = be_bytes w64 s.session ++ be_bytes w64 s.number ++ request_bytes s.request
 
 abbrev pub reply_bytes : Reply → List ℕ
 reply_bytes r = r.replica ∷ [] ++ view_bytes r.view ++ be_bytes w32 r.slot ++ be_bytes w32 r.client ++ be_bytes w64 r.id ++ r.tag ∷ []
     ++ counted_bytes r.result
 
--- a sequencer's number, and a session or a round
-abbrev pub signal_bytes : ℕ → ℕ → List ℕ
-signal_bytes sequencer n = sequencer ∷ [] ++ be_bytes w32 n
+-- the numbers of a controller and a sequencer, and a session
+abbrev pub install_bytes : (controller sequencer session : ℕ) → List ℕ
+install_bytes controller sequencer session = controller ∷ [] ++ sequencer ∷ [] ++ be_bytes w64 session
+
+-- the same numbers, and a round
+abbrev pub ping_bytes : (controller sequencer round : ℕ) → List ℕ
+ping_bytes controller sequencer round = controller ∷ [] ++ sequencer ∷ [] ++ be_bytes w32 round
 
 abbrev pub fragment_bytes : Fragment → List ℕ
 fragment_bytes f = f.replica ∷ [] ++ be_bytes w64 f.message ++ be_bytes w16 f.index ++ be_bytes w16 f.count ++ f.payload
@@ -44,10 +48,10 @@ abbrev pub spelling : Datagram → List ℕ
 spelling (datagrams.Request r) = header kinds.REQUEST ++ request_bytes r
 spelling (datagrams.Stamped s) = header kinds.STAMPED ++ stamped_bytes s
 spelling (datagrams.Reply r) = header kinds.REPLY ++ reply_bytes r
-spelling (datagrams.Install sequencer session) = header kinds.INSTALL ++ signal_bytes sequencer session
-spelling (datagrams.Installed sequencer session) = header kinds.INSTALLED ++ signal_bytes sequencer session
-spelling (datagrams.Ping sequencer round) = header kinds.PING ++ signal_bytes sequencer round
-spelling (datagrams.Pong sequencer round) = header kinds.PONG ++ signal_bytes sequencer round
+spelling (datagrams.Install controller sequencer session) = header kinds.INSTALL ++ install_bytes controller sequencer session
+spelling (datagrams.Installed controller sequencer session) = header kinds.INSTALLED ++ install_bytes controller sequencer session
+spelling (datagrams.Ping controller sequencer round) = header kinds.PING ++ ping_bytes controller sequencer round
+spelling (datagrams.Pong controller sequencer round) = header kinds.PONG ++ ping_bytes controller sequencer round
 spelling (datagrams.Fragment f) = header kinds.FRAGMENT ++ fragment_bytes f
 
 -- the bytes are the value's spelling, with each field in its range

@@ -70,7 +70,7 @@ pub fn split_view(bytes: &[u8]) -> Option<(View, &[u8])>
     ensures { option_map (λ x. (x.0, x.1.now)) result ≡ view_at bytes.now }
 {
     let (leader, rest) = split_u32(bytes)?;
-    let (session, rest) = split_u32(rest)?;
+    let (session, rest) = split_u64(rest)?;
     Some((View { leader, session }, rest))
 }
 
@@ -115,7 +115,7 @@ pub fn read_view(bytes: &[u8], at: usize) -> Option<View>
     ensures { result ≡ view_in at bytes.now }
 {
     let leader = read_u32(bytes, at)?;
-    let session = read_u32(bytes, at + 4)?;
+    let session = read_u64(bytes, at + 4)?;
     Some(View { leader, session })
 }
 

@@ -2,13 +2,13 @@
 
 ghost use Rattle.std.specs.Prelude.{◌≡◌, option_map};
 ghost use Rattle.oum_codec.specs.Fixed.{request_fields_at, request_in_range, stamped_fields_at, stamped_in_range};
-ghost use Rattle.oum_codec.specs.Fixed.{reply_fields_at, reply_in_range, tag_fits, signal_fields_at};
-ghost use Rattle.oum_codec.specs.Fixed.{signal_in_range, fragment_fields_at, fragment_in_range, least_payload};
+ghost use Rattle.oum_codec.specs.Fixed.{reply_fields_at, reply_in_range, tag_fits, install_fields_at, install_in_range};
+ghost use Rattle.oum_codec.specs.Fixed.{ping_fields_at, ping_in_range, fragment_fields_at, fragment_in_range, least_payload};
 
 use crate::fields::{split_u8, split_u16, split_u32, split_u64, split_view};
 use nop_types::{
-    FRAGMENT_BYTES, MAX_FRAGMENTS, MAX_OP_BYTES, MAX_REPLICAS, MAX_RESULT_BYTES, MAX_SEQUENCERS,
-    NUMBER_END, View,
+    FRAGMENT_BYTES, MAX_CONTROLLERS, MAX_FRAGMENTS, MAX_OP_BYTES, MAX_REPLICAS, MAX_RESULT_BYTES,
+    MAX_SEQUENCERS, NUMBER_END, View,
 };
 
 #[derive(Clone, Copy)]
@@ -38,7 +38,7 @@ impl RequestFields {
 
 #[derive(Clone, Copy)]
 pub struct StampedFields {
-    pub session: u32,
+    pub session: u64,
     pub number: u64,
     pub request: RequestFields,
 }
@@ -48,7 +48,7 @@ impl StampedFields {
     pub fn split(bytes: &[u8]) -> Option<(StampedFields, &[u8])>
         ensures { option_map (λ x. (x.0, x.1.now)) result ≡ stamped_fields_at bytes.now }
     {
-        let (session, rest) = split_u32(bytes)?;
+        let (session, rest) = split_u64(bytes)?;
         let (number, rest) = split_u64(rest)?;
         let (request, rest) = RequestFields::split(rest)?;
         let fields = StampedFields {
@@ -121,27 +121,65 @@ fn is_tag(tag: u8, result_len: u16) -> bool
     tag <= 1 && result_len as usize <= MAX_RESULT_BYTES && (0 < tag || result_len == 0)
 }
 
-/// Of an install, an installed, a ping or a pong; the number is a session or a round.
+/// Of an install or an installed.
 #[derive(Clone, Copy)]
-pub struct SignalFields {
+pub struct InstallFields {
+    pub controller: u8,
     pub sequencer: u8,
-    pub number: u32,
+    pub session: u64,
 }
 
-impl SignalFields {
-    #[tactic(auto, unfolding(crate::specs::Fixed::signal_fields_at))]
-    pub fn split(bytes: &[u8]) -> Option<(SignalFields, &[u8])>
-        ensures { option_map (λ x. (x.0, x.1.now)) result ≡ signal_fields_at bytes.now }
+impl InstallFields {
+    #[tactic(auto, unfolding(crate::specs::Fixed::install_fields_at))]
+    pub fn split(bytes: &[u8]) -> Option<(InstallFields, &[u8])>
+        ensures { option_map (λ x. (x.0, x.1.now)) result ≡ install_fields_at bytes.now }
     {
-        let (sequencer, rest) = split_u8(bytes)?;
-        let (number, rest) = split_u32(rest)?;
-        Some((SignalFields { sequencer, number }, rest))
+        let (controller, rest) = split_u8(bytes)?;
+        let (sequencer, rest) = split_u8(rest)?;
+        let (session, rest) = split_u64(rest)?;
+        let fields = InstallFields {
+            controller,
+            sequencer,
+            session,
+        };
+        Some((fields, rest))
     }
 
     pub fn is_in_range(self) -> bool
-        ensures { result ≡ signal_in_range self }
+        ensures { result ≡ install_in_range self }
     {
-        self.sequencer < MAX_SEQUENCERS && 0 < self.number
+        self.controller < MAX_CONTROLLERS && self.sequencer < MAX_SEQUENCERS && 0 < self.session
+    }
+}
+
+/// Of a ping or a pong.
+#[derive(Clone, Copy)]
+pub struct PingFields {
+    pub controller: u8,
+    pub sequencer: u8,
+    pub round: u32,
+}
+
+impl PingFields {
+    #[tactic(auto, unfolding(crate::specs::Fixed::ping_fields_at))]
+    pub fn split(bytes: &[u8]) -> Option<(PingFields, &[u8])>
+        ensures { option_map (λ x. (x.0, x.1.now)) result ≡ ping_fields_at bytes.now }
+    {
+        let (controller, rest) = split_u8(bytes)?;
+        let (sequencer, rest) = split_u8(rest)?;
+        let (round, rest) = split_u32(rest)?;
+        let fields = PingFields {
+            controller,
+            sequencer,
+            round,
+        };
+        Some((fields, rest))
+    }
+
+    pub fn is_in_range(self) -> bool
+        ensures { result ≡ ping_in_range self }
+    {
+        self.controller < MAX_CONTROLLERS && self.sequencer < MAX_SEQUENCERS && 0 < self.round
     }
 }
 

@@ -2,10 +2,12 @@ ghost use Rattle.std.specs.Prelude.{◌≡◌, ◌⊎◌, IfOk, IfSome};
 ghost use Rattle.nop_types.specs.declared.datagram.Datagram.{Datagram};
 ghost use Rattle.oum_codec.specs.Spelling.{Spells};
 ghost use Rattle.oum_codec.specs.Reading.{Finds, Gives, GivesBy, sized, request_of, stamped_of, reply_of};
-ghost use Rattle.oum_codec.specs.Reading.{signal_of, fragment_of, body_of, reading};
+ghost use Rattle.oum_codec.specs.Reading.{install_of, ping_of, fragment_of, body_of, reading};
 
 use crate::Bad;
-use crate::fixed::{FragmentFields, ReplyFields, RequestFields, SignalFields, StampedFields};
+use crate::fixed::{
+    FragmentFields, InstallFields, PingFields, ReplyFields, RequestFields, StampedFields,
+};
 use nop_types::{
     Bytes, Datagram, FRAGMENT_BYTES, Fragment, NoMemory, Op, Reply, Request, Stamped, kinds,
 };
@@ -89,11 +91,25 @@ fn reply(alloc: Global, bytes: &[u8]) -> Result<Datagram, Bad>
     }))
 }
 
-#[tactic(auto, unfolding(crate::specs::Reading::signal_of))]
-fn signal(bytes: &[u8]) -> Result<SignalFields, Bad>
-    ensures { Gives result (signal_of bytes.now) }
+#[tactic(auto, unfolding(crate::specs::Reading::install_of))]
+fn install(bytes: &[u8]) -> Result<InstallFields, Bad>
+    ensures { Gives result (install_of bytes.now) }
 {
-    let Some((fields, rest)) = SignalFields::split(bytes) else {
+    let Some((fields, rest)) = InstallFields::split(bytes) else {
+        return Err(Bad::Short);
+    };
+    if !fields.is_in_range() {
+        return Err(Bad::Field);
+    }
+    within(rest, 0, 0)?;
+    Ok(fields)
+}
+
+#[tactic(auto, unfolding(crate::specs::Reading::ping_of))]
+fn ping(bytes: &[u8]) -> Result<PingFields, Bad>
+    ensures { Gives result (ping_of bytes.now) }
+{
+    let Some((fields, rest)) = PingFields::split(bytes) else {
         return Err(Bad::Short);
     };
     if !fields.is_in_range() {
@@ -131,31 +147,35 @@ fn body(alloc: Global, kind: u8, rest: &[u8]) -> Result<Datagram, Bad>
         kinds::STAMPED => stamped(alloc, rest),
         kinds::REPLY => reply(alloc, rest),
         kinds::INSTALL => {
-            let fields = signal(rest)?;
+            let fields = install(rest)?;
             Ok(Datagram::Install {
+                controller: fields.controller,
                 sequencer: fields.sequencer,
-                session: fields.number,
+                session: fields.session,
             })
         }
         kinds::INSTALLED => {
-            let fields = signal(rest)?;
+            let fields = install(rest)?;
             Ok(Datagram::Installed {
+                controller: fields.controller,
                 sequencer: fields.sequencer,
-                session: fields.number,
+                session: fields.session,
             })
         }
         kinds::PING => {
-            let fields = signal(rest)?;
+            let fields = ping(rest)?;
             Ok(Datagram::Ping {
+                controller: fields.controller,
                 sequencer: fields.sequencer,
-                round: fields.number,
+                round: fields.round,
             })
         }
         kinds::PONG => {
-            let fields = signal(rest)?;
+            let fields = ping(rest)?;
             Ok(Datagram::Pong {
+                controller: fields.controller,
                 sequencer: fields.sequencer,
-                round: fields.number,
+                round: fields.round,
             })
         }
         kinds::FRAGMENT => fragment(alloc, rest),

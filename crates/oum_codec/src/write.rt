@@ -3,7 +3,7 @@ ghost use Rattle.std.specs.Int.{w16, w32, w64};
 ghost use Rattle.nop_types.specs.Ranges.{DatagramFits, ReplyFits};
 ghost use Rattle.oum_codec.specs.Numbers.{be_bytes};
 ghost use Rattle.oum_codec.specs.Spelling.{view_bytes, counted_bytes, request_bytes, stamped_bytes, reply_bytes};
-ghost use Rattle.oum_codec.specs.Spelling.{signal_bytes, header, spelling};
+ghost use Rattle.oum_codec.specs.Spelling.{install_bytes, ping_bytes, header, spelling};
 
 use nop_types::{Datagram, MAX_RESULT_BYTES, NoMemory, Reply, Request, Stamped, View, kinds};
 use std::alloc::Global;
@@ -39,12 +39,12 @@ pub fn put_u64(to: &mut Vec<u8>, n: u64) -> Result<(), NoMemory>
 }
 
 #[tactic(auto, unfolding(crate::specs::Numbers::be_bytes))]
-fn view_front(view: View) -> [u8; 8]
+fn view_front(view: View) -> [u8; 12]
     ensures { result ≡ view_bytes view }
 {
     let [l0, l1, l2, l3] = view.leader.to_be_bytes();
-    let [s0, s1, s2, s3] = view.session.to_be_bytes();
-    [l0, l1, l2, l3, s0, s1, s2, s3]
+    let [s0, s1, s2, s3, s4, s5, s6, s7] = view.session.to_be_bytes();
+    [l0, l1, l2, l3, s0, s1, s2, s3, s4, s5, s6, s7]
 }
 
 /// Appends the leader number, then the session.
@@ -99,20 +99,20 @@ pub fn put_request(to: &mut Vec<u8>, request: &Request) -> Result<(), NoMemory>
 fn put_stamped(to: &mut Vec<u8>, stamped: &Stamped) -> Result<(), NoMemory>
     ensures { OnOk result (to.new.items ≡ to.old.items ++ stamped_bytes stamped.now) }
 {
-    put_u32(to, stamped.session)?;
+    put_u64(to, stamped.session)?;
     put_u64(to, stamped.number)?;
     put_request(to, &stamped.request)
 }
 
 /// All of a reply but its result: the header, who replies for which slot, to which request, the tag and the length of the result.
 #[tactic(auto, unfolding(crate::specs::Numbers::be_bytes))]
-fn reply_front(reply: &Reply, result_len: u16) -> [u8; 32]
+fn reply_front(reply: &Reply, result_len: u16) -> [u8; 36]
     ensures { result ≡ header 3 ++ (reply.now.replica ∷ [] ++ view_bytes reply.now.view
         ++ be_bytes w32 reply.now.slot ++ be_bytes w32 reply.now.client
         ++ be_bytes w64 reply.now.id ++ reply.now.tag ∷ [] ++ be_bytes w16 result_len) }
 {
     let [l0, l1, l2, l3] = reply.view.leader.to_be_bytes();
-    let [s0, s1, s2, s3] = reply.view.session.to_be_bytes();
+    let [s0, s1, s2, s3, s4, s5, s6, s7] = reply.view.session.to_be_bytes();
     let [n0, n1, n2, n3] = reply.slot.to_be_bytes();
     let [c0, c1, c2, c3] = reply.client.to_be_bytes();
     let [i0, i1, i2, i3, i4, i5, i6, i7] = reply.id.to_be_bytes();
@@ -131,6 +131,10 @@ fn reply_front(reply: &Reply, result_len: u16) -> [u8; 32]
         s1,
         s2,
         s3,
+        s4,
+        s5,
+        s6,
+        s7,
         n0,
         n1,
         n2,
@@ -162,11 +166,24 @@ fn put_reply(to: &mut Vec<u8>, reply: &Reply) -> Result<(), NoMemory>
     put_both(to, &reply_front(reply, result.len() as u16), result)
 }
 
-fn put_signal(to: &mut Vec<u8>, sequencer: u8, n: u32) -> Result<(), NoMemory>
-    ensures { OnOk result (to.new.items ≡ to.old.items ++ signal_bytes sequencer n) }
+fn put_install(
+    to: &mut Vec<u8>,
+    controller: u8,
+    sequencer: u8,
+    session: u64,
+) -> Result<(), NoMemory>
+    ensures { OnOk result (to.new.items ≡ to.old.items
+        ++ install_bytes controller sequencer session) }
 {
-    to.push(sequencer)?;
-    put_u32(to, n)
+    to.extend_from_slice(&[controller, sequencer])?;
+    put_u64(to, session)
+}
+
+fn put_ping(to: &mut Vec<u8>, controller: u8, sequencer: u8, round: u32) -> Result<(), NoMemory>
+    ensures { OnOk result (to.new.items ≡ to.old.items ++ ping_bytes controller sequencer round) }
+{
+    to.extend_from_slice(&[controller, sequencer])?;
+    put_u32(to, round)
 }
 
 fn put_header(to: &mut Vec<u8>, kind: u8) -> Result<(), NoMemory>
@@ -247,21 +264,37 @@ fn put(to: &mut Vec<u8>, datagram: &Datagram) -> Result<(), NoMemory>
             put_stamped(to, stamped)
         }
         Datagram::Reply(reply) => put_reply(to, reply),
-        Datagram::Install { sequencer, session } => {
+        Datagram::Install {
+            controller,
+            sequencer,
+            session,
+        } => {
             put_header(to, kinds::INSTALL)?;
-            put_signal(to, *sequencer, *session)
+            put_install(to, *controller, *sequencer, *session)
         }
-        Datagram::Installed { sequencer, session } => {
+        Datagram::Installed {
+            controller,
+            sequencer,
+            session,
+        } => {
             put_header(to, kinds::INSTALLED)?;
-            put_signal(to, *sequencer, *session)
+            put_install(to, *controller, *sequencer, *session)
         }
-        Datagram::Ping { sequencer, round } => {
+        Datagram::Ping {
+            controller,
+            sequencer,
+            round,
+        } => {
             put_header(to, kinds::PING)?;
-            put_signal(to, *sequencer, *round)
+            put_ping(to, *controller, *sequencer, *round)
         }
-        Datagram::Pong { sequencer, round } => {
+        Datagram::Pong {
+            controller,
+            sequencer,
+            round,
+        } => {
             put_header(to, kinds::PONG)?;
-            put_signal(to, *sequencer, *round)
+            put_ping(to, *controller, *sequencer, *round)
         }
         Datagram::Fragment(fragment) => put_fragment(
             to,
@@ -282,13 +315,11 @@ fn spelled_len(datagram: &Datagram) -> usize
 {
     match datagram {
         Datagram::Request(request) => 18 + request.op.as_slice().len(),
-        Datagram::Stamped(stamped) => 30 + stamped.request.op.as_slice().len(),
-        Datagram::Reply(reply) => 32 + reply.result.as_slice().len(),
+        Datagram::Stamped(stamped) => 34 + stamped.request.op.as_slice().len(),
+        Datagram::Reply(reply) => 36 + reply.result.as_slice().len(),
         Datagram::Fragment(fragment) => 17 + fragment.payload.as_slice().len(),
-        Datagram::Install { .. }
-        | Datagram::Installed { .. }
-        | Datagram::Ping { .. }
-        | Datagram::Pong { .. } => 9,
+        Datagram::Install { .. } | Datagram::Installed { .. } => 14,
+        Datagram::Ping { .. } | Datagram::Pong { .. } => 10,
     }
 }
 
@@ -313,7 +344,7 @@ pub fn encode_reply(alloc: Global, reply: &Reply) -> Result<Vec<u8>, NoMemory>
     requires { ReplyFits reply.now }
     ensures { IfOk result (λ bytes. bytes.items ≡ spelling (Datagram.Reply reply.now)) }
 {
-    let mut bytes = Vec::with_capacity(alloc, 32 + reply.result.as_slice().len())?;
+    let mut bytes = Vec::with_capacity(alloc, 36 + reply.result.as_slice().len())?;
     put_reply(&mut bytes, reply)?;
     Ok(bytes)
 }

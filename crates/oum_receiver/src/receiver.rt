@@ -11,7 +11,7 @@ use std::marker::Model;
 /// The requests of one session that came and were not handed up yet, and the message number that is handed up next.
 #[derive(Debug, Drop)]
 pub struct Receiver {
-    session: u32,
+    session: u64,
     next: u64,
     queue: Queue,
 }
@@ -38,7 +38,7 @@ impl Receiver {
     ghost use Rattle.oum_receiver.specs.Receiving.{advanced};
 
     /// A receiver with an empty queue.
-    pub fn new(alloc: Global, session: u32, next: u64) -> Result<Receiver, NoMemory>
+    pub fn new(alloc: Global, session: u64, next: u64) -> Result<Receiver, NoMemory>
         requires { next ≤ NUMBER_END }
         ensures { IfOk result (λ r. r ≡ opened session next) }
     {
@@ -49,7 +49,7 @@ impl Receiver {
         })
     }
 
-    pub fn session(&self) -> u32
+    pub fn session(&self) -> u64
         ensures { result ≡ self.now.session }
     {
         self.session
@@ -158,7 +158,7 @@ impl Receiver {
     }
 
     /// Begins a session with an empty queue.
-    pub fn reset(&mut self, session: u32, next: u64)
+    pub fn reset(&mut self, session: u64, next: u64)
         requires { next ≤ NUMBER_END }
         ensures { self.new ≡ opened session next }
     {

@@ -4,6 +4,6 @@
 pub enum Verdict {
     Queued,
     Old,
-    Terminated(u32),
+    Terminated(u64),
     Full,
 }

@@ -84,10 +84,10 @@ log_most log fits =
     let entries : length (entries_bytes log.entries) ≤ 2682884 = omega (arith, entries_len log.entries, sum, few) in
     omega (arith, log_len log, told_most log.checkpoint fits.checkpoint.1, entries)
 
-number_most : (n : ℕ) → length (be_bytes w32 n) ≤ 4152288
+number_most : (n : ℕ) → length (be_bytes w32 n) ≤ 4152292
 number_most n = omega (arith, number_len n)
 
-body_most : (body : Body) → BodyFits body → length (body_bytes body) ≤ 4152288
+body_most : (body : Body) → BodyFits body → length (body_bytes body) ≤ 4152292
 body_most (bodies.SlotLookup slot) fits = number_most slot
 body_most (bodies.Found slot r) fits = omega (arith, found_len slot r, request_len r, fits.request.op)
 body_most (bodies.GapCommit slot) fits = number_most slot
@@ -100,5 +100,5 @@ body_most (bodies.SyncPrepare log) fits = omega (arith, log_most log fits)
 body_most (bodies.SyncRep len) fits = number_most len
 body_most (bodies.SyncCommit len) fits = number_most len
 
-pub spelling_most : (p : Peer) → PeerFits p → length (spelling p) ≤ 4152298
+pub spelling_most : (p : Peer) → PeerFits p → length (spelling p) ≤ 4152306
 spelling_most p fits = omega (arith, spelling_len p, body_most p.body fits.body)

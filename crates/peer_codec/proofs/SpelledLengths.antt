@@ -19,8 +19,8 @@ use Rattle.peer_codec.specs.Spelling.{entry_bytes, entries_bytes, account_bytes,
 use Rattle.peer_codec.specs.Spelling.{body_bytes, head_bytes, kind_of, spelling}
 use Rattle.peer_codec.proofs.Accounts.{saved_bytes, accounts_saved}
 
-view_len : (v : View) → length (view_bytes v) ≡ 8
-view_len v = omega (arith, length-append (be_bytes w32 v.leader) (be_bytes w32 v.session), wide32.len v.leader, wide32.len v.session)
+view_len : (v : View) → length (view_bytes v) ≡ 12
+view_len v = omega (arith, length-append (be_bytes w32 v.leader) (be_bytes w64 v.session), wide32.len v.leader, wide64.len v.session)
 
 counted_len : (bytes : List ℕ) → length (counted_bytes bytes) ≡ 2 + length bytes
 counted_len bytes = omega (arith, length-append (be_bytes w16 (length bytes)) bytes, wide16.len (length bytes))
@@ -87,15 +87,15 @@ found_len slot r = omega (arith, length-append (be_bytes w32 slot) (request_byte
 pub start_view_len : (next : ℕ) (log : Log) → length (body_bytes (StartView next log)) ≡ 8 + length (log_bytes log)
 start_view_len next log = omega (arith, length-append (be_bytes w64 next) (log_bytes log), wide64.len next)
 
-pub view_change_len : (v : View) (next : ℕ) (log : Log) → length (body_bytes (ViewChange v next log)) ≡ 16 + length (log_bytes log)
+pub view_change_len : (v : View) (next : ℕ) (log : Log) → length (body_bytes (ViewChange v next log)) ≡ 20 + length (log_bytes log)
 view_change_len v next log =
-    let front : length (view_bytes v ++ be_bytes w64 next) ≡ 16 =
+    let front : length (view_bytes v ++ be_bytes w64 next) ≡ 20 =
     omega (arith, length-append (view_bytes v) (be_bytes w64 next), view_len v, wide64.len next) in
     omega (arith, length-append (view_bytes v ++ be_bytes w64 next) (log_bytes log), front)
 
-pub spelling_len : (p : Peer) → length (spelling p) ≡ 10 + length (body_bytes p.body)
+pub spelling_len : (p : Peer) → length (spelling p) ≡ 14 + length (body_bytes p.body)
 spelling_len p =
-    let head : length (head_bytes (kind_of p.body) p.sender p.view) ≡ 10 = omega (arith, view_len p.view) in
+    let head : length (head_bytes (kind_of p.body) p.sender p.view) ≡ 14 = omega (arith, view_len p.view) in
     omega (arith, length-append (head_bytes (kind_of p.body) p.sender p.view) (body_bytes p.body), head)
 
 pub ruleset body_lens = (number_len, found_len, start_view_len, view_change_len)

@@ -15,7 +15,7 @@ use crate::LogBody;
 use nop_types::{Body, Checkpoint, Entry, LogRef, Peer, Request, SavedClient};
 
 /// The bytes of a spelling before the fields of its kind: kind, sender and view.
-pub const HEAD_BYTES: usize = 10;
+pub const HEAD_BYTES: usize = 14;
 
 #[tactic(auto, using(crate::proofs::SpelledLengths::request_len))]
 fn request_len(request: &Request) -> usize
@@ -99,7 +99,7 @@ fn log_len(log: LogRef<'_>) -> usize
 #[tactic(auto, using(crate::proofs::SpelledLengths::body_lens))]
 fn body_len(body: &Body) -> usize
     ensures exact { result ≡ length (body_bytes body.now) }
-    ensures small { result ≤ 32 + MAX_HOST_BYTES + MAX_SERVED * (14 + MAX_RESULT_BYTES)
+    ensures small { result ≤ 36 + MAX_HOST_BYTES + MAX_SERVED * (14 + MAX_RESULT_BYTES)
         + MAX_SLOTS * (15 + MAX_OP_BYTES) }
 {
     match body {
@@ -110,7 +110,7 @@ fn body_len(body: &Body) -> usize
         | Body::SyncCommit(_) => 4,
         Body::Found(_, request) => 4 + request_len(request),
         Body::ViewChangeReq => 0,
-        Body::ViewChange { log, .. } => 16 + log_len(log.as_ref()),
+        Body::ViewChange { log, .. } => 20 + log_len(log.as_ref()),
         Body::StartView { log, .. } => 8 + log_len(log.as_ref()),
         Body::SyncPrepare(log) => log_len(log.as_ref()),
     }
@@ -127,11 +127,11 @@ pub fn spelled_len(message: &Peer) -> usize
 pub fn log_body_len(body: LogBody<'_>) -> usize
     requires { length (log_in body).entries ≤ MAX_SLOTS }
     ensures exact { result ≡ length (body_bytes (with_log body.entry)) }
-    ensures small { result ≤ 32 + MAX_HOST_BYTES + MAX_SERVED * (14 + MAX_RESULT_BYTES)
+    ensures small { result ≤ 36 + MAX_HOST_BYTES + MAX_SERVED * (14 + MAX_RESULT_BYTES)
         + MAX_SLOTS * (15 + MAX_OP_BYTES) }
 {
     match body {
-        LogBody::ViewChange { log, .. } => 16 + log_len(log),
+        LogBody::ViewChange { log, .. } => 20 + log_len(log),
         LogBody::StartView { log, .. } => 8 + log_len(log),
         LogBody::SyncPrepare(log) => log_len(log),
     }

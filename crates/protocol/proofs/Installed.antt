@@ -1,8 +1,9 @@
 -- The move `installed` of a controller.
 use Rattle.std.proofs.Common.{◌≡◌, ℕ, ◌≤◌, true, refl, sym, ◌∙◌, inl, arith}
 use Rattle.nop_types.specs.Meaning.{Meaning}
+use Rattle.nop_types.specs.Sessions.{home}
 use Rattle.facts.proofs.Prefixes.{IsPrefixOf-refl}
-use Rattle.protocol.specs.Conf.{Conf, Control, home}
+use Rattle.protocol.specs.Conf.{Conf, Control}
 use Rattle.protocol.specs.Invariant.{GoodControl, Inv}
 use Rattle.protocol.specs.Moves.{installed}
 use Rattle.protocol.proofs.Growing.{Kept, lines_last}

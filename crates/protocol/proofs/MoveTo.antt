@@ -2,9 +2,10 @@
 use Rattle.std.proofs.Common.{◌≡◌, ℕ, ◌<◌, ◌≤◌, false, refl, sym, ap, subst, ◌∙◌, inl, inr, arith}
 use Rattle.nop_types.specs.Lists.{Has}
 use Rattle.nop_types.specs.Meaning.{Meaning}
+use Rattle.nop_types.specs.Sessions.{home}
 use Rattle.facts.proofs.Members.{Has-first, Has-rest, Has-cases}
 use Rattle.facts.proofs.Prefixes.{IsPrefixOf-refl}
-use Rattle.protocol.specs.Conf.{Conf, Control, Install, home}
+use Rattle.protocol.specs.Conf.{Conf, Control, Install}
 use Rattle.protocol.specs.Invariant.{TrueInstall, GoodControl, Inv}
 use Rattle.protocol.specs.Moves.{move_to, MayMoveTo}
 use Rattle.protocol.proofs.Growing.{Kept, lines_last}

@@ -1,5 +1,5 @@
 -- The opening meets what holds of each world.
-use Rattle.std.proofs.Common.{◌≡◌, ℕ, ◌+◌, ◌*◌, ◌≤◌, Bool, true, false, Some, refl, sym, subst, arith, inl, []}
+use Rattle.std.proofs.Common.{◌≡◌, ℕ, zero, suc, ◌+◌, ◌*◌, ◌≤◌, Bool, true, false, Some, refl, sym, subst, arith, inl, []}
 use Rattle.std.specs.Prelude.{◌==◌, if◌then◌else◌}
 use Rattle.nop_types.specs.Configuration.{Configuration}
 use Rattle.nop_types.specs.declared.view.View.{View}
@@ -7,6 +7,7 @@ use Rattle.nop_types.specs.declared.request.Entry.{Entry}
 use Rattle.nop_types.specs.declared.request.Entry.TheVariants.{NoOp, Req}
 use Rattle.nop_types.specs.Lists.{slot_of}
 use Rattle.nop_types.specs.Meaning.{Meaning}
+use Rattle.nop_types.specs.Sessions.{opening_session}
 use Rattle.nop_types.specs.Views.{AtMost, first_view, leader_of}
 use Rattle.log_merge.specs.Starting.{Start}
 use Rattle.oum_receiver.proofs.Stamps.{opened_stamped}
@@ -24,6 +25,10 @@ use Rattle.protocol.specs.Member.{fresh}
 
 none_there : (x : Entry) (k : ℕ) → slot_of [] k ≡ Some x → ⊥
 none_there x k e = let h = slot_of-within [] k x e in omega (arith, h.0, h.1)
+
+opens_low : (k : ℕ) → 1 ≤ opening_session k
+opens_low zero = omega arith
+opens_low (suc k) = omega arith
 
 abbrev first_start_of : Start
 first_start_of = record { next = 1; log = [] }
@@ -78,7 +83,7 @@ module _ {S : Type 0} (m : Meaning S) (f : ℕ) (config : Configuration) (count 
     sequencers = λ j. sequencer_good j (j == 0) refl;
     installs = λ x i. absurd (Has-none x i);
     installed_once = λ i j s h g. absurd (Has-none _ h);
-    controllers = λ k. record { low = omega arith; given = λ e. absurd cc };
+    controllers = λ k. record { low = opens_low k; given = λ e. absurd cc };
     logs = λ r w l h. let g = first_log r w l h in
         subst (λ (x : View). GoodLog f c r x l) (sym g.0) (subst (GoodLog f c r first_view) (sym g.1) (first_log_good r));
     reached = λ r w l h. let g = first_log r w l h in subst (λ (x : View). AtMost x first_view) (sym g.0) (AtMost-refl first_view);

@@ -104,7 +104,8 @@ module _ {S : Type 0} (m : Meaning S) where
   session_allowed : MayAll m 1 (opening (three 2 1)) (session_run m)
   session_allowed =
       also (record { own = refl; later = omega arith })
-      (also (record { sent = (0, refl); later = omega arith })
+      (also (record { own = refl; later = omega arith })
+      (also (record { sent = (1, refl); later = omega arith })
       (also refl
       (also (record { sent = (0, refl); session = omega arith })
       (also (one_of, to_leader)
@@ -121,7 +122,7 @@ module _ {S : Type 0} (m : Meaning S) where
       (also (record { sent = (1, simp (kept_for-insert, finite.get-empty)); expected = refl })
       (also (record { sent = (0, simp (kept_for-insert, finite.get-empty)); expected = refl })
       (also (record { kept = (1, refl); enough = refl })
-      tt)))))))))))))))))
+      tt))))))))))))))))))
 
   session_ends : SessionRun m (run m 1 (opening (three 2 1)) (session_run m))
   session_ends = record {

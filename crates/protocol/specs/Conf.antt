@@ -8,6 +8,7 @@ use Rattle.nop_types.specs.declared.datagram.Stamped.{Stamped}
 use Rattle.nop_types.specs.declared.datagram.Reply.{Reply}
 use Rattle.nop_types.specs.Lines.{Line, Submit}
 use Rattle.nop_types.specs.Lists.{Has}
+use Rattle.nop_types.specs.Sessions.{opening_session}
 use Rattle.nop_types.specs.Views.{leader_of}
 use Rattle.client_quorum.specs.declared.state.ClientState.{ClientState}
 use Rattle.client_quorum.specs.ClientSteps as client
@@ -18,7 +19,7 @@ use Rattle.started_views.specs.Quorums.{Others}
 use Rattle.protocol.specs.Member.{Member, fresh, standing}
 use Rattle.protocol.specs.Said.{Said, Word, GapRep, says}
 
--- the controller of some sessions: the last one that it gave out, to which sequencer, and whether that confirmed it
+-- a controller: the last session that it gave out, to which sequencer, and whether that confirmed it
 pub record Control : Type 0 where
   pub session : ℕ
   pub current : ℕ
@@ -32,10 +33,6 @@ pub record Install : Type 0 where
 -- a request that a client waits for; so far there is at most one
 abbrev pub IsOpen : ClientState → Request → Type 0
 IsOpen s r = s.pending ≡ Some r
-
--- the controller that gives out a session; so far there is one
-abbrev pub home : ℕ → ℕ
-home session = 0
 
 -- each list has all that was ever sent, the newest first; the lines have the oldest first
 pub record Conf : Type 0 where
@@ -62,7 +59,7 @@ opening config =
       replicas = fresh config.replicas;
       sequencers = sequencer.opening;
       clients = λ k. client.opening config k [];
-      controllers = λ k. record { session = 1; current = 0; confirmed = true };
+      controllers = λ k. record { session = opening_session k; current = 0; confirmed = true };
       requests = [];
       stamps = [];
       replies = [];

@@ -14,6 +14,7 @@ use Rattle.nop_types.specs.Legality.{IsOf, IsSubmittedBefore, AcceptedOnce}
 use Rattle.nop_types.specs.Lines.{Accept}
 use Rattle.nop_types.specs.Lists.{Has, IsPrefixOf, slot_of}
 use Rattle.nop_types.specs.Meaning.{Meaning}
+use Rattle.nop_types.specs.Sessions.{home}
 use Rattle.nop_types.specs.Stamps.{WasStamped}
 use Rattle.nop_types.specs.Views.{AtMost, Below, Comparable, first_view, leader_of}
 use Rattle.histories.specs.Legality.{SubmittedOnce}
@@ -27,7 +28,7 @@ use Rattle.started_views.specs.Past.{Entered, Past, Standing, HadLog, LeaderHad,
 use Rattle.started_views.specs.Quorums.{counts, Quorum}
 use Rattle.started_views.specs.Settled.{Certificate}
 use Rattle.view_change.specs.Gathering.{IsOfSender}
-use Rattle.protocol.specs.Conf.{Conf, Control, Install, home, DidSay, Settled, WasSubmitted, Owns, IsOpen}
+use Rattle.protocol.specs.Conf.{Conf, Control, Install, DidSay, Settled, WasSubmitted, Owns, IsOpen}
 use Rattle.protocol.specs.Member.{Member, PlainGathering, standing}
 use Rattle.protocol.specs.Said.{Said, GapCommit, GapRep}
 use Rattle.protocol.specs.Truth.{TrueWord}

@@ -14,6 +14,7 @@ use Rattle.nop_types.specs.PlainChanges as plain
 use Rattle.nop_types.specs.Lines.{Line, Submit, Accept}
 use Rattle.nop_types.specs.Lists.{Has}
 use Rattle.nop_types.specs.Meaning.{Meaning}
+use Rattle.nop_types.specs.Sessions.{home}
 use Rattle.nop_types.specs.Slots.{set_slot, laid}
 use Rattle.nop_types.specs.Views.{AtMost, leader_of}
 use Rattle.histories.specs.Legality.{IsOtherLine}
@@ -30,7 +31,7 @@ use Rattle.sequencer.specs.SequencerSteps.{stamped}
 use Rattle.sync_points.specs.Synchronisation.{cleared, raised, with_round, taken, committed, vote_for}
 use Rattle.sync_points.specs.Synchronisation as synchronisation
 use Rattle.view_change.specs.Gathering as gathering
-use Rattle.protocol.specs.Conf.{Conf, Effect, home, DidSay}
+use Rattle.protocol.specs.Conf.{Conf, Effect, DidSay}
 use Rattle.facts.specs.Functions.{put}
 use Rattle.protocol.specs.Member.{Member, PlainGathering, leads, leader, others}
 use Rattle.protocol.specs.Replies.{reply_to, replies_above}

@@ -1,5 +1,5 @@
 -- Runs of three replicas, worked by hand: the moves that are made, and where they end.
-use Rattle.std.specs.Prelude.{◌≡◌, ℕ, List, [], ◌∷◌, ◌++◌}
+use Rattle.std.specs.Prelude.{◌≡◌, ◌+◌, ℕ, List, [], ◌∷◌, ◌++◌}
 use Rattle.nop_types.specs.Configuration.{Configuration}
 use Rattle.nop_types.specs.declared.view.View.{View}
 use Rattle.nop_types.specs.declared.replica_state.Phase.TheVariants.{Normal}
@@ -13,6 +13,7 @@ use Rattle.nop_types.specs.Histories.{history_of}
 use Rattle.nop_types.specs.Lines as lines
 use Rattle.nop_types.specs.Lines.{Line}
 use Rattle.nop_types.specs.Meaning.{Meaning}
+use Rattle.nop_types.specs.Sessions.{opening_session}
 use Rattle.nop_types.specs.Views.{first_view}
 use Rattle.started_views.specs.Settled.{MainLog}
 use Rattle.protocol.specs.Conf.{Conf, opening, last_normals}
@@ -24,7 +25,7 @@ use Rattle.protocol.specs.Said.{SyncPrepare}
 -- ---- the actors, and what they say
 
 abbrev pub three : (sequencers clients : ℕ) → Configuration
-three s k = record { replicas = 3; sequencers = s; clients = k }
+three s k = record { replicas = 3; sequencers = s; clients = k; controllers = 2 }
 
 abbrev pub view : (leader session : ℕ) → View
 view l s = record { leader = l; session = s }
@@ -116,7 +117,8 @@ module _ {S : Type 0} (m : Meaning S) where
 
   -- ---- a timeout and a new session at once
 
-  -- One replica enters the next leader number, another the next session; both end in the view that has both.
+  -- One replica enters the next leader number, another the next session; both end in the view that has both. Another controller gives out
+  -- a session of its own, which no sequencer takes.
   abbrev pub put_answer : List ℕ
   put_answer = m.answer m.opening put_op
 
@@ -128,7 +130,7 @@ module _ {S : Type 0} (m : Meaning S) where
 
   abbrev pub session_run : List Move
   session_run =
-      MoveTo 0 1 2 ∷ Install 1 2 ∷ Submit 0 put_op [] ∷ Stamp 1 put_request ∷ Acts 1 (Enter (view 1 1))
+      MoveTo 0 1 2 ∷ MoveTo 1 0 (opening_session 1 + 1) ∷ Install 1 2 ∷ Submit 0 put_op [] ∷ Stamp 1 put_request ∷ Acts 1 (Enter (view 1 1))
       ∷ Acts 2 (Enter (view 0 2)) ∷ Acts 2 (Queue (stamp_of 2 1 put_request)) ∷ Acts 1 (Enter (view 1 2)) ∷ Acts 2 (Enter (view 1 2))
       ∷ Acts 1 (KeepChange (gathered_later (empty_change 1 ∷ [])) (empty_change 2))
       ∷ Acts 1 (OpenView (gathered_later (empty_change 1 ∷ empty_change 2 ∷ [])))

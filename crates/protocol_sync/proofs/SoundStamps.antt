@@ -6,13 +6,14 @@ use Rattle.nop_types.specs.declared.request.Entry.{Entry}
 use Rattle.nop_types.specs.declared.request.Entry.TheVariants.{Req}
 use Rattle.nop_types.specs.Lists.{IsPrefixOf}
 use Rattle.nop_types.specs.Meaning.{Meaning}
+use Rattle.nop_types.specs.Sessions.{home}
 use Rattle.nop_types.specs.Stamps.{WasStamped}
 use Rattle.nop_types.specs.Views.{leader_of}
 use Rattle.facts.proofs.Prefixes.{IsPrefixOf-take, Has-prefix}
 use Rattle.facts.proofs.Slots.{Has-slot_of}
 use Rattle.log_merge.specs.Starting.{Start}
 use Rattle.started_views.specs.Past.{Entered, HadLog, LeaderHad, IsStart}
-use Rattle.protocol.specs.Conf.{Conf, home, WasSubmitted, Owns}
+use Rattle.protocol.specs.Conf.{Conf, WasSubmitted, Owns}
 use Rattle.protocol.specs.Invariant.{Inv}
 use Rattle.protocol.specs.Said.{Found, ViewChange, StartView, SyncPrepare, says}
 use Rattle.protocol.specs.Truth.{LeaderHas, Begun, Prepared}

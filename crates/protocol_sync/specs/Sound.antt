@@ -14,6 +14,7 @@ use Rattle.nop_types.specs.Legality.{IsOf, IsSubmittedBefore}
 use Rattle.nop_types.specs.Lines.{Accept}
 use Rattle.nop_types.specs.Lists.{Has, IsPrefixOf, slot_of}
 use Rattle.nop_types.specs.Meaning.{Meaning}
+use Rattle.nop_types.specs.Sessions.{home}
 use Rattle.nop_types.specs.Stamps.{WasStamped}
 use Rattle.nop_types.specs.Views.{AtMost, Below, Comparable, first_view, leader_of}
 use Rattle.gap_agree.specs.Agreement.{Agreement}
@@ -24,7 +25,7 @@ use Rattle.started_views.specs.Quorums.{Quorum, Others}
 use Rattle.started_views.specs.Settled.{Certificate}
 use Rattle.sync_points.specs.Synchronisation.{Round}
 use Rattle.view_change.specs.Gathering.{IsOfSender}
-use Rattle.protocol.specs.Conf.{Conf, home, DidSay, Settled, WasSubmitted, Owns, IsOpen}
+use Rattle.protocol.specs.Conf.{Conf, DidSay, Settled, WasSubmitted, Owns, IsOpen}
 use Rattle.protocol.specs.Invariant.{Replied}
 use Rattle.protocol.specs.Member.{Member, PlainGathering}
 use Rattle.protocol.specs.Said.{Found, GapCommit, GapRep, ViewChange, StartView, SyncPrepare, SyncRep, SyncCommit}

@@ -94,10 +94,10 @@ module _ (s : ClientState) (fits : ClientFits s) where
   datagram_row (Ok (datagrams.Reply p)) = reply_row p (client.is_expected s p)
   datagram_row (Ok (datagrams.Request r)) = still
   datagram_row (Ok (datagrams.Stamped p)) = still
-  datagram_row (Ok (datagrams.Install sequencer session)) = still
-  datagram_row (Ok (datagrams.Installed sequencer session)) = still
-  datagram_row (Ok (datagrams.Ping sequencer round)) = still
-  datagram_row (Ok (datagrams.Pong sequencer round)) = still
+  datagram_row (Ok (datagrams.Install controller sequencer session)) = still
+  datagram_row (Ok (datagrams.Installed controller sequencer session)) = still
+  datagram_row (Ok (datagrams.Ping controller sequencer round)) = still
+  datagram_row (Ok (datagrams.Pong controller sequencer round)) = still
   datagram_row (Ok (datagrams.Fragment p)) = still
   datagram_row (Err e) = still
 

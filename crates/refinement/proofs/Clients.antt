@@ -183,10 +183,10 @@ module _ {S : Type 0} (m : Meaning S) (f : ℕ) (c : Conf) (k : ℕ) (inv : Inv 
   datagram_reaches (Ok (datagrams.Reply p)) came = reply_reaches p (came (datagrams.Reply p) refl).sent
   datagram_reaches (Ok (datagrams.Request r)) came = still
   datagram_reaches (Ok (datagrams.Stamped p)) came = still
-  datagram_reaches (Ok (datagrams.Install sequencer session)) came = still
-  datagram_reaches (Ok (datagrams.Installed sequencer session)) came = still
-  datagram_reaches (Ok (datagrams.Ping sequencer round)) came = still
-  datagram_reaches (Ok (datagrams.Pong sequencer round)) came = still
+  datagram_reaches (Ok (datagrams.Install controller sequencer session)) came = still
+  datagram_reaches (Ok (datagrams.Installed controller sequencer session)) came = still
+  datagram_reaches (Ok (datagrams.Ping controller sequencer round)) came = still
+  datagram_reaches (Ok (datagrams.Pong controller sequencer round)) came = still
   datagram_reaches (Ok (datagrams.Fragment p)) came = still
   datagram_reaches (Err e) came = still
 

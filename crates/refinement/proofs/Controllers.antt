@@ -1,13 +1,14 @@
 -- Each row of a controller's step table is a list of moves.
-use Rattle.std.proofs.Common.{◌≡◌, ℕ, ◌≤◌, ◌<◌, ◌+◌, Bool, true, false, refl, sym, ap, subst, ◌∙◌, inl, inr, arith, List, [], ◌∷◌, ◌++◌}
-use Rattle.std.specs.Prelude.{IsTrue, Result, Ok, Err, ◌==◌, ◌&&◌, nat_lt, nat_le}
+use Rattle.std.proofs.Common.{◌≡◌, ℕ, ◌≤◌, ◌<◌, ◌+◌, Bool, true, false, refl, sym, ap, subst, ◌∙◌, inl, inr, arith, Option, Some, None}
+use Rattle.std.specs.Prelude.{List, [], ◌∷◌, ◌++◌, IsTrue, Result, Ok, Err, ◌==◌, ◌&&◌, nat_lt, nat_le, max}
 use Rattle.std.proofs.lemmas.Bool.{eq-eqb, ne_eqb, cond-true, cond-false}
 use Rattle.std.proofs.lemmas.Bool.Decides.{nat_tests}
 use Rattle.nop_types.specs.Configuration.{Configuration, is_configuration}
 use Rattle.nop_types.specs.Given.{Given, Packet, Ticked, Submit}
 use Rattle.nop_types.specs.Lists.{Has}
 use Rattle.nop_types.specs.Meaning.{Meaning}
-use Rattle.nop_types.specs.Ranges.{SignalFits}
+use Rattle.nop_types.specs.Ranges.{PingFits}
+use Rattle.nop_types.specs.Sessions.{home}
 use Rattle.nop_types.specs.declared.input.Tick.{Tick}
 use Rattle.nop_types.specs.declared.input.Tick.TheVariants as ticks
 use Rattle.nop_types.specs.declared.output.Actor.TheVariants.{Sequencer}
@@ -23,10 +24,12 @@ use Rattle.oum_codec.specs.Reading.{reading}
 use Rattle.oum_codec.specs.Spelling.{spelling}
 use Rattle.session_control.specs.declared.state.ControllerState.{ControllerState}
 use Rattle.session_control.specs.declared.state.TheConstants.{MISSED_END}
-use Rattle.session_control.specs.ControllerSteps.{IsWithin, last_number, install_of, moved, move_if, move_to, order_if, order_move, asked}
-use Rattle.session_control.specs.ControllerSteps.{ask_if, ask, following, miss_if, probe_if, probe, heard_if, pong, resend_if}
-use Rattle.session_control.specs.ControllerSteps.{resend_install, confirmed_if, installed, on_tick, on_datagram, next}
-use Rattle.protocol.specs.Conf.{Conf, Control, Install, home}
+use Rattle.session_control.specs.ControllerSteps.{IsWithin, last_number, next_session, install_of, moved, move_by, move_to, order_if}
+use Rattle.session_control.specs.ControllerSteps.{order_move, asked, ask_if, ask, following, miss_if, probe_if, probe, heard_if, pong}
+use Rattle.session_control.specs.ControllerSteps.{resend_if, resend_install, confirmed_if, seen_if, installed_if, installed, on_tick}
+use Rattle.session_control.specs.ControllerSteps.{on_datagram, next}
+use Rattle.session_control.proofs.Epochs.{goes_home, rises}
+use Rattle.protocol.specs.Conf.{Conf, Control, Install}
 use Rattle.protocol.specs.Invariant.{Inv}
 use Rattle.protocol.specs.Runs as moves
 use Rattle.refinement.specs.Controllers.{control_of, given_out, with_controller, ControllerReaches, ControllersReach}
@@ -48,8 +51,11 @@ one_given : (s t : ControllerState) → (t.session ≡ s.session → ⊥)
     → given_out s t ≡ record { sequencer = t.current; session = t.session } ∷ []
 one_given s t d = cond-false (t.session == s.session) [] _ (ne_eqb t.session s.session d)
 
-module _ {S : Type 0} (m : Meaning S) (f : ℕ) (c : Conf) (k : ℕ) (s : ControllerState) (inv : Inv m f c)
-    (all : (session : ℕ) → home session ≡ k) (shows : c.controllers k ≡ control_of s) (within : IsWithin s) where
+module _ {S : Type 0} (m : Meaning S) (f : ℕ) (c : Conf) (s : ControllerState) (inv : Inv m f c)
+    (shows : c.controllers s.number ≡ control_of s) (within : IsWithin s) where
+  abbrev k : ℕ
+  k = s.number
+
   -- no move is made: session, current sequencer and confirmation stay
   rests : (t : ControllerState) (outs : List Out) → control_of t ≡ control_of s → lines_in outs ≡ [] → AllCarry c outs
       → ControllerReaches m f c k s (t, outs)
@@ -72,39 +78,43 @@ module _ {S : Type 0} (m : Meaning S) (f : ℕ) (c : Conf) (k : ℕ) (s : Contro
 
   -- ---- a move
 
-  move_by : (j : ℕ) (b : Bool) → ControllerReaches m f c k s (move_if b s j)
-  move_by j true =
-      let t = moved s j in
-      let new : Install = record { sequencer = j; session = s.session + 1 } in
+  moves_by : (j : ℕ) (x : Option ℕ) → next_session s.number s.session s.seen ≡ x → ControllerReaches m f c k s (move_by x s j)
+  moves_by j (Some session) e =
+      let t = moved s j session in
+      let new : Install = record { sequencer = j; session = session } in
       let d = with_controller c k t (new ∷ []) in
-      subst (λ (xs : List Install). LeadsTo m f c (with_controller c k t xs) (install_of t)) (sym (one_given s t later)) (record {
-        moves = moves.MoveTo k j (s.session + 1) ∷ [];
-        may = (
-          record {
-            own = all (s.session + 1);
-            later = subst (λ (x : Control). x.session < s.session + 1) (sym shows) (omega arith);
-          },
-          tt,
-        );
+      subst (λ (xs : List Install). LeadsTo m f c (with_controller c k t xs) (install_of t)) (sym (one_given s t other)) (record {
+        moves = moves.MoveTo k j session ∷ [];
+        may = (record { own = own; later = subst (λ (x : Control). x.session < session) (sym shows) later }, tt);
         ends = refl;
-        sends = one_carries d (One (Sequencer j)) (datagrams.Install j (s.session + 1)) tt (Has-first new new c.installs refl);
+        sends = one_carries d (One (Sequencer j)) (datagrams.Install k j session) tt
+            (record { given = Has-first new new c.installs refl; own = own });
         only = only_new c d (install_of t) (λ r h. inl h) (λ p h. inl h) refl (λ x h. elim (Has-cases x new c.installs h) [
-          | inl e ↦ inr (One (Sequencer j), Has-first _ _ [] (ap install_out e))
+          | inl same ↦ inr (One (Sequencer j), Has-first _ _ [] (ap install_out same ∙ ap out_of own))
           | inr old ↦ inl old
         ]);
         lines = says_none c.lines (install_of t) refl;
         first = refl;
       })
     where
-      later : s.session + 1 ≡ s.session → ⊥
-      later e = omega (arith, e)
+      own : home session ≡ k
+      own = goes_home s.number s.session s.seen session within.number within.own e
+
+      later : s.session < session
+      later = (rises s.number s.session s.seen session e).0
+
+      other : session ≡ s.session → ⊥
+      other same = omega (arith, later, same)
 
       install_out : Install → Out
-      install_out x = Send (One (Sequencer j)) (spelling (datagrams.Install x.sequencer x.session))
-  move_by j false = still
+      install_out x = Send (One (Sequencer j)) (spelling (datagrams.Install (home x.session) x.sequencer x.session))
+
+      out_of : ℕ → Out
+      out_of n = Send (One (Sequencer j)) (spelling (datagrams.Install n j session))
+  moves_by j None e = still
 
   moves_to : (j : ℕ) → ControllerReaches m f c k s (move_to s j)
-  moves_to j = move_by j (nat_lt s.session last_number)
+  moves_to j = moves_by j (next_session s.number s.session s.seen) refl
 
   order_by : (j : ℕ) (b : Bool) → ControllerReaches m f c k s (order_if b s j)
   order_by j true = moves_to j
@@ -115,30 +125,32 @@ module _ {S : Type 0} (m : Meaning S) (f : ℕ) (c : Conf) (k : ℕ) (s : Contro
 
   -- ---- a probe
 
-  ping_fits : (round : ℕ) → nat_lt round last_number ≡ true → SignalFits s.current (round + 1)
+  ping_fits : (round : ℕ) → nat_lt round last_number ≡ true → PingFits s.number s.current (round + 1)
   ping_fits round e = record {
-    number = few_sequencers s.config s.current within.config within.current;
-    count = record { low = omega arith; high = grind (arith, nat_tests, e) };
+    controller = omega (arith, within.number);
+    sequencer = few_sequencers s.config s.current within.config within.current;
+    fits = record { low = omega arith; high = grind (arith, nat_tests, e) };
   }
 
-  ask_by : (t : ControllerState) → control_of t ≡ control_of s → (b : Bool) → nat_lt t.round last_number ≡ b
+  ask_by : (t : ControllerState) → t.number ≡ s.number → control_of t ≡ control_of s → (b : Bool) → nat_lt t.round last_number ≡ b
       → ControllerReaches m f c k s (ask_if b t)
-  ask_by t e true less =
+  ask_by t number e true less =
       let current : t.current ≡ s.current = ap (λ (x : Control). x.current) e in
       rests (asked t) (ask_if true t).1 e refl
-      (one_carries c (One (Sequencer t.current)) (datagrams.Ping t.current (t.round + 1)) tt
-      (subst (λ (n : ℕ). SignalFits n (t.round + 1)) (sym current) (ping_fits t.round less)))
-  ask_by t e false less = silent t e
+      (one_carries c (One (Sequencer t.current)) (datagrams.Ping t.number t.current (t.round + 1)) tt
+      (subst (λ (n : ℕ). PingFits n t.current (t.round + 1)) (sym number)
+      (subst (λ (n : ℕ). PingFits s.number n (t.round + 1)) (sym current) (ping_fits t.round less))))
+  ask_by t number e false less = silent t e
 
-  asks : (t : ControllerState) → control_of t ≡ control_of s → ControllerReaches m f c k s (ask t)
-  asks t e = ask_by t e (nat_lt t.round last_number) refl
+  asks : (t : ControllerState) → t.number ≡ s.number → control_of t ≡ control_of s → ControllerReaches m f c k s (ask t)
+  asks t number e = ask_by t number e (nat_lt t.round last_number) refl
 
   miss_by : (b : Bool) → ControllerReaches m f c k s (miss_if b s)
   miss_by true = moves_to (following s)
-  miss_by false = asks (record s { missed = s.missed + 1 }) refl
+  miss_by false = asks (record s { missed = s.missed + 1 }) refl refl
 
   probe_by : (b : Bool) → ControllerReaches m f c k s (probe_if b s)
-  probe_by true = asks s refl
+  probe_by true = asks s refl refl
   probe_by false = miss_by (nat_le MISSED_END (s.missed + 1))
 
   probe_reaches : ControllerReaches m f c k s (probe s)
@@ -148,8 +160,8 @@ module _ {S : Type 0} (m : Meaning S) (f : ℕ) (c : Conf) (k : ℕ) (s : Contro
   pong_by true = silent (record s { heard = true; missed = 0 }) refl
   pong_by false = still
 
-  pong_reaches : (sequencer round : ℕ) → ControllerReaches m f c k s (pong s sequencer round)
-  pong_reaches sequencer round = pong_by ((sequencer == s.current) && (round == s.round))
+  pong_reaches : (controller sequencer round : ℕ) → ControllerReaches m f c k s (pong s controller sequencer round)
+  pong_reaches controller sequencer round = pong_by ((controller == s.number) && ((sequencer == s.current) && (round == s.round)))
 
   -- ---- a session is confirmed
 
@@ -157,16 +169,18 @@ module _ {S : Type 0} (m : Meaning S) (f : ℕ) (c : Conf) (k : ℕ) (s : Contro
   resend_by true e = still
   resend_by false e =
       rests s (install_of s) refl refl
-      (one_carries c (One (Sequencer s.current)) (datagrams.Install s.current s.session) tt
-      (subst (λ (x : Control). Has c.installs (record { sequencer = x.current; session = x.session })) shows
-      ((inv.controllers k).given (ap (λ (x : Control). x.confirmed) shows ∙ e))))
+      (one_carries c (One (Sequencer s.current)) (datagrams.Install s.number s.current s.session) tt (record {
+        given = subst (λ (x : Control). Has c.installs (record { sequencer = x.current; session = x.session })) shows
+            ((inv.controllers k).given (ap (λ (x : Control). x.confirmed) shows ∙ e));
+        own = within.own;
+      }))
 
   resend_install_reaches : ControllerReaches m f c k s (resend_install s)
   resend_install_reaches = resend_by s.confirmed refl
 
-  confirms : ControllerReaches m f c k s (record s { confirmed = true }, [])
-  confirms =
-      let t : ControllerState = record s { confirmed = true } in
+  confirms : (seen : ℕ) → ControllerReaches m f c k s (record s { confirmed = true; seen = seen }, [])
+  confirms seen =
+      let t : ControllerState = record s { confirmed = true; seen = seen } in
       let d = with_controller c k t [] in
       subst (λ (xs : List Install). LeadsTo m f c (with_controller c k t xs) []) (sym (none_given s t refl)) (record {
         moves = moves.Installed k ∷ [];
@@ -178,12 +192,19 @@ module _ {S : Type 0} (m : Meaning S) (f : ℕ) (c : Conf) (k : ℕ) (s : Contro
         first = tt;
       })
 
-  installed_by : (b : Bool) → ControllerReaches m f c k s (confirmed_if b s, [])
-  installed_by true = confirms
-  installed_by false = still
+  confirmed_by : (b d : Bool) (session : ℕ) → ControllerReaches m f c k s (confirmed_if b (seen_if d s session), [])
+  confirmed_by true true session = confirms (max s.seen session)
+  confirmed_by true false session = confirms s.seen
+  confirmed_by false true session = silent (seen_if true s session) refl
+  confirmed_by false false session = still
 
-  installed_reaches : (sequencer session : ℕ) → ControllerReaches m f c k s (installed s sequencer session)
-  installed_reaches sequencer session = installed_by ((sequencer == s.current) && (session == s.session))
+  installed_by : (b : Bool) (sequencer session : ℕ) → ControllerReaches m f c k s (installed_if b s sequencer session, [])
+  installed_by true sequencer session =
+      confirmed_by ((sequencer == s.current) && (session == s.session)) (nat_lt s.session session) session
+  installed_by false sequencer session = still
+
+  installed_reaches : (controller sequencer session : ℕ) → ControllerReaches m f c k s (installed s controller sequencer session)
+  installed_reaches controller sequencer session = installed_by (controller == s.number) sequencer session
 
   -- ---- all rows
 
@@ -198,13 +219,13 @@ module _ {S : Type 0} (m : Meaning S) (f : ℕ) (c : Conf) (k : ℕ) (s : Contro
   tick_reaches ticks.Next = still
 
   datagram_reaches : (x : Result Datagram Bad) → ControllerReaches m f c k s (on_datagram s x)
-  datagram_reaches (Ok (datagrams.Pong sequencer round)) = pong_reaches sequencer round
-  datagram_reaches (Ok (datagrams.Installed sequencer session)) = installed_reaches sequencer session
+  datagram_reaches (Ok (datagrams.Pong controller sequencer round)) = pong_reaches controller sequencer round
+  datagram_reaches (Ok (datagrams.Installed controller sequencer session)) = installed_reaches controller sequencer session
   datagram_reaches (Ok (datagrams.Request r)) = still
   datagram_reaches (Ok (datagrams.Stamped p)) = still
   datagram_reaches (Ok (datagrams.Reply p)) = still
-  datagram_reaches (Ok (datagrams.Install sequencer session)) = still
-  datagram_reaches (Ok (datagrams.Ping sequencer round)) = still
+  datagram_reaches (Ok (datagrams.Install controller sequencer session)) = still
+  datagram_reaches (Ok (datagrams.Ping controller sequencer round)) = still
   datagram_reaches (Ok (datagrams.Fragment p)) = still
   datagram_reaches (Err e) = still
 
@@ -215,4 +236,4 @@ module _ {S : Type 0} (m : Meaning S) (f : ℕ) (c : Conf) (k : ℕ) (s : Contro
   input_reaches (Submit op) = still
 
 pub controllers_reach : {S : Type 0} (m : Meaning S) → ControllersReach m
-controllers_reach m f c k s i inv all shows within came = input_reaches m f c k s inv all shows within i
+controllers_reach m f c s i inv shows within came = input_reaches m f c s inv shows within i

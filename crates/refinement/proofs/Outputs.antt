@@ -1,10 +1,11 @@
 -- What outputs send and say.
-use Rattle.std.proofs.Common.{◌≡◌, ℕ, sym, ap, subst, ◌∙◌, inl, List, [], ◌∷◌, ◌++◌}
+use Rattle.std.proofs.Common.{◌≡◌, ℕ, sym, ap, subst, ◌∙◌, inl, inr, List, [], ◌∷◌, ◌++◌}
 use Rattle.std.proofs.lemmas.List.{append-nil}
 use Rattle.std.specs.Prelude.{◌⊎◌}
 use Rattle.nop_types.specs.Lines.{Line}
 use Rattle.nop_types.specs.Lists.{Has}
 use Rattle.nop_types.specs.Meaning.{Meaning}
+use Rattle.nop_types.specs.Sessions.{home}
 use Rattle.nop_types.specs.declared.request.Request.{Request}
 use Rattle.nop_types.specs.declared.datagram.Stamped.{Stamped}
 use Rattle.nop_types.specs.declared.datagram.Reply.{Reply}
@@ -35,15 +36,19 @@ one_carries c to d whole sent dest bytes h = record {
 -- what was added of requests, of stamps and of sessions that were given out, these outputs send
 pub only_new : (c d : Conf) (outs : List Out) → ((r : Request) → Has d.requests r → Has c.requests r ⊎ Sends outs (datagrams.Request r))
     → ((p : Stamped) → Has d.stamps p → Has c.stamps p ⊎ Sends outs (datagrams.Stamped p)) → d.replies ≡ c.replies
-    → ((x : Install) → Has d.installs x → Has c.installs x ⊎ Sends outs (datagrams.Install x.sequencer x.session)) → OnlySends c d outs
+    → ((x : Install) → Has d.installs x → Has c.installs x ⊎ Sends outs (datagrams.Install (home x.session) x.sequencer x.session))
+    → OnlySends c d outs
 only_new c d outs requests stamps replies installs (datagrams.Request r) h = requests r h
 only_new c d outs requests stamps replies installs (datagrams.Stamped p) h = stamps p h
 only_new c d outs requests stamps replies installs (datagrams.Reply p) h = inl (subst (λ (t : List Reply). Has t p) replies h)
-only_new c d outs requests stamps replies installs (datagrams.Install sequencer session) h =
-    installs (record { sequencer = sequencer; session = session }) h
-only_new c d outs requests stamps replies installs (datagrams.Installed sequencer session) h = inl h
-only_new c d outs requests stamps replies installs (datagrams.Ping sequencer round) h = inl h
-only_new c d outs requests stamps replies installs (datagrams.Pong sequencer round) h = inl h
+only_new c d outs requests stamps replies installs (datagrams.Install controller sequencer session) h =
+    elim (installs (record { sequencer = sequencer; session = session }) h.given) [
+      | inl old ↦ inl (record { given = old; own = h.own })
+      | inr new ↦ inr (subst (λ (n : ℕ). Sends outs (datagrams.Install n sequencer session)) h.own new)
+    ]
+only_new c d outs requests stamps replies installs (datagrams.Installed controller sequencer session) h = inl h
+only_new c d outs requests stamps replies installs (datagrams.Ping controller sequencer round) h = inl h
+only_new c d outs requests stamps replies installs (datagrams.Pong controller sequencer round) h = inl h
 only_new c d outs requests stamps replies installs (datagrams.Fragment p) h = inl h
 
 -- ---- lines

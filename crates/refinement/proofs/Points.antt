@@ -1,5 +1,5 @@
 -- A sync point never falls: neither by a round, nor by a vote, nor by a commit.
-use Rattle.std.proofs.Common.{◌≡◌, ◌≤◌, ℕ, Bool, true, false, Option, Some, None, arith, [], refl, le_refl}
+use Rattle.std.proofs.Common.{◌≡◌, ◌≤◌, ℕ, Bool, true, false, Option, Some, None, arith, refl, le_refl}
 use Rattle.std.specs.Prelude.{cond, ◌==◌, max, nat_le, nat_lt}
 use Rattle.std.proofs.lemmas.Bool.Decides.{nat_tests}
 use Rattle.nop_types.specs.declared.replica_state.Vote.{Vote}

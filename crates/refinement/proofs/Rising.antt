@@ -5,18 +5,16 @@ use Rattle.std.proofs.lemmas.Bool.Decides.{nat_tests}
 use Rattle.std.proofs.lemmas.List.{append-nil}
 use Rattle.nop_types.specs.Logs.{Log, Whole}
 use Rattle.nop_types.specs.Meaning.{Meaning}
-use Rattle.nop_types.specs.declared.datagram.Reply.{Reply}
 use Rattle.replica_state.specs.declared.sending.Sending.{Sending}
 use Rattle.replica_state.specs.declared.sending.Sending.TheVariants.{Trims}
 use Rattle.replica_state.specs.declared.state.ReplicaState.{ReplicaState}
 use Rattle.replica_state.specs.Moves.{drain, risen, raise, passed_entries}
-use Rattle.replica_state.specs.Sends.{Effect, still, then_do, when}
+use Rattle.replica_state.specs.Sends.{still, then_do, when}
 use Rattle.replica_state.specs.State.{PointsMeet, has_risen}
 use Rattle.replica_rows.specs.Rows.{raise_and_drain}
 use Rattle.protocol.specs.Conf.{Conf}
 use Rattle.protocol.specs.Member.{standing}
 use Rattle.protocol.specs.Runs.{Act, MayAct, effect}
-use Rattle.protocol.specs.Said.{Said}
 use Rattle.refinement.specs.Projection.{member_of, said_in, replied_in}
 use Rattle.refinement.specs.Replicas.{Matches}
 use Rattle.refinement.proofs.Composing.{InView, in_view_then, nothing_in_view, move_in_view}

@@ -1,9 +1,9 @@
 -- What was sent is in its ranges, also where a replica replied.
-use Rattle.std.proofs.Common.{sym, subst, inl, inr, List, [], ◌∷◌}
+use Rattle.std.proofs.Common.{ℕ, sym, subst, inl, inr, List, [], ◌∷◌}
 use Rattle.std.specs.List.{AllByRecursion}
 use Rattle.nop_types.specs.Lists.{Has}
 use Rattle.nop_types.specs.Meaning.{Meaning}
-use Rattle.nop_types.specs.Ranges.{ReplyFits}
+use Rattle.nop_types.specs.Ranges.{ReplyFits, InstallFits, DatagramFits}
 use Rattle.nop_types.specs.declared.request.Request.{Request}
 use Rattle.nop_types.specs.declared.datagram.Stamped.{Stamped}
 use Rattle.nop_types.specs.declared.datagram.Reply.{Reply}
@@ -17,17 +17,17 @@ use Rattle.protocol.specs.Conf.{Conf, Install}
 use Rattle.refinement.specs.Projection.{replied_in}
 use Rattle.refinement.specs.Ranges.{AllFit, ReplicasStayInRanges}
 use Rattle.refinement.specs.Datagrams.{WasSent, IsWhole}
-use Rattle.nop_types.specs.Ranges.{DatagramFits}
 
 pub datagrams_fit : (c : Conf) (d : Datagram) → AllFit c → IsWhole d → WasSent c d → DatagramFits d
 datagrams_fit c (datagrams.Request r) fit whole sent = fit.requests r sent
 datagrams_fit c (datagrams.Stamped p) fit whole sent = fit.stamps p sent
 datagrams_fit c (datagrams.Reply p) fit whole sent = fit.replies p sent
-datagrams_fit c (datagrams.Install sequencer session) fit whole sent =
-    fit.installs (record { sequencer = sequencer; session = session }) sent
-datagrams_fit c (datagrams.Installed sequencer session) fit whole sent = sent
-datagrams_fit c (datagrams.Ping sequencer round) fit whole sent = sent
-datagrams_fit c (datagrams.Pong sequencer round) fit whole sent = sent
+datagrams_fit c (datagrams.Install controller sequencer session) fit whole sent =
+    subst (λ (n : ℕ). InstallFits n sequencer session) sent.own
+    (fit.installs (record { sequencer = sequencer; session = session }) sent.given)
+datagrams_fit c (datagrams.Installed controller sequencer session) fit whole sent = sent
+datagrams_fit c (datagrams.Ping controller sequencer round) fit whole sent = sent
+datagrams_fit c (datagrams.Pong controller sequencer round) fit whole sent = sent
 datagrams_fit c (datagrams.Fragment p) fit whole sent = absurd whole
 
 -- ---- replicas

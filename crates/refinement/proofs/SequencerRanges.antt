@@ -1,12 +1,12 @@
 -- What sequencers stamp is in its ranges.
-use Rattle.std.proofs.Common.{◌≡◌, ℕ, ◌≤◌, Bool, true, false, Some, None, refl, sym, subst, arith, inl, inr}
+use Rattle.std.proofs.Common.{◌≡◌, ℕ, Bool, true, false, Some, None, refl, sym, subst, inl, inr}
 use Rattle.std.specs.Prelude.{Result, Ok, Err, cond, nat_lt}
 use Rattle.std.proofs.lemmas.Bool.{and_parts, ltb-true}
 use Rattle.nop_types.specs.declared.limits.TheConstants.{NUMBER_END}
 use Rattle.nop_types.specs.Given.{Given, Packet, Ticked, Submit}
 use Rattle.nop_types.specs.Lists.{Has}
 use Rattle.nop_types.specs.Meaning.{Meaning}
-use Rattle.nop_types.specs.Ranges.{IsCount, RequestFits, StampedFits}
+use Rattle.nop_types.specs.Ranges.{RequestFits, StampedFits}
 use Rattle.nop_types.specs.declared.request.Request.{Request}
 use Rattle.nop_types.specs.declared.datagram.Stamped.{Stamped}
 use Rattle.nop_types.specs.declared.datagram.Datagram.{Datagram}
@@ -21,23 +21,17 @@ use Rattle.protocol.specs.Conf.{Conf}
 use Rattle.protocol.specs.Invariant.{Inv}
 use Rattle.refinement.specs.Datagrams.{Arrived, MayCome}
 use Rattle.refinement.specs.Ranges.{AllFit, SequencersStayInRanges}
+use Rattle.refinement.proofs.Sequencers.{session_fits}
 
 module _ {S : Type 0} (m : Meaning S) (f : ℕ) (c : Conf) (j : ℕ) (inv : Inv m f c) (all : AllFit c) where
   abbrev s : SequencerState
   s = c.sequencers j
 
-  -- the session was given out, or is the first
-  session_fits : 1 ≤ s.session → IsCount s.session
-  session_fits low = elim ((inv.sequencers j).owns low) [
-    | inl first ↦ (let one = first.1 in record { low = low; high = omega (arith, one) })
-    | inr given ↦ (all.installs (record { sequencer = j; session = s.session }) given).count
-  ]
-
   stamped_fits : (r : Request) → RequestFits r → can_stamp s ≡ true → StampedFits (stamped s r)
   stamped_fits r fits can =
       let parts = and_parts (nat_lt 0 s.session) (nat_lt s.next NUMBER_END) can in
       record {
-        session = session_fits (ltb-true 0 s.session parts.0);
+        session = session_fits m f c j inv (λ x h. (all.installs x h).fits) (ltb-true 0 s.session parts.0);
         number_low = (inv.sequencers j).low;
         number = ltb-true s.next NUMBER_END parts.1;
         request = fits;
@@ -53,10 +47,10 @@ module _ {S : Type 0} (m : Meaning S) (f : ℕ) (c : Conf) (j : ℕ) (inv : Inv 
   datagram_fits (Ok (datagrams.Request r)) came p h = stamp_fits r (can_stamp s) (came (datagrams.Request r) refl).fits refl p h
   datagram_fits (Ok (datagrams.Stamped q)) came p h = absurd (Has-none p h)
   datagram_fits (Ok (datagrams.Reply q)) came p h = absurd (Has-none p h)
-  datagram_fits (Ok (datagrams.Install sequencer session)) came p h = absurd (Has-none p h)
-  datagram_fits (Ok (datagrams.Installed sequencer session)) came p h = absurd (Has-none p h)
-  datagram_fits (Ok (datagrams.Ping sequencer round)) came p h = absurd (Has-none p h)
-  datagram_fits (Ok (datagrams.Pong sequencer round)) came p h = absurd (Has-none p h)
+  datagram_fits (Ok (datagrams.Install controller sequencer session)) came p h = absurd (Has-none p h)
+  datagram_fits (Ok (datagrams.Installed controller sequencer session)) came p h = absurd (Has-none p h)
+  datagram_fits (Ok (datagrams.Ping controller sequencer round)) came p h = absurd (Has-none p h)
+  datagram_fits (Ok (datagrams.Pong controller sequencer round)) came p h = absurd (Has-none p h)
   datagram_fits (Ok (datagrams.Fragment q)) came p h = absurd (Has-none p h)
   datagram_fits (Err e) came p h = absurd (Has-none p h)
 

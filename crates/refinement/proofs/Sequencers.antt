@@ -1,11 +1,11 @@
 -- Each row of a sequencer's step table is a list of moves.
-use Rattle.std.proofs.Common.{◌≡◌, ℕ, ◌+◌, Bool, true, false, cond, Some, None, refl, ap, subst, inl, inr, List, [], ◌∷◌}
-use Rattle.std.specs.Prelude.{Result, Ok, Err, ◌==◌, nat_lt, nat_le}
-use Rattle.std.proofs.lemmas.Bool.{and_parts, eqb-true, ltb-true}
+use Rattle.std.proofs.Common.{◌≡◌, ℕ, ◌≤◌, ◌+◌, Bool, true, false, cond, Some, None, refl, ap, subst, inl, inr, arith, List, [], ◌∷◌}
+use Rattle.std.specs.Prelude.{Result, Ok, Err, ◌==◌, nat_lt}
+use Rattle.std.proofs.lemmas.Bool.{and_parts, eqb-true, ltb-true, ltb-false}
 use Rattle.nop_types.specs.Given.{Given, Packet, Ticked, Submit}
 use Rattle.nop_types.specs.Lists.{Has}
 use Rattle.nop_types.specs.Meaning.{Meaning}
-use Rattle.nop_types.specs.Ranges.{SignalFits}
+use Rattle.nop_types.specs.Ranges.{SessionFits, InstallFits, PingFits}
 use Rattle.nop_types.specs.declared.limits.TheConstants.{NUMBER_END}
 use Rattle.nop_types.specs.declared.output.Actor.TheVariants.{Controller}
 use Rattle.nop_types.specs.declared.output.Dest.TheVariants.{Replicas, One}
@@ -21,18 +21,18 @@ use Rattle.oum_codec.specs.Reading.{reading}
 use Rattle.oum_codec.specs.Spelling.{spelling}
 use Rattle.sequencer.specs.declared.state.SequencerState.{SequencerState}
 use Rattle.sequencer.specs.Runs.{one_or_none, stamp_at, stamp_in}
-use Rattle.sequencer.specs.SequencerSteps.{can_stamp, stamped, stamped_by, send_packet, stamp, tell, can_install, install_if, install}
+use Rattle.sequencer.specs.SequencerSteps.{can_stamp, stamped, stamped_by, send_packet, stamp, tell, installed_in, install_if, install}
 use Rattle.sequencer.specs.SequencerSteps.{ping_if, ping, on_datagram, next}
 use Rattle.protocol.specs.Conf.{Conf}
 use Rattle.protocol.specs.Invariant.{Inv}
 use Rattle.protocol.specs.Runs as moves
 use Rattle.refinement.specs.Datagrams.{Arrived, MayCome, AllCarry}
 use Rattle.refinement.specs.Lines.{lines_in}
-use Rattle.refinement.specs.Sequencers.{with_sequencer, SequencerReaches, SequencersReach}
+use Rattle.refinement.specs.Sequencers.{with_sequencer, SequencerReaches, SessionsFit, SequencersReach}
 use Rattle.refinement.proofs.Outputs.{none_carry, one_carries, only_new, says_none, no_moves}
 use Rattle.refinement.proofs.Puts.{put-same}
 
-module _ {S : Type 0} (m : Meaning S) (f : ℕ) (c : Conf) (j : ℕ) (inv : Inv m f c) where
+module _ {S : Type 0} (m : Meaning S) (f : ℕ) (c : Conf) (j : ℕ) (inv : Inv m f c) (sessions : SessionsFit c) where
   abbrev s : SequencerState
   s = c.sequencers j
 
@@ -87,16 +87,19 @@ module _ {S : Type 0} (m : Meaning S) (f : ℕ) (c : Conf) (j : ℕ) (inv : Inv 
 
   -- ---- a session is installed
 
-  told : (sequencer session : ℕ) → sequencer ≡ s.number → SignalFits sequencer session → SignalFits s.number session
-  told sequencer session e fits = subst (λ (n : ℕ). SignalFits n session) e fits
+  -- the sequencer's own session was given out, or is the first
+  pub session_fits : 1 ≤ s.session → SessionFits s.session
+  session_fits low = elim ((inv.sequencers j).owns low) [
+    | inl first ↦ (let one = first.1 in record { low = low; high = omega (arith, one) })
+    | inr given ↦ sessions (record { sequencer = j; session = s.session }) given
+  ]
 
   -- a later session begins, or its own one goes on
-  session_by : (session : ℕ) → Has c.installs (record { sequencer = s.number; session = session }) → SignalFits s.number session
+  session_by : (k session : ℕ) → Has c.installs (record { sequencer = s.number; session = session }) → InstallFits k s.number session
       → (b : Bool) → nat_lt s.session session ≡ b
-      → SequencerReaches m f c j []
-      (cond b (record s { session = session; next = 1 }) s, tell (datagrams.Installed s.number session))
-  session_by session sent fits true e =
-      let outs : List Out = tell (datagrams.Installed s.number session) in
+      → SequencerReaches m f c j [] (installed_in (cond b (record s { session = session; next = 1 }) s) k)
+  session_by k session sent fits true e =
+      let outs : List Out = tell k (datagrams.Installed k s.number session) in
       let d = with_sequencer c j (record s { session = session; next = 1 }) [] in
       record {
         moves = moves.Install j session ∷ [];
@@ -108,38 +111,44 @@ module _ {S : Type 0} (m : Meaning S) (f : ℕ) (c : Conf) (j : ℕ) (inv : Inv 
           tt,
         );
         ends = refl;
-        sends = one_carries d (One Controller) (datagrams.Installed s.number session) tt fits;
+        sends = one_carries d (One (Controller k)) (datagrams.Installed k s.number session) tt fits;
         only = only_new c d outs (λ r h. inl h) (λ p h. inl h) refl (λ x h. inl h);
         lines = says_none c.lines outs refl;
         first = refl;
       }
-  session_by session sent fits false e =
-      rests (tell (datagrams.Installed s.number session)) refl
-      (one_carries c (One Controller) (datagrams.Installed s.number session) tt fits)
+  session_by k session sent fits false e =
+      let low = ltb-false s.session session e in
+      rests (tell k (datagrams.Installed k s.number s.session)) refl
+      (one_carries c (One (Controller k)) (datagrams.Installed k s.number s.session) tt (record {
+        controller = fits.controller;
+        sequencer = fits.sequencer;
+        fits = session_fits (omega (arith, low, fits.fits.low));
+      }))
 
-  install_by : (sequencer session : ℕ) → Arrived c (datagrams.Install sequencer session) → (b : Bool)
-      → can_install s sequencer session ≡ b → SequencerReaches m f c j [] (install_if b s session)
-  install_by sequencer session came true e =
-      let same = eqb-true sequencer s.number (and_parts (sequencer == s.number) (nat_le s.session session) e).0 in
-      session_by session (subst (λ (n : ℕ). Has c.installs (record { sequencer = n; session = session })) same came.sent)
-      (told sequencer session same came.fits) (nat_lt s.session session) refl
-  install_by sequencer session came false e = still
+  install_by : (k sequencer session : ℕ) → Arrived c (datagrams.Install k sequencer session) → (b : Bool) → (sequencer == s.number) ≡ b
+      → SequencerReaches m f c j [] (install_if b s k session)
+  install_by k sequencer session came true e =
+      let same = eqb-true sequencer s.number e in
+      session_by k session (subst (λ (n : ℕ). Has c.installs (record { sequencer = n; session = session })) same came.sent.given)
+      (subst (λ (n : ℕ). InstallFits k n session) same came.fits) (nat_lt s.session session) refl
+  install_by k sequencer session came false e = still
 
-  install_reaches : (sequencer session : ℕ) → Arrived c (datagrams.Install sequencer session)
-      → SequencerReaches m f c j [] (install s sequencer session)
-  install_reaches sequencer session came = install_by sequencer session came (can_install s sequencer session) refl
+  install_reaches : (k sequencer session : ℕ) → Arrived c (datagrams.Install k sequencer session)
+      → SequencerReaches m f c j [] (install s k sequencer session)
+  install_reaches k sequencer session came = install_by k sequencer session came (sequencer == s.number) refl
 
-  -- ---- the controller asks whether it is there
+  -- ---- a controller asks whether it is there
 
-  ping_by : (sequencer round : ℕ) → SignalFits sequencer round → (b : Bool) → (sequencer == s.number) ≡ b
-      → SequencerReaches m f c j [] (ping_if b s round)
-  ping_by sequencer round fits true e =
-      rests (tell (datagrams.Pong s.number round)) refl
-      (one_carries c (One Controller) (datagrams.Pong s.number round) tt (told sequencer round (eqb-true sequencer s.number e) fits))
-  ping_by sequencer round fits false e = still
+  ping_by : (k sequencer round : ℕ) → PingFits k sequencer round → (b : Bool) → (sequencer == s.number) ≡ b
+      → SequencerReaches m f c j [] (ping_if b s k round)
+  ping_by k sequencer round fits true e =
+      rests (tell k (datagrams.Pong k s.number round)) refl
+      (one_carries c (One (Controller k)) (datagrams.Pong k s.number round) tt
+      (subst (λ (n : ℕ). PingFits k n round) (eqb-true sequencer s.number e) fits))
+  ping_by k sequencer round fits false e = still
 
-  ping_reaches : (sequencer round : ℕ) → SignalFits sequencer round → SequencerReaches m f c j [] (ping s sequencer round)
-  ping_reaches sequencer round fits = ping_by sequencer round fits (sequencer == s.number) refl
+  ping_reaches : (k sequencer round : ℕ) → PingFits k sequencer round → SequencerReaches m f c j [] (ping s k sequencer round)
+  ping_reaches k sequencer round fits = ping_by k sequencer round fits (sequencer == s.number) refl
 
   -- ---- all rows
 
@@ -148,12 +157,12 @@ module _ {S : Type 0} (m : Meaning S) (f : ℕ) (c : Conf) (j : ℕ) (inv : Inv 
   datagram_reaches (Ok (datagrams.Request r)) came = stamp_reaches r (came (datagrams.Request r) refl).sent
   datagram_reaches (Ok (datagrams.Stamped p)) came = still
   datagram_reaches (Ok (datagrams.Reply p)) came = still
-  datagram_reaches (Ok (datagrams.Install sequencer session)) came =
-      install_reaches sequencer session (came (datagrams.Install sequencer session) refl)
-  datagram_reaches (Ok (datagrams.Installed sequencer session)) came = still
-  datagram_reaches (Ok (datagrams.Ping sequencer round)) came =
-      ping_reaches sequencer round (came (datagrams.Ping sequencer round) refl).fits
-  datagram_reaches (Ok (datagrams.Pong sequencer round)) came = still
+  datagram_reaches (Ok (datagrams.Install controller sequencer session)) came =
+      install_reaches controller sequencer session (came (datagrams.Install controller sequencer session) refl)
+  datagram_reaches (Ok (datagrams.Installed controller sequencer session)) came = still
+  datagram_reaches (Ok (datagrams.Ping controller sequencer round)) came =
+      ping_reaches controller sequencer round (came (datagrams.Ping controller sequencer round) refl).fits
+  datagram_reaches (Ok (datagrams.Pong controller sequencer round)) came = still
   datagram_reaches (Ok (datagrams.Fragment p)) came = still
   datagram_reaches (Err e) came = still
 
@@ -164,4 +173,4 @@ module _ {S : Type 0} (m : Meaning S) (f : ℕ) (c : Conf) (j : ℕ) (inv : Inv 
   input_reaches (Submit op) came = still
 
 pub sequencers_reach : {S : Type 0} (m : Meaning S) → SequencersReach m
-sequencers_reach m f c j i inv came = input_reaches m f c j inv i came
+sequencers_reach m f c j i inv sessions came = input_reaches m f c j inv sessions i came

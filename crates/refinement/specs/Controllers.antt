@@ -6,7 +6,7 @@ use Rattle.nop_types.specs.Meaning.{Meaning}
 use Rattle.nop_types.specs.declared.output.Out.{Out}
 use Rattle.session_control.specs.declared.state.ControllerState.{ControllerState}
 use Rattle.session_control.specs.ControllerSteps.{IsWithin, next}
-use Rattle.protocol.specs.Conf.{Conf, Control, Install, home}
+use Rattle.protocol.specs.Conf.{Conf, Control, Install}
 use Rattle.protocol.specs.Invariant.{Inv}
 use Rattle.refinement.specs.Datagrams.{MayCome}
 use Rattle.refinement.specs.Steps.{LeadsTo}
@@ -26,7 +26,7 @@ with_controller c k s installs = record c { controllers = put c.controllers k (c
 abbrev pub ControllerReaches : {S : Type 0} → Meaning S → ℕ → Conf → ℕ → ControllerState → ControllerState × List Out → Type 0
 ControllerReaches m f c k s e = LeadsTo m f c (with_controller c k e.0 (given_out s e.0)) e.1
 
--- whatever may come to a controller that is in its ranges and gives out all sessions
+-- whatever may come to a controller that is in its ranges, so that it gives out only sessions of its own
 abbrev pub ControllersReach : {S : Type 0} → Meaning S → Type 0
-ControllersReach m = (f : ℕ) (c : Conf) (k : ℕ) (s : ControllerState) (i : Given) → Inv m f c → ((session : ℕ) → home session ≡ k)
-    → c.controllers k ≡ control_of s → IsWithin s → MayCome c i → ControllerReaches m f c k s (next s i)
+ControllersReach m = (f : ℕ) (c : Conf) (s : ControllerState) (i : Given) → Inv m f c → c.controllers s.number ≡ control_of s → IsWithin s
+    → MayCome c i → ControllerReaches m f c s.number s (next s i)

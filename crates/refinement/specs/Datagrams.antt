@@ -2,7 +2,8 @@
 use Rattle.std.specs.Prelude.{◌≡◌, ◌⊎◌, ⊤, ℕ, List, Ok}
 use Rattle.nop_types.specs.Given.{Given, Packet, Ticked, Submit}
 use Rattle.nop_types.specs.Lists.{Has}
-use Rattle.nop_types.specs.Ranges.{DatagramFits, SignalFits}
+use Rattle.nop_types.specs.Ranges.{DatagramFits, InstallFits, PingFits}
+use Rattle.nop_types.specs.Sessions.{home}
 use Rattle.nop_types.specs.declared.datagram.Datagram.{Datagram}
 use Rattle.nop_types.specs.declared.datagram.Datagram.TheVariants as datagrams
 use Rattle.nop_types.specs.declared.output.Dest.{Dest}
@@ -12,16 +13,21 @@ use Rattle.oum_codec.specs.Reading.{reading}
 use Rattle.oum_codec.specs.Spelling.{spelling}
 use Rattle.protocol.specs.Conf.{Conf}
 
+-- the session was given out for the sequencer, by the controller whose own it is
+pub record WasGivenOut (c : Conf) (controller sequencer session : ℕ) : Type 0 where
+  pub given : Has c.installs (record { sequencer = sequencer; session = session })
+  pub own : home session ≡ controller
+
 -- What the protocol knows of a datagram that was sent. It knows no pings and no answers to a controller, so of them it is known only
 -- that they are in their ranges; and a fragment is a part of a message, of which it is said elsewhere that it was told.
 abbrev pub WasSent : Conf → Datagram → Type 0
 WasSent c (datagrams.Request r) = Has c.requests r
 WasSent c (datagrams.Stamped p) = Has c.stamps p
 WasSent c (datagrams.Reply p) = Has c.replies p
-WasSent c (datagrams.Install sequencer session) = Has c.installs (record { sequencer = sequencer; session = session })
-WasSent c (datagrams.Installed sequencer session) = SignalFits sequencer session
-WasSent c (datagrams.Ping sequencer round) = SignalFits sequencer round
-WasSent c (datagrams.Pong sequencer round) = SignalFits sequencer round
+WasSent c (datagrams.Install controller sequencer session) = WasGivenOut c controller sequencer session
+WasSent c (datagrams.Installed controller sequencer session) = InstallFits controller sequencer session
+WasSent c (datagrams.Ping controller sequencer round) = PingFits controller sequencer round
+WasSent c (datagrams.Pong controller sequencer round) = PingFits controller sequencer round
 WasSent c (datagrams.Fragment p) = ⊤
 
 -- a datagram that is no part of a message
@@ -30,10 +36,10 @@ IsWhole (datagrams.Fragment p) = ⊥
 IsWhole (datagrams.Request r) = ⊤
 IsWhole (datagrams.Stamped p) = ⊤
 IsWhole (datagrams.Reply p) = ⊤
-IsWhole (datagrams.Install sequencer session) = ⊤
-IsWhole (datagrams.Installed sequencer session) = ⊤
-IsWhole (datagrams.Ping sequencer round) = ⊤
-IsWhole (datagrams.Pong sequencer round) = ⊤
+IsWhole (datagrams.Install controller sequencer session) = ⊤
+IsWhole (datagrams.Installed controller sequencer session) = ⊤
+IsWhole (datagrams.Ping controller sequencer round) = ⊤
+IsWhole (datagrams.Pong controller sequencer round) = ⊤
 
 -- what is read of bytes was sent, and is in its ranges
 pub record Arrived (c : Conf) (d : Datagram) : Type 0 where

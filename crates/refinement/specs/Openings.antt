@@ -11,13 +11,12 @@ use Rattle.refinement.specs.Controllers.{control_of}
 use Rattle.refinement.specs.Ranges.{AllFit}
 use Rattle.refinement.specs.Replicas.{Matches}
 
--- the protocol's opening has each actor in its opening state, clients without an op that waits, and controllers in session 1; nothing was
--- sent that is out of its ranges
+-- the protocol's opening has each actor in its opening state, clients without an op that waits; nothing was sent that is out of its ranges
 pub record OpensAs {S : Type 0} (m : Meaning S) (f : ℕ) (config : Configuration) : Type 0 where
   pub replicas : (r : ℕ) → r < 2 * f + 1 → Matches m f (opening config) r (replica.opening config r)
   pub sequencers : (j : ℕ) → (opening config).sequencers j ≡ sequencer.opening j
   pub clients : (k : ℕ) → (opening config).clients k ≡ client.opening config k []
-  pub controllers : (k : ℕ) → (opening config).controllers k ≡ control_of (controller.opening config 1)
+  pub controllers : (k : ℕ) → (opening config).controllers k ≡ control_of (controller.opening config k)
   pub sent : AllFit (opening config)
 
 abbrev pub OpeningsMatch : {S : Type 0} → Meaning S → Type 0

@@ -5,7 +5,8 @@ use Rattle.nop_types.specs.declared.limits.TheConstants.{MAX_OP_BYTES}
 use Rattle.nop_types.specs.Given.{Given, Packet, Ticked, Submit}
 use Rattle.nop_types.specs.Lists.{Has}
 use Rattle.nop_types.specs.Meaning.{Meaning}
-use Rattle.nop_types.specs.Ranges.{RequestFits, StampedFits, ReplyFits, SignalFits, DatagramFits}
+use Rattle.nop_types.specs.Ranges.{RequestFits, StampedFits, ReplyFits, InstallFits, DatagramFits}
+use Rattle.nop_types.specs.Sessions.{home}
 use Rattle.nop_types.specs.declared.request.Request.{Request}
 use Rattle.nop_types.specs.declared.datagram.Stamped.{Stamped}
 use Rattle.nop_types.specs.declared.datagram.Reply.{Reply}
@@ -32,7 +33,7 @@ pub record AllFit (c : Conf) : Type 0 where
   pub requests : (r : Request) → Has c.requests r → RequestFits r
   pub stamps : (p : Stamped) → Has c.stamps p → StampedFits p
   pub replies : (p : Reply) → Has c.replies p → ReplyFits p
-  pub installs : (x : Install) → Has c.installs x → SignalFits x.sequencer x.session
+  pub installs : (x : Install) → Has c.installs x → InstallFits (home x.session) x.sequencer x.session
 
 -- so each whole datagram that was sent is in its ranges
 abbrev pub DatagramsFit : Type 0
@@ -61,7 +62,7 @@ SequencersStayInRanges m = (f : ℕ) (c : Conf) (j : ℕ) (i : Given) → Inv m 
     → AllFit (with_sequencer c j (sequencer.next (c.sequencers j) i).0 (stamp_in (c.sequencers j) i))
 
 abbrev pub ControllersStayInRanges : Type 0
-ControllersStayInRanges = (c : Conf) (k : ℕ) (s : ControllerState) (i : Given) → AllFit c → controller.IsWithin s
+ControllersStayInRanges = (c : Conf) (k : ℕ) (s : ControllerState) (i : Given) → AllFit c → controller.IsWithin s → MayCome c i
     → AllFit (with_controller c k (controller.next s i).0 (given_out s (controller.next s i).0))
     × controller.IsWithin (controller.next s i).0
 

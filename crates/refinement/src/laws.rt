@@ -37,7 +37,7 @@ pub fn sequencers_reach<S>()
     ensures { (m : Meaning S) → SequencersReach m }
 {}
 
-/// Whatever may come to the controller, what it does is a list of moves, which send what it sends.
+/// Whatever may come to a controller, what it does is a list of moves, which send what it sends.
 pub fn controllers_reach<S>()
     ensures { (m : Meaning S) → ControllersReach m }
 {}

@@ -1,8 +1,11 @@
 -- What actors send goes to actors of the configuration, and what clients submit is theirs.
-use Rattle.std.proofs.Common.{◌≡◌, ◌≤◌, ◌<◌, ◌+◌, ℕ, Bool, true, false, Option, Some, None, refl, sym, subst}
+use Rattle.std.proofs.Common.{◌≡◌, ◌≤◌, ◌<◌, ◌+◌, ℕ, Bool, true, false, Option, Some, None, refl, sym, ap, subst, arith}
 use Rattle.std.proofs.Common.{List, [], ◌∷◌, ◌++◌, inl, inr}
-use Rattle.std.specs.Prelude.{⊤, nat_lt, nat_le, ◌==◌, ◌&&◌, Result, Ok, Err}
+use Rattle.std.specs.Prelude.{⊤, nat_lt, nat_le, ◌==◌, ◌&&◌, ◌||◌, Result, Ok, Err, slice_index}
+use Rattle.std.specs.Int.{w32, w64}
 use Rattle.std.specs.List.{AllByRecursion}
+use Rattle.std.proofs.lemmas.Bool.{ltb-true}
+use Rattle.std.proofs.lemmas.Nat.{mod_below}
 use Rattle.nop_types.specs.Configuration.{Configuration}
 use Rattle.nop_types.specs.Given.{Given, Packet, Ticked, Submit}
 use Rattle.nop_types.specs.Lines as lines
@@ -16,6 +19,7 @@ use Rattle.nop_types.specs.declared.datagram.Datagram.TheVariants as datagrams
 use Rattle.nop_types.specs.declared.datagram.Fragment.{Fragment}
 use Rattle.nop_types.specs.declared.datagram.Reply.{Reply}
 use Rattle.nop_types.specs.declared.datagram.Stamped.{Stamped}
+use Rattle.nop_types.specs.declared.kinds.TheConstants as kinds
 use Rattle.nop_types.specs.declared.output.Actor.{Actor}
 use Rattle.nop_types.specs.declared.output.Actor.TheVariants as actors
 use Rattle.nop_types.specs.declared.output.Dest.{Dest}
@@ -24,8 +28,9 @@ use Rattle.nop_types.specs.declared.output.Out.{Out}
 use Rattle.nop_types.specs.declared.output.Out.TheVariants as outs
 use Rattle.nop_types.specs.declared.request.Request.{Request}
 use Rattle.oum_codec.specs.declared.bad.Bad.{Bad}
+use Rattle.oum_codec.specs.Numbers.{be_bytes}
 use Rattle.oum_codec.specs.Reading.{reading}
-use Rattle.oum_codec.specs.Spelling.{spelling}
+use Rattle.oum_codec.specs.Spelling.{spelling, header, stamped_bytes, reply_bytes, request_bytes, install_bytes, ping_bytes, fragment_bytes}
 use Rattle.fragments.specs.Cutting.{sends_of}
 use Rattle.facts.proofs.Members.{Has-none, Has-cases}
 use Rattle.client_quorum.specs.declared.state.ClientState.{ClientState}
@@ -59,11 +64,24 @@ Goes c Sequencers bytes = ⊤
 Goes c (One (actors.Replica i)) bytes = i < c.replicas
 Goes c (One (actors.Sequencer j)) bytes = j < c.sequencers
 Goes c (One (actors.Client k)) bytes = IsReplyTo k bytes
-Goes c (One actors.Controller) bytes = ⊤
+Goes c (One (actors.Controller k)) bytes = k < c.controllers
 
--- so does each output that sends; and each that submits is of a client of the configuration
+-- of these datagrams each Install and each Ping names a controller of the configuration
+pub record Names (c : Configuration) (Is : Datagram → Type 0) : Type 0 where
+  pub installs : (k j session : ℕ) → Is (datagrams.Install k j session) → k < c.controllers
+  pub pings : (k j round : ℕ) → Is (datagrams.Ping k j round) → k < c.controllers
+
+-- so of what the bytes spell
+abbrev pub NamesIn : Configuration → List ℕ → Type 0
+NamesIn c bytes = Names c (λ d. bytes ≡ spelling d)
+
+pub record IsAddressed (c : Configuration) (dest : Dest) (bytes : List ℕ) : Type 0 where
+  pub goes : Goes c dest bytes
+  pub names : NamesIn c bytes
+
+-- so is each output that sends; and each that submits is of a client of the configuration
 abbrev pub OutGoes : Configuration → Out → Type 0
-OutGoes c (outs.Send dest bytes) = Goes c dest bytes
+OutGoes c (outs.Send dest bytes) = IsAddressed c dest bytes
 OutGoes c (outs.Submitted r) = r.client < c.clients
 OutGoes c (outs.Accepted client id result) = ⊤
 OutGoes c (outs.Busy client) = ⊤
@@ -76,18 +94,37 @@ both_go : (c : Configuration) (xs ys : List Out) → OutsGo c xs → OutsGo c ys
 both_go c [] ys f g = g
 both_go c (x ∷ xs) ys f g = (f.0, both_go c xs ys f.1 g)
 
+abbrev is_asking : ℕ → Bool
+is_asking kind = (kind == kinds.INSTALL) || (kind == kinds.PING)
+
+-- a datagram of another kind names no controller
+other_kind : (c : Configuration) (kind : ℕ) (rest : List ℕ) → is_asking kind ≡ false → NamesIn c (header kind ++ rest)
+other_kind c kind rest other = record {
+  installs = λ k j session is.
+      let e = subst (λ (n : ℕ). is_asking n ≡ false) (ap (λ (xs : List ℕ). slice_index xs 3) is) other in absurd cc;
+  pings = λ k j round is.
+      let e = subst (λ (n : ℕ). is_asking n ≡ false) (ap (λ (xs : List ℕ). slice_index xs 3) is) other in absurd cc;
+}
+
+-- one of these two names the controller that stands in it
+own_name : (c : Configuration) (kind k : ℕ) (rest : List ℕ) → k < c.controllers → NamesIn c (header kind ++ k ∷ rest)
+own_name c kind k rest own = record {
+  installs = λ i j session is. subst (λ (n : ℕ). n < c.controllers) (ap (λ (xs : List ℕ). slice_index xs 4) is) own;
+  pings = λ i j round is. subst (λ (n : ℕ). n < c.controllers) (ap (λ (xs : List ℕ). slice_index xs 4) is) own;
+}
+
 -- ---- what comes of them in the world
 
-goes_later : (c : Configuration) (s : Sent) (x : Sent) (xs : List Sent) → Goes c x.dest x.bytes
-    → ((t : Sent) → Has xs t → Goes c t.dest t.bytes)
-    → Has (x ∷ xs) s → Goes c s.dest s.bytes
+goes_later : (c : Configuration) (s : Sent) (x : Sent) (xs : List Sent) → IsAddressed c x.dest x.bytes
+    → ((t : Sent) → Has xs t → IsAddressed c t.dest t.bytes)
+    → Has (x ∷ xs) s → IsAddressed c s.dest s.bytes
 goes_later c s x xs here rest h = elim (Has-cases s x xs h) [
-  | inl e ↦ subst (λ (t : Sent). Goes c t.dest t.bytes) (sym e) here
+  | inl e ↦ subst (λ (t : Sent). IsAddressed c t.dest t.bytes) (sym e) here
   | inr i ↦ rest s i
 ]
 
 pub sent_goes : (c : Configuration) (from : Actor) (os : List Out) → OutsGo c os → (s : Sent) → Has (sent_of from os) s
-    → Goes c s.dest s.bytes
+    → IsAddressed c s.dest s.bytes
 sent_goes c from [] all s h = absurd (Has-none s h)
 sent_goes c from (outs.Send dest bytes ∷ os) all s h =
     goes_later c s (record { from = from; dest = dest; bytes = bytes }) (sent_of from os) all.0 (sent_goes c from os all.1) h
@@ -132,63 +169,88 @@ among_goes c Sequencers bytes some h = absurd h
 among_goes c (One (actors.Replica i)) bytes some h = h some
 among_goes c (One (actors.Sequencer j)) bytes some h = absurd h
 among_goes c (One (actors.Client k)) bytes some h = absurd h
-among_goes c (One actors.Controller) bytes some h = absurd h
+among_goes c (One (actors.Controller k)) bytes some h = absurd h
 
 cut_goes : (c : Configuration) (dest : Dest) (fs : List Fragment) → 1 ≤ c.replicas → IsAmong c.replicas dest → OutsGo c (sends_of dest fs)
 cut_goes c dest [] some h = tt
-cut_goes c dest (x ∷ fs) some h = (among_goes c dest (spelling (datagrams.Fragment x)) some h, cut_goes c dest fs some h)
+cut_goes c dest (x ∷ fs) some h = (
+  record {
+    goes = among_goes c dest (spelling (datagrams.Fragment x)) some h;
+    names = other_kind c kinds.FRAGMENT (fragment_bytes x) refl;
+  },
+  cut_goes c dest fs some h,
+)
 
 pub posted_goes : (c : Configuration) (number : ℕ) (sends : List Sending) → 1 ≤ c.replicas → AllByRecursion SendingFits sends
     → AllByRecursion (GoesAmong c.replicas) sends → OutsGo c (posted number sends)
 unfolding posted
 posted_goes c number [] some fits all = tt
-posted_goes c number (ToClient r ∷ sends) some fits all =
-    (record { reply = r; fits = fits.0; spelled = refl; to = refl }, posted_goes c number sends some fits.1 all.1)
+posted_goes c number (ToClient r ∷ sends) some fits all = (
+  record {
+    goes = record { reply = r; fits = fits.0; spelled = refl; to = refl };
+    names = other_kind c kinds.REPLY (reply_bytes r) refl;
+  },
+  posted_goes c number sends some fits.1 all.1,
+)
 posted_goes c number (ToReplicas dest p ∷ sends) some fits all =
     both_go c _ (posted (number + 1) sends) (cut_goes c dest _ some all.0) (posted_goes c (number + 1) sends some fits.1 all.1)
 posted_goes c number (Trims first entries ∷ sends) some fits all = (tt, posted_goes c number sends some fits.1 all.1)
 
 -- ---- sequencers
 
+-- of what is given
+abbrev pub GivenNames : Configuration → Given → Type 0
+GivenNames c (Packet bytes) = Names c (λ d. reading bytes ≡ Ok d)
+GivenNames c (Ticked tick) = ⊤
+GivenNames c (Submit op) = ⊤
+
 packet_goes : (c : Configuration) (o : Option Stamped) → OutsGo c (sequencer.send_packet o)
-packet_goes c (Some p) = (tt, tt)
+packet_goes c (Some p) = (record { goes = tt; names = other_kind c kinds.STAMPED (stamped_bytes p) refl }, tt)
 packet_goes c None = tt
 
-install_goes : (c : Configuration) (b : Bool) (s : SequencerState) (session : ℕ) → OutsGo c (sequencer.install_if b s session).1
-install_goes c true s session = (tt, tt)
-install_goes c false s session = tt
+install_goes : (c : Configuration) (b : Bool) (s : SequencerState) (k session : ℕ) → k < c.controllers
+    → OutsGo c (sequencer.install_if b s k session).1
+install_goes c true s k session own =
+    let t : SequencerState = sequencer.in_session s session in
+    (record { goes = own; names = other_kind c kinds.INSTALLED (install_bytes k t.number t.session) refl }, tt)
+install_goes c false s k session own = tt
 
-ping_goes : (c : Configuration) (b : Bool) (s : SequencerState) (round : ℕ) → OutsGo c (sequencer.ping_if b s round).1
-ping_goes c true s round = (tt, tt)
-ping_goes c false s round = tt
+ping_goes : (c : Configuration) (b : Bool) (s : SequencerState) (k round : ℕ) → k < c.controllers
+    → OutsGo c (sequencer.ping_if b s k round).1
+ping_goes c true s k round own = (record { goes = own; names = other_kind c kinds.PONG (ping_bytes k s.number round) refl }, tt)
+ping_goes c false s k round own = tt
 
-stamping_goes : (c : Configuration) (s : SequencerState) (r : Result Datagram Bad) → OutsGo c (sequencer.on_datagram s r).1
-stamping_goes c s (Ok (datagrams.Request r)) = packet_goes c (sequencer.stamped_by s r)
-stamping_goes c s (Ok (datagrams.Stamped p)) = tt
-stamping_goes c s (Ok (datagrams.Reply p)) = tt
-stamping_goes c s (Ok (datagrams.Install j session)) = install_goes c (sequencer.can_install s j session) s session
-stamping_goes c s (Ok (datagrams.Installed j session)) = tt
-stamping_goes c s (Ok (datagrams.Ping j round)) = ping_goes c (j == s.number) s round
-stamping_goes c s (Ok (datagrams.Pong j round)) = tt
-stamping_goes c s (Ok (datagrams.Fragment f)) = tt
-stamping_goes c s (Err e) = tt
+stamping_goes : (c : Configuration) (s : SequencerState) (r : Result Datagram Bad) → Names c (λ d. r ≡ Ok d)
+    → OutsGo c (sequencer.on_datagram s r).1
+stamping_goes c s (Ok (datagrams.Request r)) names = packet_goes c (sequencer.stamped_by s r)
+stamping_goes c s (Ok (datagrams.Stamped p)) names = tt
+stamping_goes c s (Ok (datagrams.Reply p)) names = tt
+stamping_goes c s (Ok (datagrams.Install k j session)) names = install_goes c (j == s.number) s k session (names.installs k j session refl)
+stamping_goes c s (Ok (datagrams.Installed k j session)) names = tt
+stamping_goes c s (Ok (datagrams.Ping k j round)) names = ping_goes c (j == s.number) s k round (names.pings k j round refl)
+stamping_goes c s (Ok (datagrams.Pong k j round)) names = tt
+stamping_goes c s (Ok (datagrams.Fragment f)) names = tt
+stamping_goes c s (Err e) names = tt
 
-pub sequencer_goes : (c : Configuration) (s : SequencerState) (i : Given) → OutsGo c (sequencer.next s i).1
+pub sequencer_goes : (c : Configuration) (s : SequencerState) (i : Given) → GivenNames c i → OutsGo c (sequencer.next s i).1
 unfolding sequencer.next
-sequencer_goes c s (Packet bytes) = stamping_goes c s (reading bytes)
-sequencer_goes c s (Ticked tick) = tt
-sequencer_goes c s (Submit op) = tt
+sequencer_goes c s (Packet bytes) names = stamping_goes c s (reading bytes) names
+sequencer_goes c s (Ticked tick) names = tt
+sequencer_goes c s (Submit op) names = tt
 
 -- ---- clients
 
 module _ (c : Configuration) (s : ClientState) (own : s.number < c.clients) where
+  request_goes : (r : Request) → IsAddressed c Sequencers (spelling (datagrams.Request r))
+  request_goes r = record { goes = tt; names = other_kind c kinds.REQUEST (request_bytes r) refl }
+
   submit_goes : (b : Bool) (op : List ℕ) → OutsGo c (client.submit_if b s (client.request_of s op)).1
-  submit_goes true op = (own, (tt, tt))
+  submit_goes true op = (own, (request_goes (client.request_of s op), tt))
   submit_goes false op = (tt, tt)
 
   first_goes : (o : Option (List ℕ)) → OutsGo c (client.submit_first o s).1
   first_goes None = tt
-  first_goes (Some op) = (own, (tt, tt))
+  first_goes (Some op) = (own, (request_goes (client.request_of s op), tt))
 
   waiting_goes : (b : Bool) → OutsGo c (client.submit_waiting_if b s).1
   waiting_goes true = first_goes (client.first_of s.waiting)
@@ -196,7 +258,7 @@ module _ (c : Configuration) (s : ClientState) (own : s.number < c.clients) wher
 
   retry_goes : (o : Option Request) → OutsGo c (client.retry_of o)
   retry_goes None = tt
-  retry_goes (Some r) = (tt, tt)
+  retry_goes (Some r) = (request_goes r, tt)
 
   tick_goes : (t : Tick) → OutsGo c (client.on_tick s t).1
   tick_goes ticks.Next = waiting_goes (client.can_submit s)
@@ -221,10 +283,10 @@ module _ (c : Configuration) (s : ClientState) (own : s.number < c.clients) wher
   answer_goes (Ok (datagrams.Reply p)) = reply_goes (client.is_expected s p) p
   answer_goes (Ok (datagrams.Request r)) = tt
   answer_goes (Ok (datagrams.Stamped p)) = tt
-  answer_goes (Ok (datagrams.Install j session)) = tt
-  answer_goes (Ok (datagrams.Installed j session)) = tt
-  answer_goes (Ok (datagrams.Ping j round)) = tt
-  answer_goes (Ok (datagrams.Pong j round)) = tt
+  answer_goes (Ok (datagrams.Install k j session)) = tt
+  answer_goes (Ok (datagrams.Installed k j session)) = tt
+  answer_goes (Ok (datagrams.Ping k j round)) = tt
+  answer_goes (Ok (datagrams.Pong k j round)) = tt
   answer_goes (Ok (datagrams.Fragment f)) = tt
   answer_goes (Err e) = tt
 
@@ -234,88 +296,125 @@ module _ (c : Configuration) (s : ClientState) (own : s.number < c.clients) wher
   client_goes (Ticked tick) = tick_goes tick
   client_goes (Submit op) = submit_goes (client.can_submit s) op
 
--- ---- the controller
+-- ---- controllers
 
--- the configuration stays, and what is sent goes to the sequencer that is current then
-record Directs (s : ControllerState) (r : ControllerState × List Out) : Type 0 where
-  config : r.0.config ≡ s.config
-  sends : (c : Configuration) → r.0.current < c.sequencers → OutsGo c r.1
+-- one of the configuration, whose current sequencer is one of it too
+pub record IsPlaced (c : Configuration) (s : ControllerState) : Type 0 where
+  pub config : s.config ≡ c
+  pub number : s.number < c.controllers
+  pub current : s.current < c.sequencers
 
-quiet_directs : (s t : ControllerState) → t.config ≡ s.config → Directs s (t, [])
-quiet_directs s t e = record { config = e; sends = λ c h. tt }
+-- it stays one, and sends to the sequencer that is current then, under its own number
+pub record Directs (c : Configuration) (r : ControllerState × List Out) : Type 0 where
+  pub stays : IsPlaced c r.0
+  pub sends : OutsGo c r.1
 
-move_directs : (b : Bool) (s : ControllerState) (j : ℕ) → Directs s (controller.move_if b s j)
-move_directs true s j = record { config = refl; sends = λ c h. (h, tt) }
-move_directs false s j = quiet_directs s s refl
+module _ (c : Configuration) where
+  quiet_directs : (s : ControllerState) → IsPlaced c s → Directs c (s, [])
+  quiet_directs s is = record { stays = is; sends = tt }
 
-move_to_directs : (s : ControllerState) (j : ℕ) → Directs s (controller.move_to s j)
-move_to_directs s j = move_directs (nat_lt s.session controller.last_number) s j
+  install_directs : (s : ControllerState) → IsPlaced c s → Directs c (s, controller.install_of s)
+  install_directs s is = record {
+    stays = is;
+    sends = (
+      record { goes = is.current; names = own_name c kinds.INSTALL s.number (s.current ∷ be_bytes w64 s.session) is.number },
+      tt,
+    );
+  }
 
-order_directs : (b : Bool) (s : ControllerState) (j : ℕ) → Directs s (controller.order_if b s j)
-order_directs true s j = move_to_directs s j
-order_directs false s j = quiet_directs s s refl
+  move_directs : (o : Option ℕ) (s : ControllerState) (j : ℕ) → IsPlaced c s → j < c.sequencers → Directs c (controller.move_by o s j)
+  move_directs (Some session) s j is there =
+      install_directs (controller.moved s j session) (record { config = is.config; number = is.number; current = there })
+  move_directs None s j is there = quiet_directs s is
 
-ask_if_directs : (b : Bool) (s : ControllerState) → Directs s (controller.ask_if b s)
-ask_if_directs true s = record { config = refl; sends = λ c h. (h, tt) }
-ask_if_directs false s = quiet_directs s s refl
+  move_to_directs : (s : ControllerState) (j : ℕ) → IsPlaced c s → j < c.sequencers → Directs c (controller.move_to s j)
+  move_to_directs s j is there = move_directs (controller.next_session s.number s.session s.seen) s j is there
 
-ask_directs : (s : ControllerState) → Directs s (controller.ask s)
-ask_directs s = ask_if_directs (nat_lt s.round controller.last_number) s
+  -- how many sequencers it knows
+  sequencers_are : (s : ControllerState) → IsPlaced c s → s.config.sequencers ≡ c.sequencers
+  sequencers_are s is = ap (λ (q : Configuration). q.sequencers) is.config
 
-miss_directs : (b : Bool) (s : ControllerState) → Directs s (controller.miss_if b s)
-miss_directs true s = move_to_directs s (controller.following s)
-miss_directs false s =
-    let t = ask_directs (record s { missed = s.missed + 1 }) in record { config = t.config; sends = t.sends }
+  order_directs : (b : Bool) (s : ControllerState) (j : ℕ) → nat_lt j s.config.sequencers ≡ b → IsPlaced c s
+      → Directs c (controller.order_if b s j)
+  order_directs true s j test is =
+      move_to_directs s j is (subst (λ (n : ℕ). j < n) (sequencers_are s is) (ltb-true j s.config.sequencers test))
+  order_directs false s j test is = quiet_directs s is
 
-probe_directs : (b : Bool) (s : ControllerState) → Directs s (controller.probe_if b s)
-probe_directs true s = ask_directs s
-probe_directs false s = miss_directs (nat_le MISSED_END (s.missed + 1)) s
+  ask_if_directs : (b : Bool) (s : ControllerState) → IsPlaced c s → Directs c (controller.ask_if b s)
+  ask_if_directs true s is = record {
+    stays = record { config = is.config; number = is.number; current = is.current };
+    sends = (
+      record { goes = is.current; names = own_name c kinds.PING s.number (s.current ∷ be_bytes w32 (s.round + 1)) is.number },
+      tt,
+    );
+  }
+  ask_if_directs false s is = quiet_directs s is
 
-resend_directs : (b : Bool) (s : ControllerState) → Directs s (controller.resend_if b s)
-resend_directs true s = quiet_directs s s refl
-resend_directs false s = record { config = refl; sends = λ c h. (h, tt) }
+  ask_directs : (s : ControllerState) → IsPlaced c s → Directs c (controller.ask s)
+  ask_directs s is = ask_if_directs (nat_lt s.round controller.last_number) s is
 
-heard_directs : (b : Bool) (s : ControllerState) → Directs s (controller.heard_if b s, [])
-heard_directs true s = quiet_directs s _ refl
-heard_directs false s = quiet_directs s s refl
+  -- the next one in the circle is there
+  following_there : (s : ControllerState) → IsPlaced c s → controller.following s < c.sequencers
+  following_there s is =
+      let same = sequencers_are s is in
+      subst (λ (n : ℕ). controller.following s < n) same
+      (mod_below (s.current + 1) s.config.sequencers (let current = is.current in omega (arith, same, current)))
 
-confirmed_directs : (b : Bool) (s : ControllerState) → Directs s (controller.confirmed_if b s, [])
-confirmed_directs true s = quiet_directs s _ refl
-confirmed_directs false s = quiet_directs s s refl
+  miss_directs : (b : Bool) (s : ControllerState) → IsPlaced c s → Directs c (controller.miss_if b s)
+  miss_directs true s is = move_to_directs s (controller.following s) is (following_there s is)
+  miss_directs false s is =
+      ask_directs (record s { missed = s.missed + 1 }) (record { config = is.config; number = is.number; current = is.current })
 
-on_tick_directs : (s : ControllerState) (t : Tick) → Directs s (controller.on_tick s t)
-on_tick_directs s ticks.Probe = probe_directs s.heard s
-on_tick_directs s ticks.Resend = resend_directs s.confirmed s
-on_tick_directs s (ticks.Install j) = order_directs (nat_lt j s.config.sequencers) s j
-on_tick_directs s ticks.Suspect = quiet_directs s s refl
-on_tick_directs s ticks.Watch = quiet_directs s s refl
-on_tick_directs s ticks.Sync = quiet_directs s s refl
-on_tick_directs s ticks.Retry = quiet_directs s s refl
-on_tick_directs s ticks.Next = quiet_directs s s refl
+  probe_directs : (b : Bool) (s : ControllerState) → IsPlaced c s → Directs c (controller.probe_if b s)
+  probe_directs true s is = ask_directs s is
+  probe_directs false s is = miss_directs (nat_le MISSED_END (s.missed + 1)) s is
 
-on_datagram_directs : (s : ControllerState) (r : Result Datagram Bad) → Directs s (controller.on_datagram s r)
-on_datagram_directs s (Ok (datagrams.Pong j round)) = heard_directs ((j == s.current) && (round == s.round)) s
-on_datagram_directs s (Ok (datagrams.Installed j session)) = confirmed_directs ((j == s.current) && (session == s.session)) s
-on_datagram_directs s (Ok (datagrams.Request r)) = quiet_directs s s refl
-on_datagram_directs s (Ok (datagrams.Stamped p)) = quiet_directs s s refl
-on_datagram_directs s (Ok (datagrams.Reply p)) = quiet_directs s s refl
-on_datagram_directs s (Ok (datagrams.Install j session)) = quiet_directs s s refl
-on_datagram_directs s (Ok (datagrams.Ping j round)) = quiet_directs s s refl
-on_datagram_directs s (Ok (datagrams.Fragment f)) = quiet_directs s s refl
-on_datagram_directs s (Err e) = quiet_directs s s refl
+  resend_directs : (b : Bool) (s : ControllerState) → IsPlaced c s → Directs c (controller.resend_if b s)
+  resend_directs true s is = quiet_directs s is
+  resend_directs false s is = install_directs s is
 
-controller_directs : (s : ControllerState) (i : Given) → Directs s (controller.next s i)
-unfolding controller.next
-controller_directs s (Packet bytes) = on_datagram_directs s (reading bytes)
-controller_directs s (Ticked tick) = on_tick_directs s tick
-controller_directs s (Submit op) = quiet_directs s s refl
+  heard_stays : (b : Bool) (s : ControllerState) → IsPlaced c s → IsPlaced c (controller.heard_if b s)
+  heard_stays true s is = record { config = is.config; number = is.number; current = is.current }
+  heard_stays false s is = is
 
-pub controller_keeps_config : (s : ControllerState) (i : Given) → (controller.next s i).0.config ≡ s.config
-controller_keeps_config s i = (controller_directs s i).config
+  confirmed_stays : (b : Bool) (s : ControllerState) → IsPlaced c s → IsPlaced c (controller.confirmed_if b s)
+  confirmed_stays true s is = record { config = is.config; number = is.number; current = is.current }
+  confirmed_stays false s is = is
 
--- the current sequencer is one of its configuration
-pub controller_goes : (s : ControllerState) (i : Given) → controller.IsWithin (controller.next s i).0
-    → OutsGo s.config (controller.next s i).1
-controller_goes s i within =
-    let t = controller_directs s i in
-    t.sends s.config (subst (λ (c : Configuration). (controller.next s i).0.current < c.sequencers) t.config within.current)
+  seen_stays : (b : Bool) (s : ControllerState) (session : ℕ) → IsPlaced c s → IsPlaced c (controller.seen_if b s session)
+  seen_stays true s session is = record { config = is.config; number = is.number; current = is.current }
+  seen_stays false s session is = is
+
+  installed_stays : (b : Bool) (s : ControllerState) (j session : ℕ) → IsPlaced c s → IsPlaced c (controller.installed_if b s j session)
+  installed_stays true s j session is =
+      confirmed_stays ((j == s.current) && (session == s.session)) (controller.seen_if (nat_lt s.session session) s session)
+      (seen_stays (nat_lt s.session session) s session is)
+  installed_stays false s j session is = is
+
+  on_tick_directs : (s : ControllerState) (t : Tick) → IsPlaced c s → Directs c (controller.on_tick s t)
+  on_tick_directs s ticks.Probe is = probe_directs s.heard s is
+  on_tick_directs s ticks.Resend is = resend_directs s.confirmed s is
+  on_tick_directs s (ticks.Install j) is = order_directs (nat_lt j s.config.sequencers) s j refl is
+  on_tick_directs s ticks.Suspect is = quiet_directs s is
+  on_tick_directs s ticks.Watch is = quiet_directs s is
+  on_tick_directs s ticks.Sync is = quiet_directs s is
+  on_tick_directs s ticks.Retry is = quiet_directs s is
+  on_tick_directs s ticks.Next is = quiet_directs s is
+
+  on_datagram_directs : (s : ControllerState) (r : Result Datagram Bad) → IsPlaced c s → Directs c (controller.on_datagram s r)
+  on_datagram_directs s (Ok (datagrams.Pong k j round)) is =
+      quiet_directs _ (heard_stays ((k == s.number) && ((j == s.current) && (round == s.round))) s is)
+  on_datagram_directs s (Ok (datagrams.Installed k j session)) is = quiet_directs _ (installed_stays (k == s.number) s j session is)
+  on_datagram_directs s (Ok (datagrams.Request r)) is = quiet_directs s is
+  on_datagram_directs s (Ok (datagrams.Stamped p)) is = quiet_directs s is
+  on_datagram_directs s (Ok (datagrams.Reply p)) is = quiet_directs s is
+  on_datagram_directs s (Ok (datagrams.Install k j session)) is = quiet_directs s is
+  on_datagram_directs s (Ok (datagrams.Ping k j round)) is = quiet_directs s is
+  on_datagram_directs s (Ok (datagrams.Fragment f)) is = quiet_directs s is
+  on_datagram_directs s (Err e) is = quiet_directs s is
+
+  pub controller_directs : (s : ControllerState) (i : Given) → IsPlaced c s → Directs c (controller.next s i)
+  unfolding controller.next
+  controller_directs s (Packet bytes) is = on_datagram_directs s (reading bytes) is
+  controller_directs s (Ticked tick) is = on_tick_directs s tick is
+  controller_directs s (Submit op) is = quiet_directs s is

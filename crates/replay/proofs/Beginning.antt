@@ -2,7 +2,7 @@
 use Rattle.std.proofs.Common.{◌≤◌, ◌<◌, arith}
 use Rattle.std.proofs.Common.{◌≡◌, ℕ, ◌+◌, List, [], ◌∷◌, ◌++◌, Bool, true, false, Option, Some, None, Result, Ok, Err, refl, sym, ap, ◌∙◌}
 use Rattle.std.proofs.KnownBytes.{Appends-nil}
-use Rattle.nop_types.specs.Configuration.{Configuration}
+use Rattle.nop_types.specs.declared.header.Header.{Header}
 use Rattle.nop_types.specs.Meaning.{Meaning}
 use Rattle.schedule_text.specs.declared.event.Event.{Event}
 use Rattle.schedule_text.specs.declared.next_error.NextError.{NextError}
@@ -17,10 +17,10 @@ use Rattle.world.specs.WorldSteps as world
 use Rattle.replay.specs.declared.error.ReplayError.{ReplayError}
 use Rattle.replay.specs.Output.{Output, then_text, begun, output_of_lines, output}
 use Rattle.replay.specs.Outcome.{EndsWith}
-use Rattle.replay.specs.Progress.{Progress, GoingOf, refused, after_turn}
+use Rattle.replay.specs.Progress.{Progress, GoingOf, refused}
 use Rattle.replay.specs.Steps.{Stops, bad_line}
 use Rattle.replay.proofs.Texts.{output_some}
-use Rattle.replay.proofs.Runs.{begun_is, rest_is, turn_config}
+use Rattle.replay.proofs.Runs.{begun_with, begun_is, rest_is, turn_header}
 use Rattle.replay.proofs.Progressing.{refuses_with, interrupts_with, fails_with, unknown_ends, none_follow, turn_keeps}
 
 pub counts_from_one : (n : ℕ) → 0 < n → 1 ≤ n
@@ -36,16 +36,16 @@ module _ {S : Type 0} (m : Meaning S) where
   output_lines ended bytes = refl
 
   -- line 1 was taken
-  pub opened : (bytes left before : Option (List ℕ)) (r : Reading) (c : Configuration) → TakesOf opening r bytes left (Err nexts.NoMemory)
-      → r.config ≡ Some c
-      → GoingOf m bytes left before before (transcript_line c) r c (world.opening c)
-  opened None left before r c took is = tt
-  opened (Some bytes) None before r c took is = absurd took
-  opened (Some bytes) (Some left) before r c took is =
+  pub opened : (bytes left before : Option (List ℕ)) (r : Reading) (h : Header) → TakesOf opening r bytes left (Err nexts.NoMemory)
+      → r.header ≡ Some h
+      → GoingOf m bytes left before before (transcript_line h.form h.config) r h (world.opening h.config)
+  opened None left before r h took is = tt
+  opened (Some bytes) None before r h took is = absurd took
+  opened (Some bytes) (Some left) before r h took is =
       let taken = took.0 in
       let k = took.2 in
       record {
-        config = is;
+        header = is;
         progress = record {
           taken = taken;
           split = took.1;
@@ -55,13 +55,13 @@ module _ {S : Type 0} (m : Meaning S) where
           goes = λ ended more may.
               let lines = lines_of ended 0 (taken ++ more) in
               let same : turn None 0 lines ≡ turn_of r ended more = k.turn ended more may in
-              let config : (turn None 0 lines).config ≡ Some c = ap (λ (t : Turn). t.config) same ∙ turn_keeps m r c ended more is in
+              let told : (turn None 0 lines).header ≡ Some h = ap (λ (t : Turn). t.header) same ∙ turn_keeps m r h ended more is in
               output_lines ended (taken ++ more)
-              ∙ begun_is m ended c lines config
-              ∙ ap (λ (t : Turn). then_text (transcript_line c) (after_turn m ended c (world.opening c) t)) same
-              ∙ ap (λ (o : Option Configuration). then_text (transcript_line c)
-              (after_turn m ended c (world.opening c) (turn o r.line (lines_before r ended more)))) is
-              ∙ ap (then_text (transcript_line c)) (sym (rest_is m ended c (world.opening c) r.line (lines_before r ended more)));
+              ∙ begun_is m ended h lines told
+              ∙ ap (begun_with m ended h) same
+              ∙ ap (λ (o : Option Header). begun_with m ended h (turn o r.line (lines_before r ended more))) is
+              ∙ ap (then_text (transcript_line h.form h.config))
+              (sym (rest_is m ended h (world.opening h.config) r.line (lines_before r ended more)));
         };
       }
 
@@ -72,26 +72,26 @@ module _ {S : Type 0} (m : Meaning S) where
   refused_turn line (Refuses rule) = refused (bad_line (line + 1) rule)
   refused_turn line Ends = record { text = []; bad = None }
 
-  not_begun_line : (line : List ℕ) (lines : List (List ℕ)) (q : Result Configuration Rule) → (header_turn 0 line lines q).config ≡ None
+  not_begun_line : (line : List ℕ) (lines : List (List ℕ)) (q : Result Header Rule) → (header_turn 0 line lines q).header ≡ None
       → begun m true lines q ≡ refused_turn (header_turn 0 line lines q).line (header_turn 0 line lines q).next
   not_begun_line line lines (Err rule) is = refl
-  not_begun_line line lines (Ok c) is = absurd (cc (is, turn_config c 1 lines))
+  not_begun_line line lines (Ok h) is = absurd (cc (is, turn_header h 1 lines))
 
-  pub not_begun : (lines : List (List ℕ)) → (turn None 0 lines).config ≡ None
+  pub not_begun : (lines : List (List ℕ)) → (turn None 0 lines).header ≡ None
       → output_of_lines m true lines ≡ refused_turn (turn None 0 lines).line (turn None 0 lines).next
   not_begun [] is = refl
   not_begun (line ∷ lines) is = not_begun_line line lines (header_of line) is
 
-  undecided_line : (line : List ℕ) (lines : List (List ℕ)) (q : Result Configuration Rule) → (header_turn 0 line lines q).config ≡ None
+  undecided_line : (line : List ℕ) (lines : List (List ℕ)) (q : Result Header Rule) → (header_turn 0 line lines q).header ≡ None
       → (header_turn 0 line lines q).rest ≡ []
       → begun m false lines q ≡ record { text = []; bad = None }
-  undecided_line line lines (Err rule) config none = absurd cc
-  undecided_line line lines (Ok c) config none = absurd (cc (config, turn_config c 1 lines))
+  undecided_line line lines (Err rule) is none = absurd cc
+  undecided_line line lines (Ok h) is none = absurd (cc (is, turn_header h 1 lines))
 
-  pub undecided : (lines : List (List ℕ)) → (turn None 0 lines).config ≡ None → (turn None 0 lines).rest ≡ []
+  pub undecided : (lines : List (List ℕ)) → (turn None 0 lines).header ≡ None → (turn None 0 lines).rest ≡ []
       → output_of_lines m false lines ≡ record { text = []; bad = None }
-  undecided [] config none = refl
-  undecided (line ∷ lines) config none = undecided_line line lines (header_of line) config none
+  undecided [] is none = refl
+  undecided (line ∷ lines) is none = undecided_line line lines (header_of line) is none
 
   -- what was taken says only what the output is
   pub unopened_progress : (bytes left taken : List ℕ) (before : Option (List ℕ)) (r : Reading) (answer : Result (Option Event) NextError)
@@ -101,7 +101,7 @@ module _ {S : Type 0} (m : Meaning S) where
       record { taken = taken; split = split; end = k.end refl; written = []; wrote = Appends-nil before; goes = λ ended more may. refl }
 
   pub unopened : (bytes left before after : Option (List ℕ)) (r : Reading) (e : NextError) (x : ReplayError)
-      → TakesOf opening r bytes left (Err e) → r.config ≡ None → LeavesNone r (Err e)
+      → TakesOf opening r bytes left (Err e) → r.header ≡ None → LeavesNone r (Err e)
       → Stops before after [] e x → EndsWith m bytes left before after (Err x)
   unopened None left before after r e x took is none f = unknown_ends m left before after (Err x)
   unopened (Some bytes) None before after r e x took is none f = absurd took
@@ -113,9 +113,9 @@ module _ {S : Type 0} (m : Meaning S) where
       (λ more nothing.
       let lines = lines_of true 0 (taken ++ more) in
       let told = k.turn true more (record { nothing = nothing; end = λ e. refl }) in
-      let config : (turn None 0 lines).config ≡ None = ap (λ (t : Turn). t.config) told.0 ∙ is in
+      let unread : (turn None 0 lines).header ≡ None = ap (λ (t : Turn). t.header) told.0 ∙ is in
       output_lines true (taken ++ more)
-      ∙ not_begun lines config
+      ∙ not_begun lines unread
       ∙ ap (λ (t : Turn). refused_turn t.line t.next) told.0
       ∙ ap (λ (l : ℕ). refused (bad_line l rule)) (sym told.1))
       p.end f
@@ -126,9 +126,9 @@ module _ {S : Type 0} (m : Meaning S) where
       let lines = lines_of false 0 (taken ++ []) in
       let told : turn None 0 lines ≡ turn None r.line [] =
       k.turn false [] (none_follow m r none.0)
-      ∙ ap (λ (o : Option Configuration). turn o r.line (lines_before r false [])) is ∙ ap (turn None r.line) none.1 in
+      ∙ ap (λ (o : Option Header). turn o r.line (lines_before r false [])) is ∙ ap (turn None r.line) none.1 in
       interrupts_with m bytes left before before after [] r (λ ended more. output m ended (taken ++ more)) x p none.0
-      (output_lines false (taken ++ []) ∙ undecided lines (ap (λ (t : Turn). t.config) told) (ap (λ (t : Turn). t.rest) told))
+      (output_lines false (taken ++ []) ∙ undecided lines (ap (λ (t : Turn). t.header) told) (ap (λ (t : Turn). t.rest) told))
       f
   unopened (Some bytes) (Some left) before after r nexts.NoMemory x took is none f =
       let taken = took.0 in

@@ -3,7 +3,7 @@ use Rattle.std.proofs.Common.{◌≡◌, ◌≢◌, ℕ, List, [], ◌∷◌, �
 use Rattle.std.specs.Prelude.{Err}
 use Rattle.std.proofs.KnownBytes.{Appends-nil, Appends-trans}
 use Rattle.std.proofs.lemmas.List.{append-nil}
-use Rattle.nop_types.specs.Configuration.{Configuration}
+use Rattle.nop_types.specs.declared.header.Header.{Header}
 use Rattle.nop_types.specs.Meaning.{Meaning}
 use Rattle.schedule_text.proofs.Turns.{none_of_nothing}
 use Rattle.schedule_text.specs.Reading.{Reading, lines_before}
@@ -41,17 +41,17 @@ module _ {S : Type 0} (m : Meaning S) where
   may_begin start bytes before r is = λ undecided. rw is (none_taken bytes before)
 
   -- what was gathered is written or stays
-  gathered_on : (bytes left before now after : Option (List ℕ)) (pending new_pending : List ℕ) (r : Reading) (c : Configuration)
-      (w : WorldState) → GoingOf m bytes left before now pending r c w → Gathered now after pending new_pending []
-      → GoingOf m bytes left before after new_pending r c w
-  gathered_on None left before now after pending new_pending r c w going g = tt
-  gathered_on (Some bytes) None before now after pending new_pending r c w going g = absurd going
-  gathered_on (Some bytes) (Some left) before now after pending new_pending r c w going g =
+  gathered_on : (bytes left before now after : Option (List ℕ)) (pending new_pending : List ℕ) (r : Reading) (h : Header)
+      (w : WorldState) → GoingOf m bytes left before now pending r h w → Gathered now after pending new_pending []
+      → GoingOf m bytes left before after new_pending r h w
+  gathered_on None left before now after pending new_pending r h w going g = tt
+  gathered_on (Some bytes) None before now after pending new_pending r h w going g = absurd going
+  gathered_on (Some bytes) (Some left) before now after pending new_pending r h w going g =
       let p = going.progress in
       let same : p.written ++ pending ≡ (p.written ++ g.written) ++ new_pending =
       ap (λ (t : List ℕ). p.written ++ t) (sym (append-nil pending) ∙ sym g.all) ∙ sym (append_assoc p.written g.written new_pending) in
       record {
-        config = going.config;
+        header = going.header;
         progress = record {
           taken = p.taken;
           split = p.split;
@@ -60,28 +60,29 @@ module _ {S : Type 0} (m : Meaning S) where
           wrote = Appends-trans before now after p.written g.written p.wrote g.wrote;
           goes = λ ended more may.
               p.goes ended more may
-              ∙ ap (λ (t : List ℕ). then_text t (rest m ended c w r.line (lines_before r ended more))) same;
+              ∙ ap (λ (t : List ℕ). then_text t (rest m ended h.config w r.line (lines_before r ended more))) same;
         };
       }
 
   -- or some of it was not written
-  some_unwritten : (bytes left before now after : Option (List ℕ)) (pending : List ℕ) (r : Reading) (c : Configuration)
-      (w : WorldState) (e : ReplayError) → GoingOf m bytes left before now pending r c w → Fails now after (pending ++ []) e
+  some_unwritten : (bytes left before now after : Option (List ℕ)) (pending : List ℕ) (r : Reading) (h : Header)
+      (w : WorldState) (e : ReplayError) → GoingOf m bytes left before now pending r h w → Fails now after (pending ++ []) e
       → EndsWith m bytes left before after (Err e)
-  some_unwritten None left before now after pending r c w e going f = unknown_ends m left before after (Err e)
-  some_unwritten (Some bytes) None before now after pending r c w e going f = absurd going
-  some_unwritten (Some bytes) (Some left) before now after pending r c w e going f =
-      fails_with m bytes left before now after pending r _ [] _ e going.progress refl (rest_some m c w r.line (lines_before r true left)) f
+  some_unwritten None left before now after pending r h w e going f = unknown_ends m left before after (Err e)
+  some_unwritten (Some bytes) None before now after pending r h w e going f = absurd going
+  some_unwritten (Some bytes) (Some left) before now after pending r h w e going f =
+      fails_with m bytes left before now after pending r _ [] _ e going.progress refl
+      (rest_some m h.config w r.line (lines_before r true left)) f
 
   -- where nothing is gathered and no line is left, all is written that the bytes taken decide
-  all_written : (bytes left before now : Option (List ℕ)) (pending : List ℕ) (r : Reading) (c : Configuration) (w : WorldState)
-      → GoingOf m bytes left before now pending r c w → (NeedsNoRead r → ⊥) → pending ≡ [] → IsInterrupted m bytes left before now
-  all_written None left before now pending r c w going undecided none = tt
-  all_written (Some bytes) None before now pending r c w going undecided none = absurd going
-  all_written (Some bytes) (Some left) before now pending r c w going undecided none =
+  all_written : (bytes left before now : Option (List ℕ)) (pending : List ℕ) (r : Reading) (h : Header) (w : WorldState)
+      → GoingOf m bytes left before now pending r h w → (NeedsNoRead r → ⊥) → pending ≡ [] → IsInterrupted m bytes left before now
+  all_written None left before now pending r h w going undecided none = tt
+  all_written (Some bytes) None before now pending r h w going undecided none = absurd going
+  all_written (Some bytes) (Some left) before now pending r h w going undecided none =
       interrupts_with m bytes left before now now pending r _ errors.ReadFault going.progress
       (not_true r.ended (λ ended. undecided (inl ended)))
-      (ap (rest m false c w r.line) (not_some (lines_before r false []) (λ some. undecided (inr some))))
+      (ap (rest m false h.config w r.line) (not_some (lines_before r false []) (λ some. undecided (inr some))))
       (rw none (Appends-nil now))
 
   -- ---- the same since a start
@@ -89,18 +90,18 @@ module _ {S : Type 0} (m : Meaning S) where
   pub goes_on : (start : Start) (left now after : Option (List ℕ)) (pending new_pending : List ℕ) (r : Reading) (w : WorldState)
       → GoesOn m start left now pending r w → Gathered now after pending new_pending [] → GoesOn m start left after new_pending r w
   goes_on start left now after pending new_pending r w k g = record {
-    config = k.config;
-    going = gathered_on start.bytes left start.held now after pending new_pending r k.config w k.going g;
+    header = k.header;
+    going = gathered_on start.bytes left start.held now after pending new_pending r k.header w k.going g;
   }
 
   pub may_go_on : (start : Start) (left now : Option (List ℕ)) (pending : List ℕ) (r : Reading) (w : WorldState)
       → GoesOn m start left now pending r w → (¬ NeedsNoRead r → pending ≡ []) → MayRead m start r left now
   unfolding MayRead
   may_go_on start left now pending r w k none =
-      λ undecided. all_written start.bytes left start.held now pending r k.config w k.going undecided (none undecided)
+      λ undecided. all_written start.bytes left start.held now pending r k.header w k.going undecided (none undecided)
 
   pub stays_unwritten : (start : Start) (left now after : Option (List ℕ)) (pending : List ℕ) (r : Reading) (w : WorldState)
       (e : ReplayError) → GoesOn m start left now pending r w → Fails now after (pending ++ []) e
       → EndsWith m start.bytes left start.held after (Err e)
   stays_unwritten start left now after pending r w e k f =
-      some_unwritten start.bytes left start.held now after pending r k.config w e k.going f
+      some_unwritten start.bytes left start.held now after pending r k.header w e k.going f

@@ -21,7 +21,7 @@ use Rattle.network.specs.Network.{sends_by, Did}
 use Rattle.world.specs.Seats.{Seated, Stimulus}
 use Rattle.world.specs.WorldSteps.{WorldState, Happened, Refusal, actor_of, stimulus_of, then_at, step_at, step_of, step, go_on, run_from}
 use Rattle.world.specs.WorldSteps.{at_replica, at_sequencer, at_client, at_controller, opening}
-use Rattle.std.specs.Prelude.{Some, slice_get}
+use Rattle.std.specs.Prelude.{slice_get}
 use Rattle.replay.specs.Drawing.{generator_of, event_drawn}
 use Rattle.replay.specs.Generated.{drawn_config, first_event, world_after, drawn_from, drawn_events, RunsFrom}
 use Rattle.replay.specs.Generating.{IsTaken, Led, MayDraw, Draws, DrawnTo}
@@ -93,8 +93,8 @@ module _ {S : Type 0} (m : Meaning S) where
       carried_grows w (actors.Sequencer j) (at_sequencer w j) (λ p. refl) (step_at sequencer.next (slice_get w.sequencers j) r) h is
   actor_grows w (actors.Client k) r h is =
       carried_grows w (actors.Client k) (at_client w k) (λ p. refl) (step_at client.next (slice_get w.clients k) r) h is
-  actor_grows w actors.Controller r h is =
-      carried_grows w actors.Controller (at_controller w) (λ p. refl) (step_at controller.next (Some w.controller) r) h is
+  actor_grows w (actors.Controller k) r h is =
+      carried_grows w (actors.Controller k) (at_controller w k) (λ p. refl) (step_at controller.next (slice_get w.controllers k) r) h is
 
   step_grows : (w : WorldState) (e : Event) (h : Happened) → step m w e ≡ Ok h → length w.sent ≤ length h.world.sent
   unfolding step

@@ -4,6 +4,7 @@ use Rattle.std.proofs.Common.{append_assoc}
 use Rattle.std.proofs.KnownBytes.{Appends-trans}
 use Rattle.std.proofs.lemmas.List.{append-nil}
 use Rattle.nop_types.specs.Configuration.{Configuration}
+use Rattle.nop_types.specs.declared.header.Header.{Header}
 use Rattle.nop_types.specs.Meaning.{Meaning}
 use Rattle.schedule_text.specs.declared.event.Event.{Event}
 use Rattle.schedule_text.specs.declared.next_error.NextError.{NextError}
@@ -20,7 +21,7 @@ use Rattle.replay.specs.Progress.{Progress, Going, GoingOf, refused, after_step,
 use Rattle.replay.specs.Steps.{Fails, Misses, Writes, Refuses, Interrupts, Stops, Advances, RefusesStep, bad_line}
 use Rattle.replay.proofs.Fronts.{part_nil, part_behind, part_longer, front_then}
 use Rattle.replay.proofs.Texts.{rest_some, after_turn_some, output_some}
-use Rattle.replay.proofs.Runs.{rest_is, turn_config}
+use Rattle.replay.proofs.Runs.{rest_is, turn_header}
 
 module _ {S : Type 0} (m : Meaning S) where
   -- what is written for the whole input
@@ -167,11 +168,11 @@ module _ {S : Type 0} (m : Meaning S) where
         end = λ e. may.end ((k.after_end e).1);
       }
 
-  pub answered : (bytes left rest_left : List ℕ) (before now : Option (List ℕ)) (pending : List ℕ) (r s : Reading) (c : Configuration)
+  pub answered : (bytes left rest_left : List ℕ) (before now : Option (List ℕ)) (pending : List ℕ) (r s : Reading) (h : Header)
       (w : WorldState) (answer : Result (Option Event) NextError)
-      → Going m bytes left before now pending r c w → (taken : List ℕ) → left ≡ taken ++ rest_left → Takes r s taken rest_left answer
-      → Progress m bytes rest_left before now pending s (λ ended more. after_answer m ended more c w s answer)
-  answered bytes left rest_left before now pending r s c w answer going taken split k =
+      → Going m bytes left before now pending r h w → (taken : List ℕ) → left ≡ taken ++ rest_left → Takes r s taken rest_left answer
+      → Progress m bytes rest_left before now pending s (λ ended more. after_answer m ended more h.config w s answer)
+  answered bytes left rest_left before now pending r s h w answer going taken split k =
       let p = going.progress in
       record {
         taken = p.taken ++ taken;
@@ -184,9 +185,9 @@ module _ {S : Type 0} (m : Meaning S) where
             ap (output m ended) (append_assoc p.taken taken more)
             ∙ p.goes ended (taken ++ more) (may_follow r s rest_left taken more ended answer k may)
             ∙ ap (then_text (p.written ++ pending))
-            (rest_is m ended c w r.line lines
-            ∙ ap (λ (o : Option Configuration). after_turn m ended c w (turn o r.line lines)) (sym going.config)
-            ∙ turned c w ended more s answer (turn r.config r.line lines) (k.turn ended more may));
+            (rest_is m ended h w r.line lines
+            ∙ ap (λ (o : Option Header). after_turn m ended h.config w (turn o r.line lines)) (sym going.header)
+            ∙ turned h.config w ended more s answer (turn r.header r.line lines) (k.turn ended more may));
       }
 
   pub all_ended : (r : Reading) → MayFollow r true []
@@ -195,31 +196,31 @@ module _ {S : Type 0} (m : Meaning S) where
   pub none_follow : (r : Reading) → r.ended ≡ false → MayFollow r false []
   none_follow r going = record { nothing = λ e. refl; end = λ e. absurd cc }
 
-  pub turn_keeps : (r : Reading) (c : Configuration) (ended : Bool) (more : List ℕ) → r.config ≡ Some c
-      → (turn_of r ended more).config ≡ Some c
-  turn_keeps r c ended more is =
-      ap (λ (o : Option Configuration). (turn o r.line (lines_before r ended more)).config) is
-      ∙ turn_config c r.line (lines_before r ended more)
+  pub turn_keeps : (r : Reading) (h : Header) (ended : Bool) (more : List ℕ) → r.header ≡ Some h
+      → (turn_of r ended more).header ≡ Some h
+  turn_keeps r h ended more is =
+      ap (λ (o : Option Header). (turn o r.line (lines_before r ended more)).header) is
+      ∙ turn_header h r.line (lines_before r ended more)
 
-  pub event_keeps : (r s : Reading) (c : Configuration) (taken left : List ℕ) (e : Event) → r.config ≡ Some c
-      → Takes r s taken left (Ok (Some e)) → s.config ≡ Some c
-  event_keeps r s c taken left e is k =
-      sym (ap (λ (t : Turn). t.config) (k.turn true [] (all_ended s))) ∙ turn_keeps r c true (taken ++ []) is
+  pub event_keeps : (r s : Reading) (h : Header) (taken left : List ℕ) (e : Event) → r.header ≡ Some h
+      → Takes r s taken left (Ok (Some e)) → s.header ≡ Some h
+  event_keeps r s h taken left e is k =
+      sym (ap (λ (t : Turn). t.header) (k.turn true [] (all_ended s))) ∙ turn_keeps r h true (taken ++ []) is
 
   -- nothing is decided
-  pub nothing_left : (c : Configuration) (w : WorldState) (o : Option Configuration) (line : ℕ) → (turn o line []).config ≡ Some c
-      → after_turn m false c w (turn o line []) ≡ record { text = []; bad = None }
-  nothing_left c w None line is = absurd cc
-  nothing_left c w (Some d) line is = refl
+  pub nothing_left : (h : Header) (w : WorldState) (o : Option Header) (line : ℕ) → (turn o line []).header ≡ Some h
+      → after_turn m false h.config w (turn o line []) ≡ record { text = []; bad = None }
+  nothing_left h w None line is = absurd cc
+  nothing_left h w (Some d) line is = refl
 
-  pub fault_follows : (r s : Reading) (c : Configuration) (w : WorldState) (taken left : List ℕ) → r.config ≡ Some c
+  pub fault_follows : (r s : Reading) (h : Header) (w : WorldState) (taken left : List ℕ) → r.header ≡ Some h
       → Takes r s taken left (Err nexts.ReadFault) → LeavesNone s (Err nexts.ReadFault)
-      → after_turn m false c w (turn_of s false []) ≡ record { text = []; bad = None }
-  fault_follows r s c w taken left is k none =
-      let kept : (turn_of s false []).config ≡ Some c =
-      sym (ap (λ (t : Turn). t.config) (k.turn false [] (none_follow s none.0))) ∙ turn_keeps r c false (taken ++ []) is in
-      ap (λ (ls : List (List ℕ)). after_turn m false c w (turn s.config s.line ls)) none.1
-      ∙ nothing_left c w s.config s.line (sym (ap (λ (ls : List (List ℕ)). (turn s.config s.line ls).config) none.1) ∙ kept)
+      → after_turn m false h.config w (turn_of s false []) ≡ record { text = []; bad = None }
+  fault_follows r s h w taken left is k none =
+      let kept : (turn_of s false []).header ≡ Some h =
+      sym (ap (λ (t : Turn). t.header) (k.turn false [] (none_follow s none.0))) ∙ turn_keeps r h false (taken ++ []) is in
+      ap (λ (ls : List (List ℕ)). after_turn m false h.config w (turn s.header s.line ls)) none.1
+      ∙ nothing_left h w s.header s.line (sym (ap (λ (ls : List (List ℕ)). (turn s.header s.line ls).header) none.1) ∙ kept)
 
   -- ---- the steps of a replay
 
@@ -240,46 +241,46 @@ module _ {S : Type 0} (m : Meaning S) where
   starved_ends bytes left before r e is none = rw (is, none) (starved_first bytes left before)
 
   pub stopped : (bytes left rest_left : Option (List ℕ)) (before now after : Option (List ℕ)) (pending : List ℕ) (r s : Reading)
-      (c : Configuration) (w : WorldState) (e : NextError) (x : ReplayError)
-      → GoingOf m bytes left before now pending r c w → TakesOf r s left rest_left (Err e) → LeavesNone s (Err e)
+      (h : Header) (w : WorldState) (e : NextError) (x : ReplayError)
+      → GoingOf m bytes left before now pending r h w → TakesOf r s left rest_left (Err e) → LeavesNone s (Err e)
       → Stops now after pending e x → EndsWith m bytes rest_left before after (Err x)
-  stopped None left rest_left before now after pending r s c w e x going took none f = unknown_ends rest_left before after (Err x)
-  stopped (Some bytes) None rest_left before now after pending r s c w e x going took none f = absurd going
-  stopped (Some bytes) (Some left) None before now after pending r s c w e x going took none f = absurd took
-  stopped (Some bytes) (Some left) (Some rest_left) before now after pending r s c w (nexts.BadLine line rule) x going took none f =
-      let p = answered bytes left rest_left before now pending r s c w (Err (nexts.BadLine line rule)) going took.0 took.1 took.2 in
+  stopped None left rest_left before now after pending r s h w e x going took none f = unknown_ends rest_left before after (Err x)
+  stopped (Some bytes) None rest_left before now after pending r s h w e x going took none f = absurd going
+  stopped (Some bytes) (Some left) None before now after pending r s h w e x going took none f = absurd took
+  stopped (Some bytes) (Some left) (Some rest_left) before now after pending r s h w (nexts.BadLine line rule) x going took none f =
+      let p = answered bytes left rest_left before now pending r s h w (Err (nexts.BadLine line rule)) going took.0 took.1 took.2 in
       refuses_with bytes rest_left before now after pending s _ (bad_line line rule) x p (λ more nothing. refl) p.end f
-  stopped (Some bytes) (Some left) (Some rest_left) before now after pending r s c w nexts.ReadFault x going took none f =
-      let p = answered bytes left rest_left before now pending r s c w (Err nexts.ReadFault) going took.0 took.1 took.2 in
+  stopped (Some bytes) (Some left) (Some rest_left) before now after pending r s h w nexts.ReadFault x going took none f =
+      let p = answered bytes left rest_left before now pending r s h w (Err nexts.ReadFault) going took.0 took.1 took.2 in
       interrupts_with bytes rest_left before now after pending s _ x p none.0
-      (fault_follows r s c w took.0 rest_left going.config took.2 none) f
-  stopped (Some bytes) (Some left) (Some rest_left) before now after pending r s c w nexts.NoMemory x going took none f =
-      let p = answered bytes left rest_left before now pending r s c w (Err nexts.NoMemory) going took.0 took.1 took.2 in
-      fails_with bytes rest_left before now after pending s _ [] _ x p refl (after_turn_some m c w (turn_of s true rest_left))
+      (fault_follows r s h w took.0 rest_left going.header took.2 none) f
+  stopped (Some bytes) (Some left) (Some rest_left) before now after pending r s h w nexts.NoMemory x going took none f =
+      let p = answered bytes left rest_left before now pending r s h w (Err nexts.NoMemory) going took.0 took.1 took.2 in
+      fails_with bytes rest_left before now after pending s _ [] _ x p refl (after_turn_some m h.config w (turn_of s true rest_left))
       (rw (append-nil pending) f)
 
   pub finished : (bytes left rest_left : Option (List ℕ)) (before now after : Option (List ℕ)) (pending : List ℕ) (r s : Reading)
-      (c : Configuration) (w : WorldState) (x : Result (Unit {0}) ReplayError)
-      → GoingOf m bytes left before now pending r c w → TakesOf r s left rest_left (Ok None)
+      (h : Header) (w : WorldState) (x : Result (Unit {0}) ReplayError)
+      → GoingOf m bytes left before now pending r h w → TakesOf r s left rest_left (Ok None)
       → Writes now after (pending ++ final_text w) x → EndsWith m bytes rest_left before after x
-  finished None left rest_left before now after pending r s c w x going took f = unknown_ends rest_left before after x
-  finished (Some bytes) None rest_left before now after pending r s c w x going took f = absurd going
-  finished (Some bytes) (Some left) None before now after pending r s c w x going took f = absurd took
-  finished (Some bytes) (Some left) (Some rest_left) before now after pending r s c w x going took f =
-      let p = answered bytes left rest_left before now pending r s c w (Ok None) going took.0 took.1 took.2 in
+  finished None left rest_left before now after pending r s h w x going took f = unknown_ends rest_left before after x
+  finished (Some bytes) None rest_left before now after pending r s h w x going took f = absurd going
+  finished (Some bytes) (Some left) None before now after pending r s h w x going took f = absurd took
+  finished (Some bytes) (Some left) (Some rest_left) before now after pending r s h w x going took f =
+      let p = answered bytes left rest_left before now pending r s h w (Ok None) going took.0 took.1 took.2 in
       finishes bytes rest_left before now after pending s _ w x p ((took.2.turn true [] (all_ended s)).1) (λ more. refl) f
 
   pub advances : (bytes left : List ℕ) (before now after : Option (List ℕ)) (pending new_pending : List ℕ) (r : Reading)
-      (c : Configuration) (w v : WorldState) (e : Event)
-      → r.config ≡ Some c → Progress m bytes left before now pending r
-      (λ ended more. after_answer m ended more c w r (Ok (Some e))) → Advances (step m w e) v now after pending new_pending
-      → Going m bytes left before after new_pending r c v
-  advances bytes left before now after pending new_pending r c w v e config p a =
+      (h : Header) (w v : WorldState) (e : Event)
+      → r.header ≡ Some h → Progress m bytes left before now pending r
+      (λ ended more. after_answer m ended more h.config w r (Ok (Some e))) → Advances (step m w e) v now after pending new_pending
+      → Going m bytes left before after new_pending r h v
+  advances bytes left before now after pending new_pending r h w v e is p a =
       let gathered : (p.written ++ pending) ++ lines_text a.lines ≡ (p.written ++ a.written) ++ new_pending =
       append_assoc p.written pending (lines_text a.lines)
       ∙ ap (λ (t : List ℕ). p.written ++ t) (sym a.text) ∙ sym (append_assoc p.written a.written new_pending) in
       record {
-        config = config;
+        header = is;
         progress = record {
           taken = p.taken;
           split = p.split;
@@ -288,28 +289,28 @@ module _ {S : Type 0} (m : Meaning S) where
           wrote = Appends-trans before now after p.written a.written p.wrote a.wrote;
           goes = λ ended more may.
               let lines = lines_before r ended more in
-              let after_it = rest m ended c v r.line lines in
+              let after_it = rest m ended h.config v r.line lines in
               let text : (p.written ++ pending) ++ (lines_text a.lines ++ after_it.text) ≡ ((p.written ++ a.written) ++ new_pending)
               ++ after_it.text =
               sym (append_assoc (p.written ++ pending) (lines_text a.lines) after_it.text)
               ∙ ap (λ (t : List ℕ). t ++ after_it.text) gathered in
               p.goes ended more may
-              ∙ ap (λ (q : Result Happened Refusal). then_text (p.written ++ pending) (after_step m ended c r.line lines q)) a.is
+              ∙ ap (λ (q : Result Happened Refusal). then_text (p.written ++ pending) (after_step m ended h.config r.line lines q)) a.is
               ∙ ap (λ (t : List ℕ). record { text = t; bad = after_it.bad }) text;
         };
       }
 
   pub advanced : (bytes left rest_left : Option (List ℕ)) (before now after : Option (List ℕ)) (pending new_pending : List ℕ)
-      (r s : Reading) (c : Configuration) (w v : WorldState) (e : Event)
-      → GoingOf m bytes left before now pending r c w → TakesOf r s left rest_left (Ok (Some e))
+      (r s : Reading) (h : Header) (w v : WorldState) (e : Event)
+      → GoingOf m bytes left before now pending r h w → TakesOf r s left rest_left (Ok (Some e))
       → Advances (step m w e) v now after pending new_pending
-      → GoingOf m bytes rest_left before after new_pending s c v
-  advanced None left rest_left before now after pending new_pending r s c w v e going took a = tt
-  advanced (Some bytes) None rest_left before now after pending new_pending r s c w v e going took a = absurd going
-  advanced (Some bytes) (Some left) None before now after pending new_pending r s c w v e going took a = absurd took
-  advanced (Some bytes) (Some left) (Some rest_left) before now after pending new_pending r s c w v e going took a =
-      let p = answered bytes left rest_left before now pending r s c w (Ok (Some e)) going took.0 took.1 took.2 in
-      advances bytes rest_left before now after pending new_pending s c w v e (event_keeps r s c took.0 rest_left e going.config took.2) p a
+      → GoingOf m bytes rest_left before after new_pending s h v
+  advanced None left rest_left before now after pending new_pending r s h w v e going took a = tt
+  advanced (Some bytes) None rest_left before now after pending new_pending r s h w v e going took a = absurd going
+  advanced (Some bytes) (Some left) None before now after pending new_pending r s h w v e going took a = absurd took
+  advanced (Some bytes) (Some left) (Some rest_left) before now after pending new_pending r s h w v e going took a =
+      let p = answered bytes left rest_left before now pending r s h w (Ok (Some e)) going took.0 took.1 took.2 in
+      advances bytes rest_left before now after pending new_pending s h w v e (event_keeps r s h took.0 rest_left e going.header took.2) p a
 
   pub step_refused : (bytes left : List ℕ) (before now after : Option (List ℕ)) (pending : List ℕ) (r : Reading) (c : Configuration)
       (w : WorldState) (e : Event) (q : Result Happened Refusal) (x : ReplayError)
@@ -325,12 +326,12 @@ module _ {S : Type 0} (m : Meaning S) where
       (λ more nothing. ap (after_step m true c r.line (lines_before r true more)) is) p.end f
 
   pub refused_event : (bytes left rest_left : Option (List ℕ)) (before now after : Option (List ℕ)) (pending : List ℕ) (r s : Reading)
-      (c : Configuration) (w : WorldState) (e : Event) (x : ReplayError)
-      → GoingOf m bytes left before now pending r c w → TakesOf r s left rest_left (Ok (Some e))
+      (h : Header) (w : WorldState) (e : Event) (x : ReplayError)
+      → GoingOf m bytes left before now pending r h w → TakesOf r s left rest_left (Ok (Some e))
       → RefusesStep now after pending s.line (step m w e) x → EndsWith m bytes rest_left before after (Err x)
-  refused_event None left rest_left before now after pending r s c w e x going took f = unknown_ends rest_left before after (Err x)
-  refused_event (Some bytes) None rest_left before now after pending r s c w e x going took f = absurd going
-  refused_event (Some bytes) (Some left) None before now after pending r s c w e x going took f = absurd took
-  refused_event (Some bytes) (Some left) (Some rest_left) before now after pending r s c w e x going took f =
-      step_refused bytes rest_left before now after pending s c w e (step m w e) x refl
-      (answered bytes left rest_left before now pending r s c w (Ok (Some e)) going took.0 took.1 took.2) f
+  refused_event None left rest_left before now after pending r s h w e x going took f = unknown_ends rest_left before after (Err x)
+  refused_event (Some bytes) None rest_left before now after pending r s h w e x going took f = absurd going
+  refused_event (Some bytes) (Some left) None before now after pending r s h w e x going took f = absurd took
+  refused_event (Some bytes) (Some left) (Some rest_left) before now after pending r s h w e x going took f =
+      step_refused bytes rest_left before now after pending s h.config w e (step m w e) x refl
+      (answered bytes left rest_left before now pending r s h w (Ok (Some e)) going took.0 took.1 took.2) f

@@ -7,7 +7,7 @@ use Rattle.std.proofs.lemmas.Option.{slice_get_within}
 use Rattle.nop_types.specs.Bounds.{Bounds}
 use Rattle.nop_types.specs.Checkpoints.{KeepsTo}
 use Rattle.nop_types.specs.Configuration.{Configuration, is_configuration}
-use Rattle.nop_types.specs.Given.{Given}
+use Rattle.nop_types.specs.Given.{Given, Packet, Ticked, Submit}
 use Rattle.nop_types.specs.Lines as lines
 use Rattle.nop_types.specs.Lines.{Line}
 use Rattle.nop_types.specs.Lists.{Has}
@@ -22,6 +22,7 @@ use Rattle.nop_types.specs.declared.output.Dest.{Dest}
 use Rattle.nop_types.specs.declared.output.Dest.TheVariants.{Replicas, Sequencers, One}
 use Rattle.nop_types.specs.declared.output.Out.{Out}
 use Rattle.oum_codec.specs.Reading.{reading}
+use Rattle.oum_codec.specs.Spelling.{spelling}
 use Rattle.oum_codec.proofs.Datagrams.{reads_again}
 use Rattle.oum_codec.specs.declared.bad.Bad.{Bad}
 use Rattle.facts.proofs.Members.{Has-none, Has-append_cases, Has-filter, Has-from_filter}
@@ -59,8 +60,10 @@ use Rattle.whole_world.specs.Whole.{WholeReplica, WholeWorld, Brings}
 use Rattle.whole_world.proofs.At as whole_at
 use Rattle.whole_world.proofs.Counts.{counts_from}
 use Rattle.whole_world.proofs.Events as whole_events
+use Rattle.whole_world.proofs.Mapped.{slice_get-from_map}
 use Rattle.whole_world.proofs.Moving.{ran_holds}
-use Rattle.whole_world.proofs.Opening.{opening_stands}
+use Rattle.whole_world.proofs.Opening.{opening_stands, counted_get, counted_within}
+use Rattle.whole_world.proofs.Seats.{seats_hold}
 use Rattle.whole_world.proofs.Steps.{steps_lead}
 use Rattle.safety.specs.Following.{is_spoken, is_fragment, bytes_of, brought}
 use Rattle.safety.proofs.Beside.{Alike, Travels, real_letters}
@@ -69,8 +72,8 @@ use Rattle.safety.proofs.Following.{Both, world_after, opening_beside, both_then
 use Rattle.safety.proofs.Replicas.{WholeSeat, whole_seat}
 use Rattle.safety.proofs.Taking.{took}
 use Rattle.replay.specs.Destinations.{IsDestOf}
-use Rattle.replay.proofs.Addressed.{IsReplyTo, Goes, OutsGo, SubmitsOf, sent_goes, lines_are_of, dead_is_of, posted_goes, sequencer_goes}
-use Rattle.replay.proofs.Addressed.{client_goes, controller_goes, controller_keeps_config}
+use Rattle.replay.proofs.Addressed.{IsReplyTo, Goes, NamesIn, IsAddressed, OutsGo, SubmitsOf, GivenNames, IsPlaced, sent_goes, lines_are_of}
+use Rattle.replay.proofs.Addressed.{dead_is_of, posted_goes, sequencer_goes, client_goes, controller_directs}
 use Rattle.replay.proofs.Asked.{AllAsked, HasAsked, moves_asked, none_asked}
 
 -- ---- the whole world beside a world
@@ -84,18 +87,23 @@ pub record At {S : Type 0} (m : Meaning S) (config : Configuration) (w : WorldSt
 
 -- ---- what holds of a world
 
--- what was sent goes to actors of the configuration, what was submitted is of its clients, and the controller knows it
+-- each controller is one of the configuration
+abbrev ArePlaced : Configuration → WorldState → Type 0
+ArePlaced c w = (k : ℕ) (q : Seated ControllerState) → slice_get w.controllers k ≡ Some q → IsPlaced c q.state
+
+-- what was sent goes to actors of the configuration, what was submitted is of its clients, and its controllers are there
 record Good (config : Configuration) (w : WorldState) (ls : List Line) : Type 0 where
-  sent : (s : Sent) → Has w.sent s → Goes config s.dest s.bytes
+  sent : (s : Sent) → Has w.sent s → IsAddressed config s.dest s.bytes
   submits : SubmitsOf config ls
-  controller : w.controller.state.config ≡ config
+  controllers : ArePlaced config w
 
 -- what an actor did
 abbrev DidGo : Configuration → Did → Type 0
 DidGo c Nothing = ⊤
 DidGo c (Outputs os) = OutsGo c os
 
-did_send : (c : Configuration) (from : Actor) (did : Did) → DidGo c did → (s : Sent) → Has (sends_by from did) s → Goes c s.dest s.bytes
+did_send : (c : Configuration) (from : Actor) (did : Did) → DidGo c did → (s : Sent) → Has (sends_by from did) s
+    → IsAddressed c s.dest s.bytes
 did_send c from Nothing go s h = absurd (Has-none s h)
 did_send c from (Outputs os) go s h = sent_goes c from os go s h
 
@@ -112,7 +120,7 @@ record Keeps (config : Configuration) (w : WorldState) (h : Happened) : Type 0 w
   goes : DidGo config did
   sent : h.world.sent ≡ w.sent ++ sends_by from did
   lines : h.lines ≡ lines_by from (length w.sent) did
-  controller : h.world.controller.state.config ≡ w.controller.state.config
+  controllers : ArePlaced config h.world
 
 kept_good : (config : Configuration) (w : WorldState) (ls : List Line) (h : Happened) → Good config w ls → Keeps config w h
     → Good config h.world (ls ++ h.lines)
@@ -125,7 +133,7 @@ kept_good config w ls h good k = record {
     | inl before ↦ good.submits r before
     | inr now ↦ did_say config k.from (length w.sent) k.did k.goes r (subst (λ (xs : List Line). Has xs (lines.Submit r)) k.lines now)
   ];
-  controller = k.controller ∙ good.controller;
+  controllers = k.controllers;
 }
 
 -- a seat whose steps send to actors of the configuration
@@ -135,8 +143,16 @@ seat_goes c next p true what go = tt
 seat_goes c next p false (Takes i) go = go i refl
 seat_goes c next p false Crashes go = tt
 
+-- a controller's seat stays placed
+seat_placed : (c : Configuration) (p : Seated ControllerState) (b : Bool) (what : Stimulus) → IsPlaced c p.state
+    → IsPlaced c (moved_if controller.next b p what).0.state
+seat_placed c p true what is = is
+seat_placed c p false (Takes i) is = (controller_directs c p.state i is).stays
+seat_placed c p false Crashes is = is
+
 module _ {S : Type 0} (m : Meaning S) (config : Configuration) (bounds : Bounds m Trimmed)
-    (count : config.replicas ≡ 2 * (config.replicas / 2) + 1) (w : WorldState) (ls : List Line) (at : At m config w ls) where
+    (count : config.replicas ≡ 2 * (config.replicas / 2) + 1) (w : WorldState) (ls : List Line) (at : At m config w ls)
+    (good : Good config w ls) where
   abbrev f : ℕ
   f = config.replicas / 2
 
@@ -205,18 +221,47 @@ module _ {S : Type 0} (m : Meaning S) (config : Configuration) (bounds : Bounds 
         (λ given is. replica_goes i old there given (subst (AllMayCome (bytes_of w.sent)) is brings));
     sent = refl;
     lines = refl;
-    controller = refl;
+    controllers = good.controllers;
   }
 
-  sequencer_keeps : (j : ℕ) (old : Seated SequencerState) (what : Stimulus)
+  -- what is read of bytes that were sent is what they spell
+  sent_spelled : (bytes : List ℕ) (d : Datagram) → Has (bytes_of w.sent) bytes → reading bytes ≡ Ok d → bytes ≡ spelling d
+  sent_spelled bytes d there e =
+      let known = travels.posts.network.datagrams bytes there in
+      let same : Ok known.datagram ≡ Ok d =
+      sym (ap reading known.spells.spelled ∙ reads_again known.datagram known.spells.fits) ∙ e in
+      known.spells.spelled ∙ ap spelling (let g = same in cc)
+
+  sent_names : (bytes : List ℕ) → Has (bytes_of w.sent) bytes → NamesIn config bytes
+  sent_names bytes there =
+      let from = slice_get-from_map (λ (s : Sent). s.bytes) w.sent there.0 bytes there.1 in
+      subst (NamesIn config) from.is (good.sent from.from (there.0, from.there)).names
+
+  given_names : (i : Given) → MayCome (bytes_of w.sent) i → GivenNames config i
+  given_names (Packet bytes) (inl there) =
+      let names = sent_names bytes there in
+      record {
+        installs = λ k j session e. names.installs k j session (sent_spelled bytes (datagrams.Install k j session) there e);
+        pings = λ k j round e. names.pings k j round (sent_spelled bytes (datagrams.Ping k j round) there e);
+      }
+  given_names (Packet bytes) (inr none) = record {
+    installs = λ k j session e. absurd (let g = none.refused in cc);
+    pings = λ k j round e. absurd (let g = none.refused in cc);
+  }
+  given_names (Ticked tick) may = tt
+  given_names (Submit op) may = tt
+
+  sequencer_keeps : (j : ℕ) (old : Seated SequencerState) (what : Stimulus) → AllMayCome (bytes_of w.sent) what
       → Keeps config w (at_sequencer w j (seat_step sequencer.next old what))
-  sequencer_keeps j old what = record {
+  sequencer_keeps j old what brings = record {
     from = actors.Sequencer j;
     did = (seat_step sequencer.next old what).1;
-    goes = seat_goes config sequencer.next old old.crashed what (λ given is. sequencer_goes config old.state given);
+    goes = seat_goes config sequencer.next old old.crashed what
+        (λ given is. sequencer_goes config old.state given
+        (given_names given (subst (AllMayCome (bytes_of w.sent)) is brings)));
     sent = refl;
     lines = refl;
-    controller = refl;
+    controllers = good.controllers;
   }
 
   own_number : (k : ℕ) (old : Seated ClientState) → slice_get w.clients k ≡ Some old → old.state.number < config.clients
@@ -240,59 +285,51 @@ module _ {S : Type 0} (m : Meaning S) (config : Configuration) (bounds : Bounds 
     goes = seat_goes config client.next old old.crashed what (λ given is. client_goes config old.state (own_number k old there) given);
     sent = refl;
     lines = refl;
-    controller = refl;
+    controllers = good.controllers;
   }
 
-  controller_keeps : (b : Bool) (what : Stimulus) → controller.IsWithin (moved_if controller.next b w.controller what).0.state
-      → w.controller.state.config ≡ config → Keeps config w (at_controller w (moved_if controller.next b w.controller what))
-  controller_keeps true what within same =
-      record { from = actors.Controller; did = Nothing; goes = tt; sent = refl; lines = refl; controller = refl }
-  controller_keeps false (Takes given) within same = record {
-    from = actors.Controller;
-    did = Outputs (controller.next w.controller.state given).1;
-    goes = subst (λ (k : Configuration). OutsGo k (controller.next w.controller.state given).1) same
-        (controller_goes w.controller.state given within);
-    sent = refl;
-    lines = refl;
-    controller = controller_keeps_config w.controller.state given;
-  }
-  controller_keeps false Crashes within same =
-      record { from = actors.Controller; did = Outputs []; goes = tt; sent = refl; lines = refl; controller = refl }
+  controller_keeps : (k : ℕ) (old : Seated ControllerState) (what : Stimulus) → slice_get w.controllers k ≡ Some old
+      → Keeps config w (at_controller w k (seat_step controller.next old what))
+  controller_keeps k old what there =
+      let new : Seated ControllerState = (seat_step controller.next old what).0 in
+      let placed : IsPlaced config old.state = good.controllers k old there in
+      record {
+        from = actors.Controller k;
+        did = (seat_step controller.next old what).1;
+        goes = seat_goes config controller.next old old.crashed what
+            (λ given is. (controller_directs config old.state given placed).sends);
+        sent = refl;
+        lines = refl;
+        controllers = seats_hold (IsPlaced config) w.controllers k new (seat_placed config old old.crashed what placed) good.controllers;
+      }
 
   -- ---- events
 
   actor_keeps : (a : Actor) (r : Result Stimulus Refusal) (h : Happened) → ((what : Stimulus) → r ≡ Ok what → AllMayCome (bytes_of w.sent) what)
-      → controller.IsWithin h.world.controller.state → w.controller.state.config ≡ config → step_of m w a r ≡ Ok h → Keeps config w h
-  actor_keeps (actors.Replica i) r h brings within same e =
+      → step_of m w a r ≡ Ok h → Keeps config w h
+  actor_keeps (actors.Replica i) r h brings e =
       let t = took (at_replica w i) (replica.next m) (slice_get w.replicas i) r h e in
       subst (Keeps config w) t.gives (replica_keeps i t.seat t.what t.there (brings t.what t.brought))
-  actor_keeps (actors.Sequencer j) r h brings within same e =
+  actor_keeps (actors.Sequencer j) r h brings e =
       let t = took (at_sequencer w j) sequencer.next (slice_get w.sequencers j) r h e in
-      subst (Keeps config w) t.gives (sequencer_keeps j t.seat t.what)
-  actor_keeps (actors.Client k) r h brings within same e =
+      subst (Keeps config w) t.gives (sequencer_keeps j t.seat t.what (brings t.what t.brought))
+  actor_keeps (actors.Client k) r h brings e =
       let t = took (at_client w k) client.next (slice_get w.clients k) r h e in
       subst (Keeps config w) t.gives (client_keeps k t.seat t.what t.there)
-  actor_keeps actors.Controller r h brings within same e =
-      let t = took (at_controller w) controller.next (Some w.controller) r h e in
-      let seat : w.controller ≡ t.seat = (let g : Some w.controller ≡ Some t.seat = t.there in cc) in
-      let gives : at_controller w (seat_step controller.next w.controller t.what) ≡ h =
-      ap (λ (q : Seated ControllerState). at_controller w (seat_step controller.next q t.what)) seat ∙ t.gives in
-      subst (Keeps config w) gives
-      (controller_keeps w.controller.crashed t.what
-      (subst (λ (x : Happened). controller.IsWithin x.world.controller.state) (sym gives) within) same)
+  actor_keeps (actors.Controller k) r h brings e =
+      let t = took (at_controller w k) controller.next (slice_get w.controllers k) r h e in
+      subst (Keeps config w) t.gives (controller_keeps k t.seat t.what t.there)
 
-  step_keeps : (x : Event) (h : Happened) → controller.IsWithin h.world.controller.state → w.controller.state.config ≡ config
-      → step m w x ≡ Ok h → Keeps config w h
+  step_keeps : (x : Event) (h : Happened) → step m w x ≡ Ok h → Keeps config w h
   unfolding step
-  step_keeps x h within same e =
-      actor_keeps (actor_of x) (stimulus_of w.config w.sent x) h (event_comes w.sent w.config x) within same e
+  step_keeps x h e = actor_keeps (actor_of x) (stimulus_of w.config w.sent x) h (event_comes w.sent w.config x) e
 
 -- ---- lists of events
 
 -- where events lead, as the protocol shows it
 pub record Reached {S : Type 0} (m : Meaning S) (config : Configuration) (h : Happened) : Type 0 where
   pub at : At m config h.world h.lines
-  pub sent : (s : Sent) → Has h.world.sent s → Goes config s.dest s.bytes
+  pub sent : (s : Sent) → Has h.world.sent s → IsAddressed config s.dest s.bytes
   pub submits : SubmitsOf config h.lines
 
 module _ {S : Type 0} (m : Meaning S) (IsSound : S → Type 0) (keeps : KeepsTo m IsSound) (config : Configuration)
@@ -312,12 +349,9 @@ module _ {S : Type 0} (m : Meaning S) (IsSound : S → Type 0) (keeps : KeepsTo 
       record { came = bs; both = both; conf = r.last; at = r.at }
 
   one_good : (w : WorldState) (ls : List Line) (x : Event) (h : Happened) → At m config w ls → step m w x ≡ Ok h → Good config w ls
-      → At m config h.world (ls ++ h.lines) → Good config h.world (ls ++ h.lines)
-  one_good w ls x h at is good next =
-      kept_good config w ls h good
-      (step_keeps m config (trimmed_keep_bounds m IsSound keeps) count w ls at x h
-      (subst (λ (q : Seated ControllerState). controller.IsWithin q.state) (sym next.both.beside.alike.controller)
-      next.at.stands.ranges.controller) good.controller is)
+      → Good config h.world (ls ++ h.lines)
+  one_good w ls x h at is good =
+      kept_good config w ls h good (step_keeps m config (trimmed_keep_bounds m IsSound keeps) count w ls at good x h is)
 
   reach_then : (x : Event) (es : List Event) (w : WorldState) (ls : List Line) (h : Happened) → At m config w ls → EventFits x
       → Good config w ls
@@ -329,7 +363,7 @@ module _ {S : Type 0} (m : Meaning S) (IsSound : S → Type 0) (keeps : KeepsTo 
       let next : At m config g.world (ls ++ g.lines) =
       shown_after g.world (ls ++ g.lines) (at.came ++ (actor_of x, brought w x) ∷ [])
       (both_then m IsSound keeps config is_one w ls at.came x g at.both fits is) in
-      rest g.world (ls ++ g.lines) next (one_good w ls x g at is good next) e
+      rest g.world (ls ++ g.lines) next (one_good w ls x g at is good) e
 
   reach : (es : List Event) (w : WorldState) (ls : List Line) (h : Happened) → At m config w ls → EventsFit es → Good config w ls
       → run_from m ls w es ≡ Ok h → Reached m config h
@@ -339,8 +373,21 @@ module _ {S : Type 0} (m : Meaning S) (IsSound : S → Type 0) (keeps : KeepsTo 
   reach (x ∷ es) w ls h at fit good e =
       reach_then x es w ls h at fit.0 good (λ v more at_v good_v g. reach es v more h at_v fit.1 good_v g) (step m w x) refl e
 
+  some_sequencer : 0 < config.sequencers
+  some_sequencer = grind (arith, is_one)
+
+  controllers_placed : ArePlaced config (world.opening config)
+  controllers_placed k q there =
+      subst (IsPlaced config) (counted_get (controller.opening config) config.controllers k q there)
+      (record {
+        config = refl;
+        number = counted_within (controller.opening config) config.controllers k q there;
+        current = some_sequencer;
+      })
+
   nothing_sent : Good config (world.opening config) []
-  nothing_sent = record { sent = λ s h. absurd (Has-none s h); submits = λ r h. absurd (Has-none _ h); controller = refl }
+  nothing_sent =
+      record { sent = λ s h. absurd (Has-none s h); submits = λ r h. absurd (Has-none _ h); controllers = controllers_placed }
 
   opening_at : At m config (world.opening config) []
   opening_at = shown_after (world.opening config) [] [] (record { fits = tt; beside = opening_beside m config is_one })
@@ -395,10 +442,10 @@ module _ {S : Type 0} (m : Meaning S) (config : Configuration) (h : Happened) (r
   dest_of s i (One (actors.Replica n)) go = go
   dest_of s i (One (actors.Sequencer n)) go = go
   dest_of s i (One (actors.Client k)) go = client_there k s i go
-  dest_of s i (One actors.Controller) go = tt
+  dest_of s i (One (actors.Controller n)) go = go
 
   pub sent_to_actors : (s : Sent) → Has h.world.sent s → IsDestOf config s.dest
-  sent_to_actors s i = dest_of s i s.dest (r.sent s i)
+  sent_to_actors s i = dest_of s i s.dest (r.sent s i).goes
 
 pub datagrams_go_to_actors : {S : Type 0} (m : Meaning S) (IsSound : S → Type 0) → KeepsTo m IsSound → (c : Configuration)
     → is_configuration c ≡ true → (es : List Event) (h : Happened) → EventsFit es → world.run m c es ≡ Ok h → (s : Sent)

@@ -3,27 +3,28 @@ use Rattle.std.proofs.Common.{◌≡◌, ℕ, ◌+◌, List, [], ◌∷◌, ◌+
 use Rattle.std.proofs.lemmas.List.{append-nil}
 use Rattle.std.proofs.lemmas.List.Concat.{flat_map-append}
 use Rattle.nop_types.specs.Configuration.{Configuration}
+use Rattle.nop_types.specs.declared.header.Header.{Header}
 use Rattle.nop_types.specs.Lines.{Line}
 use Rattle.nop_types.specs.Meaning.{Meaning}
 use Rattle.schedule_text.specs.declared.event.Event.{Event}
 use Rattle.schedule_text.specs.declared.rule.Rule.{Rule}
 use Rattle.schedule_text.specs.Rules.{header_of, event_of}
-use Rattle.schedule_text.specs.Reading.{turn, turn_after, event_turn, header_turn}
+use Rattle.schedule_text.specs.Reading.{Turn, turn, turn_after, event_turn, header_turn}
 use Rattle.transcript_text.specs.Transcript.{transcript_line, line_text, lines_text}
 use Rattle.world.specs.WorldSteps.{WorldState, Refusal, Happened, step, go_on, run_from, opening}
-use Rattle.replay.specs.Output.{Schedule, BadLine, ending, then_text, text_after, stepped, scheduled, schedule_from, written, rest, begun}
-use Rattle.replay.specs.Output.{output_of_lines}
+use Rattle.replay.specs.Output.{Output, Schedule, BadLine, ending, then_text, text_after, stepped, scheduled, schedule_from, written, rest}
+use Rattle.replay.specs.Output.{begun, output_of_lines}
 use Rattle.replay.specs.Progress.{after_step, after_turn}
 
--- a reader that took line 1 keeps its configuration
-turn_config_line : (c : Configuration) (k : ℕ) (line : List ℕ) (lines : List (List ℕ)) (r : Result Event Rule)
-    → (event_turn c k line lines r).config ≡ Some c
-turn_config_line c k line lines (Ok e) = refl
-turn_config_line c k line lines (Err rule) = refl
+-- a reader that took line 1 keeps what it says
+turn_header_line : (h : Header) (k : ℕ) (line : List ℕ) (lines : List (List ℕ)) (r : Result Event Rule)
+    → (event_turn h k line lines r).header ≡ Some h
+turn_header_line h k line lines (Ok e) = refl
+turn_header_line h k line lines (Err rule) = refl
 
-pub turn_config : (c : Configuration) (k : ℕ) (lines : List (List ℕ)) → (turn_after c k lines).config ≡ Some c
-turn_config c k [] = refl
-turn_config c k (line ∷ lines) = turn_config_line c k line lines (event_of c k line)
+pub turn_header : (h : Header) (k : ℕ) (lines : List (List ℕ)) → (turn_after h k lines).header ≡ Some h
+turn_header h k [] = refl
+turn_header h k (line ∷ lines) = turn_header_line h k line lines (event_of h.config k line)
 
 -- lines that stand before
 abbrev pub after_lines : List Line → Result Happened Refusal → Result Happened Refusal
@@ -104,27 +105,30 @@ module _ {S : Type 0} (m : Meaning S) where
   rest_is_event ended c w k lines e (Ok h) is =
       written_event ended w e h (schedule_from m c h.world (k + 1) lines) is (schedule_runs c lines h.world (k + 1))
 
-  rest_is_line : (ended : Bool) (c : Configuration) (w : WorldState) (k : ℕ) (line : List ℕ) (lines : List (List ℕ)) (r : Result Event Rule)
+  rest_is_line : (ended : Bool) (h : Header) (w : WorldState) (k : ℕ) (line : List ℕ) (lines : List (List ℕ)) (r : Result Event Rule)
       → written m ended w (scheduled m w k r
-      (λ v. schedule_from m c v (k + 1) lines)) ≡ after_turn m ended c w (event_turn c k line lines r)
-  rest_is_line ended c w k line lines (Err rule) = refl
-  rest_is_line ended c w k line lines (Ok e) = rest_is_event ended c w k lines e (step m w e) refl
+      (λ v. schedule_from m h.config v (k + 1) lines)) ≡ after_turn m ended h.config w (event_turn h k line lines r)
+  rest_is_line ended h w k line lines (Err rule) = refl
+  rest_is_line ended h w k line lines (Ok e) = rest_is_event ended h.config w k lines e (step m w e) refl
 
-  pub rest_is : (ended : Bool) (c : Configuration) (w : WorldState) (k : ℕ) (lines : List (List ℕ))
-      → rest m ended c w k lines ≡ after_turn m ended c w (turn_after c k lines)
-  rest_is ended c w k [] = refl
-  rest_is ended c w k (line ∷ lines) = rest_is_line ended c w k line lines (event_of c k line)
+  pub rest_is : (ended : Bool) (h : Header) (w : WorldState) (k : ℕ) (lines : List (List ℕ))
+      → rest m ended h.config w k lines ≡ after_turn m ended h.config w (turn_after h k lines)
+  rest_is ended h w k [] = refl
+  rest_is ended h w k (line ∷ lines) = rest_is_line ended h w k line lines (event_of h.config k line)
+
+  -- what a schedule begins with, and what follows a turn
+  abbrev pub begun_with : Bool → Header → Turn → Output
+  begun_with ended h t = then_text (transcript_line h.form h.config) (after_turn m ended h.config (opening h.config) t)
 
   -- line 1 was taken
-  begun_is_line : (ended : Bool) (c : Configuration) (line : List ℕ) (lines : List (List ℕ)) (r : Result Configuration Rule)
-      → (header_turn 0 line lines r).config ≡ Some c
-      → begun m ended lines r ≡ then_text (transcript_line c) (after_turn m ended c (opening c) (header_turn 0 line lines r))
-  begun_is_line ended c line lines (Err rule) is = absurd cc
-  begun_is_line ended c line lines (Ok d) is =
-      let same : d ≡ c = cc (is, turn_config d 1 lines) in
-      rw same (ap (then_text (transcript_line c)) (rest_is ended c (opening c) 1 lines))
+  begun_is_line : (ended : Bool) (h : Header) (line : List ℕ) (lines : List (List ℕ)) (r : Result Header Rule)
+      → (header_turn 0 line lines r).header ≡ Some h → begun m ended lines r ≡ begun_with ended h (header_turn 0 line lines r)
+  begun_is_line ended h line lines (Err rule) is = absurd cc
+  begun_is_line ended h line lines (Ok d) is =
+      let same : d ≡ h = cc (is, turn_header d 1 lines) in
+      rw same (ap (then_text (transcript_line h.form h.config)) (rest_is ended h (opening h.config) 1 lines))
 
-  pub begun_is : (ended : Bool) (c : Configuration) (lines : List (List ℕ)) → (turn None 0 lines).config ≡ Some c
-      → output_of_lines m ended lines ≡ then_text (transcript_line c) (after_turn m ended c (opening c) (turn None 0 lines))
-  begun_is ended c [] is = absurd cc
-  begun_is ended c (line ∷ lines) is = begun_is_line ended c line lines (header_of line) is
+  pub begun_is : (ended : Bool) (h : Header) (lines : List (List ℕ)) → (turn None 0 lines).header ≡ Some h
+      → output_of_lines m ended lines ≡ begun_with ended h (turn None 0 lines)
+  begun_is ended h [] is = absurd cc
+  begun_is ended h (line ∷ lines) is = begun_is_line ended h line lines (header_of line) is

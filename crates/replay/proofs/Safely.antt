@@ -1,8 +1,11 @@
 -- A schedule without a bad line runs safely.
 use Rattle.std.proofs.Common.{◌≡◌, ℕ, ◌+◌, true, Option, Some, None, refl, ap, ◌∙◌, List, [], ◌∷◌, ◌++◌}
 use Rattle.std.specs.Prelude.{Result, Ok, Err, OnOk}
+use Rattle.std.proofs.lemmas.Bool.{and_parts}
 use Rattle.nop_types.specs.Checkpoints.{KeepsTo}
-use Rattle.nop_types.specs.Configuration.{Configuration}
+use Rattle.nop_types.specs.Configuration.{Configuration, is_configuration}
+use Rattle.nop_types.specs.Headers.{gives}
+use Rattle.nop_types.specs.declared.header.Header.{Header}
 use Rattle.nop_types.specs.Lines.{Line}
 use Rattle.nop_types.specs.Meaning.{Meaning}
 use Rattle.schedule_text.specs.declared.event.Event.{Event}
@@ -51,17 +54,19 @@ module _ {S : Type 0} (m : Meaning S) (c : Configuration) where
       line_well w k line (λ v. schedule_from m c v (k + 1) lines) (λ v g. schedule_well v (k + 1) lines g) (event_of c k line) refl good
 
 module _ {S : Type 0} (m : Meaning S) (IsSound : S → Type 0) (keeps : KeepsTo m IsSound) (bytes : List ℕ) where
-  with_header : (line : List ℕ) (lines : List (List ℕ)) → lines_of true 0 bytes ≡ line ∷ lines → (r : Result Configuration Rule)
+  with_header : (line : List ℕ) (lines : List (List ℕ)) → lines_of true 0 bytes ≡ line ∷ lines → (r : Result Header Rule)
       → header_of line ≡ r → (begun m true lines r).bad ≡ None → RunsSafely m bytes
   unfolding output
   with_header line lines cut (Err rule) is good = absurd cc
-  with_header line lines cut (Ok c) is good =
+  with_header line lines cut (Ok d) is good =
+      let c = d.config in
       let s = schedule_from m c (opening c) 1 lines in
       let well = schedule_well m c (opening c) 1 lines good in
       let h = well.leads [] in
+      let within = and_parts (gives d.form c) (is_configuration c) (headers_fit line d is) in
       record {
-        config = c;
-        header = line;
+        header = d;
+        first = line;
         rest = lines;
         cut = cut;
         read = is;
@@ -69,12 +74,12 @@ module _ {S : Type 0} (m : Meaning S) (IsSound : S → Type 0) (keeps : KeepsTo 
         are = λ i. record { events = s.events; bad = good i };
         happened = h.0;
         led = h.1;
-        safely = runs_are_safe m IsSound keeps c s.events h.0 (headers_fit line c is) well.fit h.1;
+        safely = runs_are_safe m IsSound keeps c s.events h.0 within.1 well.fit h.1;
         text =
             ap (λ (ls : List (List ℕ)). (output_of_lines m true ls).text) cut
-            ∙ ap (λ (r : Result Configuration Rule). (begun m true lines r).text) is
-            ∙ ap (λ (b : Option BadLine). transcript_line c ++ text_after true b (run_from m [] (opening c) s.events)) good
-            ∙ ap (λ (r : Result Happened Refusal). transcript_line c ++ text_after true None r) h.1;
+            ∙ ap (λ (r : Result Header Rule). (begun m true lines r).text) is
+            ∙ ap (λ (b : Option BadLine). transcript_line d.form c ++ text_after true b (run_from m [] (opening c) s.events)) good
+            ∙ ap (λ (r : Result Happened Refusal). transcript_line d.form c ++ text_after true None r) h.1;
       }
 
   by_lines : (lines : List (List ℕ)) → lines_of true 0 bytes ≡ lines → (output_of_lines m true lines).bad ≡ None → RunsSafely m bytes

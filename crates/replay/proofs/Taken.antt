@@ -20,6 +20,7 @@ use Rattle.nop_types.specs.declared.output.Out.{Out}
 use Rattle.facts.proofs.Places.{slice_get-some}
 use Rattle.client_quorum.specs.ClientSteps as client
 use Rattle.sequencer.specs.SequencerSteps as sequencer
+use Rattle.session_control.specs.ControllerSteps as controller
 use Rattle.replica_core.specs.ReplicaSteps as replica
 use Rattle.schedule_text.specs.declared.event.Event.{Event}
 use Rattle.schedule_text.specs.declared.event.Event.TheVariants as events
@@ -28,9 +29,10 @@ use Rattle.schedule_text.specs.EventText.{HasWord, HasLine, IsEventOf}
 use Rattle.schedule_text.specs.Fits.{EventFits}
 use Rattle.schedule_text.specs.Ticks.{takes_tick}
 use Rattle.network.specs.Network.{Sent, Did}
+use Rattle.world.specs.Refusals.{HasActors}
 use Rattle.world.specs.Seats.{Seated, Stimulus, Takes, Crashes}
 use Rattle.world.specs.WorldSteps.{WorldState, Happened, Refusal, tick_if, datagram_at, stimulus_of, then_at, step_at, step_of, step}
-use Rattle.world.specs.WorldSteps.{at_replica, at_sequencer, at_client}
+use Rattle.world.specs.WorldSteps.{at_replica, at_sequencer, at_client, at_controller}
 use Rattle.replay.specs.Drawing.{draw, put_drawn, get_drawn, taker_drawn, delivery_drawn, back_drawn, deliver_drawn}
 use Rattle.replay.specs.Drawing.{replica_tick_drawn, retry_drawn, crash_drawn, install_drawn, rare_drawn}
 use Rattle.replay.specs.Drawing.{often_drawn, seldom_drawn, event_drawn}
@@ -45,18 +47,12 @@ use Rattle.replay.proofs.Reaching.{Reached, events_reach, sent_to_actors}
 
 -- ---- events that are not refused
 
--- the world has so many actors as the configuration
-record HasActors (w : WorldState) : Type 0 where
-  replicas : length w.replicas ≡ w.config.replicas
-  sequencers : length w.sequencers ≡ w.config.sequencers
-  clients : length w.clients ≡ w.config.clients
-
 -- a datagram that is delivered was sent; no junk
 abbrev IsSent : List Sent → Event → Type 0
 IsSent sent (events.Submit n op) = ⊤
 IsSent sent (events.Deliver index actor) = index < length sent
 IsSent sent (events.Tick actor tick) = ⊤
-IsSent sent (events.Install number) = ⊤
+IsSent sent (events.Install k j) = ⊤
 IsSent sent (events.Crash actor) = ⊤
 IsSent sent (events.Junk actor bytes) = ⊥
 
@@ -73,7 +69,8 @@ module _ {S : Type 0} (m : Meaning S) (w : WorldState) (has : HasActors w) where
   actor_taken (actors.Sequencer j) what h =
       seat_taken (at_sequencer w j) sequencer.next w.sequencers j what (omega (arith, h, has.sequencers))
   actor_taken (actors.Client k) what h = seat_taken (at_client w k) client.next w.clients k what (omega (arith, h, has.clients))
-  actor_taken actors.Controller what h = (_, refl)
+  actor_taken (actors.Controller k) what h =
+      seat_taken (at_controller w k) controller.next w.controllers k what (omega (arith, h, has.controllers))
 
   brought : (a : Actor) (r : Result Stimulus Refusal) (what : Stimulus) → r ≡ Ok what → IsActorOf w.config a → IsTaken (step_of m w a r)
   brought a r what is h = subst (λ (x : Result Stimulus Refusal). IsTaken (step_of m w a x)) (sym is) (actor_taken a what h)
@@ -88,9 +85,9 @@ module _ {S : Type 0} (m : Meaning S) (w : WorldState) (has : HasActors w) where
   event_taken (events.Deliver index a) h sent = let s = datagram_brought index sent in brought a _ _ s.1 h
   event_taken (events.Tick a t) h sent =
       brought a (tick_if (takes_tick a t) t) (Takes (Ticked t)) (ap (λ (b : Bool). tick_if b t) h.1) h.0
-  event_taken (events.Install j) h sent =
-      brought actors.Controller (tick_if (nat_lt j w.config.sequencers) (ticks.Install j)) (Takes (Ticked (ticks.Install j)))
-      (ap (λ (b : Bool). tick_if b (ticks.Install j)) (lt-ltb j w.config.sequencers h)) tt
+  event_taken (events.Install k j) h sent =
+      brought (actors.Controller k) (tick_if (nat_lt j w.config.sequencers) (ticks.Install j)) (Takes (Ticked (ticks.Install j)))
+      (ap (λ (b : Bool). tick_if b (ticks.Install j)) (lt-ltb j w.config.sequencers h.1)) h.0
   event_taken (events.Crash a) h sent = actor_taken a Crashes h
   event_taken (events.Junk a bytes) h sent = absurd sent
 
@@ -155,7 +152,7 @@ module _ (sent : List Sent) (some : 1 ≤ length sent) (all : (s : Sent) → Has
   crash_fine g = let low = drawn_below 2 g (omega arith) in record { of = omega (arith, low); was_sent = tt; line = tt; fits = tt }
 
   install_fine : (g : Lcg) → IsFine sent (install_drawn g).0
-  install_fine g = record { of = drawn_below 2 g (omega arith); was_sent = tt; line = tt; fits = tt }
+  install_fine g = record { of = (omega arith, drawn_below 2 g (omega arith)); was_sent = tt; line = tt; fits = tt }
 
   crash_or_fine : (b : Bool) (g : Lcg) → IsFine sent ((if b then crash_drawn else install_drawn) g).0
   crash_or_fine true g = crash_fine g
@@ -164,8 +161,8 @@ module _ (sent : List Sent) (some : 1 ≤ length sent) (all : (s : Sent) → Has
   rare_fine : (g : Lcg) → IsFine sent (rare_drawn g).0
   rare_fine g = crash_or_fine ((draw 16 g).0 == 0) (draw 16 g).1
 
-  controller_fine : (t : Tick) → HasWord t → takes_tick actors.Controller t ≡ true → IsFine sent (events.Tick actors.Controller t)
-  controller_fine t word takes = record { of = (tt, takes); was_sent = tt; line = word; fits = tt }
+  controller_fine : (t : Tick) → HasWord t → takes_tick (actors.Controller 0) t ≡ true → IsFine sent (events.Tick (actors.Controller 0) t)
+  controller_fine t word takes = record { of = (omega arith, takes); was_sent = tt; line = word; fits = tt }
 
   -- the tests of the table in their order
   often_fine : (a b : Bool) (g : Lcg)
@@ -176,8 +173,8 @@ module _ (sent : List Sent) (some : 1 ≤ length sent) (all : (s : Sent) → Has
 
   seldom_fine : (e f h i j k : Bool) (g : Lcg) → IsFine sent ((if e then replica_tick_drawn ticks.Resend
       else if f then replica_tick_drawn ticks.Sync else if h then retry_drawn else if i then replica_tick_drawn ticks.Suspect
-      else if j then (λ (x : Lcg). (events.Tick actors.Controller ticks.Probe, x))
-      else if k then (λ (x : Lcg). (events.Tick actors.Controller ticks.Resend, x)) else rare_drawn) g).0
+      else if j then (λ (x : Lcg). (events.Tick (actors.Controller 0) ticks.Probe, x))
+      else if k then (λ (x : Lcg). (events.Tick (actors.Controller 0) ticks.Resend, x)) else rare_drawn) g).0
   seldom_fine true f h i j k g = replica_tick_fine ticks.Resend g tt (λ n. refl)
   seldom_fine false true h i j k g = replica_tick_fine ticks.Sync g tt (λ n. refl)
   seldom_fine false false true i j k g = retry_fine g
@@ -219,6 +216,7 @@ module _ {S : Type 0} (m : Meaning S) (IsSound : S → Type 0) (keeps : KeepsTo 
             ∙ shown.replica_count ∙ ap (λ (c : Configuration). c.replicas) same;
         sequencers = ap length alike.sequencers ∙ shown.sequencer_count ∙ ap (λ (c : Configuration). c.sequencers) same;
         clients = ap length alike.clients ∙ shown.client_count ∙ ap (λ (c : Configuration). c.clients) same;
+        controllers = ap length alike.controllers ∙ shown.controller_count ∙ ap (λ (c : Configuration). c.controllers) same;
       }
 
   config_is : (h : Happened) → Reached m drawn_config h → h.world.config ≡ drawn_config

@@ -1,6 +1,7 @@
 -- What is written for a whole input always has a last line.
 use Rattle.std.proofs.Common.{◌≢◌, ℕ, ◌+◌, List, [], ◌∷◌, ◌++◌, true, Option, Some, None, Result, Ok, Err, subst, sym, ap, ◌∙◌, ◌≡◌}
 use Rattle.nop_types.specs.Configuration.{Configuration}
+use Rattle.nop_types.specs.declared.header.Header.{Header}
 use Rattle.nop_types.specs.Meaning.{Meaning}
 use Rattle.schedule_text.specs.declared.rule.Rule.{Rule}
 use Rattle.schedule_text.specs.declared.rule.Rule.TheVariants.{WrongWord}
@@ -102,9 +103,11 @@ module _ {S : Type 0} (m : Meaning S) where
   pub after_turn_some : (c : Configuration) (w : WorldState) (t : Turn) → (after_turn m true c w t).text ≢ []
   after_turn_some c w t = after_next_some c w t.line t.rest t.next
 
-  begun_some : (lines : List (List ℕ)) (r : Result Configuration Rule) → (begun m true lines r).text ≢ []
+  begun_some : (lines : List (List ℕ)) (r : Result Header Rule) → (begun m true lines r).text ≢ []
   begun_some lines (Err rule) = bad_text_some (bad_line 1 (rule_number rule))
-  begun_some lines (Ok c) = some_right (transcript_line c) (rest m true c (opening c) 1 lines).text (rest_some c (opening c) 1 lines)
+  begun_some lines (Ok h) =
+      some_right (transcript_line h.form h.config) (rest m true h.config (opening h.config) 1 lines).text
+      (rest_some h.config (opening h.config) 1 lines)
 
   lines_some : (lines : List (List ℕ)) → (output_of_lines m true lines).text ≢ []
   lines_some [] = begun_some [] (Err WrongWord)

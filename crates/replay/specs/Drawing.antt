@@ -81,7 +81,7 @@ taker_drawn (One actor) = gives actor
 
 -- no datagram has the index only where none was sent
 abbrev pub delivery_drawn : ℕ → Option Sent → Draw Event
-delivery_drawn index None = gives (events.Deliver index Controller)
+delivery_drawn index None = gives (events.Deliver index (Controller 0))
 delivery_drawn index (Some s) = do
   taker ← taker_drawn s.dest
   gives (events.Deliver index taker)
@@ -113,7 +113,7 @@ crash_drawn = do
 abbrev pub install_drawn : Draw Event
 install_drawn = do
   j ← draw 2
-  gives (events.Install j)
+  gives (events.Install 0 j)
 
 abbrev pub crash_or_install : ℕ → Draw Event
 crash_or_install n = if n == 0 then crash_drawn else install_drawn
@@ -136,8 +136,8 @@ seldom_drawn n =
     else if nat_le n 249 then replica_tick_drawn ticks.Sync
     else if nat_le n 251 then retry_drawn
     else if n == 252 then replica_tick_drawn ticks.Suspect
-    else if n == 253 then gives (events.Tick Controller ticks.Probe)
-    else if n == 254 then gives (events.Tick Controller ticks.Resend)
+    else if n == 253 then gives (events.Tick (Controller 0) ticks.Probe)
+    else if n == 254 then gives (events.Tick (Controller 0) ticks.Resend)
     else rare_drawn
 
 -- by a number below 256

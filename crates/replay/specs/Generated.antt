@@ -24,9 +24,9 @@ use Rattle.replay.specs.Outcome.{LeavesSome}
 
 -- ---- the events
 
--- five replicas, two sequencers and four clients
+-- five replicas, two sequencers, four clients and one controller
 abbrev pub drawn_config : Configuration
-drawn_config = record { replicas = 5; sequencers = 2; clients = 4 }
+drawn_config = record { replicas = 5; sequencers = 2; clients = 4; controllers = 1 }
 
 -- client 0 gets the key `a`
 abbrev pub first_event : Event

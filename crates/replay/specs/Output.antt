@@ -1,6 +1,7 @@
 -- What is written for the bytes of a schedule.
 use Rattle.std.specs.Prelude.{ℕ, ◌+◌, List, [], ◌∷◌, ◌++◌, Bool, true, false, Option, Some, None, Result, Ok, Err}
 use Rattle.nop_types.specs.Configuration.{Configuration}
+use Rattle.nop_types.specs.declared.header.Header.{Header}
 use Rattle.nop_types.specs.Meaning.{Meaning}
 use Rattle.schedule_text.specs.declared.event.Event.{Event}
 use Rattle.schedule_text.specs.Cutting.{lines_of}
@@ -81,10 +82,10 @@ module _ {S : Type 0} (m : Meaning S) where
   rest ended c w k lines = written ended w (schedule_from m c w k lines)
 
   -- line 1 begins the transcript
-  abbrev pub begun : Bool → List (List ℕ) → Result Configuration Rule → Output
+  abbrev pub begun : Bool → List (List ℕ) → Result Header Rule → Output
   begun ended lines (Err rule) = let b : BadLine = record { line = 1; rule = rule_number rule; index_sent = None } in
       record { text = bad_text b; bad = Some b }
-  begun ended lines (Ok c) = then_text (transcript_line c) (rest ended c (opening c) 1 lines)
+  begun ended lines (Ok h) = then_text (transcript_line h.form h.config) (rest ended h.config (opening h.config) 1 lines)
 
   -- without any line the first one has a wrong word, once the input has ended
   abbrev pub nothing_yet : Bool → Output

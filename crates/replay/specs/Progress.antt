@@ -2,6 +2,7 @@
 use Rattle.std.specs.Prelude.{◌≡◌, ℕ, ◌+◌, List, [], ◌++◌, Bool, true, Option, Some, None, Result, Ok, Err, ⊤}
 use Rattle.std.specs.Io.KnownBytes.{Appends}
 use Rattle.nop_types.specs.Configuration.{Configuration}
+use Rattle.nop_types.specs.declared.header.Header.{Header}
 use Rattle.nop_types.specs.Meaning.{Meaning}
 use Rattle.schedule_text.specs.declared.event.Event.{Event}
 use Rattle.schedule_text.specs.declared.next_error.NextError.{NextError}
@@ -60,21 +61,21 @@ module _ {S : Type 0} (m : Meaning S) where
         → output m ended (taken ++ more) ≡ then_text (written ++ pending) (follows ended more)
 
   -- between two turns
-  pub record Going (bytes left : List ℕ) (before now : Option (List ℕ)) (pending : List ℕ) (r : Reading) (c : Configuration)
+  pub record Going (bytes left : List ℕ) (before now : Option (List ℕ)) (pending : List ℕ) (r : Reading) (h : Header)
       (w : WorldState) : Type 0 where
-    pub config : r.config ≡ Some c
-    pub progress : Progress bytes left before now pending r (λ ended more. rest m ended c w r.line (lines_before r ended more))
+    pub header : r.header ≡ Some h
+    pub progress : Progress bytes left before now pending r (λ ended more. rest m ended h.config w r.line (lines_before r ended more))
 
-  abbrev pub GoingOf : Option (List ℕ) → Option (List ℕ) → Option (List ℕ) → Option (List ℕ) → List ℕ → Reading → Configuration
+  abbrev pub GoingOf : Option (List ℕ) → Option (List ℕ) → Option (List ℕ) → Option (List ℕ) → List ℕ → Reading → Header
       → WorldState → Type 0
-  GoingOf None left before now pending r c w = ⊤
-  GoingOf (Some bytes) None before now pending r c w = ⊥
-  GoingOf (Some bytes) (Some left) before now pending r c w = Going bytes left before now pending r c w
+  GoingOf None left before now pending r h w = ⊤
+  GoingOf (Some bytes) None before now pending r h w = ⊥
+  GoingOf (Some bytes) (Some left) before now pending r h w = Going bytes left before now pending r h w
 
-  -- the same since a start, with the configuration that line 1 says
+  -- the same since a start, with what line 1 says
   pub record GoesOn (start : Start) (left now : Option (List ℕ)) (pending : List ℕ) (r : Reading) (w : WorldState) : Type 0 where
-    pub config : Configuration
-    pub going : GoingOf start.bytes left start.held now pending r config w
+    pub header : Header
+    pub going : GoingOf start.bytes left start.held now pending r header w
 
   -- The source may be asked: where it will be, no bad line is decided by the bytes that were taken since the start, and what was written
   -- since then is the transcript line with the lines of all lines that they decide.

@@ -122,7 +122,7 @@ fn rare(words: &mut Lcg64Xsh32) -> Event
     if draw(words, 16) == 0 {
         Event::Crash(Actor::Replica(3 + draw(words, 2) as u8))
     } else {
-        Event::Install(draw(words, 2) as u8)
+        Event::Install(0, draw(words, 2) as u8)
     }
 }
 
@@ -153,8 +153,8 @@ fn seldom(words: &mut Lcg64Xsh32, n: u32) -> Event
         248..=249 => replica_tick(words, Tick::Sync),
         250..=251 => retry(words),
         252 => replica_tick(words, Tick::Suspect),
-        253 => Event::Tick(Actor::Controller, Tick::Probe),
-        254 => Event::Tick(Actor::Controller, Tick::Resend),
+        253 => Event::Tick(Actor::Controller(0), Tick::Probe),
+        254 => Event::Tick(Actor::Controller(0), Tick::Resend),
         _ => rare(words),
     }
 }

@@ -10,6 +10,8 @@
 //! Each read goes through `open` or `next_event` of `reading`, which require that all is written
 //! that the bytes taken so far decide (`MayRead`): an answer is out before the program waits.
 //!
+//! The transcript's first line has the form of the schedule's header.
+//!
 //! At Ok, of an observable source, the run of the bytes is safe (clause `safe`, `RunsSafely`).
 //! ReadFault and WriteFault come only where that device failed, and a write that failed is always
 //! told: the sink's count of faults rises by one at WriteFault, and stays at every other answer

@@ -1,9 +1,10 @@
 //! The calls that may read the source. Each wants that all is written that the bytes taken so far decide, unless it will not read.
 
-ghost use Rattle.std.specs.Prelude.{◌≡◌, ◌+◌, ◌≤◌, Some, Err, IsSome, IfOk, OnOk, OnErr};
+ghost use Rattle.std.specs.Prelude.{◌≡◌, ◌+◌, ◌≤◌, Err, IsSome, IsTrue, IfOk, OnOk, OnErr};
+ghost use Rattle.nop_types.specs.Headers.{gives};
 ghost use Rattle.nop_types.specs.declared.limits.TheConstants.{MAX_LINES};
 ghost use Rattle.outside.specs.Causes.{HasCauseFor};
-ghost use Rattle.schedule_text.specs.Reading.{lines_taken, LeavesNone, TakesOf};
+ghost use Rattle.schedule_text.specs.Reading.{form_of, lines_taken, HasConfig, LeavesNone, TakesOf};
 ghost use Rattle.schedule_text.specs.Stepping.{after_step};
 ghost use Rattle.schedule_text.specs.declared.next_error.NextError.TheVariants as nexts;
 ghost use Rattle.replay.specs.Progress.{MayRead, Start};
@@ -20,9 +21,10 @@ pub fn open<H: Host, S: Source, K: Sink>(
 ) -> Result<Config, NextError>
     ghost start: { Start }
     requires written { MayRead H.meaning start reader.old (S.left source.old) (K.held sink.now) }
-    ensures config { IfOk result (λ c. reader.new.config ≡ Some c) }
+    ensures config { IfOk result (HasConfig reader.new.header) }
+    ensures form { IfOk result (λ c. IsTrue (gives (form_of reader.new.header) c)) }
     ensures line { OnOk result ((1 ≤ reader.new.line) × (reader.new.line ≤ MAX_LINES)) }
-    ensures closed { OnErr result (reader.new.config ≡ reader.old.config) }
+    ensures closed { OnErr result (reader.new.header ≡ reader.old.header) }
     ensures takes { TakesOf reader.old reader.new (S.left source.old) (S.left source.new)
         (after_step result) }
     ensures none_left { LeavesNone reader.new (after_step result) }
@@ -42,8 +44,8 @@ pub fn next_event<H: Host, S: Source, K: Sink>(
     requires written { MayRead H.meaning start reader.old (S.left source.old) (K.held sink.now) }
     ensures takes { TakesOf reader.old reader.new (S.left source.old) (S.left source.new) result }
     ensures none_left { LeavesNone reader.new result }
-    ensures config { IsSome reader.old.config → reader.new.config ≡ reader.old.config }
-    ensures line { IsSome reader.old.config → reader.new.line
+    ensures header { IsSome reader.old.header → reader.new.header ≡ reader.old.header }
+    ensures line { IsSome reader.old.header → reader.new.line
         ≡ reader.old.line + lines_taken result }
     ensures cause { HasCauseFor (S.fault_count source.old) (S.fault_count source.new)
         nexts.ReadFault result }

@@ -1,4 +1,5 @@
-ghost use Rattle.std.specs.Prelude.{◌≡◌, ◌≤◌, ◌++◌, false, IsSome, IfOk, OnOk};
+ghost use Rattle.std.specs.Prelude.{◌≡◌, ◌≤◌, ◌++◌, false, IsSome, IsTrue, IfOk, OnOk};
+ghost use Rattle.nop_types.specs.Headers.{gives};
 ghost use Rattle.outside.specs.Causes.{HasCauseFor};
 ghost use Rattle.transcript_text.specs.Transcript.{transcript_line};
 ghost use Rattle.world.specs.WorldSteps.{opening};
@@ -20,13 +21,16 @@ use world::World;
 /// The first line of a transcript, and the world that its events start from.
 fn begin<H: Host>(
     alloc: Global,
+    form: u8,
     config: Config,
     pending: &mut Vec<u8>,
 ) -> Result<World<H>, NoMemory>
+    requires { IsTrue (gives form config) }
     ensures world { IfOk result (λ w. w ≡ record { failed = false; state = opening config }) }
-    ensures line { OnOk result (pending.new.items ≡ pending.old.items ++ transcript_line config) }
+    ensures line { OnOk result (pending.new.items
+        ≡ pending.old.items ++ transcript_line form config) }
 {
-    transcript_line(config, pending)?;
+    transcript_line(form, config, pending)?;
     World::new(alloc, config)
 }
 
@@ -42,7 +46,7 @@ fn take_events<H: Host, S: Source, K: Sink>(
     ghost start: { Start }
     requires going { GoesOn H.meaning start (S.left source.old) (K.held sink.old) pending.old.items
         reader.old world.old.state }
-    requires opened { IsSome reader.old.config }
+    requires opened { IsSome reader.old.header }
     requires first { 1 ≤ reader.old.line }
     requires last { reader.old.line ≤ MAX_LINES }
     ensures ends { EndsWith H.meaning start.bytes (S.left source.new) start.held
@@ -86,7 +90,7 @@ fn replay_from<H: Host, S: Source, K: Sink>(
         Ok(config) => config,
         Err(e) => return Err(stop(e, &mut pending, sink)),
     };
-    let mut world: World<H> = begin(alloc, config, &mut pending)?;
+    let mut world: World<H> = begin(alloc, reader.form(), config, &mut pending)?;
     take_events(&mut reader, &mut world, source, &mut pending, sink)
 }
 

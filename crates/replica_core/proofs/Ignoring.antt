@@ -48,10 +48,10 @@ stays m s (datagrams.Stamped p) e = absurd cc
 stays m s (datagrams.Fragment f) e = fragment_stays m s f e
 stays m s (datagrams.Request r) e = refl
 stays m s (datagrams.Reply p) e = refl
-stays m s (datagrams.Install sequencer session) e = refl
-stays m s (datagrams.Installed sequencer session) e = refl
-stays m s (datagrams.Ping sequencer round) e = refl
-stays m s (datagrams.Pong sequencer round) e = refl
+stays m s (datagrams.Install controller sequencer session) e = refl
+stays m s (datagrams.Installed controller sequencer session) e = refl
+stays m s (datagrams.Ping controller sequencer round) e = refl
+stays m s (datagrams.Pong controller sequencer round) e = refl
 
 read_stays : {S : Type 0} (m : Meaning S) (s : Replica) (bytes : List ℕ) (r : Result Datagram Bad) → reading bytes ≡ r
     → Stays s (on_datagram m s r) → IsIgnored m s (Packet bytes)

@@ -107,14 +107,14 @@ log_most log fits =
     let few : length log.entries ≤ MAX_SLOTS = omega (arith, fits.room) in
     omega (arith, log_len log, told_most log.checkpoint fits.checkpoint.1, entries_bytes_most log.entries fits.entries few)
 
-small : (n : ℕ) → n ≡ 4 → n ≤ 16 + most
+small : (n : ℕ) → n ≡ 4 → n ≤ 20 + most
 small n is = omega (arith, is)
 
-found_most : (slot : ℕ) (r : Request) → length r.op ≤ MAX_OP_BYTES → length (body_bytes (bodies.Found slot r)) ≤ 16 + most
+found_most : (slot : ℕ) (r : Request) → length r.op ≤ MAX_OP_BYTES → length (body_bytes (bodies.Found slot r)) ≤ 20 + most
 unfolding most
 found_most slot r short = omega (arith, found_len slot r, request_len r, short)
 
-body_most : (body : Body) → BodyFits body → length (body_bytes body) ≤ 16 + most
+body_most : (body : Body) → BodyFits body → length (body_bytes body) ≤ 20 + most
 body_most (bodies.SlotLookup slot) fits = small _ (number_len slot)
 body_most (bodies.Found slot r) fits = found_most slot r fits.request.op
 body_most (bodies.GapCommit slot) fits = small _ (number_len slot)
@@ -128,7 +128,7 @@ body_most (bodies.SyncRep len) fits = small _ (number_len len)
 body_most (bodies.SyncCommit len) fits = small _ (number_len len)
 
 -- a message fits the most fragments
-most_fits : (n : ℕ) → n ≤ 16 + most → 10 + n ≤ MAX_FRAGMENTS * FRAGMENT_BYTES
+most_fits : (n : ℕ) → n ≤ 20 + most → 14 + n ≤ MAX_FRAGMENTS * FRAGMENT_BYTES
 unfolding most
 most_fits n le = omega (arith, le)
 

@@ -24,10 +24,10 @@ is_for s (datagrams.Stamped p) = true
 is_for s (datagrams.Fragment f) = is_other s.state f.replica
 is_for s (datagrams.Request r) = false
 is_for s (datagrams.Reply p) = false
-is_for s (datagrams.Install sequencer session) = false
-is_for s (datagrams.Installed sequencer session) = false
-is_for s (datagrams.Ping sequencer round) = false
-is_for s (datagrams.Pong sequencer round) = false
+is_for s (datagrams.Install controller sequencer session) = false
+is_for s (datagrams.Installed controller sequencer session) = false
+is_for s (datagrams.Ping controller sequencer round) = false
+is_for s (datagrams.Pong controller sequencer round) = false
 
 -- the input changes nothing, and nothing is sent
 abbrev pub IsIgnored : {S : Type 0} → Meaning S → Replica → Given → Type 0

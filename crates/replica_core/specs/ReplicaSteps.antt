@@ -85,10 +85,10 @@ on_datagram m s (Ok (datagrams.Stamped p)) = row m s (messages.Packet p)
 on_datagram m s (Ok (datagrams.Fragment f)) = fragment m s f
 on_datagram m s (Ok (datagrams.Request r)) = (s, [])
 on_datagram m s (Ok (datagrams.Reply p)) = (s, [])
-on_datagram m s (Ok (datagrams.Install sequencer session)) = (s, [])
-on_datagram m s (Ok (datagrams.Installed sequencer session)) = (s, [])
-on_datagram m s (Ok (datagrams.Ping sequencer round)) = (s, [])
-on_datagram m s (Ok (datagrams.Pong sequencer round)) = (s, [])
+on_datagram m s (Ok (datagrams.Install controller sequencer session)) = (s, [])
+on_datagram m s (Ok (datagrams.Installed controller sequencer session)) = (s, [])
+on_datagram m s (Ok (datagrams.Ping controller sequencer round)) = (s, [])
+on_datagram m s (Ok (datagrams.Pong controller sequencer round)) = (s, [])
 on_datagram m s (Err e) = (s, [])
 
 unfoldable pub next : {S : Type 0} → Meaning S → Replica → Given → Replica × List Out

@@ -11,9 +11,9 @@ const TRANSCRIPT: &str = "\
 transcript 1 replicas 3 sequencers 1 clients 1
 submit c0 1 5000016b000176
 send 0 c0 s* request 25
-send 1 s0 r* stamped 37
-send 2 r0 c0 reply 36
-send 3 r1 c0 reply 32
+send 1 s0 r* stamped 41
+send 2 r0 c0 reply 40
+send 3 r1 c0 reply 36
 accept c0 1 6e6f6e65
 replica r0 up normal 0 1 1 0
 replica r1 up normal 0 1 1 0
@@ -34,7 +34,7 @@ const CLIENT_LINES: &str = "submit c0 1 5000016b000176\naccept c0 1 6e6f6e65\nse
 const NODES: [&str; 3] = [
     "nopaxos node --id 2 --replicas 3 --sequencers 1 --turns 3",
     "nopaxos sequencer --id 0 --replicas 3 --sequencers 1 --turns 3",
-    "nopaxos controller --replicas 3 --sequencers 1 --turns 3",
+    "nopaxos controller --id 1 --replicas 3 --sequencers 1 --turns 3",
 ];
 
 /// A run in which a call fails; calls of a kind count from 1.

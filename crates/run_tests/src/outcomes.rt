@@ -13,7 +13,7 @@ use outside::{
 use std::alloc::Global;
 use std::process::Abort;
 
-pub const REQUEST: &str = "4e4f020100000000000000000000000100075000016b000176";
+pub const REQUEST: &str = "4e4f030100000000000000000000000100075000016b000176";
 
 pub const ONE_PUT: &str =
     "nopaxos 1 replicas 3 sequencers 1 clients 1\nsubmit c0 5000016b000176\ndeliver 0 s0\ndeliver 1 r0\ndeliver 1 r1\ndeliver 2 c0\ndeliver 3 c0\n";
@@ -92,9 +92,11 @@ pub fn datagram(rt: &impl Abort, alloc: Global, word: &str) -> Bytes
 {
     let digits = match word {
         "request" => REQUEST,
-        "stamped" => "4e4f020200000001000000000000000100000000000000000000000100075000016b000176",
-        "reply" => "4e4f0203000000000000000001000000010000000000000000000000010100046e6f6e65",
-        "follower" => "4e4f020301000000000000000100000001000000000000000000000001000000",
+        "stamped" =>
+            "4e4f03020000000000000001000000000000000100000000000000000000000100075000016b000176",
+        "reply" =>
+            "4e4f030300000000000000000000000001000000010000000000000000000000010100046e6f6e65",
+        "follower" => "4e4f03030100000000000000000000000100000001000000000000000000000001000000",
         _ => word,
     };
     let bytes = hex::decode(alloc, digits).expect(rt, "hexadecimal");

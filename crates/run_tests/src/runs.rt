@@ -36,7 +36,7 @@ writes 16
 transcript 1 replicas 3 sequencers 1 clients 1
 submit c0 1 5000016b000176
 send 0 c0 s* request 25
-send 1 s0 r* stamped 37
+send 1 s0 r* stamped 41
 |
 ----
 nopaxos replay
@@ -52,9 +52,9 @@ schedule
 transcript 1 replicas 3 sequencers 1 clients 1
 submit c0 1 5000016b000176
 send 0 c0 s* request 25
-send 1 s0 r* stamped 37
-send 2 r0 c0 reply 36
-send 3 r1 c0 reply 32
+send 1 s0 r* stamped 41
+send 2 r0 c0 reply 40
+send 3 r1 c0 reply 36
 accept c0 1 6e6f6e65
 replica r0 up normal 0 1 1 0
 replica r1 up normal 0 1 1 0
@@ -72,9 +72,9 @@ schedule
 transcript 1 replicas 3 sequencers 1 clients 1
 submit c0 1 5000016b000176
 send 0 c0 s* request 25
-send 1 s0 r* stamped 37
-send 2 r0 c0 reply 36
-send 3 r1 c0 reply 32
+send 1 s0 r* stamped 41
+send 2 r0 c0 reply 40
+send 3 r1 c0 reply 36
 accept c0 1 3d76
 replica r0 up normal 0 1 1 0
 replica r1 up normal 0 1 1 0
@@ -191,7 +191,7 @@ submit c0 1 5000016b000176
 accept c0 1 6e6f6e65
 served 2 lost 0
 |
-41008 4e4f020100000000000000000000000100075000016b000176
+41008 4e4f030100000000000000000000000100075000016b000176
 ----
 nopaxos client --id 0 --replicas 3 --sequencers 1 --turns 3 5000016b000176
 polls reply follower
@@ -207,16 +207,16 @@ nopaxos client --id 0 --replicas 3 --sequencers 1 --turns 2 5000016B000176
 submit c0 1 5000016b000176
 served 2 lost 0
 |
-41008 4e4f020100000000000000000000000100075000016b000176
+41008 4e4f030100000000000000000000000100075000016b000176
 ----
 nopaxos sequencer --id 0 --replicas 3 --sequencers 1 --turns 1
 polls request
 => Done
 served 1 lost 0
 |
-41000 4e4f020200000001000000000000000100000000000000000000000100075000016b000176
-41001 4e4f020200000001000000000000000100000000000000000000000100075000016b000176
-41002 4e4f020200000001000000000000000100000000000000000000000100075000016b000176
+41000 4e4f03020000000000000001000000000000000100000000000000000000000100075000016b000176
+41001 4e4f03020000000000000001000000000000000100000000000000000000000100075000016b000176
+41002 4e4f03020000000000000001000000000000000100000000000000000000000100075000016b000176
 ----
 nopaxos sequencer --id 0 --replicas 3 --sequencers 1 --turns 1
 polls request
@@ -224,26 +224,32 @@ sends of 1: 2
 => Done
 served 1 lost 1
 |
-41000 4e4f020200000001000000000000000100000000000000000000000100075000016b000176
-41002 4e4f020200000001000000000000000100000000000000000000000100075000016b000176
+41000 4e4f03020000000000000001000000000000000100000000000000000000000100075000016b000176
+41002 4e4f03020000000000000001000000000000000100000000000000000000000100075000016b000176
 ----
 nopaxos node --id 0 --replicas 3 --sequencers 1
 polls nothing failure
 => LinkFault
 |
 ----
-nopaxos controller --replicas 3 --sequencers 1 --install 0 --turns 1
+nopaxos controller --id 0 --replicas 3 --sequencers 1 --install 0 --turns 1
 => Done
 served 1 lost 0
 |
-41008 4e4f02040000000002
+41008 4e4f030400000000000000000002
+----
+nopaxos controller --id 3 --replicas 3 --sequencers 2 --install 1 --turns 1
+=> Done
+served 1 lost 0
+|
+41009 4e4f030403010000000300000001
 ----
 nopaxos node --id 0 --replicas 3 --sequencers 1 --turns 1
 polls stamped
 => Done
 served 1 lost 0
 |
-41016 4e4f0203000000000000000001000000010000000000000000000000010100046e6f6e65
+41016 4e4f030300000000000000000000000001000000010000000000000000000000010100046e6f6e65
 ";
 
 /// How words end that are not taken.
@@ -284,9 +290,10 @@ nopaxos node --id 0 --replicas 3 --sequencers 1 --base 65001
 nopaxos node --id 0 --replicas 3 --sequencers 1 --turns 0
 nopaxos node --id 0 --replicas 3 --sequencers 1 --turns 18446744073709551616
 nopaxos sequencer --id 1 --replicas 3 --sequencers 1
-nopaxos controller --replicas 3 --sequencers 1 --session 0
-nopaxos controller --replicas 3 --sequencers 1 --install 1
-nopaxos controller --id 0 --replicas 3 --sequencers 1
+nopaxos controller --id 4 --replicas 3 --sequencers 4
+nopaxos controller --id 0 --replicas 3 --sequencers 1 --install 1
+nopaxos controller --id 0 --replicas 3 --sequencers 1 --session 1
+nopaxos controller --replicas 3 --sequencers 1
 nopaxos client --id 0 --replicas 3 --sequencers 1
 nopaxos client --id 0 --replicas 3 --sequencers 1 5
 nopaxos client --id 4294967296 --replicas 3 --sequencers 1 50

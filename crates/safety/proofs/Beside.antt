@@ -24,7 +24,7 @@ abbrev pub is_replica : Actor → Bool
 is_replica (actors.Replica i) = true
 is_replica (actors.Sequencer i) = false
 is_replica (actors.Client i) = false
-is_replica actors.Controller = false
+is_replica (actors.Controller i) = false
 
 -- ---- letters
 
@@ -63,7 +63,7 @@ module _ {S : Type 0} (m : Meaning S) where
     pub replicas : map plain t.replicas ≡ map (trimmed_seat m) w.replicas
     pub sequencers : t.sequencers ≡ w.sequencers
     pub clients : t.clients ≡ w.clients
-    pub controller : t.controller ≡ w.controller
+    pub controllers : t.controllers ≡ w.controllers
 
   -- ---- all of it
 

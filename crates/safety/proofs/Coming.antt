@@ -49,6 +49,6 @@ module _ (sent : List Sent) where
       let same : Takes (Submit op) ≡ what = cc in subst (AllMayCome (bytes_of sent)) same tt
   event_comes config (events.Deliver index actor) what e = datagram_comes index (slice_get sent index) what refl e
   event_comes config (events.Tick actor tick) what e = tick_comes (takes_tick actor tick) tick what e
-  event_comes config (events.Install number) what e = tick_comes (nat_lt number config.sequencers) (ticks.Install number) what e
+  event_comes config (events.Install k j) what e = tick_comes (nat_lt j config.sequencers) (ticks.Install j) what e
   event_comes config (events.Crash actor) what e = let same : Crashes ≡ what = cc in subst (AllMayCome (bytes_of sent)) same tt
   event_comes config (events.Junk actor bytes) what e = junk_comes bytes (reading bytes) what refl e

@@ -59,7 +59,7 @@ opening_beside m config is = record {
     replicas = same_opening m config config.replicas;
     sequencers = refl;
     clients = refl;
-    controller = refl;
+    controllers = refl;
   };
   travels = record {
     used = λ (r : ℕ). 0;

@@ -80,8 +80,9 @@ module _ {S : Type 0} (m : Meaning S) (t : WorldState) (h : Happened) where
       (λ x. (refl, (refl, refl))) e
   actor_sends (actors.Client k) r other e =
       seat_others client.next client_sends (actors.Client k) t (at_client t k) (slice_get t.clients k) r h (λ x. (refl, (refl, refl))) e
-  actor_sends actors.Controller r other e =
-      seat_others controller.next controller_sends actors.Controller t (at_controller t) (Some t.controller) r h (λ x. (refl, (refl, refl))) e
+  actor_sends (actors.Controller k) r other e =
+      seat_others controller.next controller_sends (actors.Controller k) t (at_controller t k) (slice_get t.controllers k) r h
+      (λ x. (refl, (refl, refl))) e
 
   pub others_send : (e : Event) → is_replica (actor_of e) ≡ false → step m t e ≡ Ok h → SentOthers t h
   unfolding step

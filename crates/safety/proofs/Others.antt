@@ -39,7 +39,7 @@ use Rattle.safety.specs.Following.{brought, sent_to, datagram_to, is_spoken, is_
 use Rattle.safety.proofs.Beside.{Alike, is_replica}
 use Rattle.whole_world.specs.Whole as whole
 use Rattle.whole_world.specs.Whole.{WholeWorld, Brings, was_sent, given_if, junk_if, input_of, is_crash, at_seat, seat_of, lines_of}
-use Rattle.whole_world.specs.Whole.{step_client, step_sequencer, whole_step}
+use Rattle.whole_world.specs.Whole.{step_client, step_sequencer, step_controller, whole_step}
 use Rattle.safety.proofs.Sends.{AreOther, others_kept, lines_spoken, client_sends, sequencer_sends, controller_sends}
 use Rattle.safety.proofs.Sends.{client_ignores, sequencer_ignores, controller_ignores}
 
@@ -139,14 +139,14 @@ module _ {A : Type 0} (next : A → Given → A × List Out) where
     packet_meets (actors.Replica k) other i s at r is what e = absurd cc
     packet_meets (actors.Sequencer k) other i s at (Ok (datagrams.Fragment f)) is what e = unheard_meets s f is what e
     packet_meets (actors.Client k) other i s at (Ok (datagrams.Fragment f)) is what e = unheard_meets s f is what e
-    packet_meets actors.Controller other i s at (Ok (datagrams.Fragment f)) is what e = unheard_meets s f is what e
+    packet_meets (actors.Controller k) other i s at (Ok (datagrams.Fragment f)) is what e = unheard_meets s f is what e
     packet_meets a other i s at (Ok (datagrams.Stamped p)) is what e = equal_meets i s at (ap is_fragment is) what e
     packet_meets a other i s at (Ok (datagrams.Request p)) is what e = equal_meets i s at (ap is_fragment is) what e
     packet_meets a other i s at (Ok (datagrams.Reply p)) is what e = equal_meets i s at (ap is_fragment is) what e
-    packet_meets a other i s at (Ok (datagrams.Install j n)) is what e = equal_meets i s at (ap is_fragment is) what e
-    packet_meets a other i s at (Ok (datagrams.Installed j n)) is what e = equal_meets i s at (ap is_fragment is) what e
-    packet_meets a other i s at (Ok (datagrams.Ping j n)) is what e = equal_meets i s at (ap is_fragment is) what e
-    packet_meets a other i s at (Ok (datagrams.Pong j n)) is what e = equal_meets i s at (ap is_fragment is) what e
+    packet_meets a other i s at (Ok (datagrams.Install k j n)) is what e = equal_meets i s at (ap is_fragment is) what e
+    packet_meets a other i s at (Ok (datagrams.Installed k j n)) is what e = equal_meets i s at (ap is_fragment is) what e
+    packet_meets a other i s at (Ok (datagrams.Ping k j n)) is what e = equal_meets i s at (ap is_fragment is) what e
+    packet_meets a other i s at (Ok (datagrams.Pong k j n)) is what e = equal_meets i s at (ap is_fragment is) what e
     packet_meets a other i s at (Err bad) is what e = equal_meets i s at (ap is_fragment is) what e
 
     sent_meets : (a : Actor) → is_replica a ≡ false → (i : ℕ) (o : Option Sent) → slice_get w.sent i ≡ o → (what : Stimulus)
@@ -173,7 +173,7 @@ module _ {A : Type 0} (next : A → Given → A × List Out) where
         let got : Takes (Submit op) ≡ what = cc in takes (Submit op) what (whole.Op op) got refl refl
     event_meets (events.Deliver index actor) other what is = sent_meets actor other index (slice_get w.sent index) refl what is
     event_meets (events.Tick actor tick) other what is = tick_meets (takes_tick actor tick) tick what is
-    event_meets (events.Install number) other what is = tick_meets (nat_lt number w.config.sequencers) (ticks.Install number) what is
+    event_meets (events.Install k j) other what is = tick_meets (nat_lt j w.config.sequencers) (ticks.Install j) what is
     event_meets (events.Crash actor) other what is = let got : Crashes ≡ what = cc in
         subst (λ (x : Stimulus). Meets x whole.Crash) got refl
     event_meets (events.Junk actor bytes) other what is = junk_meets bytes (reading bytes) refl what is
@@ -202,7 +202,7 @@ module _ {S : Type 0} (m : Meaning S) (t : WorldState) (ls : List Line) (w : Who
     sequencers = f.sequencers;
     clients = ap (λ (cs : List (Seated ClientState)). slice_set cs i x.0) f.clients
         ∙ ap (λ (p : Seated ClientState). slice_set w.clients i p) a.seat;
-    controller = f.controller;
+    controllers = f.controllers;
   }
 
   sequencer_after : (i : ℕ) (x : Seated SequencerState × Did) (y : Seated SequencerState × List Out)
@@ -216,20 +216,21 @@ module _ {S : Type 0} (m : Meaning S) (t : WorldState) (ls : List Line) (w : Who
     sequencers = ap (λ (cs : List (Seated SequencerState)). slice_set cs i x.0) f.sequencers
         ∙ ap (λ (p : Seated SequencerState). slice_set w.sequencers i p) a.seat;
     clients = f.clients;
-    controller = f.controller;
+    controllers = f.controllers;
   }
 
-  controller_after : (x : Seated ControllerState × Did) (y : Seated ControllerState × List Out)
-      → SameSeat controller.next actors.Controller x y
-      → After (at_controller t x) (whole.gave w actors.Controller y.1 (record w { controller = y.0 }))
-  controller_after x y a = record {
-    lines = lines_go_on (lines_by actors.Controller (length t.sent) x.1) (lines_of y.1) (a.lines (length t.sent));
-    sent = sends_go_on (sends_by actors.Controller x.1) (sends_of actors.Controller y.1) a.sent;
+  controller_after : (i : ℕ) (x : Seated ControllerState × Did) (y : Seated ControllerState × List Out)
+      → SameSeat controller.next (actors.Controller i) x y
+      → After (at_controller t i x) (whole.gave w (actors.Controller i) y.1 (record w { controllers = slice_set w.controllers i y.0 }))
+  controller_after i x y a = record {
+    lines = lines_go_on (lines_by (actors.Controller i) (length t.sent) x.1) (lines_of y.1) (a.lines (length t.sent));
+    sent = sends_go_on (sends_by (actors.Controller i) x.1) (sends_of (actors.Controller i) y.1) a.sent;
     config = f.config;
     replicas = f.replicas;
     sequencers = f.sequencers;
     clients = f.clients;
-    controller = a.seat;
+    controllers = ap (λ (cs : List (Seated ControllerState)). slice_set cs i x.0) f.controllers
+        ∙ ap (λ (p : Seated ControllerState). slice_set w.controllers i p) a.seat;
   }
 
   -- ---- the step
@@ -256,18 +257,16 @@ module _ {S : Type 0} (m : Meaning S) (t : WorldState) (ls : List Line) (w : Who
       (sequencer_after i (seat_step sequencer.next p what) (seat_of sequencer.next p g (input_of w.sent g))
       (alike sequencer.next sequencer_sends (actors.Sequencer i) p what g (input_of w.sent g) (meets what refl)))
 
-  controller_step : (p : Seated ControllerState) → t.controller ≡ p → (r : Result Stimulus Refusal) (g : Brings) (h : Happened)
+  controller_step : (i : ℕ) (o : Option (Seated ControllerState)) (r : Result Stimulus Refusal) (g : Brings) (h : Happened)
       → ((what : Stimulus) → r ≡ Ok what → Comes controller.next what (is_crash g) (input_of w.sent g))
-      → then_at (at_controller t) (step_at controller.next (Some p) r) ≡ Ok h
-      → After h (whole.gave w actors.Controller (seat_of controller.next p g (input_of w.sent g)).1
-      (record w { controller = (seat_of controller.next p g (input_of w.sent g)).0 }))
-  controller_step p at (Err refusal) g h meets e = absurd cc
-  controller_step p at (Ok what) g h meets e =
-      let is : at_controller t (seat_step controller.next p what) ≡ h = cc in
-      subst (λ (x : Happened). After x (whole.gave w actors.Controller (seat_of controller.next p g (input_of w.sent g)).1
-      (record w { controller = (seat_of controller.next p g (input_of w.sent g)).0 }))) is
-      (controller_after (seat_step controller.next p what) (seat_of controller.next p g (input_of w.sent g))
-      (alike controller.next controller_sends actors.Controller p what g (input_of w.sent g) (meets what refl)))
+      → then_at (at_controller t i) (step_at controller.next o r) ≡ Ok h → After h (step_controller w i o g)
+  controller_step i None r g h meets e = absurd cc
+  controller_step i (Some p) (Err refusal) g h meets e = absurd cc
+  controller_step i (Some p) (Ok what) g h meets e =
+      let is : at_controller t i (seat_step controller.next p what) ≡ h = cc in
+      subst (λ (x : Happened). After x (step_controller w i (Some p) g)) is
+      (controller_after i (seat_step controller.next p what) (seat_of controller.next p g (input_of w.sent g))
+      (alike controller.next controller_sends (actors.Controller i) p what g (input_of w.sent g) (meets what refl)))
 
   by_actor : (e : Event) (a : Actor) → actor_of e ≡ a → is_replica a ≡ false → (h : Happened)
       → step_of m t a (stimulus_of t.config t.sent e) ≡ Ok h → After h (whole_step m w a (brought t e))
@@ -280,11 +279,9 @@ module _ {S : Type 0} (m : Meaning S) (t : WorldState) (ls : List Line) (w : Who
       subst (λ (ps : List (Seated SequencerState)). After h (step_sequencer w i (slice_get ps i) (brought t e))) f.sequencers
       (sequencer_step i (slice_get t.sequencers i) (stimulus_of t.config t.sent e) (brought t e) h
       (event_meets sequencer.next sequencer_ignores t w.sent f.sent e (ap is_replica is)) at)
-  by_actor e actors.Controller is other h at =
-      subst (λ (p : Seated ControllerState). After h
-      (whole.gave w actors.Controller (seat_of controller.next p (brought t e) (input_of w.sent (brought t e))).1
-      (record w { controller = (seat_of controller.next p (brought t e) (input_of w.sent (brought t e))).0 }))) f.controller
-      (controller_step t.controller refl (stimulus_of t.config t.sent e) (brought t e) h
+  by_actor e (actors.Controller i) is other h at =
+      subst (λ (ps : List (Seated ControllerState)). After h (step_controller w i (slice_get ps i) (brought t e))) f.controllers
+      (controller_step i (slice_get t.controllers i) (stimulus_of t.config t.sent e) (brought t e) h
       (event_meets controller.next controller_ignores t w.sent f.sent e (ap is_replica is)) at)
 
 -- what comes to an actor that is no replica

@@ -250,10 +250,10 @@ module _ {S : Type 0} (m : Meaning S) where
         by (Ok (datagrams.Fragment f)) d = absurd cc
         by (Ok (datagrams.Request q)) d = rests s s refl refl
         by (Ok (datagrams.Reply q)) d = rests s s refl refl
-        by (Ok (datagrams.Install j n)) d = rests s s refl refl
-        by (Ok (datagrams.Installed j n)) d = rests s s refl refl
-        by (Ok (datagrams.Ping j n)) d = rests s s refl refl
-        by (Ok (datagrams.Pong j n)) d = rests s s refl refl
+        by (Ok (datagrams.Install k j n)) d = rests s s refl refl
+        by (Ok (datagrams.Installed k j n)) d = rests s s refl refl
+        by (Ok (datagrams.Ping k j n)) d = rests s s refl refl
+        by (Ok (datagrams.Pong k j n)) d = rests s s refl refl
         by (Err bad) d = rests s s refl refl
 
 -- what a row sends is in its ranges, under the replica's own number, and finds message numbers
@@ -324,10 +324,10 @@ module _ {S : Type 0} (m : Meaning S) (t : WorldState) (ls : List Line) (v : Who
     packet_goes k x at (Ok (datagrams.Stamped q)) is joins = equal_goes k x at (Ok (datagrams.Stamped q)) is refl
     packet_goes k x at (Ok (datagrams.Request q)) is joins = equal_goes k x at (Ok (datagrams.Request q)) is refl
     packet_goes k x at (Ok (datagrams.Reply q)) is joins = equal_goes k x at (Ok (datagrams.Reply q)) is refl
-    packet_goes k x at (Ok (datagrams.Install j n)) is joins = equal_goes k x at (Ok (datagrams.Install j n)) is refl
-    packet_goes k x at (Ok (datagrams.Installed j n)) is joins = equal_goes k x at (Ok (datagrams.Installed j n)) is refl
-    packet_goes k x at (Ok (datagrams.Ping j n)) is joins = equal_goes k x at (Ok (datagrams.Ping j n)) is refl
-    packet_goes k x at (Ok (datagrams.Pong j n)) is joins = equal_goes k x at (Ok (datagrams.Pong j n)) is refl
+    packet_goes k x at (Ok (datagrams.Install c j n)) is joins = equal_goes k x at (Ok (datagrams.Install c j n)) is refl
+    packet_goes k x at (Ok (datagrams.Installed c j n)) is joins = equal_goes k x at (Ok (datagrams.Installed c j n)) is refl
+    packet_goes k x at (Ok (datagrams.Ping c j n)) is joins = equal_goes k x at (Ok (datagrams.Ping c j n)) is refl
+    packet_goes k x at (Ok (datagrams.Pong c j n)) is joins = equal_goes k x at (Ok (datagrams.Pong c j n)) is refl
     packet_goes k x at (Err bad) is joins = equal_goes k x at (Err bad) is refl
 
     sent_goes : (k : ℕ) (o : Option Sent) → slice_get t.sent k ≡ o → (g : Given) → datagram_at k (length t.sent) o ≡ Ok (Takes g)
@@ -363,7 +363,7 @@ module _ {S : Type 0} (m : Meaning S) (t : WorldState) (ls : List Line) (v : Who
         subst (λ (a : Actor). Goes g (sent_to t a (slice_get t.sent k))) (sym at)
         (sent_goes k (slice_get t.sent k) refl g is (joins k))
     event_goes (events.Tick actor tick) at joins g is = tick_goes (takes_tick actor tick) tick g is
-    event_goes (events.Install number) at joins g is = absurd cc
+    event_goes (events.Install k j) at joins g is = absurd cc
     event_goes (events.Crash actor) at joins g is = absurd cc
     event_goes (events.Junk actor bytes) at joins g is = junk_goes bytes (reading bytes) refl g is
 
@@ -385,7 +385,7 @@ module _ {S : Type 0} (m : Meaning S) (t : WorldState) (ls : List Line) (v : Who
   crash_brings (events.Submit number op) is = absurd cc
   crash_brings (events.Deliver k actor) is = absurd (sent_crashes k (length t.sent) (slice_get t.sent k) is)
   crash_brings (events.Tick actor tick) is = absurd (tick_crashes (takes_tick actor tick) tick is)
-  crash_brings (events.Install number) is = absurd (tick_crashes (nat_lt number t.config.sequencers) (ticks.Install number) is)
+  crash_brings (events.Install k j) is = absurd (tick_crashes (nat_lt j t.config.sequencers) (ticks.Install j) is)
   crash_brings (events.Crash actor) is = refl
   crash_brings (events.Junk actor bytes) is = absurd (junk_crashes bytes (reading bytes) is)
 
@@ -453,7 +453,7 @@ module _ {S : Type 0} (m : Meaning S) (t : WorldState) (ls : List Line) (v : Who
         replicas = seats;
         sequencers = follows.sequencers;
         clients = follows.clients;
-        controller = follows.controller;
+        controllers = follows.controllers;
       };
       travels = carries;
       archive = archive;

@@ -17,8 +17,8 @@ use Rattle.nop_types.specs.declared.output.Out.TheVariants as outs
 use Rattle.nop_types.specs.declared.request.Request.{Request}
 use Rattle.oum_codec.specs.declared.bad.Bad.{Bad}
 use Rattle.oum_codec.specs.Fixed.{request_fields_at, request_in_range, stamped_fields_at, stamped_in_range, reply_fields_at, reply_in_range}
-use Rattle.oum_codec.specs.Reading.{◌>>=◌, fields_of, sized, reading, request_of, stamped_of, reply_of, signal_of}
-use Rattle.oum_codec.specs.Spelling.{spelling, request_bytes, stamped_bytes, reply_bytes, signal_bytes}
+use Rattle.oum_codec.specs.Reading.{◌>>=◌, fields_of, sized, reading, request_of, stamped_of, reply_of, install_of, ping_of}
+use Rattle.oum_codec.specs.Spelling.{spelling, request_bytes, stamped_bytes, reply_bytes, install_bytes, ping_bytes}
 use Rattle.client_quorum.specs.ClientSteps as client
 use Rattle.client_quorum.specs.KeptReplies.{quorum_of}
 use Rattle.client_quorum.specs.declared.state.ClientState.{ClientState}
@@ -88,21 +88,23 @@ pub reply_is : (p : Reply) → IsOther (reading (spelling (datagrams.Reply p)))
 unfolding reading
 reply_is p = reply_other (reply_bytes p)
 
-pub install_is : (j s : ℕ) → IsOther (reading (spelling (datagrams.Install j s)))
+pub install_is : (k j s : ℕ) → IsOther (reading (spelling (datagrams.Install k j s)))
 unfolding reading
-install_is j s = then_other (signal_of (signal_bytes j s)) (λ f. Ok (datagrams.Install f.sequencer f.number)) (λ f. refl)
+install_is k j s =
+    then_other (install_of (install_bytes k j s)) (λ f. Ok (datagrams.Install f.controller f.sequencer f.session)) (λ f. refl)
 
-pub installed_is : (j s : ℕ) → IsOther (reading (spelling (datagrams.Installed j s)))
+pub installed_is : (k j s : ℕ) → IsOther (reading (spelling (datagrams.Installed k j s)))
 unfolding reading
-installed_is j s = then_other (signal_of (signal_bytes j s)) (λ f. Ok (datagrams.Installed f.sequencer f.number)) (λ f. refl)
+installed_is k j s =
+    then_other (install_of (install_bytes k j s)) (λ f. Ok (datagrams.Installed f.controller f.sequencer f.session)) (λ f. refl)
 
-pub ping_is : (j s : ℕ) → IsOther (reading (spelling (datagrams.Ping j s)))
+pub ping_is : (k j n : ℕ) → IsOther (reading (spelling (datagrams.Ping k j n)))
 unfolding reading
-ping_is j s = then_other (signal_of (signal_bytes j s)) (λ f. Ok (datagrams.Ping f.sequencer f.number)) (λ f. refl)
+ping_is k j n = then_other (ping_of (ping_bytes k j n)) (λ f. Ok (datagrams.Ping f.controller f.sequencer f.round)) (λ f. refl)
 
-pub pong_is : (j s : ℕ) → IsOther (reading (spelling (datagrams.Pong j s)))
+pub pong_is : (k j n : ℕ) → IsOther (reading (spelling (datagrams.Pong k j n)))
 unfolding reading
-pong_is j s = then_other (signal_of (signal_bytes j s)) (λ f. Ok (datagrams.Pong f.sequencer f.number)) (λ f. refl)
+pong_is k j n = then_other (ping_of (ping_bytes k j n)) (λ f. Ok (datagrams.Pong f.controller f.sequencer f.round)) (λ f. refl)
 
 -- ---- outputs without fragments
 
@@ -137,7 +139,7 @@ lines_spoken from n (outs.Accepted client id result ∷ rest) =
 lines_spoken from n (outs.Busy client ∷ rest) = ap (λ (l : List Line). lines.Busy client ∷ l) (lines_spoken from n rest)
 lines_spoken from n (outs.Trimmed first entries ∷ rest) = lines_spoken from n rest
 
--- ---- the client
+-- ---- clients
 
 begun : (s : ClientState) (r : Request) → AreOther (client.begin s r).1
 begun s r = (request_is r, tt)
@@ -170,10 +172,10 @@ client_reads : (s : ClientState) (r : Result Datagram Bad) → AreOther (client.
 client_reads s (Ok (datagrams.Reply p)) = reply_sends (client.is_expected s p) s p
 client_reads s (Ok (datagrams.Request r)) = tt
 client_reads s (Ok (datagrams.Stamped p)) = tt
-client_reads s (Ok (datagrams.Install j n)) = tt
-client_reads s (Ok (datagrams.Installed j n)) = tt
-client_reads s (Ok (datagrams.Ping j n)) = tt
-client_reads s (Ok (datagrams.Pong j n)) = tt
+client_reads s (Ok (datagrams.Install k j n)) = tt
+client_reads s (Ok (datagrams.Installed k j n)) = tt
+client_reads s (Ok (datagrams.Ping k j n)) = tt
+client_reads s (Ok (datagrams.Pong k j n)) = tt
 client_reads s (Ok (datagrams.Fragment f)) = tt
 client_reads s (Err e) = tt
 
@@ -193,28 +195,28 @@ client_sends s (Packet bytes) = client_reads s (reading bytes)
 client_sends s (Ticked tick) = client_ticks s tick
 client_sends s (Submit op) = submits (client.can_submit s) s (client.request_of s op)
 
--- ---- the sequencer
+-- ---- sequencers
 
 packet_sends : (o : Option Stamped) → AreOther (sequencer.send_packet o)
 packet_sends None = tt
 packet_sends (Some p) = (stamped_is p, tt)
 
-install_sends : (b : Bool) (s : SequencerState) (n : ℕ) → AreOther (sequencer.install_if b s n).1
-install_sends true s n = (installed_is s.number n, tt)
-install_sends false s n = tt
+install_sends : (b : Bool) (s : SequencerState) (k n : ℕ) → AreOther (sequencer.install_if b s k n).1
+install_sends true s k n = (installed_is k _ _, tt)
+install_sends false s k n = tt
 
-ping_sends : (b : Bool) (s : SequencerState) (n : ℕ) → AreOther (sequencer.ping_if b s n).1
-ping_sends true s n = (pong_is s.number n, tt)
-ping_sends false s n = tt
+ping_sends : (b : Bool) (s : SequencerState) (k n : ℕ) → AreOther (sequencer.ping_if b s k n).1
+ping_sends true s k n = (pong_is k s.number n, tt)
+ping_sends false s k n = tt
 
 sequencer_reads : (s : SequencerState) (r : Result Datagram Bad) → AreOther (sequencer.on_datagram s r).1
 sequencer_reads s (Ok (datagrams.Request r)) = packet_sends (sequencer.stamped_by s r)
 sequencer_reads s (Ok (datagrams.Reply p)) = tt
 sequencer_reads s (Ok (datagrams.Stamped p)) = tt
-sequencer_reads s (Ok (datagrams.Install j n)) = install_sends (sequencer.can_install s j n) s n
-sequencer_reads s (Ok (datagrams.Installed j n)) = tt
-sequencer_reads s (Ok (datagrams.Ping j n)) = ping_sends _ s n
-sequencer_reads s (Ok (datagrams.Pong j n)) = tt
+sequencer_reads s (Ok (datagrams.Install k j n)) = install_sends _ s k n
+sequencer_reads s (Ok (datagrams.Installed k j n)) = tt
+sequencer_reads s (Ok (datagrams.Ping k j n)) = ping_sends _ s k n
+sequencer_reads s (Ok (datagrams.Pong k j n)) = tt
 sequencer_reads s (Ok (datagrams.Fragment f)) = tt
 sequencer_reads s (Err e) = tt
 
@@ -224,21 +226,21 @@ sequencer_sends s (Packet bytes) = sequencer_reads s (reading bytes)
 sequencer_sends s (Ticked tick) = tt
 sequencer_sends s (Submit op) = tt
 
--- ---- the controller
+-- ---- controllers
 
 installs : (s : ControllerState) → AreOther (controller.install_of s)
-installs s = (install_is s.current s.session, tt)
+installs s = (install_is s.number s.current s.session, tt)
 
-move_sends : (b : Bool) (s : ControllerState) (j : ℕ) → AreOther (controller.move_if b s j).1
-move_sends true s j = installs (controller.moved s j)
-move_sends false s j = tt
+move_sends : (o : Option ℕ) (s : ControllerState) (j : ℕ) → AreOther (controller.move_by o s j).1
+move_sends (Some session) s j = installs (controller.moved s j session)
+move_sends None s j = tt
 
 order_sends : (b : Bool) (s : ControllerState) (j : ℕ) → AreOther (controller.order_if b s j).1
 order_sends true s j = move_sends _ s j
 order_sends false s j = tt
 
 ask_sends : (b : Bool) (s : ControllerState) → AreOther (controller.ask_if b s).1
-ask_sends true s = (ping_is s.current (s.round + 1), tt)
+ask_sends true s = (ping_is s.number s.current (s.round + 1), tt)
 ask_sends false s = tt
 
 miss_sends : (b : Bool) (s : ControllerState) → AreOther (controller.miss_if b s).1
@@ -264,13 +266,13 @@ controller_ticks s ticks.Retry = tt
 controller_ticks s ticks.Next = tt
 
 controller_reads : (s : ControllerState) (r : Result Datagram Bad) → AreOther (controller.on_datagram s r).1
-controller_reads s (Ok (datagrams.Pong j n)) = tt
-controller_reads s (Ok (datagrams.Installed j n)) = tt
+controller_reads s (Ok (datagrams.Pong k j n)) = tt
+controller_reads s (Ok (datagrams.Installed k j n)) = tt
 controller_reads s (Ok (datagrams.Request r)) = tt
 controller_reads s (Ok (datagrams.Stamped p)) = tt
 controller_reads s (Ok (datagrams.Reply p)) = tt
-controller_reads s (Ok (datagrams.Install j n)) = tt
-controller_reads s (Ok (datagrams.Ping j n)) = tt
+controller_reads s (Ok (datagrams.Install k j n)) = tt
+controller_reads s (Ok (datagrams.Ping k j n)) = tt
 controller_reads s (Ok (datagrams.Fragment f)) = tt
 controller_reads s (Err e) = tt
 

@@ -22,6 +22,7 @@ use Rattle.oum_codec.specs.declared.bad.Bad.{Bad}
 use Rattle.oum_codec.specs.Reading.{reading}
 use Rattle.client_quorum.specs.declared.state.ClientState.{ClientState}
 use Rattle.sequencer.specs.declared.state.SequencerState.{SequencerState}
+use Rattle.session_control.specs.declared.state.ControllerState.{ControllerState}
 use Rattle.fragments.specs.Joining.{taken}
 use Rattle.replica_state.specs.State.{is_other}
 use Rattle.trimming.proofs.Bounds.{trimmed_keep_bounds, trimmed_is_in}
@@ -48,7 +49,7 @@ use Rattle.delivery.specs.Network.{IsDatagram}
 use Rattle.whole_world.specs.Safe.{BringsFits}
 use Rattle.whole_world.specs.Shows.{Carries, Tells, peers_of}
 use Rattle.nop_types.specs.declared.request.Entry.{Entry}
-use Rattle.whole_world.specs.Whole.{WholeWorld, Letter, Brings, arrival_of, step_client, step_sequencer, whole_step}
+use Rattle.whole_world.specs.Whole.{WholeWorld, Letter, Brings, arrival_of, step_client, step_sequencer, step_controller, whole_step}
 use Rattle.whole_world.proofs.Coming.{arrives}
 use Rattle.whole_world.proofs.Mapped.{slice_get-from_map}
 use Rattle.whole_world.specs.Archives.{archive_after}
@@ -82,17 +83,17 @@ module _ (t : WorldState) where
   to_fits (actors.Replica i) f = at_fits (slice_get t.replicas i) f
   to_fits (actors.Sequencer i) f = tt
   to_fits (actors.Client i) f = tt
-  to_fits actors.Controller f = tt
+  to_fits (actors.Controller i) f = tt
 
   datagram_fits : (a : Actor) (bytes : List ℕ) (r : Result Datagram Bad) → BringsFits (datagram_to t a bytes r)
   datagram_fits a bytes (Ok (datagrams.Fragment f)) = to_fits a f
   datagram_fits a bytes (Ok (datagrams.Stamped p)) = tt
   datagram_fits a bytes (Ok (datagrams.Request r)) = tt
   datagram_fits a bytes (Ok (datagrams.Reply p)) = tt
-  datagram_fits a bytes (Ok (datagrams.Install j s)) = tt
-  datagram_fits a bytes (Ok (datagrams.Installed j s)) = tt
-  datagram_fits a bytes (Ok (datagrams.Ping j s)) = tt
-  datagram_fits a bytes (Ok (datagrams.Pong j s)) = tt
+  datagram_fits a bytes (Ok (datagrams.Install k j s)) = tt
+  datagram_fits a bytes (Ok (datagrams.Installed k j s)) = tt
+  datagram_fits a bytes (Ok (datagrams.Ping k j s)) = tt
+  datagram_fits a bytes (Ok (datagrams.Pong k j s)) = tt
   datagram_fits a bytes (Err e) = tt
 
   sent_fits : (a : Actor) (o : Option Sent) → BringsFits (sent_to t a o)
@@ -103,7 +104,7 @@ module _ (t : WorldState) where
   brought_fits (events.Submit client op) fits = fits
   brought_fits (events.Deliver index actor) fits = sent_fits actor (slice_get t.sent index)
   brought_fits (events.Tick actor tick) fits = tt
-  brought_fits (events.Install number) fits = tt
+  brought_fits (events.Install k j) fits = tt
   brought_fits (events.Crash actor) fits = tt
   brought_fits (events.Junk actor bytes) fits = tt
 
@@ -224,17 +225,21 @@ module _ {S : Type 0} (m : Meaning S) (w : WholeWorld) (b : Brings) where
   sequencer_writes j None = refl
   sequencer_writes j (Some p) = refl
 
+  controller_writes : (k : ℕ) (o : Option (Seated ControllerState)) → (step_controller w k o b).letters ≡ w.letters
+  controller_writes k None = refl
+  controller_writes k (Some p) = refl
+
   pub others_write : (a : Actor) → is_replica a ≡ false → (whole_step m w a b).letters ≡ w.letters
   others_write (actors.Replica i) other = absurd cc
   others_write (actors.Sequencer j) other = sequencer_writes j (slice_get w.sequencers j)
   others_write (actors.Client k) other = client_writes k (slice_get w.clients k)
-  others_write actors.Controller other = refl
+  others_write (actors.Controller k) other = controller_writes k (slice_get w.controllers k)
 
   pub others_keep : (archive : List Entry) (a : Actor) → is_replica a ≡ false → archive_after m archive w a b ≡ archive
   others_keep archive (actors.Replica i) other = absurd cc
   others_keep archive (actors.Sequencer j) other = refl
   others_keep archive (actors.Client k) other = refl
-  others_keep archive actors.Controller other = refl
+  others_keep archive (actors.Controller k) other = refl
 
 -- each event is followed, where what the whole world sends for it is in its ranges
 pub event_follows : {S : Type 0} (m : Meaning S) (IsSound : S → Type 0) → KeepsTo m IsSound → (t : WorldState) (ls : List Line)
@@ -251,4 +256,4 @@ event_follows m IsSound keeps t ls w c carries tells trims beside e h is spelled
     by (actors.Replica i) at = replica_step m IsSound keeps t ls w c carries tells trims beside e h is i (slice_get t.replicas i) refl at
     by (actors.Sequencer j) at = other (ap is_replica at)
     by (actors.Client k) at = other (ap is_replica at)
-    by actors.Controller at = other (ap is_replica at)
+    by (actors.Controller k) at = other (ap is_replica at)

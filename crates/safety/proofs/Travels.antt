@@ -85,10 +85,10 @@ other_none (Ok (datagrams.Fragment f)) e = absurd cc
 other_none (Ok (datagrams.Request r)) e = refl
 other_none (Ok (datagrams.Stamped p)) e = refl
 other_none (Ok (datagrams.Reply r)) e = refl
-other_none (Ok (datagrams.Install j s)) e = refl
-other_none (Ok (datagrams.Installed j s)) e = refl
-other_none (Ok (datagrams.Ping j s)) e = refl
-other_none (Ok (datagrams.Pong j s)) e = refl
+other_none (Ok (datagrams.Install k j s)) e = refl
+other_none (Ok (datagrams.Installed k j s)) e = refl
+other_none (Ok (datagrams.Ping k j s)) e = refl
+other_none (Ok (datagrams.Pong k j s)) e = refl
 other_none (Err bad) e = refl
 
 pub none_among : (more : List Sent) → ((s : Sent) → Has more s → is_fragment (reading s.bytes) ≡ false)

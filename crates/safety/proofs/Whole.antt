@@ -74,7 +74,7 @@ module _ {S : Type 0} (m : Meaning S) (IsSound : S → Type 0) (keeps : KeepsTo 
         replicas = alike.replicas;
         sequencers = alike.sequencers;
         clients = alike.clients;
-        controller = alike.controller;
+        controllers = alike.controllers;
         kept = λ i p at. (both.beside.travels.members i p at).came;
         logs = λ i p q at there. (let x : WholeSeat m w.replicas i p = whole_seat m t.replicas w.replicas i p alike.replicas at in
             let same : x.seat ≡ q = (let e : Some x.seat ≡ Some q = sym x.there ∙ there in cc) in

@@ -55,7 +55,7 @@ abbrev pub fragment_to : WorldState → Actor → Fragment → Brings
 fragment_to t (actors.Replica i) f = fragment_at (slice_get t.replicas i) f
 fragment_to t (actors.Sequencer i) f = Nothing
 fragment_to t (actors.Client i) f = Nothing
-fragment_to t actors.Controller f = Nothing
+fragment_to t (actors.Controller i) f = Nothing
 
 -- any other datagram brings itself
 abbrev pub datagram_to : WorldState → Actor → List ℕ → Result Datagram Bad → Brings
@@ -63,10 +63,10 @@ datagram_to t a bytes (Ok (datagrams.Fragment f)) = fragment_to t a f
 datagram_to t a bytes (Ok (datagrams.Stamped p)) = Equal bytes
 datagram_to t a bytes (Ok (datagrams.Request r)) = Equal bytes
 datagram_to t a bytes (Ok (datagrams.Reply p)) = Equal bytes
-datagram_to t a bytes (Ok (datagrams.Install j s)) = Equal bytes
-datagram_to t a bytes (Ok (datagrams.Installed j s)) = Equal bytes
-datagram_to t a bytes (Ok (datagrams.Ping j s)) = Equal bytes
-datagram_to t a bytes (Ok (datagrams.Pong j s)) = Equal bytes
+datagram_to t a bytes (Ok (datagrams.Install k j s)) = Equal bytes
+datagram_to t a bytes (Ok (datagrams.Installed k j s)) = Equal bytes
+datagram_to t a bytes (Ok (datagrams.Ping k j s)) = Equal bytes
+datagram_to t a bytes (Ok (datagrams.Pong k j s)) = Equal bytes
 datagram_to t a bytes (Err e) = Equal bytes
 
 abbrev pub sent_to : WorldState → Actor → Option Sent → Brings
@@ -78,7 +78,7 @@ abbrev pub brought : WorldState → Event → Brings
 brought t (events.Submit client op) = Op op
 brought t (events.Deliver index actor) = sent_to t actor (slice_get t.sent index)
 brought t (events.Tick actor tick) = Timer tick
-brought t (events.Install number) = Timer (ticks.Install number)
+brought t (events.Install controller sequencer) = Timer (ticks.Install sequencer)
 brought t (events.Crash actor) = Crash
 brought t (events.Junk actor bytes) = Junk bytes
 
@@ -118,10 +118,10 @@ is_fragment (Ok (datagrams.Fragment f)) = true
 is_fragment (Ok (datagrams.Stamped p)) = false
 is_fragment (Ok (datagrams.Request r)) = false
 is_fragment (Ok (datagrams.Reply p)) = false
-is_fragment (Ok (datagrams.Install j s)) = false
-is_fragment (Ok (datagrams.Installed j s)) = false
-is_fragment (Ok (datagrams.Ping j s)) = false
-is_fragment (Ok (datagrams.Pong j s)) = false
+is_fragment (Ok (datagrams.Install k j s)) = false
+is_fragment (Ok (datagrams.Installed k j s)) = false
+is_fragment (Ok (datagrams.Ping k j s)) = false
+is_fragment (Ok (datagrams.Pong k j s)) = false
 is_fragment (Err e) = false
 
 -- the datagrams that are no fragments, in their order
@@ -180,7 +180,7 @@ pub record FollowsWhole {S : Type 0} (m : Meaning S) (h : Happened) (w : WholeWo
   pub replicas : map plain h.world.replicas ≡ map (trimmed_seat m) w.replicas
   pub sequencers : h.world.sequencers ≡ w.sequencers
   pub clients : h.world.clients ≡ w.clients
-  pub controller : h.world.controller ≡ w.controller
+  pub controllers : h.world.controllers ≡ w.controllers
   -- what a replica keeps of messages that are not complete came in fragments of the network
   pub kept : (i : ℕ) (p : Seated Replica) → slice_get h.world.replicas i ≡ Some p
       → AllCame (fragments_among (bytes_of h.world.sent)) p.state.reassembly

@@ -1,10 +1,10 @@
 -- Reading the line of an event gives the event.
-use Rattle.std.proofs.Common.{◌≡◌, ℕ, ◌+◌, ◌^◌, ◌<◌, ◌≤◌, true, Some, refl}
+use Rattle.std.proofs.Common.{◌≡◌, ℕ, zero, suc, ◌+◌, ◌^◌, ◌<◌, ◌≤◌, true, Some, refl, sym, subst}
 use Rattle.std.proofs.Common.{◌∙◌, arith, length, List, [], ◌∷◌, ◌++◌, append_assoc, length-append}
 use Rattle.std.proofs.Common.{decimal, codes, nat_le}
 use Rattle.std.specs.Prelude.{Ok}
 use Rattle.std.specs.List.{flat_map, list_all}
-use Rattle.std.proofs.lemmas.Bool.{le-leb, le-ltb, lt-leb, leb-true, and_parts}
+use Rattle.std.proofs.lemmas.Bool.{ne_eqb, le-leb, le-ltb, lt-leb, leb-true, and_parts}
 use Rattle.std.proofs.lemmas.List.Folds.{list_all-append}
 use Rattle.hex.specs.Hex.{IsBytes}
 use Rattle.nop_types.specs.Configuration.{Configuration}
@@ -17,7 +17,7 @@ use Rattle.schedule_text.specs.declared.event.Event.{Event}
 use Rattle.schedule_text.specs.declared.event.Event.TheVariants as events
 use Rattle.schedule_text.specs.EventText.{HasWord, HasLine, tick_text, event_text, IsEventOf, Means}
 use Rattle.line_fields.specs.Fields.{IsActorOf}
-use Rattle.schedule_text.specs.EventText.{IsTyped, event_word, event_fields}
+use Rattle.schedule_text.specs.EventText.{IsTyped, named_controller, event_word, event_fields}
 use Rattle.line_fields.proofs.FieldTexts.{is_mark, and_true, decimal_marked, number_again, Small, actor_again, small_counts}
 use Rattle.line_fields.proofs.FieldTexts.{bytes_again, hex_marked, hex_within, AllMarked, line_fields, decimal_short, actor_marked, actor_short}
 use Rattle.transcript_text.specs.LineText.{after_space, line_of}
@@ -120,8 +120,12 @@ module _ (c : Configuration) (small : Small c) where
       → tick_event c (actor_text a) (tick_text t) ≡ Ok (events.Tick a t)
   tick_read a t word there takes = rw (actor_again c small a there) (rw (tick_again t word) (rw takes refl))
 
-  install_again : (j : ℕ) → j < c.sequencers → install_of c (actor_text (actors.Sequencer j) ∷ []) ≡ Ok (events.Install j)
+  install_again : (j : ℕ) → j < c.sequencers → install_of c (actor_text (actors.Sequencer j) ∷ []) ≡ Ok (events.Install 0 j)
   install_again j there = rw (actor_again c small (actors.Sequencer j) there) refl
+
+  install_named : (k j : ℕ) → k < c.controllers → j < c.sequencers
+      → install_of c (actor_text (actors.Sequencer j) ∷ actor_text (actors.Controller k) ∷ []) ≡ Ok (events.Install k j)
+  install_named k j by there = rw (actor_again c small (actors.Sequencer j) there, actor_again c small (actors.Controller k) by) refl
 
   crash_again : (a : Actor) → IsActorOf c a → crash_of c (actor_text a ∷ []) ≡ Ok (events.Crash a)
   crash_again a there = rw (actor_again c small a there) refl
@@ -145,6 +149,24 @@ module _ (c : Configuration) (small : Small c) where
   two_fields_mean before word a b e room plain first second low short long is =
       line_means c before word (a ∷ b ∷ []) e room plain (first, (second, tt)) (omega (arith, two_length word a b)) is
 
+  -- controller 0 is not named, and each other one is
+  install_read : (k j before : ℕ) → before < MAX_LINES → k < c.controllers → j < c.sequencers
+      → event_of c before (event_text (events.Install k j)) ≡ Ok (events.Install k j)
+  unfolding event_text
+  install_read zero j before room by there =
+      let a : Actor = actors.Sequencer j in
+      one_field_means before (codes "install") (actor_text a) (events.Install 0 j) room refl (actor_marked c small a there) (omega arith)
+      (actor_short c small a there) (install_again j there)
+  install_read (suc k) j before room by there =
+      let a : Actor = actors.Sequencer j in
+      let b : Actor = actors.Controller (suc k) in
+      let named : named_controller (suc k) ≡ actor_text b ∷ [] = rw (ne_eqb (suc k) 0 (λ e. omega (arith, e))) refl in
+      subst (λ (xs : List (List ℕ)). event_of c before (codes "install" ++ flat_map after_space (actor_text a ∷ xs))
+      ≡ Ok (events.Install (suc k) j)) (sym named)
+      (two_fields_mean before (codes "install") (actor_text a) (actor_text b) (events.Install (suc k) j) room refl
+      (actor_marked c small a there) (actor_marked c small b by) (omega arith) (actor_short c small a there)
+      (let m = actor_short c small b by in omega arith) (install_named (suc k) j by there))
+
   text_read : (e : Event) (before : ℕ) → IsTyped e → HasLine e → before < MAX_LINES → IsEventOf c e
       → event_of c before (event_text e) ≡ Ok e
   unfolding event_text
@@ -160,10 +182,7 @@ module _ (c : Configuration) (small : Small c) where
   text_read (events.Tick a t) before typed line room h =
       two_fields_mean before (codes "tick") (actor_text a) (tick_text t) (events.Tick a t) room refl (actor_marked c small a h.0) (tick_marked t)
       (omega arith) (actor_short c small a h.0) (let k = tick_short t in omega arith) (tick_read a t line h.0 h.1)
-  text_read (events.Install j) before typed line room h =
-      let a : Actor = actors.Sequencer j in
-      one_field_means before (codes "install") (actor_text a) (events.Install j) room refl (actor_marked c small a h) (omega arith)
-      (actor_short c small a h) (install_again j h)
+  text_read (events.Install k j) before typed line room h = install_read k j before room h.0 h.1
   text_read (events.Crash a) before typed line room h =
       one_field_means before (codes "crash") (actor_text a) (events.Crash a) room refl (actor_marked c small a h) (omega arith)
       (actor_short c small a h) (crash_again a h)

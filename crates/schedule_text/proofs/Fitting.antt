@@ -5,6 +5,8 @@ use Rattle.std.proofs.lemmas.Bool.{leb-true}
 use Rattle.nop_types.specs.declared.limits.TheConstants.{MAX_LINES, MAX_DATAGRAM_BYTES}
 use Rattle.nop_types.specs.declared.output.Actor.{Actor}
 use Rattle.nop_types.specs.Configuration.{Configuration, is_configuration}
+use Rattle.nop_types.specs.Headers.{gives, is_header}
+use Rattle.nop_types.specs.declared.header.Header.{Header}
 use Rattle.schedule_text.specs.declared.event.Event.{Event}
 use Rattle.schedule_text.specs.declared.event.Event.TheVariants.{Submit, Deliver, Tick, Install, Crash, Junk}
 use Rattle.line_fields.specs.Fields.{is_text, number_of, actor_of, client_number, sequencer_number, bytes_of, fields}
@@ -12,10 +14,11 @@ use Rattle.schedule_text.specs.Fits.{EventFits}
 use Rattle.schedule_text.specs.Ticks.{tick_named, takes_tick}
 use Rattle.schedule_text.specs.declared.rule.Rule.{Rule}
 use Rattle.schedule_text.specs.declared.rule.Rule.TheVariants.{WrongWord, WrongField, WrongHex, WrongActor, TooManyLines}
-use Rattle.schedule_text.specs.Rules.{Read, ◌>>=◌, or_rule, keeps_rule, max_op_text, max_junk_text, one_field, two_fields, submit_event}
+use Rattle.schedule_text.specs.Rules.{Read, ◌>>=◌, or_rule, keeps_rule, max_op_text, max_junk_text, one_field, one_or_two_fields}
+use Rattle.schedule_text.specs.Rules.{two_fields, submit_event, ordered, install_event}
 use Rattle.schedule_text.specs.Rules.{submit_of, deliver_event, deliver_of, tick_event, tick_of, install_of, crash_of, junk_event, junk_of}
 use Rattle.schedule_text.specs.Rules.{event_of_fields}
-use Rattle.schedule_text.specs.Rules.{configuration_of, count_of, header_rest, header_of_fields, plain_line, header_of, event_of}
+use Rattle.schedule_text.specs.Rules.{header_with, count_of, header_rest, header_of_fields, plain_line, header_of, event_of}
 use Rattle.line_fields.proofs.HexLengths.{bytes_short}
 
 -- a step that gave a value, and what came of it
@@ -78,9 +81,10 @@ tick_of_fits c rest e h =
 
 install_of_fits : (c : Configuration) (rest : List (List ℕ)) (e : Event) → install_of c rest ≡ Ok e → EventFits e
 install_of_fits c rest e h =
-    let a = then_ok (one_field rest) _ e h in
-    let b = then_ok (or_rule WrongActor (sequencer_number (actor_of c a.0))) _ e a.2 in
-    let is : Install b.0 ≡ e = (let g = b.2 in cc) in
+    let a = then_ok (one_or_two_fields rest) (λ p. install_event c p.0 p.1) e h in
+    let b = then_ok (or_rule WrongActor (sequencer_number (actor_of c a.0.0))) _ e a.2 in
+    let d = then_ok (or_rule WrongActor (ordered c a.0.1)) _ e b.2 in
+    let is : Install d.0 b.0 ≡ e = (let g = d.2 in cc) in
     subst EventFits is tt
 
 junk_of_fits : (c : Configuration) (rest : List (List ℕ)) (e : Event) → junk_of c rest ≡ Ok e → EventFits e
@@ -141,45 +145,57 @@ junk_fits c rest to bytes h =
 
 -- ---- headers
 
-made_fits : (made c : Configuration) (b : Bool) → is_configuration made ≡ b
-    → (if◌then◌else◌ {A = Read Configuration} b (Ok made) (Err WrongField)) ≡ Ok c → is_configuration c ≡ true
-made_fits made c true is h = let same : made ≡ c = cc in subst (λ (x : Configuration). is_configuration x ≡ true) same is
-made_fits made c false is h = absurd cc
+made_fits : (made h : Header) (b : Bool) → gives made.form made.config ≡ true → is_configuration made.config ≡ b
+    → (if◌then◌else◌ {A = Read Header} b (Ok made) (Err WrongField)) ≡ Ok h → is_header h ≡ true
+made_fits made h true gives is e = let same : made ≡ h = cc in subst (λ (x : Header). is_header x ≡ true) same (rw (gives, is) refl)
+made_fits made h false gives is e = absurd cc
 
-configuration_fits : (n s k : Option ℕ) (c : Configuration) → configuration_of n s k ≡ Ok c → is_configuration c ≡ true
-configuration_fits (Some n) (Some s) (Some k) c h =
-    made_fits (record { replicas = n; sequencers = s; clients = k }) c
-    (is_configuration (record { replicas = n; sequencers = s; clients = k })) refl h
-configuration_fits None s k c h = absurd cc
-configuration_fits (Some n) None k c h = absurd cc
-configuration_fits (Some n) (Some s) None c h = absurd cc
+-- a header that can have these counts, whichever they are
+header_fits : (form : ℕ) (n s k j : Option ℕ) (h : Header)
+    → ((n s k i : ℕ) → j ≡ Some i → gives form (record { replicas = n; sequencers = s; clients = k; controllers = i }) ≡ true)
+    → header_with form n s k j ≡ Ok h → is_header h ≡ true
+header_fits form (Some n) (Some s) (Some k) (Some j) h can e =
+    let config : Configuration = record { replicas = n; sequencers = s; clients = k; controllers = j } in
+    made_fits (record { form = form; config = config }) h (is_configuration config) (can n s k j refl) refl e
+header_fits form None s k j h can e = absurd cc
+header_fits form (Some n) None k j h can e = absurd cc
+header_fits form (Some n) (Some s) None j h can e = absurd cc
+header_fits form (Some n) (Some s) (Some k) None h can e = absurd cc
 
-counts_fit : (n s k : List ℕ) (c : Configuration) (b : Bool)
-    → (if b then configuration_of (count_of n) (count_of s) (count_of k) else Err WrongField) ≡ Ok c → is_configuration c ≡ true
-counts_fit n s k c true h = configuration_fits (count_of n) (count_of s) (count_of k) c h
-counts_fit n s k c false h = absurd cc
+first_fits : (n s k : List ℕ) (h : Header) (b : Bool)
+    → (if b then header_with 1 (count_of n) (count_of s) (count_of k) (Some 1) else Err WrongField) ≡ Ok h → is_header h ≡ true
+first_fits n s k h true e =
+    header_fits 1 (count_of n) (count_of s) (count_of k) (Some 1) h (λ n s k i is. let one : 1 ≡ i = cc in rw (← one) refl) e
+first_fits n s k h false e = absurd cc
 
-rest_fits : (xs : List (List ℕ)) (c : Configuration) → header_rest xs ≡ Ok c → is_configuration c ≡ true
-rest_fits [] c h = absurd cc
-rest_fits (x1 ∷ []) c h = absurd cc
-rest_fits (x1 ∷ x2 ∷ []) c h = absurd cc
-rest_fits (x1 ∷ x2 ∷ x3 ∷ []) c h = absurd cc
-rest_fits (x1 ∷ x2 ∷ x3 ∷ x4 ∷ []) c h = absurd cc
-rest_fits (x1 ∷ x2 ∷ x3 ∷ x4 ∷ x5 ∷ []) c h = absurd cc
-rest_fits (x1 ∷ x2 ∷ x3 ∷ x4 ∷ x5 ∷ x6 ∷ []) c h = absurd cc
-rest_fits (version ∷ replicas ∷ n ∷ sequencers ∷ s ∷ clients ∷ k ∷ []) c h = counts_fit n s k c _ h
-rest_fits (x1 ∷ x2 ∷ x3 ∷ x4 ∷ x5 ∷ x6 ∷ x7 ∷ x8 ∷ xs) c h = absurd cc
+second_fits : (n s k j : List ℕ) (h : Header) (b : Bool)
+    → (if b then header_with 2 (count_of n) (count_of s) (count_of k) (count_of j) else Err WrongField) ≡ Ok h → is_header h ≡ true
+second_fits n s k j h true e = header_fits 2 (count_of n) (count_of s) (count_of k) (count_of j) h (λ n s k i is. refl) e
+second_fits n s k j h false e = absurd cc
 
-word_fits : (rest : List (List ℕ)) (c : Configuration) (b : Bool) → (if b then header_rest rest else Err WrongWord) ≡ Ok c
-    → is_configuration c ≡ true
-word_fits rest c true h = rest_fits rest c h
-word_fits rest c false h = absurd cc
+rest_fits : (xs : List (List ℕ)) (h : Header) → header_rest xs ≡ Ok h → is_header h ≡ true
+rest_fits [] h e = absurd cc
+rest_fits (x1 ∷ []) h e = absurd cc
+rest_fits (x1 ∷ x2 ∷ []) h e = absurd cc
+rest_fits (x1 ∷ x2 ∷ x3 ∷ []) h e = absurd cc
+rest_fits (x1 ∷ x2 ∷ x3 ∷ x4 ∷ []) h e = absurd cc
+rest_fits (x1 ∷ x2 ∷ x3 ∷ x4 ∷ x5 ∷ []) h e = absurd cc
+rest_fits (x1 ∷ x2 ∷ x3 ∷ x4 ∷ x5 ∷ x6 ∷ []) h e = absurd cc
+rest_fits (form ∷ replicas ∷ n ∷ sequencers ∷ s ∷ clients ∷ k ∷ []) h e = first_fits n s k h _ e
+rest_fits (x1 ∷ x2 ∷ x3 ∷ x4 ∷ x5 ∷ x6 ∷ x7 ∷ x8 ∷ []) h e = absurd cc
+rest_fits (form ∷ replicas ∷ n ∷ sequencers ∷ s ∷ clients ∷ k ∷ controllers ∷ j ∷ []) h e = second_fits n s k j h _ e
+rest_fits (x1 ∷ x2 ∷ x3 ∷ x4 ∷ x5 ∷ x6 ∷ x7 ∷ x8 ∷ x9 ∷ x10 ∷ xs) h e = absurd cc
 
-header_fields_fit : (xs : List (List ℕ)) (c : Configuration) → header_of_fields xs ≡ Ok c → is_configuration c ≡ true
-header_fields_fit [] c h = absurd cc
-header_fields_fit (word ∷ rest) c h = word_fits rest c (is_text (codes "nopaxos") word) h
+word_fits : (rest : List (List ℕ)) (h : Header) (b : Bool) → (if b then header_rest rest else Err WrongWord) ≡ Ok h
+    → is_header h ≡ true
+word_fits rest h true e = rest_fits rest h e
+word_fits rest h false e = absurd cc
 
-pub headers_fit : (line : List ℕ) (c : Configuration) → header_of line ≡ Ok c → is_configuration c ≡ true
+header_fields_fit : (xs : List (List ℕ)) (h : Header) → header_of_fields xs ≡ Ok h → is_header h ≡ true
+header_fields_fit [] h e = absurd cc
+header_fields_fit (word ∷ rest) h e = word_fits rest h (is_text (codes "nopaxos") word) e
+
+pub headers_fit : (line : List ℕ) (h : Header) → header_of line ≡ Ok h → is_header h ≡ true
 unfolding header_of
-headers_fit line c h = let a =
-    then_ok (plain_line line) (λ text. header_of_fields (fields text)) c h in header_fields_fit (fields a.0) c a.2
+headers_fit line h e = let a =
+    then_ok (plain_line line) (λ text. header_of_fields (fields text)) h e in header_fields_fit (fields a.0) h a.2

@@ -1,10 +1,12 @@
 -- A line that gives an event has plain bytes alone.
-use Rattle.std.proofs.Common.{◌≡◌, ◌≤◌, ◌+◌, ◌-◌, ◌*◌, ℕ, Bool, true, false, Option, Some, None, refl, ap, ◌∙◌, arith, List, [], ◌∷◌, ◌++◌, length}
-use Rattle.std.proofs.Common.{append_assoc, append-nil, eqb}
-use Rattle.std.specs.Prelude.{codes, nat_le, nat_lt, nat_eq, ◌==◌, ◌&&◌, ◌^◌, Result, Ok, Err, if◌then◌else◌, is_some, slice_index_or, ⊤}
+use Rattle.std.proofs.Common.{◌≡◌, ◌≤◌, ◌+◌, ◌-◌, ◌*◌, ℕ, Bool, true, false, Option, Some, None, refl, sym, ap, subst, ◌∙◌, arith}
+use Rattle.std.proofs.Common.{take, drop, List, [], ◌∷◌, ◌++◌, length, append_assoc, append-nil, eqb}
+use Rattle.std.specs.Prelude.{codes, nat_le, nat_lt, nat_eq, ◌==◌, ◌&&◌, ◌^◌, Result, Ok, Err, if◌then◌else◌, is_some, slice_index_or}
+use Rattle.std.specs.Prelude.{IfSome, ⊤}
 use Rattle.std.specs.Cmp.Lexicographic.{pointwise}
 use Rattle.std.specs.List.{list_all}
 use Rattle.std.proofs.lemmas.Bool.{leb-true, le-leb, eqb-true}
+use Rattle.std.proofs.lemmas.List.{take-append-drop}
 use Rattle.std.proofs.lemmas.List.Folds.{list_all-append}
 use Rattle.std.proofs.lemmas.List.Sums.{list_all-from_AllPass}
 use Rattle.hex.specs.Hex.{decode_of, is_hex_digit}
@@ -16,13 +18,14 @@ use Rattle.nop_types.specs.declared.input.Tick.TheVariants.{Suspect, Watch, Rese
 use Rattle.nop_types.specs.declared.output.Actor.{Actor}
 use Rattle.nop_types.specs.declared.output.Actor.TheVariants.{Replica, Sequencer, Client, Controller}
 use Rattle.line_fields.specs.Fields.{fields, fields_on, is_text, digit_on, number_on, number_of, below, number_below, numbered}
-use Rattle.line_fields.specs.Fields.{lettered, by_letter, actor_of, client_number, sequencer_number, as_option, bytes_of}
+use Rattle.line_fields.specs.Fields.{lettered, by_letter, from_one, by_number, actor_of, client_number, sequencer_number}
+use Rattle.line_fields.specs.Fields.{controller_number, as_option, bytes_of}
 use Rattle.schedule_text.specs.declared.event.Event.{Event}
 use Rattle.schedule_text.specs.declared.rule.Rule.TheVariants.{WrongWord, WrongField, WrongHex, WrongActor}
 use Rattle.schedule_text.specs.Ticks.{tick_named}
-use Rattle.schedule_text.specs.Rules.{is_plain, or_rule, keeps_rule, max_op_text, max_junk_text, one_field, two_fields}
+use Rattle.schedule_text.specs.Rules.{is_plain, or_rule, keeps_rule, max_op_text, max_junk_text, one_field, one_or_two_fields, two_fields}
 use Rattle.schedule_text.specs.Rules.{submit_of, deliver_of, tick_of, install_of, crash_of, junk_of, event_of_fields}
-use Rattle.schedule_text.specs.Rules.{submit_event, deliver_event, tick_event, junk_event}
+use Rattle.schedule_text.specs.Rules.{submit_event, deliver_event, tick_event, ordered, install_event, junk_event}
 use Rattle.schedule_text.proofs.Fitting.{then_ok, value_ok}
 
 abbrev pub IsPlain : List ℕ → Type 0
@@ -96,6 +99,14 @@ was_below : (limit : ℕ) (o : Option ℕ) (actor : ℕ → Actor) (a : Actor) �
 was_below limit None actor a e = absurd cc
 was_below limit (Some m) actor a e = (m, refl)
 
+was_some : (limit : ℕ) (o : Option ℕ) (n : ℕ) → below limit o ≡ Some n → (m : ℕ) × (o ≡ Some m)
+was_some limit None n e = absurd cc
+was_some limit (Some m) n e = (m, refl)
+
+was_from_one : (o : Option ℕ) (a : Actor) → numbered Controller (from_one o) ≡ Some a → (n : ℕ) × (o ≡ Some n)
+was_from_one None a e = absurd cc
+was_from_one (Some n) a e = (n, refl)
+
 lettered_plain : (c : Configuration) (letter : ℕ) (digits : List ℕ) (a : Actor) → lettered c letter digits ≡ Some a
     → IsPlain (letter ∷ digits)
 lettered_plain c letter digits a h = by_tests (letter == 114) (letter == 115) (letter == 99) refl refl refl h
@@ -117,15 +128,25 @@ lettered_plain c letter digits a h = by_tests (letter == 114) (letter == 115) (l
 
 actor_plain : (c : Configuration) (field : List ℕ) (a : Actor) → actor_of c field ≡ Some a → IsPlain field
 unfolding actor_of
-actor_plain c field a h = by_word (is_text (codes "ctl") field) refl h
+actor_plain c field a h = by_word (is_text (codes "ctl") field) (is_text (codes "ctl") (take 3 field)) refl refl h
   where
     by_letters : (f : List ℕ) → by_letter c f ≡ Some a → IsPlain f
     by_letters [] e = absurd cc
     by_letters (letter ∷ digits) e = lettered_plain c letter digits a e
 
-    by_word : (b : Bool) → is_text (codes "ctl") field ≡ b → (if b then Some Controller else by_letter c field) ≡ Some a → IsPlain field
-    by_word true is e = word_plain (codes "ctl") field refl is
-    by_word false is e = by_letters field e
+    by_digits : by_number c (drop 3 field) ≡ Some a → IsPlain (drop 3 field)
+    by_digits e =
+        let m = was_from_one (number_below c.controllers (drop 3 field)) a e in
+        let n = was_some c.controllers (number_of (drop 3 field)) m.0 m.1 in
+        number_plain (drop 3 field) n.0 n.1
+
+    by_word : (b t : Bool) → is_text (codes "ctl") field ≡ b → is_text (codes "ctl") (take 3 field) ≡ t
+        → (if b then Some (Controller 0) else if t then by_number c (drop 3 field) else by_letter c field) ≡ Some a → IsPlain field
+    by_word true t is begins e = word_plain (codes "ctl") field refl is
+    by_word false true is begins e =
+        rw (← take-append-drop 3 field) (plain_append (take 3 field) (drop 3 field) (word_plain (codes "ctl") (take 3 field) refl begins)
+        (by_digits e))
+    by_word false false is begins e = by_letters field e
 
 -- ---- bytes in hexadecimal
 
@@ -220,6 +241,17 @@ two_plain (f ∷ g ∷ []) x e p q =
     (rw (ap (λ (y : List ℕ × List ℕ). y.0) same) p, (rw (ap (λ (y : List ℕ × List ℕ). y.1) same) q, tt))
 two_plain (f ∷ g ∷ h ∷ fs) x e p q = absurd cc
 
+one_or_two_plain : (rest : List (List ℕ)) (x : List ℕ × Option (List ℕ)) → one_or_two_fields rest ≡ Ok x → IsPlain x.0 → IfSome x.1 IsPlain
+    → AllPlain rest
+one_or_two_plain [] x e p q = absurd cc
+one_or_two_plain (f ∷ []) x e p q =
+    let same : (f, None) ≡ x = cc in (rw (ap (λ (y : List ℕ × Option (List ℕ)). y.0) same) p, tt)
+one_or_two_plain (f ∷ g ∷ []) x e p q =
+    let same : (f, Some g) ≡ x = cc in
+    let second : Some g ≡ x.1 = ap (λ (y : List ℕ × Option (List ℕ)). y.1) same in
+    (rw (ap (λ (y : List ℕ × Option (List ℕ)). y.0) same) p, (subst (λ (o : Option (List ℕ)). IfSome o IsPlain) (sym second) q, tt))
+one_or_two_plain (f ∷ g ∷ h ∷ fs) x e p q = absurd cc
+
 was_client : (o : Option Actor) (n : ℕ) → client_number o ≡ Some n → (a : Actor) × (o ≡ Some a)
 was_client None n e = absurd cc
 was_client (Some a) n e = (a, refl)
@@ -227,6 +259,14 @@ was_client (Some a) n e = (a, refl)
 was_sequencer : (o : Option Actor) (n : ℕ) → sequencer_number o ≡ Some n → (a : Actor) × (o ≡ Some a)
 was_sequencer None n e = absurd cc
 was_sequencer (Some a) n e = (a, refl)
+
+was_controller : (o : Option Actor) (n : ℕ) → controller_number o ≡ Some n → (a : Actor) × (o ≡ Some a)
+was_controller None n e = absurd cc
+was_controller (Some a) n e = (a, refl)
+
+ordered_plain : (c : Configuration) (by : Option (List ℕ)) (n : ℕ) → ordered c by ≡ Some n → IfSome by IsPlain
+ordered_plain c None n e = tt
+ordered_plain c (Some name) n e = let one = was_controller (actor_of c name) n e in actor_plain c name one.0 one.1
 
 module _ (c : Configuration) (rest : List (List ℕ)) (e : Event) where
   submit_plain : submit_of c rest ≡ Ok e → AllPlain rest
@@ -257,10 +297,12 @@ module _ (c : Configuration) (rest : List (List ℕ)) (e : Event) where
 
   install_plain : install_of c rest ≡ Ok e → AllPlain rest
   install_plain h =
-      let a = then_ok (one_field rest) _ e h in
-      let b = then_ok (or_rule WrongActor (sequencer_number (actor_of c a.0))) _ e a.2 in
-      let one = was_sequencer (actor_of c a.0) b.0 (value_ok WrongActor (sequencer_number (actor_of c a.0)) b.0 b.1) in
-      one_plain rest a.0 a.1 (actor_plain c a.0 one.0 one.1)
+      let a = then_ok (one_or_two_fields rest) (λ p. install_event c p.0 p.1) e h in
+      let b = then_ok (or_rule WrongActor (sequencer_number (actor_of c a.0.0))) _ e a.2 in
+      let d = then_ok (or_rule WrongActor (ordered c a.0.1)) _ e b.2 in
+      let one = was_sequencer (actor_of c a.0.0) b.0 (value_ok WrongActor (sequencer_number (actor_of c a.0.0)) b.0 b.1) in
+      one_or_two_plain rest a.0 a.1 (actor_plain c a.0.0 one.0 one.1)
+      (ordered_plain c a.0.1 d.0 (value_ok WrongActor (ordered c a.0.1) d.0 d.1))
 
   crash_plain : crash_of c rest ≡ Ok e → AllPlain rest
   crash_plain h =

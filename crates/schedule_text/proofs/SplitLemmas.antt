@@ -3,13 +3,17 @@ use Rattle.std.proofs.Common.{◌≡◌, ℕ, Ok, Err, List, [], ◌∷◌, refl
 use Rattle.line_fields.specs.Fields.{fields}
 use Rattle.line_fields.proofs.SplitLemmas.{fields_are_some}
 use Rattle.schedule_text.specs.declared.rule.Rule.TheVariants.{WrongFieldCount}
-use Rattle.schedule_text.specs.Rules.{◌>>=◌, one_field, two_fields}
+use Rattle.schedule_text.specs.Rules.{◌>>=◌, one_field, one_or_two_fields, two_fields}
 
 -- the second of two fields is the only one of the others
 pub second_of : (first : List ℕ) (others : List (List ℕ)) → two_fields (first ∷ others) ≡ one_field others >>= λ second. Ok (first, second)
 second_of first [] = refl
 second_of first (second ∷ []) = refl
 second_of first (second ∷ third ∷ more) = refl
+
+-- two fields and those of a further part are no one or two
+pub more_than_two : (first second rest : List ℕ) → one_or_two_fields (first ∷ second ∷ fields rest) ≡ Err WrongFieldCount
+more_than_two first second rest = let some = fields_are_some rest in rw some.2 refl
 
 -- a field and those of a further part are no single field
 pub more_than_one : (line first rest : List ℕ) (others : List (List ℕ)) → others ≡ fields rest → fields line ≡ first ∷ others

@@ -3,7 +3,7 @@ use Rattle.std.proofs.Common.{◌≡◌, ℕ, Bool, true, false, List, [], ◌�
 use Rattle.std.proofs.Common.{◌∙◌, append_assoc}
 use Rattle.std.proofs.lemmas.Bool.{false≢true}
 use Rattle.lines.specs.Reading as cut
-use Rattle.nop_types.specs.Configuration.{Configuration}
+use Rattle.nop_types.specs.declared.header.Header.{Header}
 use Rattle.schedule_text.specs.declared.event.Event.{Event}
 use Rattle.schedule_text.specs.declared.next_error.NextError.{NextError}
 use Rattle.schedule_text.specs.declared.next_error.NextError.TheVariants.{ReadFault, NoMemory}
@@ -124,26 +124,27 @@ stays r (Some left) = ([], refl, still r r left (Err NoMemory) refl (λ ended mo
 
 -- ---- what a reader of lines takes
 
-module _ (config : Option Configuration) (old new : cut.Reading) where
+module _ (header : Option Header) (old new : cut.Reading) where
   -- more bytes do not change what comes next
   same_turn : (taken : List ℕ) → cut.Grows old new taken → (ended : Bool) (more : List ℕ)
-      → turn_of (reading config old) ended (taken ++ more) ≡ turn_of (reading config new) ended more
+      → turn_of (reading header old) ended (taken ++ more) ≡ turn_of (reading header new) ended more
   same_turn taken grows ended more =
       rw (grows.line, grows.pending)
-      (ap (λ (xs : List ℕ). turn config old.line (lines_of ended old.line xs)) (sym (append_assoc old.pending taken more)))
+      (ap (λ (xs : List ℕ). turn header old.line (lines_of ended old.line xs)) (sym (append_assoc old.pending taken more)))
 
   grown : (taken left : List ℕ) (answer : Result (Option Event) NextError) → cut.Grows old new taken
       → (old.ended ≡ false → new.ended ≡ true → left ≡ [])
-      → ((ended : Bool) (more : List ℕ) → IsTurn (reading config new) ended more answer (turn_of (reading config old) ended (taken ++ more)))
-      → Takes (reading config old) (reading config new) taken left answer
+      → ((ended : Bool) (more : List ℕ)
+      → IsTurn (reading header new) ended more answer (turn_of (reading header old) ended (taken ++ more)))
+      → Takes (reading header old) (reading header new) taken left answer
   grown taken left answer grows end turns =
       record { end = end; after_end = grows.after_end; turn = λ ended more follows. turns ended more }
 
   by_source : (answer : Result (Option Event) NextError)
       → ((taken : List ℕ) → cut.Grows old new taken → (ended : Bool) (more : List ℕ)
-      → IsTurn (reading config new) ended more answer (turn_of (reading config old) ended (taken ++ more)))
+      → IsTurn (reading header new) ended more answer (turn_of (reading header old) ended (taken ++ more)))
       → (before left : Option (List ℕ)) → cut.TakesFrom old new before left
-      → TakesFrom (reading config old) (reading config new) before left answer
+      → TakesFrom (reading header old) (reading header new) before left answer
   unfolding TakesFrom
   by_source answer turns None left from =
       (from.taken, grown from.taken [] answer from.grows (λ going ended. refl) (turns from.taken from.grows))
@@ -152,9 +153,9 @@ module _ (config : Option Configuration) (old new : cut.Reading) where
       (from.taken, from.source, grown from.taken left answer from.grows from.end (turns from.taken from.grows))
 
   pub reached : (before left : Option (List ℕ)) → cut.TakesFrom old new before left
-      → TakesFrom (reading config old) (reading config new) before left (Err NoMemory)
+      → TakesFrom (reading header old) (reading header new) before left (Err NoMemory)
   reached before left from = by_source (Err NoMemory) same_turn before left from
 
   pub failed : (before left : Option (List ℕ)) → cut.TakesFrom old new before left
-      → TakesFrom (reading config old) (reading config new) before left (Err ReadFault)
+      → TakesFrom (reading header old) (reading header new) before left (Err ReadFault)
   failed before left from = by_source (Err ReadFault) same_turn before left from

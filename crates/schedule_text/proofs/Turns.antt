@@ -3,9 +3,11 @@ use Rattle.std.proofs.Common.{◌≡◌, ℕ, ◌+◌, ◌<◌, ◌≤◌, Bool,
 use Rattle.std.proofs.Common.{drop, Option, Some, None, Ok, Err, refl, sym, ap, ◌∙◌, inl, inr, arith, if◌then◌else◌}
 use Rattle.std.proofs.lemmas.Bool.{ltb-false, leb-false}
 use Rattle.std.specs.List.{list_all}
-use Rattle.std.specs.Prelude.{◌↔◌}
+use Rattle.std.specs.Prelude.{◌↔◌, IsTrue}
 use Rattle.std.proofs.lemmas.List.{length-take-le}
 use Rattle.nop_types.specs.Configuration.{Configuration}
+use Rattle.nop_types.specs.Headers.{is_header}
+use Rattle.nop_types.specs.declared.header.Header.{Header}
 use Rattle.schedule_text.specs.declared.event.Event.{Event}
 use Rattle.lines.specs.Cutting.{Cut}
 use Rattle.lines.specs.Deciding.{IsFirstLine, Follows}
@@ -38,10 +40,10 @@ was_read : {A B : Type 0} (r : Read A) (f : A → Read B) (y : B) → (r >>= f) 
 was_read (Ok x) f y is = (x, refl)
 was_read (Err rule) f y is = absurd cc
 
-pub header_fits : (line : List ℕ) (c : Configuration) → header_of line ≡ Ok c → length line ≤ 4096
+pub header_fits : (line : List ℕ) (h : Header) → header_of line ≡ Ok h → length line ≤ 4096
 unfolding header_of
-header_fits line c is =
-    let read = was_read (plain_line line) (λ text. header_of_fields (fields text)) c is in
+header_fits line h is =
+    let read = was_read (plain_line line) (λ text. header_of_fields (fields text)) h is in
     plain_fits line read.0 read.1
 
 -- and stands behind fewer lines than a schedule may have
@@ -54,12 +56,13 @@ event_fits c before line e is =
     (leb-false 1000000 before last.0, plain_fits line read.0 read.1)
 
 -- what a reader keeps after a line was taken
-pub keeps_on : (old new : cut.Reading) (c : Configuration) → old.most ≡ 1000000 → old.line < 1000000 → new.most ≡ old.most
-    → new.line ≡ old.line + 1 → IsReader new (Some c)
-keeps_on old new c limit fits same next = record {
+pub keeps_on : (old new : cut.Reading) (h : Header) → IsTrue (is_header h) → old.most ≡ 1000000 → old.line < 1000000
+    → new.most ≡ old.most → new.line ≡ old.line + 1 → IsReader new (Some h)
+keeps_on old new h within limit fits same next = record {
   limit = same ∙ limit;
   most = omega (arith, next, fits);
   opened = (λ none. absurd cc, λ none. absurd (omega (arith, next, none)));
+  within = within;
 }
 
 -- ---- the texts of lines
@@ -69,23 +72,23 @@ some_line : (lines : List Cut) → texts lines ≡ [] → lines ≡ []
 some_line [] none = refl
 some_line (line ∷ lines) none = absurd cc
 
-module _ (config : Option Configuration) (lines : cut.Reading) (limit : lines.most ≡ 1000000) where
-  pub none_before : cut.lines_before lines false [] ≡ [] → lines_before (reading config lines) false [] ≡ []
+module _ (header : Option Header) (lines : cut.Reading) (limit : lines.most ≡ 1000000) where
+  pub none_before : cut.lines_before lines false [] ≡ [] → lines_before (reading header lines) false [] ≡ []
   unfolding lines_of
   none_before none = ap texts (rw limit at none)
 
-  some_before : lines_before (reading config lines) false [] ≡ [] → cut.lines_before lines false [] ≡ []
+  some_before : lines_before (reading header lines) false [] ≡ [] → cut.lines_before lines false [] ≡ []
   unfolding lines_of
   some_before none = rw limit (some_line _ none)
 
-  pub needs_no_read : cut.NeedsNoRead lines ↔ NeedsNoRead (reading config lines)
+  pub needs_no_read : cut.NeedsNoRead lines ↔ NeedsNoRead (reading header lines)
   needs_no_read = (to, from)
     where
-      to : cut.NeedsNoRead lines → NeedsNoRead (reading config lines)
+      to : cut.NeedsNoRead lines → NeedsNoRead (reading header lines)
       to (inl ended) = inl ended
       to (inr some) = inr (λ none. some (some_before none))
 
-      from : NeedsNoRead (reading config lines) → cut.NeedsNoRead lines
+      from : NeedsNoRead (reading header lines) → cut.NeedsNoRead lines
       from (inl ended) = inl ended
       from (inr some) = inr (λ none. some (none_before none))
 
@@ -101,7 +104,7 @@ unfolding lines_of
 no_line r ended more was none follows =
     ap texts (no_lines 1000000 ended r.line r.pending more none (follows.nothing was))
 
-pub no_header : (r : Reading) → r.config ≡ None → r.ended ≡ true → r.pending ≡ []
+pub no_header : (r : Reading) → r.header ≡ None → r.ended ≡ true → r.pending ≡ []
     → Answers r r (Err (BadLine (r.line + 1) (rule_number WrongWord)))
 no_header r closed was none = record {
   ended = refl;
@@ -110,8 +113,8 @@ no_header r closed was none = record {
       (rw (closed, lines) refl, refl);
 }
 
-pub no_event : (r : Reading) (c : Configuration) → r.config ≡ Some c → r.ended ≡ true → r.pending ≡ [] → Answers r r (Ok None)
-no_event r c opened was none = record {
+pub no_event : (r : Reading) (h : Header) → r.header ≡ Some h → r.ended ≡ true → r.pending ≡ [] → Answers r r (Ok None)
+no_event r h opened was none = record {
   ended = refl;
   turn = λ ended more follows. (rw (opened, no_line r ended more was none follows) refl, was, none);
 }
@@ -128,7 +131,7 @@ module _ (before : ℕ) (pending : List ℕ) (was_ended : Bool) (first : FirstLi
   here ended more after = let line = is_first.line ended more after in (texts line.0, ap texts line.1)
 
   pub header_refused : (rule : Rule) → header_of (take first.len pending) ≡ Err rule
-      → let r : Reading = record { config = None; line = before; pending = pending; ended = was_ended } in
+      → let r : Reading = record { header = None; line = before; pending = pending; ended = was_ended } in
       Answers r r (Err (BadLine (before + 1) (rule_number rule)))
   header_refused rule is = record {
     ended = refl;
@@ -136,22 +139,22 @@ module _ (before : ℕ) (pending : List ℕ) (was_ended : Bool) (first : FirstLi
         let line = here ended more (record { nothing = follows.nothing; end = follows.end }) in (
           ap (turn None before) line.1
               ∙ ap (header_turn before (take first.len pending) line.0) is
-              ∙ ap (λ (xs : List (List ℕ)). record { next = Refuses (rule_number rule); config = None; line = before; rest = xs })
+              ∙ ap (λ (xs : List (List ℕ)). record { next = Refuses (rule_number rule); header = None; line = before; rest = xs })
               (sym line.1),
           refl,
         );
   }
 
-  pub event_refused : (c : Configuration) (rule : Rule) → event_of c before (take first.len pending) ≡ Err rule
-      → let r : Reading = record { config = Some c; line = before; pending = pending; ended = was_ended } in
+  pub event_refused : (h : Header) (rule : Rule) → event_of h.config before (take first.len pending) ≡ Err rule
+      → let r : Reading = record { header = Some h; line = before; pending = pending; ended = was_ended } in
       Answers r r (Err (BadLine (before + 1) (rule_number rule)))
-  event_refused c rule is = record {
+  event_refused h rule is = record {
     ended = refl;
     turn = λ ended more follows.
         let line = here ended more (record { nothing = follows.nothing; end = follows.end }) in (
-          ap (turn_after c before) line.1
-              ∙ ap (event_turn c before (take first.len pending) line.0) is
-              ∙ ap (λ (xs : List (List ℕ)). record { next = Refuses (rule_number rule); config = Some c; line = before; rest = xs })
+          ap (turn_after h before) line.1
+              ∙ ap (event_turn h before (take first.len pending) line.0) is
+              ∙ ap (λ (xs : List (List ℕ)). record { next = Refuses (rule_number rule); header = Some h; line = before; rest = xs })
               (sym line.1),
           refl,
         );
@@ -163,28 +166,28 @@ module _ (before : ℕ) (pending : List ℕ) (was_ended : Bool) (first : FirstLi
   unfolding lines_of
   rest fits short ended more after = ap texts (is_first.rest fits short ended more after)
 
-  pub header_taken : (c : Configuration) → before ≡ 0 → header_of (take first.len pending) ≡ Ok c
-      → Answers (record { config = None; line = before; pending = pending; ended = was_ended })
-      (record { config = Some c; line = before + 1; pending = drop first.end pending; ended = was_ended }) (Err NoMemory)
-  header_taken c begins is = record {
+  pub header_taken : (h : Header) → before ≡ 0 → header_of (take first.len pending) ≡ Ok h
+      → Answers (record { header = None; line = before; pending = pending; ended = was_ended })
+      (record { header = Some h; line = before + 1; pending = drop first.end pending; ended = was_ended }) (Err NoMemory)
+  header_taken h begins is = record {
     ended = refl;
     turn = λ ended more follows.
         let after : Follows was_ended ended more = record { nothing = follows.nothing; end = follows.end } in
         let others = lines_of ended (before + 1) (drop first.end pending ++ more) in
-        let short = header_fits (take first.len pending) c is in
+        let short = header_fits (take first.len pending) h is in
         ap (turn None before) (rest (omega arith) (omega (arith, length-first, short)) ended more after)
         ∙ ap (header_turn before (take first.len pending) others) is;
   }
 
-  pub event_taken : (c : Configuration) (e : Event) → event_of c before (take first.len pending) ≡ Ok e
-      → Answers (record { config = Some c; line = before; pending = pending; ended = was_ended })
-      (record { config = Some c; line = before + 1; pending = drop first.end pending; ended = was_ended }) (Ok (Some e))
-  event_taken c e is = record {
+  pub event_taken : (h : Header) (e : Event) → event_of h.config before (take first.len pending) ≡ Ok e
+      → Answers (record { header = Some h; line = before; pending = pending; ended = was_ended })
+      (record { header = Some h; line = before + 1; pending = drop first.end pending; ended = was_ended }) (Ok (Some e))
+  event_taken h e is = record {
     ended = refl;
     turn = λ ended more follows.
         let after : Follows was_ended ended more = record { nothing = follows.nothing; end = follows.end } in
         let others = lines_of ended (before + 1) (drop first.end pending ++ more) in
-        let fits = event_fits c before (take first.len pending) e is in
-        ap (turn_after c before) (rest fits.0 (omega (arith, length-first, fits.1)) ended more after)
-        ∙ ap (event_turn c before (take first.len pending) others) is;
+        let fits = event_fits h.config before (take first.len pending) e is in
+        ap (turn_after h before) (rest fits.0 (omega (arith, length-first, fits.1)) ended more after)
+        ∙ ap (event_turn h before (take first.len pending) others) is;
   }

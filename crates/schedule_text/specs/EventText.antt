@@ -1,5 +1,5 @@
 -- The line of an event, as a schedule has it.
-use Rattle.std.specs.Prelude.{◌≡◌, ℕ, ◌<◌, ◌≤◌, ◌^◌, ⊤, List, [], ◌∷◌, ◌++◌, length, codes, decimal, Ok, true, IsTrue}
+use Rattle.std.specs.Prelude.{◌≡◌, ℕ, ◌<◌, ◌≤◌, ◌^◌, ⊤, List, [], ◌∷◌, ◌++◌, length, codes, decimal, Ok, true, IsTrue, ◌==◌, if◌then◌else◌}
 use Rattle.std.specs.List.{flat_map}
 use Rattle.hex.specs.Hex.{IsBytes}
 use Rattle.nop_types.specs.Configuration.{Configuration, is_configuration}
@@ -33,7 +33,7 @@ abbrev pub HasLine : Event → Type 0
 HasLine (events.Submit client op) = ⊤
 HasLine (events.Deliver index actor) = ⊤
 HasLine (events.Tick actor tick) = HasWord tick
-HasLine (events.Install number) = ⊤
+HasLine (events.Install controller sequencer) = ⊤
 HasLine (events.Crash actor) = ⊤
 HasLine (events.Junk actor bytes) = length bytes ≤ MAX_DATAGRAM_BYTES
 
@@ -53,16 +53,20 @@ abbrev pub event_word : Event → List ℕ
 event_word (events.Submit client op) = codes "submit"
 event_word (events.Deliver index actor) = codes "deliver"
 event_word (events.Tick actor tick) = codes "tick"
-event_word (events.Install number) = codes "install"
+event_word (events.Install controller sequencer) = codes "install"
 event_word (events.Crash actor) = codes "crash"
 event_word (events.Junk actor bytes) = codes "junk"
+
+-- controller 0 is not named
+abbrev pub named_controller : ℕ → List (List ℕ)
+named_controller k = if k == 0 then [] else actor_text (actors.Controller k) ∷ []
 
 -- the fields after the word; bytes in lower case
 abbrev pub event_fields : Event → List (List ℕ)
 event_fields (events.Submit client op) = actor_text (actors.Client client) ∷ hex_text op ∷ []
 event_fields (events.Deliver index actor) = decimal index ∷ actor_text actor ∷ []
 event_fields (events.Tick actor tick) = actor_text actor ∷ tick_text tick ∷ []
-event_fields (events.Install number) = actor_text (actors.Sequencer number) ∷ []
+event_fields (events.Install controller sequencer) = actor_text (actors.Sequencer sequencer) ∷ named_controller controller
 event_fields (events.Crash actor) = actor_text actor ∷ []
 event_fields (events.Junk actor bytes) = actor_text actor ∷ hex_text bytes ∷ []
 
@@ -77,7 +81,7 @@ abbrev pub IsEventOf : Configuration → Event → Type 0
 IsEventOf c (events.Submit client op) = client < c.clients
 IsEventOf c (events.Deliver index actor) = IsActorOf c actor
 IsEventOf c (events.Tick actor tick) = IsActorOf c actor × (takes_tick actor tick ≡ true)
-IsEventOf c (events.Install number) = number < c.sequencers
+IsEventOf c (events.Install controller sequencer) = (controller < c.controllers) × (sequencer < c.sequencers)
 IsEventOf c (events.Crash actor) = IsActorOf c actor
 IsEventOf c (events.Junk actor bytes) = IsActorOf c actor
 
@@ -91,6 +95,6 @@ abbrev pub IsTyped : Event → Type 0
 IsTyped (events.Submit client op) = (length op ≤ MAX_OP_BYTES) × IsBytes op
 IsTyped (events.Deliver index actor) = index < 2 ^ 64
 IsTyped (events.Tick actor tick) = ⊤
-IsTyped (events.Install number) = ⊤
+IsTyped (events.Install controller sequencer) = ⊤
 IsTyped (events.Crash actor) = ⊤
 IsTyped (events.Junk actor bytes) = IsBytes bytes

@@ -9,7 +9,7 @@ abbrev pub EventFits : Event → Type 0
 EventFits (Submit client op) = length op ≤ MAX_OP_BYTES
 EventFits (Deliver index actor) = ⊤
 EventFits (Tick actor tick) = ⊤
-EventFits (Install sequencer) = ⊤
+EventFits (Install controller sequencer) = ⊤
 EventFits (Crash actor) = ⊤
 EventFits (Junk actor bytes) = ⊤
 

@@ -4,12 +4,14 @@ use Rattle.std.specs.Prelude.{◌&&◌, if◌then◌else◌}
 use Rattle.std.specs.List.{list_all}
 use Rattle.nop_types.specs.declared.limits.TheConstants.{MAX_LINE_BYTES, MAX_LINES}
 use Rattle.nop_types.specs.Configuration.{Configuration, is_configuration}
+use Rattle.nop_types.specs.declared.header.Header.{Header}
 use Rattle.schedule_text.specs.declared.event.Event.{Event}
 use Rattle.schedule_text.specs.declared.event.Event.TheVariants.{Submit, Deliver, Tick, Install, Crash, Junk}
 use Rattle.schedule_text.specs.declared.rule.Rule.{Rule}
 use Rattle.schedule_text.specs.declared.rule.Rule.TheVariants.{LineTooLong, WrongByte, WrongWord, WrongFieldCount, WrongField, WrongHex}
 use Rattle.schedule_text.specs.declared.rule.Rule.TheVariants.{WrongActor, NoSuchDatagram, Forged, TooManyLines}
-use Rattle.line_fields.specs.Fields.{fields, is_text, number_of, number_below, actor_of, client_number, sequencer_number, bytes_of}
+use Rattle.line_fields.specs.Fields.{fields, is_text, number_of, number_below, actor_of, client_number, sequencer_number, controller_number}
+use Rattle.line_fields.specs.Fields.{bytes_of}
 use Rattle.schedule_text.specs.Ticks.{tick_named, takes_tick}
 
 -- the number of a rule, as an error line has it
@@ -99,12 +101,26 @@ tick_event c actor kind = do
 abbrev pub tick_of : Configuration → List (List ℕ) → Result Event Rule
 tick_of c rest = two_fields rest >>= λ p. tick_event c p.0 p.1
 
--- `install sN`
-abbrev pub install_of : Configuration → List (List ℕ) → Result Event Rule
-install_of c rest = do
-  name ← one_field rest
+-- one field and perhaps a second one
+abbrev pub one_or_two_fields : List (List ℕ) → Result (List ℕ × Option (List ℕ)) Rule
+one_or_two_fields (first ∷ []) = Ok (first, None)
+one_or_two_fields (first ∷ second ∷ []) = Ok (first, Some second)
+one_or_two_fields _ = Err WrongFieldCount
+
+-- the controller that a line names: controller 0 where it names none
+abbrev pub ordered : Configuration → Option (List ℕ) → Option ℕ
+ordered c None = Some 0
+ordered c (Some name) = controller_number (actor_of c name)
+
+-- `install sN` or `install sN CONTROLLER`
+abbrev pub install_event : Configuration → List ℕ → Option (List ℕ) → Result Event Rule
+install_event c name by = do
   number ← or_rule WrongActor (sequencer_number (actor_of c name))
-  Ok (Install number)
+  controller ← or_rule WrongActor (ordered c by)
+  Ok (Install controller number)
+
+abbrev pub install_of : Configuration → List (List ℕ) → Result Event Rule
+install_of c rest = one_or_two_fields rest >>= λ p. install_event c p.0 p.1
 
 -- `crash ACTOR`
 abbrev pub crash_of : Configuration → List (List ℕ) → Result Event Rule
@@ -142,25 +158,30 @@ event_of_fields c (word ∷ rest) =
 abbrev pub count_of : List ℕ → Option ℕ
 count_of field = number_below 256 field
 
-abbrev pub configuration_of : Option ℕ → Option ℕ → Option ℕ → Result Configuration Rule
-configuration_of (Some n) (Some s) (Some c) =
-    let made : Configuration = record { replicas = n; sequencers = s; clients = c } in
-    if is_configuration made then Ok made else Err WrongField
-configuration_of _ _ _ = Err WrongField
+-- a header of this form with these counts
+abbrev pub header_with : ℕ → Option ℕ → Option ℕ → Option ℕ → Option ℕ → Result Header Rule
+header_with form (Some n) (Some s) (Some c) (Some k) =
+    let made : Configuration = record { replicas = n; sequencers = s; clients = c; controllers = k } in
+    if is_configuration made then Ok (record { form = form; config = made }) else Err WrongField
+header_with form _ _ _ _ = Err WrongField
 
-abbrev pub header_counts : List ℕ → List ℕ → List ℕ → List ℕ → List ℕ → List ℕ → List ℕ → Result Configuration Rule
-header_counts version replicas n sequencers s clients c =
-    if is_text (codes "1") version &&
-    (is_text (codes "replicas") replicas && (is_text (codes "sequencers") sequencers && is_text (codes "clients") clients))
-    then configuration_of (count_of n) (count_of s) (count_of c)
+abbrev pub are_named : List ℕ → List ℕ → List ℕ → Bool
+are_named replicas sequencers clients =
+    is_text (codes "replicas") replicas && (is_text (codes "sequencers") sequencers && is_text (codes "clients") clients)
+
+-- the fields after the word, of either form: form 1 names no controllers, and means one
+abbrev pub header_rest : List (List ℕ) → Result Header Rule
+header_rest (form ∷ replicas ∷ n ∷ sequencers ∷ s ∷ clients ∷ c ∷ []) =
+    if is_text (codes "1") form && are_named replicas sequencers clients
+    then header_with 1 (count_of n) (count_of s) (count_of c) (Some 1)
     else Err WrongField
-
--- the fields after the word
-abbrev pub header_rest : List (List ℕ) → Result Configuration Rule
-header_rest (version ∷ replicas ∷ n ∷ sequencers ∷ s ∷ clients ∷ c ∷ []) = header_counts version replicas n sequencers s clients c
+header_rest (form ∷ replicas ∷ n ∷ sequencers ∷ s ∷ clients ∷ c ∷ controllers ∷ k ∷ []) =
+    if is_text (codes "2") form && (are_named replicas sequencers clients && is_text (codes "controllers") controllers)
+    then header_with 2 (count_of n) (count_of s) (count_of c) (count_of k)
+    else Err WrongField
 header_rest _ = Err WrongFieldCount
 
-abbrev pub header_of_fields : List (List ℕ) → Result Configuration Rule
+abbrev pub header_of_fields : List (List ℕ) → Result Header Rule
 header_of_fields [] = Err WrongWord
 header_of_fields (word ∷ rest) = if is_text (codes "nopaxos") word then header_rest rest else Err WrongWord
 
@@ -174,7 +195,7 @@ plain_line line =
     else Err WrongByte
 
 -- the first line
-unfoldable pub header_of : List ℕ → Result Configuration Rule
+unfoldable pub header_of : List ℕ → Result Header Rule
 header_of line = plain_line line >>= λ text. header_of_fields (fields text)
 
 -- any other line, where `before` lines stand before it

@@ -1,7 +1,9 @@
 -- The steps of a reader on the way to an answer.
-use Rattle.std.specs.Prelude.{◌≡◌, ◌≢◌, ℕ, ◌≤◌, ◌↔◌, ◌⊎◌, List, [], ◌++◌, Bool, true, false, Option, Some, None, Result, Ok, Err, IsNone}
+use Rattle.std.specs.Prelude.{◌≡◌, ◌≢◌, ℕ, ◌≤◌, ◌↔◌, ◌⊎◌, List, [], ◌++◌, Bool, true, false, Option, Some, None, Result, Ok, Err}
+use Rattle.std.specs.Prelude.{IsNone, IsTrue, IfSome}
 use Rattle.nop_types.specs.declared.limits.TheConstants.{MAX_LINES}
-use Rattle.nop_types.specs.Configuration.{Configuration}
+use Rattle.nop_types.specs.Headers.{is_header}
+use Rattle.nop_types.specs.declared.header.Header.{Header}
 use Rattle.schedule_text.specs.declared.event.Event.{Event}
 use Rattle.lines.specs.Deciding.{IsFirstLine}
 use Rattle.lines.specs.Reading as cut
@@ -10,14 +12,15 @@ use Rattle.schedule_text.specs.declared.next_error.NextError.{NextError}
 use Rattle.schedule_text.specs.declared.next_error.NextError.TheVariants.{NoMemory}
 use Rattle.schedule_text.specs.Reading.{Reading, MayFollow, IsTurn, Takes, lines_before, turn_of}
 
--- what a reader keeps: the lines that a schedule may have, and a configuration from line 1 on
-pub record IsReader (lines : cut.Reading) (config : Option Configuration) : Type 0 where
+-- what a reader keeps: the lines that a schedule may have, and a header within its limits from line 1 on
+pub record IsReader (lines : cut.Reading) (header : Option Header) : Type 0 where
   pub limit : lines.most ≡ MAX_LINES
   pub most : lines.line ≤ MAX_LINES
-  pub opened : IsNone config ↔ (lines.line ≡ 0)
+  pub opened : IsNone header ↔ (lines.line ≡ 0)
+  pub within : IfSome header (λ h. IsTrue (is_header h))
 
-abbrev pub reading : Option Configuration → cut.Reading → Reading
-reading config lines = record { config = config; line = lines.line; pending = lines.pending; ended = lines.ended }
+abbrev pub reading : Option Header → cut.Reading → Reading
+reading header lines = record { header = header; line = lines.line; pending = lines.pending; ended = lines.ended }
 
 -- a step that went well leaves what comes next as it was, as NoMemory does
 abbrev pub after_step : {A : Type 0} → Result A NextError → Result (Option Event) NextError

@@ -10,8 +10,8 @@ pub enum Event {
     Deliver(u64, Actor),
     /// An actor is given a tick, one that a schedule may give it.
     Tick(Actor, Tick),
-    /// The controller is ordered to move to the sequencer with this number.
-    Install(u8),
+    /// The controller with the first number is ordered to move to the sequencer with the second one.
+    Install(u8, u8),
     /// An actor takes no further step.
     Crash(Actor),
     /// Bytes that nobody sent come to an actor. They spell no datagram; a line of a schedule gives

@@ -1,6 +1,6 @@
 //! The lines of a schedule. What reads them is in `rules`.
 
-ghost use Rattle.std.specs.Prelude.{◌≡◌, ◌++◌, ◌∷◌, [], OnOk, OnErr};
+ghost use Rattle.std.specs.Prelude.{◌≡◌, ◌++◌, ◌∷◌, [], codes, OnOk, OnErr};
 ghost use Rattle.hex.specs.Hex.{IsBytes};
 ghost use Rattle.schedule_text.specs.EventText.{HasWord, HasLine, tick_text, event_word};
 ghost use Rattle.schedule_text.specs.EventText.{event_fields, event_text, Means, IsTyped};
@@ -45,7 +45,22 @@ fn ranges(event: &Event)
         Event::Junk(_, bytes) => {
             are_bytes(bytes.as_slice());
         }
-        Event::Tick(_, _) | Event::Install(_) | Event::Crash(_) => {}
+        Event::Tick(_, _) | Event::Install(_, _) | Event::Crash(_) => {}
+    }
+}
+
+/// Controller 0 is not named.
+fn put_install(controller: u8, sequencer: u8, to: &mut Vec<u8>) -> Result<(), NoMemory>
+    ensures ok { OnOk result (to.new.items ≡ to.old.items
+        ++ line_of (codes "install") (event_fields (Event.Install controller sequencer))) }
+    ensures err { OnErr result (to.new.items ≡ to.old.items) }
+{
+    let sequencer = Field::Name(Actor::Sequencer(sequencer));
+    if controller == 0 {
+        write_line("install", &[sequencer], to)
+    } else {
+        let controller = Field::Name(Actor::Controller(controller));
+        write_line("install", &[sequencer, controller], to)
     }
 }
 
@@ -67,9 +82,7 @@ fn put_event(event: &Event, to: &mut Vec<u8>) -> Result<(), NoMemory>
             let fields = [Field::Name(*actor), Field::Word(tick_word(*tick))];
             write_line("tick", &fields, to)
         }
-        Event::Install(number) => {
-            write_line("install", &[Field::Name(Actor::Sequencer(*number))], to)
-        }
+        Event::Install(controller, sequencer) => put_install(*controller, *sequencer, to),
         Event::Crash(actor) => write_line("crash", &[Field::Name(*actor)], to),
         Event::Junk(actor, bytes) => {
             write_line(

@@ -3,7 +3,9 @@
 ghost use Rattle.std.specs.Prelude.{◌≡◌, ◌≤◌, ℕ, List, length, Ok, true};
 ghost use Rattle.nop_types.specs.declared.limits.TheConstants.{MAX_DATAGRAM_BYTES};
 ghost use Rattle.nop_types.specs.declared.output.Actor.{Actor};
-ghost use Rattle.nop_types.specs.Configuration.{Configuration, is_configuration};
+ghost use Rattle.nop_types.specs.Configuration.{Configuration};
+ghost use Rattle.nop_types.specs.Headers.{is_header};
+ghost use Rattle.nop_types.specs.declared.header.Header.{Header};
 ghost use Rattle.schedule_text.specs.declared.event.Event.{Event};
 ghost use Rattle.schedule_text.specs.declared.event.Event.TheVariants.{Junk};
 ghost use Rattle.schedule_text.specs.Fits.{EventFits};
@@ -23,9 +25,8 @@ pub fn read_junk_fits()
         → junk_of c rest ≡ Ok (Junk to bytes) → length bytes ≤ MAX_DATAGRAM_BYTES }
 {}
 
-/// The header of a schedule is within the limits of a configuration.
+/// The header of a schedule is of its form, and within the limits of a configuration.
 #[tactic(auto, using(crate::proofs::Fitting::headers_fit))]
 pub fn read_headers_fit()
-    ensures { (line : List ℕ) (c : Configuration) → header_of line ≡ Ok c
-        → is_configuration c ≡ true }
+    ensures { (line : List ℕ) (h : Header) → header_of line ≡ Ok h → is_header h ≡ true }
 {}

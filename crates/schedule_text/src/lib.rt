@@ -11,9 +11,12 @@
 //! `event_line` appends the line of an event, and nothing on an error; in each configuration that
 //! has the actors of the event and takes its tick, this line means the event (clause `means`).
 //!
+//! Line 1 is a header of one of two forms: with a count of controllers, or without it, which means
+//! one. `Reader::form` is the number of its form.
+//!
 //! Calls: `Reader::new`, `open` (line 1), `next`, `has_line` (whether `next` will leave the source
-//! as it is), `config`, `line`; `Event`; `Rule::number`;
-//! `event_line`; `takes_tick`, which ticks a schedule may give.
+//! as it is), `config`, `form`, `line`; `Event`; `Rule::number`; `event_line`; `takes_tick`, which
+//! ticks a schedule may give.
 //!
 //! Where a line ends, and when it is decided, is said in `lines`, which cuts them.
 //!

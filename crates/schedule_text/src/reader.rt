@@ -1,9 +1,10 @@
 ghost use Rattle.std.specs.Prelude.{◌≡◌, ◌≢◌, ◌+◌, ◌≤◌, ◌↔◌, false, true, []};
 ghost use Rattle.std.specs.Prelude.{Some, None, Err, IsNone, IsSome, IsTrue, IfOk, OnOk, OnErr};
 ghost use Rattle.nop_types.specs.declared.limits.TheConstants.{MAX_LINES};
+ghost use Rattle.nop_types.specs.Headers.{gives};
 ghost use Rattle.outside.specs.Causes.{HasCauseFor};
 ghost use Rattle.schedule_text.specs.Reading.{opening, lines_before, lines_taken, Reads, TakesOf};
-ghost use Rattle.schedule_text.specs.Reading.{LeavesNone};
+ghost use Rattle.schedule_text.specs.Reading.{LeavesNone, form_of, config_of, HasConfig};
 ghost use Rattle.schedule_text.specs.Rules.{rule_number};
 ghost use Rattle.schedule_text.specs.Stepping.{after_step, Answers, IsFirst, NeedsNoRead, Reaches};
 ghost use Rattle.schedule_text.specs.Stepping.{TakesFrom};
@@ -13,7 +14,7 @@ use crate::rule::Rule;
 use crate::rules::{event, header};
 use crate::{Event, NextError};
 use lines::{FirstLine, LineReader, ReadError};
-use nop_types::{Config, MAX_LINES};
+use nop_types::{Config, Header, MAX_LINES};
 use outside::Source;
 use std::alloc::Global;
 use std::marker::Model;
@@ -25,7 +26,7 @@ use std::marker::Model;
 pub struct Reader {
     alloc: Global,
     lines: LineReader,
-    config: Option<Config>,
+    header: Option<Header>,
 }
 
 impl Model for Reader {
@@ -35,9 +36,9 @@ impl Model for Reader {
 
     ghost Value = { Reading };
 
-    ghost view = { λ r. reading r.config r.lines };
+    ghost view = { λ r. reading r.header r.lines };
 
-    ghost invariant = { λ r. IsReader r.lines r.config };
+    ghost invariant = { λ r. IsReader r.lines r.header };
 }
 
 impl Reader {
@@ -48,16 +49,29 @@ impl Reader {
         Reader {
             alloc,
             lines: LineReader::new(alloc, MAX_LINES),
-            config: None,
+            header: None,
         }
     }
 
     /// What line 1 says, None until it was taken.
     pub fn config(&self) -> Option<Config>
-        ensures value { result ≡ self.now.config }
+        ensures value { result ≡ config_of self.now.header }
         ensures none { IsNone result ↔ (self.now.line ≡ 0) }
     {
-        self.config
+        match self.header {
+            Some(header) => Some(header.config),
+            None => None,
+        }
+    }
+
+    /// The form of line 1, 0 until it was taken.
+    pub fn form(&self) -> u8
+        ensures { result ≡ form_of self.now.header }
+    {
+        match self.header {
+            Some(header) => header.form,
+            None => 0,
+        }
     }
 
     /// The number of lines taken.
@@ -85,13 +99,13 @@ impl Reader {
         ensures none_left { LeavesNone self.new result }
         ensures cause { HasCauseFor (S.fault_count source.old) (S.fault_count source.new)
             NextError.ReadFault result }
-        ensures config { IsSome self.old.config → self.new.config ≡ self.old.config }
-        ensures line { IsSome self.old.config → self.new.line
+        ensures header { IsSome self.old.header → self.new.header ≡ self.old.header }
+        ensures line { IsSome self.old.header → self.new.line
             ≡ self.old.line + lines_taken result }
 
         // The source is not asked after its end, nor where a line behind line 1 is decided.
         ensures after_end { self.old.ended ≡ true → source.new ≡ source.old }
-        ensures unread { IsSome self.old.config → lines_before self.old false [] ≢
+        ensures unread { IsSome self.old.header → lines_before self.old false [] ≢
             [] → source.new
             ≡ source.old }
     {
@@ -104,9 +118,10 @@ impl Reader {
 
     /// What line 1 says; takes it if it was not taken.
     pub fn open<S: Source>(&mut self, source: &mut S) -> Result<Config, NextError>
-        ensures config { IfOk result (λ c. self.new.config ≡ Some c) }
+        ensures config { IfOk result (HasConfig self.new.header) }
+        ensures form { IfOk result (λ c. IsTrue (gives (form_of self.new.header) c)) }
         ensures line { OnOk result ((1 ≤ self.new.line) × (self.new.line ≤ MAX_LINES)) }
-        ensures closed { OnErr result (self.new.config ≡ self.old.config) }
+        ensures closed { OnErr result (self.new.header ≡ self.old.header) }
         ensures takes { TakesOf self.old self.new (S.left source.old) (S.left source.new)
             (after_step result) }
         ensures reads { Reads self.old self.new (after_step result) }
@@ -115,12 +130,12 @@ impl Reader {
             NextError.ReadFault result }
         ensures after_end { self.old.ended ≡ true → (source.new ≡ source.old)
             × (self.new.ended ≡ true) }
-        ensures unread { IsSome self.old.config → (source.new ≡ source.old)
+        ensures unread { IsSome self.old.header → (source.new ≡ source.old)
             × (self.new ≡ self.old) }
         ensures unread_first { NeedsNoRead self.old → source.new ≡ source.old }
     {
-        if let Some(config) = self.config {
-            return Ok(config);
+        if let Some(header) = self.header {
+            return Ok(header.config);
         }
         self.read_header(source)
     }
@@ -128,10 +143,11 @@ impl Reader {
     /// Takes line 1.
     #[cold]
     fn read_header<S: Source>(&mut self, source: &mut S) -> Result<Config, NextError>
-        requires { self.old.config ≡ None }
-        ensures config { IfOk result (λ c. self.new.config ≡ Some c) }
+        requires { self.old.header ≡ None }
+        ensures config { IfOk result (HasConfig self.new.header) }
+        ensures form { IfOk result (λ c. IsTrue (gives (form_of self.new.header) c)) }
         ensures line { OnOk result ((1 ≤ self.new.line) × (self.new.line ≤ MAX_LINES)) }
-        ensures closed { OnErr result (self.new.config ≡ self.old.config) }
+        ensures closed { OnErr result (self.new.header ≡ self.old.header) }
         ensures takes { TakesFrom self.old self.new (S.left source.old) (S.left source.new)
             (after_step result) }
         ensures none_left { LeavesNone self.new (after_step result) }
@@ -151,7 +167,7 @@ impl Reader {
     /// Reads until the first line is decided; None at the end of the source.
     fn reach_line<S: Source>(&mut self, source: &mut S) -> Result<Option<FirstLine>, NextError>
         ensures first { IfOk result (Reaches self.new) }
-        ensures config { self.new.config ≡ self.old.config }
+        ensures header { self.new.header ≡ self.old.header }
         ensures line { self.new.line ≡ self.old.line }
         ensures takes { TakesFrom self.old self.new (S.left source.old) (S.left source.new)
             (after_step result) }
@@ -170,17 +186,19 @@ impl Reader {
 
     fn take_header(&mut self, first: FirstLine) -> Result<Config, NextError>
         requires first { IsFirst self.old first }
-        requires config { self.old.config ≡ None }
-        ensures config { IfOk result (λ c. self.new.config ≡ Some c) }
+        requires none { self.old.header ≡ None }
+        ensures config { IfOk result (HasConfig self.new.header) }
+        ensures form { IfOk result (λ c. IsTrue (gives (form_of self.new.header) c)) }
         ensures line { OnOk result (self.new.line ≡ 1) }
         ensures kept { OnErr result (self.new ≡ self.old) }
         ensures answers { Answers self.old self.new (after_step result) }
         ensures no_fault { result ≢ Err NextError.ReadFault }
     {
         match header(self.lines.text(first)) {
-            Ok(config) => {
+            Ok(header) => {
+                let config = header.config;
                 self.lines.take(first);
-                self.config = Some(config);
+                self.header = Some(header);
                 Ok(config)
             }
             Err(rule) => Err(self.bad_line(rule)),
@@ -189,9 +207,9 @@ impl Reader {
 
     fn take_event(&mut self, config: Config, first: FirstLine) -> Result<Option<Event>, NextError>
         requires first { IsFirst self.old first }
-        requires config { self.old.config ≡ Some config }
+        requires config { HasConfig self.old.header config }
         ensures answers { Answers self.old self.new result }
-        ensures config { self.new.config ≡ self.old.config }
+        ensures header { self.new.header ≡ self.old.header }
         ensures line { self.new.line ≡ self.old.line + lines_taken result }
         ensures no_fault { result ≢ Err NextError.ReadFault }
     {

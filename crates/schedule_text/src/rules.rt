@@ -1,12 +1,13 @@
 //! The rules of a schedule's lines: what a line means, or the first rule that it breaks.
 
-ghost use Rattle.std.specs.Prelude.{◌≡◌, ◌&&◌, codes, if◌then◌else◌, Ok, Err, MatchResult};
+ghost use Rattle.std.specs.Prelude.{◌≡◌, if◌then◌else◌, Ok, Err, MatchResult};
 ghost use Rattle.std.specs.List.{list_all};
 ghost use Rattle.std.specs.Option.{option_copied};
-ghost use Rattle.line_fields.specs.Fields.{fields, is_text};
+ghost use Rattle.line_fields.specs.Fields.{fields};
 ghost use Rattle.schedule_text.specs.LineAnswer.{IsAnswer};
 ghost use Rattle.schedule_text.specs.Rules.{is_plain, plain_line, header_of, header_rest};
-ghost use Rattle.schedule_text.specs.Rules.{configuration_of, count_of, event_of, event_of_fields};
+ghost use Rattle.schedule_text.specs.Rules.{count_of, header_with, are_named, event_of};
+ghost use Rattle.schedule_text.specs.Rules.{event_of_fields};
 ghost use Rattle.line_fields.specs.Split.{other_fields};
 
 use crate::event::Event;
@@ -15,7 +16,7 @@ use crate::rule::Rule;
 use crate::split::{next_field, no_field};
 use crate::words::{crash, deliver, install, junk, submit, tick};
 use line_fields::{cut, is_word, small_number};
-use nop_types::{Config, MAX_LINE_BYTES, MAX_LINES};
+use nop_types::{Config, Header, MAX_LINE_BYTES, MAX_LINES};
 use std::alloc::Global;
 
 fn is_plain(b: u8) -> bool
@@ -52,48 +53,62 @@ fn count(field: &[u8]) -> Option<u8>
     small_number(256, field)
 }
 
-fn configuration(n: &[u8], s: &[u8], c: &[u8]) -> Result<Config, Rule>
-    ensures { result ≡ configuration_of (count_of n.now) (count_of s.now) (count_of c.now) }
+fn header_with(
+    form: u8,
+    n: Option<u8>,
+    s: Option<u8>,
+    c: Option<u8>,
+    k: Option<u8>,
+) -> Result<Header, Rule>
+    ensures { result ≡ header_with form n s c k }
 {
-    match (count(n), count(s), count(c)) {
-        (Some(n), Some(s), Some(c)) => Config::new(n, s, c).ok_or(Rule::WrongField),
+    match (n, s, c, k) {
+        (Some(n), Some(s), Some(c), Some(k)) => match Config::new(n, s, c, k) {
+            Some(config) => Ok(Header { form, config }),
+            None => Err(Rule::WrongField),
+        },
         _ => Err(Rule::WrongField),
     }
 }
 
-fn has_words(version: &[u8], replicas: &[u8], sequencers: &[u8], clients: &[u8]) -> bool
-    ensures { result
-        ≡ (is_text (codes "1") version.now && (is_text (codes "replicas") replicas.now
-        && (is_text (codes "sequencers") sequencers.now && is_text (codes "clients")
-        clients.now))) }
+fn are_named(replicas: &[u8], sequencers: &[u8], clients: &[u8]) -> bool
+    ensures { result ≡ are_named replicas.now sequencers.now clients.now }
 {
-    is_word(version, "1")
-        && is_word(replicas, "replicas")
+    is_word(replicas, "replicas")
         && is_word(sequencers, "sequencers")
         && is_word(clients, "clients")
 }
 
-fn counts(rest: Option<&[u8]>) -> Result<Config, Rule>
+/// The fields after the first word, of either form: form 1 names no controllers, and means one.
+fn header_rest(rest: Option<&[u8]>) -> Result<Header, Rule>
     ensures { result ≡ header_rest (other_fields (option_copied rest.entry)) }
 {
-    let (version, rest) = next_field(rest)?;
+    let (form, rest) = next_field(rest)?;
     let (replicas, rest) = next_field(rest)?;
     let (n, rest) = next_field(rest)?;
     let (sequencers, rest) = next_field(rest)?;
     let (s, rest) = next_field(rest)?;
     let (clients, rest) = next_field(rest)?;
     let (c, rest) = next_field(rest)?;
+    let named = are_named(replicas, sequencers, clients);
+    let Some(rest) = rest else {
+        if !is_word(form, "1") || !named {
+            return Err(Rule::WrongField);
+        }
+        return header_with(1, count(n), count(s), count(c), Some(1));
+    };
+    let (controllers, rest) = cut(rest);
+    let (k, rest) = next_field(rest)?;
     no_field(rest)?;
-    if has_words(version, replicas, sequencers, clients) {
-        configuration(n, s, c)
-    } else {
-        Err(Rule::WrongField)
+    if !is_word(form, "2") || !named || !is_word(controllers, "controllers") {
+        return Err(Rule::WrongField);
     }
+    header_with(2, count(n), count(s), count(c), count(k))
 }
 
-/// The configuration of the first line, or the rule that it breaks.
+/// What the first line says, or the rule that it breaks.
 #[tactic(auto, unfolding(crate::specs::Rules::header_of))]
-pub fn header(line: &[u8]) -> Result<Config, Rule>
+pub fn header(line: &[u8]) -> Result<Header, Rule>
     ensures { result ≡ header_of line.now }
 {
     plain(line)?;
@@ -101,7 +116,7 @@ pub fn header(line: &[u8]) -> Result<Config, Rule>
     if !is_word(word, "nopaxos") {
         return Err(Rule::WrongWord);
     }
-    counts(rest)
+    header_rest(rest)
 }
 
 fn answer(read: Result<Event, Rule>) -> Result<Event, LineError>

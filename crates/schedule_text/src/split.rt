@@ -3,7 +3,7 @@
 ghost use Rattle.std.specs.Prelude.{◌≡◌, ◌∷◌, [], ℕ, List, Ok, Err, MatchResult};
 ghost use Rattle.std.specs.Option.{option_copied};
 ghost use Rattle.line_fields.specs.Split.{other_fields};
-ghost use Rattle.schedule_text.specs.Rules.{one_field, two_fields};
+ghost use Rattle.schedule_text.specs.Rules.{one_field, one_or_two_fields, two_fields};
 
 use crate::rule::Rule;
 use line_fields::cut;
@@ -44,6 +44,23 @@ pub fn one_field(rest: Option<&[u8]>) -> Result<&[u8], Rule>
             (_, Some(_)) => Err(Rule::WrongFieldCount),
         },
         None => Err(Rule::WrongFieldCount),
+    }
+}
+
+/// The first of the fields that follow, and the second one if there is one.
+#[tactic(auto, using(crate::proofs::SplitLemmas::more_than_two))]
+pub fn one_or_two_fields(rest: Option<&[u8]>) -> Result<(&[u8], Option<&[u8]>), Rule>
+    ensures { let read = one_or_two_fields (other_fields (option_copied rest.entry)) in
+        MatchResult result (λ p. read ≡ Ok (p.0.now, option_copied p.1))
+        (λ rule. read ≡ Err rule) }
+{
+    let (first, rest) = next_field(rest)?;
+    let Some(rest) = rest else {
+        return Ok((first, None));
+    };
+    match cut(rest) {
+        (second, None) => Ok((first, Some(second))),
+        (_, Some(_)) => Err(Rule::WrongFieldCount),
     }
 }
 

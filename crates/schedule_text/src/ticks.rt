@@ -45,6 +45,6 @@ pub fn takes_tick(actor: Actor, tick: Tick) -> bool
         }
         Actor::Sequencer(_) => false,
         Actor::Client(_) => matches!(tick, Tick::Retry),
-        Actor::Controller => matches!(tick, Tick::Probe | Tick::Resend),
+        Actor::Controller(_) => matches!(tick, Tick::Probe | Tick::Resend),
     }
 }

@@ -5,14 +5,14 @@ ghost use Rattle.std.specs.Prelude.{◌≡◌};
 ghost use Rattle.std.specs.Option.{option_copied};
 ghost use Rattle.schedule_text.specs.LineAnswer.{IsAnswer};
 ghost use Rattle.schedule_text.specs.Rules.{submit_event, submit_of, deliver_event, deliver_of};
-ghost use Rattle.schedule_text.specs.Rules.{tick_event, tick_of, install_of, crash_of, junk_event};
-ghost use Rattle.schedule_text.specs.Rules.{junk_of};
+ghost use Rattle.schedule_text.specs.Rules.{tick_event, tick_of, ordered, install_of, crash_of};
+ghost use Rattle.schedule_text.specs.Rules.{junk_event, junk_of};
 ghost use Rattle.line_fields.specs.Split.{other_fields};
 
 use crate::event::Event;
 use crate::line_error::LineError;
 use crate::rule::Rule;
-use crate::split::{one_field, two_fields};
+use crate::split::{one_field, one_or_two_fields, two_fields};
 use crate::ticks::{takes_tick, tick_named};
 use line_fields::{actor, bytes, number, op};
 use nop_types::{Actor, Config, MAX_DATAGRAM_BYTES, MAX_OP_BYTES};
@@ -69,13 +69,30 @@ pub fn tick(config: Config, rest: Option<&[u8]>) -> Result<Event, Rule>
     }
 }
 
-/// `install sN`
+/// The controller that a line names: controller 0 where it names none.
+fn ordered(config: Config, name: Option<&[u8]>) -> Option<u8>
+    ensures { result ≡ ordered config (option_copied name.entry) }
+{
+    let Some(name) = name else {
+        return Some(0);
+    };
+    match actor(config, name) {
+        Some(Actor::Controller(number)) => Some(number),
+        _ => None,
+    }
+}
+
+/// `install sN` or `install sN CONTROLLER`
 pub fn install(config: Config, rest: Option<&[u8]>) -> Result<Event, Rule>
     ensures { result ≡ install_of config (other_fields (option_copied rest.entry)) }
 {
-    match actor(config, one_field(rest)?) {
-        Some(Actor::Sequencer(number)) => Ok(Event::Install(number)),
-        _ => Err(Rule::WrongActor),
+    let (name, by) = one_or_two_fields(rest)?;
+    let Some(Actor::Sequencer(sequencer)) = actor(config, name) else {
+        return Err(Rule::WrongActor);
+    };
+    match ordered(config, by) {
+        Some(controller) => Ok(Event::Install(controller, sequencer)),
+        None => Err(Rule::WrongActor),
     }
 }
 

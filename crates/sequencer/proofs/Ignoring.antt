@@ -9,7 +9,7 @@ use Rattle.nop_types.specs.declared.datagram.Datagram.TheVariants as datagrams
 use Rattle.oum_codec.specs.declared.bad.Bad.{Bad}
 use Rattle.oum_codec.specs.Reading.{reading}
 use Rattle.sequencer.specs.declared.state.SequencerState.{SequencerState}
-use Rattle.sequencer.specs.SequencerSteps.{can_stamp, can_install, stamp, install_if, ping_if, on_datagram, next}
+use Rattle.sequencer.specs.SequencerSteps.{can_stamp, stamp, install_if, ping_if, on_datagram, next}
 use Rattle.sequencer.specs.Ignoring.{is_for, IsIgnored, IgnoresPacket}
 
 -- nothing is changed or sent
@@ -19,22 +19,22 @@ Rests s r = r ≡ (s, [])
 unstamped : (s : SequencerState) (r : Request) → can_stamp s ≡ false → Rests s (stamp s r)
 unstamped s r e = rw e refl
 
-not_installed : (s : SequencerState) (session : ℕ) (b : Bool) → b ≡ false → Rests s (install_if b s session)
-not_installed s session false e = refl
-not_installed s session true e = absurd cc
+not_installed : (s : SequencerState) (k session : ℕ) (b : Bool) → b ≡ false → Rests s (install_if b s k session)
+not_installed s k session false e = refl
+not_installed s k session true e = absurd cc
 
-not_pinged : (s : SequencerState) (round : ℕ) (b : Bool) → b ≡ false → Rests s (ping_if b s round)
-not_pinged s round false e = refl
-not_pinged s round true e = absurd cc
+not_pinged : (s : SequencerState) (k round : ℕ) (b : Bool) → b ≡ false → Rests s (ping_if b s k round)
+not_pinged s k round false e = refl
+not_pinged s k round true e = absurd cc
 
 rests : (s : SequencerState) (d : Datagram) → is_for s d ≡ false → Rests s (on_datagram s (Ok d))
 rests s (datagrams.Request r) e = unstamped s r e
-rests s (datagrams.Install sequencer session) e = not_installed s session (can_install s sequencer session) e
-rests s (datagrams.Ping sequencer round) e = not_pinged s round _ e
+rests s (datagrams.Install controller sequencer session) e = not_installed s controller session _ e
+rests s (datagrams.Ping controller sequencer round) e = not_pinged s controller round _ e
 rests s (datagrams.Stamped p) e = refl
 rests s (datagrams.Reply p) e = refl
-rests s (datagrams.Installed sequencer session) e = refl
-rests s (datagrams.Pong sequencer round) e = refl
+rests s (datagrams.Installed controller sequencer session) e = refl
+rests s (datagrams.Pong controller sequencer round) e = refl
 rests s (datagrams.Fragment f) e = refl
 
 read_rests : (s : SequencerState) (bytes : List ℕ) (r : Result Datagram Bad) → reading bytes ≡ r → Rests s (on_datagram s r)

@@ -11,7 +11,7 @@ use Rattle.nop_types.specs.declared.datagram.Datagram.TheVariants as datagrams
 use Rattle.oum_codec.specs.declared.bad.Bad.{Bad}
 use Rattle.oum_codec.specs.Reading.{reading}
 use Rattle.sequencer.specs.declared.state.SequencerState.{SequencerState}
-use Rattle.sequencer.specs.SequencerSteps.{stamped_by, send_packet, can_install, install_if, ping_if, on_datagram, next}
+use Rattle.sequencer.specs.SequencerSteps.{stamped_by, send_packet, install_if, ping_if, on_datagram, next}
 use Rattle.sequencer.specs.Runs.{run, one_or_none, stamp_at, stamp_in, Step, stamps, spelled, to_replicas}
 
 to_replicas_append : (xs ys : List Out) → to_replicas (xs ++ ys) ≡ to_replicas xs ++ to_replicas ys
@@ -28,22 +28,22 @@ packet_sent : (p : Option Stamped) → to_replicas (send_packet p) ≡ map spell
 packet_sent None = refl
 packet_sent (Some p) = refl
 
-install_sends_none : (b : Bool) (s : SequencerState) (session : ℕ) → to_replicas (install_if b s session).1 ≡ []
-install_sends_none true s session = refl
-install_sends_none false s session = refl
+install_sends_none : (b : Bool) (s : SequencerState) (k session : ℕ) → to_replicas (install_if b s k session).1 ≡ []
+install_sends_none true s k session = refl
+install_sends_none false s k session = refl
 
-ping_sends_none : (b : Bool) (s : SequencerState) (round : ℕ) → to_replicas (ping_if b s round).1 ≡ []
-ping_sends_none true s round = refl
-ping_sends_none false s round = refl
+ping_sends_none : (b : Bool) (s : SequencerState) (k round : ℕ) → to_replicas (ping_if b s k round).1 ≡ []
+ping_sends_none true s k round = refl
+ping_sends_none false s k round = refl
 
 sent_at : (s : SequencerState) (d : Result Datagram Bad) → to_replicas (on_datagram s d).1 ≡ map spelled (stamp_at s d)
 sent_at s (Ok (datagrams.Request r)) = packet_sent (stamped_by s r)
 sent_at s (Ok (datagrams.Stamped p)) = refl
 sent_at s (Ok (datagrams.Reply p)) = refl
-sent_at s (Ok (datagrams.Install sequencer session)) = install_sends_none (can_install s sequencer session) s session
-sent_at s (Ok (datagrams.Installed sequencer session)) = refl
-sent_at s (Ok (datagrams.Ping sequencer round)) = ping_sends_none _ s round
-sent_at s (Ok (datagrams.Pong sequencer round)) = refl
+sent_at s (Ok (datagrams.Install controller sequencer session)) = install_sends_none _ s controller session
+sent_at s (Ok (datagrams.Installed controller sequencer session)) = refl
+sent_at s (Ok (datagrams.Ping controller sequencer round)) = ping_sends_none _ s controller round
+sent_at s (Ok (datagrams.Pong controller sequencer round)) = refl
 sent_at s (Ok (datagrams.Fragment f)) = refl
 sent_at s (Err e) = refl
 

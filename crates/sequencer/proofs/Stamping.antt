@@ -1,7 +1,7 @@
 -- No session and number is stamped twice.
 use Rattle.std.proofs.Common.{◌≡◌, ◌≤◌, ◌+◌, ℕ, zero, suc, List, [], ◌∷◌, ◌++◌, refl, ap, sym, subst, ◌∙◌, Some, None, Bool, true, false}
 use Rattle.std.proofs.Common.{cond, Result, Ok, Err, arith}
-use Rattle.std.specs.Prelude.{slice_get, nat_lt}
+use Rattle.std.specs.Prelude.{slice_get, nat_lt, ◌==◌}
 use Rattle.std.proofs.lemmas.Option.{none-some, same_Some}
 use Rattle.nop_types.specs.Given.{Given, Packet, Ticked, Submit}
 use Rattle.nop_types.specs.declared.request.Request.{Request}
@@ -11,7 +11,7 @@ use Rattle.nop_types.specs.declared.datagram.Datagram.TheVariants as datagrams
 use Rattle.oum_codec.specs.declared.bad.Bad.{Bad}
 use Rattle.oum_codec.specs.Reading.{reading}
 use Rattle.sequencer.specs.declared.state.SequencerState.{SequencerState}
-use Rattle.sequencer.specs.SequencerSteps.{can_stamp, stamped, can_install, install_if, ping_if, on_datagram, next}
+use Rattle.sequencer.specs.SequencerSteps.{can_stamp, stamped, install_if, ping_if, on_datagram, next}
 use Rattle.sequencer.specs.Runs.{one_or_none, stamp_at, stamp_in, Call, Step, Stamp, stamp_by, after_call, stamps}
 
 -- a packet that the state may still stamp: of a later session, or of this one with a number from next on
@@ -32,13 +32,13 @@ session_ahead : (b : Bool) (s : SequencerState) (session : ℕ) (p : Stamped) �
 session_ahead true s session p test h = record { session = grind (arith, h.session, test); number = λ e. grind (arith, h.session, test, e) }
 session_ahead false s session p test h = h
 
-install_ahead : (b : Bool) (s : SequencerState) (session : ℕ) (p : Stamped) → IsAhead (install_if b s session).0 p → IsAhead s p
-install_ahead true s session p h = session_ahead (nat_lt s.session session) s session p refl h
-install_ahead false s session p h = h
+install_ahead : (b : Bool) (s : SequencerState) (k session : ℕ) (p : Stamped) → IsAhead (install_if b s k session).0 p → IsAhead s p
+install_ahead true s k session p h = session_ahead (nat_lt s.session session) s session p refl h
+install_ahead false s k session p h = h
 
-ping_ahead : (b : Bool) (s : SequencerState) (round : ℕ) (p : Stamped) → IsAhead (ping_if b s round).0 p → IsAhead s p
-ping_ahead true s round p h = h
-ping_ahead false s round p h = h
+ping_ahead : (b : Bool) (s : SequencerState) (k round : ℕ) (p : Stamped) → IsAhead (ping_if b s k round).0 p → IsAhead s p
+ping_ahead true s k round p h = h
+ping_ahead false s k round p h = h
 
 -- ---- a request
 
@@ -53,11 +53,11 @@ rest_ahead : (s : SequencerState) (d : Result Datagram Bad) (ps : List Stamped) 
 rest_ahead s (Ok (datagrams.Request r)) ps rest j p e = packet_first (can_stamp s) s r ps rest j p e
 rest_ahead s (Ok (datagrams.Stamped q)) ps rest j p e = rest j p e
 rest_ahead s (Ok (datagrams.Reply q)) ps rest j p e = rest j p e
-rest_ahead s (Ok (datagrams.Install sequencer session)) ps rest j p e =
-    install_ahead (can_install s sequencer session) s session p (rest j p e)
-rest_ahead s (Ok (datagrams.Installed sequencer session)) ps rest j p e = rest j p e
-rest_ahead s (Ok (datagrams.Ping sequencer round)) ps rest j p e = ping_ahead _ s round p (rest j p e)
-rest_ahead s (Ok (datagrams.Pong sequencer round)) ps rest j p e = rest j p e
+rest_ahead s (Ok (datagrams.Install controller sequencer session)) ps rest j p e =
+    install_ahead (sequencer == s.number) s controller session p (rest j p e)
+rest_ahead s (Ok (datagrams.Installed controller sequencer session)) ps rest j p e = rest j p e
+rest_ahead s (Ok (datagrams.Ping controller sequencer round)) ps rest j p e = ping_ahead _ s controller round p (rest j p e)
+rest_ahead s (Ok (datagrams.Pong controller sequencer round)) ps rest j p e = rest j p e
 rest_ahead s (Ok (datagrams.Fragment f)) ps rest j p e = rest j p e
 rest_ahead s (Err bad) ps rest j p e = rest j p e
 
@@ -105,10 +105,10 @@ rest_once : (s : SequencerState) (d : Result Datagram Bad) (ps : List Stamped) �
 rest_once s (Ok (datagrams.Request r)) ps ahead once = packet_once (can_stamp s) s r ps ahead once
 rest_once s (Ok (datagrams.Stamped q)) ps ahead once = once
 rest_once s (Ok (datagrams.Reply q)) ps ahead once = once
-rest_once s (Ok (datagrams.Install sequencer session)) ps ahead once = once
-rest_once s (Ok (datagrams.Installed sequencer session)) ps ahead once = once
-rest_once s (Ok (datagrams.Ping sequencer round)) ps ahead once = once
-rest_once s (Ok (datagrams.Pong sequencer round)) ps ahead once = once
+rest_once s (Ok (datagrams.Install controller sequencer session)) ps ahead once = once
+rest_once s (Ok (datagrams.Installed controller sequencer session)) ps ahead once = once
+rest_once s (Ok (datagrams.Ping controller sequencer round)) ps ahead once = once
+rest_once s (Ok (datagrams.Pong controller sequencer round)) ps ahead once = once
 rest_once s (Ok (datagrams.Fragment f)) ps ahead once = once
 rest_once s (Err bad) ps ahead once = once
 

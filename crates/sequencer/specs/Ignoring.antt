@@ -6,17 +6,17 @@ use Rattle.nop_types.specs.declared.datagram.Datagram.TheVariants as datagrams
 use Rattle.oum_codec.specs.declared.bad.Bad.{Bad}
 use Rattle.oum_codec.specs.Reading.{reading}
 use Rattle.sequencer.specs.declared.state.SequencerState.{SequencerState}
-use Rattle.sequencer.specs.SequencerSteps.{can_stamp, can_install, next}
+use Rattle.sequencer.specs.SequencerSteps.{can_stamp, next}
 
--- a request where it can be stamped, an Install of its number and no older session, and a Ping of its number
+-- a request where it can be stamped, and an Install or a Ping of its number, of whatever session
 abbrev pub is_for : SequencerState → Datagram → Bool
 is_for s (datagrams.Request r) = can_stamp s
-is_for s (datagrams.Install sequencer session) = can_install s sequencer session
-is_for s (datagrams.Ping sequencer round) = sequencer == s.number
+is_for s (datagrams.Install controller sequencer session) = sequencer == s.number
+is_for s (datagrams.Ping controller sequencer round) = sequencer == s.number
 is_for s (datagrams.Stamped p) = false
 is_for s (datagrams.Reply p) = false
-is_for s (datagrams.Installed sequencer session) = false
-is_for s (datagrams.Pong sequencer round) = false
+is_for s (datagrams.Installed controller sequencer session) = false
+is_for s (datagrams.Pong controller sequencer round) = false
 is_for s (datagrams.Fragment f) = false
 
 -- the input changes nothing, and nothing is sent

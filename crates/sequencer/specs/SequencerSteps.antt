@@ -19,7 +19,6 @@ use Rattle.std.specs.Prelude.{
   Ok,
   Err,
   nat_lt,
-  nat_le,
 }
 use Rattle.std.specs.Prelude.{◌==◌, ◌&&◌, if◌then◌else◌}
 use Rattle.nop_types.specs.declared.limits.TheConstants.{NUMBER_END, MAX_SEQUENCERS}
@@ -40,7 +39,7 @@ use Rattle.sequencer.specs.declared.state.SequencerState.{SequencerState}
 -- within the limits
 pub record IsWithin (s : SequencerState) : Type 0 where
   pub number : s.number < MAX_SEQUENCERS
-  pub session : s.session < 2 ^ 32
+  pub session : s.session < 2 ^ 64
   pub low : 1 ≤ s.next
   pub high : s.next ≤ NUMBER_END
 
@@ -74,33 +73,33 @@ stamp s r = (after_stamp s, send_packet (stamped_by s r))
 
 -- ---- a session is installed
 
--- it is for this sequencer, and not older than its session
-abbrev pub can_install : SequencerState → ℕ → ℕ → Bool
-can_install s sequencer session = (sequencer == s.number) && nat_le s.session session
-
 -- a newer session begins at number 1, and its own one goes on
 abbrev pub in_session : SequencerState → ℕ → SequencerState
 in_session s session = cond (nat_lt s.session session) (record s { session = session; next = 1 }) s
 
--- a datagram is sent to the controller
-abbrev pub tell : Datagram → List Out
-tell d = Send (One Controller) (spelling d) ∷ []
+-- a datagram is sent to a controller
+abbrev pub tell : ℕ → Datagram → List Out
+tell k d = Send (One (Controller k)) (spelling d) ∷ []
 
-abbrev pub install_if : Bool → SequencerState → ℕ → SequencerState × List Out
-install_if true s session = (in_session s session, tell (datagrams.Installed s.number session))
-install_if false s session = (s, [])
+-- the controller is told the session that this sequencer has then, which may be a later one
+abbrev pub installed_in : SequencerState → ℕ → SequencerState × List Out
+installed_in s k = (s, tell k (datagrams.Installed k s.number s.session))
 
-abbrev pub install : SequencerState → ℕ → ℕ → SequencerState × List Out
-install s sequencer session = install_if (can_install s sequencer session) s session
+abbrev pub install_if : Bool → SequencerState → ℕ → ℕ → SequencerState × List Out
+install_if true s k session = installed_in (in_session s session) k
+install_if false s k session = (s, [])
 
--- ---- the controller asks whether it is there
+abbrev pub install : SequencerState → ℕ → ℕ → ℕ → SequencerState × List Out
+install s k sequencer session = install_if (sequencer == s.number) s k session
 
-abbrev pub ping_if : Bool → SequencerState → ℕ → SequencerState × List Out
-ping_if true s round = (s, tell (datagrams.Pong s.number round))
-ping_if false s round = (s, [])
+-- ---- a controller asks whether it is there
 
-abbrev pub ping : SequencerState → ℕ → ℕ → SequencerState × List Out
-ping s sequencer round = ping_if (sequencer == s.number) s round
+abbrev pub ping_if : Bool → SequencerState → ℕ → ℕ → SequencerState × List Out
+ping_if true s k round = (s, tell k (datagrams.Pong k s.number round))
+ping_if false s k round = (s, [])
+
+abbrev pub ping : SequencerState → ℕ → ℕ → ℕ → SequencerState × List Out
+ping s k sequencer round = ping_if (sequencer == s.number) s k round
 
 -- ---- all rows
 
@@ -108,10 +107,10 @@ abbrev pub on_datagram : SequencerState → Result Datagram Bad → SequencerSta
 on_datagram s (Ok (datagrams.Request r)) = stamp s r
 on_datagram s (Ok (datagrams.Stamped p)) = (s, [])
 on_datagram s (Ok (datagrams.Reply p)) = (s, [])
-on_datagram s (Ok (datagrams.Install sequencer session)) = install s sequencer session
-on_datagram s (Ok (datagrams.Installed sequencer session)) = (s, [])
-on_datagram s (Ok (datagrams.Ping sequencer round)) = ping s sequencer round
-on_datagram s (Ok (datagrams.Pong sequencer round)) = (s, [])
+on_datagram s (Ok (datagrams.Install controller sequencer session)) = install s controller sequencer session
+on_datagram s (Ok (datagrams.Installed controller sequencer session)) = (s, [])
+on_datagram s (Ok (datagrams.Ping controller sequencer round)) = ping s controller sequencer round
+on_datagram s (Ok (datagrams.Pong controller sequencer round)) = (s, [])
 on_datagram s (Ok (datagrams.Fragment f)) = (s, [])
 on_datagram s (Err e) = (s, [])
 

@@ -1,5 +1,5 @@
-//! The sequencer core: it writes its session and rising message numbers on requests, takes the
-//! sessions that the controller installs, and answers pings.
+//! The sequencer core: it writes its session and rising message numbers on requests, takes the newer
+//! sessions that controllers install, and answers each of them and their pings.
 //!
 //! `Sequencer` meets `Core` with the step table `next`, from `opening` on; its state stays in its
 //! ranges. Over any steps and calls of `stamp`:

@@ -1,6 +1,6 @@
 ghost use Rattle.std.specs.Prelude.{◌≡◌, ◌++◌, OnOk};
 ghost use Rattle.nop_types.specs.Given.{given};
-ghost use Rattle.nop_types.specs.Ranges.{RequestFits, SignalFits};
+ghost use Rattle.nop_types.specs.Ranges.{RequestFits, InstallFits, PingFits};
 ghost use Rattle.sequencer.specs.SequencerSteps.{IsWithin, stamped_by, after_stamp, stamp, install, ping, next};
 
 use crate::SequencerState;
@@ -46,48 +46,62 @@ fn stamp(
     }
 }
 
-/// A session that is not older than its own is confirmed; a newer one is taken, and its numbers begin at 1.
+/// A newer session is taken, and its numbers begin at 1. The controller is told the session that the sequencer has then.
 fn install(
     alloc: Global,
     state: &mut SequencerState,
+    controller: u8,
     sequencer: u8,
-    session: u32,
+    session: u64,
     out: &mut Outbox,
 ) -> Result<(), NoMemory>
     requires within { IsWithin state.old }
-    requires fits { SignalFits sequencer session }
+    requires fits { InstallFits controller sequencer session }
     ensures within { IsWithin state.new }
-    ensures state { OnOk result (state.new ≡ (install state.old sequencer session).0) }
-    ensures out { OnOk result (out.new ≡ out.old ++ (install state.old sequencer session).1) }
+    ensures state { OnOk result (state.new
+        ≡ (install state.old controller sequencer session).0) }
+    ensures out { OnOk result (out.new
+        ≡ out.old ++ (install state.old controller sequencer session).1) }
 {
-    if sequencer != state.number || session < state.session {
+    if sequencer != state.number {
         return Ok(());
     }
     if session > state.session {
         state.session = session;
         state.next = 1;
     }
-    let installed = Datagram::Installed { sequencer, session };
-    send_datagram(alloc, Dest::One(Actor::Controller), &installed, out)
+    let installed = Datagram::Installed {
+        controller,
+        sequencer,
+        session: state.session,
+    };
+    let dest = Dest::One(Actor::Controller(controller));
+    send_datagram(alloc, dest, &installed, out)
 }
 
 /// A ping of this sequencer is answered with its round.
 fn ping(
     alloc: Global,
     state: &SequencerState,
+    controller: u8,
     sequencer: u8,
     round: u32,
     out: &mut Outbox,
 ) -> Result<(), NoMemory>
-    requires fits { SignalFits sequencer round }
-    ensures state { state.now ≡ (ping state.now sequencer round).0 }
-    ensures out { OnOk result (out.new ≡ out.old ++ (ping state.now sequencer round).1) }
+    requires fits { PingFits controller sequencer round }
+    ensures state { state.now ≡ (ping state.now controller sequencer round).0 }
+    ensures out { OnOk result (out.new
+        ≡ out.old ++ (ping state.now controller sequencer round).1) }
 {
     if sequencer != state.number {
         return Ok(());
     }
-    let pong = Datagram::Pong { sequencer, round };
-    send_datagram(alloc, Dest::One(Actor::Controller), &pong, out)
+    let pong = Datagram::Pong {
+        controller,
+        sequencer,
+        round,
+    };
+    send_datagram(alloc, Dest::One(Actor::Controller(controller)), &pong, out)
 }
 
 /// One step, which may leave anything where memory runs out.
@@ -108,10 +122,20 @@ pub fn act(
     };
     match read_datagram(alloc, bytes)? {
         Some(Datagram::Request(request)) => stamp(alloc, state, request, out),
-        Some(Datagram::Install { sequencer, session }) => {
-            install(alloc, state, sequencer, session, out)
-        }
-        Some(Datagram::Ping { sequencer, round }) => ping(alloc, state, sequencer, round, out),
+        Some(
+            Datagram::Install {
+                controller,
+                sequencer,
+                session,
+            },
+        ) => install(alloc, state, controller, sequencer, session, out),
+        Some(
+            Datagram::Ping {
+                controller,
+                sequencer,
+                round,
+            },
+        ) => ping(alloc, state, controller, sequencer, round, out),
         _ => Ok(()),
     }
 }

@@ -2,6 +2,6 @@
 #[derive(Clone, Copy, Debug, PartialEq, Eq)]
 pub struct SequencerState {
     pub number: u8,
-    pub session: u32,
+    pub session: u64,
     pub next: u64,
 }

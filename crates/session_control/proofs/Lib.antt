@@ -1,3 +1,4 @@
+pub mod Epochs
 pub mod Ignoring
 pub mod Installs
 pub mod Rising

@@ -1,5 +1,5 @@
--- What is not for the controller.
-use Rattle.std.specs.Prelude.{◌≡◌, ℕ, List, [], Bool, true, false, ◌==◌, ◌&&◌, nat_lt, Ok, Err}
+-- What is not for a controller.
+use Rattle.std.specs.Prelude.{◌≡◌, ℕ, List, [], Bool, true, false, ◌==◌, ◌&&◌, ◌||◌, nat_lt, Ok, Err}
 use Rattle.nop_types.specs.Given.{Given, Packet}
 use Rattle.nop_types.specs.declared.input.Tick.{Tick}
 use Rattle.nop_types.specs.declared.input.Tick.TheVariants as ticks
@@ -10,15 +10,21 @@ use Rattle.oum_codec.specs.Reading.{reading}
 use Rattle.session_control.specs.declared.state.ControllerState.{ControllerState}
 use Rattle.session_control.specs.ControllerSteps.{next}
 
--- an answer of the current sequencer, to the last probe or for the session
+-- it confirms the session, or is above that and above all that were seen
+abbrev pub is_news : ControllerState → ℕ → ℕ → Bool
+is_news s sequencer session =
+    ((sequencer == s.current) && (session == s.session)) || (nat_lt s.session session && nat_lt s.seen session)
+
+-- an answer of the current sequencer, to the last probe or for the session, or a greater session, for this controller
 abbrev pub is_for : ControllerState → Datagram → Bool
-is_for s (datagrams.Pong sequencer round) = (sequencer == s.current) && (round == s.round)
-is_for s (datagrams.Installed sequencer session) = (sequencer == s.current) && (session == s.session)
+is_for s (datagrams.Pong controller sequencer round) =
+    (controller == s.number) && ((sequencer == s.current) && (round == s.round))
+is_for s (datagrams.Installed controller sequencer session) = (controller == s.number) && is_news s sequencer session
 is_for s (datagrams.Request r) = false
 is_for s (datagrams.Stamped p) = false
 is_for s (datagrams.Reply p) = false
-is_for s (datagrams.Install sequencer session) = false
-is_for s (datagrams.Ping sequencer round) = false
+is_for s (datagrams.Install controller sequencer session) = false
+is_for s (datagrams.Ping controller sequencer round) = false
 is_for s (datagrams.Fragment f) = false
 
 -- a probe, a resend, or an order to move to a sequencer that is there

@@ -1,13 +1,14 @@
-ghost use Rattle.std.specs.Prelude.{◌≡◌, ◌≤◌, false, IfOk};
+ghost use Rattle.std.specs.Prelude.{◌≡◌, ◌<◌, false, IfOk};
 ghost use Rattle.session_control.specs.ControllerSteps.{IsWithin, opening};
 
 use crate::rows::act;
+use crate::sessions::opening_session;
 use crate::{ControllerState, PROBE_MILLIS, RESEND_MILLIS};
-use nop_types::{Config, Core, Input, NoMemory, Outbox, Tick, end_step};
+use nop_types::{Config, Core, Input, MAX_CONTROLLERS, NoMemory, Outbox, Tick, end_step};
 use std::alloc::Global;
 use std::marker::Model;
 
-/// The controller: it probes the current sequencer, and moves to another one under a new session.
+/// A controller: it probes the current sequencer, and moves to another one under a new session.
 #[derive(Drop)]
 pub struct Controller {
     alloc: Global,
@@ -28,19 +29,20 @@ impl Model for Controller {
 }
 
 impl Controller {
-    /// A controller whose current sequencer is 0, in this session. The session is one that no controller of these sequencers had
-    /// before, or 1 at the first start.
-    pub fn new(alloc: Global, config: Config, session: u32) -> Result<Controller, NoMemory>
-        requires { 1 ≤ session }
+    /// A controller whose current sequencer is 0, in its first session. No controller of these sequencers had its number before.
+    pub fn new(alloc: Global, config: Config, number: u8) -> Result<Controller, NoMemory>
+        requires { number < MAX_CONTROLLERS }
         ensures { IfOk result (λ c. c
-            ≡ record { failed = false; state = opening config session }) }
+            ≡ record { failed = false; state = opening config number }) }
     {
         Ok(Controller {
             alloc,
             failed: false,
             state: ControllerState {
                 config,
-                session,
+                number,
+                session: opening_session(number),
+                seen: 0,
                 current: 0,
                 confirmed: true,
                 round: 0,

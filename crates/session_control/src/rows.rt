@@ -3,6 +3,7 @@ ghost use Rattle.nop_types.specs.Given.{given};
 ghost use Rattle.session_control.specs.ControllerSteps.{IsWithin, install_of, move_to, ask, probe, resend_install};
 ghost use Rattle.session_control.specs.ControllerSteps.{order_move, pong, installed, on_tick, next};
 
+use crate::sessions::next_session;
 use crate::{ControllerState, MISSED_END};
 use nop_types::{Actor, Datagram, Dest, Input, NoMemory, Outbox, Tick};
 use oum_codec::{read_datagram, send_datagram};
@@ -14,6 +15,7 @@ fn send_install(alloc: Global, state: &ControllerState, out: &mut Outbox) -> Res
     ensures { OnOk result (out.new ≡ out.old ++ install_of state.now) }
 {
     let install = Datagram::Install {
+        controller: state.number,
         sequencer: state.current,
         session: state.session,
     };
@@ -34,10 +36,10 @@ fn move_to(
     ensures state { OnOk result (state.new ≡ (move_to state.old sequencer).0) }
     ensures out { OnOk result (out.new ≡ out.old ++ (move_to state.old sequencer).1) }
 {
-    if state.session == u32::MAX {
+    let Some(session) = next_session(state.number, state.session, state.seen) else {
         return Ok(());
-    }
-    state.session += 1;
+    };
+    state.session = session;
     state.current = sequencer;
     state.confirmed = false;
     state.missed = 0;
@@ -58,6 +60,7 @@ fn ask(alloc: Global, state: &mut ControllerState, out: &mut Outbox) -> Result<(
     state.round += 1;
     state.heard = false;
     let ping = Datagram::Ping {
+        controller: state.number,
         sequencer: state.current,
         round: state.round,
     };
@@ -111,24 +114,31 @@ fn order_move(
     move_to(alloc, state, sequencer, out)
 }
 
-/// The current sequencer answered the last probe.
-fn pong(state: &mut ControllerState, sequencer: u8, round: u32)
+/// The current sequencer answered the last probe of this controller.
+fn pong(state: &mut ControllerState, controller: u8, sequencer: u8, round: u32)
     requires { IsWithin state.old }
     ensures within { IsWithin state.new }
-    ensures state { state.new ≡ (pong state.old sequencer round).0 }
+    ensures state { state.new ≡ (pong state.old controller sequencer round).0 }
 {
-    if sequencer == state.current && round == state.round {
+    if controller == state.number && sequencer == state.current && round == state.round {
         state.heard = true;
         state.missed = 0;
     }
 }
 
-/// The current sequencer confirmed the session.
-fn installed(state: &mut ControllerState, sequencer: u8, session: u32)
+/// A sequencer tells this controller its session: one above the controller's is noted, and the current sequencer confirms the
+/// controller's own.
+fn installed(state: &mut ControllerState, controller: u8, sequencer: u8, session: u64)
     requires { IsWithin state.old }
     ensures within { IsWithin state.new }
-    ensures state { state.new ≡ (installed state.old sequencer session).0 }
+    ensures state { state.new ≡ (installed state.old controller sequencer session).0 }
 {
+    if controller != state.number {
+        return;
+    }
+    if session > state.session {
+        state.seen = state.seen.max(session);
+    }
     if sequencer == state.current && session == state.session {
         state.confirmed = true;
     }
@@ -172,8 +182,20 @@ pub fn act(
         Input::Packet(bytes) => bytes,
     };
     match read_datagram(alloc, bytes)? {
-        Some(Datagram::Pong { sequencer, round }) => pong(state, sequencer, round),
-        Some(Datagram::Installed { sequencer, session }) => installed(state, sequencer, session),
+        Some(
+            Datagram::Pong {
+                controller,
+                sequencer,
+                round,
+            },
+        ) => pong(state, controller, sequencer, round),
+        Some(
+            Datagram::Installed {
+                controller,
+                sequencer,
+                session,
+            },
+        ) => installed(state, controller, sequencer, session),
         _ => {}
     }
     Ok(())

@@ -12,12 +12,15 @@ pub const PROBE_MILLIS: u64 = 300;
 // A number that both code and definitions name would be proved whatever it was; so here each stands once more.
 const _: () = prove!(MISSED_END == 3 && RESEND_MILLIS == 100 && PROBE_MILLIS == 300);
 
-/// What the controller knows: the greatest session, the current sequencer and whether that confirmed its session, the round of
-/// the last probe (0 is none) and whether it was answered, and how many in a row were not.
+/// What a controller knows: its number, its last session, the greatest session above it that a sequencer told of (0 is none), the
+/// current sequencer and whether that confirmed its session, the round of the last probe (0 is none) and whether it was answered, and how
+/// many in a row were not.
 #[derive(Clone, Copy, Debug, PartialEq, Eq)]
 pub struct ControllerState {
     pub config: Config,
-    pub session: u32,
+    pub number: u8,
+    pub session: u64,
+    pub seen: u64,
     pub current: u8,
     pub confirmed: bool,
     pub round: u32,

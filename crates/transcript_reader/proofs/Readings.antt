@@ -9,7 +9,7 @@ use Rattle.std.proofs.lemmas.List.{length-map}
 use Rattle.lines.specs.Deciding.{cut_of}
 use Rattle.lines.specs.Reading.{Reading, IsFirst, Reaches, TakesFrom, IsEnd, opening}
 use Rattle.lines.specs.declared.first_line.FirstLine.{FirstLine}
-use Rattle.nop_types.specs.Configuration.{Configuration}
+use Rattle.nop_types.specs.declared.header.Header.{Header}
 use Rattle.transcript_reader.specs.declared.limits.TheConstants.{MAX_TRANSCRIPT_LINES}
 use Rattle.transcript_reader.specs.declared.check_error.CheckError.{CheckError}
 use Rattle.transcript_reader.specs.declared.check_error.CheckError.TheVariants.{Refuted, ReadFault, NoMemory}
@@ -69,7 +69,7 @@ reads_on before middle left old new s reads takes = record {
   went = went_on before middle left reads.all old new reads.went takes;
   texts = reads.texts;
   behind = behind_grows reads.texts reads.all old reads.behind new takes.taken takes.grows;
-  config = reads.config;
+  header = reads.header;
   rows = reads.rows;
   admits = reads.admits;
 }
@@ -114,7 +114,7 @@ refused_first before left r first e reads is h = refused before left r reads.all
 pub refused_after : (before left : Option (List ℕ)) (r : Reading) (s : SoFar) (first : FirstLine) (e : CheckError) → Reads before left r s
     → IsFirst r first → RefusesFirst r first (After s) e → IsError before left e
 refused_after before left r s first e reads is h =
-    refused before left r reads.all reads.texts (After s) reads.went reads.behind (reads.config, reads.rows, reads.admits) first is e h
+    refused before left r reads.all reads.texts (After s) reads.went reads.behind (reads.header, reads.rows, reads.admits) first is e h
 
 missing : (before left : Option (List ℕ)) (r : Reading) (all : List ℕ) (texts : List (List ℕ)) (place : Place) (line : ℕ)
     → Went before left all r.ended → Behind texts all r → IsAt texts place → IsUnfinished place → Reaches r None → line ≡ r.line + 1
@@ -139,7 +139,7 @@ missing_first before left r reads reaches =
 pub missing_after : (before left : Option (List ℕ)) (r : Reading) (s : SoFar) (line : ℕ) → Reads before left r s → Reaches r None
     → (s.part ≡ Over → ⊥) → line ≡ r.line + 1 → IsRefused before left line 2
 missing_after before left r s line reads reaches open_end number =
-    missing before left r reads.all reads.texts (After s) line reads.went reads.behind (reads.config, reads.rows, reads.admits) open_end
+    missing before left r reads.all reads.texts (After s) line reads.went reads.behind (reads.header, reads.rows, reads.admits) open_end
     reaches number
 
 -- ---- a line that is taken
@@ -151,18 +151,18 @@ header_taken before left r new first reads is on header = record {
   went = subst (Went before left reads.all) (sym on.ended) reads.went;
   texts = take first.len r.pending ∷ [];
   behind = behind_advances [] reads.all r reads.behind new first is on;
-  config = header.0;
+  header = header.0;
   rows = [];
-  admits = record { counts = header.1; lines = ap (λ (x : List ℕ). x ∷ []) (sym header.2); fit = tt; ran = refl };
+  admits = record { first = header.1; lines = ap (λ (x : List ℕ). x ∷ []) (sym header.2); fit = tt; ran = refl };
 }
 
 fit_with : (rows : List Row) (row : Row) → AllFit rows → RowFits row → AllFit (rows ++ row ∷ [])
 fit_with [] row h fits = (fits, tt)
 fit_with (r ∷ rows) row h fits = (h.0, fit_with rows row h.1 fits)
 
-row_count : (texts : List (List ℕ)) (config : Configuration) (rows : List Row) (s : SoFar) → Admits texts config rows s
+row_count : (texts : List (List ℕ)) (header : Header) (rows : List Row) (s : SoFar) → Admits texts header rows s
     → length texts ≡ length rows + 1
-row_count texts config rows s admits =
+row_count texts header rows s admits =
     let e = ap length admits.lines in omega (arith, e, length-map texts whole, length-map rows row_text)
 
 pub row_taken : (before left : Option (List ℕ)) (r new : Reading) (s n : SoFar) (first : FirstLine) → Reads before left r s
@@ -170,21 +170,22 @@ pub row_taken : (before left : Option (List ℕ)) (r new : Reading) (s n : SoFar
 row_taken before left r new s n first reads is on took =
     let text = take first.len r.pending in
     let row = took.0 in
-    let count = row_count reads.texts reads.config reads.rows s reads.admits in
+    let count = row_count reads.texts reads.header reads.rows s reads.admits in
     let line = reads.behind.line in
     record {
       all = reads.all;
       went = subst (Went before left reads.all) (sym on.ended) reads.went;
       texts = reads.texts ++ text ∷ [];
       behind = behind_advances reads.texts reads.all r reads.behind new first is on;
-      config = reads.config;
+      header = reads.header;
       rows = reads.rows ++ row ∷ [];
       admits = record {
-        counts = reads.admits.counts;
+        first = reads.admits.first;
         lines = map_with whole reads.texts text
             ∙ ap (λ (xs : List (List ℕ)). xs ++ whole text ∷ []) reads.admits.lines
-            ∙ ap (λ (x : List ℕ). transcript_line reads.config ∷ (map row_text reads.rows ++ x ∷ [])) (sym took.2)
-            ∙ ap (λ (xs : List (List ℕ)). transcript_line reads.config ∷ xs) (sym (map_with row_text reads.rows row));
+            ∙ ap (λ (x : List ℕ). transcript_line reads.header.form reads.header.config ∷ (map row_text reads.rows ++ x ∷ [])) (sym took.2)
+            ∙ ap (λ (xs : List (List ℕ)). transcript_line reads.header.form reads.header.config ∷ xs)
+            (sym (map_with row_text reads.rows row));
         fit = fit_with reads.rows row reads.admits.fit took.1;
         ran = run_with (Some nothing_yet) 2 reads.rows row s (r.line + 1) (omega arith) reads.admits.ran ∙ took.3;
       };
@@ -203,11 +204,11 @@ pub finished : (before left : Option (List ℕ)) (r : Reading) (s : SoFar) (coun
     → s.part ≡ Over → r.line ≤ MAX_TRANSCRIPT_LINES → count ≡ r.line → IsTranscript before left s count
 finished before left r s count reads reaches over most same =
     let shape = shape_of reads.rows s reads.admits.ran in
-    let t : Transcript = record { config = reads.config; events = shape.events; states = shape.states; history = s.history } in
+    let t : Transcript = record { header = reads.header; events = shape.events; states = shape.states; history = s.history } in
     let rows_are : reads.rows ≡ body t =
     shape.is ∙ ap (λ (xs : List Row). shape.events ++ (shape.states ++ (members 1 s.history ++ xs))) (over_ending s.part over) in
     let lines_are : map whole reads.texts ≡ transcript_lines t =
-    reads.admits.lines ∙ ap (λ (rows : List Row). transcript_line reads.config ∷ map row_text rows) rows_are in
+    reads.admits.lines ∙ ap (λ (rows : List Row). transcript_line reads.header.form reads.header.config ∷ map row_text rows) rows_are in
     let number : r.line ≡ length (transcript_lines t) =
     reads.behind.line ∙ sym (length-map reads.texts whole) ∙ ap length lines_are in
     record {
@@ -218,7 +219,7 @@ finished before left r s count reads reaches over most same =
         text = reads.behind.bytes ∙ ap (λ (xs : List ℕ). flat_map whole reads.texts ++ xs) reaches.1 ∙ append-nil (flat_map whole reads.texts)
             ∙ by_lines reads.texts ∙ ap (flat_map (λ (line : List ℕ). line)) lines_are;
         fits = record {
-          config = reads.admits.counts;
+          header = reads.admits.first;
           events = shape.are_events;
           states = shape.are_states;
           rows = subst AllFit rows_are reads.admits.fit;

@@ -8,7 +8,7 @@ use Rattle.std.proofs.lemmas.List.Sums.{AllPass-from_list_all}
 use Rattle.lines.proofs.Cuts.{cut_end}
 use Rattle.lines.specs.Cutting.{Cut, with_end, lines_on, lines_of}
 use Rattle.lines.specs.Deciding.{HasNoEnd, Follows}
-use Rattle.nop_types.specs.Configuration.{Configuration}
+use Rattle.nop_types.specs.declared.header.Header.{Header}
 use Rattle.transcript_reader.proofs.RowLemmas.{same_row}
 use Rattle.transcript_reader.proofs.Runs.{then_run, what_it_says, body_runs}
 use Rattle.transcript_reader.proofs.Shapes.{none_runs}
@@ -44,14 +44,14 @@ lines_cut most before (text ∷ texts) all room =
 -- ---- the lines of a transcript
 
 abbrev texts_of : Transcript → List (List ℕ)
-texts_of t = rows.spelled_header t.config ∷ map rows.spelled (body t)
+texts_of t = rows.spelled_header t.header ∷ map rows.spelled (body t)
 
 rows_are_lines : (xs : List Row) → AllFit xs → AllLines (map rows.spelled xs)
 rows_are_lines [] fit = tt
 rows_are_lines (row ∷ xs) fit = (row_is_line row fit.0, rows_are_lines xs fit.1)
 
 all_are_lines : (t : Transcript) → TranscriptFits t → AllLines (texts_of t)
-all_are_lines t fits = (header_is_line t.config fits.config, rows_are_lines (body t) fits.rows)
+all_are_lines t fits = (header_is_line t.header fits.header, rows_are_lines (body t) fits.rows)
 
 whole_rows : (xs : List Row) → map row_text xs ≡ map whole (map rows.spelled xs)
 whole_rows [] = refl
@@ -59,26 +59,26 @@ whole_rows (row ∷ xs) =
     ap (λ (x : List ℕ). x ∷ map row_text xs) (rows.whole row)
     ∙ ap (λ (ys : List (List ℕ)). whole (rows.spelled row) ∷ ys) (whole_rows xs)
 
-whole_lines : (t : Transcript) → transcript_lines t ≡ map whole (texts_of t)
-whole_lines t =
-    ap (λ (x : List ℕ). x ∷ map row_text (body t)) (rows.whole_header t.config)
-    ∙ ap (λ (ys : List (List ℕ)). whole (rows.spelled_header t.config) ∷ ys) (whole_rows (body t))
+whole_lines : (t : Transcript) → TranscriptFits t → transcript_lines t ≡ map whole (texts_of t)
+whole_lines t fits =
+    ap (λ (x : List ℕ). x ∷ map row_text (body t)) (rows.whole_header t.header fits.header)
+    ∙ ap (λ (ys : List (List ℕ)). whole (rows.spelled_header t.header) ∷ ys) (whole_rows (body t))
 
 joined : (texts : List (List ℕ)) → flat_map (λ line. line) (map whole texts) ≡ flat_map whole texts
 joined [] = refl
 joined (text ∷ texts) = ap (λ (xs : List ℕ). whole text ++ xs) (joined texts)
 
-line_total : (t : Transcript) → length (transcript_lines t) ≡ length (texts_of t)
-line_total t = ap length (whole_lines t) ∙ length-map (texts_of t) whole
+line_total : (t : Transcript) → TranscriptFits t → length (transcript_lines t) ≡ length (texts_of t)
+line_total t fits = ap length (whole_lines t fits) ∙ length-map (texts_of t) whole
 
 pub cut_as_written : (t : Transcript) (bytes : List ℕ) → Spells t bytes
     → lines_of MAX_TRANSCRIPT_LINES true 0 bytes ≡ map with_end (texts_of t)
 unfolding lines_of
 cut_as_written t bytes spells =
     ap (lines_on MAX_TRANSCRIPT_LINES true 0 [])
-    (spells.text ∙ ap (flat_map (λ (line : List ℕ). line)) (whole_lines t) ∙ joined (texts_of t))
+    (spells.text ∙ ap (flat_map (λ (line : List ℕ). line)) (whole_lines t spells.fits) ∙ joined (texts_of t))
     ∙ lines_cut MAX_TRANSCRIPT_LINES 0 (texts_of t) (all_are_lines t spells.fits)
-    (let most = spells.most in omega (arith, line_total t))
+    (let most = spells.most in omega (arith, line_total t spells.fits))
 
 -- ---- lists of lines
 
@@ -180,16 +180,16 @@ module _ (t : Transcript) (bytes : List ℕ) (spells : Spells t bytes) where
   module _ (texts : List (List ℕ)) (text : List ℕ) (behind : List (List ℕ)) (are : texts_of t ≡ texts ++ text ∷ behind) where
     not_too_much : IsTooMuch (length texts) (with_end text) → ⊥
     not_too_much (inl past) =
-        let most = spells.most in omega (arith, past, line_total t, ap length are, length-append texts (text ∷ behind))
+        let most = spells.most in omega (arith, past, line_total t spells.fits, ap length are, length-append texts (text ∷ behind))
     not_too_much (inr long) =
         let short = (line_there texts text behind (subst AllLines are (all_are_lines t spells.fits))).short in omega (arith, long)
 
     lines_there : transcript_lines t ≡ map whole texts ++ whole text ∷ map whole behind
-    lines_there = whole_lines t ∙ ap (map whole) are ∙ map_append whole texts (text ∷ behind)
+    lines_there = whole_lines t spells.fits ∙ ap (map whole) are ∙ map_append whole texts (text ∷ behind)
 
-    misplaced_no_row : (s : SoFar) (config : Configuration) (xs : List Row) → Admits texts config xs s → NextRow (body t) xs text
+    misplaced_no_row : (s : SoFar) (header : Header) (xs : List Row) → Admits texts header xs s → NextRow (body t) xs text
         → IsMisplaced (length texts + 1) (After s) text → ⊥
-    misplaced_no_row s config xs admits n none =
+    misplaced_no_row s header xs admits n none =
         let count : length texts + 1 ≡ length xs + 2 =
         omega (arith, ap length admits.lines, length-map texts whole, length-map xs row_text) in
         some_runs s (what_it_says t) xs n.row n.behind admits.ran (ap run (sym n.are) ∙ body_runs t spells.fits)
@@ -199,11 +199,11 @@ module _ (t : Transcript) (bytes : List ℕ) (spells : Spells t bytes) where
     not_misplaced First at none =
         let lines : transcript_lines t ≡ whole text ∷ map whole behind =
         lines_there ∙ ap (λ (xs : List (List ℕ)). map whole xs ++ whole text ∷ map whole behind) at in
-        let first : transcript_line t.config ≡ whole text = cc in none t.config spells.fits.config first
+        let first : transcript_line t.header.form t.header.config ≡ whole text = cc in none t.header spells.fits.header first
     not_misplaced (After s) at none =
         let admits = at.2 in
-        let lines : transcript_line t.config ∷ map row_text (body t)
-        ≡ transcript_line at.0 ∷ (map row_text at.1 ++ whole text ∷ map whole behind) =
+        let lines : transcript_line t.header.form t.header.config ∷ map row_text (body t)
+        ≡ transcript_line at.0.form at.0.config ∷ (map row_text at.1 ++ whole text ∷ map whole behind) =
         lines_there ∙ ap (λ (xs : List (List ℕ)). xs ++ whole text ∷ map whole behind) admits.lines in
         let rest : map row_text (body t) ≡ map row_text at.1 ++ whole text ∷ map whole behind = cc in
         misplaced_no_row s at.0 at.1 admits (next_row (body t) at.1 text (map whole behind) spells.fits.rows admits.fit rest) none
@@ -217,8 +217,9 @@ module _ (t : Transcript) (bytes : List ℕ) (spells : Spells t bytes) where
   not_unfinished texts are First at open_end = let none : texts_of t ≡ [] = are ∙ at in absurd cc
   not_unfinished texts are (After s) at open_end =
       let admits = at.2 in
-      let lines : transcript_line t.config ∷ map row_text (body t) ≡ transcript_line at.0 ∷ map row_text at.1 =
-      whole_lines t ∙ ap (map whole) are ∙ admits.lines in
+      let lines : transcript_line t.header.form t.header.config ∷ map row_text (body t)
+      ≡ transcript_line at.0.form at.0.config ∷ map row_text at.1 =
+      whole_lines t spells.fits ∙ ap (map whole) are ∙ admits.lines in
       let rest : map row_text (body t) ≡ map row_text at.1 = cc in
       let ran : Some s ≡ Some (what_it_says t) =
       sym admits.ran ∙ ap run (sym (same_rows (body t) at.1 spells.fits.rows admits.fit rest)) ∙ body_runs t spells.fits in
@@ -260,10 +261,11 @@ written_is_not_refused t bytes left line clause spells h = by_source t bytes spe
 
 pub read_in_one_way : (t u : Transcript) (bytes : List ℕ) → Spells t bytes → Spells u bytes → SaysTheSame t u
 read_in_one_way t u bytes spells_t spells_u =
-    let lines : transcript_line t.config ∷ map row_text (body t) ≡ transcript_line u.config ∷ map row_text (body u) =
-    whole_lines t
+    let lines : transcript_line t.header.form t.header.config ∷ map row_text (body t)
+    ≡ transcript_line u.header.form u.header.config ∷ map row_text (body u) =
+    whole_lines t spells_t.fits
     ∙ ap (map whole) (same_texts (texts_of t) (texts_of u) (sym (cut_as_written t bytes spells_t) ∙ cut_as_written u bytes spells_u))
-    ∙ sym (whole_lines u) in
+    ∙ sym (whole_lines u spells_u.fits) in
     let rest : map row_text (body t) ≡ map row_text (body u) = cc in
     let ran : Some (what_it_says t) ≡ Some (what_it_says u) =
     sym (body_runs t spells_t.fits) ∙ ap run (same_rows (body t) (body u) spells_t.fits.rows spells_u.fits.rows rest)

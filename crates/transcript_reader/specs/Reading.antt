@@ -7,7 +7,8 @@ use Rattle.lines.specs.Cutting.{Cut, with_end, lines_of}
 use Rattle.lines.specs.Deciding.{Follows, cut_of, is_closed}
 use Rattle.lines.specs.Reading.{Reading, IsEnd}
 use Rattle.lines.specs.declared.first_line.FirstLine.{FirstLine}
-use Rattle.nop_types.specs.Configuration.{Configuration, is_configuration}
+use Rattle.nop_types.specs.Headers.{is_header}
+use Rattle.nop_types.specs.declared.header.Header.{Header}
 use Rattle.nop_types.specs.declared.limits.TheConstants.{MAX_LINE_BYTES}
 use Rattle.transcript_reader.specs.Steps.{SoFar, nothing_yet, so_far, step, run}
 use Rattle.transcript_reader.specs.Transcripts.{AllFit, Transcript, Spells, places_of, said, transcript_lines}
@@ -35,9 +36,9 @@ pub record Behind (texts : List (List ℕ)) (all : List ℕ) (r : Reading) : Typ
       ≡ map with_end texts ++ lines_of MAX_TRANSCRIPT_LINES ended r.line (r.pending ++ more)
 
 -- they are a first line and these rows, each in its place
-pub record Admits (texts : List (List ℕ)) (config : Configuration) (rows : List Row) (s : SoFar) : Type 0 where
-  pub counts : is_configuration config ≡ true
-  pub lines : map whole texts ≡ transcript_line config ∷ map row_text rows
+pub record Admits (texts : List (List ℕ)) (header : Header) (rows : List Row) (s : SoFar) : Type 0 where
+  pub first : is_header header ≡ true
+  pub lines : map whole texts ≡ transcript_line header.form header.config ∷ map row_text rows
   pub fit : AllFit rows
   pub ran : run rows ≡ Some s
 
@@ -48,7 +49,7 @@ pub data Place : Type 0 where
 
 abbrev pub IsAt : List (List ℕ) → Place → Type 0
 IsAt texts First = texts ≡ []
-IsAt texts (After s) = (config : Configuration) × (rows : List Row) × Admits texts config rows s
+IsAt texts (After s) = (header : Header) × (rows : List Row) × Admits texts header rows s
 
 -- ---- what is refused
 
@@ -58,7 +59,7 @@ IsTooMuch before cut = (MAX_TRANSCRIPT_LINES ≤ before) ⊎ (MAX_LINE_BYTES < l
 
 -- the text is no line that may come here
 abbrev pub IsMisplaced : ℕ → Place → List ℕ → Type 0
-IsMisplaced line First text = (c : Configuration) → is_configuration c ≡ true → transcript_line c ≡ whole text → ⊥
+IsMisplaced line First text = (h : Header) → is_header h ≡ true → transcript_line h.form h.config ≡ whole text → ⊥
 IsMisplaced line (After s) text = (row : Row) → RowFits row → row_text row ≡ whole text → step line s row ≡ None
 
 -- the line behind `before` lines breaks clause 1, or it does not and breaks clause 2
@@ -125,9 +126,9 @@ pub record Reads (before left : Option (List ℕ)) (r : Reading) (s : SoFar) : T
   pub went : Went before left all r.ended
   pub texts : List (List ℕ)
   pub behind : Behind texts all r
-  pub config : Configuration
+  pub header : Header
   pub rows : List Row
-  pub admits : Admits texts config rows s
+  pub admits : Admits texts header rows s
 
 -- before it
 pub record ReadsNone (before left : Option (List ℕ)) (r : Reading) : Type 0 where
@@ -170,7 +171,7 @@ LengthRefused before first (Some clause) =
 
 -- a text is a first line
 abbrev pub IsHeader : List ℕ → Type 0
-IsHeader text = (c : Configuration) × (is_configuration c ≡ true) × (transcript_line c ≡ whole text)
+IsHeader text = (h : Header) × (is_header h ≡ true) × (transcript_line h.form h.config ≡ whole text)
 
 -- a call that found no line refutes nothing
 abbrev pub IsNoLine : CheckError → Type 0

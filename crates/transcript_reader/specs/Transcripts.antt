@@ -1,7 +1,8 @@
 -- A whole transcript: its text, and what it says.
 use Rattle.std.specs.Prelude.{◌≡◌, ℕ, ◌+◌, ◌≤◌, ⊤, List, [], ◌∷◌, ◌++◌, length, map, Bool, true, false}
 use Rattle.std.specs.List.{flat_map, list_all}
-use Rattle.nop_types.specs.Configuration.{Configuration, is_configuration}
+use Rattle.nop_types.specs.Headers.{is_header}
+use Rattle.nop_types.specs.declared.header.Header.{Header}
 use Rattle.nop_types.specs.Lines.{Line}
 use Rattle.nop_types.specs.Lines as lines
 use Rattle.nop_types.specs.declared.request.Request.{Request}
@@ -13,7 +14,7 @@ use Rattle.transcript_text.specs.Transcript.{transcript_line}
 
 -- the lines of events, then those of the replicas' states, then the history
 pub record Transcript : Type 0 where
-  pub config : Configuration
+  pub header : Header
   pub events : List Row
   pub states : List Row
   pub history : List Request
@@ -51,7 +52,7 @@ body t = t.events ++ (t.states ++ (members 1 t.history ++ End ∷ []))
 
 -- its lines, each with its end
 abbrev pub transcript_lines : Transcript → List (List ℕ)
-transcript_lines t = transcript_line t.config ∷ map row_text (body t)
+transcript_lines t = transcript_line t.header.form t.header.config ∷ map row_text (body t)
 
 abbrev pub transcript_text : Transcript → List ℕ
 transcript_text t = flat_map (λ line. line) (transcript_lines t)
@@ -62,7 +63,7 @@ AllFit (row ∷ rows) = RowFits row × AllFit rows
 
 -- each line is the grammar's
 pub record TranscriptFits (t : Transcript) : Type 0 where
-  pub config : is_configuration t.config ≡ true
+  pub header : is_header t.header ≡ true
   pub events : list_all is_event t.events ≡ true
   pub states : list_all is_state t.states ≡ true
   pub rows : AllFit (body t)

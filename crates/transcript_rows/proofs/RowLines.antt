@@ -1,11 +1,13 @@
 -- The line of a row has as few bytes as a line may have, and no line end stands in it.
 use Rattle.std.proofs.Common.{◌≡◌, ◌∙◌, ℕ, ◌+◌, ◌<◌, ◌≤◌, Bool, true, false, List, [], ◌∷◌, ◌++◌, length, refl, arith, length-append, codes, decimal}
 use Rattle.std.proofs.Common.{nat_lt, nat_le, ◌^◌}
+use Rattle.std.specs.Prelude.{◌==◌, if◌then◌else◌}
 use Rattle.std.specs.List.{flat_map, list_all}
 use Rattle.std.proofs.lemmas.Bool.{le-leb, leb-true, and_parts}
 use Rattle.std.proofs.lemmas.List.Folds.{list_all-append}
 use Rattle.line_fields.proofs.FieldTexts.{is_mark, and_true, AllMarked, actor_short, decimal_short, hex_within, small_counts}
-use Rattle.nop_types.specs.Configuration.{Configuration, is_configuration}
+use Rattle.nop_types.specs.Headers.{is_header}
+use Rattle.nop_types.specs.declared.header.Header.{Header}
 use Rattle.nop_types.specs.declared.limits.TheConstants.{MAX_LINE_BYTES, MAX_CLIENTS, MAX_OP_BYTES, MAX_RESULT_BYTES}
 use Rattle.nop_types.specs.declared.output.Actor.{Actor}
 use Rattle.nop_types.specs.declared.output.Actor.TheVariants as actors
@@ -17,7 +19,7 @@ use Rattle.nop_types.specs.declared.request.Entry.{Entry}
 use Rattle.nop_types.specs.declared.request.Entry.TheVariants.{NoOp, Req}
 use Rattle.nop_types.specs.declared.request.Request.{Request}
 use Rattle.transcript_rows.proofs.RowTexts.{small, actor_there, kind_read, sent_parts, state_named, slot_parts, word_marked, fields_marked}
-use Rattle.transcript_rows.proofs.RowTexts.{header_fields, header_marked, spelled, spelled_header}
+use Rattle.transcript_rows.proofs.RowTexts.{header_fields, header_marked, last_fields, small_form, counted, spelled, spelled_header}
 use Rattle.transcript_rows.specs.Reading.{limits}
 use Rattle.transcript_rows.specs.Rows.{row_word, row_fields, actor_fits, dest_fits, pair_fits, request_fits, entry_fits, row_fits}
 use Rattle.transcript_rows.specs.Rows.{request_fields, entry_fields, IsTypedRequest, IsTypedEntry, IsTyped, RowFits}
@@ -170,30 +172,40 @@ row_is_line row fits = record {
       (spaced_inside (row_fields row) (fields_marked row fits.ranges fits.typed));
 }
 
-header_width : (c : Configuration) → is_configuration c ≡ true → Width (header_fields c) 1400
+last_width : (b : Bool) (k : ℕ) → k < 2 ^ 64 → Width (if b then [] else codes "controllers" ∷ decimal k ∷ []) 33
+last_width true k fits = record { within = omega arith }
+last_width false k fits =
+    one_more (codes "controllers") (decimal k ∷ []) 11 21 33 (omega arith)
+    (one_more (decimal k) [] 20 0 21 (decimal_short k fits) no_field (omega arith)) (omega arith)
+
+header_width : (h : Header) → is_header h ≡ true → Width (header_fields h) 1400
 unfolding header_fields
-header_width c e =
-    let s = small_counts c e in
+header_width h e =
+    let c = h.config in
+    let s = small_counts c (counted h e) in
+    let form = small_form h e in
     let replicas = s.replicas in
     let sequencers = s.sequencers in
     let clients = s.clients in
-    one_more (codes "1")
-    (codes "replicas" ∷ decimal c.replicas ∷ codes "sequencers" ∷ decimal c.sequencers ∷ codes "clients" ∷ decimal c.clients ∷ []) 20 126 1400
-    (omega arith)
-    (one_more (codes "replicas") (decimal c.replicas ∷ codes "sequencers" ∷ decimal c.sequencers ∷ codes "clients" ∷ decimal c.clients ∷ []) 20
-    105 126 (omega arith)
-    (one_more (decimal c.replicas) (codes "sequencers" ∷ decimal c.sequencers ∷ codes "clients" ∷ decimal c.clients ∷ []) 20 84 105
+    let last = last_fields h.form c.controllers in
+    one_more (decimal h.form)
+    (codes "replicas" ∷ decimal c.replicas ∷ codes "sequencers" ∷ decimal c.sequencers ∷ codes "clients" ∷ decimal c.clients ∷ last) 20 159
+    1400 (decimal_short h.form (omega arith))
+    (one_more (codes "replicas")
+    (decimal c.replicas ∷ codes "sequencers" ∷ decimal c.sequencers ∷ codes "clients" ∷ decimal c.clients ∷ last) 20 138 159 (omega arith)
+    (one_more (decimal c.replicas) (codes "sequencers" ∷ decimal c.sequencers ∷ codes "clients" ∷ decimal c.clients ∷ last) 20 117 138
     (decimal_short c.replicas (omega arith))
-    (one_more (codes "sequencers") (decimal c.sequencers ∷ codes "clients" ∷ decimal c.clients ∷ []) 20 63 84 (omega arith)
-    (one_more (decimal c.sequencers) (codes "clients" ∷ decimal c.clients ∷ []) 20 42 63 (decimal_short c.sequencers (omega arith))
-    (one_more (codes "clients") (decimal c.clients ∷ []) 20 21 42 (omega arith)
-    (one_more (decimal c.clients) [] 20 0 21 (decimal_short c.clients (omega arith)) no_field (omega arith)) (omega arith)) (omega arith))
+    (one_more (codes "sequencers") (decimal c.sequencers ∷ codes "clients" ∷ decimal c.clients ∷ last) 20 96 117 (omega arith)
+    (one_more (decimal c.sequencers) (codes "clients" ∷ decimal c.clients ∷ last) 20 75 96 (decimal_short c.sequencers (omega arith))
+    (one_more (codes "clients") (decimal c.clients ∷ last) 20 54 75 (omega arith)
+    (one_more (decimal c.clients) last 20 33 54 (decimal_short c.clients (omega arith))
+    (last_width (h.form == 1) c.controllers (omega (arith, s.controllers))) (omega arith)) (omega arith)) (omega arith))
     (omega arith)) (omega arith)) (omega arith)) (omega arith)
 
-pub header_is_line : (c : Configuration) → is_configuration c ≡ true → IsLine (spelled_header c)
+pub header_is_line : (h : Header) → is_header h ≡ true → IsLine (spelled_header h)
 unfolding spelled_header
-header_is_line c e = record {
-  short = let w = (header_width c e).within in omega (arith, length-append (codes "transcript") (flat_map after_space (header_fields c)));
-  inside = both_inside (codes "transcript") (flat_map after_space (header_fields c)) (marks_inside (codes "transcript") refl)
-      (spaced_inside (header_fields c) (header_marked c e));
+header_is_line h e = record {
+  short = let w = (header_width h e).within in omega (arith, length-append (codes "transcript") (flat_map after_space (header_fields h)));
+  inside = both_inside (codes "transcript") (flat_map after_space (header_fields h)) (marks_inside (codes "transcript") refl)
+      (spaced_inside (header_fields h) (header_marked h e));
 }

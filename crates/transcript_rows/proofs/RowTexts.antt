@@ -1,17 +1,18 @@
 -- Reading the text of a row gives the row again.
 use Rattle.std.proofs.Common.{◌≡◌, ℕ, zero, suc, ◌^◌, ◌<◌, ◌≤◌, Bool, true, false, Option, Some, None, refl, sym, ap, ◌∙◌, subst}
-use Rattle.std.proofs.Common.{arith, length, List, [], ◌∷◌, ◌++◌, decimal, codes, nat_lt, nat_le}
-use Rattle.std.specs.Prelude.{◌&&◌, nat_eq}
+use Rattle.std.proofs.Common.{inl, inr, ◌⊎◌, arith, length, List, [], ◌∷◌, ◌++◌, decimal, codes, nat_lt, nat_le}
+use Rattle.std.specs.Prelude.{◌&&◌, ◌||◌, ◌==◌, if◌then◌else◌, nat_eq}
 use Rattle.std.specs.Cmp.Lexicographic.{pointwise}
 use Rattle.std.specs.List.{flat_map, list_all}
-use Rattle.std.proofs.lemmas.Bool.{le-leb, leb-true, ltb-true, ne_eqb, and_parts, and_left}
+use Rattle.std.proofs.lemmas.Bool.{le-leb, leb-true, ltb-true, eqb-true, ne_eqb, and_parts, and_left}
 use Rattle.std.proofs.lemmas.List.{append_cancel_right}
 use Rattle.hex.specs.Hex.{IsBytes}
-use Rattle.line_fields.specs.Fields.{fields, actor_of, client_number, IsActorOf}
+use Rattle.line_fields.specs.Fields.{fields, actor_of, client_number, number_below, IsActorOf}
 use Rattle.line_fields.proofs.FieldTexts.{is_mark, decimal_marked, number_again, small_again, Small, actor_again, bytes_again}
 use Rattle.line_fields.proofs.FieldTexts.{hex_marked, hex_within, AllMarked, line_fields, actor_marked}
 use Rattle.line_fields.proofs.FieldTexts.{starts_with_digit}
-use Rattle.nop_types.specs.declared.limits.TheConstants.{MAX_CLIENTS, MAX_OP_BYTES, MAX_REPLICAS, MAX_RESULT_BYTES, MAX_SEQUENCERS}
+use Rattle.nop_types.specs.declared.limits.TheConstants.{MAX_CLIENTS, MAX_CONTROLLERS, MAX_OP_BYTES, MAX_REPLICAS, MAX_RESULT_BYTES}
+use Rattle.nop_types.specs.declared.limits.TheConstants.{MAX_SEQUENCERS}
 use Rattle.nop_types.specs.declared.output.Actor.{Actor}
 use Rattle.nop_types.specs.declared.output.Actor.TheVariants as actors
 use Rattle.nop_types.specs.declared.output.Dest.{Dest}
@@ -25,25 +26,28 @@ use Rattle.transcript_rows.specs.declared.row.Row.{Row}
 use Rattle.transcript_rows.specs.declared.row.Row.TheVariants.{Dead, Submit, Accept, Busy, Sent, State, Slot, Member, End}
 use Rattle.transcript_rows.specs.declared.row.TheConstants.{MAX_SENT_BYTES}
 use Rattle.transcript_rows.specs.Reading.{limits, client_of, replica_of, replica_number, word_of, to_one, dest_of, kind_of, crashed_of}
-use Rattle.transcript_rows.specs.Reading.{status_of, op_of, request_of, row_of_fields, config_of_fields, IsRowOf, IsConfigOf}
+use Rattle.transcript_rows.specs.Reading.{status_of, op_of, request_of, row_of_fields, controllers_of, header_with, header_of_fields}
+use Rattle.transcript_rows.specs.Reading.{IsRowOf, IsHeaderOf, ◌>>=◌}
 use Rattle.transcript_rows.specs.Rows.{row_word, row_fields, row_text, row_fits, actor_fits, dest_fits, pair_fits, request_fits}
 use Rattle.transcript_rows.specs.Rows.{entry_fits, request_fields, entry_fields, IsTypedRequest, IsTypedEntry, IsTyped, RowFits}
 use Rattle.transcript_text.specs.LineText.{after_space}
 use Rattle.transcript_text.specs.Transcript.{actor_text, client_text, dest_text, hex_text, kind_text, phase_text, up_text, transcript_line}
-use Rattle.transcript_text.proofs.LineLemmas.{transcript_fields}
+use Rattle.transcript_text.proofs.LineLemmas.{first_form, second_form}
 use Rattle.nop_types.specs.Configuration.{Configuration, is_configuration}
+use Rattle.nop_types.specs.Headers.{gives, is_header}
+use Rattle.nop_types.specs.declared.header.Header.{Header}
 use Rattle.line_fields.proofs.FieldTexts.{small_counts}
 
 -- ---- actors
 
 pub small : Small limits
-small = record { replicas = omega arith; sequencers = omega arith; clients = omega arith }
+small = record { replicas = omega arith; sequencers = omega arith; clients = omega arith; controllers = omega arith }
 
 pub actor_there : (a : Actor) → actor_fits a ≡ true → IsActorOf limits a
 actor_there (actors.Replica i) e = ltb-true i MAX_REPLICAS e
 actor_there (actors.Sequencer i) e = ltb-true i MAX_SEQUENCERS e
 actor_there (actors.Client i) e = ltb-true i MAX_CLIENTS e
-actor_there actors.Controller e = tt
+actor_there (actors.Controller i) e = ltb-true i MAX_CONTROLLERS e
 
 actor_read : (a : Actor) → actor_fits a ≡ true → actor_of limits (actor_text a) ≡ Some a
 actor_read a e = actor_again limits small a (actor_there a e)
@@ -71,7 +75,7 @@ one_read (actors.Replica i) e =
 one_read (actors.Sequencer i) e =
     rw (no_star i (let low = ltb-true i MAX_SEQUENCERS e in omega arith)) (ap to_one (actor_read (actors.Sequencer i) e))
 one_read (actors.Client i) e = ap to_one (actor_read (actors.Client i) e)
-one_read actors.Controller e = ap to_one (actor_read actors.Controller e)
+one_read (actors.Controller i) e = ap to_one (actor_read (actors.Controller i) e)
 
 dest_read : (d : Dest) → dest_fits d ≡ true → dest_of (dest_text d) ≡ Some d
 unfolding dest_of
@@ -219,7 +223,7 @@ row_read (Sent index from dest kind len) e typed =
 row_read (State replica crashed status view len sync_point) e typed =
     rw (replica_read replica (state_named replica view.session e))
     (rw (word_read view.leader typed.leader)
-    (rw (word_read view.session typed.session)
+    (rw (number_again view.session typed.session)
     (rw (word_read len typed.len_fits)
     (rw (word_read sync_point typed.point_fits) (rw (crashed_read crashed, status_read status) refl)))))
 row_read (Slot replica slot entry) e typed = slot_read replica slot entry (slot_parts replica slot entry e) typed.0 typed.1
@@ -311,20 +315,48 @@ another_read line row read e is other = not_that line read (sym e)
 
 -- ---- the first line
 
-unfoldable pub header_fields : Configuration → List (List ℕ)
-header_fields c =
-    codes "1" ∷ codes "replicas" ∷ decimal c.replicas ∷ codes "sequencers" ∷ decimal c.sequencers ∷ codes "clients" ∷ decimal c.clients ∷ []
+-- the fields behind the clients: form 1 has none
+abbrev pub last_fields : ℕ → ℕ → List (List ℕ)
+last_fields form k = if form == 1 then [] else codes "controllers" ∷ decimal k ∷ []
 
-unfoldable pub spelled_header : Configuration → List ℕ
-spelled_header c = codes "transcript" ++ flat_map after_space (header_fields c)
+unfoldable pub header_fields : Header → List (List ℕ)
+header_fields h =
+    decimal h.form ∷ codes "replicas" ∷ decimal h.config.replicas ∷ codes "sequencers" ∷ decimal h.config.sequencers ∷ codes "clients"
+    ∷ decimal h.config.clients ∷ last_fields h.form h.config.controllers
 
-pub whole_header : (c : Configuration) → transcript_line c ≡ spelled_header c ++ 10 ∷ []
+unfoldable pub spelled_header : Header → List ℕ
+spelled_header h = codes "transcript" ++ flat_map after_space (header_fields h)
+
+-- a header is of form 2, or of form 1 with one controller
+abbrev pub Forms : Header → Type 0
+Forms h = (h.form ≡ 2) ⊎ ((h.form ≡ 1) × (h.config.controllers ≡ 1))
+
+pub forms : (h : Header) → is_header h ≡ true → Forms h
+forms h e = by_tests (h.form == 2) (h.form == 1) (h.config.controllers == 1) refl refl refl
+    (and_parts (gives h.form h.config) (is_configuration h.config) e).0
+  where
+    by_tests : (a b d : Bool) → h.form == 2 ≡ a → h.form == 1 ≡ b → h.config.controllers == 1 ≡ d → (a || (b && d)) ≡ true → Forms h
+    by_tests true b d p q r e = inl (eqb-true h.form 2 p)
+    by_tests false true true p q r e = inr (eqb-true h.form 1 q, eqb-true h.config.controllers 1 r)
+    by_tests false true false p q r e = absurd cc
+    by_tests false false d p q r e = absurd cc
+
+pub counted : (h : Header) → is_header h ≡ true → is_configuration h.config ≡ true
+counted h e = (and_parts (gives h.form h.config) (is_configuration h.config) e).1
+
+pub whole_header : (h : Header) → is_header h ≡ true → transcript_line h.form h.config ≡ spelled_header h ++ 10 ∷ []
 unfolding spelled_header header_fields
-whole_header c = sym (transcript_fields c)
+whole_header h e = by_form h.form h.config (forms h e)
+  where
+    by_form : (form : ℕ) (c : Configuration) → Forms (record { form = form; config = c })
+        → transcript_line form c ≡ spelled_header (record { form = form; config = c }) ++ 10 ∷ []
+    by_form form c (inl two) = rw two (sym (second_form 2 c (λ same. omega (arith, same))))
+    by_form form c (inr one) = rw one.0 (sym (first_form c))
 
-header_read : (c : Configuration) → is_configuration c ≡ true → config_of_fields (codes "transcript" ∷ header_fields c) ≡ Some c
-unfolding config_of_fields header_fields
-header_read c e =
+made_again : (form : ℕ) (c : Configuration) → is_configuration c ≡ true
+    → header_with (number_below 256 (decimal c.replicas)) (number_below 256 (decimal c.sequencers)) (number_below 256 (decimal c.clients))
+    (Some (form, c.controllers)) ≡ Some (record { form = form; config = c })
+made_again form c e =
     let s = small_counts c e in
     let replicas = s.replicas in
     let sequencers = s.sequencers in
@@ -332,36 +364,120 @@ header_read c e =
     rw (small_again 256 c.replicas (omega arith) (omega arith))
     (rw (small_again 256 c.sequencers (omega arith) (omega arith)) (rw (small_again 256 c.clients (omega arith) (omega arith)) (rw e refl)))
 
-pub header_marked : (c : Configuration) → is_configuration c ≡ true → AllMarked (header_fields c)
+header_read : (h : Header) → is_header h ≡ true → header_of_fields (codes "transcript" ∷ header_fields h) ≡ Some h
+unfolding header_of_fields header_fields
+header_read h e = by_form h.form h.config (counted h e) (forms h e)
+  where
+    by_form : (form : ℕ) (c : Configuration) → is_configuration c ≡ true → Forms (record { form = form; config = c })
+        → let h : Header = record { form = form; config = c } in header_of_fields (codes "transcript" ∷ header_fields h) ≡ Some h
+    by_form form c e (inl two) =
+        let controllers = (small_counts c e).controllers in
+        rw two (rw (small_again 256 c.controllers (omega arith) (omega arith)) (made_again 2 c e))
+    by_form form c e (inr one) =
+        rw one.0 (ap (λ (k : ℕ). header_with (number_below 256 (decimal c.replicas)) (number_below 256 (decimal c.sequencers))
+        (number_below 256 (decimal c.clients)) (Some (1, k))) (sym one.1) ∙ made_again 1 c e)
+
+pub small_form : (h : Header) → is_header h ≡ true → h.form ≤ 2
+small_form h e = elim (forms h e) [ inl two ↦ omega (arith, two) | inr one ↦ omega (arith, one.0) ]
+
+last_marked : (b : Bool) (k : ℕ) → k < 2 ^ 64 → AllMarked (if b then [] else codes "controllers" ∷ decimal k ∷ [])
+last_marked true k fits = tt
+last_marked false k fits = (refl, (decimal_marked k fits, tt))
+
+pub header_marked : (h : Header) → is_header h ≡ true → AllMarked (header_fields h)
 unfolding header_fields
-header_marked c e =
-    let s = small_counts c e in
+header_marked h e =
+    let s = small_counts h.config (counted h e) in
     let replicas = s.replicas in
     let sequencers = s.sequencers in
-    let clients = s.clients in (
-      refl,
+    let clients = s.clients in
+    let last = last_marked (h.form == 1) h.config.controllers (omega (arith, s.controllers)) in
+    let low = small_form h e in (
+      decimal_marked h.form (omega arith),
       (
         refl,
         (
-          decimal_marked c.replicas (omega arith),
-          (refl, (decimal_marked c.sequencers (omega arith), (refl, (decimal_marked c.clients (omega arith), tt)))),
+          decimal_marked h.config.replicas (omega arith),
+          (
+            refl,
+            (
+              decimal_marked h.config.sequencers (omega arith),
+              (refl, (decimal_marked h.config.clients (omega arith), last)),
+            ),
+          ),
         ),
       ),
     )
 
-pub config_again : (c : Configuration) (line : List ℕ) → is_configuration c ≡ true → transcript_line c ≡ line ++ 10 ∷ []
-    → config_of_fields (fields line) ≡ Some c
+pub header_again : (h : Header) (line : List ℕ) → is_header h ≡ true → transcript_line h.form h.config ≡ line ++ 10 ∷ []
+    → header_of_fields (fields line) ≡ Some h
 unfolding spelled_header
-config_again c line e is =
-    let same : spelled_header c ≡ line = append_cancel_right (spelled_header c) line (10 ∷ []) (sym (whole_header c) ∙ is) in
-    ap (λ (xs : List ℕ). config_of_fields (fields xs)) (sym same)
-    ∙ ap config_of_fields (line_fields (codes "transcript") (header_fields c) refl (header_marked c e)) ∙ header_read c e
+header_again h line e is =
+    let same : spelled_header h ≡ line = append_cancel_right (spelled_header h) line (10 ∷ []) (sym (whole_header h e) ∙ is) in
+    ap (λ (xs : List ℕ). header_of_fields (fields xs)) (sym same)
+    ∙ ap header_of_fields (line_fields (codes "transcript") (header_fields h) refl (header_marked h e)) ∙ header_read h e
 
-pub no_config_read : (line : List ℕ) (read : Option Configuration) → read ≡ config_of_fields (fields line) → read ≡ None → IsConfigOf line None
-no_config_read line read e empty = λ c h is. absurd (let x : None ≡ Some c = sym empty ∙ (e ∙ config_again c line h is) in cc)
+pub no_header_read : (line : List ℕ) (read : Option Header) → read ≡ header_of_fields (fields line) → read ≡ None → IsHeaderOf line None
+no_header_read line read e empty = λ h fits is. absurd (let x : None ≡ Some h = sym empty ∙ (e ∙ header_again h line fits is) in cc)
 
-pub another_config : (line : List ℕ) (c : Configuration) (read : Option Configuration) → read ≡ config_of_fields (fields line) → read ≡ Some c
-    → (transcript_line c ≡ line ++ 10 ∷ [] → ⊥) → IsConfigOf line None
-another_config line c read e is other = λ d h same.
-    let it : c ≡ d = (let x : Some c ≡ Some d = sym is ∙ (e ∙ config_again d line h same) in cc) in
-    other (ap transcript_line it ∙ same)
+pub another_header : (line : List ℕ) (h : Header) (read : Option Header) → read ≡ header_of_fields (fields line) → read ≡ Some h
+    → (transcript_line h.form h.config ≡ line ++ 10 ∷ [] → ⊥) → IsHeaderOf line None
+another_header line h read e is other = λ j fits same.
+    let it : h ≡ j = (let x : Some h ≡ Some j = sym is ∙ (e ∙ header_again j line fits same) in cc) in
+    other (ap (λ (x : Header). transcript_line x.form x.config) it ∙ same)
+
+-- ---- what is read of the first line is of its form
+
+made_fits : (made h : Header) (b : Bool) → is_configuration made.config ≡ b → gives made.form made.config ≡ true
+    → (if b then Some made else None) ≡ Some h → is_header h ≡ true
+made_fits made h true is gives e = let same : made ≡ h = cc in subst (λ (x : Header). is_header x ≡ true) same (rw (gives, is) refl)
+made_fits made h false is gives e = absurd cc
+
+with_fits : (n s c : Option ℕ) (k : Option (ℕ × ℕ)) (h : Header)
+    → ((n s c form j : ℕ) → k ≡ Some (form, j) → gives form (record { replicas = n; sequencers = s; clients = c; controllers = j }) ≡ true)
+    → header_with n s c k ≡ Some h → is_header h ≡ true
+with_fits (Some n) (Some s) (Some c) (Some k) h can e =
+    let config : Configuration = record { replicas = n; sequencers = s; clients = c; controllers = k.1 } in
+    made_fits (record { form = k.0; config = config }) h (is_configuration config) refl (can n s c k.0 k.1 refl) e
+with_fits None s c k h can e = absurd cc
+with_fits (Some n) None c k h can e = absurd cc
+with_fits (Some n) (Some s) None k h can e = absurd cc
+with_fits (Some n) (Some s) (Some c) None h can e = absurd cc
+
+abbrev second : ℕ → Option (ℕ × ℕ)
+second count = Some (2, count)
+
+controllers_fit : (more : List (List ℕ)) (n s c form j : ℕ) → controllers_of more ≡ Some (form, j)
+    → gives form (record { replicas = n; sequencers = s; clients = c; controllers = j }) ≡ true
+controllers_fit more n s c form j e = by_more more e
+  where
+    can_be : (p : ℕ × ℕ) → Some p ≡ Some (form, j)
+        → gives p.0 (record { replicas = n; sequencers = s; clients = c; controllers = p.1 }) ≡ true
+        → gives form (record { replicas = n; sequencers = s; clients = c; controllers = j }) ≡ true
+    can_be p e h =
+        let same : p ≡ (form, j) = cc in
+        subst (λ (p : ℕ × ℕ). gives p.0 (record { replicas = n; sequencers = s; clients = c; controllers = p.1 }) ≡ true) same h
+
+    by_count : (o : Option ℕ) → (o >>= second) ≡ Some (form, j)
+        → gives form (record { replicas = n; sequencers = s; clients = c; controllers = j }) ≡ true
+    by_count None e = absurd cc
+    by_count (Some count) e = can_be (2, count) e refl
+
+    by_more : (more : List (List ℕ)) → controllers_of more ≡ Some (form, j)
+        → gives form (record { replicas = n; sequencers = s; clients = c; controllers = j }) ≡ true
+    by_more [] e = can_be (1, 1) e refl
+    by_more (x ∷ []) e = absurd cc
+    by_more (x ∷ k ∷ more) e = by_count (number_below 256 k) e
+
+pub read_fits : (xs : List (List ℕ)) (h : Header) → header_of_fields xs ≡ Some h → is_header h ≡ true
+unfolding header_of_fields
+read_fits [] h e = absurd cc
+read_fits (x1 ∷ []) h e = absurd cc
+read_fits (x1 ∷ x2 ∷ []) h e = absurd cc
+read_fits (x1 ∷ x2 ∷ x3 ∷ []) h e = absurd cc
+read_fits (x1 ∷ x2 ∷ x3 ∷ x4 ∷ []) h e = absurd cc
+read_fits (x1 ∷ x2 ∷ x3 ∷ x4 ∷ x5 ∷ []) h e = absurd cc
+read_fits (x1 ∷ x2 ∷ x3 ∷ x4 ∷ x5 ∷ x6 ∷ []) h e = absurd cc
+read_fits (x1 ∷ x2 ∷ x3 ∷ x4 ∷ x5 ∷ x6 ∷ x7 ∷ []) h e = absurd cc
+read_fits (word ∷ form ∷ replicas ∷ n ∷ sequencers ∷ s ∷ clients ∷ c ∷ more) h e =
+    with_fits (number_below 256 n) (number_below 256 s) (number_below 256 c) (controllers_of more) h (controllers_fit more) e

@@ -2,8 +2,10 @@
 use Rattle.std.specs.Prelude.{◌≡◌, ℕ, ◌^◌, List, [], ◌∷◌, ◌++◌, length, codes, Bool, true, nat_le, Option, Some, None, if◌then◌else◌}
 use Rattle.line_fields.specs.Fields.{actor_of, bytes_of, client_number, is_text, number_below, number_of}
 use Rattle.nop_types.specs.Configuration.{Configuration, is_configuration}
+use Rattle.nop_types.specs.Headers.{is_header}
+use Rattle.nop_types.specs.declared.header.Header.{Header}
 use Rattle.nop_types.specs.declared.kinds.TheConstants as kinds
-use Rattle.nop_types.specs.declared.limits.TheConstants.{MAX_CLIENTS, MAX_REPLICAS, MAX_SEQUENCERS}
+use Rattle.nop_types.specs.declared.limits.TheConstants.{MAX_CLIENTS, MAX_CONTROLLERS, MAX_REPLICAS, MAX_SEQUENCERS}
 use Rattle.nop_types.specs.declared.output.Actor.{Actor}
 use Rattle.nop_types.specs.declared.output.Actor.TheVariants as actors
 use Rattle.nop_types.specs.declared.output.Dest.{Dest}
@@ -26,14 +28,14 @@ Some x >>= f = f x
 
 -- as many actors as there may be
 abbrev pub limits : Configuration
-limits = record { replicas = MAX_REPLICAS; sequencers = MAX_SEQUENCERS; clients = MAX_CLIENTS }
+limits = record { replicas = MAX_REPLICAS; sequencers = MAX_SEQUENCERS; clients = MAX_CLIENTS; controllers = MAX_CONTROLLERS }
 
 abbrev pub replica_number : Option Actor → Option ℕ
 replica_number None = None
 replica_number (Some (actors.Replica i)) = Some i
 replica_number (Some (actors.Sequencer i)) = None
 replica_number (Some (actors.Client i)) = None
-replica_number (Some actors.Controller) = None
+replica_number (Some (actors.Controller i)) = None
 
 abbrev pub client_of : List ℕ → Option ℕ
 client_of field = client_number (actor_of limits field)
@@ -129,7 +131,7 @@ sent_of _ = None
 
 abbrev pub state_row : (replica up status leader session len sync_point : List ℕ) → Option Row
 state_row replica up status leader session len sync_point =
-    replica_of replica >>= λ i. word_of leader >>= λ l. word_of session >>= λ s. word_of len >>= λ n. word_of sync_point >>= λ p.
+    replica_of replica >>= λ i. word_of leader >>= λ l. number_of session >>= λ s. word_of len >>= λ n. word_of sync_point >>= λ p.
     Some (State i (crashed_of up) (status_of status) (record { leader = l; session = s }) n p)
 
 abbrev pub state_of : List (List ℕ) → Option Row
@@ -158,16 +160,22 @@ row_of_fields (word ∷ rest) =
 
 -- ---- the first line
 
-abbrev pub counts_of : Option ℕ → Option ℕ → Option ℕ → Option Configuration
-counts_of (Some n) (Some s) (Some c) =
-    let made : Configuration = record { replicas = n; sequencers = s; clients = c } in
-    if is_configuration made then Some made else None
-counts_of _ _ _ = None
+-- the form, and how many controllers there are: form 1 has no count of them, and means one
+abbrev pub controllers_of : List (List ℕ) → Option (ℕ × ℕ)
+controllers_of [] = Some (1, 1)
+controllers_of (controllers ∷ k ∷ more) = number_below 256 k >>= λ count. Some (2, count)
+controllers_of _ = None
 
-unfoldable pub config_of_fields : List (List ℕ) → Option Configuration
-config_of_fields (word ∷ version ∷ replicas ∷ n ∷ sequencers ∷ s ∷ clients ∷ c ∷ more) =
-    counts_of (number_below 256 n) (number_below 256 s) (number_below 256 c)
-config_of_fields _ = None
+abbrev pub header_with : Option ℕ → Option ℕ → Option ℕ → Option (ℕ × ℕ) → Option Header
+header_with (Some n) (Some s) (Some c) (Some k) =
+    let made : Configuration = record { replicas = n; sequencers = s; clients = c; controllers = k.1 } in
+    if is_configuration made then Some (record { form = k.0; config = made }) else None
+header_with _ _ _ _ = None
+
+unfoldable pub header_of_fields : List (List ℕ) → Option Header
+header_of_fields (word ∷ form ∷ replicas ∷ n ∷ sequencers ∷ s ∷ clients ∷ c ∷ more) =
+    header_with (number_below 256 n) (number_below 256 s) (number_below 256 c) (controllers_of more)
+header_of_fields _ = None
 
 -- ---- what a line is
 
@@ -176,6 +184,6 @@ abbrev pub IsRowOf : List ℕ → Option Row → Type 0
 IsRowOf line (Some row) = RowFits row × (row_text row ≡ line ++ 10 ∷ [])
 IsRowOf line None = (row : Row) → RowFits row → row_text row ≡ line ++ 10 ∷ [] → ⊥
 
-abbrev pub IsConfigOf : List ℕ → Option Configuration → Type 0
-IsConfigOf line (Some c) = (is_configuration c ≡ true) × (transcript_line c ≡ line ++ 10 ∷ [])
-IsConfigOf line None = (c : Configuration) → is_configuration c ≡ true → transcript_line c ≡ line ++ 10 ∷ [] → ⊥
+abbrev pub IsHeaderOf : List ℕ → Option Header → Type 0
+IsHeaderOf line (Some h) = (is_header h ≡ true) × (transcript_line h.form h.config ≡ line ++ 10 ∷ [])
+IsHeaderOf line None = (h : Header) → is_header h ≡ true → transcript_line h.form h.config ≡ line ++ 10 ∷ [] → ⊥

@@ -2,7 +2,7 @@
 use Rattle.std.specs.Prelude.{◌≡◌, ℕ, ◌<◌, ◌≤◌, ◌^◌, ⊤, List, [], ◌∷◌, length, codes, decimal, Bool, true, ◌&&◌, nat_lt, nat_le}
 use Rattle.hex.specs.Hex.{IsBytes}
 use Rattle.nop_types.specs.declared.limits.TheConstants.{MAX_CLIENTS, MAX_OP_BYTES, MAX_REPLICAS, MAX_RESULT_BYTES}
-use Rattle.nop_types.specs.declared.limits.TheConstants.{MAX_SEQUENCERS}
+use Rattle.nop_types.specs.declared.limits.TheConstants.{MAX_SEQUENCERS, MAX_CONTROLLERS}
 use Rattle.nop_types.specs.declared.kinds.TheConstants.{REQUEST, FRAGMENT}
 use Rattle.nop_types.specs.declared.output.Actor.{Actor}
 use Rattle.nop_types.specs.declared.output.Actor.TheVariants.{Replica, Sequencer, Client, Controller}
@@ -62,7 +62,7 @@ abbrev pub actor_fits : Actor → Bool
 actor_fits (Replica i) = nat_lt i MAX_REPLICAS
 actor_fits (Sequencer i) = nat_lt i MAX_SEQUENCERS
 actor_fits (Client i) = nat_lt i MAX_CLIENTS
-actor_fits Controller = true
+actor_fits (Controller i) = nat_lt i MAX_CONTROLLERS
 
 abbrev pub dest_fits : Dest → Bool
 dest_fits Replicas = true
@@ -107,7 +107,7 @@ IsTypedEntry (Req r) = IsTypedRequest r
 -- a view, a length and a sync point
 pub record IsTypedState (view : View) (len sync_point : ℕ) : Type 0 where
   pub leader : view.leader < 2 ^ 32
-  pub session : view.session < 2 ^ 32
+  pub session : view.session < 2 ^ 64
   pub len_fits : len < 2 ^ 32
   pub point_fits : sync_point < 2 ^ 32
 

@@ -7,8 +7,8 @@ ghost use Rattle.transcript_rows.specs.Reading.{kind_of, crashed_of, status_of, 
 
 use line_fields::{is_word, number};
 use nop_types::{
-    Actor, Config, Dest, MAX_CLIENTS, MAX_OP_BYTES, MAX_REPLICAS, MAX_SEQUENCERS, NoMemory, Op,
-    Phase, kinds,
+    Actor, Config, Dest, MAX_CLIENTS, MAX_CONTROLLERS, MAX_OP_BYTES, MAX_REPLICAS, MAX_SEQUENCERS,
+    NoMemory, Op, Phase, kinds,
 };
 use std::alloc::Global;
 
@@ -19,7 +19,7 @@ const MAX_OP_TEXT: usize = 2 * MAX_OP_BYTES;
 fn limits() -> Config
     ensures { result ≡ limits }
 {
-    match Config::new(MAX_REPLICAS, MAX_SEQUENCERS, MAX_CLIENTS) {
+    match Config::new(MAX_REPLICAS, MAX_SEQUENCERS, MAX_CLIENTS, MAX_CONTROLLERS) {
         Some(limits) => limits,
         None => unreachable!(),
     }

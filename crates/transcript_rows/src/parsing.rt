@@ -168,7 +168,7 @@ fn sent(rest: Option<&[u8]>) -> Option<Row>
 }
 
 fn state_row(
-    number: &[u8],
+    name: &[u8],
     up: &[u8],
     phase: &[u8],
     leader: &[u8],
@@ -176,12 +176,12 @@ fn state_row(
     len: &[u8],
     sync_point: &[u8],
 ) -> Option<Row>
-    ensures { result ≡ state_row number.now up.now phase.now leader.now session.now len.now
+    ensures { result ≡ state_row name.now up.now phase.now leader.now session.now len.now
         sync_point.now }
 {
-    let replica = replica(number)?;
+    let replica = replica(name)?;
     let leader = word(leader)?;
-    let session = word(session)?;
+    let session = number(session)?;
     let len = word(len)?;
     let sync_point = word(sync_point)?;
     Some(Row::State {

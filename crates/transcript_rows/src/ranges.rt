@@ -8,8 +8,8 @@ ghost use Rattle.transcript_rows.specs.Rows.{IsTyped};
 
 use crate::row::{MAX_SENT_BYTES, Row};
 use nop_types::{
-    Actor, Dest, Entry, MAX_CLIENTS, MAX_REPLICAS, MAX_RESULT_BYTES, MAX_SEQUENCERS, Request, View,
-    kinds,
+    Actor, Dest, Entry, MAX_CLIENTS, MAX_CONTROLLERS, MAX_REPLICAS, MAX_RESULT_BYTES,
+    MAX_SEQUENCERS, Request, View, kinds,
 };
 
 fn actor_fits(actor: Actor) -> bool
@@ -19,7 +19,7 @@ fn actor_fits(actor: Actor) -> bool
         Actor::Replica(i) => i < MAX_REPLICAS,
         Actor::Sequencer(i) => i < MAX_SEQUENCERS,
         Actor::Client(i) => i < u32::from(MAX_CLIENTS),
-        Actor::Controller => true,
+        Actor::Controller(i) => i < MAX_CONTROLLERS,
     }
 }
 
@@ -109,7 +109,7 @@ fn typed_entry(entry: &Entry)
 }
 
 fn typed_view(view: View)
-    ensures { (view.leader < 2 ^ 32) × (view.session < 2 ^ 32) }
+    ensures { (view.leader < 2 ^ 32) × (view.session < 2 ^ 64) }
 {
     let _leader = view.leader;
     let _session = view.session;

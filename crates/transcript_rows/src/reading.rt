@@ -1,8 +1,12 @@
 //! What a line is. A line is read leniently, what was read is written again, and the line is that row where both are the same.
 
-ghost use Rattle.std.specs.Prelude.{◌≡◌, ◌++◌, ◌∷◌, [], IfOk, MatchBool};
+ghost use Rattle.std.specs.Prelude.{◌≡◌, ◌++◌, ◌∷◌, [], IfOk, IsTrue, MatchBool};
+ghost use Rattle.std.specs.Option.{option_copied};
 ghost use Rattle.line_fields.specs.Fields.{fields, number_below};
-ghost use Rattle.transcript_rows.specs.Reading.{counts_of, config_of_fields, IsConfigOf, IsRowOf};
+ghost use Rattle.line_fields.specs.Split.{other_fields};
+ghost use Rattle.nop_types.specs.Headers.{gives};
+ghost use Rattle.transcript_rows.specs.Reading.{controllers_of, header_with, header_of_fields};
+ghost use Rattle.transcript_rows.specs.Reading.{IsHeaderOf, IsRowOf};
 ghost use Rattle.transcript_rows.specs.Rows.{row_text};
 ghost use Rattle.transcript_text.specs.Transcript as texts;
 
@@ -11,7 +15,7 @@ use crate::ranges::{row_fits, typed};
 use crate::row::Row;
 use crate::writing::write_row;
 use line_fields::{cut, next_field, small_number};
-use nop_types::{Config, NoMemory};
+use nop_types::{Config, Header, NoMemory};
 use std::alloc::Global;
 use transcript_text::transcript_line;
 
@@ -60,23 +64,39 @@ pub fn read_row(alloc: Global, line: &[u8], scratch: &mut Vec<u8>) -> Result<Opt
     }
 }
 
-fn configuration(n: &[u8], s: &[u8], c: &[u8]) -> Option<Config>
-    ensures { result
-        ≡ counts_of (number_below 256 n.now) (number_below 256 s.now) (number_below 256 c.now) }
+/// The form, and how many controllers there are, by what follows the other counts.
+fn controllers(rest: Option<&[u8]>) -> Option<(u8, u8)>
+    ensures { result ≡ controllers_of (other_fields (option_copied rest.entry)) }
+{
+    let Some(rest) = rest else {
+        return Some((1, 1));
+    };
+    let (_, rest) = cut(rest);
+    let (k, _) = next_field(rest)?;
+    Some((2, small_number(256, k)?))
+}
+
+fn header_with(n: &[u8], s: &[u8], c: &[u8], k: Option<(u8, u8)>) -> Option<Header>
+    ensures { result ≡ header_with (number_below 256 n.now) (number_below 256 s.now)
+        (number_below 256 c.now) k }
 {
     match (
         small_number(256, n),
         small_number(256, s),
         small_number(256, c),
+        k,
     ) {
-        (Some(n), Some(s), Some(c)) => Config::new(n, s, c),
+        (Some(n), Some(s), Some(c), Some((form, k))) => {
+            let config = Config::new(n, s, c, k)?;
+            Some(Header { form, config })
+        }
         _ => None,
     }
 }
 
-#[tactic(auto, unfolding(crate::specs::Reading::config_of_fields))]
-fn config_of_line(line: &[u8]) -> Option<Config>
-    ensures { result ≡ config_of_fields (fields line.now) }
+#[tactic(auto, unfolding(crate::specs::Reading::header_of_fields))]
+fn header_of_line(line: &[u8]) -> Option<Header>
+    ensures { result ≡ header_of_fields (fields line.now) }
 {
     let (_, rest) = cut(line);
     let (_, rest) = next_field(rest)?;
@@ -85,30 +105,30 @@ fn config_of_line(line: &[u8]) -> Option<Config>
     let (_, rest) = next_field(rest)?;
     let (s, rest) = next_field(rest)?;
     let (_, rest) = next_field(rest)?;
-    let (c, _) = next_field(rest)?;
-    configuration(n, s, c)
+    let (c, rest) = next_field(rest)?;
+    header_with(n, s, c, controllers(rest))
 }
 
-fn is_header_of(config: Config, line: &[u8], scratch: &mut Vec<u8>) -> Result<bool, NoMemory>
+fn is_header_of(header: &Header, line: &[u8], scratch: &mut Vec<u8>) -> Result<bool, NoMemory>
+    requires { IsTrue (gives header.now.form header.now.config) }
     ensures { IfOk result (λ same. MatchBool same
-        (texts.transcript_line config ≡ line.now ++ 10 ∷ [])
-        (texts.transcript_line config ≡ line.now ++ 10 ∷ [] → ⊥)) }
+        (texts.transcript_line header.now.form header.now.config ≡ line.now ++ 10 ∷ [])
+        (texts.transcript_line header.now.form header.now.config ≡ line.now ++ 10 ∷ [] → ⊥)) }
 {
     scratch.clear();
-    transcript_line(config, scratch)?;
+    transcript_line(header.form, header.config, scratch)?;
     Ok(is_whole(scratch, line))
 }
 
 /// What the first line of a transcript says, without its end; None if it is none.
-pub fn read_header(line: &[u8], scratch: &mut Vec<u8>) -> Result<Option<Config>, NoMemory>
-    ensures { IfOk result (λ config. IsConfigOf line.now config) }
+pub fn read_header(line: &[u8], scratch: &mut Vec<u8>) -> Result<Option<Header>, NoMemory>
+    ensures { IfOk result (λ header. IsHeaderOf line.now header) }
 {
-    let Some(config) = config_of_line(line) else {
+    let Some(header) = header_of_line(line) else {
         return Ok(None);
     };
-    let _replicas = config.replicas();
-    if is_header_of(config, line, scratch)? {
-        Ok(Some(config))
+    if is_header_of(&header, line, scratch)? {
+        Ok(Some(header))
     } else {
         Ok(None)
     }

@@ -70,7 +70,7 @@ fn put_state(
         Field::Crashed(crashed),
         Field::Status(status),
         Field::Number(u64::from(view.leader)),
-        Field::Number(u64::from(view.session)),
+        Field::Number(view.session),
         Field::Number(u64::from(len)),
         Field::Number(u64::from(sync_point)),
     ];

@@ -19,11 +19,15 @@ use Rattle.nop_types.specs.declared.view.View.{View}
 
 -- ---- words
 
+-- controller 0 has no number in its name
+abbrev pub number_after : ℕ → List ℕ
+number_after k = if k == 0 then [] else decimal k
+
 abbrev pub actor_text : Actor → List ℕ
 actor_text (actors.Replica i) = 114 ∷ decimal i
 actor_text (actors.Sequencer i) = 115 ∷ decimal i
 actor_text (actors.Client i) = 99 ∷ decimal i
-actor_text actors.Controller = codes "ctl"
+actor_text (actors.Controller k) = codes "ctl" ++ number_after k
 
 abbrev pub dest_text : Dest → List ℕ
 dest_text Replicas = codes "r*"
@@ -103,9 +107,14 @@ lines_text lines = flat_map line_text lines
 
 -- ---- the other lines
 
-unfoldable pub transcript_line : Configuration → List ℕ
-transcript_line c = codes "transcript 1 replicas " ++ decimal c.replicas ++ codes " sequencers " ++ decimal c.sequencers
-    ++ codes " clients " ++ decimal c.clients ++ line_end
+-- a header of form 1 has no count of controllers
+abbrev pub controllers_text : ℕ → ℕ → List ℕ
+controllers_text form controllers = if form == 1 then [] else codes " controllers " ++ decimal controllers
+
+unfoldable pub transcript_line : ℕ → Configuration → List ℕ
+transcript_line form c = codes "transcript " ++ decimal form ++ codes " replicas " ++ decimal c.replicas
+    ++ codes " sequencers " ++ decimal c.sequencers ++ codes " clients " ++ decimal c.clients
+    ++ controllers_text form c.controllers ++ line_end
 
 unfoldable pub replica_line : ℕ → Bool → Phase → View → ℕ → ℕ → List ℕ
 replica_line number crashed status view len sync_point =

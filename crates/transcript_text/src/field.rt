@@ -89,6 +89,19 @@ fn put_numbered(letter: u8, n: u64, to: &mut Vec<u8>) -> Result<(), NoMemory>
     put_number(n, to)
 }
 
+/// Controller 0 has no number in its name.
+fn put_controller(number: u8, to: &mut Vec<u8>) -> Result<(), NoMemory>
+    ensures ok { OnOk result (to.new.items ≡ to.old.items
+        ++ actor_text (Actor.Controller number)) }
+    ensures err { OnErr result (IsPrefixOf to.old.items to.new.items) }
+{
+    put_word("ctl", to)?;
+    if number == 0 {
+        return Ok(());
+    }
+    put_number(u64::from(number), to)
+}
+
 fn put_actor(actor: Actor, to: &mut Vec<u8>) -> Result<(), NoMemory>
     ensures ok { OnOk result (to.new.items ≡ to.old.items ++ actor_text actor) }
     ensures err { OnErr result (IsPrefixOf to.old.items to.new.items) }
@@ -97,7 +110,7 @@ fn put_actor(actor: Actor, to: &mut Vec<u8>) -> Result<(), NoMemory>
         Actor::Replica(i) => put_numbered(b'r', u64::from(i), to),
         Actor::Sequencer(i) => put_numbered(b's', u64::from(i), to),
         Actor::Client(i) => put_numbered(b'c', u64::from(i), to),
-        Actor::Controller => put_word("ctl", to),
+        Actor::Controller(i) => put_controller(i, to),
     }
 }
 

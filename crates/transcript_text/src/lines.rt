@@ -1,27 +1,35 @@
 //! The lines of a transcript. Each function appends one line.
 
-ghost use Rattle.std.specs.Prelude.{◌≡◌, ◌++◌, Some, None, OnOk, OnErr};
+ghost use Rattle.std.specs.Prelude.{◌≡◌, ◌++◌, Some, None, IsTrue, OnOk, OnErr};
+ghost use Rattle.nop_types.specs.Headers.{gives};
 ghost use Rattle.transcript_text.specs.Transcript as texts;
 
 use crate::field::{Field, write_line};
 use nop_types::{Actor, Bytes, Config, Dest, Entry, NoMemory, Phase, Request, View};
 
-/// The first line of a transcript.
-#[tactic(auto, using(crate::proofs::LineLemmas::transcript_fields))]
-pub fn transcript_line(config: Config, to: &mut Vec<u8>) -> Result<(), NoMemory>
-    ensures ok { OnOk result (to.new.items ≡ to.old.items ++ texts.transcript_line config) }
+/// The first line of a transcript, in the form of its schedule's header.
+#[tactic(auto, using(crate::proofs::LineLemmas::first_form))]
+pub fn transcript_line(form: u8, config: Config, to: &mut Vec<u8>) -> Result<(), NoMemory>
+    requires { IsTrue (gives form config) }
+    ensures ok { OnOk result (to.new.items ≡ to.old.items ++ texts.transcript_line form config) }
     ensures err { OnErr result (to.new.items ≡ to.old.items) }
 {
     let fields = [
-        Field::Word("1"),
+        Field::Number(u64::from(form)),
         Field::Word("replicas"),
         Field::Number(u64::from(config.replicas())),
         Field::Word("sequencers"),
         Field::Number(u64::from(config.sequencers())),
         Field::Word("clients"),
         Field::Number(u64::from(config.clients())),
+        Field::Word("controllers"),
+        Field::Number(u64::from(config.controllers())),
     ];
-    write_line("transcript", &fields, to)
+    if form == 1 {
+        write_line("transcript", &fields[..7], to)
+    } else {
+        write_line("transcript", &fields, to)
+    }
 }
 
 /// An event came to a crashed actor.
@@ -114,7 +122,7 @@ pub fn replica_line(
         Field::Crashed(crashed),
         Field::Status(status),
         Field::Number(u64::from(view.leader)),
-        Field::Number(u64::from(view.session)),
+        Field::Number(view.session),
         Field::Number(u64::from(len)),
         Field::Number(u64::from(sync_point)),
     ];

@@ -21,6 +21,7 @@ use Rattle.facts.proofs.Members.{Has-none, Has-cases, Has-append_cases}
 use Rattle.facts.proofs.Places.{slice_get-some, slice_get-set_cases, slice_get-set_after, take-append_past}
 use Rattle.client_quorum.specs.declared.state.ClientState.{ClientState}
 use Rattle.sequencer.specs.declared.state.SequencerState.{SequencerState}
+use Rattle.session_control.specs.declared.state.ControllerState.{ControllerState}
 use Rattle.started_views.specs.Logs.{SameTo}
 use Rattle.view_change.specs.Gathering.{Gathering}
 use Rattle.replica_core.specs.declared.replica.TheConstants.{LAST_MESSAGE}
@@ -45,7 +46,7 @@ use Rattle.whole_world.specs.Shows.{ShowsActors}
 use Rattle.whole_world.specs.Trimming.{told_log, AllWithin, FrontsAgree}
 use Rattle.whole_world.specs.Whole.{WholeReplica, WholeWorld, Letter, Brings, Nothing, Op, Timer, Junk, Equal, Message, Crash}
 use Rattle.whole_world.specs.Whole.{input_of, arrival_of, letters_in, is_crash, after_row, posts, row_if, effect_of, live_replica, at_replica}
-use Rattle.whole_world.specs.Whole.{step_replica, step_client, step_sequencer, whole_step, opening_replica, opening}
+use Rattle.whole_world.specs.Whole.{step_replica, step_client, step_sequencer, step_controller, whole_step, opening_replica, opening}
 use Rattle.whole_world.proofs.Coming.{messages_were_sent}
 use Rattle.whole_world.proofs.Counts.{counts_from}
 use Rattle.whole_world.proofs.Opening.{counted_get, counted_length}
@@ -481,12 +482,16 @@ module _ (archive : List Entry) (w : WholeWorld) (h : IsArchive archive w) where
     client_archive k b None = h
     client_archive k b (Some q) = same_archive archive w (step_client w k (Some q) b) refl refl h
 
+    controller_archive : (k : ℕ) (b : Brings) (o : Option (Seated ControllerState)) → IsArchive archive (step_controller w k o b)
+    controller_archive k b None = h
+    controller_archive k b (Some q) = same_archive archive w (step_controller w k (Some q) b) refl refl h
+
     pub event_archive : (x : Actor) (b : Brings) → Holds w (whole_step m w x b)
         → IsArchive (archive_after m archive w x b) (whole_step m w x b)
     event_archive (actors.Replica i) b holds = replica_archive i b (slice_get w.replicas i) refl holds
     event_archive (actors.Sequencer j) b holds = sequencer_archive j b (slice_get w.sequencers j)
     event_archive (actors.Client k) b holds = client_archive k b (slice_get w.clients k)
-    event_archive actors.Controller b holds = same_archive archive w (whole_step m w actors.Controller b) refl refl h
+    event_archive (actors.Controller k) b holds = controller_archive k b (slice_get w.controllers k)
 
 -- ---- after any events
 

@@ -5,6 +5,7 @@ use Rattle.nop_types.specs.Lines.{Line}
 use Rattle.nop_types.specs.Logs.{Whole}
 use Rattle.nop_types.specs.Meaning.{Meaning}
 use Rattle.client_quorum.specs.declared.state.ClientState.{ClientState}
+use Rattle.session_control.specs.declared.state.ControllerState.{ControllerState}
 use Rattle.session_control.specs.ControllerSteps as controller
 use Rattle.oum_receiver.specs.Receiving.{IsSound}
 use Rattle.replica_state.specs.Within.{IsIn}
@@ -30,7 +31,7 @@ pub record ReplicaFits (i : ℕ) (r : WholeReplica) : Type 0 where
 pub record InRanges (w : WholeWorld) : Type 0 where
   pub replicas : (i : ℕ) (q : Seated WholeReplica) → slice_get w.replicas i ≡ Some q → ReplicaFits i q.state
   pub clients : (k : ℕ) (q : Seated ClientState) → slice_get w.clients k ≡ Some q → ClientFits q.state
-  pub controller : controller.IsWithin w.controller.state
+  pub controllers : (k : ℕ) (q : Seated ControllerState) → slice_get w.controllers k ≡ Some q → controller.IsWithin q.state
 
 -- ---- all of it
 

@@ -147,10 +147,10 @@ module _ (c : Conf) (w : WholeWorld) (carries : Carries w.sent c) (tells : Tells
   read_arrives bytes (Ok (datagrams.Fragment x)) a is read e = absurd cc
   read_arrives bytes (Ok (datagrams.Request x)) a is read e = absurd cc
   read_arrives bytes (Ok (datagrams.Reply x)) a is read e = absurd cc
-  read_arrives bytes (Ok (datagrams.Install j s)) a is read e = absurd cc
-  read_arrives bytes (Ok (datagrams.Installed j s)) a is read e = absurd cc
-  read_arrives bytes (Ok (datagrams.Ping j s)) a is read e = absurd cc
-  read_arrives bytes (Ok (datagrams.Pong j s)) a is read e = absurd cc
+  read_arrives bytes (Ok (datagrams.Install k j s)) a is read e = absurd cc
+  read_arrives bytes (Ok (datagrams.Installed k j s)) a is read e = absurd cc
+  read_arrives bytes (Ok (datagrams.Ping k j s)) a is read e = absurd cc
+  read_arrives bytes (Ok (datagrams.Pong k j s)) a is read e = absurd cc
   read_arrives bytes (Err bad) a is read e = absurd cc
 
   equal_arrives : (bytes : List ℕ) (b : Bool) (a : Arrival) → was_sent w.sent bytes ≡ b → arrival_given (given_if b bytes) ≡ Some a

@@ -42,10 +42,11 @@ pub sent_lasts : (c d : Conf) → Keeps c d → (x : Datagram) → WasSent c x �
 sent_lasts c d keeps (datagrams.Request r) h = keeps.requests r h
 sent_lasts c d keeps (datagrams.Stamped p) h = keeps.stamps p h
 sent_lasts c d keeps (datagrams.Reply y) h = keeps.replies y h
-sent_lasts c d keeps (datagrams.Install sequencer session) h = keeps.installs (record { sequencer = sequencer; session = session }) h
-sent_lasts c d keeps (datagrams.Installed sequencer session) h = h
-sent_lasts c d keeps (datagrams.Ping sequencer round) h = h
-sent_lasts c d keeps (datagrams.Pong sequencer round) h = h
+sent_lasts c d keeps (datagrams.Install k j s) h =
+    record { given = keeps.installs (record { sequencer = j; session = s }) h.given; own = h.own }
+sent_lasts c d keeps (datagrams.Installed k j s) h = h
+sent_lasts c d keeps (datagrams.Ping k j s) h = h
+sent_lasts c d keeps (datagrams.Pong k j s) h = h
 sent_lasts c d keeps (datagrams.Fragment p) h = h
 
 -- ---- what an actor sends that is no replica

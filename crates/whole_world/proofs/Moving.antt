@@ -39,11 +39,14 @@ stands_told f config w c more h = record {
     replica_count = h.actors.replica_count;
     sequencer_count = h.actors.sequencer_count;
     client_count = h.actors.client_count;
+    controller_count = h.actors.controller_count;
     replicas = h.actors.replicas;
     points = h.actors.points;
     sequencers = h.actors.sequencers;
     clients = h.actors.clients;
-    controller = h.actors.controller;
+    controllers = h.actors.controllers;
+    controller_numbers = h.actors.controller_numbers;
+    givers = h.actors.givers;
   };
   carries = record {
     spelled = h.carries.spelled;

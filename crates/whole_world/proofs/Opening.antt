@@ -1,20 +1,24 @@
 -- The opening of the protocol stands for the opening of the whole world.
-use Rattle.std.proofs.Common.{◌≡◌, ℕ, zero, suc, ◌+◌, ◌*◌, ◌<◌, Some, refl, ap, subst, ◌∙◌, arith, inl, inr, length, length-append}
+use Rattle.std.proofs.Common.{◌≡◌, ℕ, zero, suc, ◌+◌, ◌*◌, ◌<◌, Some, refl, sym, ap, subst, ◌∙◌, arith, inl, inr, length, length-append}
 use Rattle.std.proofs.Common.{[], ◌∷◌}
 use Rattle.std.specs.Prelude.{slice_get, IsTrue}
 use Rattle.std.proofs.lemmas.Option.{slice_get_within}
 use Rattle.nop_types.specs.Configuration.{Configuration, is_configuration}
 use Rattle.nop_types.specs.Logs.{Whole}
 use Rattle.nop_types.specs.Meaning.{Meaning}
+use Rattle.nop_types.specs.declared.limits.TheConstants.{MAX_CONTROLLERS}
 use Rattle.facts.proofs.Members.{Has-none}
 use Rattle.facts.proofs.Places.{slice_get-push_cases}
 use Rattle.replica_state.specs.State.{PointsMeet}
 use Rattle.sequencer.specs.SequencerSteps as sequencer
+use Rattle.session_control.specs.declared.state.ControllerState.{ControllerState}
 use Rattle.session_control.specs.ControllerSteps as controller
+use Rattle.session_control.proofs.Epochs.{opens_at_home, opens_fits}
 use Rattle.protocol.specs.Conf.{opening}
 use Rattle.world.specs.Seats.{Seated, seated}
 use Rattle.world.specs.WorldSteps.{counted, opening_client}
 use Rattle.delivery.proofs.InRanges.{opens_in_ranges}
+use Rattle.refinement.specs.Controllers.{control_of}
 use Rattle.refinement.specs.Projection.{member_of}
 use Rattle.refinement.specs.Ranges.{ClientFits}
 use Rattle.whole_world.specs.Whole.{WholeReplica, opening_replica}
@@ -25,13 +29,20 @@ use Rattle.whole_world.proofs.Counts.{counts_from}
 some_sequencer : (config : Configuration) → IsTrue (is_configuration config) → 0 < config.sequencers
 some_sequencer config is = grind (arith, is)
 
-controller_opens : (config : Configuration) → IsTrue (is_configuration config) → controller.IsWithin (controller.opening config 1)
-controller_opens config is = record {
-  config = is;
-  session = record { low = omega arith; high = omega arith };
-  current = some_sequencer config is;
-  missed = omega arith;
-}
+controller_opens : (config : Configuration) → IsTrue (is_configuration config) → (k : ℕ) → k < config.controllers
+    → controller.IsWithin (controller.opening config k)
+controller_opens config is k l =
+    let few = counts_from config is in
+    let low : k < MAX_CONTROLLERS = omega (arith, l, few.controllers) in
+    record {
+      config = is;
+      number = low;
+      session = opens_fits k low;
+      own = opens_at_home k low;
+      seen = omega arith;
+      current = some_sequencer config is;
+      missed = omega arith;
+    }
 
 pub counted_length : {S : Type 0} (make : ℕ → S) (n : ℕ) → length (counted make n) ≡ n
 counted_length make zero = refl
@@ -71,11 +82,15 @@ opening_stands m f config is count = record {
       replica_count = counted_length (opening_replica config) config.replicas;
       sequencer_count = counted_length sequencer.opening config.sequencers;
       client_count = counted_length (opening_client config) config.clients;
+      controller_count = counted_length (controller.opening config) config.controllers;
       replicas = λ i q e. ap (λ (r : WholeReplica). member_of r.state) (counted_get (opening_replica config) config.replicas i q e);
       points = λ i q e. subst (λ (r : WholeReplica). PointsMeet r.state) (counted_get (opening_replica config) config.replicas i q e) refl;
       sequencers = counted_get sequencer.opening config.sequencers;
       clients = counted_get (opening_client config) config.clients;
-      controller = refl;
+      controllers = λ k q e. ap control_of (counted_get (controller.opening config) config.controllers k q e);
+      controller_numbers = λ k q e.
+          ap (λ (s : ControllerState). s.number) (sym (counted_get (controller.opening config) config.controllers k q e));
+      givers = λ x h. absurd (Has-none x h);
     };
     carries = record {
       spelled = λ s h. absurd (Has-none s h);
@@ -95,7 +110,8 @@ opening_stands m f config is count = record {
           (counted_within (opening_replica config) config.replicas i q e));
       clients = λ k q e. subst ClientFits (counted_get (opening_client config) config.clients k q e) (client_opens config is k
           (counted_within (opening_client config) config.clients k q e));
-      controller = controller_opens config is;
+      controllers = λ k q e. subst controller.IsWithin (counted_get (controller.opening config) config.controllers k q e)
+          (controller_opens config is k (counted_within (controller.opening config) config.controllers k q e));
     };
   };
   lines = refl;

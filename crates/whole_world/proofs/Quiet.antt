@@ -75,18 +75,21 @@ module _ {S : Type 0} (m : Meaning S) (f : ℕ) (config : Configuration) (p : Pa
       replica_count = length-set w.replicas i new ∙ shown.replica_count;
       sequencer_count = shown.sequencer_count;
       client_count = shown.client_count;
+      controller_count = shown.controller_count;
       replicas = seats_same (λ j s. c.replicas j ≡ member_of s.state) w.replicas i old new there same shown.replicas;
       points = seats_same (λ j s. PointsMeet s.state) w.replicas i old new there same shown.points;
       sequencers = shown.sequencers;
       clients = shown.clients;
-      controller = shown.controller;
+      controllers = shown.controllers;
+      controller_numbers = shown.controller_numbers;
+      givers = shown.givers;
     };
     carries = at.stands.carries;
     tells = at.stands.tells;
     ranges = record {
       replicas = seats_same ReplicaFits w.replicas i old new there same at.stands.ranges.replicas;
       clients = at.stands.ranges.clients;
-      controller = at.stands.ranges.controller;
+      controllers = at.stands.ranges.controllers;
     };
   }
 
@@ -117,15 +120,22 @@ module _ {S : Type 0} (m : Meaning S) (f : ℕ) (config : Configuration) (p : Pa
       replica_count = shown.replica_count;
       sequencer_count = length-set w.sequencers j new ∙ shown.sequencer_count;
       client_count = shown.client_count;
+      controller_count = shown.controller_count;
       replicas = shown.replicas;
       points = shown.points;
       sequencers = seats_same (λ k s. c.sequencers k ≡ s) w.sequencers j old new there same shown.sequencers;
       clients = shown.clients;
-      controller = shown.controller;
+      controllers = shown.controllers;
+      controller_numbers = shown.controller_numbers;
+      givers = shown.givers;
     };
     carries = at.stands.carries;
     tells = at.stands.tells;
-    ranges = record { replicas = at.stands.ranges.replicas; clients = at.stands.ranges.clients; controller = at.stands.ranges.controller };
+    ranges = record {
+      replicas = at.stands.ranges.replicas;
+      clients = at.stands.ranges.clients;
+      controllers = at.stands.ranges.controllers;
+    };
   }
 
   pub quiet_sequencer : (j : ℕ) (old new : Seated SequencerState) → slice_get w.sequencers j ≡ Some old → new.state ≡ old.state
@@ -145,18 +155,21 @@ module _ {S : Type 0} (m : Meaning S) (f : ℕ) (config : Configuration) (p : Pa
       replica_count = shown.replica_count;
       sequencer_count = shown.sequencer_count;
       client_count = length-set w.clients k new ∙ shown.client_count;
+      controller_count = shown.controller_count;
       replicas = shown.replicas;
       points = shown.points;
       sequencers = shown.sequencers;
       clients = seats_same (λ j s. c.clients j ≡ s) w.clients k old new there same shown.clients;
-      controller = shown.controller;
+      controllers = shown.controllers;
+      controller_numbers = shown.controller_numbers;
+      givers = shown.givers;
     };
     carries = at.stands.carries;
     tells = at.stands.tells;
     ranges = record {
       replicas = at.stands.ranges.replicas;
       clients = seats_same (λ j s. ClientFits s) w.clients k old new there same at.stands.ranges.clients;
-      controller = at.stands.ranges.controller;
+      controllers = at.stands.ranges.controllers;
     };
   }
 
@@ -165,10 +178,11 @@ module _ {S : Type 0} (m : Meaning S) (f : ℕ) (config : Configuration) (p : Pa
   quiet_client k old new there same =
       quiet_goes (record w { clients = slice_set w.clients k new }) (client_stands k old new there same) refl idle_past
 
-  -- ---- the controller
+  -- ---- controllers
 
-  controller_stands : (new : Seated ControllerState) → new.state ≡ w.controller.state → Stands f config (record w { controller = new }) c
-  controller_stands new same = record {
+  controller_stands : (k : ℕ) (old new : Seated ControllerState) → slice_get w.controllers k ≡ Some old → new.state ≡ old.state
+      → Stands f config (record w { controllers = slice_set w.controllers k new }) c
+  controller_stands k old new there same = record {
     same = at.stands.same;
     actors = record {
       is_configuration = shown.is_configuration;
@@ -176,20 +190,25 @@ module _ {S : Type 0} (m : Meaning S) (f : ℕ) (config : Configuration) (p : Pa
       replica_count = shown.replica_count;
       sequencer_count = shown.sequencer_count;
       client_count = shown.client_count;
+      controller_count = length-set w.controllers k new ∙ shown.controller_count;
       replicas = shown.replicas;
       points = shown.points;
       sequencers = shown.sequencers;
       clients = shown.clients;
-      controller = shown.controller ∙ ap control_of (sym same);
+      controllers = seats_same (λ j s. c.controllers j ≡ control_of s) w.controllers k old new there same shown.controllers;
+      controller_numbers = seats_same (λ j s. s.number ≡ j) w.controllers k old new there same shown.controller_numbers;
+      givers = shown.givers;
     };
     carries = at.stands.carries;
     tells = at.stands.tells;
     ranges = record {
       replicas = at.stands.ranges.replicas;
       clients = at.stands.ranges.clients;
-      controller = subst controller.IsWithin (sym same) at.stands.ranges.controller;
+      controllers = seats_same (λ j s. controller.IsWithin s) w.controllers k old new there same at.stands.ranges.controllers;
     };
   }
 
-  pub quiet_controller : (new : Seated ControllerState) → new.state ≡ w.controller.state → Goes m f config p c (record w { controller = new })
-  quiet_controller new same = quiet_goes (record w { controller = new }) (controller_stands new same) refl idle_past
+  pub quiet_controller : (k : ℕ) (old new : Seated ControllerState) → slice_get w.controllers k ≡ Some old → new.state ≡ old.state
+      → Goes m f config p c (record w { controllers = slice_set w.controllers k new })
+  quiet_controller k old new there same =
+      quiet_goes (record w { controllers = slice_set w.controllers k new }) (controller_stands k old new there same) refl idle_past

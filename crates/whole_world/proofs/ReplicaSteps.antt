@@ -9,6 +9,7 @@ use Rattle.nop_types.specs.Configuration.{Configuration}
 use Rattle.nop_types.specs.Lists.{Has}
 use Rattle.nop_types.specs.Logs.{Whole}
 use Rattle.nop_types.specs.Meaning.{Meaning}
+use Rattle.nop_types.specs.Sessions.{home}
 use Rattle.nop_types.specs.declared.datagram.Datagram.{Datagram}
 use Rattle.nop_types.specs.declared.datagram.Datagram.TheVariants as datagrams
 use Rattle.nop_types.specs.declared.datagram.Reply.{Reply}
@@ -179,7 +180,7 @@ module _ (c d : Conf) (sent : List Sent) (from : Actor) (sends : List Sending) (
     stamps = λ x h. there_still sent more (datagrams.Stamped x)
         (old.stamps x (subst (λ (xs : List Stamped). Has xs x) same.stamps h));
     replies = step_replies old;
-    installs = λ x h. there_still sent more (datagrams.Install x.sequencer x.session)
+    installs = λ x h. there_still sent more (datagrams.Install (home x.session) x.sequencer x.session)
         (old.installs x (subst (λ (xs : List Install). Has xs x) same.installs h));
   }
 
@@ -286,12 +287,15 @@ module _ {S : Type 0} (m : Meaning S) (f : ℕ) (config : Configuration) (p : Pa
     replica_count = length-set w.replicas r new ∙ shown.replica_count;
     sequencer_count = shown.sequencer_count;
     client_count = shown.client_count;
+    controller_count = shown.controller_count;
     replicas = seats_become (λ j s. c.replicas j ≡ member_of s.state) (λ j s. d.replicas j ≡ member_of s.state) w.replicas r
         new reaches.state (λ j s other h. reaches.others.replicas j other ∙ h) shown.replicas;
     points = seats_hold (λ s. PointsMeet s.state) w.replicas r new reaches.points shown.points;
     sequencers = λ j q i. ap (λ (g : ℕ → SequencerState). g j) reaches.others.sequencers ∙ shown.sequencers j q i;
     clients = λ k q i. ap (λ (g : ℕ → ClientState). g k) reaches.others.clients ∙ shown.clients k q i;
-    controller = ap (λ (g : ℕ → Control). g 0) reaches.others.controllers ∙ shown.controller;
+    controllers = λ k q i. ap (λ (g : ℕ → Control). g k) reaches.others.controllers ∙ shown.controllers k q i;
+    controller_numbers = shown.controller_numbers;
+    givers = λ x h. shown.givers x (subst (λ (xs : List Install). Has xs x) reaches.others.installs h);
   }
 
   step_stands : Stands f config (posts w r old.state e) d
@@ -304,7 +308,7 @@ module _ {S : Type 0} (m : Meaning S) (f : ℕ) (config : Configuration) (p : Pa
       replicas = seats_become ReplicaFits ReplicaFits w.replicas r new (replica_fits r old.state e row) (λ j s other h. h)
           at.stands.ranges.replicas;
       clients = at.stands.ranges.clients;
-      controller = at.stands.ranges.controller;
+      controllers = at.stands.ranges.controllers;
     };
   }
 

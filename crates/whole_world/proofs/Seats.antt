@@ -15,13 +15,13 @@ seats_become P Q xs i new here others all j p e = elim (slice_get-set_cases xs i
   | inr (a, b) ↦ others j p.state a (all j p b)
 ]
 
--- the changed seat has its new state, and each other its old one
-pub seats_shown : {S : Type 0} (xs : List (Seated S)) (old : ℕ → S) (i : ℕ) (new : Seated S)
-    → ((j : ℕ) (p : Seated S) → slice_get xs j ≡ Some p → old j ≡ p.state)
-    → (j : ℕ) (p : Seated S) → slice_get (slice_set xs i new) j ≡ Some p → put old i new.state j ≡ p.state
-seats_shown xs old i new all =
-    seats_become (λ j s. old j ≡ s) (λ j s. put old i new.state j ≡ s) xs i new (put-here old i new.state)
-    (λ j s other h. put-other old i new.state j other ∙ h) all
+-- the changed seat shows its new state, and each other its old one
+pub seats_shown : {S T : Type 0} (shown : S → T) (xs : List (Seated S)) (old : ℕ → T) (i : ℕ) (new : Seated S)
+    → ((j : ℕ) (p : Seated S) → slice_get xs j ≡ Some p → old j ≡ shown p.state)
+    → (j : ℕ) (p : Seated S) → slice_get (slice_set xs i new) j ≡ Some p → put old i (shown new.state) j ≡ shown p.state
+seats_shown shown xs old i new all =
+    seats_become (λ j s. old j ≡ shown s) (λ j s. put old i (shown new.state) j ≡ shown s) xs i new (put-here old i (shown new.state))
+    (λ j s other h. put-other old i (shown new.state) j other ∙ h) all
 
 -- what holds of the state of the changed seat, and of all before, holds of all
 pub seats_hold : {S : Type 0} (P : S → Type 0) (xs : List (Seated S)) (i : ℕ) (new : Seated S) → P new.state

@@ -21,7 +21,7 @@ use Rattle.protocol.specs.Invariant.{Inv}
 use Rattle.network.specs.Network.{Sent}
 use Rattle.world.specs.Seats.{Seated}
 use Rattle.whole_world.specs.Whole.{WholeReplica, WholeWorld, Brings, input_of, is_crash, at_seat, gave, step_client, step_sequencer}
-use Rattle.whole_world.specs.Whole.{live_replica, at_replica, step_replica, whole_step}
+use Rattle.whole_world.specs.Whole.{step_controller, live_replica, at_replica, step_replica, whole_step}
 use Rattle.whole_world.specs.Passed.{Passed}
 use Rattle.whole_world.specs.Safe.{BringsFits, CrashedStay}
 use Rattle.whole_world.proofs.ActorSteps.{client_goes, sequencer_goes, controller_goes}
@@ -81,19 +81,20 @@ module _ {S : Type 0} (m : Meaning S) (f : ℕ) (config : Configuration) (short 
     sequencer_moves false false None come = sequencer_quiet old refl
     sequencer_moves false false (Some i) come = sequencer_goes m f config p c inv at j old there i (come i refl)
 
-  abbrev ControllerGoes : Seated ControllerState × List Out → Type 0
-  ControllerGoes x = GoesTo (gave w actors.Controller x.1 (record w { controller = x.0 }))
+  module _ (k : ℕ) (old : Seated ControllerState) (there : slice_get w.controllers k ≡ Some old) where
+    abbrev ControllerGoes : Seated ControllerState × List Out → Type 0
+    ControllerGoes x = GoesTo (gave w (actors.Controller k) x.1 (record w { controllers = slice_set w.controllers k x.0 }))
 
-  controller_quiet : (new : Seated ControllerState) → new.state ≡ w.controller.state → ControllerGoes (new, [])
-  controller_quiet new same = silent (record w { controller = new }) actors.Controller
-      (quiet_controller m f config p c inv at new same)
+    controller_quiet : (new : Seated ControllerState) → new.state ≡ old.state → ControllerGoes (new, [])
+    controller_quiet new same = silent (record w { controllers = slice_set w.controllers k new }) (actors.Controller k)
+        (quiet_controller m f config p c inv at k old new there same)
 
-  controller_moves : (crashed crash : Bool) (o : Option Given) → ((i : Given) → o ≡ Some i → Comes c i)
-      → ControllerGoes (at_seat controller.next w.controller crashed crash o)
-  controller_moves true crash o come = controller_quiet w.controller refl
-  controller_moves false true o come = controller_quiet (record w.controller { crashed = true }) refl
-  controller_moves false false None come = controller_quiet w.controller refl
-  controller_moves false false (Some i) come = controller_goes m f config p c inv at i (come i refl)
+    controller_moves : (crashed crash : Bool) (o : Option Given) → ((i : Given) → o ≡ Some i → Comes c i)
+        → ControllerGoes (at_seat controller.next old crashed crash o)
+    controller_moves true crash o come = controller_quiet old refl
+    controller_moves false true o come = controller_quiet (record old { crashed = true }) refl
+    controller_moves false false None come = controller_quiet old refl
+    controller_moves false false (Some i) come = controller_goes m f config p c inv at k old there i (come i refl)
 
   replica_moves : (i : ℕ) (old : Seated WholeReplica) → slice_get w.replicas i ≡ Some old → (b : Brings) (crashed crash : Bool)
       → is_crash b ≡ crash → GoesTo (at_replica m w i old crashed b)
@@ -121,11 +122,17 @@ module _ {S : Type 0} (m : Meaning S) (f : ℕ) (config : Configuration) (short 
   client_step k None there b fits = nothing_goes m f config p c inv at
   client_step k (Some old) there b fits = client_moves k old there old.crashed (is_crash b) (input_of w.sent b) (comes b fits)
 
+  controller_step : (k : ℕ) (o : Option (Seated ControllerState)) → slice_get w.controllers k ≡ o → (b : Brings) → BringsFits b
+      → GoesTo (step_controller w k o b)
+  controller_step k None there b fits = nothing_goes m f config p c inv at
+  controller_step k (Some old) there b fits =
+      controller_moves k old there old.crashed (is_crash b) (input_of w.sent b) (comes b fits)
+
   step_goes : (a : Actor) (b : Brings) → BringsFits b → GoesTo (whole_step m w a b)
   step_goes (actors.Replica i) b fits = replica_step i (slice_get w.replicas i) refl b
   step_goes (actors.Sequencer j) b fits = sequencer_step j (slice_get w.sequencers j) refl b fits
   step_goes (actors.Client k) b fits = client_step k (slice_get w.clients k) refl b fits
-  step_goes actors.Controller b fits = controller_moves w.controller.crashed (is_crash b) (input_of w.sent b) (comes b fits)
+  step_goes (actors.Controller k) b fits = controller_step k (slice_get w.controllers k) refl b fits
 
 -- each event leads on
 pub steps_lead : {S : Type 0} (m : Meaning S) (f : ℕ) (config : Configuration) → ResultsShort m → StepsLead m f config

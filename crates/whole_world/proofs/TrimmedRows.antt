@@ -28,10 +28,10 @@ read_is_not_told (Ok (datagrams.Stamped x)) y e = absurd cc
 read_is_not_told (Ok (datagrams.Fragment x)) y e = absurd cc
 read_is_not_told (Ok (datagrams.Request x)) y e = absurd cc
 read_is_not_told (Ok (datagrams.Reply x)) y e = absurd cc
-read_is_not_told (Ok (datagrams.Install j s)) y e = absurd cc
-read_is_not_told (Ok (datagrams.Installed j s)) y e = absurd cc
-read_is_not_told (Ok (datagrams.Ping j s)) y e = absurd cc
-read_is_not_told (Ok (datagrams.Pong j s)) y e = absurd cc
+read_is_not_told (Ok (datagrams.Install k j s)) y e = absurd cc
+read_is_not_told (Ok (datagrams.Installed k j s)) y e = absurd cc
+read_is_not_told (Ok (datagrams.Ping k j s)) y e = absurd cc
+read_is_not_told (Ok (datagrams.Pong k j s)) y e = absurd cc
 read_is_not_told (Err bad) y e = absurd cc
 
 pub given_is_not_told : (o : Option Given) (y : Peer) → arrival_given o ≡ Some (Told y) → ⊥

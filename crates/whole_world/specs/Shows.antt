@@ -1,7 +1,8 @@
 -- How the protocol shows a whole world: its actors, all that was sent, the lines and the past.
-use Rattle.std.specs.Prelude.{◌≡◌, ◌+◌, ◌*◌, ℕ, List, length, map, Some, Ok, IsTrue, slice_get}
+use Rattle.std.specs.Prelude.{◌≡◌, ◌+◌, ◌*◌, ◌<◌, ℕ, List, length, map, Some, Ok, IsTrue, slice_get}
 use Rattle.nop_types.specs.Configuration.{is_configuration}
 use Rattle.nop_types.specs.Lists.{Has}
+use Rattle.nop_types.specs.Sessions.{home}
 use Rattle.nop_types.specs.declared.datagram.Datagram.{Datagram}
 use Rattle.nop_types.specs.declared.datagram.Datagram.TheVariants as datagrams
 use Rattle.nop_types.specs.declared.datagram.Reply.{Reply}
@@ -14,6 +15,7 @@ use Rattle.oum_codec.specs.Reading.{reading}
 use Rattle.oum_codec.specs.Spelling.{Spells}
 use Rattle.client_quorum.specs.declared.state.ClientState.{ClientState}
 use Rattle.sequencer.specs.declared.state.SequencerState.{SequencerState}
+use Rattle.session_control.specs.declared.state.ControllerState.{ControllerState}
 use Rattle.protocol.specs.Conf.{Conf, Install}
 use Rattle.protocol.specs.Said.{Said}
 use Rattle.network.specs.Network.{Sent}
@@ -55,20 +57,24 @@ pub record Carries (sent : List Sent) (c : Conf) : Type 0 where
   pub requests : (r : Request) → Has c.requests r → IsThere sent (datagrams.Request r)
   pub stamps : (p : Stamped) → Has c.stamps p → IsThere sent (datagrams.Stamped p)
   pub replies : (y : Reply) → Has c.replies y → IsThere sent (datagrams.Reply y)
-  pub installs : (x : Install) → Has c.installs x → IsThere sent (datagrams.Install x.sequencer x.session)
+  pub installs : (x : Install) → Has c.installs x → IsThere sent (datagrams.Install (home x.session) x.sequencer x.session)
 
--- each actor of the world has the state that is shown, and each replica tells its log with its sync point
+-- each actor of the world has the state that is shown, and each replica tells its log with its sync point; each controller has its number,
+-- and each session that was given out is of a controller that is there
 pub record ShowsActors (f : ℕ) (w : WholeWorld) (c : Conf) : Type 0 where
   pub is_configuration : IsTrue (is_configuration w.config)
   pub config : w.config.replicas ≡ 2 * f + 1
   pub replica_count : length w.replicas ≡ w.config.replicas
   pub sequencer_count : length w.sequencers ≡ w.config.sequencers
   pub client_count : length w.clients ≡ w.config.clients
+  pub controller_count : length w.controllers ≡ w.config.controllers
   pub replicas : (i : ℕ) (p : Seated WholeReplica) → slice_get w.replicas i ≡ Some p → c.replicas i ≡ member_of p.state.state
   pub points : (i : ℕ) (p : Seated WholeReplica) → slice_get w.replicas i ≡ Some p → PointsMeet p.state.state
   pub sequencers : (j : ℕ) (p : Seated SequencerState) → slice_get w.sequencers j ≡ Some p → c.sequencers j ≡ p.state
   pub clients : (k : ℕ) (p : Seated ClientState) → slice_get w.clients k ≡ Some p → c.clients k ≡ p.state
-  pub controller : c.controllers 0 ≡ control_of w.controller.state
+  pub controllers : (k : ℕ) (p : Seated ControllerState) → slice_get w.controllers k ≡ Some p → c.controllers k ≡ control_of p.state
+  pub controller_numbers : (k : ℕ) (p : Seated ControllerState) → slice_get w.controllers k ≡ Some p → p.state.number ≡ k
+  pub givers : (x : Install) → Has c.installs x → home x.session < w.config.controllers
 
 -- actors, datagrams and letters are shown, and lines and past are the same
 pub record Shows (f : ℕ) (p : Passed) (c : Conf) : Type 0 where

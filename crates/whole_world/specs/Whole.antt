@@ -62,7 +62,7 @@ pub record WholeWorld : Type 0 where
   pub replicas : List (Seated WholeReplica)
   pub sequencers : List (Seated SequencerState)
   pub clients : List (Seated ClientState)
-  pub controller : Seated ControllerState
+  pub controllers : List (Seated ControllerState)
   -- all datagrams that are no fragments
   pub sent : List Sent
   pub letters : List Letter
@@ -119,10 +119,10 @@ arrival_read (Ok (datagrams.Stamped p)) = Some (messages.Packet p)
 arrival_read (Ok (datagrams.Fragment f)) = None
 arrival_read (Ok (datagrams.Request r)) = None
 arrival_read (Ok (datagrams.Reply p)) = None
-arrival_read (Ok (datagrams.Install j s)) = None
-arrival_read (Ok (datagrams.Installed j s)) = None
-arrival_read (Ok (datagrams.Ping j s)) = None
-arrival_read (Ok (datagrams.Pong j s)) = None
+arrival_read (Ok (datagrams.Install k j s)) = None
+arrival_read (Ok (datagrams.Installed k j s)) = None
+arrival_read (Ok (datagrams.Ping k j s)) = None
+arrival_read (Ok (datagrams.Pong k j s)) = None
 arrival_read (Err e) = None
 
 abbrev pub arrival_given : Option Given → Option messages.Arrival
@@ -205,10 +205,11 @@ step_sequencer w i (Some p) b =
     let r : Seated SequencerState × List Out = seat_of sequencer.next p b (input_of w.sent b) in
     gave w (actors.Sequencer i) r.1 (record w { sequencers = slice_set w.sequencers i r.0 })
 
-abbrev pub step_controller : WholeWorld → Brings → WholeWorld
-step_controller w b =
-    let r : Seated ControllerState × List Out = seat_of controller.next w.controller b (input_of w.sent b) in
-    gave w actors.Controller r.1 (record w { controller = r.0 })
+abbrev pub step_controller : WholeWorld → ℕ → Option (Seated ControllerState) → Brings → WholeWorld
+step_controller w i None b = w
+step_controller w i (Some p) b =
+    let r : Seated ControllerState × List Out = seat_of controller.next p b (input_of w.sent b) in
+    gave w (actors.Controller i) r.1 (record w { controllers = slice_set w.controllers i r.0 })
 
 -- ---- a replica's step, and one event
 
@@ -252,7 +253,7 @@ module _ {S : Type 0} (m : Meaning S) where
   whole_step w (actors.Replica i) b = step_replica w i (slice_get w.replicas i) b
   whole_step w (actors.Sequencer i) b = step_sequencer w i (slice_get w.sequencers i) b
   whole_step w (actors.Client i) b = step_client w i (slice_get w.clients i) b
-  whole_step w actors.Controller b = step_controller w b
+  whole_step w (actors.Controller i) b = step_controller w i (slice_get w.controllers i) b
 
   abbrev pub whole_run : WholeWorld → List (Actor × Brings) → WholeWorld
   whole_run w [] = w
@@ -268,7 +269,7 @@ opening c =
       replicas = counted (opening_replica c) c.replicas;
       sequencers = counted sequencer.opening c.sequencers;
       clients = counted (opening_client c) c.clients;
-      controller = seated (controller.opening c 1);
+      controllers = counted (controller.opening c) c.controllers;
       sent = [];
       letters = [];
       lines = [];

@@ -66,9 +66,9 @@ module _ (w : WorldState) (did : Did) (silent : IsSilent did) where
   client_idles i p found = stays (record w { clients = slice_set w.clients i p }) (actors.Client i)
       (ap (λ (ps : List (Seated ClientState)). record w { clients = ps }) (slice_set-found w.clients i p found))
 
-  controller_idles : (p : Seated ControllerState) → w.controller ≡ p → (at_controller w (p, did)).world ≡ w
-  controller_idles p same = stays (record w { controller = p }) actors.Controller
-      (ap (λ (q : Seated ControllerState). record w { controller = q }) (sym same))
+  controller_idles : (i : ℕ) (p : Seated ControllerState) → slice_get w.controllers i ≡ Some p → (at_controller w i (p, did)).world ≡ w
+  controller_idles i p found = stays (record w { controllers = slice_set w.controllers i p }) (actors.Controller i)
+      (ap (λ (ps : List (Seated ControllerState)). record w { controllers = ps }) (slice_set-found w.controllers i p found))
 
 -- ---- a crashed actor
 
@@ -96,10 +96,9 @@ crashed_rests m w (actors.Sequencer i) what h c e =
 crashed_rests m w (actors.Client i) what h c e =
     let r = rests client.next (at_client w i) (slice_get w.clients i) what h c e in
     dead w _ (actors.Client i) h r.is (client_idles w Nothing nothing_is_silent i r.seat r.found)
-crashed_rests m w actors.Controller what h c e =
-    let r = rests controller.next (at_controller w) (Some w.controller) what h c e in
-    let same : w.controller ≡ r.seat = cc in
-    dead w _ actors.Controller h r.is (controller_idles w Nothing nothing_is_silent r.seat same)
+crashed_rests m w (actors.Controller i) what h c e =
+    let r = rests controller.next (at_controller w i) (slice_get w.controllers i) what h c e in
+    dead w _ (actors.Controller i) h r.is (controller_idles w Nothing nothing_is_silent i r.seat r.found)
 
 pub crashed_takes_no_step : {S : Type 0} (m : Meaning S) (w : WorldState) (e : Event) (h : Happened) → has_crashed w (actor_of e) ≡ true
     → step m w e ≡ Ok h → h ≡ record { world = w; lines = Dead (actor_of e) ∷ [] }
@@ -165,10 +164,9 @@ junk_stays m w (actors.Sequencer i) bytes h e =
 junk_stays m w (actors.Client i) bytes h e =
     let r = ignores client.next (at_client w i) (slice_get w.clients i) bytes (reading bytes) h (client_ignores bytes) e in
     world_stays w h _ r.2.is (client_idles w r.0 r.1 i r.2.seat r.2.found)
-junk_stays m w actors.Controller bytes h e =
-    let r = ignores controller.next (at_controller w) (Some w.controller) bytes (reading bytes) h (controller_ignores bytes) e in
-    let same : w.controller ≡ r.2.seat = cc in
-    world_stays w h _ r.2.is (controller_idles w r.0 r.1 r.2.seat same)
+junk_stays m w (actors.Controller i) bytes h e =
+    let r = ignores controller.next (at_controller w i) (slice_get w.controllers i) bytes (reading bytes) h (controller_ignores bytes) e in
+    world_stays w h _ r.2.is (controller_idles w r.0 r.1 i r.2.seat r.2.found)
 
 pub junk_changes_nothing : {S : Type 0} (m : Meaning S) (w : WorldState) (actor : Actor) (bytes : List ℕ) (h : Happened)
     → step m w (Junk actor bytes) ≡ Ok h → h.world ≡ w

@@ -1,9 +1,8 @@
 -- Actors that are made one after the other.
-use Rattle.std.proofs.Common.{◌≡◌, ℕ, ◌+◌, List, [], ◌∷◌, ◌++◌, false, sym, ap, ◌∙◌, add-one}
+use Rattle.std.proofs.Common.{◌≡◌, ℕ, ◌+◌, List, [], ◌∷◌, ◌++◌, sym, ap, ◌∙◌, add-one}
 use Rattle.std.specs.Prelude.{map}
 use Rattle.std.proofs.lemmas.List.{map-append}
 use Rattle.nop_types.specs.Configuration.{Configuration}
-use Rattle.nop_types.specs.Machine.{Machine}
 use Rattle.nop_types.specs.declared.request.Entry.{Entry}
 use Rattle.client_quorum.specs.declared.state.ClientState.{ClientState}
 use Rattle.replica_core.specs.ReplicaSteps as replica
@@ -29,17 +28,17 @@ counted_more {C} {S} state make n old new made so_far pushed opens =
 
 -- all actors in their opening states, and nothing sent or archived
 pub world_opens : (config : Configuration) (rs : List (Seated Replica)) (ss : List (Seated SequencerState)) (cs : List (Seated ClientState))
-    (k : Seat (Machine ControllerState)) (sent : List Sent) (archive : List Entry)
+    (ks : List (Seated ControllerState)) (sent : List Sent) (archive : List Entry)
     → rs ≡ counted (replica.opening config) config.replicas → ss ≡ counted sequencer.opening config.sequencers
     → cs ≡ counted (opening_client config) config.clients
-    → k ≡ record { core = record { failed = false; state = controller.opening config 1 }; crashed = false } → sent ≡ [] → archive ≡ []
+    → ks ≡ counted (controller.opening config) config.controllers → sent ≡ [] → archive ≡ []
     → (let w : WorldState = record {
       config = config;
       replicas = rs;
       sequencers = ss;
       clients = cs;
-      controller = seated_of (λ c. c.state) k;
+      controllers = ks;
       sent = sent;
       archive = archive;
     } in w) ≡ opening config
-world_opens config rs ss cs k sent archive a b c d e f = cc
+world_opens config rs ss cs ks sent archive a b c d e f = cc

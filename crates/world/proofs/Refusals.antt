@@ -61,7 +61,8 @@ actor_refusal m w (actors.Sequencer i) what h =
     then_refusal (at_sequencer w i) _ ∙ at_refusal sequencer.next w.sequencers i w.config.sequencers what h.sequencers
 actor_refusal m w (actors.Client i) what h =
     then_refusal (at_client w i) _ ∙ at_refusal client.next w.clients i w.config.clients what h.clients
-actor_refusal m w actors.Controller what h = then_refusal (at_controller w) _ ∙ with_refusal controller.next w.controller what
+actor_refusal m w (actors.Controller i) what h =
+    then_refusal (at_controller w i) _ ∙ at_refusal controller.next w.controllers i w.config.controllers what h.controllers
 
 -- ---- what the event brings
 
@@ -94,7 +95,7 @@ unfolding stimulus_of
 input_refusal w (events.Submit number op) = refl
 input_refusal w (events.Deliver index actor) = datagram_refusal w.sent index
 input_refusal w (events.Tick actor tick) = tick_refusal _ tick
-input_refusal w (events.Install number) = tick_refusal (nat_lt number w.config.sequencers) (ticks.Install number)
+input_refusal w (events.Install controller sequencer) = tick_refusal (nat_lt sequencer w.config.sequencers) (ticks.Install sequencer)
 input_refusal w (events.Crash actor) = refl
 input_refusal w (events.Junk actor bytes) = junk_refusal bytes (reading bytes)
 
@@ -122,6 +123,7 @@ opening_has_actors c = record {
   replicas = length-counted (replica.opening c) c.replicas;
   sequencers = length-counted sequencer.opening c.sequencers;
   clients = length-counted (opening_client c) c.clients;
+  controllers = length-counted (controller.opening c) c.controllers;
 }
 
 then_has_actors : {S : Type 0} (f : Seated S × Did → Happened) (r : Result (Seated S × Did) Refusal) (h : Happened)
@@ -132,13 +134,33 @@ then_has_actors f (Err refusal) h all e = absurd cc
 step_of_has_actors : {S : Type 0} (m : Meaning S) (w : WorldState) (actor : Actor) (what : Result Stimulus Refusal) (h : Happened)
     → HasActors w → step_of m w actor what ≡ Ok h → HasActors h.world
 step_of_has_actors m w (actors.Replica i) what h has e = then_has_actors (at_replica w i) _ h
-    (λ p. record { replicas = length-set w.replicas i p.0 ∙ has.replicas; sequencers = has.sequencers; clients = has.clients }) e
+    (λ p. record {
+      replicas = length-set w.replicas i p.0 ∙ has.replicas;
+      sequencers = has.sequencers;
+      clients = has.clients;
+      controllers = has.controllers;
+    }) e
 step_of_has_actors m w (actors.Sequencer i) what h has e = then_has_actors (at_sequencer w i) _ h
-    (λ p. record { replicas = has.replicas; sequencers = length-set w.sequencers i p.0 ∙ has.sequencers; clients = has.clients }) e
+    (λ p. record {
+      replicas = has.replicas;
+      sequencers = length-set w.sequencers i p.0 ∙ has.sequencers;
+      clients = has.clients;
+      controllers = has.controllers;
+    }) e
 step_of_has_actors m w (actors.Client i) what h has e = then_has_actors (at_client w i) _ h
-    (λ p. record { replicas = has.replicas; sequencers = has.sequencers; clients = length-set w.clients i p.0 ∙ has.clients }) e
-step_of_has_actors m w actors.Controller what h has e = then_has_actors (at_controller w) _ h
-    (λ p. record { replicas = has.replicas; sequencers = has.sequencers; clients = has.clients }) e
+    (λ p. record {
+      replicas = has.replicas;
+      sequencers = has.sequencers;
+      clients = length-set w.clients i p.0 ∙ has.clients;
+      controllers = has.controllers;
+    }) e
+step_of_has_actors m w (actors.Controller i) what h has e = then_has_actors (at_controller w i) _ h
+    (λ p. record {
+      replicas = has.replicas;
+      sequencers = has.sequencers;
+      clients = has.clients;
+      controllers = length-set w.controllers i p.0 ∙ has.controllers;
+    }) e
 
 pub step_has_actors : {S : Type 0} (m : Meaning S) (w : WorldState) (e : Event) (h : Happened) → HasActors w → step m w e ≡ Ok h
     → HasActors h.world

@@ -18,7 +18,7 @@ world_of a =
       replicas = map (seated_of (λ r. r.state)) a.replicas.items;
       sequencers = map (seated_of (λ s. s.state)) a.sequencers.items;
       clients = map (seated_of (λ c. c.state)) a.clients.items;
-      controller = seated_of (λ c. c.state) a.controller;
+      controllers = map (seated_of (λ c. c.state)) a.controllers.items;
       sent = a.network;
       archive = a.archive;
     }
@@ -28,7 +28,7 @@ abbrev pub moved_out : Actor → Did → WorldState → WorldState
 moved_out (actors.Replica i) did w = record w { archive = archived w.archive did }
 moved_out (actors.Sequencer i) did w = w
 moved_out (actors.Client i) did w = w
-moved_out actors.Controller did w = w
+moved_out (actors.Controller i) did w = w
 
 -- the event happened: this is the world after it, and the lines are these
 pub record Happens (r : Result Happened Refusal) (new : WorldState) (lines : Lines) : Type 0 where

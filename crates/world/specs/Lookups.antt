@@ -20,7 +20,7 @@ abbrev pub timers_of : WorldState → Actor → List (Tick × ℕ)
 timers_of w (actors.Replica i) = timers_if (slice_get w.replicas i) replica.timers
 timers_of w (actors.Sequencer i) = timers_if (slice_get w.sequencers i) []
 timers_of w (actors.Client i) = timers_if (slice_get w.clients i) client.timers
-timers_of w actors.Controller = controller.timers
+timers_of w (actors.Controller i) = timers_if (slice_get w.controllers i) controller.timers
 
 abbrev pub takes_if : Option (Seated ClientState) → Bool
 takes_if None = false

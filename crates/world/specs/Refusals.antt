@@ -16,19 +16,20 @@ pub record HasActors (w : WorldState) : Type 0 where
   pub replicas : length w.replicas ≡ w.config.replicas
   pub sequencers : length w.sequencers ≡ w.config.sequencers
   pub clients : length w.clients ≡ w.config.clients
+  pub controllers : length w.controllers ≡ w.config.controllers
 
 abbrev pub is_actor : Configuration → Actor → Bool
 is_actor c (actors.Replica i) = nat_lt i c.replicas
 is_actor c (actors.Sequencer i) = nat_lt i c.sequencers
 is_actor c (actors.Client i) = nat_lt i c.clients
-is_actor c actors.Controller = true
+is_actor c (actors.Controller i) = nat_lt i c.controllers
 
 -- whether the actor of an event has such an input
 abbrev pub has_input : Configuration → Event → Bool
 has_input c (events.Submit number op) = true
 has_input c (events.Deliver index actor) = true
 has_input c (events.Tick actor tick) = takes_tick actor tick
-has_input c (events.Install number) = nat_lt number c.sequencers
+has_input c (events.Install controller sequencer) = nat_lt sequencer c.sequencers
 has_input c (events.Crash actor) = true
 has_input c (events.Junk actor bytes) = true
 
@@ -42,7 +43,7 @@ later_cause w (events.Submit number op) = None
 later_cause w (events.Deliver index actor) =
     if nat_lt index (length w.sent) then None else Some (NoSuchDatagram index (length w.sent))
 later_cause w (events.Tick actor tick) = None
-later_cause w (events.Install number) = None
+later_cause w (events.Install controller sequencer) = None
 later_cause w (events.Crash actor) = None
 later_cause w (events.Junk actor bytes) = forged_if (reading bytes)
 

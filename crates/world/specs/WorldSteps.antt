@@ -39,7 +39,7 @@ pub record WorldState : Type 0 where
   pub replicas : List (Seated Replica)
   pub sequencers : List (Seated SequencerState)
   pub clients : List (Seated ClientState)
-  pub controller : Seated ControllerState
+  pub controllers : List (Seated ControllerState)
   pub sent : List Sent
   -- the synchronised entries that moved out of logs, from slot 1 on
   pub archive : List Entry
@@ -61,7 +61,7 @@ abbrev pub actor_of : Event → Actor
 actor_of (events.Submit client op) = actors.Client client
 actor_of (events.Deliver index actor) = actor
 actor_of (events.Tick actor tick) = actor
-actor_of (events.Install number) = actors.Controller
+actor_of (events.Install controller sequencer) = actors.Controller controller
 actor_of (events.Crash actor) = actor
 actor_of (events.Junk actor bytes) = actor
 
@@ -84,7 +84,7 @@ unfoldable pub stimulus_of : Configuration → List Sent → Event → Result St
 stimulus_of c sent (events.Submit number op) = Ok (Takes (Submit op))
 stimulus_of c sent (events.Deliver index actor) = datagram_at index (length sent) (slice_get sent index)
 stimulus_of c sent (events.Tick actor tick) = tick_if (takes_tick actor tick) tick
-stimulus_of c sent (events.Install number) = tick_if (nat_lt number c.sequencers) (ticks.Install number)
+stimulus_of c sent (events.Install controller sequencer) = tick_if (nat_lt sequencer c.sequencers) (ticks.Install sequencer)
 stimulus_of c sent (events.Crash actor) = Ok Crashes
 stimulus_of c sent (events.Junk actor bytes) = junk_of bytes (reading bytes)
 
@@ -104,8 +104,8 @@ at_sequencer w i p = carried w (actors.Sequencer i) p.1 (record w { sequencers =
 abbrev pub at_client : WorldState → ℕ → Seated ClientState × Did → Happened
 at_client w i p = carried w (actors.Client i) p.1 (record w { clients = slice_set w.clients i p.0 })
 
-abbrev pub at_controller : WorldState → Seated ControllerState × Did → Happened
-at_controller w p = carried w actors.Controller p.1 (record w { controller = p.0 })
+abbrev pub at_controller : WorldState → ℕ → Seated ControllerState × Did → Happened
+at_controller w i p = carried w (actors.Controller i) p.1 (record w { controllers = slice_set w.controllers i p.0 })
 
 -- what an actor's step makes of the world, unless the event is refused
 abbrev pub then_at : {S : Type 0} → (Seated S × Did → Happened) → Result (Seated S × Did) Refusal → Result Happened Refusal
@@ -130,7 +130,7 @@ module _ {S : Type 0} (m : Meaning S) where
   step_of w (actors.Replica i) what = then_at (at_replica w i) (step_at (replica.next m) (slice_get w.replicas i) what)
   step_of w (actors.Sequencer i) what = then_at (at_sequencer w i) (step_at sequencer.next (slice_get w.sequencers i) what)
   step_of w (actors.Client i) what = then_at (at_client w i) (step_at client.next (slice_get w.clients i) what)
-  step_of w actors.Controller what = then_at (at_controller w) (step_at controller.next (Some w.controller) what)
+  step_of w (actors.Controller i) what = then_at (at_controller w i) (step_at controller.next (slice_get w.controllers i) what)
 
   -- one event is one step of one actor, unless it is refused
   unfoldable pub step : WorldState → Event → Result Happened Refusal
@@ -162,7 +162,7 @@ opening c =
       replicas = counted (replica.opening c) c.replicas;
       sequencers = counted sequencer.opening c.sequencers;
       clients = counted (opening_client c) c.clients;
-      controller = seated (controller.opening c 1);
+      controllers = counted (controller.opening c) c.controllers;
       sent = [];
       archive = [];
     }
@@ -212,4 +212,4 @@ abbrev pub has_crashed : WorldState → Actor → Bool
 has_crashed w (actors.Replica i) = crashed_in (slice_get w.replicas i)
 has_crashed w (actors.Sequencer i) = crashed_in (slice_get w.sequencers i)
 has_crashed w (actors.Client i) = crashed_in (slice_get w.clients i)
-has_crashed w actors.Controller = w.controller.crashed
+has_crashed w (actors.Controller i) = crashed_in (slice_get w.controllers i)

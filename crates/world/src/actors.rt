@@ -1,6 +1,7 @@
 ghost use Rattle.std.specs.Prelude.{◌≡◌, [], IfOk, IfErr, Ok, length, map};
 ghost use Rattle.replica_core.specs.ReplicaSteps as replica;
 ghost use Rattle.sequencer.specs.SequencerSteps as sequencer;
+ghost use Rattle.session_control.specs.ControllerSteps as controller;
 ghost use Rattle.world.specs.Actors.{world_of, moved_out, Happens};
 ghost use Rattle.network.specs.Network.{did_of};
 ghost use Rattle.world.specs.SeatOutcomes.{seated_of, Refuses};
@@ -35,7 +36,7 @@ pub struct Actors<H: Host> {
     pub replicas: Vec<Seat<Replica<H>>>,
     pub sequencers: Vec<Seat<Sequencer>>,
     pub clients: Vec<Seat<Client>>,
-    pub controller: Seat<Controller>,
+    pub controllers: Vec<Seat<Controller>>,
     pub network: Network,
     pub archive: Archive,
 }
@@ -76,6 +77,17 @@ fn clients(alloc: Global, config: Config) -> Result<Vec<Seat<Client>>, NoMemory>
     Ok(seats)
 }
 
+fn controllers(alloc: Global, config: Config) -> Result<Vec<Seat<Controller>>, NoMemory>
+    ensures { IfOk result (λ v. map (seated_of (λ c. c.state)) v.items
+        ≡ counted (controller.opening config) config.controllers) }
+{
+    let mut seats = Vec::new(alloc);
+    for number in 0..config.controllers() {
+        seats.push(Seat::new(Controller::new(alloc, config, number)?))?;
+    }
+    Ok(seats)
+}
+
 impl<H: Host> Actors<H> {
     /// All actors in their opening states, around a network in which nothing is sent yet.
     pub fn new(alloc: Global, config: Config, network: Network) -> Result<Actors<H>, NoMemory>
@@ -88,7 +100,7 @@ impl<H: Host> Actors<H> {
             replicas: replicas(alloc, config)?,
             sequencers: sequencers(alloc, config)?,
             clients: clients(alloc, config)?,
-            controller: Seat::new(Controller::new(alloc, config, 1)?),
+            controllers: controllers(alloc, config)?,
             network,
             archive: Archive::new(alloc),
         })
@@ -139,7 +151,16 @@ impl<H: Host> Actors<H> {
             Actor::Client(i) => {
                 take_at(alloc, config, network, &mut self.clients, i as usize, event)
             }
-            Actor::Controller => self.controller.take(alloc, config, network, event),
+            Actor::Controller(i) => {
+                take_at(
+                    alloc,
+                    config,
+                    network,
+                    &mut self.controllers,
+                    i as usize,
+                    event,
+                )
+            }
         }
     }
 
@@ -170,7 +191,7 @@ impl<H: Host> Actors<H> {
             Actor::Replica(i) => is_crashed(&self.replicas, i as usize),
             Actor::Sequencer(i) => is_crashed(&self.sequencers, i as usize),
             Actor::Client(i) => is_crashed(&self.clients, i as usize),
-            Actor::Controller => self.controller.crashed,
+            Actor::Controller(i) => is_crashed(&self.controllers, i as usize),
         }
     }
 }

@@ -29,7 +29,7 @@ pub fn actor_of(event: &Event) -> Actor
 {
     match event {
         Event::Submit(client, _) => Actor::Client(*client),
-        Event::Install(_) => Actor::Controller,
+        Event::Install(controller, _) => Actor::Controller(*controller),
         Event::Deliver(_, actor)
         | Event::Tick(actor, _)
         | Event::Crash(actor)
@@ -89,7 +89,9 @@ pub fn stimulus_of<'a>(
         Event::Submit(_, op) => Ok(Stimulus::Input(Input::Submit(op))),
         Event::Deliver(index, _) => datagram_at(network, *index),
         Event::Tick(actor, tick) => tick_if(takes_tick(*actor, *tick), *tick),
-        Event::Install(number) => tick_if(*number < config.sequencers(), Tick::Install(*number)),
+        Event::Install(_, sequencer) => {
+            tick_if(*sequencer < config.sequencers(), Tick::Install(*sequencer))
+        }
         Event::Crash(_) => Ok(Stimulus::Crash),
         Event::Junk(_, bytes) => junk(alloc, bytes.as_slice()),
     }

@@ -11,7 +11,7 @@ use world::{StepError, World};
 /// Events that need memory, though none to be written down.
 fn event(number: u32) -> Event {
     match number {
-        0 => Event::Install(0),
+        0 => Event::Install(0, 0),
         1 => Event::Deliver(0, Actor::Sequencer(0)),
         2 => Event::Tick(Actor::Replica(1), Tick::Suspect),
         3 => Event::Deliver(2, Actor::Replica(2)),
@@ -35,7 +35,7 @@ fn fails_for_good<H: Host>(rt: &impl Abort, world: &mut World<H>) -> bool {
 }
 
 fn opened<H: Host>(alloc: Global) -> Option<World<H>> {
-    let config = Config::new(3, 1, 1)?;
+    let config = Config::new(3, 1, 1, 1)?;
     World::new(alloc, config).ok()
 }
 

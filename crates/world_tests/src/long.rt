@@ -32,14 +32,14 @@ fn stampings(rt: &impl Abort, alloc: Global, lines: u32) -> Vec<u8> {
     text
 }
 
-/// What they send: a request of 18 bytes, and datagrams of 30 bytes.
+/// What they send: a request of 18 bytes, and datagrams of 34 bytes.
 fn stamped(rt: &impl Abort, alloc: Global, lines: u32) -> String {
     let mut text = String::new(alloc);
     let first =
         "transcript 1 replicas 1 sequencers 1 clients 1\nsubmit c0 1 -\nsend 0 c0 s* request 18\n";
     text.push_str(first).expect(rt, "memory");
     for index in 1..lines.saturating_sub(1) {
-        let line = format!(in alloc; "send {index} s0 r* stamped 30\n").expect(rt, "memory");
+        let line = format!(in alloc; "send {index} s0 r* stamped 34\n").expect(rt, "memory");
         text.push_str(&line).expect(rt, "memory");
     }
     text.push_str("replica r0 up normal 0 1 0 0\nend\n")
@@ -108,9 +108,9 @@ fn check_drawn(rt: &impl Abort, alloc: Global, number: u64, events_count: u32, t
 /// The summary as another program for the same protocol has it.
 const DRAWN: &str = "\
 gen 7 20000
-sends 6157 accepts 16
-view 47 83 length 99 noops 50
-history 19
+sends 5107 accepts 15
+view 40 88 length 77 noops 38
+history 17
 ";
 
 #[test]
@@ -125,5 +125,5 @@ fn the_most_drawn_events(rt: HostRuntime) {
         .ok()
         .expect(&rt, "memory");
     assert!(rt; drawn.len() == 100_000);
-    assert!(rt; matches!(drawn.last(), Some(Event::Deliver(40185, Actor::Client(2)))));
+    assert!(rt; matches!(drawn.last(), Some(Event::Deliver(37582, Actor::Replica(2)))));
 }

@@ -69,26 +69,26 @@ deliver 18 c1
 transcript 1 replicas 3 sequencers 1 clients 2
 submit c0 1 5000016b000176
 send 0 c0 s* request 25
-send 1 s0 r* stamped 37
-send 2 r0 c0 reply 36
-send 3 r2 c0 reply 32
+send 1 s0 r* stamped 41
+send 2 r0 c0 reply 40
+send 3 r2 c0 reply 36
 accept c0 1 6e6f6e65
-send 4 r0 r* fragment 57
-send 5 r2 r0 fragment 31
-send 6 r0 r* fragment 31
+send 4 r0 r* fragment 61
+send 5 r2 r0 fragment 35
+send 6 r0 r* fragment 35
 submit c1 1 4700016b
 send 7 c1 s* request 22
-send 8 s0 r* stamped 34
-send 9 r1 r0 fragment 31
-send 10 r0 r1 fragment 71
-send 11 r1 r0 fragment 31
-send 12 r1 c1 reply 32
-send 13 r2 r* fragment 27
-send 14 r2 r1 fragment 87
-send 15 r1 r* fragment 27
-send 16 r1 r* fragment 98
-send 17 r1 c1 reply 34
-send 18 r2 c1 reply 32
+send 8 s0 r* stamped 38
+send 9 r1 r0 fragment 35
+send 10 r0 r1 fragment 75
+send 11 r1 r0 fragment 35
+send 12 r1 c1 reply 36
+send 13 r2 r* fragment 31
+send 14 r2 r1 fragment 95
+send 15 r1 r* fragment 31
+send 16 r1 r* fragment 102
+send 17 r1 c1 reply 38
+send 18 r2 c1 reply 36
 accept c1 1 3d76
 replica r0 crashed normal 0 1 1 1
 entry r0 1 c0 1 5000016b000176

@@ -1,5 +1,5 @@
 use kv_host::KvHost;
-use nop_types::{Actor, Config, Entry, Host};
+use nop_types::{Actor, Config, Dest, Entry, Host};
 use outside::ReadMem;
 use safety::run_events;
 use schedule_text::{Event, Reader};
@@ -28,14 +28,14 @@ deliver 8 r2
 
 /// The datagrams of it, in their order.
 const SENT: &str = "\
-4e4f0201 00000000 0000000000000001 0007 5000016b000176
-4e4f0202 00000001 0000000000000001 00000000 0000000000000001 0007 5000016b000176
-4e4f0203 01 00000000 00000001 00000001 00000000 0000000000000001 00 0000
-4e4f0203 00 00000000 00000001 00000001 00000000 0000000000000001 01 0004 6e6f6e65
-4e4f0203 02 00000000 00000001 00000001 00000000 0000000000000001 00 0000
-4e4f0208 00 0000000000000001 0000 0001 17 00 00000000 00000001 00000000 00000001 01 00000000 0000000000000001 0007 5000016b000176
-4e4f0208 01 0000000000000001 0000 0001 18 01 00000000 00000001 00000001
-4e4f0208 00 0000000000000002 0000 0001 19 00 00000000 00000001 00000001";
+4e4f0301 00000000 0000000000000001 0007 5000016b000176
+4e4f0302 0000000000000001 0000000000000001 00000000 0000000000000001 0007 5000016b000176
+4e4f0303 01 00000000 0000000000000001 00000001 00000000 0000000000000001 00 0000
+4e4f0303 00 00000000 0000000000000001 00000001 00000000 0000000000000001 01 0004 6e6f6e65
+4e4f0303 02 00000000 0000000000000001 00000001 00000000 0000000000000001 00 0000
+4e4f0308 00 0000000000000001 0000 0001 17 00 00000000 0000000000000001 00000000 00000001 01 00000000 0000000000000001 0007 5000016b000176
+4e4f0308 01 0000000000000001 0000 0001 18 01 00000000 0000000000000001 00000001
+4e4f0308 00 0000000000000002 0000 0001 19 00 00000000 0000000000000001 00000001";
 
 /// The lines of the replicas at the end.
 const REPLICAS: &str = "\
@@ -107,13 +107,18 @@ fn check_slots<H: Host>(rt: &impl Abort, world: &World<H>) {
     assert!(rt; log.synchronised.len() == 1 && log.kept.is_empty());
 }
 
-fn check_world<H: Host>(rt: &impl Abort, alloc: Global, world: &World<H>) {
+/// These datagrams were sent, and no other.
+fn check_all_sent<H: Host>(rt: &impl Abort, alloc: Global, world: &World<H>, rows: &str) {
     let mut index = 0u64;
-    for row in SENT.lines() {
+    for row in rows.lines() {
         check_sent(rt, alloc, world, index, row);
         index = index.saturating_add(1);
     }
     assert!(rt; world.sent_count() == index && index == 8);
+}
+
+fn check_world<H: Host>(rt: &impl Abort, alloc: Global, world: &World<H>) {
+    check_all_sent(rt, alloc, world, SENT);
     assert!(rt; world.crashed(Actor::Replica(2)) && !world.crashed(Actor::Replica(1)));
     check_slots(rt, world);
     let mut lines = Vec::new(alloc);
@@ -136,7 +141,42 @@ fn check_events<H: Host>(rt: &impl Abort, alloc: Global, config: Config, events:
 
 #[test]
 fn a_put_over_three_replicas(rt: HostRuntime) {
-    let config = Config::new(3, 1, 1).expect(&rt, "a group");
+    let config = Config::new(3, 1, 1, 1).expect(&rt, "a group");
     let events = events_of(&rt, rt.alloc(), ONE_PUT);
     check_events::<KvHost>(&rt, rt.alloc(), config, &events);
+}
+
+/// Two controllers move to one sequencer. Controller 0 is told the greater session of the other one, and goes on in an epoch above it.
+const TWO_CONTROLLERS: &str = "\
+nopaxos 2 replicas 3 sequencers 2 clients 1 controllers 2
+install s1 ctl1
+install s1
+deliver 0 s1
+deliver 1 s1
+deliver 3 ctl
+install s1 ctl
+deliver 4 s1
+submit c0 5000016b000176
+deliver 6 s1
+";
+
+const SENT_BY_THEM: &str = "\
+4e4f0304 01 01 0000000100000001
+4e4f0304 00 01 0000000000000002
+4e4f0305 01 01 0000000100000001
+4e4f0305 00 01 0000000100000001
+4e4f0304 00 01 0000000400000001
+4e4f0305 00 01 0000000400000001
+4e4f0301 00000000 0000000000000001 0007 5000016b000176
+4e4f0302 0000000400000001 0000000000000001 00000000 0000000000000001 0007 5000016b000176";
+
+#[test]
+fn two_controllers(rt: HostRuntime) {
+    let config = Config::new(3, 2, 1, 2).expect(&rt, "a group");
+    let events = events_of(&rt, rt.alloc(), TWO_CONTROLLERS);
+    let world: Result<World<KvHost>, StepError> = run_events(rt.alloc(), config, &events);
+    let world = world.ok().expect(&rt, "refused");
+    check_all_sent(&rt, rt.alloc(), &world, SENT_BY_THEM);
+    assert!(rt; world.sent_to(2) == Some(Dest::One(Actor::Controller(1))));
+    assert!(rt; world.sent_to(3) == Some(Dest::One(Actor::Controller(0))));
 }

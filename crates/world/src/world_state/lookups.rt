@@ -26,7 +26,7 @@ impl<H: Host> World<H> {
             Actor::Replica(number) => timer_at(&self.actors.replicas, number as usize, i),
             Actor::Sequencer(number) => timer_at(&self.actors.sequencers, number as usize, i),
             Actor::Client(number) => timer_at(&self.actors.clients, number as usize, i),
-            Actor::Controller => self.actors.controller.core.timer(i),
+            Actor::Controller(number) => timer_at(&self.actors.controllers, number as usize, i),
         }
     }
 

@@ -56,8 +56,8 @@ returns-clause-write g c = λ is. absurd (never_written c.in-Err.e c.error_of.re
 pub detach_all-requires : goal.detach_all-requires
 detach_all-requires g c = c.run_turns-ran.ensures.room
 
-pub write_run-requires : goal.write_run-requires
-write_run-requires g c = c.in-Ok-ran.ensures.runs.led.spelled
+pub write_run-requires-clause-lines : goal.write_run-requires-clause-lines
+write_run-requires-clause-lines g c = c.in-Ok-ran.ensures.runs.led.spelled
 
 pub returns-in-Ok-ran-clause-back : goal.returns-in-Ok-ran-clause-back
 returns-in-Ok-ran-clause-back g c =

@@ -1,8 +1,9 @@
-use Rattle.std.proofs.Common.{◌≡◌, ◌≤◌, refl, ◌∙◌, ap, rules}
+use Rattle.std.proofs.Common.{◌≡◌, ◌≤◌, ℕ, List, refl, ◌∙◌, ap, rules}
 use Rattle.std.specs.Prelude.{IsSome}
 use Rattle.std.proofs.lemmas.Result.{err_from_is_err_and}
 use Rattle.nop_types.specs.declared.limits.TheConstants.{MAX_LINES}
-use Rattle.schedule_text.specs.Reading.{Reading}
+use Rattle.nop_types.specs.declared.header.Header.{Header}
+use Rattle.schedule_text.specs.Reading.{Reading, form_of}
 use Rattle.transcript_text.specs.Transcript.{transcript_line}
 use Rattle.replay.specs.Progress.{begins, GoesOn}
 use Rattle.nop_types.specs.Checkpoints.{KeepsTo}
@@ -19,7 +20,7 @@ returns-in-Err-clause-ends g c =
     let left = g.S.Source.left in
     let held = g.K.Sink.held in
     let takes = rw c.new-reader.ensures at c.in-Err.ensures.takes in
-    let closed = c.in-Err.ensures.closed ∙ ap (λ (r : Reading). r.config) c.new-reader.ensures in
+    let closed = c.in-Err.ensures.closed ∙ ap (λ (r : Reading). r.header) c.new-reader.ensures in
     let stops = rw c.new-pending.ensures.items at c.stop.ensures.stops in
     unopened m (left c.args.source.now) (left c.open.new.source) (held c.args.sink.now) (held c.stop.new.sink) c.open.new.reader c.in-Err.e
     c.stop.result takes closed c.in-Err.ensures.none_left stops
@@ -37,20 +38,21 @@ take_events-requires g c =
     let m = g.H.Host.meaning in
     let left = g.S.Source.left in
     let held = g.K.Sink.held in
-    let config = c.in-Ok.config in
+    let header : Header = record { form = form_of c.open.new.reader.header; config = c.in-Ok.config } in
     let is : g.start ≡ begins (left c.args.source.now) (held c.args.sink.now) = search (rules, c.requires) in
     let takes = rw c.new-reader.ensures at c.in-Ok.ensures.takes in
-    let text : c.begin.new.pending.items ≡ transcript_line config =
-    text_first _ _ (transcript_line config) c.new-pending.ensures.items c.in_ok-world.ensures.line in
+    let line : List ℕ = transcript_line header.form header.config in
+    let text : c.begin.new.pending.items ≡ line =
+    text_first _ _ line c.new-pending.ensures.items (rw (← c.form.ensures) c.in_ok-world.ensures.line) in
     let going : GoesOn m g.start (left c.open.new.source) (held c.args.sink.now) c.begin.new.pending.items c.open.new.reader
     c.in_ok-world.world.state =
     rw (is, text, c.in_ok-world.ensures.world)
     (record {
-      config = config;
+      header = header;
       going = opened m (left c.args.source.now) (left c.open.new.source) (held c.args.sink.now)
-          c.open.new.reader config takes c.in-Ok.ensures.config;
+          c.open.new.reader header takes c.in-Ok.ensures.config;
     }) in
-    let some : IsSome c.open.new.reader.config = rw c.in-Ok.ensures.config refl in
+    let some : IsSome c.open.new.reader.header = rw c.in-Ok.ensures.config refl in
     let first : 1 ≤ c.open.new.reader.line = counts_from_one _ c.in-Ok.ensures.line.0 in
     let last : c.open.new.reader.line ≤ MAX_LINES = c.in-Ok.ensures.line.1 in
     search (rules, going, some, first, last)

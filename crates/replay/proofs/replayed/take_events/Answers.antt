@@ -29,15 +29,15 @@ loop-turn-preserved g c =
     c.in_ok-write_decided.ensures.gathers in
     record {
       going = record {
-        config = going.config;
+        header = going.header;
         going = advanced m g.start.bytes (left c.loop-turn.source) (left c.next_event.new.source) g.start.held
             (held c.write_decided.new.sink) (held c.take_event.new.sink)
-            c.write_decided.new.pending.items c.take_event.new.pending.items c.loop-turn.reader c.next_event.new.reader going.config
+            c.write_decided.new.pending.items c.take_event.new.pending.items c.loop-turn.reader c.next_event.new.reader going.header
             c.loop-turn.world.state c.take_event.new.world.state c.in-Ok-Some.event
             going.going (rw c.in-Ok-Some.field-0-is at c.in-Ok-Some.ensures.takes)
             c.in_ok-take_event-in-Ok-Some.ensures.takes;
       };
-      opened = rw (c.in-Ok-Some.ensures.config kept.opened) kept.opened;
+      opened = rw (c.in-Ok-Some.ensures.header kept.opened) kept.opened;
       lines = let one = (rw c.in-Ok-Some.field-0-is at c.in-Ok-Some.ensures.line) kept.opened in omega (arith, one, kept.lines);
       most = rw (← c.line.ensures.value) c.line.ensures.most;
       read = omega (arith, kept.read, c.in-Ok-Some.ensures.cause.later);
@@ -69,7 +69,7 @@ returns-in_err-take_event-in-Ok-Some-clause-ends g c =
     rw (p.1, p.2)
     (refused_event m g.start.bytes (left c.loop-turn.source) (left c.next_event.new.source) g.start.held
     (held c.write_decided.new.sink) (held c.take_event.new.sink)
-    c.write_decided.new.pending.items c.loop-turn.reader c.next_event.new.reader going.config c.loop-turn.world.state c.in-Ok-Some.event e.0
+    c.write_decided.new.pending.items c.loop-turn.reader c.next_event.new.reader going.header c.loop-turn.world.state c.in-Ok-Some.event e.0
     going.going (rw c.in-Ok-Some.field-0-is at c.in-Ok-Some.ensures.takes) refused)
 
 pub returns-in-Ok-None-clause-ends : goal.returns-in-Ok-None-clause-ends
@@ -83,7 +83,7 @@ returns-in-Ok-None-clause-ends g c =
     c.in_ok-write_decided.ensures.gathers in
     finished m g.start.bytes (left c.loop-turn.source) (left c.next_event.new.source) g.start.held (held c.write_decided.new.sink)
     (held c.finish.new.sink)
-    c.write_decided.new.pending.items c.loop-turn.reader c.next_event.new.reader going.config c.loop-turn.world.state c.finish.result
+    c.write_decided.new.pending.items c.loop-turn.reader c.next_event.new.reader going.header c.loop-turn.world.state c.finish.result
     going.going (rw c.in-Ok-None.field-0-is at c.in-Ok-None.ensures.takes) c.finish.ensures.writes
 
 pub returns-in-Err-clause-ends : goal.returns-in-Err-clause-ends
@@ -97,7 +97,7 @@ returns-in-Err-clause-ends g c =
     c.in_ok-write_decided.ensures.gathers in
     stopped m g.start.bytes (left c.loop-turn.source) (left c.next_event.new.source) g.start.held (held c.write_decided.new.sink)
     (held c.stop.new.sink)
-    c.write_decided.new.pending.items c.loop-turn.reader c.next_event.new.reader going.config c.loop-turn.world.state c.in-Err.e
+    c.write_decided.new.pending.items c.loop-turn.reader c.next_event.new.reader going.header c.loop-turn.world.state c.in-Err.e
     c.stop.result going.going c.in-Err.ensures.takes c.in-Err.ensures.none_left c.stop.ensures.stops
 
 pub returns-in_err-write_decided-clause-read : goal.returns-in_err-write_decided-clause-read

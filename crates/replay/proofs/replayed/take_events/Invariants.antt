@@ -11,7 +11,7 @@ abbrev pub invariant-loop-turn : goal.invariant-loop-turn
 invariant-loop-turn g l =
     record {
       going : GoesOn g.H.Host.meaning g.start (g.S.Source.left l.source) (g.K.Sink.held l.sink) l.pending.items l.reader l.world.state;
-      opened : IsSome l.reader.config;
+      opened : IsSome l.reader.header;
       lines : l._turn < l.reader.line;
       most : l.reader.line ≤ MAX_LINES;
       read : g.S.Source.fault_count l.fn.source ≤ g.S.Source.fault_count l.source;

@@ -1,6 +1,7 @@
-use Rattle.std.proofs.Common.{◌≡◌, ◌∙◌, Some, None, Ok, Err}
+use Rattle.std.proofs.Common.{None, Ok, Err}
 use Rattle.std.proofs.lemmas.Result.{err_from_is_err_and}
 use Rattle.schedule_text.specs.declared.next_error.NextError.TheVariants.{NoMemory}
+use Rattle.schedule_text.specs.Reading.{opened, HasConfig}
 use Rattle.schedule_text.proofs.Takings.{reads, takes, takes_from, then_takes, then_answers}
 use Rattle.schedule_text.proofs.Turns.{no_event}
 use Rattle.schedule_text.proofs.reader.Reader.next.Goals as goal
@@ -46,10 +47,11 @@ returns-in-None-clause-takes g c =
     let reached = then_takes c.args.self.now c.open.new.self now (Err NoMemory) (left c.args.source.now) (left c.open.new.source)
     (left c.reach_line.new.source) opens c.in_ok-reach_line.ensures.takes in
     let at_end = rw c.in-None.is at c.in_ok-reach_line.ensures.first in
-    let has_config : now.config ≡ Some c.in_ok-config.config = c.in_ok-reach_line.ensures.config ∙ c.in_ok-config.ensures.config in
+    let same = c.in_ok-reach_line.ensures.header in
+    let opens_to : HasConfig now.header c.in_ok-config.config = rw same c.in_ok-config.ensures.config in
     (takes c.args.self.now now (left c.args.source.now) (left c.reach_line.new.source) (Ok None)
     (then_answers c.args.self.now now now (Ok None) (left c.args.source.now) (left c.reach_line.new.source) reached
-    (no_event now c.in_ok-config.config has_config at_end.0 at_end.1)))
+    (no_event now (opened now.header c.in_ok-config.config) opens_to at_end.0 at_end.1)))
 
 pub returns-in-None-clause-reads : goal.returns-in-None-clause-reads
 returns-in-None-clause-reads g c =
@@ -60,10 +62,11 @@ returns-in-None-clause-reads g c =
     let reached = then_takes c.args.self.now c.open.new.self now (Err NoMemory) (left c.args.source.now) (left c.open.new.source)
     (left c.reach_line.new.source) opens c.in_ok-reach_line.ensures.takes in
     let at_end = rw c.in-None.is at c.in_ok-reach_line.ensures.first in
-    let has_config : now.config ≡ Some c.in_ok-config.config = c.in_ok-reach_line.ensures.config ∙ c.in_ok-config.ensures.config in
+    let same = c.in_ok-reach_line.ensures.header in
+    let opens_to : HasConfig now.header c.in_ok-config.config = rw same c.in_ok-config.ensures.config in
     (reads c.args.self.now now (left c.args.source.now) (left c.reach_line.new.source) (Ok None)
     (then_answers c.args.self.now now now (Ok None) (left c.args.source.now) (left c.reach_line.new.source) reached
-    (no_event now c.in_ok-config.config has_config at_end.0 at_end.1)))
+    (no_event now (opened now.header c.in_ok-config.config) opens_to at_end.0 at_end.1)))
 
 pub returns-in-Some-clause-takes : goal.returns-in-Some-clause-takes
 returns-in-Some-clause-takes g c =

@@ -11,9 +11,9 @@ returns-clause-takes g c =
     let before = g.S.Source.left c.args.source.now in
     let left = g.S.Source.left c.next_line.new.source in
     rw (← c.self.view_is) (elim c.match-next_line.branch [
-      | in-Ok w ↦ rw w.result-is (reached inside.config inside.lines c.next_line.new.self before left c.next_line.ensures.takes)
-      | in-Err-ReadFault w ↦ rw w.result-is (failed inside.config inside.lines c.next_line.new.self before left c.next_line.ensures.takes)
-      | in-Err-NoMemory w ↦ rw w.result-is (reached inside.config inside.lines c.next_line.new.self before left c.next_line.ensures.takes)
+      | in-Ok w ↦ rw w.result-is (reached inside.header inside.lines c.next_line.new.self before left c.next_line.ensures.takes)
+      | in-Err-ReadFault w ↦ rw w.result-is (failed inside.header inside.lines c.next_line.new.self before left c.next_line.ensures.takes)
+      | in-Err-NoMemory w ↦ rw w.result-is (reached inside.header inside.lines c.next_line.new.self before left c.next_line.ensures.takes)
     ])
 
 pub returns-clause-none_left : goal.returns-clause-none_left
@@ -23,13 +23,13 @@ returns-clause-none_left g c =
       | in-Ok w ↦ rw w.result-is tt
       | in-Err-ReadFault w ↦
           let left = rw w.in-Err-ReadFault.field-0-is at w.in-Err-ReadFault.ensures.none_left in
-          rw w.result-is (left.0, none_before c.self.inside.config c.next_line.new.self limit left.1)
+          rw w.result-is (left.0, none_before c.self.inside.header c.next_line.new.self limit left.1)
       | in-Err-NoMemory w ↦ rw w.result-is tt
     ]
 
 pub returns-clause-unread : goal.returns-clause-unread
 returns-clause-unread g c =
     let inside = c.self.inside in
-    let needs = needs_no_read inside.config inside.lines c.self.invariant.limit in
+    let needs = needs_no_read inside.header inside.lines c.self.invariant.limit in
     rw (← c.self.view_is)
-    (λ none. let still = c.next_line.ensures.unread (needs.1 none) in (still.0, ap (reading inside.config) still.1))
+    (λ none. let still = c.next_line.ensures.unread (needs.1 none) in (still.0, ap (reading inside.header) still.1))

@@ -18,7 +18,7 @@ returns-in-None-clause-takes g c =
     let left = g.S.Source.left in
     let now = c.reach_line.new.self in
     let at_end = rw c.in-None.is at c.in_ok-reach_line.ensures.first in
-    let closed : now.config ≡ None = c.in_ok-reach_line.ensures.config ∙ c.requires in
+    let closed : now.header ≡ None = c.in_ok-reach_line.ensures.header ∙ c.requires in
     rw c.bad_line.ensures
     (then_answers c.args.self.now now now (Err (BadLine (now.line + 1) (rule_number WrongWord))) (left c.args.source.now)
     (left c.reach_line.new.source) c.in_ok-reach_line.ensures.takes (no_header now closed at_end.0 at_end.1))

@@ -15,3 +15,8 @@ pub returns-in-Client : goal.returns-in-Client
 returns-in-Client g c =
     rw c.in-Client.is (crashed_at (λ k. k.state) c.deref-in-Client.result.now c.args.self.now.clients.items c.in-Client.i
     c.is_crashed-in-Client.result c.deref-in-Client.ensures.value c.is_crashed-in-Client.ensures)
+
+pub returns-in-Controller : goal.returns-in-Controller
+returns-in-Controller g c =
+    rw c.in-Controller.is (crashed_at (λ k. k.state) c.deref-in-Controller.result.now c.args.self.now.controllers.items c.in-Controller.i
+    c.is_crashed-in-Controller.result c.deref-in-Controller.ensures.value c.is_crashed-in-Controller.ensures)

@@ -1,11 +1,10 @@
-use Rattle.std.proofs.Common.{ap, ◌∙◌}
 use Rattle.world.proofs.Opening.{world_opens}
 use Rattle.world.proofs.actors.Actors.new.Goals as goal
 
 pub returns-clause-opening : goal.returns-clause-opening
 returns-clause-opening g c =
     world_opens _ _ _ _ _ _ _ c.in_ok-replicas.ensures.seats c.in_ok-sequencers.ensures c.in_ok-clients.ensures
-    (c.new-2.ensures ∙ ap (λ k. record { core = k; crashed = _ }) c.in_ok-new.ensures) c.requires c.new-3.ensures
+    c.in_ok-controllers.ensures c.requires c.new.ensures
 
 pub returns-clause-count : goal.returns-clause-count
 returns-clause-count g c = c.in_ok-replicas.ensures.count
