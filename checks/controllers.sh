@@ -51,7 +51,8 @@ start ctl3 controller --id 3 --install 2
 answered 'after an order' 6
 # A controller of a smaller session than that of sequencer 2, which stays in its own, and tells it.
 start ctl2 controller --id 2 --install 2
-sleep 0.3
+# So long that it was told, also on a busy machine.
+sleep 1
 answered 'after an order that comes too late' 9
 kills s2 ctl3
 answered 'after sequencer 2' 12
