@@ -6,6 +6,7 @@ use nop_types::{Bytes, Config, MAX_DATAGRAM_BYTES, Op};
 use outside::{ClockMem, Failing, LinkMem, PollAnswer, PortsMem};
 use std::alloc::Global;
 use std::process::Abort;
+use udp_node::BasePort;
 
 /// What the leader replies to the request, and what a follower does.
 const LEADER: &str =
@@ -54,7 +55,7 @@ fn call(
     failing: &[u64],
 ) -> (Result<Bytes, CallError>, usize) {
     let service = Service {
-        base: 41000,
+        base: BasePort::new(41000).expect(rt, "a port"),
         config: Config::new(3, 1, 1, 1).expect(rt, "a group"),
     };
     let op = Op::new(alloc, b"put").expect(rt, "an op");

@@ -1,4 +1,4 @@
-ghost use Rattle.std.specs.Prelude.{◌≡◌, ◌≤◌, ◌+◌, length, option_map};
+ghost use Rattle.std.specs.Prelude.{◌≡◌, ◌+◌, length, option_map};
 ghost use Rattle.outside.specs.Ports.{next_link};
 ghost use Rattle.client_call.specs.Calls.{address_of, attaches_after, Answers, EndsOver, RanOver};
 
@@ -7,11 +7,12 @@ use crate::waiting::{address, wait_over};
 use nop_types::{Bytes, Config, Op};
 use outside::{AttachError, Clock, Ports};
 use std::alloc::Global;
+use udp_node::BasePort;
 
 /// A replicated service: the port of replica 0, and how many actors there are.
 #[derive(Clone, Copy, Debug, PartialEq, Eq)]
 pub struct Service {
-    pub base: u16,
+    pub base: BasePort,
     pub config: Config,
 }
 
@@ -27,8 +28,6 @@ pub fn submit_and_wait<P: Ports, C: Clock>(
     ports: &mut P,
     clock: &mut C,
 ) -> Result<Bytes, CallError>
-    requires { service.now.base ≤ 65000 }
-
     // At Ok replicas replied with the result; the request is open where the call is unanswered.
     ensures answers { Answers service.now.config number op result }
 

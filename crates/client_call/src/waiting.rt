@@ -1,6 +1,6 @@
 //! The client of a call, over a link.
 
-ghost use Rattle.std.specs.Prelude.{◌≡◌, ◌≤◌, IfOk, false, Err};
+ghost use Rattle.std.specs.Prelude.{◌≡◌, IfOk, false, Err};
 ghost use Rattle.udp_node.specs.Sends.{side};
 ghost use Rattle.client_call.specs.Calls.{GivesAccepted, Answers, EndsObserved, address_of, caller, error_of, polls_after};
 ghost use Rattle.client_call.specs.declared.errors.CallError.TheVariants as errors;
@@ -65,7 +65,6 @@ pub(crate) fn wait_over<L: Link, C: Clock>(
     link: &mut L,
     clock: &mut C,
 ) -> Result<Bytes, CallError>
-    requires { service.now.base ≤ 65000 }
     ensures answers { Answers service.now.config number op result }
     ensures run { EndsObserved (address_of service.now number) number op turns
         (L.answers link.old) (C.values clock.old) result

@@ -1,7 +1,5 @@
 use crate::rows::{check_text, request, text};
-use nop_types::{
-    Bytes, Checkpoint, Config, Entry, Header, Log, Out, Outbox, SavedClient, View, leader_of,
-};
+use nop_types::{Bytes, Checkpoint, Config, Entry, Log, Out, Outbox, SavedClient, View, leader_of};
 use std::alloc::Global;
 use std::process::Abort;
 
@@ -96,18 +94,6 @@ fn configurations(rt: HostRuntime) {
     assert!(rt; !is_one(3, 0, 1, 1) && !is_one(3, 5, 1, 1));
     assert!(rt; !is_one(3, 1, 0, 1) && !is_one(3, 1, 17, 1));
     assert!(rt; !is_one(3, 1, 1, 0) && !is_one(3, 1, 1, 5));
-}
-
-/// Whether a first line of this form can have so many controllers.
-fn is_given(rt: &impl Abort, form: u8, controllers: u8) -> bool {
-    let config = Config::new(3, 2, 1, controllers).expect(rt, "limits");
-    Header { form, config }.is_well_formed()
-}
-
-#[test]
-fn headers(rt: HostRuntime) {
-    assert!(rt; is_given(&rt, 1, 1) && is_given(&rt, 2, 1) && is_given(&rt, 2, 4));
-    assert!(rt; !is_given(&rt, 1, 2) && !is_given(&rt, 0, 1) && !is_given(&rt, 3, 1));
 }
 
 #[test]

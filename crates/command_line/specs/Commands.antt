@@ -203,11 +203,11 @@ command_of texts = command_if (faults_of texts) (subcommand_in texts)
 abbrev pub IsFit : Command → Type 0
 IsFit Replay = ⊤
 IsFit (Gen number count) = (1 ≤ count) × (count ≤ 100000)
-IsFit (Node id site) = (id < site.config.replicas) × (site.base ≤ 65000)
-IsFit (Sequencer id site) = (id < MAX_SEQUENCERS) × (site.base ≤ 65000)
-IsFit (Controller site id install) = (id < MAX_CONTROLLERS) × (site.base ≤ 65000)
-IsFit (Client id site ops) = site.base ≤ 65000
-IsFit (Cluster site ops) = (site.base ≤ 65000) × (site.config.controllers ≡ 1)
+IsFit (Node id site) = id < site.config.replicas
+IsFit (Sequencer id site) = id < MAX_SEQUENCERS
+IsFit (Controller site id install) = id < MAX_CONTROLLERS
+IsFit (Client id site ops) = ⊤
+IsFit (Cluster site ops) = site.config.controllers ≡ 1
 IsFit Check = ⊤
 
 abbrev pub texts_of : {Z : Type 0} → List (String Z) → List Text

@@ -1,11 +1,12 @@
 use crate::ops::Ops;
 use nop_types::Config;
+use udp_node::BasePort;
 
 /// Where a node or a cluster is: how many actors there are, the port of replica 0, and the most turns that it takes.
 #[derive(Clone, Copy, Debug, PartialEq, Eq)]
 pub struct Site {
     pub config: Config,
-    pub base: u16,
+    pub base: BasePort,
     pub turns: u64,
 }
 

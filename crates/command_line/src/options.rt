@@ -8,6 +8,7 @@ use crate::command::Site;
 use crate::number::number;
 use clap::ArgMatches;
 use nop_types::{Config, MAX_CONTROLLERS};
+use udp_node::BasePort;
 
 /// The most turns of a cluster, which keeps each event.
 pub const MAX_CLUSTER_TURNS: u64 = 10_000;
@@ -77,13 +78,12 @@ pub(crate) fn count_drawn(matches: &ArgMatches<'_>) -> Option<u32>
     }
 }
 
-fn base(matches: &ArgMatches<'_>) -> Option<u16>
-    ensures value { result ≡ value_of (rows_of (found_of matches.now)) (codes "base")
+fn base(matches: &ArgMatches<'_>) -> Option<BasePort>
+    ensures { result ≡ value_of (rows_of (found_of matches.now)) (codes "base")
         (Some 41000) 1024 65000 }
-    ensures limit { IfSome result (λ n. n ≤ 65000) }
 {
     match value(matches, "base", Some(41000), 1024, 65000) {
-        Some(n) => Some(n as u16),
+        Some(n) => BasePort::new(n as u16),
         None => None,
     }
 }
@@ -123,12 +123,10 @@ fn site_by(
     sequencers: Option<u8>,
     clients: Option<u8>,
     controllers: u8,
-    base: Option<u16>,
+    base: Option<BasePort>,
     turns: Option<u64>,
 ) -> Option<Site>
-    requires { IfSome base (λ n. n ≤ 65000) }
     ensures value { result ≡ site_by replicas sequencers clients controllers base turns }
-    ensures base { IfSome result (λ s. s.base ≤ 65000) }
     ensures controllers { IfSome result (λ s. s.config.controllers ≡ controllers) }
 {
     let (Some(replicas), Some(sequencers), Some(clients), Some(base), Some(turns)) = (
@@ -148,8 +146,7 @@ fn site_by(
 
 /// Where the node is.
 pub(crate) fn site(matches: &ArgMatches<'_>) -> Option<Site>
-    ensures value { result ≡ site_of (rows_of (found_of matches.now)) }
-    ensures base { IfSome result (λ s. s.base ≤ 65000) }
+    ensures { result ≡ site_of (rows_of (found_of matches.now)) }
 {
     site_by(
         small(matches, "replicas"),
@@ -164,7 +161,6 @@ pub(crate) fn site(matches: &ArgMatches<'_>) -> Option<Site>
 /// Where the cluster is.
 pub(crate) fn cluster_site(matches: &ArgMatches<'_>) -> Option<Site>
     ensures value { result ≡ cluster_site_of (rows_of (found_of matches.now)) }
-    ensures base { IfSome result (λ s. s.base ≤ 65000) }
     ensures controllers { IfSome result (λ s. s.config.controllers ≡ 1) }
 {
     site_by(

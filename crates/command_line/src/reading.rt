@@ -36,7 +36,6 @@ fn generate(matches: &ArgMatches<'_>) -> Option<Command>
 }
 
 fn node_by(id: Option<u8>, site: Option<Site>) -> Option<Command>
-    requires { IfSome site (λ s. s.base ≤ 65000) }
     ensures value { result ≡ node_by id site }
     ensures fits { IfSome result IsFit }
 {
@@ -54,7 +53,6 @@ fn node(matches: &ArgMatches<'_>) -> Option<Command>
 }
 
 fn sequencer_by(id: Option<u8>, site: Option<Site>) -> Option<Command>
-    requires { IfSome site (λ s. s.base ≤ 65000) }
     ensures value { result ≡ sequencer_by id site }
     ensures fits { IfSome result IsFit }
 {
@@ -74,8 +72,7 @@ fn sequencer(matches: &ArgMatches<'_>) -> Option<Command>
 }
 
 fn install_by(site: Site, id: u8, install: Option<u8>) -> Option<Command>
-    requires id { id < MAX_CONTROLLERS }
-    requires base { site.base ≤ 65000 }
+    requires { id < MAX_CONTROLLERS }
     ensures value { result ≡ install_by site id install }
     ensures fits { IfSome result IsFit }
 {
@@ -86,7 +83,6 @@ fn install_by(site: Site, id: u8, install: Option<u8>) -> Option<Command>
 }
 
 fn controller_by(site: Option<Site>, id: Option<u8>, install: Option<Option<u8>>) -> Option<Command>
-    requires { IfSome site (λ s. s.base ≤ 65000) }
     ensures value { result ≡ controller_by site id install }
     ensures fits { IfSome result IsFit }
 {
@@ -115,7 +111,6 @@ fn client_by(
     site: Site,
     ops: Option<&[&str]>,
 ) -> Result<Option<Command>, NoMemory>
-    requires { site.base ≤ 65000 }
     ensures value { IfOk result (λ c.
         c ≡ client_by (Some id) (Some site) (ops_of (texts_in ops.entry))) }
     ensures fits { IfOk result (λ c. IfSome c IsFit) }
@@ -138,8 +133,7 @@ fn client(alloc: Global, matches: &ArgMatches<'_>) -> Result<Option<Command>, No
 }
 
 fn cluster_by(alloc: Global, site: Site, ops: Option<&[&str]>) -> Result<Option<Command>, NoMemory>
-    requires base { site.base ≤ 65000 }
-    requires controllers { site.config.controllers ≡ 1 }
+    requires { site.config.controllers ≡ 1 }
     ensures value { IfOk result (λ c. c ≡ cluster_by (Some site) (ops_of (texts_in ops.entry))) }
     ensures fits { IfOk result (λ c. IfSome c IsFit) }
 {

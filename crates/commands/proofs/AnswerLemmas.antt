@@ -11,8 +11,9 @@ use Rattle.command_line.specs.declared.command.Site.{Site}
 use Rattle.nop_types.specs.Meaning.{Meaning}
 use Rattle.nop_types.specs.Given.{Given, Packet, Ticked, Submit}
 use Rattle.nop_types.specs.declared.output.Actor.TheVariants as actors
+use Rattle.one_box.specs.Showing.{LinkView}
 use Rattle.udp_node.specs.Folding.{folded, AllOutside}
-use Rattle.commands.specs.Nodes.{LastLine, LinkView, PortsView, NodeEnds, end_status}
+use Rattle.commands.specs.Nodes.{LastLine, PortsView, NodeEnds, end_status}
 use Rattle.commands.specs.Tasks.{CommandEnds, client_task, address_of, WroteAccepts, AnswersOps, ClientAnswers}
 use Rattle.commands.specs.declared.status.Status.{Status}
 use Rattle.commands.specs.declared.status.Status.TheVariants as statuses

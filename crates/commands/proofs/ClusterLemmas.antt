@@ -14,7 +14,7 @@ use Rattle.commands.specs.Nodes.{PortsView}
 use Rattle.commands.specs.declared.status.Status.{Status}
 use Rattle.commands.specs.declared.status.Status.TheVariants as statuses
 
-no_rise : ¬ Rose 0 0
+pub no_rise : ¬ Rose 0 0
 no_rise rose = omega arith
 
 module _ {S L : Type 0} (m : Meaning S) (w : boxed.LinkView L) (p : PortsView L) (values : Option (List ℕ)) where

@@ -1,6 +1,7 @@
 -- How a command ends.
 use Rattle.std.proofs.Common.{◌≡◌, ℕ, List, [], ◌∷◌, ◌++◌, true, Option, Some, None, refl, inl, rules}
 use Rattle.nop_types.specs.Meaning.{Meaning}
+use Rattle.one_box.specs.Showing.{LinkView}
 use Rattle.outside.specs.Causes.{Rose}
 use Rattle.outside.specs.Fronts.{AppendsFront}
 use Rattle.replay.specs.Outcome.{WroteFront}
@@ -12,7 +13,7 @@ use Rattle.replay.proofs.Texts.{output_some}
 use Rattle.udp_node.proofs.EffectLemmas.{Appends_none}
 use Rattle.command_line.specs.declared.command.Command.{Command}
 use Rattle.command_line.specs.declared.command.Command.TheVariants.{Replay, Gen, Node, Sequencer, Controller, Client, Cluster, Check}
-use Rattle.commands.specs.Nodes.{LinkView, PortsView, EndsNodeWithoutFault, NodeTask, NodeEnds}
+use Rattle.commands.specs.Nodes.{PortsView, EndsNodeWithoutFault, NodeTask, NodeEnds}
 use Rattle.commands.specs.Ending.{GeneratesWithoutFault}
 use Rattle.commands.specs.Words.{usage_line}
 use Rattle.commands.specs.Tasks.{

@@ -4,3 +4,4 @@ pub mod ClusterLemmas
 pub mod CommandLemmas
 pub mod NodeLemmas
 pub mod OpenOps
+pub mod RunLemmas

@@ -3,6 +3,7 @@ use Rattle.std.proofs.Common.{◌≡◌, ℕ, ◌≤◌, ◌+◌, min, List, [],
 use Rattle.std.proofs.Common.{sym, ◌∙◌, inl, inr, arith}
 use Rattle.std.proofs.KnownBytes.{Appends-trans}
 use Rattle.std.specs.Io.KnownBytes.{Appends}
+use Rattle.one_box.specs.Showing.{LinkView}
 use Rattle.outside.specs.Causes.{Rose, next_count}
 use Rattle.outside.specs.Fronts.{AppendsFront}
 use Rattle.outside.specs.Ports.{GivesNext, next_link}
@@ -19,7 +20,7 @@ use Rattle.udp_node.specs.declared.serving.Served.{Served}
 use Rattle.udp_node.proofs.EffectLemmas.{done_then, stops_then, stops_more, wrote_line}
 use Rattle.commands.specs.Nodes.{served_line, last_effects, end_status, IsNodeStatus, IsUnattachedStatus, EndsNodeWithoutFault}
 use Rattle.commands.specs.Nodes.{LastLine, EndsInLine, writes_after}
-use Rattle.commands.specs.Nodes.{Finished, RunEnds, NodeTask, run_of, RunTold, LinkView, PortsView, NodeEnds}
+use Rattle.commands.specs.Nodes.{Finished, RunEnds, NodeTask, run_of, RunTold, PortsView, NodeEnds}
 use Rattle.commands.specs.declared.status.Status.{Status}
 use Rattle.commands.specs.declared.status.Status.TheVariants as statuses
 

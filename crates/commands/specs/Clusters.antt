@@ -1,7 +1,7 @@
 -- How a cluster in one process ends.
-use Rattle.std.specs.Prelude.{◌≡◌, ℕ, List, Bool, true, false, Option, Some, None, Result, Ok, Err, ◌⊎◌, ⊤}
+use Rattle.std.specs.Prelude.{◌≡◌, ℕ, List, Bool, true, false, Option, Some, Result, Ok, Err, ◌⊎◌, ⊤}
 use Rattle.command_line.specs.declared.command.Command.{Command}
-use Rattle.command_line.specs.declared.command.Command.TheVariants.{Replay, Gen, Node, Sequencer, Controller, Client, Cluster, Check}
+use Rattle.command_line.specs.declared.command.Command.TheVariants.{Node, Sequencer, Controller, Client, Cluster}
 use Rattle.command_line.specs.declared.command.Site.{Site}
 use Rattle.nop_types.specs.Meaning.{Meaning}
 use Rattle.one_box.specs.Boxing.{EndsWith, PollFailed}
@@ -47,39 +47,22 @@ module _ {S L : Type 0} (m : Meaning S) (site : Site) (ops : List (List ℕ)) (w
 -- how a command that runs a cluster ends; nothing is said here of others
 abbrev pub ClusterCommandEnds : {S L : Type 0} → Meaning S → Option Command → boxed.LinkView L → PortsView L → Option (List ℕ)
     → Status → Option (List ℕ) → Option (List ℕ) → Type 0
-ClusterCommandEnds m None w p values s h i = ⊤
-ClusterCommandEnds m (Some Replay) w p values s h i = ⊤
-ClusterCommandEnds m (Some (Gen number count)) w p values s h i = ⊤
-ClusterCommandEnds m (Some (Node id site)) w p values s h i = ⊤
-ClusterCommandEnds m (Some (Sequencer id site)) w p values s h i = ⊤
-ClusterCommandEnds m (Some (Controller site number install)) w p values s h i = ⊤
-ClusterCommandEnds m (Some (Client id site ops)) w p values s h i = ⊤
 ClusterCommandEnds m (Some (Cluster site ops)) w p values s h i = ClusterEnds m site ops w p values s h i
-ClusterCommandEnds m (Some Check) w p values s h i = ⊤
+ClusterCommandEnds m _ w p values s h i = ⊤
 
 -- whether a command runs a cluster
 abbrev pub runs_cluster : Option Command → Bool
-runs_cluster None = false
-runs_cluster (Some Replay) = false
-runs_cluster (Some (Gen number count)) = false
-runs_cluster (Some (Node id site)) = false
-runs_cluster (Some (Sequencer id site)) = false
-runs_cluster (Some (Controller site number install)) = false
-runs_cluster (Some (Client id site ops)) = false
 runs_cluster (Some (Cluster site ops)) = true
-runs_cluster (Some Check) = false
+runs_cluster _ = false
 
 -- whether a command uses ports and the clock
 abbrev pub uses_ports : Option Command → Bool
-uses_ports None = false
-uses_ports (Some Replay) = false
-uses_ports (Some (Gen number count)) = false
 uses_ports (Some (Node id site)) = true
 uses_ports (Some (Sequencer id site)) = true
 uses_ports (Some (Controller site number install)) = true
 uses_ports (Some (Client id site ops)) = true
 uses_ports (Some (Cluster site ops)) = true
-uses_ports (Some Check) = false
+uses_ports _ = false
 
 -- how a cluster ends where no device failed
 abbrev pub ClusterEndsWithoutFault : Status → Type 0

@@ -3,5 +3,6 @@ pub mod Checks
 pub mod Clusters
 pub mod Ending
 pub mod Nodes
+pub mod Runs
 pub mod Tasks
 pub mod Words

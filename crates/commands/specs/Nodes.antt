@@ -4,10 +4,12 @@ use Rattle.std.specs.Io.KnownBytes.{Appends}
 use Rattle.nop_types.specs.Given.{Given}
 use Rattle.nop_types.specs.declared.input.Tick.{Tick}
 use Rattle.nop_types.specs.declared.output.Out.{Out}
+use Rattle.one_box.specs.Showing.{LinkView, link_view}
 use Rattle.outside.specs.Causes.{Rose, next_count}
 use Rattle.outside.specs.Ports.{next_link}
+use Rattle.outside.specs.declared.link.Link as link_trait
 use Rattle.outside.specs.declared.link.PollAnswer.{PollAnswer}
-use Rattle.outside.specs.declared.link.LinkCall.{LinkCall}
+use Rattle.outside.specs.declared.ports.Ports as ports_trait
 use Rattle.udp_node.specs.declared.address.Address.{Address}
 use Rattle.udp_node.specs.Effects.{Effect, Line, effects, lines, Done, Stopped, StoppedInLine}
 use Rattle.udp_node.specs.Folding.{folded, AllOutside}
@@ -167,27 +169,35 @@ EndsInLine k losses losses_now statuses.Refuted h i = ⊤
 
 -- ---- over ports
 
--- what is seen of a link
-pub record LinkView (L : Type 0) : Type 0 where
-  pub port : L → ℕ
-  pub trace : L → Option (List LinkCall)
-  pub losses : L → ℕ
-  pub faults : L → ℕ
-
--- ports before and after: the polls to come, the links that were given back, and the failed attaches
+-- ports before and after: the polls to come, the links that were given back, the failed attaches, and those that did not fail
 pub record PortsView (L : Type 0) : Type 0 where
   pub to_come : Option (List (List PollAnswer))
   pub before : List L
   pub after : List L
   pub faults_before : ℕ
   pub faults_after : ℕ
+  pub attached_before : ℕ
+  pub attached_after : ℕ
 
-abbrev pub link_view : {L : Type 0} → (L → ℕ) → (L → Option (List LinkCall)) → (L → ℕ) → (L → ℕ) → LinkView L
-link_view port trace losses faults = record { port = port; trace = trace; losses = losses; faults = faults }
+abbrev pub ports_view : {L : Type 0} → Option (List (List PollAnswer)) → List L → List L → ℕ → ℕ → ℕ → ℕ → PortsView L
+ports_view to_come before after faults_before faults_after attached_before attached_after = record {
+  to_come = to_come;
+  before = before;
+  after = after;
+  faults_before = faults_before;
+  faults_after = faults_after;
+  attached_before = attached_before;
+  attached_after = attached_after;
+}
 
-abbrev pub ports_view : {L : Type 0} → Option (List (List PollAnswer)) → List L → List L → ℕ → ℕ → PortsView L
-ports_view to_come before after faults_before faults_after =
-    record { to_come = to_come; before = before; after = after; faults_before = faults_before; faults_after = faults_after }
+-- what is seen of a link
+abbrev pub links_of : {L : Type 0} → link_trait.Ghosts L → LinkView L
+links_of l = link_view l.answers l.own_port l.trace l.loss_count l.fault_count
+
+-- what is seen of ports
+abbrev pub ports_of : {P L : Type 0} → ports_trait.Ghosts P L → P → P → PortsView L
+ports_of p old new =
+    ports_view (p.to_come old) (p.detached old) (p.detached new) (p.fault_count old) (p.fault_count new) (p.attached old) (p.attached new)
 
 -- no link was attached, and nothing was written
 pub record Unattached {L : Type 0} (p : PortsView L) (s : Status) (h i : Option (List ℕ)) : Type 0 where

@@ -5,7 +5,7 @@ use Rattle.client_quorum.specs.ClientSteps as client
 use Rattle.commands.specs.Answers.{accept_count}
 use Rattle.client_quorum.specs.declared.state.ClientState.{ClientState}
 use Rattle.command_line.specs.declared.command.Command.{Command}
-use Rattle.command_line.specs.declared.command.Command.TheVariants.{Replay, Gen, Node, Sequencer, Controller, Client, Cluster, Check}
+use Rattle.command_line.specs.declared.command.Command.TheVariants.{Gen, Node, Sequencer, Controller, Client}
 use Rattle.command_line.specs.declared.command.Site.{Site}
 use Rattle.nop_types.specs.Meaning.{Meaning}
 use Rattle.nop_types.specs.declared.input.Tick.{Tick}
@@ -13,6 +13,7 @@ use Rattle.nop_types.specs.declared.input.Tick.TheVariants.{Install}
 use Rattle.nop_types.specs.declared.output.Actor.{Actor}
 use Rattle.nop_types.specs.declared.output.Actor.TheVariants as actors
 use Rattle.nop_types.specs.declared.output.Out.{Out}
+use Rattle.one_box.specs.Showing.{LinkView}
 use Rattle.replica_core.specs.ReplicaSteps as replica
 use Rattle.sequencer.specs.SequencerSteps as sequencer
 use Rattle.sequencer.specs.declared.state.SequencerState.{SequencerState}
@@ -22,7 +23,7 @@ use Rattle.udp_node.specs.Effects.{effects, lines}
 use Rattle.udp_node.specs.NodeRun.{first_inputs}
 use Rattle.udp_node.specs.declared.address.Address.{Address}
 use Rattle.commands.specs.Ending.{GenEnds}
-use Rattle.commands.specs.Nodes.{NodeTask, task_of, served_line, LinkView, PortsView, NodeEnds}
+use Rattle.commands.specs.Nodes.{NodeTask, task_of, served_line, PortsView, NodeEnds}
 use Rattle.commands.specs.declared.status.Status.{Status}
 use Rattle.commands.specs.declared.status.Status.TheVariants as statuses
 
@@ -61,15 +62,11 @@ client_task id site ops =
 -- how a command that runs a node ends; nothing is said here of others
 abbrev pub CommandEnds : {S L : Type 0} → Meaning S → Option Command → LinkView L → PortsView L → Option (List ℕ) → Status
     → Option (List ℕ) → Option (List ℕ) → Type 0
-CommandEnds m None w p values s h i = ⊤
-CommandEnds m (Some Replay) w p values s h i = ⊤
-CommandEnds m (Some (Gen number count)) w p values s h i = ⊤
 CommandEnds m (Some (Node id site)) w p values s h i = NodeEnds (replica_task m id site) w p values s h i
 CommandEnds m (Some (Sequencer id site)) w p values s h i = NodeEnds (sequencer_task id site) w p values s h i
 CommandEnds m (Some (Controller site number install)) w p values s h i = NodeEnds (controller_task site number install) w p values s h i
 CommandEnds m (Some (Client id site ops)) w p values s h i = NodeEnds (client_task id site ops) w p values s h i
-CommandEnds m (Some (Cluster site ops)) w p values s h i = ⊤
-CommandEnds m (Some Check) w p values s h i = ⊤
+CommandEnds m _ w p values s h i = ⊤
 
 -- ---- the answers of a client
 
@@ -95,62 +92,30 @@ AnswersOps at count statuses.Refuted h i = ⊤
 
 -- of a command that runs a client; nothing is said here of others
 abbrev pub ClientAnswers : Option Command → Status → Option (List ℕ) → Option (List ℕ) → Type 0
-ClientAnswers None s h i = ⊤
-ClientAnswers (Some Replay) s h i = ⊤
-ClientAnswers (Some (Gen number count)) s h i = ⊤
-ClientAnswers (Some (Node id site)) s h i = ⊤
-ClientAnswers (Some (Sequencer id site)) s h i = ⊤
-ClientAnswers (Some (Controller site number install)) s h i = ⊤
 ClientAnswers (Some (Client id site ops)) s h i = AnswersOps (address_of site (actors.Client id)) (length ops) s h i
-ClientAnswers (Some (Cluster site ops)) s h i = ⊤
-ClientAnswers (Some Check) s h i = ⊤
+ClientAnswers _ s h i = ⊤
 
 -- whether a command runs a node
 abbrev pub runs_node : Option Command → Bool
-runs_node None = false
-runs_node (Some Replay) = false
-runs_node (Some (Gen number count)) = false
 runs_node (Some (Node id site)) = true
 runs_node (Some (Sequencer id site)) = true
 runs_node (Some (Controller site number install)) = true
 runs_node (Some (Client id site ops)) = true
-runs_node (Some (Cluster site ops)) = false
-runs_node (Some Check) = false
+runs_node _ = false
 
 -- whether it waits until its ops are accepted
 abbrev pub waits_for_ops : Option Command → Bool
-waits_for_ops None = false
-waits_for_ops (Some Replay) = false
-waits_for_ops (Some (Gen number count)) = false
-waits_for_ops (Some (Node id site)) = false
-waits_for_ops (Some (Sequencer id site)) = false
-waits_for_ops (Some (Controller site number install)) = false
 waits_for_ops (Some (Client id site ops)) = true
-waits_for_ops (Some (Cluster site ops)) = false
-waits_for_ops (Some Check) = false
+waits_for_ops _ = false
 
 -- ---- gen
 
 -- how a command that draws a schedule ends; nothing is said here of others
 abbrev pub DrawingEnds : {S : Type 0} → Meaning S → Option Command → Status → Option (List ℕ) → Option (List ℕ) → Type 0
-DrawingEnds m None s h i = ⊤
-DrawingEnds m (Some Replay) s h i = ⊤
 DrawingEnds m (Some (Gen number count)) s h i = GenEnds m number count h i s
-DrawingEnds m (Some (Node id site)) s h i = ⊤
-DrawingEnds m (Some (Sequencer id site)) s h i = ⊤
-DrawingEnds m (Some (Controller site number install)) s h i = ⊤
-DrawingEnds m (Some (Client id site ops)) s h i = ⊤
-DrawingEnds m (Some (Cluster site ops)) s h i = ⊤
-DrawingEnds m (Some Check) s h i = ⊤
+DrawingEnds m _ s h i = ⊤
 
 -- whether a command draws a schedule
 abbrev pub draws : Option Command → Bool
-draws None = false
-draws (Some Replay) = false
 draws (Some (Gen number count)) = true
-draws (Some (Node id site)) = false
-draws (Some (Sequencer id site)) = false
-draws (Some (Controller site number install)) = false
-draws (Some (Client id site ops)) = false
-draws (Some (Cluster site ops)) = false
-draws (Some Check) = false
+draws _ = false

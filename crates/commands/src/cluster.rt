@@ -1,10 +1,9 @@
 //! The command that runs all actors in one process.
 
-ghost use Rattle.std.specs.Prelude.{◌≡◌, ◌≤◌, ◌+◌, length};
-ghost use Rattle.one_box.specs.Showing as boxed;
+ghost use Rattle.std.specs.Prelude.{◌≡◌, ◌+◌, length};
 ghost use Rattle.outside.specs.Causes.{Rose};
 ghost use Rattle.commands.specs.Clusters.{ClusterEnds};
-ghost use Rattle.commands.specs.Nodes.{ports_view, writes_after};
+ghost use Rattle.commands.specs.Nodes.{links_of, ports_of, writes_after};
 
 use crate::status::Status;
 use command_line::{Ops, Site};
@@ -21,13 +20,10 @@ pub(crate) fn run_cluster<H: Host, P: Ports, T: Clock, K: Sink>(
     clock: &mut T,
     sink: &mut K,
 ) -> Status
-    requires base { site.now.base ≤ 65000 }
     requires controllers { site.now.config.controllers ≡ 1 }
     ensures ends { ClusterEnds H.meaning site.now ops
-        (boxed.link_view P.L.answers P.L.own_port P.L.trace P.L.loss_count P.L.fault_count)
-        (ports_view (P.to_come ports.old) (P.detached ports.old) (P.detached ports.new)
-        (P.fault_count ports.old) (P.fault_count ports.new))
-        (T.values clock.old) result (K.held sink.old) (K.held sink.new) }
+        (links_of P.L.Link) (ports_of P.Ports ports.old ports.new) (T.values clock.old)
+        result (K.held sink.old) (K.held sink.new) }
     ensures back { P.attached ports.new + length (P.detached ports.old)
         ≡ P.attached ports.old + length (P.detached ports.new) }
     ensures write { result ≡ Status.WriteFault → Rose (K.fault_count sink.old)

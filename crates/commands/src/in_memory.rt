@@ -1,14 +1,13 @@
-ghost use Rattle.std.specs.Prelude.{◌≡◌, ◌≢◌, ◌+◌, length, true, false};
-ghost use Rattle.one_box.specs.Showing as boxed;
+ghost use Rattle.std.specs.Prelude.{◌≡◌, false};
+ghost use Rattle.one_box.specs.Showing.{link_view};
 ghost use Rattle.outside.specs.Memory.{answers_of};
 ghost use Rattle.replay.specs.Safety.{RunsSafelyOf};
 ghost use Rattle.commands.specs.Words.{asked, reads, Taken};
-ghost use Rattle.commands.specs.Checks.{CheckEnds, ChecksWithoutFault};
-ghost use Rattle.commands.specs.Clusters.{ClusterCommandEnds, ClusterEndsWithoutFault, runs_cluster, uses_ports};
-ghost use Rattle.commands.specs.Ending.{ReplayEnds, UsageEnds, EndsWithoutFault, GeneratesWithoutFault};
-ghost use Rattle.commands.specs.Ending.{RefusesWithoutFault};
-ghost use Rattle.commands.specs.Nodes.{EndsNodeWithoutFault, link_view, ports_view};
-ghost use Rattle.commands.specs.Tasks.{ClientAnswers, CommandEnds, DrawingEnds, draws, runs_node, waits_for_ops};
+ghost use Rattle.commands.specs.Checks.{CheckEnds};
+ghost use Rattle.commands.specs.Clusters.{uses_ports};
+ghost use Rattle.commands.specs.Ending.{ReplayEnds, UsageEnds};
+ghost use Rattle.commands.specs.Nodes.{ports_view};
+ghost use Rattle.commands.specs.Runs.{Runs, CompletesAlways, bytes_view, devices};
 
 use crate::running::run;
 use crate::status::Status;
@@ -36,30 +35,16 @@ pub fn run_in_memory<H: Host>(
     ensures check { asked words.now ≡ Some Command.Check →
         CheckEnds H.meaning (Some source.old.left) (Some source.new.left) (Some sink.old.held)
         (Some sink.new.held) result }
-    ensures drawing { DrawingEnds H.meaning (asked words.now) result (Some sink.old.held)
-        (Some sink.new.held) }
     ensures usage { ¬ Taken words.now →
         UsageEnds program.now (Some sink.old.held) (Some sink.new.held) result }
-    ensures node { CommandEnds H.meaning (asked words.now)
-        (link_view (λ l. l.port) (λ l. Some l.trace) (λ _. 0) (λ _. 0))
-        (ports_view (Some (answers_of ports.old.links)) ports.old.detached ports.new.detached 0 0)
-        (Some clock.old) result (Some sink.old.held) (Some sink.new.held) }
-    ensures client { ClientAnswers (asked words.now) result (Some sink.old.held)
-        (Some sink.new.held) }
-    ensures cluster { ClusterCommandEnds H.meaning (asked words.now)
-        (boxed.link_view (λ l. Some l.answers) (λ l. l.port) (λ l. Some l.trace) (λ _. 0) (λ _. 0))
-        (ports_view (Some (answers_of ports.old.links)) ports.old.detached ports.new.detached 0 0)
-        (Some clock.old) result (Some sink.old.held) (Some sink.new.held) }
-    ensures back { uses_ports (asked words.now) ≡ true → ports.new.attached
-        + length ports.old.detached ≡ ports.old.attached + length ports.new.detached }
-    ensures replay_complete { asked words.now ≡ Some Command.Replay → EndsWithoutFault result }
-    ensures check_complete { asked words.now ≡ Some Command.Check → ChecksWithoutFault result }
-    ensures drawing_complete { draws (asked words.now) ≡ true → GeneratesWithoutFault result }
-    ensures usage_complete { ¬ Taken words.now → RefusesWithoutFault result }
-    ensures node_complete { runs_node (asked words.now) ≡ true
-        → EndsNodeWithoutFault (waits_for_ops (asked words.now)) result }
-    ensures cluster_complete { runs_cluster (asked words.now) ≡ true
-        → ClusterEndsWithoutFault result }
+    ensures ends { Runs H.meaning (asked words.now) (devices
+        (bytes_view (Some source.old.left) (Some source.new.left) 0 0)
+        (bytes_view (Some sink.old.held) (Some sink.new.held) 0 0)
+        (ports_view (Some (answers_of ports.old.links)) ports.old.detached ports.new.detached 0 0
+        ports.old.attached ports.new.attached)
+        (link_view (λ l. Some l.answers) (λ l. l.port) (λ l. Some l.trace) (λ _. 0) (λ _. 0))
+        (Some clock.old)) result }
+    ensures complete { CompletesAlways (asked words.now) result }
     ensures unread { reads (asked words.now) ≡ false → source.new ≡ source.old }
     ensures ports { uses_ports (asked words.now) ≡ false → ports.new ≡ ports.old }
     ensures clock { uses_ports (asked words.now) ≡ false → clock.new ≡ clock.old }

@@ -7,23 +7,26 @@
 //!   headline").
 //! - `check`: a check ends as `judge` says of the bytes: Done with `legal`, its line and its counts,
 //!   Refuted with the line and the clause; the bytes of a legal transcript are never Refuted.
-//! - `drawing`: `gen` writes `drawn_summary` at Done, and otherwise a proper prefix of it.
-//! - `node`, `cluster`, `back`: a node runs its core from its initial state over one link, as
-//!   `udp_node` says, and writes its last line; a cluster ends as `one_box` says; each link is
-//!   given back. `client`: over any link, a client that ends Done wrote an accept line for each of
-//!   its ops, and one that ends Unanswered fewer.
 //! - `usage`: arguments that ask for no command are answered by the usage line, or a proper prefix
-//!   of it. `read`, `write`: ReadFault and WriteFault come only where a call on that device failed.
-//!   `writes`: a write that failed is always told: the sink's count of faults rose by one at
-//!   WriteFault, and stayed at every other status.
-//! - `.._complete`: where no call failed, the status reports no fault. `unread`, `ports`, `clock`:
-//!   what a command does not use is as before.
+//!   of it.
+//! - `ends`: what a command does over its devices (`Runs`). Its fields are:
+//!   - `drawing`: `gen` writes `drawn_summary` at Done, and otherwise a proper prefix of it.
+//!   - `node`, `cluster`, `back`: a node runs its core from its initial state over one link, as
+//!     `udp_node` says, and writes its last line; a cluster ends as `one_box` says; each link is
+//!     given back.
+//!   - `client`: over any link, a client that ends Done wrote an accept line for each of its ops,
+//!     and one that ends Unanswered fewer.
+//!   - `read`, `write`: ReadFault and WriteFault come only where a call on that device failed.
+//!     `writes`: a write that failed is always told: the sink's count of faults rose by one at
+//!     WriteFault, and stayed at every other status.
+//! - `complete`: where no call failed, the status reports no fault (`Completes`, whose fields
+//!   `.._complete` say which calls, for each command).
+//! - `unread`, `ports`, `clock`: what a command does not use is as before.
 //!
-//! `run_in_memory` is `run` over devices in memory that never fail, where the clauses `.._complete`
-//! have no premise.
+//! `run_in_memory` is `run` over devices in memory that never fail, where `complete` has no premise.
 //!
 //! Files: `running`; `check`; `node_commands`, `node`, `cluster`; `in_memory`. Definitions:
-//! `specs/Words` (`asked`), `Ending`, `Checks`, `Tasks`, `Nodes`, `Clusters`, `Answers`.
+//! `specs/Words` (`asked`), `Runs`, `Ending`, `Checks`, `Tasks`, `Nodes`, `Clusters`, `Answers`.
 #![tactic(auto)]
 
 mod check;

@@ -6,7 +6,7 @@ ghost use Rattle.udp_node.specs.Effects.{Writes};
 ghost use Rattle.udp_node.specs.NodeRun.{first_inputs};
 ghost use Rattle.udp_node.specs.Sends.{side};
 ghost use Rattle.commands.specs.Nodes.{served_line, end_status, task_of, RunTold, IsNodeStatus, writes_after};
-ghost use Rattle.commands.specs.Nodes.{EndsInLine, link_view, ports_view, NodeEnds};
+ghost use Rattle.commands.specs.Nodes.{EndsInLine, links_of, ports_of, NodeEnds};
 
 use crate::status::Status;
 use nop_types::{Core, NoMemory, Tick};
@@ -81,7 +81,6 @@ fn run_link<C: Core, L: Link, T: Clock, K: Sink>(
     clock: &mut T,
     sink: &mut K,
 ) -> Status
-    requires ports { at.now.base ≤ 65000 }
     requires timers { length C.timers ≤ 255 }
     ensures run { RunTold (task_of C.next C.is_done C.timers (C.state core.old) at.now
         (first_inputs task.now.first) task.now.turns task.now.waits)
@@ -125,14 +124,11 @@ pub(crate) fn run_core<C: Core, P: Ports, T: Clock, K: Sink>(
     clock: &mut T,
     sink: &mut K,
 ) -> Status
-    requires ports { at.now.base ≤ 65000 }
     requires timers { length C.timers ≤ 255 }
     ensures ends { NodeEnds (task_of C.next C.is_done C.timers (C.state core.old) at.now
         (first_inputs task.now.first) task.now.turns task.now.waits)
-        (link_view P.L.own_port P.L.trace P.L.loss_count P.L.fault_count)
-        (ports_view (P.to_come ports.old) (P.detached ports.old) (P.detached ports.new)
-        (P.fault_count ports.old) (P.fault_count ports.new))
-        (T.values clock.old) result (K.held sink.old) (K.held sink.new) }
+        (links_of P.L.Link) (ports_of P.Ports ports.old ports.new) (T.values clock.old)
+        result (K.held sink.old) (K.held sink.new) }
     ensures status { IsNodeStatus task.now.waits result }
     ensures back { P.attached ports.new + length (P.detached ports.old)
         ≡ P.attached ports.old + length (P.detached ports.new) }

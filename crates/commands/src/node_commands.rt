@@ -1,9 +1,9 @@
 //! The commands that run a node.
 
-ghost use Rattle.std.specs.Prelude.{◌≡◌, ◌≤◌, ◌<◌, ◌+◌, false, length, true};
+ghost use Rattle.std.specs.Prelude.{◌≡◌, ◌<◌, ◌+◌, false, length, true};
 ghost use Rattle.nop_types.specs.declared.limits.TheConstants.{MAX_SEQUENCERS, MAX_CONTROLLERS};
 ghost use Rattle.outside.specs.Causes.{Rose};
-ghost use Rattle.commands.specs.Nodes.{IsNodeStatus, link_view, ports_view, NodeEnds, writes_after};
+ghost use Rattle.commands.specs.Nodes.{IsNodeStatus, links_of, ports_of, NodeEnds, writes_after};
 ghost use Rattle.commands.specs.Tasks.{install_tick, replica_task, sequencer_task, controller_task, client_task};
 
 use crate::node::{Task, run_core};
@@ -49,12 +49,9 @@ pub(crate) fn run_replica<H: Host, P: Ports, T: Clock, K: Sink>(
     sink: &mut K,
 ) -> Status
     requires id { id < site.now.config.replicas }
-    requires base { site.now.base ≤ 65000 }
     ensures ends { NodeEnds (replica_task H.meaning id site.now)
-        (link_view P.L.own_port P.L.trace P.L.loss_count P.L.fault_count)
-        (ports_view (P.to_come ports.old) (P.detached ports.old) (P.detached ports.new)
-        (P.fault_count ports.old) (P.fault_count ports.new))
-        (T.values clock.old) result (K.held sink.old) (K.held sink.new) }
+        (links_of P.L.Link) (ports_of P.Ports ports.old ports.new) (T.values clock.old)
+        result (K.held sink.old) (K.held sink.new) }
     ensures status { IsNodeStatus false result }
     ensures back { P.attached ports.new + length (P.detached ports.old)
         ≡ P.attached ports.old + length (P.detached ports.new) }
@@ -82,12 +79,9 @@ pub(crate) fn run_sequencer<P: Ports, T: Clock, K: Sink>(
     sink: &mut K,
 ) -> Status
     requires id { id < MAX_SEQUENCERS }
-    requires base { site.now.base ≤ 65000 }
     ensures ends { NodeEnds (sequencer_task id site.now)
-        (link_view P.L.own_port P.L.trace P.L.loss_count P.L.fault_count)
-        (ports_view (P.to_come ports.old) (P.detached ports.old) (P.detached ports.new)
-        (P.fault_count ports.old) (P.fault_count ports.new))
-        (T.values clock.old) result (K.held sink.old) (K.held sink.new) }
+        (links_of P.L.Link) (ports_of P.Ports ports.old ports.new) (T.values clock.old)
+        result (K.held sink.old) (K.held sink.new) }
     ensures status { IsNodeStatus false result }
     ensures back { P.attached ports.new + length (P.detached ports.old)
         ≡ P.attached ports.old + length (P.detached ports.new) }
@@ -126,12 +120,9 @@ pub(crate) fn run_controller<P: Ports, T: Clock, K: Sink>(
     sink: &mut K,
 ) -> Status
     requires number { number < MAX_CONTROLLERS }
-    requires base { site.now.base ≤ 65000 }
     ensures ends { NodeEnds (controller_task site.now number j)
-        (link_view P.L.own_port P.L.trace P.L.loss_count P.L.fault_count)
-        (ports_view (P.to_come ports.old) (P.detached ports.old) (P.detached ports.new)
-        (P.fault_count ports.old) (P.fault_count ports.new))
-        (T.values clock.old) result (K.held sink.old) (K.held sink.new) }
+        (links_of P.L.Link) (ports_of P.Ports ports.old ports.new) (T.values clock.old)
+        result (K.held sink.old) (K.held sink.new) }
     ensures status { IsNodeStatus false result }
     ensures back { P.attached ports.new + length (P.detached ports.old)
         ≡ P.attached ports.old + length (P.detached ports.new) }
@@ -159,12 +150,9 @@ pub(crate) fn run_client<P: Ports, T: Clock, K: Sink>(
     clock: &mut T,
     sink: &mut K,
 ) -> Status
-    requires { site.now.base ≤ 65000 }
     ensures ends { NodeEnds (client_task id site.now ops)
-        (link_view P.L.own_port P.L.trace P.L.loss_count P.L.fault_count)
-        (ports_view (P.to_come ports.old) (P.detached ports.old) (P.detached ports.new)
-        (P.fault_count ports.old) (P.fault_count ports.new))
-        (T.values clock.old) result (K.held sink.old) (K.held sink.new) }
+        (links_of P.L.Link) (ports_of P.Ports ports.old ports.new) (T.values clock.old)
+        result (K.held sink.old) (K.held sink.new) }
     ensures status { IsNodeStatus true result }
     ensures back { P.attached ports.new + length (P.detached ports.old)
         ≡ P.attached ports.old + length (P.detached ports.new) }

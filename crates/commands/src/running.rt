@@ -1,16 +1,13 @@
-ghost use Rattle.std.specs.Prelude.{◌≡◌, ◌≢◌, ◌≤◌, ◌+◌, ◌++◌, ◌∷◌, [], length, true, false, IfOk};
-ghost use Rattle.one_box.specs.Boxing.{PollFailed};
-ghost use Rattle.one_box.specs.Showing as boxed;
+ghost use Rattle.std.specs.Prelude.{◌≡◌, ◌≤◌, false, IfOk};
 ghost use Rattle.outside.specs.Causes.{Rose};
 ghost use Rattle.replay.specs.Safety.{RunsSafelyOf};
 ghost use Rattle.command_line.specs.Commands.{IsFit};
 ghost use Rattle.commands.specs.Words.{asked, reads, usage_line, Taken};
-ghost use Rattle.commands.specs.Checks.{CheckEnds, ChecksWithoutFault};
-ghost use Rattle.commands.specs.Clusters.{ClusterCommandEnds, ClusterEndsWithoutFault, runs_cluster, uses_ports};
-ghost use Rattle.commands.specs.Ending.{ReplayEnds, GenEnds, UsageEnds, EndsWithoutFault, GeneratesWithoutFault};
-ghost use Rattle.commands.specs.Ending.{RefusesWithoutFault};
-ghost use Rattle.commands.specs.Nodes.{EndsNodeWithoutFault, link_view, ports_view, writes_after};
-ghost use Rattle.commands.specs.Tasks.{ClientAnswers, CommandEnds, DrawingEnds, draws, runs_node, waits_for_ops};
+ghost use Rattle.commands.specs.Checks.{CheckEnds};
+ghost use Rattle.commands.specs.Clusters.{uses_ports};
+ghost use Rattle.commands.specs.Ending.{ReplayEnds, GenEnds, UsageEnds};
+ghost use Rattle.commands.specs.Nodes.{links_of, ports_of, writes_after};
+ghost use Rattle.commands.specs.Runs.{Runs, Completes, devices, sink_of, source_of};
 
 use crate::check::run_check;
 use crate::cluster::run_cluster;
@@ -102,27 +99,9 @@ fn carry_out<H: Host, S: Source, K: Sink, P: Ports, C: Clock>(
         RunsSafelyOf H.meaning (S.left source.old) }
     ensures check { command ≡ Command.Check → CheckEnds H.meaning (S.left source.old)
         (S.left source.new) (K.held sink.old) (K.held sink.new) result }
-    ensures drawing { DrawingEnds H.meaning (Some command) result (K.held sink.old)
-        (K.held sink.new) }
-    ensures node { CommandEnds H.meaning (Some command)
-        (link_view P.L.own_port P.L.trace P.L.loss_count P.L.fault_count)
-        (ports_view (P.to_come ports.old) (P.detached ports.old) (P.detached ports.new)
-        (P.fault_count ports.old) (P.fault_count ports.new))
-        (C.values clock.old) result (K.held sink.old) (K.held sink.new) }
-    ensures cluster { ClusterCommandEnds H.meaning (Some command)
-        (boxed.link_view P.L.answers P.L.own_port P.L.trace P.L.loss_count P.L.fault_count)
-        (ports_view (P.to_come ports.old) (P.detached ports.old) (P.detached ports.new)
-        (P.fault_count ports.old) (P.fault_count ports.new))
-        (C.values clock.old) result (K.held sink.old) (K.held sink.new) }
-    ensures client { ClientAnswers (Some command) result (K.held sink.old) (K.held sink.new) }
-    ensures back { uses_ports (Some command) ≡ true
-        → P.attached ports.new + length (P.detached ports.old)
-        ≡ P.attached ports.old + length (P.detached ports.new) }
-    ensures read { result ≡ Status.ReadFault → Rose (S.fault_count source.old)
-        (S.fault_count source.new) }
-    ensures write { result ≡ Status.WriteFault → Rose (K.fault_count sink.old)
-        (K.fault_count sink.new) }
-    ensures writes { K.fault_count sink.new ≡ writes_after result (K.fault_count sink.old) }
+    ensures ends { Runs H.meaning (Some command) (devices
+        (source_of S.Source source.old source.new) (sink_of K.Sink sink.old sink.new)
+        (ports_of P.Ports ports.old ports.new) (links_of P.L.Link) (C.values clock.old)) result }
     ensures unread { reads (Some command) ≡ false → source.new ≡ source.old }
     ensures ports { uses_ports (Some command) ≡ false → ports.new ≡ ports.old }
     ensures clock { uses_ports (Some command) ≡ false → clock.new ≡ clock.old }
@@ -162,63 +141,14 @@ pub fn run<H: Host, S: Source, K: Sink, P: Ports, C: Clock>(
         RunsSafelyOf H.meaning (S.left source.old) }
     ensures check { asked words.now ≡ Some Command.Check → CheckEnds H.meaning (S.left source.old)
         (S.left source.new) (K.held sink.old) (K.held sink.new) result }
-    ensures drawing { DrawingEnds H.meaning (asked words.now) result (K.held sink.old)
-        (K.held sink.new) }
     ensures usage { ¬ Taken words.now → UsageEnds program.now (K.held sink.old) (K.held sink.new)
         result }
-    ensures node { CommandEnds H.meaning (asked words.now)
-        (link_view P.L.own_port P.L.trace P.L.loss_count P.L.fault_count)
-        (ports_view (P.to_come ports.old) (P.detached ports.old) (P.detached ports.new)
-        (P.fault_count ports.old) (P.fault_count ports.new))
-        (C.values clock.old) result (K.held sink.old) (K.held sink.new) }
-    ensures cluster { ClusterCommandEnds H.meaning (asked words.now)
-        (boxed.link_view P.L.answers P.L.own_port P.L.trace P.L.loss_count P.L.fault_count)
-        (ports_view (P.to_come ports.old) (P.detached ports.old) (P.detached ports.new)
-        (P.fault_count ports.old) (P.fault_count ports.new))
-        (C.values clock.old) result (K.held sink.old) (K.held sink.new) }
-    ensures back { uses_ports (asked words.now) ≡ true
-        → P.attached ports.new + length (P.detached ports.old)
-        ≡ P.attached ports.old + length (P.detached ports.new) }
-    ensures read { result ≡ Status.ReadFault → Rose (S.fault_count source.old)
-        (S.fault_count source.new) }
-    ensures write { result ≡ Status.WriteFault → Rose (K.fault_count sink.old)
-        (K.fault_count sink.new) }
-
-    // Whatever the words are, a write that fails is told.
-    ensures writes { K.fault_count sink.new ≡ writes_after result (K.fault_count sink.old) }
-
-    // A client over any link: Done with an accept line for each op, Unanswered with fewer.
-    ensures client { ClientAnswers (asked words.now) result (K.held sink.old) (K.held sink.new) }
-
-    ensures replay_complete { asked words.now ≡ Some Command.Replay
-        → ¬ Rose (S.fault_count source.old) (S.fault_count source.new)
-        → ¬ Rose (K.fault_count sink.old) (K.fault_count sink.new) → EndsWithoutFault result }
-    ensures check_complete { asked words.now ≡ Some Command.Check
-        → ¬ Rose (S.fault_count source.old) (S.fault_count source.new)
-        → ¬ Rose (K.fault_count sink.old) (K.fault_count sink.new) → ChecksWithoutFault result }
-    ensures drawing_complete { draws (asked words.now) ≡ true → ¬ Rose (K.fault_count sink.old)
-        (K.fault_count sink.new)
-        → GeneratesWithoutFault result }
-    ensures usage_complete { ¬ Taken words.now → ¬ Rose (K.fault_count sink.old)
-        (K.fault_count sink.new)
-        → RefusesWithoutFault result }
-
-    // Where no attach failed, no poll of the link and no write.
-    ensures node_complete { runs_node (asked words.now) ≡ true
-        → ¬ Rose (P.fault_count ports.old) (P.fault_count ports.new)
-        → ¬ Rose (K.fault_count sink.old) (K.fault_count sink.new)
-        → ((link : P.L) → P.detached ports.new ≡ P.detached ports.old ++ link ∷ [] →
-        ¬ Rose 0 (P.L.fault_count link))
-        → EndsNodeWithoutFault (waits_for_ops (asked words.now)) result }
-
-    // The same of all the links of a cluster.
-    ensures cluster_complete { runs_cluster (asked words.now) ≡ true
-        → ¬ Rose (P.fault_count ports.old) (P.fault_count ports.new)
-        → ¬ Rose (K.fault_count sink.old) (K.fault_count sink.new)
-        → ¬ PollFailed
-        (boxed.link_view P.L.answers P.L.own_port P.L.trace P.L.loss_count P.L.fault_count)
-        (P.detached ports.old) (P.detached ports.new)
-        → ClusterEndsWithoutFault result }
+    ensures ends { Runs H.meaning (asked words.now) (devices
+        (source_of S.Source source.old source.new) (sink_of K.Sink sink.old sink.new)
+        (ports_of P.Ports ports.old ports.new) (links_of P.L.Link) (C.values clock.old)) result }
+    ensures complete { Completes (asked words.now) (devices
+        (source_of S.Source source.old source.new) (sink_of K.Sink sink.old sink.new)
+        (ports_of P.Ports ports.old ports.new) (links_of P.L.Link) (C.values clock.old)) result }
     ensures unread { reads (asked words.now) ≡ false → source.new ≡ source.old }
     ensures ports { uses_ports (asked words.now) ≡ false → ports.new ≡ ports.old }
     ensures clock { uses_ports (asked words.now) ≡ false → clock.new ≡ clock.old }

@@ -6,6 +6,7 @@ ghost use Rattle.kv_call.specs.Arguments.{number_in, service_of, caller_of};
 use client_call::Service;
 use line_fields::{number, small_number};
 use nop_types::{Bytes, Config, MAX_CONTROLLERS};
+use udp_node::BasePort;
 
 /// A service, the number of the client that calls it, and the most turns of the call.
 #[derive(Clone, Copy, Debug, PartialEq, Eq)]
@@ -30,17 +31,13 @@ fn number_in(least: u64, most: u64, word: &[u8]) -> Option<u64>
 
 /// The service at these ports. Its configuration is that of a node: one client and the most controllers, numbers that no client reads.
 fn service_of(port: &[u8], replicas: &[u8], sequencers: &[u8]) -> Option<Service>
-    ensures service { result ≡ service_of port.now replicas.now sequencers.now }
-    ensures base { IfSome result (λ s. s.base ≤ 65000) }
+    ensures { result ≡ service_of port.now replicas.now sequencers.now }
 {
-    let base = number_in(1024, 65000, port)?;
+    let base = BasePort::new(number_in(1024, 65000, port)? as u16)?;
     let replicas = small_number(256, replicas)?;
     let sequencers = small_number(256, sequencers)?;
     match Config::new(replicas, sequencers, 1, MAX_CONTROLLERS) {
-        Some(config) => Some(Service {
-            base: base as u16,
-            config,
-        }),
+        Some(config) => Some(Service { base, config }),
         None => None,
     }
 }
@@ -53,9 +50,7 @@ pub fn caller_of(
     client: &Bytes,
     turns: &Bytes,
 ) -> Option<Caller>
-    ensures caller { result
-        ≡ caller_of port.now replicas.now sequencers.now client.now turns.now }
-    ensures base { IfSome result (λ c. c.service.base ≤ 65000) }
+    ensures { result ≡ caller_of port.now replicas.now sequencers.now client.now turns.now }
 {
     let service = service_of(port.as_slice(), replicas.as_slice(), sequencers.as_slice())?;
     let client = number_in(0, u64::from(u32::MAX), client.as_slice())?;

@@ -1,8 +1,7 @@
 -- The actors of a cluster, and their links.
 use Rattle.std.proofs.Common.{◌≡◌, ℕ, zero, suc, ◌+◌, ◌<◌, ◌≤◌, List, [], ◌∷◌, ◌++◌, length, map, take, drop, Option, Some, None}
 use Rattle.std.proofs.Common.{refl, sym, ap, subst, ◌∙◌, arith, add-one, append_assoc, length-append}
-use Rattle.std.specs.Prelude.{option_map, slice_get, Result, Ok, Err}
-use Rattle.std.proofs.lemmas.Option.{slice_get-map}
+use Rattle.std.specs.Prelude.{slice_get, Result, Ok, Err}
 use Rattle.std.proofs.lemmas.List.{map-append, take_all}
 use Rattle.facts.proofs.Places.{Splits-at}
 use Rattle.nop_types.specs.Configuration.{Configuration}
@@ -27,7 +26,7 @@ use Rattle.one_box.specs.declared.node.Node as code
 use Rattle.one_box.specs.Actors.{numbered}
 use Rattle.one_box.specs.Attaching.{IsFresh, AttachesOne, AttachesAll, AttachingOn, Holds, HasRoom, place_for}
 use Rattle.one_box.specs.ClusterRun.{Node, opening_node, opening_nodes}
-use Rattle.one_box.specs.Showing.{LinkView, Shows, AllShow, AllLostFit, BasesFit, place_of}
+use Rattle.one_box.specs.Showing.{LinkView, Shows, AllShow, AllLostFit, place_of}
 
 -- ---- the actors of a kind
 
@@ -219,19 +218,3 @@ module _ {A B : Type 0} (mid last : ℕ) (here there : List A) (xs ys : List B) 
       by (suc n) is =
           let more : length here + length xs ≤ mid = room (omega (arith, is)) in
           omega (arith, count, attached, ap length given, more)
-
--- the places of a configuration are in their ranges
-pub bases_placed : {L : Type 0} (v : LinkView L) (base : ℕ) (config : Configuration) (now : ℕ) (actors : List Actor)
-    (xs : List (code.Node L)) → base ≤ 65000 → map (place_of v) xs ≡ map (place_for base config) actors → BasesFit v xs
-bases_placed v base config now actors xs fits places i x found = by (slice_get actors i) there
-  where
-    there : option_map (place_for base config) (slice_get actors i) ≡ Some (place_of v x)
-    there =
-        sym (slice_get-map (place_for base config) actors i) ∙ sym (ap (λ (ps : List (Address × ℕ)). slice_get ps i) places)
-        ∙ slice_get-map (place_of v) xs i ∙ ap (option_map (place_of v)) found
-
-    by : (o : Option Actor) → option_map (place_for base config) o ≡ Some (place_of v x) → x.at.base ≤ 65000
-    by None h = absurd cc
-    by (Some a) h =
-        let same : place_for base config a ≡ place_of v x = cc in
-        subst (λ (p : Address × ℕ). p.0.base ≤ 65000) same fits

@@ -3,7 +3,6 @@ use Rattle.std.proofs.Common.{◌≡◌, ℕ, zero, suc, ◌+◌, ◌<◌, ◌�
 use Rattle.std.proofs.Common.{arith, map, Err, length-append, append_assoc}
 use Rattle.std.specs.Prelude.{option_map, slice_get, slice_set}
 use Rattle.std.specs.Option.{option_and_then}
-use Rattle.std.proofs.lemmas.Option.{slice_get-map}
 use Rattle.nop_types.specs.Meaning.{Meaning}
 use Rattle.one_box.specs.declared.node.Node as code
 use Rattle.one_box.specs.ClusterRun.{Course, Node, node_turn, turn}
@@ -11,7 +10,7 @@ use Rattle.outside.specs.Causes.{Rose}
 use Rattle.udp_node.specs.declared.address.Address.{Address}
 use Rattle.outside.specs.declared.errors.DeviceError.{DeviceError}
 use Rattle.outside.specs.declared.errors.DeviceError.TheVariants.{Failed, NoMemory}
-use Rattle.one_box.specs.Showing.{LinkView, Shows, ReachesIf, Serves, AllShow, AllReach, AllReachIf, Turns, BasesFit, HasFault}
+use Rattle.one_box.specs.Showing.{LinkView, Shows, ReachesIf, Serves, AllShow, AllReach, AllReachIf, Turns, HasFault}
 use Rattle.one_box.specs.Showing.{LostFits, AllLostFit, place_of}
 use Rattle.one_box.specs.Progress.{TurningOn}
 
@@ -156,21 +155,6 @@ module _ {L : Type 0} (v : LinkView L) where
       let here : y ≡ x = cc in
       ap (λ (p : Address × ℕ). p ∷ map (place_of v) ys) (same ∙ sym (ap (place_of v) here))
   same_places (y ∷ ys) (suc i) x z found same = ap (λ (ps : List (Address × ℕ)). place_of v y ∷ ps) (same_places ys i x z found same)
-
-  pub base_at : (xs ys : List (code.Node L)) (i : ℕ) (y : code.Node L) → BasesFit v xs → map (place_of v) ys ≡ map (place_of v) xs
-      → slice_get ys i ≡ Some y → y.at.base ≤ 65000
-  base_at xs ys i y fits places found = by (slice_get xs i) refl there
-    where
-      there : option_map (place_of v) (slice_get xs i) ≡ Some (place_of v y)
-      there =
-          sym (slice_get-map (place_of v) xs i) ∙ sym (ap (λ (ps : List (Address × ℕ)). slice_get ps i) places)
-          ∙ slice_get-map (place_of v) ys i ∙ ap (option_map (place_of v)) found
-
-      by : (o : Option (code.Node L)) → slice_get xs i ≡ o → option_map (place_of v) o ≡ Some (place_of v y) → y.at.base ≤ 65000
-      by None is h = absurd cc
-      by (Some x) is h =
-          let same : place_of v x ≡ place_of v y = cc in
-          subst (λ (p : Address × ℕ). p.0.base ≤ 65000) same (fits i x is)
 
   -- one actor's losses stay counted, and so do all
   pub lost_set : (ys : List (code.Node L)) (i : ℕ) (x z : code.Node L) → slice_get ys i ≡ Some x → (LostFits v x → LostFits v z)

@@ -168,10 +168,6 @@ module _ {L : Type 0} (v : LinkView L) where
   AllReachIf None c xs = ⊥
   AllReachIf (Some q) c xs = AllReach q c xs
 
-  -- each port is within its range
-  abbrev pub BasesFit : List (code_node.Node L) → Type 0
-  BasesFit xs = (i : ℕ) (x : code_node.Node L) → slice_get xs i ≡ Some x → x.at.base ≤ 65000
-
   -- the poll of a link failed
   pub record HasFault (xs : List (code_node.Node L)) : Type 0 where
     pub place : ℕ

@@ -22,7 +22,7 @@ use crate::node::Node;
 use nop_types::{Actor, Config, Host, NoMemory, Tick};
 use outside::{AttachError, Ports};
 use std::alloc::{AllocFailed, Global};
-use udp_node::{Address, Timer};
+use udp_node::{Address, BasePort, Timer};
 use world::World;
 
 fn add_replicas(actors: &mut Vec<Actor>, count: u8) -> Result<(), NoMemory>
@@ -142,7 +142,6 @@ fn attach_one<P: Ports>(
     timers: Vec<Timer>,
     nodes: &mut Vec<Node<P::L>>,
 ) -> Result<(), AttachError>
-    requires base { at.base ≤ 65000 }
     ensures attaches { Attaches
         (link_view P.L.answers P.L.own_port P.L.trace P.L.loss_count P.L.fault_count)
         at timers.items result
@@ -185,7 +184,6 @@ fn attach_actor<H: Host, P: Ports>(
     ports: &mut P,
     nodes: &mut Vec<Node<P::L>>,
 ) -> Result<(), AttachError>
-    requires base { at.base ≤ 65000 }
     ensures attaches { Attaches
         (link_view P.L.answers P.L.own_port P.L.trace P.L.loss_count P.L.fault_count)
         at (map (armed now) (timers_of world.now.state at.own)) result
@@ -212,14 +210,13 @@ fn actor_at(actors: &[Actor], i: usize) -> Actor
 pub(crate) fn attach_all<H: Host, P: Ports>(
     alloc: Global,
     world: &World<H>,
-    base: u16,
+    base: BasePort,
     config: Config,
     actors: &[Actor],
     now: u64,
     ports: &mut P,
     nodes: &mut Vec<Node<P::L>>,
 ) -> Result<(), AttachError>
-    requires base { base ≤ 65000 }
     requires empty { nodes.old.items ≡ [] }
     requires world { world.now.state ≡ opening config }
     ensures attaches { OnOk result (AllAttached

@@ -1,4 +1,4 @@
-ghost use Rattle.std.specs.Prelude.{◌≡◌, ◌≤◌, ◌+◌, ◌⊎◌, [], length, IsTrue, IsErrOf};
+ghost use Rattle.std.specs.Prelude.{◌≡◌, ◌+◌, ◌⊎◌, [], length, IsTrue, IsErrOf};
 ghost use Rattle.nop_types.specs.Headers.{gives};
 ghost use Rattle.outside.specs.Causes.{Rose};
 ghost use Rattle.one_box.specs.Attaching.{HasRoom, Holds};
@@ -17,20 +17,20 @@ use crate::writing::write_run;
 use nop_types::{Config, Host, NoMemory, Op};
 use outside::{Clock, LinkError, Ports, Sink};
 use std::alloc::Global;
+use udp_node::BasePort;
 
 /// Attaches a link for each actor, and takes the turns.
 fn run_turns<H: Host, P: Ports, C: Clock>(
     alloc: Global,
     config: Config,
     ops: &[Op],
-    base: u16,
+    base: BasePort,
     turns: u64,
     course: &mut Course<H>,
     nodes: &mut Vec<Node<P::L>>,
     ports: &mut P,
     clock: &mut C,
 ) -> Result<Taken, LinkError>
-    requires base { base ≤ 65000 }
     requires empty { nodes.old.items ≡ [] }
     requires opens { course_of course.old ≡ opening_course config }
     ensures runs { RunsOr H.meaning
@@ -82,13 +82,12 @@ pub fn serve_all<H: Host, P: Ports, C: Clock, K: Sink>(
     alloc: Global,
     config: Config,
     ops: &[Op],
-    base: u16,
+    base: BasePort,
     turns: u64,
     ports: &mut P,
     clock: &mut C,
     sink: &mut K,
 ) -> Result<Boxed, ClusterError>
-    requires base { base ≤ 65000 }
     requires form { IsTrue (gives 1 config) }
     ensures ends { EndsWith H.meaning
         (link_view P.L.answers P.L.own_port P.L.trace P.L.loss_count P.L.fault_count)

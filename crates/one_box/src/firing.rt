@@ -1,4 +1,4 @@
-ghost use Rattle.std.specs.Prelude.{◌≡◌, ◌≤◌, ◌<◌, IfOk, OnOk, Some};
+ghost use Rattle.std.specs.Prelude.{◌≡◌, ◌<◌, IfOk, OnOk, Some};
 ghost use Rattle.std.specs.Prelude.{length, nat_le, option_map, slice_get};
 ghost use Rattle.one_box.specs.ClusterRun.{fire_due, fire_if};
 ghost use Rattle.one_box.specs.Firing.{next_after, next_event, tick_event, timer_event};
@@ -112,7 +112,6 @@ fn fire<H: Host, L: Link>(
     timer: Timer,
     now: u64,
 ) -> Result<(), NoMemory>
-    requires { node.old.at.base ≤ 65000 }
     ensures acts { OnOk result (Acts
         (link_view L.answers L.own_port L.trace L.loss_count L.fault_count) H.meaning
         (λ c n. fire_if H.meaning ops.now (nat_le timer.due now) c n timer.tick)
@@ -137,7 +136,6 @@ pub(crate) fn fire_due<H: Host, L: Link>(
     ops: &[Op],
     now: u64,
 ) -> Result<(), NoMemory>
-    requires { node.old.at.base ≤ 65000 }
     ensures acts { OnOk result (Acts
         (link_view L.answers L.own_port L.trace L.loss_count L.fault_count) H.meaning
         (λ c n. fire_due H.meaning ops.now now n.timers c n)

@@ -1,4 +1,4 @@
-ghost use Rattle.std.specs.Prelude.{◌≡◌, ◌≤◌, OnOk};
+ghost use Rattle.std.specs.Prelude.{◌≡◌, OnOk};
 ghost use Rattle.one_box.specs.ClusterRun.{deliver, poll};
 ghost use Rattle.one_box.specs.Showing.{course_of, link_view, Acts, Serves, place_of};
 ghost use Rattle.network.specs.Finding.{first_index};
@@ -17,7 +17,6 @@ fn deliver<H: Host, L: Link>(
     node: &mut Node<L>,
     datagram: &[u8],
 ) -> Result<(), NoMemory>
-    requires { node.old.at.base ≤ 65000 }
     ensures acts { OnOk result (Acts
         (link_view L.answers L.own_port L.trace L.loss_count L.fault_count) H.meaning
         (λ c n. deliver H.meaning (first_index datagram.now c.world.sent) c n)
@@ -41,7 +40,6 @@ pub(crate) fn poll<H: Host, L: Link>(
     node: &mut Node<L>,
     now: u64,
 ) -> Result<(), LinkError>
-    requires { node.old.at.base ≤ 65000 }
     ensures serves { Serves
         (link_view L.answers L.own_port L.trace L.loss_count L.fault_count) H.meaning
         (λ c n. poll H.meaning now c n) result

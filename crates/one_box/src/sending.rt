@@ -1,4 +1,4 @@
-ghost use Rattle.std.specs.Prelude.{◌≡◌, ◌≤◌, drop, slice_get, OnOk};
+ghost use Rattle.std.specs.Prelude.{◌≡◌, drop, slice_get, OnOk};
 ghost use Rattle.std.specs.Option.{option_to_list};
 ghost use Rattle.outside.specs.Told.{Stays};
 ghost use Rattle.udp_node.specs.Sends.{side, Sends};
@@ -17,7 +17,6 @@ fn send_one<H: Host, L: Link>(
     link: &mut L,
     lost: &mut u64,
 ) -> Result<(), NoMemory>
-    requires { at.now.base ≤ 65000 }
     ensures sends { OnOk result (Sends
         (posts at.now (option_to_list (slice_get world.now.state.sent index)))
         (side (L.trace link.old) lost.old (L.loss_count link.old))
@@ -43,7 +42,6 @@ pub(crate) fn send_since<H: Host, L: Link>(
     link: &mut L,
     lost: &mut u64,
 ) -> Result<(), NoMemory>
-    requires { at.now.base ≤ 65000 }
     ensures sends { OnOk result (Sends (posts at.now (drop count world.now.state.sent))
         (side (L.trace link.old) lost.old (L.loss_count link.old))
         (side (L.trace link.new) lost.new (L.loss_count link.new))) }

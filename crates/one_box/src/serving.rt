@@ -1,7 +1,7 @@
 ghost use Rattle.std.specs.Prelude.{◌≡◌, map};
 ghost use Rattle.one_box.specs.ClusterRun.{all_accepted};
 ghost use Rattle.one_box.specs.Running.{Runs, RunsTold};
-ghost use Rattle.one_box.specs.Showing.{course_of, link_view, BasesFit, place_of};
+ghost use Rattle.one_box.specs.Showing.{course_of, link_view, place_of};
 
 use crate::course::Course;
 use crate::node::Node;
@@ -31,8 +31,6 @@ pub(crate) fn take_turns<H: Host, L: Link, C: Clock>(
     now: u64,
     clock: &mut C,
 ) -> Result<Taken, LinkError>
-    requires { BasesFit (link_view L.answers L.own_port L.trace L.loss_count L.fault_count)
-        nodes.old.items }
     ensures told { RunsTold
         (link_view L.answers L.own_port L.trace L.loss_count L.fault_count)
         H.meaning ops.now turns now (C.values clock.old) result

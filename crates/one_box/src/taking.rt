@@ -1,4 +1,4 @@
-ghost use Rattle.std.specs.Prelude.{◌≡◌, ◌≤◌, OnOk, OnErr};
+ghost use Rattle.std.specs.Prelude.{◌≡◌, OnOk, OnErr};
 ghost use Rattle.one_box.specs.ClusterRun.{take};
 ghost use Rattle.one_box.specs.Showing.{
   course_of,
@@ -49,8 +49,7 @@ pub(crate) fn take<H: Host, L: Link>(
     node: &mut Node<L>,
     event: Event,
 ) -> Result<(), NoMemory>
-    requires base { node.old.at.base ≤ 65000 }
-    requires event { IsNoJunk event }
+    requires { IsNoJunk event }
     ensures acts { OnOk result (Acts
         (link_view L.answers L.own_port L.trace L.loss_count L.fault_count) H.meaning
         (λ c n. take H.meaning c n event)

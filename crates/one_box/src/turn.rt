@@ -1,6 +1,6 @@
-ghost use Rattle.std.specs.Prelude.{◌≡◌, ◌≤◌, map};
+ghost use Rattle.std.specs.Prelude.{◌≡◌, map};
 ghost use Rattle.one_box.specs.ClusterRun.{node_turn, turn};
-ghost use Rattle.one_box.specs.Showing.{course_of, link_view, BasesFit, Serves, Turns, place_of};
+ghost use Rattle.one_box.specs.Showing.{course_of, link_view, Serves, Turns, place_of};
 
 use crate::course::Course;
 use crate::firing::fire_due;
@@ -16,7 +16,6 @@ fn node_turn<H: Host, L: Link>(
     ops: &[Op],
     now: u64,
 ) -> Result<(), LinkError>
-    requires { node.old.at.base ≤ 65000 }
     ensures serves { Serves
         (link_view L.answers L.own_port L.trace L.loss_count L.fault_count) H.meaning
         (λ c n. node_turn H.meaning ops.now now c n) result
@@ -38,8 +37,6 @@ pub(crate) fn turn<H: Host, L: Link>(
     ops: &[Op],
     now: u64,
 ) -> Result<(), LinkError>
-    requires { BasesFit (link_view L.answers L.own_port L.trace L.loss_count L.fault_count)
-        nodes.old.items }
     ensures turns { Turns
         (link_view L.answers L.own_port L.trace L.loss_count L.fault_count) H.meaning
         (λ c ns. turn H.meaning ops.now now c ns) result

@@ -166,26 +166,6 @@ fn put_reply(to: &mut Vec<u8>, reply: &Reply) -> Result<(), NoMemory>
     put_both(to, &reply_front(reply, result.len() as u16), result)
 }
 
-fn put_install(
-    to: &mut Vec<u8>,
-    controller: u8,
-    sequencer: u8,
-    session: u64,
-) -> Result<(), NoMemory>
-    ensures { OnOk result (to.new.items ≡ to.old.items
-        ++ install_bytes controller sequencer session) }
-{
-    to.extend_from_slice(&[controller, sequencer])?;
-    put_u64(to, session)
-}
-
-fn put_ping(to: &mut Vec<u8>, controller: u8, sequencer: u8, round: u32) -> Result<(), NoMemory>
-    ensures { OnOk result (to.new.items ≡ to.old.items ++ ping_bytes controller sequencer round) }
-{
-    to.extend_from_slice(&[controller, sequencer])?;
-    put_u32(to, round)
-}
-
 fn put_header(to: &mut Vec<u8>, kind: u8) -> Result<(), NoMemory>
     ensures { OnOk result (to.new.items ≡ to.old.items ++ header kind) }
 {
@@ -196,6 +176,38 @@ fn put_header(to: &mut Vec<u8>, kind: u8) -> Result<(), NoMemory>
         kind,
     ])?;
     Ok(())
+}
+
+/// Appends an Install or an Installed, whichever kind it is.
+fn put_install(
+    to: &mut Vec<u8>,
+    kind: u8,
+    controller: u8,
+    sequencer: u8,
+    session: u64,
+) -> Result<(), NoMemory>
+    ensures { OnOk result (to.new.items ≡ to.old.items
+        ++ (header kind ++ install_bytes controller sequencer session)) }
+{
+    put_header(to, kind)?;
+    to.extend_from_slice(&[controller, sequencer])?;
+    put_u64(to, session)
+}
+
+/// Appends a Ping or a Pong, whichever kind it is.
+fn put_ping(
+    to: &mut Vec<u8>,
+    kind: u8,
+    controller: u8,
+    sequencer: u8,
+    round: u32,
+) -> Result<(), NoMemory>
+    ensures { OnOk result (to.new.items ≡ to.old.items
+        ++ (header kind ++ ping_bytes controller sequencer round)) }
+{
+    put_header(to, kind)?;
+    to.extend_from_slice(&[controller, sequencer])?;
+    put_u32(to, round)
 }
 
 /// All of a fragment but its payload.
@@ -268,34 +280,22 @@ fn put(to: &mut Vec<u8>, datagram: &Datagram) -> Result<(), NoMemory>
             controller,
             sequencer,
             session,
-        } => {
-            put_header(to, kinds::INSTALL)?;
-            put_install(to, *controller, *sequencer, *session)
-        }
+        } => put_install(to, kinds::INSTALL, *controller, *sequencer, *session),
         Datagram::Installed {
             controller,
             sequencer,
             session,
-        } => {
-            put_header(to, kinds::INSTALLED)?;
-            put_install(to, *controller, *sequencer, *session)
-        }
+        } => put_install(to, kinds::INSTALLED, *controller, *sequencer, *session),
         Datagram::Ping {
             controller,
             sequencer,
             round,
-        } => {
-            put_header(to, kinds::PING)?;
-            put_ping(to, *controller, *sequencer, *round)
-        }
+        } => put_ping(to, kinds::PING, *controller, *sequencer, *round),
         Datagram::Pong {
             controller,
             sequencer,
             round,
-        } => {
-            put_header(to, kinds::PONG)?;
-            put_ping(to, *controller, *sequencer, *round)
-        }
+        } => put_ping(to, kinds::PONG, *controller, *sequencer, *round),
         Datagram::Fragment(fragment) => put_fragment(
             to,
             fragment.replica,

@@ -72,7 +72,12 @@ pub fn noted_steps()
     ensures log { HadLog (noted_past 1) 1 second_view (Req (request_of 1) ∷ NoOp ∷ []) }
     ensures other { HadLog (noted_past 1) 0 first_view [] }
     ensures entry { (noted_past 1).entry 1 second_view
-        ≡ Some (record { last_normal = first_view; next = 2; sync_point = 0; log = Req (request_of 1) ∷ [] }) }
+        ≡ Some (record {
+          last_normal = first_view;
+          next = 2;
+          sync_point = 0;
+          log = Req (request_of 1) ∷ [];
+        }) }
     ensures start { IsStart (noted_past 1) second_view
         (record { next = 2; log = Req (request_of 1) ∷ [] }) }
     ensures first_start { IsStart (noted_past 1) first_view (record { next = 1; log = [] }) }

@@ -12,5 +12,6 @@ pub fn written_is_not_refused()
 
 /// Bytes say one thing, whichever transcript they spell.
 pub fn read_in_one_way()
-    ensures { (t u : Transcript) (bytes : List ℕ) → Spells t bytes → Spells u bytes → SaysTheSame t u }
+    ensures { (t u : Transcript) (bytes : List ℕ) → Spells t bytes → Spells u bytes
+        → SaysTheSame t u }
 {}

@@ -52,14 +52,15 @@ impl Taken {
     }
 
     fn take_event(&mut self) -> bool
-        ensures { (line : ℕ) → IsStep (event_step line (so_far self.old) []) result (so_far self.new) }
+        ensures { (line : ℕ) → IsStep (event_step line (so_far self.old) []) result
+            (so_far self.new) }
     {
         is_events(self.part)
     }
 
     fn take_claim(&mut self, line: u32, claim: Claim) -> Result<bool, NoMemory>
-        ensures { IfOk result (λ took. IsStep (event_step line (so_far self.old) (line_of claim ∷ []))
-            took (so_far self.new)) }
+        ensures { IfOk result (λ took. IsStep
+            (event_step line (so_far self.old) (line_of claim ∷ [])) took (so_far self.new)) }
     {
         if !is_events(self.part) {
             return Ok(false);
@@ -106,7 +107,8 @@ impl Taken {
 
     /// Takes the row of the line with this number, and says whether it is in its place. A row that is not is not taken.
     pub fn take_row(&mut self, line: u32, row: Row) -> Result<bool, NoMemory>
-        ensures { IfOk result (λ took. IsStep (step line (so_far self.old) row) took (so_far self.new)) }
+        ensures { IfOk result (λ took. IsStep (step line (so_far self.old) row) took
+            (so_far self.new)) }
     {
         match row {
             Row::Dead(_) => Ok(self.take_event()),

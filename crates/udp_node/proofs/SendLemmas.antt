@@ -7,11 +7,12 @@ use Rattle.outside.specs.Links.{TracesPoll}
 use Rattle.outside.specs.Told.{Stays, StaysIfTold, Adds}
 use Rattle.outside.specs.declared.errors.DeviceError.{DeviceError}
 use Rattle.outside.specs.declared.errors.DeviceError.TheVariants as links
+use Rattle.outside.specs.declared.link.Link as devices
 use Rattle.outside.specs.declared.link.LinkCall.{LinkCall}
 use Rattle.outside.specs.declared.link.LinkCall.TheVariants.{Polled, Sent}
 use Rattle.udp_node.specs.Ports.{is_skipped, unless, datagrams_from}
 use Rattle.udp_node.specs.Sends.{LinkSide, Grows, Try, Made, Lost, Found, tried, made, found, counted, last_count}
-use Rattle.udp_node.specs.Sends.{Sends, SendsFront, SendsAll, PollsLink}
+use Rattle.udp_node.specs.Sends.{Sends, SendsFront, SendsAll, PollsLink, Unpolled}
 
 pub tried_append : (xs ys : List Try) → tried (xs ++ ys) ≡ tried xs ++ tried ys
 tried_append [] ys = refl
@@ -40,6 +41,9 @@ Grows_trans (Some old) b c xs ys one two =
 pub Stays_trans : {A : Type 0} (a b c : Option A) → Stays a b → Stays b c → Stays a c
 Stays_trans None b c one two = tt
 Stays_trans (Some x) b c one two = rw one at two
+
+pub unpolled_then : {L : Type 0} (link : devices.Ghosts L) (x y z : L) → Unpolled link x y → Unpolled link y z → Unpolled link x z
+unpolled_then link x y z one two = record { answers = Stays_trans _ _ _ one.answers two.answers; faults = two.faults ∙ one.faults }
 
 pub counted_append : (n : ℕ) (xs ys : List Try) → counted n (xs ++ ys) ≡ counted (counted n xs) ys
 counted_append n [] ys = refl

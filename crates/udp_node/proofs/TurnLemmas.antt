@@ -1,5 +1,5 @@
 -- The ends of a turn.
-use Rattle.std.proofs.Common.{◌≡◌, ℕ, List, [], ◌∷◌, ◌++◌, map, drop, Option, Some, None, Result, Ok, Err, refl, ap, sym}
+use Rattle.std.proofs.Common.{◌≡◌, ℕ, List, [], ◌∷◌, ◌++◌, map, drop, Option, Some, None, Result, Ok, Err, refl, ap, sym, subst}
 use Rattle.nop_types.specs.Given.{Given, Packet}
 use Rattle.nop_types.specs.declared.output.Out.{Out}
 use Rattle.outside.specs.Links.{next_poll, poll_result, Polls}
@@ -10,6 +10,7 @@ use Rattle.outside.specs.declared.link.LinkCall.TheVariants.{Polled}
 use Rattle.outside.specs.declared.link.PollAnswer.{PollAnswer}
 use Rattle.outside.specs.declared.link.PollAnswer.TheVariants.{Received, Nothing, Failure}
 use Rattle.udp_node.specs.declared.address.Address.{Address}
+use Rattle.udp_node.specs.declared.errors.ServeError.{ServeError}
 use Rattle.udp_node.specs.declared.firing.Timer.{Timer}
 use Rattle.udp_node.specs.Effects.{Call, effects, Done, Stops}
 use Rattle.udp_node.specs.Folding.{folded, Ran}
@@ -65,6 +66,13 @@ takes_stays None mid later p taken stays = tt
 takes_stays (Some answers) mid later p taken stays =
     let s : Stays (Some (drop 1 answers)) later = rw taken.1 at stays in
     (taken.0, s)
+
+-- the same turn, its address called by another name
+pub turn_at : {S T : Type 0} (next : S → Given → S × List Out) (p q : Address) (s t : S) (now : ℕ) (ts us : List Timer)
+    (o later : Option (List PollAnswer)) (result : Result T ServeError) (a b : LinkSide) (h i : Option (List ℕ)) → p ≡ q
+    → TurnEnds next p s t now ts us o later result a b h i → TurnEnds next q s t now ts us o later result a b h i
+turn_at next p q s t now ts us o later result a b h i same ends =
+    subst (λ (at : Address). TurnEnds next at s t now ts us o later result a b h i) same ends
 
 module _ {S : Type 0} (next : S → Given → S × List Out) (at : Address) where
   pub stopped_firing : (s t : S) (now : ℕ) (ts us : List Timer) (o later : Option (List PollAnswer)) (e : DeviceError) (a b : LinkSide)

@@ -2,9 +2,10 @@
 use Rattle.std.specs.Prelude.{◌≡◌, ℕ, ◌+◌, ◌-◌, ◌^◌, min, List, [], ◌∷◌, ◌++◌, Option, Some, None, Result, Ok, Err, ⊤}
 use Rattle.nop_types.specs.declared.memory.NoMemory.{NoMemory}
 use Rattle.outside.specs.Causes.{next_count}
-use Rattle.outside.specs.Told.{StaysIfTold}
+use Rattle.outside.specs.Told.{Stays, StaysIfTold}
 use Rattle.outside.specs.declared.errors.DeviceError.{DeviceError}
 use Rattle.outside.specs.declared.errors.DeviceError.TheVariants as links
+use Rattle.outside.specs.declared.link.Link as devices
 use Rattle.outside.specs.declared.link.LinkCall.{LinkCall}
 use Rattle.outside.specs.declared.link.LinkCall.TheVariants.{Polled, Sent}
 
@@ -16,6 +17,14 @@ pub record LinkSide : Type 0 where
 
 abbrev pub side : Option (List LinkCall) → ℕ → ℕ → LinkSide
 side trace lost losses = record { trace = trace; lost = lost; losses = losses }
+
+abbrev pub side_of : {L : Type 0} → devices.Ghosts L → L → ℕ → LinkSide
+side_of link l lost = side (link.trace l) lost (link.loss_count l)
+
+-- no poll was made
+pub record Unpolled {L : Type 0} (link : devices.Ghosts L) (old new : L) : Type 0 where
+  pub answers : Stays (link.answers old) (link.answers new)
+  pub faults : link.fault_count new ≡ link.fault_count old
 
 -- told content grows by xs
 abbrev pub Grows : {A : Type 0} → Option (List A) → Option (List A) → List A → Type 0

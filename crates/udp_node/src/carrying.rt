@@ -1,13 +1,11 @@
-ghost use Rattle.std.specs.Prelude.{◌≡◌, ◌≤◌, ◌∷◌, []};
+ghost use Rattle.std.specs.Prelude.{◌∷◌, []};
 ghost use Rattle.nop_types.specs.Given.{given};
 ghost use Rattle.outside.specs.Causes.{Counts};
-ghost use Rattle.outside.specs.Told.{Stays};
-ghost use Rattle.udp_node.specs.Effects.{effects_of, effects, Carries, Writes};
 ghost use Rattle.transcript_text.specs.Transcript as texts;
-ghost use Rattle.udp_node.specs.Folding.{Runs};
-ghost use Rattle.udp_node.specs.Sends.{side};
+ghost use Rattle.udp_node.specs.Effects.{effects_of, effects, Writes};
+ghost use Rattle.udp_node.specs.Nodes.{Does, Takes};
 
-use crate::Address;
+use crate::node::Node;
 use crate::sending::send_to;
 use nop_types::{Bytes, Core, Input, NoMemory, Out, Outbox, Request};
 use outside::{Link, Sink, WriteError, write_all};
@@ -40,89 +38,48 @@ fn write_accept<W: Sink>(
     write_all(sink, &line)
 }
 
-/// Carries out one output: a datagram goes to each port of its destination, a line to the sink.
-#[tactic(auto, using(crate::proofs::EffectLemmas::posted, crate::proofs::EffectLemmas::posted_front, crate::proofs::EffectLemmas::wrote_line))]
-fn carry_out<L: Link, W: Sink>(
-    alloc: Global,
-    at: &Address,
-    out: &Out,
-    link: &mut L,
-    sink: &mut W,
-    lost: &mut u64,
-) -> Result<(), WriteError>
-    requires { at.now.base ≤ 65000 }
-    ensures carries { Carries (effects_of at.now out.now) result
-        (side (L.trace link.old) lost.old (L.loss_count link.old))
-        (side (L.trace link.new) lost.new (L.loss_count link.new))
-        (W.held sink.old) (W.held sink.new) }
-    ensures count { Counts (W.fault_count sink.old) (W.fault_count sink.new) result }
-    ensures answers { Stays (L.answers link.old) (L.answers link.new) }
-    ensures faults { L.fault_count link.new ≡ L.fault_count link.old }
-    ensures port { L.own_port link.new ≡ L.own_port link.old }
-{
-    match out {
-        Out::Send(dest, bytes) => match send_to(at, *dest, bytes.as_slice(), link, lost) {
-            Ok(()) => Ok(()),
-            Err(NoMemory) => Err(WriteError::NoMemory),
-        },
-        Out::Submitted(request) => write_submit(alloc, request, sink),
-        Out::Accepted { client, id, result } => write_accept(alloc, *client, *id, result, sink),
-        Out::Busy(_) | Out::Trimmed { .. } => Ok(()),
-    }
-}
-
-/// Carries out outputs in order.
-fn carry_out_all<L: Link, W: Sink>(
-    alloc: Global,
-    at: &Address,
-    outs: &[Out],
-    link: &mut L,
-    sink: &mut W,
-    lost: &mut u64,
-) -> Result<(), WriteError>
-    requires { at.now.base ≤ 65000 }
-    ensures carries { Carries (effects at.now outs.now) result
-        (side (L.trace link.old) lost.old (L.loss_count link.old))
-        (side (L.trace link.new) lost.new (L.loss_count link.new))
-        (W.held sink.old) (W.held sink.new) }
-    ensures count { Counts (W.fault_count sink.old) (W.fault_count sink.new) result }
-    ensures answers { Stays (L.answers link.old) (L.answers link.new) }
-    ensures faults { L.fault_count link.new ≡ L.fault_count link.old }
-    ensures port { L.own_port link.new ≡ L.own_port link.old }
-{
-    for out in outs {
-        if let Err(e) = carry_out(alloc, at, out, link, sink, lost) {
-            return Err(e);
+impl<C: Core, L: Link, W: Sink> Node<'_, '_, '_, C, L, W> {
+    /// Carries out one output: a datagram goes to each port of its destination, a line to the sink.
+    #[tactic(auto, using(crate::proofs::EffectLemmas::posted, crate::proofs::EffectLemmas::posted_front, crate::proofs::EffectLemmas::wrote_line))]
+    fn carry_out(&mut self, out: &Out) -> Result<(), WriteError>
+        ensures { Does L.Link W.Sink self.old self.new (effects_of self.old.at out.now) result }
+    {
+        match out {
+            Out::Send(dest, bytes) => {
+                match send_to(&self.at, *dest, bytes.as_slice(), self.link, &mut self.lost) {
+                    Ok(()) => Ok(()),
+                    Err(NoMemory) => Err(WriteError::NoMemory),
+                }
+            }
+            Out::Submitted(request) => write_submit(self.alloc, request, self.sink),
+            Out::Accepted { client, id, result } => {
+                write_accept(self.alloc, *client, *id, result, self.sink)
+            }
+            Out::Busy(_) | Out::Trimmed { .. } => Ok(()),
         }
     }
-    Ok(())
-}
 
-/// One step of the core, and what it gives.
-#[tactic(auto, using(crate::proofs::EffectLemmas::nothing_done))]
-pub(crate) fn take_step<C: Core, L: Link, W: Sink>(
-    alloc: Global,
-    core: &mut C,
-    at: &Address,
-    input: Input<'_>,
-    link: &mut L,
-    sink: &mut W,
-    lost: &mut u64,
-) -> Result<(), WriteError>
-    requires { at.now.base ≤ 65000 }
-    ensures runs { Runs C.next at.now (C.state core.old) (C.state core.new)
-        (given input.entry ∷ []) result
-        (side (L.trace link.old) lost.old (L.loss_count link.old))
-        (side (L.trace link.new) lost.new (L.loss_count link.new))
-        (W.held sink.old) (W.held sink.new) }
-    ensures count { Counts (W.fault_count sink.old) (W.fault_count sink.new) result }
-    ensures answers { Stays (L.answers link.old) (L.answers link.new) }
-    ensures faults { L.fault_count link.new ≡ L.fault_count link.old }
-    ensures port { L.own_port link.new ≡ L.own_port link.old }
-{
-    let mut outbox = Outbox::new(alloc);
-    if core.step(input, &mut outbox).is_err() {
-        return Err(WriteError::NoMemory);
+    /// Carries out outputs in order.
+    fn carry_out_all(&mut self, outs: &[Out]) -> Result<(), WriteError>
+        ensures { Does L.Link W.Sink self.old self.new (effects self.old.at outs.now) result }
+    {
+        for out in outs {
+            if let Err(e) = self.carry_out(out) {
+                return Err(e);
+            }
+        }
+        Ok(())
     }
-    carry_out_all(alloc, at, outbox.as_slice(), link, sink, lost)
+
+    /// One step of the core, and what it gives.
+    #[tactic(auto, using(crate::proofs::EffectLemmas::nothing_done))]
+    pub(crate) fn take_step(&mut self, input: Input<'_>) -> Result<(), WriteError>
+        ensures { Takes C.Core L.Link W.Sink self.old self.new (given input.entry ∷ []) result }
+    {
+        let mut outbox = Outbox::new(self.alloc);
+        if self.core.step(input, &mut outbox).is_err() {
+            return Err(WriteError::NoMemory);
+        }
+        self.carry_out_all(outbox.as_slice())
+    }
 }

@@ -1,12 +1,8 @@
-ghost use Rattle.std.specs.Prelude.{◌≡◌, ◌≤◌, ◌∷◌, [], map, length, IfOk, OnOk};
-ghost use Rattle.outside.specs.Causes.{Counts};
-ghost use Rattle.outside.specs.Told.{Stays};
-ghost use Rattle.udp_node.specs.Folding.{Runs};
+ghost use Rattle.std.specs.Prelude.{◌≡◌, ◌≤◌, ◌∷◌, [], map, length, IfOk};
+ghost use Rattle.udp_node.specs.Nodes.{Takes};
 ghost use Rattle.udp_node.specs.Timing.{armed, due_ticks, rearmed};
-ghost use Rattle.udp_node.specs.Sends.{side};
 
-use crate::Address;
-use crate::carrying::take_step;
+use crate::node::Node;
 use nop_types::{Core, Input, NoMemory, Tick};
 use outside::{Link, Sink, WriteError};
 use std::alloc::Global;
@@ -41,63 +37,30 @@ pub(crate) fn first_timers<C: Core>(
     Ok(timers)
 }
 
-/// Fires a timer where it is due.
-fn fire<C: Core, L: Link, W: Sink>(
-    alloc: Global,
-    core: &mut C,
-    at: &Address,
-    timer: Timer,
-    now: u64,
-    link: &mut L,
-    sink: &mut W,
-    lost: &mut u64,
-) -> Result<(), WriteError>
-    requires { at.now.base ≤ 65000 }
-    ensures runs { Runs C.next at.now (C.state core.old) (C.state core.new) (due_ticks now (timer
-        ∷ [])) result
-        (side (L.trace link.old) lost.old (L.loss_count link.old))
-        (side (L.trace link.new) lost.new (L.loss_count link.new))
-        (W.held sink.old) (W.held sink.new) }
-    ensures count { Counts (W.fault_count sink.old) (W.fault_count sink.new) result }
-    ensures answers { Stays (L.answers link.old) (L.answers link.new) }
-    ensures faults { L.fault_count link.new ≡ L.fault_count link.old }
-    ensures port { L.own_port link.new ≡ L.own_port link.old }
-{
-    if timer.due <= now {
-        take_step(alloc, core, at, Input::Tick(timer.tick), link, sink, lost)
-    } else {
-        Ok(())
-    }
-}
-
-/// Fires the timers that are due, in order.
-pub(crate) fn fire_due<C: Core, L: Link, W: Sink>(
-    alloc: Global,
-    core: &mut C,
-    at: &Address,
-    timers: &[Timer],
-    now: u64,
-    link: &mut L,
-    sink: &mut W,
-    lost: &mut u64,
-) -> Result<(), WriteError>
-    requires { at.now.base ≤ 65000 }
-    ensures runs { Runs C.next at.now (C.state core.old) (C.state core.new)
-        (due_ticks now timers.now) result
-        (side (L.trace link.old) lost.old (L.loss_count link.old))
-        (side (L.trace link.new) lost.new (L.loss_count link.new))
-        (W.held sink.old) (W.held sink.new) }
-    ensures count { Counts (W.fault_count sink.old) (W.fault_count sink.new) result }
-    ensures answers { Stays (L.answers link.old) (L.answers link.new) }
-    ensures faults { L.fault_count link.new ≡ L.fault_count link.old }
-    ensures port { L.own_port link.new ≡ L.own_port link.old }
-{
-    for timer in timers {
-        if let Err(e) = fire(alloc, core, at, *timer, now, link, sink, lost) {
-            return Err(e);
+impl<C: Core, L: Link, W: Sink> Node<'_, '_, '_, C, L, W> {
+    /// Fires a timer where it is due.
+    fn fire(&mut self, timer: Timer, now: u64) -> Result<(), WriteError>
+        ensures { Takes C.Core L.Link W.Sink self.old self.new (due_ticks now (timer ∷ []))
+            result }
+    {
+        if timer.due <= now {
+            self.take_step(Input::Tick(timer.tick))
+        } else {
+            Ok(())
         }
     }
-    Ok(())
+
+    /// Fires the timers that are due, in order.
+    pub(crate) fn fire_due(&mut self, timers: &[Timer], now: u64) -> Result<(), WriteError>
+        ensures { Takes C.Core L.Link W.Sink self.old self.new (due_ticks now timers.now) result }
+    {
+        for timer in timers {
+            if let Err(e) = self.fire(*timer, now) {
+                return Err(e);
+            }
+        }
+        Ok(())
+    }
 }
 
 fn rearmed(timer: Timer, now: u64) -> Timer

@@ -1,4 +1,4 @@
-ghost use Rattle.std.specs.Prelude.{◌≡◌, ◌≤◌, ◌+◌, ◌-◌, ◌^◌, min, List, ℕ};
+ghost use Rattle.std.specs.Prelude.{◌≡◌, ◌≤◌, ◌+◌, min, List};
 ghost use Rattle.outside.specs.declared.link.LinkCall.{LinkCall};
 ghost use Rattle.udp_node.specs.Sends.{LinkSide, Sends, failures, last_count};
 

@@ -13,24 +13,28 @@
 //! - `poll`, `polls`, `write`, `writes`: LinkFault comes where a poll failed and WriteFault where a
 //!   write failed, and only there. `wrote`, `port`: a sink keeps what it held, and a link its port.
 //!
-//! Calls: `serve` with `Address` and `Served`, for `commands`; `send_to`, `poll_link`, `Timer` and
-//! `rearm_due`, for `one_box`.
+//! Calls: `serve` with `Address`, `BasePort` and `Served`, for `commands`; `send_to`, `poll_link`,
+//! `Timer` and `rearm_due`, for `one_box`.
 //!
-//! Files: `serving`, `turn`, `polling`, `firing`, `carrying`, `sending`, `address`. Definitions, in
-//! this order: `specs/Ports`, `Sends`, `Effects`, `Folding`, `Timing`, `Turns`, `NodeRun`.
+//! Files: `serving`, `node`, `turn`, `firing`, `carrying`; `polling`, `sending`; `address`,
+//! `base_port`. Definitions, in this order: `specs/Ports`, `Sends`, `Effects`, `Folding`, `Timing`,
+//! `Turns`, `NodeRun`, and `Nodes`, the clauses of a node's methods.
 #![tactic(auto)]
 
 mod address;
+mod base_port;
 mod carrying;
 mod errors;
 mod firing;
 mod laws;
+mod node;
 mod polling;
 mod sending;
 mod serving;
 mod turn;
 
 pub use address::Address;
+pub use base_port::BasePort;
 pub use errors::ServeError;
 pub use firing::{Timer, rearm_due};
 pub use laws::counts_failed_sends;

@@ -2,7 +2,7 @@ ghost use Rattle.std.specs.Prelude.{◌≡◌, ◌≤◌, length, IfOk, IfSome};
 ghost use Rattle.nop_types.specs.declared.limits.TheConstants.{MAX_DATAGRAM_BYTES};
 ghost use Rattle.outside.specs.Causes.{Counts};
 ghost use Rattle.outside.specs.Links.{Polls};
-ghost use Rattle.udp_node.specs.Sends.{side, PollsLink};
+ghost use Rattle.udp_node.specs.Sends.{side_of, PollsLink};
 
 use nop_types::Bytes;
 use outside::{Link, LinkError};
@@ -13,8 +13,7 @@ pub fn poll_link<L: Link>(link: &mut L, lost: &mut u64) -> Result<Option<Bytes>,
     ensures short { IfOk result (λ r. IfSome r (λ datagram. length datagram
         ≤ MAX_DATAGRAM_BYTES)) }
     ensures polls { PollsLink result
-        (side (L.trace link.old) lost.old (L.loss_count link.old))
-        (side (L.trace link.new) lost.new (L.loss_count link.new)) }
+        (side_of L.Link link.old lost.old) (side_of L.Link link.new lost.new) }
     ensures answer { Polls (L.answers link.old) (L.answers link.new) result }
     ensures count { Counts (L.fault_count link.old) (L.fault_count link.new) result }
     ensures port { L.own_port link.new ≡ L.own_port link.old }

@@ -1,8 +1,7 @@
 ghost use Rattle.std.specs.Prelude.{◌≡◌, ◌≤◌, ◌+◌, ◌∷◌, []};
-ghost use Rattle.outside.specs.Told.{Stays};
 ghost use Rattle.outside.specs.declared.link.LinkCall.TheVariants as calls;
 ghost use Rattle.udp_node.specs.Ports.{is_skipped, unless, datagrams_to, datagrams_from};
-ghost use Rattle.udp_node.specs.Sends.{side, SendsAll};
+ghost use Rattle.udp_node.specs.Sends.{side_of, SendsAll, Unpolled};
 
 use crate::Address;
 use crate::address::Targets;
@@ -17,10 +16,8 @@ pub(crate) fn send_one<L: Link>(
     lost: &mut u64,
 ) -> Result<(), NoMemory>
     ensures sends { SendsAll (calls.Sent port bytes.now ∷ []) result
-        (side (L.trace link.old) lost.old (L.loss_count link.old))
-        (side (L.trace link.new) lost.new (L.loss_count link.new)) }
-    ensures answers { Stays (L.answers link.old) (L.answers link.new) }
-    ensures faults { L.fault_count link.new ≡ L.fault_count link.old }
+        (side_of L.Link link.old lost.old) (side_of L.Link link.new lost.new) }
+    ensures unpolled { Unpolled L.Link link.old link.new }
     ensures port { L.own_port link.new ≡ L.own_port link.old }
 {
     match link.send(port, bytes) {
@@ -44,10 +41,8 @@ fn send_unless_skipped<L: Link>(
 ) -> Result<(), NoMemory>
     ensures sends { SendsAll (unless (is_skipped skipped port)
         (calls.Sent port bytes.now) []) result
-        (side (L.trace link.old) lost.old (L.loss_count link.old))
-        (side (L.trace link.new) lost.new (L.loss_count link.new)) }
-    ensures answers { Stays (L.answers link.old) (L.answers link.new) }
-    ensures faults { L.fault_count link.new ≡ L.fault_count link.old }
+        (side_of L.Link link.old lost.old) (side_of L.Link link.new lost.new) }
+    ensures unpolled { Unpolled L.Link link.old link.new }
     ensures port { L.own_port link.new ≡ L.own_port link.old }
 {
     match skipped {
@@ -71,10 +66,8 @@ fn send_each<L: Link>(
     requires { targets.first + targets.count ≤ 65535 }
     ensures sends { SendsAll (datagrams_from bytes.now targets.skipped targets.first
         targets.count) result
-        (side (L.trace link.old) lost.old (L.loss_count link.old))
-        (side (L.trace link.new) lost.new (L.loss_count link.new)) }
-    ensures answers { Stays (L.answers link.old) (L.answers link.new) }
-    ensures faults { L.fault_count link.new ≡ L.fault_count link.old }
+        (side_of L.Link link.old lost.old) (side_of L.Link link.new lost.new) }
+    ensures unpolled { Unpolled L.Link link.old link.new }
     ensures port { L.own_port link.new ≡ L.own_port link.old }
 {
     for i in 0..targets.count {
@@ -92,12 +85,9 @@ pub fn send_to<L: Link>(
     link: &mut L,
     lost: &mut u64,
 ) -> Result<(), NoMemory>
-    requires { at.now.base ≤ 65000 }
     ensures sends { SendsAll (datagrams_to at.now dest bytes.now) result
-        (side (L.trace link.old) lost.old (L.loss_count link.old))
-        (side (L.trace link.new) lost.new (L.loss_count link.new)) }
-    ensures answers { Stays (L.answers link.old) (L.answers link.new) }
-    ensures faults { L.fault_count link.new ≡ L.fault_count link.old }
+        (side_of L.Link link.old lost.old) (side_of L.Link link.new lost.new) }
+    ensures unpolled { Unpolled L.Link link.old link.new }
     ensures port { L.own_port link.new ≡ L.own_port link.old }
 {
     send_each(at.targets(dest), bytes, link, lost)

@@ -1,16 +1,18 @@
 ghost use Rattle.std.specs.Prelude.{◌≡◌, ◌≤◌, ◌+◌, ◌-◌, ◌^◌, min, length, false, IfOk, OnOk};
 ghost use Rattle.outside.specs.Causes.{HasCauseFor};
 ghost use Rattle.udp_node.specs.Effects.{WroteText};
-ghost use Rattle.udp_node.specs.NodeRun.{first_inputs, ServesTold, ServesAfter};
+ghost use Rattle.udp_node.specs.NodeRun.{first_inputs, ServesAfter};
+ghost use Rattle.udp_node.specs.Nodes.{CountsTurns, Faults, Same, TakesTurns};
 ghost use Rattle.udp_node.specs.Folding.{TookSome};
 ghost use Rattle.udp_node.specs.Turns.{polls_after, writes_after};
-ghost use Rattle.udp_node.specs.Sends.{side};
+ghost use Rattle.udp_node.specs.Sends.{side_of};
 ghost use Rattle.udp_node.specs.declared.errors.ServeError.TheVariants as errors;
 
 use crate::Address;
 use crate::errors::ServeError;
 use crate::firing::first_timers;
-use crate::turn::{error_of, take_first, take_turn};
+use crate::node::Node;
+use crate::turn::error_of;
 use nop_types::{Core, Tick};
 use outside::{Clock, Link, Sink};
 use std::alloc::Global;
@@ -23,66 +25,41 @@ pub struct Served {
     pub done: bool,
 }
 
-/// The turns of a run, before which some sends failed.
-fn take_turns<C: Core, L: Link, K: Clock, W: Sink>(
-    alloc: Global,
-    core: &mut C,
-    at: Address,
-    link: &mut L,
-    clock: &mut K,
-    turns: u64,
-    sink: &mut W,
-    before: u64,
-) -> Result<Served, ServeError>
-    requires ports { at.base ≤ 65000 }
-    requires timers { length C.timers ≤ 255 }
-    ensures run { ServesTold C.next C.is_done C.timers at turns (C.state core.old)
-        (L.answers link.old) (K.values clock.old) result
-        (side (L.trace link.old) before (L.loss_count link.old))
-        (side (L.trace link.new) 0 (L.loss_count link.new))
-        (W.held sink.old) (W.held sink.new) }
-    ensures turns { IfOk result (λ served. served.turns ≤ turns) }
-    ensures done { IfOk result (λ served. served.done ≡ C.is_done (C.state core.new)) }
-    ensures spent { IfOk result (λ served. served.done ≡ false → served.turns ≡ turns) }
-    ensures took { OnOk result (TookSome C.next at (C.state core.old) (C.state core.new)
-        (W.held sink.old) (W.held sink.new)) }
-    ensures wrote { WroteText (W.held sink.old) (W.held sink.new) }
-    ensures lost { IfOk result (λ served.
-        min (L.loss_count link.old + (served.lost - before)) (2 ^ 64 - 1)
-        ≤ L.loss_count link.new) }
-    ensures port { L.own_port link.new ≡ L.own_port link.old }
-    ensures poll { HasCauseFor (L.fault_count link.old) (L.fault_count link.new)
-        errors.LinkFault result }
-    ensures polls { L.fault_count link.new ≡ polls_after result (L.fault_count link.old) }
-    ensures write { HasCauseFor (W.fault_count sink.old) (W.fault_count sink.new)
-        errors.WriteFault result }
-    ensures writes { W.fault_count sink.new ≡ writes_after result (W.fault_count sink.old) }
-{
-    let mut now = clock.now();
-    let Ok(mut timers) = first_timers(alloc, core, now) else {
-        return Err(ServeError::NoMemory);
-    };
-    let mut lost = before;
-    let mut taken = 0;
-    while taken < turns {
-        if let Err(e) = take_turn(alloc, core, &at, &mut timers, now, link, sink, &mut lost) {
-            return Err(e);
+impl<C: Core, L: Link, W: Sink> Node<'_, '_, '_, C, L, W> {
+    /// The turns of a run.
+    fn take_turns<K: Clock>(&mut self, clock: &mut K, turns: u64) -> Result<Served, ServeError>
+        requires { length C.timers ≤ 255 }
+        ensures turns { TakesTurns C.Core L.Link W.Sink self.old self.new turns
+            (K.values clock.old) result }
+        ensures counts { CountsTurns C.Core self.new turns result }
+        ensures faults { Faults L.Link W.Sink self.old self.new result }
+        ensures same { Same L.Link self.old self.new }
+    {
+        let mut now = clock.now();
+        let Ok(mut timers) = first_timers(self.alloc, self.core, now) else {
+            return Err(ServeError::NoMemory);
+        };
+        let mut taken = 0;
+        while taken < turns {
+            if let Err(e) = self.take_turn(&mut timers, now) {
+                return Err(e);
+            }
+            taken += 1;
+            if self.core.done() {
+                return Ok(Served {
+                    turns: taken,
+                    lost: self.lost,
+                    done: true,
+                });
+            }
+            now = now.max(clock.now());
         }
-        taken += 1;
-        if core.done() {
-            return Ok(Served {
-                turns: taken,
-                lost,
-                done: true,
-            });
-        }
-        now = now.max(clock.now());
+        Ok(Served {
+            turns: taken,
+            lost: self.lost,
+            done: self.core.done(),
+        })
     }
-    Ok(Served {
-        turns: taken,
-        lost,
-        done: core.done(),
-    })
 }
 
 /// Serves a core for at most `turns` turns, and until it is done. Where a first tick is given, the core takes it
@@ -98,12 +75,10 @@ pub fn serve<C: Core, L: Link, K: Clock, W: Sink>(
     turns: u64,
     sink: &mut W,
 ) -> Result<Served, ServeError>
-    requires ports { at.base ≤ 65000 }
     requires timers { length C.timers ≤ 255 }
     ensures run { ServesAfter C.next C.is_done (first_inputs first) C.timers at turns
         (C.state core.old) (L.answers link.old) (K.values clock.old) result
-        (side (L.trace link.old) 0 (L.loss_count link.old))
-        (side (L.trace link.new) 0 (L.loss_count link.new))
+        (side_of L.Link link.old 0) (side_of L.Link link.new 0)
         (W.held sink.old) (W.held sink.new) }
     ensures turns { IfOk result (λ served. served.turns ≤ turns) }
     ensures done { IfOk result (λ served. served.done ≡ C.is_done (C.state core.new)) }
@@ -121,9 +96,16 @@ pub fn serve<C: Core, L: Link, K: Clock, W: Sink>(
         errors.WriteFault result }
     ensures writes { W.fault_count sink.new ≡ writes_after result (W.fault_count sink.old) }
 {
-    let mut lost = 0;
-    match take_first(alloc, core, &at, first, link, sink, &mut lost) {
-        Ok(()) => take_turns(alloc, core, at, link, clock, turns, sink, lost),
+    let mut node = Node {
+        alloc,
+        core,
+        at,
+        link,
+        sink,
+        lost: 0,
+    };
+    match node.take_first(first) {
+        Ok(()) => node.take_turns(clock, turns),
         Err(e) => Err(error_of(e)),
     }
 }

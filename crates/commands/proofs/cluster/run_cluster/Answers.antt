@@ -1,34 +1,27 @@
 use Rattle.std.proofs.Common.{◌∙◌, true, false, Err, rules}
-use Rattle.one_box.specs.Showing as boxed
 use Rattle.one_box.specs.declared.errors.ClusterError.TheVariants as errors
-use Rattle.commands.specs.Nodes.{ports_view}
+use Rattle.commands.specs.Nodes.{links_of, ports_of}
 use Rattle.commands.proofs.ClusterLemmas.{finishes, serves_same}
 use Rattle.commands.proofs.cluster.run_cluster.Goals as goal
 
 pub returns-then-boxed-clause-ends : goal.returns-then-boxed-clause-ends
 returns-then-boxed-clause-ends g c =
     finishes g.H.Host.meaning
-    (boxed.link_view g.P.L.Link.answers g.P.L.Link.own_port g.P.L.Link.trace g.P.L.Link.loss_count g.P.L.Link.fault_count)
-    (ports_view (g.P.Ports.to_come c.args.ports.now) (g.P.Ports.detached c.args.ports.now) (g.P.Ports.detached c.serve_all.new.ports)
-    (g.P.Ports.fault_count c.args.ports.now) (g.P.Ports.fault_count c.serve_all.new.ports))
+    (links_of g.P.L.Link) (ports_of g.P.Ports c.args.ports.now c.serve_all.new.ports)
     (g.T.Clock.values c.args.clock.now) c.args.site.now c.deref.result.now c.args.ops (c.deref.ensures.value ∙ c.into_vec-ops.ensures)
     c.in-Ok.boxed true (g.K.Sink.held c.args.sink.now) (g.K.Sink.held c.serve_all.new.sink) (search rules) c.in-Ok.ensures.ends
 
 pub returns-in-Ok-clause-ends : goal.returns-in-Ok-clause-ends
 returns-in-Ok-clause-ends g c =
     finishes g.H.Host.meaning
-    (boxed.link_view g.P.L.Link.answers g.P.L.Link.own_port g.P.L.Link.trace g.P.L.Link.loss_count g.P.L.Link.fault_count)
-    (ports_view (g.P.Ports.to_come c.args.ports.now) (g.P.Ports.detached c.args.ports.now) (g.P.Ports.detached c.serve_all.new.ports)
-    (g.P.Ports.fault_count c.args.ports.now) (g.P.Ports.fault_count c.serve_all.new.ports))
+    (links_of g.P.L.Link) (ports_of g.P.Ports c.args.ports.now c.serve_all.new.ports)
     (g.T.Clock.values c.args.clock.now) c.args.site.now c.deref.result.now c.args.ops (c.deref.ensures.value ∙ c.into_vec-ops.ensures)
     c.in-Ok.boxed false (g.K.Sink.held c.args.sink.now) (g.K.Sink.held c.serve_all.new.sink) (search rules) c.in-Ok.ensures.ends
 
 pub returns-in-Err-WriteFault-clause-ends : goal.returns-in-Err-WriteFault-clause-ends
 returns-in-Err-WriteFault-clause-ends g c =
     serves_same g.H.Host.meaning
-    (boxed.link_view g.P.L.Link.answers g.P.L.Link.own_port g.P.L.Link.trace g.P.L.Link.loss_count g.P.L.Link.fault_count)
-    (ports_view (g.P.Ports.to_come c.args.ports.now) (g.P.Ports.detached c.args.ports.now) (g.P.Ports.detached c.serve_all.new.ports)
-    (g.P.Ports.fault_count c.args.ports.now) (g.P.Ports.fault_count c.serve_all.new.ports))
+    (links_of g.P.L.Link) (ports_of g.P.Ports c.args.ports.now c.serve_all.new.ports)
     (g.T.Clock.values c.args.clock.now) c.args.site.now c.deref.result.now c.args.ops (c.deref.ensures.value ∙ c.into_vec-ops.ensures)
     (Err errors.WriteFault) (g.K.Sink.held c.args.sink.now) (g.K.Sink.held c.serve_all.new.sink) (rw c.in-Err-WriteFault.field-0-is at
     c.in-Err-WriteFault.ensures.ends)
@@ -36,9 +29,7 @@ returns-in-Err-WriteFault-clause-ends g c =
 pub returns-clause-ends : goal.returns-clause-ends
 returns-clause-ends g c =
     serves_same g.H.Host.meaning
-    (boxed.link_view g.P.L.Link.answers g.P.L.Link.own_port g.P.L.Link.trace g.P.L.Link.loss_count g.P.L.Link.fault_count)
-    (ports_view (g.P.Ports.to_come c.args.ports.now) (g.P.Ports.detached c.args.ports.now) (g.P.Ports.detached c.serve_all.new.ports)
-    (g.P.Ports.fault_count c.args.ports.now) (g.P.Ports.fault_count c.serve_all.new.ports))
+    (links_of g.P.L.Link) (ports_of g.P.Ports c.args.ports.now c.serve_all.new.ports)
     (g.T.Clock.values c.args.clock.now) c.args.site.now c.deref.result.now c.args.ops (c.deref.ensures.value ∙ c.into_vec-ops.ensures)
     (Err errors.NoMemory) (g.K.Sink.held c.args.sink.now) (g.K.Sink.held c.serve_all.new.sink) (rw c.in-Err-NoMemory.field-0-is at
     c.in-Err-NoMemory.ensures.ends)

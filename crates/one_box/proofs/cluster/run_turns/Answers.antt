@@ -2,15 +2,8 @@ use Rattle.std.proofs.Common.{subst, ◌∙◌, ap, List, map}
 use Rattle.nop_types.specs.declared.output.Actor.{Actor}
 use Rattle.one_box.specs.Attaching.{AttachesAll, place_for}
 use Rattle.one_box.specs.Showing.{course_of, link_view}
-use Rattle.one_box.proofs.AttachingLemmas.{bases_placed}
 use Rattle.one_box.proofs.ClusterLemmas.{turns_run, unattached, holds_same, room_same, holds_none, room_none}
 use Rattle.one_box.proofs.cluster.run_turns.Goals as goal
-
-pub take_turns-requires : goal.take_turns-requires
-take_turns-requires g c =
-    let v = link_view g.P.L.Link.answers g.P.L.Link.own_port g.P.L.Link.trace g.P.L.Link.loss_count g.P.L.Link.fault_count in
-    bases_placed v c.args.base c.args.config c.now-now.result c.deref.result.now c.attach_all-attached.new.nodes.items c.requires.base
-    c.in-Ok-attached.ensures.attaches.places
 
 pub returns-in-Ok-attached-clause-runs : goal.returns-in-Ok-attached-clause-runs
 returns-in-Ok-attached-clause-runs g c =

@@ -11,8 +11,8 @@ returns-in_default-clause-acts g c =
     fired_none g.H.Host.meaning v c.args.ops.now (course_of c.args.course.now) (course_of c.args.course.now) x x c.args.timer c.args.now _
     c.op_at-op.ensures c.in_ok-event.field-0 c.in_ok-event.ensures c.in_default.is
 
-pub take-requires-clause-event : goal.take-requires-clause-event
-take-requires-clause-event g c =
+pub take-requires : goal.take-requires
+take-requires g c =
     timer_free c.args.course.now.world.state c.args.node.now.at.own _ c.args.timer c.args.now c.in_ok-event.field-0 c.in-Some.event
     c.in_ok-event.ensures c.in-Some.is
 

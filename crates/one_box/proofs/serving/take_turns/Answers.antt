@@ -2,15 +2,7 @@ use Rattle.std.proofs.Common.{◌≡◌, ◌∙◌, sym, arith, rules, max}
 use Rattle.one_box.specs.Showing.{course_of, link_view}
 use Rattle.one_box.proofs.LeadingLemmas.{goes_through}
 use Rattle.one_box.proofs.RunningLemmas.{run_stops, turn_done, going_on, turns_over, runs_fail}
-use Rattle.one_box.proofs.TurningLemmas.{base_at}
 use Rattle.one_box.proofs.serving.take_turns.Goals as goal
-
-pub turn-requires : goal.turn-requires
-turn-requires g c =
-    let v = link_view g.L.Link.answers g.L.Link.own_port g.L.Link.trace g.L.Link.loss_count g.L.Link.fault_count in
-    λ i y found.
-    base_at v
-    c.args.nodes.now.items c.loop-taken.nodes.items i y c.requires c.loop-taken.invariant.places found
 
 pub returns-in-Err-clause-told : goal.returns-in-Err-clause-told
 returns-in-Err-clause-told g c =

@@ -4,7 +4,7 @@ use Rattle.std.proofs.lemmas.List.{length-set}
 use Rattle.std.proofs.lemmas.Option.{slice_get_read}
 use Rattle.one_box.specs.Showing.{course_of, link_view}
 use Rattle.one_box.proofs.LeadingLemmas.{goes_through}
-use Rattle.one_box.proofs.TurningLemmas.{none_turned, turned, all_turned, turn_stops, same_places, base_at, lost_set}
+use Rattle.one_box.proofs.TurningLemmas.{none_turned, turned, all_turned, turn_stops, same_places, lost_set}
 use Rattle.one_box.proofs.turn.turn.Goals as goal
 
 pub loop-i-init : goal.loop-i-init
@@ -18,16 +18,6 @@ loop-i-init g c =
       places = refl;
       len = refl;
     }
-
-pub node_turn-requires : goal.node_turn-requires
-node_turn-requires g c =
-    let v = link_view g.L.Link.answers g.L.Link.own_port g.L.Link.trace g.L.Link.loss_count g.L.Link.fault_count in
-    let ys = c.loop-i.nodes.items in
-    let within : c.loop-i.i < length ys =
-    omega (arith, c.loop-i-test.true, c.len-i-end.ensures, c.args.nodes.now.ok.0, c.loop-i.invariant.len) in
-    base_at v
-    c.args.nodes.now.items ys c.loop-i.i c.index_mut-node.result.now c.requires c.loop-i.invariant.places
-    (slice_get_read ys (length ys) c.loop-i.i c.index_mut-node.result.now refl within c.index_mut-node.ensures.value)
 
 pub returns-in-Err-clause-turns : goal.returns-in-Err-clause-turns
 returns-in-Err-clause-turns g c =
