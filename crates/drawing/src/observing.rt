@@ -52,10 +52,10 @@ fn observe_datagram<H: Host, T: OpText>(
     index: u64,
     recorder: &mut Recorder,
 ) -> Result<(), NoMemory> {
-    let (Some(dest), Some(bytes)) = (world.sent_to(index), world.sent(index)) else {
+    let (Some(dest), Some(bytes)) = (world.sent_to(index), world.sent(index)?) else {
         return Ok(());
     };
-    recorder.put_sent(turn, dest, describe::<T>(alloc, bytes)?);
+    recorder.put_sent(turn, dest, describe::<T>(alloc, bytes.as_slice())?);
     Ok(())
 }
 

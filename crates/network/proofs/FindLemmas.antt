@@ -1,20 +1,19 @@
 -- Where the first datagram with some bytes stands.
-use Rattle.std.proofs.Common.{◌≡◌, ℕ, ◌+◌, Bool, true, false, cond, List, [], ◌∷◌, ◌++◌, length, Option, Some, None}
-use Rattle.std.proofs.Common.{◌≤◌, drop, add-one, Result, Ok, Err, OnOk, OnErr, refl, sym, ap, subst, ◌∙◌, arith, is_some, ⊎_elim}
+use Rattle.std.proofs.Common.{◌≡◌, ℕ, ◌+◌, Bool, true, false, cond, ◌&&◌, eqb, List, [], ◌∷◌, ◌++◌, length, Option, Some, None}
+use Rattle.std.proofs.Common.{take, drop, add-one, Result, Ok, Err, OnOk, OnErr, refl, sym, ap, subst, ◌∙◌, arith, is_some, ⊎_elim}
 use Rattle.std.specs.HashMap.{HashMap, get_by, UpdatesBy}
 use Rattle.std.specs.List.{position_from}
 use Rattle.std.specs.Map.{lookup, KeepsOthers, IsKeyTest, AreApart}
 use Rattle.std.specs.Str.{bytes_eq}
 use Rattle.std.specs.Cmp.Lexicographic.{nat_list_eq_equiv}
+use Rattle.std.proofs.lemmas.Cmp.{nat_eq_equiv}
 use Rattle.std.proofs.lemmas.Bool.{cases_Bool, cond-true, cond-false}
 use Rattle.std.proofs.lemmas.Slice.Eq.{bytes_eq-Decides}
-use Rattle.std.proofs.lemmas.List.{drop_all}
-use Rattle.std.specs.Prelude.{slice_get, slice_range}
+use Rattle.std.specs.Prelude.{slice_get}
 use Rattle.facts.proofs.Places.{Splits-at}
 use Rattle.network.specs.declared.index.Index.{Index}
 use Rattle.network.specs.declared.network.Mark.{Mark}
-use Rattle.network.specs.Marks.{cut_from, EndsAt}
-use Rattle.network.proofs.MarkLemmas.{ends_above}
+use Rattle.network.specs.Marks.{datagram_of, all_sent}
 use Rattle.network.specs.Network.{Sent}
 use Rattle.network.specs.Finding.{has_bytes, first_index, index_in, index_after, IsIndexOf, MayIndex, NotesIn, StaysIn}
 
@@ -122,52 +121,60 @@ may_index_after (Ok x) index new sent later s count is before noted stays put sa
 may_index_after (Err x) index new sent later s count is before noted stays put same =
     subst (MayIndex new) (sym same) (may_index_stays index new sent before stays)
 
+-- ---- a datagram in two parts
+
+bool_move : (a b c : Bool) → ((a && b) && c) ≡ (a && (b && c))
+bool_move true b c = refl
+bool_move false b c = refl
+
+parts_eq : (head rest wanted : List ℕ)
+    → (bytes_eq (take (length head) wanted) head && bytes_eq (drop (length head) wanted) rest) ≡ bytes_eq (head ++ rest) wanted
+parts_eq [] rest wanted = nat_list_eq_equiv.symm wanted rest
+parts_eq (h ∷ hs) rest [] = refl
+parts_eq (h ∷ hs) rest (w ∷ ws) =
+    bool_move (eqb w h) (bytes_eq (take (length hs) ws) hs) (bytes_eq (drop (length hs) ws) rest)
+    ∙ ap (λ (b : Bool). eqb w h && b) (parts_eq hs rest ws)
+    ∙ ap (λ (b : Bool). b && bytes_eq (hs ++ rest) ws) (nat_eq_equiv.symm w h)
+
+module _ (head rest wanted front back : List ℕ) (is_front : front ≡ take (length head) wanted)
+    (is_back : back ≡ drop (length head) wanted) (b : Bool) (is : b ≡ bytes_eq front head) where
+  compared : (b && bytes_eq back rest) ≡ bytes_eq (head ++ rest) wanted
+  compared =
+      ap (λ (x : Bool). x && bytes_eq back rest) (is ∙ ap (λ (xs : List ℕ). bytes_eq xs head) is_front)
+      ∙ ap (λ (xs : List ℕ). bytes_eq (take (length head) wanted) head && bytes_eq xs rest) is_back
+      ∙ parts_eq head rest wanted
+
+  -- the heads are the same
+  pub rests_compared : b ≡ true → bytes_eq back rest ≡ bytes_eq (head ++ rest) wanted
+  rests_compared same = subst (λ (x : Bool). (x && bytes_eq back rest) ≡ bytes_eq (head ++ rest) wanted) same compared
+
+  pub heads_differ : b ≡ false → b ≡ bytes_eq (head ++ rest) wanted
+  heads_differ other =
+      other ∙ subst (λ (x : Bool). (x && bytes_eq back rest) ≡ bytes_eq (head ++ rest) wanted) other compared
+
 -- ---- a walk
 
--- `i` datagrams were passed, and the first of those that are left is the first of all
-pub record Passed (wanted : List ℕ) (ms : List Mark) (bytes : List ℕ) (i start : ℕ) : Type 0 where
-  pub ends : EndsAt start (drop i ms) (length bytes)
-  pub finds : position_from (has_bytes wanted) i (cut_from start (drop i ms) bytes) ≡ first_index wanted (cut_from 0 ms bytes)
+module _ (wanted bytes : List ℕ) (ms : List Mark) (i : ℕ) where
+  -- `i` datagrams were passed, and the first of those that are left is the first of all
+  abbrev pub Passed : Type 0
+  Passed = position_from (has_bytes wanted) i (all_sent bytes (drop i ms)) ≡ first_index wanted (all_sent bytes ms)
 
-module _ (wanted : List ℕ) (ms : List Mark) (bytes : List ℕ) (i start : ℕ) (m : Mark) (found : slice_get ms i ≡ Some m)
-    (ends : EndsAt start (drop i ms) (length bytes)) where
-  left : drop i ms ≡ m ∷ drop (i + 1) ms
-  left = (Splits-at ms i m found).back ∙ ap (λ (j : ℕ). m ∷ drop j ms) (sym (add-one i))
+  module _ (m : Mark) (at : slice_get ms i ≡ Some m) (passed : Passed) (b : Bool) (is : b ≡ bytes_eq (datagram_of bytes m) wanted) where
+    left : drop i ms ≡ m ∷ drop (i + 1) ms
+    left = (Splits-at ms i m at).back ∙ ap (λ (j : ℕ). m ∷ drop j ms) (sym (add-one i))
 
-  next_ends : EndsAt start (m ∷ drop (i + 1) ms) (length bytes)
-  next_ends = subst (λ (xs : List Mark). EndsAt start xs (length bytes)) left ends
+    next : cond b (Some i) (position_from (has_bytes wanted) (i + 1) (all_sent bytes (drop (i + 1) ms)))
+        ≡ first_index wanted (all_sent bytes ms)
+    next =
+        ap (λ (c : Bool). cond c (Some i) (position_from (has_bytes wanted) (i + 1) (all_sent bytes (drop (i + 1) ms))))
+        (is ∙ nat_list_eq_equiv.symm (datagram_of bytes m) wanted)
+        ∙ ap (λ (xs : List Mark). position_from (has_bytes wanted) i (all_sent bytes xs)) (sym left) ∙ passed
 
-  pub mark_order : start ≤ m.end
-  mark_order = next_ends.0
+    pub passed_more : b ≡ false → position_from (has_bytes wanted) (i + 1) (all_sent bytes (drop (i + 1) ms))
+        ≡ first_index wanted (all_sent bytes ms)
+    passed_more other = subst (λ (c : Bool). cond c (Some i) (position_from (has_bytes wanted) (i + 1) (all_sent bytes (drop (i + 1) ms)))
+        ≡ first_index wanted (all_sent bytes ms)) other next
 
-  pub mark_within : m.end ≤ length bytes
-  mark_within = ends_above (drop (i + 1) ms) m.end (length bytes) next_ends.1
-
-  module _ (finds : position_from (has_bytes wanted) i (cut_from start (drop i ms) bytes) ≡ first_index wanted (cut_from 0 ms bytes))
-      (b : Bool) (is : b ≡ bytes_eq (slice_range bytes start m.end) wanted) where
-    next_finds : cond b (Some i) (position_from (has_bytes wanted) (i + 1) (cut_from m.end (drop (i + 1) ms) bytes))
-        ≡ first_index wanted (cut_from 0 ms bytes)
-    next_finds =
-        ap (λ (c : Bool). cond c (Some i) (position_from (has_bytes wanted) (i + 1) (cut_from m.end (drop (i + 1) ms) bytes)))
-        (is ∙ nat_list_eq_equiv.symm (slice_range bytes start m.end) wanted)
-        ∙ ap (λ (xs : List Mark). position_from (has_bytes wanted) i (cut_from start xs bytes)) (sym left) ∙ finds
-
-    pub passed : b ≡ false → Passed wanted ms bytes (i + 1) m.end
-    passed other = record {
-      ends = next_ends.1;
-      finds = subst (λ (c : Bool). cond c (Some i) (position_from (has_bytes wanted) (i + 1) (cut_from m.end (drop (i + 1) ms) bytes))
-          ≡ first_index wanted (cut_from 0 ms bytes)) other next_finds;
-    }
-
-    pub found_here : b ≡ true → Some i ≡ first_index wanted (cut_from 0 ms bytes)
-    found_here same = subst (λ (c : Bool). cond c (Some i) (position_from (has_bytes wanted) (i + 1) (cut_from m.end (drop (i + 1) ms)
-        bytes))
-        ≡ first_index wanted (cut_from 0 ms bytes)) same next_finds
-
--- none is left
-pub none_found : (wanted : List ℕ) (ms : List Mark) (bytes : List ℕ) (i start : ℕ) → length ms ≤ i
-    → position_from (has_bytes wanted) i (cut_from start (drop i ms) bytes) ≡ first_index wanted (cut_from 0 ms bytes)
-    → None ≡ first_index wanted (cut_from 0 ms bytes)
-none_found wanted ms bytes i start past finds =
-    let none : drop i ms ≡ [] = drop_all i ms past in
-    ap (λ (xs : List Mark). position_from (has_bytes wanted) i (cut_from start xs bytes)) (sym none) ∙ finds
+    pub found_here : b ≡ true → Some i ≡ first_index wanted (all_sent bytes ms)
+    found_here same = subst (λ (c : Bool). cond c (Some i) (position_from (has_bytes wanted) (i + 1) (all_sent bytes (drop (i + 1) ms)))
+        ≡ first_index wanted (all_sent bytes ms)) same next

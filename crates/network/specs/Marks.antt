@@ -1,20 +1,35 @@
--- Datagrams one behind the other, with a mark at the end of each.
-use Rattle.std.specs.Prelude.{◌≡◌, ◌≤◌, ℕ, zero, suc, List, [], ◌∷◌, slice_range}
+-- Datagrams in one vector of bytes, with a mark for each.
+use Rattle.std.specs.Prelude.{◌≡◌, ◌≤◌, ◌+◌, ◌-◌, ℕ, List, ◌++◌, length, map, min, slice_range, take}
+use Rattle.network.specs.declared.network.TheConstants.{HEADER_LEN}
 use Rattle.network.specs.declared.network.Mark.{Mark}
 use Rattle.network.specs.Network.{Sent}
 
--- the datagrams that begin at this place
-abbrev pub cut_from : ℕ → List Mark → List ℕ → List Sent
-cut_from start [] bytes = []
-cut_from start (m ∷ ms) bytes = record { from = m.from; dest = m.dest; bytes = slice_range bytes start m.end } ∷ cut_from m.end ms bytes
+-- so many bytes from a place on
+abbrev pub part_of : List ℕ → ℕ → ℕ → List ℕ
+part_of bytes begin len = slice_range bytes begin (begin + len)
 
--- the ends rise, and the last is this one
-abbrev pub EndsAt : ℕ → List Mark → ℕ → Type 0
-EndsAt start [] total = start ≡ total
-EndsAt start (m ∷ ms) total = (start ≤ m.end) × EndsAt m.end ms total
+-- how many bytes of a datagram are its head
+abbrev pub head_len : Mark → ℕ
+head_len mark = min mark.len HEADER_LEN
 
--- where the datagram with an index begins
-abbrev pub start_of : ℕ → List Mark → ℕ → ℕ
-start_of start ms zero = start
-start_of start [] (suc i) = start
-start_of start (m ∷ ms) (suc i) = start_of m.end ms i
+abbrev pub rest_len : Mark → ℕ
+rest_len mark = mark.len - HEADER_LEN
+
+abbrev pub datagram_of : List ℕ → Mark → List ℕ
+datagram_of bytes mark = part_of bytes mark.head (head_len mark) ++ part_of bytes mark.rest (rest_len mark)
+
+abbrev pub sent_of : List ℕ → Mark → Sent
+sent_of bytes mark = record { from = mark.from; dest = mark.dest; bytes = datagram_of bytes mark }
+
+-- all datagrams, in order
+abbrev pub all_sent : List ℕ → List Mark → List Sent
+all_sent bytes marks = map (sent_of bytes) marks
+
+-- its head and its rest lie within so many bytes
+pub record MarkFits (count : ℕ) (mark : Mark) : Type 0 where
+  pub head_within : mark.head + head_len mark ≤ count
+  pub rest_within : mark.rest + rest_len mark ≤ count
+
+-- the old bytes are there yet, and others may be behind them
+abbrev pub Keeps : List ℕ → List ℕ → Type 0
+Keeps old new = take (length old) new ≡ old

@@ -2,38 +2,56 @@ ghost use Rattle.std.specs.Prelude.{
   ◌≡◌,
   ◌<◌,
   ◌≤◌,
+  ◌+◌,
   ◌++◌,
   ◌∷◌,
   [],
   length,
   slice_get,
-  slice_range,
   option_map,
+  IfOk,
   OnOk,
   OnErr,
 };
+ghost use Rattle.std.specs.List.{All};
 ghost use Rattle.network.specs.Finding.{NotesIn, StaysIn};
 ghost use Rattle.network.specs.Network.{Sent};
-ghost use Rattle.network.specs.Marks.{start_of, cut_from, EndsAt};
+ghost use Rattle.network.specs.Marks.{
+  part_of,
+  head_len,
+  rest_len,
+  datagram_of,
+  all_sent,
+  MarkFits,
+};
 
 mod destination;
 mod finding;
+mod sharing;
 
 use crate::index::Index;
-use nop_types::{Actor, Dest, NoMemory};
+use nop_types::{Actor, Bytes, Dest, NoMemory};
+use sharing::put_bytes;
 use std::alloc::Global;
 use std::marker::Model;
 
-/// Where a datagram ends in the bytes of the network, who sent it, and where to.
+/// The bytes of a fragment before its payload: the payload may have been sent before, under another
+/// header.
+const HEADER_LEN: usize = 17;
+
+/// A datagram: where its head of at most `HEADER_LEN` bytes begins and where the rest of its bytes
+/// begins, which other datagrams may have too; how long it is, who sent it, and where to.
 #[derive(Clone, Copy)]
 pub struct Mark {
-    pub end: usize,
+    pub head: usize,
+    pub rest: usize,
+    pub len: u32,
     pub from: Actor,
     pub dest: Dest,
 }
 
-/// All datagrams that were ever sent, one behind the other in one vector; where it has an index, a
-/// datagram is found by its bytes without a walk over all of them.
+/// All datagrams that were ever sent, in one vector of bytes; where it has an index, a datagram is
+/// found by its bytes without a walk over all of them.
 pub struct Network {
     bytes: Vec<u8>,
     marks: Vec<Mark>,
@@ -42,16 +60,17 @@ pub struct Network {
 
 impl Model for Network {
     ghost use Rattle.std.specs.Prelude.{List, length};
+    ghost use Rattle.std.specs.List.{All};
     ghost use Rattle.network.specs.Network.{Sent};
     ghost use Rattle.network.specs.Finding.{MayIndex};
-    ghost use Rattle.network.specs.Marks.{cut_from, EndsAt};
+    ghost use Rattle.network.specs.Marks.{all_sent, MarkFits};
 
     ghost Value = { List Sent };
 
-    ghost view = { λ n. cut_from 0 n.marks.items n.bytes.items };
+    ghost view = { λ n. all_sent n.bytes.items n.marks.items };
 
-    ghost invariant = { λ n. EndsAt 0 n.marks.items (length n.bytes.items)
-        × MayIndex n.index (cut_from 0 n.marks.items n.bytes.items) };
+    ghost invariant = { λ n. All (MarkFits (length n.bytes.items)) n.marks.items
+        × MayIndex n.index (all_sent n.bytes.items n.marks.items) };
 }
 
 // By hand, so that a crate with a network proves nothing on how its parts are dropped.
@@ -72,60 +91,56 @@ fn mark_at(marks: &[Mark], index: usize) -> Mark
     marks[index]
 }
 
-/// Where the datagram with this index begins.
-fn start(marks: &[Mark], index: usize) -> usize
-    requires { index < length marks.now }
-    ensures { result ≡ start_of 0 marks.now index }
+fn part(bytes: &[u8], begin: usize, len: usize) -> &[u8]
+    requires { begin + len ≤ length bytes.now }
+    ensures { result.now ≡ part_of bytes.now begin len }
 {
-    if index == 0 {
-        return 0;
-    }
-    mark_at(marks, index - 1).end
+    &bytes[begin..begin + len]
 }
 
-fn part(bytes: &[u8], start: usize, end: usize) -> &[u8]
-    requires order { start ≤ end }
-    requires within { end ≤ length bytes.now }
-    ensures { result.now ≡ slice_range bytes.now start end }
+fn head_of(bytes: &[u8], mark: Mark) -> &[u8]
+    requires { MarkFits (length bytes.now) mark }
+    ensures { result.now ≡ part_of bytes.now mark.head (head_len mark) }
 {
-    &bytes[start..end]
+    part(bytes, mark.head, (mark.len as usize).min(HEADER_LEN))
 }
 
-fn datagram<'a>(bytes: &'a [u8], marks: &[Mark], index: u64) -> Option<&'a [u8]>
-    requires { EndsAt 0 marks.now (length bytes.now) }
-    ensures { option_map (λ b. b.now) result
-        ≡ option_map (λ s. s.bytes) (slice_get (cut_from 0 marks.now bytes.now) index) }
+fn rest_of(bytes: &[u8], mark: Mark) -> &[u8]
+    requires { MarkFits (length bytes.now) mark }
+    ensures { result.now ≡ part_of bytes.now mark.rest (rest_len mark) }
+{
+    let len = (mark.len as usize).saturating_sub(HEADER_LEN);
+    part(bytes, mark.rest, len)
+}
+
+/// The datagram of a mark, copied.
+fn datagram(alloc: Global, bytes: &[u8], mark: Mark) -> Result<Bytes, NoMemory>
+    requires { MarkFits (length bytes.now) mark }
+    ensures { IfOk result (λ b. b ≡ datagram_of bytes.now mark) }
+{
+    let head = head_of(bytes, mark);
+    let rest = rest_of(bytes, mark);
+    let mut copy = Vec::with_capacity(alloc, head.len() + rest.len())?;
+    copy.extend_from_slice(head)?;
+    copy.extend_from_slice(rest)?;
+    Ok(Bytes::from_vec(copy))
+}
+
+/// The datagram with this index, copied, None where no datagram has it.
+fn datagram_at(
+    alloc: Global,
+    bytes: &[u8],
+    marks: &[Mark],
+    index: u64,
+) -> Result<Option<Bytes>, NoMemory>
+    requires { All (MarkFits (length bytes.now)) marks.now }
+    ensures { IfOk result (λ o. o
+        ≡ option_map (λ s. s.bytes) (slice_get (all_sent bytes.now marks.now) index)) }
 {
     if index >= marks.len() as u64 {
-        return None;
+        return Ok(None);
     }
-    let index = index as usize;
-    let end = mark_at(marks, index).end;
-    Some(part(bytes, start(marks, index), end))
-}
-
-/// Puts a datagram and its mark behind the others.
-fn put(
-    bytes: &mut Vec<u8>,
-    marks: &mut Vec<Mark>,
-    from: Actor,
-    dest: Dest,
-    datagram: &[u8],
-) -> Result<(), NoMemory>
-    ensures bytes { OnOk result (bytes.new.items ≡ bytes.old.items ++ datagram.now) }
-    ensures marks { OnOk result (marks.new.items ≡ marks.old.items
-        ++ record { end = length bytes.new.items; from = from; dest = dest } ∷ []) }
-    ensures err { OnErr result ((bytes.new.items ≡ bytes.old.items)
-        × (marks.new.items ≡ marks.old.items)) }
-{
-    let len = bytes.len();
-    bytes.extend_from_slice(datagram)?;
-    let end = bytes.len();
-    if marks.push(Mark { end, from, dest }).is_err() {
-        bytes.truncate(len);
-        return Err(NoMemory);
-    }
-    Ok(())
+    Ok(Some(datagram(alloc, bytes, mark_at(marks, index as usize))?))
 }
 
 /// Notes a datagram where there is an index.
@@ -139,8 +154,30 @@ fn note(index: &mut Option<Index>, datagram: &[u8], at: u64) -> Result<(), NoMem
     }
 }
 
+/// Puts a mark behind the others, and notes its datagram where there is an index.
+fn put_mark(
+    marks: &mut Vec<Mark>,
+    index: &mut Option<Index>,
+    mark: Mark,
+    datagram: &[u8],
+) -> Result<(), NoMemory>
+    ensures ok { OnOk result (marks.new.items ≡ marks.old.items ++ mark ∷ []) }
+    ensures err { OnErr result (marks.new.items ≡ marks.old.items) }
+    ensures noted { OnOk result
+        (NotesIn index.old index.new datagram.now (length marks.old.items)) }
+    ensures unnoted { OnErr result (StaysIn index.old index.new) }
+{
+    let count = marks.len();
+    marks.push(mark)?;
+    if note(index, datagram, count as u64).is_err() {
+        marks.truncate(count);
+        return Err(NoMemory);
+    }
+    Ok(())
+}
+
 /// Puts a datagram behind the others, and notes it where there is an index.
-fn put_noted(
+fn put(
     bytes: &mut Vec<u8>,
     marks: &mut Vec<Mark>,
     index: &mut Option<Index>,
@@ -148,24 +185,26 @@ fn put_noted(
     dest: Dest,
     datagram: &[u8],
 ) -> Result<(), NoMemory>
-    ensures bytes { OnOk result (bytes.new.items ≡ bytes.old.items ++ datagram.now) }
-    ensures marks { OnOk result (marks.new.items ≡ marks.old.items
-        ++ record { end = length bytes.new.items; from = from; dest = dest } ∷ []) }
-    ensures err { OnErr result ((bytes.new.items ≡ bytes.old.items)
-        × (marks.new.items ≡ marks.old.items)) }
+    requires { All (MarkFits (length bytes.old.items)) marks.old.items }
+    ensures fits { All (MarkFits (length bytes.new.items)) marks.new.items }
+    ensures ok { OnOk result (all_sent bytes.new.items marks.new.items
+        ≡ all_sent bytes.old.items marks.old.items
+        ++ record { from = from; dest = dest; bytes = datagram.now } ∷ []) }
+    ensures err { OnErr result (all_sent bytes.new.items marks.new.items
+        ≡ all_sent bytes.old.items marks.old.items) }
     ensures noted { OnOk result
         (NotesIn index.old index.new datagram.now (length marks.old.items)) }
     ensures unnoted { OnErr result (StaysIn index.old index.new) }
 {
     let len = bytes.len();
-    let count = marks.len();
-    put(bytes, marks, from, dest, datagram)?;
-    if note(index, datagram, count as u64).is_err() {
-        bytes.truncate(len);
-        marks.truncate(count);
-        return Err(NoMemory);
+    let mark = put_bytes(bytes, marks, from, dest, datagram)?;
+    match put_mark(marks, index, mark, datagram) {
+        Ok(()) => Ok(()),
+        Err(error) => {
+            bytes.truncate(len);
+            Err(error)
+        }
     }
-    Ok(())
 }
 
 impl Network {
@@ -196,12 +235,12 @@ impl Network {
         self.marks.len() as u64
     }
 
-    /// The datagram with this index, None where no datagram has it.
-    pub fn get(&self, index: u64) -> Option<&[u8]>
-        ensures { option_map (λ b. b.now) result
-            ≡ option_map (λ s. s.bytes) (slice_get self.now index) }
+    /// The datagram with this index, copied, None where no datagram has it.
+    pub fn get(&self, index: u64) -> Result<Option<Bytes>, NoMemory>
+        ensures { IfOk result (λ o. o
+            ≡ option_map (λ s. s.bytes) (slice_get self.now index)) }
     {
-        datagram(&self.bytes, &self.marks, index)
+        datagram_at(*self.bytes.allocator(), &self.bytes, &self.marks, index)
     }
 
     pub fn push(&mut self, from: Actor, dest: Dest, datagram: &[u8]) -> Result<(), NoMemory>
@@ -209,7 +248,7 @@ impl Network {
             ++ record { from = from; dest = dest; bytes = datagram.now } ∷ []) }
         ensures err { OnErr result (self.new ≡ self.old) }
     {
-        put_noted(
+        put(
             &mut self.bytes,
             &mut self.marks,
             &mut self.index,

@@ -26,8 +26,8 @@ fn send_one<H: Host, L: Link>(
     ensures port { L.own_port link.new ≡ L.own_port link.old }
 {
     match world.sent_to(index) {
-        Some(dest) => match world.sent(index) {
-            Some(bytes) => send_to(at, dest, bytes, link, lost),
+        Some(dest) => match world.sent(index)? {
+            Some(bytes) => send_to(at, dest, bytes.as_slice(), link, lost),
             None => Ok(()),
         },
         None => Ok(()),

@@ -1,6 +1,6 @@
 -- What a call on a seat of the code did.
 use Rattle.std.specs.Prelude.{◌≡◌, ℕ, List, map, Option, Result, Ok, Err, slice_set}
-use Rattle.nop_types.specs.Given.{given}
+use Rattle.nop_types.specs.Given.{Packet, given}
 use Rattle.nop_types.specs.declared.output.Out.{Out}
 use Rattle.world.specs.declared.seat.Seat.{Seat}
 use Rattle.world.specs.declared.step_error.StepError.{StepError}
@@ -17,6 +17,7 @@ seated_of state p = record { state = state p.core; crashed = p.crashed }
 -- a stimulus without where its input lies in memory
 abbrev pub owned : declared.Stimulus → Stimulus
 owned (stimuli.Input input) = Takes (given input)
+owned (stimuli.Datagram bytes) = Takes (Packet bytes)
 owned stimuli.Crash = Crashes
 
 -- the seat is what the definition says, and so are the outputs

@@ -21,7 +21,7 @@ ghost use Rattle.world.specs.WorldSteps.{crashed_in, step_at, step_with, stimulu
 use crate::step_error::StepError;
 use crate::stimulus::{Stimulus, stimulus_of};
 use network::Network;
-use nop_types::{Config, Core, NoMemory, Outbox, Tick};
+use nop_types::{Config, Core, Input, NoMemory, Outbox, Tick};
 use schedule_text::Event;
 use std::alloc::Global;
 
@@ -55,6 +55,9 @@ impl<C: Core> Seat<C> {
         let mut out = Outbox::new(alloc);
         match stimulus {
             Stimulus::Input(input) => self.core.step(input, &mut out)?,
+            Stimulus::Datagram(bytes) => {
+                self.core.step(Input::Packet(bytes.as_slice()), &mut out)?
+            }
             Stimulus::Crash => self.crashed = true,
         }
         Ok(Some(out))

@@ -11,15 +11,17 @@ ghost use Rattle.world.specs.WorldSteps.{
 
 use crate::step_error::StepError;
 use network::Network;
-use nop_types::{Actor, Config, Input, Tick};
+use nop_types::{Actor, Bytes, Config, Input, Tick};
 use oum_codec::read_datagram;
 use schedule_text::{Event, takes_tick};
 use std::alloc::Global;
 
 /// What an event brings to its actor.
-#[derive(Clone, Copy)]
+#[derive(Drop)]
 pub enum Stimulus<'a> {
     Input(Input<'a>),
+    /// A datagram of the network.
+    Datagram(Bytes),
     Crash,
 }
 
@@ -48,14 +50,14 @@ fn tick_if(takes: bool, tick: Tick) -> Result<Stimulus<'static>, StepError>
     }
 }
 
-fn datagram_at(network: &Network, index: u64) -> Result<Stimulus<'_>, StepError>
+fn datagram_at(network: &Network, index: u64) -> Result<Stimulus<'static>, StepError>
     ensures ok { IfOk result (λ s.
         datagram_at index (length network.now) (slice_get network.now index) ≡ Ok (owned s)) }
     ensures err { IfErr result (λ e. Refuses e
         (datagram_at index (length network.now) (slice_get network.now index)) ⊤) }
 {
-    match network.get(index) {
-        Some(bytes) => Ok(Stimulus::Input(Input::Packet(bytes))),
+    match network.get(index)? {
+        Some(bytes) => Ok(Stimulus::Datagram(bytes)),
         None => Err(StepError::NoSuchDatagram {
             index,
             sent: network.len(),
@@ -79,7 +81,7 @@ fn junk(alloc: Global, bytes: &[u8]) -> Result<Stimulus<'_>, StepError>
 pub fn stimulus_of<'a>(
     alloc: Global,
     config: Config,
-    network: &'a Network,
+    network: &Network,
     event: &'a Event,
 ) -> Result<Stimulus<'a>, StepError>
     ensures ok { IfOk result (λ s. stimulus_of config network.now event.now ≡ Ok (owned s)) }

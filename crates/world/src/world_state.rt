@@ -31,7 +31,7 @@ use crate::seat::core_at;
 use crate::state_lines::put_replicas;
 use crate::step_error::StepError;
 use network::{Lines, Network};
-use nop_types::{Actor, Config, Host, NoMemory, Request};
+use nop_types::{Actor, Bytes, Config, Host, NoMemory, Request};
 use replica_core::Replica;
 use schedule_text::Event;
 use std::alloc::Global;
@@ -137,10 +137,10 @@ impl<H: Host> World<H> {
         self.actors.config
     }
 
-    /// The datagram with this index, None where it was not sent yet.
-    pub fn sent(&self, i: u64) -> Option<&[u8]>
-        ensures { option_map (λ b. b.now) result
-            ≡ option_map (λ s. s.bytes) (slice_get self.now.state.sent i) }
+    /// The datagram with this index, copied, None where it was not sent yet.
+    pub fn sent(&self, i: u64) -> Result<Option<Bytes>, NoMemory>
+        ensures { IfOk result (λ o. o
+            ≡ option_map (λ s. s.bytes) (slice_get self.now.state.sent i)) }
     {
         self.actors.network.get(i)
     }

@@ -89,8 +89,9 @@ fn check_sent<H: Host>(rt: &impl Abort, alloc: Global, world: &World<H>, index: 
         digits.push_str(word).expect(rt, "memory");
     }
     let told = hex::decode(alloc, &digits).expect(rt, "hexadecimal");
-    let given = world.sent(index).expect(rt, "a datagram");
-    assert!(rt; given == told.as_slice(), "{index}");
+    let given = world.sent(index).expect(rt, "memory");
+    let given = given.expect(rt, "a datagram");
+    assert!(rt; given.as_slice() == told.as_slice(), "{index}");
 }
 
 /// The put alone stands in its slot. Of the main log it is what is synchronised.

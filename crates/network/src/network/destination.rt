@@ -16,7 +16,7 @@ fn destination(marks: &[Mark], index: u64) -> Option<Dest>
 
 impl Network {
     /// The destination of the datagram with this index, None where no datagram has it.
-    #[tactic(auto, using(crate::proofs::MarkLemmas::cut_destinations))]
+    #[tactic(auto, using(crate::proofs::MarkLemmas::all_destinations))]
     pub fn sent_to(&self, index: u64) -> Option<Dest>
         ensures { result ≡ option_map (λ s. s.dest) (slice_get self.now index) }
     {
