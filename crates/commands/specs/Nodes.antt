@@ -4,10 +4,9 @@ use Rattle.std.specs.Io.KnownBytes.{Appends}
 use Rattle.nop_types.specs.Given.{Given}
 use Rattle.nop_types.specs.declared.input.Tick.{Tick}
 use Rattle.nop_types.specs.declared.output.Out.{Out}
-use Rattle.one_box.specs.Showing.{LinkView, link_view}
+use Rattle.one_box.specs.Showing.{LinkView}
 use Rattle.outside.specs.Causes.{Rose, next_count}
 use Rattle.outside.specs.Ports.{next_link}
-use Rattle.outside.specs.declared.link.Link as link_trait
 use Rattle.outside.specs.declared.link.PollAnswer.{PollAnswer}
 use Rattle.outside.specs.declared.ports.Ports as ports_trait
 use Rattle.udp_node.specs.declared.address.Address.{Address}
@@ -189,10 +188,6 @@ ports_view to_come before after faults_before faults_after attached_before attac
   attached_before = attached_before;
   attached_after = attached_after;
 }
-
--- what is seen of a link
-abbrev pub links_of : {L : Type 0} → link_trait.Ghosts L → LinkView L
-links_of l = link_view l.answers l.own_port l.trace l.loss_count l.fault_count
 
 -- what is seen of ports
 abbrev pub ports_of : {P L : Type 0} → ports_trait.Ghosts P L → P → P → PortsView L

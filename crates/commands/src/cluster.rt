@@ -3,7 +3,8 @@
 ghost use Rattle.std.specs.Prelude.{◌≡◌, ◌+◌, length};
 ghost use Rattle.outside.specs.Causes.{Rose};
 ghost use Rattle.commands.specs.Clusters.{ClusterEnds};
-ghost use Rattle.commands.specs.Nodes.{links_of, ports_of, writes_after};
+ghost use Rattle.one_box.specs.Showing.{links_of};
+ghost use Rattle.commands.specs.Nodes.{ports_of, writes_after};
 
 use crate::status::Status;
 use command_line::{Ops, Site};

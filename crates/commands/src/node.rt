@@ -6,7 +6,8 @@ ghost use Rattle.udp_node.specs.Effects.{Writes};
 ghost use Rattle.udp_node.specs.NodeRun.{first_inputs};
 ghost use Rattle.udp_node.specs.Sends.{side};
 ghost use Rattle.commands.specs.Nodes.{served_line, end_status, task_of, RunTold, IsNodeStatus, writes_after};
-ghost use Rattle.commands.specs.Nodes.{EndsInLine, links_of, ports_of, NodeEnds};
+ghost use Rattle.one_box.specs.Showing.{links_of};
+ghost use Rattle.commands.specs.Nodes.{EndsInLine, ports_of, NodeEnds};
 
 use crate::status::Status;
 use nop_types::{Core, NoMemory, Tick};

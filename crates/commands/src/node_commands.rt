@@ -3,7 +3,8 @@
 ghost use Rattle.std.specs.Prelude.{◌≡◌, ◌<◌, ◌+◌, false, length, true};
 ghost use Rattle.nop_types.specs.declared.limits.TheConstants.{MAX_SEQUENCERS, MAX_CONTROLLERS};
 ghost use Rattle.outside.specs.Causes.{Rose};
-ghost use Rattle.commands.specs.Nodes.{IsNodeStatus, links_of, ports_of, NodeEnds, writes_after};
+ghost use Rattle.one_box.specs.Showing.{links_of};
+ghost use Rattle.commands.specs.Nodes.{IsNodeStatus, ports_of, NodeEnds, writes_after};
 ghost use Rattle.commands.specs.Tasks.{install_tick, replica_task, sequencer_task, controller_task, client_task};
 
 use crate::node::{Task, run_core};

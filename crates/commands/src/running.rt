@@ -6,7 +6,8 @@ ghost use Rattle.commands.specs.Words.{asked, reads, usage_line, Taken};
 ghost use Rattle.commands.specs.Checks.{CheckEnds};
 ghost use Rattle.commands.specs.Clusters.{uses_ports};
 ghost use Rattle.commands.specs.Ending.{ReplayEnds, GenEnds, UsageEnds};
-ghost use Rattle.commands.specs.Nodes.{links_of, ports_of, writes_after};
+ghost use Rattle.one_box.specs.Showing.{links_of};
+ghost use Rattle.commands.specs.Nodes.{ports_of, writes_after};
 ghost use Rattle.commands.specs.Runs.{Runs, Completes, devices, sink_of, source_of};
 
 use crate::check::run_check;

@@ -9,6 +9,7 @@ use Rattle.outside.specs.declared.errors.DeviceError.{DeviceError}
 use Rattle.outside.specs.declared.errors.DeviceError.TheVariants.{Failed, NoMemory}
 use Rattle.outside.specs.declared.link.PollAnswer.{PollAnswer}
 use Rattle.outside.specs.declared.link.LinkCall.{LinkCall}
+use Rattle.outside.specs.declared.link.Link as link_trait
 use Rattle.schedule_text.specs.declared.event.Event.{Event}
 use Rattle.schedule_text.specs.declared.event.Event.TheVariants.{Submit, Deliver, Tick, Install, Crash, Junk}
 use Rattle.schedule_text.specs.EventText.{HasLine}
@@ -93,6 +94,9 @@ abbrev pub link_view : {L : Type 0} → (L → Option (List PollAnswer)) → (L 
     → LinkView L
 link_view answers port trace losses faults =
     record { answers = answers; port = port; trace = trace; losses = losses; faults = faults }
+
+abbrev pub links_of : {L : Type 0} → link_trait.Ghosts L → LinkView L
+links_of l = link_view l.answers l.own_port l.trace l.loss_count l.fault_count
 
 module _ {L : Type 0} (v : LinkView L) where
   -- the link tells its content, and took the calls of the actor, but for the sends that failed

@@ -16,7 +16,7 @@ ghost use Rattle.one_box.specs.Attaching.{
   lost_by,
   ports_side,
 };
-ghost use Rattle.one_box.specs.Showing.{link_view};
+ghost use Rattle.one_box.specs.Showing.{links_of};
 
 use crate::node::Node;
 use nop_types::{Actor, Config, Host, NoMemory, Tick};
@@ -142,9 +142,7 @@ fn attach_one<P: Ports>(
     timers: Vec<Timer>,
     nodes: &mut Vec<Node<P::L>>,
 ) -> Result<(), AttachError>
-    ensures attaches { Attaches
-        (link_view P.L.answers P.L.own_port P.L.trace P.L.loss_count P.L.fault_count)
-        at timers.items result
+    ensures attaches { Attaches (links_of P.L.Link) at timers.items result
         (ports_side (P.to_come ports.old) (P.attached ports.old) (P.detached ports.old))
         (ports_side (P.to_come ports.new) (P.attached ports.new) (P.detached ports.new))
         nodes.old.items nodes.new.items }
@@ -184,8 +182,7 @@ fn attach_actor<H: Host, P: Ports>(
     ports: &mut P,
     nodes: &mut Vec<Node<P::L>>,
 ) -> Result<(), AttachError>
-    ensures attaches { Attaches
-        (link_view P.L.answers P.L.own_port P.L.trace P.L.loss_count P.L.fault_count)
+    ensures attaches { Attaches (links_of P.L.Link)
         at (map (armed now) (timers_of world.now.state at.own)) result
         (ports_side (P.to_come ports.old) (P.attached ports.old) (P.detached ports.old))
         (ports_side (P.to_come ports.new) (P.attached ports.new) (P.detached ports.new))
@@ -219,9 +216,7 @@ pub(crate) fn attach_all<H: Host, P: Ports>(
 ) -> Result<(), AttachError>
     requires empty { nodes.old.items ≡ [] }
     requires world { world.now.state ≡ opening config }
-    ensures attaches { OnOk result (AllAttached
-        (link_view P.L.answers P.L.own_port P.L.trace P.L.loss_count P.L.fault_count)
-        base config now actors.now
+    ensures attaches { OnOk result (AllAttached (links_of P.L.Link) base config now actors.now
         (ports_side (P.to_come ports.old) (P.attached ports.old) (P.detached ports.old))
         (ports_side (P.to_come ports.new) (P.attached ports.new) (P.detached ports.new))
         nodes.new.items) }

@@ -4,7 +4,7 @@ ghost use Rattle.outside.specs.Causes.{Rose};
 ghost use Rattle.one_box.specs.Attaching.{HasRoom, Holds};
 ghost use Rattle.one_box.specs.Boxing.{error_of, EndsWith, IsNoRun, PollFailed, RunsOr, writes_after};
 ghost use Rattle.one_box.specs.ClusterRun.{opening_course};
-ghost use Rattle.one_box.specs.Showing.{course_of, link_view};
+ghost use Rattle.one_box.specs.Showing.{course_of, links_of};
 ghost use Rattle.one_box.specs.declared.errors.ClusterError.TheVariants as errors;
 
 use crate::attaching::{actors_of, attach_all, detach_all, lost_by};
@@ -33,8 +33,7 @@ fn run_turns<H: Host, P: Ports, C: Clock>(
 ) -> Result<Taken, LinkError>
     requires empty { nodes.old.items ≡ [] }
     requires opens { course_of course.old ≡ opening_course config }
-    ensures runs { RunsOr H.meaning
-        (link_view P.L.answers P.L.own_port P.L.trace P.L.loss_count P.L.fault_count)
+    ensures runs { RunsOr H.meaning (links_of P.L.Link)
         config ops.now base turns (P.to_come ports.old) (C.values clock.old)
         (P.fault_count ports.old) (P.fault_count ports.new)
         (P.detached ports.old) (P.detached ports.new) result (course_of course.new)
@@ -89,15 +88,13 @@ pub fn serve_all<H: Host, P: Ports, C: Clock, K: Sink>(
     sink: &mut K,
 ) -> Result<Boxed, ClusterError>
     requires form { IsTrue (gives 1 config) }
-    ensures ends { EndsWith H.meaning
-        (link_view P.L.answers P.L.own_port P.L.trace P.L.loss_count P.L.fault_count)
+    ensures ends { EndsWith H.meaning (links_of P.L.Link)
         config ops.now base turns (P.to_come ports.old) (C.values clock.old)
         (P.detached ports.old) (P.detached ports.new) result (K.held sink.old) (K.held sink.new) }
     ensures back { P.attached ports.new + length (P.detached ports.old)
         ≡ P.attached ports.old + length (P.detached ports.new) }
     ensures link { IsErrOf result errors.LinkFault
-        → Rose (P.fault_count ports.old) (P.fault_count ports.new) ⊎ PollFailed
-        (link_view P.L.answers P.L.own_port P.L.trace P.L.loss_count P.L.fault_count)
+        → Rose (P.fault_count ports.old) (P.fault_count ports.new) ⊎ PollFailed (links_of P.L.Link)
         (P.detached ports.old) (P.detached ports.new) }
     ensures none { IsErrOf result errors.LinkFault
         → Rose (P.fault_count ports.old) (P.fault_count ports.new) ⊎ IsNoRun H.meaning config

@@ -2,7 +2,7 @@ ghost use Rattle.std.specs.Prelude.{◌≡◌, ◌<◌, IfOk, OnOk, Some};
 ghost use Rattle.std.specs.Prelude.{length, nat_le, option_map, slice_get};
 ghost use Rattle.one_box.specs.ClusterRun.{fire_due, fire_if};
 ghost use Rattle.one_box.specs.Firing.{next_after, next_event, tick_event, timer_event};
-ghost use Rattle.one_box.specs.Showing.{course_of, link_view, Acts, place_of};
+ghost use Rattle.one_box.specs.Showing.{course_of, links_of, Acts, place_of};
 
 use crate::course::Course;
 use crate::node::Node;
@@ -112,14 +112,11 @@ fn fire<H: Host, L: Link>(
     timer: Timer,
     now: u64,
 ) -> Result<(), NoMemory>
-    ensures acts { OnOk result (Acts
-        (link_view L.answers L.own_port L.trace L.loss_count L.fault_count) H.meaning
+    ensures acts { OnOk result (Acts (links_of L.Link) H.meaning
         (λ c n. fire_if H.meaning ops.now (nat_le timer.due now) c n timer.tick)
         (course_of course.old) node.old (course_of course.new) node.new) }
     ensures timers { node.new.timers.items ≡ node.old.timers.items }
-    ensures place { place_of
-        (link_view L.answers L.own_port L.trace L.loss_count L.fault_count) node.new
-        ≡ place_of (link_view L.answers L.own_port L.trace L.loss_count L.fault_count) node.old }
+    ensures place { place_of (links_of L.Link) node.new ≡ place_of (links_of L.Link) node.old }
 {
     let op = op_at(ops, node.next_op);
     let Some(event) = timer_event(&course.world, node.at.own, op, timer, now)? else {
@@ -136,14 +133,11 @@ pub(crate) fn fire_due<H: Host, L: Link>(
     ops: &[Op],
     now: u64,
 ) -> Result<(), NoMemory>
-    ensures acts { OnOk result (Acts
-        (link_view L.answers L.own_port L.trace L.loss_count L.fault_count) H.meaning
+    ensures acts { OnOk result (Acts (links_of L.Link) H.meaning
         (λ c n. fire_due H.meaning ops.now now n.timers c n)
         (course_of course.old) node.old (course_of course.new) node.new) }
     ensures timers { node.new.timers.items ≡ node.old.timers.items }
-    ensures place { place_of
-        (link_view L.answers L.own_port L.trace L.loss_count L.fault_count) node.new
-        ≡ place_of (link_view L.answers L.own_port L.trace L.loss_count L.fault_count) node.old }
+    ensures place { place_of (links_of L.Link) node.new ≡ place_of (links_of L.Link) node.old }
 {
     for i in 0..node.timers.len() {
         let timer = timer_at(node, i);

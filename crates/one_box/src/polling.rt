@@ -1,6 +1,6 @@
 ghost use Rattle.std.specs.Prelude.{◌≡◌, OnOk};
 ghost use Rattle.one_box.specs.ClusterRun.{deliver, poll};
-ghost use Rattle.one_box.specs.Showing.{course_of, link_view, Acts, Serves, place_of};
+ghost use Rattle.one_box.specs.Showing.{course_of, links_of, Acts, Serves, place_of};
 ghost use Rattle.network.specs.Finding.{first_index};
 
 use crate::course::Course;
@@ -17,13 +17,10 @@ fn deliver<H: Host, L: Link>(
     node: &mut Node<L>,
     datagram: &[u8],
 ) -> Result<(), NoMemory>
-    ensures acts { OnOk result (Acts
-        (link_view L.answers L.own_port L.trace L.loss_count L.fault_count) H.meaning
+    ensures acts { OnOk result (Acts (links_of L.Link) H.meaning
         (λ c n. deliver H.meaning (first_index datagram.now c.world.sent) c n)
         (course_of course.old) node.old (course_of course.new) node.new) }
-    ensures place { place_of
-        (link_view L.answers L.own_port L.trace L.loss_count L.fault_count) node.new
-        ≡ place_of (link_view L.answers L.own_port L.trace L.loss_count L.fault_count) node.old }
+    ensures place { place_of (links_of L.Link) node.new ≡ place_of (links_of L.Link) node.old }
 {
     match course.world.find(datagram) {
         Some(index) => take(course, node, Event::Deliver(index, node.at.own)),
@@ -40,13 +37,9 @@ pub(crate) fn poll<H: Host, L: Link>(
     node: &mut Node<L>,
     now: u64,
 ) -> Result<(), LinkError>
-    ensures serves { Serves
-        (link_view L.answers L.own_port L.trace L.loss_count L.fault_count) H.meaning
-        (λ c n. poll H.meaning now c n) result
+    ensures serves { Serves (links_of L.Link) H.meaning (λ c n. poll H.meaning now c n) result
         (course_of course.old) node.old (course_of course.new) node.new }
-    ensures place { place_of
-        (link_view L.answers L.own_port L.trace L.loss_count L.fault_count) node.new
-        ≡ place_of (link_view L.answers L.own_port L.trace L.loss_count L.fault_count) node.old }
+    ensures place { place_of (links_of L.Link) node.new ≡ place_of (links_of L.Link) node.old }
 {
     rearm_due(&mut node.timers, now);
     match poll_link(&mut node.link, &mut node.lost) {

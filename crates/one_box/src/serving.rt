@@ -1,7 +1,7 @@
 ghost use Rattle.std.specs.Prelude.{◌≡◌, map};
 ghost use Rattle.one_box.specs.ClusterRun.{all_accepted};
 ghost use Rattle.one_box.specs.Running.{Runs, RunsTold};
-ghost use Rattle.one_box.specs.Showing.{course_of, link_view, place_of};
+ghost use Rattle.one_box.specs.Showing.{course_of, links_of, place_of};
 
 use crate::course::Course;
 use crate::node::Node;
@@ -31,18 +31,14 @@ pub(crate) fn take_turns<H: Host, L: Link, C: Clock>(
     now: u64,
     clock: &mut C,
 ) -> Result<Taken, LinkError>
-    ensures told { RunsTold
-        (link_view L.answers L.own_port L.trace L.loss_count L.fault_count)
+    ensures told { RunsTold (links_of L.Link)
         H.meaning ops.now turns now (C.values clock.old) result
         (course_of course.old) nodes.old.items (course_of course.new) nodes.new.items }
-    ensures runs { Runs
-        (link_view L.answers L.own_port L.trace L.loss_count L.fault_count) H.meaning
+    ensures runs { Runs (links_of L.Link) H.meaning
         ops.now turns result (course_of course.old) nodes.old.items (course_of course.new)
         nodes.new.items }
-    ensures places { map (place_of
-        (link_view L.answers L.own_port L.trace L.loss_count L.fault_count)) nodes.new.items
-        ≡ map (place_of (link_view L.answers L.own_port L.trace L.loss_count L.fault_count))
-        nodes.old.items }
+    ensures places { map (place_of (links_of L.Link)) nodes.new.items
+        ≡ map (place_of (links_of L.Link)) nodes.old.items }
 {
     let mut now = now;
     let mut taken = 0;

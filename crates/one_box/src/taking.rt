@@ -2,7 +2,7 @@ ghost use Rattle.std.specs.Prelude.{◌≡◌, OnOk, OnErr};
 ghost use Rattle.one_box.specs.ClusterRun.{take};
 ghost use Rattle.one_box.specs.Showing.{
   course_of,
-  link_view,
+  links_of,
   Acts,
   GoesOn,
   IsNoJunk,
@@ -50,14 +50,10 @@ pub(crate) fn take<H: Host, L: Link>(
     event: Event,
 ) -> Result<(), NoMemory>
     requires { IsNoJunk event }
-    ensures acts { OnOk result (Acts
-        (link_view L.answers L.own_port L.trace L.loss_count L.fault_count) H.meaning
-        (λ c n. take H.meaning c n event)
+    ensures acts { OnOk result (Acts (links_of L.Link) H.meaning (λ c n. take H.meaning c n event)
         (course_of course.old) node.old (course_of course.new) node.new) }
     ensures timers { node.new.timers.items ≡ node.old.timers.items }
-    ensures place { place_of
-        (link_view L.answers L.own_port L.trace L.loss_count L.fault_count) node.new
-        ≡ place_of (link_view L.answers L.own_port L.trace L.loss_count L.fault_count) node.old }
+    ensures place { place_of (links_of L.Link) node.new ≡ place_of (links_of L.Link) node.old }
 {
     let count = course.world.sent_count();
     match keep_step(course, event) {

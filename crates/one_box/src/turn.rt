@@ -1,6 +1,6 @@
 ghost use Rattle.std.specs.Prelude.{◌≡◌, map};
 ghost use Rattle.one_box.specs.ClusterRun.{node_turn, turn};
-ghost use Rattle.one_box.specs.Showing.{course_of, link_view, Serves, Turns, place_of};
+ghost use Rattle.one_box.specs.Showing.{course_of, links_of, Serves, Turns, place_of};
 
 use crate::course::Course;
 use crate::firing::fire_due;
@@ -16,13 +16,10 @@ fn node_turn<H: Host, L: Link>(
     ops: &[Op],
     now: u64,
 ) -> Result<(), LinkError>
-    ensures serves { Serves
-        (link_view L.answers L.own_port L.trace L.loss_count L.fault_count) H.meaning
+    ensures serves { Serves (links_of L.Link) H.meaning
         (λ c n. node_turn H.meaning ops.now now c n) result
         (course_of course.old) node.old (course_of course.new) node.new }
-    ensures place { place_of
-        (link_view L.answers L.own_port L.trace L.loss_count L.fault_count) node.new
-        ≡ place_of (link_view L.answers L.own_port L.trace L.loss_count L.fault_count) node.old }
+    ensures place { place_of (links_of L.Link) node.new ≡ place_of (links_of L.Link) node.old }
 {
     match fire_due(course, node, ops, now) {
         Ok(()) => poll(course, node, now),
@@ -37,14 +34,11 @@ pub(crate) fn turn<H: Host, L: Link>(
     ops: &[Op],
     now: u64,
 ) -> Result<(), LinkError>
-    ensures turns { Turns
-        (link_view L.answers L.own_port L.trace L.loss_count L.fault_count) H.meaning
+    ensures turns { Turns (links_of L.Link) H.meaning
         (λ c ns. turn H.meaning ops.now now c ns) result
         (course_of course.old) nodes.old.items (course_of course.new) nodes.new.items }
-    ensures places { map (place_of
-        (link_view L.answers L.own_port L.trace L.loss_count L.fault_count)) nodes.new.items
-        ≡ map (place_of (link_view L.answers L.own_port L.trace L.loss_count L.fault_count))
-        nodes.old.items }
+    ensures places { map (place_of (links_of L.Link)) nodes.new.items
+        ≡ map (place_of (links_of L.Link)) nodes.old.items }
 {
     for i in 0..nodes.len() {
         let node = &mut nodes[i];

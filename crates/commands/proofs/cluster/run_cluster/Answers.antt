@@ -1,6 +1,7 @@
 use Rattle.std.proofs.Common.{◌∙◌, true, false, Err, rules}
 use Rattle.one_box.specs.declared.errors.ClusterError.TheVariants as errors
-use Rattle.commands.specs.Nodes.{links_of, ports_of}
+use Rattle.one_box.specs.Showing.{links_of}
+use Rattle.commands.specs.Nodes.{ports_of}
 use Rattle.commands.proofs.ClusterLemmas.{finishes, serves_same}
 use Rattle.commands.proofs.cluster.run_cluster.Goals as goal
 

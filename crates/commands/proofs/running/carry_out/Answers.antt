@@ -2,7 +2,8 @@ use Rattle.std.proofs.Common.{Some, true}
 use Rattle.command_line.specs.declared.command.Command.TheVariants.{Client}
 use Rattle.commands.proofs.AnswerLemmas.{client_answers}
 use Rattle.commands.proofs.RunLemmas.{no_read}
-use Rattle.commands.specs.Nodes.{links_of, ports_of}
+use Rattle.one_box.specs.Showing.{links_of}
+use Rattle.commands.specs.Nodes.{ports_of}
 use Rattle.commands.proofs.running.carry_out.Goals as goal
 
 pub returns-in-Client-clause-ends : goal.returns-in-Client-clause-ends

@@ -3,7 +3,8 @@ use Rattle.commands.proofs.AnswerLemmas.{no_answers}
 use Rattle.commands.proofs.CheckLemmas.{unchecked}
 use Rattle.commands.proofs.ClusterLemmas.{not_served}
 use Rattle.commands.proofs.CommandLemmas.{no_drawing, no_front, no_usage, not_begun}
-use Rattle.commands.specs.Nodes.{links_of, ports_of}
+use Rattle.one_box.specs.Showing.{links_of}
+use Rattle.commands.specs.Nodes.{ports_of}
 use Rattle.commands.specs.Words.{asked}
 use Rattle.commands.proofs.running.run.Goals as goal
 

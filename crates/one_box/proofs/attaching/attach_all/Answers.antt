@@ -1,14 +1,14 @@
 use Rattle.std.proofs.Common.{◌≡◌, ◌∙◌, refl, sym, subst, ap, arith, length, map, Some, Err}
 use Rattle.std.specs.Prelude.{slice_get}
 use Rattle.outside.specs.declared.errors.DeviceError.TheVariants.{Failed}
-use Rattle.one_box.specs.Showing.{link_view, AllLostFit, place_of}
+use Rattle.one_box.specs.Showing.{links_of, AllLostFit, place_of}
 use Rattle.one_box.proofs.AttachingLemmas.{attaching_first, attaching_more, attached_all, places_more, places_all, lost_push}
 use Rattle.one_box.proofs.AttachingLemmas.{room_stays, room_more, holds_stays, holds_more, cause_since, no_cause}
 use Rattle.one_box.proofs.attaching.attach_all.Goals as goal
 
 pub loop-i-init : goal.loop-i-init
 loop-i-init g c =
-    let v = link_view g.P.L.Link.answers g.P.L.Link.own_port g.P.L.Link.trace g.P.L.Link.loss_count g.P.L.Link.fault_count in
+    let v = links_of g.P.L.Link in
     let none : length c.args.nodes.now.items ≡ 0 = ap length c.requires.empty in
     record {
       on = attaching_first v
@@ -42,7 +42,7 @@ returns-in-Err-clause-cause g c =
 
 pub loop-i-preserved : goal.loop-i-preserved
 loop-i-preserved g c =
-    let v = link_view g.P.L.Link.answers g.P.L.Link.own_port g.P.L.Link.trace g.P.L.Link.loss_count g.P.L.Link.fault_count in
+    let v = links_of g.P.L.Link in
     let actors = c.args.actors.now in
     let i = c.loop-i.i in
     let a = c.actor_at-own.result in
@@ -72,7 +72,7 @@ loop-i-preserved g c =
 
 pub returns-clause-attaches : goal.returns-clause-attaches
 returns-clause-attaches g c =
-    let v = link_view g.P.L.Link.answers g.P.L.Link.own_port g.P.L.Link.trace g.P.L.Link.loss_count g.P.L.Link.fault_count in
+    let v = links_of g.P.L.Link in
     let all = c.args.actors.now in
     let xs = c.loop-i.nodes.items in
     let past = c.loop-i-test.false in

@@ -1,13 +1,13 @@
 use Rattle.std.proofs.Common.{subst, ◌∙◌, ap, List, map}
 use Rattle.nop_types.specs.declared.output.Actor.{Actor}
 use Rattle.one_box.specs.Attaching.{AttachesAll, place_for}
-use Rattle.one_box.specs.Showing.{course_of, link_view}
+use Rattle.one_box.specs.Showing.{course_of, links_of}
 use Rattle.one_box.proofs.ClusterLemmas.{turns_run, unattached, holds_same, room_same, holds_none, room_none}
 use Rattle.one_box.proofs.cluster.run_turns.Goals as goal
 
 pub returns-in-Ok-attached-clause-runs : goal.returns-in-Ok-attached-clause-runs
 returns-in-Ok-attached-clause-runs g c =
-    let v = link_view g.P.L.Link.answers g.P.L.Link.own_port g.P.L.Link.trace g.P.L.Link.loss_count g.P.L.Link.fault_count in
+    let v = links_of g.P.L.Link in
     let attached = c.in-Ok-attached.ensures.attaches in
     let actors = c.deref.ensures.value ∙ c.in-Ok.ensures in
     turns_run g.H.Host.meaning v c.args.config c.args.ops.now c.args.base c.args.turns c.now-now.result (g.P.Ports.to_come c.args.ports.now)
@@ -22,21 +22,21 @@ returns-in-Ok-attached-clause-runs g c =
 
 pub returns-in-Ok-attached-clause-holds : goal.returns-in-Ok-attached-clause-holds
 returns-in-Ok-attached-clause-holds g c =
-    let v = link_view g.P.L.Link.answers g.P.L.Link.own_port g.P.L.Link.trace g.P.L.Link.loss_count g.P.L.Link.fault_count in
+    let v = links_of g.P.L.Link in
     holds_same v c.attach_all-attached.new.nodes.items c.take_turns.new.nodes.items c.take_turns.ensures.places
     (g.P.Ports.attached c.args.ports.now) (g.P.Ports.attached c.attach_all-attached.new.ports)
     (g.P.Ports.detached c.args.ports.now) (g.P.Ports.detached c.attach_all-attached.new.ports) c.attach_all-attached.ensures.holds
 
 pub returns-in-Ok-attached-clause-room : goal.returns-in-Ok-attached-clause-room
 returns-in-Ok-attached-clause-room g c =
-    let v = link_view g.P.L.Link.answers g.P.L.Link.own_port g.P.L.Link.trace g.P.L.Link.loss_count g.P.L.Link.fault_count in
+    let v = links_of g.P.L.Link in
     room_same v c.attach_all-attached.new.nodes.items c.take_turns.new.nodes.items c.take_turns.ensures.places
     (g.P.Ports.attached c.attach_all-attached.new.ports) (g.P.Ports.detached c.attach_all-attached.new.ports)
     c.attach_all-attached.ensures.room
 
 pub returns-clause-runs : goal.returns-clause-runs
 returns-clause-runs g c =
-    let v = link_view g.P.L.Link.answers g.P.L.Link.own_port g.P.L.Link.trace g.P.L.Link.loss_count g.P.L.Link.fault_count in
+    let v = links_of g.P.L.Link in
     unattached g.H.Host.meaning v c.args.config c.args.ops.now c.args.base c.args.turns c.in-Err.e
     (g.P.Ports.to_come c.args.ports.now) (g.C.Clock.values c.args.clock.now) (g.P.Ports.fault_count c.args.ports.now)
     (g.P.Ports.fault_count c.attach_all-attached.new.ports) (g.P.Ports.detached c.args.ports.now)

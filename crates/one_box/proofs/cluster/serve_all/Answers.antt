@@ -1,13 +1,13 @@
 use Rattle.std.proofs.Common.{◌≡◌, rules}
 use Rattle.nop_types.specs.Checkpoints.{KeepsTo}
 use Rattle.one_box.specs.Attaching.{lost_by}
-use Rattle.one_box.specs.Showing.{course_of, link_view}
+use Rattle.one_box.specs.Showing.{course_of, links_of}
 use Rattle.one_box.proofs.ClusterLemmas.{run_ends, ends_early, caused, no_run, never_link, never_written, all_back}
 use Rattle.one_box.proofs.cluster.serve_all.Goals as goal
 
 pub returns-in-Ok-ran-clause-ends : goal.returns-in-Ok-ran-clause-ends
 returns-in-Ok-ran-clause-ends g c =
-    let v = link_view g.P.L.Link.answers g.P.L.Link.own_port g.P.L.Link.trace g.P.L.Link.loss_count g.P.L.Link.fault_count in
+    let v = links_of g.P.L.Link in
     let keeps : KeepsTo g.H.Host.meaning g.H.Host.is_sound = search (g.met.H.Host) in
     let xs = c.run_turns-ran.new.nodes.items in
     let lost_is : c.lost_by-lost.result ≡ lost_by xs = search rules in
@@ -25,14 +25,14 @@ returns-in-Ok-ran-clause-none g c = λ is. absurd (never_link _ _ c.write_run.re
 
 pub returns-clause-ends : goal.returns-clause-ends
 returns-clause-ends g c =
-    let v = link_view g.P.L.Link.answers g.P.L.Link.own_port g.P.L.Link.trace g.P.L.Link.loss_count g.P.L.Link.fault_count in
+    let v = links_of g.P.L.Link in
     ends_early g.H.Host.meaning v c.args.config c.args.ops.now c.args.base c.args.turns (g.P.Ports.to_come c.args.ports.now)
     (g.C.Clock.values c.args.clock.now) (g.P.Ports.detached c.args.ports.now) (g.P.Ports.detached c.detach_all.new.ports) c.in-Err.e
     c.error_of.result (g.K.Sink.held c.args.sink.now) c.error_of.ensures
 
 pub returns-clause-link : goal.returns-clause-link
 returns-clause-link g c =
-    let v = link_view g.P.L.Link.answers g.P.L.Link.own_port g.P.L.Link.trace g.P.L.Link.loss_count g.P.L.Link.fault_count in
+    let v = links_of g.P.L.Link in
     caused g.H.Host.meaning v c.args.config c.args.ops.now c.args.base c.args.turns (g.P.Ports.to_come c.args.ports.now)
     (g.C.Clock.values c.args.clock.now) (g.P.Ports.detached c.args.ports.now) (g.P.Ports.detached c.detach_all.new.ports)
     (g.P.Ports.fault_count c.args.ports.now) (g.P.Ports.fault_count c.run_turns-ran.new.ports)
@@ -42,7 +42,7 @@ returns-clause-link g c =
 
 pub returns-clause-none : goal.returns-clause-none
 returns-clause-none g c =
-    let v = link_view g.P.L.Link.answers g.P.L.Link.own_port g.P.L.Link.trace g.P.L.Link.loss_count g.P.L.Link.fault_count in
+    let v = links_of g.P.L.Link in
     no_run g.H.Host.meaning v c.args.config c.args.ops.now c.args.base c.args.turns (g.P.Ports.to_come c.args.ports.now)
     (g.C.Clock.values c.args.clock.now) (g.P.Ports.detached c.args.ports.now) (g.P.Ports.detached c.detach_all.new.ports)
     (g.P.Ports.fault_count c.args.ports.now) (g.P.Ports.fault_count c.run_turns-ran.new.ports)

@@ -1,12 +1,12 @@
 use Rattle.std.proofs.Common.{◌≡◌, ◌∙◌, ap, rules}
 use Rattle.one_box.specs.Firing.{next_after}
-use Rattle.one_box.specs.Showing.{course_of, link_view}
+use Rattle.one_box.specs.Showing.{course_of, links_of}
 use Rattle.one_box.proofs.FiringLemmas.{fired_none, fired_some, timer_free}
 use Rattle.one_box.proofs.firing.fire.Goals as goal
 
 pub returns-in_default-clause-acts : goal.returns-in_default-clause-acts
 returns-in_default-clause-acts g c =
-    let v = link_view g.L.Link.answers g.L.Link.own_port g.L.Link.trace g.L.Link.loss_count g.L.Link.fault_count in
+    let v = links_of g.L.Link in
     let x = c.args.node.now in
     fired_none g.H.Host.meaning v c.args.ops.now (course_of c.args.course.now) (course_of c.args.course.now) x x c.args.timer c.args.now _
     c.op_at-op.ensures c.in_ok-event.field-0 c.in_ok-event.ensures c.in_default.is
@@ -18,7 +18,7 @@ take-requires g c =
 
 pub returns-clause-acts : goal.returns-clause-acts
 returns-clause-acts g c =
-    let v = link_view g.L.Link.answers g.L.Link.own_port g.L.Link.trace g.L.Link.loss_count g.L.Link.fault_count in
+    let v = links_of g.L.Link in
     let x = c.args.node.now in
     let clients : c.clients.result ≡ c.args.course.now.world.state.config.clients = search rules in
     fired_some g.H.Host.meaning v c.args.ops.now (course_of c.args.course.now) (course_of c.take.new.course) x c.take.new.node c.args.timer

@@ -1,14 +1,14 @@
 use Rattle.std.proofs.Common.{◌≡◌, ◌∙◌, subst, Some, arith, refl, List}
 use Rattle.std.specs.Prelude.{slice_get}
 use Rattle.udp_node.specs.declared.firing.Timer.{Timer}
-use Rattle.one_box.specs.Showing.{course_of, link_view}
+use Rattle.one_box.specs.Showing.{course_of, links_of}
 use Rattle.one_box.proofs.FiringLemmas.{none_fired, fired_at, all_fired_at}
 use Rattle.one_box.proofs.LeadingLemmas.{goes_through}
 use Rattle.one_box.proofs.firing.fire_due.Goals as goal
 
 pub loop-i-init : goal.loop-i-init
 loop-i-init g c =
-    let v = link_view g.L.Link.answers g.L.Link.own_port g.L.Link.trace g.L.Link.loss_count g.L.Link.fault_count in
+    let v = links_of g.L.Link in
     record {
       fires = λ n shown. none_fired g.H.Host.meaning v
           c.args.ops.now c.args.now c.args.node.now.timers.items (course_of c.args.course.now) n c.args.node.now shown;
@@ -20,7 +20,7 @@ loop-i-init g c =
 
 pub loop-i-preserved : goal.loop-i-preserved
 loop-i-preserved g c =
-    let v = link_view g.L.Link.answers g.L.Link.own_port g.L.Link.trace g.L.Link.loss_count g.L.Link.fault_count in
+    let v = links_of g.L.Link in
     let all = c.args.node.now.timers.items in
     let i = c.loop-i.invariant in
     let there : slice_get all c.loop-i.i ≡ Some c.timer_at-timer.result =
@@ -38,7 +38,7 @@ loop-i-preserved g c =
 
 pub returns-clause-acts : goal.returns-clause-acts
 returns-clause-acts g c =
-    let v = link_view g.L.Link.answers g.L.Link.own_port g.L.Link.trace g.L.Link.loss_count g.L.Link.fault_count in
+    let v = links_of g.L.Link in
     record {
       does = λ n shown. all_fired_at g.H.Host.meaning v c.args.ops.now c.args.now c.args.node.now.timers.items c.loop-i.i
           (course_of c.args.course.now) (course_of c.loop-i.course) n c.loop-i.node (omega arith) shown.timers

@@ -1,19 +1,19 @@
 use Rattle.std.proofs.Common.{◌≡◌, drop}
 use Rattle.one_box.specs.ClusterRun.{Node}
 use Rattle.one_box.specs.Progress.{FiringOn}
-use Rattle.one_box.specs.Showing.{course_of, link_view, GoesOn, LostFits, Shows, place_of}
+use Rattle.one_box.specs.Showing.{course_of, links_of, GoesOn, LostFits, Shows, place_of}
 use Rattle.one_box.proofs.firing.fire_due.Given as goal
 
 abbrev pub invariant-loop-i : goal.invariant-loop-i
 invariant-loop-i g l = record {
-  fires : (n : Node) → Shows (link_view g.L.Link.answers g.L.Link.own_port g.L.Link.trace g.L.Link.loss_count g.L.Link.fault_count) n
+  fires : (n : Node) → Shows (links_of g.L.Link) n
       l.fn.node → FiringOn g.H.Host.meaning
-      (link_view g.L.Link.answers g.L.Link.own_port g.L.Link.trace g.L.Link.loss_count g.L.Link.fault_count) l.ops l.now
+      (links_of g.L.Link) l.ops l.now
       l.fn.node.timers.items (drop l.i l.fn.node.timers.items) (course_of l.fn.course) n (course_of l.course) l.node;
   goes : GoesOn g.H.Host.meaning (course_of l.fn.course) (course_of l.course);
-  lost : LostFits (link_view g.L.Link.answers g.L.Link.own_port g.L.Link.trace g.L.Link.loss_count g.L.Link.fault_count) l.fn.node
-      → LostFits (link_view g.L.Link.answers g.L.Link.own_port g.L.Link.trace g.L.Link.loss_count g.L.Link.fault_count) l.node;
+  lost : LostFits (links_of g.L.Link) l.fn.node
+      → LostFits (links_of g.L.Link) l.node;
   timers : l.node.timers.items ≡ l.fn.node.timers.items;
-  place : place_of (link_view g.L.Link.answers g.L.Link.own_port g.L.Link.trace g.L.Link.loss_count g.L.Link.fault_count) l.node
-      ≡ place_of (link_view g.L.Link.answers g.L.Link.own_port g.L.Link.trace g.L.Link.loss_count g.L.Link.fault_count) l.fn.node;
+  place : place_of (links_of g.L.Link) l.node
+      ≡ place_of (links_of g.L.Link) l.fn.node;
 }

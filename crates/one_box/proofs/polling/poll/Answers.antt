@@ -1,13 +1,13 @@
 use Rattle.std.proofs.Common.{refl, subst, Ok}
 use Rattle.outside.specs.Links.{Polls}
 use Rattle.one_box.specs.declared.node.Node as code
-use Rattle.one_box.specs.Showing.{course_of, link_view}
+use Rattle.one_box.specs.Showing.{course_of, links_of}
 use Rattle.one_box.proofs.PollingLemmas.{silent, received, unpolled}
 use Rattle.one_box.proofs.polling.poll.Goals as goal
 
 pub returns-in-Ok-None-clause-serves : goal.returns-in-Ok-None-clause-serves
 returns-in-Ok-None-clause-serves g c =
-    let v = link_view g.L.Link.answers g.L.Link.own_port g.L.Link.trace g.L.Link.loss_count g.L.Link.fault_count in
+    let v = links_of g.L.Link in
     let x = c.args.node.now in
     let z : code.Node g.row.L.Denot =
     record { at = x.at; timers = c.rearm_due.new.timers; next_op = x.next_op; link = c.poll_link.new.link; lost = c.poll_link.new.lost } in
@@ -18,7 +18,7 @@ returns-in-Ok-None-clause-serves g c =
 
 pub returns-in-Ok-clause-serves : goal.returns-in-Ok-clause-serves
 returns-in-Ok-clause-serves g c =
-    let v = link_view g.L.Link.answers g.L.Link.own_port g.L.Link.trace g.L.Link.loss_count g.L.Link.fault_count in
+    let v = links_of g.L.Link in
     let x = c.args.node.now in
     let z : code.Node g.row.L.Denot =
     record { at = x.at; timers = c.rearm_due.new.timers; next_op = x.next_op; link = c.poll_link.new.link; lost = c.poll_link.new.lost } in
@@ -29,7 +29,7 @@ returns-in-Ok-clause-serves g c =
 
 pub returns-clause-serves : goal.returns-clause-serves
 returns-clause-serves g c =
-    let v = link_view g.L.Link.answers g.L.Link.own_port g.L.Link.trace g.L.Link.loss_count g.L.Link.fault_count in
+    let v = links_of g.L.Link in
     let x = c.args.node.now in
     let z : code.Node g.row.L.Denot =
     record { at = x.at; timers = c.rearm_due.new.timers; next_op = x.next_op; link = c.poll_link.new.link; lost = c.poll_link.new.lost } in

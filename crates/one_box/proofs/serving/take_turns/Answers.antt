@@ -1,12 +1,12 @@
 use Rattle.std.proofs.Common.{◌≡◌, ◌∙◌, sym, arith, rules, max}
-use Rattle.one_box.specs.Showing.{course_of, link_view}
+use Rattle.one_box.specs.Showing.{course_of, links_of}
 use Rattle.one_box.proofs.LeadingLemmas.{goes_through}
 use Rattle.one_box.proofs.RunningLemmas.{run_stops, turn_done, going_on, turns_over, runs_fail}
 use Rattle.one_box.proofs.serving.take_turns.Goals as goal
 
 pub returns-in-Err-clause-told : goal.returns-in-Err-clause-told
 returns-in-Err-clause-told g c =
-    let v = link_view g.L.Link.answers g.L.Link.own_port g.L.Link.trace g.L.Link.loss_count g.L.Link.fault_count in
+    let v = links_of g.L.Link in
     run_stops g.H.Host.meaning v
     c.args.ops.now c.args.turns c.args.now c.loop-taken.taken c.loop-taken.now (g.C.Clock.values c.loop-taken.clock)
     (g.C.Clock.values c.args.clock.now) (course_of c.args.course.now) (course_of c.loop-taken.course) (course_of c.turn.new.course)
@@ -15,7 +15,7 @@ returns-in-Err-clause-told g c =
 
 pub returns-then-all_accepted-clause-told : goal.returns-then-all_accepted-clause-told
 returns-then-all_accepted-clause-told g c =
-    let v = link_view g.L.Link.answers g.L.Link.own_port g.L.Link.trace g.L.Link.loss_count g.L.Link.fault_count in
+    let v = links_of g.L.Link in
     turn_done g.H.Host.meaning v
     c.args.ops.now c.args.turns c.args.now c.loop-taken.taken c.loop-taken.now (g.C.Clock.values c.loop-taken.clock)
     (g.C.Clock.values c.args.clock.now) (course_of c.args.course.now) (course_of c.loop-taken.course) (course_of c.turn.new.course)
@@ -24,7 +24,7 @@ returns-then-all_accepted-clause-told g c =
 
 pub loop-taken-preserved : goal.loop-taken-preserved
 loop-taken-preserved g c =
-    let v = link_view g.L.Link.answers g.L.Link.own_port g.L.Link.trace g.L.Link.loss_count g.L.Link.fault_count in
+    let v = links_of g.L.Link in
     let later : c.max-now.result ≡ max c.loop-taken.now c.now.result = search rules in
     let goes_on = going_on g.H.Host.meaning v
     c.args.ops.now c.args.turns c.args.now c.loop-taken.taken c.loop-taken.now (g.C.Clock.values c.loop-taken.clock)
@@ -43,7 +43,7 @@ loop-taken-preserved g c =
 
 pub returns-clause-told : goal.returns-clause-told
 returns-clause-told g c =
-    let v = link_view g.L.Link.answers g.L.Link.own_port g.L.Link.trace g.L.Link.loss_count g.L.Link.fault_count in
+    let v = links_of g.L.Link in
     turns_over g.H.Host.meaning v
     c.args.ops.now c.args.turns c.args.now c.loop-taken.taken c.loop-taken.now (g.C.Clock.values c.loop-taken.clock)
     (g.C.Clock.values c.args.clock.now) (course_of c.args.course.now) (course_of c.loop-taken.course)
@@ -52,7 +52,7 @@ returns-clause-told g c =
 
 pub returns-in-Err-clause-runs : goal.returns-in-Err-clause-runs
 returns-in-Err-clause-runs g c =
-    let v = link_view g.L.Link.answers g.L.Link.own_port g.L.Link.trace g.L.Link.loss_count g.L.Link.fault_count in
+    let v = links_of g.L.Link in
     runs_fail g.H.Host.meaning v _ c.args.ops.now c.args.turns (course_of c.args.course.now) (course_of c.loop-taken.course)
     (course_of c.turn.new.course) c.args.nodes.now.items c.loop-taken.nodes.items c.turn.new.nodes.items c.in-Err.e c.in-Err.ensures.turns
 

@@ -2,14 +2,14 @@ use Rattle.std.proofs.Common.{◌≡◌, ◌<◌, ◌≤◌, ◌∙◌, refl, ar
 use Rattle.std.specs.Prelude.{slice_get}
 use Rattle.std.proofs.lemmas.List.{length-set}
 use Rattle.std.proofs.lemmas.Option.{slice_get_read}
-use Rattle.one_box.specs.Showing.{course_of, link_view}
+use Rattle.one_box.specs.Showing.{course_of, links_of}
 use Rattle.one_box.proofs.LeadingLemmas.{goes_through}
 use Rattle.one_box.proofs.TurningLemmas.{none_turned, turned, all_turned, turn_stops, same_places, lost_set}
 use Rattle.one_box.proofs.turn.turn.Goals as goal
 
 pub loop-i-init : goal.loop-i-init
 loop-i-init g c =
-    let v = link_view g.L.Link.answers g.L.Link.own_port g.L.Link.trace g.L.Link.loss_count g.L.Link.fault_count in
+    let v = links_of g.L.Link in
     record {
       turns = λ ns shown. none_turned g.H.Host.meaning v
           c.args.ops.now c.args.now (course_of c.args.course.now) ns c.args.nodes.now.items shown;
@@ -21,7 +21,7 @@ loop-i-init g c =
 
 pub returns-in-Err-clause-turns : goal.returns-in-Err-clause-turns
 returns-in-Err-clause-turns g c =
-    let v = link_view g.L.Link.answers g.L.Link.own_port g.L.Link.trace g.L.Link.loss_count g.L.Link.fault_count in
+    let v = links_of g.L.Link in
     let ys = c.loop-i.nodes.items in
     let x = c.index_mut-node.result.now in
     let within : c.loop-i.i < length ys =
@@ -33,7 +33,7 @@ returns-in-Err-clause-turns g c =
 
 pub returns-in-Err-clause-places : goal.returns-in-Err-clause-places
 returns-in-Err-clause-places g c =
-    let v = link_view g.L.Link.answers g.L.Link.own_port g.L.Link.trace g.L.Link.loss_count g.L.Link.fault_count in
+    let v = links_of g.L.Link in
     let ys = c.loop-i.nodes.items in
     let x = c.index_mut-node.result.now in
     let within : c.loop-i.i < length ys =
@@ -44,7 +44,7 @@ returns-in-Err-clause-places g c =
 
 pub loop-i-preserved : goal.loop-i-preserved
 loop-i-preserved g c =
-    let v = link_view g.L.Link.answers g.L.Link.own_port g.L.Link.trace g.L.Link.loss_count g.L.Link.fault_count in
+    let v = links_of g.L.Link in
     let ys = c.loop-i.nodes.items in
     let x = c.index_mut-node.result.now in
     let within : c.loop-i.i < length ys =
@@ -64,7 +64,7 @@ loop-i-preserved g c =
 
 pub returns-clause-turns : goal.returns-clause-turns
 returns-clause-turns g c =
-    let v = link_view g.L.Link.answers g.L.Link.own_port g.L.Link.trace g.L.Link.loss_count g.L.Link.fault_count in
+    let v = links_of g.L.Link in
     let past : length c.loop-i.nodes.items ≤ c.loop-i.i =
     omega (arith, c.loop-i-test.false, c.len-i-end.ensures, c.args.nodes.now.ok.0, c.loop-i.invariant.len) in
     record {
