@@ -1,5 +1,5 @@
 -- What stands in front is taken, one after the other.
-use Rattle.std.proofs.Common.{◌≡◌, ℕ, zero, suc, ◌+◌, ◌-◌, ◌<◌, ◌≤◌, Bool, true, false, List, [], ◌∷◌, ◌++◌, length, Some, refl, sym, ap}
+use Rattle.std.proofs.Common.{◌≡◌, ℕ, zero, suc, ◌+◌, ◌-◌, ◌<◌, ◌≤◌, Bool, true, false, List, [], ◌∷◌, ◌++◌, length, Some, None, refl, sym, ap}
 use Rattle.std.proofs.Common.{◌∙◌, arith, append_assoc}
 use Rattle.std.specs.Prelude.{◌&&◌, not, nat_lt, slice_get}
 use Rattle.std.proofs.lemmas.Bool.{ltb-true, le-ltb, and_parts}
@@ -12,7 +12,7 @@ use Rattle.nop_types.specs.Lists.{slot_of}
 use Rattle.nop_types.specs.Logs as logs
 use Rattle.nop_types.specs.Logs.{Log, Keeping, Trimmed, length_of, unsynced, has_room, entry_at}
 use Rattle.nop_types.specs.Meaning.{Meaning}
-use Rattle.oum_receiver.specs.Front.{Nothing, Message, Dropped}
+use Rattle.oum_receiver.specs.Front.{Front, Nothing, Message, Dropped, request_in}
 use Rattle.oum_receiver.specs.Receiving.{front_of}
 use Rattle.replica_state.specs.declared.sending.Sending.{Sending}
 use Rattle.replica_state.specs.declared.state.ReplicaState.{ReplicaState}
@@ -47,6 +47,12 @@ took s t false e h = absurd cc
 pub took_none : (s t : ReplicaState) (b : Bool) → b ≡ false → TakesFront s t b → TookNone s t
 took_none s t true e h = absurd cc
 took_none s t false e h = h
+
+-- no request stands in front, nor a drop
+no_front : (f : Front) (b : Bool) → request_in f ≡ None → (f ≡ Dropped → b ≡ true) → b ≡ false → f ≡ Nothing
+no_front Nothing b none drop e = refl
+no_front (Message r) b none drop e = absurd cc
+no_front Dropped b none drop e = let found = drop refl in absurd cc
 
 -- where the sync point is in the log, one more entry is one more above it
 one_more : (k : Keeping) (l : Log) (e : Entry) → l.sync_point ≤ length_of k l → unsynced k (logs.appended l e) ≡ unsynced k l + 1
@@ -118,6 +124,45 @@ module _ {S : Type 0} (m : Meaning S) where
       (ap leads (sym none.state) ∙ leading)
       (state ∙ ap (λ (p : ReplicaState). (open_gap Trimmed p).0) none.state)
       (sent ∙ ap (λ (p : ReplicaState). old ++ (open_gap Trimmed p).1) none.state)
+
+  -- ---- a turn that stops
+
+  -- nothing may be taken
+  pub stops_before : (s : ReplicaState) (old : List Sending) → drains Trimmed s ≡ false → Stops m Trimmed s old s old
+  stops_before s old may = record {
+    more = [];
+    turn = λ again. ap (λ b. drain_at m Trimmed again s b (front_of s.receiver)) may;
+    sends = sym (append-nil old);
+  }
+
+  -- nothing stands in front
+  pub stops_at_none : (s u : ReplicaState) (b : Bool) (old : List Sending) → drains Trimmed s ≡ true → TookNone s u
+      → (front_of u.receiver ≡ Dropped → b ≡ true) → b ≡ false → Stops m Trimmed s old u old
+  stops_at_none s u b old may none drop e =
+      let front : front_of s.receiver ≡ Nothing =
+      no_front (front_of s.receiver) b none.front (λ d. drop (ap (λ (p : ReplicaState). front_of p.receiver) none.state ∙ d)) e in
+      record {
+        more = [];
+        turn =
+            λ again. ap (λ b. drain_at m Trimmed again s b (front_of s.receiver)) may
+            ∙ ap (drain_at m Trimmed again s true) front
+            ∙ ap still (sym none.state);
+        sends = sym (append-nil old);
+      }
+
+  -- a follower asks
+  pub stops_and_asks : (s u t : ReplicaState) (old new : List Sending) → drains Trimmed s ≡ true → TookNone s u
+      → front_of u.receiver ≡ Dropped → leads u ≡ false → t ≡ (ask Trimmed u).0 → new ≡ old ++ (ask Trimmed u).1
+      → Stops m Trimmed s old t new
+  stops_and_asks s u t old new may none drop follows state sent = record {
+    more = (ask Trimmed s).1;
+    turn = λ again.
+        ap (λ b. drain_at m Trimmed again s b (front_of s.receiver)) may
+        ∙ ap (drain_at m Trimmed again s true) (ap (λ (p : ReplicaState). front_of p.receiver) (sym none.state) ∙ drop)
+        ∙ ap (λ b. drain_drop Trimmed again b s) (ap leads (sym none.state) ∙ follows)
+        ∙ ap (λ (p : ReplicaState). (p, (ask Trimmed s).1)) (sym (state ∙ ap (λ (p : ReplicaState). (ask Trimmed p).0) none.state));
+    sends = sent ∙ ap (λ (p : ReplicaState). old ++ (ask Trimmed p).1) none.state;
+  }
 
 -- ---- turns
 

@@ -1,15 +1,21 @@
 -- The log follows its sync point: it stays in its ranges, loads, and is executed.
-use Rattle.std.proofs.Common.{◌≡◌, ◌≤◌, ◌<◌, ◌-◌, ℕ, zero, suc, true, List, [], ◌∷◌, Some, drop, sym, ap, ◌∙◌, subst, arith, length-drop}
+use Rattle.std.proofs.Common.{◌≡◌, ◌≤◌, ◌<◌, ◌+◌, ◌-◌, ℕ, zero, suc, Bool, true, cond, None, List, [], ◌∷◌, Some, drop, sym, ap, ◌∙◌, subst, arith, length-drop}
 use Rattle.std.specs.List.{AllByRecursion}
+use Rattle.std.proofs.lemmas.Bool.{lt-ltb, le-ltb}
 use Rattle.std.proofs.lemmas.Bool.Decides.{nat_tests}
 use Rattle.nop_types.specs.declared.host.Host.{Ghosts}
 use Rattle.nop_types.specs.declared.request.Entry.{Entry}
 use Rattle.nop_types.specs.Checkpoints.{Checkpoint, CheckpointFits, checkpoint_of}
 use Rattle.nop_types.specs.CheckpointedLogs.{loads_by, executed, raised}
 use Rattle.nop_types.specs.Logs.{Log, Trimmed, length_of, above}
+use Rattle.nop_types.specs.Meaning.{Meaning}
 use Rattle.nop_types.specs.Ranges.{EntryFits, LogFits}
 use Rattle.executor.specs.Running.{Running}
 use Rattle.executor.specs.Undoing.{HasExecuted}
+use Rattle.replica_state.specs.declared.state.ReplicaState.{ReplicaState}
+use Rattle.replica_state.specs.Moves.{risen, passed_entries}
+use Rattle.replica_rows.specs.declared.passing.Passed.{Passed}
+use Rattle.replica_rows.specs.Rising.{follows, passed_by}
 use Rattle.replica_rows.specs.Within.{Executes}
 
 all_dropped : (n : ℕ) (l : List Entry) → AllByRecursion EntryFits l → AllByRecursion EntryFits (drop n l)
@@ -34,6 +40,36 @@ from_slot_fits l n c fits low high saved =
       point = omega arith;
       checkpoint = (grind (arith, nat_tests, low), saved);
     }
+
+-- ---- by whether the sync point passed that of the log
+
+pub stays : {S : Type 0} (m : Meaning S) (s : ReplicaState) → s.sync.sync_point ≤ s.log.sync_point → s ≡ follows m s
+stays m s le = ap (λ (b : Bool). cond b (risen m Trimmed s) s) (sym (le-ltb _ _ le))
+
+pub passes_none : (s : ReplicaState) → s.sync.sync_point ≤ s.log.sync_point → None ≡ passed_by s
+passes_none s le =
+    let passed : Passed = record { first = s.log.sync_point + 1; entries = passed_entries Trimmed s } in
+    ap (λ (b : Bool). cond b (Some passed) None) (sym (le-ltb _ _ le))
+
+-- the log begins at the sync point, with the checkpoint of what is executed up to there
+pub follows_with : {S : Type 0} (m : Meaning S) (s t : ReplicaState) (c : Checkpoint) (i : ℕ) → s.log.sync_point < s.sync.sync_point
+    → c ≡ checkpoint_of m (executed m Trimmed s.log i) → i ≡ s.sync.sync_point
+    → t ≡ record s { log = from_slot s.log s.sync.sync_point c } → t ≡ follows m s
+follows_with m s t c i less made here is =
+    is
+    ∙ ap (λ (d : Checkpoint). record s { log = from_slot s.log s.sync.sync_point d })
+    (made ∙ ap (λ (j : ℕ). checkpoint_of m (executed m Trimmed s.log j)) here)
+    ∙ ap (λ (b : Bool). cond b (risen m Trimmed s) s) (sym (lt-ltb _ _ less))
+
+pub passes_some : (s : ReplicaState) (passed : Passed) → s.log.sync_point < s.sync.sync_point → passed.first ≡ s.log.sync_point + 1
+    → passed.entries ≡ passed_entries Trimmed s → Some passed ≡ passed_by s
+passes_some s passed less from is =
+    let whole : Passed = record { first = s.log.sync_point + 1; entries = passed_entries Trimmed s } in
+    ap (λ (n : ℕ). Some (record passed { first = n })) from
+    ∙ ap (λ (l : Log). Some (record whole { entries = l })) is
+    ∙ ap (λ (b : Bool). cond b (Some whole) None) (sym (lt-ltb _ _ less))
+
+-- ---- what is executed
 
 -- of what is executed up to a slot, i
 pub raised_executes : {H U : Type 0} (host : Ghosts H U) (l new : Log) (n i : ℕ) (c : Checkpoint) (x : Running H U) → LogFits l

@@ -17,11 +17,24 @@ use Rattle.replica_state.specs.declared.sending.Sending.{Sending}
 use Rattle.replica_state.specs.State.{others}
 use Rattle.replica_state.specs.Sends.{to_all_if}
 use Rattle.replica_state.specs.Moves.{adopt, open_with}
-use Rattle.replica_rows.specs.Gathering.{step_by}
+use Rattle.replica_rows.specs.Gathering.{kept_by, step_by}
 use Rattle.replica_state.specs.Within.{IsWithin}
 use Rattle.replica_rows.specs.Within.{ChangeLoads, LogsLoad, Runs}
 use Rattle.replica_rows.proofs.Opening.{Gathers, gathers}
 use Rattle.replica_rows.proofs.Running.{with_changes}
+
+-- what keeping a change leaves, where none are gathered, and where some are
+pub keeps_none : (s : ReplicaState) (o : Option (Gathering Change)) (c : Change) → o ≡ None → s.changes ≡ None
+    → record s { changes = o } ≡ kept_by s s.changes c
+keeps_none s o c taken none =
+    ap (λ (x : Option (Gathering Change)). record s { changes = x }) (taken ∙ sym none)
+    ∙ ap (λ (x : Option (Gathering Change)). kept_by s x c) (sym none)
+
+pub keeps_more : (s : ReplicaState) (g h : Gathering Change) (c : Change) → s.changes ≡ Some g → h ≡ counted teller g c
+    → record s { changes = Some h } ≡ kept_by s s.changes c
+keeps_more s g h c is more =
+    ap (λ (x : Gathering Change). record s { changes = Some x }) more
+    ∙ ap (λ (x : Option (Gathering Change)). kept_by s x c) (sym is)
 
 pub left_runs : {H U : Type 0} (host : Ghosts H U) (s t : ReplicaState) (x : Running H U) → t ≡ record s { changes = None }
     → Runs host s x → Runs host t x

@@ -1,5 +1,8 @@
+mod Adopted
+mod Branches
 pub mod Counting
 pub mod Draining
+mod Entered
 pub mod Fields
 pub mod Following
 pub mod Gathered
@@ -10,3 +13,4 @@ pub mod Replying
 pub mod Rows
 pub mod Running
 pub mod Synchronised
+mod Voting

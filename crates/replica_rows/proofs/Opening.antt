@@ -153,6 +153,13 @@ module _ {S : Type 0} (m : Meaning S) (k : Keeping) where
       none_after (enter s v) (λ t. open_if_enough m k t.changes t)
       (by_gathering (enter s v).0.changes (enter s v).0 refl (own s v) more)
 
+  -- nor where nothing is gathered
+  pub enters_without : (s : ReplicaState) (v : View) → (enter s v).0.changes ≡ None → enter_view m k v s ≡ enter s v
+  unfolding enter_view
+  enters_without s v none =
+      none_after (enter s v) (λ t. open_if_enough m k t.changes t)
+      (ap (λ (o : Option (Gathering Change)). open_if_enough m k o (enter s v).0) none)
+
 module _ {S : Type 0} (m : Meaning S) where
   -- a replica that is alone starts it with what it has
   pub enters_alone : (s : ReplicaState) (v : View) (g : Gathering Change) → (enter s v).0.changes ≡ Some g → g.f ≡ 0

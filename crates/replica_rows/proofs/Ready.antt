@@ -1,5 +1,5 @@
 -- A replica's first state is in its ranges.
-use Rattle.std.proofs.Common.{◌≡◌, ℕ, ◌<◌, ◌≤◌, None, refl, arith}
+use Rattle.std.proofs.Common.{◌≡◌, ℕ, Bool, true, false, cond, ◌<◌, ◌≤◌, None, refl, arith}
 use Rattle.std.specs.Prelude.{IsTrue}
 use Rattle.std.proofs.lemmas.Bool.Decides.{nat_tests}
 use Rattle.nop_types.specs.declared.host.Host.{Ghosts}
@@ -11,7 +11,7 @@ use Rattle.facts.proofs.Limits.{is_configuration-few_replicas}
 use Rattle.executor.specs.Running.{Running}
 use Rattle.executor.specs.Undoing.{HasExecuted}
 use Rattle.replica_state.specs.declared.state.ReplicaState.{ReplicaState}
-use Rattle.replica_state.specs.State.{opening}
+use Rattle.replica_state.specs.State.{opening, leads, executed_to}
 use Rattle.replica_rows.specs.Within.{Runs}
 use Rattle.replica_state.specs.Within.{IsIn}
 
@@ -43,6 +43,14 @@ opens_within k config number there few = record {
     empty_fits Whole = record { entries = tt; room = omega arith; limit = omega arith; point = omega arith; checkpoint = refl }
     empty_fits Trimmed =
         record { entries = tt; room = omega arith; limit = omega arith; point = omega arith; checkpoint = (grind (arith, nat_tests), tt) }
+
+-- and nothing is to be executed
+pub opens_executed : (config : Configuration) (number : ℕ) → executed_to Trimmed (opening config number) ≡ 0
+opens_executed config number = at (leads (opening config number)) 0
+  where
+    at : (b : Bool) (n : ℕ) → cond b n n ≡ n
+    at true n = refl
+    at false n = refl
 
 pub opens_running : {H U : Type 0} (host : Ghosts H U) (config : Configuration) (number : ℕ) (s : ReplicaState) (x : Running H U)
     → s ≡ opening config number → number < config.replicas → IsTrue (is_configuration config)

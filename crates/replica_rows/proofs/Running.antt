@@ -1,10 +1,10 @@
 -- Moves keep a replica's state within its ranges, and what was executed.
 use Rattle.std.proofs.Common.{◌≡◌, ◌<◌, ◌≤◌, ◌+◌, ◌-◌, ℕ, Bool, true, false, List, [], ◌++◌, length, take, refl, sym, ap}
 use Rattle.std.proofs.Common.{subst, ◌∙◌, arith, append_assoc, append-nil}
-use Rattle.std.specs.Prelude.{cond, max, not, ◌==◌, ◌&&◌, nat_le, nat_lt, IfSome}
+use Rattle.std.specs.Prelude.{cond, max, not, ◌==◌, ◌&&◌, nat_le, nat_lt, IfSome, IsSome, is_some}
 use Rattle.std.specs.Prelude.{Option, Some, None, Result, Ok, Err, OnOk}
 use Rattle.std.specs.List.{AllByRecursion}
-use Rattle.std.proofs.lemmas.Bool.{ltb-true, le-ltb, and_parts}
+use Rattle.std.proofs.lemmas.Bool.{ltb-true, lt-ltb, le-ltb, and_parts}
 use Rattle.std.proofs.lemmas.Bool.Decides.{nat_tests}
 use Rattle.nop_types.specs.declared.host.Host.{Ghosts}
 use Rattle.nop_types.specs.declared.limits.TheConstants.{MAX_SLOTS, MAX_LENGTH, NUMBER_END}
@@ -17,15 +17,20 @@ use Rattle.nop_types.specs.CheckpointedLogs.{loads}
 use Rattle.nop_types.specs.Ranges.{EntryFits, RequestFits, LogIsIn, LogFits, SlotFits, ViewFits, NextFits, ChangeIsIn, ChangeFits}
 use Rattle.gap_agree.specs.Agreement.{Agreement, begun}
 use Rattle.gap_agree.specs.Votes.{vote_of}
+use Rattle.nop_types.specs.declared.replica_state.Phase.{Phase}
+use Rattle.nop_types.specs.declared.replica_state.Phase.TheVariants.{Normal, Change}
 use Rattle.nop_types.specs.declared.replica_state.Vote.{Vote}
 use Rattle.nop_types.specs.declared.replica_state.Vote.TheVariants.{Settled, Waiting}
 use Rattle.nop_types.specs.declared.view.View.{View}
 use Rattle.nop_types.specs.declared.datagram.Stamped.{Stamped}
-use Rattle.nop_types.specs.declared.peer.Change.{Change}
+use Rattle.nop_types.specs.declared.peer.Change as peer
 use Rattle.facts.proofs.Slots.{length-set_slot}
-use Rattle.oum_receiver.specs.Receiving.{Receiving}
+use Rattle.oum_receiver.specs.declared.verdict.Verdict.{Verdict}
+use Rattle.oum_receiver.specs.declared.verdict.Verdict.TheVariants as verdicts
+use Rattle.oum_receiver.specs.Receiving.{Receiving, judged, offered, verdict_of}
 use Rattle.sync_points.specs.Synchronisation.{Synchronisation, with_round, committed}
 use Rattle.sync_points.specs.Synchronisation as synchronisation
+use Rattle.view_change.specs.Gathering as gathering
 use Rattle.view_change.specs.Gathering.{Gathering, counted, teller}
 use Rattle.executor.specs.Running.{Running, reached}
 use Rattle.executor.specs.Undoing.{HasExecuted}
@@ -35,16 +40,17 @@ use Rattle.replica_log.proofs.InRanges.{append_fits, noop_fits, adopt_fits, over
 use Rattle.replica_state.specs.declared.state.ReplicaState.{ReplicaState}
 use Rattle.replica_state.specs.State.{may_append, drains, has_room, has_risen, leads, others, waits, is_normal, unless_settled}
 use Rattle.replica_state.specs.Moves.{begin_session, appended, gap_opened, gap_written, ask_if, ask, logged, adopted, overlaid}
-use Rattle.replica_state.specs.Moves.{hear, obey, sync_commit, count_sync_vote, risen}
+use Rattle.replica_state.specs.Moves.{queue, entered, enter_as, own_change, hear, obey, sync_commit, count_sync_vote, risen}
 use Rattle.replica_state.specs.Repeating.{sync_if, sync}
 use Rattle.replica_rows.specs.Gathering.{kept_by}
 use Rattle.replica_state.specs.Within.{IsIn, IsWithin}
-use Rattle.replica_state.specs.Sends.{Effect, still, when}
+use Rattle.replica_state.specs.Sends.{Effect, still, then_do, when}
+use Rattle.replica_state.specs.declared.sending.Sending.{Sending}
 use Rattle.replica_rows.specs.declared.member.Member.{Member}
 use Rattle.replica_rows.specs.Rising.{follows}
 use Rattle.replica_rows.specs.Within.{ChangeLoads, LogsLoad, Executes, Runs, IsRunning, Does}
 use Rattle.replica_rows.proofs.Opening.{counted_fits}
-use Rattle.replica_rows.proofs.Fields.{length-appended, SyncFits, sync_of, sync_longer, with_asked, with_heard, with_sync, risen_within}
+use Rattle.replica_rows.proofs.Fields.{length-appended, SyncFits, sync_of, sync_longer, with_receiver, with_asked, with_heard, with_sync, risen_within}
 use Rattle.replica_rows.proofs.Fields.{with_round_fits, committed_fits, counted_in_fits, with_round_grows, committed_grows, counted_grows}
 
 -- ---- at Ok
@@ -52,6 +58,14 @@ use Rattle.replica_rows.proofs.Fields.{with_round_fits, committed_fits, counted_
 pub on_ok : {A E : Type 0} (r : Result A E) (P Q : Type 0) → (P → Q) → OnOk r P → OnOk r Q
 on_ok (Ok a) P Q f p = f p
 on_ok (Err e) P Q f p = p
+
+pub always_ok : {A E : Type 0} (r : Result A E) (P : Type 0) → P → OnOk r P
+always_ok (Ok a) P p = p
+always_ok (Err e) P p = tt
+
+pub on_ok_both : {A E : Type 0} (r : Result A E) (P Q R : Type 0) → (P → Q → R) → OnOk r P → OnOk r Q → OnOk r R
+on_ok_both (Ok a) P Q R f p q = f p q
+on_ok_both (Err e) P Q R f p q = p
 
 pub sent_on : {A : Type 0} (old a mid b new : List A) → mid ≡ old ++ a → new ≡ mid ++ b → new ≡ old ++ (a ++ b)
 sent_on old a mid b new first then = then ∙ ap (λ xs. xs ++ b) first ∙ append_assoc old a b
@@ -67,6 +81,18 @@ does_as host old new f h same does = record {
   sends = does.sends ∙ ap (λ (e : Effect). old.sends ++ e.1) same;
 }
 
+-- nor on what was done to the state before it
+pub does_of : {H U : Type 0} (host : Ghosts H U) (old mid new : Member H U) (f h : ReplicaState → Effect) → mid.sends ≡ old.sends
+    → f mid.state ≡ h old.state → Does host mid new f → Does host old new h
+does_of host old mid new f h sends same does = record {
+  runs = does.runs;
+  state = does.state ∙ ap (λ (e : Effect). e.0) same;
+  sends =
+      does.sends
+      ∙ ap (λ (xs : List Sending). xs ++ (f mid.state).1) sends
+      ∙ ap (λ (e : Effect). old.sends ++ e.1) same;
+}
+
 -- a row that does nothing
 pub does_nothing : {H U : Type 0} (host : Ghosts H U) (old : Member H U) (h : ReplicaState → Effect) → h old.state ≡ still old.state
     → IsRunning host old → Does host old old h
@@ -76,11 +102,34 @@ does_nothing host old h same runs = record {
   sends = sym (append-nil old.sends) ∙ sym (ap (λ (e : Effect). old.sends ++ e.1) same);
 }
 
+-- one row after the other
+pub does_then : {H U : Type 0} (host : Ghosts H U) (old mid new : Member H U) (f h : ReplicaState → Effect) → Does host old mid f
+    → Does host mid new h → Does host old new (λ s. then_do (f s) h)
+does_then host old mid new f h first next = record {
+  runs = next.runs;
+  state = next.state ∙ ap (λ (s : ReplicaState). (h s).0) first.state;
+  sends =
+      sent_on old.sends (f old.state).1 mid.sends (h mid.state).1 new.sends first.sends next.sends
+      ∙ ap (λ (s : ReplicaState). old.sends ++ ((f old.state).1 ++ (h s).1)) first.state;
+}
+
 pub waiting_fits : (g : Agreement) → SlotFits g.slot → (v : Vote) → IfSome (unless_settled g v) (λ g. SlotFits g.slot)
 waiting_fits g fits Settled = tt
 waiting_fits g fits Waiting = fits
 
 -- ---- an entry is appended
+
+status_is : (p : Phase) → is_normal p ≡ true → p ≡ Normal
+status_is Normal e = refl
+status_is Change e = absurd cc
+
+-- where the receiver has a next number, so has the log
+pub may_open : (k : Keeping) (s : ReplicaState) → IsIn k s → drains k s ≡ true → s.receiver.next < NUMBER_END → may_append k s ≡ true
+may_open k s w may more =
+    let tests = and_parts (is_normal s.status) (not (waits s.gap) && has_room k s) may in
+    let room = (and_parts (not (waits s.gap)) (has_room k s) tests.1).1 in
+    let same = w.receiver (status_is s.status tests.0) in
+    ap (λ (b : Bool). b && nat_lt s.next NUMBER_END) room ∙ lt-ltb _ _ (omega (arith, same, more))
 
 room_of : (k : Keeping) (s : ReplicaState) → has_room k s ≡ true → length_of k s.log < MAX_LENGTH
 room_of k s room = ltb-true _ _ (and_parts (nat_lt (unsynced k s.log) MAX_SLOTS) (nat_lt (length_of k s.log) MAX_LENGTH) room).1
@@ -206,7 +255,51 @@ noop_within k s n w =
       changes = w.changes;
     }
 
+-- a synchronised slot stays as it is
+pub noop_stays : (k : Keeping) (s : ReplicaState) (n : ℕ) → n ≤ s.sync.sync_point → s ≡ gap_written k s n
+noop_stays k s n le =
+    let synced : nat_le n s.sync.sync_point ≡ true = grind (arith, nat_tests, le) in
+    ap (λ (b : Bool). record s { log = cond b s.log (with_noop k s.log n) }) (sym synced)
+
+-- one above is written
+pub noop_writes : (k : Keeping) (s t u : ReplicaState) (n : ℕ) → t ≡ s → u ≡ record t { log = with_noop k t.log n }
+    → s.sync.sync_point < n → u ≡ gap_written k s n
+noop_writes k s t u n same is above =
+    let free : nat_le n s.sync.sync_point ≡ false = grind (arith, nat_tests, above) in
+    is
+    ∙ ap (λ (p : ReplicaState). record p { log = with_noop k p.log n }) same
+    ∙ ap (λ (b : Bool). record s { log = cond b s.log (with_noop k s.log n) }) (sym free)
+
 -- ---- views
+
+judged_next : (v : Verdict) (r : Receiving) (p : Stamped) → (judged v r p).next ≡ r.next
+judged_next verdicts.Queued r p = refl
+judged_next verdicts.Old r p = refl
+judged_next (verdicts.Terminated session) r p = refl
+judged_next verdicts.Full r p = refl
+
+queued_within : (k : Keeping) (s : ReplicaState) (p : Stamped) → IsIn k s → IsIn k (queue s p).0
+queued_within k s p w =
+    with_receiver k s (offered s.receiver p) w (λ normal. judged_next (verdict_of s.receiver p) s.receiver p ∙ w.receiver normal)
+
+entered_within : (k : Keeping) (s : ReplicaState) (v : View) → IsIn k s → ViewFits v → IsIn k (entered s v)
+entered_within k s v w view = record {
+  number = w.number;
+  few = w.few;
+  view = view;
+  last_normal = w.last_normal;
+  log = w.log;
+  next = w.next;
+  base = w.base;
+  start = w.start;
+  receiver = λ e. absurd cc;
+  gap = tt;
+  points = w.points;
+  sync_point = w.sync_point;
+  syncing = tt;
+  prepared = omega arith;
+  changes = tt;
+}
 
 from_next : (b : Bool) (r q : Receiving) (x : ℕ) → r.next ≡ x → q.next ≡ x → (cond b r q).next ≡ x
 from_next true r q x e f = e
@@ -258,7 +351,7 @@ begun_within k s p w = record {
   changes = w.changes;
 }
 
-pub with_changes : (k : Keeping) (s : ReplicaState) (o : Option (Gathering Change)) → IsIn k s
+pub with_changes : (k : Keeping) (s : ReplicaState) (o : Option (Gathering peer.Change)) → IsIn k s
     → IfSome o (λ g. AllByRecursion (ChangeIsIn k) g.changes) → IsIn k (record s { changes = o })
 with_changes k s o w fits = record {
   number = w.number;
@@ -278,7 +371,7 @@ with_changes k s o w fits = record {
   changes = fits;
 }
 
-pub gathers_within : (k : Keeping) (s : ReplicaState) (g : Gathering Change) → IsIn k s → AllByRecursion (ChangeIsIn k) g.changes
+pub gathers_within : (k : Keeping) (s : ReplicaState) (g : Gathering peer.Change) → IsIn k s → AllByRecursion (ChangeIsIn k) g.changes
     → IsIn k (record s { changes = Some g })
 gathers_within k s g w fits = with_changes k s (Some g) w fits
 
@@ -370,6 +463,15 @@ vote_moves k q n s t is w = record {
   grows = counted_grows s.sync s.sync.syncing q n;
 }
 
+-- ---- another log comes in
+
+-- one with a greater sync point comes with its checkpoint
+pub further_begun : (l own : Log) → LogFits l → own.sync_point < l.sync_point → IsSome (logs.further l own).checkpoint
+further_begun l own told less =
+    ap (λ (b : Bool). is_some (cond b l own).checkpoint) (lt-ltb own.sync_point l.sync_point less)
+    ∙ told.checkpoint.0
+    ∙ lt-ltb 0 l.sync_point (omega (arith, less))
+
 -- ---- what was executed
 
 module _ {H U : Type 0} (host : Ghosts H U) where
@@ -428,7 +530,7 @@ module _ {H U : Type 0} (host : Ghosts H U) where
   near : (l own : Log) → l.sync_point ≤ own.sync_point → logs.further l own ≡ own
   near l own le = ap (λ (b : Bool). cond b l own) (le-ltb own.sync_point l.sync_point le)
 
-  further_loads : (l own : Log) → loads host.meaning l ≡ true → loads host.meaning own ≡ true
+  pub further_loads : (l own : Log) → loads host.meaning l ≡ true → loads host.meaning own ≡ true
       → loads host.meaning (logs.further l own) ≡ true
   further_loads l own h g = at (nat_lt own.sync_point l.sync_point)
     where
@@ -457,7 +559,63 @@ module _ {H U : Type 0} (host : Ghosts H U) where
       (ap (λ (p : ReplicaState). p.log.sync_point) is ∙ ap (λ (g : Log). g.sync_point) own)
       (ap (λ (p : ReplicaState). p.log.checkpoint) is ∙ ap (λ (g : Log). g.checkpoint) own))
 
+  pub adopted_runs : (s t : ReplicaState) (x : Running H U) (v : View) (n : ℕ) (l : Log) → t ≡ adopted Trimmed s v n l → IsWithin s
+      → LogsLoad host.meaning s → ViewFits v → NextFits n → LogFits l → loads host.meaning l ≡ true
+      → HasExecuted host.state host.meaning host.undo_of t.log x → Runs host t x
+  adopted_runs s t x v n l is w load view next told loaded run =
+      rw is (record {
+        within = adopted_within Trimmed s v n l w view next told;
+        loads = record { own = further_loads l s.log loaded load.own; gathered = tt };
+        run = subst (λ (p : ReplicaState). HasExecuted host.state host.meaning host.undo_of p.log x) is run;
+      })
+
+  pub adopted_near : (s t : ReplicaState) (x : Running H U) (v : View) (n : ℕ) (l : Log) → t ≡ adopted Trimmed s v n l → Runs host s x
+      → ViewFits v → NextFits n → LogFits l → loads host.meaning l ≡ true → l.sync_point ≤ s.log.sync_point
+      → reached x ≤ s.log.sync_point → Runs host t x
+  adopted_near s t x v n l is r view next told loaded le behind =
+      let own = near l s.log le in
+      adopted_runs s t x v n l is r.within r.loads view next told loaded
+      (begins s.log t.log x r.run behind
+      (ap (λ (p : ReplicaState). p.log.sync_point) is ∙ ap (λ (g : Log). g.sync_point) own)
+      (ap (λ (p : ReplicaState). p.log.checkpoint) is ∙ ap (λ (g : Log). g.checkpoint) own))
+
   -- ---- other moves
+
+  pub heard_runs : (s : ReplicaState) (x : Running H U) (b : Bool) → Runs host s x → Runs host (record s { heard = b }) x
+  heard_runs s x b r = record {
+    within = with_heard Trimmed s b r.within;
+    loads = record { own = r.loads.own; gathered = r.loads.gathered };
+    run = r.run;
+  }
+
+  pub queued_runs : (s t : ReplicaState) (x : Running H U) (p : Stamped) → t ≡ (queue s p).0 → Runs host s x → Runs host t x
+  queued_runs s t x p is r =
+      rw is (record {
+        within = queued_within Trimmed s p r.within;
+        loads = record { own = r.loads.own; gathered = r.loads.gathered };
+        run = r.run;
+      })
+
+  pub entered_runs : (s t : ReplicaState) (x : Running H U) (v : View) → t ≡ entered s v → Runs host s x → ViewFits v → Runs host t x
+  entered_runs s t x v is r view =
+      rw is (record { within = entered_within Trimmed s v r.within view; loads = record { own = r.loads.own; gathered = tt }; run = r.run })
+
+  pub unmoved_runs : (s t : ReplicaState) (x : Running H U) → t ≡ s → Runs host s x → Runs host t x
+  unmoved_runs s t x is r = rw is r
+
+  -- its own change is in its ranges, and loads as its log does
+  pub gathering_runs : (s t : ReplicaState) (x : Running H U) → t ≡ (enter_as true s).0 → Runs host s x → Runs host t x
+  gathering_runs s t x is r =
+      let w = r.within in
+      let number = w.number in
+      let few = w.few in
+      let change : ChangeFits (own_change s) =
+      record { sender = omega (arith, number, few); rest = record { view = w.last_normal; number = w.next; told = w.log } } in
+      rw is (record {
+        within = gathers_within Trimmed s (gathering.entered s.view (others s) (own_change s)) w (change, tt);
+        loads = record { own = r.loads.own; gathered = (r.loads.own, tt) };
+        run = r.run;
+      })
 
   pub begun_runs : (s t : ReplicaState) (x : Running H U) (p : Stamped) → t ≡ begin_session s p → Runs host s x → Runs host t x
   begun_runs s t x p is r =
@@ -467,13 +625,13 @@ module _ {H U : Type 0} (host : Ghosts H U) where
         run = r.run;
       })
 
-  pub kept_runs : (s t : ReplicaState) (x : Running H U) (o : Option (Gathering Change)) (c : Change) → o ≡ s.changes → t ≡ kept_by s o c
+  pub kept_runs : (s t : ReplicaState) (x : Running H U) (o : Option (Gathering peer.Change)) (c : peer.Change) → o ≡ s.changes → t ≡ kept_by s o c
       → Runs host s x → ChangeFits c → ChangeLoads host.meaning c → Runs host t x
   kept_runs s t x None c e is r fits load = rw is r
   kept_runs s t x (Some g) c e is r fits load =
-      let all = subst (λ (o : Option (Gathering Change)). IfSome o (λ g. AllByRecursion ChangeFits g.changes)) (sym e) r.within.changes in
+      let all = subst (λ (o : Option (Gathering peer.Change)). IfSome o (λ g. AllByRecursion ChangeFits g.changes)) (sym e) r.within.changes in
       let each =
-      subst (λ (o : Option (Gathering Change)). IfSome o (λ g. AllByRecursion (ChangeLoads host.meaning) g.changes)) (sym e)
+      subst (λ (o : Option (Gathering peer.Change)). IfSome o (λ g. AllByRecursion (ChangeLoads host.meaning) g.changes)) (sym e)
       r.loads.gathered in
       rw is (record {
         within = gathers_within Trimmed s (counted teller g c) r.within (counted_fits ChangeFits g c all fits);

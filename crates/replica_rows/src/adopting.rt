@@ -62,7 +62,6 @@ impl<H: Host> Member<H> {
     }
 
     /// Takes part in a view from what it starts with, and replies again for each request above the sync point.
-    #[tactic(auto, unfolding(replica_state::specs::Moves::adopt))]
     pub(crate) fn adopt(&mut self, view: View, next: u64, log: Log) -> Result<(), NoMemory>
         requires runs { IsRunning H.Host self.old }
         requires view { ViewFits view }

@@ -78,7 +78,6 @@ impl<H: Host> Member<H> {
     }
 
     /// A stamped request comes.
-    #[tactic(auto, unfolding(crate::specs::Rows::stamped))]
     pub(crate) fn stamped(&mut self, packet: Stamped) -> Result<(), NoMemory>
         requires runs { IsRunning H.Host self.old }
         requires fits { StampedFits packet }
@@ -173,7 +172,6 @@ impl<H: Host> Member<H> {
     }
 
     /// A message of another replica comes, with no checkpoint or one that loads.
-    #[tactic(auto, unfolding(crate::specs::Messages::on_message))]
     fn on_message(&mut self, message: Peer) -> Result<(), NoMemory>
         requires runs { IsRunning H.Host self.old }
         requires fits { PeerFits message }
@@ -215,7 +213,6 @@ impl<H: Host> Member<H> {
     }
 
     /// The row for what arrives.
-    #[tactic(auto, unfolding(crate::specs::Messages::arrive))]
     fn arrive(&mut self, arrival: Arrival) -> Result<(), NoMemory>
         requires runs { IsRunning H.Host self.old }
         requires fits { ArrivalFits (arrival_of arrival) }

@@ -41,7 +41,6 @@ impl<H: Host> Member<H> {
     }
 
     /// Puts a NO-OP into the next slot, and tells all others.
-    #[tactic(auto, using(crate::proofs::Running::open_gap_runs), unfolding(replica_state::specs::Moves::open_gap))]
     pub(crate) fn open_gap(&mut self) -> Result<(), NoMemory>
         requires runs { IsRunning H.Host self.old }
         requires room { may_append Trimmed self.old.state ≡ true }
@@ -54,7 +53,6 @@ impl<H: Host> Member<H> {
 
     /// Takes what stands in front, where it may: a request is logged; at a drop a leader opens a gap, and a follower asks for
     /// the slot. Says whether it goes on.
-    #[tactic(auto, using(crate::proofs::Running::ask_runs))]
     fn drain_one(&mut self) -> Result<bool, NoMemory>
         requires runs { IsRunning H.Host self.old }
         ensures runs { OnOk result (IsRunning H.Host self.new) }

@@ -10,7 +10,6 @@ use nop_types::{Body, Host, NoMemory, View};
 
 impl<H: Host> Member<H> {
     /// Leaves the view: all others are asked for the greater one, and its leader is told the change, or gathers changes.
-    #[tactic(auto, unfolding(replica_state::specs::Moves::enter))]
     fn enter(&mut self, view: View) -> Result<(), NoMemory>
         requires runs { IsRunning H.Host self.old }
         requires fits { ViewFits view }
@@ -25,7 +24,6 @@ impl<H: Host> Member<H> {
     }
 
     /// Enters a greater view; its leader starts it at once where it is alone.
-    #[tactic(auto, unfolding(crate::specs::Rows::enter_view))]
     fn enter_view(&mut self, view: View) -> Result<(), NoMemory>
         requires runs { IsRunning H.Host self.old }
         requires fits { ViewFits view }

@@ -60,8 +60,7 @@ impl<H: Host> Member<H> {
     {
         self.append(Entry::Req(request))?;
         let slot = self.state.log.len();
-        self.reply_at(slot)?;
-        Ok(())
+        self.reply_at(slot)
     }
 
     /// The leader has a NO-OP in a slot.
@@ -102,7 +101,6 @@ impl<H: Host> Member<H> {
     }
 
     /// Takes the entries of the leader's log, replies for those that are new and above the sync point, and tells the leader so.
-    #[tactic(auto, unfolding(replica_state::specs::Moves::overlay))]
     fn overlay(&mut self, log: Log, appended: u64) -> Result<(), NoMemory>
         requires runs { IsRunning H.Host self.old }
         requires told { LogFits log }
@@ -122,7 +120,6 @@ impl<H: Host> Member<H> {
     }
 
     /// The leader says that the slots up to this one are synchronised.
-    #[tactic(auto, unfolding(crate::specs::Rows::sync_commit))]
     pub(crate) fn sync_commit(&mut self, slot: u32) -> Result<(), NoMemory>
         requires runs { IsRunning H.Host self.old }
         ensures { OnOk result (Does H.Host self.old self.new (sync_commit H.meaning Trimmed slot)) }
@@ -133,7 +130,6 @@ impl<H: Host> Member<H> {
     }
 
     /// The leader tells its log.
-    #[tactic(auto, unfolding(crate::specs::Rows::sync_prepare))]
     pub(crate) fn sync_prepare(&mut self, log: Log) -> Result<(), NoMemory>
         requires runs { IsRunning H.Host self.old }
         requires told { LogFits log }

@@ -31,8 +31,7 @@ impl<H: Host> Member<H> {
         requires runs { IsRunning H.Host self.old }
         ensures { OnOk result (Does H.Host self.old self.new (λ s. tell_synced Trimmed s replica)) }
     {
-        self.state.tell_synced(replica, &mut self.sends)?;
-        Ok(())
+        self.state.tell_synced(replica, &mut self.sends)
     }
 
     /// Another replica asks for a slot.
@@ -75,7 +74,6 @@ impl<H: Host> Member<H> {
     }
 
     /// Another replica votes for a length of the log.
-    #[tactic(auto, unfolding(crate::specs::Rows::sync_reply))]
     pub(crate) fn sync_reply(&mut self, sender: u8, len: u32) -> Result<(), NoMemory>
         requires runs { IsRunning H.Host self.old }
         requires sender { sender < MAX_REPLICAS }

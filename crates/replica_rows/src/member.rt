@@ -47,8 +47,7 @@ impl<H: Host> Member<H> {
         ensures does { OnOk result (Does H.Host self.old self.new
             (λ s. (s, to_replica s replica body))) }
     {
-        self.state.send_to(replica, body, &mut self.sends)?;
-        Ok(())
+        self.state.send_to(replica, body, &mut self.sends)
     }
 
     pub(crate) fn to_leader(&mut self, body: Body) -> Result<(), NoMemory>
@@ -69,7 +68,6 @@ impl<H: Host> Member<H> {
         ensures executor { self.new.executor ≡ self.old.executor }
         ensures does { OnOk result (Does H.Host self.old self.new (λ s. (s, to_all s body))) }
     {
-        self.state.send_to_all(body, &mut self.sends)?;
-        Ok(())
+        self.state.send_to_all(body, &mut self.sends)
     }
 }

@@ -38,7 +38,6 @@ impl<H: Host> Member<H> {
     }
 
     /// A leader without a gap has its log synchronised, or says again how far it is.
-    #[tactic(auto, unfolding(crate::specs::Rows::sync))]
     pub(crate) fn sync(&mut self) -> Result<(), NoMemory>
         requires runs { IsRunning H.Host self.old }
         ensures { OnOk result (Does H.Host self.old self.new (sync H.meaning Trimmed)) }

@@ -51,8 +51,7 @@ impl<H: Host> Member<H> {
         ensures { OnOk result (Does H.Host self.old self.new
             (λ s. resend_start Trimmed s replica)) }
     {
-        self.state.tell_start(replica, &mut self.sends)?;
-        Ok(())
+        self.state.tell_start(replica, &mut self.sends)
     }
 
     /// Keeps a change, and starts the view where enough are there.
@@ -86,7 +85,6 @@ impl<H: Host> Member<H> {
     }
 
     /// Another replica tells what it had when it entered a view.
-    #[tactic(auto, unfolding(crate::specs::Rows::view_change))]
     pub(crate) fn view_change(&mut self, view: View, change: Change) -> Result<(), NoMemory>
         requires runs { IsRunning H.Host self.old }
         requires view { ViewFits view }
@@ -100,7 +98,6 @@ impl<H: Host> Member<H> {
     }
 
     /// The leader of a view tells what it starts with.
-    #[tactic(auto, unfolding(crate::specs::Rows::start_view))]
     pub(crate) fn start_view(
         &mut self,
         sender: u8,

@@ -5,7 +5,7 @@ use Rattle.nop_types.specs.Logs.{Trimmed}
 use Rattle.nop_types.specs.Ranges.{ChangeFits}
 use Rattle.replica_state.specs.State.{others}
 use Rattle.replica_rows.specs.Within.{ChangeLoads}
-use Rattle.replica_rows.proofs.Opening.{own, enters_with_others, opens_alone, start_fits, start_loads, put_back}
+use Rattle.replica_rows.proofs.Opening.{own, enters_with_others, enters_without, opens_alone, start_fits, start_loads, put_back}
 use Rattle.replica_rows.proofs.Running.{on_ok, sent_on}
 use Rattle.replica_rows.proofs.member.Member.enter_view.Goals as goal
 
@@ -19,6 +19,17 @@ returns-then-others-gt0 g c =
       runs = c.in_ok-enter.ensures.runs;
       state = e ∙ ap (λ x. x.0) (sym same);
       sends = c.in_ok-enter.ensures.sends ∙ ap (λ x. c.args.self.now.sends ++ x.1) (sym same);
+    }
+
+pub returns-in_default : goal.returns-in_default
+returns-in_default g c =
+    let e = c.in_ok-enter.ensures in
+    let same =
+    enters_without g.H.Host.meaning Trimmed c.args.self.now.state c.args.view (ap (λ s. s.changes) (sym e.state) ∙ c.in_default.is) in
+    record {
+      runs = e.runs;
+      state = e.state ∙ ap (λ x. x.0) (sym same);
+      sends = e.sends ∙ ap (λ x. c.args.self.now.sends ++ x.1) (sym same);
     }
 
 pub start_now-requires : goal.start_now-requires

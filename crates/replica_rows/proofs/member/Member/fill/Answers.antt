@@ -5,6 +5,7 @@ use Rattle.executor.specs.Running.{reached}
 use Rattle.executor.proofs.FrontLemmas.{reached_within}
 use Rattle.replica_rows.proofs.Fields.{length-appended}
 use Rattle.replica_rows.proofs.Rows.{fill_sends}
+use Rattle.replica_rows.proofs.Running.{on_ok_both}
 use Rattle.replica_rows.proofs.member.Member.fill.Goals as goal
 
 pub reply_at-requires-clause-there : goal.reply_at-requires-clause-there
@@ -21,10 +22,13 @@ reply_at-requires-clause-ahead g c =
     omega (arith, executed, run, longer, one, c.len-slot.ensures.len)
 
 pub returns : goal.returns
-returns g c = record {
-  runs = c.in_ok-reply_at.ensures.runs;
-  state = c.in_ok-reply_at.ensures.state ∙ c.in_ok-append.ensures.state;
-  sends =
-      fill_sends g.H.Host.meaning c.args.self.now.state c.append.new.self.state c.len-slot.result c.args.request c.args.self.now.sends
-      c.append.new.self.sends _ c.in_ok-append.ensures.state c.len-slot.ensures.len c.append.ensures.sends c.in_ok-reply_at.ensures.sends;
-}
+returns g c =
+    on_ok_both c.reply_at.result _ _ _
+    (λ runs sent. record {
+      runs = runs;
+      state = c.reply_at.ensures.state ∙ c.in_ok-append.ensures.state;
+      sends =
+          fill_sends g.H.Host.meaning c.args.self.now.state c.append.new.self.state c.len-slot.result c.args.request c.args.self.now.sends
+          c.append.new.self.sends _ c.in_ok-append.ensures.state c.len-slot.ensures.len c.append.ensures.sends sent;
+    })
+    c.reply_at.ensures.runs c.reply_at.ensures.sends

@@ -1,5 +1,5 @@
-use Rattle.std.proofs.Common.{ap, ◌∙◌, arith}
-use Rattle.replica_rows.proofs.Following.{raised_executes}
+use Rattle.std.proofs.Common.{◌+◌, ap, ◌∙◌, arith}
+use Rattle.replica_rows.proofs.Following.{raised_executes, stays, passes_none, follows_with, passes_some}
 use Rattle.replica_rows.proofs.member.Member.follow.Goals as goal
 
 pub returns-clause-executes : goal.returns-clause-executes
@@ -13,3 +13,34 @@ returns-clause-executes g c =
     c.requires.executes.fits (omega (arith, c.if-sync_point-below.false, c.sync_point-below.ensures, slot)) there
     c.host-host.ensures.fits c.in_ok-checkpoint.ensures.loads (c.in_ok-checkpoint.ensures.executed log run)
     (c.in_ok-stand_at.ensures.reached ∙ slot) (c.rebase.ensures.run log run) (ap (λ t. t.log) c.in_ok-entries.ensures.ok)
+
+pub returns-then-sync_point-below-clause-state : goal.returns-then-sync_point-below-clause-state
+returns-then-sync_point-below-clause-state g c =
+    let s = c.args.self.now.state in
+    stays g.H.Host.meaning s (omega (arith, c.if-sync_point-below.true, c.sync_point-below.ensures, c.sync_point-sync_point.ensures))
+
+pub returns-then-sync_point-below-clause-passed : goal.returns-then-sync_point-below-clause-passed
+returns-then-sync_point-below-clause-passed g c =
+    let s = c.args.self.now.state in
+    passes_none s (omega (arith, c.if-sync_point-below.true, c.sync_point-below.ensures, c.sync_point-sync_point.ensures))
+
+pub checkpoint-requires : goal.checkpoint-requires
+checkpoint-requires g c =
+    record { run = (c.args.self.now.state.log, (c.requires.executes.fits, c.in_ok-stand_at.ensures.run)) }
+
+pub returns-clause-state : goal.returns-clause-state
+returns-clause-state g c =
+    let s = c.args.self.now.state in
+    let slot = c.sync_point-sync_point.ensures in
+    follows_with g.H.Host.meaning s c.raise_log.new.self c.in_ok-checkpoint.checkpoint _
+    (omega (arith, c.if-sync_point-below.false, c.sync_point-below.ensures, slot))
+    (c.in_ok-checkpoint.ensures.executed s.log c.in_ok-stand_at.ensures.run)
+    (c.in_ok-stand_at.ensures.reached ∙ slot) c.in_ok-entries.ensures.ok
+
+pub returns-clause-passed : goal.returns-clause-passed
+returns-clause-passed g c =
+    let s = c.args.self.now.state in
+    let below = c.sync_point-below.ensures in
+    passes_some s (record { first = c.sync_point-below.result + 1; entries = c.in_ok-entries.entries })
+    (omega (arith, c.if-sync_point-below.false, below, c.sync_point-sync_point.ensures))
+    (omega (arith, below)) c.in_ok-entries.ensures.entries

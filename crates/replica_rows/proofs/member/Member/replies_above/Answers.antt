@@ -1,6 +1,6 @@
-use Rattle.std.proofs.Common.{ap, ◌∙◌, sym, arith}
+use Rattle.std.proofs.Common.{◌++◌, ap, ◌∙◌, sym, arith, append-nil}
 use Rattle.nop_types.specs.Logs.{Trimmed, length_of}
-use Rattle.replica_rows.proofs.Replying.{replies_on}
+use Rattle.replica_rows.proofs.Replying.{replies_on, none_left}
 use Rattle.replica_rows.proofs.member.Member.replies_above.Goals as goal
 
 pub loop-at-preserved : goal.loop-at-preserved
@@ -19,3 +19,10 @@ loop-at-preserved g c =
           replies_on g.H.Host.meaning c.loop-at.self.state _ c.loop-at.at _ _ _ i.state low
           (omega (arith, c.loop-at-test.true, i.ends)) c.in_ok-reply_at.ensures.sends i.replied;
     }
+
+pub returns-clause-sends : goal.returns-clause-sends
+returns-clause-sends g c =
+    let sent = c.loop-at.self.sends in
+    let none =
+    none_left g.H.Host.meaning c.args.self.now.state c.loop-at.at (omega (arith, c.loop-at-test.false, c.len-at-end.ensures.len)) in
+    sym (append-nil sent) ∙ ap (λ xs. sent ++ xs) (sym none) ∙ c.loop-at.invariant.replied

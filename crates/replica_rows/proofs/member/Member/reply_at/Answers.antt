@@ -1,10 +1,32 @@
-use Rattle.std.proofs.Common.{◌≡◌, Some, ap, ◌∙◌, ◌++◌, refl, sym}
+use Rattle.std.proofs.Common.{◌≡◌, Some, ap, ◌∙◌, ◌++◌, refl, sym, arith}
 use Rattle.nop_types.specs.declared.request.Entry.TheVariants.{Req}
 use Rattle.nop_types.specs.Legality.{IsOf}
 use Rattle.nop_types.specs.Logs.{Trimmed, entry_at}
-use Rattle.replica_rows.proofs.Replying.{leader_replies, follower_replies}
+use Rattle.replica_rows.proofs.Replying.{entry_fits, leader_replies, follower_replies}
 use Rattle.replica_rows.proofs.Running.{on_ok}
 use Rattle.replica_rows.proofs.member.Member.reply_at.Goals as goal
+
+pub reply_with_result-requires-clause-slot : goal.reply_with_result-requires-clause-slot
+reply_with_result-requires-clause-slot g c = record { low = omega (arith, c.requires.ahead); high = omega (arith, c.ranges.slot) }
+
+pub reply_with_result-requires-clause-id : goal.reply_with_result-requires-clause-id
+reply_with_result-requires-clause-id g c =
+    let s = c.args.self.now.state in
+    let request = c.in-Some-Req.request in
+    let there : entry_at Trimmed s.log c.args.slot ≡ Some (Req request) =
+    sym c.in-Some-Req.ensures.entry ∙ ap Some c.in-Some-Req.field-0-is in
+    (entry_fits s.log c.args.slot (Req request) c.requires.runs.within.log there).id_low
+
+pub send_short-requires-clause-slot : goal.send_short-requires-clause-slot
+send_short-requires-clause-slot g c = record { low = omega (arith, c.requires.ahead); high = omega (arith, c.ranges.slot) }
+
+pub send_short-requires-clause-id : goal.send_short-requires-clause-id
+send_short-requires-clause-id g c =
+    let s = c.args.self.now.state in
+    let request = c.in-Some-Req.request in
+    let there : entry_at Trimmed s.log c.args.slot ≡ Some (Req request) =
+    sym c.in-Some-Req.ensures.entry ∙ ap Some c.in-Some-Req.field-0-is in
+    (entry_fits s.log c.args.slot (Req request) c.requires.runs.within.log there).id_low
 
 pub returns-then-leads-clause-sends : goal.returns-then-leads-clause-sends
 returns-then-leads-clause-sends g c =

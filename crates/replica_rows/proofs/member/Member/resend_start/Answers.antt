@@ -1,5 +1,6 @@
 use Rattle.std.proofs.Common.{refl}
+use Rattle.replica_rows.proofs.Running.{on_ok}
 use Rattle.replica_rows.proofs.member.Member.resend_start.Goals as goal
 
 pub returns : goal.returns
-returns g c = record { runs = c.requires.runs; state = refl; sends = c.in_ok-tell_start.ensures.ok }
+returns g c = on_ok c.tell_start.result _ _ (λ sent. record { runs = c.requires.runs; state = refl; sends = sent }) c.tell_start.ensures.ok

@@ -1,5 +1,10 @@
+use Rattle.std.proofs.Common.{◌++◌, sym, ap, ◌∙◌, append-nil}
 use Rattle.nop_types.specs.Logs.{Trimmed}
-use Rattle.replica_rows.proofs.Running.{commit_moves, moved_executes, moved_there, followed_runs}
+use Rattle.replica_state.specs.Moves.{sync_commit}
+use Rattle.replica_rows.specs.Rising.{follows, passed_by}
+use Rattle.replica_rows.specs.Rows as rows
+use Rattle.replica_rows.proofs.Running.{on_ok, commit_moves, moved_executes, moved_there, followed_runs}
+use Rattle.replica_rows.proofs.Voting.{lets_go}
 use Rattle.replica_rows.proofs.member.Member.sync_commit.Goals as goal
 
 pub follow-requires-clause-executes : goal.follow-requires-clause-executes
@@ -23,3 +28,25 @@ let_go-requires g c =
           (commit_moves Trimmed c.args.slot s _ c.sync_commit.ensures.state c.requires.runs.within) c.in_ok-passed.ensures.state
           c.in_ok-passed.ensures.executes;
     }
+
+pub returns : goal.returns
+unfolding rows.sync_commit
+returns g c =
+    let m = g.H.Host.meaning in
+    let old = c.args.self.now in
+    let is = c.sync_commit.ensures.state in
+    on_ok c.let_go.result _ _
+    (lets_go g.H.Host old c.follow.new.self _ (sync_commit c.args.slot) c.in_ok-passed.passed
+    (record {
+      runs =
+          followed_runs g.H.Host old.state c.sync_commit.new.self _ _ _ c.requires.runs
+          (commit_moves Trimmed c.args.slot old.state _ is c.requires.runs.within) c.in_ok-passed.ensures.state
+          c.in_ok-passed.ensures.executes;
+      state = c.in_ok-passed.ensures.state ∙ ap (follows m) is;
+      sends =
+          c.follow.ensures.sends
+          ∙ sym (append-nil old.sends)
+          ∙ ap (λ xs. old.sends ++ xs) (sym c.sync_commit.ensures.nothing);
+    })
+    (c.in_ok-passed.ensures.passed ∙ ap passed_by is))
+    c.let_go.ensures
