@@ -76,7 +76,7 @@ replay MAX_DRAWN_EVENTS 100_000
 END
 }
 
-# apart: constants whose number no definition names and no user meets (how much is gathered or reserved), or that are made of others.
+# apart: constants whose number no definition names and no user meets (how much is gathered, reserved or compared), or that are made of others.
 apart() {
     cat << 'END'
 session_control PART_END
@@ -85,6 +85,9 @@ peer_codec SENDER_AT
 peer_codec LEAST_CLIENT
 fragments PARTS_AHEAD
 fragments FIELD_BYTES
+network HEADER_LEN
+network SHARED_LEN
+network LOOKBACK
 schedule_text MAX_OP_TEXT
 schedule_text MAX_JUNK_TEXT
 transcript_rows MAX_OP_TEXT
