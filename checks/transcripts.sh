@@ -25,7 +25,7 @@ same() {
 }
 
 # ---- what is stored; the test of `run` has copies of it
-table=$(cat crates/run_tests/src/rows.rt)
+table=$(cat crates/run_tests/src/rows.rt crates/run_tests/src/view_rows.rt)
 for schedule in examples/*.schedule; do
     name=$(basename "$schedule" .schedule)
     transcript=examples/$name.transcript

@@ -1,11 +1,9 @@
 //! Tests alone, by the public calls of the crates below: whole runs and commands over devices in
-//! memory, with each call failing in turn; the schedules of `examples/`; sockets and clock.
+//! memory, with each call failing in turn; the schedules of `examples/`.
 #![tactic(auto)]
 
 #[cfg(test)]
 mod clusters;
-#[cfg(test)]
-mod devices;
 #[cfg(test)]
 mod faults;
 #[cfg(test)]
@@ -14,3 +12,5 @@ mod outcomes;
 mod rows;
 #[cfg(test)]
 mod runs;
+#[cfg(test)]
+mod view_rows;

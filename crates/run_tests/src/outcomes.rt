@@ -7,8 +7,7 @@ use commands::{Status, run};
 use kv_host::KvHost;
 use nop_types::{Bytes, MAX_DATAGRAM_BYTES};
 use outside::{
-    CallPlan, Clock, ClockMem, Failing, LinkCall, LinkMem, PollAnswer, Ports, PortsMem, ReadMem,
-    Sink, Source, WriteMem,
+    CallPlan, ClockMem, Failing, LinkCall, LinkMem, PollAnswer, PortsMem, ReadMem, WriteMem,
 };
 use std::alloc::Global;
 use std::process::Abort;
@@ -33,20 +32,6 @@ pub fn words_of(rt: &impl Abort, alloc: Global, text: &str) -> Vec<String> {
         words.push(word).expect(rt, "memory");
     }
     words
-}
-
-/// Runs the words of a line over these devices.
-pub fn run_line<S: Source, K: Sink, P: Ports, C: Clock>(
-    rt: &impl Abort,
-    alloc: Global,
-    line: &str,
-    source: &mut S,
-    sink: &mut K,
-    ports: &mut P,
-    clock: &mut C,
-) -> Status {
-    let words = words_of(rt, alloc, line);
-    run::<KvHost, S, K, P, C>(alloc, "nopaxos", &words, source, sink, ports, clock)
 }
 
 /// What stands behind a key at the begin of a line, nothing where there is none.
@@ -179,10 +164,11 @@ pub fn outcome_of(rt: &impl Abort, alloc: Global, head: &str, schedule: &str) ->
     let mut sink = sink_of(rt, alloc, head);
     let mut ports = ports_of(rt, alloc, head);
     let mut clock = ClockMem::new(alloc);
-    let status = run_line(
-        rt,
+    let words = words_of(rt, alloc, line);
+    let status = run::<KvHost, _, _, _, _>(
         alloc,
-        line,
+        "nopaxos",
+        &words,
         &mut source,
         &mut sink,
         &mut ports,

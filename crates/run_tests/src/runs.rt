@@ -1,5 +1,6 @@
 use super::outcomes::{ONE_PUT, check_outcome, datagram, words_of};
 use super::rows::ROWS;
+use super::view_rows::VIEW_ROWS;
 use commands::run_in_memory;
 use kv_host::KvHost;
 use outside::{ClockMem, LinkMem, PollAnswer, PortsMem, ReadMem, WriteMem};
@@ -343,13 +344,18 @@ fn check_transcript(rt: &impl Abort, alloc: Global, row: &str, most: &str) {
     check_outcome(rt, alloc, &head, schedule, &wanted);
 }
 
-#[test]
-fn transcripts(rt: HostRuntime) {
-    for row in ROWS.split("----\n") {
+fn check_transcripts(rt: &impl Abort, alloc: Global, rows: &str) {
+    for row in rows.split("----\n") {
         for most in ["1", "7", "82", "4096"] {
-            check_transcript(&rt, rt.alloc(), row, most);
+            check_transcript(rt, alloc, row, most);
         }
     }
+}
+
+#[test]
+fn transcripts(rt: HostRuntime) {
+    check_transcripts(&rt, rt.alloc(), ROWS);
+    check_transcripts(&rt, rt.alloc(), VIEW_ROWS);
 }
 
 /// A sequencer over devices in memory that never fail.

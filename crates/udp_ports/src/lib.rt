@@ -1,12 +1,12 @@
 //! The network and the clock of the operating system: UDP sockets at ports of the loopback address as the devices `Ports` and
 //! `Link` of `outside`, and the monotonic clock as its `Clock`. `main` makes them and hands them to `commands::run`.
 //!
-//! Bursts of large datagrams are paced. A socket's receive buffer holds some 90 of them, and a message with a checkpoint and a log
-//! takes up to 2,966: so a link sends only the first ones to each port at once, and the others by and by, while it is polled. Small
-//! datagrams never wait. A poll has the memory for a datagram before it receives one.
+//! Long messages are paced. A socket's receive buffer holds some 90 fragments, and a message with a checkpoint and a log has up to
+//! 2,966: so a link sends only the first ones to each port at once, and the others by and by, while it is polled. Messages of one
+//! fragment and all other datagrams never wait. A poll has the memory for a datagram before it receives one.
 //!
 //! Proved: the contracts of the traits, so that counts of faults and losses rise exactly where they have to; at most `MOST_WAITING`
-//! datagrams wait, each new one is the last of them, and only the first one leaves. The contracts of std don't say what a socket
+//! datagrams wait, each new one is the last of them, and only the first one leaves; which datagrams are paced. The contracts of std don't say what a socket
 //! carries or what a clock shows. So it is only tested that datagrams are sent and arrive whole, at the loopback address alone, when
 //! those that wait are sent, how long a poll takes, and that the clock counts milliseconds.
 //!

@@ -1,13 +1,13 @@
 ghost use Rattle.std.specs.Prelude.{◌≡◌};
 
-use crate::pacing::{Admission, MOST_AT_ONCE, Pacer, is_large};
+use crate::pacing::{Admission, MOST_AT_ONCE, Pacer, is_part};
 use crate::socket::{Patience, Socket};
 use nop_types::Bytes;
 use outside::{Link, LinkError};
 use std::alloc::Global;
 use std::time::Clock;
 
-/// A datagram socket at a port of the loopback address, with counts of its errors. The large datagrams of a burst are sent while it
+/// A datagram socket at a port of the loopback address, with counts of its errors. The parts of a long message are sent while it
 /// is polled.
 #[derive(Drop)]
 pub struct UdpLink<'a, R: Clock> {
@@ -35,14 +35,14 @@ fn release<R: Clock>(pacer: &mut Pacer, socket: &Socket<'_, R>) -> u64 {
     failed
 }
 
-/// Sends a datagram, or keeps a large one; else it is lost.
+/// Sends a datagram, or keeps a part; else it is lost.
 fn send_or_keep<R: Clock>(
     pacer: &mut Pacer,
     socket: &Socket<'_, R>,
     port: u16,
     bytes: &[u8],
 ) -> bool {
-    if !is_large(bytes) {
+    if !is_part(bytes) {
         return socket.has_sent(port, bytes);
     }
     match pacer.admit(port, bytes) {
@@ -120,7 +120,7 @@ impl<'a, R: Clock> Link for UdpLink<'a, R> {
         answer
     }
 
-    /// A large datagram that is kept is answered by Ok. It is sent at a later poll.
+    /// A part that is kept is answered by Ok. It is sent at a later poll.
     fn send(&mut self, port: u16, bytes: &[u8]) -> Result<(), LinkError> {
         if send_or_keep(&mut self.pacer, &self.socket, port, bytes) {
             return Ok(());

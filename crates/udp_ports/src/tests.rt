@@ -1,10 +1,12 @@
-use crate::pacing::{Admission, Pacer};
+use crate::pacing::{Admission, Pacer, is_part};
 use crate::socket::is_silence;
 use crate::{SystemClock, UdpLink, UdpPorts};
 use nop_types::Bytes;
 use outside::{Clock, Link, LinkError, Ports};
 use std::io::ErrorKind;
 use std::net::{Ipv4Addr, Net, UdpSocket};
+use std::ops::Range;
+use std::process::Abort;
 use std::thread;
 use std::time::Duration;
 
@@ -80,8 +82,8 @@ fn loopback_alone(rt: HostRuntime) {
     assert!(rt; UdpSocket::bind(&rt, (Ipv4Addr::new(127, 0, 0, 2), link.port())).is_ok());
 }
 
-/// A send that the system refuses is a loss, and no fault: nothing can be sent to port 0. One to a port that nobody has is none. Large
-/// datagrams that were kept are lost when they cannot be sent later.
+/// A send that the system refuses is a loss, and no fault: nothing can be sent to port 0. One to a port that nobody has is none. Parts
+/// that were kept are lost when they cannot be sent later.
 #[test]
 fn failed_sends_are_losses(rt: HostRuntime) {
     let mut ports = UdpPorts::new(&rt, rt.alloc());
@@ -95,7 +97,7 @@ fn failed_sends_are_losses(rt: HostRuntime) {
         } else {
             Ok(())
         };
-        assert!(rt; link.send(0, &[7u8; 1400]) == wanted);
+        assert!(rt; link.send(0, &[8u8; 1417]) == wanted);
     }
     assert!(rt; link.losses() == 9);
     thread::sleep(&rt, Duration::from_millis(1));
@@ -170,13 +172,40 @@ fn clock_counts_milliseconds(rt: HostRuntime) {
     assert!(rt; 190 <= slept && slept < 2000);
 }
 
-/// Eight of a turn's large datagrams are sent to each port at once, and eight more in each half of a millisecond; a later turn's are
-/// refused until all are sent, small ones pass.
+/// How many of the datagrams that wait are sent now.
+fn released(pacer: &mut Pacer, now: u64) -> usize {
+    pacer.begin_turn(now);
+    let mut count: usize = 0;
+    for _ in 0..100usize {
+        if pacer.next().is_some() {
+            count = count.saturating_add(1);
+        }
+    }
+    count
+}
+
+/// The fragments of messages with more than one are parts, also the short ones; other datagrams are none, however long.
 #[test]
-fn large_datagrams_are_paced(rt: HostRuntime) {
+fn fragments_of_several_are_parts(rt: HostRuntime) {
+    let mut fragment = [8u8; 1417];
+    fragment[15] = 0;
+    fragment[16] = 2;
+    assert!(rt; is_part(&fragment) && is_part(&fragment[..18]) && !is_part(&fragment[..17]));
+    fragment[15] = 1;
+    fragment[16] = 1;
+    assert!(rt; is_part(&fragment));
+    fragment[15] = 0;
+    assert!(rt; !is_part(&fragment) && !is_part(&fragment[..18]));
+    assert!(rt; !is_part(&[7u8; 1417]) && !is_part(b""));
+}
+
+/// Eight of a turn's parts are sent to each port at once, and eight more in each half of a millisecond; a later turn's are refused
+/// until all are sent.
+#[test]
+fn parts_are_paced(rt: HostRuntime) {
     let mut pacer = Pacer::new(rt.alloc());
     pacer.begin_turn(100);
-    let large = [1u8; 1001];
+    let part = [8u8; 1417];
     for i in 0..20usize {
         for port in [1, 2u16] {
             let wanted = if i < 8 {
@@ -184,7 +213,7 @@ fn large_datagrams_are_paced(rt: HostRuntime) {
             } else {
                 Admission::Kept
             };
-            assert!(rt; pacer.admit(port, &large) == wanted);
+            assert!(rt; pacer.admit(port, &part) == wanted);
         }
     }
     for (now, wanted) in [
@@ -195,27 +224,49 @@ fn large_datagrams_are_paced(rt: HostRuntime) {
         (1200, 8),
         (1200, 0),
     ] {
-        pacer.begin_turn(now);
-        let mut count: usize = 0;
-        for _ in 0..100usize {
-            if pacer.next().is_some() {
-                count = count.saturating_add(1);
-            }
-        }
-        assert!(rt; count == wanted);
-        let admitted = pacer.admit(3, &large) == Admission::SendNow;
+        assert!(rt; released(&mut pacer, now) == wanted);
+        let admitted = pacer.admit(3, &part) == Admission::SendNow;
         assert!(rt; admitted == pacer.is_empty());
     }
 }
 
-/// A burst of 300 of the longest fragments, more than a receive buffer holds, arrives whole and in order while both links are polled.
-/// A small datagram passes by all but those that were sent at once.
+/// Of a ViewChange two parts are sent in each half of a millisecond, and one more for each 1,024 that wait. The message after it is no
+/// slower for it.
+#[test]
+fn view_changes_are_slower(rt: HostRuntime) {
+    let mut pacer = Pacer::new(rt.alloc());
+    let mut part = [8u8; 1417];
+    part[13] = 0;
+    part[14] = 0;
+    part[17] = 21;
+    pacer.begin_turn(100);
+    for _ in 0..1034usize {
+        assert!(rt; pacer.admit(1, &part) != Admission::Refused);
+        part[14] = 1;
+    }
+    for (now, wanted) in [(200, 0), (700, 3), (1199, 0), (1200, 2), (1700, 2)] {
+        assert!(rt; released(&mut pacer, now) == wanted);
+    }
+    for i in 0..510u64 {
+        released(&mut pacer, 2200 + 500 * i);
+    }
+    assert!(rt; pacer.is_empty());
+    for _ in 0..20usize {
+        assert!(rt; pacer.admit(1, &part) != Admission::Refused);
+    }
+    for (now, wanted) in [(300_000, 0), (300_500, 8)] {
+        assert!(rt; released(&mut pacer, now) == wanted);
+    }
+}
+
+/// A burst of 300 parts, more than a receive buffer holds, arrives whole and in order while both links are polled. Another datagram
+/// passes by all but those that were sent at once.
 #[test]
 fn bursts_arrive_whole(rt: HostRuntime) {
     let mut ports = UdpPorts::new(&rt, rt.alloc());
     let mut from = new_link(&mut ports).expect(&rt, "a link");
     let mut to = new_link(&mut ports).expect(&rt, "a link");
-    let mut bytes = [0u8; 1417];
+    let mut bytes = [8u8; 1417];
     for i in 0..300usize {
         bytes[0] = (i % 256) as u8;
         from.send(to.port(), &bytes).expect(&rt, "a send");
@@ -245,4 +296,37 @@ fn bursts_arrive_whole(rt: HostRuntime) {
     assert!(rt; count == 300);
     assert!(rt; before_small == Some(8));
     assert!(rt; from.losses() == 0);
+}
+
+/// The datagrams with these numbers come next, whole and in order, and then none.
+fn check_received<L: Link>(rt: &impl Abort, link: &mut L, numbers: Range<u8>) {
+    let mut number = numbers.start;
+    let mut bytes = [8u8; 1417];
+    for _ in 0..1000usize {
+        if let Some(datagram) = link.poll().expect(rt, "a poll") {
+            bytes[1416] = number;
+            assert!(rt; datagram.as_slice() == bytes.as_slice(), "{number}");
+            number = number.wrapping_add(1);
+        } else if number >= numbers.end {
+            break;
+        }
+    }
+    assert!(rt; number == numbers.end);
+}
+
+/// A link that is given back sends what still waits: of twenty parts eight are sent at once, and the others then.
+#[test]
+fn a_link_given_back_sends_the_rest(rt: HostRuntime) {
+    let mut ports = UdpPorts::new(&rt, rt.alloc());
+    let mut to = new_link(&mut ports).expect(&rt, "a link");
+    let mut from = new_link(&mut ports).expect(&rt, "a link");
+    let mut bytes = [8u8; 1417];
+    for number in 0..20u8 {
+        bytes[1416] = number;
+        from.send(to.port(), &bytes).expect(&rt, "a send");
+    }
+    check_received(&rt, &mut to, 0..8);
+    assert!(rt; from.losses() == 0);
+    ports.detach(from);
+    check_received(&rt, &mut to, 8..20);
 }
