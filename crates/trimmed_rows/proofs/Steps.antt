@@ -24,7 +24,7 @@ use Rattle.replica_rows.specs.Messages as messages
 use Rattle.replica_rows.specs.Messages.{Arrival, Packet, Told, arrive}
 use Rattle.replica_rows.specs.Rows as rows
 use Rattle.trimmed_rows.specs.Premises.{PointsWithin, ArrivesWithin}
-use Rattle.trimmed_rows.specs.Row37.{Row37, put, get, stands, start, sync_of, round, stamp, says, replies, queued, synced, one}
+use Rattle.trimmed_rows.specs.WorkedSteps.{WorkedSteps, put, get, stands, start, sync_of, round, stamp, says, replies, queued, synced, one}
 use Rattle.trimmed_rows.specs.Trimmed.{trimmed, trimmed_arrival, trimmed_effect}
 use Rattle.trimmed_rows.proofs.Draining.{stops, takes, asks}
 use Rattle.oum_receiver.proofs.Lone.{lone, offered_first, front_lone, taken_lone, advanced_lone, advanced_none, front_none, front_missing}
@@ -90,9 +90,9 @@ module _ {S : Type 0} (m : Meaning S) where
       ∙ ap (λ (x : Receiving). then_do (after x, said ∷ replies 2 2 get 0 [] ∷ []) (drain_by m Whole 4095)) (taken_lone 1 2 get)
       ∙ ap (λ (e : Effect). (e.0, said ∷ replies 2 2 get 0 [] ∷ e.1)) (stops m 4094 (after (opened 1 3)) (front_none 1 3))
 
-  pub whole_row : Row37 m Whole
+  pub whole_steps : WorkedSteps m Whole
   unfolding messages.arrive messages.loads_in messages.on_message rows.sync repeating.sync rows.slot_lookup reply_to
-  whole_row = record {
+  whole_steps = record {
     leader_takes = takes_put 0 _ (ap (λ (o : Option (List ℕ)). leader_reply (stands 0 one 2 (opened 1 2) (sync_of 0 0 None) 0) 1 put o ++ []) put_result);
     follower_takes = takes_put 1 _ refl;
     leader_tells = refl;
@@ -126,16 +126,16 @@ module _ {S : Type 0} (m : Meaning S) (IsSound : S → Type 0) (keeps : KeepsTo 
   synced_within = record { points = refl; sync_point = omega arith; prepared = omega arith; round = λ y e. absurd cc }
 
   -- each step over trimmed logs is that over whole ones, trimmed
-  pub trimmed_row : Row37 m Trimmed
-  trimmed_row =
-      let row = whole_row m in
+  pub trimmed_steps : WorkedSteps m Trimmed
+  trimmed_steps =
+      let steps = whole_steps m in
       record {
-        leader_takes = step (start 0) (Packet (stamp 1 put)) _ (within 0 1 (opened 1 1) 0) tt row.leader_takes;
-        follower_takes = step (start 1) (Packet (stamp 1 put)) _ (within 1 1 (opened 1 1) 0) tt row.follower_takes;
-        leader_tells = step _ _ _ (one_within 0 (opened 1 2)) tt row.leader_tells;
-        follower_votes = step _ _ _ (one_within 1 (opened 1 2)) (refl, omega arith) row.follower_votes;
-        leader_settles = step _ _ _ round_within tt row.leader_settles;
-        third_asks = step (start 2) (Packet (stamp 2 get)) _ (within 2 1 (opened 1 1) 0) tt row.third_asks;
-        leader_answers = step _ _ _ synced_within tt row.leader_answers;
-        third_goes_on = step _ _ _ (within 2 1 (queued 1 2 get) 1) (refl, omega arith) row.third_goes_on;
+        leader_takes = step (start 0) (Packet (stamp 1 put)) _ (within 0 1 (opened 1 1) 0) tt steps.leader_takes;
+        follower_takes = step (start 1) (Packet (stamp 1 put)) _ (within 1 1 (opened 1 1) 0) tt steps.follower_takes;
+        leader_tells = step _ _ _ (one_within 0 (opened 1 2)) tt steps.leader_tells;
+        follower_votes = step _ _ _ (one_within 1 (opened 1 2)) (refl, omega arith) steps.follower_votes;
+        leader_settles = step _ _ _ round_within tt steps.leader_settles;
+        third_asks = step (start 2) (Packet (stamp 2 get)) _ (within 2 1 (opened 1 1) 0) tt steps.third_asks;
+        leader_answers = step _ _ _ synced_within tt steps.leader_answers;
+        third_goes_on = step _ _ _ (within 2 1 (queued 1 2 get) 1) (refl, omega arith) steps.third_goes_on;
       }

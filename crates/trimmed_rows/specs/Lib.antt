@@ -1,3 +1,3 @@
 pub mod Premises
-pub mod Row37
 pub mod Trimmed
+pub mod WorkedSteps

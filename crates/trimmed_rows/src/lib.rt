@@ -8,15 +8,15 @@
 //! are gathered to start a view, their merge has to begin with what the change of the greatest sync
 //! point has up to there (`PointsWithin`, `ArrivesWithin`: the protocol gives both, see
 //! `whole_can_trim` of `whole_world`). The entries between an old sync point and the new one, which
-//! move out of a trimmed log, are the same in both readings. `row_37_whole` and `row_37_trimmed`
-//! are the steps of a log that is synchronised, worked by hand.
+//! move out of a trimmed log, are the same in both readings. `steps_of_whole_logs` and
+//! `steps_of_trimmed_logs` are the steps of a log that is synchronised, worked by hand.
 //!
-//! Files: `row_laws`, `row_37`. Definitions: `specs/Trimmed` (the trimmed state, arrival and
-//! effect), `Premises`, `Row37`.
+//! Files: `row_laws`, `synchronising`. Definitions: `specs/Trimmed` (the trimmed state, arrival and
+//! effect), `Premises`, `WorkedSteps`.
 #![tactic(auto)]
 
-mod row_37;
 mod row_laws;
+mod synchronising;
 
-pub use row_37::{row_37_trimmed, row_37_whole};
 pub use row_laws::rows_trim;
+pub use synchronising::{steps_of_trimmed_logs, steps_of_whole_logs};

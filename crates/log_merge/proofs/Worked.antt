@@ -1,4 +1,4 @@
--- Rows of the definitions, worked by hand.
+-- Merges and starts that were worked out by hand.
 use Rattle.std.proofs.Common.{◌≡◌, ℕ, List, [], ◌∷◌, Some, refl}
 use Rattle.nop_types.specs.declared.request.Entry.{Entry}
 use Rattle.nop_types.specs.declared.request.Entry.TheVariants.{NoOp, Req}
@@ -26,35 +26,35 @@ abbrev change : ℕ → View → ℕ → List Entry → Change
 change sender last_normal next log = change_at 0 sender last_normal next log
 
 -- a NO-OP wins from either side, and the lower sender among requests, in either order of the list
-row_1 : merge (change 2 (view 0 1) 3 (req 1 ∷ req 2 ∷ []) ∷ change 1 (view 0 1) 4 (NoOp ∷ req 3 ∷ req 4 ∷ []) ∷ [])
+lower_sender_wins_listed_last : merge (change 2 (view 0 1) 3 (req 1 ∷ req 2 ∷ []) ∷ change 1 (view 0 1) 4 (NoOp ∷ req 3 ∷ req 4 ∷ []) ∷ [])
     ≡ NoOp ∷ req 3 ∷ req 4 ∷ []
-row_1 = refl
+lower_sender_wins_listed_last = refl
 
-row_2 : merge (change 1 (view 0 1) 3 (req 1 ∷ req 2 ∷ []) ∷ change 2 (view 0 1) 4 (req 5 ∷ req 3 ∷ NoOp ∷ []) ∷ [])
+lower_sender_wins_listed_first : merge (change 1 (view 0 1) 3 (req 1 ∷ req 2 ∷ []) ∷ change 2 (view 0 1) 4 (req 5 ∷ req 3 ∷ NoOp ∷ []) ∷ [])
     ≡ req 1 ∷ req 2 ∷ NoOp ∷ []
-row_2 = refl
+lower_sender_wins_listed_first = refl
 
-row_3 : merge [] ≡ []
-row_3 = refl
+nothing_merges_to_nothing : merge [] ≡ []
+nothing_merges_to_nothing = refl
 
 -- only the changes of the greatest last normal view count; next is theirs in the same session, and 1 in another
-row_4 : start_of (view 2 1) (change 0 (view 1 1) 3 (req 1 ∷ req 2 ∷ []) ∷ change 1 (view 0 1) 9 (NoOp ∷ []) ∷ change 2 (view 1 1) 2
+next_goes_on_in_its_session : start_of (view 2 1) (change 0 (view 1 1) 3 (req 1 ∷ req 2 ∷ []) ∷ change 1 (view 0 1) 9 (NoOp ∷ []) ∷ change 2 (view 1 1) 2
     (req 1 ∷ []) ∷ []) ≡ record { next = 3; log = req 1 ∷ req 2 ∷ [] }
-row_4 = refl
+next_goes_on_in_its_session = refl
 
-row_5 : start_of (view 2 2) (change 0 (view 1 1) 3 (req 1 ∷ req 2 ∷ []) ∷ change 1 (view 0 1) 9 (NoOp ∷ []) ∷ [])
+next_is_1_in_another_session : start_of (view 2 2) (change 0 (view 1 1) 3 (req 1 ∷ req 2 ∷ []) ∷ change 1 (view 0 1) 9 (NoOp ∷ []) ∷ [])
     ≡ record { next = 1; log = req 1 ∷ req 2 ∷ [] }
-row_5 = refl
+next_is_1_in_another_session = refl
 
 -- sessions rank before leader numbers
-row_6 : start_of (view 6 2) (change 0 (view 5 1) 3 (req 1 ∷ []) ∷ change 1 (view 0 2) 7 (req 2 ∷ []) ∷ [])
+session_ranks_before_leader : start_of (view 6 2) (change 0 (view 5 1) 3 (req 1 ∷ []) ∷ change 1 (view 0 2) 7 (req 2 ∷ []) ∷ [])
     ≡ record { next = 7; log = req 2 ∷ [] }
-row_6 = refl
+session_ranks_before_leader = refl
 
 -- the greatest sync point of the changes of the greatest last normal view, whoever told it
-row_7 : start_point (change_at 1 0 (view 1 1) 3 (req 1 ∷ req 2 ∷ []) ∷ change_at 3 1 (view 0 1) 9 (NoOp ∷ NoOp ∷ NoOp ∷ []) ∷ change_at
+start_point_is_the_greatest_that_counts : start_point (change_at 1 0 (view 1 1) 3 (req 1 ∷ req 2 ∷ []) ∷ change_at 3 1 (view 0 1) 9 (NoOp ∷ NoOp ∷ NoOp ∷ []) ∷ change_at
     2 2 (view 1 1) 3 (req 1 ∷ req 2 ∷ []) ∷ []) ≡ 2
-row_7 = refl
+start_point_is_the_greatest_that_counts = refl
 
 -- ---- trimmed logs
 
@@ -68,10 +68,10 @@ abbrev tells : ℕ → Log → told.Change
 tells sender log = record { sender = sender; last_normal = view 0 1; next = 1; log = log }
 
 -- sync point and checkpoint of the best; of the others what they have above its sync point, which may be nothing
-row_8 : merged Trimmed (tells 3 (trimmed 2 (req 5 ∷ [])) ∷ tells 4 (trimmed 2 (req 7 ∷ [])) ∷ tells 1 (trimmed 1 (NoOp ∷ req 4 ∷ NoOp ∷
+merge_stands_above_the_best : merged Trimmed (tells 3 (trimmed 2 (req 5 ∷ [])) ∷ tells 4 (trimmed 2 (req 7 ∷ [])) ∷ tells 1 (trimmed 1 (NoOp ∷ req 4 ∷ NoOp ∷
     [])) ∷ tells 0 (whole 0 (req 1 ∷ [])) ∷ []) ≡ trimmed 2 (req 4 ∷ NoOp ∷ [])
-row_8 = refl
+merge_stands_above_the_best = refl
 
-row_9 : best (tells 4 (trimmed 2 (req 7 ∷ [])) ∷ tells 3 (trimmed 2 (req 5 ∷ [])) ∷ tells 1 (trimmed 1 []) ∷ [])
+best_is_of_the_lower_sender : best (tells 4 (trimmed 2 (req 7 ∷ [])) ∷ tells 3 (trimmed 2 (req 5 ∷ [])) ∷ tells 1 (trimmed 1 []) ∷ [])
     ≡ Some (tells 3 (trimmed 2 (req 5 ∷ [])))
-row_9 = refl
+best_is_of_the_lower_sender = refl

@@ -89,7 +89,7 @@ module _ {S : Type 0} (m : Meaning S) where
   synced Whole es = whole 1 (Req put ∷ es)
   synced Trimmed es = record { sync_point = 1; checkpoint = Some (checkpoint_of m (exec m (Req put ∷ []))); entries = es }
 
-  pub record Row37 (k : Keeping) : Type 0 where
+  pub record WorkedSteps (k : Keeping) : Type 0 where
     -- both take the put; the leader replies with its result
     pub leader_takes : arrive m k (start 0) (Packet (stamp 1 put))
         ≡ (stands 0 one 2 (receiving.opened 1 2) (sync_of 0 0 None) 0, replies 0 1 put 1 (m.answer m.opening put.op) ∷ [])
