@@ -10,6 +10,7 @@ use Rattle.lock_host.specs.declared.locks.TheConstants.{MAX_LOCKS, LAST_TOKEN}
 use Rattle.lock_host.specs.declared.lock.Lock.{Lock}
 use Rattle.lock_host.specs.declared.op.LockOp.{LockOp}
 use Rattle.lock_host.specs.declared.op.LockOp.TheVariants.{Acquire, Release, Inspect, Bad}
+use Rattle.lock_host.specs.declared.undo.LockUndo.TheVariants.{Back}
 use Rattle.lock_host.specs.Op.{read_op}
 use Rattle.lock_host.specs.Locks.{Places, Locks, Step, is_same, is_free, is_named, found, granted, held, says, granted_at, acquire}
 use Rattle.lock_host.specs.Locks.{holds, release, step}
@@ -18,7 +19,8 @@ use Rattle.lock_host.specs.Saved.{clashes}
 use Rattle.lock_host.specs.Service.{lock_meaning, IsApart, AreApart, IsSound}
 use Rattle.lock_host.specs.Places.{or_false, fits_get}
 use Rattle.lock_host.specs.Laws.{opens_sound, stays_sound}
-use Rattle.lock_host.specs.Tokens.{after_all, reached, Holds, TokensRise, OneHolder, OneLock, ReleasesOwn, AnswersGrants, AnswersAgain}
+use Rattle.lock_host.specs.Tokens.{after_all, reached, Holds, TokensRise, OneHolder, OneLock, ReleasesOwn, HeldUntilReleased, AnswersGrants}
+use Rattle.lock_host.specs.Tokens.{AnswersAgain}
 
 -- ---- what stands at a place after a write
 
@@ -39,6 +41,20 @@ set_stands : {X : Type 0} (xs : List X) (i : ℕ) (x y : X) → slice_get xs i �
 set_stands [] i x y e = absurd (none-some x e)
 set_stands (z ∷ zs) zero x y e = refl
 set_stands (z ∷ zs) (suc i) x y e = set_stands zs i x y e
+
+-- a write to a place where something else stands
+set_keeps : {X : Type 0} (xs : List X) (i k : ℕ) (x y z : X) → slice_get xs k ≡ Some x → slice_get xs i ≡ Some z → (z ≡ x → ⊥)
+    → slice_get (slice_set xs i y) k ≡ Some x
+set_keeps [] i k x y z e f other = absurd (none-some x e)
+set_keeps (w ∷ ws) zero zero x y z e f other = absurd (other (sym (same_Some w z f) ∙ same_Some w x e))
+set_keeps (w ∷ ws) zero (suc k) x y z e f other = e
+set_keeps (w ∷ ws) (suc i) zero x y z e f other = e
+set_keeps (w ∷ ws) (suc i) (suc k) x y z e f other = set_keeps ws i k x y z e f other
+
+add_keeps : {X : Type 0} (xs : List X) (k : ℕ) (x y : X) → slice_get xs k ≡ Some x → slice_get (xs ++ y ∷ []) k ≡ Some x
+add_keeps [] k x y e = absurd (none-some x e)
+add_keeps (w ∷ ws) zero x y e = e
+add_keeps (w ∷ ws) (suc k) x y e = add_keeps ws k x y e
 
 add_stands : {X : Type 0} (xs : List X) (y : X) → slice_get (xs ++ y ∷ []) (length xs) ≡ Some y
 add_stands [] y = refl
@@ -82,7 +98,7 @@ all_sound : (locks : Locks) (ops : List (List ℕ)) → IsSound locks → IsSoun
 all_sound locks [] sound = sound
 all_sound locks (op ∷ ops) sound = all_sound (lock_meaning.after locks op) ops (stays_sound locks op sound)
 
-reached_sound : (ops : List (List ℕ)) → IsSound (reached ops)
+pub reached_sound : (ops : List (List ℕ)) → IsSound (reached ops)
 reached_sound ops = all_sound lock_meaning.opening ops opens_sound
 
 token_of : Option Lock → ℕ
@@ -244,12 +260,79 @@ releases_own locks op name owner token e not_held =
     ap (λ (o : LockOp). (step locks o).locks) e
     ∙ release_kept locks name owner token (found locks.places name) (found_is locks.places name) not_held
 
+-- ---- a lock that is held
+
+module _ (locks : Locks) (name owner : List ℕ) (token : ℕ) (h : Holds locks name owner token) where
+  -- it is held so after the step too
+  abbrev Keeps : Step → Type 0
+  Keeps s = Holds s.locks name owner token
+
+  either_keeps : (b : Bool) (s t : Step) → Keeps s → Keeps t → Keeps (cond b s t)
+  either_keeps true s t k l = k
+  either_keeps false s t k l = l
+
+  granted_keeps : (lock : Lock) (o : Option ℕ) → IsFree locks.places o → Keeps (granted_at locks lock o)
+  granted_keeps lock None free =
+      either_keeps (nat_lt (length locks.places) MAX_LOCKS) _ _ (h.0, add_keeps locks.places h.0 _ (Some lock) h.1) h
+  granted_keeps lock (Some i) free = (h.0, set_keeps locks.places i h.0 _ (Some lock) None h.1 free (λ e. none-some _ e))
+
+  acquire_keeps : (n o : List ℕ) (p : Option (ℕ × Lock)) → Keeps (acquire locks n o p)
+  acquire_keeps n o None =
+      either_keeps (nat_lt locks.last LAST_TOKEN) _ _ (granted_keeps _ (position is_free locks.places) (free_is locks.places)) h
+  acquire_keeps n o (Some p) = either_keeps (is_same p.1.owner o) _ _ h h
+
+  -- the lock that is found there has the name, the owner and the token of the release
+  is_release : (n o : List ℕ) (t : ℕ) (p : ℕ × Lock) → is_same p.1.name n ≡ true → holds p.1 o t ≡ true
+      → p.1 ≡ record { name = name; owner = owner; token = token } → Release n o t ≡ Release name owner token
+  is_release n o t p named e same =
+      let parts = both (is_same p.1.owner o) (p.1.token == t) e in
+      let a : n ≡ name = sym ((bytes_decides p.1.name n).0 named) ∙ ap (λ (lock : Lock). lock.name) same in
+      let b : o ≡ owner = sym ((bytes_decides p.1.owner o).0 parts.0) ∙ ap (λ (lock : Lock). lock.owner) same in
+      let c : t ≡ token = sym (eqb-true p.1.token t parts.1) ∙ ap (λ (lock : Lock). lock.token) same in
+      ap (λ (x : List ℕ). Release x o t) a ∙ ap (λ (x : List ℕ). Release name x t) b ∙ ap (λ (x : ℕ). Release name owner x) c
+
+  -- its place is free
+  abbrev freed : ℕ × Lock → Step
+  freed p = record {
+    answer = codes "released";
+    locks = record { last = locks.last; places = slice_set locks.places p.0 None };
+    undo = Back p.0 (Some p.1) locks.last;
+  }
+
+  freed_keeps : (n o : List ℕ) (t : ℕ) (p : ℕ × Lock) (b : Bool) → IsFound locks.places n (Some p) → holds p.1 o t ≡ b
+      → (Release n o t ≡ Release name owner token → ⊥) → Keeps (cond b (freed p) (says locks (codes "refused")))
+  freed_keeps n o t p true at e other = (
+    h.0,
+    set_keeps locks.places p.0 h.0 _ None (Some p.1) h.1 at.0
+        (λ same. other (is_release n o t p at.1 e (same_Some p.1 (record { name = name; owner = owner; token = token }) same))),
+  )
+  freed_keeps n o t p false at e other = h
+
+  release_keeps : (n o : List ℕ) (t : ℕ) (p : Option (ℕ × Lock)) → IsFound locks.places n p
+      → (Release n o t ≡ Release name owner token → ⊥) → Keeps (release locks o t p)
+  release_keeps n o t None at other = h
+  release_keeps n o t (Some p) at other = freed_keeps n o t p (holds p.1 o t) at refl other
+
+  step_keeps : (op : LockOp) → (op ≡ Release name owner token → ⊥) → Keeps (step locks op)
+  step_keeps (Acquire n o) other = acquire_keeps n o (found locks.places n)
+  step_keeps (Release n o t) other = release_keeps n o t (found locks.places n) (found_is locks.places n) other
+  step_keeps (Inspect n) other = h
+  step_keeps Bad other = h
+
+pub held_until_released : HeldUntilReleased
+held_until_released locks op name owner token h other = step_keeps locks name owner token h (read_op op) other
+
 -- ---- what an acquire answers
 
+-- an answer with another first byte
+no_grant : (b : ℕ) (rest : List ℕ) → (b ≡ 103 → ⊥) → (token : ℕ) → b ∷ rest ≡ granted token → ⊥
+no_grant b rest other token e = other (same_Some b 103 (ap (λ (x : List ℕ). slice_get x 0) e))
+
 module _ (locks : Locks) (name owner : List ℕ) where
-  -- the owner holds the lock after the step by the token that it answers, or the step changes nothing
+  -- the owner holds the lock after the step by the token that it answers, or the step changes nothing and answers no token
   abbrev Told : Step → Type 0
-  Told s = ((token : ℕ) × (s.answer ≡ granted token) × Holds s.locks name owner token) ⊎ (s.locks ≡ locks)
+  Told s = ((token : ℕ) × (s.answer ≡ granted token) × Holds s.locks name owner token)
+      ⊎ ((s.locks ≡ locks) × ((token : ℕ) → s.answer ≡ granted token → ⊥))
 
   either_told : (b : Bool) (s t : Step) → Told s → Told t → Told (cond b s t)
   either_told true s t h k = h
@@ -259,17 +342,25 @@ module _ (locks : Locks) (name owner : List ℕ) where
       → Told (granted_at locks (record { name = name; owner = owner; token = locks.last + 1 }) o)
   granted_told None free =
       either_told (nat_lt (length locks.places) MAX_LOCKS) _ _
-      (inl (locks.last + 1, refl, (length locks.places, add_stands locks.places _))) (inr refl)
+      (inl (locks.last + 1, refl, (length locks.places, add_stands locks.places _)))
+      (inr (refl, no_grant 102 _ (λ e. omega (arith, e))))
   granted_told (Some i) free = inl (locks.last + 1, refl, (i, set_stands locks.places i None _ free))
 
-  acquire_told : (o : Option (ℕ × Lock)) → Told (acquire locks name owner o)
-  acquire_told None =
-      either_told (nat_lt locks.last LAST_TOKEN) _ _ (granted_told (position is_free locks.places) (free_is locks.places)) (inr refl)
-  acquire_told (Some p) = either_told (is_same p.1.owner owner) _ _ (inr refl) (inr refl)
+  held_told : (p : ℕ × Lock) (b : Bool) → IsFound locks.places name (Some p) → is_same p.1.owner owner ≡ b
+      → Told (cond b (says locks (granted p.1.token)) (says locks (held p.1)))
+  held_told p true at e = inl (p.1.token, refl, holds_found locks name owner p.1.token p at e refl)
+  held_told p false at e = inr (refl, no_grant 104 _ (λ e. omega (arith, e)))
+
+  acquire_told : (o : Option (ℕ × Lock)) → IsFound locks.places name o → Told (acquire locks name owner o)
+  acquire_told None at =
+      either_told (nat_lt locks.last LAST_TOKEN) _ _ (granted_told (position is_free locks.places) (free_is locks.places))
+      (inr (refl, no_grant 115 _ (λ e. omega (arith, e))))
+  acquire_told (Some p) at = held_told p (is_same p.1.owner owner) at refl
 
 pub answers_grants : AnswersGrants
 answers_grants locks op name owner e =
-    subst (λ (o : LockOp). Told locks name owner (step locks o)) (sym e) (acquire_told locks name owner (found locks.places name))
+    subst (λ (o : LockOp). Told locks name owner (step locks o)) (sym e)
+    (acquire_told locks name owner (found locks.places name) (found_is locks.places name))
 
 -- ---- an acquire by the holder
 

@@ -173,7 +173,7 @@ stays_sound locks op sound = step_sound locks (read_op op) (read_fits op) sound
 -- ---- answers are short
 
 abbrev IsShort : List ℕ → Type 0
-IsShort answer = length answer ≤ MAX_RESULT_BYTES
+IsShort answer = length answer ≤ 76
 
 granted_short : (token : ℕ) → IsShort (granted token)
 granted_short token = let n = length-number token in omega (arith, n)
@@ -218,8 +218,11 @@ step_short locks (Release name owner token) sound = release_short locks owner to
 step_short locks (Inspect name) sound = told_short locks name (found locks.places name) sound (found_is locks.places name)
 step_short locks Bad sound = omega arith
 
+pub answers_limited : (locks : Locks) (op : List ℕ) → IsSound locks → length (lock_meaning.answer locks op) ≤ 76
+answers_limited locks op sound = step_short locks (read_op op) sound
+
 pub answers_short : (locks : Locks) (op : List ℕ) → IsSound locks → length (lock_meaning.answer locks op) ≤ MAX_RESULT_BYTES
-answers_short locks op sound = step_short locks (read_op op) sound
+answers_short locks op sound = let most = answers_limited locks op sound in omega (arith, most)
 
 -- ---- an op is undone
 

@@ -36,8 +36,8 @@ places_short last (p ∷ places) h =
     let whole = length-append (place_bytes p) (flat_map place_bytes places) in
     omega (arith, one, rest, whole)
 
-pub saves_short : (locks : Locks) → IsSound locks → length (saved locks) ≤ MAX_HOST_BYTES
-saves_short locks sound =
+pub saves_limited : (locks : Locks) → IsSound locks → length (saved locks) ≤ 565264
+saves_limited locks sound =
     let places = places_short locks.last locks.places sound.fits in
     let a = length-append (number_bytes locks.last) (number_bytes (length locks.places) ++ flat_map place_bytes locks.places) in
     let b = length-append (number_bytes (length locks.places)) (flat_map place_bytes locks.places) in
@@ -45,6 +45,9 @@ saves_short locks sound =
     let m = length-number (length locks.places) in
     let few = sound.few in
     omega (arith, places, a, b, n, m, few)
+
+pub saves_short : (locks : Locks) → IsSound locks → length (saved locks) ≤ MAX_HOST_BYTES
+saves_short locks sound = let most = saves_limited locks sound in omega (arith, most)
 
 -- ---- what was saved loads
 

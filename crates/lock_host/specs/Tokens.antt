@@ -43,11 +43,16 @@ abbrev pub ReleasesOwn : Type 0
 ReleasesOwn = (locks : Locks) (op name owner : List ℕ) (token : ℕ) → read_op op ≡ Release name owner token
     → (Holds locks name owner token → ⊥) → lock_meaning.after locks op ≡ locks
 
--- after an acquire its owner holds the lock by the token that is answered, or nothing has changed
+-- who holds a lock holds it after each op but its own release by the token
+abbrev pub HeldUntilReleased : Type 0
+HeldUntilReleased = (locks : Locks) (op name owner : List ℕ) (token : ℕ) → Holds locks name owner token
+    → (read_op op ≡ Release name owner token → ⊥) → Holds (lock_meaning.after locks op) name owner token
+
+-- after an acquire its owner holds the lock by the token that is answered, or nothing has changed and no token is answered
 abbrev pub AnswersGrants : Type 0
 AnswersGrants = (locks : Locks) (op name owner : List ℕ) → read_op op ≡ Acquire name owner
     → ((token : ℕ) × (lock_meaning.answer locks op ≡ granted token) × Holds (lock_meaning.after locks op) name owner token)
-    ⊎ (lock_meaning.after locks op ≡ locks)
+    ⊎ ((lock_meaning.after locks op ≡ locks) × ((token : ℕ) → lock_meaning.answer locks op ≡ granted token → ⊥))
 
 -- who holds the lock and acquires it again is answered the token that it has, and nothing changes
 abbrev pub AnswersAgain : Type 0

@@ -15,12 +15,13 @@
 //! released: a host has no clock, so there are no leases. Tokens are no secrets.
 //!
 //! Laws, over all lists of ops: `tokens_rise`, `a_lock_has_one_holder`, `only_the_holder_releases`,
-//! `a_grant_is_answered`. Names have 1 to 64 bytes; so answers have at most 76, and saved states at
-//! most 565,264. Ops are read from the bytes that spell them and from no others (law
-//! `ops_are_read_as_spelled`); other bytes are answered `bad`, and change nothing. The answers to
-//! ops of bytes are bytes (law `answers_are_bytes`). A state is saved as the last token and the
-//! places of the locks; it loads again, and nothing else does. To load takes time that grows with
-//! the square of the number of locks.
+//! `locks_are_held_until_released`, `a_grant_is_answered`. Names have 1 to 64 bytes; so answers have
+//! at most 76, and saved states at most 565,264 (`answers_and_states_are_limited`). Ops are read
+//! from the bytes that spell them and from no others (law `ops_are_read_as_spelled`); other bytes
+//! are answered `bad`, and change nothing. The answers to ops of bytes are bytes (law
+//! `answers_are_bytes`). A state is saved as the last token and the places of the locks; it loads
+//! again, and nothing else does. To load takes time that grows with the square of the number of
+//! locks.
 //!
 //! Calls: `LockHost`, by the trait; the program `lock_service` names it. `read` and `number`, for
 //! the text form of ops (`lock_text`).
@@ -45,8 +46,8 @@ mod undo;
 pub use fields::number;
 pub use host::LockHost;
 pub use laws::{
-    a_grant_is_answered, a_lock_has_one_holder, answers_are_bytes, only_the_holder_releases,
-    ops_are_read_as_spelled, tokens_rise,
+    a_grant_is_answered, a_lock_has_one_holder, answers_and_states_are_limited, answers_are_bytes,
+    locks_are_held_until_released, only_the_holder_releases, ops_are_read_as_spelled, tokens_rise,
 };
 pub use lock::Lock;
 pub use locks::{LAST_TOKEN, MAX_LOCKS};
