@@ -129,14 +129,17 @@ length-four : (n : ℕ) → length (four_bytes n) ≡ 4
 unfolding four_bytes
 length-four n = refl
 
-pub saves_short : (kv : Kv) → IsSound kv → length (saved kv) ≤ MAX_HOST_BYTES
-saves_short kv sound =
+pub saves_limited : (kv : Kv) → IsSound kv → length (saved kv) ≤ 1327108
+saves_limited kv sound =
     let entries = spelled_short (finite.entries kv) (sound_entries kv sound) in
     let whole = length-append (four_bytes (finite.len kv)) (spelled_entries (finite.entries kv)) in
     let front = length-four (finite.len kv) in
     let count = finite.len-entries kv in
     let few = sound.few in
     omega (arith, entries, whole, front, count, few)
+
+pub saves_short : (kv : Kv) → IsSound kv → length (saved kv) ≤ MAX_HOST_BYTES
+saves_short kv sound = let most = saves_limited kv sound in omega (arith, most)
 
 -- ---- a map with entries whose keys rise has them as its entries
 

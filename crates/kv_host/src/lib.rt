@@ -8,7 +8,8 @@
 //! value that it had. On an error the state is as before.
 //!
 //! In each state that ops lead to at most `MAX_KEYS` keys have a value, keys have 1 to 64 bytes and
-//! values at most 256; so answers have at most 257, and saved states at most 1,327,108.
+//! values at most 256; so answers have at most 257, and saved states at most 1,327,108
+//! (`saved_states_are_limited`).
 //!
 //! Ops are read from the bytes that spell them and from no others (law `ops_are_read_as_spelled`);
 //! other bytes are answered `bad`, and change nothing. A state is saved as how many keys have a
@@ -34,7 +35,7 @@ mod undo;
 mod value;
 
 pub use host::KvHost;
-pub use laws::answers_are_bytes;
+pub use laws::{answers_are_bytes, saved_states_are_limited};
 pub use op::{DELETE, GET, KvOp, PUT, SWAP, ops_are_read_as_spelled, read};
 pub use table::MAX_KEYS;
 pub use undo::KvUndo;
