@@ -18,7 +18,7 @@ use Rattle.peer_codec.proofs.Peers.{reads_again}
 use Rattle.replica_state.specs.declared.sending.Sending.{Sending}
 use Rattle.replica_core.specs.Posting.{posted}
 use Rattle.replica_state.specs.Sends.{SendingFits, message_count}
-use Rattle.delivery.specs.Carried.{Carried, IsMessage, IsWhole, WasTold}
+use Rattle.delivery.specs.Carried.{Carried, IsMessage, IsWhole, WasSent, WasTold}
 use Rattle.delivery.specs.PostedFragments.{fragments_in, messages_from, fragments_of_all}
 use Rattle.delivery.specs.Sends.{peers_in, IsBy}
 use Rattle.delivery.proofs.Messages.{posted_next, posted_once, posted_message, stays_message, each_posted, cut_from_all, all_cut}
@@ -52,7 +52,8 @@ opening_carries = record {
   numbered = λ x h. absurd (Has-none x h);
   cut = λ f h. absurd (Has-none f h);
   spelled = λ x h. absurd (Has-none x h);
-  whole = λ p h. absurd (Has-none p h);
+  whole = λ x h. absurd (Has-none x h);
+  all = λ p h. absurd (Has-none p h);
 }
 
 -- ---- posting
@@ -118,19 +119,25 @@ module _ (told : List Peer) (net : List Fragment) (used : ℕ → ℕ) (r : ℕ)
     | inr old ↦ stays_message (λ p. Has-append_right (peers_in sends) told p) x (c.spelled x old)
   ]
 
-  whole : (p : Peer) → Has (peers_in sends ++ told) p → IsWhole (net ++ fragments_of_all new) p
-  whole p h = elim (Has-append_cases (peers_in sends) told p h) [
+  whole : (x : Sent) → Has (new ++ c.sent) x → IsWhole (net ++ fragments_of_all new) x
+  whole x h f i = elim (Has-append_cases new c.sent x h) [
+    | inl is_new ↦ Has-append_right net (fragments_of_all new) f (all_cut new x is_new f i)
+    | inr old ↦ Has-append_left net (fragments_of_all new) f (c.whole x old f i)
+  ]
+
+  all : (p : Peer) → Has (peers_in sends ++ told) p → WasSent (new ++ c.sent) p
+  all p h = elim (Has-append_cases (peers_in sends) told p h) [
     | inl is_new ↦
         let under = each_posted (used r) sends p is_new in
-        record { number = under.under; all = λ f i. Has-append_right net (fragments_of_all new) f (all_cut new _ under.has f i) }
+        record { number = under.under; has = Has-append_left new c.sent _ under.has }
     | inr old ↦
-        let under = c.whole p old in
-        record { number = under.number; all = λ f i. Has-append_left net (fragments_of_all new) f (under.all f i) }
+        let under = c.all p old in
+        record { number = under.number; has = Has-append_right new c.sent _ under.has }
   ]
 
   carries : (d : Carried (peers_in sends ++ told) (net ++ fragments_of_all new) used_then) × (d.sent ≡ new ++ c.sent)
   carries = (
-    record { sent = new ++ c.sent; distinct = distinct; numbered = numbered; cut = cut; spelled = spelled; whole = whole },
+    record { sent = new ++ c.sent; distinct = distinct; numbered = numbered; cut = cut; spelled = spelled; whole = whole; all = all },
     refl,
   )
 

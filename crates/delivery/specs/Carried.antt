@@ -16,10 +16,14 @@ pub record IsMessage (told : List Peer) (x : Sent) : Type 0 where
   pub sender : peer.sender ≡ x.sender
   pub bytes : x.bytes ≡ spelling peer
 
--- under some number all fragments of the message are there
-pub record IsWhole (net : List Fragment) (p : Peer) : Type 0 where
+-- under some number the message was sent
+pub record WasSent (sent : List Sent) (p : Peer) : Type 0 where
   pub number : ℕ
-  pub all : (f : Fragment) → Has (fragments_of p.sender number (spelling p)) f → Has net f
+  pub has : Has sent (record { sender = p.sender; number = number; bytes = spelling p })
+
+-- all fragments of what was sent under a number are there
+abbrev pub IsWhole : List Fragment → Sent → Type 0
+IsWhole net x = (f : Fragment) → Has (fragments_of x.sender x.number x.bytes) f → Has net f
 
 -- the fragments of a network carry the messages that were told, and nothing else; `used` gives the last message number that each
 -- replica used
@@ -30,7 +34,8 @@ pub record Carried (told : List Peer) (net : List Fragment) (used : ℕ → ℕ)
   pub numbered : (x : Sent) → Has sent x → x.number ≤ used x.sender
   pub cut : AreCutFrom sent net
   pub spelled : (x : Sent) → Has sent x → IsMessage told x
-  pub whole : (p : Peer) → Has told p → IsWhole net p
+  pub whole : (x : Sent) → Has sent x → IsWhole net x
+  pub all : (p : Peer) → Has told p → WasSent sent p
 
 -- a message that was joined with this fragment was told by the fragment's replica, in its ranges
 pub record WasTold (told : List Peer) (f : Fragment) (p : Peer) : Type 0 where

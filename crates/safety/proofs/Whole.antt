@@ -69,6 +69,7 @@ module _ {S : Type 0} (m : Meaning S) (IsSound : S → Type 0) (keeps : KeepsTo 
         lines = alike.lines;
         sent = alike.sent;
         used = both.beside.travels.used;
+        counters = λ i p at. (both.beside.travels.members i p at).messages;
         fragments = both.beside.travels.posts;
         config = alike.config;
         replicas = alike.replicas;

@@ -172,8 +172,10 @@ pub record FollowsWhole {S : Type 0} (m : Meaning S) (h : Happened) (w : WholeWo
   pub lines : spoken h.lines ≡ w.lines
   -- datagrams that are no fragments; so the replies
   pub sent : other_datagrams h.world.sent ≡ w.sent
-  -- and the fragments, which carry the letters with their logs trimmed; `used` gives the last message number that each replica used
+  -- and the fragments, which carry the letters with their logs trimmed; `used` gives the last message number that each replica used,
+  -- which is its counter
   pub used : ℕ → ℕ
+  pub counters : (i : ℕ) (p : Seated Replica) → slice_get h.world.replicas i ≡ Some p → p.state.messages ≡ used i
   pub fragments : CarriesLetters (bytes_of h.world.sent) used (map (trimmed_letter m) w.letters)
   pub config : h.world.config ≡ w.config
   -- each replica's state but for its log, which is the whole one trimmed; its message number, and whether it crashed
