@@ -6,8 +6,9 @@ use Rattle.std.specs.Io.KnownBytes.{Consumes}
 use Rattle.std.proofs.KnownBytes.{Consumes-nil, Consumes-trans}
 use Rattle.std.proofs.lemmas.Bool.{false≢true}
 use Rattle.std.proofs.lemmas.List.{length-map}
-use Rattle.lines.specs.Deciding.{cut_of}
-use Rattle.lines.specs.Reading.{Reading, IsFirst, Reaches, TakesFrom, IsEnd, opening}
+use Rattle.lines.specs.Cutting.{Cut, with_end, lines_of}
+use Rattle.lines.specs.Deciding.{Follows, cut_of}
+use Rattle.lines.specs.Reading.{Reading, IsFirst, Reaches, TakesFrom, IsEnd, lines_before, opening}
 use Rattle.lines.specs.declared.first_line.FirstLine.{FirstLine}
 use Rattle.nop_types.specs.declared.header.Header.{Header}
 use Rattle.transcript_reader.specs.declared.limits.TheConstants.{MAX_TRANSCRIPT_LINES}
@@ -16,7 +17,7 @@ use Rattle.transcript_reader.specs.declared.check_error.CheckError.TheVariants.{
 use Rattle.transcript_reader.specs.declared.part.Part.{Part}
 use Rattle.transcript_reader.specs.declared.part.Part.TheVariants.{Over}
 use Rattle.transcript_reader.specs.Reading.{Advances, Admits, Behind, IsError, IsHeader, IsRefused, IsTaken, IsTranscript}
-use Rattle.transcript_reader.specs.Reading.{First, After, Place, IsAt, IsFinished, IsNoLine, IsRead, IsUnfinished, Reads, ReadsFirst, ReadsNone, RefusesCut, RefusesFirst, Went, whole}
+use Rattle.transcript_reader.specs.Reading.{First, After, Place, IsAt, IsFinished, IsInterrupted, IsNoLine, IsRead, IsUnfinished, Reads, ReadsFirst, ReadsNone, RefusesCut, RefusesFirst, Went, whole}
 use Rattle.transcript_reader.specs.Steps.{SoFar, nothing_yet}
 use Rattle.transcript_reader.specs.Transcripts.{AllFit, Transcript, body, members, transcript_lines}
 use Rattle.outside.specs.Causes.{HasCauseFor}
@@ -269,7 +270,35 @@ finish_cause (Err (Refuted line clause)) a b s lines later h = record { later = 
 finish_cause (Err ReadFault) a b s lines later h = absurd h
 finish_cause (Err NoMemory) a b s lines later h = absurd h
 
-pub no_line_error : (before left : Option (List ℕ)) (e : CheckError) → IsNoLine e → IsError before left e
-no_line_error before left (Refuted line clause) h = absurd h
-no_line_error before left ReadFault h = tt
-no_line_error before left NoMemory h = tt
+-- ---- no line came
+
+interrupted : (before left : Option (List ℕ)) (r : Reading) (all : List ℕ) (texts : List (List ℕ)) (place : Place)
+    → Went before left all r.ended → Behind texts all r → IsAt texts place → r.ended ≡ false → lines_before r false [] ≡ []
+    → IsInterrupted before left
+interrupted before left r all texts place went behind at going none =
+    let follows : Follows r.ended false [] = record { nothing = λ was. refl; end = λ was. sym going ∙ was } in
+    record {
+      all = all;
+      source = went.source;
+      texts = texts;
+      place = place;
+      at = at;
+      decided = ap (lines_of MAX_TRANSCRIPT_LINES false 0) (sym (append-nil all))
+          ∙ behind.lines false [] follows
+          ∙ ap (λ (k : ℕ). map with_end texts ++ lines_of k false r.line (r.pending ++ [])) (sym behind.most)
+          ∙ ap (λ (cuts : List Cut). map with_end texts ++ cuts) none
+          ∙ append-nil (map with_end texts);
+    }
+
+pub no_first_line : (before left : Option (List ℕ)) (r : Reading) (e : CheckError) → ReadsNone before left r → IsNoLine r e
+    → IsError before left e
+no_first_line before left r (Refuted line clause) reads h = absurd h
+no_first_line before left r ReadFault reads h = interrupted before left r reads.all [] First reads.went reads.behind refl h.0 h.1
+no_first_line before left r NoMemory reads h = tt
+
+pub no_later_line : (before left : Option (List ℕ)) (r : Reading) (s : SoFar) (e : CheckError) → Reads before left r s → IsNoLine r e
+    → IsError before left e
+no_later_line before left r s (Refuted line clause) reads h = absurd h
+no_later_line before left r s ReadFault reads h =
+    interrupted before left r reads.all reads.texts (After s) reads.went reads.behind (reads.header, reads.rows, reads.admits) h.0 h.1
+no_later_line before left r s NoMemory reads h = tt

@@ -5,7 +5,7 @@ use Rattle.std.specs.List.{flat_map}
 use Rattle.std.specs.Io.KnownBytes.{Consumes}
 use Rattle.lines.specs.Cutting.{Cut, with_end, lines_of}
 use Rattle.lines.specs.Deciding.{Follows, cut_of, is_closed}
-use Rattle.lines.specs.Reading.{Reading, IsEnd}
+use Rattle.lines.specs.Reading.{Reading, IsEnd, lines_before}
 use Rattle.lines.specs.declared.first_line.FirstLine.{FirstLine}
 use Rattle.nop_types.specs.Headers.{is_header}
 use Rattle.nop_types.specs.declared.header.Header.{Header}
@@ -153,9 +153,18 @@ pub record IsTranscript (before left : Option (List ℕ)) (s : SoFar) (count : �
   pub history : s.history ≡ whole.history
   pub lines : count ≡ length (transcript_lines whole)
 
+-- the bytes that were taken decide lines that are each in their place, and no other line
+pub record IsInterrupted (before left : Option (List ℕ)) : Type 0 where
+  pub all : List ℕ
+  pub source : Consumes before left all
+  pub texts : List (List ℕ)
+  pub place : Place
+  pub at : IsAt texts place
+  pub decided : lines_of MAX_TRANSCRIPT_LINES false 0 all ≡ map with_end texts
+
 abbrev pub IsError : Option (List ℕ) → Option (List ℕ) → CheckError → Type 0
 IsError before left (Refuted line clause) = IsRefused before left line clause
-IsError before left ReadFault = ⊤
+IsError before left ReadFault = IsInterrupted before left
 IsError before left NoMemory = ⊤
 
 abbrev pub IsRead : Option (List ℕ) → Option (List ℕ) → Result (Taken × ℕ) CheckError → Type 0
@@ -173,11 +182,11 @@ LengthRefused before first (Some clause) =
 abbrev pub IsHeader : List ℕ → Type 0
 IsHeader text = (h : Header) × (is_header h ≡ true) × (transcript_line h.form h.config ≡ whole text)
 
--- a call that found no line refutes nothing
-abbrev pub IsNoLine : CheckError → Type 0
-IsNoLine (Refuted line clause) = ⊥
-IsNoLine ReadFault = ⊤
-IsNoLine NoMemory = ⊤
+-- a call that found no line refutes nothing, and at a fault none was left that is decided
+abbrev pub IsNoLine : Reading → CheckError → Type 0
+IsNoLine r (Refuted line clause) = ⊥
+IsNoLine r ReadFault = (r.ended ≡ false) × (lines_before r false [] ≡ [])
+IsNoLine r NoMemory = ⊤
 
 -- the first line was taken
 abbrev pub ReadsFirst : Option (List ℕ) → Option (List ℕ) → Reading → Type 0

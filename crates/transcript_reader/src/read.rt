@@ -20,7 +20,7 @@ use std::alloc::Global;
 fn next<S: Source>(lines: &mut LineReader, source: &mut S) -> Result<Option<FirstLine>, CheckError>
     ensures first { IfOk result (Reaches lines.new) }
     ensures takes { TakesFrom lines.old lines.new (S.left source.old) (S.left source.new) }
-    ensures err { IfErr result IsNoLine }
+    ensures err { IfErr result (IsNoLine lines.new) }
     ensures cause { HasCauseFor (S.fault_count source.old) (S.fault_count source.new)
         CheckError.ReadFault result }
 {

@@ -1,5 +1,6 @@
+use Rattle.std.proofs.lemmas.Result.{err_from_is_err_and}
 use Rattle.transcript_reader.specs.Reading.{First}
-use Rattle.transcript_reader.proofs.Readings.{reads_first, header_ok, header_err, missing_first, no_fault}
+use Rattle.transcript_reader.proofs.Readings.{reads_first, header_ok, header_err, missing_first, no_fault, no_first_line}
 use Rattle.transcript_reader.proofs.read.read_first.Goals as goal
 
 pub returns-in-Some-clause-ok : goal.returns-in-Some-clause-ok
@@ -31,3 +32,11 @@ returns-in-None-clause-err g c =
     missing_first (left c.args.source.now) (left c.next.new.source) c.next.new.lines
     (reads_first (left c.args.source.now) (left c.next.new.source) c.args.lines.now c.next.new.lines c.requires c.in_ok-first.ensures.takes)
     (rw c.in-None.is at c.in_ok-first.ensures.first)
+
+pub returns-in_err-first-clause-err : goal.returns-in_err-first-clause-err
+returns-in_err-first-clause-err g c =
+    let left = g.S.Source.left in
+    let p = err_from_is_err_and c.from_residual.result c.from_residual.ensures.1 in
+    rw (p.1, p.2) (no_first_line (left c.args.source.now) (left c.next.new.source) c.next.new.lines c.in_err-first.field-0.0
+    (reads_first (left c.args.source.now) (left c.next.new.source) c.args.lines.now c.next.new.lines c.requires c.in_err-first.ensures.takes)
+    c.in_err-first.ensures.err)
