@@ -1,7 +1,14 @@
 //! Events in a few words.
 
-ghost use Rattle.std.specs.Prelude.{◌≡◌};
+ghost use Rattle.std.specs.Prelude.{◌≡◌, ◌++◌, ◌∷◌, [], codes, decimal, string_bytes, IfOk};
+ghost use Rattle.std.specs.List.{flat_map};
+ghost use Rattle.nop_types.specs.declared.output.Actor.TheVariants as actors;
+ghost use Rattle.picture.specs.Texts.{Grows};
+ghost use Rattle.schedule_text.specs.EventText.{named_controller, tick_text, HasLine, HasWord};
+ghost use Rattle.transcript_text.specs.LineText.{after_space};
+ghost use Rattle.transcript_text.specs.Transcript.{actor_text};
 ghost use Rattle.world.specs.WorldSteps.{actor_of};
+ghost use Rattle.drawing.specs.Words.{shown_text};
 
 use labels::put_op;
 use nop_types::{Actor, NoMemory, Tick};
@@ -24,53 +31,82 @@ pub fn actor_of(event: &Event) -> Actor
     }
 }
 
-fn tick_word(tick: Tick) -> &'static str {
+/// The word of a tick that a schedule may give.
+fn tick_word(tick: Tick) -> &'static str
+    ensures { HasWord tick → result.now ≡ tick_text tick }
+{
     match tick {
-        Tick::Suspect => " suspect",
-        Tick::Watch => " watch",
-        Tick::Resend => " resend",
-        Tick::Sync => " sync",
-        Tick::Retry => " retry",
-        Tick::Next => " next",
-        Tick::Probe => " probe",
-        Tick::Install(_) => " install",
+        Tick::Suspect => "suspect",
+        Tick::Watch => "watch",
+        Tick::Resend => "resend",
+        Tick::Sync => "sync",
+        Tick::Retry => "retry",
+        Tick::Next => "next",
+        Tick::Probe => "probe",
+        Tick::Install(_) => "install",
     }
 }
 
-fn put_named(word: &str, actor: Actor, to: &mut Text) {
-    to.put(word);
+/// A space and the name of an actor.
+fn put_actor(actor: Actor, to: &mut Text)
+    ensures { Grows to.old to.new (after_space (actor_text actor)) }
+{
+    to.put(" ");
     to.actor(actor);
 }
 
-fn put_deliver(index: u64, actor: Actor, to: &mut Text) {
+fn put_named(word: &str, actor: Actor, to: &mut Text)
+    ensures { Grows to.old to.new (word.now ++ flat_map after_space (actor_text actor ∷ [])) }
+{
+    to.put(word);
+    put_actor(actor, to);
+}
+
+fn put_deliver(index: u64, actor: Actor, to: &mut Text)
+    ensures { Grows to.old to.new
+        (codes "deliver" ++ flat_map after_space (decimal index ∷ actor_text actor ∷ [])) }
+{
     to.numbered("deliver ", index);
-    put_named(" ", actor, to);
+    put_actor(actor, to);
+}
+
+fn put_tick(actor: Actor, tick: Tick, to: &mut Text)
+    ensures { HasWord tick → Grows to.old to.new
+        (codes "tick" ++ flat_map after_space (actor_text actor ∷ tick_text tick ∷ [])) }
+{
+    put_named("tick", actor, to);
+    to.put(" ");
+    to.put(tick_word(tick));
 }
 
 /// The controller is named where it is not controller 0.
-fn put_install(controller: u8, sequencer: u8, to: &mut Text) {
-    put_named("install ", Actor::Sequencer(sequencer), to);
+fn put_install(controller: u8, sequencer: u8, to: &mut Text)
+    ensures { Grows to.old to.new (codes "install" ++ flat_map after_space
+        (actor_text (actors.Sequencer sequencer) ∷ named_controller controller)) }
+{
+    put_named("install", Actor::Sequencer(sequencer), to);
     if controller != 0 {
-        put_named(" ", Actor::Controller(controller), to);
+        put_actor(Actor::Controller(controller), to);
     }
 }
 
-fn put_event(event: &Event, to: &mut Text) {
+fn put_event(event: &Event, to: &mut Text)
+    ensures { HasLine event.now → Grows to.old to.new (shown_text event.now) }
+{
     match event {
-        Event::Submit(client, _) => put_named("submit ", Actor::Client(*client), to),
+        Event::Submit(client, _) => put_named("submit", Actor::Client(*client), to),
         Event::Deliver(index, actor) => put_deliver(*index, *actor, to),
-        Event::Tick(actor, tick) => {
-            put_named("tick ", *actor, to);
-            to.put(tick_word(*tick));
-        }
+        Event::Tick(actor, tick) => put_tick(*actor, *tick, to),
         Event::Install(controller, sequencer) => put_install(*controller, *sequencer, to),
-        Event::Crash(actor) => put_named("crash ", *actor, to),
-        Event::Junk(actor, _) => put_named("junk ", *actor, to),
+        Event::Crash(actor) => put_named("crash", *actor, to),
+        Event::Junk(actor, _) => put_named("junk", *actor, to),
     }
 }
 
 /// An event as its line has it, without an op and without junk.
-pub fn event_text(alloc: Global, event: &Event) -> Result<String, NoMemory> {
+pub fn event_text(alloc: Global, event: &Event) -> Result<String, NoMemory>
+    ensures { IfOk result (λ s. HasLine event.now → string_bytes s ≡ shown_text event.now) }
+{
     let mut text = Text::new(alloc);
     put_event(event, &mut text);
     text.finish()

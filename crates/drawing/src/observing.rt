@@ -1,5 +1,9 @@
 //! What is seen of a world: how its replicas stand, and what the step of an event brings.
 
+ghost use Rattle.std.specs.Prelude.{◌≡◌};
+ghost use Rattle.schedule_text.specs.Rules.{rule_number};
+ghost use Rattle.drawing.specs.Errors.{of_step};
+
 use crate::error::DrawError;
 use crate::recorder::{Recorder, Turn};
 use crate::standing::standing_of;
@@ -10,7 +14,9 @@ use schedule_text::Rule;
 use std::alloc::Global;
 use world::{Lines, StepError, World};
 
-fn malformed(line: u32, rule: Rule, index_sent: Option<(u64, u64)>) -> DrawError {
+fn malformed(line: u32, rule: Rule, index_sent: Option<(u64, u64)>) -> DrawError
+    ensures { result ≡ DrawError.Malformed line (rule_number rule) index_sent }
+{
     DrawError::Malformed {
         line,
         rule: rule.number(),
@@ -19,7 +25,9 @@ fn malformed(line: u32, rule: Rule, index_sent: Option<(u64, u64)>) -> DrawError
 }
 
 /// Why the event of a line is refused.
-pub fn refusal(line: u32, error: StepError) -> DrawError {
+pub fn refusal(line: u32, error: StepError) -> DrawError
+    ensures { result ≡ of_step line error }
+{
     match error {
         StepError::NoSuchActor => malformed(line, Rule::WrongActor, None),
         StepError::NoSuchDatagram { index, sent } => {
@@ -51,7 +59,9 @@ fn observe_datagram<H: Host, T: OpText>(
     turn: Turn,
     index: u64,
     recorder: &mut Recorder,
-) -> Result<(), NoMemory> {
+) -> Result<(), NoMemory>
+    ensures { recorder.new.picture.rows ≡ recorder.old.picture.rows }
+{
     let (Some(dest), Some(bytes)) = (world.sent_to(index), world.sent(index)?) else {
         return Ok(());
     };
@@ -65,7 +75,9 @@ fn observe_standing<H: Host>(
     world: &World<H>,
     turn: Turn,
     recorder: &mut Recorder,
-) -> Result<(), NoMemory> {
+) -> Result<(), NoMemory>
+    ensures { recorder.new.picture.rows ≡ recorder.old.picture.rows }
+{
     let Actor::Replica(number) = turn.actor else {
         return Ok(());
     };
@@ -84,7 +96,9 @@ pub fn observe<H: Host, T: OpText>(
     turn: Turn,
     lines: &Lines,
     recorder: &mut Recorder,
-) -> Result<(), NoMemory> {
+) -> Result<(), NoMemory>
+    ensures { recorder.new.picture.rows ≡ recorder.old.picture.rows }
+{
     recorder.put_said(read_lines::<T>(alloc, lines.text.as_slice())?);
     for index in turn.sent_before..world.sent_count() {
         observe_datagram::<H, T>(alloc, world, turn, index, recorder)?;

@@ -1,5 +1,10 @@
 //! What a picture shows of a run, as it goes on.
 
+ghost use Rattle.std.specs.Prelude.{◌≡◌, ◌++◌, ◌∷◌, [], false, length, string_bytes, IfOk, OnOk};
+ghost use Rattle.picture.specs.Texts.{IsWhole};
+ghost use Rattle.world.specs.WorldSteps.{actor_of};
+ghost use Rattle.drawing.specs.Rows.{AddsFlight, AddsRow};
+
 use crate::events::{actor_of, event_text, put_submitted};
 use crate::notes::Notes;
 use crate::standing::{Standing, put_changes, role};
@@ -144,7 +149,11 @@ impl Recorder {
     }
 
     /// The turn of an event that comes next.
-    pub fn turn(&self, event: &Event) -> Turn {
+    pub fn turn(&self, event: &Event) -> Turn
+        ensures actor { result.actor ≡ actor_of event.now }
+        ensures row { result.row ≡ length self.now.picture.rows.items }
+        ensures sent { result.sent_before ≡ length self.now.flights.items }
+    {
         Turn {
             actor: actor_of(event),
             row: self.picture.rows.len(),
@@ -153,7 +162,9 @@ impl Recorder {
     }
 
     /// The arrow of a delivery. Appends what was delivered.
-    fn deliver(&mut self, index: u64, to: Actor, row: usize, detail: &mut Text) {
+    fn deliver(&mut self, index: u64, to: Actor, row: usize, detail: &mut Text)
+        ensures { self.new.picture.rows ≡ self.old.picture.rows }
+    {
         if let Some(flight) = self.flights.get_mut(index as usize) {
             detail.put(flight.text.as_str());
             match deliver(flight, to, row) {
@@ -164,7 +175,9 @@ impl Recorder {
     }
 
     /// What was delivered or submitted.
-    fn detail<T: OpText>(&mut self, event: &Event, row: usize) -> Result<String, NoMemory> {
+    fn detail<T: OpText>(&mut self, event: &Event, row: usize) -> Result<String, NoMemory>
+        ensures { self.new.picture.rows ≡ self.old.picture.rows }
+    {
         let mut detail = Text::new(self.alloc);
         match event {
             Event::Deliver(index, to) => self.deliver(*index, *to, row, &mut detail),
@@ -174,12 +187,37 @@ impl Recorder {
     }
 
     /// What a client did in a turn.
-    pub fn put_said(&mut self, notes: Vec<Note>) {
+    pub fn put_said(&mut self, notes: Vec<Note>)
+        ensures { self.new.picture.rows ≡ self.old.picture.rows }
+    {
         self.notes.set(notes);
     }
 
+    /// Keeps a datagram, unless memory runs out.
+    fn push_flight(&mut self, flight: Flight)
+        ensures flight { self.new.failed ≡ false → self.new.flights.items
+            ≡ self.old.flights.items ++ flight ∷ [] }
+        ensures failed { self.new.failed ≡ false → self.old.failed ≡ false }
+        ensures rows { self.new.picture.rows ≡ self.old.picture.rows }
+    {
+        match self.flights.push(flight) {
+            Ok(()) => {}
+            Err(_) => self.failed = true,
+        }
+    }
+
     /// A datagram that was sent in a turn.
-    pub fn put_sent(&mut self, turn: Turn, dest: Dest, label: Label) {
+    pub fn put_sent(&mut self, turn: Turn, dest: Dest, label: Label)
+        ensures flight { self.new.failed ≡ false → AddsFlight self.old.flights.items
+            self.new.flights.items (record {
+              purpose = label.purpose;
+              from = turn.actor;
+              sent = turn.row;
+              dest = dest;
+            }) }
+        ensures failed { self.new.failed ≡ false → self.old.failed ≡ false }
+        ensures rows { self.new.picture.rows ≡ self.old.picture.rows }
+    {
         self.notes.extend(label.note);
         let flight = Flight {
             leg: Leg {
@@ -192,7 +230,7 @@ impl Recorder {
             brief: label.brief,
             reached: Vec::new(self.alloc),
         };
-        self.failed |= self.flights.push(flight).is_err();
+        self.push_flight(flight);
     }
 
     /// The sync point of a replica as it stands, 0 of one that is not there: the slots up to it stay as they are.
@@ -204,7 +242,9 @@ impl Recorder {
     }
 
     /// How a replica stands after a turn.
-    pub fn put_standing(&mut self, turn: Turn, after: Standing) {
+    pub fn put_standing(&mut self, turn: Turn, after: Standing)
+        ensures { self.new.picture.rows ≡ self.old.picture.rows }
+    {
         let replicas = self.config.replicas();
         let notes = &mut self.notes;
         if let Some(watched) = self.watched.get_mut(after.number as usize) {
@@ -215,9 +255,11 @@ impl Recorder {
         }
     }
 
-    /// Keeps a crash, unless the actor had crashed before.
-    fn put_crash(&mut self, turn: Turn) {
-        if self.notes.is_empty() {
+    /// Keeps the crash of an event that is one, unless the actor had crashed before.
+    fn put_crash(&mut self, event: &Event, turn: Turn)
+        ensures { self.new.picture.rows ≡ self.old.picture.rows }
+    {
+        if matches!(event, Event::Crash(_)) && self.notes.is_empty() {
             let crash = Crash {
                 actor: turn.actor,
                 row: turn.row,
@@ -230,7 +272,9 @@ impl Recorder {
     }
 
     /// One note at least: whether something was sent.
-    fn fill(&mut self, turn: Turn) {
+    fn fill(&mut self, turn: Turn)
+        ensures { self.new.picture.rows ≡ self.old.picture.rows }
+    {
         if self.notes.is_empty() {
             let sends = self.flights.len() as u64 > turn.sent_before;
             let mark = if sends { Mark::Acted } else { Mark::Idle };
@@ -239,10 +283,11 @@ impl Recorder {
     }
 
     /// The row of a turn, after all that was seen of it.
-    pub fn end<T: OpText>(&mut self, line: u32, event: &Event, turn: Turn) -> Result<(), NoMemory> {
-        if let Event::Crash(_) = event {
-            self.put_crash(turn);
-        }
+    pub fn end<T: OpText>(&mut self, line: u32, event: &Event, turn: Turn) -> Result<(), NoMemory>
+        ensures { OnOk result (AddsRow self.old.picture.rows.items self.new.picture.rows.items line
+            event.now turn.actor) }
+    {
+        self.put_crash(event, turn);
         self.fill(turn);
         let detail = self.detail::<T>(event, turn.row)?;
         if self.failed {
@@ -273,7 +318,10 @@ impl Recorder {
     }
 
     /// The picture of what happened, as SVG.
-    pub fn drawing(&mut self) -> Result<String, NoMemory> {
+    pub fn drawing(&mut self) -> Result<String, NoMemory>
+        ensures whole { IfOk result (λ s. IsWhole (string_bytes s)) }
+        ensures failed { OnOk result (self.old.failed ≡ false) }
+    {
         if self.failed {
             return Err(NoMemory);
         }

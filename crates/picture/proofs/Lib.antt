@@ -1,1 +1,2 @@
 mod LaneLemmas
+pub mod TextLemmas

@@ -1,5 +1,8 @@
 //! A picture as SVG 1.1.
 
+ghost use Rattle.std.specs.Prelude.{string_bytes, IfOk};
+ghost use Rattle.picture.specs.Texts.{IsWhole};
+
 use crate::data::{Arrow, Loss, Mark, Note, Picture, Purpose, Role, Row, Stretch};
 use crate::lane::Lane;
 use crate::layout::{HEAD_HEIGHT, LOSS_AT, Layout, NOTE_HEIGHT, lay_out, notes_height};
@@ -262,7 +265,9 @@ fn put_front(layout: &Layout, picture: &Picture, to: &mut Text) {
 }
 
 /// The picture as text.
-pub fn draw(alloc: Global, picture: &Picture) -> Result<String, NoMemory> {
+pub fn draw(alloc: Global, picture: &Picture) -> Result<String, NoMemory>
+    ensures { IfOk result (λ s. IsWhole (string_bytes s)) }
+{
     let signs = signs(alloc, picture)?;
     let layout = lay_out(alloc, picture, signs.len())?;
     let mut text = Text::new(alloc);
