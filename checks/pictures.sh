@@ -1,8 +1,8 @@
 #!/bin/bash
 # Pictures whose texts are known: of characters that SVG spells in its own way, of strings at and past the length that shows, of messages in
-# several fragments, of crosses that stand for more than one datagram, of long schedules, of changed slots and views; how `spacetime` ends
-# at a bad line and at an argument; and the words of the lock service. It takes a second or two, leaves nothing behind, and ends with status 1
-# at any difference.
+# several fragments, of crosses that stand for more than one datagram, of long schedules, of changed slots and views, of busy clients and
+# crashed actors; how `spacetime` ends at a bad line and at an argument; and the words of the lock service. It takes a second or two, leaves
+# nothing behind, and ends with status 1 at any difference.
 #
 #   checks/pictures.sh           the programs are crates/spacetime/out/spacetime and crates/lock_spacetime/out/lock_spacetime, or the files
 #                                that SPACETIME and LOCK_SPACETIME name
@@ -30,6 +30,14 @@ shows() {
     count=$(grep -o '>[^<>]*</text>' "$folder/out" | grep -cxF -- ">$2</text>")
     made=$((made + 1))
     [ "$count" = "$1" ] || differs "$name: '$2' stands there $count times and not $1"
+}
+
+# draws COUNT CLASS: so many paths of the picture are of this class, the legend's among them.
+draws() {
+    local count
+    count=$(grep -cF -- "<path class=\"$2\" " "$folder/out")
+    made=$((made + 1))
+    [ "$count" = "$1" ] || differs "$name: there are $count paths of the class '$2' and not $1"
 }
 
 # ends STATUS LINE: nothing was drawn, and standard error has the line.
@@ -122,6 +130,42 @@ shows 0 ctl
 shows 1 'session 1.1 at s0'
 shows 1 'stamped 1.1:1 c0#1'
 shows 1 'view (0,1.1) starts'
+
+# c0 has an open request; r1 crashes, again, and then a datagram comes
+drawn 'who is busy, and who crashed before' "$two" 'submit c0 4700016b' 'submit c0 4700016b' 'crash r1' 'crash r1' 'deliver 0 r1'
+shows 1 busy
+shows 1 crash
+shows 2 crashed
+shows 2 'crash r1'
+draws 4 refuse
+draws 2 crash
+
+# s0 stamps the request, and r0 takes it twice
+drawn 'a datagram that is delivered again' "$two" 'submit c0 4700016b' 'deliver 0 s0' 'deliver 1 r0' 'deliver 1 r0'
+draws 3 'arrow request'
+draws 2 'again request'
+shows 1 'delivered again'
+
+drawn 'malformed bytes, and timers' "$two" 'junk r0 0102' 'tick r0 watch' 'tick r0 resend' 'tick ctl resend'
+shows 1 'junk r0'
+shows 1 '2 bytes'
+shows 1 'tick r0 watch'
+shows 1 'tick r0 resend'
+shows 1 'tick ctl resend'
+
+drawn 'a ping and its answer' "$two" 'tick ctl probe' 'deliver 0 s0' 'deliver 1 ctl'
+shows 1 'tick ctl probe'
+shows 1 'ping 1'
+shows 1 'pong 1'
+
+# r0 logs six requests, and r1 gets all of them at once
+drawn 'more slots than have notes' 'nopaxos 1 replicas 3 sequencers 1 clients 6' 'submit c0 4700016b' 'submit c1 4700016b' \
+    'submit c2 4700016b' 'submit c3 4700016b' 'submit c4 4700016b' 'submit c5 4700016b' 'deliver 0 s0' 'deliver 1 s0' 'deliver 2 s0' \
+    'deliver 3 s0' 'deliver 4 s0' 'deliver 5 s0' 'deliver 6 r0' 'deliver 7 r0' 'deliver 8 r0' 'deliver 9 r0' 'deliver 10 r0' \
+    'deliver 11 r0' 'tick r0 sync' 'deliver 18 r1'
+shows 2 '4: c3#1'
+shows 1 '5: c4#1'
+shows 1 '2 more slots'
 
 name='a datagram that was not sent'
 printf '%s\n' "$two" 'submit c0 4700016b' 'deliver 7 s0' | "$program" > "$folder/out" 2> "$folder/err"
