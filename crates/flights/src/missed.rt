@@ -14,7 +14,9 @@ ghost use Rattle.flights.specs.Missed.{
 
 use crate::flight::Flight;
 use crate::lane_actors::{has, is_replica, is_sequencer};
-use nop_types::{Actor, Dest, MAX_CLIENTS, MAX_REPLICAS, MAX_SEQUENCERS, NoMemory};
+use nop_types::{
+    Actor, Dest, MAX_CLIENTS, MAX_CONTROLLERS, MAX_REPLICAS, MAX_SEQUENCERS, NoMemory,
+};
 use picture::{Loss, Text, same};
 use std::alloc::Global;
 
@@ -22,7 +24,7 @@ use std::alloc::Global;
 const MAX_ACTORS: usize = MAX_REPLICAS as usize
     + MAX_SEQUENCERS as usize
     + MAX_CLIENTS as usize
-    + 1;
+    + MAX_CONTROLLERS as usize;
 
 /// An actor that crashed in a row.
 #[derive(Clone, Copy)]
