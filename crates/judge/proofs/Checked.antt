@@ -123,7 +123,7 @@ module _ (before left : Option (List ℕ)) (s : SoFar) (count : ℕ) (read : IsT
       breaks = breaks_there h.0 h.1;
       at = found_in h.0 line clause h.2;
     })
-    checked (Err errors.ReadFault) h = tt
+    checked (Err errors.ReadFault) h = absurd h
     checked (Err errors.NoMemory) h = tt
 
 -- ---- what is broken has a place

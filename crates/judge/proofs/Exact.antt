@@ -42,5 +42,5 @@ passes m (Some bytes) left (Err errors.NoMemory) h = tt
 pub error_passes : {S : Type 0} (m : Meaning S) (before left : Option (List ℕ)) (e : CheckError) → IsError before left e
     → PassesLegal m before (Err e)
 error_passes m before left (errors.Refuted line clause) h = passes m before left (Err (errors.Refuted line clause)) (inl h)
-error_passes m before left errors.ReadFault h = passes m before left (Err errors.ReadFault) tt
+error_passes m before left errors.ReadFault h = passes m before left (Err errors.ReadFault) h
 error_passes m before left errors.NoMemory h = passes m before left (Err errors.NoMemory) tt

@@ -8,7 +8,7 @@ use Rattle.nop_types.specs.Legality.{Legal}
 use Rattle.nop_types.specs.Lines.{Line, Dead, Submit, Accept, Busy, Send}
 use Rattle.nop_types.specs.Meaning.{Meaning}
 use Rattle.nop_types.specs.declared.request.Request.{Request}
-use Rattle.transcript_reader.specs.Reading.{Went, IsRefused}
+use Rattle.transcript_reader.specs.Reading.{Went, IsInterrupted, IsRefused}
 use Rattle.transcript_reader.specs.Steps.{SoFar}
 use Rattle.transcript_reader.specs.Transcripts.{Transcript, Spells, said, places_of}
 use Rattle.transcript_reader.specs.declared.check_error.CheckError.{CheckError}
@@ -79,7 +79,7 @@ module _ {S : Type 0} (m : Meaning S) where
   abbrev pub IsChecked : Option (List ℕ) → Option (List ℕ) → Result Tally CheckError → Type 0
   IsChecked before left (Ok tally) = IsPassed before left tally
   IsChecked before left (Err (errors.Refuted line clause)) = IsRefused before left line clause ⊎ IsIllegal before left line clause
-  IsChecked before left (Err errors.ReadFault) = ⊤
+  IsChecked before left (Err errors.ReadFault) = IsInterrupted before left
   IsChecked before left (Err errors.NoMemory) = ⊤
 
   -- where the source tells its bytes, those of a legal transcript are not refuted
