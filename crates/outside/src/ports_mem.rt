@@ -1,4 +1,4 @@
-ghost use Rattle.std.specs.Prelude.{◌≡◌, ◌+◌, ◌<◌, ◌≤◌, [], length, drop, All, IfOk, IsOk, OnOk, OnErr, Some};
+ghost use Rattle.std.specs.Prelude.{◌≡◌, ◌+◌, ◌++◌, ◌∷◌, ◌<◌, ◌≤◌, [], length, drop, All, IfOk, IsOk, OnOk, OnErr, Some};
 ghost use Rattle.outside.specs.Causes.{count_after};
 ghost use Rattle.outside.specs.Told.{Stays};
 ghost use Rattle.outside.specs.Ports.{GivesNext};
@@ -180,7 +180,16 @@ impl<P: CallPlan> Ports for PortsMem<P> {
         Ok(self.give(port)?)
     }
 
-    fn detach(&mut self, link: LinkMem<P>) {
+    fn detach(&mut self, link: LinkMem<P>)
+        requires { length self.old.detached < self.old.attached }
+        ensures detached { self.new.detached ≡ self.old.detached ++ link ∷ [] }
+        ensures attached { self.new.attached ≡ self.old.attached }
+        ensures kept { Stays (Some (answers_of self.old.links)) (Some (answers_of self.new.links)) }
+        ensures faults { P.fault_count self.new.attaches ≡ P.fault_count self.old.attaches }
+
+        // Nothing else changes.
+        ensures rest { self.new ≡ record self.old { detached = self.new.detached } }
+    {
         self.detached.push(link).unwrap();
     }
 
