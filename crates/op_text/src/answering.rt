@@ -1,9 +1,11 @@
 //! What the programs answer that turn words into ops, and ops and results into words.
 
-ghost use Rattle.std.specs.Prelude.{◌≡◌, ◌∷◌, [], ◌++◌, IfOk, OnOk};
+ghost use Rattle.std.specs.Prelude.{◌≡◌, ◌∷◌, [], ◌++◌, IfOk, OnErr, OnOk};
 ghost use Rattle.std.specs.Option.{unwrap_or};
 ghost use Rattle.hex.specs.Hex.{encode_lower};
 ghost use Rattle.std.specs.Io.KnownBytes.{Appends};
+ghost use Rattle.outside.specs.Causes.{Counts};
+ghost use Rattle.outside.specs.Fronts.{AppendsFront};
 ghost use Rattle.op_text.specs.Answers.{op_answer, text_answer, result_answer, by_digits};
 ghost use Rattle.op_text.specs.Answers.{answer_of, status_of};
 
@@ -101,8 +103,12 @@ fn answer<T: OpText>(alloc: Global, arguments: &[Bytes]) -> Result<Option<Bytes>
     by_digits::<T>(alloc, command, words)
 }
 
+#[tactic(auto, using(crate::proofs::LineLemmas::no_line))]
 fn write_line<K: Sink>(alloc: Global, line: &[u8], sink: &mut K) -> Result<(), WriteError>
-    ensures { OnOk result (Appends (K.held sink.old) (K.held sink.new) (line.now ++ 10 ∷ [])) }
+    ensures ok { OnOk result (Appends (K.held sink.old) (K.held sink.new) (line.now ++ 10 ∷ [])) }
+    ensures err { OnErr result (AppendsFront (K.held sink.old) (K.held sink.new)
+        (line.now ++ 10 ∷ [])) }
+    ensures count { Counts (K.fault_count sink.old) (K.fault_count sink.new) result }
 {
     let mut text = Vec::from_slice(alloc, line)?;
     text.push(b'\n')?;
@@ -110,6 +116,7 @@ fn write_line<K: Sink>(alloc: Global, line: &[u8], sink: &mut K) -> Result<(), W
 }
 
 /// Writes the answer to arguments, or the usage line where there is none.
+#[tactic(auto, using(crate::proofs::LineLemmas::no_line))]
 pub fn run<T: OpText, K: Sink>(
     alloc: Global,
     usage: &str,
@@ -121,6 +128,12 @@ pub fn run<T: OpText, K: Sink>(
     ensures written { let answer = answer_of T.op_of T.words_of T.result_words arguments.now in
         OnOk result (Appends (K.held sink.old) (K.held sink.new)
         (unwrap_or answer usage.now ++ 10 ∷ [])) }
+    ensures front { let answer = answer_of T.op_of T.words_of T.result_words arguments.now in
+        OnErr result (AppendsFront (K.held sink.old) (K.held sink.new)
+        (unwrap_or answer usage.now ++ 10 ∷ [])) }
+
+    // `Failed` comes exactly where a write failed.
+    ensures count { Counts (K.fault_count sink.old) (K.fault_count sink.new) result }
 {
     match answer::<T>(alloc, arguments.as_slice())? {
         Some(line) => {

@@ -9,7 +9,8 @@
 //!
 //! Calls: `bytes_of` and `Words`, for an `OpText`; `run`, for the programs that turn one into the
 //! other (`kv_ops`, `lock_ops`). Proved of `run`: what it answers to its arguments is the line of
-//! `specs/Answers`, and with which status it ends.
+//! `specs/Answers`, and with which status it ends; on an error it wrote a proper prefix of that line,
+//! and `Failed` comes exactly where a write failed.
 //!
 //! Files: `word`, `words`, `op_text` (the trait), `answering`, `laws`. Definitions: `specs/Words`
 //! (`bytes_of`, `word_of`, `text_of`), `Answers`.
