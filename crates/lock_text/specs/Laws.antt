@@ -1,12 +1,12 @@
 -- The words of an op name it, and what words name is spelled by their bytes.
 use Rattle.std.proofs.Common.{◌≡◌, ℕ, zero, suc, ◌<◌, ◌^◌, Bool, true, false, cond, List, [], ◌∷◌, ◌++◌, length, Option, Some, None, refl, sym, ap, subst}
-use Rattle.std.proofs.Common.{◌∙◌, arith, inl, inr, decimal}
-use Rattle.std.specs.Prelude.{⊤, IfSome, nat_le, ◌&&◌, codes}
+use Rattle.std.proofs.Common.{◌∙◌, arith, append-nil, inl, inr, decimal, lit<}
+use Rattle.std.specs.Prelude.{⊤, IfSome, nat_le, nat_lt, ◌&&◌, ◌==◌, ◌*◌, ◌+◌, ◌-◌, codes}
 use Rattle.std.specs.Option.{option_and_then}
-use Rattle.std.proofs.lemmas.Bool.{and_parts, leb-true}
+use Rattle.std.proofs.lemmas.Bool.{and_parts, leb-true, ltb-true}
 use Rattle.std.proofs.lemmas.Bool.Decides.{nat_tests}
 use Rattle.hex.specs.Hex.{IsBytes}
-use Rattle.line_fields.specs.Fields.{is_text, number_of}
+use Rattle.line_fields.specs.Fields.{is_text, digit_on, number_on, number_of}
 use Rattle.line_fields.proofs.FieldTexts.{number_again}
 use Rattle.op_text.specs.Words.{bytes_of, word_of}
 use Rattle.op_text.proofs.WordLemmas.{read_back}
@@ -14,11 +14,14 @@ use Rattle.lock_host.specs.declared.name.TheConstants.{MAX_NAME_BYTES}
 use Rattle.lock_host.specs.declared.op.TheConstants.{ACQUIRE, RELEASE, INSPECT}
 use Rattle.lock_host.specs.declared.op.LockOp.{LockOp}
 use Rattle.lock_host.specs.declared.op.LockOp.TheVariants.{Acquire, Release, Inspect, Bad}
-use Rattle.lock_host.specs.Fields.{NameFits, name_bytes, number_bytes}
+use Rattle.lock_host.specs.declared.lock.Lock.{Lock}
+use Rattle.lock_host.specs.Fields.{NameFits, name_bytes, number_bytes, number_at}
+use Rattle.lock_host.specs.Locks.{granted, held}
 use Rattle.lock_host.specs.Op.{read_op}
+use Rattle.lock_host.specs.Reading.{number_at-number}
 use Rattle.lock_host.specs.Spelling.{Spells}
 use Rattle.lock_host.proofs.ReadLemmas.{reads_only_spelled}
-use Rattle.lock_text.specs.Text.{fits_name, name_of, named, spell, op_of, words_in, words_of}
+use Rattle.lock_text.specs.Text.{fits_name, name_of, named, spell, op_of, words_in, words_of, result_words}
 
 -- ---- the names of an op of bytes are bytes
 
@@ -100,3 +103,105 @@ reads_back op all = elim (reads_only_spelled op) [
   | inr spelled ↦ both (words_in (read_op op)) (read_op op) op (named_again (read_op op) (op_is (read_op op) op spelled all))
       (spelled_again (read_op op) op spelled)
 ]
+
+-- ---- what words name is spelled
+
+-- the names have lengths in their range, and the token is of 64 bits
+abbrev OpFits : LockOp → Type 0
+OpFits (Acquire name owner) = NameFits name × NameFits owner
+OpFits (Release name owner token) = NameFits name × NameFits owner × (token < 2 ^ 64)
+OpFits (Inspect name) = NameFits name
+OpFits Bad = ⊤
+
+-- what is read in two steps has what the second step gives of what the first gave
+both_fit : {A B : Type 0} (P : A → Type 0) (Q : B → Type 0) (o : Option A) (f : A → Option B) → IfSome o P
+    → ((x : A) → P x → IfSome (f x) Q) → IfSome (option_and_then f o) Q
+both_fit P Q None f h k = tt
+both_fit P Q (Some x) f h k = k x h
+
+guarded : {A : Type 0} (P : A → Type 0) (b : Bool) (x : A) → (b ≡ true → P x) → IfSome (cond b (Some x) None) P
+guarded P true x h = h refl
+guarded P false x h = tt
+
+name_fits_back : (name : List ℕ) → fits_name name ≡ true → NameFits name
+name_fits_back name e =
+    let p = and_parts (nat_le 1 (length name)) (nat_le (length name) MAX_NAME_BYTES) e in
+    record { least = leb-true 1 (length name) p.0; most = leb-true (length name) MAX_NAME_BYTES p.1 }
+
+whatever : (o : Option (List ℕ)) → IfSome o (λ x. ⊤)
+whatever None = tt
+whatever (Some x) = tt
+
+name_fits_of : (word : List ℕ) → IfSome (name_of word) NameFits
+unfolding name_of
+name_fits_of word =
+    both_fit (λ x. ⊤) NameFits (bytes_of word) _ (whatever (bytes_of word)) (λ name h. guarded NameFits (fits_name name) name (name_fits_back name))
+
+abbrev Is64 : ℕ → Type 0
+Is64 n = n < 2 ^ 64
+
+digit_fits : (n d : ℕ) → IfSome (digit_on n d) Is64
+digit_fits n d = guarded Is64 (nat_le 48 d && (nat_le d 57 && nat_lt (n * 10 + (d - 48)) (2 ^ 64))) (n * 10 + (d - 48)) below
+  where
+    below : (nat_le 48 d && (nat_le d 57 && nat_lt (n * 10 + (d - 48)) (2 ^ 64))) ≡ true → Is64 (n * 10 + (d - 48))
+    below e =
+        let rest = (and_parts (nat_le 48 d) (nat_le d 57 && nat_lt (n * 10 + (d - 48)) (2 ^ 64)) e).1 in
+        ltb-true (n * 10 + (d - 48)) (2 ^ 64) (and_parts (nat_le d 57) (nat_lt (n * 10 + (d - 48)) (2 ^ 64)) rest).1
+
+number_on_fits : (o : Option ℕ) (ds : List ℕ) → IfSome o Is64 → IfSome (number_on o ds) Is64
+number_on_fits o [] h = h
+number_on_fits None (d ∷ ds) h = tt
+number_on_fits (Some n) (d ∷ ds) h = number_on_fits (digit_on n d) ds (digit_fits n d)
+
+number_fits : (word : List ℕ) → IfSome (number_of word) Is64
+unfolding number_of
+number_fits [] = tt
+number_fits (d ∷ []) = number_on_fits (Some 0) (d ∷ []) (lit< tt)
+number_fits (d ∷ e ∷ ds) = either (d == 48)
+  where
+    either : (b : Bool) → IfSome (cond b None (number_on (Some 0) (d ∷ e ∷ ds))) Is64
+    either true = tt
+    either false = number_on_fits (Some 0) (d ∷ e ∷ ds) (lit< tt)
+
+named_fits : (words : List (List ℕ)) → IfSome (named words) OpFits
+unfolding named
+named_fits [] = tt
+named_fits (word ∷ []) = tt
+named_fits (word ∷ lock ∷ []) =
+    both_fit NameFits OpFits (name_of lock) _ (name_fits_of lock) (λ l n. guarded OpFits (is_text (codes "inspect") word) (Inspect l) (λ e. n))
+named_fits (word ∷ lock ∷ owner ∷ []) =
+    both_fit NameFits OpFits (name_of lock) _ (name_fits_of lock)
+    (λ l n. both_fit NameFits OpFits (name_of owner) _ (name_fits_of owner)
+    (λ o m. guarded OpFits (is_text (codes "acquire") word) (Acquire l o) (λ e. (n, m))))
+named_fits (word ∷ lock ∷ owner ∷ token ∷ []) =
+    both_fit NameFits OpFits (name_of lock) _ (name_fits_of lock)
+    (λ l n. both_fit NameFits OpFits (name_of owner) _ (name_fits_of owner)
+    (λ o m. both_fit Is64 OpFits (number_of token) _ (number_fits token)
+    (λ t k. guarded OpFits (is_text (codes "release") word) (Release l o t) (λ e. (n, m, k)))))
+named_fits (word ∷ lock ∷ owner ∷ token ∷ more ∷ words) = tt
+
+spelled_op : (op : LockOp) (bytes : List ℕ) → OpFits op → spell op ≡ Some bytes → Spells op bytes
+spelled_op (Acquire name owner) bytes (n, o) e = (n, o, cc)
+spelled_op (Release name owner token) bytes (n, o, t) e = (n, o, t, cc)
+spelled_op (Inspect name) bytes n e = (n, cc)
+spelled_op Bad bytes h e = absurd cc
+
+pub named_spelled : (words : List (List ℕ)) (op : LockOp) (bytes : List ℕ) → named words ≡ Some op → op_of words ≡ Some bytes
+    → Spells op bytes
+named_spelled words op bytes n e =
+    spelled_op op bytes (subst (λ (o : Option LockOp). IfSome o OpFits) n (named_fits words))
+    (sym (ap (λ (o : Option LockOp). option_and_then spell o) n) ∙ e)
+
+-- ---- the words of answers
+
+last_number : (token : ℕ) → token < 2 ^ 64 → number_at (number_bytes token) ≡ Some (token, [])
+last_number token fits = ap number_at (sym (append-nil (number_bytes token))) ∙ number_at-number token [] fits
+
+pub granted_words_of : (token : ℕ) → token < 2 ^ 64 → result_words (granted token) ≡ codes "granted" ∷ decimal token ∷ []
+unfolding result_words
+granted_words_of token fits = rw (last_number token fits) refl
+
+pub held_words_of : (lock : Lock) → lock.token < 2 ^ 64
+    → result_words (held lock) ≡ codes "held" ∷ decimal lock.token ∷ word_of lock.owner ∷ []
+unfolding result_words
+held_words_of lock fits = rw (number_at-number lock.token lock.owner fits) refl

@@ -3,16 +3,20 @@
 //! `full`, `spent`, `bad`. A token is a number in decimal.
 //!
 //! `LockText` meets the trait `OpText`. Words name an op exactly where `named` reads one from them,
-//! with names of 1 to 64 bytes, and its bytes are those of `spell`. Each op that its bytes spell has
-//! words (`words_in`), and they name it (`reads_back`); bytes that spell none have no words.
+//! with names of 1 to 64 bytes; its bytes are then those that spell it (law `named_ops_are_spelled`).
+//! Each op that its bytes spell has words (`words_in`), and they name it (`reads_back`); bytes that
+//! spell none have no words. The words of an answer tell its token and owner (law
+//! `answers_are_told_in_words`).
 //!
 //! Calls: `LockText`, by the trait, for the program `lock_ops`.
 //!
-//! Files: `spell` (from an op to bytes), `text` (from words, and to words). Definitions:
-//! `specs/Text`; `specs/Laws`.
+//! Files: `spell` (from an op to bytes), `text` (from words, and to words), `laws`. Definitions:
+//! `specs/Text`.
 #![tactic(auto)]
 
+mod laws;
 mod spell;
 mod text;
 
+pub use laws::{answers_are_told_in_words, named_ops_are_spelled};
 pub use text::LockText;
