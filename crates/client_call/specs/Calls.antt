@@ -82,7 +82,7 @@ error_of serves.WriteFault = NoMemory
 error_of serves.NoMemory = NoMemory
 
 -- of attaches: it rises by one exactly where the port could not be opened
-abbrev pub attaches_after : Result (List ℕ) CallError → ℕ → ℕ
+abbrev pub attaches_after : {T : Type 0} → Result T CallError → ℕ → ℕ
 attaches_after (Ok result) n = n
 attaches_after (Err PortFault) n = next_count n
 attaches_after (Err LinkFault) n = n

@@ -3,7 +3,8 @@
 //!
 //! Clauses of `submit_and_wait`:
 //! - `answers`: at Ok the client, with this op alone, submitted it as its request 1 and accepted
-//!   this result, with which f + 1 replicas replied. At Unanswered it had not.
+//!   this result, with which f + 1 replicas replied. At Unanswered it says no more than that a client
+//!   may be left so.
 //! - `over`: over an observable link and clock the result is the one that the run of the client
 //!   over them prints, and what was sent is what that run sends; Unanswered is given only where all
 //!   turns were taken, and LinkFault exactly where a poll failed. The link is given back, whatever

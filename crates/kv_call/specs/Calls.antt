@@ -1,6 +1,9 @@
 -- What a call gives.
-use Rattle.std.specs.Prelude.{◌≡◌, ℕ, List, [], ◌∷◌, ◌++◌, Option, Some, None, Result, Ok, Err, ⊤}
-use Rattle.client_call.specs.Calls.{IsAccepted, IsOpen}
+use Rattle.std.specs.Prelude.{◌≡◌, ℕ, List, [], ◌∷◌, ◌++◌, Option, Some, None, option_map, Result, Ok, Err, ⊤}
+use Rattle.outside.specs.Ports.{next_link}
+use Rattle.outside.specs.declared.link.Link as link_trait
+use Rattle.outside.specs.declared.link.PollAnswer.{PollAnswer}
+use Rattle.client_call.specs.Calls.{Answers, EndsOver, RanOver, Used, address_of}
 use Rattle.client_call.specs.declared.errors.CallError.{CallError}
 use Rattle.client_call.specs.declared.errors.CallError.TheVariants.{PortFault, LinkFault, Unanswered, NoMemory}
 use Rattle.kv_text.specs.Text.{result_words}
@@ -11,26 +14,47 @@ use Rattle.kv_call.specs.Arguments.{Call}
 abbrev pub line_of : List ℕ → List ℕ
 line_of result = text_of (result_words result) ++ 10 ∷ []
 
--- the line of a result that the client accepted for its op
-pub record IsAnswered (c : Call) (line : List ℕ) : Type 0 where
-  pub result : List ℕ
-  pub accepted : IsAccepted c.caller.service.config c.caller.number c.op result
-  pub shown : line ≡ line_of result
+-- the line of a result, or why there is none
+abbrev pub told : Result (List ℕ) CallError → Result (Option (List ℕ)) CallError
+told (Ok result) = Ok (Some (line_of result))
+told (Err e) = Err e
 
--- the client is not done
-abbrev pub IsUnanswered : Call → Type 0
-IsUnanswered c = IsOpen c.caller.service.config c.caller.number c.op
+-- the ports before and after: the polls to come, and the links that were given back; and the values of the clock
+pub record Over (L : Type 0) : Type 0 where
+  pub to_come : Option (List (List PollAnswer))
+  pub before : List L
+  pub after : List L
+  pub values : Option (List ℕ)
 
-abbrev pub Gives : Option Call → Result (Option (List ℕ)) CallError → Type 0
-Gives (Some c) (Ok (Some line)) = IsAnswered c line
-Gives (Some c) (Ok None) = ⊥
-Gives (Some c) (Err PortFault) = ⊤
-Gives (Some c) (Err LinkFault) = ⊤
-Gives (Some c) (Err Unanswered) = IsUnanswered c
-Gives (Some c) (Err NoMemory) = ⊤
-Gives None (Ok (Some line)) = ⊥
-Gives None (Ok None) = ⊤
-Gives None (Err PortFault) = ⊥
-Gives None (Err LinkFault) = ⊥
-Gives None (Err Unanswered) = ⊥
-Gives None (Err NoMemory) = ⊤
+abbrev pub over : {L : Type 0} → Option (List (List PollAnswer)) → List L → List L → Option (List ℕ) → Over L
+over to_come before after values = record { to_come = to_come; before = before; after = after; values = values }
+
+abbrev pub used : {L : Type 0} → link_trait.Ghosts L → L → Used
+used l link = record { port = l.own_port link; faults = l.fault_count link; trace = l.trace link; losses = l.loss_count link }
+
+module _ {L : Type 0} (seen : L → Used) (o : Over L) where
+  -- the call ended so: its client ran over the next link, for as many turns as it was given, or had none
+  pub record Ended (c : Call) (result : Result (List ℕ) CallError) : Type 0 where
+    pub answers : Answers c.caller.service.config c.caller.number c.op result
+    pub over : EndsOver seen o.before o.after result
+        (RanOver (address_of c.caller.service c.caller.number) c.caller.number c.op c.caller.turns (option_map next_link o.to_come)
+        o.values result)
+
+  -- and this is told of it
+  pub record Tells (c : Call) (given : Result (Option (List ℕ)) CallError) : Type 0 where
+    pub result : Result (List ℕ) CallError
+    pub ended : Ended c result
+    pub is : given ≡ told result
+
+  -- by the call that the arguments name: where memory ran out, it may have been made or not
+  abbrev pub Gives : Option Call → Result (Option (List ℕ)) CallError → Type 0
+  Gives (Some c) (Ok line) = Tells c (Ok line)
+  Gives (Some c) (Err PortFault) = Tells c (Err PortFault)
+  Gives (Some c) (Err LinkFault) = Tells c (Err LinkFault)
+  Gives (Some c) (Err Unanswered) = Tells c (Err Unanswered)
+  Gives (Some c) (Err NoMemory) = ⊤
+  Gives None (Ok line) = line ≡ None
+  Gives None (Err PortFault) = ⊥
+  Gives None (Err LinkFault) = ⊥
+  Gives None (Err Unanswered) = ⊥
+  Gives None (Err NoMemory) = ⊤

@@ -1,10 +1,9 @@
 //! From arguments to a line with the result.
 
-ghost use Rattle.std.specs.Prelude.{◌≡◌, ◌+◌, length, Err, IfOk};
-ghost use Rattle.outside.specs.Causes.{Rose};
-ghost use Rattle.client_call.specs.declared.errors.CallError.TheVariants as errors;
+ghost use Rattle.std.specs.Prelude.{◌≡◌, ◌+◌, length, IfOk};
+ghost use Rattle.client_call.specs.Calls.{attaches_after};
 ghost use Rattle.kv_call.specs.Arguments.{call_of};
-ghost use Rattle.kv_call.specs.Calls.{line_of, Gives};
+ghost use Rattle.kv_call.specs.Calls.{line_of, over, used, Gives};
 
 use crate::caller::caller_of;
 use client_call::{CallError, submit_and_wait};
@@ -30,11 +29,13 @@ pub fn call<P: Ports, C: Clock>(
     ports: &mut P,
     clock: &mut C,
 ) -> Result<Option<Bytes>, CallError>
-    ensures result { Gives (call_of arguments.now) result }
-    ensures port { result ≡ Err errors.PortFault → Rose (P.fault_count ports.old)
-        (P.fault_count ports.new) }
+    ensures result { Gives (used P.L.Link) (over (P.to_come ports.old) (P.detached ports.old)
+        (P.detached ports.new) (C.values clock.old)) (call_of arguments.now) result }
+    ensures attaches { P.fault_count ports.new
+        ≡ attaches_after result (P.fault_count ports.old) }
     ensures back { P.attached ports.new + length (P.detached ports.old)
         ≡ P.attached ports.old + length (P.detached ports.new) }
+    ensures unused { call_of arguments.now ≡ None → ports.new ≡ ports.old }
 {
     let [port, replicas, sequencers, client, turns, words @ ..] = arguments else {
         return Ok(None);

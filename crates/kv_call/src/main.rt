@@ -8,10 +8,12 @@
 //! client's number, which was never used before, the most turns to wait, and an op in the words of
 //! `kv_text`.
 //!
-//! Proved of `run`: a line is written only where the arguments name a call, and it is the text of a
-//! result that the call's client accepted; what else it may write is the usage line; and which status
-//! stands for which end. That it waits until the result comes, and for as many turns, is seen on
-//! running clusters by `checks/calls.sh`. Proved of `main` is that it is safe and ends.
+//! Proved of `run`: where the arguments name a call, that call is made, by the clauses of
+//! `client_call::submit_and_wait`, and the line of its result is written; where they name none, the
+//! usage line, and the ports stay as they were; where there is no result, nothing. A write that
+//! failed left a proper prefix of the line. Which status stands for which end is `specs/Ending`.
+//! What the call does over sockets is seen on running clusters by `checks/calls.sh`. Proved of `main`
+//! is that it is safe and ends.
 //!
 //! Files: `caller` (the first five arguments), `calling` (the call), `running` (what is written),
 //! `status`. Definitions: `specs/Arguments`, `Calls`, `Ending`.

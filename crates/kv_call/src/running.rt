@@ -1,8 +1,12 @@
 //! What is written, and how the program ends.
 
-ghost use Rattle.std.specs.Prelude.{IfOk};
+ghost use Rattle.std.specs.Prelude.{OnErr, OnOk};
+ghost use Rattle.std.specs.Io.KnownBytes.{Appends};
+ghost use Rattle.outside.specs.Causes.{Counts};
+ghost use Rattle.outside.specs.Fronts.{AppendsFront};
 ghost use Rattle.kv_call.specs.Arguments.{call_of};
-ghost use Rattle.kv_call.specs.Ending.{Ends};
+ghost use Rattle.kv_call.specs.Calls.{over, used};
+ghost use Rattle.kv_call.specs.Ending.{Ends, usage_line};
 
 use crate::calling::call;
 use crate::status::Status;
@@ -11,6 +15,15 @@ use outside::{Clock, Ports, Sink, WriteError, write_all};
 use std::alloc::Global;
 
 const USAGE_LINE: &str = "usage: kv_call PORT REPLICAS SEQUENCERS CLIENT TURNS OP\n";
+
+#[tactic(auto, unfolding(crate::specs::Ending::usage_line))]
+fn write_usage<K: Sink>(sink: &mut K) -> Result<(), WriteError>
+    ensures ok { OnOk result (Appends (K.held sink.old) (K.held sink.new) usage_line) }
+    ensures err { OnErr result (AppendsFront (K.held sink.old) (K.held sink.new) usage_line) }
+    ensures count { Counts (K.fault_count sink.old) (K.fault_count sink.new) result }
+{
+    write_all(sink, USAGE_LINE.as_bytes())
+}
 
 /// Makes the call that the arguments name, and writes its result; the usage line where they name
 /// none. Where there is no result, nothing is written.
@@ -21,8 +34,10 @@ pub fn run<K: Sink, P: Ports, C: Clock>(
     ports: &mut P,
     clock: &mut C,
 ) -> Result<Status, WriteError>
-    ensures { IfOk result (λ s.
-        Ends (call_of arguments.now) (K.held sink.old) (K.held sink.new) s) }
+    ensures ends { Ends (used P.L.Link) (over (P.to_come ports.old) (P.detached ports.old)
+        (P.detached ports.new) (C.values clock.old)) (call_of arguments.now)
+        (K.held sink.old) (K.held sink.new) result }
+    ensures count { Counts (K.fault_count sink.old) (K.fault_count sink.new) result }
 {
     match call(alloc, arguments.as_slice(), ports, clock) {
         Ok(Some(line)) => {
@@ -30,7 +45,7 @@ pub fn run<K: Sink, P: Ports, C: Clock>(
             Ok(Status::Done)
         }
         Ok(None) => {
-            write_all(sink, USAGE_LINE.as_bytes())?;
+            write_usage(sink)?;
             Ok(Status::Usage)
         }
         Err(e) => Ok(Status::from(e)),
