@@ -7,7 +7,6 @@ use Rattle.facts.proofs.Places.{Splits-at}
 use Rattle.nop_types.specs.Configuration.{Configuration}
 use Rattle.nop_types.specs.declared.output.Actor.{Actor}
 use Rattle.nop_types.specs.declared.output.Actor.TheVariants as kinds
-use Rattle.outside.specs.Causes.{Rose, HasCauseFor, count_after}
 use Rattle.outside.specs.Ports.{GivesNext, next_link}
 use Rattle.nop_types.specs.declared.input.Tick.{Tick}
 use Rattle.outside.specs.declared.errors.DeviceError.{DeviceError}
@@ -163,25 +162,6 @@ lost_push {L} v xs ys x added none all = subst (AllLostFit v) (sym added) (behin
     behind (z ∷ zs) fits = (fits.0, behind zs fits.1)
 
 -- ---- how many links are held
-
-rose_from : (a b c : ℕ) → a ≤ b → Rose b c → Rose a c
-rose_from a b c le rose = omega (arith, le, rose)
-
--- a cause since a later time is one since an earlier time
-pub cause_since : {T E : Type 0} (a b c : ℕ) (error : E) (r : Result T E) → a ≤ b → HasCauseFor b c error r → HasCauseFor a c error r
-cause_since a b c error r le h = record { later = omega (arith, le, h.later); failed = λ is. rose_from a b c le (h.failed is) }
-
--- the count of one call tells a cause
-pub counted_cause : {T : Type 0} (a b : ℕ) (e : DeviceError) → a ≤ b → b ≡ count_after {T = Unit {0}} (Err e) a
-    → HasCauseFor {T = T} a b Failed (Err e)
-counted_cause a b Failed later is = record { later = later; failed = λ told. omega (arith, is) }
-counted_cause a b NoMemory later is = record { later = later; failed = λ told. absurd cc }
-
-pub memory_cause : {T : Type 0} (a b : ℕ) → a ≤ b → HasCauseFor {T = T} a b Failed (Err NoMemory)
-memory_cause a b le = record { later = le; failed = λ is. absurd cc }
-
-pub no_cause : {T E : Type 0} (a b : ℕ) (error : E) (t : T) → a ≤ b → HasCauseFor a b error (Ok t)
-no_cause a b error t le = record { later = le; failed = λ is. absurd cc }
 
 -- a link that was attached and given back
 pub given_back : {A : Type 0} (first mid last : ℕ) (det here there : List A) (x : A) → mid ≡ first + 1 → here ≡ det → last ≡ mid

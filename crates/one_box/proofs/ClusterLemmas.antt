@@ -9,7 +9,7 @@ use Rattle.std.proofs.lemmas.Grind.{common_steps}
 use Rattle.nop_types.specs.Checkpoints.{KeepsTo}
 use Rattle.nop_types.specs.Configuration.{Configuration, is_configuration}
 use Rattle.nop_types.specs.Meaning.{Meaning}
-use Rattle.outside.specs.Causes.{Rose, HasCauseFor}
+use Rattle.outside.specs.Causes.{Rose, Counts}
 use Rattle.outside.specs.Clocks.{later_values, TellsTime}
 use Rattle.outside.specs.Fronts.{AppendsFront}
 use Rattle.outside.specs.declared.errors.DeviceError.{DeviceError}
@@ -98,10 +98,16 @@ module _ {S L : Type 0} (m : Meaning S) (v : LinkView L) (config : Configuration
 
   -- a link that was not attached
   pub unattached : (e : DeviceError) (polls : Option (List (List PollAnswer))) (values : Option (List ℕ)) (faults faults_now : ℕ)
-      (det here : List L) (d : Course) (ys : List (code.Node L)) → HasCauseFor {T = Unit {0}} faults faults_now Failed (Err e)
+      (det here : List L) (d : Course) (ys : List (code.Node L)) → Counts {T = Unit {0}} faults faults_now (Err e)
       → RunsOr m v config ops base turns polls values faults faults_now det here (Err e) d ys
-  unattached Failed polls values faults faults_now det here d ys cause = inl (cause.failed refl)
-  unattached devices.NoMemory polls values faults faults_now det here d ys cause = tt
+  unattached Failed polls values faults faults_now det here d ys count = inl (omega (arith, count.is))
+  unattached devices.NoMemory polls values faults faults_now det here d ys count = tt
+
+-- an attach that failed is told by its error
+pub attaches_same : {T U : Type 0} (a b : ℕ) (e : DeviceError) → Counts {T = T} a b (Err e)
+    → ¬ (let r : Result U DeviceError = Err e in IsErrOf r Failed) → b ≡ a
+attaches_same a b Failed count other = absurd (other refl)
+attaches_same a b devices.NoMemory count other = count.is
 
 -- ---- the links
 
@@ -258,6 +264,12 @@ module _ {S L : Type 0} (m : Meaning S) (v : LinkView L) (config : Configuration
             → Rose a c ⊎ IsNoRun m config ops base turns polls values
         by (inl rose) = inl (subst (Rose a) (sym same) rose)
         by (inr f) = inr f.none
+
+-- what is no fault of a link in a cluster is none of a device
+pub other_error : {T U : Type 0} (e : DeviceError) (x : ClusterError) → x ≡ error_of e
+    → ¬ (let r : Result T ClusterError = Err x in IsErrOf r errors.LinkFault) → ¬ (let r : Result U DeviceError = Err e in IsErrOf r Failed)
+other_error Failed x is other told = other (rw is refl)
+other_error devices.NoMemory x is other told = absurd cc
 
 -- before it is written nothing meets a fault of the sink
 pub never_written : (e : DeviceError) (x : ClusterError) → x ≡ error_of e

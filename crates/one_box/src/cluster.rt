@@ -6,6 +6,7 @@ ghost use Rattle.one_box.specs.Boxing.{error_of, EndsWith, IsNoRun, PollFailed, 
 ghost use Rattle.one_box.specs.ClusterRun.{opening_course};
 ghost use Rattle.one_box.specs.Showing.{course_of, links_of};
 ghost use Rattle.one_box.specs.declared.errors.ClusterError.TheVariants as errors;
+ghost use Rattle.outside.specs.declared.errors.DeviceError.TheVariants as devices;
 
 use crate::attaching::{actors_of, attach_all, detach_all, lost_by};
 use crate::boxed::Boxed;
@@ -41,6 +42,8 @@ fn run_turns<H: Host, P: Ports, C: Clock>(
     ensures holds { Holds (P.attached ports.old) (P.detached ports.old) (P.attached ports.new)
         (P.detached ports.new) nodes.new.items }
     ensures room { HasRoom (P.attached ports.new) (P.detached ports.new) nodes.new.items }
+    ensures attaches { ¬ IsErrOf result devices.Failed
+        → P.fault_count ports.new ≡ P.fault_count ports.old }
 {
     let Ok(actors) = actors_of(alloc, config) else {
         return Err(LinkError::NoMemory);
@@ -93,6 +96,8 @@ pub fn serve_all<H: Host, P: Ports, C: Clock, K: Sink>(
         (P.detached ports.old) (P.detached ports.new) result (K.held sink.old) (K.held sink.new) }
     ensures back { P.attached ports.new + length (P.detached ports.old)
         ≡ P.attached ports.old + length (P.detached ports.new) }
+    ensures attaches { ¬ IsErrOf result errors.LinkFault
+        → P.fault_count ports.new ≡ P.fault_count ports.old }
     ensures link { IsErrOf result errors.LinkFault
         → Rose (P.fault_count ports.old) (P.fault_count ports.new) ⊎ PollFailed (links_of P.L.Link)
         (P.detached ports.old) (P.detached ports.new) }

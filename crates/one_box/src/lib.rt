@@ -13,7 +13,8 @@
 //! strays, and the calls on each link are those of its actor, in order, without the sends that
 //! failed; on LinkFault without a failed attach `cluster_run` has no value. `back`: as many links
 //! are given back as were attached. `link`: LinkFault comes only where an attach or a poll failed;
-//! `write`, `writes`: WriteFault comes exactly where a write failed.
+//! `attaches`: an attach that failed is always told by it. `write`, `writes`: WriteFault comes
+//! exactly where a write failed.
 //!
 //! Call, for `commands`: `serve_all`, over any host. The configuration has one controller, since the
 //! first lines of schedule and transcript are of form 1.

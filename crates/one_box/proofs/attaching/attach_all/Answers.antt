@@ -1,9 +1,8 @@
 use Rattle.std.proofs.Common.{◌≡◌, ◌∙◌, refl, sym, subst, ap, arith, length, map, Some, Err}
 use Rattle.std.specs.Prelude.{slice_get}
-use Rattle.outside.specs.declared.errors.DeviceError.TheVariants.{Failed}
 use Rattle.one_box.specs.Showing.{links_of, AllLostFit, place_of}
 use Rattle.one_box.proofs.AttachingLemmas.{attaching_first, attaching_more, attached_all, places_more, places_all, lost_push}
-use Rattle.one_box.proofs.AttachingLemmas.{room_stays, room_more, holds_stays, holds_more, cause_since, no_cause}
+use Rattle.one_box.proofs.AttachingLemmas.{room_stays, room_more, holds_stays, holds_more}
 use Rattle.one_box.proofs.attaching.attach_all.Goals as goal
 
 pub loop-i-init : goal.loop-i-init
@@ -18,7 +17,7 @@ loop-i-init g c =
       holds = omega (arith, none);
       room = λ some. absurd (omega (arith, some, none));
       given = refl;
-      later = omega arith;
+      same = refl;
     }
 
 pub returns-in-Err-clause-holds : goal.returns-in-Err-clause-holds
@@ -35,10 +34,8 @@ returns-in-Err-clause-room g c =
     c.loop-i.nodes.items c.attach_actor.new.nodes.items c.in-Err.ensures.attaches.same c.in-Err.ensures.attaches.balance
     c.loop-i.invariant.room
 
-pub returns-in-Err-clause-cause : goal.returns-in-Err-clause-cause
-returns-in-Err-clause-cause g c =
-    cause_since (g.P.Ports.fault_count c.args.ports.now) (g.P.Ports.fault_count c.loop-i.ports)
-    (g.P.Ports.fault_count c.attach_actor.new.ports) Failed (Err c.in-Err.e) c.loop-i.invariant.later c.in-Err.ensures.cause
+pub returns-in-Err-clause-count : goal.returns-in-Err-clause-count
+returns-in-Err-clause-count g c = rw c.loop-i.invariant.same at c.in-Err.ensures.count
 
 pub loop-i-preserved : goal.loop-i-preserved
 loop-i-preserved g c =
@@ -67,7 +64,7 @@ loop-i-preserved g c =
           c.attach_actor.new.nodes.items one.node one.added attached.attached attached.given
           attached.room c.loop-i.invariant.room;
       given = attached.given ∙ c.loop-i.invariant.given;
-      later = omega (arith, c.loop-i.invariant.later, c.attach_actor.ensures.cause.later);
+      same = c.in_default.ensures.count.is ∙ c.loop-i.invariant.same;
     }
 
 pub returns-clause-attaches : goal.returns-clause-attaches
@@ -90,6 +87,5 @@ returns-clause-holds g c = c.loop-i.invariant.holds
 pub returns-clause-room : goal.returns-clause-room
 returns-clause-room g c = c.loop-i.invariant.room
 
-pub returns-clause-cause : goal.returns-clause-cause
-returns-clause-cause g c =
-    no_cause (g.P.Ports.fault_count c.args.ports.now) (g.P.Ports.fault_count c.loop-i.ports) Failed tt c.loop-i.invariant.later
+pub returns-clause-count : goal.returns-clause-count
+returns-clause-count g c = record { later = omega (arith, c.loop-i.invariant.same); is = c.loop-i.invariant.same }

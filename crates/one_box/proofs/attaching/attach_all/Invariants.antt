@@ -1,4 +1,4 @@
-use Rattle.std.proofs.Common.{◌≡◌, ◌≤◌, take, map}
+use Rattle.std.proofs.Common.{◌≡◌, take, map}
 use Rattle.one_box.specs.Attaching.{AttachingOn, HasRoom, Holds, place_for}
 use Rattle.one_box.specs.Showing.{links_of, AllLostFit, place_of}
 use Rattle.one_box.proofs.attaching.attach_all.Given as goal
@@ -17,5 +17,5 @@ invariant-loop-i g l = record {
       l.nodes.items;
   room : HasRoom (g.P.Ports.attached l.ports) (g.P.Ports.detached l.ports) l.nodes.items;
   given : g.P.Ports.detached l.ports ≡ g.P.Ports.detached l.fn.ports;
-  later : g.P.Ports.fault_count l.fn.ports ≤ g.P.Ports.fault_count l.ports;
+  same : g.P.Ports.fault_count l.ports ≡ g.P.Ports.fault_count l.fn.ports;
 }

@@ -1,6 +1,5 @@
 use Rattle.std.proofs.Common.{refl, ◌∙◌, ap, arith, length}
-use Rattle.outside.specs.declared.errors.DeviceError.TheVariants.{Failed}
-use Rattle.one_box.proofs.AttachingLemmas.{no_cause, memory_cause, counted_cause, given_back}
+use Rattle.one_box.proofs.AttachingLemmas.{given_back}
 use Rattle.one_box.proofs.attaching.attach_one.Goals as goal
 
 pub returns-in-Ok-push-clause-attaches : goal.returns-in-Ok-push-clause-attaches
@@ -23,9 +22,6 @@ returns-in-Ok-push-clause-attaches g c = record {
   given = c.in-Ok.ensures.detached;
 }
 
-pub returns-in-Ok-push-clause-cause : goal.returns-in-Ok-push-clause-cause
-returns-in-Ok-push-clause-cause g c = no_cause _ _ Failed tt c.in-Ok.ensures.later
-
 pub returns-in-Err-push-clause-attaches : goal.returns-in-Err-push-clause-attaches
 returns-in-Err-push-clause-attaches g c = record {
   same = c.in-Err-push.ensures.items;
@@ -35,10 +31,11 @@ returns-in-Err-push-clause-attaches g c = record {
       c.detach_one.ensures.detached;
 }
 
-pub returns-in-Err-push-clause-cause : goal.returns-in-Err-push-clause-cause
-returns-in-Err-push-clause-cause g c =
-    memory_cause (g.P.Ports.fault_count c.args.ports.now) (g.P.Ports.fault_count c.detach_one.new.ports)
-    (omega (arith, c.in-Ok.ensures.later, c.detach_one.ensures.faults))
+pub returns-in-Err-push-clause-count : goal.returns-in-Err-push-clause-count
+returns-in-Err-push-clause-count g c = record {
+  later = omega (arith, c.in-Ok.ensures.later, c.detach_one.ensures.faults);
+  is = c.detach_one.ensures.faults ∙ c.in-Ok.ensures.count;
+}
 
 pub returns-in-Err-clause-attaches : goal.returns-in-Err-clause-attaches
 returns-in-Err-clause-attaches g c = record {
@@ -46,7 +43,5 @@ returns-in-Err-clause-attaches g c = record {
   balance = omega (arith, c.in-Err.ensures.err, ap length c.attach.ensures.detached);
 }
 
-pub returns-in-Err-clause-cause : goal.returns-in-Err-clause-cause
-returns-in-Err-clause-cause g c =
-    counted_cause (g.P.Ports.fault_count c.args.ports.now) (g.P.Ports.fault_count c.attach.new.self) c.in-Err.e
-    c.in-Err.ensures.later c.in-Err.ensures.count
+pub returns-in-Err-clause-count : goal.returns-in-Err-clause-count
+returns-in-Err-clause-count g c = record { later = c.in-Err.ensures.later; is = c.in-Err.ensures.count }

@@ -2,7 +2,7 @@ use Rattle.std.proofs.Common.{subst, ◌∙◌, ap, List, map}
 use Rattle.nop_types.specs.declared.output.Actor.{Actor}
 use Rattle.one_box.specs.Attaching.{AttachesAll, place_for}
 use Rattle.one_box.specs.Showing.{course_of, links_of}
-use Rattle.one_box.proofs.ClusterLemmas.{turns_run, unattached, holds_same, room_same, holds_none, room_none}
+use Rattle.one_box.proofs.ClusterLemmas.{turns_run, unattached, attaches_same, holds_same, room_same, holds_none, room_none}
 use Rattle.one_box.proofs.cluster.run_turns.Goals as goal
 
 pub returns-in-Ok-attached-clause-runs : goal.returns-in-Ok-attached-clause-runs
@@ -41,7 +41,7 @@ returns-clause-runs g c =
     (g.P.Ports.to_come c.args.ports.now) (g.C.Clock.values c.args.clock.now) (g.P.Ports.fault_count c.args.ports.now)
     (g.P.Ports.fault_count c.attach_all-attached.new.ports) (g.P.Ports.detached c.args.ports.now)
     (g.P.Ports.detached c.attach_all-attached.new.ports) (course_of c.args.course.now) c.attach_all-attached.new.nodes.items
-    c.in-Err.ensures.cause
+    c.in-Err.ensures.count
 
 pub returns-in_default-clause-holds : goal.returns-in_default-clause-holds
 returns-in_default-clause-holds g c =
@@ -56,3 +56,8 @@ returns-clause-holds g c = c.attach_all-attached.ensures.holds
 
 pub returns-clause-room : goal.returns-clause-room
 returns-clause-room g c = c.attach_all-attached.ensures.room
+
+pub returns-clause-attaches : goal.returns-clause-attaches
+returns-clause-attaches g c =
+    attaches_same (g.P.Ports.fault_count c.args.ports.now) (g.P.Ports.fault_count c.attach_all-attached.new.ports) c.in-Err.e
+    c.in-Err.ensures.count

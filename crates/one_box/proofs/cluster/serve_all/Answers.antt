@@ -1,8 +1,8 @@
-use Rattle.std.proofs.Common.{◌≡◌, rules}
+use Rattle.std.proofs.Common.{◌≡◌, ◌∙◌, rules}
 use Rattle.nop_types.specs.Checkpoints.{KeepsTo}
 use Rattle.one_box.specs.Attaching.{lost_by}
 use Rattle.one_box.specs.Showing.{course_of, links_of}
-use Rattle.one_box.proofs.ClusterLemmas.{run_ends, ends_early, caused, no_run, never_link, never_written, all_back}
+use Rattle.one_box.proofs.ClusterLemmas.{run_ends, ends_early, caused, no_run, never_link, never_written, other_error, all_back}
 use Rattle.one_box.proofs.cluster.serve_all.Goals as goal
 
 pub returns-in-Ok-ran-clause-ends : goal.returns-in-Ok-ran-clause-ends
@@ -72,3 +72,7 @@ returns-clause-back g c =
     (g.P.Ports.attached c.detach_all.new.ports) (g.P.Ports.detached c.args.ports.now) (g.P.Ports.detached c.run_turns-ran.new.ports)
     (g.P.Ports.detached c.detach_all.new.ports) c.run_turns-ran.new.nodes.items c.run_turns-ran.ensures.holds
     c.detach_all.ensures.attached c.detach_all.ensures.detached
+
+pub returns-clause-attaches : goal.returns-clause-attaches
+returns-clause-attaches g c = λ other. c.detach_all.ensures.faults ∙ c.in-Err.ensures.attaches (other_error c.in-Err.e c.error_of.result
+    c.error_of.ensures other)
