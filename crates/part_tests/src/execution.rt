@@ -104,8 +104,21 @@ fn a_full_log_is_executed(rt: HostRuntime) {
     check_full::<KvHost>(&rt, rt.alloc());
 }
 
+/// The log begins with the checkpoint of what is executed.
+fn trim<H: Host>(rt: &impl Abort, log: &mut ReplicaLog, executor: &mut Executor<H>)
+    requires fits { LogFits log.old }
+    requires run { HasExecuted H.state H.meaning H.undo_of log.old executor.old }
+    ensures run { HasExecuted H.state H.meaning H.undo_of log.new executor.new }
+    ensures point { log.new.sync_point ≡ reached executor.new }
+{
+    let slot = executor.reached();
+    let checkpoint = executor.checkpoint().expect(rt, "memory");
+    let _passed = log.raise(slot, checkpoint).expect(rt, "memory");
+    executor.rebase();
+}
+
 /// After a get of each of the clients 0 to 255: a client, an id and an op, and the answer to it in the end.
-const AFTER_THE_FIRST: [(u32, u64, &[u8], Option<&[u8]>); 7] = [
+const AFTER_THE_FIRST: [(u32, u64, &[u8], Option<&[u8]>); 9] = [
     (256, 1, b"P\0\x01k\0\x01v", None),
     (0, 2, b"G\0\x01k", Some(b"none")),
     (256, 2, b"P\0\x01k\0\x01v", None),
@@ -113,9 +126,13 @@ const AFTER_THE_FIRST: [(u32, u64, &[u8], Option<&[u8]>); 7] = [
     (u32::MAX, u64::MAX, b"D\0\x01k", None),
     (255, 2, b"P\0\x01k\0\x01w", Some(b"none")),
     (1, 2, b"G\0\x01k", Some(b"=w")),
+    (256, 3, b"D\0\x01k", None),
+    (3, 2, b"G\0\x01k", Some(b"=w")),
 ];
 
-fn log_of_many_clients(rt: &impl Abort, alloc: Global) -> ReplicaLog {
+fn log_of_many_clients(rt: &impl Abort, alloc: Global) -> ReplicaLog
+    ensures { LogFits result }
+{
     let mut log = ReplicaLog::new(alloc);
     for client in 0..256u32 {
         assert!(rt; log.has_room());
@@ -130,15 +147,30 @@ fn log_of_many_clients(rt: &impl Abort, alloc: Global) -> ReplicaLog {
     log
 }
 
-/// A request of the 257th client is not executed, nor is its next one; a served client's next one is.
-fn check_many_clients<H: Host>(rt: &impl Abort, alloc: Global) {
-    let log = log_of_many_clients(rt, alloc);
-    let executor: Executor<H> = executed_again(rt, alloc, &log);
+fn check_after_the_first<H: Host>(rt: &impl Abort, executor: &Executor<H>) {
     for (row, (client, id, _op, told)) in AFTER_THE_FIRST.iter().enumerate() {
         let answer = executor.result(*client, *id);
         assert!(rt; is_told(answer, *told), "row {row}");
     }
     assert!(rt; is_told(executor.result(2, 1), Some(b"none")));
+}
+
+/// A request of the 257th client is not executed, nor is its next one; a served client's next one is. So it is from a checkpoint on that
+/// has all 256 clients.
+fn check_many_clients<H: Host>(rt: &impl Abort, alloc: Global) {
+    let mut log = log_of_many_clients(rt, alloc);
+    let mut executor: Executor<H> = executed_again(rt, alloc, &log);
+    check_after_the_first(rt, &executor);
+    assert!(rt; log.sync_point() == 0 && log.len() == 265 && executor.reached() == 265);
+    executor.rewind(&log, 263);
+    trim(rt, &mut log, &mut executor);
+    let saved = log.checkpoint().expect(rt, "a checkpoint");
+    assert!(rt; saved.clients().len() == 256);
+    assert!(rt; checkpoint_loads::<H>(alloc, Some(saved)).expect(rt, "memory"));
+    executor.restart(&log).expect(rt, "memory");
+    assert!(rt; executor.reached() == 263 && log.len() == 265);
+    executor.run_to(&log, 265).expect(rt, "memory");
+    check_after_the_first(rt, &executor);
 }
 
 #[test]
@@ -173,19 +205,6 @@ fn check_checkpoint<H: Host>(rt: &impl Abort, alloc: Global) {
 #[test]
 fn an_execution_has_a_checkpoint(rt: HostRuntime) {
     check_checkpoint::<KvHost>(&rt, rt.alloc());
-}
-
-/// The log begins with the checkpoint of what is executed.
-fn trim<H: Host>(rt: &impl Abort, log: &mut ReplicaLog, executor: &mut Executor<H>)
-    requires fits { LogFits log.old }
-    requires run { HasExecuted H.state H.meaning H.undo_of log.old executor.old }
-    ensures run { HasExecuted H.state H.meaning H.undo_of log.new executor.new }
-    ensures point { log.new.sync_point ≡ reached executor.new }
-{
-    let slot = executor.reached();
-    let checkpoint = executor.checkpoint().expect(rt, "memory");
-    let _passed = log.raise(slot, checkpoint).expect(rt, "memory");
-    executor.rebase();
 }
 
 /// The log up to slot 5 is executed, and a checkpoint stands in place of its entries. The rest is executed, undone and executed
