@@ -108,6 +108,32 @@ Normal (0, 1, 0, 1) (0, 0)
     play_three::<KvHost>(&rt, rt.alloc(), GAP, told);
 }
 
+/// A leader in Normal suspects nobody. A follower does where it heard nothing of its leader between two ticks, here after a commit of
+/// what it has; so does a replica that waits for its view to start.
+const WATCH: &str = "\
+0 tick watch
+0 tick watch
+1 tick watch
+1 packet 4e4f0308 00 0000000000000001 0000 0001 19 00 00000000 0000000000000001 00000000
+1 tick watch
+1 tick watch
+  0 Replicas 4e4f0308010000000000000001000000011401000000010000000000000001
+1 tick watch
+1 tick watch
+  1 Replicas 4e4f0308010000000000000002000000011401000000020000000000000001
+  2 One(Replica(2)) 4e4f030801000000000000000300000001150100000002000000000000000100000000000000000000000100000000000000010000000000000000
+";
+
+#[test]
+fn a_silent_leader_is_suspected(rt: HostRuntime) {
+    let told = "\
+Normal (0, 1, 0, 1) (0, 0)
+Change (2, 1, 0, 1) (0, 0)
+Normal (0, 1, 0, 1) (0, 0)
+";
+    play_three::<KvHost>(&rt, rt.alloc(), WATCH, told);
+}
+
 /// A leader and a follower answer three requests that are no ops of the service. Then that leader is suspected, and the next view
 /// keeps them with the same answers. The change and the start come in two fragments each, in the other order, and again: a change
 /// that is joined a second time is late, and gets the start.
