@@ -9,14 +9,10 @@ use std::process::Abort;
 
 /// A get, stamped in session 1.
 fn stamped(rt: &impl Abort, alloc: Global, number: u64, client: u32, id: u64) -> Vec<u8> {
-    let mut bytes = bytes_of(rt, alloc, "4e4f0302 0000000000000001");
-    let (number, client, id) = (number.to_be_bytes(), client.to_be_bytes(), id.to_be_bytes());
-    bytes.extend_from_slice(&number).expect(rt, "memory");
-    bytes.extend_from_slice(&client).expect(rt, "memory");
-    bytes.extend_from_slice(&id).expect(rt, "memory");
-    let op = bytes_of(rt, alloc, "0004 4700016b");
-    bytes.extend_from_slice(&op).expect(rt, "memory");
-    bytes
+    let row = format!(in alloc;
+        "4e4f0302 0000000000000001 {number:016x} {client:08x} {id:016x} 0004 4700016b"
+    );
+    bytes_of(rt, alloc, &row.expect(rt, "memory"))
 }
 
 /// Whether this is all that was sent: one datagram to the client.
