@@ -53,6 +53,7 @@ pub record Runs {S L : Type 0} (m : Meaning S) (c : Option Command) (d : Devices
   -- over any link
   pub client : ClientAnswers c s d.sink.before d.sink.after
   pub back : uses_ports c ≡ true → d.ports.attached_after + length d.ports.before ≡ d.ports.attached_before + length d.ports.after
+  pub attaches : ¬ (s ≡ statuses.LinkFault) → d.ports.faults_after ≡ d.ports.faults_before
   pub read : s ≡ statuses.ReadFault → Rose d.source.faults_before d.source.faults_after
   pub write : s ≡ statuses.WriteFault → Rose d.sink.faults_before d.sink.faults_after
   -- whatever the command is

@@ -27,6 +27,8 @@ pub(crate) fn run_cluster<H: Host, P: Ports, T: Clock, K: Sink>(
         result (K.held sink.old) (K.held sink.new) }
     ensures back { P.attached ports.new + length (P.detached ports.old)
         ≡ P.attached ports.old + length (P.detached ports.new) }
+    ensures attaches { ¬ (result ≡ Status.LinkFault)
+        → P.fault_count ports.new ≡ P.fault_count ports.old }
     ensures write { result ≡ Status.WriteFault → Rose (K.fault_count sink.old)
         (K.fault_count sink.new) }
     ensures writes { K.fault_count sink.new ≡ writes_after result (K.fault_count sink.old) }

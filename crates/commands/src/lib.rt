@@ -19,6 +19,7 @@
 //!   - `read`, `write`: ReadFault and WriteFault come only where a call on that device failed.
 //!     `writes`: a write that failed is always told: the sink's count of faults rose by one at
 //!     WriteFault, and stayed at every other status.
+//!   - `attaches`: an attach that failed is always told, by LinkFault.
 //! - `complete`: where no call failed, the status reports no fault (`Completes`, whose fields
 //!   `.._complete` say which calls, for each command).
 //! - `unread`, `ports`, `clock`: what a command does not use is as before.

@@ -56,6 +56,8 @@ pub(crate) fn run_replica<H: Host, P: Ports, T: Clock, K: Sink>(
     ensures status { IsNodeStatus false result }
     ensures back { P.attached ports.new + length (P.detached ports.old)
         ≡ P.attached ports.old + length (P.detached ports.new) }
+    ensures attaches { ¬ (result ≡ Status.LinkFault)
+        → P.fault_count ports.new ≡ P.fault_count ports.old }
     ensures write { result ≡ Status.WriteFault → Rose (K.fault_count sink.old)
         (K.fault_count sink.new) }
     ensures writes { K.fault_count sink.new ≡ writes_after result (K.fault_count sink.old) }
@@ -86,6 +88,8 @@ pub(crate) fn run_sequencer<P: Ports, T: Clock, K: Sink>(
     ensures status { IsNodeStatus false result }
     ensures back { P.attached ports.new + length (P.detached ports.old)
         ≡ P.attached ports.old + length (P.detached ports.new) }
+    ensures attaches { ¬ (result ≡ Status.LinkFault)
+        → P.fault_count ports.new ≡ P.fault_count ports.old }
     ensures write { result ≡ Status.WriteFault → Rose (K.fault_count sink.old)
         (K.fault_count sink.new) }
     ensures writes { K.fault_count sink.new ≡ writes_after result (K.fault_count sink.old) }
@@ -127,6 +131,8 @@ pub(crate) fn run_controller<P: Ports, T: Clock, K: Sink>(
     ensures status { IsNodeStatus false result }
     ensures back { P.attached ports.new + length (P.detached ports.old)
         ≡ P.attached ports.old + length (P.detached ports.new) }
+    ensures attaches { ¬ (result ≡ Status.LinkFault)
+        → P.fault_count ports.new ≡ P.fault_count ports.old }
     ensures write { result ≡ Status.WriteFault → Rose (K.fault_count sink.old)
         (K.fault_count sink.new) }
     ensures writes { K.fault_count sink.new ≡ writes_after result (K.fault_count sink.old) }
@@ -157,6 +163,8 @@ pub(crate) fn run_client<P: Ports, T: Clock, K: Sink>(
     ensures status { IsNodeStatus true result }
     ensures back { P.attached ports.new + length (P.detached ports.old)
         ≡ P.attached ports.old + length (P.detached ports.new) }
+    ensures attaches { ¬ (result ≡ Status.LinkFault)
+        → P.fault_count ports.new ≡ P.fault_count ports.old }
     ensures write { result ≡ Status.WriteFault → Rose (K.fault_count sink.old)
         (K.fault_count sink.new) }
     ensures writes { K.fault_count sink.new ≡ writes_after result (K.fault_count sink.old) }

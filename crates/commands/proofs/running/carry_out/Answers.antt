@@ -16,6 +16,7 @@ returns-in-Client-clause-ends g c =
           (g.C.Clock.values c.args.clock.now) (Some (Client c.in-Client.id c.in-Client.site c.in-Client.ops)) c.run_client.result
           (g.K.Sink.held c.args.sink.now) (g.K.Sink.held c.run_client.new.sink) c.run_client.ensures.ends;
       back = λ is. c.run_client.ensures.back;
+      attaches = c.run_client.ensures.attaches;
       read = λ is. no_read true c.run_client.result c.run_client.ensures.status is;
       write = c.run_client.ensures.write;
       writes = c.run_client.ensures.writes;

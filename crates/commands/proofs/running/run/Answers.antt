@@ -27,6 +27,7 @@ returns-in-Err-clause-ends g c =
       cluster = not_served g.H.Host.meaning (links_of g.P.L.Link) ports values (asked c.args.words.now) held;
       client = no_answers (asked c.args.words.now) held;
       back = λ is. refl {a = ports.attached_before + length ports.before};
+      attaches = λ other. refl {a = ports.faults_before};
       read = λ is. cc;
       write = λ is. cc;
       writes = refl {a = g.K.Sink.fault_count c.args.sink.now};
