@@ -11,7 +11,7 @@
 # A crate has the seconds of all its processes together, each with the last figures that were seen of it, five times a second, and the
 # memory of its largest process. Proof: the crate itself, and what builds a program. Tests: the crate proved once more with its tests, and
 # what builds them. Edits: each must-fail edit. What `rt` does beside them, runs of tests and programs, and checks/*.sh are in the last line alone. Lines of code have
-# the contracts and no tests. Crates that take less than 180 seconds in all stand in one row. `rt selftest`, which proves and builds one example of the toolchain, runs first, and its seconds stand below the
+# the contracts and no tests. Crates that take less than 100 seconds in all stand in one row. `rt selftest`, which proves and builds one example of the toolchain, runs first, and its seconds stand below the
 # table: how fast the machine is by itself.
 set -eu
 
@@ -80,7 +80,7 @@ def table_of(seen, crates):
         seconds = [sum(s for key, s, _ in seen.values() if key == (crate, kind)) for kind in ("proof", "edits", "tests")]
         memory = max((m for key, _, m in seen.values() if key[0] == crate), default=0)
         sums = [a + b for a, b in zip(sums, [*counts, *seconds])]
-        if sum(seconds) < 180:
+        if sum(seconds) < 100:
             small.append([*counts, *seconds])
         else:
             rows.append(row(f"`{crate}`", *counts, seconds[0], f"{memory / 2**30:.1f} GB", *seconds[1:]))

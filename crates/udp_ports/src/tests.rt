@@ -318,8 +318,8 @@ fn check_received<L: Link>(rt: &impl Abort, link: &mut L, numbers: Range<u8>) {
 #[test]
 fn a_link_given_back_sends_the_rest(rt: HostRuntime) {
     let mut ports = UdpPorts::new(&rt, rt.alloc());
-    let mut to = new_link(&mut ports).expect(&rt, "a link");
-    let mut from = new_link(&mut ports).expect(&rt, "a link");
+    let mut to = ports.attach(PORTS + 1003).expect(&rt, "a link");
+    let mut from = ports.attach(PORTS + 1004).expect(&rt, "a link");
     let mut bytes = [8u8; 1417];
     for number in 0..20u8 {
         bytes[1416] = number;
