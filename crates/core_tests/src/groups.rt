@@ -1,12 +1,32 @@
 //! Groups of three replicas of the key-value service that are driven by hand. What is expected was worked out from the rules of the
 //! protocol and from its formats.
-use crate::rows::{check_text, put_checkpoint, put_entries, put_line};
+use crate::rows::{bytes_of, check_text, put_entries, put_line};
 use crate::scripts::{play, timers};
 use kv_host::KvHost;
-use nop_types::{Config, Host, Outbox, View};
+use nop_types::{
+    Actor, Checkpoint, Config, Core, Dest, Host, Input, Out, Outbox, SavedClient, View,
+};
 use replica_core::Replica;
 use std::alloc::Global;
 use std::process::Abort;
+
+/// Adds a client of a checkpoint: its number, its greatest id, and the result.
+fn put_client(rt: &impl Abort, alloc: Global, saved: &SavedClient, to: &mut String) {
+    let (client, id) = (saved.client, saved.id);
+    let result = hex::encode(alloc, saved.result.as_slice()).expect(rt, "memory");
+    let text = format!(in alloc; " [{client}, {id}, {result}]").expect(rt, "memory");
+    to.push_str(&text).expect(rt, "memory");
+}
+
+/// Adds a checkpoint: the bytes of the host's state, and the clients.
+fn put_checkpoint(rt: &impl Abort, alloc: Global, checkpoint: &Checkpoint, to: &mut String) {
+    let host = hex::encode(alloc, checkpoint.host().as_slice()).expect(rt, "memory");
+    let text = format!(in alloc; " {host}").expect(rt, "memory");
+    to.push_str(&text).expect(rt, "memory");
+    for saved in checkpoint.clients() {
+        put_client(rt, alloc, saved, to);
+    }
+}
 
 /// Adds a replica's log: its checkpoint, if it has one, the entries above its sync point, and whether it is full.
 fn put_log<H: Host>(rt: &impl Abort, alloc: Global, core: &Replica<H>, to: &mut String) {
@@ -293,4 +313,70 @@ Normal (1, 1, 1, 1) (1, 1) 0000000100016b000176 [0, 1, 6e6f6e65]
 Normal (1, 1, 1, 1) (3, 3) 0000000100016b000176 [0, 1, 6e6f6e65]
 ";
     play_three::<KvHost>(&rt, rt.alloc(), TOLD, told);
+}
+
+/// A get, stamped in session 1.
+fn stamped(rt: &impl Abort, alloc: Global, number: u64, client: u32, id: u64) -> Vec<u8> {
+    let row = format!(in alloc;
+        "4e4f0302 0000000000000001 {number:016x} {client:08x} {id:016x} 0004 4700016b"
+    );
+    bytes_of(rt, alloc, &row.expect(rt, "memory"))
+}
+
+/// Whether this is all that was sent: one datagram to the client.
+fn is_reply(out: &Outbox, client: u32) -> bool {
+    match out.as_slice() {
+        [Out::Send(Dest::One(Actor::Client(to)), _)] => *to == client,
+        _ => false,
+    }
+}
+
+/// After a request of each of the clients 0 to 255, as many as a log serves: a client, an id, and whether the leader replies.
+const LATER: [(u32, u64, bool); 8] = [
+    (256, 1, false),
+    (0, 1, true),
+    (256, 2, false),
+    (255, 2, true),
+    (255, 1, false),
+    (300, 1, false),
+    (u32::MAX, u64::MAX, false),
+    (7, u64::MAX, true),
+];
+
+fn replies<H: Host>(
+    rt: &impl Abort,
+    alloc: Global,
+    core: &mut Replica<H>,
+    number: u64,
+    client: u32,
+    id: u64,
+) -> bool {
+    let bytes = stamped(rt, alloc, number, client, id);
+    let mut out = Outbox::new(alloc);
+    core.step(Input::Packet(&bytes), &mut out)
+        .expect(rt, "memory");
+    let is_silent = out.as_slice().is_empty();
+    assert!(rt; is_silent || is_reply(&out, client));
+    !is_silent
+}
+
+fn check_served<H: Host>(rt: &impl Abort, alloc: Global) {
+    let mut cores: Vec<Replica<H>> = opened(rt, alloc);
+    let core = cores.first_mut().expect(rt, "a replica");
+    for client in 0..256u32 {
+        assert!(rt;
+            replies(rt, alloc, core, u64::from(client) + 1, client, 1),
+            "client {client}"
+        );
+    }
+    for (row, (client, id, replied)) in LATER.iter().enumerate() {
+        let answer = replies(rt, alloc, core, row as u64 + 257, *client, *id);
+        assert!(rt; answer == *replied, "row {row}");
+    }
+    assert!(rt; core.log().len() == 264);
+}
+
+#[test]
+fn the_first_clients_are_served(rt: HostRuntime) {
+    check_served::<KvHost>(&rt, rt.alloc());
 }

@@ -16,6 +16,4 @@ mod rows;
 #[cfg(test)]
 mod scripts;
 #[cfg(test)]
-mod served;
-#[cfg(test)]
 mod trimmed;

@@ -1,4 +1,4 @@
-use nop_types::{Checkpoint, Entry, SavedClient};
+use nop_types::Entry;
 use std::alloc::Global;
 use std::fmt::Debug;
 use std::process::Abort;
@@ -59,23 +59,5 @@ pub fn put_entries(rt: &impl Abort, alloc: Global, entries: &[Entry], to: &mut S
     }
     for entry in entries {
         put_entry(rt, alloc, entry, to);
-    }
-}
-
-/// Adds a client of a checkpoint: its number, its greatest id, and the result.
-fn put_client(rt: &impl Abort, alloc: Global, saved: &SavedClient, to: &mut String) {
-    let (client, id) = (saved.client, saved.id);
-    let result = hex::encode(alloc, saved.result.as_slice()).expect(rt, "memory");
-    let text = format!(in alloc; " [{client}, {id}, {result}]").expect(rt, "memory");
-    put_text(rt, &text, to);
-}
-
-/// Adds a checkpoint: the bytes of the host's state, and the clients.
-pub fn put_checkpoint(rt: &impl Abort, alloc: Global, checkpoint: &Checkpoint, to: &mut String) {
-    let host = hex::encode(alloc, checkpoint.host().as_slice()).expect(rt, "memory");
-    let text = format!(in alloc; " {host}").expect(rt, "memory");
-    put_text(rt, &text, to);
-    for saved in checkpoint.clients() {
-        put_client(rt, alloc, saved, to);
     }
 }
