@@ -2,9 +2,9 @@
 
     damage.py SEEDS PROGRAM PEER COUNT EVERY NUMBER FIRST
 
-The folder SEEDS has valid schedules. Case I, from FIRST on, depends on NUMBER, I and the seeds alone. Every EVERY-th case is
-also replayed by PEER (0: none), whose status and output have to be the same, byte for byte. A case that is wrong is written
-to standard output in hexadecimal, and the status is 1 then.
+The folder SEEDS has valid schedules. Cases have numbers, from FIRST on; one depends on its number, NUMBER and the schedules
+there alone. Every EVERY-th case is also replayed by PEER (0: none), whose status and output have to be the same, byte for
+byte. A case that is wrong is written to standard output in hexadecimal, and the status is 1 then.
 """
 
 import collections

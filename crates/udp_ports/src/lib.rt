@@ -6,9 +6,10 @@
 //! fragment and all other datagrams never wait. A poll has the memory for a datagram before it receives one.
 //!
 //! Proved: the contracts of the traits, so that counts of faults and losses rise exactly where they have to; at most `MOST_WAITING`
-//! datagrams wait, each new one is the last of them, and only the first one leaves; which datagrams are paced. The contracts of std don't say what a socket
-//! carries or what a clock shows. So it is only tested that datagrams are sent and arrive whole, at the loopback address alone, when
-//! those that wait are sent, how long a poll takes, and that the clock counts milliseconds.
+//! datagrams wait, each new one is the last of them, and only the first one leaves; which datagrams are parts (`is_part`) and begin a
+//! ViewChange. The contracts of std don't say what a socket carries or what a clock shows. So it is only tested that datagrams are
+//! sent and arrive whole, at the loopback address alone, that parts wait and when they are sent, how long a poll takes, and that the
+//! clock counts milliseconds.
 //!
 //! For others: `UdpPorts::new`, `SystemClock::new`, and the methods of the traits. Files, in reading order:
 //! `system_clock`; `socket`; `backlog`, the datagrams that wait; `pacing`, which of them may be sent; `link`; `ports`; `tests`.

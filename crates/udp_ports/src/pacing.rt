@@ -1,4 +1,5 @@
-ghost use Rattle.std.specs.Prelude.{◌≡◌, ◌≢◌, ◌==◌, ◌↔◌, ◌<◌, ◌++◌, ◌∷◌, [], drop, length, slice_get, take, true, None, Some, IfSome};
+ghost use Rattle.std.specs.Prelude.{◌≡◌, ◌≢◌, ◌==◌, ◌↔◌, ◌<◌, ◌++◌, ◌∷◌, [], true, None, Some};
+ghost use Rattle.std.specs.Prelude.{drop, length, slice_get, take, IfSome};
 ghost use Rattle.nop_types.specs.declared.kinds.TheConstants.{FRAGMENT, VIEW_CHANGE};
 ghost use Rattle.udp_ports.specs.declared.pacing.Admission.TheVariants as admissions;
 
@@ -35,7 +36,8 @@ pub(crate) fn is_part(bytes: &[u8]) -> bool
 
 /// Whether a part is the first one of a ViewChange: its index, bytes 13 and 14, is 0, and its payload begins with that kind.
 fn begins_view_change(bytes: &[u8]) -> bool
-    ensures { (result ≡ true) ↔ ((slice_get bytes.now 17 ≡ Some VIEW_CHANGE) × (take 2 (drop 13 bytes.now) ≡ 0 ∷ 0 ∷ [])) }
+    ensures { (result ≡ true) ↔ ((slice_get bytes.now 17 ≡ Some VIEW_CHANGE)
+        × (take 2 (drop 13 bytes.now) ≡ 0 ∷ 0 ∷ [])) }
 {
     bytes.len() > 17 && bytes[17] == VIEW_CHANGE && bytes[13..15] == [0, 0]
 }
