@@ -1,12 +1,12 @@
 ghost use Rattle.std.specs.Prelude.{◌≡◌, ◌<◌, ◌++◌, ◌∷◌, [], drop, length, slice_get, OnOk, OnErr};
 
-use nop_types::{Bytes, MAX_FRAGMENTS, MAX_REPLICAS, NoMemory};
+use nop_types::{Bytes, MAX_FRAGMENTS, NoMemory};
 use std::alloc::Global;
 use std::collections::VecDeque;
 use std::marker::Model;
 
-/// The most datagrams that wait: a message of the most fragments, for each of the most other replicas.
-pub(crate) const MOST_WAITING: usize = MAX_FRAGMENTS * (MAX_REPLICAS as usize - 1);
+/// The most datagrams that wait: two messages of the most fragments.
+pub(crate) const MOST_WAITING: usize = 2 * MAX_FRAGMENTS;
 
 /// A datagram that waits, and the port that it is for.
 #[derive(Debug, Drop)]

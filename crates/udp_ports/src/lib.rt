@@ -15,10 +15,14 @@
 //! `system_clock`; `socket`; `backlog`, the datagrams that wait; `pacing`, which of them may be sent; `link`; `ports`; `tests`.
 #![tactic(auto)]
 
+mod acks;
 mod backlog;
+mod flow;
+mod lanes;
 mod link;
-mod pacing;
+mod parts;
 mod ports;
+mod receipts;
 mod socket;
 mod system_clock;
 #[cfg(test)]

@@ -1,35 +1,62 @@
-ghost use Rattle.std.specs.Prelude.{◌≡◌};
+ghost use Rattle.std.specs.Prelude.{◌≡◌, ◌≤◌, length, IfOk, IfSome};
+ghost use Rattle.nop_types.specs.declared.limits.TheConstants.{MAX_DATAGRAM_BYTES};
 
-use crate::pacing::{Admission, MOST_AT_ONCE, Pacer, is_part};
+use crate::acks::Ack;
+use crate::flow::{Admission, FIRST_WINDOW, Flow};
+use crate::lanes::{LANES, lane_of};
+use crate::parts::is_part;
+use crate::receipts::Receipts;
 use crate::socket::{Patience, Socket};
 use nop_types::Bytes;
 use outside::{Link, LinkError};
 use std::alloc::Global;
+use std::array;
 use std::time::Clock;
 
+/// How many acknowledgements a poll reads at most.
+const MOST_ACKS: usize = 16;
+
 /// A datagram socket at a port of the loopback address, with counts of its errors. The parts of a long message are sent while it
-/// is polled.
+/// is polled, as those before them are acknowledged.
 #[derive(Drop)]
 pub struct UdpLink<'a, R: Clock> {
     socket: Socket<'a, R>,
     port: u16,
     waits: bool,
-    pacer: Pacer,
+    flows: [Flow; LANES],
+    receipts: Receipts,
     faults: u64,
     losses: u64,
 }
 
+/// Whether nothing waits in any of these.
+fn are_empty(flows: &[Flow; LANES]) -> bool {
+    flows.iter().all(|flow| flow.len() == 0)
+}
+
+/// Begins a turn of each of these. The clock is read only where something waits or is in flight.
+fn begin_turns<R: Clock>(flows: &mut [Flow; LANES], socket: &Socket<'_, R>) {
+    let now = if flows.iter().all(|flow| flow.is_at_rest()) {
+        0
+    } else {
+        socket.micros()
+    };
+    for flow in flows.iter_mut() {
+        flow.begin_turn(now);
+    }
+}
+
 /// Sends what waits and may be sent now, and says how many of these sends failed.
-fn release<R: Clock>(pacer: &mut Pacer, socket: &Socket<'_, R>) -> u64 {
-    let now = if pacer.is_empty() { 0 } else { socket.micros() };
-    pacer.begin_turn(now);
+fn release<R: Clock>(flows: &mut [Flow; LANES], socket: &Socket<'_, R>) -> u64 {
     let mut failed: u64 = 0;
-    for _ in 0..MOST_AT_ONCE {
-        let Some(next) = pacer.next() else {
-            return failed;
-        };
-        if !socket.has_sent(next.port, next.bytes.as_slice()) {
-            failed = failed.saturating_add(1);
+    for flow in flows.iter_mut() {
+        for _ in 0..FIRST_WINDOW {
+            let Some(next) = flow.next() else {
+                break;
+            };
+            if !socket.has_sent(next.port, next.bytes.as_slice()) {
+                failed = failed.saturating_add(1);
+            }
         }
     }
     failed
@@ -37,7 +64,7 @@ fn release<R: Clock>(pacer: &mut Pacer, socket: &Socket<'_, R>) -> u64 {
 
 /// Sends a datagram, or keeps a part; else it is lost.
 fn send_or_keep<R: Clock>(
-    pacer: &mut Pacer,
+    flows: &mut [Flow; LANES],
     socket: &Socket<'_, R>,
     port: u16,
     bytes: &[u8],
@@ -45,10 +72,55 @@ fn send_or_keep<R: Clock>(
     if !is_part(bytes) {
         return socket.has_sent(port, bytes);
     }
-    match pacer.admit(port, bytes) {
+    match flows[lane_of(port)].admit(port, bytes) {
         Admission::SendNow => socket.has_sent(port, bytes),
         Admission::Kept => true,
         Admission::Refused => false,
+    }
+}
+
+/// Acknowledges what came and is not acknowledged yet.
+fn send_early<R: Clock>(receipts: &mut Receipts, socket: &Socket<'_, R>) {
+    for _ in 0..LANES {
+        let Some((port, ack)) = receipts.early() else {
+            return;
+        };
+        let _sent = socket.has_sent(port, &ack.to_bytes());
+    }
+}
+
+/// The next datagram that is no acknowledgement.
+fn receive<R: Clock>(
+    socket: &mut Socket<'_, R>,
+    flows: &mut [Flow; LANES],
+    receipts: &mut Receipts,
+    patience: Patience,
+) -> Result<Option<Bytes>, LinkError>
+    ensures { IfOk result (λ r. IfSome r (λ datagram. length datagram ≤ MAX_DATAGRAM_BYTES)) }
+{
+    let mut patience = patience;
+    for _ in 0..MOST_ACKS {
+        let Some(received) = socket.receive(patience)? else {
+            send_early(receipts, socket);
+            return Ok(None);
+        };
+        let Some(ack) = Ack::read(received.bytes.as_slice()) else {
+            acknowledge(socket, receipts, received.from, received.bytes.as_slice());
+            return Ok(Some(received.bytes));
+        };
+        flows[lane_of(received.from)].acknowledge(ack);
+        patience = Patience::Returns;
+    }
+    Ok(None)
+}
+
+/// Acknowledges a part, where that is due.
+fn acknowledge<R: Clock>(socket: &Socket<'_, R>, receipts: &mut Receipts, from: u16, bytes: &[u8]) {
+    if !is_part(bytes) {
+        return;
+    }
+    if let Some(ack) = receipts.note(from) {
+        let _sent = socket.has_sent(from, &ack.to_bytes());
     }
 }
 
@@ -68,17 +140,18 @@ impl<'a, R: Clock> UdpLink<'a, R> {
             socket,
             port,
             waits,
-            pacer: Pacer::new(alloc),
+            flows: array::from_fn(|_| Flow::new(alloc)),
+            receipts: Receipts::new(),
             faults: 0,
             losses: 0,
         }
     }
 
-    /// While datagrams wait, a poll that waits is kept short, so that they go in time.
+    /// While parts wait, a poll that waits is kept short, so that they go in time.
     fn patience(&self) -> Patience {
         if !self.waits {
             Patience::Returns
-        } else if self.pacer.is_empty() {
+        } else if are_empty(&self.flows) {
             Patience::Waits
         } else {
             Patience::Naps
@@ -87,9 +160,11 @@ impl<'a, R: Clock> UdpLink<'a, R> {
 
     /// Sends all that still waits, for a link that is not polled any more. It stays among what waits.
     pub(crate) fn send_rest(&self) {
-        for i in 0..self.pacer.len() {
-            if let Some(waiting) = self.pacer.get(i) {
-                let _sent = self.socket.has_sent(waiting.port, waiting.bytes.as_slice());
+        for flow in &self.flows {
+            for i in 0..flow.len() {
+                if let Some(waiting) = flow.get(i) {
+                    let _sent = self.socket.has_sent(waiting.port, waiting.bytes.as_slice());
+                }
             }
         }
     }
@@ -110,10 +185,16 @@ impl<'a, R: Clock> Link for UdpLink<'a, R> {
 
     /// What waited and cannot be sent now is counted as lost. At `NoMemory` no datagram was received.
     fn poll(&mut self) -> Result<Option<Bytes>, LinkError> {
-        let failed = release(&mut self.pacer, &self.socket);
+        begin_turns(&mut self.flows, &self.socket);
+        let failed = release(&mut self.flows, &self.socket);
         self.losses = self.losses.saturating_add(failed);
         let patience = self.patience();
-        let answer = self.socket.receive(patience);
+        let answer = receive(
+            &mut self.socket,
+            &mut self.flows,
+            &mut self.receipts,
+            patience,
+        );
         if let Err(LinkError::Failed) = answer {
             self.faults = self.faults.saturating_add(1);
         }
@@ -122,7 +203,7 @@ impl<'a, R: Clock> Link for UdpLink<'a, R> {
 
     /// A part that is kept is answered by Ok. It is sent at a later poll.
     fn send(&mut self, port: u16, bytes: &[u8]) -> Result<(), LinkError> {
-        if send_or_keep(&mut self.pacer, &self.socket, port, bytes) {
+        if send_or_keep(&mut self.flows, &self.socket, port, bytes) {
             return Ok(());
         }
         self.losses = self.losses.saturating_add(1);

@@ -23,6 +23,13 @@ pub(crate) enum Patience {
     Returns,
 }
 
+/// A datagram that came, and the port that it came from.
+#[derive(Debug, Drop)]
+pub(crate) struct Received {
+    pub(crate) from: u16,
+    pub(crate) bytes: Bytes,
+}
+
 /// A datagram socket at a port of the loopback address.
 #[derive(Drop)]
 pub(crate) struct Socket<'a, R: Clock> {
@@ -87,14 +94,17 @@ impl<'a, R: Clock> Socket<'a, R> {
 
     /// The next datagram, if one comes; of a longer one its first `MAX_DATAGRAM_BYTES` bytes. `NoMemory` where there is no space
     /// for one, before any is received.
-    pub(crate) fn receive(&mut self, patience: Patience) -> Result<Option<Bytes>, LinkError>
-        ensures { IfOk result (λ r. IfSome r (λ datagram. length datagram ≤ MAX_DATAGRAM_BYTES)) }
+    pub(crate) fn receive(&mut self, patience: Patience) -> Result<Option<Received>, LinkError>
+        ensures { IfOk result (λ r. IfSome r (λ it. length it.bytes ≤ MAX_DATAGRAM_BYTES)) }
     {
         self.space.reserve(MAX_DATAGRAM_BYTES)?;
         self.set_waiting(patience == Patience::Waits);
         let mut buf = [0u8; MAX_DATAGRAM_BYTES];
         match self.socket.recv_from(&mut buf) {
-            Ok((count, _from)) => Ok(Some(self.take_space(&buf[..count])?)),
+            Ok((count, from)) => Ok(Some(Received {
+                from: from.port(),
+                bytes: self.take_space(&buf[..count])?,
+            })),
             Err(e) => {
                 if !is_silence(e.kind()) {
                     return Err(LinkError::Failed);

@@ -1,4 +1,7 @@
-use crate::pacing::{Admission, Pacer, is_part};
+use crate::acks::Ack;
+use crate::flow::{Admission, Flow};
+use crate::parts::is_part;
+use crate::receipts::Receipts;
 use crate::socket::is_silence;
 use crate::{SystemClock, UdpLink, UdpPorts};
 use nop_types::Bytes;
@@ -43,6 +46,17 @@ fn received<R: std::time::Clock>(link: &mut UdpLink<'_, R>, clock: &R) -> Option
         }
     }
     None
+}
+
+/// Polls a link to which nothing comes, for so many milliseconds.
+fn poll_for<R: std::time::Clock>(link: &mut UdpLink<'_, R>, clock: &R, long: u64) {
+    let start = millis(clock);
+    for _ in 0..100_000usize {
+        if millis(clock) >= start.saturating_add(long) {
+            return;
+        }
+        let _nothing = link.poll();
+    }
 }
 
 /// Datagrams of each size arrive whole: an empty one, the longest fragment, the longest datagram.
@@ -91,20 +105,17 @@ fn failed_sends_are_losses(rt: HostRuntime) {
     assert!(rt; link.send(9, b"to nobody").is_ok());
     assert!(rt; link.send(0, b"nowhere") == Err(LinkError::Failed));
     assert!(rt; link.losses() == 1);
-    for i in 0..10usize {
-        let wanted = if i < 8 {
+    for i in 0..8usize {
+        let wanted = if i < 6 {
             Err(LinkError::Failed)
         } else {
             Ok(())
         };
         assert!(rt; link.send(0, &[8u8; 1417]) == wanted);
     }
-    assert!(rt; link.losses() == 9);
-    thread::sleep(&rt, Duration::from_millis(1));
-    for _ in 0..20usize {
-        assert!(rt; link.poll().expect(&rt, "a poll").is_none());
-    }
-    assert!(rt; link.losses() == 11 && link.faults() == 0);
+    assert!(rt; link.losses() == 7);
+    poll_for(&mut link, &rt, 150);
+    assert!(rt; link.losses() == 9 && link.faults() == 0);
 }
 
 /// A poll of a link to which nothing comes answers soon, and of the links that are attached together only the first one waits.
@@ -172,18 +183,6 @@ fn clock_counts_milliseconds(rt: HostRuntime) {
     assert!(rt; 190 <= slept && slept < 2000);
 }
 
-/// How many of the datagrams that wait are sent now.
-fn released(pacer: &mut Pacer, now: u64) -> usize {
-    pacer.begin_turn(now);
-    let mut count: usize = 0;
-    for _ in 0..100usize {
-        if pacer.next().is_some() {
-            count = count.saturating_add(1);
-        }
-    }
-    count
-}
-
 /// The fragments of messages with more than one are parts, also the short ones; other datagrams are none, however long.
 #[test]
 fn fragments_of_several_are_parts(rt: HostRuntime) {
@@ -199,68 +198,135 @@ fn fragments_of_several_are_parts(rt: HostRuntime) {
     assert!(rt; !is_part(&[7u8; 1417]) && !is_part(b""));
 }
 
-/// Eight of a turn's parts are sent to each port at once, and eight more in each half of a millisecond; a later turn's are refused
-/// until all are sent.
-#[test]
-fn parts_are_paced(rt: HostRuntime) {
-    let mut pacer = Pacer::new(rt.alloc());
-    pacer.begin_turn(100);
-    let part = [8u8; 1417];
-    for i in 0..20usize {
-        for port in [1, 2u16] {
-            let wanted = if i < 8 {
-                Admission::SendNow
-            } else {
-                Admission::Kept
-            };
-            assert!(rt; pacer.admit(port, &part) == wanted);
+/// How many of the parts that wait are sent in a turn at this time.
+fn released(flow: &mut Flow, now: u64) -> usize {
+    flow.begin_turn(now);
+    let mut count: usize = 0;
+    for _ in 0..100usize {
+        if flow.next().is_some() {
+            count = count.saturating_add(1);
         }
     }
-    for (now, wanted) in [
-        (200, 0),
-        (699, 0),
-        (700, 16),
-        (1199, 0),
-        (1200, 8),
-        (1200, 0),
-    ] {
-        assert!(rt; released(&mut pacer, now) == wanted);
-        let admitted = pacer.admit(3, &part) == Admission::SendNow;
-        assert!(rt; admitted == pacer.is_empty());
+    count
+}
+
+/// A turn with twenty parts for a port: six are sent at once.
+fn begun(rt: &impl Abort, flow: &mut Flow) {
+    for i in 0..20usize {
+        let wanted = if i < 6 {
+            Admission::SendNow
+        } else {
+            Admission::Kept
+        };
+        assert!(rt; flow.admit(1, &[8u8; 1417]) == wanted);
     }
 }
 
-/// Of a ViewChange two parts are sent in each half of a millisecond, and one more for each 1,024 that wait. The message after it is no
-/// slower for it.
+/// Parts that wait are sent as others are acknowledged, as many as the port takes; a later turn's are refused until all are sent.
 #[test]
-fn view_changes_are_slower(rt: HostRuntime) {
-    let mut pacer = Pacer::new(rt.alloc());
-    let mut part = [8u8; 1417];
-    part[13] = 0;
-    part[14] = 0;
-    part[17] = 21;
-    pacer.begin_turn(100);
-    for _ in 0..1034usize {
-        assert!(rt; pacer.admit(1, &part) != Admission::Refused);
-        part[14] = 1;
+fn parts_wait_for_acknowledgements(rt: HostRuntime) {
+    let mut flow = Flow::new(rt.alloc());
+    begun(&rt, &mut flow);
+    assert!(rt; released(&mut flow, 200) == 0);
+    for (parts, window, wanted) in [(6, 9, 9), (4, 9, 4), (0, 3, 0), (9, 200, 1)] {
+        assert!(rt; flow.admit(1, &[8u8; 1417]) == Admission::Refused);
+        flow.acknowledge(Ack { parts, window });
+        assert!(rt; released(&mut flow, 300) == wanted);
     }
-    for (now, wanted) in [(200, 0), (700, 3), (1199, 0), (1200, 2), (1700, 2)] {
-        assert!(rt; released(&mut pacer, now) == wanted);
+    for _ in 0..35usize {
+        flow.begin_turn(400);
+        assert!(rt; flow.admit(1, &[8u8; 1417]) == Admission::SendNow);
     }
-    for i in 0..510u64 {
-        released(&mut pacer, 2200 + 500 * i);
+    assert!(rt; flow.admit(1, &[8u8; 1417]) == Admission::Kept);
+    flow.acknowledge(Ack {
+        parts: 100,
+        window: 36,
+    });
+    assert!(rt; released(&mut flow, 500) == 1);
+}
+
+/// What a port does not acknowledge is given up after a tenth of a second, and of what waits then six are sent in each half of a
+/// millisecond, until the port acknowledges some.
+#[test]
+fn silent_ports_are_paced(rt: HostRuntime) {
+    let mut flow = Flow::new(rt.alloc());
+    begun(&rt, &mut flow);
+    for (now, wanted) in [
+        (1000, 0),
+        (100_999, 0),
+        (101_000, 6),
+        (101_499, 0),
+        (101_500, 6),
+    ] {
+        assert!(rt; released(&mut flow, now) == wanted);
     }
-    assert!(rt; pacer.is_empty());
-    for _ in 0..20usize {
-        assert!(rt; pacer.admit(1, &part) != Admission::Refused);
-    }
-    for (now, wanted) in [(300_000, 0), (300_500, 8)] {
-        assert!(rt; released(&mut pacer, now) == wanted);
+    assert!(rt; released(&mut flow, 102_000) == 2 && !flow.is_at_rest());
+    assert!(rt; released(&mut flow, 102_500) == 0 && flow.is_at_rest());
+    assert!(rt; released(&mut flow, 103_000) == 0);
+    begun(&rt, &mut flow);
+    assert!(rt; released(&mut flow, 200_000) == 0);
+    assert!(rt; released(&mut flow, 200_500) == 6);
+    flow.acknowledge(Ack {
+        parts: 6,
+        window: 6,
+    });
+    assert!(rt; released(&mut flow, 200_600) == 6);
+    assert!(rt; released(&mut flow, 300_599) == 0);
+    assert!(rt; released(&mut flow, 300_600) == 2);
+}
+
+/// An acknowledgement is spelled and read back; other datagrams are none.
+#[test]
+fn acknowledgements_are_told_apart(rt: HostRuntime) {
+    let ack = Ack {
+        parts: 6,
+        window: 36,
+    };
+    assert!(rt; ack.to_bytes() == [0x4e, 0x41, 6, 36] && Ack::read(b"NA\x06\x24") == Some(ack));
+    for other in [
+        b"".as_slice(),
+        b"NA\x06",
+        b"NA\x06\x24\x00",
+        b"NO\x06\x24",
+        b"OA\x06\x24",
+    ] {
+        assert!(rt; Ack::read(other).is_none());
     }
 }
 
-/// A burst of 300 parts, more than a receive buffer holds, arrives whole and in order while both links are polled. Another datagram
-/// passes by all but those that were sent at once.
+/// Each sixth part of a port is acknowledged. Ports of which a part is among the last 72 share what may be in flight; what is not
+/// due is acknowledged before that where it is asked for.
+#[test]
+fn senders_share_what_is_in_flight(rt: HostRuntime) {
+    let mut receipts = Receipts::new();
+    for i in 1..31usize {
+        for port in [41000, 41001, 41002u16] {
+            let ack = receipts.note(port);
+            assert!(rt; ack.is_some() == (i % 6 == 0));
+            if let Some(ack) = ack {
+                assert!(rt; ack.parts == 6 && ack.window == 12);
+            }
+        }
+    }
+    for i in 1..73usize {
+        let ack = receipts.note(41001);
+        assert!(rt; ack.is_some() == (i % 6 == 0));
+        if let Some(ack) = ack {
+            assert!(rt; ack.parts == 6 && ack.window == if i == 72 { 36 } else { 12 });
+        }
+    }
+    assert!(rt; receipts.early().is_none());
+    receipts.note(41002);
+    receipts.note(41002);
+    let ack = Ack {
+        parts: 2,
+        window: 18,
+    };
+    assert!(rt; receipts.early() == Some((41002, ack)) && receipts.early().is_none());
+}
+
+/// 300 parts, more than a receive buffer holds, arrive whole and in order, though the receiver is not polled for a while, and then
+/// both are. Another datagram passes by all but those that were sent at once.
 #[test]
 fn bursts_arrive_whole(rt: HostRuntime) {
     let mut ports = UdpPorts::new(&rt, rt.alloc());
@@ -272,6 +338,7 @@ fn bursts_arrive_whole(rt: HostRuntime) {
         from.send(to.port(), &bytes).expect(&rt, "a send");
     }
     from.send(to.port(), b"small").expect(&rt, "a send");
+    poll_for(&mut from, &rt, 50);
     let start = millis(&rt);
     let mut count: usize = 0;
     let mut before_small = None;
@@ -294,7 +361,7 @@ fn bursts_arrive_whole(rt: HostRuntime) {
         }
     }
     assert!(rt; count == 300);
-    assert!(rt; before_small == Some(8));
+    assert!(rt; before_small == Some(6));
     assert!(rt; from.losses() == 0);
 }
 
@@ -314,7 +381,7 @@ fn check_received<L: Link>(rt: &impl Abort, link: &mut L, numbers: Range<u8>) {
     assert!(rt; number == numbers.end);
 }
 
-/// A link that is given back sends what still waits: of twenty parts eight are sent at once, and the others then.
+/// A link that is given back sends what still waits: of twenty parts six are sent at once, and the others then.
 #[test]
 fn a_link_given_back_sends_the_rest(rt: HostRuntime) {
     let mut ports = UdpPorts::new(&rt, rt.alloc());
@@ -325,8 +392,8 @@ fn a_link_given_back_sends_the_rest(rt: HostRuntime) {
         bytes[1416] = number;
         from.send(to.port(), &bytes).expect(&rt, "a send");
     }
-    check_received(&rt, &mut to, 0..8);
+    check_received(&rt, &mut to, 0..6);
     assert!(rt; from.losses() == 0);
     ports.detach(from);
-    check_received(&rt, &mut to, 8..20);
+    check_received(&rt, &mut to, 6..20);
 }
