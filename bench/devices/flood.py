@@ -21,7 +21,7 @@ each (VmHWM) has to stay below a bound.
 The bounds, above what a node has after its start. For a replica in the first two rounds: 4,096 slots with what undoes them, for
 which 256 bytes each are ample where ops have 7 bytes, and fourteen messages with the longest log of such ops, 4,096 times 22
 bytes: four unfinished ones of each of two senders, one that is read, one that is written, its fragments, those that wait at the link
-for each of two others, and one more. In the last: all datagrams that may wait at a link, 24,576 of 1,500 bytes with what holds them; all fragments that a replica may keep, of two senders four messages each of 2,048 times 1,400 bytes; and eleven times
+for each of two others, and one more. In the last: all datagrams that may wait at a link, 8,192 for each of two others, of 1,500 bytes with what holds them; all fragments that a replica may keep, of two senders four messages each of 2,048 times 1,400 bytes; and eleven times
 4,096 slots of the longest ops, 720 bytes each with what memory takes to hold them: its log, the two logs of a view change and
 their merge, a message that is joined and the log that is read of it, one that is written and its fragments, the host, what
 undoes it, and the replies. For the others 256 KiB: they keep some datagrams.
@@ -56,7 +56,7 @@ OPS = 16
 ENDS = {"client": (["4700016b"], 7, "submit c4294967295 1 4700016b\n")}
 LOG = 4096 * 720
 KEPT = {"sequencer": 256 * 1024, "controller": 256 * 1024, "client": 256 * 1024}
-BOUNDS = {"strays": KEPT | {"replica": 4096 * 256 + 14 * 4096 * 22}, "forged": KEPT | {"replica": 24_576 * 1500 + 2 * 22_937_600 + 11 * LOG}}
+BOUNDS = {"strays": KEPT | {"replica": 4096 * 256 + 14 * 4096 * 22}, "forged": KEPT | {"replica": 2 * 8192 * 1500 + 2 * 22_937_600 + 11 * LOG}}
 BOUNDS["quiet"] = BOUNDS["strays"]
 
 

@@ -15,7 +15,7 @@ pub(crate) struct Waiting {
     pub(crate) bytes: Bytes,
 }
 
-/// The datagrams that wait, in the order in which they came.
+/// The datagrams that wait for a port, in the order in which they came.
 #[derive(Debug, Drop)]
 pub(crate) struct Backlog {
     alloc: Global,
