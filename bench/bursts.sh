@@ -5,9 +5,11 @@
 #
 #   bench/bursts.sh [REPLICAS..]  numbers of replicas (3 5);  NOPAXOS  the program file;  KILLS  clusters for each number (20)
 #                                 KEYS  in the map (4096);  VALUE  bytes of a value (256);  PUTS  before a kill (8192)
-#                                 CLIENTS  that put at once (16);  BASE  the port of replica 0 (47000)
+#                                 CLIENTS  that put at once (16);  RATE  puts in a second at most (10000; 0: as soon as answered)
+#                                 BASE  the port of replica 0 (47000)
 #
-# The puts are those of bench/long/client.rs (rustc). Receive buffers have the system's default size. A leader that is silent
+# The puts are those of bench/long/client.rs (rustc). Receive buffers have the system's default size. Clients that never pause fill
+# the buffers of replicas with requests alone, since they wait for no more than a majority. A leader that is silent
 # is suspected at a follower's second Watch from then on, so after 1 to 2 seconds. It is killed 100 ms before a Watch: of each time
 # here 1.1 s are that wait. The last two numbers are the datagrams that found a receive buffer full, before the kills and after them
 # (RcvbufErrors of /proc/net/snmp, which counts for all programs of the network namespace). It takes four minutes, and ends with status 1
@@ -67,7 +69,7 @@ kill_leader() {
     cluster
     started=$(now)
     sleep 0.3
-    "$folder/client" "$base" "$replicas" 2 "${CLIENTS:-16}" "${PUTS:-8192}" "${KEYS:-4096}" "${VALUE:-256}" > "$folder/fill" || echo "not all puts were answered" >&2
+    "$folder/client" "$base" "$replicas" 2 "${CLIENTS:-16}" "${PUTS:-8192}" "${KEYS:-4096}" "${VALUE:-256}" "${RATE:-10000}" > "$folder/fill" || echo "not all puts were answered" >&2
     sleep_to_watch "$started"
     between=$(overflows)
     killed=$(now)

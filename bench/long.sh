@@ -71,7 +71,7 @@ while read -r line; do
         kill -9 "${pids[0]}"
         echo 'the leader is killed'
     fi
-done < <("$folder/client" "$base" "$replicas" 2 "${CLIENTS:-16}" "$puts" "${KEYS:-10}" "${VALUE:-16}") | tee "$folder/lines"
+done < <("$folder/client" "$base" "$replicas" 2 "${CLIENTS:-16}" "$puts" "${KEYS:-10}" "${VALUE:-16}" "${RATE:-0}") | tee "$folder/lines"
 echo "datagrams that found a receive buffer full: $(($(overflows) - full))"
 awk -v puts="$puts" '
 /^puts/ {

@@ -1,9 +1,9 @@
-// Clients of one process for bench/long.sh: each puts values at its own keys, one put after the other, over UDP at the loopback
+// Clients of one process for bench/long.sh and bench/bursts.sh: each puts values at its own keys, one put after the other, over UDP at the loopback
 // address, and counts the replies as docs/PROTOCOL.md says. std alone: rustc -O client.rs
 //
-//   client BASE REPLICAS SEQUENCERS CLIENTS PUTS KEYS VALUE
+//   client BASE REPLICAS SEQUENCERS CLIENTS PUTS KEYS VALUE RATE
 //
-// PUTS in all, at KEYS keys in all, with values of VALUE bytes. Each answer has to be what the client's last put at that key wrote,
+// PUTS in all, at KEYS keys in all, with values of VALUE bytes, at most RATE in a second (0: each as soon as the one before is answered). Each answer has to be what the client's last put at that key wrote,
 // or `none`. After every 10,000 puts a line tells how many were answered, the seconds so far, the puts a second since the line
 // before, and the longest wait for an answer since then, in milliseconds. The last line tells of all, and of the last view.
 use std::net::UdpSocket;
@@ -18,6 +18,8 @@ struct Site {
     clients: u64,
     keys: u64,
     value: usize,
+    // from one put of a client to its next at least
+    pause: Duration,
 }
 
 #[derive(Default)]
@@ -85,6 +87,8 @@ fn run(site: &Site, client: u32, puts: u64, counts: &Counts) {
     let mut values: Vec<Option<Vec<u8>>> = vec![None; own.max(1) as usize];
     let mut bytes = [0u8; 2048];
     let mut id = 0;
+    // not all clients at once
+    let mut due = Instant::now() + site.pause.mul_f64(client as f64 / site.clients as f64);
     while counts.taken.fetch_add(1, Ordering::Relaxed) < puts {
         id += 1;
         let place = (id % values.len() as u64) as usize;
@@ -94,7 +98,9 @@ fn run(site: &Site, client: u32, puts: u64, counts: &Counts) {
             *to = *from;
         }
         let sent = request(client, id, key, &value);
+        std::thread::sleep(due.saturating_duration_since(Instant::now()));
         let began = Instant::now();
+        due = due.max(began) + site.pause;
         let mut kept: Vec<Option<Reply>> = vec![None; site.replicas];
         let result = 'answer: loop {
             for j in 0..site.sequencers {
@@ -138,8 +144,8 @@ fn run(site: &Site, client: u32, puts: u64, counts: &Counts) {
 
 fn main() {
     let args: Vec<u64> = std::env::args().skip(1).map(|a| a.parse().expect("a number")).collect();
-    let [base, replicas, sequencers, clients, puts, keys, value] = args[..] else {
-        panic!("client BASE REPLICAS SEQUENCERS CLIENTS PUTS KEYS VALUE");
+    let [base, replicas, sequencers, clients, puts, keys, value, rate] = args[..] else {
+        panic!("client BASE REPLICAS SEQUENCERS CLIENTS PUTS KEYS VALUE RATE");
     };
     let site = Arc::new(Site {
         base: base as u16,
@@ -148,6 +154,7 @@ fn main() {
         clients,
         keys,
         value: value as usize,
+        pause: if rate == 0 { Duration::ZERO } else { Duration::from_secs_f64(clients as f64 / rate as f64) },
     });
     let counts = Arc::new(Counts::default());
     let began = Instant::now();

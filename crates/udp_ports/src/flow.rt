@@ -13,11 +13,10 @@ pub(crate) const MOST_IN_FLIGHT: usize = 36;
 /// How many may be in flight to a port that has acknowledged nothing yet: all other replicas may begin at the same moment.
 pub(crate) const FIRST_WINDOW: usize = MOST_IN_FLIGHT / (MAX_REPLICAS as usize - 1);
 
-/// After how many microseconds without an acknowledgement what is in flight is given up.
+/// How long what is in flight may stay without an acknowledgement, in microseconds.
 const PATIENCE_MICROS: u64 = 100_000;
 
-/// The same for a port that acknowledged nothing of what was given up while more waited: a link of another program may acknowledge
-/// nothing.
+/// The same to a silent port. It may be one whose link never acknowledges, so time alone says when more is sent.
 const SILENT_MICROS: u64 = 500;
 
 /// What is to be done with a part.
@@ -39,6 +38,7 @@ pub(crate) struct Flow {
     window: usize,
     // When what is in flight is given up, in microseconds of the clock; none from an acknowledgement to the next turn.
     until: Option<u64>,
+    // Whether parts were given up while others waited, and none was acknowledged since.
     is_silent: bool,
     // Whether parts of an earlier turn wait.
     is_closed: bool,
@@ -135,34 +135,35 @@ impl Flow {
         ensures waiting { self.new.backlog ≡ self.old.backlog }
         ensures flight { self.new.in_flight ≤ self.old.in_flight }
     {
+        if self.until.is_some_and(|end| now >= end) {
+            self.give_up();
+        }
         self.is_closed = self.backlog.len() > 0;
         if self.is_at_rest() {
             self.window = FIRST_WINDOW;
             self.until = None;
-            return;
-        }
-        match self.until {
-            None => {
-                let patience = if self.is_silent {
-                    SILENT_MICROS
-                } else {
-                    PATIENCE_MICROS
-                };
-                self.until = Some(now.saturating_add(patience));
-            }
-            Some(end) if now >= end => self.give_up(now),
-            Some(_) => {}
+        } else if self.until.is_none() {
+            self.until = Some(now.saturating_add(self.patience()));
         }
     }
 
     /// Nothing counts as in flight any more.
-    fn give_up(&mut self, now: u64)
+    fn give_up(&mut self)
         ensures waiting { self.new.backlog ≡ self.old.backlog }
         ensures flight { self.new.in_flight ≡ 0 }
     {
+        self.is_silent |= self.backlog.len() > 0;
         self.in_flight = 0;
         self.window = FIRST_WINDOW;
-        self.is_silent |= self.backlog.len() > 0;
-        self.until = Some(now.saturating_add(SILENT_MICROS));
+        self.until = None;
+    }
+
+    /// After how many microseconds without an acknowledgement what is in flight is given up.
+    fn patience(&self) -> u64 {
+        if self.is_silent {
+            SILENT_MICROS
+        } else {
+            PATIENCE_MICROS
+        }
     }
 }

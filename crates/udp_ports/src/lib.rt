@@ -14,13 +14,14 @@
 //! that the clock counts milliseconds.
 //!
 //! For others: `UdpPorts::new`, `SystemClock::new`, and the methods of the traits. Files, in reading order: `system_clock`; `socket`;
-//! `parts`; `lanes`; `acks`; `backlog`, the parts that wait for a port; `flow`, which of them may be sent; `receipts`, what came and
+//! `parts`; `lanes`; `acks`; `backlog`, the parts that wait for a port; `flow`, which of them may be sent, and `flows`; `receipts`, what came and
 //! is to be acknowledged; `link`; `ports`; `tests`.
 #![tactic(auto)]
 
 mod acks;
 mod backlog;
 mod flow;
+mod flows;
 mod lanes;
 mod link;
 mod parts;

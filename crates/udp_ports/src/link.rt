@@ -2,15 +2,15 @@ ghost use Rattle.std.specs.Prelude.{◌≡◌, ◌≤◌, length, IfOk, IfSome};
 ghost use Rattle.nop_types.specs.declared.limits.TheConstants.{MAX_DATAGRAM_BYTES};
 
 use crate::acks::Ack;
-use crate::flow::{Admission, FIRST_WINDOW, Flow};
-use crate::lanes::{LANES, lane_of};
+use crate::flow::Admission;
+use crate::flows::Flows;
+use crate::lanes::LANES;
 use crate::parts::is_part;
 use crate::receipts::Receipts;
 use crate::socket::{Patience, Socket};
 use nop_types::Bytes;
 use outside::{Link, LinkError};
 use std::alloc::Global;
-use std::array;
 use std::time::Clock;
 
 /// How many acknowledgements a poll reads at most.
@@ -23,48 +23,15 @@ pub struct UdpLink<'a, R: Clock> {
     socket: Socket<'a, R>,
     port: u16,
     waits: bool,
-    flows: [Flow; LANES],
+    flows: Flows,
     receipts: Receipts,
     faults: u64,
     losses: u64,
 }
 
-/// Whether nothing waits in any of these.
-fn are_empty(flows: &[Flow; LANES]) -> bool {
-    flows.iter().all(|flow| flow.len() == 0)
-}
-
-/// Begins a turn of each of these. The clock is read only where something waits or is in flight.
-fn begin_turns<R: Clock>(flows: &mut [Flow; LANES], socket: &Socket<'_, R>) {
-    let now = if flows.iter().all(|flow| flow.is_at_rest()) {
-        0
-    } else {
-        socket.micros()
-    };
-    for flow in flows.iter_mut() {
-        flow.begin_turn(now);
-    }
-}
-
-/// Sends what waits and may be sent now, and says how many of these sends failed.
-fn release<R: Clock>(flows: &mut [Flow; LANES], socket: &Socket<'_, R>) -> u64 {
-    let mut failed: u64 = 0;
-    for flow in flows.iter_mut() {
-        for _ in 0..FIRST_WINDOW {
-            let Some(next) = flow.next() else {
-                break;
-            };
-            if !socket.has_sent(next.port, next.bytes.as_slice()) {
-                failed = failed.saturating_add(1);
-            }
-        }
-    }
-    failed
-}
-
 /// Sends a datagram, or keeps a part; else it is lost.
 fn send_or_keep<R: Clock>(
-    flows: &mut [Flow; LANES],
+    flows: &mut Flows,
     socket: &Socket<'_, R>,
     port: u16,
     bytes: &[u8],
@@ -72,7 +39,7 @@ fn send_or_keep<R: Clock>(
     if !is_part(bytes) {
         return socket.has_sent(port, bytes);
     }
-    match flows[lane_of(port)].admit(port, bytes) {
+    match flows.admit(port, bytes) {
         Admission::SendNow => socket.has_sent(port, bytes),
         Admission::Kept => true,
         Admission::Refused => false,
@@ -92,7 +59,7 @@ fn send_early<R: Clock>(receipts: &mut Receipts, socket: &Socket<'_, R>) {
 /// The next datagram that is no acknowledgement.
 fn receive<R: Clock>(
     socket: &mut Socket<'_, R>,
-    flows: &mut [Flow; LANES],
+    flows: &mut Flows,
     receipts: &mut Receipts,
     patience: Patience,
 ) -> Result<Option<Bytes>, LinkError>
@@ -108,7 +75,7 @@ fn receive<R: Clock>(
             acknowledge(socket, receipts, received.from, received.bytes.as_slice());
             return Ok(Some(received.bytes));
         };
-        flows[lane_of(received.from)].acknowledge(ack);
+        flows.acknowledge(received.from, ack);
         patience = Patience::Returns;
     }
     Ok(None)
@@ -140,7 +107,7 @@ impl<'a, R: Clock> UdpLink<'a, R> {
             socket,
             port,
             waits,
-            flows: array::from_fn(|_| Flow::new(alloc)),
+            flows: Flows::new(alloc),
             receipts: Receipts::new(),
             faults: 0,
             losses: 0,
@@ -151,7 +118,7 @@ impl<'a, R: Clock> UdpLink<'a, R> {
     fn patience(&self) -> Patience {
         if !self.waits {
             Patience::Returns
-        } else if are_empty(&self.flows) {
+        } else if self.flows.is_empty() {
             Patience::Waits
         } else {
             Patience::Naps
@@ -160,13 +127,7 @@ impl<'a, R: Clock> UdpLink<'a, R> {
 
     /// Sends all that still waits, for a link that is not polled any more. It stays among what waits.
     pub(crate) fn send_rest(&self) {
-        for flow in &self.flows {
-            for i in 0..flow.len() {
-                if let Some(waiting) = flow.get(i) {
-                    let _sent = self.socket.has_sent(waiting.port, waiting.bytes.as_slice());
-                }
-            }
-        }
+        self.flows.send_rest(&self.socket);
     }
 }
 
@@ -185,8 +146,7 @@ impl<'a, R: Clock> Link for UdpLink<'a, R> {
 
     /// What waited and cannot be sent now is counted as lost. At `NoMemory` no datagram was received.
     fn poll(&mut self) -> Result<Option<Bytes>, LinkError> {
-        begin_turns(&mut self.flows, &self.socket);
-        let failed = release(&mut self.flows, &self.socket);
+        let failed = self.flows.begin_turn(&self.socket);
         self.losses = self.losses.saturating_add(failed);
         let patience = self.patience();
         let answer = receive(

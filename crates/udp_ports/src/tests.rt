@@ -262,7 +262,6 @@ fn silent_ports_are_paced(rt: HostRuntime) {
     }
     assert!(rt; released(&mut flow, 102_000) == 2 && !flow.is_at_rest());
     assert!(rt; released(&mut flow, 102_500) == 0 && flow.is_at_rest());
-    assert!(rt; released(&mut flow, 103_000) == 0);
     begun(&rt, &mut flow);
     assert!(rt; released(&mut flow, 200_000) == 0);
     assert!(rt; released(&mut flow, 200_500) == 6);
