@@ -46,8 +46,23 @@ fn send_or_keep<R: Clock>(
     }
 }
 
-/// Acknowledges what came and is not acknowledged yet.
-fn send_early<R: Clock>(receipts: &mut Receipts, socket: &Socket<'_, R>) {
+/// Acknowledges what came, where it is a part and an acknowledgement is due.
+fn acknowledge_part<R: Clock>(
+    socket: &Socket<'_, R>,
+    receipts: &mut Receipts,
+    from: u16,
+    bytes: &[u8],
+) {
+    if !is_part(bytes) {
+        return;
+    }
+    if let Some(ack) = receipts.note(from) {
+        let _sent = socket.has_sent(from, &ack.to_bytes());
+    }
+}
+
+/// Acknowledges the parts that came and are not acknowledged yet.
+fn acknowledge_rest<R: Clock>(socket: &Socket<'_, R>, receipts: &mut Receipts) {
     for _ in 0..LANES {
         let Some((port, ack)) = receipts.early() else {
             return;
@@ -68,27 +83,17 @@ fn receive<R: Clock>(
     let mut patience = patience;
     for _ in 0..MOST_ACKS {
         let Some(received) = socket.receive(patience)? else {
-            send_early(receipts, socket);
+            acknowledge_rest(socket, receipts);
             return Ok(None);
         };
         let Some(ack) = Ack::read(received.bytes.as_slice()) else {
-            acknowledge(socket, receipts, received.from, received.bytes.as_slice());
+            acknowledge_part(socket, receipts, received.from, received.bytes.as_slice());
             return Ok(Some(received.bytes));
         };
         flows.acknowledge(received.from, ack);
         patience = Patience::Returns;
     }
     Ok(None)
-}
-
-/// Acknowledges a part, where that is due.
-fn acknowledge<R: Clock>(socket: &Socket<'_, R>, receipts: &mut Receipts, from: u16, bytes: &[u8]) {
-    if !is_part(bytes) {
-        return;
-    }
-    if let Some(ack) = receipts.note(from) {
-        let _sent = socket.has_sent(from, &ack.to_bytes());
-    }
 }
 
 impl<'a, R: Clock> UdpLink<'a, R> {
