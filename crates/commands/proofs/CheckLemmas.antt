@@ -1,13 +1,15 @@
 -- How the check of a transcript ends.
-use Rattle.std.proofs.Common.{◌≡◌, ℕ, List, Option, Some, None, Result, Ok, Err, length, subst, sym}
+use Rattle.std.proofs.Common.{◌≡◌, ℕ, List, Option, Some, None, Result, Ok, Err, length, refl, subst, sym, inl, inr}
 use Rattle.std.proofs.Math.Seq.{take-length}
 use Rattle.std.specs.Io.KnownBytes.{Appends}
 use Rattle.commands.specs.Checks.{CheckEnds, IsVerdict, RanOut, verdict_status}
+use Rattle.commands.specs.Nodes.{ReadsTo}
 use Rattle.commands.specs.declared.status.Status.{Status}
 use Rattle.judge.specs.Checking.{PassesLegal}
 use Rattle.judge.specs.Verdicts.{verdict_line, WroteSome}
 use Rattle.judge.specs.declared.tally.Tally.{Tally}
 use Rattle.nop_types.specs.Meaning.{Meaning}
+use Rattle.outside.specs.Causes.{CountsFor, StaysOrRises}
 use Rattle.transcript_reader.specs.declared.check_error.CheckError.{CheckError}
 use Rattle.transcript_reader.specs.declared.check_error.CheckError.TheVariants as errors
 use Rattle.udp_node.proofs.EffectLemmas.{Appends_none}
@@ -26,6 +28,22 @@ module _ {S : Type 0} (m : Meaning S) (bytes left before now : Option (List ℕ)
   told (Err errors.ReadFault) s is v wrote = rw is (record { is = v; line = wrote })
   told (Err errors.NoMemory) s is v wrote =
       rw is (record { verdict = Err errors.NoMemory; is = v; line = all_of (verdict_line (Err errors.NoMemory)) before now wrote })
+
+-- ---- a read that fails is told
+
+-- at any verdict at most one read failed
+pub may_have_risen : (a b : ℕ) (verdict : Result Tally CheckError) → CountsFor a b errors.ReadFault verdict → StaysOrRises a b
+may_have_risen a b (Ok tally) h = inl (h.others (λ told. cc))
+may_have_risen a b (Err (errors.Refuted line clause)) h = inl (h.others (λ told. cc))
+may_have_risen a b (Err errors.ReadFault) h = inr (h.failed refl)
+may_have_risen a b (Err errors.NoMemory) h = inl (h.others (λ told. cc))
+
+pub verdict_reads : (a b : ℕ) (verdict : Result Tally CheckError) (s : Status) → s ≡ verdict_status verdict
+    → CountsFor a b errors.ReadFault verdict → ReadsTo a b s
+verdict_reads a b (Ok tally) s is h = rw is (h.others (λ told. cc))
+verdict_reads a b (Err (errors.Refuted line clause)) s is h = rw is (h.others (λ told. cc))
+verdict_reads a b (Err errors.ReadFault) s is h = rw is (h.failed refl)
+verdict_reads a b (Err errors.NoMemory) s is h = rw is (may_have_risen a b (Err errors.NoMemory) h)
 
 starved : {S : Type 0} (m : Meaning S) (bytes : Option (List ℕ)) → PassesLegal m bytes (Err errors.NoMemory)
 starved m None = tt

@@ -1,30 +1,43 @@
 -- How a command ends over its devices.
-use Rattle.std.proofs.Common.{◌≡◌, ℕ, List, Bool, Option, Some, IsSome, refl}
+use Rattle.std.proofs.Common.{◌≡◌, ℕ, List, Bool, Option, Some, IsSome, refl, inl}
 use Rattle.command_line.specs.declared.command.Command.{Command}
 use Rattle.command_line.specs.declared.command.Command.TheVariants.{Replay, Check}
 use Rattle.nop_types.specs.Meaning.{Meaning}
 use Rattle.outside.specs.Causes.{Rose}
 use Rattle.commands.specs.Checks.{CheckEnds, ChecksWithoutFault}
 use Rattle.commands.specs.Ending.{ReplayEnds, EndsWithoutFault, UsageEnds, RefusesWithoutFault}
-use Rattle.commands.specs.Nodes.{IsNodeStatus}
+use Rattle.commands.specs.Nodes.{IsNodeStatus, ReadsTo}
 use Rattle.commands.specs.Runs.{Devices, Runs, Works, Attaches, Completes, CompletesAlways}
 use Rattle.commands.specs.declared.status.Status.{Status}
 use Rattle.commands.specs.declared.status.Status.TheVariants as statuses
 use Rattle.commands.proofs.ClusterLemmas.{cluster_ends_well, no_poll_failed, no_rise}
 use Rattle.commands.proofs.CommandLemmas.{command_ends_well, draws_well}
+use Rattle.commands.proofs.NodeLemmas.{rose_at}
+
+-- nothing was read, and no fault of a read is told
+pub reads_none : (n : ℕ) (s : Status) → (s ≡ statuses.ReadFault → ⊥) → ReadsTo n n s
+reads_none n statuses.Done never = refl
+reads_none n statuses.Malformed never = refl
+reads_none n statuses.Usage never = refl
+reads_none n statuses.ReadFault never = absurd (never refl)
+reads_none n statuses.WriteFault never = inl refl
+reads_none n statuses.LinkFault never = refl
+reads_none n statuses.NoMemory never = inl refl
+reads_none n statuses.Unanswered never = refl
+reads_none n statuses.Refuted never = refl
 
 -- a node reads nothing
-pub no_read : {P : Type 0} (waits : Bool) (s : Status) → IsNodeStatus waits s → s ≡ statuses.ReadFault → P
-no_read waits s may is = let no : ⊥ = rw is at may in absurd no
+pub no_read : (n : ℕ) (waits : Bool) (s : Status) → IsNodeStatus waits s → ReadsTo n n s
+no_read n waits s may = reads_none n s (λ is. let no : ⊥ = rw is at may in no)
 
 module _ {S L : Type 0} (m : Meaning S) (d : Devices L) where
   replays_well : (s : Status) → ReplayEnds m d.source.before d.source.after d.sink.before d.sink.after s
-      → (s ≡ statuses.ReadFault → Rose d.source.faults_before d.source.faults_after)
+      → ReadsTo d.source.faults_before d.source.faults_after s
       → (s ≡ statuses.WriteFault → Rose d.sink.faults_before d.sink.faults_after) → Works d.source → Works d.sink → EndsWithoutFault s
   replays_well statuses.Done ends read write source sink = tt
   replays_well statuses.Malformed ends read write source sink = tt
   replays_well statuses.Usage ends read write source sink = ends
-  replays_well statuses.ReadFault ends read write source sink = source (read refl)
+  replays_well statuses.ReadFault ends read write source sink = source (rose_at d.source.faults_before d.source.faults_after read)
   replays_well statuses.WriteFault ends read write source sink = sink (write refl)
   replays_well statuses.LinkFault ends read write source sink = ends
   replays_well statuses.NoMemory ends read write source sink = tt
@@ -32,12 +45,12 @@ module _ {S L : Type 0} (m : Meaning S) (d : Devices L) where
   replays_well statuses.Refuted ends read write source sink = ends
 
   checks_well : (s : Status) → CheckEnds m d.source.before d.source.after d.sink.before d.sink.after s
-      → (s ≡ statuses.ReadFault → Rose d.source.faults_before d.source.faults_after)
+      → ReadsTo d.source.faults_before d.source.faults_after s
       → (s ≡ statuses.WriteFault → Rose d.sink.faults_before d.sink.faults_after) → Works d.source → Works d.sink → ChecksWithoutFault s
   checks_well statuses.Done ends read write source sink = tt
   checks_well statuses.Malformed ends read write source sink = ends
   checks_well statuses.Usage ends read write source sink = ends
-  checks_well statuses.ReadFault ends read write source sink = source (read refl)
+  checks_well statuses.ReadFault ends read write source sink = source (rose_at d.source.faults_before d.source.faults_after read)
   checks_well statuses.WriteFault ends read write source sink = sink (write refl)
   checks_well statuses.LinkFault ends read write source sink = ends
   checks_well statuses.NoMemory ends read write source sink = tt
@@ -61,8 +74,8 @@ module _ {S L : Type 0} (m : Meaning S) (d : Devices L) where
       → (c ≡ Some Check → CheckEnds m d.source.before d.source.after d.sink.before d.sink.after s)
       → (¬ IsSome c → UsageEnds program d.sink.before d.sink.after s) → Runs m c d s → Completes c d s
   completes c s program replay check usage r = record {
-    replay_complete = λ is source sink. replays_well s (replay is) r.read r.write source sink;
-    check_complete = λ is source sink. checks_well s (check is) r.read r.write source sink;
+    replay_complete = λ is source sink. replays_well s (replay is) r.reads r.write source sink;
+    check_complete = λ is source sink. checks_well s (check is) r.reads r.write source sink;
     drawing_complete = λ is sink. draws_well m c s d.sink.before d.sink.after d.sink.faults_before d.sink.faults_after is r.drawing
         r.write sink;
     usage_complete = λ is sink. refuses_well program s (usage is) r.write sink;

@@ -5,7 +5,7 @@ use Rattle.nop_types.specs.Given.{Given}
 use Rattle.nop_types.specs.declared.input.Tick.{Tick}
 use Rattle.nop_types.specs.declared.output.Out.{Out}
 use Rattle.one_box.specs.Showing.{LinkView}
-use Rattle.outside.specs.Causes.{Rose, next_count}
+use Rattle.outside.specs.Causes.{Rose, next_count, StaysOrRises}
 use Rattle.outside.specs.Ports.{next_link}
 use Rattle.outside.specs.declared.link.PollAnswer.{PollAnswer}
 use Rattle.outside.specs.declared.ports.Ports as ports_trait
@@ -75,6 +75,19 @@ writes_after statuses.LinkFault n = n
 writes_after statuses.NoMemory n = n
 writes_after statuses.Unanswered n = n
 writes_after statuses.Refuted n = n
+
+-- A count of failed reads: where the status is a fault of a read it rose by one, and else no read failed. But after a failed read
+-- something is written: what fails there is told in its place.
+abbrev pub ReadsTo : ℕ → ℕ → Status → Type 0
+ReadsTo before now statuses.Done = now ≡ before
+ReadsTo before now statuses.Malformed = now ≡ before
+ReadsTo before now statuses.Usage = now ≡ before
+ReadsTo before now statuses.ReadFault = now ≡ next_count before
+ReadsTo before now statuses.WriteFault = StaysOrRises before now
+ReadsTo before now statuses.LinkFault = now ≡ before
+ReadsTo before now statuses.NoMemory = StaysOrRises before now
+ReadsTo before now statuses.Unanswered = now ≡ before
+ReadsTo before now statuses.Refuted = now ≡ before
 
 -- the statuses where no link was attached
 abbrev pub IsUnattachedStatus : Status → Type 0

@@ -11,7 +11,7 @@ use Rattle.outside.specs.declared.source.Source as source_trait
 use Rattle.commands.specs.Checks.{ChecksWithoutFault}
 use Rattle.commands.specs.Clusters.{ClusterCommandEnds, ClusterEndsWithoutFault, runs_cluster, uses_ports}
 use Rattle.commands.specs.Ending.{EndsWithoutFault, GeneratesWithoutFault, RefusesWithoutFault}
-use Rattle.commands.specs.Nodes.{EndsNodeWithoutFault, PortsView, writes_after}
+use Rattle.commands.specs.Nodes.{EndsNodeWithoutFault, PortsView, ReadsTo, writes_after}
 use Rattle.commands.specs.Tasks.{ClientAnswers, CommandEnds, DrawingEnds, draws, runs_node, waits_for_ops}
 use Rattle.commands.specs.declared.status.Status.{Status}
 use Rattle.commands.specs.declared.status.Status.TheVariants as statuses
@@ -54,9 +54,9 @@ pub record Runs {S L : Type 0} (m : Meaning S) (c : Option Command) (d : Devices
   pub client : ClientAnswers c s d.sink.before d.sink.after
   pub back : uses_ports c ≡ true → d.ports.attached_after + length d.ports.before ≡ d.ports.attached_before + length d.ports.after
   pub attaches : ¬ (s ≡ statuses.LinkFault) → d.ports.faults_after ≡ d.ports.faults_before
-  pub read : s ≡ statuses.ReadFault → Rose d.source.faults_before d.source.faults_after
   pub write : s ≡ statuses.WriteFault → Rose d.sink.faults_before d.sink.faults_after
   -- whatever the command is
+  pub reads : ReadsTo d.source.faults_before d.source.faults_after s
   pub writes : d.sink.faults_after ≡ writes_after s d.sink.faults_before
 
 -- no call on it failed

@@ -3,7 +3,7 @@
 ghost use Rattle.std.specs.Prelude.{◌≡◌};
 ghost use Rattle.outside.specs.Causes.{Rose};
 ghost use Rattle.commands.specs.Checks.{verdict_status, CheckEnds};
-ghost use Rattle.commands.specs.Nodes.{writes_after};
+ghost use Rattle.commands.specs.Nodes.{ReadsTo, writes_after};
 
 use crate::status::Status;
 use judge::{Tally, check_with, write_verdict};
@@ -31,8 +31,7 @@ pub(crate) fn run_check<H: Host, S: Source, K: Sink>(
 ) -> Status
     ensures ends { CheckEnds H.meaning (S.left source.old) (S.left source.new) (K.held sink.old)
         (K.held sink.new) result }
-    ensures read { result ≡ Status.ReadFault → Rose (S.fault_count source.old)
-        (S.fault_count source.new) }
+    ensures reads { ReadsTo (S.fault_count source.old) (S.fault_count source.new) result }
     ensures write { result ≡ Status.WriteFault → Rose (K.fault_count sink.old)
         (K.fault_count sink.new) }
     ensures writes { K.fault_count sink.new ≡ writes_after result (K.fault_count sink.old) }

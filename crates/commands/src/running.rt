@@ -7,7 +7,7 @@ ghost use Rattle.commands.specs.Checks.{CheckEnds};
 ghost use Rattle.commands.specs.Clusters.{uses_ports};
 ghost use Rattle.commands.specs.Ending.{ReplayEnds, GenEnds, UsageEnds};
 ghost use Rattle.one_box.specs.Showing.{links_of};
-ghost use Rattle.commands.specs.Nodes.{ports_of, writes_after};
+ghost use Rattle.commands.specs.Nodes.{ports_of, ReadsTo, writes_after};
 ghost use Rattle.commands.specs.Runs.{Runs, Completes, devices, sink_of, source_of};
 
 use crate::check::run_check;
@@ -27,8 +27,7 @@ fn run_replay<H: Host, S: Source, K: Sink>(alloc: Global, source: &mut S, sink: 
     ensures ends { ReplayEnds H.meaning (S.left source.old) (S.left source.new) (K.held sink.old)
         (K.held sink.new) result }
     ensures safe { result ≡ Status.Done → RunsSafelyOf H.meaning (S.left source.old) }
-    ensures read { result ≡ Status.ReadFault → Rose (S.fault_count source.old)
-        (S.fault_count source.new) }
+    ensures reads { ReadsTo (S.fault_count source.old) (S.fault_count source.new) result }
     ensures write { result ≡ Status.WriteFault → Rose (K.fault_count sink.old)
         (K.fault_count sink.new) }
     ensures writes { K.fault_count sink.new ≡ writes_after result (K.fault_count sink.old) }
@@ -85,6 +84,7 @@ fn write_usage<K: Sink>(alloc: Global, program: &str, sink: &mut K) -> Status
 }
 
 /// Carries out a command.
+#[tactic(auto, using(crate::proofs::RunLemmas::reads_none))]
 fn carry_out<H: Host, S: Source, K: Sink, P: Ports, C: Clock>(
     alloc: Global,
     command: Command,
@@ -126,6 +126,7 @@ fn carry_out<H: Host, S: Source, K: Sink, P: Ports, C: Clock>(
 /// Carries out the command that the words name, over a service of this type; the first word is the
 /// name by which the program was called. Words that are not taken are answered by the usage line of
 /// a program with this name.
+#[tactic(auto, using(crate::proofs::RunLemmas::reads_none))]
 pub fn run<H: Host, S: Source, K: Sink, P: Ports, C: Clock>(
     alloc: Global,
     program: &str,

@@ -2,8 +2,8 @@
 //!
 //! It steps the same `world` as the replay does, with a service and the words of its ops, and is
 //! outside the theorem. What is proved: at Ok a picture was written up to its end, and nothing is
-//! written where the schedule is bad or cannot be read; a fault is told only where its device
-//! failed, and a write that failed always (`run`). Each error has its status and its line
+//! written where the schedule is bad or cannot be read; a fault is told exactly where its device
+//! failed (`run`). Each error has its status and its line
 //! (`status_of`, `complaint`). A row has the number of its line, its event's words and the actor
 //! whose step it is, as the world has it (`AddsRow`, `shown_text`). That the record goes with the
 //! world's network, and the picture as a whole, are tested (`checks/pictures.sh`,

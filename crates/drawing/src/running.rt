@@ -1,7 +1,7 @@
 //! From a schedule to a picture.
 
 ghost use Rattle.std.specs.Prelude.{◌≡◌, ◌++◌, codes, decimal, string_bytes, Some, IfErr, IfOk, OnOk};
-ghost use Rattle.outside.specs.Causes.{HasCauseFor};
+ghost use Rattle.outside.specs.Causes.{CountsFor, HasCauseFor};
 ghost use Rattle.picture.specs.Texts.{Grows, IsWhole};
 ghost use Rattle.transcript_text.specs.Transcript.{sent_text};
 ghost use Rattle.world.specs.WorldSteps.{actor_of};
@@ -65,7 +65,7 @@ fn record<H: Host, T: OpText, S: Source>(
 ) -> Result<String, DrawError>
     ensures whole { IfOk result (λ s. IsWhole (string_bytes s)) }
     ensures err { IfErr result IsUnwritten }
-    ensures read { HasCauseFor (S.fault_count source.old) (S.fault_count source.new)
+    ensures reads { CountsFor (S.fault_count source.old) (S.fault_count source.new)
         DrawError.ReadFault result }
 {
     watch(alloc, world, recorder)?;
@@ -87,7 +87,7 @@ fn drawing_of<H: Host, T: OpText, S: Source>(
 ) -> Result<String, DrawError>
     ensures whole { IfOk result (λ s. IsWhole (string_bytes s)) }
     ensures err { IfErr result IsUnwritten }
-    ensures read { HasCauseFor (S.fault_count source.old) (S.fault_count source.new)
+    ensures reads { CountsFor (S.fault_count source.old) (S.fault_count source.new)
         DrawError.ReadFault result }
 {
     let mut world: World<H> = World::new(alloc, config)?;
@@ -101,7 +101,7 @@ fn drawing<H: Host, T: OpText, S: Source>(
 ) -> Result<String, DrawError>
     ensures whole { IfOk result (λ s. IsWhole (string_bytes s)) }
     ensures err { IfErr result IsUnwritten }
-    ensures read { HasCauseFor (S.fault_count source.old) (S.fault_count source.new)
+    ensures reads { CountsFor (S.fault_count source.old) (S.fault_count source.new)
         DrawError.ReadFault result }
 {
     let mut reader = Reader::new(alloc);
@@ -118,7 +118,7 @@ pub fn run<H: Host, T: OpText, S: Source, K: Sink>(
 ) -> Result<(), DrawError>
     ensures whole { OnOk result (Wrote (K.held sink.old) (K.held sink.new)) }
     ensures unwritten { IfErr result (λ e. IsOfSchedule e → K.held sink.new ≡ K.held sink.old) }
-    ensures read { HasCauseFor (S.fault_count source.old) (S.fault_count source.new)
+    ensures reads { CountsFor (S.fault_count source.old) (S.fault_count source.new)
         DrawError.ReadFault result }
     ensures write { HasCauseFor (K.fault_count sink.old) (K.fault_count sink.new)
         DrawError.WriteFault result }

@@ -1,7 +1,7 @@
 //! A transcript, read from a source and judged.
 
 ghost use Rattle.std.specs.Prelude.{◌≡◌, ◌+◌, ◌<◌, Some, count_by, length, slice_get};
-ghost use Rattle.outside.specs.Causes.{HasCauseFor};
+ghost use Rattle.outside.specs.Causes.{CountsFor};
 ghost use Rattle.transcript_reader.specs.Claims.{line_of, lines_of};
 ghost use Rattle.transcript_reader.specs.Steps.{so_far};
 ghost use Rattle.judge.specs.Checking.{submits, accepts, IsChecked, IsJudged, IsNumbered, IsTallyOf};
@@ -100,7 +100,7 @@ fn judge<H: Host>(alloc: Global, taken: &Taken, lines: u32) -> Result<Tally, Che
 pub fn check_with<H: Host, S: Source>(alloc: Global, source: &mut S) -> Result<Tally, CheckError>
     ensures checked { IsChecked H.meaning (S.left source.old) (S.left source.new) result }
     ensures passes { PassesLegal H.meaning (S.left source.old) result }
-    ensures cause { HasCauseFor (S.fault_count source.old) (S.fault_count source.new)
+    ensures count { CountsFor (S.fault_count source.old) (S.fault_count source.new)
         CheckError.ReadFault result }
 {
     let (taken, lines) = read_transcript(alloc, source)?;

@@ -15,8 +15,8 @@
 //! the source has none left, its bytes spell a transcript that is legal, and the tally counts
 //! its claims and members. At Refuted clauses 1 and 2 are the reader's; at 3 to 6 the bytes
 //! spell a transcript, and the line is the first that breaks the first broken rule. ReadFault comes
-//! only where a fault was counted, and hides no line that breaks clause 1 or 2. And the other way
-//! round: the bytes of a legal transcript are never refuted (`passes`).
+//! exactly where a read failed (clause `count`), and hides no line that breaks clause 1 or 2. And
+//! the other way round: the bytes of a legal transcript are never refuted (`passes`).
 //!
 //! Calls: `check_with` for a source, and `write_verdict` for the line that tells its answer; `decide` for claims that are at hand, as
 //! `transcript_reader` gives them.

@@ -1,4 +1,4 @@
-ghost use Rattle.outside.specs.Causes.{HasCauseFor};
+ghost use Rattle.outside.specs.Causes.{CountsFor};
 ghost use Rattle.lines.specs.Filling.{FillsFrom};
 
 use crate::ReadError;
@@ -15,7 +15,7 @@ const _: () = prove!(PIECE_BYTES == 4096);
 pub fn fill<S: Source>(bytes: &mut BytesMut, source: &mut S) -> Result<usize, ReadError>
     ensures fills { FillsFrom (S.left source.old) (S.left source.new) bytes.old.items
         bytes.new.items result }
-    ensures cause { HasCauseFor (S.fault_count source.old) (S.fault_count source.new)
+    ensures count { CountsFor (S.fault_count source.old) (S.fault_count source.new)
         ReadError.ReadFault result }
 {
     bytes.reserve(PIECE_BYTES)?;

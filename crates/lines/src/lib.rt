@@ -6,7 +6,8 @@
 //! Proved: which line comes first, whatever bytes follow (`specs/Deciding`); that a call reads only
 //! while no further line is decided (`has_line` tells before); that the bytes that were read and not
 //! yet taken are those that went from the source, in order, also after a fault or where memory runs
-//! out.
+//! out; and that a read that failed is always told: the source's count of faults rises by one at
+//! ReadFault, and stays at every other answer (clause `count`).
 //!
 //! `LineReader::next_line` gives a line, `text` shows it, `take` goes behind it. A line is looked
 //! for once, as soon as its bytes are there and the line before it is taken.

@@ -1,6 +1,6 @@
 ghost use Rattle.std.specs.Prelude.{◌≡◌, ◌+◌, ◌≤◌, ◌<◌, ◌⊎◌, false, true, length, take, drop};
 ghost use Rattle.std.specs.Prelude.{◌↔◌, IfOk, IsTrue, OnOk, OnErr};
-ghost use Rattle.outside.specs.Causes.{HasCauseFor};
+ghost use Rattle.outside.specs.Causes.{CountsFor};
 ghost use Rattle.lines.specs.Deciding.{IsUndecided};
 ghost use Rattle.lines.specs.Reading.{opening, IsFirst, LeavesNone, NeedsNoRead, Reaches};
 ghost use Rattle.lines.specs.Reading.{TakesFrom};
@@ -76,7 +76,7 @@ impl LineReader {
         ensures first { IfOk result (Reaches self.new) }
         ensures takes { TakesFrom self.old self.new (S.left source.old) (S.left source.new) }
         ensures none_left { LeavesNone self.new result }
-        ensures cause { HasCauseFor (S.fault_count source.old) (S.fault_count source.new)
+        ensures count { CountsFor (S.fault_count source.old) (S.fault_count source.new)
             ReadError.ReadFault result }
         ensures unread { NeedsNoRead self.old → (source.new ≡ source.old)
             × (self.new ≡ self.old) }
@@ -93,7 +93,7 @@ impl LineReader {
         ensures first { IfOk result (Reaches self.new) }
         ensures takes { TakesFrom self.old self.new (S.left source.old) (S.left source.new) }
         ensures none_left { LeavesNone self.new result }
-        ensures cause { HasCauseFor (S.fault_count source.old) (S.fault_count source.new)
+        ensures count { CountsFor (S.fault_count source.old) (S.fault_count source.new)
             ReadError.ReadFault result }
         ensures unread { NeedsNoRead self.old → (source.new ≡ source.old)
             × (self.new ≡ self.old) }
@@ -117,7 +117,7 @@ impl LineReader {
             ⊎ (length self.old.pending < length self.new.pending)) }
         ensures takes { TakesFrom self.old self.new (S.left source.old) (S.left source.new) }
         ensures kept { OnErr result (self.new ≡ self.old) }
-        ensures cause { HasCauseFor (S.fault_count source.old) (S.fault_count source.new)
+        ensures count { CountsFor (S.fault_count source.old) (S.fault_count source.new)
             ReadError.ReadFault result }
     {
         let searched = self.buffer.len();

@@ -1,5 +1,5 @@
 -- What a fault does to a count of faults, and that a fault is answered only where the count rose.
-use Rattle.std.specs.Prelude.{◌≡◌, ℕ, ◌+◌, ◌-◌, ◌^◌, ◌≤◌, min, Result, Ok, Err, IsErrOf}
+use Rattle.std.specs.Prelude.{◌≡◌, ◌⊎◌, ℕ, ◌+◌, ◌-◌, ◌^◌, ◌≤◌, min, Result, Ok, Err, IsErrOf}
 use Rattle.outside.specs.declared.errors.DeviceError.{DeviceError}
 use Rattle.outside.specs.declared.errors.DeviceError.TheVariants as errors
 use Rattle.outside.specs.declared.errors.Failed.{Failed}
@@ -27,6 +27,16 @@ Rose before now = min (before + 1) (2 ^ 64 - 1) ≤ now
 pub record HasCauseFor {T E : Type 0} (before now : ℕ) (error : E) (result : Result T E) : Type 0 where
   pub later : before ≤ now
   pub failed : IsErrOf result error → Rose before now
+
+-- the count of a device over calls on it that end with the first that fails: it rises by one exactly where this error is the answer
+pub record CountsFor {T E : Type 0} (before now : ℕ) (error : E) (result : Result T E) : Type 0 where
+  pub later : before ≤ now
+  pub failed : IsErrOf result error → now ≡ next_count before
+  pub others : ¬ IsErrOf result error → now ≡ before
+
+-- the count over calls whose last one may have failed and is not told, since something failed after it
+abbrev pub StaysOrRises : ℕ → ℕ → Type 0
+StaysOrRises before now = (now ≡ before) ⊎ (now ≡ next_count before)
 
 -- the count of a device over a call that makes calls on it until one fails: it rises by one exactly where that is the answer
 pub record Counts {T : Type 0} (before now : ℕ) (result : Result T DeviceError) : Type 0 where

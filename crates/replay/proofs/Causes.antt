@@ -1,31 +1,23 @@
 -- An error of a device is told only where a count of faults rose.
-use Rattle.std.proofs.Common.{◌≡◌, ℕ, ◌≤◌, Option, List, [], ◌++◌, refl, subst, ap, arith}
+use Rattle.std.proofs.Common.{◌≡◌, ℕ, ◌≤◌, Option, List, [], ◌++◌, refl, subst, ap, ◌∙◌, arith, inl, inr}
 use Rattle.std.specs.Prelude.{Result, Ok, Err, IsErrOf}
-use Rattle.outside.specs.Causes.{Rose, HasCauseFor, next_count}
+use Rattle.outside.specs.Causes.{Rose, CountsFor, HasCauseFor, next_count}
 use Rattle.schedule_text.specs.declared.next_error.NextError.{NextError}
 use Rattle.schedule_text.specs.declared.next_error.NextError.TheVariants as nexts
 use Rattle.world.specs.WorldSteps.{Refusal, Happened}
 use Rattle.replay.specs.declared.error.ReplayError.{ReplayError}
 use Rattle.replay.specs.declared.error.ReplayError.TheVariants as errors
-use Rattle.replay.specs.Outcome.{writes_after}
-use Rattle.replay.specs.Steps.{Fails, Writes, Stops, RefusesStep}
+use Rattle.replay.specs.Output.{BadLine}
+use Rattle.replay.specs.Outcome.{ReadsTo, writes_after}
+use Rattle.replay.specs.Steps.{bad_line, Fails, Interrupts, Refuses, Writes, Stops, RefusesStep}
 
-pub same_time : (a : ℕ) → a ≤ a
-same_time a = omega arith
-
-rose_since : (a b d : ℕ) → a ≤ b → Rose b d → Rose a d
-rose_since a b d le h = omega (arith, le, h)
-
--- a cause since a later time is one since an earlier time
-pub cause_since : {T E : Type 0} (a b d : ℕ) (error : E) (r : Result T E) → a ≤ b → HasCauseFor b d error r → HasCauseFor a d error r
-cause_since a b d error r le h = record { later = omega (arith, le, h.later); failed = λ is. rose_since a b d le (h.failed is) }
-
--- an error that never comes needs none
-pub no_cause : {T E : Type 0} (a d : ℕ) (error : E) (r : Result T E) → a ≤ d → (IsErrOf r error → ⊥) → HasCauseFor a d error r
-no_cause a d error r le never = record { later = le; failed = λ is. absurd (never is) }
-
-err_is : {T E : Type 0} (x y : E) → IsErrOf {T = T} (Err x) y → x ≡ y
-err_is x y e = cc
+-- no read failed, and none is told
+pub no_read : {T : Type 0} (a b : ℕ) (r : Result T ReplayError) → b ≡ a → (IsErrOf r errors.ReadFault → ⊥) → ReadsTo a b r
+no_read a b (Ok x) same never = same
+no_read a b (Err (errors.Malformed line rule)) same never = same
+no_read a b (Err errors.ReadFault) same never = absurd (never refl)
+no_read a b (Err errors.WriteFault) same never = inl same
+no_read a b (Err errors.NoMemory) same never = inl same
 
 -- ---- who tells a fault of the source
 
@@ -43,27 +35,41 @@ pub end_reads_none : (before now : Option (List ℕ)) (text : List ℕ) (r : Res
     → IsErrOf r errors.ReadFault → ⊥
 end_reads_none before now text r is e = subst (λ (y : Result (Unit {0}) ReplayError). Writes before now text y) e is
 
-read_stops : (before now : Option (List ℕ)) (pending : List ℕ) (e : NextError) → Stops before now pending e errors.ReadFault
-    → e ≡ nexts.ReadFault
-read_stops before now pending (nexts.BadLine line rule) is = absurd is
-read_stops before now pending nexts.ReadFault is = refl
-read_stops before now pending nexts.NoMemory is = absurd is
+interrupt_reads : (before now : Option (List ℕ)) (pending : List ℕ) (x : ReplayError) (a b : ℕ)
+    → Interrupts before now pending x → b ≡ next_count a → ReadsTo {T = Unit {0}} a b (Err x)
+interrupt_reads before now pending (errors.Malformed line rule) a b is rose = absurd is
+interrupt_reads before now pending errors.ReadFault a b is rose = rose
+interrupt_reads before now pending errors.WriteFault a b is rose = inr rose
+interrupt_reads before now pending errors.NoMemory a b is rose = inr rose
 
--- the error by which a replay stops is the source's only where that told it
-pub stop_reads : {T U : Type 0} (before now : Option (List ℕ)) (pending : List ℕ) (e : NextError) (x : ReplayError) (a b d : ℕ)
-    → Stops before now pending e x → a ≤ b → HasCauseFor {T = U} b d nexts.ReadFault (Err e)
-    → HasCauseFor {T = T} a d errors.ReadFault (Err x)
-stop_reads before now pending e x a b d is le h = record {
-  later = omega (arith, le, h.later);
-  failed = λ told. rose_since a b d le (h.failed (ap Err (read_stops before now pending e
-      (subst (Stops before now pending e) (err_is x errors.ReadFault told) is))));
-}
+refuse_reads : (before now : Option (List ℕ)) (pending : List ℕ) (l : BadLine) (x : ReplayError) (a b : ℕ)
+    → Refuses before now pending l x → b ≡ a → ReadsTo {T = Unit {0}} a b (Err x)
+refuse_reads before now pending l (errors.Malformed line rule) a b is same = same
+refuse_reads before now pending l errors.ReadFault a b is same = absurd is
+refuse_reads before now pending l errors.WriteFault a b is same = inl same
+refuse_reads before now pending l errors.NoMemory a b is same = inl same
+
+fail_reads : (before now : Option (List ℕ)) (pending : List ℕ) (x : ReplayError) (a b : ℕ)
+    → Fails before now pending x → b ≡ a → ReadsTo {T = Unit {0}} a b (Err x)
+fail_reads before now pending (errors.Malformed line rule) a b is same = absurd is
+fail_reads before now pending errors.ReadFault a b is same = absurd is
+fail_reads before now pending errors.WriteFault a b is same = inl same
+fail_reads before now pending errors.NoMemory a b is same = inl same
+
+-- the error by which a replay stops tells what the reader met, or what failed behind it
+pub stop_reads : {U : Type 0} (before now : Option (List ℕ)) (pending : List ℕ) (e : NextError) (x : ReplayError) (a b d : ℕ)
+    → Stops before now pending e x → b ≡ a → CountsFor {T = U} b d nexts.ReadFault (Err e) → ReadsTo {T = Unit {0}} a d (Err x)
+stop_reads before now pending (nexts.BadLine line rule) x a b d is same h =
+    refuse_reads before now pending (bad_line line rule) x a d is (h.others (λ told. cc) ∙ same)
+stop_reads before now pending nexts.ReadFault x a b d is same h =
+    interrupt_reads before now pending x a d is (h.failed refl ∙ ap next_count same)
+stop_reads before now pending nexts.NoMemory x a b d is same h =
+    fail_reads before now pending x a d is (h.others (λ told. cc) ∙ same)
 
 -- want of memory is no fault
-pub starved_reads : {T : Type 0} (a d : ℕ) (r : Result T ReplayError) (e : ReplayError) → r ≡ Err e → e ≡ errors.NoMemory → a ≤ d
-    → HasCauseFor a d errors.ReadFault r
-starved_reads {T} a d r e is none le = rw (is, none) (no_cause a d errors.ReadFault (Err errors.NoMemory) le
-    (λ told. let is = err_is {T = T} errors.NoMemory errors.ReadFault told in absurd cc))
+pub starved_reads : {T : Type 0} (a b : ℕ) (r : Result T ReplayError) (e : ReplayError) → r ≡ Err e → e ≡ errors.NoMemory → b ≡ a
+    → ReadsTo a b r
+starved_reads a b r e is none same = rw (is, none) (inl same)
 
 -- ---- who tells a fault of the sink
 

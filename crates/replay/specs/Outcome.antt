@@ -2,7 +2,7 @@
 use Rattle.std.specs.Prelude.{◌≡◌, ◌≢◌, ℕ, List, [], ◌++◌, Bool, true, false, Option, Some, None, Result, Ok, Err, ⊤}
 use Rattle.std.specs.Io.KnownBytes.{Appends}
 use Rattle.nop_types.specs.Meaning.{Meaning}
-use Rattle.outside.specs.Causes.{next_count}
+use Rattle.outside.specs.Causes.{next_count, StaysOrRises}
 use Rattle.replay.specs.declared.error.ReplayError.{ReplayError}
 use Rattle.replay.specs.declared.error.ReplayError.TheVariants as errors
 use Rattle.replay.specs.Output.{BadLine, output}
@@ -93,3 +93,14 @@ writes_after_error errors.NoMemory n = n
 abbrev pub writes_after : {T : Type 0} → Result T ReplayError → ℕ → ℕ
 writes_after (Ok t) n = n
 writes_after (Err e) n = writes_after_error e n
+
+-- ---- a read that fails is told
+
+-- The source's count of faults after an answer: ReadFault tells one more, and at Ok and at a bad line no read failed. After a read
+-- that failed, the lines before it are written: what fails there is told in its place.
+abbrev pub ReadsTo : {T : Type 0} → ℕ → ℕ → Result T ReplayError → Type 0
+ReadsTo before now (Ok t) = now ≡ before
+ReadsTo before now (Err (errors.Malformed line rule)) = now ≡ before
+ReadsTo before now (Err errors.ReadFault) = now ≡ next_count before
+ReadsTo before now (Err errors.WriteFault) = StaysOrRises before now
+ReadsTo before now (Err errors.NoMemory) = StaysOrRises before now

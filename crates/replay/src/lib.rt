@@ -13,9 +13,11 @@
 //! The transcript's first line has the form of the schedule's header.
 //!
 //! At Ok, of an observable source, the run of the bytes is safe (clause `safe`, `RunsSafely`).
-//! ReadFault and WriteFault come only where that device failed, and a write that failed is always
-//! told: the sink's count of faults rises by one at WriteFault, and stays at every other answer
-//! (clause `count`, of `generate` too). All of it is over any host.
+//! A write that failed is always told: the sink's count of faults rises by one at WriteFault, and
+//! stays at every other answer (clause `count`, of `generate` too). The source's count rises by
+//! one at ReadFault, and stays at Ok and Malformed (clause `reads`). After a read that failed the
+//! lines before it are written: what fails there is told in its place, so at WriteFault and
+//! NoMemory the source's count may have risen by one. All of it is over any host.
 //!
 //! `events` gives the configuration and the events that are drawn from a number; each is carried
 //! out in its turn (law `drawn_schedules_run`). `generate` writes the summary of their run, or a
@@ -25,7 +27,7 @@
 //! Calls: `replay` and `generate`, for `commands`.
 //!
 //! Files: `replayed`, `reading`, `turn`, `writing`; `generated`, `drawing`, `summary`. Definitions:
-//! `specs/Output`, `Outcome` (`EndsWith`, `writes_after`), `Safety`, `Generated`.
+//! `specs/Output`, `Outcome` (`EndsWith`, `ReadsTo`, `writes_after`), `Safety`, `Generated`.
 #![tactic(auto)]
 
 mod drawing;

@@ -3,7 +3,7 @@
 ghost use Rattle.std.specs.Prelude.{◌≡◌, ◌+◌, ◌≤◌, Err, IsSome, IsTrue, IfOk, OnOk, OnErr};
 ghost use Rattle.nop_types.specs.Headers.{gives};
 ghost use Rattle.nop_types.specs.declared.limits.TheConstants.{MAX_LINES};
-ghost use Rattle.outside.specs.Causes.{HasCauseFor};
+ghost use Rattle.outside.specs.Causes.{CountsFor};
 ghost use Rattle.schedule_text.specs.Reading.{form_of, lines_taken, HasConfig, LeavesNone, TakesOf};
 ghost use Rattle.schedule_text.specs.Stepping.{after_step};
 ghost use Rattle.schedule_text.specs.declared.next_error.NextError.TheVariants as nexts;
@@ -28,7 +28,7 @@ pub fn open<H: Host, S: Source, K: Sink>(
     ensures takes { TakesOf reader.old reader.new (S.left source.old) (S.left source.new)
         (after_step result) }
     ensures none_left { LeavesNone reader.new (after_step result) }
-    ensures cause { HasCauseFor (S.fault_count source.old) (S.fault_count source.new)
+    ensures count { CountsFor (S.fault_count source.old) (S.fault_count source.new)
         nexts.ReadFault result }
 {
     reader.open(source)
@@ -47,7 +47,7 @@ pub fn next_event<H: Host, S: Source, K: Sink>(
     ensures header { IsSome reader.old.header → reader.new.header ≡ reader.old.header }
     ensures line { IsSome reader.old.header → reader.new.line
         ≡ reader.old.line + lines_taken result }
-    ensures cause { HasCauseFor (S.fault_count source.old) (S.fault_count source.new)
+    ensures count { CountsFor (S.fault_count source.old) (S.fault_count source.new)
         nexts.ReadFault result }
 {
     reader.next(source)

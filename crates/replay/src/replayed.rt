@@ -3,7 +3,7 @@ ghost use Rattle.nop_types.specs.Headers.{gives};
 ghost use Rattle.outside.specs.Causes.{HasCauseFor};
 ghost use Rattle.transcript_text.specs.Transcript.{transcript_line};
 ghost use Rattle.world.specs.WorldSteps.{opening};
-ghost use Rattle.replay.specs.Outcome.{EndsWith, writes_after};
+ghost use Rattle.replay.specs.Outcome.{EndsWith, ReadsTo, writes_after};
 ghost use Rattle.replay.specs.Progress.{begins, GoesOn, Start};
 ghost use Rattle.replay.specs.Safety.{RunsSafelyOf};
 
@@ -51,8 +51,7 @@ fn take_events<H: Host, S: Source, K: Sink>(
     requires last { reader.old.line ≤ MAX_LINES }
     ensures ends { EndsWith H.meaning start.bytes (S.left source.new) start.held
         (K.held sink.new) result }
-    ensures read { HasCauseFor (S.fault_count source.old) (S.fault_count source.new)
-        ReplayError.ReadFault result }
+    ensures reads { ReadsTo (S.fault_count source.old) (S.fault_count source.new) result }
     ensures later { K.fault_count sink.old ≤ K.fault_count sink.new }
     ensures count { K.fault_count sink.new ≡ writes_after result (K.fault_count sink.old) }
 {
@@ -79,8 +78,7 @@ fn replay_from<H: Host, S: Source, K: Sink>(
     ensures ends { EndsWith H.meaning (S.left source.old) (S.left source.new) (K.held sink.old)
         (K.held sink.new) result }
     ensures safe { OnOk result (RunsSafelyOf H.meaning (S.left source.old)) }
-    ensures read { HasCauseFor (S.fault_count source.old) (S.fault_count source.new)
-        ReplayError.ReadFault result }
+    ensures reads { ReadsTo (S.fault_count source.old) (S.fault_count source.new) result }
     ensures later { K.fault_count sink.old ≤ K.fault_count sink.new }
     ensures count { K.fault_count sink.new ≡ writes_after result (K.fault_count sink.old) }
 {
@@ -105,8 +103,7 @@ pub fn replay<H: Host, S: Source, K: Sink>(
     ensures ends { EndsWith H.meaning (S.left source.old) (S.left source.new) (K.held sink.old)
         (K.held sink.new) result }
     ensures safe { OnOk result (RunsSafelyOf H.meaning (S.left source.old)) }
-    ensures read { HasCauseFor (S.fault_count source.old) (S.fault_count source.new)
-        ReplayError.ReadFault result }
+    ensures reads { ReadsTo (S.fault_count source.old) (S.fault_count source.new) result }
     ensures write { HasCauseFor (K.fault_count sink.old) (K.fault_count sink.new)
         ReplayError.WriteFault result }
     ensures count { K.fault_count sink.new ≡ writes_after result (K.fault_count sink.old) }

@@ -4,8 +4,9 @@
 //! is none, however the source cuts its bytes: for an observable source of its bytes (clause
 //! `takes`), for any other of some bytes behind those that were left over (`reads`). A line that
 //! breaks a rule is not taken, and is refused again; after a fault or NoMemory nothing that was
-//! taken is lost. A fault comes only where the source failed, which is read only while no further
-//! line is decided. What is read is in its ranges (laws `read_events_fit`, `read_headers_fit`,
+//! taken is lost. A read that failed is always told: the source's count of faults rises by one at
+//! ReadFault, and stays at every other answer (`count`); it is read only while no further line is
+//! decided. What is read is in its ranges (laws `read_events_fit`, `read_headers_fit`,
 //! `read_junk_fits`).
 //!
 //! `event_line` appends the line of an event, and nothing on an error; in each configuration that

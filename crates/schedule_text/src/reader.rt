@@ -2,7 +2,7 @@ ghost use Rattle.std.specs.Prelude.{◌≡◌, ◌≢◌, ◌+◌, ◌≤◌, �
 ghost use Rattle.std.specs.Prelude.{Some, None, Err, IsNone, IsSome, IsTrue, IfOk, OnOk, OnErr};
 ghost use Rattle.nop_types.specs.declared.limits.TheConstants.{MAX_LINES};
 ghost use Rattle.nop_types.specs.Headers.{gives};
-ghost use Rattle.outside.specs.Causes.{HasCauseFor};
+ghost use Rattle.outside.specs.Causes.{CountsFor};
 ghost use Rattle.schedule_text.specs.Reading.{opening, lines_before, lines_taken, Reads, TakesOf};
 ghost use Rattle.schedule_text.specs.Reading.{LeavesNone, form_of, config_of, HasConfig};
 ghost use Rattle.schedule_text.specs.Rules.{rule_number};
@@ -97,7 +97,7 @@ impl Reader {
         ensures takes { TakesOf self.old self.new (S.left source.old) (S.left source.new) result }
         ensures reads { Reads self.old self.new result }
         ensures none_left { LeavesNone self.new result }
-        ensures cause { HasCauseFor (S.fault_count source.old) (S.fault_count source.new)
+        ensures count { CountsFor (S.fault_count source.old) (S.fault_count source.new)
             NextError.ReadFault result }
         ensures header { IsSome self.old.header → self.new.header ≡ self.old.header }
         ensures line { IsSome self.old.header → self.new.line
@@ -126,7 +126,7 @@ impl Reader {
             (after_step result) }
         ensures reads { Reads self.old self.new (after_step result) }
         ensures none_left { LeavesNone self.new (after_step result) }
-        ensures cause { HasCauseFor (S.fault_count source.old) (S.fault_count source.new)
+        ensures count { CountsFor (S.fault_count source.old) (S.fault_count source.new)
             NextError.ReadFault result }
         ensures after_end { self.old.ended ≡ true → (source.new ≡ source.old)
             × (self.new.ended ≡ true) }
@@ -151,7 +151,7 @@ impl Reader {
         ensures takes { TakesFrom self.old self.new (S.left source.old) (S.left source.new)
             (after_step result) }
         ensures none_left { LeavesNone self.new (after_step result) }
-        ensures cause { HasCauseFor (S.fault_count source.old) (S.fault_count source.new)
+        ensures count { CountsFor (S.fault_count source.old) (S.fault_count source.new)
             NextError.ReadFault result }
         ensures after_end { self.old.ended ≡ true → (source.new ≡ source.old)
             × (self.new.ended ≡ true) }
@@ -172,7 +172,7 @@ impl Reader {
         ensures takes { TakesFrom self.old self.new (S.left source.old) (S.left source.new)
             (after_step result) }
         ensures none_left { LeavesNone self.new (after_step result) }
-        ensures cause { HasCauseFor (S.fault_count source.old) (S.fault_count source.new)
+        ensures count { CountsFor (S.fault_count source.old) (S.fault_count source.new)
             NextError.ReadFault result }
         ensures unread { NeedsNoRead self.old → (source.new ≡ source.old)
             × (self.new ≡ self.old) }

@@ -20,8 +20,8 @@ use Rattle.transcript_reader.specs.Reading.{Advances, Admits, Behind, IsError, I
 use Rattle.transcript_reader.specs.Reading.{First, After, Place, IsAt, IsFinished, IsInterrupted, IsNoLine, IsRead, IsUnfinished, Reads, ReadsFirst, ReadsNone, RefusesCut, RefusesFirst, Went, whole}
 use Rattle.transcript_reader.specs.Steps.{SoFar, nothing_yet}
 use Rattle.transcript_reader.specs.Transcripts.{AllFit, Transcript, body, members, transcript_lines}
-use Rattle.outside.specs.Causes.{HasCauseFor}
-use Rattle.std.specs.Prelude.{Result, Ok, Err, OnOk, IfErr}
+use Rattle.outside.specs.Causes.{CountsFor}
+use Rattle.std.specs.Prelude.{Result, Ok, Err, OnOk, IfErr, IsErrOf}
 use Rattle.transcript_reader.specs.declared.taken.Taken.{Taken}
 use Rattle.transcript_reader.proofs.Behinds.{map_with, behind_nothing, behind_grows, behind_advances, starts_with, all_lines}
 use Rattle.transcript_reader.proofs.Shapes.{shape_of, run_with, ending}
@@ -246,12 +246,16 @@ module _ (before left : Option (List ℕ)) (r new : Reading) (first : FirstLine)
   header_err (Ok x) reads h = tt
   header_err (Err e) reads h = refused_first before left r first e reads is h
 
-pub no_fault : {T : Type 0} (a b : ℕ) (r : Reading) (first : FirstLine) (place : Place) (res : Result T CheckError) → a ≤ b
-    → IfErr res (RefusesFirst r first place) → HasCauseFor a b ReadFault res
-no_fault a b r first place (Ok x) later h = record { later = later; failed = λ e. absurd cc }
-no_fault a b r first place (Err (Refuted line clause)) later h = record { later = later; failed = λ e. absurd cc }
-no_fault a b r first place (Err ReadFault) later h = absurd h
-no_fault a b r first place (Err NoMemory) later h = record { later = later; failed = λ e. absurd cc }
+-- no read failed, and none is told
+stays : {T : Type 0} (a b : ℕ) (res : Result T CheckError) → b ≡ a → (IsErrOf res ReadFault → ⊥) → CountsFor a b ReadFault res
+stays a b res same never = record { later = omega (arith, same); failed = λ is. absurd (never is); others = λ other. same }
+
+pub no_fault : {T : Type 0} (a b : ℕ) (r : Reading) (first : FirstLine) (place : Place) (res : Result T CheckError) → b ≡ a
+    → IfErr res (RefusesFirst r first place) → CountsFor a b ReadFault res
+no_fault a b r first place (Ok x) same h = stays a b (Ok x) same (λ e. absurd cc)
+no_fault a b r first place (Err (Refuted line clause)) same h = stays a b (Err (Refuted line clause)) same (λ e. absurd cc)
+no_fault a b r first place (Err ReadFault) same h = absurd h
+no_fault a b r first place (Err NoMemory) same h = stays a b (Err NoMemory) same (λ e. absurd cc)
 
 pub finish_read : (res : Result (Taken × ℕ) CheckError) (before left : Option (List ℕ)) (r : Reading) (s : SoFar) (lines : ℕ)
     → Reads before left r s → Reaches r None → lines ≡ r.line → r.line ≤ MAX_TRANSCRIPT_LINES → IsFinished s lines res → IsRead before left res
@@ -262,13 +266,6 @@ finish_read (Err (Refuted line clause)) before left r s lines reads reaches same
     (missing_after before left r s line reads reaches h.2 (h.0 ∙ ap (λ (k : ℕ). k + 1) same))
 finish_read (Err ReadFault) before left r s lines reads reaches same most h = absurd h
 finish_read (Err NoMemory) before left r s lines reads reaches same most h = absurd h
-
-pub finish_cause : (res : Result (Taken × ℕ) CheckError) (a b : ℕ) (s : SoFar) (lines : ℕ) → a ≤ b → IsFinished s lines res
-    → HasCauseFor a b ReadFault res
-finish_cause (Ok p) a b s lines later h = record { later = later; failed = λ e. absurd cc }
-finish_cause (Err (Refuted line clause)) a b s lines later h = record { later = later; failed = λ e. absurd cc }
-finish_cause (Err ReadFault) a b s lines later h = absurd h
-finish_cause (Err NoMemory) a b s lines later h = absurd h
 
 -- ---- no line came
 

@@ -7,8 +7,9 @@
 //! lines are each in their place, and this is the first that breaks a clause, whatever follows
 //! (`specs/Reading`, `RefusesLine`): 1 for a line of more than 4,096 bytes or one more than
 //! there may be, else 2 for a line that may not come here, that has no end, or that is missing.
-//! ReadFault comes only where a fault was counted, and the bytes that were read decide no line that
-//! breaks a clause (`IsInterrupted`). Bytes that spell a transcript are never refused, and all
+//! The source's count of faults rises by one at ReadFault, and stays at every other answer (clause
+//! `count`); at ReadFault the bytes that were read decide no line that breaks a clause
+//! (`IsInterrupted`). Bytes that spell a transcript are never refused, and all
 //! transcripts that they spell say the same (`laws`).
 //!
 //! `read_transcript` is the call, for `judge`. It keeps nothing of a line that claims nothing.

@@ -2,7 +2,7 @@
 
 ghost use Rattle.std.specs.Prelude.{◌≡◌, ◌≤◌, ◌+◌, IfOk, OnOk, IfErr};
 ghost use Rattle.lines.specs.Reading.{opening, IsFirst, Reaches, TakesFrom};
-ghost use Rattle.outside.specs.Causes.{HasCauseFor};
+ghost use Rattle.outside.specs.Causes.{CountsFor};
 ghost use Rattle.transcript_reader.specs.Reading.{IsRead, IsError, IsNoLine, IsFinished, IsUnfinished};
 ghost use Rattle.transcript_reader.specs.Reading.{After, ReadsFirst};
 ghost use Rattle.transcript_reader.specs.Steps.{so_far};
@@ -21,7 +21,7 @@ fn next<S: Source>(lines: &mut LineReader, source: &mut S) -> Result<Option<Firs
     ensures first { IfOk result (Reaches lines.new) }
     ensures takes { TakesFrom lines.old lines.new (S.left source.old) (S.left source.new) }
     ensures err { IfErr result (IsNoLine lines.new) }
-    ensures cause { HasCauseFor (S.fault_count source.old) (S.fault_count source.new)
+    ensures count { CountsFor (S.fault_count source.old) (S.fault_count source.new)
         CheckError.ReadFault result }
 {
     match lines.next_line(source) {
@@ -40,7 +40,7 @@ fn read_first<S: Source>(
     requires { lines.old ≡ opening MAX_TRANSCRIPT_LINES }
     ensures ok { OnOk result (ReadsFirst (S.left source.old) (S.left source.new) lines.new) }
     ensures err { IfErr result (IsError (S.left source.old) (S.left source.new)) }
-    ensures cause { HasCauseFor (S.fault_count source.old) (S.fault_count source.new)
+    ensures count { CountsFor (S.fault_count source.old) (S.fault_count source.new)
         CheckError.ReadFault result }
 {
     match next(lines, source)? {
@@ -67,7 +67,7 @@ fn finish(taken: Taken, lines: u32) -> Result<(Taken, u32), CheckError>
 /// Of what claims nothing nothing is kept.
 pub fn read_transcript<S: Source>(alloc: Global, source: &mut S) -> Result<(Taken, u32), CheckError>
     ensures read { IsRead (S.left source.old) (S.left source.new) result }
-    ensures cause { HasCauseFor (S.fault_count source.old) (S.fault_count source.new)
+    ensures count { CountsFor (S.fault_count source.old) (S.fault_count source.new)
         CheckError.ReadFault result }
 {
     let mut lines = LineReader::new(alloc, MAX_TRANSCRIPT_LINES);

@@ -8,7 +8,7 @@ use Rattle.transcript_text.specs.Transcript.{transcript_line}
 use Rattle.replay.specs.Progress.{begins, GoesOn}
 use Rattle.nop_types.specs.Checkpoints.{KeepsTo}
 use Rattle.replay.proofs.Beginning.{opened, unopened, text_first, counts_from_one}
-use Rattle.replay.proofs.Causes.{cause_since, stop_reads, starved_reads, same_time}
+use Rattle.replay.proofs.Causes.{stop_reads, starved_reads}
 use Rattle.replay.proofs.Decided.{may_begin}
 use Rattle.replay.proofs.Progressing.{starved_ends}
 use Rattle.replay.proofs.Safely.{done_is_safe, failed_is_safe}
@@ -72,11 +72,11 @@ returns-clause-safe g c =
     done_is_safe m g.H.Host.is_sound keeps (left c.args.source.now) (left c.take_events.new.source) (held c.args.sink.now) (held c.take_events.new.sink)
     c.take_events.result (rw is at c.take_events.ensures.ends)
 
-pub returns-clause-read : goal.returns-clause-read
-returns-clause-read g c = cause_since _ _ _ _ _ c.in-Ok.ensures.cause.later c.take_events.ensures.read
+pub returns-clause-reads : goal.returns-clause-reads
+returns-clause-reads g c = rw (c.in-Ok.ensures.count.others (λ is. cc)) at c.take_events.ensures.reads
 
-pub returns-in-Err-clause-read : goal.returns-in-Err-clause-read
-returns-in-Err-clause-read g c = stop_reads _ _ _ c.in-Err.e c.stop.result _ _ _ c.stop.ensures.stops (same_time _) c.in-Err.ensures.cause
+pub returns-in-Err-clause-reads : goal.returns-in-Err-clause-reads
+returns-in-Err-clause-reads g c = stop_reads _ _ _ c.in-Err.e c.stop.result _ _ _ c.stop.ensures.stops refl c.in-Err.ensures.count
 
 pub returns-in_err-world-clause-ends : goal.returns-in_err-world-clause-ends
 returns-in_err-world-clause-ends g c =
@@ -89,7 +89,7 @@ returns-in_err-world-clause-safe g c =
     let p = err_from_is_err_and c.from_residual.result c.from_residual.ensures.1 in
     failed_is_safe g.H.Host.meaning (g.S.Source.left c.args.source.now) c.from_residual.result p.0 p.1
 
-pub returns-in_err-world-clause-read : goal.returns-in_err-world-clause-read
-returns-in_err-world-clause-read g c =
+pub returns-in_err-world-clause-reads : goal.returns-in_err-world-clause-reads
+returns-in_err-world-clause-reads g c =
     let p = err_from_is_err_and c.from_residual.result c.from_residual.ensures.1 in
-    starved_reads _ _ c.from_residual.result p.0 p.1 p.2 c.in-Ok.ensures.cause.later
+    starved_reads _ _ c.from_residual.result p.0 p.1 p.2 (c.in-Ok.ensures.count.others (λ is. cc))

@@ -1,6 +1,6 @@
-use Rattle.std.proofs.Common.{arith, rules}
+use Rattle.std.proofs.Common.{◌∙◌, Err, arith, rules}
 use Rattle.std.proofs.lemmas.Result.{err_from_is_err_and}
-use Rattle.replay.proofs.Causes.{no_cause, event_reads_none, write_reads_none, end_reads_none, stop_reads}
+use Rattle.replay.proofs.Causes.{no_read, event_reads_none, write_reads_none, end_reads_none, stop_reads}
 use Rattle.replay.proofs.Decided.{goes_on, may_go_on, stays_unwritten}
 use Rattle.replay.proofs.Progressing.{stopped, finished, advanced, refused_event}
 use Rattle.replay.proofs.replayed.take_events.Goals as goal
@@ -40,7 +40,7 @@ loop-turn-preserved g c =
       opened = rw (c.in-Ok-Some.ensures.header kept.opened) kept.opened;
       lines = let one = (rw c.in-Ok-Some.field-0-is at c.in-Ok-Some.ensures.line) kept.opened in omega (arith, one, kept.lines);
       most = rw (← c.line.ensures.value) c.line.ensures.most;
-      read = omega (arith, kept.read, c.in-Ok-Some.ensures.cause.later);
+      reads = c.in-Ok-Some.ensures.count.others (λ is. cc) ∙ kept.reads;
       count = omega (arith, kept.count, c.in_ok-write_decided.ensures.count, c.in_ok-take_event-in-Ok-Some.ensures.count);
     }
 
@@ -100,32 +100,30 @@ returns-in-Err-clause-ends g c =
     c.write_decided.new.pending.items c.loop-turn.reader c.next_event.new.reader going.header c.loop-turn.world.state c.in-Err.e
     c.stop.result going.going c.in-Err.ensures.takes c.in-Err.ensures.none_left c.stop.ensures.stops
 
-pub returns-in_err-write_decided-clause-read : goal.returns-in_err-write_decided-clause-read
-returns-in_err-write_decided-clause-read g c =
+pub returns-in_err-write_decided-clause-reads : goal.returns-in_err-write_decided-clause-reads
+returns-in_err-write_decided-clause-reads g c =
     let e = c.in_err-write_decided.field-0 in
     let p = err_from_is_err_and c.from_residual.result c.from_residual.ensures.1 in
     rw (p.1, p.2)
-    (no_cause _ _ _ _ c.loop-turn.invariant.read
+    (no_read {T = Unit {0}} _ _ (Err e.0) c.loop-turn.invariant.reads
     (λ told. write_reads_none (g.K.Sink.held c.loop-turn.sink) (g.K.Sink.held c.write_decided.new.sink) c.loop-turn.pending.items e.0
     c.in_err-write_decided.ensures.gathers (let is = told in cc)))
 
-pub returns-in_err-take_event-in-Ok-Some-clause-read : goal.returns-in_err-take_event-in-Ok-Some-clause-read
-returns-in_err-take_event-in-Ok-Some-clause-read g c =
+pub returns-in_err-take_event-in-Ok-Some-clause-reads : goal.returns-in_err-take_event-in-Ok-Some-clause-reads
+returns-in_err-take_event-in-Ok-Some-clause-reads g c =
     let held = g.K.Sink.held in
-    let kept = c.loop-turn.invariant in
     let e = c.in_err-take_event-in-Ok-Some.field-0 in
     let p = err_from_is_err_and c.from_residual-in_err-take_event-in-Ok-Some.result c.from_residual-in_err-take_event-in-Ok-Some.ensures.1 in
     rw (p.1, p.2)
-    (no_cause _ _ _ _ (omega (arith, kept.read, c.in-Ok-Some.ensures.cause.later))
+    (no_read {T = Unit {0}} _ _ (Err e.0) (c.in-Ok-Some.ensures.count.others (λ is. cc) ∙ c.loop-turn.invariant.reads)
     (λ told. event_reads_none (held c.write_decided.new.sink) (held c.take_event.new.sink) c.write_decided.new.pending.items c.line.result
     _ e.0 c.in_err-take_event-in-Ok-Some.ensures.takes (let is = told in cc)))
 
-pub returns-in-Ok-None-clause-read : goal.returns-in-Ok-None-clause-read
-returns-in-Ok-None-clause-read g c =
-    no_cause _ _ _ _ (omega (arith, c.loop-turn.invariant.read, c.in-Ok-None.ensures.cause.later))
+pub returns-in-Ok-None-clause-reads : goal.returns-in-Ok-None-clause-reads
+returns-in-Ok-None-clause-reads g c =
+    no_read _ _ c.finish.result (c.in-Ok-None.ensures.count.others (λ is. cc) ∙ c.loop-turn.invariant.reads)
     (end_reads_none _ _ _ c.finish.result c.finish.ensures.writes)
 
-pub returns-in-Err-clause-read : goal.returns-in-Err-clause-read
-returns-in-Err-clause-read g c =
-    stop_reads _ _ _ c.in-Err.e c.stop.result _ _ _ c.stop.ensures.stops c.loop-turn.invariant.read
-    c.in-Err.ensures.cause
+pub returns-in-Err-clause-reads : goal.returns-in-Err-clause-reads
+returns-in-Err-clause-reads g c =
+    stop_reads _ _ _ c.in-Err.e c.stop.result _ _ _ c.stop.ensures.stops c.loop-turn.invariant.reads c.in-Err.ensures.count

@@ -14,6 +14,6 @@ invariant-loop-turn g l =
       opened : IsSome l.reader.header;
       lines : l._turn < l.reader.line;
       most : l.reader.line ≤ MAX_LINES;
-      read : g.S.Source.fault_count l.fn.source ≤ g.S.Source.fault_count l.source;
+      reads : g.S.Source.fault_count l.source ≡ g.S.Source.fault_count l.fn.source;
       count : g.K.Sink.fault_count l.sink ≡ g.K.Sink.fault_count l.fn.sink;
     }

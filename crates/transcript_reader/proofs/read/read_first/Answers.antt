@@ -21,10 +21,10 @@ returns-in-Some-clause-err g c =
     (reads_first (left c.args.source.now) (left c.next.new.source) c.args.lines.now now c.requires c.in_ok-first.ensures.takes)
     c.take_header.ensures.err
 
-pub returns-in-Some-clause-cause : goal.returns-in-Some-clause-cause
-returns-in-Some-clause-cause g c =
+pub returns-in-Some-clause-count : goal.returns-in-Some-clause-count
+returns-in-Some-clause-count g c =
     no_fault (g.S.Source.fault_count c.args.source.now) (g.S.Source.fault_count c.next.new.source) c.next.new.lines c.in-Some.first First
-    c.take_header.result c.in_ok-first.ensures.cause.later c.take_header.ensures.err
+    c.take_header.result (c.in_ok-first.ensures.count.others (λ is. cc)) c.take_header.ensures.err
 
 pub returns-in-None-clause-err : goal.returns-in-None-clause-err
 returns-in-None-clause-err g c =

@@ -1,4 +1,4 @@
-use Rattle.std.proofs.Common.{arith}
+use Rattle.std.proofs.Common.{◌∙◌, arith}
 use Rattle.std.proofs.lemmas.Result.{err_from_is_err_and}
 use Rattle.transcript_reader.specs.Steps.{so_far}
 use Rattle.transcript_reader.proofs.Readings.{reads_on, refused_after, row_taken, finish_read, no_later_line}
@@ -27,7 +27,7 @@ loop-taken-preserved g c =
       reads = row_taken (left c.args.source.now) (left c.next.new.source) now c.take_line.new.lines s (so_far c.take_line.new.taken)
           c.in-Some.first reads (rw c.in-Some.is at c.in_ok-first.ensures.first) c.in_ok-take_line.ensures.advances
           c.in_ok-take_line.ensures.row;
-      later = omega (arith, c.loop-taken.invariant.later, c.in_ok-first.ensures.cause.later);
+      count = c.in_ok-first.ensures.count.others (λ is. cc) ∙ c.loop-taken.invariant.count;
     }
 
 pub returns-in_err-take_line-clause-read : goal.returns-in_err-take_line-clause-read

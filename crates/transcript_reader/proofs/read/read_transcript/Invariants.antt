@@ -1,4 +1,4 @@
-use Rattle.std.proofs.Common.{◌≤◌, ◌-◌}
+use Rattle.std.proofs.Common.{◌≡◌, ◌-◌}
 use Rattle.transcript_reader.specs.Reading.{Reads}
 use Rattle.transcript_reader.specs.Steps.{so_far}
 use Rattle.transcript_reader.proofs.read.read_transcript.Given as goal
@@ -7,7 +7,7 @@ abbrev pub invariant-loop-taken : goal.invariant-loop-taken
 invariant-loop-taken g l =
     record {
       reads : Reads (g.S.Source.left l.fn.source) (g.S.Source.left l.source) l.lines (so_far l.taken);
-      later : g.S.Source.fault_count l.fn.source ≤ g.S.Source.fault_count l.source;
+      count : g.S.Source.fault_count l.source ≡ g.S.Source.fault_count l.fn.source;
     }
 
 abbrev pub decreases-loop-taken : goal.decreases-loop-taken

@@ -1,4 +1,4 @@
-use Rattle.std.proofs.Common.{◌≡◌, ◌∙◌, false, refl, sym, ap, arith, le_refl}
+use Rattle.std.proofs.Common.{◌≡◌, ◌∙◌, false, refl, sym, ap}
 use Rattle.lines.specs.Deciding.{IsUndecided}
 use Rattle.lines.specs.Reading.{Reading}
 use Rattle.lines.proofs.Takings.{stays, then_takes, needs_a_read}
@@ -8,7 +8,7 @@ pub loop-self-init : goal.loop-self-init
 loop-self-init g c = record {
   takes = stays c.args.self.now (g.S.Source.left c.args.source.now);
   unread = λ needs. (refl, refl);
-  later = le_refl (g.S.Source.fault_count c.args.source.now);
+  count = refl {a = g.S.Source.fault_count c.args.source.now};
 }
 
 pub loop-self-preserved : goal.loop-self-preserved
@@ -25,7 +25,7 @@ loop-self-preserved g c =
       unread = λ needs.
           let stayed = kept.unread needs in
           absurd (needs_a_read c.loop-self.self (rw (← c.self.view_is) undecided) going (rw (stayed.1) needs));
-      later = omega (arith, kept.later, c.in_ok-read_piece.ensures.cause.later);
+      count = c.in_ok-read_piece.ensures.count.others (λ is. cc) ∙ kept.count;
     }
 
 pub returns-in_err-read_piece-clause-takes : goal.returns-in_err-read_piece-clause-takes

@@ -1,4 +1,4 @@
-use Rattle.std.proofs.Common.{◌≡◌, ◌≤◌, ◌-◌, ℕ, Bool, true, false, length}
+use Rattle.std.proofs.Common.{◌≡◌, ◌-◌, ℕ, Bool, true, false, length}
 use Rattle.lines.specs.Reading.{NeedsNoRead, TakesFrom}
 use Rattle.lines.proofs.line_reader.LineReader.read_line.Given as goal
 
@@ -7,7 +7,7 @@ invariant-loop-self g l =
     record {
       takes : TakesFrom l.fn.self l.self (g.S.Source.left l.fn.source) (g.S.Source.left l.source);
       unread : NeedsNoRead l.fn.self → (l.source ≡ l.fn.source) × (l.self ≡ l.fn.self);
-      later : g.S.Source.fault_count l.fn.source ≤ g.S.Source.fault_count l.source;
+      count : g.S.Source.fault_count l.source ≡ g.S.Source.fault_count l.fn.source;
     }
 
 -- what is missing to the bytes that decide a line
