@@ -52,7 +52,7 @@ mod request;
 mod view;
 
 pub use bytes::Bytes;
-pub use checkpoint::{Checkpoint, SavedClient};
+pub use checkpoint::{Checkpoint, SavedClient, try_clone_checkpoint};
 pub use config::Config;
 pub use core_trait::Core;
 pub use datagram::{Datagram, Fragment, Reply, Stamped};

@@ -66,16 +66,6 @@ impl Model for ReplicaLog {
         × (l.sync_point + length l.entries.items ≤ MAX_LENGTH) };
 }
 
-fn cloned(alloc: Global, entries: &[Entry]) -> Result<Vec<Entry>, NoMemory>
-    ensures { IfOk result (λ copy. copy.items ≡ entries.now) }
-{
-    let mut copy = Vec::with_capacity(alloc, entries.len())?;
-    for entry in entries {
-        copy.push(entry.try_clone()?)?;
-    }
-    Ok(copy)
-}
-
 /// Drops the first `count` entries, or all where there are fewer.
 fn drop_front(entries: &mut Vec<Entry>, count: u32)
     ensures { entries.new.items ≡ drop count entries.old.items }
@@ -187,12 +177,7 @@ impl ReplicaLog {
     pub fn copy(&self) -> Result<Log, NoMemory>
         ensures { IfOk result (λ log. log ≡ self.now) }
     {
-        let entries = cloned(*self.entries.allocator(), &self.entries)?;
-        let checkpoint = match &self.checkpoint {
-            Some(checkpoint) => Some(checkpoint.try_clone()?),
-            None => None,
-        };
-        Ok(Log::new(self.sync_point, checkpoint, entries))
+        self.as_ref().to_log(*self.entries.allocator())
     }
 
     pub fn append(&mut self, entry: Entry) -> Result<(), NoMemory>
