@@ -1,5 +1,5 @@
 -- How a replay ends.
-use Rattle.std.specs.Prelude.{◌≡◌, ℕ, List, [], ◌++◌, Bool, true, false, take, Option, Some, None, Result, Ok, Err, ⊤}
+use Rattle.std.specs.Prelude.{◌≡◌, ℕ, List, [], ◌++◌, Bool, true, false, Option, Some, None, Result, Ok, Err, ⊤}
 use Rattle.std.specs.Io.KnownBytes.{Appends}
 use Rattle.nop_types.specs.Meaning.{Meaning}
 use Rattle.outside.specs.Causes.{next_count}
@@ -7,11 +7,6 @@ use Rattle.outside.specs.Fronts.{AppendsFront}
 use Rattle.replay.specs.declared.error.ReplayError.{ReplayError}
 use Rattle.replay.specs.declared.error.ReplayError.TheVariants as errors
 use Rattle.replay.specs.Output.{BadLine, output}
-
--- a front of the text was written, perhaps all of it
-pub record AppendsUpTo (before now : Option (List ℕ)) (text : List ℕ) : Type 0 where
-  pub count : ℕ
-  pub appended : Appends before now (take count text)
 
 module _ {S : Type 0} (m : Meaning S) where
   -- all bytes were taken, none of their lines is bad, and their output was written

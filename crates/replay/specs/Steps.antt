@@ -2,7 +2,7 @@
 use Rattle.std.specs.Prelude.{◌≡◌, ℕ, List, ◌++◌, Option, None, Result, Ok, Err}
 use Rattle.std.specs.Io.KnownBytes.{Appends}
 use Rattle.nop_types.specs.Lines.{Line}
-use Rattle.outside.specs.Fronts.{AppendsFront}
+use Rattle.outside.specs.Fronts.{AppendsFront, AppendsUpTo}
 use Rattle.schedule_text.specs.declared.next_error.NextError.{NextError}
 use Rattle.schedule_text.specs.declared.next_error.NextError.TheVariants as nexts
 use Rattle.transcript_text.specs.Transcript.{lines_text}
@@ -12,7 +12,6 @@ use Rattle.world.specs.WorldSteps.{WorldState, Refusal, NoSuchActor, NoSuchDatag
 use Rattle.replay.specs.declared.error.ReplayError.{ReplayError}
 use Rattle.replay.specs.declared.error.ReplayError.TheVariants as errors
 use Rattle.replay.specs.Output.{BadLine, bad_text, refused_line}
-use Rattle.replay.specs.Outcome.{AppendsUpTo}
 
 abbrev pub bad_line : ℕ → ℕ → BadLine
 bad_line line rule = record { line = line; rule = rule; index_sent = None }
