@@ -6,16 +6,17 @@ use Rattle.commands.specs.Checks.{CheckEnds, IsVerdict, RanOut, verdict_status}
 use Rattle.commands.specs.Nodes.{ReadsTo}
 use Rattle.commands.specs.declared.status.Status.{Status}
 use Rattle.judge.specs.Checking.{PassesLegal}
-use Rattle.judge.specs.Verdicts.{verdict_line, WroteSome}
+use Rattle.judge.specs.Verdicts.{verdict_line}
 use Rattle.judge.specs.declared.tally.Tally.{Tally}
 use Rattle.nop_types.specs.Meaning.{Meaning}
 use Rattle.outside.specs.Causes.{CountsFor, StaysOrRises}
+use Rattle.outside.specs.Fronts.{AppendsUpTo}
 use Rattle.transcript_reader.specs.declared.check_error.CheckError.{CheckError}
 use Rattle.transcript_reader.specs.declared.check_error.CheckError.TheVariants as errors
 use Rattle.udp_node.proofs.EffectLemmas.{Appends_none}
 
 -- a line is a front of itself
-all_of : (line : List ℕ) (before now : Option (List ℕ)) → Appends before now line → WroteSome line before now
+all_of : (line : List ℕ) (before now : Option (List ℕ)) → Appends before now line → AppendsUpTo before now line
 all_of line before now wrote =
     record { count = length line; appended = subst (Appends before now) (sym (take-length line)) wrote }
 

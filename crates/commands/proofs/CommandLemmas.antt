@@ -7,7 +7,7 @@ use Rattle.outside.specs.Fronts.{AppendsFront}
 use Rattle.replay.specs.Outcome.{WroteFront}
 use Rattle.replay.specs.Output.{output}
 use Rattle.replay.specs.Generated.{drawn_summary}
-use Rattle.replay.proofs.Fronts.{part_nil}
+use Rattle.replay.proofs.Fronts.{front_nil}
 use Rattle.replay.proofs.Summaries.{summary_some}
 use Rattle.replay.proofs.Texts.{output_some}
 use Rattle.udp_node.proofs.EffectLemmas.{Appends_none}
@@ -73,7 +73,7 @@ module _ {S L : Type 0} (m : Meaning S) (w : LinkView L) (p : PortsView L) (valu
 
 pub no_front : {S : Type 0} (m : Meaning S) (bytes h : Option (List ℕ)) → WroteFront m bytes h h
 no_front m None h = tt
-no_front m (Some bytes) h = part_nil h (output m true bytes).text (output_some m bytes)
+no_front m (Some bytes) h = front_nil h (output m true bytes).text (output_some m bytes)
 
 pub no_usage : (program : List ℕ) (h : Option (List ℕ)) → AppendsFront h h (usage_line program)
 unfolding usage_line
@@ -82,7 +82,7 @@ no_usage program h = record { count = 0; below = search rules; appended = Append
 pub no_drawing : {S : Type 0} (m : Meaning S) (c : Option Command) (h : Option (List ℕ)) → DrawingEnds m c statuses.NoMemory h h
 no_drawing m None h = tt
 no_drawing m (Some Replay) h = tt
-no_drawing m (Some (Gen number count)) h = part_nil h (drawn_summary m number count) (summary_some m number count)
+no_drawing m (Some (Gen number count)) h = front_nil h (drawn_summary m number count) (summary_some m number count)
 no_drawing m (Some (Node id site)) h = tt
 no_drawing m (Some (Sequencer id site)) h = tt
 no_drawing m (Some (Controller site number install)) h = tt

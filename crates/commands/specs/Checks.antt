@@ -2,10 +2,10 @@
 use Rattle.std.specs.Prelude.{ℕ, List, Option, Result, Ok, Err, ⊤}
 use Rattle.std.specs.Io.KnownBytes.{Appends}
 use Rattle.judge.specs.Checking.{IsChecked, PassesLegal}
-use Rattle.judge.specs.Verdicts.{verdict_line, WroteSome}
+use Rattle.judge.specs.Verdicts.{verdict_line}
 use Rattle.judge.specs.declared.tally.Tally.{Tally}
 use Rattle.nop_types.specs.Meaning.{Meaning}
-use Rattle.outside.specs.Fronts.{AppendsFront}
+use Rattle.outside.specs.Fronts.{AppendsFront, AppendsUpTo}
 use Rattle.transcript_reader.specs.declared.check_error.CheckError.{CheckError}
 use Rattle.transcript_reader.specs.declared.check_error.CheckError.TheVariants as errors
 use Rattle.commands.specs.declared.status.Status.{Status}
@@ -40,7 +40,7 @@ module _ {S : Type 0} (m : Meaning S) where
   pub record RanOut (bytes left before now : Option (List ℕ)) : Type 0 where
     pub verdict : Result Tally CheckError
     pub is : IsVerdict bytes left verdict
-    pub line : WroteSome (verdict_line verdict) before now
+    pub line : AppendsUpTo before now (verdict_line verdict)
 
   -- by the bytes before it, those left, and what the sink held before and holds now
   abbrev pub CheckEnds : Option (List ℕ) → Option (List ℕ) → Option (List ℕ) → Option (List ℕ) → Status → Type 0

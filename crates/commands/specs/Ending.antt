@@ -4,7 +4,7 @@ use Rattle.std.specs.Io.KnownBytes.{Appends}
 use Rattle.nop_types.specs.Meaning.{Meaning}
 use Rattle.outside.specs.Fronts.{AppendsFront}
 use Rattle.replay.specs.Generated.{drawn_summary}
-use Rattle.replay.specs.Outcome.{IsDone, IsMalformed, IsInterrupted, LeavesSome, WroteFront}
+use Rattle.replay.specs.Outcome.{IsDone, IsMalformed, IsInterrupted, WroteFront}
 use Rattle.commands.specs.Words.{usage_line}
 use Rattle.commands.specs.declared.status.Status.{Status}
 use Rattle.commands.specs.declared.status.Status.TheVariants.{Done, Malformed, Usage, ReadFault, WriteFault, LinkFault, NoMemory}
@@ -35,9 +35,9 @@ module _ {S : Type 0} (m : Meaning S) where
   GenEnds number count before now Malformed = ⊥
   GenEnds number count before now Usage = ⊥
   GenEnds number count before now ReadFault = ⊥
-  GenEnds number count before now WriteFault = LeavesSome before now (drawn_summary m number count)
+  GenEnds number count before now WriteFault = AppendsFront before now (drawn_summary m number count)
   GenEnds number count before now LinkFault = ⊥
-  GenEnds number count before now NoMemory = LeavesSome before now (drawn_summary m number count)
+  GenEnds number count before now NoMemory = AppendsFront before now (drawn_summary m number count)
   GenEnds number count before now Unanswered = ⊥
   GenEnds number count before now Refuted = ⊥
 

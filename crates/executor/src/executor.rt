@@ -12,7 +12,7 @@ ghost use Rattle.executor.specs.Results.{IsResult};
 use crate::moves::{advance, go_back};
 use crate::slot_undo::SlotUndo;
 use client_table::{ClientTable, Judged};
-use nop_types::{Bytes, Checkpoint, Host, MAX_RESULT_BYTES, NoMemory, SavedClient};
+use nop_types::{Bytes, Checkpoint, Host, MAX_RESULT_BYTES, NoMemory};
 use replica_log::ReplicaLog;
 use std::alloc::Global;
 use std::marker::Model;
@@ -65,16 +65,6 @@ pub fn checkpoint_loads<H: Host>(
     Ok(host.is_some())
 }
 
-fn cloned(alloc: Global, clients: &[SavedClient]) -> Result<Vec<SavedClient>, NoMemory>
-    ensures { IfOk result (λ copy. copy.items ≡ clients.now) }
-{
-    let mut copy = Vec::with_capacity(alloc, clients.len())?;
-    for client in clients {
-        copy.push(client.try_clone()?)?;
-    }
-    Ok(copy)
-}
-
 /// The execution that a checkpoint has, which loads.
 fn loaded<H: Host>(alloc: Global, checkpoint: &Checkpoint) -> Result<(H, ClientTable), NoMemory>
     requires { loads_by H.meaning (Some checkpoint.now) ≡ true }
@@ -82,7 +72,7 @@ fn loaded<H: Host>(alloc: Global, checkpoint: &Checkpoint) -> Result<(H, ClientT
         ≡ execution (H.state r.0) r.1) }
 {
     let host = H::load(alloc, checkpoint.host().as_slice())?.unwrap();
-    let clients = cloned(alloc, checkpoint.clients())?;
+    let clients = checkpoint.try_clone_clients()?;
     Ok((host, ClientTable::load(alloc, clients)?))
 }
 

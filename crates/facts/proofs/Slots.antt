@@ -186,5 +186,3 @@ slot_of-laid_after l k (suc i) x e = place_after l k i x e
 pub ruleset written_slots = (length-set_slot, slot_of-set_here, slot_of-set_other)
 
 pub ruleset laid_slots = (length-laid, IsPrefixOf-laid, slot_of-laid_above)
-
-pub ruleset laid_parts = (laid-append, laid-shorter)

@@ -4,8 +4,7 @@
 //!
 //! A lemma that speaks of nothing else and serves in two files is here once; what std has is cited
 //! from std. An equation is named by its left side (`length-laid`), another lemma by what it gives.
-//! Tactics take the rule sets `order_of_views`, `rank_of_views`, `written_slots`, `laid_slots` and
-//! `laid_parts`.
+//! Tactics take the rule sets `order_of_views`, `rank_of_views`, `written_slots` and `laid_slots`.
 //!
 //! Files, in `proofs/`: `Members`, `Places`, `Prefixes`, `Slots`, `Numbers`, `Views`, `Functions`;
 //! `Limits` of a configuration, `Bools`, `Options`; `Bytes`, with services that answer with bytes.

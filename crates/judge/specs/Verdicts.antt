@@ -1,8 +1,8 @@
 -- The line that tells what a judge answered.
-use Rattle.std.specs.Prelude.{ℕ, List, [], ◌∷◌, Option, Result, Ok, Err, codes, decimal, take}
+use Rattle.std.specs.Prelude.{ℕ, List, [], ◌∷◌, Option, Result, Ok, Err, codes, decimal}
 use Rattle.std.specs.Io.KnownBytes.{Appends}
 use Rattle.judge.specs.declared.tally.Tally.{Tally}
-use Rattle.outside.specs.Fronts.{AppendsFront}
+use Rattle.outside.specs.Fronts.{AppendsFront, AppendsUpTo}
 use Rattle.outside.specs.declared.errors.DeviceError.{DeviceError}
 use Rattle.outside.specs.declared.errors.DeviceError.TheVariants as faults
 use Rattle.transcript_reader.specs.declared.check_error.CheckError.{CheckError}
@@ -17,13 +17,8 @@ verdict_line (Err (errors.Refuted line clause)) =
 verdict_line (Err errors.ReadFault) = []
 verdict_line (Err errors.NoMemory) = []
 
--- a front of the line was written, or all of it
-pub record WroteSome (line : List ℕ) (before now : Option (List ℕ)) : Type 0 where
-  pub count : ℕ
-  pub appended : Appends before now (take count line)
-
--- the line was written; at a fault a front that is not all
+-- the line was written; at a fault a front that is not all, and without memory a front, perhaps all
 abbrev pub WritesVerdict : {T : Type 0} → List ℕ → Result T DeviceError → Option (List ℕ) → Option (List ℕ) → Type 0
 WritesVerdict line (Ok t) before now = Appends before now line
 WritesVerdict line (Err faults.Failed) before now = AppendsFront before now line
-WritesVerdict line (Err faults.NoMemory) before now = WroteSome line before now
+WritesVerdict line (Err faults.NoMemory) before now = AppendsUpTo before now line

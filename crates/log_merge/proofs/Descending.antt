@@ -23,7 +23,6 @@ use Rattle.std.proofs.Common.{
   None,
 }
 use Rattle.std.proofs.Common.{refl, sym, ap, ◌∙◌, arith, get_or, map, max, min, inl, inr, take_all, length-append, length-drop}
-use Rattle.std.proofs.Math.ListN.{drop_of_length-le}
 use Rattle.std.proofs.lemmas.List.{append-nil, get_or-map, length-map, map-append}
 use Rattle.std.proofs.lemmas.List.Elements.{filter-append}
 use Rattle.std.specs.Prelude.{◌==◌, IfSome, nat_le, slice_get, option_map}
@@ -369,13 +368,8 @@ length-of_logs xs ys =
       length-drop (length xs) ys,
     )
 
-pub shorter_logs : (l xs ys : List Entry) → l ≡ with_noops xs ys → length ys ≤ length l → l ≡ of_logs xs ys
-shorter_logs l xs ys e h =
-    let len = ap length e ∙ length-with_noops xs ys in
-    e ∙ sym (append-nil (with_noops xs ys)) ∙ ap (λ (r : List Entry). with_noops xs ys ++ r) (sym (drop_of_length-le ys (omega arith)))
-
-pub longer_logs : (l r xs ys : List Entry) → l ≡ with_noops xs ys → r ≡ l ++ drop (length l) ys → r ≡ of_logs xs ys
-longer_logs l r xs ys e g = let len = ap length e ∙ length-with_noops xs ys in cc
+pub noops_over : (l r xs ys : List Entry) → l ≡ with_noops xs ys → r ≡ l ++ drop (length l) ys → r ≡ of_logs xs ys
+noops_over l r xs ys e g = let len = ap length e ∙ length-with_noops xs ys in cc
 
 pub none_left : (cs : List told.Change) → length cs ≡ 0 → cs ≡ []
 none_left [] h = refl

@@ -19,7 +19,9 @@ ghost use Rattle.log_merge.specs.Merging.{merged};
 ghost use Rattle.log_merge.specs.Given.{given, rests};
 
 use crate::choosing::best;
-use nop_types::{Change, Entry, Log, LogRef, MAX_LENGTH, MAX_SLOTS, NoMemory, View};
+use nop_types::{
+    Change, Entry, Log, LogRef, MAX_LENGTH, MAX_SLOTS, NoMemory, View, try_clone_checkpoint,
+};
 use std::alloc::Global;
 
 /// An entry and who told it.
@@ -153,9 +155,6 @@ pub fn merge_of_view(alloc: Global, changes: &[Change], view: View) -> Result<Lo
         entries: _entries,
     } = best.log.as_ref();
     let entries = merged_above(alloc, changes, view, sync_point)?;
-    let checkpoint = match checkpoint {
-        Some(checkpoint) => Some(checkpoint.try_clone()?),
-        None => None,
-    };
+    let checkpoint = try_clone_checkpoint(checkpoint)?;
     Ok(Log::new(sync_point, checkpoint, entries))
 }

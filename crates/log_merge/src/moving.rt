@@ -1,11 +1,9 @@
 ghost use Rattle.std.specs.Prelude.{
   ◌≡◌,
   ◌≤◌,
-  ◌++◌,
   ◌+◌,
   ◌<◌,
   cond,
-  drop,
   length,
   filter,
   map,
@@ -21,7 +19,7 @@ ghost use Rattle.log_merge.specs.Pairs.{put_noop, with_noops, of_logs};
 ghost use Rattle.log_merge.specs.Merged.{HasDistinctSenders};
 
 use crate::choosing::best;
-use nop_types::{Change, Checkpoint, Entry, Log, MAX_LENGTH, MAX_SLOTS, NoMemory, View};
+use nop_types::{Change, Checkpoint, Entry, Log, MAX_LENGTH, MAX_SLOTS, NoMemory, View, lay_over};
 use std::alloc::Global;
 
 /// Puts a NO-OP where another log has one.
@@ -44,25 +42,12 @@ fn put_noops(entries: &mut Vec<Entry>, others: &[Entry])
     }
 }
 
-/// Puts the entries of `front` in the place of as many first ones.
-fn replace_front(entries: &mut Vec<Entry>, mut front: Vec<Entry>)
-    requires { length front.items ≤ length entries.old.items }
-    ensures { entries.new.items ≡ front.items ++ drop (length front.items) entries.old.items }
-{
-    while let Some(entry) = front.pop() {
-        entries[front.len()] = entry;
-    }
-}
-
 /// The merge of two logs, that of the lower sender first.
 fn of_logs(mut lower: Vec<Entry>, mut higher: Vec<Entry>) -> Vec<Entry>
     ensures { result.items ≡ of_logs lower.items higher.items }
 {
     put_noops(&mut lower, &higher);
-    if higher.len() <= lower.len() {
-        return lower;
-    }
-    replace_front(&mut higher, lower);
+    lay_over(&mut higher, lower);
     higher
 }
 

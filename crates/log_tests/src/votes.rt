@@ -32,11 +32,6 @@ fn votes(rt: HostRuntime) {
     check(&rt, votes.vote(1) == Vote::Settled, "which is enough");
 }
 
-/// This is the sync point, and the length that votes are gathered for.
-fn are(points: &SyncPoints, point: u32, syncing: Option<u32>) -> bool {
-    points.sync_point() == point && points.syncing() == syncing
-}
-
 /// Who votes for which length, and what then holds, where two are needed for 3.
 const LENGTHS: [(u8, u32, Vote); 5] = [
     (1, 3, Vote::Waiting),
@@ -53,21 +48,32 @@ fn a_leader_synchronises(rt: HostRuntime) {
     for (row, (replica, len, told)) in LENGTHS.iter().enumerate() {
         check_row(&rt, points.on_rep(*replica, *len) == *told, row);
     }
-    check(&rt, are(&points, 3, None), "3");
-    points.prepare(3);
-    check(&rt, are(&points, 3, None), "3 again");
+    check(&rt, points.sync_point() == 3, "3");
+}
+
+/// One vote is enough, for the last length that was told, in the view in which it was told, and where it is above the sync point.
+#[test]
+fn the_last_length_counts(rt: HostRuntime) {
+    let mut points = SyncPoints::new(1);
     points.prepare(4);
     points.prepare(5);
-    check(&rt, are(&points, 3, Some(5)), "3, and then 5");
+    check(&rt, points.on_rep(1, 4) == Vote::Waiting, "no longer 4");
+    check(&rt, points.sync_point() == 0, "nothing yet");
+    check(&rt, points.on_rep(1, 5) == Vote::Settled, "5");
+    points.prepare(5);
+    check(&rt, points.on_rep(2, 5) == Vote::Waiting, "5 again");
+    points.prepare(6);
     points.clear();
-    check(&rt, are(&points, 3, None), "no longer 5");
+    check(&rt, points.on_rep(1, 6) == Vote::Waiting, "no longer 6");
+    check(&rt, points.sync_point() == 5, "5 stays");
 }
 
 #[test]
 fn a_leader_alone_synchronises(rt: HostRuntime) {
     let mut points = SyncPoints::new(0);
     points.prepare(2);
-    check(&rt, are(&points, 2, None), "2");
+    check(&rt, points.sync_point() == 2, "2");
+    check(&rt, points.on_rep(1, 2) == Vote::Waiting, "no round");
 }
 
 /// The length of a commit, and the sync point that it gives, where a follower was told a log of length 2.
@@ -80,11 +86,10 @@ fn a_follower_synchronises(rt: HostRuntime) {
     check(&rt, points.on_commit(1) == None, "nothing is prepared");
     points.on_prepare(2);
     points.on_prepare(1);
-    check(&rt, points.prepared() == 2, "2 is prepared");
     for (row, (len, told)) in COMMITS.iter().enumerate() {
         check_row(&rt, points.on_commit(*len) == *told, row);
     }
     points.clear();
-    check(&rt, points.prepared() == 0, "nothing is prepared any more");
+    check(&rt, points.on_commit(1) == None, "nothing is prepared");
     check(&rt, points.sync_point() == 2, "the sync point stays");
 }

@@ -1,5 +1,6 @@
 ghost use Rattle.std.specs.Prelude.{◌≡◌, map, IsTrue, is_some, IfSome, IfOk};
 ghost use Rattle.std.specs.List.{AllByRecursion};
+ghost use Rattle.std.specs.Option.{option_copied};
 ghost use Rattle.nop_types.specs.Checkpoints.{saved_account, are_saved, is_checkpoint, IsSavedAccount, CheckpointFits};
 
 use crate::{Bytes, MAX_HOST_BYTES, MAX_RESULT_BYTES, MAX_SERVED, NoMemory};
@@ -114,16 +115,34 @@ impl Checkpoint {
         (host, clients)
     }
 
-    pub fn try_clone(&self) -> Result<Checkpoint, NoMemory>
-        ensures { IfOk result (λ c. c ≡ self.now) }
+    /// A copy of the clients.
+    pub fn try_clone_clients(&self) -> Result<Vec<SavedClient>, NoMemory>
+        ensures clients { IfOk result (λ copy. map saved_account copy.items ≡ self.now.clients) }
+        ensures fits { CheckpointFits self.now }
     {
         let mut clients = Vec::with_capacity(*self.clients.allocator(), self.clients.len())?;
         for client in &self.clients {
             clients.push(client.try_clone()?)?;
         }
+        Ok(clients)
+    }
+
+    pub fn try_clone(&self) -> Result<Checkpoint, NoMemory>
+        ensures { IfOk result (λ c. c ≡ self.now) }
+    {
         Ok(Checkpoint {
             host: self.host.try_clone()?,
-            clients,
+            clients: self.try_clone_clients()?,
         })
+    }
+}
+
+/// A copy of a checkpoint, where there is one.
+pub fn try_clone_checkpoint(checkpoint: Option<&Checkpoint>) -> Result<Option<Checkpoint>, NoMemory>
+    ensures { IfOk result (λ copy. copy ≡ option_copied checkpoint.entry) }
+{
+    match checkpoint {
+        Some(checkpoint) => Ok(Some(checkpoint.try_clone()?)),
+        None => Ok(None),
     }
 }

@@ -11,8 +11,9 @@
 //! host in the same state; `load` is None exactly where bytes are no saved state.
 //!
 //! A `Log` is trimmed: a sync point, the checkpoint that stands in place of the entries up to it,
-//! and at most `MAX_SLOTS` entries above it; it has at most `MAX_LENGTH` slots in all. Where the
-//! sync point of a replica rises, the entries up to it go out as `Out::Trimmed`.
+//! and at most `MAX_SLOTS` entries above it; it has at most `MAX_LENGTH` slots in all. A `LogRef`
+//! borrows one, and `to_log` copies it; `lay_over` moves entries over the first ones of others.
+//! Where the sync point of a replica rises, the entries up to it go out as `Out::Trimmed`.
 //!
 //! Besides, an `Op` has at most `MAX_OP_BYTES` bytes; `Config::new` and `Checkpoint::new` are None
 //! exactly outside the limits, and each `Checkpoint` is within them (`CheckpointFits`); `View::le`
@@ -49,10 +50,11 @@ mod output;
 mod peer;
 mod replica_state;
 mod request;
+mod slots;
 mod view;
 
 pub use bytes::Bytes;
-pub use checkpoint::{Checkpoint, SavedClient};
+pub use checkpoint::{Checkpoint, SavedClient, try_clone_checkpoint};
 pub use config::Config;
 pub use core_trait::Core;
 pub use datagram::{Datagram, Fragment, Reply, Stamped};
@@ -73,4 +75,5 @@ pub use output::{Accept, Actor, Dest, Out, Outbox};
 pub use peer::{Body, Change, Peer};
 pub use replica_state::{Phase, Vote};
 pub use request::{Entry, Request};
+pub use slots::lay_over;
 pub use view::{View, join_is_least, leader_of};

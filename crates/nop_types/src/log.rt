@@ -3,6 +3,7 @@ ghost use Rattle.std.specs.Option.{option_copied};
 ghost use Rattle.nop_types.specs.Logs.{Log};
 ghost use Rattle.nop_types.specs.BorrowedLogs.{log_of};
 
+use crate::checkpoint::try_clone_checkpoint;
 use crate::{Checkpoint, Entry, MAX_LENGTH, MAX_SLOTS, NoMemory};
 use std::alloc::Global;
 use std::marker::Model;
@@ -50,6 +51,16 @@ impl Model for Log {
 
     ghost invariant = { λ l. (length l.entries.items ≤ MAX_SLOTS)
         × (l.sync_point + length l.entries.items ≤ MAX_LENGTH) };
+}
+
+fn cloned(alloc: Global, entries: &[Entry]) -> Result<Vec<Entry>, NoMemory>
+    ensures { IfOk result (λ copy. copy.items ≡ entries.now) }
+{
+    let mut copy = Vec::with_capacity(alloc, entries.len())?;
+    for entry in entries {
+        copy.push(entry.try_clone()?)?;
+    }
+    Ok(copy)
 }
 
 impl Log {
@@ -129,18 +140,19 @@ impl Log {
     pub fn try_clone(&self) -> Result<Log, NoMemory>
         ensures { IfOk result (λ l. l ≡ self.now) }
     {
-        let mut entries = Vec::with_capacity(*self.entries.allocator(), self.entries.len())?;
-        for entry in &self.entries {
-            entries.push(entry.try_clone()?)?;
-        }
-        let checkpoint = match &self.checkpoint {
-            Some(checkpoint) => Some(checkpoint.try_clone()?),
-            None => None,
-        };
-        Ok(Log {
-            sync_point: self.sync_point,
-            checkpoint,
-            entries,
-        })
+        self.as_ref().to_log(*self.entries.allocator())
+    }
+}
+
+impl LogRef<'_> {
+    /// A copy.
+    pub fn to_log(self, alloc: Global) -> Result<Log, NoMemory>
+        requires room { length self.entries.now ≤ MAX_SLOTS }
+        requires limit { self.sync_point + length self.entries.now ≤ MAX_LENGTH }
+        ensures { IfOk result (λ log. log ≡ log_of self.entry) }
+    {
+        let entries = cloned(alloc, self.entries)?;
+        let checkpoint = try_clone_checkpoint(self.checkpoint)?;
+        Ok(Log::new(self.sync_point, checkpoint, entries))
     }
 }

@@ -7,3 +7,8 @@ pub record AppendsFront (old new : Option (List ℕ)) (bs : List ℕ) : Type 0 w
   pub count : ℕ
   pub below : count < length bs
   pub appended : Appends old new (take count bs)
+
+-- known bytes grow by a front of bs, perhaps all of it
+pub record AppendsUpTo (old new : Option (List ℕ)) (bs : List ℕ) : Type 0 where
+  pub count : ℕ
+  pub appended : Appends old new (take count bs)

@@ -1,12 +1,14 @@
 -- Fronts of a text.
-use Rattle.std.proofs.Common.{◌≢◌, ℕ, ◌<◌, List, [], ◌∷◌, ◌++◌, length, take, drop, Option, refl, sym, ap, ◌∙◌, append_assoc, arith}
+use Rattle.std.proofs.Common.{◌≢◌, ℕ, ◌+◌, ◌<◌, ◌≤◌, List, [], ◌∷◌, ◌++◌, length, take, Option, refl, sym, subst, ◌∙◌, arith, inl, inr}
+use Rattle.std.proofs.Common.{length-append}
 use Rattle.std.proofs.KnownBytes.{Appends-nil, Appends-trans}
-use Rattle.std.proofs.lemmas.List.{take-append-drop, length-drop}
+use Rattle.std.proofs.lemmas.Bool.{cases_lt}
+use Rattle.std.proofs.lemmas.List.{take-append-le, take_all}
 use Rattle.std.specs.Io.KnownBytes.{Appends}
-use Rattle.outside.specs.Fronts as outside
+use Rattle.facts.proofs.Places.{take-append_past}
+use Rattle.outside.specs.Fronts.{AppendsFront, AppendsUpTo}
 use Rattle.replay.specs.declared.error.ReplayError.{ReplayError}
 use Rattle.replay.specs.declared.error.ReplayError.TheVariants as errors
-use Rattle.replay.specs.Outcome.{AppendsFront, LeavesSome}
 use Rattle.replay.specs.Steps.{Fails, Misses}
 
 -- ---- lists that are not empty
@@ -19,66 +21,56 @@ pub some_right : {A : Type 0} (xs ys : List A) → ys ≢ [] → xs ++ ys ≢ []
 some_right [] ys some = some
 some_right (x ∷ xs) ys some = λ e. absurd cc
 
-drop_some : (n : ℕ) (xs : List ℕ) → n < length xs → drop n xs ≢ []
-drop_some n xs below = λ none. absurd (omega (arith, below, length-drop n xs, ap length none))
+some_length : (xs : List ℕ) → xs ≢ [] → 0 < length xs
+some_length [] some = absurd (some refl)
+some_length (x ∷ xs) some = omega arith
 
 -- ---- fronts
 
-pub front_nil : (a : Option (List ℕ)) (text : List ℕ) → AppendsFront a a text
-front_nil a text = record { front = []; behind = text; split = refl; wrote = Appends-nil a }
+pub up_to_nil : (a : Option (List ℕ)) (text : List ℕ) → AppendsUpTo a a text
+up_to_nil a text = record { count = 0; appended = Appends-nil a }
 
-pub part_nil : (a : Option (List ℕ)) (text : List ℕ) → text ≢ [] → LeavesSome a a text
-part_nil a text some = record { front = []; behind = text; split = refl; unwritten = some; wrote = Appends-nil a }
-
-pub part_of_front : (a b : Option (List ℕ)) (text : List ℕ) → outside.AppendsFront a b text → LeavesSome a b text
-part_of_front a b text f =
-    record {
-      front = take f.count text;
-      behind = drop f.count text;
-      split = sym (take-append-drop f.count text);
-      unwritten = drop_some f.count text f.below;
-      wrote = f.appended;
-    }
+pub front_nil : (a : Option (List ℕ)) (text : List ℕ) → text ≢ [] → AppendsFront a a text
+front_nil a text some = record { count = 0; below = some_length text some; appended = Appends-nil a }
 
 -- bytes before a front
-pub part_behind : (a b c : Option (List ℕ)) (written text : List ℕ) → Appends a b written → LeavesSome b c text
-    → LeavesSome a c (written ++ text)
-part_behind a b c written text before f =
+pub front_behind : (a b c : Option (List ℕ)) (written text : List ℕ) → Appends a b written → AppendsFront b c text
+    → AppendsFront a c (written ++ text)
+front_behind a b c written text before f =
     record {
-      front = written ++ f.front;
-      behind = f.behind;
-      split = ap (λ (t : List ℕ). written ++ t) f.split ∙ sym (append_assoc written f.front f.behind);
-      unwritten = f.unwritten;
-      wrote = Appends-trans a b c written f.front before f.wrote;
+      count = length written + f.count;
+      below = omega (arith, f.below, length-append written text);
+      appended = subst (λ (t : List ℕ). Appends a c t) (sym (take-append_past written text f.count))
+          (Appends-trans a b c written (take f.count text) before f.appended);
     }
 
 -- a front of a longer text
-pub part_longer : (a b : Option (List ℕ)) (text more : List ℕ) → LeavesSome a b text → LeavesSome a b (text ++ more)
-part_longer a b text more f =
+front_at : (a b : Option (List ℕ)) (text more : List ℕ) (n : ℕ) → n ≤ length text → n < length (text ++ more)
+    → Appends a b (take n text) → AppendsFront a b (text ++ more)
+front_at a b text more n within below wrote =
     record {
-      front = f.front;
-      behind = f.behind ++ more;
-      split = ap (λ (t : List ℕ). t ++ more) f.split ∙ append_assoc f.front f.behind more;
-      unwritten = some_left f.behind more f.unwritten;
-      wrote = f.wrote;
+      count = n;
+      below = below;
+      appended = subst (λ (t : List ℕ). Appends a b t) (sym (take-append-le n text more within)) wrote;
     }
 
--- a front, where something follows
-pub front_then : (a b : Option (List ℕ)) (text more : List ℕ) → more ≢ [] → AppendsFront a b text → LeavesSome a b (text ++ more)
-front_then a b text more some f =
-    record {
-      front = f.front;
-      behind = f.behind ++ more;
-      split = ap (λ (t : List ℕ). t ++ more) f.split ∙ append_assoc f.front f.behind more;
-      unwritten = some_right f.behind more some;
-      wrote = f.wrote;
-    }
+pub front_longer : (a b : Option (List ℕ)) (text more : List ℕ) → AppendsFront a b text → AppendsFront a b (text ++ more)
+front_longer a b text more f =
+    front_at a b text more f.count (omega (arith, f.below)) (omega (arith, f.below, length-append text more)) f.appended
 
-front_of_part : (a b : Option (List ℕ)) (text : List ℕ) → LeavesSome a b text → AppendsFront a b text
-front_of_part a b text f = record { front = f.front; behind = f.behind; split = f.split; wrote = f.wrote }
+-- a front, perhaps all, where something follows
+pub up_to_then : (a b : Option (List ℕ)) (text more : List ℕ) → more ≢ [] → AppendsUpTo a b text → AppendsFront a b (text ++ more)
+up_to_then a b text more some f = elim (cases_lt f.count (length text)) [
+  | inl below ↦ front_at a b text more f.count (omega (arith, below)) (omega (arith, below, length-append text more)) f.appended
+  | inr all ↦ front_at a b text more (length text) (omega arith) (omega (arith, some_length more some, length-append text more))
+      (subst (λ (t : List ℕ). Appends a b t) (take_all f.count text all ∙ sym (take_all (length text) text (omega arith))) f.appended)
+]
+
+up_to_of_front : (a b : Option (List ℕ)) (text : List ℕ) → AppendsFront a b text → AppendsUpTo a b text
+up_to_of_front a b text f = record { count = f.count; appended = f.appended }
 
 pub misses_fails : (a b : Option (List ℕ)) (text : List ℕ) (e : ReplayError) → Misses a b text e → Fails a b text e
 misses_fails a b text (errors.Malformed line rule) f = f
 misses_fails a b text errors.ReadFault f = f
-misses_fails a b text errors.WriteFault f = front_of_part a b text f
-misses_fails a b text errors.NoMemory f = front_of_part a b text f
+misses_fails a b text errors.WriteFault f = up_to_of_front a b text f
+misses_fails a b text errors.NoMemory f = up_to_of_front a b text f

@@ -6,6 +6,7 @@ use Rattle.std.proofs.lemmas.List.{append-nil}
 use Rattle.nop_types.specs.Configuration.{Configuration}
 use Rattle.nop_types.specs.declared.header.Header.{Header}
 use Rattle.nop_types.specs.Meaning.{Meaning}
+use Rattle.outside.specs.Fronts.{AppendsFront}
 use Rattle.schedule_text.specs.declared.event.Event.{Event}
 use Rattle.schedule_text.specs.declared.next_error.NextError.{NextError}
 use Rattle.schedule_text.specs.declared.next_error.NextError.TheVariants as nexts
@@ -16,10 +17,10 @@ use Rattle.world.specs.WorldSteps.{WorldState, Refusal, Happened, step}
 use Rattle.replay.specs.declared.error.ReplayError.{ReplayError}
 use Rattle.replay.specs.declared.error.ReplayError.TheVariants as errors
 use Rattle.replay.specs.Output.{BadLine, Output, bad_text, refused_line, ending, then_text, rest, output}
-use Rattle.replay.specs.Outcome.{LeavesSome, EndsWith}
+use Rattle.replay.specs.Outcome.{EndsWith}
 use Rattle.replay.specs.Progress.{Progress, Going, GoingOf, refused, after_step, after_turn, after_answer}
 use Rattle.replay.specs.Steps.{Fails, Misses, Writes, Refuses, Interrupts, Stops, Advances, RefusesStep, bad_line}
-use Rattle.replay.proofs.Fronts.{part_nil, part_behind, part_longer, front_then}
+use Rattle.replay.proofs.Fronts.{front_nil, front_behind, front_longer, up_to_then}
 use Rattle.replay.proofs.Texts.{rest_some, after_turn_some, output_some}
 use Rattle.replay.proofs.Runs.{rest_is, turn_header}
 
@@ -33,9 +34,9 @@ module _ {S : Type 0} (m : Meaning S) where
   pub parts : (bytes left : List ℕ) (before now after : Option (List ℕ)) (pending : List ℕ) (r : Reading)
       (follows : Bool → List ℕ → Output) (t u : List ℕ)
       → Progress m bytes left before now pending r follows → (follows true left).text ≡ t ++ u
-      → LeavesSome now after ((pending ++ t) ++ u) → LeavesSome before after (output m true bytes).text
+      → AppendsFront now after ((pending ++ t) ++ u) → AppendsFront before after (output m true bytes).text
   parts bytes left before now after pending r follows t u p is f =
-      let all = part_behind before now after p.written ((pending ++ t) ++ u) p.wrote f in
+      let all = front_behind before now after p.written ((pending ++ t) ++ u) p.wrote f in
       let text : (output m true bytes).text ≡ p.written ++ ((pending ++ t) ++ u) =
       ap (λ (o : Output). o.text) (whole bytes left before now pending r follows p)
       ∙ ap (λ (s : List ℕ). (p.written ++ pending) ++ s) is
@@ -51,9 +52,9 @@ module _ {S : Type 0} (m : Meaning S) where
   misses_with bytes left before now after pending r follows t u (errors.Malformed line rule) p is f = absurd f
   misses_with bytes left before now after pending r follows t u errors.ReadFault p is f = absurd f
   misses_with bytes left before now after pending r follows t u errors.WriteFault p is f =
-      parts bytes left before now after pending r follows t u p is (part_longer now after (pending ++ t) u f)
+      parts bytes left before now after pending r follows t u p is (front_longer now after (pending ++ t) u f)
   misses_with bytes left before now after pending r follows t u errors.NoMemory p is f =
-      parts bytes left before now after pending r follows t u p is (part_longer now after (pending ++ t) u f)
+      parts bytes left before now after pending r follows t u p is (front_longer now after (pending ++ t) u f)
 
   -- a front was written, and more follows
   pub fails_with : (bytes left : List ℕ) (before now after : Option (List ℕ)) (pending : List ℕ) (r : Reading)
@@ -63,9 +64,9 @@ module _ {S : Type 0} (m : Meaning S) where
   fails_with bytes left before now after pending r follows t u (errors.Malformed line rule) p is some f = absurd f
   fails_with bytes left before now after pending r follows t u errors.ReadFault p is some f = absurd f
   fails_with bytes left before now after pending r follows t u errors.WriteFault p is some f =
-      parts bytes left before now after pending r follows t u p is (front_then now after (pending ++ t) u some f)
+      parts bytes left before now after pending r follows t u p is (up_to_then now after (pending ++ t) u some f)
   fails_with bytes left before now after pending r follows t u errors.NoMemory p is some f =
-      parts bytes left before now after pending r follows t u p is (front_then now after (pending ++ t) u some f)
+      parts bytes left before now after pending r follows t u p is (up_to_then now after (pending ++ t) u some f)
 
   -- the rest of the output is an error line
   pub refuses_with : (bytes left : List ℕ) (before now after : Option (List ℕ)) (pending : List ℕ) (r : Reading)
@@ -234,7 +235,7 @@ module _ {S : Type 0} (m : Meaning S) where
 
   starved_first : (bytes left before : Option (List ℕ)) → EndsWith m bytes left before before (Err errors.NoMemory)
   starved_first None left before = tt
-  starved_first (Some bytes) left before = part_nil before (output m true bytes).text (output_some m bytes)
+  starved_first (Some bytes) left before = front_nil before (output m true bytes).text (output_some m bytes)
 
   pub starved_ends : (bytes left before : Option (List ℕ)) (r : Result (Unit {0}) ReplayError) (e : ReplayError) → r ≡ Err e
       → e ≡ errors.NoMemory → EndsWith m bytes left before before r

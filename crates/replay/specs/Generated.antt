@@ -5,6 +5,7 @@ use Rattle.std.specs.List.{AllByRecursion}
 use Rattle.std.specs.Io.KnownBytes.{Appends}
 use Rattle.rand_pcg.specs.Lcg.{Lcg}
 use Rattle.outside.specs.Causes.{next_count}
+use Rattle.outside.specs.Fronts.{AppendsFront}
 use Rattle.nop_types.specs.Configuration.{Configuration}
 use Rattle.nop_types.specs.Meaning.{Meaning}
 use Rattle.nop_types.specs.declared.request.Entry.{Entry}
@@ -20,7 +21,6 @@ use Rattle.world.specs.WorldSteps.{WorldState, Refusal, Happened, opening, step,
 use Rattle.replay.specs.declared.error.GenError.{GenError}
 use Rattle.replay.specs.declared.error.GenError.TheVariants.{WriteFault, NoMemory}
 use Rattle.replay.specs.Drawing.{generator_of, event_drawn, get_of}
-use Rattle.replay.specs.Outcome.{LeavesSome}
 
 -- ---- the events
 
@@ -113,8 +113,8 @@ drawn_summary m number count = summary_of number count (run m drawn_config (draw
 -- the text was written, or a front of it that is not all
 abbrev pub WritesText : Option (List ℕ) → Option (List ℕ) → List ℕ → Result (Unit {0}) GenError → Type 0
 WritesText before now text (Ok x) = Appends before now text
-WritesText before now text (Err WriteFault) = LeavesSome before now text
-WritesText before now text (Err NoMemory) = LeavesSome before now text
+WritesText before now text (Err WriteFault) = AppendsFront before now text
+WritesText before now text (Err NoMemory) = AppendsFront before now text
 
 -- the sink's count of faults after it: WriteFault tells one more, and at every other answer no write failed
 abbrev pub writes_after : {T : Type 0} → Result T GenError → ℕ → ℕ

@@ -1,26 +1,12 @@
 -- How a replay ends.
-use Rattle.std.specs.Prelude.{◌≡◌, ◌≢◌, ℕ, List, [], ◌++◌, Bool, true, false, Option, Some, None, Result, Ok, Err, ⊤}
+use Rattle.std.specs.Prelude.{◌≡◌, ℕ, List, [], ◌++◌, Bool, true, false, Option, Some, None, Result, Ok, Err, ⊤}
 use Rattle.std.specs.Io.KnownBytes.{Appends}
 use Rattle.nop_types.specs.Meaning.{Meaning}
 use Rattle.outside.specs.Causes.{next_count, StaysOrRises}
+use Rattle.outside.specs.Fronts.{AppendsFront}
 use Rattle.replay.specs.declared.error.ReplayError.{ReplayError}
 use Rattle.replay.specs.declared.error.ReplayError.TheVariants as errors
 use Rattle.replay.specs.Output.{BadLine, output}
-
--- a front of the text was written, perhaps all of it
-pub record AppendsFront (before now : Option (List ℕ)) (text : List ℕ) : Type 0 where
-  pub front : List ℕ
-  pub behind : List ℕ
-  pub split : text ≡ front ++ behind
-  pub wrote : Appends before now front
-
--- a front of the text was written, and something behind it was not
-pub record LeavesSome (before now : Option (List ℕ)) (text : List ℕ) : Type 0 where
-  pub front : List ℕ
-  pub behind : List ℕ
-  pub split : text ≡ front ++ behind
-  pub unwritten : behind ≢ []
-  pub wrote : Appends before now front
 
 module _ {S : Type 0} (m : Meaning S) where
   -- all bytes were taken, none of their lines is bad, and their output was written
@@ -70,7 +56,7 @@ module _ {S : Type 0} (m : Meaning S) where
   -- a front of the output of the whole input was written, and not all
   abbrev pub WroteFront : Option (List ℕ) → Option (List ℕ) → Option (List ℕ) → Type 0
   WroteFront None before now = ⊤
-  WroteFront (Some bytes) before now = LeavesSome before now (output m true bytes).text
+  WroteFront (Some bytes) before now = AppendsFront before now (output m true bytes).text
 
   -- how a replay ended, by the bytes before it, those left, and what the sink held before and holds now
   abbrev pub EndsWith : Option (List ℕ) → Option (List ℕ) → Option (List ℕ) → Option (List ℕ) → Result (Unit {0}) ReplayError → Type 0

@@ -2,6 +2,7 @@
 use Rattle.std.specs.Prelude.{◌≡◌, ℕ, List, ◌++◌, Option, None, Result, Ok, Err}
 use Rattle.std.specs.Io.KnownBytes.{Appends}
 use Rattle.nop_types.specs.Lines.{Line}
+use Rattle.outside.specs.Fronts.{AppendsFront, AppendsUpTo}
 use Rattle.schedule_text.specs.declared.next_error.NextError.{NextError}
 use Rattle.schedule_text.specs.declared.next_error.NextError.TheVariants as nexts
 use Rattle.transcript_text.specs.Transcript.{lines_text}
@@ -11,7 +12,6 @@ use Rattle.world.specs.WorldSteps.{WorldState, Refusal, NoSuchActor, NoSuchDatag
 use Rattle.replay.specs.declared.error.ReplayError.{ReplayError}
 use Rattle.replay.specs.declared.error.ReplayError.TheVariants as errors
 use Rattle.replay.specs.Output.{BadLine, bad_text, refused_line}
-use Rattle.replay.specs.Outcome.{AppendsFront, LeavesSome}
 
 abbrev pub bad_line : ℕ → ℕ → BadLine
 bad_line line rule = record { line = line; rule = rule; index_sent = None }
@@ -20,15 +20,15 @@ bad_line line rule = record { line = line; rule = rule; index_sent = None }
 abbrev pub Fails : Option (List ℕ) → Option (List ℕ) → List ℕ → ReplayError → Type 0
 Fails before now text (errors.Malformed line rule) = ⊥
 Fails before now text errors.ReadFault = ⊥
-Fails before now text errors.WriteFault = AppendsFront before now text
-Fails before now text errors.NoMemory = AppendsFront before now text
+Fails before now text errors.WriteFault = AppendsUpTo before now text
+Fails before now text errors.NoMemory = AppendsUpTo before now text
 
 -- a front was written, and not all
 abbrev pub Misses : Option (List ℕ) → Option (List ℕ) → List ℕ → ReplayError → Type 0
 Misses before now text (errors.Malformed line rule) = ⊥
 Misses before now text errors.ReadFault = ⊥
-Misses before now text errors.WriteFault = LeavesSome before now text
-Misses before now text errors.NoMemory = LeavesSome before now text
+Misses before now text errors.WriteFault = AppendsFront before now text
+Misses before now text errors.NoMemory = AppendsFront before now text
 
 -- all was written, or not all
 abbrev pub Writes : Option (List ℕ) → Option (List ℕ) → List ℕ → Result (Unit {0}) ReplayError → Type 0
@@ -39,15 +39,15 @@ Writes before now text (Err e) = Misses before now text e
 abbrev pub Refuses : Option (List ℕ) → Option (List ℕ) → List ℕ → BadLine → ReplayError → Type 0
 Refuses before now pending b (errors.Malformed line rule) = (b.line ≡ line) × (b.rule ≡ rule) × Appends before now (pending ++ bad_text b)
 Refuses before now pending b errors.ReadFault = ⊥
-Refuses before now pending b errors.WriteFault = LeavesSome before now (pending ++ bad_text b)
-Refuses before now pending b errors.NoMemory = LeavesSome before now (pending ++ bad_text b)
+Refuses before now pending b errors.WriteFault = AppendsFront before now (pending ++ bad_text b)
+Refuses before now pending b errors.NoMemory = AppendsFront before now (pending ++ bad_text b)
 
 -- what is gathered was written and the fault is told, or not all was written
 abbrev pub Interrupts : Option (List ℕ) → Option (List ℕ) → List ℕ → ReplayError → Type 0
 Interrupts before now pending (errors.Malformed line rule) = ⊥
 Interrupts before now pending errors.ReadFault = Appends before now pending
-Interrupts before now pending errors.WriteFault = LeavesSome before now pending
-Interrupts before now pending errors.NoMemory = LeavesSome before now pending
+Interrupts before now pending errors.WriteFault = AppendsFront before now pending
+Interrupts before now pending errors.NoMemory = AppendsFront before now pending
 
 -- an error of the reader ends the replay
 abbrev pub Stops : Option (List ℕ) → Option (List ℕ) → List ℕ → NextError → ReplayError → Type 0

@@ -8,7 +8,7 @@ use Rattle.nop_types.specs.declared.request.Entry.{Entry}
 use Rattle.nop_types.specs.Lists.{slot_of}
 use Rattle.nop_types.specs.Logs.{Log, Whole, Trimmed, length_of, above, further, adopted, overlaid, IsWithin}
 use Rattle.nop_types.specs.Slots.{laid}
-use Rattle.facts.proofs.Slots.{length-laid, laid-shorter}
+use Rattle.facts.proofs.Slots.{laid-append, length-laid, laid-shorter}
 
 -- ---- the further one
 
@@ -153,6 +153,16 @@ trimmed_overlaid new own =
     let g : Log = further new own in
     let over = laid (above Trimmed new g.sync_point) (above Trimmed own g.sync_point) in
     ap (λ (n : ℕ). record g { entries = take n g.entries ++ over }) (sym (begins g.sync_point))
+
+-- the entries above the sync point, laid over one by one
+pub trimmed_laid_over : (new own : Log)
+    → let g : Log = further new own in
+    let more = above Trimmed new g.sync_point in
+    record g { entries = more ++ drop (length more) (above Trimmed own g.sync_point) } ≡ overlaid Trimmed new own
+trimmed_laid_over new own =
+    let g : Log = further new own in
+    ap (λ (t : List Entry). record g { entries = t }) (sym (laid-append (above Trimmed new g.sync_point) (above Trimmed own g.sync_point)))
+    ∙ trimmed_overlaid new own
 
 pub length-trimmed_adopted : (new own : Log) → length_of Trimmed (adopted Trimmed new own) ≡ max own.sync_point (length_of Trimmed new)
 length-trimmed_adopted new own =

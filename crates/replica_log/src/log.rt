@@ -8,7 +8,6 @@ ghost use Rattle.std.specs.Prelude.{
   true,
   length,
   drop,
-  max,
   IsSome,
   IfOk,
   OnOk,
@@ -33,9 +32,8 @@ ghost use Rattle.nop_types.specs.Logs.{
   adopted,
   overlaid,
 };
-ghost use Rattle.nop_types.specs.Slots.{laid};
 
-use nop_types::{Checkpoint, Entry, Log, LogRef, MAX_LENGTH, MAX_SLOTS, NoMemory};
+use nop_types::{Checkpoint, Entry, Log, LogRef, MAX_LENGTH, MAX_SLOTS, NoMemory, lay_over};
 use std::alloc::Global;
 use std::marker::Model;
 use std::mem;
@@ -66,37 +64,12 @@ impl Model for ReplicaLog {
         × (l.sync_point + length l.entries.items ≤ MAX_LENGTH) };
 }
 
-fn cloned(alloc: Global, entries: &[Entry]) -> Result<Vec<Entry>, NoMemory>
-    ensures { IfOk result (λ copy. copy.items ≡ entries.now) }
-{
-    let mut copy = Vec::with_capacity(alloc, entries.len())?;
-    for entry in entries {
-        copy.push(entry.try_clone()?)?;
-    }
-    Ok(copy)
-}
-
 /// Drops the first `count` entries, or all where there are fewer.
 fn drop_front(entries: &mut Vec<Entry>, count: u32)
     ensures { entries.new.items ≡ drop count entries.old.items }
 {
     let count = entries.len().min(count as usize);
     entries.drain(..count);
-}
-
-/// Puts other entries in the place of as many first ones, and of all where there are no more.
-#[tactic(auto, using(facts::proofs::Slots::laid_parts))]
-fn lay_over(entries: &mut Vec<Entry>, mut more: Vec<Entry>)
-    ensures over { entries.new.items ≡ laid more.items entries.old.items }
-    ensures len { length entries.new.items ≡ max (length more.items) (length entries.old.items) }
-{
-    if more.len() >= entries.len() {
-        *entries = more;
-        return;
-    }
-    while let Some(entry) = more.pop() {
-        entries[more.len()] = entry;
-    }
 }
 
 impl ReplicaLog {
@@ -187,12 +160,7 @@ impl ReplicaLog {
     pub fn copy(&self) -> Result<Log, NoMemory>
         ensures { IfOk result (λ log. log ≡ self.now) }
     {
-        let entries = cloned(*self.entries.allocator(), &self.entries)?;
-        let checkpoint = match &self.checkpoint {
-            Some(checkpoint) => Some(checkpoint.try_clone()?),
-            None => None,
-        };
-        Ok(Log::new(self.sync_point, checkpoint, entries))
+        self.as_ref().to_log(*self.entries.allocator())
     }
 
     pub fn append(&mut self, entry: Entry) -> Result<(), NoMemory>
@@ -265,7 +233,7 @@ impl ReplicaLog {
     }
 
     /// Takes another log likewise, but the own entries above its end stay. On an error the log is as before.
-    #[tactic(auto, using(crate::proofs::Adopted::trimmed_overlaid))]
+    #[tactic(auto, using(crate::proofs::Adopted::trimmed_laid_over))]
     pub fn overlay(&mut self, log: Log) -> Result<(), NoMemory>
         ensures ok { OnOk result (self.new ≡ overlaid Trimmed log self.old) }
         ensures err { OnErr result (self.new ≡ self.old) }

@@ -51,4 +51,4 @@ pub use laws::{
     synchronised_entries_stay,
 };
 pub use member::Member;
-pub use replica_state::{NextNumber, ReplicaState, Sending, Sends};
+pub use replica_state::{ReplicaState, Sending, Sends};

@@ -7,8 +7,8 @@
 //! sync point, that one is taken too.
 //!
 //! Calls, for the state of a replica: `SyncPoints::new`, `prepare` and `on_rep` (leader),
-//! `on_prepare` and `on_commit` (follower), `raise` (a log is taken), `clear` (another view),
-//! `sync_point`, `prepared`, `syncing`.
+//! `on_prepare` and `on_commit` (follower), `raise` (a log is taken), `clear` (another view), and
+//! `sync_point`.
 //!
 //! Files: `synchronisation`; `specs/Synchronisation`.
 #![tactic(auto)]

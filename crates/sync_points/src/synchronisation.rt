@@ -1,4 +1,4 @@
-ghost use Rattle.std.specs.Prelude.{◌≡◌, ◌<◌, option_map};
+ghost use Rattle.std.specs.Prelude.{◌≡◌, ◌<◌};
 ghost use Rattle.sync_points.specs.Synchronisation.{
   opening,
   cleared,
@@ -82,20 +82,6 @@ impl SyncPoints {
         ensures { result ≡ self.now.sync_point }
     {
         self.sync_point
-    }
-
-    /// The length of the longest log that was taken from the leader of this view; 0 is none.
-    pub fn prepared(&self) -> u32
-        ensures { result ≡ self.now.prepared }
-    {
-        self.prepared
-    }
-
-    /// The length that the leader waits for votes on, if it waits.
-    pub fn syncing(&self) -> Option<u32>
-        ensures { result ≡ option_map (λ x. x.len) self.now.syncing }
-    {
-        self.syncing.as_ref().map(|round| round.len)
     }
 
     /// For another view: nothing is prepared and no round is under way, and the sync point stays.

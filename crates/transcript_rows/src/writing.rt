@@ -1,30 +1,13 @@
 ghost use Rattle.std.specs.Prelude.{◌≡◌, ◌++◌, OnOk, OnErr};
 ghost use Rattle.transcript_rows.specs.Rows.{row_text};
 ghost use Rattle.transcript_rows.specs.declared.row.Row.TheVariants as rows;
-ghost use Rattle.transcript_text.specs.Transcript.{kind_text};
 
 use crate::row::Row;
-use nop_types::{Actor, Dest, Entry, NoMemory, Phase, View, kinds};
+use nop_types::{Actor, Dest, Entry, NoMemory, Phase, View};
 use transcript_text::{
     Field, accept_line, busy_line, dead_line, end_line, entry_line, history_line, submit_line,
     write_line,
 };
-
-#[tactic(auto, unfolding(transcript_text::specs::Transcript::kind_text))]
-fn kind_word(kind: u8) -> &'static str
-    ensures { result.now ≡ kind_text kind }
-{
-    match kind {
-        kinds::REQUEST => "request",
-        kinds::STAMPED => "stamped",
-        kinds::REPLY => "reply",
-        kinds::INSTALL => "install",
-        kinds::INSTALLED => "installed",
-        kinds::PING => "ping",
-        kinds::PONG => "pong",
-        _ => "fragment",
-    }
-}
 
 /// The line of a datagram that was sent, of which its kind and its length are known.
 #[tactic(auto, unfolding(crate::specs::Rows::row_text))]
@@ -44,7 +27,7 @@ fn put_sent(
         Field::Number(index),
         Field::Name(from),
         Field::To(dest),
-        Field::Word(kind_word(kind)),
+        Field::Kind(kind),
         Field::Number(u64::from(len)),
     ];
     write_line("send", &fields, to)

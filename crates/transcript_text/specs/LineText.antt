@@ -1,8 +1,8 @@
 -- A line of a transcript as its fields.
-use Rattle.std.specs.Prelude.{ℕ, List, [], ◌∷◌, ◌++◌, decimal, map, slice_index}
+use Rattle.std.specs.Prelude.{ℕ, List, [], ◌∷◌, ◌++◌, decimal, map}
 use Rattle.std.specs.List.{flat_map}
 use Rattle.transcript_text.specs.declared.field.Field.{Field}
-use Rattle.transcript_text.specs.declared.field.Field.TheVariants.{Word, Number, Name, To, KindOf, Crashed, Status, Hex}
+use Rattle.transcript_text.specs.declared.field.Field.TheVariants.{Word, Number, Name, To, Kind, Crashed, Status, Hex}
 use Rattle.transcript_text.specs.Transcript.{actor_text, dest_text, hex_text, kind_text, phase_text, up_text}
 
 abbrev pub field_text : Field → List ℕ
@@ -10,7 +10,7 @@ field_text (Word text) = text.now
 field_text (Number n) = decimal n
 field_text (Name actor) = actor_text actor
 field_text (To dest) = dest_text dest
-field_text (KindOf datagram) = kind_text (slice_index datagram.now 3)
+field_text (Kind kind) = kind_text kind
 field_text (Crashed crashed) = up_text crashed
 field_text (Status status) = phase_text status
 field_text (Hex bytes) = hex_text bytes.now

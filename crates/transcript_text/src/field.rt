@@ -1,4 +1,4 @@
-ghost use Rattle.std.specs.Prelude.{◌≡◌, ◌++◌, ◌∷◌, [], decimal, slice_index, OnOk, OnErr};
+ghost use Rattle.std.specs.Prelude.{◌≡◌, ◌++◌, ◌∷◌, [], decimal, OnOk, OnErr};
 ghost use Rattle.std.specs.List.{flat_map};
 ghost use Rattle.hex.specs.Hex.{encode_lower};
 ghost use Rattle.nop_types.specs.Lists.{IsPrefixOf};
@@ -15,25 +15,25 @@ pub enum Field<'a> {
     Number(u64),
     Name(Actor),
     To(Dest),
-    /// The kind of a datagram, which is its fourth byte.
-    KindOf(&'a [u8]),
+    /// The kind of a datagram.
+    Kind(u8),
     Crashed(bool),
     Status(Phase),
     Hex(&'a [u8]),
 }
 
 #[tactic(auto, unfolding(crate::specs::Transcript::kind_text))]
-fn kind_word(datagram: &[u8]) -> &'static str
-    ensures { result.now ≡ kind_text (slice_index datagram.now 3) }
+fn kind_word(kind: u8) -> &'static str
+    ensures { result.now ≡ kind_text kind }
 {
-    match datagram.get(3) {
-        Some(&kinds::REQUEST) => "request",
-        Some(&kinds::STAMPED) => "stamped",
-        Some(&kinds::REPLY) => "reply",
-        Some(&kinds::INSTALL) => "install",
-        Some(&kinds::INSTALLED) => "installed",
-        Some(&kinds::PING) => "ping",
-        Some(&kinds::PONG) => "pong",
+    match kind {
+        kinds::REQUEST => "request",
+        kinds::STAMPED => "stamped",
+        kinds::REPLY => "reply",
+        kinds::INSTALL => "install",
+        kinds::INSTALLED => "installed",
+        kinds::PING => "ping",
+        kinds::PONG => "pong",
         _ => "fragment",
     }
 }
@@ -159,7 +159,7 @@ fn put_field(field: Field<'_>, to: &mut Vec<u8>) -> Result<(), NoMemory>
         Field::Number(n) => put_number(n, to),
         Field::Name(actor) => put_actor(actor, to),
         Field::To(dest) => put_dest(dest, to),
-        Field::KindOf(datagram) => put_word(kind_word(datagram), to),
+        Field::Kind(kind) => put_word(kind_word(kind), to),
         Field::Crashed(crashed) => put_word(up_word(crashed), to),
         Field::Status(status) => put_word(phase_word(status), to),
         Field::Hex(bytes) => put_hex(bytes, to),

@@ -1,6 +1,6 @@
 //! The lines of a transcript. Each function appends one line.
 
-ghost use Rattle.std.specs.Prelude.{◌≡◌, ◌++◌, Some, None, IsTrue, OnOk, OnErr};
+ghost use Rattle.std.specs.Prelude.{◌≡◌, ◌++◌, Some, None, IsTrue, slice_index, OnOk, OnErr};
 ghost use Rattle.nop_types.specs.Headers.{gives};
 ghost use Rattle.transcript_text.specs.Transcript as texts;
 
@@ -79,6 +79,16 @@ pub fn busy_line(client: u32, to: &mut Vec<u8>) -> Result<(), NoMemory>
     write_line("busy", &[Field::Name(Actor::Client(client))], to)
 }
 
+/// The kind of a datagram is its fourth byte.
+fn kind_of(datagram: &[u8]) -> u8
+    ensures { result ≡ slice_index datagram.now 3 }
+{
+    match datagram.get(3) {
+        Some(kind) => *kind,
+        None => 0,
+    }
+}
+
 /// A datagram was sent, the one with this index of all that were sent, counted from 0.
 #[tactic(auto, using(crate::proofs::LineLemmas::send_fields))]
 pub fn send_line(
@@ -96,7 +106,7 @@ pub fn send_line(
         Field::Number(index),
         Field::Name(from),
         Field::To(dest),
-        Field::KindOf(datagram),
+        Field::Kind(kind_of(datagram)),
         Field::Number(datagram.len() as u64),
     ];
     write_line("send", &fields, to)

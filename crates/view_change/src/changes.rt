@@ -1,6 +1,4 @@
-ghost use Rattle.std.specs.Prelude.{◌≡◌, ◌≤◌, ◌↔◌, length, map, nat_lt, IfOk, OnOk, OnErr};
-ghost use Rattle.nop_types.specs.PlainChanges.{plain};
-ghost use Rattle.log_merge.specs.Merged.{HasDistinctSenders};
+ghost use Rattle.std.specs.Prelude.{◌≡◌, ◌≤◌, ◌↔◌, length, nat_lt, IfOk, OnOk, OnErr};
 ghost use Rattle.view_change.specs.declared.starting.Step.TheVariants.{Waiting};
 ghost use Rattle.view_change.specs.Gathering.{
   entered,
@@ -64,20 +62,6 @@ impl Changes {
             f,
             changes,
         })
-    }
-
-    pub fn view(&self) -> View
-        ensures { result ≡ self.now.view }
-    {
-        self.view
-    }
-
-    /// One change of each sender, in the order in which they came.
-    pub fn as_slice(&self) -> &[Change]
-        ensures changes { result.now ≡ self.now.changes }
-        ensures distinct { HasDistinctSenders (map plain result.now) }
-    {
-        &self.changes
     }
 
     /// What the changes that are there give.

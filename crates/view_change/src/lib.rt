@@ -7,9 +7,9 @@
 //! logs, whose sync point and checkpoint are those of the best of them (`merged`). Only the logs of
 //! the last normal view of greatest rank count (`kept_told`).
 //!
-//! Calls, for the state and the rows of a replica: `Changes::enter`, `on_change`, `is_enough_with`,
-//! `as_slice`; `start_with` moves the logs instead of copying them, and `start_now` is for a leader
-//! without others.
+//! Calls, for the state and the rows of a replica: `Changes::enter`, `on_change`, `is_enough_with`;
+//! `start_with` moves the logs instead of copying them, and `start_now` is for a leader without
+//! others.
 //!
 //! Files: `changes`, `starting`; `specs/Gathering` (`with_change`, `step_of`). A gathering there is
 //! of the changes that are told, or of plain ones, as the protocol has it.

@@ -1,5 +1,5 @@
 use Rattle.std.proofs.Common.{◌≡◌, take}
-use Rattle.nop_types.proofs.checkpoint.Checkpoint.try_clone.Given as goal
+use Rattle.nop_types.proofs.checkpoint.Checkpoint.try_clone_clients.Given as goal
 
 -- the clients that were copied so far
 abbrev pub invariant-loop-client : goal.invariant-loop-client

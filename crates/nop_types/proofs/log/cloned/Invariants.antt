@@ -1,5 +1,5 @@
 use Rattle.std.proofs.Common.{◌≡◌, take}
-use Rattle.replica_log.proofs.log.cloned.Given as goal
+use Rattle.nop_types.proofs.log.cloned.Given as goal
 
 abbrev pub invariant-loop-entry : goal.invariant-loop-entry
 invariant-loop-entry l = l.copy.items ≡ take l.entry-index l.entries

@@ -1,5 +1,5 @@
 use Rattle.std.proofs.Common.{◌≡◌, ◌++◌, ◌≤◌, length, drop, vec_len}
-use Rattle.replica_log.proofs.log.lay_over.Given as goal
+use Rattle.nop_types.proofs.slots.lay_over.Given as goal
 
 -- what is left to be put, over the entries there, is what was to be put over the first ones
 abbrev pub invariant-loop-entry : goal.invariant-loop-entry
