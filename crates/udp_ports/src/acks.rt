@@ -1,12 +1,12 @@
 ghost use Rattle.std.specs.Prelude.{◌≡◌, None, IfSome};
-ghost use Rattle.udp_ports.specs.Acks.{ack_bytes, IsNoAck};
+ghost use Rattle.udp_ports.specs.Acks.{ack_bytes, IsGiven, IsNoAck};
 
 use nop_types::kinds::FIRST_MAGIC;
 
 /// The second byte of an acknowledgement, the letter A. That of each datagram of the protocol is another.
 const ACK_MAGIC: u8 = 0x41;
 
-/// What a link answers to parts.
+/// What a link answers to parts. Neither number is 0.
 #[derive(Clone, Copy, Debug, PartialEq, Eq)]
 pub(crate) struct Ack {
     /// How many parts it received since its last acknowledgement.
@@ -24,11 +24,11 @@ impl Ack {
 
     /// The acknowledgement that a datagram is; None if it is none.
     pub(crate) fn read(bytes: &[u8]) -> Option<Ack>
-        ensures some { IfSome result (λ ack. bytes.now ≡ ack_bytes ack) }
+        ensures some { IfSome result (λ ack. (bytes.now ≡ ack_bytes ack) × IsGiven ack) }
         ensures none { result ≡ None → IsNoAck bytes.now }
     {
         match bytes {
-            [FIRST_MAGIC, ACK_MAGIC, parts, window] => Some(Ack {
+            [FIRST_MAGIC, ACK_MAGIC, parts, window] if *parts > 0 && *window > 0 => Some(Ack {
                 parts: *parts,
                 window: *window,
             }),

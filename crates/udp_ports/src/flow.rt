@@ -1,6 +1,7 @@
-ghost use Rattle.std.specs.Prelude.{◌≡◌, ◌≢◌, ◌<◌, ◌≤◌, ◌+◌, ◌-◌, ◌++◌, ◌∷◌, [], length, min, None, IfSome};
+ghost use Rattle.std.specs.Prelude.{◌≡◌, ◌≢◌, ◌⊎◌, ◌<◌, ◌≤◌, ◌+◌, ◌-◌, ◌++◌, ◌∷◌, [], length, min};
+ghost use Rattle.std.specs.Prelude.{None, IfSome};
 ghost use Rattle.udp_ports.specs.declared.flow.Admission.TheVariants as admissions;
-ghost use Rattle.udp_ports.specs.declared.flow.TheConstants.{MOST_IN_FLIGHT};
+ghost use Rattle.udp_ports.specs.declared.flow.TheConstants.{FIRST_WINDOW, MOST_IN_FLIGHT};
 
 use crate::acks::Ack;
 use crate::backlog::{Backlog, MOST_WAITING, Waiting};
@@ -10,14 +11,14 @@ use std::alloc::Global;
 /// The most parts that are in flight to a port: sent to it, and neither acknowledged nor given up.
 pub(crate) const MOST_IN_FLIGHT: usize = 36;
 
-/// How many may be in flight to a port that has acknowledged nothing yet: all other replicas may begin at the same moment.
+/// How many may be in flight until the port says how many it takes: all other replicas may begin at the same moment.
 pub(crate) const FIRST_WINDOW: usize = MOST_IN_FLIGHT / (MAX_REPLICAS as usize - 1);
 
-/// How long what is in flight may stay without an acknowledgement, in microseconds.
-const PATIENCE_MICROS: u64 = 100_000;
+/// After how many microseconds without an acknowledgement what is in flight is given up.
+const TIMEOUT_MICROS: u64 = 100_000;
 
-/// The same to a silent port. It may be one whose link never acknowledges, so time alone says when more is sent.
-const SILENT_MICROS: u64 = 500;
+/// The same for a silent port. Its link may be one that never acknowledges, so time alone says when more is sent.
+const SILENT_TIMEOUT_MICROS: u64 = 500;
 
 /// What is to be done with a part.
 #[derive(Clone, Copy, Debug, PartialEq, Eq)]
@@ -27,23 +28,23 @@ pub(crate) enum Admission {
     Refused,
 }
 
-/// The parts that go to a port. Those of one turn that may not be sent at once are kept, and go as others are acknowledged. Until all
-/// of them are sent, the parts of later turns are refused: a message comes whole or not at all, and nothing waits behind a message
-/// that is out of date.
+/// The parts that go to a port. What may not be sent at once is kept, and goes as others are acknowledged. What comes in a later turn
+/// is refused until all of it is sent, so that no message waits behind one that is out of date.
 #[derive(Debug, Drop)]
 pub(crate) struct Flow {
     backlog: Backlog,
     in_flight: usize,
-    // How many may be in flight, as the port said last.
+    // How many may be in flight.
     window: usize,
-    // When what is in flight is given up, in microseconds of the clock; none from an acknowledgement to the next turn.
-    until: Option<u64>,
+    // When what is in flight is given up, in microseconds of the clock. The next turn sets it where there is none.
+    deadline: Option<u64>,
     // Whether parts were given up while others waited, and none was acknowledged since.
     is_silent: bool,
     // Whether parts of an earlier turn wait.
     is_closed: bool,
     ghost flight: { in_flight ≤ MOST_IN_FLIGHT },
     ghost room: { window ≤ MOST_IN_FLIGHT },
+    ghost rest: { in_flight ≡ 0 → length backlog ≡ 0 → window ≡ FIRST_WINDOW },
 }
 
 impl Flow {
@@ -55,7 +56,7 @@ impl Flow {
             backlog: Backlog::new(alloc),
             in_flight: 0,
             window: FIRST_WINDOW,
-            until: None,
+            deadline: None,
             is_silent: false,
             is_closed: false,
         }
@@ -78,8 +79,8 @@ impl Flow {
         self.backlog.len() == 0 && self.in_flight == 0
     }
 
-    /// What is to be done with a part: it is to be sent now, and counts as in flight; or it is kept; or it is refused, also where there
-    /// is no memory to keep it.
+    /// What is to be done with a part: it is to be sent now, and counts as in flight; or it is kept; or it is refused, also where
+    /// there is no memory to keep it.
     pub(crate) fn admit(&mut self, port: u16, bytes: &[u8]) -> Admission
         ensures now { result ≡ admissions.SendNow → (self.old.backlog ≡ [])
             × ((self.old.in_flight < self.old.window)
@@ -88,12 +89,14 @@ impl Flow {
             ≡ self.old.backlog ++ record { port = port; bytes = bytes.now } ∷ [] }
         ensures flight { result ≢ admissions.SendNow → self.new.in_flight ≡ self.old.in_flight }
         ensures waiting { result ≢ admissions.Kept → self.new.backlog ≡ self.old.backlog }
+        ensures room { self.new.window ≡ self.old.window }
     {
         if self.is_closed || self.backlog.len() >= MOST_WAITING {
             return Admission::Refused;
         }
         if self.backlog.len() == 0 && self.in_flight < self.window {
             self.in_flight += 1;
+            self.deadline = None;
             return Admission::SendNow;
         }
         match self.backlog.push(port, bytes) {
@@ -107,43 +110,64 @@ impl Flow {
         ensures some { IfSome result (λ first. (self.old.backlog ≡ first ∷ self.new.backlog)
             × ((self.old.in_flight < self.old.window)
             × (self.new.in_flight ≡ self.old.in_flight + 1))) }
-        ensures none { result ≡ None → (self.new.backlog ≡ self.old.backlog)
+        ensures none { result ≡ None → (self.old.backlog ≡ [])
+            ⊎ (self.old.window ≤ self.old.in_flight) }
+        ensures same { result ≡ None → (self.new.backlog ≡ self.old.backlog)
             × (self.new.in_flight ≡ self.old.in_flight) }
+        ensures room { self.new.window ≡ self.old.window }
     {
         if self.in_flight >= self.window {
             return None;
         }
         let first = self.backlog.pop()?;
         self.in_flight += 1;
+        self.is_closed &= self.backlog.len() > 0;
         Some(first)
     }
 
-    /// The port received parts, and says how many may be in flight from now on.
+    /// The port received parts, and says how many may be in flight from now on. Where all is acknowledged and nothing waits, what comes
+    /// next begins anew.
     pub(crate) fn acknowledge(&mut self, ack: Ack)
         ensures flight { self.new.in_flight ≡ self.old.in_flight - ack.parts }
-        ensures room { self.new.window ≡ min ack.window MOST_IN_FLIGHT }
+        ensures room { (self.new.window ≡ min ack.window MOST_IN_FLIGHT)
+            ⊎ (self.new.window ≡ FIRST_WINDOW) }
         ensures waiting { self.new.backlog ≡ self.old.backlog }
     {
-        self.in_flight = self.in_flight.saturating_sub(usize::from(ack.parts));
-        self.window = usize::from(ack.window).min(MOST_IN_FLIGHT);
-        self.until = None;
+        let in_flight = self.in_flight.saturating_sub(usize::from(ack.parts));
+        self.window = if in_flight == 0 && self.backlog.len() == 0 {
+            FIRST_WINDOW
+        } else {
+            usize::from(ack.window).min(MOST_IN_FLIGHT)
+        };
+        self.in_flight = in_flight;
+        self.deadline = None;
         self.is_silent = false;
     }
 
-    /// A new turn begins, at this time in microseconds. What is in flight for too long is given up.
-    pub(crate) fn begin_turn(&mut self, now: u64)
+    /// A new turn begins, at this time in microseconds, or at none where the clock cannot be read. What is in flight for too long is
+    /// given up, and without a time whatever is.
+    pub(crate) fn begin_turn(&mut self, now: Option<u64>)
         ensures waiting { self.new.backlog ≡ self.old.backlog }
-        ensures flight { self.new.in_flight ≤ self.old.in_flight }
+        ensures flight { (self.new.in_flight ≡ self.old.in_flight) ⊎ (self.new.in_flight ≡ 0) }
+        ensures room { (self.new.window ≡ self.old.window) ⊎ (self.new.window ≡ FIRST_WINDOW) }
     {
-        if self.until.is_some_and(|end| now >= end) {
+        if self.is_over(now) {
             self.give_up();
         }
         self.is_closed = self.backlog.len() > 0;
         if self.is_at_rest() {
-            self.window = FIRST_WINDOW;
-            self.until = None;
-        } else if self.until.is_none() {
-            self.until = Some(now.saturating_add(self.patience()));
+            self.deadline = None;
+        } else if self.deadline.is_none() {
+            self.deadline = now.and_then(|now| now.checked_add(self.timeout()));
+        }
+    }
+
+    /// Whether the deadline is over.
+    fn is_over(&self, now: Option<u64>) -> bool {
+        match (now, self.deadline) {
+            (None, _) => true,
+            (Some(_), None) => false,
+            (Some(now), Some(deadline)) => now >= deadline,
         }
     }
 
@@ -151,19 +175,19 @@ impl Flow {
     fn give_up(&mut self)
         ensures waiting { self.new.backlog ≡ self.old.backlog }
         ensures flight { self.new.in_flight ≡ 0 }
+        ensures room { self.new.window ≡ FIRST_WINDOW }
     {
         self.is_silent |= self.backlog.len() > 0;
         self.in_flight = 0;
         self.window = FIRST_WINDOW;
-        self.until = None;
+        self.deadline = None;
     }
 
-    /// After how many microseconds without an acknowledgement what is in flight is given up.
-    fn patience(&self) -> u64 {
+    fn timeout(&self) -> u64 {
         if self.is_silent {
-            SILENT_MICROS
+            SILENT_TIMEOUT_MICROS
         } else {
-            PATIENCE_MICROS
+            TIMEOUT_MICROS
         }
     }
 }

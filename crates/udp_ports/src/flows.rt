@@ -14,10 +14,13 @@ pub(crate) struct Flows {
     is_busy: bool,
 }
 
-/// Sends what waits for a port and may be sent now, at most `FIRST_WINDOW` parts, and says how many of these sends failed.
+/// How many parts go to a port in a turn at most, so that what comes does not wait for long.
+const MOST_AT_ONCE: usize = FIRST_WINDOW;
+
+/// Sends what waits for a port and may be sent now, and says how many of these sends failed.
 fn release<R: Clock>(flow: &mut Flow, socket: &Socket<'_, R>) -> u64 {
     let mut failed: u64 = 0;
-    for _ in 0..FIRST_WINDOW {
+    for _ in 0..MOST_AT_ONCE {
         let Some(next) = flow.next() else {
             return failed;
         };

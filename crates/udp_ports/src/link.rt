@@ -2,7 +2,7 @@ ghost use Rattle.std.specs.Prelude.{◌≡◌, ◌≤◌, length, IfOk, IfSome};
 ghost use Rattle.nop_types.specs.declared.limits.TheConstants.{MAX_DATAGRAM_BYTES};
 
 use crate::acks::Ack;
-use crate::flow::Admission;
+use crate::flow::{Admission, MOST_IN_FLIGHT};
 use crate::flows::Flows;
 use crate::lanes::LANES;
 use crate::parts::is_part;
@@ -13,8 +13,8 @@ use outside::{Link, LinkError};
 use std::alloc::Global;
 use std::time::Clock;
 
-/// How many acknowledgements a poll reads at most.
-const MOST_ACKS: usize = 16;
+/// How many acknowledgements a poll reads at most: as many as it may have caused, with six parts to each of six ports.
+const MOST_ACKS: usize = MOST_IN_FLIGHT;
 
 /// A datagram socket at a port of the loopback address, with counts of its errors. The parts of a long message are sent while it
 /// is polled, as those before them are acknowledged.
@@ -56,7 +56,7 @@ fn acknowledge_part<R: Clock>(
     if !is_part(bytes) {
         return;
     }
-    if let Some(ack) = receipts.note(from) {
+    if let Some(ack) = receipts.record(from) {
         let _sent = socket.has_sent(from, &ack.to_bytes());
     }
 }
@@ -64,7 +64,7 @@ fn acknowledge_part<R: Clock>(
 /// Acknowledges the parts that came and are not acknowledged yet.
 fn acknowledge_rest<R: Clock>(socket: &Socket<'_, R>, receipts: &mut Receipts) {
     for _ in 0..LANES {
-        let Some((port, ack)) = receipts.early() else {
+        let Some((port, ack)) = receipts.take_pending() else {
             return;
         };
         let _sent = socket.has_sent(port, &ack.to_bytes());
@@ -83,8 +83,7 @@ fn receive<R: Clock>(
     let mut patience = patience;
     for _ in 0..MOST_ACKS {
         let Some(received) = socket.receive(patience)? else {
-            acknowledge_rest(socket, receipts);
-            return Ok(None);
+            break;
         };
         let Some(ack) = Ack::read(received.bytes.as_slice()) else {
             acknowledge_part(socket, receipts, received.from, received.bytes.as_slice());
@@ -93,6 +92,7 @@ fn receive<R: Clock>(
         flows.acknowledge(received.from, ack);
         patience = Patience::Returns;
     }
+    acknowledge_rest(socket, receipts);
     Ok(None)
 }
 

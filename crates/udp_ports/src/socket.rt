@@ -23,7 +23,7 @@ pub(crate) enum Patience {
     Returns,
 }
 
-/// A datagram that came, and the port that it came from.
+/// A datagram that came, and the port that it came from. The address is taken for the loopback address.
 #[derive(Debug, Drop)]
 pub(crate) struct Received {
     pub(crate) from: u16,
@@ -117,11 +117,9 @@ impl<'a, R: Clock> Socket<'a, R> {
         }
     }
 
-    /// The time in microseconds from a start of the clock's own. Where it cannot be read, the greatest number: each time is over then.
-    pub(crate) fn micros(&self) -> u64 {
-        match self.clock.monotonic() {
-            Ok(time) => u64::try_from(time.as_micros()).unwrap_or(u64::MAX),
-            Err(_) => u64::MAX,
-        }
+    /// The time in microseconds from a start of the clock's own, where it can be read.
+    pub(crate) fn micros(&self) -> Option<u64> {
+        let time = self.clock.monotonic().ok()?;
+        u64::try_from(time.as_micros()).ok()
     }
 }

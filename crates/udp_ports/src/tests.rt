@@ -48,15 +48,25 @@ fn received<R: std::time::Clock>(link: &mut UdpLink<'_, R>, clock: &R) -> Option
     None
 }
 
-/// Polls a link to which nothing comes, for so many milliseconds.
-fn poll_for<R: std::time::Clock>(link: &mut UdpLink<'_, R>, clock: &R, long: u64) {
-    let start = millis(clock);
-    for _ in 0..100_000usize {
-        if millis(clock) >= start.saturating_add(long) {
-            return;
+/// A socket of another program, whose receives wait for at most a second.
+fn new_peer<R: Net>(rt: &R, port: u16) -> Option<UdpSocket> {
+    let peer = UdpSocket::bind(rt, (Ipv4Addr::LOCALHOST, port)).ok()?;
+    peer.set_read_timeout(Some(Duration::from_secs(1))).ok()?;
+    Some(peer)
+}
+
+/// How many datagrams a socket has.
+fn drained(peer: &UdpSocket) -> usize {
+    let mut bytes = [0u8; 1500];
+    let mut count: usize = 0;
+    let _refused = peer.set_nonblocking(true);
+    for _ in 0..100usize {
+        if peer.recv_from(&mut bytes).is_err() {
+            return count;
         }
-        let _nothing = link.poll();
+        count = count.saturating_add(1);
     }
+    count
 }
 
 /// Datagrams of each size arrive whole: an empty one, the longest fragment, the longest datagram.
@@ -114,7 +124,13 @@ fn failed_sends_are_losses(rt: HostRuntime) {
         assert!(rt; link.send(0, &[8u8; 1417]) == wanted);
     }
     assert!(rt; link.losses() == 7);
-    poll_for(&mut link, &rt, 150);
+    let start = millis(&rt);
+    for _ in 0..100_000usize {
+        if link.losses() == 9 || millis(&rt) >= start.saturating_add(5000) {
+            break;
+        }
+        assert!(rt; link.poll().expect(&rt, "a poll").is_none());
+    }
     assert!(rt; link.losses() == 9 && link.faults() == 0);
 }
 
@@ -200,7 +216,7 @@ fn fragments_of_several_are_parts(rt: HostRuntime) {
 
 /// How many of the parts that wait are sent in a turn at this time.
 fn released(flow: &mut Flow, now: u64) -> usize {
-    flow.begin_turn(now);
+    flow.begin_turn(Some(now));
     let mut count: usize = 0;
     for _ in 0..100usize {
         if flow.next().is_some() {
@@ -222,19 +238,19 @@ fn begun(rt: &impl Abort, flow: &mut Flow) {
     }
 }
 
-/// Parts that wait are sent as others are acknowledged, as many as the port takes; a later turn's are refused until all are sent.
+/// Parts that wait are sent as others are acknowledged, as many as the port takes; a later turn's are refused until all are sent. Where
+/// all is acknowledged, six are sent at once again.
 #[test]
 fn parts_wait_for_acknowledgements(rt: HostRuntime) {
     let mut flow = Flow::new(rt.alloc());
     begun(&rt, &mut flow);
     assert!(rt; released(&mut flow, 200) == 0);
-    for (parts, window, wanted) in [(6, 9, 9), (4, 9, 4), (0, 3, 0), (9, 200, 1)] {
+    for (parts, window, wanted) in [(6, 9, 9), (4, 9, 4), (1, 3, 0), (8, 200, 1)] {
         assert!(rt; flow.admit(1, &[8u8; 1417]) == Admission::Refused);
         flow.acknowledge(Ack { parts, window });
         assert!(rt; released(&mut flow, 300) == wanted);
     }
     for _ in 0..35usize {
-        flow.begin_turn(400);
         assert!(rt; flow.admit(1, &[8u8; 1417]) == Admission::SendNow);
     }
     assert!(rt; flow.admit(1, &[8u8; 1417]) == Admission::Kept);
@@ -243,6 +259,11 @@ fn parts_wait_for_acknowledgements(rt: HostRuntime) {
         window: 36,
     });
     assert!(rt; released(&mut flow, 500) == 1);
+    flow.acknowledge(Ack {
+        parts: 1,
+        window: 36,
+    });
+    begun(&rt, &mut flow);
 }
 
 /// What a port does not acknowledge is given up after a tenth of a second, and of what waits then six are sent in each half of a
@@ -274,6 +295,21 @@ fn silent_ports_are_paced(rt: HostRuntime) {
     assert!(rt; released(&mut flow, 300_600) == 2);
 }
 
+/// Where the clock cannot be read, what is in flight is given up, and when it can be read again the time counts from then.
+#[test]
+fn a_clock_that_fails_blocks_nothing(rt: HostRuntime) {
+    let mut flow = Flow::new(rt.alloc());
+    begun(&rt, &mut flow);
+    assert!(rt; released(&mut flow, 1000) == 0);
+    flow.begin_turn(None);
+    for i in 0..8usize {
+        assert!(rt; flow.next().is_some() == (i < 6));
+    }
+    for (now, wanted) in [(2000, 0), (2499, 0), (2500, 6), (2999, 0), (3000, 2)] {
+        assert!(rt; released(&mut flow, now) == wanted);
+    }
+}
+
 /// An acknowledgement is spelled and read back; other datagrams are none.
 #[test]
 fn acknowledgements_are_told_apart(rt: HostRuntime) {
@@ -288,6 +324,8 @@ fn acknowledgements_are_told_apart(rt: HostRuntime) {
         b"NA\x06\x24\x00",
         b"NO\x06\x24",
         b"OA\x06\x24",
+        b"NA\x00\x24",
+        b"NA\x06\x00",
     ] {
         assert!(rt; Ack::read(other).is_none());
     }
@@ -300,7 +338,7 @@ fn senders_share_what_is_in_flight(rt: HostRuntime) {
     let mut receipts = Receipts::new();
     for i in 1..31usize {
         for port in [41000, 41001, 41002u16] {
-            let ack = receipts.note(port);
+            let ack = receipts.record(port);
             assert!(rt; ack.is_some() == (i % 6 == 0));
             if let Some(ack) = ack {
                 assert!(rt; ack.parts == 6 && ack.window == 12);
@@ -308,20 +346,67 @@ fn senders_share_what_is_in_flight(rt: HostRuntime) {
         }
     }
     for i in 1..73usize {
-        let ack = receipts.note(41001);
+        let ack = receipts.record(41001);
         assert!(rt; ack.is_some() == (i % 6 == 0));
         if let Some(ack) = ack {
             assert!(rt; ack.parts == 6 && ack.window == if i == 72 { 36 } else { 12 });
         }
     }
-    assert!(rt; receipts.early().is_none());
-    receipts.note(41002);
-    receipts.note(41002);
+    assert!(rt; receipts.take_pending().is_none());
+    receipts.record(41002);
+    receipts.record(41002);
     let ack = Ack {
         parts: 2,
         window: 18,
     };
-    assert!(rt; receipts.early() == Some((41002, ack)) && receipts.early().is_none());
+    assert!(rt; receipts.take_pending() == Some((41002, ack)) && receipts.take_pending().is_none());
+}
+
+/// A link acknowledges six parts at once, and those that are left when nothing comes any more.
+#[test]
+fn parts_are_acknowledged(rt: HostRuntime) {
+    let mut ports = UdpPorts::new(&rt, rt.alloc());
+    let mut link = new_link(&mut ports).expect(&rt, "a link");
+    let peer = new_peer(&rt, 0).expect(&rt, "a socket");
+    for _ in 0..8usize {
+        peer.send_to(&[8u8; 1417], (Ipv4Addr::LOCALHOST, link.port()))
+            .expect(&rt, "a send");
+    }
+    for i in 0..9usize {
+        let came = link.poll().expect(&rt, "a poll").is_some();
+        assert!(rt; came == (i < 8));
+    }
+    let mut bytes = [0u8; 8];
+    for wanted in [b"NA\x06\x24", b"NA\x02\x24"] {
+        let (count, from) = peer.recv_from(&mut bytes).expect(&rt, "a datagram");
+        assert!(rt; count == 4 && from.port() == link.port() && &bytes[..4] == wanted.as_slice());
+    }
+}
+
+/// What a port acknowledges makes room for as much as it says, and for no other port; in a turn six go to each at most.
+#[test]
+fn acknowledgements_make_room(rt: HostRuntime) {
+    let mut ports = UdpPorts::new(&rt, rt.alloc());
+    let mut link = new_link(&mut ports).expect(&rt, "a link");
+    let peers = [
+        new_peer(&rt, PORTS + 1005).expect(&rt, "a socket"),
+        new_peer(&rt, PORTS + 1006).expect(&rt, "a socket"),
+    ];
+    for port in [PORTS + 1005, PORTS + 1006] {
+        for _ in 0..20usize {
+            link.send(port, &[8u8; 1417]).expect(&rt, "a send");
+        }
+    }
+    for (peer, ack) in peers.iter().zip([b"NA\x06\x03", b"NA\x06\x24"]) {
+        assert!(rt; drained(peer) == 6);
+        peer.send_to(ack, (Ipv4Addr::LOCALHOST, link.port()))
+            .expect(&rt, "a send");
+    }
+    for _ in 0..2usize {
+        assert!(rt; link.poll().expect(&rt, "a poll").is_none());
+    }
+    assert!(rt; drained(&peers[0]) == 3 && drained(&peers[1]) == 6);
+    assert!(rt; link.losses() == 0);
 }
 
 /// 300 parts, more than a receive buffer holds, arrive whole and in order, though the receiver is not polled for a while, and then
@@ -337,7 +422,9 @@ fn bursts_arrive_whole(rt: HostRuntime) {
         from.send(to.port(), &bytes).expect(&rt, "a send");
     }
     from.send(to.port(), b"small").expect(&rt, "a send");
-    poll_for(&mut from, &rt, 50);
+    for _ in 0..100usize {
+        from.poll().expect(&rt, "a poll");
+    }
     let start = millis(&rt);
     let mut count: usize = 0;
     let mut before_small = None;
