@@ -6,16 +6,16 @@
 //! as the link of that port says that it took those before them. Messages of one fragment and all other datagrams never wait. A poll
 //! has the memory for a datagram before it receives one.
 //!
-//! Proved: the contracts of the traits, so that counts of faults and losses rise exactly where they have to; in flight to a port are
-//! at most as many parts as it takes, and never more than `MOST_IN_FLIGHT`; at most `MOST_WAITING` wait for it, each new one is the
-//! last of them, and only the first one leaves; which datagrams are parts (`is_part`), and how an acknowledgement is spelled and read
-//! (`ack_bytes`). The contracts of std don't say what a socket carries or what a clock shows. So it is only tested that datagrams are
-//! sent and arrive whole, at the loopback address alone, when parts are sent, acknowledged and given up, how long a poll takes, and
-//! that the clock counts milliseconds.
+//! Proved: the contracts of the traits, so that counts of faults and losses rise exactly where they have to; a part is sent only
+//! where fewer are in flight than its port takes, and never are more than `MOST_IN_FLIGHT`; at most `MOST_WAITING` wait for it, each
+//! new one is the last of them, and only the first one leaves; which datagrams are parts (`is_part`), and how an acknowledgement is
+//! spelled and read (`ack_bytes`). The contracts of std don't say what a socket carries or what a clock shows. So it is only tested
+//! that datagrams are sent and arrive whole, at the loopback address alone, when parts are sent, acknowledged and given up, how long
+//! a poll takes, and that the clock counts milliseconds.
 //!
 //! For others: `UdpPorts::new`, `SystemClock::new`, and the methods of the traits. Files, in reading order: `system_clock`; `socket`;
-//! `parts`; `lanes`; `acks`; `backlog`, the parts that wait for a port; `flow`, which of them may be sent, and `flows`; `receipts`, what came and
-//! is to be acknowledged; `link`; `ports`; `tests`.
+//! `parts`; `lanes`; `acks`; `backlog`, the parts that wait for a port; `flow`, which of them may be sent, and `flows`; `receipts`,
+//! what came and is to be acknowledged; `link`; `ports`; `tests`.
 #![tactic(auto)]
 
 mod acks;
