@@ -1,6 +1,8 @@
 //! Tests alone: clusters of the program over sockets, with the system's clock and with one that
-//! stands still.
+//! stands still; and how links send and acknowledge the fragments of long messages.
 #![tactic(auto)]
 
 #[cfg(test)]
 mod clusters;
+#[cfg(test)]
+mod links;

@@ -8,7 +8,6 @@ use nop_types::Bytes;
 use outside::{Clock, Link, LinkError, Ports};
 use std::io::ErrorKind;
 use std::net::{Ipv4Addr, Net, UdpSocket};
-use std::ops::Range;
 use std::process::Abort;
 use std::thread;
 use std::time::Duration;
@@ -46,27 +45,6 @@ fn received<R: std::time::Clock>(link: &mut UdpLink<'_, R>, clock: &R) -> Option
         }
     }
     None
-}
-
-/// A socket of another program, whose receives wait for at most a second.
-fn new_peer<R: Net>(rt: &R, port: u16) -> Option<UdpSocket> {
-    let peer = UdpSocket::bind(rt, (Ipv4Addr::LOCALHOST, port)).ok()?;
-    peer.set_read_timeout(Some(Duration::from_secs(1))).ok()?;
-    Some(peer)
-}
-
-/// How many datagrams a socket has.
-fn drained(peer: &UdpSocket) -> usize {
-    let mut bytes = [0u8; 1500];
-    let mut count: usize = 0;
-    let _refused = peer.set_nonblocking(true);
-    for _ in 0..100usize {
-        if peer.recv_from(&mut bytes).is_err() {
-            return count;
-        }
-        count = count.saturating_add(1);
-    }
-    count
 }
 
 /// Datagrams of each size arrive whole: an empty one, the longest fragment, the longest datagram.
@@ -360,126 +338,4 @@ fn senders_share_what_is_in_flight(rt: HostRuntime) {
         window: 18,
     };
     assert!(rt; receipts.take_pending() == Some((41002, ack)) && receipts.take_pending().is_none());
-}
-
-/// A link acknowledges six parts at once, and those that are left when nothing comes any more.
-#[test]
-fn parts_are_acknowledged(rt: HostRuntime) {
-    let mut ports = UdpPorts::new(&rt, rt.alloc());
-    let mut link = new_link(&mut ports).expect(&rt, "a link");
-    let peer = new_peer(&rt, 0).expect(&rt, "a socket");
-    for _ in 0..8usize {
-        peer.send_to(&[8u8; 1417], (Ipv4Addr::LOCALHOST, link.port()))
-            .expect(&rt, "a send");
-    }
-    for i in 0..9usize {
-        let came = link.poll().expect(&rt, "a poll").is_some();
-        assert!(rt; came == (i < 8));
-    }
-    let mut bytes = [0u8; 8];
-    for wanted in [b"NA\x06\x24", b"NA\x02\x24"] {
-        let (count, from) = peer.recv_from(&mut bytes).expect(&rt, "a datagram");
-        assert!(rt; count == 4 && from.port() == link.port() && &bytes[..4] == wanted.as_slice());
-    }
-}
-
-/// What a port acknowledges makes room for as much as it says, and for no other port; in a turn six go to each at most.
-#[test]
-fn acknowledgements_make_room(rt: HostRuntime) {
-    let mut ports = UdpPorts::new(&rt, rt.alloc());
-    let mut link = new_link(&mut ports).expect(&rt, "a link");
-    let peers = [
-        new_peer(&rt, PORTS + 1005).expect(&rt, "a socket"),
-        new_peer(&rt, PORTS + 1006).expect(&rt, "a socket"),
-    ];
-    for port in [PORTS + 1005, PORTS + 1006] {
-        for _ in 0..20usize {
-            link.send(port, &[8u8; 1417]).expect(&rt, "a send");
-        }
-    }
-    for (peer, ack) in peers.iter().zip([b"NA\x06\x03", b"NA\x06\x24"]) {
-        assert!(rt; drained(peer) == 6);
-        peer.send_to(ack, (Ipv4Addr::LOCALHOST, link.port()))
-            .expect(&rt, "a send");
-    }
-    for _ in 0..2usize {
-        assert!(rt; link.poll().expect(&rt, "a poll").is_none());
-    }
-    assert!(rt; drained(&peers[0]) == 3 && drained(&peers[1]) == 6);
-    assert!(rt; link.losses() == 0);
-}
-
-/// 300 parts, more than a receive buffer holds, arrive whole and in order, though the receiver is not polled for a while, and then
-/// both are. Another datagram passes by all but those that were sent at once.
-#[test]
-fn bursts_arrive_whole(rt: HostRuntime) {
-    let mut ports = UdpPorts::new(&rt, rt.alloc());
-    let mut from = new_link(&mut ports).expect(&rt, "a link");
-    let mut to = new_link(&mut ports).expect(&rt, "a link");
-    let mut bytes = [8u8; 1417];
-    for i in 0..300usize {
-        bytes[0] = (i % 256) as u8;
-        from.send(to.port(), &bytes).expect(&rt, "a send");
-    }
-    from.send(to.port(), b"small").expect(&rt, "a send");
-    for _ in 0..100usize {
-        from.poll().expect(&rt, "a poll");
-    }
-    let start = millis(&rt);
-    let mut count: usize = 0;
-    let mut before_small = None;
-    for _ in 0..100_000usize {
-        if count == 300 || millis(&rt) >= start.saturating_add(5000) {
-            break;
-        }
-        from.poll().expect(&rt, "a poll");
-        for _ in 0..32usize {
-            let Some(datagram) = to.poll().expect(&rt, "a poll") else {
-                break;
-            };
-            if datagram.as_slice() == b"small".as_slice() {
-                before_small = Some(count);
-            } else {
-                bytes[0] = (count % 256) as u8;
-                assert!(rt; datagram.as_slice() == bytes.as_slice());
-                count = count.saturating_add(1);
-            }
-        }
-    }
-    assert!(rt; count == 300);
-    assert!(rt; before_small == Some(6));
-    assert!(rt; from.losses() == 0);
-}
-
-/// The datagrams with these numbers come next, whole and in order, and then none.
-fn check_received<L: Link>(rt: &impl Abort, link: &mut L, numbers: Range<u8>) {
-    let mut number = numbers.start;
-    let mut bytes = [8u8; 1417];
-    for _ in 0..1000usize {
-        if let Some(datagram) = link.poll().expect(rt, "a poll") {
-            bytes[1416] = number;
-            assert!(rt; datagram.as_slice() == bytes.as_slice(), "{number}");
-            number = number.wrapping_add(1);
-        } else if number >= numbers.end {
-            break;
-        }
-    }
-    assert!(rt; number == numbers.end);
-}
-
-/// A link that is given back sends what still waits: of twenty parts six are sent at once, and the others then.
-#[test]
-fn a_link_given_back_sends_the_rest(rt: HostRuntime) {
-    let mut ports = UdpPorts::new(&rt, rt.alloc());
-    let mut to = ports.attach(PORTS + 1003).expect(&rt, "a link");
-    let mut from = ports.attach(PORTS + 1004).expect(&rt, "a link");
-    let mut bytes = [8u8; 1417];
-    for number in 0..20u8 {
-        bytes[1416] = number;
-        from.send(to.port(), &bytes).expect(&rt, "a send");
-    }
-    check_received(&rt, &mut to, 0..6);
-    assert!(rt; from.losses() == 0);
-    ports.detach(from);
-    check_received(&rt, &mut to, 6..20);
 }
