@@ -12,7 +12,7 @@
 # the buffers of replicas with requests alone, since they wait for no more than a majority. A leader that is silent
 # is suspected at a follower's second Watch from then on, so after 1 to 2 seconds. It is killed 100 ms before a Watch: of each time
 # here 1.1 s are that wait. The last two numbers are the datagrams that found a receive buffer full, before the kills and after them
-# (RcvbufErrors of /proc/net/snmp, which counts for all programs of the network namespace). It takes four minutes, and ends with status 1
+# (RcvbufErrors of /proc/net/snmp, which counts for all programs of the network namespace). It takes two minutes, and ends with status 1
 # where a client is not answered within 20 s.
 set -u
 cd "$(dirname "$0")/.." || exit 2
