@@ -27,7 +27,7 @@ here=$(cd "$(dirname "$0")" && pwd)
 folder=$(mktemp -d)
 trap 'rm -rf "$folder"' EXIT
 
-for crate in nop_types facts histories gap_agree client_table kv_host log_merge oum_codec fragments oum_receiver replica_log \
+for crate in nop_types lemmas execution_laws gap_agree client_table kv_host log_merge oum_codec fragments oum_receiver replica_log \
     peer_codec executor slot_lookup sync_points view_change client_quorum replica_state replica_rows \
     replica_core; do
     mkdir -p "$folder/crates/$crate"

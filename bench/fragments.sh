@@ -15,15 +15,15 @@ folder=$(mktemp -d)
 trap 'rm -rf "$folder"' EXIT
 
 mkdir "$folder/crates"
-for crate in nop_types facts oum_codec fragments; do
+for crate in nop_types lemmas oum_codec fragments; do
     mkdir "$folder/crates/$crate"
     cp -r "$top/crates/$crate/src" "$top/crates/$crate/specs" "$top/crates/$crate/proofs" "$folder/crates/$crate"
 done
 cat >"$folder/crates.txt" <<'CRATES'
 nop_types:
-facts: nop_types
+lemmas: nop_types
 oum_codec: nop_types
-fragments: nop_types facts oum_codec
+fragments: nop_types lemmas oum_codec
 measured: nop_types oum_codec fragments
 CRATES
 

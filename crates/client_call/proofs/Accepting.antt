@@ -3,7 +3,7 @@ use Rattle.std.proofs.Common.{◌≡◌, ℕ, zero, suc, ◌+◌, true, false, O
 use Rattle.std.proofs.Common.{append-nil, inl, inr, subst}
 use Rattle.std.specs.Prelude.{map}
 use Rattle.std.proofs.lemmas.Option.{none-some, same_Some}
-use Rattle.facts.proofs.Members.{Has-none, Has-rest, Has-append_left, Has-append_right, Has-append_cases}
+use Rattle.lemmas.proofs.Members.{Has-none, Has-rest, Has-append_left, Has-append_right, Has-append_cases}
 use Rattle.nop_types.specs.Configuration.{Configuration}
 use Rattle.nop_types.specs.Given.{Given, Packet, Ticked, Submit}
 use Rattle.nop_types.specs.Lists.{Has}

@@ -10,8 +10,8 @@ use Rattle.nop_types.specs.Views.{is_view, leader_of}
 use Rattle.nop_types.specs.declared.view.View.{View}
 use Rattle.nop_types.specs.declared.datagram.Reply.{Reply}
 use Rattle.nop_types.specs.declared.output.Out.TheVariants.{Accepted}
-use Rattle.facts.proofs.Views.{is_view-true, is_view-same}
-use Rattle.facts.proofs.Members.{Has-none, Has-from_find, find-some}
+use Rattle.lemmas.proofs.Views.{is_view-true, is_view-same}
+use Rattle.lemmas.proofs.Members.{Has-none, Has-from_find, find-some}
 use Rattle.client_quorum.specs.declared.state.ClientState.{ClientState}
 use Rattle.client_quorum.specs.ClientSteps.{is_expected, kept, accept_if, reply_if, reply}
 use Rattle.client_quorum.specs.KeptReplies.{HasOneEach, keep_reply, matches, is_leaders, quorum_of}

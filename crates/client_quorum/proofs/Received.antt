@@ -12,7 +12,7 @@ use Rattle.nop_types.specs.declared.request.Request.{Request}
 use Rattle.nop_types.specs.declared.datagram.Reply.{Reply}
 use Rattle.nop_types.specs.declared.output.Out.{Out}
 use Rattle.nop_types.specs.declared.output.Out.TheVariants.{Submitted, Accepted}
-use Rattle.facts.proofs.Members.{Has-none, Has-rest, Has-append_left, Has-append_right, Has-from_filter, Has-filter, Has-push_cases}
+use Rattle.lemmas.proofs.Members.{Has-none, Has-rest, Has-append_left, Has-append_right, Has-from_filter, Has-filter, Has-push_cases}
 use Rattle.client_quorum.specs.declared.state.ClientState.{ClientState}
 use Rattle.client_quorum.specs.ClientSteps.{opening, next, request_of, sent, is_of, is_expected, kept, accept_if}
 use Rattle.client_quorum.specs.KeptReplies.{HasOneEach, keep_reply, matches, quorum_of}

@@ -8,7 +8,7 @@ use Rattle.nop_types.specs.Given.{Given}
 use Rattle.nop_types.specs.Lists.{Has}
 use Rattle.nop_types.specs.declared.view.View.{View}
 use Rattle.nop_types.specs.declared.datagram.Reply.{Reply}
-use Rattle.facts.proofs.Members.{Has-none, Has-from_filter, Has-push_cases}
+use Rattle.lemmas.proofs.Members.{Has-none, Has-from_filter, Has-push_cases}
 use Rattle.client_quorum.specs.declared.state.ClientState.{ClientState}
 use Rattle.client_quorum.specs.ClientSteps.{opening, next, kept, accept_if}
 use Rattle.client_quorum.specs.KeptReplies.{HasOneEach, keep_reply, matches, quorum_of}

@@ -11,7 +11,7 @@ use Rattle.nop_types.specs.declared.request.Request.{Request}
 use Rattle.nop_types.specs.declared.datagram.Reply.{Reply}
 use Rattle.nop_types.specs.declared.output.Out.{Out}
 use Rattle.nop_types.specs.declared.output.Out.TheVariants.{Submitted, Send, Accepted, Busy, Trimmed}
-use Rattle.facts.proofs.Members.{Has-append_left, Has-append_right}
+use Rattle.lemmas.proofs.Members.{Has-append_left, Has-append_right}
 use Rattle.client_quorum.specs.declared.state.ClientState.{ClientState}
 use Rattle.client_quorum.specs.ClientSteps.{opening, next, request_of, is_of, is_expected, kept, accept_if}
 use Rattle.client_quorum.specs.Runs.{after, gave, ops_of, HasNoSubmit, EndsWith, Stands, NoneYet, IsOpen, WasAccepted}

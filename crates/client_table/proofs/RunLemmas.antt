@@ -11,7 +11,7 @@ use Rattle.nop_types.specs.declared.limits.TheConstants.{WINDOW}
 use Rattle.nop_types.specs.Lists.{Has, IsGreatest, is_in}
 use Rattle.nop_types.specs.Windows.{greatest, is_new}
 use Rattle.nop_types.specs.Tables.{Answered, Account, Table, kept_for, account_with, with_result}
-use Rattle.facts.proofs.Places.{slice_get-append_left, slice_get-append_at, slice_get-push_cases}
+use Rattle.lemmas.proofs.Places.{slice_get-append_left, slice_get-append_at, slice_get-push_cases}
 use Rattle.client_table.specs.Table.{Fresh, verdict_on}
 use Rattle.client_table.specs.Answers.{account_of_one}
 use Rattle.client_table.specs.Runs.{Given, kept_after, EachIsFresh, id_for, ids_for, IsVerdict}

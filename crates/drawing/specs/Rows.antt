@@ -1,8 +1,8 @@
 -- What is kept of a run, and what is written of it.
 use Rattle.std.specs.Prelude.{◌≡◌, ℕ, List, [], ◌∷◌, ◌++◌, Option, string_bytes}
 use Rattle.std.specs.Io.KnownBytes.{Appends}
-use Rattle.flights.specs.declared.flight.Flight.{Flight}
-use Rattle.flights.specs.declared.flight.Leg.{Leg}
+use Rattle.picture_arrows.specs.declared.flight.Flight.{Flight}
+use Rattle.picture_arrows.specs.declared.flight.Leg.{Leg}
 use Rattle.nop_types.specs.declared.output.Actor.{Actor}
 use Rattle.picture.specs.Texts.{IsWhole}
 use Rattle.picture.specs.declared.data.Row.{Row}

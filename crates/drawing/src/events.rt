@@ -10,10 +10,10 @@ ghost use Rattle.transcript_text.specs.Transcript.{actor_text};
 ghost use Rattle.world.specs.WorldSteps.{actor_of};
 ghost use Rattle.drawing.specs.Words.{shown_text};
 
-use labels::put_op;
 use nop_types::{Actor, NoMemory, Tick};
 use op_text::OpText;
 use picture::Text;
+use picture_labels::put_op;
 use schedule_text::Event;
 use std::alloc::Global;
 

@@ -13,7 +13,7 @@
 //! `Source` and `Sink`; `status_of` and `complaint` say what becomes of its errors.
 //!
 //! Files: `program`; `running` steps the world; `observing` tells `recorder` what a step shows, in
-//! the words of `labels`; `recorder` keeps it, and sees no world; `standing` (how replicas stand in
+//! the words of `picture_labels`; `recorder` keeps it, and sees no world; `standing` (how replicas stand in
 //! their views), `events`, `notes`; `error`, `status`. `specs/Errors`, `Rows`, `Words`.
 #![tactic(auto)]
 

@@ -1,8 +1,8 @@
 //! The notes of a row.
 
-use labels::note_of;
 use nop_types::NoMemory;
 use picture::{Mark, Note, Text};
+use picture_labels::note_of;
 use std::alloc::Global;
 use std::mem;
 

@@ -8,11 +8,11 @@ ghost use Rattle.drawing.specs.Rows.{AddsFlight, AddsRow};
 use crate::events::{actor_of, event_text, put_submitted};
 use crate::notes::Notes;
 use crate::standing::{Standing, put_changes, role};
-use flights::{Crash, Flight, Leg, actors, deliver, lanes, losses};
-use labels::Label;
 use nop_types::{Actor, Config, Dest, NoMemory};
 use op_text::OpText;
 use picture::{Mark, Note, Picture, Role, Row, Stretch, Text, draw, same};
+use picture_arrows::{Crash, Flight, Leg, actors, deliver, lanes, losses};
+use picture_labels::Label;
 use schedule_text::Event;
 use std::alloc::Global;
 

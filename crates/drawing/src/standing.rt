@@ -1,9 +1,9 @@
 //! How a replica stands, and what a step changed.
 
 use crate::notes::Notes;
-use labels::{put_request, put_view};
 use nop_types::{Entry, Host, NoMemory, Phase, View, leader_of};
 use picture::{Mark, Role, Text};
+use picture_labels::{put_request, put_view};
 use replica_core::Replica;
 use std::alloc::Global;
 use world::World;

@@ -9,8 +9,8 @@ use Rattle.nop_types.specs.declared.request.Entry.{Entry}
 use Rattle.nop_types.specs.Meaning.{Meaning}
 use Rattle.nop_types.specs.Tables.{kept_for}
 use Rattle.nop_types.specs.Execution.{Executed, exec_kept, enter_kept}
-use Rattle.facts.proofs.Places.{Splits-at, slice_get-some, slice_get-append_within, slice_get-append_at}
-use Rattle.histories.proofs.Steps.{exec_kept_of_append}
+use Rattle.lemmas.proofs.Places.{Splits-at, slice_get-some, slice_get-append_within, slice_get-append_at}
+use Rattle.execution_laws.proofs.Steps.{exec_kept_of_append}
 use Rattle.executor.specs.declared.slot_undo.SlotUndo.{SlotUndo}
 use Rattle.executor.specs.Undoing.{slot_undo_of, undone_by, IsExecuted, UndoFits, UndosFit}
 use Rattle.executor.proofs.UndoLemmas.{goes_back, has_kept}

@@ -11,7 +11,7 @@ use Rattle.nop_types.specs.Checkpoints.{Checkpoint}
 use Rattle.nop_types.specs.CheckpointedLogs.{beginning}
 use Rattle.nop_types.specs.Logs.{Log, Trimmed, length_of, appended, with_noop}
 use Rattle.nop_types.specs.Slots.{set_slot}
-use Rattle.facts.proofs.Places.{slice_get-take}
+use Rattle.lemmas.proofs.Places.{slice_get-take}
 use Rattle.executor.specs.declared.slot_undo.SlotUndo.{SlotUndo}
 use Rattle.executor.specs.Running.{Running, reached, execution}
 use Rattle.executor.specs.Undoing.{slot_undo_of, IsExecuted, HasExecuted}

@@ -10,7 +10,7 @@ use Rattle.nop_types.specs.Checkpoints.{checkpoint_of, loaded_of, is_checkpoint,
 use Rattle.nop_types.specs.CheckpointedLogs.{beginning, executed, kept_result, raised}
 use Rattle.nop_types.specs.Logs.{Log, Trimmed, above}
 use Rattle.nop_types.specs.Ranges.{LogFits}
-use Rattle.histories.proofs.Saving.{checkpoint_loads}
+use Rattle.execution_laws.proofs.Saving.{checkpoint_loads}
 use Rattle.executor.specs.Running.{Running, reached, execution}
 use Rattle.executor.specs.Undoing.{IsExecuted, HasExecuted}
 use Rattle.executor.specs.Results.{IsResult}

@@ -11,7 +11,7 @@ use Rattle.std.proofs.lemmas.List.Quantifiers.{position-Some}
 use Rattle.std.proofs.lemmas.Option.{slice_get-get_or, get_or_from_slice_get, slice_get_within}
 use Rattle.nop_types.specs.declared.datagram.Fragment.{Fragment}
 use Rattle.nop_types.specs.Lists.{Has}
-use Rattle.facts.proofs.Members.{Has-append_left, Has-push, Has-rest, Has-first}
+use Rattle.lemmas.proofs.Members.{Has-append_left, Has-push, Has-rest, Has-first}
 use Rattle.fragments.specs.Parts.{Partial, missing, whole, bytes_of, with_part}
 use Rattle.fragments.specs.Joining.{Waiting, begun, started, refuses, completes, continued, placed, place, joined, at_sender, taken}
 use Rattle.fragments.specs.Joining.{taken_if, is_in_range, opening}

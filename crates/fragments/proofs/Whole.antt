@@ -7,7 +7,7 @@ use Rattle.std.proofs.lemmas.List.Concat.{flat_map-cons}
 use Rattle.nop_types.specs.declared.limits.TheConstants.{FRAGMENT_BYTES}
 use Rattle.nop_types.specs.declared.datagram.Fragment.{Fragment}
 use Rattle.nop_types.specs.Lists.{Has}
-use Rattle.facts.proofs.Members.{Has-push, Has-push_cases}
+use Rattle.lemmas.proofs.Members.{Has-push, Has-push_cases}
 use Rattle.fragments.specs.Cutting.{piece, piece_count, fragment_at, first_fragments}
 use Rattle.fragments.specs.Joining.{taken}
 use Rattle.fragments.specs.Runs.{concat, after, CameInParts, Sent, AreDistinct, AreCutFrom, WasSent}

@@ -7,7 +7,7 @@ use Rattle.nop_types.specs.declared.datagram.Datagram.TheVariants as datagrams
 use Rattle.nop_types.specs.declared.kinds.TheConstants.{REQUEST, FRAGMENT}
 use Rattle.oum_codec.specs.Numbers.{be_bytes}
 use Rattle.oum_codec.specs.Spelling.{spelling}
-use Rattle.delivery.specs.Network.{IsDatagram}
+use Rattle.network_laws.specs.Network.{IsDatagram}
 use Rattle.transcript_rows.specs.declared.row.TheConstants.{MAX_SENT_BYTES}
 
 pub record IsSpelled (bytes : List ℕ) : Type 0 where

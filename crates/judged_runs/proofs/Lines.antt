@@ -5,9 +5,9 @@ use Rattle.std.proofs.Common.{List, [], ◌∷◌, ◌++◌, inl, inr, append_as
 use Rattle.std.specs.Prelude.{⊤, Result, Ok, Err, nat_lt, slice_get}
 use Rattle.std.proofs.lemmas.List.{length-set}
 use Rattle.std.proofs.lemmas.Option.{slice_get_within}
-use Rattle.facts.proofs.Members.{Has-none, Has-cases, Has-append_cases}
-use Rattle.facts.proofs.Places.{slice_get-append_left, slice_get-append_at, slice_get-push_cases}
-use Rattle.facts.proofs.Places.{slice_get-set_cases}
+use Rattle.lemmas.proofs.Members.{Has-none, Has-cases, Has-append_cases}
+use Rattle.lemmas.proofs.Places.{slice_get-append_left, slice_get-append_at, slice_get-push_cases}
+use Rattle.lemmas.proofs.Places.{slice_get-set_cases}
 use Rattle.line_fields.specs.Fields.{IsActorOf}
 use Rattle.nop_types.specs.Configuration.{Configuration}
 use Rattle.nop_types.specs.Given.{Given, Packet, Ticked, Submit}

@@ -1,7 +1,7 @@
 -- The ops of a schedule that is read are bytes, and short.
 use Rattle.std.proofs.Common.{◌≡◌, ℕ, ◌+◌, Bool, true, false, Some, refl, ap, subst, List, [], ◌∷◌, length}
 use Rattle.std.specs.Prelude.{⊤, codes, nat_le, Result, Ok, Err, if◌then◌else◌}
-use Rattle.facts.proofs.Bytes.{no_bytes}
+use Rattle.lemmas.proofs.Bytes.{no_bytes}
 use Rattle.hex.specs.Hex.{IsBytes, decode_of}
 use Rattle.hex.specs.declared.error.FromHexError.{FromHexError}
 use Rattle.hex.proofs.HexLemmas.{decode_of-ok}

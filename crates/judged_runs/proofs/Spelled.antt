@@ -8,8 +8,8 @@ use Rattle.std.proofs.lemmas.Bool.{and_parts}
 use Rattle.std.proofs.lemmas.List.{length-map}
 use Rattle.std.proofs.lemmas.List.Folds.{list_all-append}
 use Rattle.std.proofs.lemmas.Option.{slice_get_within}
-use Rattle.facts.proofs.Members.{Has-append_left, Has-filter, Has-first, Has-from_filter, Has-rest}
-use Rattle.histories.proofs.Shortness.{result_fits}
+use Rattle.lemmas.proofs.Members.{Has-append_left, Has-filter, Has-first, Has-from_filter, Has-rest}
+use Rattle.execution_laws.proofs.Shortness.{result_fits}
 use Rattle.nop_types.specs.Checkpoints.{KeepsTo}
 use Rattle.nop_types.specs.Configuration.{Configuration, is_configuration}
 use Rattle.nop_types.specs.Headers.{gives, is_header}

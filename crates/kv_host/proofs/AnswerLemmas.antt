@@ -5,8 +5,8 @@ use Rattle.std.specs.Int.{w16, to_be_bytes}
 use Rattle.std.specs.Ordering.{nat_cmp, eq_by_cmp}
 use Rattle.std.specs.Cmp.Lexicographic.{slice_cmp, nat_list_cmp_total}
 use Rattle.std.specs.FinMap as finite
-use Rattle.facts.proofs.Bytes as services
-use Rattle.facts.proofs.Bytes.{bytes_behind, bytes_both, bytes_back, small_bytes}
+use Rattle.lemmas.proofs.Bytes as services
+use Rattle.lemmas.proofs.Bytes.{bytes_behind, bytes_both, bytes_back, small_bytes}
 use Rattle.nop_types.specs.Services.{IsBytes, AnswersAreBytes}
 use Rattle.kv_host.specs.declared.op.TheConstants.{PUT, SWAP}
 use Rattle.kv_host.specs.Op.{Op, Get, Put, Delete, Swap, Bad, read_op}

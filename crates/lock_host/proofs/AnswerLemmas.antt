@@ -3,8 +3,8 @@ use Rattle.std.proofs.Common.{◌≡◌, ℕ, ◌+◌, Bool, true, false, cond, 
 use Rattle.std.proofs.Common.{subst, inl, inr}
 use Rattle.std.specs.Prelude.{⊤, codes, nat_lt, position}
 use Rattle.std.proofs.lemmas.Option.{none-some}
-use Rattle.facts.proofs.Bytes as services
-use Rattle.facts.proofs.Bytes.{bytes_behind, bytes_both, bytes_back, small_bytes}
+use Rattle.lemmas.proofs.Bytes as services
+use Rattle.lemmas.proofs.Bytes.{bytes_behind, bytes_both, bytes_back, small_bytes}
 use Rattle.nop_types.specs.Services.{IsBytes, AnswersAreBytes}
 use Rattle.lock_host.specs.declared.locks.TheConstants.{MAX_LOCKS, LAST_TOKEN}
 use Rattle.lock_host.specs.declared.lock.Lock.{Lock}

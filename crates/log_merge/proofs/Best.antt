@@ -4,7 +4,7 @@ use Rattle.std.proofs.Common.{ap, sym, ◌∙◌, subst, refl, arith, inl, inr, 
 use Rattle.std.proofs.lemmas.List.{drop_more}
 use Rattle.std.proofs.lemmas.Bool.Decides.{nat_tests}
 use Rattle.nop_types.specs.declared.peer.Change.{Change}
-use Rattle.facts.proofs.Members.{Has-first, Has-rest, Has-none, Has-cases}
+use Rattle.lemmas.proofs.Members.{Has-first, Has-rest, Has-none, Has-cases}
 use Rattle.log_merge.specs.Merging.{precedes, better, best, IsBest}
 use Rattle.log_merge.specs.Given.{better_of}
 

@@ -41,7 +41,7 @@ use Rattle.nop_types.specs.Lists.{Has, slot_of}
 use Rattle.nop_types.specs.Logs.{Trimmed, above}
 use Rattle.nop_types.specs.PlainChanges.{Change, plain, plain_above}
 use Rattle.nop_types.specs.Views.{is_view}
-use Rattle.facts.proofs.Members.{Has-first, Has-rest, Has-none, Has-cases, Has-filter, Has-from_filter}
+use Rattle.lemmas.proofs.Members.{Has-first, Has-rest, Has-none, Has-cases, Has-filter, Has-from_filter}
 use Rattle.log_merge.specs.Given.{rests}
 use Rattle.log_merge.specs.Merge.{Told, told, of_both, of_two, chosen, merge}
 use Rattle.log_merge.specs.Merging.{best, merge_above, merged_from, merged}

@@ -11,7 +11,7 @@ use Rattle.nop_types.specs.PlainChanges.{Change, plain_above}
 use Rattle.nop_types.specs.Lists.{Has, slot_of}
 use Rattle.nop_types.specs.Logs.{Log, Keeping, Whole, Trimmed, empty, before, place_of, above}
 use Rattle.nop_types.specs.Ranges.{EntryFits, CheckpointIsIn, LogIsIn, ChangeIsIn}
-use Rattle.facts.proofs.Members.{Has-none, Has-first, Has-rest, Has-cases}
+use Rattle.lemmas.proofs.Members.{Has-none, Has-first, Has-rest, Has-cases}
 use Rattle.log_merge.specs.Merge.{Told, told, of_both, of_two, chosen, entry_of, longest, merge}
 use Rattle.log_merge.specs.Merging.{best, merged_from, merged}
 use Rattle.log_merge.proofs.Best.{best_is_best}

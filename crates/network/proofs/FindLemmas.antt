@@ -10,7 +10,7 @@ use Rattle.std.proofs.lemmas.Cmp.{nat_eq_equiv}
 use Rattle.std.proofs.lemmas.Bool.{cases_Bool, cond-true, cond-false}
 use Rattle.std.proofs.lemmas.Slice.Eq.{bytes_eq-Decides}
 use Rattle.std.specs.Prelude.{slice_get}
-use Rattle.facts.proofs.Places.{Splits-at}
+use Rattle.lemmas.proofs.Places.{Splits-at}
 use Rattle.network.specs.declared.index.Index.{Index}
 use Rattle.network.specs.declared.network.Mark.{Mark}
 use Rattle.network.specs.Marks.{datagram_of, all_sent}

@@ -3,7 +3,7 @@ use Rattle.std.proofs.Common.{◌≡◌, ℕ, zero, suc, ◌+◌, ◌<◌, ◌�
 use Rattle.std.proofs.Common.{refl, sym, ap, subst, ◌∙◌, arith, add-one, append_assoc, length-append}
 use Rattle.std.specs.Prelude.{slice_get, Result, Ok, Err}
 use Rattle.std.proofs.lemmas.List.{map-append, take_all}
-use Rattle.facts.proofs.Places.{Splits-at}
+use Rattle.lemmas.proofs.Places.{Splits-at}
 use Rattle.nop_types.specs.Configuration.{Configuration}
 use Rattle.nop_types.specs.declared.output.Actor.{Actor}
 use Rattle.nop_types.specs.declared.output.Actor.TheVariants as kinds

@@ -9,7 +9,7 @@ use Rattle.nop_types.specs.declared.input.Tick.{Tick}
 use Rattle.nop_types.specs.declared.input.Tick.TheVariants as ticks
 use Rattle.nop_types.specs.declared.output.Actor.{Actor}
 use Rattle.nop_types.specs.declared.output.Actor.TheVariants as actors
-use Rattle.facts.proofs.Places.{Splits-at}
+use Rattle.lemmas.proofs.Places.{Splits-at}
 use Rattle.schedule_text.specs.declared.event.Event.{Event}
 use Rattle.udp_node.specs.declared.address.Address.{Address}
 use Rattle.udp_node.specs.declared.firing.Timer.{Timer}

@@ -13,14 +13,14 @@ use Rattle.nop_types.specs.Lines.{Line, Submit, Accept}
 use Rattle.nop_types.specs.Lists.{Has}
 use Rattle.nop_types.specs.Meaning.{Meaning}
 use Rattle.nop_types.specs.Views.{is_view, leader_of}
-use Rattle.histories.proofs.Lines.{submitted_so_far, submitted_once_stays, accepted_once_stays}
-use Rattle.facts.proofs.Places.{slice_get-push_cases}
-use Rattle.facts.proofs.Members.{Has-append_cases, Has-one, Has-none, Has-from_filter, Has-from_find}
-use Rattle.facts.proofs.Prefixes.{Has-prefix, IsPrefixOf-take}
+use Rattle.execution_laws.proofs.Lines.{submitted_so_far, submitted_once_stays, accepted_once_stays}
+use Rattle.lemmas.proofs.Places.{slice_get-push_cases}
+use Rattle.lemmas.proofs.Members.{Has-append_cases, Has-one, Has-none, Has-from_filter, Has-from_find}
+use Rattle.lemmas.proofs.Prefixes.{Has-prefix, IsPrefixOf-take}
 use Rattle.started_views.specs.Past.{HadLog, LeaderHad}
 use Rattle.started_views.specs.Quorums.{counts, Quorum}
 use Rattle.std.proofs.lemmas.Bool.{eqb-true, and_parts}
-use Rattle.facts.proofs.Views.{is_view-true}
+use Rattle.lemmas.proofs.Views.{is_view-true}
 use Rattle.client_quorum.specs.declared.state.ClientState.{ClientState}
 use Rattle.client_quorum.specs.ClientSteps.{accepts}
 use Rattle.client_quorum.specs.KeptReplies.{matches, is_leaders, quorum_of}
@@ -31,7 +31,7 @@ use Rattle.protocol.specs.Invariant.{IsUsed, Replied, Accepted, KeptReply, GoodL
 use Rattle.protocol.proofs.Facts.{counts_filter, counts_member}
 use Rattle.protocol.proofs.Growing.{Kept}
 use Rattle.protocol.proofs.Outside.{outside_keeps}
-use Rattle.facts.proofs.Functions.{put-all}
+use Rattle.lemmas.proofs.Functions.{put-all}
 use Rattle.protocol.proofs.Stays.{onward_refl, accepted_lasts, client_lasts}
 
 at_least : (a b : ℕ) → nat_le a b ≡ true → a ≤ b

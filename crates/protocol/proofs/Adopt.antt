@@ -6,11 +6,11 @@ use Rattle.nop_types.specs.declared.request.Entry.TheVariants.{NoOp, Req}
 use Rattle.nop_types.specs.Lists.{IsPrefixOf}
 use Rattle.nop_types.specs.Meaning.{Meaning}
 use Rattle.nop_types.specs.Views.{leader_of}
-use Rattle.facts.proofs.Prefixes.{Has-prefix, IsPrefixOf-shorter}
+use Rattle.lemmas.proofs.Prefixes.{Has-prefix, IsPrefixOf-shorter}
 use Rattle.log_merge.specs.Starting.{Start}
 use Rattle.started_views.specs.Past.{IsStart}
-use Rattle.facts.proofs.Members.{Has-none}
-use Rattle.facts.proofs.Slots.{slot_of-prefix}
+use Rattle.lemmas.proofs.Members.{Has-none}
+use Rattle.lemmas.proofs.Slots.{slot_of-prefix}
 use Rattle.protocol.specs.Conf.{Conf, after}
 use Rattle.protocol.specs.Invariant.{Own, Inv}
 use Rattle.protocol.specs.Member.{Member}
@@ -18,7 +18,7 @@ use Rattle.protocol.specs.Moves.{adopt, MayAdopt}
 use Rattle.protocol.specs.Said.{StartView, says}
 use Rattle.protocol.specs.Truth.{Begun}
 use Rattle.protocol.proofs.Growing.{Kept}
-use Rattle.facts.proofs.Options.{same_Some-at}
+use Rattle.lemmas.proofs.Options.{same_Some-at}
 use Rattle.protocol.proofs.Stays.{log_lasts}
 use Rattle.protocol.proofs.Places.{below_of}
 use Rattle.protocol.proofs.Adopting.{adopted_keeps}

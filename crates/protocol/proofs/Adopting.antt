@@ -12,9 +12,9 @@ use Rattle.oum_receiver.specs.Receiving.{advanced}
 use Rattle.oum_receiver.proofs.Stamps.{opened_stamped, advanced_stamped}
 use Rattle.started_views.specs.Past.{HadLog, IsStart, with_log, with_entry, entered_with, started_with}
 use Rattle.std.proofs.lemmas.Bool.{eq-eqb, eqb-true, and_parts}
-use Rattle.facts.proofs.Bools.{not-both}
+use Rattle.lemmas.proofs.Bools.{not-both}
 use Rattle.started_views.proofs.Past.{log_here, log_places, log_cases, entry_places, entry_cases, start_here, start_places, start_cases}
-use Rattle.facts.proofs.Views.{is_view-same, is_view-apart, AtMost-antisym}
+use Rattle.lemmas.proofs.Views.{is_view-same, is_view-apart, AtMost-antisym}
 use Rattle.oum_receiver.specs.Receiving as receiving
 use Rattle.protocol.specs.Conf.{Conf, after}
 use Rattle.protocol.specs.Evolves.{Evolves}

@@ -16,14 +16,14 @@ use Rattle.nop_types.specs.Meaning.{Meaning}
 use Rattle.nop_types.specs.Stamps.{WasStamped}
 use Rattle.nop_types.specs.Views.{leader_of}
 use Rattle.gap_agree.specs.Agreement.{Agreement}
-use Rattle.facts.proofs.Members.{Has-append_cases, Has-one}
+use Rattle.lemmas.proofs.Members.{Has-append_cases, Has-one}
 use Rattle.log_merge.specs.Starting.{Start}
 use Rattle.oum_receiver.specs.Receiving.{Receiving}
 use Rattle.oum_receiver.specs.Runs.{IsStampedBy}
 use Rattle.started_views.specs.Past.{HadLog, LeaderHad}
 use Rattle.started_views.proofs.Logs.{toward_append}
-use Rattle.facts.proofs.Slots.{slot_of-prefix, slot_of-last, slot_of-push_cases}
-use Rattle.facts.proofs.Prefixes.{IsPrefixOf-trans}
+use Rattle.lemmas.proofs.Slots.{slot_of-prefix, slot_of-last, slot_of-push_cases}
+use Rattle.lemmas.proofs.Prefixes.{IsPrefixOf-trans}
 use Rattle.protocol.specs.Conf.{Conf, Effect, DidSay, WasSubmitted, after}
 use Rattle.protocol.specs.Evolves.{Evolves}
 use Rattle.protocol.specs.Invariant.{GoodLog, TrueReply, Waits, Own, Inv}
@@ -32,7 +32,7 @@ use Rattle.protocol.specs.Said.{Said, GapCommit, says}
 use Rattle.protocol.specs.Truth.{TrueWord}
 use Rattle.protocol.proofs.Growing.{Kept}
 use Rattle.protocol.proofs.Local.{Turns, local_keeps_saying}
-use Rattle.facts.proofs.Options.{same_Some-at}
+use Rattle.lemmas.proofs.Options.{same_Some-at}
 use Rattle.protocol.proofs.Stays.{log_lasts, own_lasts, stamped_lasts, submitted_lasts, settled_lasts, waits_last}
 use Rattle.protocol.proofs.Facts.{push_length}
 use Rattle.protocol.specs.Conf as conf

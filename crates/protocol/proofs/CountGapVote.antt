@@ -6,7 +6,7 @@ use Rattle.nop_types.specs.declared.replica_state.Vote.TheVariants.{Settled, Wai
 use Rattle.nop_types.specs.Meaning.{Meaning}
 use Rattle.gap_agree.specs.Agreement.{Agreement, counted}
 use Rattle.gap_agree.specs.Votes.{vote_of, with_vote}
-use Rattle.facts.proofs.Members.{Has-none}
+use Rattle.lemmas.proofs.Members.{Has-none}
 use Rattle.protocol.specs.Conf.{Conf, DidSay, after}
 use Rattle.protocol.specs.Evolves.{Evolves}
 use Rattle.protocol.specs.Invariant.{GoodLog, Waits, Own, Inv}

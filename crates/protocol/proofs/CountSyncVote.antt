@@ -6,7 +6,7 @@ use Rattle.nop_types.specs.declared.replica_state.Vote.{Vote}
 use Rattle.nop_types.specs.declared.replica_state.Vote.TheVariants.{Settled, Waiting}
 use Rattle.nop_types.specs.Lists.{Has}
 use Rattle.nop_types.specs.Meaning.{Meaning}
-use Rattle.facts.proofs.Members.{Has-none}
+use Rattle.lemmas.proofs.Members.{Has-none}
 use Rattle.protocol.specs.Conf.{Conf, after}
 use Rattle.protocol.specs.Invariant.{Own, Inv}
 use Rattle.protocol.specs.Member.{Member, others}

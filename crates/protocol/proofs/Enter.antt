@@ -9,13 +9,13 @@ use Rattle.nop_types.specs.declared.request.Entry.{Entry}
 use Rattle.nop_types.specs.Lists.{Has}
 use Rattle.nop_types.specs.Meaning.{Meaning}
 use Rattle.nop_types.specs.Views.{AtMost, Below, is_view, leader_of}
-use Rattle.facts.proofs.Members.{Has-append_cases, Has-one, Has-first, Has-none}
+use Rattle.lemmas.proofs.Members.{Has-append_cases, Has-one, Has-first, Has-none}
 use Rattle.oum_receiver.proofs.Stamps.{opened_stamped}
 use Rattle.started_views.specs.Past.{Past, HadLog, with_log, entered_with, started_with}
 use Rattle.std.proofs.lemmas.Bool.{eqb-true, and_parts}
-use Rattle.facts.proofs.Bools.{not-both}
+use Rattle.lemmas.proofs.Bools.{not-both}
 use Rattle.started_views.proofs.Past.{log_here, log_places, log_cases, entry_here, entry_places, entry_cases, start_places, start_cases}
-use Rattle.facts.proofs.Views.{is_view-same, is_view-apart, AtMost-refl, AtMost-trans, AtMost-antisym}
+use Rattle.lemmas.proofs.Views.{is_view-same, is_view-apart, AtMost-refl, AtMost-trans, AtMost-antisym}
 use Rattle.nop_types.specs.PlainChanges as plain
 use Rattle.oum_receiver.specs.Receiving as receiving
 use Rattle.view_change.specs.Gathering as gathering
@@ -30,7 +30,7 @@ use Rattle.protocol.proofs.Saying.{said_unless}
 use Rattle.protocol.proofs.Growing.{Kept, Forward, grows_keeps}
 use Rattle.protocol.proofs.Facts.{half_of}
 use Rattle.protocol.proofs.Replying.{leads_from}
-use Rattle.facts.proofs.Options.{same_Some-at}
+use Rattle.lemmas.proofs.Options.{same_Some-at}
 use Rattle.protocol.proofs.Stays.{own_lasts}
 
 not_self : (w : View) (b : Bool) → (not (is_view w w) && b) ≡ true → ⊥

@@ -6,10 +6,10 @@ use Rattle.std.proofs.lemmas.Bool.{cases_eq, cases_lt}
 use Rattle.std.proofs.lemmas.Bool.Decides.{nat_tests}
 use Rattle.nop_types.specs.Lists.{Has, slot_of}
 use Rattle.started_views.specs.Quorums.{counts}
-use Rattle.facts.proofs.Members.{Has-first, Has-rest, Has-none, Has-cases}
+use Rattle.lemmas.proofs.Members.{Has-first, Has-rest, Has-none, Has-cases}
 use Rattle.started_views.proofs.Quorums.{counts_cases, counts_first, counts_rest}
 use Rattle.nop_types.specs.declared.request.Entry.{Entry}
-use Rattle.facts.proofs.Slots.{slot_of-last}
+use Rattle.lemmas.proofs.Slots.{slot_of-last}
 
 -- ---- numbers
 

@@ -10,8 +10,8 @@ use Rattle.nop_types.specs.Views.{leader_of}
 use Rattle.log_merge.specs.Starting.{Start}
 use Rattle.oum_receiver.specs.Receiving.{advanced}
 use Rattle.oum_receiver.proofs.Stamps.{advanced_stamped}
-use Rattle.facts.proofs.Members.{Has-none}
-use Rattle.facts.proofs.Prefixes.{length-prefix}
+use Rattle.lemmas.proofs.Members.{Has-none}
+use Rattle.lemmas.proofs.Prefixes.{length-prefix}
 use Rattle.protocol.specs.Conf.{Conf, after}
 use Rattle.protocol.specs.Invariant.{Own, Inv}
 use Rattle.protocol.specs.Member.{Member, leads, leader}
@@ -22,7 +22,7 @@ use Rattle.protocol.specs.Truth.{LeaderHas}
 use Rattle.protocol.proofs.Appends.{append_keeps}
 use Rattle.protocol.proofs.Growing.{Kept}
 use Rattle.protocol.proofs.Replying.{reply_true}
-use Rattle.facts.proofs.Options.{same_Some-at}
+use Rattle.lemmas.proofs.Options.{same_Some-at}
 use Rattle.protocol.proofs.Places.{follows_it, follows_last, by_number}
 use Rattle.protocol.proofs.Facts.{next_slot}
 

@@ -11,7 +11,7 @@ use Rattle.log_merge.specs.Starting.{Start}
 use Rattle.started_views.specs.Started.{Grounds}
 use Rattle.protocol.specs.Conf.{Conf, last_normals}
 use Rattle.protocol.specs.Invariant.{Inv}
-use Rattle.facts.proofs.Options.{same_Some-at}
+use Rattle.lemmas.proofs.Options.{same_Some-at}
 
 pub grounds_of : {S : Type 0} (m : Meaning S) (f : ℕ) (c : Conf) → Inv m f c → Grounds f c.stamps (last_normals c) c.past
 grounds_of m f c inv = record {

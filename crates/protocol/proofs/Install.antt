@@ -1,7 +1,7 @@
 -- The move `install` of a sequencer.
 use Rattle.std.proofs.Common.{ℕ, refl, inl, inr, arith}
 use Rattle.nop_types.specs.Meaning.{Meaning}
-use Rattle.facts.proofs.Prefixes.{IsPrefixOf-refl}
+use Rattle.lemmas.proofs.Prefixes.{IsPrefixOf-refl}
 use Rattle.sequencer.specs.declared.state.SequencerState.{SequencerState}
 use Rattle.protocol.specs.Conf.{Conf}
 use Rattle.protocol.specs.Evolves.{Onward}
@@ -9,7 +9,7 @@ use Rattle.protocol.specs.Invariant.{GoodSequencer, Inv}
 use Rattle.protocol.specs.Moves.{install, MayInstall}
 use Rattle.protocol.proofs.Growing.{Kept, lines_last}
 use Rattle.protocol.proofs.Outside.{outside_keeps}
-use Rattle.facts.proofs.Functions.{put-all}
+use Rattle.lemmas.proofs.Functions.{put-all}
 use Rattle.protocol.proofs.Stays.{onward_refl, client_lasts}
 
 module _ {S : Type 0} (m : Meaning S) (f : ℕ) (c : Conf) (inv : Inv m f c) where

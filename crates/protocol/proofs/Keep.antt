@@ -8,9 +8,9 @@ use Rattle.nop_types.specs.declared.request.Request.{Request}
 use Rattle.nop_types.specs.declared.datagram.Reply.{Reply}
 use Rattle.nop_types.specs.Lists.{Has}
 use Rattle.nop_types.specs.Meaning.{Meaning}
-use Rattle.facts.proofs.Members.{Has-append_cases, Has-one, Has-none, Has-from_filter}
+use Rattle.lemmas.proofs.Members.{Has-append_cases, Has-one, Has-none, Has-from_filter}
 use Rattle.started_views.specs.Quorums.{counts}
-use Rattle.facts.proofs.Prefixes.{IsPrefixOf-refl}
+use Rattle.lemmas.proofs.Prefixes.{IsPrefixOf-refl}
 use Rattle.client_quorum.specs.declared.state.ClientState.{ClientState}
 use Rattle.client_quorum.specs.ClientSteps.{is_of, kept}
 use Rattle.client_quorum.specs.KeptReplies.{keep_reply}
@@ -22,7 +22,7 @@ use Rattle.protocol.proofs.Clients.{lines_with_others}
 use Rattle.protocol.proofs.Facts.{counts_filter, counts_push, counts_left_out}
 use Rattle.protocol.proofs.Growing.{Kept}
 use Rattle.protocol.proofs.Outside.{outside_keeps}
-use Rattle.facts.proofs.Functions.{put-all}
+use Rattle.lemmas.proofs.Functions.{put-all}
 use Rattle.protocol.proofs.Stays.{onward_refl, client_lasts}
 
 less_from : (a b : ℕ) → nat_lt a b ≡ true → a < b

@@ -4,7 +4,7 @@ use Rattle.std.proofs.Common.{map}
 use Rattle.std.proofs.lemmas.Bool.{cases_eq}
 use Rattle.std.proofs.lemmas.Bool.Decides.{nat_tests}
 use Rattle.nop_types.specs.Meaning.{Meaning}
-use Rattle.facts.proofs.Members.{Has-append_left, Has-append_cases, Has-one, Has-none}
+use Rattle.lemmas.proofs.Members.{Has-append_left, Has-append_cases, Has-one, Has-none}
 use Rattle.started_views.specs.Past.{Entered, Past}
 use Rattle.started_views.specs.Quorums.{counts}
 use Rattle.view_change.specs.Gathering.{has_sender}

@@ -3,14 +3,14 @@ use Rattle.std.proofs.Common.{◌≡◌, ℕ, ◌<◌, ◌≤◌, false, refl, s
 use Rattle.nop_types.specs.Lists.{Has}
 use Rattle.nop_types.specs.Meaning.{Meaning}
 use Rattle.nop_types.specs.Sessions.{home}
-use Rattle.facts.proofs.Members.{Has-first, Has-rest, Has-cases}
-use Rattle.facts.proofs.Prefixes.{IsPrefixOf-refl}
+use Rattle.lemmas.proofs.Members.{Has-first, Has-rest, Has-cases}
+use Rattle.lemmas.proofs.Prefixes.{IsPrefixOf-refl}
 use Rattle.protocol.specs.Conf.{Conf, Control, Install}
 use Rattle.protocol.specs.Invariant.{TrueInstall, GoodControl, Inv}
 use Rattle.protocol.specs.Moves.{move_to, MayMoveTo}
 use Rattle.protocol.proofs.Growing.{Kept, lines_last}
 use Rattle.protocol.proofs.Outside.{outside_keeps}
-use Rattle.facts.proofs.Functions.{put-here, put-all}
+use Rattle.lemmas.proofs.Functions.{put-here, put-all}
 use Rattle.protocol.proofs.Stays.{onward_refl, sequencer_lasts, control_lasts, client_lasts}
 
 module _ {S : Type 0} (m : Meaning S) (f : ℕ) (c : Conf) (inv : Inv m f c) (k j s : ℕ) (may : MayMoveTo c k s) where

@@ -2,7 +2,7 @@
 use Rattle.std.proofs.Common.{◌≡◌, ℕ, ◌+◌, ◌*◌, ◌<◌, []}
 use Rattle.nop_types.specs.declared.replica_state.Phase.TheVariants.{Normal}
 use Rattle.nop_types.specs.Meaning.{Meaning}
-use Rattle.facts.proofs.Members.{Has-none}
+use Rattle.lemmas.proofs.Members.{Has-none}
 use Rattle.protocol.specs.Conf.{Conf, after}
 use Rattle.protocol.specs.Invariant.{Own, Inv}
 use Rattle.protocol.specs.Member.{Member}

@@ -14,7 +14,7 @@ use Rattle.gap_agree.specs.Agreement.{Agreement, begun}
 use Rattle.gap_agree.specs.Votes.{vote_of}
 use Rattle.oum_receiver.specs.Receiving.{advanced}
 use Rattle.oum_receiver.proofs.Stamps.{advanced_stamped}
-use Rattle.facts.proofs.Members.{Has-first, Has-none}
+use Rattle.lemmas.proofs.Members.{Has-first, Has-none}
 use Rattle.std.proofs.lemmas.Bool.{eqb-true}
 use Rattle.protocol.specs.Conf.{Conf, after}
 use Rattle.protocol.specs.Invariant.{Waits, Own, Inv}

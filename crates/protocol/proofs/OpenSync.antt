@@ -5,7 +5,7 @@ use Rattle.nop_types.specs.declared.view.View.{View}
 use Rattle.nop_types.specs.Meaning.{Meaning}
 use Rattle.nop_types.specs.Views.{leader_of}
 use Rattle.started_views.specs.Past.{HadLog}
-use Rattle.facts.proofs.Prefixes.{IsPrefixOf-refl}
+use Rattle.lemmas.proofs.Prefixes.{IsPrefixOf-refl}
 use Rattle.protocol.specs.Conf.{Conf, after}
 use Rattle.protocol.specs.Evolves.{Evolves}
 use Rattle.protocol.specs.Invariant.{Own, Inv}

@@ -13,10 +13,10 @@ use Rattle.log_merge.specs.Starting.{Start, kept, start_of, start_point}
 use Rattle.log_merge.proofs.Winners.{Winner, Nobody, Somebody, winner}
 use Rattle.started_views.specs.Past.{LeaderHad, IsStart, started_with}
 use Rattle.started_views.proofs.Changes.{kept_from}
-use Rattle.facts.proofs.Slots.{slot_of-within}
-use Rattle.facts.proofs.Prefixes.{IsPrefixOf-refl}
+use Rattle.lemmas.proofs.Slots.{slot_of-within}
+use Rattle.lemmas.proofs.Prefixes.{IsPrefixOf-refl}
 use Rattle.std.proofs.Math.Seq.{take-length}
-use Rattle.facts.proofs.Views.{AtMost-refl}
+use Rattle.lemmas.proofs.Views.{AtMost-refl}
 use Rattle.view_change.specs.Gathering.{IsOfSender}
 use Rattle.nop_types.specs.PlainChanges as plain
 use Rattle.protocol.specs.Conf.{Conf, WasSubmitted, after}

@@ -12,12 +12,12 @@ use Rattle.nop_types.specs.Views.{AtMost, first_view, leader_of}
 use Rattle.log_merge.specs.Starting.{Start}
 use Rattle.oum_receiver.proofs.Stamps.{opened_stamped}
 use Rattle.started_views.specs.Past.{HadLog, LeaderHad}
-use Rattle.facts.proofs.Members.{Has-none}
+use Rattle.lemmas.proofs.Members.{Has-none}
 use Rattle.std.proofs.lemmas.Bool.{eqb-true}
 use Rattle.started_views.proofs.Past.{first_log, first_start}
-use Rattle.facts.proofs.Slots.{slot_of-within}
-use Rattle.facts.proofs.Prefixes.{IsPrefixOf-refl}
-use Rattle.facts.proofs.Views.{AtMost-refl}
+use Rattle.lemmas.proofs.Slots.{slot_of-within}
+use Rattle.lemmas.proofs.Prefixes.{IsPrefixOf-refl}
+use Rattle.lemmas.proofs.Views.{AtMost-refl}
 use Rattle.protocol.specs.Conf.{Conf, opening}
 use Rattle.protocol.specs.Invariant.{GoodSequencer, GoodLog, Own, Inv}
 use Rattle.protocol.specs.Laws.{OpeningMeets}

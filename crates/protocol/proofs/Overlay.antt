@@ -10,7 +10,7 @@ use Rattle.oum_receiver.specs.Receiving.{advanced}
 use Rattle.oum_receiver.proofs.Stamps.{advanced_stamped}
 use Rattle.started_views.specs.Past.{LeaderHad}
 use Rattle.started_views.proofs.Logs.{toward_laid}
-use Rattle.facts.proofs.Slots.{slot_of-prefix, length-laid, slot_of-laid_cases}
+use Rattle.lemmas.proofs.Slots.{slot_of-prefix, length-laid, slot_of-laid_cases}
 use Rattle.sync_points.specs.Synchronisation.{raised, taken}
 use Rattle.protocol.specs.Conf.{Conf, after}
 use Rattle.protocol.specs.Invariant.{Own, Inv}

@@ -8,7 +8,7 @@ use Rattle.started_views.specs.Past.{HadLog}
 use Rattle.std.proofs.lemmas.Bool.{eqb-true}
 use Rattle.nop_types.specs.declared.replica_state.Phase.{Phase}
 use Rattle.nop_types.specs.declared.replica_state.Phase.TheVariants.{Normal, Change}
-use Rattle.facts.proofs.Views.{AtMost-refl, AtMost-trans, AtMost-antisym}
+use Rattle.lemmas.proofs.Views.{AtMost-refl, AtMost-trans, AtMost-antisym}
 use Rattle.protocol.specs.Conf.{Conf}
 use Rattle.protocol.specs.Invariant.{Own, Inv}
 use Rattle.protocol.specs.Member.{Member, leads, leader}

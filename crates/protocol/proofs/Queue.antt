@@ -7,7 +7,7 @@ use Rattle.oum_receiver.specs.declared.verdict.Verdict.{Verdict}
 use Rattle.oum_receiver.specs.declared.verdict.Verdict.TheVariants.{Queued, Old, Terminated, Full}
 use Rattle.oum_receiver.specs.Receiving.{Receiving, verdict_of, judged}
 use Rattle.oum_receiver.proofs.Stamps.{offered_stamped}
-use Rattle.facts.proofs.Members.{Has-none}
+use Rattle.lemmas.proofs.Members.{Has-none}
 use Rattle.protocol.specs.Conf.{Conf, after}
 use Rattle.protocol.specs.Evolves.{Evolves}
 use Rattle.protocol.specs.Invariant.{GoodLog, Own, Inv}

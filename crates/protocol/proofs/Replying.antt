@@ -10,10 +10,10 @@ use Rattle.nop_types.specs.Execution.{result_at}
 use Rattle.nop_types.specs.Lists.{Has, slot_of}
 use Rattle.nop_types.specs.Meaning.{Meaning}
 use Rattle.nop_types.specs.Views.{leader_of}
-use Rattle.facts.proofs.Members.{Has-append_cases, Has-one, Has-none}
+use Rattle.lemmas.proofs.Members.{Has-append_cases, Has-one, Has-none}
 use Rattle.started_views.specs.Past.{HadLog}
 use Rattle.std.proofs.lemmas.Bool.{eq-eqb}
-use Rattle.facts.proofs.Slots.{slot_of-within}
+use Rattle.lemmas.proofs.Slots.{slot_of-within}
 use Rattle.protocol.specs.Conf.{Conf}
 use Rattle.protocol.specs.Invariant.{TrueReply}
 use Rattle.protocol.specs.Member.{Member, leads}

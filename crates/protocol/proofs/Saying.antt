@@ -6,8 +6,8 @@ use Rattle.nop_types.specs.declared.request.Entry.TheVariants.{NoOp}
 use Rattle.nop_types.specs.Lists.{Has, slot_of}
 use Rattle.nop_types.specs.Meaning.{Meaning}
 use Rattle.started_views.specs.Past.{HadLog}
-use Rattle.facts.proofs.Members.{Has-none, Has-one}
-use Rattle.facts.proofs.Slots.{slot_of-prefix}
+use Rattle.lemmas.proofs.Members.{Has-none, Has-one}
+use Rattle.lemmas.proofs.Slots.{slot_of-prefix}
 use Rattle.sync_points.specs.Synchronisation.{Synchronisation}
 use Rattle.protocol.specs.Conf.{Conf, after}
 use Rattle.protocol.specs.Evolves.{Evolves}

@@ -7,7 +7,7 @@ use Rattle.nop_types.specs.Meaning.{Meaning}
 use Rattle.nop_types.specs.Stamps.{WasStamped}
 use Rattle.oum_receiver.specs.Receiving.{front_taken}
 use Rattle.oum_receiver.proofs.Stamps.{front_stamped, taken_stamped}
-use Rattle.facts.proofs.Members.{Has-none}
+use Rattle.lemmas.proofs.Members.{Has-none}
 use Rattle.protocol.specs.Conf.{Conf, after}
 use Rattle.protocol.specs.Invariant.{Own, Inv}
 use Rattle.protocol.specs.Member.{Member, leads}

@@ -6,7 +6,7 @@ use Rattle.nop_types.specs.declared.request.Entry.TheVariants.{Req}
 use Rattle.nop_types.specs.Meaning.{Meaning}
 use Rattle.nop_types.specs.Views.{AtMost, Below, first_view, outranks}
 use Rattle.gap_agree.specs.Votes.{with_vote}
-use Rattle.histories.proofs.Accounts.{kept_for-insert}
+use Rattle.execution_laws.proofs.Accounts.{kept_for-insert}
 use Rattle.protocol.specs.Conf.{opening, last_normals}
 use Rattle.protocol.specs.Runs.{run, MayAll}
 use Rattle.protocol.specs.Worked.{three, view, put_request, get_request, gap_run, GapRun, GapRunEnds, session_run, SessionRun}

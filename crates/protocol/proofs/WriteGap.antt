@@ -7,9 +7,9 @@ use Rattle.nop_types.specs.Lists.{slot_of}
 use Rattle.nop_types.specs.Meaning.{Meaning}
 use Rattle.nop_types.specs.Slots.{set_slot}
 use Rattle.started_views.specs.Past.{LeaderHad}
-use Rattle.facts.proofs.Members.{Has-none}
+use Rattle.lemmas.proofs.Members.{Has-none}
 use Rattle.started_views.proofs.Logs.{toward_write}
-use Rattle.facts.proofs.Slots.{slot_of-within, length-set_slot, slot_of-set_here, slot_of-set_cases}
+use Rattle.lemmas.proofs.Slots.{slot_of-within, length-set_slot, slot_of-set_here, slot_of-set_cases}
 use Rattle.protocol.specs.Conf.{Conf, after}
 use Rattle.protocol.specs.Invariant.{Own, Inv}
 use Rattle.protocol.specs.Member.{Member, leader}

@@ -1,6 +1,6 @@
 -- The actors, what was sent, and the past beside them.
 use Rattle.std.specs.Prelude.{◌⊎◌, ◌≡◌, ◌+◌, ◌*◌, ℕ, Bool, true, List, [], ◌++◌, Some}
-use Rattle.facts.specs.Functions.{put}
+use Rattle.lemmas.specs.Functions.{put}
 use Rattle.nop_types.specs.Configuration.{Configuration}
 use Rattle.nop_types.specs.declared.view.View.{View}
 use Rattle.nop_types.specs.declared.request.Request.{Request}

@@ -17,7 +17,7 @@ use Rattle.nop_types.specs.Meaning.{Meaning}
 use Rattle.nop_types.specs.Sessions.{home}
 use Rattle.nop_types.specs.Stamps.{WasStamped}
 use Rattle.nop_types.specs.Views.{AtMost, Below, Comparable, first_view, leader_of}
-use Rattle.histories.specs.Legality.{SubmittedOnce}
+use Rattle.execution_laws.specs.Legality.{SubmittedOnce}
 use Rattle.client_quorum.specs.declared.state.ClientState.{ClientState}
 use Rattle.gap_agree.specs.Agreement.{Agreement}
 use Rattle.log_merge.specs.Starting.{Start, start_of}

@@ -17,7 +17,7 @@ use Rattle.nop_types.specs.Meaning.{Meaning}
 use Rattle.nop_types.specs.Sessions.{home}
 use Rattle.nop_types.specs.Slots.{set_slot, laid}
 use Rattle.nop_types.specs.Views.{AtMost, leader_of}
-use Rattle.histories.specs.Legality.{IsOtherLine}
+use Rattle.execution_laws.specs.Legality.{IsOtherLine}
 use Rattle.client_quorum.specs.ClientSteps.{has_none, request_of, submitted, is_expected, kept, accepts}
 use Rattle.client_quorum.specs.KeptReplies.{quorum_of}
 use Rattle.gap_agree.specs.Agreement.{Agreement, begun, counted}
@@ -32,7 +32,7 @@ use Rattle.sync_points.specs.Synchronisation.{cleared, raised, with_round, taken
 use Rattle.sync_points.specs.Synchronisation as synchronisation
 use Rattle.view_change.specs.Gathering as gathering
 use Rattle.protocol.specs.Conf.{Conf, Effect, DidSay}
-use Rattle.facts.specs.Functions.{put}
+use Rattle.lemmas.specs.Functions.{put}
 use Rattle.protocol.specs.Member.{Member, PlainGathering, leads, leader, others}
 use Rattle.protocol.specs.Replies.{reply_to, replies_above}
 use Rattle.protocol.specs.Said.{Said, Word, Plain, Found, GapCommit, GapRep, ViewChange, StartView, SyncPrepare, SyncRep, SyncCommit, says}

@@ -11,10 +11,10 @@ use Rattle.nop_types.specs.declared.request.Entry.TheVariants.{NoOp}
 use Rattle.nop_types.specs.Lists.{slot_of}
 use Rattle.nop_types.specs.Meaning.{Meaning}
 use Rattle.nop_types.specs.Views.{leader_of}
-use Rattle.facts.proofs.Functions.{put-all}
-use Rattle.facts.proofs.Options.{same_Some-at}
-use Rattle.facts.proofs.Prefixes.{IsPrefixOf-take}
-use Rattle.facts.proofs.Slots.{slot_of-from_take}
+use Rattle.lemmas.proofs.Functions.{put-all}
+use Rattle.lemmas.proofs.Options.{same_Some-at}
+use Rattle.lemmas.proofs.Prefixes.{IsPrefixOf-take}
+use Rattle.lemmas.proofs.Slots.{slot_of-from_take}
 use Rattle.gap_agree.specs.Agreement.{Agreement, begun}
 use Rattle.gap_agree.specs.Votes.{vote_of, with_vote}
 use Rattle.log_merge.specs.Starting.{Start}

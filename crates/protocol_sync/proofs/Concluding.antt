@@ -9,8 +9,8 @@ use Rattle.nop_types.specs.Legality.{IsOf}
 use Rattle.nop_types.specs.Lists.{IsPrefixOf, slot_of}
 use Rattle.nop_types.specs.Meaning.{Meaning}
 use Rattle.nop_types.specs.Views.{Below, leader_of}
-use Rattle.histories.specs.Legality.{IsGrounded, Grounded}
-use Rattle.histories.proofs.Legal.{grounds_carry, legal_from_grounds}
+use Rattle.execution_laws.specs.Legality.{IsGrounded, Grounded}
+use Rattle.execution_laws.proofs.Legal.{grounds_carry, legal_from_grounds}
 use Rattle.log_merge.specs.Starting.{Start}
 use Rattle.started_views.specs.Past.{HadLog, LeaderHad, IsStart}
 use Rattle.started_views.specs.Quorums.{Others}
@@ -18,12 +18,12 @@ use Rattle.started_views.specs.Settled.{Reached, HadNoOp, Fixed, MainLog}
 use Rattle.started_views.proofs.Fixing.{accept_fixes}
 use Rattle.started_views.proofs.Keeping.{fixed_prefixes_are_kept, main_log_has_fixed}
 use Rattle.started_views.proofs.Quorums.{quorum_weaker}
-use Rattle.facts.proofs.Prefixes.{IsPrefixOf-refl}
+use Rattle.lemmas.proofs.Prefixes.{IsPrefixOf-refl}
 use Rattle.protocol.specs.Conf.{Conf, DidSay, last_normals}
 use Rattle.protocol.specs.Invariant.{Replied, Accepted, Inv}
 use Rattle.protocol.specs.Said.{GapRep, says}
 use Rattle.protocol.proofs.Grounding.{grounds_of}
-use Rattle.facts.proofs.Options.{same_Some-at}
+use Rattle.lemmas.proofs.Options.{same_Some-at}
 use Rattle.protocol.proofs.Stays.{others_weaker}
 use Rattle.protocol_sync.specs.Laws.{LinesAreLegal}
 

@@ -6,11 +6,11 @@ use Rattle.nop_types.specs.declared.request.Entry.{Entry}
 use Rattle.nop_types.specs.Lists.{Has, IsPrefixOf, slot_of}
 use Rattle.started_views.specs.Logs.{SameTo}
 use Rattle.started_views.specs.Quorums.{counts, Quorum}
-use Rattle.facts.proofs.Members.{Has-first}
+use Rattle.lemmas.proofs.Members.{Has-first}
 use Rattle.started_views.proofs.Quorums.{counts_cases}
-use Rattle.facts.proofs.Slots.{slot_of-some, slot_of-prefix}
+use Rattle.lemmas.proofs.Slots.{slot_of-some, slot_of-prefix}
 use Rattle.protocol.proofs.Facts.{counts_has}
-use Rattle.facts.proofs.Options.{same_Some-at}
+use Rattle.lemmas.proofs.Options.{same_Some-at}
 
 -- ---- logs
 

@@ -15,9 +15,9 @@ use Rattle.started_views.proofs.Fixing.{sync_fixes}
 use Rattle.started_views.specs.Growing.{Grows}
 use Rattle.started_views.proofs.Growing.{fixed_stays}
 use Rattle.started_views.proofs.Keeping.{fixed_prefixes_are_kept}
-use Rattle.facts.proofs.Prefixes.{length-prefix, IsPrefixOf-trans}
+use Rattle.lemmas.proofs.Prefixes.{length-prefix, IsPrefixOf-trans}
 use Rattle.started_views.proofs.Logs.{same_grown, same_from_prefix, toward_keeps_same}
-use Rattle.facts.proofs.Views.{AtMost-refl, AtMost-trans, Below-after_at_most}
+use Rattle.lemmas.proofs.Views.{AtMost-refl, AtMost-trans, Below-after_at_most}
 use Rattle.protocol.specs.Conf.{Conf, DidSay, last_normals}
 use Rattle.protocol.specs.Evolves.{Evolves}
 use Rattle.protocol.specs.Invariant.{Inv}
@@ -25,7 +25,7 @@ use Rattle.protocol.specs.Member.{Member}
 use Rattle.protocol.specs.Said.{SyncRep}
 use Rattle.protocol_sync.specs.Synced.{Told, GoodPoint, Synced, Anchored, Agrees, TrueSyncRep, TrueSyncCommit, GoodSync, Sync}
 use Rattle.protocol.proofs.Grounding.{grounds_of}
-use Rattle.facts.proofs.Options.{same_Some-at}
+use Rattle.lemmas.proofs.Options.{same_Some-at}
 use Rattle.protocol.proofs.Stays.{said_lasts, others_weaker}
 use Rattle.protocol_sync.proofs.Facts.{same_none}
 

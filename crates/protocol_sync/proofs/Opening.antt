@@ -1,6 +1,6 @@
 -- The opening meets what holds of sync points.
 use Rattle.std.proofs.Common.{refl, arith, inl, []}
-use Rattle.facts.proofs.Members.{Has-none}
+use Rattle.lemmas.proofs.Members.{Has-none}
 use Rattle.started_views.proofs.Logs.{same_refl}
 use Rattle.protocol.proofs.Facts.{half_of}
 use Rattle.protocol_sync.specs.Laws.{OpeningIsSynced}

@@ -15,8 +15,8 @@ use Rattle.started_views.specs.Logs.{SameTo, Toward}
 use Rattle.started_views.specs.Past.{HadLog, LeaderHad}
 use Rattle.started_views.proofs.Keeping.{start_synchronised}
 use Rattle.started_views.proofs.Logs.{same_from_prefix, same_grown, toward_keeps_same}
-use Rattle.facts.proofs.Prefixes.{IsPrefixOf-trans, IsPrefixOf-take}
-use Rattle.facts.proofs.Views.{cases_View, AtMost-refl}
+use Rattle.lemmas.proofs.Prefixes.{IsPrefixOf-trans, IsPrefixOf-take}
+use Rattle.lemmas.proofs.Views.{cases_View, AtMost-refl}
 use Rattle.sync_points.specs.Synchronisation.{Round, Synchronisation, closed, counted_in, with_vote_for, round_vote}
 use Rattle.protocol.specs.Conf.{Conf, last_normals}
 use Rattle.protocol.specs.Evolves.{Evolves}
@@ -27,9 +27,9 @@ use Rattle.protocol.specs.Runs.{Act, Queue, TakeFront, Fill, OpenGap, CountGapVo
 use Rattle.protocol.specs.Runs.{Say, Overlay, Obey, OpenSync, CountSyncVote, RepeatCommit, Move, Acts, MoveTo, Installed, Install, Stamp}
 use Rattle.protocol.specs.Runs.{Submit, Keep, Accept, Tell, effect, happens, run}
 use Rattle.protocol.proofs.Grounding.{grounds_of}
-use Rattle.facts.proofs.Functions.{put-all}
+use Rattle.lemmas.proofs.Functions.{put-all}
 use Rattle.protocol.proofs.Runs.{run_keeps}
-use Rattle.facts.proofs.Options.{same_Some-at}
+use Rattle.lemmas.proofs.Options.{same_Some-at}
 use Rattle.protocol_sync.specs.Laws.{SyncPointsNeverFall}
 use Rattle.protocol_sync.specs.Synced.{GoodSync, Sync}
 use Rattle.protocol_sync.proofs.Agreeing.{fixed_from}

@@ -12,7 +12,7 @@ use Rattle.gap_agree.specs.Votes.{vote_of, with_vote}
 use Rattle.started_views.specs.Past.{HadLog, LeaderHad}
 use Rattle.started_views.proofs.Logs.{same_refl}
 use Rattle.std.proofs.lemmas.Bool.{eqb-true}
-use Rattle.facts.proofs.Views.{AtMost-refl}
+use Rattle.lemmas.proofs.Views.{AtMost-refl}
 use Rattle.sync_points.specs.Synchronisation.{Round, Synchronisation, closed, counted_in, vote_in}
 use Rattle.protocol.specs.Conf.{Conf, Effect, DidSay, after}
 use Rattle.protocol.specs.Invariant.{Own, Inv}

@@ -7,8 +7,8 @@ use Rattle.nop_types.specs.Lists.{Has}
 use Rattle.nop_types.specs.Meaning.{Meaning}
 use Rattle.nop_types.specs.Slots.{set_slot}
 use Rattle.nop_types.specs.Views.{leader_of}
-use Rattle.facts.proofs.Prefixes.{IsPrefixOf-refl, IsPrefixOf-trans}
-use Rattle.facts.proofs.Views.{AtMost-refl}
+use Rattle.lemmas.proofs.Prefixes.{IsPrefixOf-refl, IsPrefixOf-trans}
+use Rattle.lemmas.proofs.Views.{AtMost-refl}
 use Rattle.log_merge.specs.Starting.{start_of, start_point}
 use Rattle.oum_receiver.specs.Receiving.{offered, front_taken, advanced}
 use Rattle.gap_agree.specs.Agreement.{begun, counted}

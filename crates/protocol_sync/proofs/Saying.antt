@@ -5,10 +5,10 @@ use Rattle.nop_types.specs.declared.request.Entry.{Entry}
 use Rattle.nop_types.specs.Views.{is_view}
 use Rattle.nop_types.specs.declared.view.View.{View}
 use Rattle.nop_types.specs.Meaning.{Meaning}
-use Rattle.facts.proofs.Members.{Has-append_cases, Has-one, Has-none}
+use Rattle.lemmas.proofs.Members.{Has-append_cases, Has-one, Has-none}
 use Rattle.started_views.specs.Past.{HadLog, with_log, entered_with}
 use Rattle.started_views.proofs.Past.{entry_cases}
-use Rattle.facts.proofs.Views.{AtMost-refl}
+use Rattle.lemmas.proofs.Views.{AtMost-refl}
 use Rattle.protocol.specs.Conf.{Conf, Effect, DidSay, after}
 use Rattle.protocol.specs.Invariant.{Inv}
 use Rattle.protocol.specs.Member.{Member, standing}
@@ -16,7 +16,7 @@ use Rattle.protocol.specs.Moves.{say, say_unless}
 use Rattle.protocol.specs.Said.{Said, Word, Plain, Found, GapCommit, GapRep, ViewChange, StartView, SyncPrepare, SyncRep, SyncCommit, says}
 use Rattle.protocol_sync.specs.Synced.{Told, GoodPoint, TrueSyncRep, TrueSyncCommit, GoodSync, Sync}
 use Rattle.protocol.proofs.Growing.{Kept}
-use Rattle.facts.proofs.Functions.{put-here, put-other, put-all}
+use Rattle.lemmas.proofs.Functions.{put-here, put-other, put-all}
 use Rattle.protocol_sync.proofs.Lasting.{rep_lasts, commit_lasts, inside, anchored_lasts, agrees_stays, told_lasts, point_lasts}
 
 -- no answer and no commit of a sync point is among what is said

@@ -14,17 +14,17 @@ use Rattle.nop_types.specs.Views.{Below, leader_of}
 use Rattle.gap_agree.specs.Agreement.{Agreement}
 use Rattle.log_merge.specs.Starting.{Start}
 use Rattle.started_views.specs.Past.{HadLog, LeaderHad, IsStart}
-use Rattle.facts.proofs.Members.{Has-first, Has-rest, Has-none, Has-cases}
+use Rattle.lemmas.proofs.Members.{Has-first, Has-rest, Has-none, Has-cases}
 use Rattle.started_views.proofs.Quorums.{leader_within}
-use Rattle.facts.proofs.Slots.{slot_of-within}
-use Rattle.facts.proofs.Views.{cases_View, Below-then_at_most}
+use Rattle.lemmas.proofs.Slots.{slot_of-within}
+use Rattle.lemmas.proofs.Views.{cases_View, Below-then_at_most}
 use Rattle.protocol.specs.Conf.{Conf, DidSay, Settled}
 use Rattle.protocol.specs.Invariant.{GoodLog, Own, Inv}
 use Rattle.protocol.specs.Member.{Member}
 use Rattle.protocol.specs.Said.{Said, Word, Plain, Found, GapCommit, GapRep, ViewChange, StartView, SyncPrepare, SyncRep, SyncCommit, says}
 use Rattle.protocol.specs.Truth.{Prepared}
 use Rattle.protocol.proofs.Places.{normal_low}
-use Rattle.facts.proofs.Options.{same_Some-at}
+use Rattle.lemmas.proofs.Options.{same_Some-at}
 use Rattle.protocol_sync.proofs.Facts.{slot_in_prefix}
 use Rattle.protocol_sync.specs.Sound.{EntryIsSound, LogsAreSound, WaitsAt, IsUnsettled, LeadersAreSound, NumbersAreSound}
 

@@ -9,15 +9,15 @@ use Rattle.nop_types.specs.Meaning.{Meaning}
 use Rattle.nop_types.specs.Sessions.{home}
 use Rattle.nop_types.specs.Stamps.{WasStamped}
 use Rattle.nop_types.specs.Views.{leader_of}
-use Rattle.facts.proofs.Prefixes.{IsPrefixOf-take, Has-prefix}
-use Rattle.facts.proofs.Slots.{Has-slot_of}
+use Rattle.lemmas.proofs.Prefixes.{IsPrefixOf-take, Has-prefix}
+use Rattle.lemmas.proofs.Slots.{Has-slot_of}
 use Rattle.log_merge.specs.Starting.{Start}
 use Rattle.started_views.specs.Past.{Entered, HadLog, LeaderHad, IsStart}
 use Rattle.protocol.specs.Conf.{Conf, WasSubmitted, Owns}
 use Rattle.protocol.specs.Invariant.{Inv}
 use Rattle.protocol.specs.Said.{Found, ViewChange, StartView, SyncPrepare, says}
 use Rattle.protocol.specs.Truth.{LeaderHas, Begun, Prepared}
-use Rattle.facts.proofs.Options.{same_Some-at}
+use Rattle.lemmas.proofs.Options.{same_Some-at}
 use Rattle.protocol_sync.specs.Sound.{StampsAreSound, AreSubmitted, RequestsAreSubmitted, KeptWasSent}
 
 module _ {S : Type 0} (m : Meaning S) (f : ℕ) (c : Conf) (inv : Inv m f c) where

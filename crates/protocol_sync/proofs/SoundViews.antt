@@ -8,13 +8,13 @@ use Rattle.nop_types.specs.Views.{first_view, leader_of}
 use Rattle.log_merge.specs.Starting.{Start}
 use Rattle.started_views.specs.Past.{Entered, IsStart}
 use Rattle.started_views.proofs.Certificates.{started_are_comparable}
-use Rattle.facts.proofs.Prefixes.{IsPrefixOf-shorter}
+use Rattle.lemmas.proofs.Prefixes.{IsPrefixOf-shorter}
 use Rattle.protocol.specs.Conf.{Conf, DidSay, last_normals}
 use Rattle.protocol.specs.Invariant.{Inv}
 use Rattle.protocol.specs.Said.{ViewChange, StartView, says}
 use Rattle.protocol.specs.Truth.{Begun}
 use Rattle.protocol.proofs.Grounding.{grounds_of}
-use Rattle.facts.proofs.Options.{same_Some-at}
+use Rattle.lemmas.proofs.Options.{same_Some-at}
 use Rattle.protocol_sync.specs.Sound.{ChangeIsSound, ViewsAreSound, StartIsSound, TellsStart, StartsAreSound}
 
 module _ {S : Type 0} (m : Meaning S) (f : ℕ) (c : Conf) (inv : Inv m f c) where

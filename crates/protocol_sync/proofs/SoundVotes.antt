@@ -9,7 +9,7 @@ use Rattle.nop_types.specs.Views.{leader_of}
 use Rattle.started_views.specs.Past.{LeaderHad}
 use Rattle.started_views.proofs.Keeping.{fixed_prefixes_are_kept, leader_begins}
 use Rattle.started_views.proofs.Logs.{same_from_prefix}
-use Rattle.facts.proofs.Prefixes.{IsPrefixOf-take}
+use Rattle.lemmas.proofs.Prefixes.{IsPrefixOf-take}
 use Rattle.protocol.specs.Conf.{Conf, last_normals}
 use Rattle.protocol.specs.Invariant.{Inv}
 use Rattle.protocol.specs.Said.{GapRep, says}

@@ -13,7 +13,7 @@ use Rattle.protocol.specs.Runs.{Move, run, MayAll}
 use Rattle.protocol.proofs.Opening.{opening_meets}
 use Rattle.protocol.proofs.Grounding.{grounds_of}
 use Rattle.protocol.proofs.Runs.{run_keeps}
-use Rattle.facts.proofs.Options.{same_Some-at}
+use Rattle.lemmas.proofs.Options.{same_Some-at}
 use Rattle.protocol_sync.specs.Laws.{Safe, RunsAreSound, RunsAreSafe, RunsGoOn}
 use Rattle.protocol_sync.specs.Sound.{Sound, GoesOn}
 use Rattle.protocol_sync.specs.Synced.{Sync}

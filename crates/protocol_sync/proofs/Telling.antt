@@ -10,8 +10,8 @@ use Rattle.nop_types.specs.declared.view.View.{View}
 use Rattle.nop_types.specs.Lists.{Has}
 use Rattle.nop_types.specs.Meaning.{Meaning}
 use Rattle.nop_types.specs.Views.{AtMost}
-use Rattle.facts.proofs.Members.{Has-first, Has-rest, Has-none, Has-cases}
-use Rattle.facts.proofs.Views.{AtMost-refl}
+use Rattle.lemmas.proofs.Members.{Has-first, Has-rest, Has-none, Has-cases}
+use Rattle.lemmas.proofs.Views.{AtMost-refl}
 use Rattle.log_merge.specs.Merge.{longest}
 use Rattle.log_merge.specs.Starting.{greatest_point, kept, start_of, start_point}
 use Rattle.log_merge.proofs.Merged.{length-merge}

@@ -9,7 +9,7 @@ use Rattle.nop_types.specs.Views.{AtMost, is_view, leader_of}
 use Rattle.nop_types.specs.declared.view.View.{View}
 use Rattle.nop_types.specs.declared.replica_state.Phase.{Phase}
 use Rattle.nop_types.specs.declared.replica_state.Phase.TheVariants.{Normal, Change}
-use Rattle.facts.proofs.Views.{is_view-same}
+use Rattle.lemmas.proofs.Views.{is_view-same}
 use Rattle.replica_state.specs.declared.state.ReplicaState.{ReplicaState}
 use Rattle.replica_log.proofs.Adopted.{adopted_point}
 use Rattle.replica_state.specs.Moves.{adopted, adopt, drain}

@@ -15,9 +15,9 @@ use Rattle.nop_types.specs.declared.request.Request.{Request}
 use Rattle.nop_types.specs.declared.datagram.Reply.{Reply}
 use Rattle.nop_types.specs.declared.datagram.Datagram.{Datagram}
 use Rattle.nop_types.specs.declared.datagram.Datagram.TheVariants as datagrams
-use Rattle.facts.specs.Functions.{put}
-use Rattle.facts.proofs.Functions.{put-here}
-use Rattle.facts.proofs.Members.{Has-append_right, Has-first, Has-rest, Has-cases, Has-one}
+use Rattle.lemmas.specs.Functions.{put}
+use Rattle.lemmas.proofs.Functions.{put-here}
+use Rattle.lemmas.proofs.Members.{Has-append_right, Has-first, Has-rest, Has-cases, Has-one}
 use Rattle.oum_codec.specs.declared.bad.Bad.{Bad}
 use Rattle.oum_codec.specs.Reading.{reading}
 use Rattle.client_quorum.specs.declared.state.ClientState.{ClientState}

@@ -2,7 +2,7 @@
 use Rattle.std.proofs.Common.{◌≡◌, ℕ, Bool, true, false, refl, sym, ap, subst, ◌∙◌, List, [], ◌∷◌, ◌++◌}
 use Rattle.std.specs.Prelude.{◌⊎◌}
 use Rattle.nop_types.specs.Meaning.{Meaning}
-use Rattle.facts.proofs.Functions.{put-here, put-other}
+use Rattle.lemmas.proofs.Functions.{put-here, put-other}
 use Rattle.started_views.specs.Parts.{InParts}
 use Rattle.started_views.specs.Past.{Past, note}
 use Rattle.replica_state.specs.declared.sending.Sending.{Sending}

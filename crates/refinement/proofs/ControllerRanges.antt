@@ -11,7 +11,7 @@ use Rattle.nop_types.specs.declared.input.Tick.{Tick}
 use Rattle.nop_types.specs.declared.input.Tick.TheVariants as ticks
 use Rattle.nop_types.specs.declared.datagram.Datagram.{Datagram}
 use Rattle.nop_types.specs.declared.datagram.Datagram.TheVariants as datagrams
-use Rattle.facts.proofs.Members.{Has-append_cases, Has-one, Has-none}
+use Rattle.lemmas.proofs.Members.{Has-append_cases, Has-one, Has-none}
 use Rattle.oum_codec.specs.declared.bad.Bad.{Bad}
 use Rattle.oum_codec.specs.Reading.{reading}
 use Rattle.session_control.specs.declared.state.ControllerState.{ControllerState}

@@ -17,8 +17,8 @@ use Rattle.nop_types.specs.declared.output.Out.{Out}
 use Rattle.nop_types.specs.declared.output.Out.TheVariants.{Send}
 use Rattle.nop_types.specs.declared.datagram.Datagram.{Datagram}
 use Rattle.nop_types.specs.declared.datagram.Datagram.TheVariants as datagrams
-use Rattle.facts.specs.Functions.{put}
-use Rattle.facts.proofs.Members.{Has-first, Has-cases}
+use Rattle.lemmas.specs.Functions.{put}
+use Rattle.lemmas.proofs.Members.{Has-first, Has-cases}
 use Rattle.oum_codec.specs.declared.bad.Bad.{Bad}
 use Rattle.oum_codec.specs.Reading.{reading}
 use Rattle.oum_codec.specs.Spelling.{spelling}

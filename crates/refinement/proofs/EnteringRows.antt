@@ -5,8 +5,8 @@ use Rattle.nop_types.specs.Logs.{Whole}
 use Rattle.nop_types.specs.Meaning.{Meaning}
 use Rattle.nop_types.specs.Views.{Below, is_view, join_of}
 use Rattle.nop_types.specs.declared.view.View.{View}
-use Rattle.facts.proofs.Bools.{not-both}
-use Rattle.facts.proofs.Views.{is_view-same}
+use Rattle.lemmas.proofs.Bools.{not-both}
+use Rattle.lemmas.proofs.Views.{is_view-same}
 use Rattle.replica_state.specs.declared.state.ReplicaState.{ReplicaState}
 use Rattle.replica_state.specs.Moves.{enter, open_if_enough, drain}
 use Rattle.replica_rows.specs.Rows.{enter_view, enter_and_drain, view_change_request, last_leader, next_leader, suspect, watch_if, watch}

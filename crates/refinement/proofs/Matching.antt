@@ -9,8 +9,8 @@ use Rattle.nop_types.specs.declared.request.Entry.{Entry}
 use Rattle.nop_types.specs.Lists.{slot_of}
 use Rattle.nop_types.specs.Meaning.{Meaning}
 use Rattle.nop_types.specs.Views.{leader_of}
-use Rattle.facts.proofs.Options.{same_Some-at}
-use Rattle.facts.proofs.Prefixes.{IsPrefixOf-take, length-prefix}
+use Rattle.lemmas.proofs.Options.{same_Some-at}
+use Rattle.lemmas.proofs.Prefixes.{IsPrefixOf-take, length-prefix}
 use Rattle.log_merge.specs.Starting.{Start}
 use Rattle.started_views.specs.Past.{HadLog, LeaderHad, IsStart, entered_with}
 use Rattle.replica_state.specs.declared.state.ReplicaState.{ReplicaState}

@@ -1,7 +1,7 @@
 -- The protocol begins where the actors begin.
 use Rattle.std.proofs.Common.{refl}
 use Rattle.nop_types.specs.Meaning.{Meaning}
-use Rattle.facts.proofs.Members.{Has-none}
+use Rattle.lemmas.proofs.Members.{Has-none}
 use Rattle.protocol.proofs.Opening.{opening_meets}
 use Rattle.protocol_sync.proofs.Above.{gaps_open_above}
 use Rattle.protocol_sync.proofs.Opening.{opening_is_synced}

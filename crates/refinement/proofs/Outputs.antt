@@ -14,7 +14,7 @@ use Rattle.nop_types.specs.declared.datagram.Datagram.TheVariants as datagrams
 use Rattle.nop_types.specs.declared.output.Dest.{Dest}
 use Rattle.nop_types.specs.declared.output.Out.{Out}
 use Rattle.nop_types.specs.declared.output.Out.TheVariants.{Send, Submitted, Accepted, Busy, Trimmed}
-use Rattle.facts.proofs.Members.{Has-none, Has-one}
+use Rattle.lemmas.proofs.Members.{Has-none, Has-one}
 use Rattle.oum_codec.specs.Spelling.{spelling}
 use Rattle.protocol.specs.Conf.{Conf, Install}
 use Rattle.refinement.specs.Datagrams.{IsWhole, WasSent, AllCarry, Sends, OnlySends}

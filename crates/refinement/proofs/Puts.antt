@@ -1,8 +1,8 @@
 -- One place of a function changes to what it was, or changes twice.
 use Rattle.std.proofs.Common.{◌≡◌, ℕ, Bool, true, false, cond, refl}
 use Rattle.std.specs.Prelude.{◌==◌}
-use Rattle.facts.specs.Functions.{put}
-use Rattle.facts.proofs.Functions.{put-all}
+use Rattle.lemmas.specs.Functions.{put}
+use Rattle.lemmas.proofs.Functions.{put-all}
 
 pub put-same : {S : Type 0} (s : ℕ → S) (r : ℕ) → put s r (s r) ≡ s
 put-same s r = λ i q. put-all (λ n x. x ≡ s n) s r (s r) refl (λ n d. refl) q i

@@ -10,8 +10,8 @@ use Rattle.nop_types.specs.Lists.{Has}
 use Rattle.nop_types.specs.Logs.{Whole}
 use Rattle.nop_types.specs.Meaning.{Meaning}
 use Rattle.nop_types.specs.Views.{is_view}
-use Rattle.facts.proofs.Bools.{not-both}
-use Rattle.facts.proofs.Views.{is_view-true}
+use Rattle.lemmas.proofs.Bools.{not-both}
+use Rattle.lemmas.proofs.Views.{is_view-true}
 use Rattle.replica_state.specs.declared.state.ReplicaState.{ReplicaState}
 use Rattle.replica_state.specs.State.{leader, leads, is_normal, is_current, is_from_leader, is_to_leader, is_other}
 use Rattle.replica_rows.specs.Messages.{from_leader, from_follower, by_role, in_view}

@@ -2,7 +2,7 @@
 use Rattle.std.proofs.Common.{◌≡◌, Bool, true, false, refl, ap, inl, inr, List, [], ◌∷◌, ◌++◌}
 use Rattle.nop_types.specs.declared.datagram.Reply.{Reply}
 use Rattle.nop_types.specs.declared.peer.Body.{Body}
-use Rattle.facts.proofs.Members.{Has-append_left, Has-append_right, Has-append_cases, Has-none}
+use Rattle.lemmas.proofs.Members.{Has-append_left, Has-append_right, Has-append_cases, Has-none}
 use Rattle.replica_state.specs.declared.sending.Sending.{Sending}
 use Rattle.replica_state.specs.declared.sending.Sending.TheVariants.{ToClient, ToReplicas, Trims}
 use Rattle.replica_state.specs.declared.state.ReplicaState.{ReplicaState}

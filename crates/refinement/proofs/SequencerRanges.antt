@@ -11,7 +11,7 @@ use Rattle.nop_types.specs.declared.request.Request.{Request}
 use Rattle.nop_types.specs.declared.datagram.Stamped.{Stamped}
 use Rattle.nop_types.specs.declared.datagram.Datagram.{Datagram}
 use Rattle.nop_types.specs.declared.datagram.Datagram.TheVariants as datagrams
-use Rattle.facts.proofs.Members.{Has-append_cases, Has-one, Has-none}
+use Rattle.lemmas.proofs.Members.{Has-append_cases, Has-one, Has-none}
 use Rattle.oum_codec.specs.declared.bad.Bad.{Bad}
 use Rattle.oum_codec.specs.Reading.{reading}
 use Rattle.sequencer.specs.declared.state.SequencerState.{SequencerState}

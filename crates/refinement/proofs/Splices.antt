@@ -11,8 +11,8 @@ use Rattle.nop_types.specs.Logs.{Log, Whole, adopted, overlaid, with_noop}
 use Rattle.nop_types.specs.Meaning.{Meaning}
 use Rattle.nop_types.specs.PlainChanges.{Change}
 use Rattle.nop_types.specs.Slots.{laid, set_slot}
-use Rattle.facts.proofs.Functions.{put-here}
-use Rattle.facts.proofs.Slots.{laid-append}
+use Rattle.lemmas.proofs.Functions.{put-here}
+use Rattle.lemmas.proofs.Slots.{laid-append}
 use Rattle.log_merge.specs.Starting.{start_of}
 use Rattle.replica_state.specs.declared.state.ReplicaState.{ReplicaState}
 use Rattle.replica_state.specs.Moves.{gap_written}

@@ -13,7 +13,7 @@ use Rattle.nop_types.specs.declared.replica_state.Phase.TheVariants.{Normal, Cha
 use Rattle.nop_types.specs.declared.peer.Change as peer
 use Rattle.nop_types.specs.PlainChanges as plains
 use Rattle.nop_types.specs.PlainChanges.{plain}
-use Rattle.facts.proofs.Views.{is_view-true}
+use Rattle.lemmas.proofs.Views.{is_view-true}
 use Rattle.view_change.specs.Gathering.{Gathering}
 use Rattle.replica_state.specs.declared.state.ReplicaState.{ReplicaState}
 use Rattle.replica_state.specs.Moves.{keep_change, start_len, resend_start, open_if_enough}

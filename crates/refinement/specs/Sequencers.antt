@@ -1,6 +1,6 @@
 -- What each row of a sequencer's step table is in the protocol.
 use Rattle.std.specs.Prelude.{ℕ, List, ◌++◌}
-use Rattle.facts.specs.Functions.{put}
+use Rattle.lemmas.specs.Functions.{put}
 use Rattle.nop_types.specs.Given.{Given}
 use Rattle.nop_types.specs.Lists.{Has}
 use Rattle.nop_types.specs.Meaning.{Meaning}

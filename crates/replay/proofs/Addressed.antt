@@ -32,7 +32,7 @@ use Rattle.oum_codec.specs.Numbers.{be_bytes}
 use Rattle.oum_codec.specs.Reading.{reading}
 use Rattle.oum_codec.specs.Spelling.{spelling, header, stamped_bytes, reply_bytes, request_bytes, install_bytes, ping_bytes, fragment_bytes}
 use Rattle.fragments.specs.Cutting.{sends_of}
-use Rattle.facts.proofs.Members.{Has-none, Has-cases}
+use Rattle.lemmas.proofs.Members.{Has-none, Has-cases}
 use Rattle.client_quorum.specs.declared.state.ClientState.{ClientState}
 use Rattle.client_quorum.specs.ClientSteps as client
 use Rattle.client_quorum.specs.KeptReplies.{quorum_of}
@@ -44,7 +44,7 @@ use Rattle.session_control.specs.ControllerSteps as controller
 use Rattle.replica_state.specs.declared.sending.Sending.{Sending}
 use Rattle.replica_state.specs.declared.sending.Sending.TheVariants.{ToClient, ToReplicas, Trims}
 use Rattle.replica_core.specs.Posting.{posted}
-use Rattle.delivery.specs.Sends.{IsAmong, GoesAmong}
+use Rattle.network_laws.specs.Sends.{IsAmong, GoesAmong}
 use Rattle.replica_state.specs.Sends.{SendingFits}
 use Rattle.network.specs.Network.{Sent, sends_of as sent_of, lines_from}
 

@@ -12,9 +12,9 @@ use Rattle.nop_types.specs.Execution.{result_at}
 use Rattle.nop_types.specs.Lines.{Line}
 use Rattle.nop_types.specs.Lists.{Has}
 use Rattle.nop_types.specs.Meaning.{Meaning}
-use Rattle.facts.specs.Functions.{put}
-use Rattle.facts.proofs.Functions.{put-here}
-use Rattle.facts.proofs.Members.{Has-none, Has-one, Has-rest, Has-push, Has-append_left, Has-append_cases}
+use Rattle.lemmas.specs.Functions.{put}
+use Rattle.lemmas.proofs.Functions.{put-here}
+use Rattle.lemmas.proofs.Members.{Has-none, Has-one, Has-rest, Has-push, Has-append_left, Has-append_cases}
 use Rattle.protocol.specs.Conf.{Conf, Effect, WasSubmitted, opening, after}
 use Rattle.protocol.specs.Invariant.{Inv}
 use Rattle.protocol.specs.Member.{Member, leads}

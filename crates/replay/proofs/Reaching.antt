@@ -25,8 +25,8 @@ use Rattle.oum_codec.specs.Reading.{reading}
 use Rattle.oum_codec.specs.Spelling.{spelling}
 use Rattle.oum_codec.proofs.Datagrams.{reads_again}
 use Rattle.oum_codec.specs.declared.bad.Bad.{Bad}
-use Rattle.facts.proofs.Members.{Has-none, Has-append_cases, Has-filter, Has-from_filter}
-use Rattle.histories.proofs.Shortness.{result_fits}
+use Rattle.lemmas.proofs.Members.{Has-none, Has-append_cases, Has-filter, Has-from_filter}
+use Rattle.execution_laws.proofs.Shortness.{result_fits}
 use Rattle.trimming.proofs.Bounds.{trimmed_keep_bounds}
 use Rattle.client_quorum.specs.declared.state.ClientState.{ClientState}
 use Rattle.client_quorum.specs.ClientSteps as client
@@ -41,11 +41,11 @@ use Rattle.replica_state.specs.Sends.{still}
 use Rattle.replica_rows.specs.Within.{ResultsShort}
 use Rattle.schedule_text.specs.declared.event.Event.{Event}
 use Rattle.schedule_text.specs.Fits.{EventFits, EventsFit}
-use Rattle.delivery.specs.Network.{MayCome}
-use Rattle.delivery.specs.Steps.{Delivers, TakesRow}
-use Rattle.delivery.proofs.Own.{arrive_goes_among}
-use Rattle.delivery.proofs.Steps.{step_delivers}
-use Rattle.delivery.specs.Sends.{GoesAmong}
+use Rattle.network_laws.specs.Network.{MayCome}
+use Rattle.network_laws.specs.Steps.{Delivers, TakesRow}
+use Rattle.network_laws.proofs.Own.{arrive_goes_among}
+use Rattle.network_laws.proofs.Steps.{step_delivers}
+use Rattle.network_laws.specs.Sends.{GoesAmong}
 use Rattle.protocol.specs.Conf.{Conf, opening}
 use Rattle.protocol.specs.Invariant.{Inv}
 use Rattle.protocol.proofs.Opening.{opening_meets}

@@ -8,7 +8,7 @@ use Rattle.nop_types.specs.declared.request.Entry.{Entry}
 use Rattle.nop_types.specs.Lists.{slot_of}
 use Rattle.nop_types.specs.Logs.{Log, Whole, Trimmed, length_of, above, further, adopted, overlaid, IsWithin}
 use Rattle.nop_types.specs.Slots.{laid}
-use Rattle.facts.proofs.Slots.{laid-append, length-laid, laid-shorter}
+use Rattle.lemmas.proofs.Slots.{laid-append, length-laid, laid-shorter}
 
 -- ---- the further one
 

@@ -10,7 +10,7 @@ use Rattle.nop_types.specs.declared.request.Entry.TheVariants.{NoOp}
 use Rattle.nop_types.specs.Logs.{Log, Keeping, Whole, Trimmed, place_of, length_of, unsynced, has_room, above, upto, further, first, appended, with_noop, adopted, overlaid}
 use Rattle.nop_types.specs.Ranges.{EntryFits, CheckpointIsIn, LogIsIn}
 use Rattle.nop_types.specs.Slots.{set_slot, laid}
-use Rattle.facts.proofs.Slots.{length-set_slot}
+use Rattle.lemmas.proofs.Slots.{length-set_slot}
 use Rattle.replica_log.proofs.Adopted.{adopted_point, length-adopted, length-trimmed_adopted, length-overlaid, length-trimmed_overlaid}
 
 each-push : (l : List Entry) (e : Entry) → AllByRecursion EntryFits l → EntryFits e → AllByRecursion EntryFits (l ++ e ∷ [])

@@ -7,7 +7,7 @@ use Rattle.nop_types.specs.declared.limits.TheConstants.{MAX_REPLICAS}
 use Rattle.nop_types.specs.Logs.{Log, Keeping, Whole, Trimmed, empty, length_of}
 use Rattle.nop_types.specs.Ranges.{LogIsIn}
 use Rattle.nop_types.specs.Configuration.{Configuration, is_configuration}
-use Rattle.facts.proofs.Limits.{is_configuration-few_replicas}
+use Rattle.lemmas.proofs.Limits.{is_configuration-few_replicas}
 use Rattle.executor.specs.Running.{Running}
 use Rattle.executor.specs.Undoing.{HasExecuted}
 use Rattle.replica_state.specs.declared.state.ReplicaState.{ReplicaState}

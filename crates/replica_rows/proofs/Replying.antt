@@ -14,7 +14,7 @@ use Rattle.nop_types.specs.Logs.{Log, Trimmed, length_of, entry_at, has_room}
 use Rattle.nop_types.specs.Ranges.{EntryFits, RequestFits, LogFits}
 use Rattle.slot_lookup.specs.Answer.{Below, Found, Begin, answer_by, answer_of, may_begin}
 use Rattle.nop_types.specs.Meaning.{Meaning}
-use Rattle.facts.proofs.Places.{Splits-at}
+use Rattle.lemmas.proofs.Places.{Splits-at}
 use Rattle.replica_state.specs.declared.sending.Sending.{Sending}
 use Rattle.replica_state.specs.declared.state.ReplicaState.{ReplicaState}
 use Rattle.replica_state.specs.State.{leads}

@@ -24,7 +24,7 @@ use Rattle.nop_types.specs.declared.replica_state.Vote.TheVariants.{Settled, Wai
 use Rattle.nop_types.specs.declared.view.View.{View}
 use Rattle.nop_types.specs.declared.datagram.Stamped.{Stamped}
 use Rattle.nop_types.specs.declared.peer.Change as peer
-use Rattle.facts.proofs.Slots.{length-set_slot}
+use Rattle.lemmas.proofs.Slots.{length-set_slot}
 use Rattle.oum_receiver.specs.declared.verdict.Verdict.{Verdict}
 use Rattle.oum_receiver.specs.declared.verdict.Verdict.TheVariants as verdicts
 use Rattle.oum_receiver.specs.Receiving.{Receiving, judged, offered, verdict_of}

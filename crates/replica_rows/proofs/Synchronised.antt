@@ -26,7 +26,7 @@ use Rattle.nop_types.specs.declared.peer.Change as peer
 use Rattle.nop_types.specs.declared.peer.Peer.{Peer}
 use Rattle.nop_types.specs.declared.peer.Body.{Body}
 use Rattle.nop_types.specs.declared.peer.Body.TheVariants as bodies
-use Rattle.facts.proofs.Slots.{length-set_slot}
+use Rattle.lemmas.proofs.Slots.{length-set_slot}
 use Rattle.gap_agree.specs.Agreement.{Agreement}
 use Rattle.log_merge.specs.Merging.{kept_told, merged}
 use Rattle.log_merge.specs.Starting.{greatest, greatest_point, start_of}

@@ -13,7 +13,7 @@ use Rattle.replica_core.specs.ReplicaSteps.{Replica}
 use Rattle.network.specs.Network.{Sent}
 use Rattle.world.specs.Seats.{Seated}
 use Rattle.world.specs.WorldSteps.{WorldState}
-use Rattle.delivery.specs.Steps.{InNetwork}
+use Rattle.network_laws.specs.Steps.{InNetwork}
 use Rattle.trimmed_rows.specs.Trimmed.{trimmed_peer}
 use Rattle.whole_world.specs.Archives.{IsArchive}
 use Rattle.whole_world.specs.Shows.{peers_of}

@@ -14,7 +14,7 @@ use Rattle.schedule_text.specs.Ticks.{takes_tick}
 use Rattle.network.specs.Network.{Sent}
 use Rattle.world.specs.Seats.{Stimulus, Takes, Crashes}
 use Rattle.world.specs.WorldSteps.{tick_if, datagram_at, junk_of, stimulus_of}
-use Rattle.delivery.specs.Network.{MayCome}
+use Rattle.network_laws.specs.Network.{MayCome}
 use Rattle.safety.specs.Following.{bytes_of}
 use Rattle.safety.proofs.Outputs.{bytes_there}
 

@@ -2,8 +2,8 @@
 use Rattle.std.proofs.Common.{◌≡◌, ℕ, zero, suc, refl, sym, ap, subst, ◌∙◌, List, [], ◌∷◌, ◌++◌, append_assoc, true}
 use Rattle.std.specs.Prelude.{map, Result, Ok, Err}
 use Rattle.std.proofs.lemmas.List.{append-nil, map-append}
-use Rattle.facts.proofs.Members.{Has-none}
-use Rattle.histories.proofs.Shortness.{result_fits}
+use Rattle.lemmas.proofs.Members.{Has-none}
+use Rattle.execution_laws.proofs.Shortness.{result_fits}
 use Rattle.nop_types.specs.Checkpoints.{KeepsTo}
 use Rattle.nop_types.specs.Configuration.{Configuration, is_configuration}
 use Rattle.nop_types.specs.Lines.{Line}
@@ -19,9 +19,9 @@ use Rattle.schedule_text.specs.Fits.{EventFits, EventsFit}
 use Rattle.world.specs.Seats.{Seated, seated}
 use Rattle.world.specs.WorldSteps as world
 use Rattle.world.specs.WorldSteps.{WorldState, Happened, Refusal, actor_of, counted, step, go_on, run_from}
-use Rattle.delivery.specs.Steps.{InNetwork}
-use Rattle.delivery.proofs.Networks.{opening_network}
-use Rattle.delivery.proofs.Replicas.{opening_in_network}
+use Rattle.network_laws.specs.Steps.{InNetwork}
+use Rattle.network_laws.proofs.Networks.{opening_network}
+use Rattle.network_laws.proofs.Replicas.{opening_in_network}
 use Rattle.whole_world.specs.Archives.{IsArchive}
 use Rattle.whole_world.specs.Whole as whole
 use Rattle.whole_world.specs.Whole.{WholeReplica, WholeWorld, Brings, opening_replica, whole_step}

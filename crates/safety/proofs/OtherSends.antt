@@ -8,7 +8,7 @@ use Rattle.nop_types.specs.declared.output.Actor.{Actor}
 use Rattle.nop_types.specs.declared.output.Actor.TheVariants as actors
 use Rattle.nop_types.specs.declared.output.Out.{Out}
 use Rattle.nop_types.specs.declared.output.Out.TheVariants as outs
-use Rattle.facts.proofs.Members.{Has-none, Has-cases}
+use Rattle.lemmas.proofs.Members.{Has-none, Has-cases}
 use Rattle.oum_codec.specs.Reading.{reading}
 use Rattle.client_quorum.specs.ClientSteps as client
 use Rattle.sequencer.specs.SequencerSteps as sequencer

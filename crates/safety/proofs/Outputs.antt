@@ -6,7 +6,7 @@ use Rattle.nop_types.specs.declared.output.Out.{Out}
 use Rattle.nop_types.specs.declared.output.Out.TheVariants as outs
 use Rattle.nop_types.specs.Lists.{Has}
 use Rattle.network.specs.Network.{Sent, sends_of}
-use Rattle.delivery.specs.Network.{bytes_in}
+use Rattle.network_laws.specs.Network.{bytes_in}
 use Rattle.whole_world.proofs.Mapped.{Has-map}
 use Rattle.safety.specs.Following.{bytes_of}
 

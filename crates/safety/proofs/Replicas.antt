@@ -5,7 +5,7 @@ use Rattle.std.specs.Prelude.{Result, Ok, Err, ◌&&◌, ◌||◌, ◌<◌, ◌^
 use Rattle.std.specs.List.{AllByRecursion}
 use Rattle.std.specs.Option.{option_map}
 use Rattle.replica_state.specs.Sends.{SendingFits}
-use Rattle.delivery.specs.Sends.{IsBy}
+use Rattle.network_laws.specs.Sends.{IsBy}
 use Rattle.std.proofs.lemmas.Bool.{eq-eqb}
 use Rattle.std.proofs.lemmas.List.{append-nil, map-append}
 use Rattle.nop_types.specs.Given.{Given, Packet, Ticked}
@@ -43,8 +43,8 @@ use Rattle.nop_types.specs.Bounds.{Bounds}
 use Rattle.nop_types.specs.Logs.{Trimmed}
 use Rattle.nop_types.specs.declared.request.Entry.{Entry}
 use Rattle.trimmed_rows.specs.Trimmed.{trimmed, trimmed_peer, trimmed_sending, trimmed_effect, trimmed_arrival}
-use Rattle.delivery.specs.Network.{MayCome}
-use Rattle.delivery.proofs.Steps.{step_delivers}
+use Rattle.network_laws.specs.Network.{MayCome}
+use Rattle.network_laws.proofs.Steps.{step_delivers}
 use Rattle.schedule_text.specs.Ticks.{takes_tick}
 use Rattle.schedule_text.specs.declared.event.Event.{Event}
 use Rattle.schedule_text.specs.declared.event.Event.TheVariants as events

@@ -6,7 +6,7 @@ use Rattle.nop_types.specs.Lines.{Line}
 use Rattle.nop_types.specs.Lines as lines
 use Rattle.nop_types.specs.Meaning.{Meaning}
 use Rattle.nop_types.specs.declared.request.Request.{Request}
-use Rattle.facts.proofs.Members.{Has-from_filter}
+use Rattle.lemmas.proofs.Members.{Has-from_filter}
 use Rattle.safety.specs.Following.{is_spoken, spoken}
 
 -- how many lines before a place are spoken

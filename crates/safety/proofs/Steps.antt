@@ -17,7 +17,7 @@ use Rattle.nop_types.specs.declared.datagram.Datagram.TheVariants as datagrams
 use Rattle.nop_types.specs.declared.datagram.Fragment.{Fragment}
 use Rattle.nop_types.specs.declared.output.Actor.{Actor}
 use Rattle.nop_types.specs.declared.output.Actor.TheVariants as actors
-use Rattle.facts.proofs.Members.{Has-filter, Has-append_right}
+use Rattle.lemmas.proofs.Members.{Has-filter, Has-append_right}
 use Rattle.oum_codec.specs.declared.bad.Bad.{Bad}
 use Rattle.oum_codec.specs.Reading.{reading}
 use Rattle.client_quorum.specs.declared.state.ClientState.{ClientState}
@@ -32,10 +32,10 @@ use Rattle.replica_rows.specs.Messages.{arrive}
 use Rattle.replica_rows.specs.Within.{ArrivalIsIn}
 use Rattle.replica_rows.proofs.Counting.{arrive_sends_few}
 use Rattle.replica_core.specs.declared.replica.TheConstants.{LAST_MESSAGE}
-use Rattle.delivery.specs.Sends.{IsBy}
-use Rattle.delivery.specs.Steps.{InNetwork}
-use Rattle.delivery.proofs.InRanges.{arrive_stays}
-use Rattle.delivery.proofs.Own.{arrive_sends_own}
+use Rattle.network_laws.specs.Sends.{IsBy}
+use Rattle.network_laws.specs.Steps.{InNetwork}
+use Rattle.network_laws.proofs.InRanges.{arrive_stays}
+use Rattle.network_laws.proofs.Own.{arrive_sends_own}
 use Rattle.replica_core.specs.ReplicaSteps as replica
 use Rattle.replica_core.specs.ReplicaSteps.{Replica}
 use Rattle.schedule_text.specs.declared.event.Event.{Event}
@@ -45,7 +45,7 @@ use Rattle.protocol.specs.Conf.{Conf}
 use Rattle.network.specs.Network.{Sent}
 use Rattle.world.specs.Seats.{Seated}
 use Rattle.world.specs.WorldSteps.{WorldState, Happened, actor_of, at_replica, step, step_at, step_of, stimulus_of, then_at}
-use Rattle.delivery.specs.Network.{IsDatagram}
+use Rattle.network_laws.specs.Network.{IsDatagram}
 use Rattle.whole_world.specs.Safe.{BringsFits}
 use Rattle.whole_world.specs.Shows.{Carries, Tells, peers_of}
 use Rattle.nop_types.specs.declared.request.Entry.{Entry}

@@ -15,8 +15,8 @@ use Rattle.nop_types.specs.declared.output.Actor.{Actor}
 use Rattle.nop_types.specs.declared.output.Actor.TheVariants as actors
 use Rattle.nop_types.specs.declared.output.Out.{Out}
 use Rattle.nop_types.specs.declared.peer.Peer.{Peer}
-use Rattle.facts.specs.Functions.{put}
-use Rattle.facts.proofs.Members.{Has-none, Has-first, Has-rest, Has-cases, Has-append_left, Has-append_right, Has-append_cases}
+use Rattle.lemmas.specs.Functions.{put}
+use Rattle.lemmas.proofs.Members.{Has-none, Has-first, Has-rest, Has-cases, Has-append_left, Has-append_right, Has-append_cases}
 use Rattle.oum_codec.specs.declared.bad.Bad.{Bad}
 use Rattle.oum_codec.specs.Reading.{reading}
 use Rattle.fragments.specs.Joining.{taken}
@@ -35,14 +35,14 @@ use Rattle.replica_state.specs.declared.sending.Sending.TheVariants.{ToClient, T
 use Rattle.trimmed_rows.specs.Trimmed.{trimmed_peer}
 use Rattle.network.specs.Network.{Sent, sends_of}
 use Rattle.world.specs.Seats.{Seated}
-use Rattle.delivery.specs.Carried.{Carried}
-use Rattle.delivery.specs.Network.{bytes_in, fragments_among, IsDatagram, Network}
-use Rattle.delivery.specs.PostedFragments.{fragment_read, fragments_in, messages_from}
-use Rattle.delivery.specs.Sends.{peers_in, IsBy}
-use Rattle.delivery.specs.Steps.{InNetwork}
-use Rattle.delivery.proofs.Carrying.{posting_carries_under}
-use Rattle.delivery.proofs.Networks.{among_append, among_outs, among_has, posting_network}
-use Rattle.delivery.proofs.Replicas.{stays_in_network, other_in_network}
+use Rattle.network_laws.specs.Carried.{Carried}
+use Rattle.network_laws.specs.Network.{bytes_in, fragments_among, IsDatagram, Network}
+use Rattle.network_laws.specs.PostedFragments.{fragment_read, fragments_in, messages_from}
+use Rattle.network_laws.specs.Sends.{peers_in, IsBy}
+use Rattle.network_laws.specs.Steps.{InNetwork}
+use Rattle.network_laws.proofs.Carrying.{posting_carries_under}
+use Rattle.network_laws.proofs.Networks.{among_append, among_outs, among_has, posting_network}
+use Rattle.network_laws.proofs.Replicas.{stays_in_network, other_in_network}
 use Rattle.whole_world.specs.Shows.{peers_of}
 use Rattle.whole_world.specs.Whole.{WholeWorld, Letter, letters_in, letter_of}
 use Rattle.whole_world.proofs.Mapped.{slice_get-from_map, Has-map}

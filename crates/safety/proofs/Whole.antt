@@ -10,8 +10,8 @@ use Rattle.nop_types.specs.Legality.{Legal}
 use Rattle.nop_types.specs.Lines.{Line}
 use Rattle.nop_types.specs.Meaning.{Meaning}
 use Rattle.nop_types.specs.declared.output.Actor.{Actor}
-use Rattle.facts.proofs.Places.{Splits-at}
-use Rattle.histories.proofs.Shortness.{result_fits}
+use Rattle.lemmas.proofs.Places.{Splits-at}
+use Rattle.execution_laws.proofs.Shortness.{result_fits}
 use Rattle.replica_rows.specs.Within.{ResultsShort}
 use Rattle.schedule_text.specs.declared.event.Event.{Event}
 use Rattle.schedule_text.specs.Fits.{EventFits, EventsFit}

@@ -29,7 +29,7 @@ use Rattle.world.specs.Archive.{with_archive}
 use Rattle.world.specs.Seats.{Seated}
 use Rattle.world.specs.StateLines.{replicas_text}
 use Rattle.world.specs.WorldSteps.{WorldState, Happened, Refusal, actor_of, step, opening, run, history}
-use Rattle.delivery.specs.Network.{fragments_among, Network}
+use Rattle.network_laws.specs.Network.{fragments_among, Network}
 use Rattle.whole_world.specs.Shows.{peers_of}
 use Rattle.whole_world.specs.Whole as whole
 use Rattle.whole_world.specs.Whole.{WholeReplica, WholeWorld, Letter, Brings, Nothing, Op, Timer, Junk, Equal, Message, Crash, whole_run}

@@ -9,11 +9,11 @@ use Rattle.nop_types.specs.Configuration.{Configuration}
 use Rattle.nop_types.specs.Headers.{is_header}
 use Rattle.nop_types.specs.declared.header.Header.{Header}
 use Rattle.schedule_text.specs.declared.event.Event.{Event}
-use Rattle.lines.specs.Cutting.{Cut}
-use Rattle.lines.specs.Deciding.{IsFirstLine, Follows}
-use Rattle.lines.specs.Reading as cut
-use Rattle.lines.specs.declared.first_line.FirstLine.{FirstLine}
-use Rattle.lines.proofs.Firsts.{no_lines}
+use Rattle.line_reader.specs.Cutting.{Cut}
+use Rattle.line_reader.specs.Deciding.{IsFirstLine, Follows}
+use Rattle.line_reader.specs.Reading as cut
+use Rattle.line_reader.specs.declared.first_line.FirstLine.{FirstLine}
+use Rattle.line_reader.proofs.Firsts.{no_lines}
 use Rattle.schedule_text.specs.declared.next_error.NextError.TheVariants.{BadLine, NoMemory}
 use Rattle.schedule_text.specs.declared.rule.Rule.{Rule}
 use Rattle.schedule_text.specs.declared.rule.Rule.TheVariants.{LineTooLong, TooManyLines, WrongByte, WrongWord}

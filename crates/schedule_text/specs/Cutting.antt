@@ -1,8 +1,8 @@
 -- The lines of a schedule, as far as they are decided.
 use Rattle.std.specs.Prelude.{ℕ, List, map, Bool}
 use Rattle.nop_types.specs.declared.limits.TheConstants.{MAX_LINES}
-use Rattle.lines.specs.Cutting.{Cut}
-use Rattle.lines.specs.Cutting as cutting
+use Rattle.line_reader.specs.Cutting.{Cut}
+use Rattle.line_reader.specs.Cutting as cutting
 
 abbrev pub texts : List Cut → List (List ℕ)
 texts cuts = map (λ (c : Cut). c.text) cuts

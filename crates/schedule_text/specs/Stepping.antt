@@ -5,9 +5,9 @@ use Rattle.nop_types.specs.declared.limits.TheConstants.{MAX_LINES}
 use Rattle.nop_types.specs.Headers.{is_header}
 use Rattle.nop_types.specs.declared.header.Header.{Header}
 use Rattle.schedule_text.specs.declared.event.Event.{Event}
-use Rattle.lines.specs.Deciding.{IsFirstLine}
-use Rattle.lines.specs.Reading as cut
-use Rattle.lines.specs.declared.first_line.FirstLine.{FirstLine}
+use Rattle.line_reader.specs.Deciding.{IsFirstLine}
+use Rattle.line_reader.specs.Reading as cut
+use Rattle.line_reader.specs.declared.first_line.FirstLine.{FirstLine}
 use Rattle.schedule_text.specs.declared.next_error.NextError.{NextError}
 use Rattle.schedule_text.specs.declared.next_error.NextError.TheVariants.{NoMemory}
 use Rattle.schedule_text.specs.Reading.{Reading, MayFollow, IsTurn, Takes, lines_before, turn_of}

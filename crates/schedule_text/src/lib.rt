@@ -19,7 +19,7 @@
 //! as it is), `config`, `form`, `line`; `Event`; `Rule::number`; `event_line`; `takes_tick`, which
 //! ticks a schedule may give.
 //!
-//! Where a line ends, and when it is decided, is said in `lines`, which cuts them.
+//! Where a line ends, and when it is decided, is said in `line_reader`, which cuts them.
 //!
 //! Files: `event`, `reader`, `rules`, `words`; `event_text`, `ticks`. Definitions:
 //! `specs/Cutting` (`lines_of`), `Rules` (`header_of`, `event_of`), `Reading` (`TakesOf`),

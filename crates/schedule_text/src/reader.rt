@@ -13,7 +13,7 @@ use crate::line_error::LineError;
 use crate::rule::Rule;
 use crate::rules::{event, header};
 use crate::{Event, NextError};
-use lines::{FirstLine, LineReader, ReadError};
+use line_reader::{FirstLine, LineReader, ReadError};
 use nop_types::{Config, Header, MAX_LINES};
 use outside::Source;
 use std::alloc::Global;

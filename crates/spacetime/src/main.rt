@@ -6,7 +6,7 @@
 //! whose step it is. Proved of `main` is only that it is safe and ends. That the status becomes the
 //! exit status, and the pictures as a whole, are tested (`checks/stories.sh`, `checks/pictures.sh`).
 //!
-//! Begin to read at `drawing::run_program`; the words of the labels come from `labels`.
+//! Begin to read at `drawing::run_program`; the words of the labels come from `picture_labels`.
 #![tactic(auto)]
 
 use drawing::run_program;

@@ -8,8 +8,8 @@ use Rattle.nop_types.specs.PlainChanges.{Change}
 use Rattle.nop_types.specs.declared.datagram.Stamped.{Stamped}
 use Rattle.nop_types.specs.Lists.{Has}
 use Rattle.nop_types.specs.Views.{AtMost, Below, Comparable, first_view}
-use Rattle.facts.proofs.Members.{Has-first, Has-rest}
-use Rattle.facts.proofs.Views.{cases_View, AtMost-antisym, AtMost-trans, AtMost-from_ranks}
+use Rattle.lemmas.proofs.Members.{Has-first, Has-rest}
+use Rattle.lemmas.proofs.Views.{cases_View, AtMost-antisym, AtMost-trans, AtMost-from_ranks}
 use Rattle.log_merge.specs.Starting.{greatest, kept}
 use Rattle.started_views.specs.Past.{Past, HadLog, IsStarted}
 use Rattle.started_views.specs.Quorums.{counts, Quorum}

@@ -5,8 +5,8 @@ use Rattle.std.proofs.lemmas.Bool.Decides.{nat_tests}
 use Rattle.nop_types.specs.PlainChanges.{Change}
 use Rattle.nop_types.specs.Lists.{Has}
 use Rattle.nop_types.specs.Views.{outranks, is_view}
-use Rattle.facts.proofs.Members.{Has-first, Has-rest, Has-none, Has-cases, Has-filter, Has-from_filter}
-use Rattle.facts.proofs.Views.{is_view-true, is_view-same, RanksAtMost, outranks-true, outranks-false, RanksAtMost-trans, RanksAtMost-refl}
+use Rattle.lemmas.proofs.Members.{Has-first, Has-rest, Has-none, Has-cases, Has-filter, Has-from_filter}
+use Rattle.lemmas.proofs.Views.{is_view-true, is_view-same, RanksAtMost, outranks-true, outranks-false, RanksAtMost-trans, RanksAtMost-refl}
 use Rattle.log_merge.specs.Starting.{greatest, kept}
 
 -- some change has the greatest view

@@ -6,8 +6,8 @@ use Rattle.nop_types.specs.declared.request.Entry.{Entry}
 use Rattle.nop_types.specs.declared.request.Entry.TheVariants.{NoOp}
 use Rattle.nop_types.specs.Lists.{IsPrefixOf, slot_of}
 use Rattle.nop_types.specs.Views.{leader_of}
-use Rattle.facts.proofs.Prefixes.{length-prefix, IsPrefixOf-refl, IsPrefixOf-trans}
-use Rattle.facts.proofs.Slots.{slot_of-within, slot_of-some, slot_of-prefix}
+use Rattle.lemmas.proofs.Prefixes.{length-prefix, IsPrefixOf-refl, IsPrefixOf-trans}
+use Rattle.lemmas.proofs.Slots.{slot_of-within, slot_of-some, slot_of-prefix}
 use Rattle.log_merge.specs.Starting.{Start}
 use Rattle.started_views.specs.Logs.{Toward}
 use Rattle.started_views.specs.Past.{Entered, Past, Standing, HadLog, LeaderHad, IsStart, IsStarted, note}

@@ -10,10 +10,10 @@ use Rattle.nop_types.specs.PlainChanges.{Change}
 use Rattle.nop_types.specs.declared.datagram.Stamped.{Stamped}
 use Rattle.nop_types.specs.Lists.{IsPrefixOf}
 use Rattle.nop_types.specs.Views.{AtMost, Below, first_view, leader_of, outranks}
-use Rattle.facts.proofs.Prefixes.{IsPrefixOf-take, IsPrefixOf-trans}
-use Rattle.facts.proofs.Views.{cases_View, same_View, AtMost-antisym, AtMost-trans, Below-after_at_most, AtMost-not_outranked}
-use Rattle.facts.proofs.Views.{Below-induction, same_View-from_ranks, RanksAtMost, RanksAtMost-refl, RanksAtMost-trans, RanksAtMost-cases}
-use Rattle.facts.proofs.Views.{outranks-from_ranks}
+use Rattle.lemmas.proofs.Prefixes.{IsPrefixOf-take, IsPrefixOf-trans}
+use Rattle.lemmas.proofs.Views.{cases_View, same_View, AtMost-antisym, AtMost-trans, Below-after_at_most, AtMost-not_outranked}
+use Rattle.lemmas.proofs.Views.{Below-induction, same_View-from_ranks, RanksAtMost, RanksAtMost-refl, RanksAtMost-trans, RanksAtMost-cases}
+use Rattle.lemmas.proofs.Views.{outranks-from_ranks}
 use Rattle.log_merge.specs.Merge.{merge}
 use Rattle.log_merge.specs.Starting.{Start, greatest, kept, start_of}
 use Rattle.started_views.specs.Logs.{SameTo}

@@ -5,9 +5,9 @@ use Rattle.std.proofs.lemmas.Option.{same_Some}
 use Rattle.nop_types.specs.declared.request.Entry.{Entry}
 use Rattle.nop_types.specs.Lists.{IsPrefixOf, slot_of}
 use Rattle.nop_types.specs.Slots.{set_slot, laid}
-use Rattle.facts.proofs.Prefixes.{length-prefix}
-use Rattle.facts.proofs.Slots.{slot_of-within, slot_of-some, slot_of-prefix, slot_of-from_take, slot_of-take, IsPrefixOf-from_slots}
-use Rattle.facts.proofs.Slots.{length-set_slot, slot_of-set_after, length-laid, slot_of-laid_after}
+use Rattle.lemmas.proofs.Prefixes.{length-prefix}
+use Rattle.lemmas.proofs.Slots.{slot_of-within, slot_of-some, slot_of-prefix, slot_of-from_take, slot_of-take, IsPrefixOf-from_slots}
+use Rattle.lemmas.proofs.Slots.{length-set_slot, slot_of-set_after, length-laid, slot_of-laid_after}
 use Rattle.started_views.specs.Logs.{SameTo, Toward}
 
 -- ---- the same up to a slot

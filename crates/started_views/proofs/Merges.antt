@@ -4,7 +4,7 @@ use Rattle.nop_types.specs.declared.request.Entry.{Entry}
 use Rattle.nop_types.specs.declared.request.Entry.TheVariants.{NoOp}
 use Rattle.nop_types.specs.PlainChanges.{Change}
 use Rattle.nop_types.specs.Lists.{IsPrefixOf, slot_of}
-use Rattle.facts.proofs.Slots.{IsPrefixOf-from_slots}
+use Rattle.lemmas.proofs.Slots.{IsPrefixOf-from_slots}
 use Rattle.log_merge.specs.Merge.{merge}
 use Rattle.log_merge.specs.Merged.{HasInSlot}
 use Rattle.log_merge.proofs.Merged.{noop_in_merge}

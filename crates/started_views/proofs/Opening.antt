@@ -8,7 +8,7 @@ use Rattle.nop_types.specs.declared.datagram.Stamped.{Stamped}
 use Rattle.nop_types.specs.Lists.{IsPrefixOf, slot_of}
 use Rattle.nop_types.specs.Stamps.{WasStamped}
 use Rattle.nop_types.specs.Views.{first_view}
-use Rattle.facts.proofs.Views.{AtMost-same}
+use Rattle.lemmas.proofs.Views.{AtMost-same}
 use Rattle.log_merge.specs.Starting.{Start}
 use Rattle.started_views.specs.Past.{LeaderHad, IsStarted, first_past}
 use Rattle.started_views.specs.Started.{Grounds}

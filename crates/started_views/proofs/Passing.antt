@@ -10,7 +10,7 @@ use Rattle.nop_types.specs.PlainChanges.{Change}
 use Rattle.nop_types.specs.declared.datagram.Stamped.{Stamped}
 use Rattle.nop_types.specs.Lists.{Has, IsPrefixOf, slot_of}
 use Rattle.nop_types.specs.Views.{Below}
-use Rattle.facts.proofs.Slots.{slot_of-within, slot_of-some, slot_of-prefix, slot_of-from_take}
+use Rattle.lemmas.proofs.Slots.{slot_of-within, slot_of-some, slot_of-prefix, slot_of-from_take}
 use Rattle.log_merge.specs.Merge.{merge}
 use Rattle.log_merge.specs.Starting.{Start, greatest, kept}
 use Rattle.started_views.specs.Agreement.{AgreeOn}

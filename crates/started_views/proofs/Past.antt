@@ -5,8 +5,8 @@ use Rattle.std.proofs.lemmas.Bool.{eq-eqb, eqb-true, and_parts}
 use Rattle.nop_types.specs.declared.view.View.{View}
 use Rattle.nop_types.specs.declared.request.Entry.{Entry}
 use Rattle.nop_types.specs.Views.{first_view, is_view, leader_of}
-use Rattle.facts.proofs.Bools.{not-both}
-use Rattle.facts.proofs.Views.{is_view-true, is_view-same, is_view-apart}
+use Rattle.lemmas.proofs.Bools.{not-both}
+use Rattle.lemmas.proofs.Views.{is_view-true, is_view-same, is_view-apart}
 use Rattle.log_merge.specs.Starting.{Start}
 use Rattle.started_views.specs.Past.{Entered, Past, Standing, HadLog, IsStart, first_past, is_of, with_log, with_entry, with_start}
 use Rattle.started_views.specs.Past.{entered_with, started_with, note}

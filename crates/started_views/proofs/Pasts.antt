@@ -5,7 +5,7 @@ use Rattle.nop_types.specs.declared.view.View.{View}
 use Rattle.nop_types.specs.declared.request.Entry.TheVariants.{NoOp, Req}
 use Rattle.nop_types.specs.Lists.{IsPrefixOf, slot_of}
 use Rattle.nop_types.specs.Views.{first_view, outranks}
-use Rattle.facts.proofs.Slots.{slot_of-prefix}
+use Rattle.lemmas.proofs.Slots.{slot_of-prefix}
 use Rattle.started_views.specs.Past.{Entered, HadLog}
 use Rattle.started_views.specs.Quorums.{counts, Quorum}
 use Rattle.started_views.specs.Settled.{Reached, HadNoOp, Fixed, MainLog}

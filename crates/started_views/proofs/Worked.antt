@@ -12,8 +12,8 @@ use Rattle.nop_types.specs.declared.datagram.Stamped.{Stamped}
 use Rattle.nop_types.specs.Lists.{Has, IsPrefixOf, slot_of}
 use Rattle.nop_types.specs.Stamps.{WasStamped}
 use Rattle.nop_types.specs.Views.{AtMost, Below, Comparable, first_view, is_view}
-use Rattle.facts.proofs.Members.{Has-cases, Has-none}
-use Rattle.facts.proofs.Views.{is_view-true, AtMost-same}
+use Rattle.lemmas.proofs.Members.{Has-cases, Has-none}
+use Rattle.lemmas.proofs.Views.{is_view-true, AtMost-same}
 use Rattle.log_merge.specs.Starting.{Start, start_of}
 use Rattle.started_views.specs.Past.{Entered, Past, HadLog, LeaderHad, IsStart, IsStarted}
 use Rattle.started_views.specs.Settled.{Certificate}

@@ -32,7 +32,7 @@ pub fn toward_keeps()
 
 /// A log in which a slot is written has as many slots; that slot has the entry, and each other slot
 /// what it had.
-#[tactic(auto, using(facts::proofs::Slots::written_slots))]
+#[tactic(auto, using(lemmas::proofs::Slots::written_slots))]
 pub fn written_log()
     ensures length { (l : List Entry) (k : ℕ) (x : Entry) →
         length (set_slot l k x) ≡ length l }
@@ -44,7 +44,7 @@ pub fn written_log()
 
 /// A log laid over another begins the outcome, which is as long as the longer of the two and has
 /// above it what the other has.
-#[tactic(auto, using(facts::proofs::Slots::laid_slots))]
+#[tactic(auto, using(lemmas::proofs::Slots::laid_slots))]
 pub fn laid_log()
     ensures length { (l k : List Entry) → length (laid l k) ≡ max (length l) (length k) }
     ensures begins { (l k : List Entry) → IsPrefixOf l (laid l k) }

@@ -2,10 +2,10 @@
 use Rattle.std.proofs.Common.{◌≡◌, ◌∙◌, ℕ, ◌+◌, Bool, true, List, [], ◌∷◌, ◌++◌, map, take, drop, refl, sym, ap}
 use Rattle.std.proofs.Common.{append_assoc, append-nil, arith, length-append, subst}
 use Rattle.std.specs.List.{flat_map}
-use Rattle.lines.specs.Cutting.{Cut, with_end, lines_of}
-use Rattle.lines.specs.Deciding.{Follows, cut_of}
-use Rattle.lines.specs.Reading.{Reading, Grows, IsFirst, opening}
-use Rattle.lines.specs.declared.first_line.FirstLine.{FirstLine}
+use Rattle.line_reader.specs.Cutting.{Cut, with_end, lines_of}
+use Rattle.line_reader.specs.Deciding.{Follows, cut_of}
+use Rattle.line_reader.specs.Reading.{Reading, Grows, IsFirst, opening}
+use Rattle.line_reader.specs.declared.first_line.FirstLine.{FirstLine}
 use Rattle.transcript_reader.specs.Reading.{Advances, Behind, StartsWith, whole}
 use Rattle.transcript_reader.specs.declared.limits.TheConstants.{MAX_TRANSCRIPT_LINES}
 

@@ -6,10 +6,10 @@ use Rattle.std.specs.Io.KnownBytes.{Consumes}
 use Rattle.std.proofs.KnownBytes.{Consumes-nil, Consumes-trans}
 use Rattle.std.proofs.lemmas.Bool.{false≢true}
 use Rattle.std.proofs.lemmas.List.{length-map}
-use Rattle.lines.specs.Cutting.{Cut, with_end, lines_of}
-use Rattle.lines.specs.Deciding.{Follows, cut_of}
-use Rattle.lines.specs.Reading.{Reading, IsFirst, Reaches, TakesFrom, IsEnd, lines_before, opening}
-use Rattle.lines.specs.declared.first_line.FirstLine.{FirstLine}
+use Rattle.line_reader.specs.Cutting.{Cut, with_end, lines_of}
+use Rattle.line_reader.specs.Deciding.{Follows, cut_of}
+use Rattle.line_reader.specs.Reading.{Reading, IsFirst, Reaches, TakesFrom, IsEnd, lines_before, opening}
+use Rattle.line_reader.specs.declared.first_line.FirstLine.{FirstLine}
 use Rattle.nop_types.specs.declared.header.Header.{Header}
 use Rattle.transcript_reader.specs.declared.limits.TheConstants.{MAX_TRANSCRIPT_LINES}
 use Rattle.transcript_reader.specs.declared.check_error.CheckError.{CheckError}

@@ -5,9 +5,9 @@ use Rattle.std.specs.List.{flat_map, list_all}
 use Rattle.std.proofs.lemmas.Bool.{leb-true}
 use Rattle.std.proofs.lemmas.List.{length-map}
 use Rattle.std.proofs.lemmas.List.Sums.{AllPass-from_list_all}
-use Rattle.lines.proofs.Cuts.{cut_end}
-use Rattle.lines.specs.Cutting.{Cut, with_end, lines_on, lines_of}
-use Rattle.lines.specs.Deciding.{HasNoEnd, Follows}
+use Rattle.line_reader.proofs.Cuts.{cut_end}
+use Rattle.line_reader.specs.Cutting.{Cut, with_end, lines_on, lines_of}
+use Rattle.line_reader.specs.Deciding.{HasNoEnd, Follows}
 use Rattle.nop_types.specs.declared.header.Header.{Header}
 use Rattle.transcript_reader.proofs.RowLemmas.{same_row}
 use Rattle.transcript_reader.proofs.Runs.{then_run, what_it_says, body_runs}

@@ -3,10 +3,10 @@ use Rattle.std.specs.Prelude.{◌≡◌, ◌⊎◌, ◌<◌, ◌≤◌, ℕ, ◌
 use Rattle.std.specs.Prelude.{Result, Ok, Err, drop}
 use Rattle.std.specs.List.{flat_map}
 use Rattle.std.specs.Io.KnownBytes.{Consumes}
-use Rattle.lines.specs.Cutting.{Cut, with_end, lines_of}
-use Rattle.lines.specs.Deciding.{Follows, cut_of, is_closed}
-use Rattle.lines.specs.Reading.{Reading, IsEnd, lines_before}
-use Rattle.lines.specs.declared.first_line.FirstLine.{FirstLine}
+use Rattle.line_reader.specs.Cutting.{Cut, with_end, lines_of}
+use Rattle.line_reader.specs.Deciding.{Follows, cut_of, is_closed}
+use Rattle.line_reader.specs.Reading.{Reading, IsEnd, lines_before}
+use Rattle.line_reader.specs.declared.first_line.FirstLine.{FirstLine}
 use Rattle.nop_types.specs.Headers.{is_header}
 use Rattle.nop_types.specs.declared.header.Header.{Header}
 use Rattle.nop_types.specs.declared.limits.TheConstants.{MAX_LINE_BYTES}

@@ -1,4 +1,4 @@
-use lines::ReadError;
+use line_reader::ReadError;
 use nop_types::NoMemory as OutOfMemory;
 use std::alloc::{AllocError, AllocFailed};
 

@@ -1,7 +1,7 @@
 //! A transcript, read from a source.
 
 ghost use Rattle.std.specs.Prelude.{◌≡◌, ◌≤◌, ◌+◌, IfOk, OnOk, IfErr};
-ghost use Rattle.lines.specs.Reading.{opening, IsFirst, Reaches, TakesFrom};
+ghost use Rattle.line_reader.specs.Reading.{opening, IsFirst, Reaches, TakesFrom};
 ghost use Rattle.outside.specs.Causes.{CountsFor};
 ghost use Rattle.transcript_reader.specs.Reading.{IsRead, IsError, IsNoLine, IsFinished, IsUnfinished};
 ghost use Rattle.transcript_reader.specs.Reading.{After, ReadsFirst};
@@ -13,7 +13,7 @@ use crate::limits::MAX_TRANSCRIPT_LINES;
 use crate::part::Part;
 use crate::taken::Taken;
 use crate::taking::{take_header, take_line};
-use lines::{FirstLine, LineReader, ReadError};
+use line_reader::{FirstLine, LineReader, ReadError};
 use outside::Source;
 use std::alloc::Global;
 

@@ -1,8 +1,8 @@
 //! The next line of a transcript: whether it is whole, and what it says.
 
 ghost use Rattle.std.specs.Prelude.{◌≡◌, ◌≤◌, ◌<◌, ◌⊎◌, ◌+◌, true, false, take, IfOk, OnOk, IfErr};
-ghost use Rattle.lines.specs.Deciding.{is_closed};
-ghost use Rattle.lines.specs.Reading.{IsFirst};
+ghost use Rattle.line_reader.specs.Deciding.{is_closed};
+ghost use Rattle.line_reader.specs.Reading.{IsFirst};
 ghost use Rattle.nop_types.specs.declared.limits.TheConstants.{MAX_LINE_BYTES};
 ghost use Rattle.transcript_reader.specs.Reading.{Advances, IsTaken, RefusesFirst};
 ghost use Rattle.transcript_reader.specs.Reading.{LengthRefused, First, After, IsHeader};
@@ -12,7 +12,7 @@ ghost use Rattle.transcript_reader.specs.declared.limits.TheConstants.{MAX_TRANS
 use crate::check_error::CheckError;
 use crate::limits::MAX_TRANSCRIPT_LINES;
 use crate::taken::Taken;
-use lines::{FirstLine, LineReader};
+use line_reader::{FirstLine, LineReader};
 use nop_types::{MAX_LINE_BYTES, NoMemory};
 use std::alloc::Global;
 use transcript_rows::{read_header, read_row};

@@ -11,8 +11,8 @@ use Rattle.nop_types.specs.Views.{is_view}
 use Rattle.nop_types.specs.declared.peer.Change.{Change}
 use Rattle.nop_types.specs.declared.request.Entry.{Entry}
 use Rattle.nop_types.specs.declared.view.View.{View}
-use Rattle.facts.proofs.Members.{Has-none, Has-cases}
-use Rattle.facts.proofs.Prefixes.{IsPrefixOf-take}
+use Rattle.lemmas.proofs.Members.{Has-none, Has-cases}
+use Rattle.lemmas.proofs.Prefixes.{IsPrefixOf-take}
 use Rattle.log_merge.specs.Merge.{told, of_two, merge}
 use Rattle.log_merge.specs.Merging.{merged, merge_above}
 use Rattle.log_merge.specs.Starting.{greatest}

@@ -23,7 +23,7 @@ use Rattle.nop_types.specs.Checkpoints.{KeepsTo}
 use Rattle.nop_types.specs.Logs.{Log, Whole, Trimmed, IsWithin, length_of, entry_at}
 use Rattle.nop_types.specs.Meaning.{Meaning}
 use Rattle.nop_types.specs.Views.{join_of, is_view, leader_of}
-use Rattle.facts.proofs.Views.{is_view-true}
+use Rattle.lemmas.proofs.Views.{is_view-true}
 use Rattle.gap_agree.specs.Agreement.{Agreement}
 use Rattle.oum_receiver.specs.Front.{Front, Nothing, Message, Dropped}
 use Rattle.oum_receiver.specs.Receiving.{front_of}

@@ -17,7 +17,7 @@ use Rattle.nop_types.specs.Execution.{Executed, opening, execute, exec, takes, e
 use Rattle.nop_types.specs.Logs.{Log, Whole, Trimmed, length_of, upto, entry_at}
 use Rattle.nop_types.specs.Meaning.{Meaning}
 use Rattle.nop_types.specs.Ranges.{EntryFits, LogIsIn}
-use Rattle.histories.proofs.Tables.{exec_is_by_kept}
+use Rattle.execution_laws.proofs.Tables.{exec_is_by_kept}
 use Rattle.trimming.specs.Trimming.{checkpoint_at, trim}
 use Rattle.trimming.proofs.Executions.{has_checkpoint}
 use Rattle.trimming.proofs.Lists.{all-take, all-drop}

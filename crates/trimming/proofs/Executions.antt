@@ -13,10 +13,10 @@ use Rattle.nop_types.specs.Execution.{Executed, opening, execute, exec, takes, e
 use Rattle.nop_types.specs.Checkpoints.{Checkpoint, checkpoint_of, loaded_of, KeepsTo}
 use Rattle.nop_types.specs.Logs.{Log, Keeping, Whole, Trimmed, length_of, upto, entry_at}
 use Rattle.nop_types.specs.CheckpointedLogs.{loads, beginning, executed, kept_result, slot_result, raised}
-use Rattle.histories.proofs.Results.{result_is_kept}
-use Rattle.histories.proofs.Saving.{execs_are_sound, checkpoint_loads as execution_loads, checkpoints_load as exec_loads}
-use Rattle.histories.proofs.Steps.{exec_kept_of_append}
-use Rattle.histories.proofs.Tables.{exec_goes_on}
+use Rattle.execution_laws.proofs.Results.{result_is_kept}
+use Rattle.execution_laws.proofs.Saving.{execs_are_sound, checkpoint_loads as execution_loads, checkpoints_load as exec_loads}
+use Rattle.execution_laws.proofs.Steps.{exec_kept_of_append}
+use Rattle.execution_laws.proofs.Tables.{exec_goes_on}
 use Rattle.trimming.specs.Trimming.{checkpoint_at, trim}
 use Rattle.trimming.proofs.Lists.{take-to, slot_of-drop}
 

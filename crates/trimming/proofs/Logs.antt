@@ -15,7 +15,7 @@ use Rattle.nop_types.specs.Checkpoints.{Checkpoint, checkpoint_of, KeepsTo}
 use Rattle.nop_types.specs.Logs.{Log, Keeping, Whole, Trimmed, length_of, above, entry_at, unsynced, has_room, IsWithin, between}
 use Rattle.nop_types.specs.Logs.{appended, with_noop, first, further, adopted, overlaid}
 use Rattle.nop_types.specs.CheckpointedLogs.{raised}
-use Rattle.facts.proofs.Slots.{length-set_slot}
+use Rattle.lemmas.proofs.Slots.{length-set_slot}
 use Rattle.trimming.specs.Trimming.{checkpoint_at, trim}
 use Rattle.trimming.proofs.Executions.{executed_trims}
 use Rattle.trimming.proofs.Lists.{drop-to, take-front, drop-front, drop-take_to, slot_of-drop, drop-set_slot, take-set_slot}

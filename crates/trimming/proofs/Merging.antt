@@ -11,7 +11,7 @@ use Rattle.nop_types.specs.Lists.{Has, IsPrefixOf}
 use Rattle.nop_types.specs.Logs.{Keeping, Whole, Trimmed, IsWithin}
 use Rattle.nop_types.specs.PlainChanges as plain
 use Rattle.nop_types.specs.PlainChanges.{plain_above}
-use Rattle.facts.proofs.Members.{Has-first, Has-rest, Has-none, Has-cases}
+use Rattle.lemmas.proofs.Members.{Has-first, Has-rest, Has-none, Has-cases}
 use Rattle.log_merge.specs.Merge.{told, of_two, chosen, entry_of, longest, merge}
 use Rattle.log_merge.specs.Merging.{merge_above, precedes, better, best, merged_from, merged}
 use Rattle.log_merge.proofs.Best.{best_is_best}

@@ -6,7 +6,7 @@ use Rattle.nop_types.specs.declared.request.Entry.TheVariants.{NoOp, Req}
 use Rattle.nop_types.specs.Checkpoints.{Checkpoint}
 use Rattle.nop_types.specs.Logs.{Log}
 use Rattle.nop_types.specs.Tables.{Account}
-use Rattle.histories.specs.Worked.{request_of, answered, account_of}
+use Rattle.execution_laws.specs.Worked.{request_of, answered, account_of}
 
 -- requests of clients 1 and 2, each with an op of one byte
 abbrev pub entry_a : Entry

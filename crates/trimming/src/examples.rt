@@ -11,7 +11,7 @@ ghost use Rattle.nop_types.specs.Logs.{
   overlaid,
 };
 ghost use Rattle.nop_types.specs.CheckpointedLogs.{loads, slot_result, raised};
-ghost use Rattle.histories.specs.Worked.{appending};
+ghost use Rattle.execution_laws.specs.Worked.{appending};
 ghost use Rattle.log_merge.specs.Merging.{merged};
 ghost use Rattle.trimming.specs.Trimming.{trim};
 ghost use Rattle.trimming.specs.Merging.{trim_change, Agree};

@@ -14,7 +14,7 @@ use Rattle.nop_types.specs.declared.datagram.Datagram.TheVariants as datagrams
 use Rattle.nop_types.specs.declared.output.Actor.{Actor}
 use Rattle.nop_types.specs.declared.output.Actor.TheVariants as actors
 use Rattle.nop_types.specs.declared.output.Out.{Out}
-use Rattle.facts.proofs.Members.{Has-none, Has-cases, Has-append_cases}
+use Rattle.lemmas.proofs.Members.{Has-none, Has-cases, Has-append_cases}
 use Rattle.client_quorum.specs.declared.state.ClientState.{ClientState}
 use Rattle.client_quorum.specs.ClientSteps as client
 use Rattle.sequencer.specs.declared.state.SequencerState.{SequencerState}

@@ -17,8 +17,8 @@ use Rattle.nop_types.specs.declared.peer.Body.TheVariants as bodies
 use Rattle.nop_types.specs.declared.peer.Change.{Change}
 use Rattle.nop_types.specs.declared.peer.Peer.{Peer}
 use Rattle.nop_types.specs.declared.request.Entry.{Entry}
-use Rattle.facts.proofs.Members.{Has-none, Has-cases, Has-append_cases}
-use Rattle.facts.proofs.Places.{slice_get-some, slice_get-set_cases, slice_get-set_after, take-append_past}
+use Rattle.lemmas.proofs.Members.{Has-none, Has-cases, Has-append_cases}
+use Rattle.lemmas.proofs.Places.{slice_get-some, slice_get-set_cases, slice_get-set_after, take-append_past}
 use Rattle.client_quorum.specs.declared.state.ClientState.{ClientState}
 use Rattle.sequencer.specs.declared.state.SequencerState.{SequencerState}
 use Rattle.session_control.specs.declared.state.ControllerState.{ControllerState}

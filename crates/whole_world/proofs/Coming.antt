@@ -11,7 +11,7 @@ use Rattle.nop_types.specs.Logs.{Whole}
 use Rattle.nop_types.specs.declared.datagram.Datagram.{Datagram}
 use Rattle.nop_types.specs.declared.datagram.Datagram.TheVariants as datagrams
 use Rattle.nop_types.specs.declared.peer.Peer.{Peer}
-use Rattle.facts.proofs.Members.{Has-first, Has-rest}
+use Rattle.lemmas.proofs.Members.{Has-first, Has-rest}
 use Rattle.oum_codec.specs.declared.bad.Bad.{Bad}
 use Rattle.oum_codec.specs.Reading.{reading}
 use Rattle.replica_rows.specs.Messages.{Arrival, Packet, Told, Ticked}
@@ -23,7 +23,7 @@ use Rattle.refinement.specs.Ranges.{GivenFits}
 use Rattle.refinement.specs.Replicas.{Came}
 use Rattle.whole_world.specs.Whole.{Brings, Nothing, Op, Timer, Junk, Equal, Message, Crash, Letter, was_sent, given_if, junk_if, input_of}
 use Rattle.whole_world.specs.Whole.{WholeWorld, letter_of, told_if, arrival_read, arrival_given, arrival_of}
-use Rattle.delivery.specs.Network.{IsNoDatagram}
+use Rattle.network_laws.specs.Network.{IsNoDatagram}
 use Rattle.whole_world.specs.Coming.{IsBytesOf, IsLetter, DatagramsWereSent, JunkIsNoDatagram, MessagesWereSent}
 use Rattle.whole_world.specs.Safe.{BringsFits}
 use Rattle.whole_world.specs.Shows.{Carries, Tells, peers_of}

@@ -7,14 +7,14 @@ use Rattle.nop_types.specs.declared.datagram.Datagram.{Datagram}
 use Rattle.nop_types.specs.declared.datagram.Datagram.TheVariants as datagrams
 use Rattle.nop_types.specs.declared.output.Actor.{Actor}
 use Rattle.nop_types.specs.declared.output.Out.{Out}
-use Rattle.facts.proofs.Members.{Has-append_left, Has-append_right, Has-append_cases}
+use Rattle.lemmas.proofs.Members.{Has-append_left, Has-append_right, Has-append_cases}
 use Rattle.oum_codec.specs.Reading.{reading}
 use Rattle.oum_codec.specs.Spelling.{spelling, Spells}
 use Rattle.oum_codec.proofs.Datagrams.{reads_again}
 use Rattle.protocol.specs.Conf.{Conf}
 use Rattle.protocol.specs.Evolves.{Keeps}
 use Rattle.network.specs.Network.{Sent, sends_of}
-use Rattle.delivery.specs.Network.{IsDatagram}
+use Rattle.network_laws.specs.Network.{IsDatagram}
 use Rattle.refinement.specs.Datagrams.{WasSent, Arrived, Carries, AllCarry, Sends}
 use Rattle.refinement.specs.Ranges.{AllFit}
 use Rattle.refinement.proofs.SentRanges.{datagrams_fit}

@@ -10,7 +10,7 @@ use Rattle.nop_types.specs.PlainChanges.{plain}
 use Rattle.nop_types.specs.Views.{is_view}
 use Rattle.nop_types.specs.declared.peer.Change.{Change}
 use Rattle.nop_types.specs.declared.view.View.{View}
-use Rattle.facts.proofs.Members.{Has-from_filter}
+use Rattle.lemmas.proofs.Members.{Has-from_filter}
 use Rattle.log_merge.specs.Merge.{merge}
 use Rattle.log_merge.specs.Merging.{kept_told, merge_above}
 use Rattle.log_merge.specs.Starting.{greatest, kept}

@@ -8,9 +8,9 @@ use Rattle.nop_types.specs.declared.request.Entry.{Entry}
 use Rattle.nop_types.specs.Lists.{Has}
 use Rattle.nop_types.specs.Views.{outranks, leader_of}
 use Rattle.nop_types.specs.Meaning.{Meaning}
-use Rattle.facts.proofs.Members.{Has-none, Has-first, Has-rest, Has-cases}
-use Rattle.facts.proofs.Places.{slice_get-some}
-use Rattle.facts.proofs.Views.{RanksAtMost, RanksAtMost-refl, RanksAtMost-trans, outranks-true, outranks-false, outranks-from_ranks}
+use Rattle.lemmas.proofs.Members.{Has-none, Has-first, Has-rest, Has-cases}
+use Rattle.lemmas.proofs.Places.{slice_get-some}
+use Rattle.lemmas.proofs.Views.{RanksAtMost, RanksAtMost-refl, RanksAtMost-trans, outranks-true, outranks-false, outranks-from_ranks}
 use Rattle.started_views.specs.Past.{HadLog}
 use Rattle.started_views.proofs.Quorums.{leader_within}
 use Rattle.protocol.specs.Conf.{Conf, last_normals}

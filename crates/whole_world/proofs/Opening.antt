@@ -7,8 +7,8 @@ use Rattle.nop_types.specs.Configuration.{Configuration, is_configuration}
 use Rattle.nop_types.specs.Logs.{Whole}
 use Rattle.nop_types.specs.Meaning.{Meaning}
 use Rattle.nop_types.specs.declared.limits.TheConstants.{MAX_CONTROLLERS}
-use Rattle.facts.proofs.Members.{Has-none}
-use Rattle.facts.proofs.Places.{slice_get-push_cases}
+use Rattle.lemmas.proofs.Members.{Has-none}
+use Rattle.lemmas.proofs.Places.{slice_get-push_cases}
 use Rattle.replica_state.specs.State.{PointsMeet}
 use Rattle.sequencer.specs.SequencerSteps as sequencer
 use Rattle.session_control.specs.declared.state.ControllerState.{ControllerState}
@@ -17,7 +17,7 @@ use Rattle.session_control.proofs.Epochs.{opens_at_home, opens_fits}
 use Rattle.protocol.specs.Conf.{opening}
 use Rattle.world.specs.Seats.{Seated, seated}
 use Rattle.world.specs.WorldSteps.{counted, opening_client}
-use Rattle.delivery.proofs.InRanges.{opens_in_ranges}
+use Rattle.network_laws.proofs.InRanges.{opens_in_ranges}
 use Rattle.refinement.specs.Controllers.{control_of}
 use Rattle.refinement.specs.Projection.{member_of}
 use Rattle.refinement.specs.Ranges.{ClientFits}

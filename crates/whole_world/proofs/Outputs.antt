@@ -6,8 +6,8 @@ use Rattle.nop_types.specs.declared.output.Out.{Out}
 use Rattle.nop_types.specs.declared.output.Out.TheVariants as outs
 use Rattle.nop_types.specs.Lines.{Line, Submit, Accept, Busy}
 use Rattle.nop_types.specs.Lists.{Has}
-use Rattle.facts.proofs.Members.{Has-none, Has-first, Has-rest, Has-cases}
-use Rattle.histories.specs.Legality.{IsOtherLine}
+use Rattle.lemmas.proofs.Members.{Has-none, Has-first, Has-rest, Has-cases}
+use Rattle.execution_laws.specs.Legality.{IsOtherLine}
 use Rattle.protocol.specs.Moves.{MayTell}
 use Rattle.network.specs.Network.{Sent, sends_of}
 use Rattle.refinement.specs.Lines.{lines_in, SaysFirst}

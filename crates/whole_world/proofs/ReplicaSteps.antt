@@ -19,11 +19,11 @@ use Rattle.nop_types.specs.declared.output.Actor.TheVariants as actors
 use Rattle.nop_types.specs.declared.output.Dest.TheVariants as dests
 use Rattle.nop_types.specs.declared.peer.Peer.{Peer}
 use Rattle.nop_types.specs.declared.request.Request.{Request}
-use Rattle.facts.proofs.Members.{Has-none, Has-first, Has-rest, Has-cases, Has-append_left, Has-append_right, Has-append_cases}
+use Rattle.lemmas.proofs.Members.{Has-none, Has-first, Has-rest, Has-cases, Has-append_left, Has-append_right, Has-append_cases}
 use Rattle.oum_codec.specs.Reading.{reading}
 use Rattle.oum_codec.specs.Spelling.{spelling}
-use Rattle.delivery.specs.Network.{IsDatagram}
-use Rattle.delivery.specs.Sends.{peers_in}
+use Rattle.network_laws.specs.Network.{IsDatagram}
+use Rattle.network_laws.specs.Sends.{peers_in}
 use Rattle.client_quorum.specs.declared.state.ClientState.{ClientState}
 use Rattle.sequencer.specs.declared.state.SequencerState.{SequencerState}
 use Rattle.replica_core.specs.declared.replica.TheConstants.{LAST_MESSAGE}

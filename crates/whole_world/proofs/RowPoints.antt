@@ -30,7 +30,7 @@ use Rattle.nop_types.specs.declared.request.Entry.{Entry}
 use Rattle.nop_types.specs.declared.request.Entry.TheVariants.{NoOp, Req}
 use Rattle.nop_types.specs.declared.request.Request.{Request}
 use Rattle.nop_types.specs.declared.view.View.{View}
-use Rattle.facts.proofs.Members.{Has-one, Has-push_cases, Has-from_filter}
+use Rattle.lemmas.proofs.Members.{Has-one, Has-push_cases, Has-from_filter}
 use Rattle.gap_agree.specs.Agreement.{Agreement}
 use Rattle.gap_agree.specs.Votes.{with_vote}
 use Rattle.log_merge.specs.Merging.{kept_told, best, merged, merged_from}

@@ -12,10 +12,10 @@ use Rattle.replica_rows.specs.Messages.{Arrival, arrive}
 use Rattle.replica_rows.specs.Within.{ArrivalIsIn, ResultsShort}
 use Rattle.replica_rows.proofs.Counting.{arrive_sends_few}
 use Rattle.replica_core.specs.declared.replica.TheConstants.{LAST_MESSAGE}
-use Rattle.delivery.specs.Ranges.{StaysInRanges}
-use Rattle.delivery.specs.Sends.{IsBy}
-use Rattle.delivery.proofs.InRanges.{arrive_stays}
-use Rattle.delivery.proofs.Own.{arrive_keeps_number, arrive_sends_own}
+use Rattle.network_laws.specs.Ranges.{StaysInRanges}
+use Rattle.network_laws.specs.Sends.{IsBy}
+use Rattle.network_laws.proofs.InRanges.{arrive_stays}
+use Rattle.network_laws.proofs.Own.{arrive_keeps_number, arrive_sends_own}
 use Rattle.whole_world.specs.Whole.{WholeReplica, row_if, effect_of, after_row}
 use Rattle.whole_world.proofs.At.{ReplicaFits}
 

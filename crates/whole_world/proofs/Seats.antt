@@ -1,9 +1,9 @@
 -- What a step at one seat leaves.
 use Rattle.std.proofs.Common.{◌≡◌, ℕ, Some, sym, subst, ◌∙◌, inl, inr, List}
 use Rattle.std.specs.Prelude.{slice_get, slice_set}
-use Rattle.facts.specs.Functions.{put}
-use Rattle.facts.proofs.Functions.{put-here, put-other}
-use Rattle.facts.proofs.Places.{slice_get-set_cases}
+use Rattle.lemmas.specs.Functions.{put}
+use Rattle.lemmas.proofs.Functions.{put-here, put-other}
+use Rattle.lemmas.proofs.Places.{slice_get-set_cases}
 use Rattle.world.specs.Seats.{Seated}
 
 -- what holds of each seat leads to what holds where one has a new state

@@ -6,12 +6,12 @@ use Rattle.nop_types.specs.Logs.{Keeping}
 use Rattle.nop_types.specs.Ranges.{PeerIsIn, ReplyFits}
 use Rattle.nop_types.specs.declared.datagram.Reply.{Reply}
 use Rattle.nop_types.specs.declared.peer.Peer.{Peer}
-use Rattle.facts.proofs.Members.{Has-none, Has-first, Has-rest, Has-cases}
+use Rattle.lemmas.proofs.Members.{Has-none, Has-first, Has-rest, Has-cases}
 use Rattle.replica_state.specs.declared.sending.Sending.{Sending}
 use Rattle.replica_state.specs.declared.sending.Sending.TheVariants.{ToClient, ToReplicas, Trims}
 use Rattle.replica_state.specs.Sends.{SendingIsIn}
 use Rattle.protocol.specs.Said.{Said}
-use Rattle.delivery.specs.Sends.{peers_in}
+use Rattle.network_laws.specs.Sends.{peers_in}
 use Rattle.refinement.specs.Projection.{said_of, said_in, replied_in}
 use Rattle.whole_world.specs.Shows.{WasTold}
 

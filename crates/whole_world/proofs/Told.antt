@@ -8,7 +8,7 @@ use Rattle.nop_types.specs.declared.peer.Body.{Body}
 use Rattle.nop_types.specs.declared.peer.Body.TheVariants as bodies
 use Rattle.nop_types.specs.declared.request.Entry.{Entry}
 use Rattle.nop_types.specs.declared.view.View.{View}
-use Rattle.facts.proofs.Prefixes.{IsPrefixOf-refl}
+use Rattle.lemmas.proofs.Prefixes.{IsPrefixOf-refl}
 use Rattle.started_views.specs.Past.{LeaderHad}
 use Rattle.started_views.specs.Logs.{SameTo}
 use Rattle.started_views.proofs.Keeping.{synchronised_agree}

@@ -15,7 +15,7 @@ use Rattle.nop_types.specs.declared.request.Entry.{Entry}
 use Rattle.nop_types.specs.declared.view.View.{View}
 use Rattle.started_views.specs.Logs.{SameTo}
 use Rattle.started_views.proofs.Logs.{same_from_prefix, same_sym, same_trans, same_less}
-use Rattle.facts.proofs.Prefixes.{IsPrefixOf-take}
+use Rattle.lemmas.proofs.Prefixes.{IsPrefixOf-take}
 use Rattle.view_change.specs.Gathering.{Gathering, counted, teller}
 use Rattle.replica_state.specs.declared.state.ReplicaState.{ReplicaState}
 use Rattle.replica_state.specs.State.{PointsMeet, is_other}

@@ -5,7 +5,7 @@ use Rattle.nop_types.specs.Lists.{Has}
 use Rattle.nop_types.specs.declared.peer.Peer.{Peer}
 use Rattle.replica_rows.specs.Messages.{Arrival, Told}
 use Rattle.network.specs.Network.{Sent}
-use Rattle.delivery.specs.Network.{IsNoDatagram}
+use Rattle.network_laws.specs.Network.{IsNoDatagram}
 use Rattle.whole_world.specs.Whole.{WholeWorld, Letter, Junk, Equal, Message, input_of, arrival_of}
 
 -- a datagram with these bytes was sent

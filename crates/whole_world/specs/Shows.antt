@@ -20,7 +20,7 @@ use Rattle.protocol.specs.Conf.{Conf, Install}
 use Rattle.protocol.specs.Said.{Said}
 use Rattle.network.specs.Network.{Sent}
 use Rattle.world.specs.Seats.{Seated}
-use Rattle.delivery.specs.Network.{IsDatagram}
+use Rattle.network_laws.specs.Network.{IsDatagram}
 use Rattle.refinement.specs.Controllers.{control_of}
 use Rattle.refinement.specs.Datagrams.{WasSent}
 use Rattle.replica_state.specs.State.{PointsMeet}

@@ -16,9 +16,9 @@ use Rattle.nop_types.specs.declared.request.Entry.TheVariants.{NoOp, Req}
 use Rattle.nop_types.specs.Lists.{is_in}
 use Rattle.nop_types.specs.Tables.{Account, Answered, Table, kept_for, kept_ids, is_new_to, serves, account_with}
 use Rattle.nop_types.specs.Execution.{Executed, ids_of, is_executed, exec, execute, enter_kept}
-use Rattle.histories.specs.Execution.{IsAccountOf}
-use Rattle.histories.proofs.Windows.{is_in-has, has-is_in}
-use Rattle.histories.proofs.Tables.{accounts_are_of_log, table_tells_executed, next_entry_by_kept}
+use Rattle.execution_laws.specs.Execution.{IsAccountOf}
+use Rattle.execution_laws.proofs.Windows.{is_in-has, has-is_in}
+use Rattle.execution_laws.proofs.Tables.{accounts_are_of_log, table_tells_executed, next_entry_by_kept}
 use Rattle.world.specs.Ids.{is_new_beside, silent, table_after, HasGreatest, Adds}
 
 -- the first entries, and one more

@@ -5,7 +5,7 @@ use Rattle.std.specs.Prelude.{nat_lt, slice_get, is_some, IfSome}
 use Rattle.std.specs.Option.{option_copied}
 use Rattle.std.proofs.lemmas.Bool.{ltb-true, ltb-false}
 use Rattle.std.proofs.lemmas.Option.{get_or_from_slice_get, slice_get_past}
-use Rattle.facts.proofs.Places.{slice_get-some, slice_get-append_left, slice_get-append_right}
+use Rattle.lemmas.proofs.Places.{slice_get-some, slice_get-append_left, slice_get-append_right}
 use Rattle.nop_types.specs.Lists.{slot_of}
 
 module _ {A : Type 0} (xs ys all : List A) (slot place : ℕ) (next : slot ≡ place + 1) (parts : xs ++ ys ≡ all) where

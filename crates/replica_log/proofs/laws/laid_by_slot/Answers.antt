@@ -1,4 +1,4 @@
-use Rattle.facts.proofs.Slots.{length-laid, slot_of-laid_below, slot_of-laid_above}
+use Rattle.lemmas.proofs.Slots.{length-laid, slot_of-laid_below, slot_of-laid_above}
 use Rattle.replica_log.proofs.laws.laid_by_slot.Goals as goal
 
 pub returns-clause-len : goal.returns-clause-len

@@ -1,6 +1,6 @@
 use Rattle.std.proofs.Common.{rules, take, flat_map}
 use Rattle.nop_types.specs.Lists.{IsPrefixOf}
-use Rattle.facts.proofs.Prefixes.{IsPrefixOf-trans}
+use Rattle.lemmas.proofs.Prefixes.{IsPrefixOf-trans}
 use Rattle.transcript_text.specs.LineText.{after_space, field_texts}
 use Rattle.transcript_text.proofs.field.put_fields.Goals as goal
 

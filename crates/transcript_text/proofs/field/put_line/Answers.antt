@@ -1,6 +1,6 @@
 use Rattle.std.proofs.Common.{rules}
 use Rattle.nop_types.specs.Lists.{IsPrefixOf}
-use Rattle.facts.proofs.Prefixes.{IsPrefixOf-trans}
+use Rattle.lemmas.proofs.Prefixes.{IsPrefixOf-trans}
 use Rattle.transcript_text.proofs.field.put_line.Goals as goal
 
 pub returns-in_err-put_fields-clause-err : goal.returns-in_err-put_fields-clause-err

@@ -1,5 +1,5 @@
 use Rattle.nop_types.specs.Checkpoints.{KeepsTo}
-use Rattle.histories.proofs.Shortness.{result_fits}
+use Rattle.execution_laws.proofs.Shortness.{result_fits}
 use Rattle.whole_world.proofs.TrimmedRows.{rows_trim_where}
 use Rattle.whole_world.proofs.Trimming.{whole_can_trim}
 use Rattle.whole_world.proofs.laws.whole_rows_trim.Goals as goal

@@ -1,6 +1,6 @@
 use Rattle.std.proofs.Common.{rules}
 use Rattle.nop_types.specs.Lists.{IsPrefixOf}
-use Rattle.facts.proofs.Prefixes.{IsPrefixOf-trans}
+use Rattle.lemmas.proofs.Prefixes.{IsPrefixOf-trans}
 use Rattle.world.specs.StateLines.{replicas_text}
 use Rattle.world.proofs.ending.put_final.Goals as goal
 

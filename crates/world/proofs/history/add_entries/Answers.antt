@@ -3,7 +3,7 @@ use Rattle.std.proofs.lemmas.List.{take_all}
 use Rattle.nop_types.specs.declared.request.Entry.{Entry}
 use Rattle.nop_types.specs.declared.request.Request.{Request}
 use Rattle.nop_types.specs.Histories.{history_of, new_in}
-use Rattle.histories.proofs.Members.{history_of_next_entry}
+use Rattle.execution_laws.proofs.Members.{history_of_next_entry}
 use Rattle.world.specs.Ids.{HasGreatest}
 use Rattle.world.proofs.IdLemmas.{take_next}
 use Rattle.world.proofs.history.add_entries.Goals as goal

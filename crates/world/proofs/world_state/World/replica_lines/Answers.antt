@@ -1,5 +1,5 @@
 use Rattle.std.proofs.Common.{length, ap, arith}
-use Rattle.facts.proofs.Limits.{is_configuration-few_replicas}
+use Rattle.lemmas.proofs.Limits.{is_configuration-few_replicas}
 use Rattle.world.proofs.world_state.World.replica_lines.Goals as goal
 
 pub put_replicas-requires : goal.put_replicas-requires

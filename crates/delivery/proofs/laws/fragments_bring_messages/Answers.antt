@@ -1,5 +1,0 @@
-use Rattle.delivery.proofs.Fragments.{fragment_brings}
-use Rattle.delivery.proofs.laws.fragments_bring_messages.Goals as goal
-
-pub returns : goal.returns
-returns g c = λ m. fragment_brings m

@@ -1,5 +1,0 @@
-use Rattle.histories.proofs.Members.{members_are_new}
-use Rattle.histories.proofs.histories.members_are_new.Goals as goal
-
-pub returns : goal.returns
-returns c = members_are_new

@@ -1,5 +1,0 @@
-use Rattle.histories.proofs.Legal.{legal_with_member}
-use Rattle.histories.proofs.legality.legal_with_member.Goals as goal
-
-pub returns : goal.returns
-returns g c = legal_with_member

@@ -1,6 +1,0 @@
-use Rattle.std.proofs.Common.{All}
-use Rattle.labels.specs.Clients.{IsOfClient}
-use Rattle.labels.proofs.said.line_notes.Given as goal
-
-abbrev pub invariant-loop-line : goal.invariant-loop-line
-invariant-loop-line g l = All (λ n. IsOfClient n.mark) l.notes.items

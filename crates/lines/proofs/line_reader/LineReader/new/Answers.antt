@@ -1,9 +1,0 @@
-use Rattle.std.proofs.Common.{arith, false}
-use Rattle.lines.proofs.Firsts.{undecided_empty}
-use Rattle.lines.proofs.line_reader.LineReader.new.Goals as goal
-
-pub invariant_of-result : goal.invariant_of-result
-invariant_of-result c = record {
-  first = rw c.new.ensures.items (undecided_empty c.args.most 0 false);
-  within = omega arith;
-}
