@@ -64,10 +64,8 @@ module _ (at : Address) (number : ℕ) (op : List ℕ) (t : ClientState) (h i : 
 
   pub answers_by : (result : Result (List ℕ) CallError) → GivesAccepted t.accepted result → Answers at.config number op result
   answers_by (Ok result) gives = accepted_answer result t.accepted refl gives
-  answers_by (Err PortFault) gives = tt
-  answers_by (Err LinkFault) gives = tt
   answers_by (Err Unanswered) gives = open_answer t.accepted refl gives
-  answers_by (Err NoMemory) gives = tt
+  answers_by _ gives = tt
 
   -- ---- the run
 
@@ -189,11 +187,8 @@ ends_before at number op turns (Some answers) (Some values) trace losses = (
 -- ---- errors
 
 pub no_attach : (result : Result (List ℕ) CallError) (n : ℕ) → ¬ (result ≡ Err PortFault) → attaches_after result n ≡ n
-no_attach (Ok result) n attached = refl
 no_attach (Err PortFault) n attached = absurd (attached refl)
-no_attach (Err LinkFault) n attached = refl
-no_attach (Err Unanswered) n attached = refl
-no_attach (Err NoMemory) n attached = refl
+no_attach _ n attached = refl
 
 -- ---- a link that ports gave
 

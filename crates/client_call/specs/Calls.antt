@@ -58,10 +58,8 @@ pub record IsOpen (config : Configuration) (number : ℕ) (op : List ℕ) : Type
 
 abbrev pub Answers : Configuration → ℕ → List ℕ → Result (List ℕ) CallError → Type 0
 Answers config number op (Ok result) = IsAccepted config number op result
-Answers config number op (Err PortFault) = ⊤
-Answers config number op (Err LinkFault) = ⊤
 Answers config number op (Err Unanswered) = IsOpen config number op
-Answers config number op (Err NoMemory) = ⊤
+Answers config number op _ = ⊤
 
 -- what a client had accepted, if something
 abbrev pub GivesAccepted : Option Accept → Result (List ℕ) CallError → Type 0
@@ -83,19 +81,13 @@ error_of serves.NoMemory = NoMemory
 
 -- of attaches: it rises by one exactly where the port could not be opened
 abbrev pub attaches_after : {T : Type 0} → Result T CallError → ℕ → ℕ
-attaches_after (Ok result) n = n
 attaches_after (Err PortFault) n = next_count n
-attaches_after (Err LinkFault) n = n
-attaches_after (Err Unanswered) n = n
-attaches_after (Err NoMemory) n = n
+attaches_after _ n = n
 
 -- of the polls of a link: it rises by one exactly where a poll failed
 abbrev pub polls_after : Result (List ℕ) CallError → ℕ → ℕ
-polls_after (Ok result) n = n
-polls_after (Err PortFault) n = n
 polls_after (Err LinkFault) n = next_count n
-polls_after (Err Unanswered) n = n
-polls_after (Err NoMemory) n = n
+polls_after _ n = n
 
 -- ---- the run, over an observable link and clock
 

@@ -86,23 +86,11 @@ module _ (xs : List Given) (rest : (t : ClientState) → IsTidy t → TakesTurns
   tick_goes : (tick : Tick) → Goes (on_tick s tick)
   tick_goes ticks.Next = waiting_goes (can_submit s) refl
   tick_goes ticks.Retry = again s.pending (rest s tidy)
-  tick_goes ticks.Suspect = rest s tidy
-  tick_goes ticks.Watch = rest s tidy
-  tick_goes ticks.Resend = rest s tidy
-  tick_goes ticks.Sync = rest s tidy
-  tick_goes ticks.Probe = rest s tidy
-  tick_goes (ticks.Install sequencer) = rest s tidy
+  tick_goes _ = rest s tidy
 
   packet_goes : (d : Result Datagram Bad) → Goes (on_datagram s d)
   packet_goes (Ok (datagrams.Reply p)) = reply_goes p (is_expected s p) refl
-  packet_goes (Ok (datagrams.Request r)) = rest s tidy
-  packet_goes (Ok (datagrams.Stamped p)) = rest s tidy
-  packet_goes (Ok (datagrams.Install controller sequencer session)) = rest s tidy
-  packet_goes (Ok (datagrams.Installed controller sequencer session)) = rest s tidy
-  packet_goes (Ok (datagrams.Ping controller sequencer round)) = rest s tidy
-  packet_goes (Ok (datagrams.Pong controller sequencer round)) = rest s tidy
-  packet_goes (Ok (datagrams.Fragment f)) = rest s tidy
-  packet_goes (Err e) = rest s tidy
+  packet_goes _ = rest s tidy
 
   row_goes : (x : Given) → Goes (next s x)
   unfolding next

@@ -56,23 +56,11 @@ module _ (P : ClientState × List Out → Type 0) (s : ClientState) (x : Given)
   tick_does : (tick : Tick) → P (on_tick s tick)
   tick_does ticks.Next = waiting_does (can_submit s) refl
   tick_does ticks.Retry = stays (retry_of s.pending) (Again s.pending)
-  tick_does ticks.Suspect = stays [] Nothing
-  tick_does ticks.Watch = stays [] Nothing
-  tick_does ticks.Resend = stays [] Nothing
-  tick_does ticks.Sync = stays [] Nothing
-  tick_does ticks.Probe = stays [] Nothing
-  tick_does (ticks.Install sequencer) = stays [] Nothing
+  tick_does _ = stays [] Nothing
 
   packet_does : (d : Result Datagram Bad) → ((p : Reply) → Has (reply_in d) p → Has (reply_of x) p) → P (on_datagram s d)
   packet_does (Ok (datagrams.Reply p)) its = reply_does p (its p (zero, refl)) (is_expected s p) refl
-  packet_does (Ok (datagrams.Request r)) its = stays [] Nothing
-  packet_does (Ok (datagrams.Stamped p)) its = stays [] Nothing
-  packet_does (Ok (datagrams.Install controller sequencer session)) its = stays [] Nothing
-  packet_does (Ok (datagrams.Installed controller sequencer session)) its = stays [] Nothing
-  packet_does (Ok (datagrams.Ping controller sequencer round)) its = stays [] Nothing
-  packet_does (Ok (datagrams.Pong controller sequencer round)) its = stays [] Nothing
-  packet_does (Ok (datagrams.Fragment f)) its = stays [] Nothing
-  packet_does (Err e) its = stays [] Nothing
+  packet_does _ its = stays [] Nothing
 
 pub row_does : (P : ClientState × List Out → Type 0) (s : ClientState) (x : Given)
     → ((outs : List Out) → Quiet outs → P (s, outs))

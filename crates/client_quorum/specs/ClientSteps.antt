@@ -158,24 +158,12 @@ retry s = (s, retry_of s.pending)
 
 abbrev pub on_datagram : ClientState → Result Datagram Bad → ClientState × List Out
 on_datagram s (Ok (datagrams.Reply p)) = reply s p
-on_datagram s (Ok (datagrams.Request r)) = (s, [])
-on_datagram s (Ok (datagrams.Stamped p)) = (s, [])
-on_datagram s (Ok (datagrams.Install controller sequencer session)) = (s, [])
-on_datagram s (Ok (datagrams.Installed controller sequencer session)) = (s, [])
-on_datagram s (Ok (datagrams.Ping controller sequencer round)) = (s, [])
-on_datagram s (Ok (datagrams.Pong controller sequencer round)) = (s, [])
-on_datagram s (Ok (datagrams.Fragment f)) = (s, [])
-on_datagram s (Err e) = (s, [])
+on_datagram s _ = (s, [])
 
 abbrev pub on_tick : ClientState → Tick → ClientState × List Out
 on_tick s ticks.Next = submit_waiting s
 on_tick s ticks.Retry = retry s
-on_tick s ticks.Suspect = (s, [])
-on_tick s ticks.Watch = (s, [])
-on_tick s ticks.Resend = (s, [])
-on_tick s ticks.Sync = (s, [])
-on_tick s ticks.Probe = (s, [])
-on_tick s (ticks.Install sequencer) = (s, [])
+on_tick s _ = (s, [])
 
 unfoldable pub next : ClientState → Given → ClientState × List Out
 next s (Packet bytes) = on_datagram s (reading bytes)

@@ -13,23 +13,12 @@ use Rattle.client_quorum.specs.ClientSteps.{is_expected, next}
 -- a reply of a replica to its pending request
 abbrev pub is_for : ClientState → Datagram → Bool
 is_for s (datagrams.Reply p) = is_expected s p
-is_for s (datagrams.Request r) = false
-is_for s (datagrams.Stamped p) = false
-is_for s (datagrams.Install controller sequencer session) = false
-is_for s (datagrams.Installed controller sequencer session) = false
-is_for s (datagrams.Ping controller sequencer round) = false
-is_for s (datagrams.Pong controller sequencer round) = false
-is_for s (datagrams.Fragment f) = false
+is_for s _ = false
 
 abbrev pub is_tick_for : Tick → Bool
 is_tick_for ticks.Next = true
 is_tick_for ticks.Retry = true
-is_tick_for ticks.Suspect = false
-is_tick_for ticks.Watch = false
-is_tick_for ticks.Resend = false
-is_tick_for ticks.Sync = false
-is_tick_for ticks.Probe = false
-is_tick_for (ticks.Install j) = false
+is_tick_for _ = false
 
 -- the input changes nothing, and nothing is sent
 abbrev pub IsIgnored : ClientState → Given → Type 0

@@ -44,14 +44,7 @@ pub record HasQuorum (n : ℕ) (kept : List Reply) (view : View) (slot : ℕ) (r
 -- the reply that a packet is, if it is one
 abbrev pub reply_in : Result Datagram Bad → List Reply
 reply_in (Ok (datagrams.Reply p)) = p ∷ []
-reply_in (Ok (datagrams.Request r)) = []
-reply_in (Ok (datagrams.Stamped p)) = []
-reply_in (Ok (datagrams.Install controller sequencer session)) = []
-reply_in (Ok (datagrams.Installed controller sequencer session)) = []
-reply_in (Ok (datagrams.Ping controller sequencer round)) = []
-reply_in (Ok (datagrams.Pong controller sequencer round)) = []
-reply_in (Ok (datagrams.Fragment f)) = []
-reply_in (Err e) = []
+reply_in _ = []
 
 abbrev pub reply_of : Given → List Reply
 reply_of (Packet bytes) = reply_in (reading bytes)

@@ -201,14 +201,12 @@ command_of texts = command_if (faults_of texts) (subcommand_in texts)
 
 -- its numbers are in their ranges
 abbrev pub IsFit : Command → Type 0
-IsFit Replay = ⊤
 IsFit (Gen number count) = (1 ≤ count) × (count ≤ 100000)
 IsFit (Node id site) = id < site.config.replicas
 IsFit (Sequencer id site) = id < MAX_SEQUENCERS
 IsFit (Controller site id install) = id < MAX_CONTROLLERS
-IsFit (Client id site ops) = ⊤
 IsFit (Cluster site ops) = site.config.controllers ≡ 1
-IsFit Check = ⊤
+IsFit _ = ⊤
 
 abbrev pub texts_of : {Z : Type 0} → List (String Z) → List Text
 texts_of words = map string_bytes words

@@ -81,38 +81,18 @@ module _ (id : ℕ) (site : Site) (ops : List (List ℕ)) where
         → AnswersOps (address_of site (actors.Client id)) (length ops) s h i
     answers_ops statuses.Done (inl u) = absurd u.status
     answers_ops statuses.Done (inr a) = accepted 0 (w.losses a.link) h i a.last
-    answers_ops statuses.Malformed ends = tt
-    answers_ops statuses.Usage ends = tt
-    answers_ops statuses.ReadFault ends = tt
-    answers_ops statuses.WriteFault ends = tt
-    answers_ops statuses.LinkFault ends = tt
-    answers_ops statuses.NoMemory ends = tt
     answers_ops statuses.Unanswered (inl u) = absurd u.status
     answers_ops statuses.Unanswered (inr a) = lacking 0 (w.losses a.link) h i a.last
-    answers_ops statuses.Refuted ends = tt
+    answers_ops _ ends = tt
 
 module _ {S L : Type 0} (m : Meaning S) (w : LinkView L) (p : PortsView L) (values : Option (List ℕ)) where
   pub client_answers : (c : Option Command) (s : Status) (h i : Option (List ℕ)) → CommandEnds m c w p values s h i → ClientAnswers c s h i
-  client_answers None s h i ends = tt
-  client_answers (Some Replay) s h i ends = tt
-  client_answers (Some (Gen number count)) s h i ends = tt
-  client_answers (Some (Node id site)) s h i ends = tt
-  client_answers (Some (Sequencer id site)) s h i ends = tt
-  client_answers (Some (Controller site number install)) s h i ends = tt
   client_answers (Some (Client id site ops)) s h i ends = answers_ops id site ops w p values h i s ends
-  client_answers (Some (Cluster site ops)) s h i ends = tt
-  client_answers (Some Check) s h i ends = tt
+  client_answers _ s h i ends = tt
 
 pub no_answers : (c : Option Command) (h : Option (List ℕ)) → ClientAnswers c statuses.NoMemory h h
 no_answers None h = tt
-no_answers (Some Replay) h = tt
-no_answers (Some (Gen number count)) h = tt
-no_answers (Some (Node id site)) h = tt
-no_answers (Some (Sequencer id site)) h = tt
-no_answers (Some (Controller site number install)) h = tt
-no_answers (Some (Client id site ops)) h = tt
-no_answers (Some (Cluster site ops)) h = tt
-no_answers (Some Check) h = tt
+no_answers _ h = tt
 
 -- words that ask for no command
 pub none_answers : (c : Option Command) (s : Status) (h i : Option (List ℕ)) → c ≡ None → ClientAnswers c s h i

@@ -20,27 +20,13 @@ no_rise rose = omega arith
 module _ {S L : Type 0} (m : Meaning S) (w : boxed.LinkView L) (p : PortsView L) (values : Option (List ℕ)) where
   -- memory ran out before anything was done
   pub not_served : (c : Option Command) (h : Option (List ℕ)) → ClusterCommandEnds m c w p values statuses.NoMemory h h
-  not_served None h = tt
-  not_served (Some Replay) h = tt
-  not_served (Some (Gen number count)) h = tt
-  not_served (Some (Node id site)) h = tt
-  not_served (Some (Sequencer id site)) h = tt
-  not_served (Some (Controller site number install)) h = tt
-  not_served (Some (Client id site ops)) h = tt
   not_served (Some (Cluster site ops)) h = inl refl
-  not_served (Some Check) h = tt
+  not_served _ h = tt
 
   -- a cluster ends well where no attach failed, no poll of a link that was given back, and no write
   pub cluster_ends_well : (c : Option Command) (s : Status) (h i : Option (List ℕ)) (x y : ℕ) → runs_cluster c ≡ true
       → ClusterCommandEnds m c w p values s h i → ¬ Rose p.faults_before p.faults_after → (s ≡ statuses.WriteFault → Rose x y) → ¬ Rose x y
       → ¬ PollFailed w p.before p.after → ClusterEndsWithoutFault s
-  cluster_ends_well None s h i x y runs ends ports write sink polls = absurd cc
-  cluster_ends_well (Some Replay) s h i x y runs ends ports write sink polls = absurd cc
-  cluster_ends_well (Some (Gen number count)) s h i x y runs ends ports write sink polls = absurd cc
-  cluster_ends_well (Some (Node id site)) s h i x y runs ends ports write sink polls = absurd cc
-  cluster_ends_well (Some (Sequencer id site)) s h i x y runs ends ports write sink polls = absurd cc
-  cluster_ends_well (Some (Controller site number install)) s h i x y runs ends ports write sink polls = absurd cc
-  cluster_ends_well (Some (Client id site ops)) s h i x y runs ends ports write sink polls = absurd cc
   cluster_ends_well (Some (Cluster site ops)) statuses.Done h i x y runs ends ports write sink polls = tt
   cluster_ends_well (Some (Cluster site ops)) statuses.Malformed h i x y runs ends ports write sink polls = ends
   cluster_ends_well (Some (Cluster site ops)) statuses.Usage h i x y runs ends ports write sink polls = ends
@@ -54,7 +40,7 @@ module _ {S L : Type 0} (m : Meaning S) (w : boxed.LinkView L) (p : PortsView L)
   cluster_ends_well (Some (Cluster site ops)) statuses.NoMemory h i x y runs ends ports write sink polls = tt
   cluster_ends_well (Some (Cluster site ops)) statuses.Unanswered h i x y runs ends ports write sink polls = tt
   cluster_ends_well (Some (Cluster site ops)) statuses.Refuted h i x y runs ends ports write sink polls = ends
-  cluster_ends_well (Some Check) s h i x y runs ends ports write sink polls = absurd cc
+  cluster_ends_well _ s h i x y runs ends ports write sink polls = absurd cc
 
   -- links whose polls never fail
   pub no_poll_failed : ((link : L) → w.faults link ≡ 0) → ¬ PollFailed w p.before p.after

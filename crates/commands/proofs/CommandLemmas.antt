@@ -36,9 +36,6 @@ module _ {S L : Type 0} (m : Meaning S) (w : LinkView L) (p : PortsView L) (valu
       → CommandEnds m c w p values s h i → ¬ Rose p.faults_before p.faults_after
       → (s ≡ statuses.WriteFault → Rose x y) → ¬ Rose x y
       → ((link : L) → p.after ≡ p.before ++ link ∷ [] → ¬ Rose 0 (w.faults link)) → EndsNodeWithoutFault (waits_for_ops c) s
-  command_ends_well None s h i x y runs ends ports write sink polls = cc
-  command_ends_well (Some Replay) s h i x y runs ends ports write sink polls = cc
-  command_ends_well (Some (Gen number count)) s h i x y runs ends ports write sink polls = cc
   command_ends_well (Some (Node id site)) s h i x y runs ends ports write sink polls =
       ends_well (replica_task m id site) w p values h i s x y ends ports write sink polls
   command_ends_well (Some (Sequencer id site)) s h i x y runs ends ports write sink polls =
@@ -48,22 +45,18 @@ module _ {S L : Type 0} (m : Meaning S) (w : LinkView L) (p : PortsView L) (valu
   command_ends_well (Some (Client id site ops)) s h i x y runs ends ports write sink polls =
       ends_well (client_task id site ops) w p values h i s x y ends ports write sink polls
   command_ends_well (Some (Cluster site ops)) s h i x y runs ends ports write sink polls = absurd cc
-  command_ends_well (Some Check) s h i x y runs ends ports write sink polls = cc
+  command_ends_well _ s h i x y runs ends ports write sink polls = cc
 
   nowhere : {T : Type 0} (k : NodeTask T) (h : Option (List ℕ)) → p.after ≡ p.before → NodeEnds k w p values statuses.NoMemory h h
   nowhere k h same = inl (record { given_back = same; status = tt; cause = λ is. cc; written = refl })
 
   -- memory ran out before anything was done
   pub not_begun : (c : Option Command) (h : Option (List ℕ)) → p.after ≡ p.before → CommandEnds m c w p values statuses.NoMemory h h
-  not_begun None h same = tt
-  not_begun (Some Replay) h same = tt
-  not_begun (Some (Gen number count)) h same = tt
   not_begun (Some (Node id site)) h same = nowhere (replica_task m id site) h same
   not_begun (Some (Sequencer id site)) h same = nowhere (sequencer_task id site) h same
   not_begun (Some (Controller site number install)) h same = nowhere (controller_task site number install) h same
   not_begun (Some (Client id site ops)) h same = nowhere (client_task id site ops) h same
-  not_begun (Some (Cluster site ops)) h same = tt
-  not_begun (Some Check) h same = tt
+  not_begun _ h same = tt
 
   -- a command that does not run a node
   pub no_node : (c : Option Command) (s : Status) (h i : Option (List ℕ)) → c ≡ None → CommandEnds m c w p values s h i
@@ -80,21 +73,12 @@ unfolding usage_line
 no_usage program h = record { count = 0; below = search rules; appended = Appends_none h }
 
 pub no_drawing : {S : Type 0} (m : Meaning S) (c : Option Command) (h : Option (List ℕ)) → DrawingEnds m c statuses.NoMemory h h
-no_drawing m None h = tt
-no_drawing m (Some Replay) h = tt
 no_drawing m (Some (Gen number count)) h = front_nil h (drawn_summary m number count) (summary_some m number count)
-no_drawing m (Some (Node id site)) h = tt
-no_drawing m (Some (Sequencer id site)) h = tt
-no_drawing m (Some (Controller site number install)) h = tt
-no_drawing m (Some (Client id site ops)) h = tt
-no_drawing m (Some (Cluster site ops)) h = tt
-no_drawing m (Some Check) h = tt
+no_drawing m _ h = tt
 
 -- a command that draws a schedule ends well where no write failed
 pub draws_well : {S : Type 0} (m : Meaning S) (c : Option Command) (s : Status) (h i : Option (List ℕ)) (x y : ℕ) → draws c ≡ true
     → DrawingEnds m c s h i → (s ≡ statuses.WriteFault → Rose x y) → ¬ Rose x y → GeneratesWithoutFault s
-draws_well m None s h i x y is ends write sink = absurd cc
-draws_well m (Some Replay) s h i x y is ends write sink = absurd cc
 draws_well m (Some (Gen number count)) statuses.Done h i x y is ends write sink = tt
 draws_well m (Some (Gen number count)) statuses.Malformed h i x y is ends write sink = ends
 draws_well m (Some (Gen number count)) statuses.Usage h i x y is ends write sink = ends
@@ -104,9 +88,4 @@ draws_well m (Some (Gen number count)) statuses.LinkFault h i x y is ends write 
 draws_well m (Some (Gen number count)) statuses.NoMemory h i x y is ends write sink = tt
 draws_well m (Some (Gen number count)) statuses.Unanswered h i x y is ends write sink = ends
 draws_well m (Some (Gen number count)) statuses.Refuted h i x y is ends write sink = ends
-draws_well m (Some (Node id site)) s h i x y is ends write sink = absurd cc
-draws_well m (Some (Sequencer id site)) s h i x y is ends write sink = absurd cc
-draws_well m (Some (Controller site number install)) s h i x y is ends write sink = absurd cc
-draws_well m (Some (Client id site ops)) s h i x y is ends write sink = absurd cc
-draws_well m (Some (Cluster site ops)) s h i x y is ends write sink = absurd cc
-draws_well m (Some Check) s h i x y is ends write sink = absurd cc
+draws_well m _ s h i x y is ends write sink = absurd cc

@@ -184,11 +184,8 @@ module _ {S L : Type 0} (k : NodeTask S) (w : LinkView L) (p : PortsView L) (val
       → ((link : L) → p.after ≡ p.before ++ link ∷ [] → ¬ Rose 0 (w.faults link)) → EndsNodeWithoutFault k.waits s
   ends_well statuses.Done x y ends ports write sink polls = tt
   ends_well statuses.Malformed x y (inl u) ports write sink polls = absurd u.status
-  ends_well statuses.Malformed x y (inr a) ports write sink polls = absurd a.status
   ends_well statuses.Usage x y (inl u) ports write sink polls = absurd u.status
-  ends_well statuses.Usage x y (inr a) ports write sink polls = absurd a.status
   ends_well statuses.ReadFault x y (inl u) ports write sink polls = absurd u.status
-  ends_well statuses.ReadFault x y (inr a) ports write sink polls = absurd a.status
   ends_well statuses.WriteFault x y ends ports write sink polls = absurd (sink (write refl))
   ends_well statuses.LinkFault x y (inl u) ports write sink polls = absurd (ports (u.cause refl))
   ends_well statuses.LinkFault x y (inr a) ports write sink polls = absurd (polls a.link a.given_back (a.cause refl))
@@ -196,7 +193,7 @@ module _ {S L : Type 0} (k : NodeTask S) (w : LinkView L) (p : PortsView L) (val
   ends_well statuses.Unanswered x y (inl u) ports write sink polls = absurd u.status
   ends_well statuses.Unanswered x y (inr a) ports write sink polls = a.status
   ends_well statuses.Refuted x y (inl u) ports write sink polls = absurd u.status
-  ends_well statuses.Refuted x y (inr a) ports write sink polls = absurd a.status
+  ends_well _ x y (inr a) ports write sink polls = absurd a.status
 
   pub reads_nothing : (s : Status) (P : Type 0) → NodeEnds k w p values s h i → s ≡ statuses.ReadFault → P
   reads_nothing s P (inl u) is = let no : ⊥ = rw is at u.status in absurd no

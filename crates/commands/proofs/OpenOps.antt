@@ -66,14 +66,7 @@ reply_keeps s p false is = nothing_kept s
 
 datagram_keeps : (s : ClientState) (r : Result Datagram Bad) → Keeps s (on_datagram s r)
 datagram_keeps s (Ok (datagrams.Reply p)) = reply_keeps s p (is_expected s p) refl
-datagram_keeps s (Ok (datagrams.Request r)) = nothing_kept s
-datagram_keeps s (Ok (datagrams.Stamped p)) = nothing_kept s
-datagram_keeps s (Ok (datagrams.Install controller sequencer session)) = nothing_kept s
-datagram_keeps s (Ok (datagrams.Installed controller sequencer session)) = nothing_kept s
-datagram_keeps s (Ok (datagrams.Ping controller sequencer round)) = nothing_kept s
-datagram_keeps s (Ok (datagrams.Pong controller sequencer round)) = nothing_kept s
-datagram_keeps s (Ok (datagrams.Fragment f)) = nothing_kept s
-datagram_keeps s (Err e) = nothing_kept s
+datagram_keeps s _ = nothing_kept s
 
 retry_none : (o : Option Request) → accept_count (retry_of o) ≡ 0
 retry_none None = refl
@@ -82,12 +75,7 @@ retry_none (Some r) = refl
 tick_keeps : (s : ClientState) (t : Tick) → Keeps s (on_tick s t)
 tick_keeps s ticks.Next = waiting_keeps s (can_submit s) refl
 tick_keeps s ticks.Retry = let none = retry_none s.pending in omega (arith, none)
-tick_keeps s ticks.Suspect = nothing_kept s
-tick_keeps s ticks.Watch = nothing_kept s
-tick_keeps s ticks.Resend = nothing_kept s
-tick_keeps s ticks.Sync = nothing_kept s
-tick_keeps s ticks.Probe = nothing_kept s
-tick_keeps s (ticks.Install sequencer) = nothing_kept s
+tick_keeps s _ = nothing_kept s
 
 packet_keeps : (s : ClientState) (bytes : List ℕ) → Keeps s (next s (Packet bytes))
 unfolding next

@@ -16,15 +16,10 @@ use Rattle.commands.proofs.NodeLemmas.{rose_at}
 
 -- nothing was read, and no fault of a read is told
 pub reads_none : (n : ℕ) (s : Status) → (s ≡ statuses.ReadFault → ⊥) → ReadsTo n n s
-reads_none n statuses.Done never = refl
-reads_none n statuses.Malformed never = refl
-reads_none n statuses.Usage never = refl
 reads_none n statuses.ReadFault never = absurd (never refl)
 reads_none n statuses.WriteFault never = inl refl
-reads_none n statuses.LinkFault never = refl
 reads_none n statuses.NoMemory never = inl refl
-reads_none n statuses.Unanswered never = refl
-reads_none n statuses.Refuted never = refl
+reads_none n _ never = refl
 
 -- a node reads nothing
 pub no_read : (n : ℕ) (waits : Bool) (s : Status) → IsNodeStatus waits s → ReadsTo n n s
@@ -36,38 +31,28 @@ module _ {S L : Type 0} (m : Meaning S) (d : Devices L) where
       → (s ≡ statuses.WriteFault → Rose d.sink.faults_before d.sink.faults_after) → Works d.source → Works d.sink → EndsWithoutFault s
   replays_well statuses.Done ends read write source sink = tt
   replays_well statuses.Malformed ends read write source sink = tt
-  replays_well statuses.Usage ends read write source sink = ends
   replays_well statuses.ReadFault ends read write source sink = source (rose_at d.source.faults_before d.source.faults_after read)
   replays_well statuses.WriteFault ends read write source sink = sink (write refl)
-  replays_well statuses.LinkFault ends read write source sink = ends
   replays_well statuses.NoMemory ends read write source sink = tt
-  replays_well statuses.Unanswered ends read write source sink = ends
-  replays_well statuses.Refuted ends read write source sink = ends
+  replays_well _ ends read write source sink = ends
 
   checks_well : (s : Status) → CheckEnds m d.source.before d.source.after d.sink.before d.sink.after s
       → ReadsTo d.source.faults_before d.source.faults_after s
       → (s ≡ statuses.WriteFault → Rose d.sink.faults_before d.sink.faults_after) → Works d.source → Works d.sink → ChecksWithoutFault s
-  checks_well statuses.Done ends read write source sink = tt
   checks_well statuses.Malformed ends read write source sink = ends
   checks_well statuses.Usage ends read write source sink = ends
   checks_well statuses.ReadFault ends read write source sink = source (rose_at d.source.faults_before d.source.faults_after read)
   checks_well statuses.WriteFault ends read write source sink = sink (write refl)
   checks_well statuses.LinkFault ends read write source sink = ends
-  checks_well statuses.NoMemory ends read write source sink = tt
   checks_well statuses.Unanswered ends read write source sink = ends
-  checks_well statuses.Refuted ends read write source sink = tt
+  checks_well _ ends read write source sink = tt
 
   refuses_well : (program : List ℕ) (s : Status) → UsageEnds program d.sink.before d.sink.after s
       → (s ≡ statuses.WriteFault → Rose d.sink.faults_before d.sink.faults_after) → Works d.sink → RefusesWithoutFault s
-  refuses_well program statuses.Done ends write sink = ends
-  refuses_well program statuses.Malformed ends write sink = ends
   refuses_well program statuses.Usage ends write sink = tt
-  refuses_well program statuses.ReadFault ends write sink = ends
   refuses_well program statuses.WriteFault ends write sink = sink (write refl)
-  refuses_well program statuses.LinkFault ends write sink = ends
   refuses_well program statuses.NoMemory ends write sink = tt
-  refuses_well program statuses.Unanswered ends write sink = ends
-  refuses_well program statuses.Refuted ends write sink = ends
+  refuses_well program _ ends write sink = ends
 
   pub completes : (c : Option Command) (s : Status) (program : List ℕ)
       → (c ≡ Some Replay → ReplayEnds m d.source.before d.source.after d.sink.before d.sink.after s)

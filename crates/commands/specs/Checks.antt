@@ -57,12 +57,10 @@ module _ {S : Type 0} (m : Meaning S) where
 
 -- how a check ends where no device failed
 abbrev pub ChecksWithoutFault : Status → Type 0
-ChecksWithoutFault Done = ⊤
 ChecksWithoutFault Malformed = ⊥
 ChecksWithoutFault Usage = ⊥
 ChecksWithoutFault ReadFault = ⊥
 ChecksWithoutFault WriteFault = ⊥
 ChecksWithoutFault LinkFault = ⊥
-ChecksWithoutFault NoMemory = ⊤
 ChecksWithoutFault Unanswered = ⊥
-ChecksWithoutFault Refuted = ⊤
+ChecksWithoutFault _ = ⊤

@@ -35,14 +35,11 @@ module _ {S L : Type 0} (m : Meaning S) (site : Site) (ops : List (List ℕ)) (w
   -- by its status
   abbrev pub ClusterEnds : Status → Option (List ℕ) → Option (List ℕ) → Type 0
   ClusterEnds statuses.Done h i = ClusterFinished true h i
-  ClusterEnds statuses.Malformed h i = ⊥
-  ClusterEnds statuses.Usage h i = ⊥
-  ClusterEnds statuses.ReadFault h i = ⊥
   ClusterEnds statuses.WriteFault h i = ServesAll (Err errors.WriteFault) h i
   ClusterEnds statuses.LinkFault h i = ClusterBroke h i
   ClusterEnds statuses.NoMemory h i = ServesAll (Err errors.NoMemory) h i
   ClusterEnds statuses.Unanswered h i = ClusterFinished false h i
-  ClusterEnds statuses.Refuted h i = ⊥
+  ClusterEnds _ h i = ⊥
 
 -- how a command that runs a cluster ends; nothing is said here of others
 abbrev pub ClusterCommandEnds : {S L : Type 0} → Meaning S → Option Command → boxed.LinkView L → PortsView L → Option (List ℕ)
@@ -67,11 +64,6 @@ uses_ports _ = false
 -- how a cluster ends where no device failed
 abbrev pub ClusterEndsWithoutFault : Status → Type 0
 ClusterEndsWithoutFault statuses.Done = ⊤
-ClusterEndsWithoutFault statuses.Malformed = ⊥
-ClusterEndsWithoutFault statuses.Usage = ⊥
-ClusterEndsWithoutFault statuses.ReadFault = ⊥
-ClusterEndsWithoutFault statuses.WriteFault = ⊥
-ClusterEndsWithoutFault statuses.LinkFault = ⊥
 ClusterEndsWithoutFault statuses.NoMemory = ⊤
 ClusterEndsWithoutFault statuses.Unanswered = ⊤
-ClusterEndsWithoutFault statuses.Refuted = ⊥
+ClusterEndsWithoutFault _ = ⊥

@@ -21,70 +21,40 @@ module _ {S : Type 0} (m : Meaning S) where
   abbrev pub ReplayEnds : Option (List ℕ) → Option (List ℕ) → Option (List ℕ) → Option (List ℕ) → Status → Type 0
   ReplayEnds bytes left before now Done = IsDone m bytes left before now
   ReplayEnds bytes left before now Malformed = FoundMalformed bytes left before now
-  ReplayEnds bytes left before now Usage = ⊥
   ReplayEnds bytes left before now ReadFault = IsInterrupted m bytes left before now
   ReplayEnds bytes left before now WriteFault = WroteFront m bytes before now
-  ReplayEnds bytes left before now LinkFault = ⊥
   ReplayEnds bytes left before now NoMemory = WroteFront m bytes before now
-  ReplayEnds bytes left before now Unanswered = ⊥
-  ReplayEnds bytes left before now Refuted = ⊥
+  ReplayEnds bytes left before now _ = ⊥
 
   -- how a generation ended: the summary was written, or a front of it that is not all
   abbrev pub GenEnds : ℕ → ℕ → Option (List ℕ) → Option (List ℕ) → Status → Type 0
   GenEnds number count before now Done = Appends before now (drawn_summary m number count)
-  GenEnds number count before now Malformed = ⊥
-  GenEnds number count before now Usage = ⊥
-  GenEnds number count before now ReadFault = ⊥
   GenEnds number count before now WriteFault = AppendsFront before now (drawn_summary m number count)
-  GenEnds number count before now LinkFault = ⊥
   GenEnds number count before now NoMemory = AppendsFront before now (drawn_summary m number count)
-  GenEnds number count before now Unanswered = ⊥
-  GenEnds number count before now Refuted = ⊥
+  GenEnds number count before now _ = ⊥
 
 -- the usage line of a program with this name was written, or only a front of it
 abbrev pub UsageEnds : List ℕ → Option (List ℕ) → Option (List ℕ) → Status → Type 0
-UsageEnds program before now Done = ⊥
-UsageEnds program before now Malformed = ⊥
 UsageEnds program before now Usage = Appends before now (usage_line program)
-UsageEnds program before now ReadFault = ⊥
 UsageEnds program before now WriteFault = AppendsFront before now (usage_line program)
-UsageEnds program before now LinkFault = ⊥
 UsageEnds program before now NoMemory = AppendsFront before now (usage_line program)
-UsageEnds program before now Unanswered = ⊥
-UsageEnds program before now Refuted = ⊥
+UsageEnds program before now _ = ⊥
 
 -- how a replay ends where no device failed
 abbrev pub EndsWithoutFault : Status → Type 0
 EndsWithoutFault Done = ⊤
 EndsWithoutFault Malformed = ⊤
-EndsWithoutFault Usage = ⊥
-EndsWithoutFault ReadFault = ⊥
-EndsWithoutFault WriteFault = ⊥
-EndsWithoutFault LinkFault = ⊥
 EndsWithoutFault NoMemory = ⊤
-EndsWithoutFault Unanswered = ⊥
-EndsWithoutFault Refuted = ⊥
+EndsWithoutFault _ = ⊥
 
 -- how a generation ends where no device failed
 abbrev pub GeneratesWithoutFault : Status → Type 0
 GeneratesWithoutFault Done = ⊤
-GeneratesWithoutFault Malformed = ⊥
-GeneratesWithoutFault Usage = ⊥
-GeneratesWithoutFault ReadFault = ⊥
-GeneratesWithoutFault WriteFault = ⊥
-GeneratesWithoutFault LinkFault = ⊥
 GeneratesWithoutFault NoMemory = ⊤
-GeneratesWithoutFault Unanswered = ⊥
-GeneratesWithoutFault Refuted = ⊥
+GeneratesWithoutFault _ = ⊥
 
 -- how words that are not taken end where no device failed
 abbrev pub RefusesWithoutFault : Status → Type 0
-RefusesWithoutFault Done = ⊥
-RefusesWithoutFault Malformed = ⊥
 RefusesWithoutFault Usage = ⊤
-RefusesWithoutFault ReadFault = ⊥
-RefusesWithoutFault WriteFault = ⊥
-RefusesWithoutFault LinkFault = ⊥
 RefusesWithoutFault NoMemory = ⊤
-RefusesWithoutFault Unanswered = ⊥
-RefusesWithoutFault Refuted = ⊥
+RefusesWithoutFault _ = ⊥

@@ -43,63 +43,37 @@ end_status false done = statuses.Done
 -- the statuses of a node
 abbrev pub IsNodeStatus : Bool → Status → Type 0
 IsNodeStatus waits statuses.Done = ⊤
-IsNodeStatus waits statuses.Malformed = ⊥
-IsNodeStatus waits statuses.Usage = ⊥
-IsNodeStatus waits statuses.ReadFault = ⊥
 IsNodeStatus waits statuses.WriteFault = ⊤
 IsNodeStatus waits statuses.LinkFault = ⊤
 IsNodeStatus waits statuses.NoMemory = ⊤
 IsNodeStatus waits statuses.Unanswered = waits ≡ true
-IsNodeStatus waits statuses.Refuted = ⊥
+IsNodeStatus waits _ = ⊥
 
 -- those without a fault of a device
 abbrev pub EndsNodeWithoutFault : Bool → Status → Type 0
 EndsNodeWithoutFault waits statuses.Done = ⊤
-EndsNodeWithoutFault waits statuses.Malformed = ⊥
-EndsNodeWithoutFault waits statuses.Usage = ⊥
-EndsNodeWithoutFault waits statuses.ReadFault = ⊥
-EndsNodeWithoutFault waits statuses.WriteFault = ⊥
-EndsNodeWithoutFault waits statuses.LinkFault = ⊥
 EndsNodeWithoutFault waits statuses.NoMemory = ⊤
 EndsNodeWithoutFault waits statuses.Unanswered = waits ≡ true
-EndsNodeWithoutFault waits statuses.Refuted = ⊥
+EndsNodeWithoutFault waits _ = ⊥
 
 -- a count of failed writes: it rises by one exactly where the status is a fault of a write
 abbrev pub writes_after : Status → ℕ → ℕ
-writes_after statuses.Done n = n
-writes_after statuses.Malformed n = n
-writes_after statuses.Usage n = n
-writes_after statuses.ReadFault n = n
 writes_after statuses.WriteFault n = next_count n
-writes_after statuses.LinkFault n = n
-writes_after statuses.NoMemory n = n
-writes_after statuses.Unanswered n = n
-writes_after statuses.Refuted n = n
+writes_after _ n = n
 
 -- A count of failed reads: where the status is a fault of a read it rose by one, and else no read failed. But after a failed read
 -- something is written: what fails there is told in its place.
 abbrev pub ReadsTo : ℕ → ℕ → Status → Type 0
-ReadsTo before now statuses.Done = now ≡ before
-ReadsTo before now statuses.Malformed = now ≡ before
-ReadsTo before now statuses.Usage = now ≡ before
 ReadsTo before now statuses.ReadFault = now ≡ next_count before
 ReadsTo before now statuses.WriteFault = StaysOrRises before now
-ReadsTo before now statuses.LinkFault = now ≡ before
 ReadsTo before now statuses.NoMemory = StaysOrRises before now
-ReadsTo before now statuses.Unanswered = now ≡ before
-ReadsTo before now statuses.Refuted = now ≡ before
+ReadsTo before now _ = now ≡ before
 
 -- the statuses where no link was attached
 abbrev pub IsUnattachedStatus : Status → Type 0
-IsUnattachedStatus statuses.Done = ⊥
-IsUnattachedStatus statuses.Malformed = ⊥
-IsUnattachedStatus statuses.Usage = ⊥
-IsUnattachedStatus statuses.ReadFault = ⊥
-IsUnattachedStatus statuses.WriteFault = ⊥
 IsUnattachedStatus statuses.LinkFault = ⊤
 IsUnattachedStatus statuses.NoMemory = ⊤
-IsUnattachedStatus statuses.Unanswered = ⊥
-IsUnattachedStatus statuses.Refuted = ⊥
+IsUnattachedStatus _ = ⊥
 
 -- ---- a run and its last line
 
@@ -113,14 +87,11 @@ pub record Finished (waits : Bool) (r : NodeRun) (s : Status) (a b : LinkSide) (
 -- by its status
 abbrev pub RunEnds : Bool → NodeRun → Status → LinkSide → LinkSide → Option (List ℕ) → Option (List ℕ) → Type 0
 RunEnds waits r statuses.Done a b h i = Finished waits r statuses.Done a b h i
-RunEnds waits r statuses.Malformed a b h i = ⊥
-RunEnds waits r statuses.Usage a b h i = ⊥
-RunEnds waits r statuses.ReadFault a b h i = ⊥
 RunEnds waits r statuses.WriteFault a b h i = (lost : ℕ) × StoppedInLine (all_effects r lost) a (record b { lost = lost }) h i
 RunEnds waits r statuses.LinkFault a b h i = (lost : ℕ) × Broke r a (record b { lost = lost }) h i
 RunEnds waits r statuses.NoMemory a b h i = (lost : ℕ) × Stopped (all_effects r lost) a (record b { lost = lost }) h i
 RunEnds waits r statuses.Unanswered a b h i = Finished waits r statuses.Unanswered a b h i
-RunEnds waits r statuses.Refuted a b h i = ⊥
+RunEnds waits r _ a b h i = ⊥
 
 -- ---- what a node runs from
 
@@ -170,14 +141,8 @@ pub record LastLine {S : Type 0} (k : NodeTask S) (losses losses_now : ℕ) (s :
 -- by its status
 abbrev pub EndsInLine : {S : Type 0} → NodeTask S → ℕ → ℕ → Status → Option (List ℕ) → Option (List ℕ) → Type 0
 EndsInLine k losses losses_now statuses.Done h i = LastLine k losses losses_now statuses.Done h i
-EndsInLine k losses losses_now statuses.Malformed h i = ⊤
-EndsInLine k losses losses_now statuses.Usage h i = ⊤
-EndsInLine k losses losses_now statuses.ReadFault h i = ⊤
-EndsInLine k losses losses_now statuses.WriteFault h i = ⊤
-EndsInLine k losses losses_now statuses.LinkFault h i = ⊤
-EndsInLine k losses losses_now statuses.NoMemory h i = ⊤
 EndsInLine k losses losses_now statuses.Unanswered h i = LastLine k losses losses_now statuses.Unanswered h i
-EndsInLine k losses losses_now statuses.Refuted h i = ⊤
+EndsInLine k losses losses_now _ h i = ⊤
 
 -- ---- over ports
 

@@ -81,14 +81,8 @@ pub record WroteAccepts (at : Address) (count : ℕ) (h i : Option (List ℕ)) :
 -- by its status: an accept line was written for each of its ops, or one lacks
 abbrev pub AnswersOps : Address → ℕ → Status → Option (List ℕ) → Option (List ℕ) → Type 0
 AnswersOps at count statuses.Done h i = WroteAccepts at count h i
-AnswersOps at count statuses.Malformed h i = ⊤
-AnswersOps at count statuses.Usage h i = ⊤
-AnswersOps at count statuses.ReadFault h i = ⊤
-AnswersOps at count statuses.WriteFault h i = ⊤
-AnswersOps at count statuses.LinkFault h i = ⊤
-AnswersOps at count statuses.NoMemory h i = ⊤
 AnswersOps at count statuses.Unanswered h i = (fewer : ℕ) × (fewer < count) × WroteAccepts at fewer h i
-AnswersOps at count statuses.Refuted h i = ⊤
+AnswersOps at count _ h i = ⊤
 
 -- of a command that runs a client; nothing is said here of others
 abbrev pub ClientAnswers : Option Command → Status → Option (List ℕ) → Option (List ℕ) → Type 0

@@ -53,18 +53,13 @@ IsOfEvent NoMemory = ⊤
 
 -- nothing was written yet
 abbrev pub IsUnwritten : DrawError → Type 0
-IsUnwritten (Malformed line rule index_sent) = ⊤
-IsUnwritten ReadFault = ⊤
 IsUnwritten WriteFault = ⊥
-IsUnwritten NoMemory = ⊤
+IsUnwritten _ = ⊤
 
 -- the sink's count of faults after an answer: WriteFault tells one more, and at every other answer no write failed
 abbrev pub writes_after : {T : Type 0} → Result T DrawError → ℕ → ℕ
-writes_after (Ok t) n = n
-writes_after (Err (Malformed line rule index_sent)) n = n
-writes_after (Err ReadFault) n = n
 writes_after (Err WriteFault) n = next_count n
-writes_after (Err NoMemory) n = n
+writes_after _ n = n
 
 -- the line that says why there is no picture, without its end: at a bad line as a transcript has it
 abbrev pub complaint_text : DrawError → List ℕ

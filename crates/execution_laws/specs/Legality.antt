@@ -11,11 +11,9 @@ use Rattle.nop_types.specs.Legality.{IsOf, IsSubmittedBefore, AcceptedOnce}
 
 -- a line that neither submits nor accepts
 abbrev pub IsOtherLine : Line → Type 0
-IsOtherLine (Dead actor) = ⊤
 IsOtherLine (Submit request) = ⊥
 IsOtherLine (Accept client id result) = ⊥
-IsOtherLine (Busy client) = ⊤
-IsOtherLine (Send index from dest datagram) = ⊤
+IsOtherLine _ = ⊤
 
 -- no line submits a request of the client and id
 abbrev pub IsUnsubmitted : List Line → ℕ → ℕ → Type 0

@@ -28,14 +28,7 @@ use Rattle.transcript_rows.specs.declared.row.Row.TheVariants.{Dead, Submit, Acc
 -- a row claims one thing at most
 says_one : (row : Row) → length (said_by row) ≤ 1
 says_one (Dead actor) = omega arith
-says_one (Submit request) = omega arith
-says_one (Accept client id result) = omega arith
-says_one (Busy client) = omega arith
-says_one (Sent index from dest kind len) = omega arith
-says_one (State replica crashed status view len sync_point) = omega arith
-says_one (Slot replica slot entry) = omega arith
-says_one (Member place request) = omega arith
-says_one End = omega arith
+says_one _ = omega arith
 
 said_within : (rows : List Row) → length (flat_map said_by rows) ≤ length rows
 said_within [] = omega arith

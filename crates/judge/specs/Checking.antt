@@ -17,18 +17,12 @@ use Rattle.transcript_reader.specs.declared.check_error.CheckError.TheVariants a
 -- ---- what is counted
 
 abbrev pub submits : Line → Bool
-submits (Dead actor) = false
 submits (Submit request) = true
-submits (Accept client id result) = false
-submits (Busy client) = false
-submits (Send index from dest datagram) = false
+submits _ = false
 
 abbrev pub accepts : Line → Bool
-accepts (Dead actor) = false
-accepts (Submit request) = false
 accepts (Accept client id result) = true
-accepts (Busy client) = false
-accepts (Send index from dest datagram) = false
+accepts _ = false
 
 -- the lines that submit, those that accept, and the members of the history
 pub record IsTallyOf (lines : List Line) (history : List Request) (tally : Tally) : Type 0 where

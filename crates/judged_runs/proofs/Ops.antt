@@ -27,11 +27,7 @@ use Rattle.replay.specs.Output.{Schedule, stepped, scheduled, schedule_from}
 -- an op that is submitted
 abbrev pub OpIsBytes : Event → Type 0
 OpIsBytes (Submit client op) = IsBytes op
-OpIsBytes (Deliver index actor) = ⊤
-OpIsBytes (Tick actor tick) = ⊤
-OpIsBytes (Install controller sequencer) = ⊤
-OpIsBytes (Crash actor) = ⊤
-OpIsBytes (Junk actor bytes) = ⊤
+OpIsBytes _ = ⊤
 
 -- ---- a field of digits
 

@@ -56,11 +56,9 @@ pub record IsRequest (c : Configuration) (r : Request) : Type 0 where
   pub short : length r.op ≤ MAX_OP_BYTES
 
 abbrev pub OutIs : Configuration → Out → Type 0
-OutIs c (outs.Send dest bytes) = ⊤
 OutIs c (outs.Submitted r) = IsRequest c r
-OutIs c (outs.Accepted client id result) = ⊤
 OutIs c (outs.Busy client) = client < c.clients
-OutIs c (outs.Trimmed first entries) = ⊤
+OutIs c _ = ⊤
 
 abbrev pub OutsAre : Configuration → List Out → Type 0
 OutsAre c os = AllByRecursion (OutIs c) os
@@ -123,13 +121,7 @@ module _ {S : Type 0} (m : Meaning S) (c : Configuration) where
   took_are : (s : Replica) (r : Result Datagram Bad) → OutsAre c (replica.on_datagram m s r).1
   took_are s (Ok (datagrams.Stamped p)) = row_are (nat_lt s.messages LAST_MESSAGE) s (messages.Packet p)
   took_are s (Ok (datagrams.Fragment f)) = fragment_are s f
-  took_are s (Ok (datagrams.Request r)) = tt
-  took_are s (Ok (datagrams.Reply p)) = tt
-  took_are s (Ok (datagrams.Install k j session)) = tt
-  took_are s (Ok (datagrams.Installed k j session)) = tt
-  took_are s (Ok (datagrams.Ping k j round)) = tt
-  took_are s (Ok (datagrams.Pong k j round)) = tt
-  took_are s (Err e) = tt
+  took_are s _ = tt
 
   pub replica_tells : (s : Replica) (i : Given) → OutsAre c (replica.next m s i).1
   unfolding replica.next
@@ -153,14 +145,9 @@ ping_are c false s k round = tt
 
 stamping_are : (c : Configuration) (s : SequencerState) (r : Result Datagram Bad) → OutsAre c (sequencer.on_datagram s r).1
 stamping_are c s (Ok (datagrams.Request r)) = packet_are c (sequencer.stamped_by s r)
-stamping_are c s (Ok (datagrams.Stamped p)) = tt
-stamping_are c s (Ok (datagrams.Reply p)) = tt
 stamping_are c s (Ok (datagrams.Install k j session)) = install_are c (j == s.number) s k session
-stamping_are c s (Ok (datagrams.Installed k j session)) = tt
 stamping_are c s (Ok (datagrams.Ping k j round)) = ping_are c (j == s.number) s k round
-stamping_are c s (Ok (datagrams.Pong k j round)) = tt
-stamping_are c s (Ok (datagrams.Fragment f)) = tt
-stamping_are c s (Err e) = tt
+stamping_are c s _ = tt
 
 pub sequencer_tells : (c : Configuration) (s : SequencerState) (i : Given) → OutsAre c (sequencer.next s i).1
 unfolding sequencer.next
@@ -205,22 +192,11 @@ module _ (c : Configuration) where
   controller_tick_are s ticks.Probe = probe_are s.heard s
   controller_tick_are s ticks.Resend = resend_are s.confirmed s
   controller_tick_are s (ticks.Install j) = order_are (nat_lt j s.config.sequencers) s j
-  controller_tick_are s ticks.Suspect = tt
-  controller_tick_are s ticks.Watch = tt
-  controller_tick_are s ticks.Sync = tt
-  controller_tick_are s ticks.Retry = tt
-  controller_tick_are s ticks.Next = tt
+  controller_tick_are s _ = tt
 
   controller_took_are : (s : ControllerState) (r : Result Datagram Bad) → OutsAre c (controller.on_datagram s r).1
   controller_took_are s (Ok (datagrams.Pong k j round)) = tt
-  controller_took_are s (Ok (datagrams.Installed k j session)) = tt
-  controller_took_are s (Ok (datagrams.Request r)) = tt
-  controller_took_are s (Ok (datagrams.Stamped p)) = tt
-  controller_took_are s (Ok (datagrams.Reply p)) = tt
-  controller_took_are s (Ok (datagrams.Install k j session)) = tt
-  controller_took_are s (Ok (datagrams.Ping k j round)) = tt
-  controller_took_are s (Ok (datagrams.Fragment f)) = tt
-  controller_took_are s (Err e) = tt
+  controller_took_are s _ = tt
 
   pub controller_tells : (s : ControllerState) (i : Given) → OutsAre c (controller.next s i).1
   unfolding controller.next
@@ -275,12 +251,7 @@ module _ (c : Configuration) (k : ℕ) (within : k < c.clients) (s : ClientState
   client_tick_tells : (t : Tick) → ClientTells c k (client.on_tick s t)
   client_tick_tells ticks.Next = waiting_tells (client.can_submit s)
   client_tick_tells ticks.Retry = record { tells = retry_tells s.pending; stays = is }
-  client_tick_tells ticks.Suspect = quiet_client
-  client_tick_tells ticks.Watch = quiet_client
-  client_tick_tells ticks.Resend = quiet_client
-  client_tick_tells ticks.Sync = quiet_client
-  client_tick_tells ticks.Probe = quiet_client
-  client_tick_tells (ticks.Install j) = quiet_client
+  client_tick_tells _ = quiet_client
 
   accept_tells : (id : ℕ) (p : Reply) (o : Option Reply) → ClientTells c k (client.accept_if (client.kept s p) id o)
   accept_tells id p None = record { tells = tt; stays = record { number = is.number; waits = is.waits } }
@@ -292,14 +263,7 @@ module _ (c : Configuration) (k : ℕ) (within : k < c.clients) (s : ClientState
 
   answer_tells : (r : Result Datagram Bad) → ClientTells c k (client.on_datagram s r)
   answer_tells (Ok (datagrams.Reply p)) = reply_tells (client.is_expected s p) p
-  answer_tells (Ok (datagrams.Request r)) = quiet_client
-  answer_tells (Ok (datagrams.Stamped p)) = quiet_client
-  answer_tells (Ok (datagrams.Install k j session)) = quiet_client
-  answer_tells (Ok (datagrams.Installed k j session)) = quiet_client
-  answer_tells (Ok (datagrams.Ping k j round)) = quiet_client
-  answer_tells (Ok (datagrams.Pong k j round)) = quiet_client
-  answer_tells (Ok (datagrams.Fragment f)) = quiet_client
-  answer_tells (Err e) = quiet_client
+  answer_tells _ = quiet_client
 
   pub client_tells : (i : Given) → GivenIs i → ClientTells c k (client.next s i)
   unfolding client.next

@@ -75,18 +75,12 @@ claims_more p x ls silent e = on (claims_something x) refl
         e ∙ sym none
 
 submits_silent : (x : Line) → claims_something x ≡ false → submits x ≡ false
-submits_silent (lines.Dead actor) e = refl
 submits_silent (lines.Submit r) e = absurd cc
-submits_silent (lines.Accept client id result) e = refl
-submits_silent (lines.Busy client) e = refl
-submits_silent (lines.Send index from dest bytes) e = refl
+submits_silent _ e = refl
 
 accepts_silent : (x : Line) → claims_something x ≡ false → accepts x ≡ false
-accepts_silent (lines.Dead actor) e = refl
-accepts_silent (lines.Submit r) e = refl
 accepts_silent (lines.Accept client id result) e = absurd cc
-accepts_silent (lines.Busy client) e = refl
-accepts_silent (lines.Send index from dest bytes) e = refl
+accepts_silent _ e = refl
 
 claims_count : (p : Line → Bool) → ((x : Line) → claims_something x ≡ false → p x ≡ false) → (ls : List Line)
     → count_by p (claiming ls) ≡ count_by p ls

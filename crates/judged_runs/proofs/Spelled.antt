@@ -76,10 +76,7 @@ mapped_fit (l ∷ ls) all = (all l (Has-first l l ls refl), mapped_fit ls (λ x 
 
 line_is_event : (l : Line) → is_event (row_of l) ≡ true
 line_is_event (lines.Dead actor) = refl
-line_is_event (lines.Submit r) = refl
-line_is_event (lines.Accept client id result) = refl
-line_is_event (lines.Busy client) = refl
-line_is_event (lines.Send index from dest bytes) = refl
+line_is_event _ = refl
 
 first_then : (p : Row → Bool) (x : Row) (xs : List Row) → p x ≡ true → list_all p xs ≡ true → list_all p (x ∷ xs) ≡ true
 first_then p x xs e f = rw e f

@@ -18,11 +18,9 @@ use Rattle.kv_host.specs.Kv.{shown, is_refused, answer_to, state_after, kv_meani
 -- ---- ops
 
 abbrev OpIs : Op → Type 0
-OpIs (Get key) = ⊤
 OpIs (Put key value) = IsBytes value
-OpIs (Delete key) = ⊤
 OpIs (Swap key old new) = IsBytes new
-OpIs Bad = ⊤
+OpIs _ = ⊤
 
 field_behind : (value : List ℕ) → IsBytes (field value) → IsBytes value
 unfolding field

@@ -86,18 +86,12 @@ IsActorOf c (Client i) = i < c.clients
 IsActorOf c (Controller i) = i < c.controllers
 
 abbrev pub client_number : Option Actor → Option ℕ
-client_number None = None
-client_number (Some (Replica i)) = None
-client_number (Some (Sequencer i)) = None
 client_number (Some (Client i)) = Some i
-client_number (Some (Controller i)) = None
+client_number _ = None
 
 abbrev pub sequencer_number : Option Actor → Option ℕ
-sequencer_number None = None
-sequencer_number (Some (Replica i)) = None
 sequencer_number (Some (Sequencer i)) = Some i
-sequencer_number (Some (Client i)) = None
-sequencer_number (Some (Controller i)) = None
+sequencer_number _ = None
 
 abbrev pub controller_number : Option Actor → Option ℕ
 controller_number None = None

@@ -26,18 +26,14 @@ use Rattle.lock_host.proofs.TokenLemmas.{get_set, get_add}
 
 abbrev OpIs : LockOp → Type 0
 OpIs (Acquire name owner) = IsBytes owner
-OpIs (Release name owner token) = ⊤
-OpIs (Inspect name) = ⊤
-OpIs Bad = ⊤
+OpIs _ = ⊤
 
 spelled_is : (op : LockOp) (bytes : List ℕ) → Spells op bytes → IsBytes bytes → OpIs op
 spelled_is (Acquire name owner) bytes h all =
     bytes_behind (length owner) owner
     (bytes_back (name_bytes name) (name_bytes owner)
     (bytes_behind ACQUIRE (name_bytes name ++ name_bytes owner) (subst IsBytes h.2 all)))
-spelled_is (Release name owner token) bytes h all = tt
-spelled_is (Inspect name) bytes h all = tt
-spelled_is Bad bytes h all = tt
+spelled_is _ bytes h all = tt
 
 op_is : (bytes : List ℕ) → IsBytes bytes → OpIs (read_op bytes)
 op_is bytes all = elim (reads_only_spelled bytes) [

@@ -7,17 +7,11 @@ use Rattle.network.specs.declared.lines.Tally.{Tally}
 
 abbrev pub is_send : Line → Bool
 is_send (Send index from dest datagram) = true
-is_send (Dead actor) = false
-is_send (Submit r) = false
-is_send (Accept client id result) = false
-is_send (Busy client) = false
+is_send _ = false
 
 abbrev pub is_accept : Line → Bool
 is_accept (Accept client id result) = true
-is_accept (Dead actor) = false
-is_accept (Submit r) = false
-is_accept (Busy client) = false
-is_accept (Send index from dest datagram) = false
+is_accept _ = false
 
 -- the text of these lines, and the counts
 pub record Shows (lines : Lines) (are : List Line) : Type 0 where

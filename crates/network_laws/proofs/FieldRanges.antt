@@ -85,9 +85,7 @@ to_all_fits s body w fits = all_if_fits (others s == 0) s body w fits
 
 pub judged_next : (v : Verdict) (r : Receiving) (p : Stamped) → (judged v r p).next ≡ r.next
 judged_next verdicts.Queued r p = refl
-judged_next verdicts.Old r p = refl
-judged_next (verdicts.Terminated session) r p = refl
-judged_next verdicts.Full r p = refl
+judged_next _ r p = refl
 
 pub cond_sound : (b : Bool) (x y : Receiving) → IsSound x → IsSound y → IsSound (cond b x y)
 cond_sound true x y f g = f

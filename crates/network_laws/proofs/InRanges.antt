@@ -711,25 +711,14 @@ module _ {S : Type 0} (m : Meaning S) (k : Keeping) (bounds : Bounds m k) where
   from_leader_stays (bodies.Found n r) s g fits = found_stays n r s g fits.request
   from_leader_stays (bodies.SyncPrepare l) s g fits = prepare_stays l s g fits
   from_leader_stays (bodies.SyncCommit n) s g fits = commit_row_stays n s g
-  from_leader_stays (bodies.SlotLookup n) s g fits = still_stays s g
-  from_leader_stays (bodies.GapRep n) s g fits = still_stays s g
-  from_leader_stays (bodies.SyncRep n) s g fits = still_stays s g
-  from_leader_stays bodies.ViewChangeReq s g fits = still_stays s g
-  from_leader_stays (bodies.ViewChange u x l) s g fits = still_stays s g
-  from_leader_stays (bodies.StartView x l) s g fits = still_stays s g
+  from_leader_stays _ s g fits = still_stays s g
 
   from_follower_stays : (q : ℕ) (body : Body) (s : ReplicaState) → IsGood k s → BodyIsIn k body
       → StaysInRanges k (from_follower m k q body s)
   from_follower_stays q (bodies.SlotLookup n) s g fits = lookup_stays q n s g fits
   from_follower_stays q (bodies.GapRep n) s g fits = gap_reply_stays q n s g
   from_follower_stays q (bodies.SyncRep n) s g fits = sync_reply_stays q n s g fits
-  from_follower_stays q (bodies.GapCommit n) s g fits = still_stays s g
-  from_follower_stays q (bodies.Found n r) s g fits = still_stays s g
-  from_follower_stays q (bodies.SyncPrepare l) s g fits = still_stays s g
-  from_follower_stays q (bodies.SyncCommit n) s g fits = still_stays s g
-  from_follower_stays q bodies.ViewChangeReq s g fits = still_stays s g
-  from_follower_stays q (bodies.ViewChange u x l) s g fits = still_stays s g
-  from_follower_stays q (bodies.StartView x l) s g fits = still_stays s g
+  from_follower_stays q _ s g fits = still_stays s g
 
   by_role_stays : (a b : Bool) (q : ℕ) (body : Body) (s : ReplicaState) → IsGood k s → BodyIsIn k body
       → StaysInRanges k (by_role m k a b q body s)
@@ -831,10 +820,7 @@ module _ {S : Type 0} (m : Meaning S) (k : Keeping) (bounds : Bounds m k) where
   ticked_stays s ticks.Watch g = watch_stays (is_normal s.status && leads s) s.heard s g
   ticked_stays s ticks.Resend g = resend_stays s g
   ticked_stays s ticks.Sync g = sync_row_stays s g
-  ticked_stays s ticks.Retry g = still_stays s g
-  ticked_stays s ticks.Next g = still_stays s g
-  ticked_stays s ticks.Probe g = still_stays s g
-  ticked_stays s (ticks.Install j) g = still_stays s g
+  ticked_stays s _ g = still_stays s g
 
   -- ---- all that arrives
 

@@ -349,24 +349,13 @@ module _ {S : Type 0} (m : Meaning S) (k : Keeping) where
   from_leader_own (bodies.Found n r) s = found_own n r s
   from_leader_own (bodies.SyncPrepare l) s = prepare_own l s
   from_leader_own (bodies.SyncCommit n) s = commit_row_own n s
-  from_leader_own (bodies.SlotLookup n) s = still_own s
-  from_leader_own (bodies.GapRep n) s = still_own s
-  from_leader_own (bodies.SyncRep n) s = still_own s
-  from_leader_own bodies.ViewChangeReq s = still_own s
-  from_leader_own (bodies.ViewChange u x l) s = still_own s
-  from_leader_own (bodies.StartView x l) s = still_own s
+  from_leader_own _ s = still_own s
 
   from_follower_own : (q : ℕ) (body : Body) (s : ReplicaState) → q < s.config.replicas → Own s (from_follower m k q body s)
   from_follower_own q (bodies.SlotLookup n) s h = lookup_own q n s h
   from_follower_own q (bodies.GapRep n) s h = gap_reply_own q n s
   from_follower_own q (bodies.SyncRep n) s h = sync_reply_own q n s
-  from_follower_own q (bodies.GapCommit n) s h = still_own s
-  from_follower_own q (bodies.Found n r) s h = still_own s
-  from_follower_own q (bodies.SyncPrepare l) s h = still_own s
-  from_follower_own q (bodies.SyncCommit n) s h = still_own s
-  from_follower_own q bodies.ViewChangeReq s h = still_own s
-  from_follower_own q (bodies.ViewChange u x l) s h = still_own s
-  from_follower_own q (bodies.StartView x l) s h = still_own s
+  from_follower_own q _ s h = still_own s
 
   by_role_own : (a b : Bool) (q : ℕ) (body : Body) (s : ReplicaState) → q < s.config.replicas → Own s (by_role m k a b q body s)
   by_role_own true b q body s h = from_leader_own body s
@@ -456,10 +445,7 @@ module _ {S : Type 0} (m : Meaning S) (k : Keeping) where
   tick_own s ticks.Watch = watch_own (is_normal s.status && leads s) s.heard s
   tick_own s ticks.Resend = resend_own s
   tick_own s ticks.Sync = sync_row_own s
-  tick_own s ticks.Retry = still_own s
-  tick_own s ticks.Next = still_own s
-  tick_own s ticks.Probe = still_own s
-  tick_own s (ticks.Install j) = still_own s
+  tick_own s _ = still_own s
 
   -- ---- all that arrives
 

@@ -129,12 +129,7 @@ module _ {S : Type 0} (m : Meaning S) (told : List Peer) (sent : List (List ℕ)
   datagram_delivers bounds (datagrams.Stamped p) bytes has is fits e =
       row_delivers bounds s.reassembly (messages.Packet p) h.came (subst (Has sent) is has) fits
   datagram_delivers bounds (datagrams.Fragment f) bytes has is fits e = fragment_delivers bounds f (among_has sent bytes f has e)
-  datagram_delivers bounds (datagrams.Request q) bytes has is fits e = does_nothing s.reassembly h.came
-  datagram_delivers bounds (datagrams.Reply p) bytes has is fits e = does_nothing s.reassembly h.came
-  datagram_delivers bounds (datagrams.Install k j x) bytes has is fits e = does_nothing s.reassembly h.came
-  datagram_delivers bounds (datagrams.Installed k j x) bytes has is fits e = does_nothing s.reassembly h.came
-  datagram_delivers bounds (datagrams.Ping k j x) bytes has is fits e = does_nothing s.reassembly h.came
-  datagram_delivers bounds (datagrams.Pong k j x) bytes has is fits e = does_nothing s.reassembly h.came
+  datagram_delivers bounds _ bytes has is fits e = does_nothing s.reassembly h.came
 
   sent_delivers : Bounds m Trimmed → (bytes : List ℕ) → Has sent bytes → Does (on_datagram m s (reading bytes))
   sent_delivers bounds bytes has =

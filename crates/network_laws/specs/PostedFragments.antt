@@ -20,21 +20,11 @@ use Rattle.replica_core.specs.Posting.{posted}
 
 abbrev pub fragment_read : Result Datagram Bad → List Fragment
 fragment_read (Ok (datagrams.Fragment f)) = f ∷ []
-fragment_read (Ok (datagrams.Request r)) = []
-fragment_read (Ok (datagrams.Stamped p)) = []
-fragment_read (Ok (datagrams.Reply r)) = []
-fragment_read (Ok (datagrams.Install controller sequencer session)) = []
-fragment_read (Ok (datagrams.Installed controller sequencer session)) = []
-fragment_read (Ok (datagrams.Ping controller sequencer round)) = []
-fragment_read (Ok (datagrams.Pong controller sequencer round)) = []
-fragment_read (Err e) = []
+fragment_read _ = []
 
 abbrev pub fragment_in : Out → List Fragment
 fragment_in (outs.Send dest bytes) = fragment_read (reading bytes)
-fragment_in (outs.Submitted r) = []
-fragment_in (outs.Accepted client id result) = []
-fragment_in (outs.Busy client) = []
-fragment_in (outs.Trimmed first entries) = []
+fragment_in _ = []
 
 abbrev pub fragments_in : List Out → List Fragment
 fragments_in [] = []

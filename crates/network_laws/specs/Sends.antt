@@ -23,11 +23,8 @@ IsBy r (Trims first entries) = ⊤
 -- all replicas, or one of this number of them, if there are any
 abbrev pub IsAmong : ℕ → Dest → Type 0
 IsAmong n Replicas = ⊤
-IsAmong n Sequencers = ⊥
 IsAmong n (One (actors.Replica i)) = 1 ≤ n → i < n
-IsAmong n (One (actors.Sequencer i)) = ⊥
-IsAmong n (One (actors.Client i)) = ⊥
-IsAmong n (One (actors.Controller i)) = ⊥
+IsAmong n _ = ⊥
 
 -- a message goes to replicas of this number of them; of a reply nothing is said
 abbrev pub GoesAmong : ℕ → Sending → Type 0

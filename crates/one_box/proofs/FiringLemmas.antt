@@ -74,20 +74,12 @@ module _ {S : Type 0} (m : Meaning S) (ops : List (List ℕ)) (c : Course) (n : 
   next_by : (a : Actor) → next_of m ops a c n ≡ take_event m (next_event c.world a (slice_get ops n.next_op)) c n
   unfolding next_of
   next_by (actors.Client i) = submit_by (takes_op c.world i) i (slice_get ops n.next_op)
-  next_by (actors.Replica i) = refl
-  next_by (actors.Sequencer i) = refl
-  next_by (actors.Controller i) = refl
+  next_by _ = refl
 
   tick_by : (t : Tick) → on_tick m ops c n t ≡ take_event m (tick_event c.world n.at.own (slice_get ops n.next_op) t) c n
   unfolding on_tick
   tick_by ticks.Next = next_by n.at.own
-  tick_by ticks.Suspect = refl
-  tick_by ticks.Watch = refl
-  tick_by ticks.Resend = refl
-  tick_by ticks.Sync = refl
-  tick_by ticks.Retry = refl
-  tick_by ticks.Probe = refl
-  tick_by (ticks.Install j) = refl
+  tick_by _ = refl
 
   fire_by : (b : Bool) (t : Tick) → fire_if m ops b c n t ≡ take_event m (tick_event_if b c.world n.at.own (slice_get ops n.next_op) t) c n
   unfolding fire_if
@@ -105,19 +97,11 @@ submit_free false client op = tt
 
 next_free : (w : WorldState) (a : Actor) (op : Option (List ℕ)) → HasNoJunk (next_event w a op)
 next_free w (actors.Client i) op = submit_free (takes_op w i) i op
-next_free w (actors.Replica i) op = tt
-next_free w (actors.Sequencer i) op = tt
-next_free w (actors.Controller i) op = tt
+next_free w _ op = tt
 
 tick_free : (w : WorldState) (a : Actor) (op : Option (List ℕ)) (t : Tick) → HasNoJunk (tick_event w a op t)
 tick_free w a op ticks.Next = next_free w a op
-tick_free w a op ticks.Suspect = tt
-tick_free w a op ticks.Watch = tt
-tick_free w a op ticks.Resend = tt
-tick_free w a op ticks.Sync = tt
-tick_free w a op ticks.Retry = tt
-tick_free w a op ticks.Probe = tt
-tick_free w a op (ticks.Install j) = tt
+tick_free w a op _ = tt
 
 free_if : (b : Bool) (w : WorldState) (a : Actor) (op : Option (List ℕ)) (t : Tick) → HasNoJunk (tick_event_if b w a op t)
 free_if true w a op t = tick_free w a op t

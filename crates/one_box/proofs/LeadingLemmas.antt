@@ -85,14 +85,7 @@ word_of a ticks.Resend is = tt
 word_of a ticks.Sync is = tt
 word_of a ticks.Retry is = tt
 word_of a ticks.Probe is = tt
-word_of (actors.Replica i) ticks.Next is = absurd cc
-word_of (actors.Sequencer i) ticks.Next is = absurd cc
-word_of (actors.Client i) ticks.Next is = absurd cc
-word_of (actors.Controller i) ticks.Next is = absurd cc
-word_of (actors.Replica i) (ticks.Install j) is = absurd cc
-word_of (actors.Sequencer i) (ticks.Install j) is = absurd cc
-word_of (actors.Client i) (ticks.Install j) is = absurd cc
-word_of (actors.Controller i) (ticks.Install j) is = absurd cc
+word_of _ _ is = absurd cc
 
 happened_line : {S : Type 0} (m : Meaning S) (w : WorldState) (e : Event) (h : Happened) → IsNoJunk e → step m w e ≡ Ok h → HasLine e
 unfolding step stimulus_of

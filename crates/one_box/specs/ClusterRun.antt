@@ -123,9 +123,7 @@ module _ {S : Type 0} (m : Meaning S) (ops : List (List ℕ)) where
 
   unfoldable pub next_of : Actor → Course → Node → Course × Node
   next_of (actors.Client i) c n = submit_next m (takes_op c.world i) i (slice_get ops n.next_op) c n
-  next_of (actors.Replica i) c n = (c, n)
-  next_of (actors.Sequencer i) c n = (c, n)
-  next_of (actors.Controller i) c n = (c, n)
+  next_of _ c n = (c, n)
 
   -- the tick Next gives a client its next op, Install comes by no timer, and each other tick is an event
   unfoldable pub on_tick : Course → Node → Tick → Course × Node

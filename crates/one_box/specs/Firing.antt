@@ -20,9 +20,7 @@ submit_if false client op = None
 
 abbrev pub next_event : WorldState → Actor → Option (List ℕ) → Option Event
 next_event w (actors.Client i) op = submit_if (takes_op w i) i op
-next_event w (actors.Replica i) op = None
-next_event w (actors.Sequencer i) op = None
-next_event w (actors.Controller i) op = None
+next_event w _ op = None
 
 -- the tick Next gives a client this op, Install comes by no timer, and each other tick is an event
 abbrev pub tick_event : WorldState → Actor → Option (List ℕ) → Tick → Option Event
@@ -46,11 +44,7 @@ timer_event w own op timer now = tick_event_if (nat_le timer.due now) w own op t
 -- the number of an actor's next op after an event
 abbrev pub next_after : Event → ℕ → ℕ → ℕ
 next_after (events.Submit client op) place clients = place + clients
-next_after (events.Deliver index actor) place clients = place
-next_after (events.Tick actor tick) place clients = place
-next_after (events.Install controller sequencer) place clients = place
-next_after (events.Crash actor) place clients = place
-next_after (events.Junk actor bytes) place clients = place
+next_after _ place clients = place
 
 -- the event is taken, if there is one
 abbrev pub take_event : {S : Type 0} → Meaning S → Option Event → Course → Node → Course × Node

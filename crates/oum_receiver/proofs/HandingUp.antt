@@ -18,9 +18,7 @@ offer_then : (r : Receiving) (packet : Stamped) (calls : List Call)
     → ((s : Receiving) → IsConsecutive s.session s.next (handed_up s calls)) → (v : Verdict)
     → IsConsecutive r.session r.next (handed_up (judged v r packet) calls)
 offer_then r packet calls rest Queued = rest (judged Queued r packet)
-offer_then r packet calls rest Old = rest r
-offer_then r packet calls rest (Terminated session) = rest r
-offer_then r packet calls rest Full = rest r
+offer_then r packet calls rest _ = rest r
 
 front_then : (r : Receiving) (calls : List Call) → ((s : Receiving) → IsConsecutive s.session s.next (handed_up s calls)) → (f : Front)
     → IsConsecutive r.session r.next (handed_front f r ++ handed_up (past_front f r) calls)

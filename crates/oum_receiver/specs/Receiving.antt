@@ -53,9 +53,7 @@ verdict_of r packet =
 -- after a verdict on a packet, which is queued by that verdict alone
 abbrev pub judged : Verdict → Receiving → Stamped → Receiving
 judged Queued r packet = record r { queued = finite.insert r.queued packet.number packet.request }
-judged Old r packet = r
-judged (Terminated session) r packet = r
-judged Full r packet = r
+judged _ r packet = r
 
 -- after the offer of a packet
 abbrev pub offered : Receiving → Stamped → Receiving

@@ -55,11 +55,9 @@ after r (Reset session next) = opened session next
 
 -- what a call hands up
 abbrev pub handed_by : Receiving → Call → List HandedUp
-handed_by r (Offer packet) = []
 handed_by r TakeFront = handed_front (front_of r) r
 handed_by r TakeMessage = handed_message (front_of r) r
-handed_by r (Advance next) = []
-handed_by r (Reset session next) = []
+handed_by r _ = []
 
 -- what a list of calls hands up, in order
 abbrev pub handed_up : Receiving → List Call → List HandedUp

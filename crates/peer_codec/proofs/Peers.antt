@@ -53,15 +53,7 @@ is_spelled (kind ∷ rest) p fits e =
 
 is_kind : (b : Body) → (nat_le 16 (kind_of b) && nat_le (kind_of b) 25) ≡ true
 is_kind (SlotLookup slot) = refl
-is_kind (Found slot r) = refl
-is_kind (GapCommit slot) = refl
-is_kind (GapRep slot) = refl
-is_kind ViewChangeReq = refl
-is_kind (ViewChange v next log) = refl
-is_kind (StartView next log) = refl
-is_kind (SyncPrepare log) = refl
-is_kind (SyncRep len) = refl
-is_kind (SyncCommit len) = refl
+is_kind _ = refl
 
 message_again : (p : Peer) → PeerFits p → message_of (kind_of p.body) (p.sender ∷ (view_bytes p.view ++ body_bytes p.body)) ≡ Ok p
 unfolding message_of

@@ -20,9 +20,7 @@ use Rattle.protocol.proofs.Stays.{log_lasts, own_lasts}
 -- an offer changes neither session nor number
 offered_same : (x : Receiving) (v : Verdict) (p : Stamped) → ((judged v x p).session ≡ x.session) × ((judged v x p).next ≡ x.next)
 offered_same x Queued p = (refl, refl)
-offered_same x Old p = (refl, refl)
-offered_same x (Terminated s) p = (refl, refl)
-offered_same x Full p = (refl, refl)
+offered_same x _ p = (refl, refl)
 
 module _ {S : Type 0} (m : Meaning S) (f : ℕ) (c : Conf) (r : ℕ) (inv : Inv m f c) (within : r < 2 * f + 1) where
   abbrev p : Member

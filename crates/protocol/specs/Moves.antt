@@ -237,13 +237,7 @@ say_again p x = record { state = p; said = say p x; replies = [] }
 abbrev pub TellsPoint : Member → Word → Type 0
 TellsPoint p (StartView x z l) = (z ≡ p.sync.sync_point) × (z ≤ length l)
 TellsPoint p (SyncPrepare z l) = (z ≡ p.sync.sync_point) × (z ≤ length l)
-TellsPoint p Plain = ⊤
-TellsPoint p (Found k r) = ⊤
-TellsPoint p (GapCommit k) = ⊤
-TellsPoint p (GapRep k) = ⊤
-TellsPoint p (ViewChange u x z l) = ⊤
-TellsPoint p (SyncRep k) = ⊤
-TellsPoint p (SyncCommit k) = ⊤
+TellsPoint p _ = ⊤
 
 pub record MaySay (f : ℕ) (c : Conf) (p : Member) (x : Word) : Type 0 where
   pub true : MayRepeat f c p.number p.view x

@@ -127,14 +127,7 @@ module _ {S : Type 0} (m : Meaning S) (f : ℕ) where
   happens_above c inv sync above (Acts r a) may = λ q within.
       put-all (λ i t. i < 2 * f + 1 → GapIsAbove t) c.replicas r (effect m (c.replicas r) a).state
       (λ low. act_above c r inv sync low (above r low) a may.1) (λ i n low. above i low) q within
-  happens_above c inv sync above (MoveTo k j s) may = above
-  happens_above c inv sync above (Installed k) may = above
-  happens_above c inv sync above (Install j s) may = above
-  happens_above c inv sync above (Stamp j q) may = above
-  happens_above c inv sync above (Submit k op waiting) may = above
-  happens_above c inv sync above (Keep k y) may = above
-  happens_above c inv sync above (Accept k y leaders) may = above
-  happens_above c inv sync above (Tell more) may = above
+  happens_above c inv sync above _ may = above
 
 pub gaps_stay_above : {S : Type 0} (m : Meaning S) → GapsStayAbove m
 gaps_stay_above m f c [] inv sync above may = above

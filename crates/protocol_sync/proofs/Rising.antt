@@ -66,26 +66,14 @@ entered_rises p v false = omega arith
 
 module _ {S : Type 0} (m : Meaning S) (f : ℕ) where
   act_rises : (p : Member) (a : Act) → Rises p.sync (effect m p a).state.sync
-  act_rises p (Queue x) = omega arith
-  act_rises p (TakeFront q) = omega arith
-  act_rises p (Fill q) = omega arith
-  act_rises p OpenGap = omega arith
-  act_rises p (CountGapVote g q) = omega arith
-  act_rises p (WriteGap k) = omega arith
-  act_rises p AddGap = omega arith
   act_rises p (Enter v) = entered_rises p v (leads (entered p v))
-  act_rises p (KeepChange g x) = omega arith
-  act_rises p (OpenView g) = omega arith
-  act_rises p (Adopt v x z l) = omega arith
-  act_rises p (Say x) = omega arith
-  act_rises p (Overlay z l) = omega arith
   act_rises p (Obey k) = commit_rises p.sync k (nat_le k p.sync.prepared)
   act_rises p OpenSync =
       let s = p.sync in
       let k = length p.log in
       round_rises s k (nat_lt s.sync_point k) (s.f == 0) refl
   act_rises p (CountSyncVote q k) = vote_rises p.sync q k p.sync.syncing
-  act_rises p RepeatCommit = omega arith
+  act_rises p _ = omega arith
 
   abbrev AllRise : Conf → Conf → Type 0
   AllRise c d = (r : ℕ) → Rises (c.replicas r).sync (d.replicas r).sync
@@ -94,14 +82,7 @@ module _ {S : Type 0} (m : Meaning S) (f : ℕ) where
   happens_rises c (Acts r a) =
       put-all (λ q t. Rises (c.replicas q).sync t.sync) c.replicas r (effect m (c.replicas r) a).state
       (act_rises (c.replicas r) a) (λ q n. omega arith)
-  happens_rises c (MoveTo k j s) = λ r. omega arith
-  happens_rises c (Installed k) = λ r. omega arith
-  happens_rises c (Install j s) = λ r. omega arith
-  happens_rises c (Stamp j q) = λ r. omega arith
-  happens_rises c (Submit k op waiting) = λ r. omega arith
-  happens_rises c (Keep k p) = λ r. omega arith
-  happens_rises c (Accept k p leaders) = λ r. omega arith
-  happens_rises c (Tell more) = λ r. omega arith
+  happens_rises c _ = λ r. omega arith
 
   run_rises : (c : Conf) (xs : List Move) → AllRise c (run m f c xs)
   run_rises c [] = λ r. omega arith

@@ -52,15 +52,9 @@ pub record Tells (f : ℕ) (d : Conf) (said : List Said) : Type 0 where
   pub prepares : (q : ℕ) (w : View) (z : ℕ) (l : List Entry) → DidSay said q w (SyncPrepare z l) → Told f d w z l
 
 abbrev pub TellsWord : ℕ → Conf → View → Word → Type 0
-TellsWord f d w Plain = ⊤
-TellsWord f d w (Found k r) = ⊤
-TellsWord f d w (GapCommit k) = ⊤
-TellsWord f d w (GapRep k) = ⊤
-TellsWord f d w (ViewChange u x z l) = ⊤
 TellsWord f d w (StartView x z l) = Told f d w z l
 TellsWord f d w (SyncPrepare z l) = Told f d w z l
-TellsWord f d w (SyncRep k) = ⊤
-TellsWord f d w (SyncCommit k) = ⊤
+TellsWord f d w _ = ⊤
 
 pub tells_none : (f : ℕ) (d : Conf) → Tells f d []
 tells_none f d = record { starts = λ q w x z l h. absurd (Has-none _ h); prepares = λ q w z l h. absurd (Has-none _ h) }

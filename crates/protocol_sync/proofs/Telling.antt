@@ -77,15 +77,9 @@ module _ {S : Type 0} (m : Meaning S) (f : ℕ) (c : Conf) (r : ℕ) (inv : Inv 
     }
 
     tells : (y : Word) → TellsPoint p y → TellsWord f d p.view y
-    tells Plain t = tt
-    tells (Found k q) t = tt
-    tells (GapCommit k) t = tt
-    tells (GapRep k) t = tt
-    tells (ViewChange u n z l) t = tt
     tells (StartView n z l) t = own_told z l t
     tells (SyncPrepare z l) t = own_told z l t
-    tells (SyncRep k) t = tt
-    tells (SyncCommit k) t = tt
+    tells _ t = tt
 
     -- a log that is told again is told with the own sync point
     pub say_tells : TellsPoint p x → TellsWord f d p.view x

@@ -54,10 +54,7 @@ module _ {S : Type 0} (m : Meaning S) (f : ℕ) (c : Conf) (r : ℕ) (s : Replic
   tick_reaches ticks.Watch = watch_reaches m f r c s h
   tick_reaches ticks.Resend = (resend_in_view m f c r s h).reaches
   tick_reaches ticks.Sync = (sync_row_in_view m f c r s h).reaches
-  tick_reaches ticks.Retry = nothing_reaches m f r c s s h refl h.points
-  tick_reaches ticks.Next = nothing_reaches m f r c s s h refl h.points
-  tick_reaches ticks.Probe = nothing_reaches m f r c s s h refl h.points
-  tick_reaches (ticks.Install j) = nothing_reaches m f r c s s h refl h.points
+  tick_reaches _ = nothing_reaches m f r c s s h refl h.points
 
   arrival_reaches : (a : Arrival) → Came c a → ReplicaReaches m f c r s (arrive m Whole s a)
   unfolding arrive

@@ -92,24 +92,12 @@ module _ (s : ClientState) (fits : ClientFits s) where
 
   datagram_row : (x : Result Datagram Bad) → ClientRow s (client.on_datagram s x)
   datagram_row (Ok (datagrams.Reply p)) = reply_row p (client.is_expected s p)
-  datagram_row (Ok (datagrams.Request r)) = still
-  datagram_row (Ok (datagrams.Stamped p)) = still
-  datagram_row (Ok (datagrams.Install controller sequencer session)) = still
-  datagram_row (Ok (datagrams.Installed controller sequencer session)) = still
-  datagram_row (Ok (datagrams.Ping controller sequencer round)) = still
-  datagram_row (Ok (datagrams.Pong controller sequencer round)) = still
-  datagram_row (Ok (datagrams.Fragment p)) = still
-  datagram_row (Err e) = still
+  datagram_row _ = still
 
   tick_row : (tick : Tick) → ClientRow s (client.on_tick s tick)
   tick_row ticks.Next = waiting_row (client.can_submit s) refl
   tick_row ticks.Retry = retry_row s.pending
-  tick_row ticks.Suspect = still
-  tick_row ticks.Watch = still
-  tick_row ticks.Resend = still
-  tick_row ticks.Sync = still
-  tick_row ticks.Probe = still
-  tick_row (ticks.Install sequencer) = still
+  tick_row _ = still
 
   input_row : (i : Given) → GivenFits i → ClientRow s (next s i)
   unfolding next

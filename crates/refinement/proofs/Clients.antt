@@ -181,24 +181,12 @@ module _ {S : Type 0} (m : Meaning S) (f : ℕ) (c : Conf) (k : ℕ) (inv : Inv 
 
   datagram_reaches : (x : Result Datagram Bad) → ((d : Datagram) → x ≡ Ok d → Arrived c d) → ClientReaches m f c k (on_datagram s x)
   datagram_reaches (Ok (datagrams.Reply p)) came = reply_reaches p (came (datagrams.Reply p) refl).sent
-  datagram_reaches (Ok (datagrams.Request r)) came = still
-  datagram_reaches (Ok (datagrams.Stamped p)) came = still
-  datagram_reaches (Ok (datagrams.Install controller sequencer session)) came = still
-  datagram_reaches (Ok (datagrams.Installed controller sequencer session)) came = still
-  datagram_reaches (Ok (datagrams.Ping controller sequencer round)) came = still
-  datagram_reaches (Ok (datagrams.Pong controller sequencer round)) came = still
-  datagram_reaches (Ok (datagrams.Fragment p)) came = still
-  datagram_reaches (Err e) came = still
+  datagram_reaches _ came = still
 
   tick_reaches : (tick : Tick) → ClientReaches m f c k (on_tick s tick)
   tick_reaches ticks.Next = submit_waiting_reaches
   tick_reaches ticks.Retry = retry_reaches
-  tick_reaches ticks.Suspect = still
-  tick_reaches ticks.Watch = still
-  tick_reaches ticks.Resend = still
-  tick_reaches ticks.Sync = still
-  tick_reaches ticks.Probe = still
-  tick_reaches (ticks.Install sequencer) = still
+  tick_reaches _ = still
 
   input_reaches : (i : Given) → MayCome c i → ClientReaches m f c k (next s i)
   unfolding next

@@ -99,11 +99,7 @@ tick_within : (s : ControllerState) (tick : Tick) → IsWithin s → IsWithin (o
 tick_within s ticks.Probe w = probe_within s s.heard w
 tick_within s ticks.Resend w = resend_within s s.confirmed w
 tick_within s (ticks.Install j) w = order_within s j (nat_lt j s.config.sequencers) w refl
-tick_within s ticks.Suspect w = w
-tick_within s ticks.Watch w = w
-tick_within s ticks.Sync w = w
-tick_within s ticks.Retry w = w
-tick_within s ticks.Next w = w
+tick_within s _ w = w
 
 datagram_within : (s : ControllerState) (x : Result Datagram Bad) → ((d : Datagram) → x ≡ Ok d → DatagramFits d) → IsWithin s
     → IsWithin (on_datagram s x).0
@@ -111,13 +107,7 @@ datagram_within s (Ok (datagrams.Pong controller sequencer round)) fits w =
     heard_within s ((controller == s.number) && ((sequencer == s.current) && (round == s.round))) w
 datagram_within s (Ok (datagrams.Installed controller sequencer session)) fits w =
     installed_within s (controller == s.number) sequencer session w (fits (datagrams.Installed controller sequencer session) refl).fits.high
-datagram_within s (Ok (datagrams.Request r)) fits w = w
-datagram_within s (Ok (datagrams.Stamped p)) fits w = w
-datagram_within s (Ok (datagrams.Reply p)) fits w = w
-datagram_within s (Ok (datagrams.Install controller sequencer session)) fits w = w
-datagram_within s (Ok (datagrams.Ping controller sequencer round)) fits w = w
-datagram_within s (Ok (datagrams.Fragment p)) fits w = w
-datagram_within s (Err e) fits w = w
+datagram_within s _ fits w = w
 
 next_within : (c : Conf) (s : ControllerState) (i : Given) → MayCome c i → IsWithin s → IsWithin (next s i).0
 unfolding next

@@ -212,22 +212,12 @@ module _ {S : Type 0} (m : Meaning S) (f : ℕ) (c : Conf) (s : ControllerState)
   tick_reaches ticks.Probe = probe_reaches
   tick_reaches ticks.Resend = resend_install_reaches
   tick_reaches (ticks.Install j) = order_move_reaches j
-  tick_reaches ticks.Suspect = still
-  tick_reaches ticks.Watch = still
-  tick_reaches ticks.Sync = still
-  tick_reaches ticks.Retry = still
-  tick_reaches ticks.Next = still
+  tick_reaches _ = still
 
   datagram_reaches : (x : Result Datagram Bad) → ControllerReaches m f c k s (on_datagram s x)
   datagram_reaches (Ok (datagrams.Pong controller sequencer round)) = pong_reaches controller sequencer round
   datagram_reaches (Ok (datagrams.Installed controller sequencer session)) = installed_reaches controller sequencer session
-  datagram_reaches (Ok (datagrams.Request r)) = still
-  datagram_reaches (Ok (datagrams.Stamped p)) = still
-  datagram_reaches (Ok (datagrams.Reply p)) = still
-  datagram_reaches (Ok (datagrams.Install controller sequencer session)) = still
-  datagram_reaches (Ok (datagrams.Ping controller sequencer round)) = still
-  datagram_reaches (Ok (datagrams.Fragment p)) = still
-  datagram_reaches (Err e) = still
+  datagram_reaches _ = still
 
   input_reaches : (i : Given) → ControllerReaches m f c k s (next s i)
   unfolding next

@@ -27,9 +27,7 @@ use Rattle.replica_rows.proofs.Opening.{enters_with_others}
 
 judged_session : (v : Verdict) (r : Receiving) (p : Stamped) → (judged v r p).session ≡ r.session
 judged_session Queued r p = refl
-judged_session Old r p = refl
-judged_session (Terminated session) r p = refl
-judged_session Full r p = refl
+judged_session _ r p = refl
 
 -- a view that is entered with this receiver
 abbrev entering : ReplicaState → View → Receiving → ReplicaState

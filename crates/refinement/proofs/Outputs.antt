@@ -46,10 +46,7 @@ only_new c d outs requests stamps replies installs (datagrams.Install controller
       | inl old ↦ inl (record { given = old; own = h.own })
       | inr new ↦ inr (subst (λ (n : ℕ). Sends outs (datagrams.Install n sequencer session)) h.own new)
     ]
-only_new c d outs requests stamps replies installs (datagrams.Installed controller sequencer session) h = inl h
-only_new c d outs requests stamps replies installs (datagrams.Ping controller sequencer round) h = inl h
-only_new c d outs requests stamps replies installs (datagrams.Pong controller sequencer round) h = inl h
-only_new c d outs requests stamps replies installs (datagrams.Fragment p) h = inl h
+only_new c d outs requests stamps replies installs _ h = inl h
 
 -- ---- lines
 

@@ -70,25 +70,14 @@ module _ {S : Type 0} (m : Meaning S) (f : ℕ) (c : Conf) (r : ℕ) (s : Replic
   from_leader_in_view (bodies.Found k q) may = found_in_view m f c r s h k q may
   from_leader_in_view (bodies.SyncPrepare l) may = sync_prepare_in_view m f c r s h l may
   from_leader_in_view (bodies.SyncCommit k) may = sync_commit_in_view m f c r s h k may
-  from_leader_in_view (bodies.SlotLookup k) may = nothing_in_view m f r c s s h refl h.points
-  from_leader_in_view (bodies.GapRep k) may = nothing_in_view m f r c s s h refl h.points
-  from_leader_in_view (bodies.SyncRep k) may = nothing_in_view m f r c s s h refl h.points
-  from_leader_in_view bodies.ViewChangeReq may = nothing_in_view m f r c s s h refl h.points
-  from_leader_in_view (bodies.ViewChange u x l) may = nothing_in_view m f r c s s h refl h.points
-  from_leader_in_view (bodies.StartView x l) may = nothing_in_view m f r c s s h refl h.points
+  from_leader_in_view _ may = nothing_in_view m f r c s s h refl h.points
 
   from_follower_in_view : (q : ℕ) (body : Body) → MayLead (member_of s) → DidAnother f c (member_of s) q (word_of body)
       → InView m f c r s (from_follower m Whole q body s)
   from_follower_in_view q (bodies.SlotLookup k) may vote = slot_lookup_in_view m f c r s h q k may
   from_follower_in_view q (bodies.GapRep k) may vote = gap_reply_in_view m f c r s h q k vote
   from_follower_in_view q (bodies.SyncRep k) may vote = sync_reply_in_view m f c r s h q k may vote
-  from_follower_in_view q (bodies.GapCommit k) may vote = nothing_in_view m f r c s s h refl h.points
-  from_follower_in_view q (bodies.Found k x) may vote = nothing_in_view m f r c s s h refl h.points
-  from_follower_in_view q (bodies.SyncPrepare l) may vote = nothing_in_view m f r c s s h refl h.points
-  from_follower_in_view q (bodies.SyncCommit k) may vote = nothing_in_view m f r c s s h refl h.points
-  from_follower_in_view q bodies.ViewChangeReq may vote = nothing_in_view m f r c s s h refl h.points
-  from_follower_in_view q (bodies.ViewChange u x l) may vote = nothing_in_view m f r c s s h refl h.points
-  from_follower_in_view q (bodies.StartView x l) may vote = nothing_in_view m f r c s s h refl h.points
+  from_follower_in_view q _ may vote = nothing_in_view m f r c s s h refl h.points
 
   to_leader_in_view : (q : ℕ) (v : View) (body : Body) → IsOther f s q → Has c.said (says q v (word_of body)) → is_to_leader s v ≡ true
       → InView m f c r s (from_follower m Whole q body s)

@@ -45,14 +45,7 @@ module _ {S : Type 0} (m : Meaning S) (f : ℕ) (c : Conf) (j : ℕ) (inv : Inv 
   datagram_fits : (x : Result Datagram Bad) → ((d : Datagram) → x ≡ Ok d → Arrived c d) → (p : Stamped) → Has (stamp_at s x) p
       → StampedFits p
   datagram_fits (Ok (datagrams.Request r)) came p h = stamp_fits r (can_stamp s) (came (datagrams.Request r) refl).fits refl p h
-  datagram_fits (Ok (datagrams.Stamped q)) came p h = absurd (Has-none p h)
-  datagram_fits (Ok (datagrams.Reply q)) came p h = absurd (Has-none p h)
-  datagram_fits (Ok (datagrams.Install controller sequencer session)) came p h = absurd (Has-none p h)
-  datagram_fits (Ok (datagrams.Installed controller sequencer session)) came p h = absurd (Has-none p h)
-  datagram_fits (Ok (datagrams.Ping controller sequencer round)) came p h = absurd (Has-none p h)
-  datagram_fits (Ok (datagrams.Pong controller sequencer round)) came p h = absurd (Has-none p h)
-  datagram_fits (Ok (datagrams.Fragment q)) came p h = absurd (Has-none p h)
-  datagram_fits (Err e) came p h = absurd (Has-none p h)
+  datagram_fits _ came p h = absurd (Has-none p h)
 
   stamps_fit : (i : Given) → MayCome c i → (p : Stamped) → Has (stamp_in s i) p → StampedFits p
   stamps_fit (Packet bytes) came p h = datagram_fits (reading bytes) came p h

@@ -155,16 +155,11 @@ module _ {S : Type 0} (m : Meaning S) (f : ℕ) (c : Conf) (j : ℕ) (inv : Inv 
   datagram_reaches : (x : Result Datagram Bad) → ((d : Datagram) → x ≡ Ok d → Arrived c d)
       → SequencerReaches m f c j (stamp_at s x) (on_datagram s x)
   datagram_reaches (Ok (datagrams.Request r)) came = stamp_reaches r (came (datagrams.Request r) refl).sent
-  datagram_reaches (Ok (datagrams.Stamped p)) came = still
-  datagram_reaches (Ok (datagrams.Reply p)) came = still
   datagram_reaches (Ok (datagrams.Install controller sequencer session)) came =
       install_reaches controller sequencer session (came (datagrams.Install controller sequencer session) refl)
-  datagram_reaches (Ok (datagrams.Installed controller sequencer session)) came = still
   datagram_reaches (Ok (datagrams.Ping controller sequencer round)) came =
       ping_reaches controller sequencer round (came (datagrams.Ping controller sequencer round) refl).fits
-  datagram_reaches (Ok (datagrams.Pong controller sequencer round)) came = still
-  datagram_reaches (Ok (datagrams.Fragment p)) came = still
-  datagram_reaches (Err e) came = still
+  datagram_reaches _ came = still
 
   input_reaches : (i : Given) → MayCome c i → SequencerReaches m f c j (stamp_in s i) (next s i)
   unfolding next

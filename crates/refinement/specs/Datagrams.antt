@@ -33,13 +33,7 @@ WasSent c (datagrams.Fragment p) = ⊤
 -- a datagram that is no part of a message
 abbrev pub IsWhole : Datagram → Type 0
 IsWhole (datagrams.Fragment p) = ⊥
-IsWhole (datagrams.Request r) = ⊤
-IsWhole (datagrams.Stamped p) = ⊤
-IsWhole (datagrams.Reply p) = ⊤
-IsWhole (datagrams.Install controller sequencer session) = ⊤
-IsWhole (datagrams.Installed controller sequencer session) = ⊤
-IsWhole (datagrams.Ping controller sequencer round) = ⊤
-IsWhole (datagrams.Pong controller sequencer round) = ⊤
+IsWhole _ = ⊤
 
 -- what is read of bytes was sent, and is in its ranges
 pub record Arrived (c : Conf) (d : Datagram) : Type 0 where

@@ -83,9 +83,7 @@ pub record IsAddressed (c : Configuration) (dest : Dest) (bytes : List ℕ) : Ty
 abbrev pub OutGoes : Configuration → Out → Type 0
 OutGoes c (outs.Send dest bytes) = IsAddressed c dest bytes
 OutGoes c (outs.Submitted r) = r.client < c.clients
-OutGoes c (outs.Accepted client id result) = ⊤
-OutGoes c (outs.Busy client) = ⊤
-OutGoes c (outs.Trimmed first entries) = ⊤
+OutGoes c _ = ⊤
 
 abbrev pub OutsGo : Configuration → List Out → Type 0
 OutsGo c os = AllByRecursion (OutGoes c) os
@@ -165,11 +163,8 @@ dead_is_of c from = other_line c (lines.Dead from) [] (λ r e. cc) (λ r h. absu
 
 among_goes : (c : Configuration) (dest : Dest) (bytes : List ℕ) → 1 ≤ c.replicas → IsAmong c.replicas dest → Goes c dest bytes
 among_goes c Replicas bytes some h = tt
-among_goes c Sequencers bytes some h = absurd h
 among_goes c (One (actors.Replica i)) bytes some h = h some
-among_goes c (One (actors.Sequencer j)) bytes some h = absurd h
-among_goes c (One (actors.Client k)) bytes some h = absurd h
-among_goes c (One (actors.Controller k)) bytes some h = absurd h
+among_goes c _ bytes some h = absurd h
 
 cut_goes : (c : Configuration) (dest : Dest) (fs : List Fragment) → 1 ≤ c.replicas → IsAmong c.replicas dest → OutsGo c (sends_of dest fs)
 cut_goes c dest [] some h = tt
@@ -223,14 +218,9 @@ ping_goes c false s k round own = tt
 stamping_goes : (c : Configuration) (s : SequencerState) (r : Result Datagram Bad) → Names c (λ d. r ≡ Ok d)
     → OutsGo c (sequencer.on_datagram s r).1
 stamping_goes c s (Ok (datagrams.Request r)) names = packet_goes c (sequencer.stamped_by s r)
-stamping_goes c s (Ok (datagrams.Stamped p)) names = tt
-stamping_goes c s (Ok (datagrams.Reply p)) names = tt
 stamping_goes c s (Ok (datagrams.Install k j session)) names = install_goes c (j == s.number) s k session (names.installs k j session refl)
-stamping_goes c s (Ok (datagrams.Installed k j session)) names = tt
 stamping_goes c s (Ok (datagrams.Ping k j round)) names = ping_goes c (j == s.number) s k round (names.pings k j round refl)
-stamping_goes c s (Ok (datagrams.Pong k j round)) names = tt
-stamping_goes c s (Ok (datagrams.Fragment f)) names = tt
-stamping_goes c s (Err e) names = tt
+stamping_goes c s _ names = tt
 
 pub sequencer_goes : (c : Configuration) (s : SequencerState) (i : Given) → GivenNames c i → OutsGo c (sequencer.next s i).1
 unfolding sequencer.next
@@ -263,12 +253,7 @@ module _ (c : Configuration) (s : ClientState) (own : s.number < c.clients) wher
   tick_goes : (t : Tick) → OutsGo c (client.on_tick s t).1
   tick_goes ticks.Next = waiting_goes (client.can_submit s)
   tick_goes ticks.Retry = retry_goes s.pending
-  tick_goes ticks.Suspect = tt
-  tick_goes ticks.Watch = tt
-  tick_goes ticks.Resend = tt
-  tick_goes ticks.Sync = tt
-  tick_goes ticks.Probe = tt
-  tick_goes (ticks.Install j) = tt
+  tick_goes _ = tt
 
   accept_goes : (t : ClientState) (id : ℕ) (o : Option Reply) → OutsGo c (client.accept_if t id o).1
   accept_goes t id None = tt
@@ -281,14 +266,7 @@ module _ (c : Configuration) (s : ClientState) (own : s.number < c.clients) wher
 
   answer_goes : (r : Result Datagram Bad) → OutsGo c (client.on_datagram s r).1
   answer_goes (Ok (datagrams.Reply p)) = reply_goes (client.is_expected s p) p
-  answer_goes (Ok (datagrams.Request r)) = tt
-  answer_goes (Ok (datagrams.Stamped p)) = tt
-  answer_goes (Ok (datagrams.Install k j session)) = tt
-  answer_goes (Ok (datagrams.Installed k j session)) = tt
-  answer_goes (Ok (datagrams.Ping k j round)) = tt
-  answer_goes (Ok (datagrams.Pong k j round)) = tt
-  answer_goes (Ok (datagrams.Fragment f)) = tt
-  answer_goes (Err e) = tt
+  answer_goes _ = tt
 
   pub client_goes : (i : Given) → OutsGo c (client.next s i).1
   unfolding client.next
@@ -395,23 +373,13 @@ module _ (c : Configuration) where
   on_tick_directs s ticks.Probe is = probe_directs s.heard s is
   on_tick_directs s ticks.Resend is = resend_directs s.confirmed s is
   on_tick_directs s (ticks.Install j) is = order_directs (nat_lt j s.config.sequencers) s j refl is
-  on_tick_directs s ticks.Suspect is = quiet_directs s is
-  on_tick_directs s ticks.Watch is = quiet_directs s is
-  on_tick_directs s ticks.Sync is = quiet_directs s is
-  on_tick_directs s ticks.Retry is = quiet_directs s is
-  on_tick_directs s ticks.Next is = quiet_directs s is
+  on_tick_directs s _ is = quiet_directs s is
 
   on_datagram_directs : (s : ControllerState) (r : Result Datagram Bad) → IsPlaced c s → Directs c (controller.on_datagram s r)
   on_datagram_directs s (Ok (datagrams.Pong k j round)) is =
       quiet_directs _ (heard_stays ((k == s.number) && ((j == s.current) && (round == s.round))) s is)
   on_datagram_directs s (Ok (datagrams.Installed k j session)) is = quiet_directs _ (installed_stays (k == s.number) s j session is)
-  on_datagram_directs s (Ok (datagrams.Request r)) is = quiet_directs s is
-  on_datagram_directs s (Ok (datagrams.Stamped p)) is = quiet_directs s is
-  on_datagram_directs s (Ok (datagrams.Reply p)) is = quiet_directs s is
-  on_datagram_directs s (Ok (datagrams.Install k j session)) is = quiet_directs s is
-  on_datagram_directs s (Ok (datagrams.Ping k j round)) is = quiet_directs s is
-  on_datagram_directs s (Ok (datagrams.Fragment f)) is = quiet_directs s is
-  on_datagram_directs s (Err e) is = quiet_directs s is
+  on_datagram_directs s _ is = quiet_directs s is
 
   pub controller_directs : (s : ControllerState) (i : Given) → IsPlaced c s → Directs c (controller.next s i)
   unfolding controller.next

@@ -79,28 +79,18 @@ above_from m p k = entries_from m p p.log (k + 1) (drop k p.log) (λ e h. has_be
 
 -- what a replica does is answered for requests of the log that it has then
 act_from : {S : Type 0} (m : Meaning S) (p : Member) (a : Act) → ReplyFrom (effect m p a).state.log (effect m p a).replies
-act_from m p (runs.Queue x) = no_reply _
 act_from m p (runs.TakeFront r) = reply_from m (moves.logged p r) (moves.logged p r).log (length p.log + 1) r (Has-push p.log (Req r))
 act_from m p (runs.Fill r) =
     reply_from m (moves.appended p (Req r)) (moves.appended p (Req r)).log (length p.log + 1) r (Has-push p.log (Req r))
-act_from m p runs.OpenGap = no_reply _
-act_from m p (runs.CountGapVote g q) = no_reply _
-act_from m p (runs.WriteGap k) = no_reply _
-act_from m p runs.AddGap = no_reply _
 act_from m p (runs.Enter v) = enter_from (leads (moves.entered p v)) (moves.entered p v)
   where
     enter_from : (b : Bool) (q : Member) → ReplyFrom (moves.enter_as b q).state.log (moves.enter_as b q).replies
     enter_from true q = no_reply _
     enter_from false q = no_reply _
-act_from m p (runs.KeepChange g x) = no_reply _
 act_from m p (runs.OpenView g) = above_from m _ (effect m p (runs.OpenView g)).state.sync.sync_point
 act_from m p (runs.Adopt v x z l) = above_from m _ (moves.adopted p v x z l).sync.sync_point
-act_from m p (runs.Say x) = no_reply _
 act_from m p (runs.Overlay z l) = above_from m _ (max (length p.log) (moves.overlaid p z l).sync.sync_point)
-act_from m p (runs.Obey k) = no_reply _
-act_from m p runs.OpenSync = no_reply _
-act_from m p (runs.CountSyncVote q k) = no_reply _
-act_from m p runs.RepeatCommit = no_reply _
+act_from m p _ = no_reply _
 
 -- ---- all replies
 

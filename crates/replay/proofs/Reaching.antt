@@ -439,10 +439,8 @@ module _ {S : Type 0} (m : Meaning S) (config : Configuration) (h : Happened) (r
   dest_of : (s : Sent) → Has h.world.sent s → (dest : Dest) → Goes config dest s.bytes → IsDestOf config dest
   dest_of s i Replicas go = tt
   dest_of s i Sequencers go = tt
-  dest_of s i (One (actors.Replica n)) go = go
-  dest_of s i (One (actors.Sequencer n)) go = go
   dest_of s i (One (actors.Client k)) go = client_there k s i go
-  dest_of s i (One (actors.Controller n)) go = go
+  dest_of s i _ go = go
 
   pub sent_to_actors : (s : Sent) → Has h.world.sent s → IsDestOf config s.dest
   sent_to_actors s i = dest_of s i s.dest (r.sent s i).goes

@@ -70,10 +70,8 @@ module _ {S : Type 0} (m : Meaning S) where
 
 -- the sink's count of faults after this error: WriteFault tells one more, and at every other error no write failed
 abbrev pub writes_after_error : ReplayError → ℕ → ℕ
-writes_after_error (errors.Malformed line rule) n = n
-writes_after_error errors.ReadFault n = n
 writes_after_error errors.WriteFault n = next_count n
-writes_after_error errors.NoMemory n = n
+writes_after_error _ n = n
 
 -- the same of an answer: at Ok no write failed
 abbrev pub writes_after : {T : Type 0} → Result T ReplayError → ℕ → ℕ

@@ -46,12 +46,7 @@ fragment_stays m s f e = no_fragment m s f (is_other s.state f.replica) e
 stays : {S : Type 0} (m : Meaning S) (s : Replica) (d : Datagram) → is_for s d ≡ false → Stays s (on_datagram m s (Ok d))
 stays m s (datagrams.Stamped p) e = absurd cc
 stays m s (datagrams.Fragment f) e = fragment_stays m s f e
-stays m s (datagrams.Request r) e = refl
-stays m s (datagrams.Reply p) e = refl
-stays m s (datagrams.Install controller sequencer session) e = refl
-stays m s (datagrams.Installed controller sequencer session) e = refl
-stays m s (datagrams.Ping controller sequencer round) e = refl
-stays m s (datagrams.Pong controller sequencer round) e = refl
+stays m s _ e = refl
 
 read_stays : {S : Type 0} (m : Meaning S) (s : Replica) (bytes : List ℕ) (r : Result Datagram Bad) → reading bytes ≡ r
     → Stays s (on_datagram m s r) → IsIgnored m s (Packet bytes)
@@ -98,9 +93,7 @@ body_rests m p (bodies.GapRep n) s of e = not_in_view m p.sender p.view (bodies.
 body_rests m p (bodies.SyncPrepare l) s of e = not_in_view m p.sender p.view (bodies.SyncPrepare l) s e
 body_rests m p (bodies.SyncRep n) s of e = not_in_view m p.sender p.view (bodies.SyncRep n) s e
 body_rests m p (bodies.SyncCommit n) s of e = not_in_view m p.sender p.view (bodies.SyncCommit n) s e
-body_rests m p bodies.ViewChangeReq s of e = absurd cc
-body_rests m p (bodies.ViewChange u x l) s of e = absurd cc
-body_rests m p (bodies.StartView x l) s of e = absurd cc
+body_rests m p _ s of e = absurd cc
 
 when_rests : (s : ReplicaState) (f : ReplicaState → Effect) (b : Bool) → f s ≡ still s → when b f s ≡ still s
 when_rests s f true e = e

@@ -22,12 +22,7 @@ use Rattle.replica_core.specs.ReplicaSteps.{Replica, next}
 abbrev pub is_for : Replica → Datagram → Bool
 is_for s (datagrams.Stamped p) = true
 is_for s (datagrams.Fragment f) = is_other s.state f.replica
-is_for s (datagrams.Request r) = false
-is_for s (datagrams.Reply p) = false
-is_for s (datagrams.Install controller sequencer session) = false
-is_for s (datagrams.Installed controller sequencer session) = false
-is_for s (datagrams.Ping controller sequencer round) = false
-is_for s (datagrams.Pong controller sequencer round) = false
+is_for s _ = false
 
 -- the input changes nothing, and nothing is sent
 abbrev pub IsIgnored : {S : Type 0} → Meaning S → Replica → Given → Type 0
@@ -49,9 +44,7 @@ is_of_view (bodies.GapRep k) = true
 is_of_view (bodies.SyncPrepare l) = true
 is_of_view (bodies.SyncRep k) = true
 is_of_view (bodies.SyncCommit k) = true
-is_of_view bodies.ViewChangeReq = false
-is_of_view (bodies.ViewChange u x l) = false
-is_of_view (bodies.StartView x l) = false
+is_of_view _ = false
 
 abbrev pub Rests : {S : Type 0} → Meaning S → ReplicaState → Peer → Type 0
 Rests m s p = arrive m Trimmed s (Told p) ≡ still s

@@ -83,13 +83,7 @@ fragment m s f = fragment_if m (is_other s.state f.replica) s f
 abbrev pub on_datagram : {S : Type 0} → Meaning S → Replica → Result Datagram Bad → Replica × List Out
 on_datagram m s (Ok (datagrams.Stamped p)) = row m s (messages.Packet p)
 on_datagram m s (Ok (datagrams.Fragment f)) = fragment m s f
-on_datagram m s (Ok (datagrams.Request r)) = (s, [])
-on_datagram m s (Ok (datagrams.Reply p)) = (s, [])
-on_datagram m s (Ok (datagrams.Install controller sequencer session)) = (s, [])
-on_datagram m s (Ok (datagrams.Installed controller sequencer session)) = (s, [])
-on_datagram m s (Ok (datagrams.Ping controller sequencer round)) = (s, [])
-on_datagram m s (Ok (datagrams.Pong controller sequencer round)) = (s, [])
-on_datagram m s (Err e) = (s, [])
+on_datagram m s _ = (s, [])
 
 unfoldable pub next : {S : Type 0} → Meaning S → Replica → Given → Replica × List Out
 next m s (Packet bytes) = on_datagram m s (reading bytes)

@@ -382,25 +382,14 @@ from_leader_few m k (bodies.GapCommit n) s = gap_commit_few m k n s
 from_leader_few m k (bodies.Found n r) s = more 1 2 (omega arith) (found_few m k n r s)
 from_leader_few m k (bodies.SyncPrepare l) s = prepare_few m k l s
 from_leader_few m k (bodies.SyncCommit n) s = more 1 2 (omega arith) (commit_row_few m k n s)
-from_leader_few m k (bodies.SlotLookup n) s = still_few 2 s
-from_leader_few m k (bodies.GapRep n) s = still_few 2 s
-from_leader_few m k (bodies.SyncRep n) s = still_few 2 s
-from_leader_few m k bodies.ViewChangeReq s = still_few 2 s
-from_leader_few m k (bodies.ViewChange u x l) s = still_few 2 s
-from_leader_few m k (bodies.StartView x l) s = still_few 2 s
+from_leader_few m k _ s = still_few 2 s
 
 from_follower_few : {S : Type 0} (m : Meaning S) (k : Keeping) (q : ℕ) (body : Body) (s : ReplicaState)
     → Few 2 s (from_follower m k q body s)
 from_follower_few m k q (bodies.SlotLookup n) s = lookup_few m k q n s
 from_follower_few m k q (bodies.GapRep n) s = more 1 2 (omega arith) (gap_reply_few m k q n s)
 from_follower_few m k q (bodies.SyncRep n) s = sync_reply_few m k q n s
-from_follower_few m k q (bodies.GapCommit n) s = still_few 2 s
-from_follower_few m k q (bodies.Found n r) s = still_few 2 s
-from_follower_few m k q (bodies.SyncPrepare l) s = still_few 2 s
-from_follower_few m k q (bodies.SyncCommit n) s = still_few 2 s
-from_follower_few m k q bodies.ViewChangeReq s = still_few 2 s
-from_follower_few m k q (bodies.ViewChange u x l) s = still_few 2 s
-from_follower_few m k q (bodies.StartView x l) s = still_few 2 s
+from_follower_few m k q _ s = still_few 2 s
 
 by_role_few : {S : Type 0} (m : Meaning S) (k : Keeping) (a b : Bool) (q : ℕ) (body : Body) (s : ReplicaState)
     → Few 8 s (by_role m k a b q body s)
@@ -482,10 +471,7 @@ tick_few m k s ticks.Suspect = suspect_few m k s
 tick_few m k s ticks.Watch = watch_few m k (is_normal s.status && leads s) s.heard s
 tick_few m k s ticks.Resend = more 2 8 (omega arith) (resend_few k s)
 tick_few m k s ticks.Sync = more 2 8 (omega arith) (sync_row_few m k s)
-tick_few m k s ticks.Retry = still_few 8 s
-tick_few m k s ticks.Next = still_few 8 s
-tick_few m k s ticks.Probe = still_few 8 s
-tick_few m k s (ticks.Install j) = still_few 8 s
+tick_few m k s _ = still_few 8 s
 
 -- ---- all that arrives
 

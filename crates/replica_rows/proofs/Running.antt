@@ -274,9 +274,7 @@ noop_writes k s t u n same is above =
 
 judged_next : (v : Verdict) (r : Receiving) (p : Stamped) → (judged v r p).next ≡ r.next
 judged_next verdicts.Queued r p = refl
-judged_next verdicts.Old r p = refl
-judged_next (verdicts.Terminated session) r p = refl
-judged_next verdicts.Full r p = refl
+judged_next _ r p = refl
 
 queued_within : (k : Keeping) (s : ReplicaState) (p : Stamped) → IsIn k s → IsIn k (queue s p).0
 queued_within k s p w =

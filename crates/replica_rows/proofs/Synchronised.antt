@@ -464,13 +464,10 @@ prepare_keeps m l s le low =
 
 lookup_by_keeps : {S : Type 0} (m : Meaning S) (r : Answer) (q k : ℕ) (s : ReplicaState) → Low s
     → Keeps s (rows.slot_lookup_by m Whole r q k s).0
-lookup_by_keeps m Below q k s low = same s s refl refl refl low
-lookup_by_keeps m (Found r) q k s low = same s s refl refl refl low
-lookup_by_keeps m GapAgain q k s low = same s s refl refl refl low
 lookup_by_keeps m Begin q k s low =
     when_keeps (nat_lt s.next NUMBER_END) (λ t. then_do (open_gap Whole t) (drain m Whole)) s low
     (and_drain m s (open_gap Whole s) (open_gap_keeps s low))
-lookup_by_keeps m answers.Nothing q k s low = same s s refl refl refl low
+lookup_by_keeps m _ q k s low = same s s refl refl refl low
 
 lookup_keeps : {S : Type 0} (m : Meaning S) (q k : ℕ) (s : ReplicaState) → Low s → Keeps s (rows.slot_lookup m Whole q k s).0
 unfolding rows.slot_lookup
@@ -548,25 +545,14 @@ from_leader_front m (bodies.GapCommit k) s le low = (gap_commit_keeps m k s low)
 from_leader_front m (bodies.Found k r) s le low = (found_keeps m k r s low).front
 from_leader_front m (bodies.SyncPrepare l) s le low = (prepare_keeps m l s le low).front
 from_leader_front m (bodies.SyncCommit k) s le low = commit_front m k s low
-from_leader_front m (bodies.SlotLookup k) s le low = refl
-from_leader_front m (bodies.GapRep k) s le low = refl
-from_leader_front m (bodies.SyncRep k) s le low = refl
-from_leader_front m bodies.ViewChangeReq s le low = refl
-from_leader_front m (bodies.ViewChange u x l) s le low = refl
-from_leader_front m (bodies.StartView x l) s le low = refl
+from_leader_front m _ s le low = refl
 
 from_follower_front : {S : Type 0} (m : Meaning S) (q : ℕ) (body : Body) (s : ReplicaState) → Low s
     → Stays s (from_follower m Whole q body s).0
 from_follower_front m q (bodies.SlotLookup k) s low = (lookup_keeps m q k s low).front
 from_follower_front m q (bodies.GapRep k) s low = (gap_reply_keeps m q k s low).front
 from_follower_front m q (bodies.SyncRep k) s low = reply_front m q k s low
-from_follower_front m q (bodies.GapCommit k) s low = refl
-from_follower_front m q (bodies.Found k r) s low = refl
-from_follower_front m q (bodies.SyncPrepare l) s low = refl
-from_follower_front m q (bodies.SyncCommit k) s low = refl
-from_follower_front m q bodies.ViewChangeReq s low = refl
-from_follower_front m q (bodies.ViewChange u x l) s low = refl
-from_follower_front m q (bodies.StartView x l) s low = refl
+from_follower_front m q _ s low = refl
 
 by_role_front : {S : Type 0} (m : Meaning S) (a b : Bool) (q : ℕ) (body : Body) (s : ReplicaState)
     → told_in body ≤ s.sync.sync_point → Low s
@@ -641,10 +627,7 @@ tick_front m s ticks.Suspect low = (suspect_keeps m s low).front
 tick_front m s ticks.Watch low = watch_front m (is_normal s.status && leads s) s.heard s low
 tick_front m s ticks.Resend low = resend_front s
 tick_front m s ticks.Sync low = sync_front m s low
-tick_front m s ticks.Retry low = refl
-tick_front m s ticks.Next low = refl
-tick_front m s ticks.Probe low = refl
-tick_front m s (ticks.Install j) low = refl
+tick_front m s _ low = refl
 
 -- ---- all that arrives
 

@@ -37,24 +37,13 @@ from_leader m k (bodies.GapCommit n) s = rows.gap_commit m k n s
 from_leader m k (bodies.Found n r) s = rows.found m k n r s
 from_leader m k (bodies.SyncPrepare l) s = rows.sync_prepare m k l s
 from_leader m k (bodies.SyncCommit n) s = rows.sync_commit m k n s
-from_leader m k (bodies.SlotLookup n) s = still s
-from_leader m k (bodies.GapRep n) s = still s
-from_leader m k (bodies.SyncRep n) s = still s
-from_leader m k bodies.ViewChangeReq s = still s
-from_leader m k (bodies.ViewChange u x l) s = still s
-from_leader m k (bodies.StartView x l) s = still s
+from_leader m k _ s = still s
 
 abbrev pub from_follower : {S : Type 0} → Meaning S → Keeping → ℕ → Body → ReplicaState → Effect
 from_follower m k q (bodies.SlotLookup n) s = rows.slot_lookup m k q n s
 from_follower m k q (bodies.GapRep n) s = rows.gap_reply m k q n s
 from_follower m k q (bodies.SyncRep n) s = rows.sync_reply m k q n s
-from_follower m k q (bodies.GapCommit n) s = still s
-from_follower m k q (bodies.Found n r) s = still s
-from_follower m k q (bodies.SyncPrepare l) s = still s
-from_follower m k q (bodies.SyncCommit n) s = still s
-from_follower m k q bodies.ViewChangeReq s = still s
-from_follower m k q (bodies.ViewChange u x l) s = still s
-from_follower m k q (bodies.StartView x l) s = still s
+from_follower m k q _ s = still s
 
 abbrev pub by_role : {S : Type 0} → Meaning S → Keeping → Bool → Bool → ℕ → Body → ReplicaState → Effect
 by_role m k true to_leader q body s = from_leader m k body s
@@ -87,23 +76,14 @@ ticked m k ticks.Suspect s = rows.suspect m k s
 ticked m k ticks.Watch s = rows.watch m k s
 ticked m k ticks.Resend s = resend k s
 ticked m k ticks.Sync s = rows.sync m k s
-ticked m k ticks.Retry s = still s
-ticked m k ticks.Next s = still s
-ticked m k ticks.Probe s = still s
-ticked m k (ticks.Install j) s = still s
+ticked m k _ s = still s
 
 -- the log of a message, if it has one, has no checkpoint or one that loads
 unfoldable pub loads_in : {S : Type 0} → Meaning S → Body → Bool
 loads_in m (bodies.ViewChange u x l) = loads m l
 loads_in m (bodies.StartView x l) = loads m l
 loads_in m (bodies.SyncPrepare l) = loads m l
-loads_in m (bodies.SlotLookup n) = true
-loads_in m (bodies.Found n r) = true
-loads_in m (bodies.GapCommit n) = true
-loads_in m (bodies.GapRep n) = true
-loads_in m bodies.ViewChangeReq = true
-loads_in m (bodies.SyncRep n) = true
-loads_in m (bodies.SyncCommit n) = true
+loads_in m _ = true
 
 -- a message whose checkpoint does not load does nothing
 unfoldable pub arrive : {S : Type 0} → Meaning S → Keeping → ReplicaState → Arrival → Effect

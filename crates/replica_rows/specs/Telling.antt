@@ -13,13 +13,7 @@ abbrev pub told_in : Body → ℕ
 told_in (bodies.ViewChange u x l) = l.sync_point
 told_in (bodies.StartView x l) = l.sync_point
 told_in (bodies.SyncPrepare l) = l.sync_point
-told_in (bodies.SlotLookup k) = 0
-told_in (bodies.Found k r) = 0
-told_in (bodies.GapCommit k) = 0
-told_in (bodies.GapRep k) = 0
-told_in bodies.ViewChangeReq = 0
-told_in (bodies.SyncRep k) = 0
-told_in (bodies.SyncCommit k) = 0
+told_in _ = 0
 
 abbrev pub told_by : Arrival → ℕ
 told_by (Packet p) = 0

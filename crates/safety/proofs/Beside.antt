@@ -22,9 +22,7 @@ use Rattle.safety.specs.Following.{spoken, other_datagrams, plain, trimmed_seat,
 
 abbrev pub is_replica : Actor → Bool
 is_replica (actors.Replica i) = true
-is_replica (actors.Sequencer i) = false
-is_replica (actors.Client i) = false
-is_replica (actors.Controller i) = false
+is_replica _ = false
 
 -- ---- letters
 

@@ -140,14 +140,7 @@ module _ {A : Type 0} (next : A → Given → A × List Out) where
     packet_meets (actors.Sequencer k) other i s at (Ok (datagrams.Fragment f)) is what e = unheard_meets s f is what e
     packet_meets (actors.Client k) other i s at (Ok (datagrams.Fragment f)) is what e = unheard_meets s f is what e
     packet_meets (actors.Controller k) other i s at (Ok (datagrams.Fragment f)) is what e = unheard_meets s f is what e
-    packet_meets a other i s at (Ok (datagrams.Stamped p)) is what e = equal_meets i s at (ap is_fragment is) what e
-    packet_meets a other i s at (Ok (datagrams.Request p)) is what e = equal_meets i s at (ap is_fragment is) what e
-    packet_meets a other i s at (Ok (datagrams.Reply p)) is what e = equal_meets i s at (ap is_fragment is) what e
-    packet_meets a other i s at (Ok (datagrams.Install k j n)) is what e = equal_meets i s at (ap is_fragment is) what e
-    packet_meets a other i s at (Ok (datagrams.Installed k j n)) is what e = equal_meets i s at (ap is_fragment is) what e
-    packet_meets a other i s at (Ok (datagrams.Ping k j n)) is what e = equal_meets i s at (ap is_fragment is) what e
-    packet_meets a other i s at (Ok (datagrams.Pong k j n)) is what e = equal_meets i s at (ap is_fragment is) what e
-    packet_meets a other i s at (Err bad) is what e = equal_meets i s at (ap is_fragment is) what e
+    packet_meets a other i s at _ is what e = equal_meets i s at (ap is_fragment is) what e
 
     sent_meets : (a : Actor) → is_replica a ≡ false → (i : ℕ) (o : Option Sent) → slice_get w.sent i ≡ o → (what : Stimulus)
         → datagram_at i (length w.sent) o ≡ Ok what → Meets what (sent_to w a o)

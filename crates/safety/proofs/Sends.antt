@@ -170,24 +170,12 @@ retry_sends (Some r) = (request_is r, tt)
 
 client_reads : (s : ClientState) (r : Result Datagram Bad) → AreOther (client.on_datagram s r).1
 client_reads s (Ok (datagrams.Reply p)) = reply_sends (client.is_expected s p) s p
-client_reads s (Ok (datagrams.Request r)) = tt
-client_reads s (Ok (datagrams.Stamped p)) = tt
-client_reads s (Ok (datagrams.Install k j n)) = tt
-client_reads s (Ok (datagrams.Installed k j n)) = tt
-client_reads s (Ok (datagrams.Ping k j n)) = tt
-client_reads s (Ok (datagrams.Pong k j n)) = tt
-client_reads s (Ok (datagrams.Fragment f)) = tt
-client_reads s (Err e) = tt
+client_reads s _ = tt
 
 client_ticks : (s : ClientState) (tick : Tick) → AreOther (client.on_tick s tick).1
 client_ticks s ticks.Next = waiting_sends (client.can_submit s) s
 client_ticks s ticks.Retry = retry_sends s.pending
-client_ticks s ticks.Suspect = tt
-client_ticks s ticks.Watch = tt
-client_ticks s ticks.Resend = tt
-client_ticks s ticks.Sync = tt
-client_ticks s ticks.Probe = tt
-client_ticks s (ticks.Install j) = tt
+client_ticks s _ = tt
 
 pub client_sends : (s : ClientState) (i : Given) → AreOther (client.next s i).1
 unfolding client.next
@@ -211,14 +199,9 @@ ping_sends false s k n = tt
 
 sequencer_reads : (s : SequencerState) (r : Result Datagram Bad) → AreOther (sequencer.on_datagram s r).1
 sequencer_reads s (Ok (datagrams.Request r)) = packet_sends (sequencer.stamped_by s r)
-sequencer_reads s (Ok (datagrams.Reply p)) = tt
-sequencer_reads s (Ok (datagrams.Stamped p)) = tt
 sequencer_reads s (Ok (datagrams.Install k j n)) = install_sends _ s k n
-sequencer_reads s (Ok (datagrams.Installed k j n)) = tt
 sequencer_reads s (Ok (datagrams.Ping k j n)) = ping_sends _ s k n
-sequencer_reads s (Ok (datagrams.Pong k j n)) = tt
-sequencer_reads s (Ok (datagrams.Fragment f)) = tt
-sequencer_reads s (Err e) = tt
+sequencer_reads s _ = tt
 
 pub sequencer_sends : (s : SequencerState) (i : Given) → AreOther (sequencer.next s i).1
 unfolding sequencer.next
@@ -259,22 +242,11 @@ controller_ticks : (s : ControllerState) (tick : Tick) → AreOther (controller.
 controller_ticks s ticks.Probe = probe_sends s.heard s
 controller_ticks s ticks.Resend = resend_sends s.confirmed s
 controller_ticks s (ticks.Install j) = order_sends _ s j
-controller_ticks s ticks.Suspect = tt
-controller_ticks s ticks.Watch = tt
-controller_ticks s ticks.Sync = tt
-controller_ticks s ticks.Retry = tt
-controller_ticks s ticks.Next = tt
+controller_ticks s _ = tt
 
 controller_reads : (s : ControllerState) (r : Result Datagram Bad) → AreOther (controller.on_datagram s r).1
 controller_reads s (Ok (datagrams.Pong k j n)) = tt
-controller_reads s (Ok (datagrams.Installed k j n)) = tt
-controller_reads s (Ok (datagrams.Request r)) = tt
-controller_reads s (Ok (datagrams.Stamped p)) = tt
-controller_reads s (Ok (datagrams.Reply p)) = tt
-controller_reads s (Ok (datagrams.Install k j n)) = tt
-controller_reads s (Ok (datagrams.Ping k j n)) = tt
-controller_reads s (Ok (datagrams.Fragment f)) = tt
-controller_reads s (Err e) = tt
+controller_reads s _ = tt
 
 pub controller_sends : (s : ControllerState) (i : Given) → AreOther (controller.next s i).1
 unfolding controller.next

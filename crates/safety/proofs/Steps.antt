@@ -81,20 +81,11 @@ at_fits (Some p) f = if_fits (not p.crashed && is_other p.state.state f.replica)
 module _ (t : WorldState) where
   to_fits : (a : Actor) (f : Fragment) → BringsFits (fragment_to t a f)
   to_fits (actors.Replica i) f = at_fits (slice_get t.replicas i) f
-  to_fits (actors.Sequencer i) f = tt
-  to_fits (actors.Client i) f = tt
-  to_fits (actors.Controller i) f = tt
+  to_fits _ f = tt
 
   datagram_fits : (a : Actor) (bytes : List ℕ) (r : Result Datagram Bad) → BringsFits (datagram_to t a bytes r)
   datagram_fits a bytes (Ok (datagrams.Fragment f)) = to_fits a f
-  datagram_fits a bytes (Ok (datagrams.Stamped p)) = tt
-  datagram_fits a bytes (Ok (datagrams.Request r)) = tt
-  datagram_fits a bytes (Ok (datagrams.Reply p)) = tt
-  datagram_fits a bytes (Ok (datagrams.Install k j s)) = tt
-  datagram_fits a bytes (Ok (datagrams.Installed k j s)) = tt
-  datagram_fits a bytes (Ok (datagrams.Ping k j s)) = tt
-  datagram_fits a bytes (Ok (datagrams.Pong k j s)) = tt
-  datagram_fits a bytes (Err e) = tt
+  datagram_fits a bytes _ = tt
 
   sent_fits : (a : Actor) (o : Option Sent) → BringsFits (sent_to t a o)
   sent_fits a None = tt
@@ -103,25 +94,17 @@ module _ (t : WorldState) where
   pub brought_fits : (e : Event) → EventFits e → BringsFits (brought t e)
   brought_fits (events.Submit client op) fits = fits
   brought_fits (events.Deliver index actor) fits = sent_fits actor (slice_get t.sent index)
-  brought_fits (events.Tick actor tick) fits = tt
-  brought_fits (events.Install k j) fits = tt
-  brought_fits (events.Crash actor) fits = tt
-  brought_fits (events.Junk actor bytes) fits = tt
+  brought_fits _ fits = tt
 
 -- ---- what arrives trimmed is in its ranges
 
 module _ {S : Type 0} (m : Meaning S) (IsSound : S → Type 0) (keeps : KeepsTo m IsSound) where
   body_is_in : (b : Body) → BodyIsIn Whole b → BodyIsIn Trimmed (trimmed_body m b)
-  body_is_in (bodies.SlotLookup n) h = h
-  body_is_in (bodies.Found n r) h = h
-  body_is_in (bodies.GapCommit n) h = h
-  body_is_in (bodies.GapRep n) h = h
   body_is_in bodies.ViewChangeReq h = tt
   body_is_in (bodies.ViewChange u x l) h = record { view = h.view; number = h.number; told = trimmed_is_in m IsSound keeps l h.told }
   body_is_in (bodies.StartView x l) h = record { number = h.number; told = trimmed_is_in m IsSound keeps l h.told }
   body_is_in (bodies.SyncPrepare l) h = trimmed_is_in m IsSound keeps l h
-  body_is_in (bodies.SyncRep n) h = h
-  body_is_in (bodies.SyncCommit n) h = h
+  body_is_in _ h = h
 
   arrival_is_in : (a : messages.Arrival) → ArrivalIsIn Whole a → ArrivalIsIn Trimmed (trimmed_arrival m a)
   arrival_is_in (messages.Packet p) h = h
@@ -237,9 +220,7 @@ module _ {S : Type 0} (m : Meaning S) (w : WholeWorld) (b : Brings) where
 
   pub others_keep : (archive : List Entry) (a : Actor) → is_replica a ≡ false → archive_after m archive w a b ≡ archive
   others_keep archive (actors.Replica i) other = absurd cc
-  others_keep archive (actors.Sequencer j) other = refl
-  others_keep archive (actors.Client k) other = refl
-  others_keep archive (actors.Controller k) other = refl
+  others_keep archive _ other = refl
 
 -- each event is followed, where what the whole world sends for it is in its ranges
 pub event_follows : {S : Type 0} (m : Meaning S) (IsSound : S → Type 0) → KeepsTo m IsSound → (t : WorldState) (ls : List Line)
@@ -254,6 +235,4 @@ event_follows m IsSound keeps t ls w c carries tells trims beside e h is spelled
 
     by : (a : Actor) → actor_of e ≡ a → Followed m t ls w e h
     by (actors.Replica i) at = replica_step m IsSound keeps t ls w c carries tells trims beside e h is i (slice_get t.replicas i) refl at
-    by (actors.Sequencer j) at = other (ap is_replica at)
-    by (actors.Client k) at = other (ap is_replica at)
-    by (actors.Controller k) at = other (ap is_replica at)
+    by _ at = other (ap is_replica at)

@@ -82,14 +82,7 @@ letters_messages number (Trims first entries ∷ sends) = letters_messages numbe
 
 other_none : (r : Result Datagram Bad) → is_fragment r ≡ false → fragment_read r ≡ []
 other_none (Ok (datagrams.Fragment f)) e = absurd cc
-other_none (Ok (datagrams.Request r)) e = refl
-other_none (Ok (datagrams.Stamped p)) e = refl
-other_none (Ok (datagrams.Reply r)) e = refl
-other_none (Ok (datagrams.Install k j s)) e = refl
-other_none (Ok (datagrams.Installed k j s)) e = refl
-other_none (Ok (datagrams.Ping k j s)) e = refl
-other_none (Ok (datagrams.Pong k j s)) e = refl
-other_none (Err bad) e = refl
+other_none _ e = refl
 
 pub none_among : (more : List Sent) → ((s : Sent) → Has more s → is_fragment (reading s.bytes) ≡ false)
     → fragments_among (bytes_of more) ≡ []

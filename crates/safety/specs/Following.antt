@@ -53,21 +53,12 @@ fragment_at (Some p) f = fragment_if (not p.crashed && is_other p.state.state f.
 
 abbrev pub fragment_to : WorldState → Actor → Fragment → Brings
 fragment_to t (actors.Replica i) f = fragment_at (slice_get t.replicas i) f
-fragment_to t (actors.Sequencer i) f = Nothing
-fragment_to t (actors.Client i) f = Nothing
-fragment_to t (actors.Controller i) f = Nothing
+fragment_to t _ f = Nothing
 
 -- any other datagram brings itself
 abbrev pub datagram_to : WorldState → Actor → List ℕ → Result Datagram Bad → Brings
 datagram_to t a bytes (Ok (datagrams.Fragment f)) = fragment_to t a f
-datagram_to t a bytes (Ok (datagrams.Stamped p)) = Equal bytes
-datagram_to t a bytes (Ok (datagrams.Request r)) = Equal bytes
-datagram_to t a bytes (Ok (datagrams.Reply p)) = Equal bytes
-datagram_to t a bytes (Ok (datagrams.Install k j s)) = Equal bytes
-datagram_to t a bytes (Ok (datagrams.Installed k j s)) = Equal bytes
-datagram_to t a bytes (Ok (datagrams.Ping k j s)) = Equal bytes
-datagram_to t a bytes (Ok (datagrams.Pong k j s)) = Equal bytes
-datagram_to t a bytes (Err e) = Equal bytes
+datagram_to t a bytes _ = Equal bytes
 
 abbrev pub sent_to : WorldState → Actor → Option Sent → Brings
 sent_to t a None = Nothing
@@ -115,14 +106,7 @@ spoken ls = filter is_spoken ls
 
 abbrev pub is_fragment : Result Datagram Bad → Bool
 is_fragment (Ok (datagrams.Fragment f)) = true
-is_fragment (Ok (datagrams.Stamped p)) = false
-is_fragment (Ok (datagrams.Request r)) = false
-is_fragment (Ok (datagrams.Reply p)) = false
-is_fragment (Ok (datagrams.Install k j s)) = false
-is_fragment (Ok (datagrams.Installed k j s)) = false
-is_fragment (Ok (datagrams.Ping k j s)) = false
-is_fragment (Ok (datagrams.Pong k j s)) = false
-is_fragment (Err e) = false
+is_fragment _ = false
 
 -- the datagrams that are no fragments, in their order
 abbrev pub other_datagrams : List Sent → List Sent

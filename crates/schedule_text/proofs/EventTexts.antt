@@ -86,23 +86,11 @@ two_length word a b =
 
 tick_marked : (t : Tick) → list_all is_mark (tick_text t) ≡ true
 tick_marked ticks.Suspect = refl
-tick_marked ticks.Watch = refl
-tick_marked ticks.Resend = refl
-tick_marked ticks.Sync = refl
-tick_marked ticks.Retry = refl
-tick_marked ticks.Next = refl
-tick_marked ticks.Probe = refl
-tick_marked (ticks.Install j) = refl
+tick_marked _ = refl
 
 tick_short : (t : Tick) → length (tick_text t) ≤ 7
 tick_short ticks.Suspect = omega arith
-tick_short ticks.Watch = omega arith
-tick_short ticks.Resend = omega arith
-tick_short ticks.Sync = omega arith
-tick_short ticks.Retry = omega arith
-tick_short ticks.Next = omega arith
-tick_short ticks.Probe = omega arith
-tick_short (ticks.Install j) = omega arith
+tick_short _ = omega arith
 
 module _ (c : Configuration) (small : Small c) where
   submit_again : (client : ℕ) (op : List ℕ) → client < c.clients → length op ≤ MAX_OP_BYTES → IsBytes op

@@ -7,11 +7,7 @@ use Rattle.schedule_text.specs.declared.event.Event.TheVariants.{Submit, Deliver
 -- an op that is submitted has at most 640 bytes
 abbrev pub EventFits : Event → Type 0
 EventFits (Submit client op) = length op ≤ MAX_OP_BYTES
-EventFits (Deliver index actor) = ⊤
-EventFits (Tick actor tick) = ⊤
-EventFits (Install controller sequencer) = ⊤
-EventFits (Crash actor) = ⊤
-EventFits (Junk actor bytes) = ⊤
+EventFits _ = ⊤
 
 abbrev pub EventsFit : List Event → Type 0
 EventsFit [] = ⊤

@@ -31,11 +31,7 @@ rests : (s : SequencerState) (d : Datagram) → is_for s d ≡ false → Rests s
 rests s (datagrams.Request r) e = unstamped s r e
 rests s (datagrams.Install controller sequencer session) e = not_installed s controller session _ e
 rests s (datagrams.Ping controller sequencer round) e = not_pinged s controller round _ e
-rests s (datagrams.Stamped p) e = refl
-rests s (datagrams.Reply p) e = refl
-rests s (datagrams.Installed controller sequencer session) e = refl
-rests s (datagrams.Pong controller sequencer round) e = refl
-rests s (datagrams.Fragment f) e = refl
+rests s _ e = refl
 
 read_rests : (s : SequencerState) (bytes : List ℕ) (r : Result Datagram Bad) → reading bytes ≡ r → Rests s (on_datagram s r)
     → IsIgnored s (Packet bytes)

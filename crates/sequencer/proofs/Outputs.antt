@@ -38,14 +38,9 @@ ping_sends_none false s k round = refl
 
 sent_at : (s : SequencerState) (d : Result Datagram Bad) → to_replicas (on_datagram s d).1 ≡ map spelled (stamp_at s d)
 sent_at s (Ok (datagrams.Request r)) = packet_sent (stamped_by s r)
-sent_at s (Ok (datagrams.Stamped p)) = refl
-sent_at s (Ok (datagrams.Reply p)) = refl
 sent_at s (Ok (datagrams.Install controller sequencer session)) = install_sends_none _ s controller session
-sent_at s (Ok (datagrams.Installed controller sequencer session)) = refl
 sent_at s (Ok (datagrams.Ping controller sequencer round)) = ping_sends_none _ s controller round
-sent_at s (Ok (datagrams.Pong controller sequencer round)) = refl
-sent_at s (Ok (datagrams.Fragment f)) = refl
-sent_at s (Err e) = refl
+sent_at s _ = refl
 
 sent_in : (s : SequencerState) (i : Given) → to_replicas (next s i).1 ≡ map spelled (stamp_in s i)
 unfolding next

@@ -51,15 +51,10 @@ packet_first false s r ps rest j p e = rest j p e
 rest_ahead : (s : SequencerState) (d : Result Datagram Bad) (ps : List Stamped) → AreAhead (on_datagram s d).0 ps
     → AreAhead s (stamp_at s d ++ ps)
 rest_ahead s (Ok (datagrams.Request r)) ps rest j p e = packet_first (can_stamp s) s r ps rest j p e
-rest_ahead s (Ok (datagrams.Stamped q)) ps rest j p e = rest j p e
-rest_ahead s (Ok (datagrams.Reply q)) ps rest j p e = rest j p e
 rest_ahead s (Ok (datagrams.Install controller sequencer session)) ps rest j p e =
     install_ahead (sequencer == s.number) s controller session p (rest j p e)
-rest_ahead s (Ok (datagrams.Installed controller sequencer session)) ps rest j p e = rest j p e
 rest_ahead s (Ok (datagrams.Ping controller sequencer round)) ps rest j p e = ping_ahead _ s controller round p (rest j p e)
-rest_ahead s (Ok (datagrams.Pong controller sequencer round)) ps rest j p e = rest j p e
-rest_ahead s (Ok (datagrams.Fragment f)) ps rest j p e = rest j p e
-rest_ahead s (Err bad) ps rest j p e = rest j p e
+rest_ahead s _ ps rest j p e = rest j p e
 
 input_ahead : (s : SequencerState) (i : Given) (ps : List Stamped) → AreAhead (next s i).0 ps → AreAhead s (stamp_in s i ++ ps)
 unfolding next
@@ -103,14 +98,7 @@ packet_once false s r ps ahead once i j p q e f session number = once i j p q e 
 rest_once : (s : SequencerState) (d : Result Datagram Bad) (ps : List Stamped) → AreAhead (on_datagram s d).0 ps → AreOnce ps
     → AreOnce (stamp_at s d ++ ps)
 rest_once s (Ok (datagrams.Request r)) ps ahead once = packet_once (can_stamp s) s r ps ahead once
-rest_once s (Ok (datagrams.Stamped q)) ps ahead once = once
-rest_once s (Ok (datagrams.Reply q)) ps ahead once = once
-rest_once s (Ok (datagrams.Install controller sequencer session)) ps ahead once = once
-rest_once s (Ok (datagrams.Installed controller sequencer session)) ps ahead once = once
-rest_once s (Ok (datagrams.Ping controller sequencer round)) ps ahead once = once
-rest_once s (Ok (datagrams.Pong controller sequencer round)) ps ahead once = once
-rest_once s (Ok (datagrams.Fragment f)) ps ahead once = once
-rest_once s (Err bad) ps ahead once = once
+rest_once s _ ps ahead once = once
 
 input_once : (s : SequencerState) (i : Given) (ps : List Stamped) → AreAhead (next s i).0 ps → AreOnce ps → AreOnce (stamp_in s i ++ ps)
 unfolding next

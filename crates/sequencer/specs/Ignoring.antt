@@ -13,11 +13,7 @@ abbrev pub is_for : SequencerState → Datagram → Bool
 is_for s (datagrams.Request r) = can_stamp s
 is_for s (datagrams.Install controller sequencer session) = sequencer == s.number
 is_for s (datagrams.Ping controller sequencer round) = sequencer == s.number
-is_for s (datagrams.Stamped p) = false
-is_for s (datagrams.Reply p) = false
-is_for s (datagrams.Installed controller sequencer session) = false
-is_for s (datagrams.Pong controller sequencer round) = false
-is_for s (datagrams.Fragment f) = false
+is_for s _ = false
 
 -- the input changes nothing, and nothing is sent
 abbrev pub IsIgnored : SequencerState → Given → Type 0

@@ -25,14 +25,7 @@ one_or_none (Some p) = p ∷ []
 
 abbrev pub stamp_at : SequencerState → Result Datagram Bad → List Stamped
 stamp_at s (Ok (datagrams.Request r)) = one_or_none (stamped_by s r)
-stamp_at s (Ok (datagrams.Stamped p)) = []
-stamp_at s (Ok (datagrams.Reply p)) = []
-stamp_at s (Ok (datagrams.Install controller sequencer session)) = []
-stamp_at s (Ok (datagrams.Installed controller sequencer session)) = []
-stamp_at s (Ok (datagrams.Ping controller sequencer round)) = []
-stamp_at s (Ok (datagrams.Pong controller sequencer round)) = []
-stamp_at s (Ok (datagrams.Fragment f)) = []
-stamp_at s (Err e) = []
+stamp_at s _ = []
 
 -- the packet that an input is stamped as, if it is a request
 abbrev pub stamp_in : SequencerState → Given → List Stamped

@@ -105,14 +105,9 @@ ping s k sequencer round = ping_if (sequencer == s.number) s k round
 
 abbrev pub on_datagram : SequencerState → Result Datagram Bad → SequencerState × List Out
 on_datagram s (Ok (datagrams.Request r)) = stamp s r
-on_datagram s (Ok (datagrams.Stamped p)) = (s, [])
-on_datagram s (Ok (datagrams.Reply p)) = (s, [])
 on_datagram s (Ok (datagrams.Install controller sequencer session)) = install s controller sequencer session
-on_datagram s (Ok (datagrams.Installed controller sequencer session)) = (s, [])
 on_datagram s (Ok (datagrams.Ping controller sequencer round)) = ping s controller sequencer round
-on_datagram s (Ok (datagrams.Pong controller sequencer round)) = (s, [])
-on_datagram s (Ok (datagrams.Fragment f)) = (s, [])
-on_datagram s (Err e) = (s, [])
+on_datagram s _ = (s, [])
 
 unfoldable pub next : SequencerState → Given → SequencerState × List Out
 next s (Packet bytes) = on_datagram s (reading bytes)

@@ -46,12 +46,7 @@ not_installed false s sequencer session e = refl
 rests : (s : ControllerState) (d : Datagram) → is_for s d ≡ false → Rests s (on_datagram s (Ok d))
 rests s (datagrams.Pong controller sequencer round) e = rw (not_heard s _ e) refl
 rests s (datagrams.Installed controller sequencer session) e = rw (not_installed _ s sequencer session e) refl
-rests s (datagrams.Request r) e = refl
-rests s (datagrams.Stamped p) e = refl
-rests s (datagrams.Reply p) e = refl
-rests s (datagrams.Install controller sequencer session) e = refl
-rests s (datagrams.Ping controller sequencer round) e = refl
-rests s (datagrams.Fragment f) e = refl
+rests s _ e = refl
 
 read_rests : (s : ControllerState) (bytes : List ℕ) (r : Result Datagram Bad) → reading bytes ≡ r → Rests s (on_datagram s r)
     → IsIgnored s (Packet bytes)
@@ -72,11 +67,7 @@ tick_rests : (s : ControllerState) (tick : Tick) → is_tick_for s tick ≡ fals
 tick_rests s ticks.Probe e = absurd cc
 tick_rests s ticks.Resend e = absurd cc
 tick_rests s (ticks.Install j) e = not_ordered s j _ e
-tick_rests s ticks.Suspect e = refl
-tick_rests s ticks.Watch e = refl
-tick_rests s ticks.Sync e = refl
-tick_rests s ticks.Retry e = refl
-tick_rests s ticks.Next e = refl
+tick_rests s _ e = refl
 
 pub ignores_tick : (s : ControllerState) (tick : Tick) → is_tick_for s tick ≡ false → IsIgnored s (Ticked tick)
 unfolding next

@@ -191,22 +191,12 @@ tick_row : (s : ControllerState) (t : Tick) → Stands s → IsRow (on_tick s t)
 tick_row s ticks.Probe w = probe_row s.heard s w
 tick_row s ticks.Resend w = resend_row s.confirmed s w
 tick_row s (ticks.Install j) w = order_row (nat_lt j s.config.sequencers) s j refl w
-tick_row s ticks.Suspect w = quiet s w
-tick_row s ticks.Watch w = quiet s w
-tick_row s ticks.Sync w = quiet s w
-tick_row s ticks.Retry w = quiet s w
-tick_row s ticks.Next w = quiet s w
+tick_row s _ w = quiet s w
 
 datagram_row : (s : ControllerState) (d : Result Datagram Bad) → Stands s → IsRow (on_datagram s d)
 datagram_row s (Ok (datagrams.Pong controller sequencer round)) w = heard_row _ s w
 datagram_row s (Ok (datagrams.Installed controller sequencer session)) w = installed_row (controller == s.number) s sequencer session w
-datagram_row s (Ok (datagrams.Request r)) w = quiet s w
-datagram_row s (Ok (datagrams.Stamped p)) w = quiet s w
-datagram_row s (Ok (datagrams.Reply p)) w = quiet s w
-datagram_row s (Ok (datagrams.Install controller sequencer session)) w = quiet s w
-datagram_row s (Ok (datagrams.Ping controller sequencer round)) w = quiet s w
-datagram_row s (Ok (datagrams.Fragment f)) w = quiet s w
-datagram_row s (Err e) w = quiet s w
+datagram_row s _ w = quiet s w
 
 row : (s : ControllerState) (i : Given) → Stands s → IsRow (next s i)
 unfolding next

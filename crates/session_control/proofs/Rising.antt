@@ -104,22 +104,12 @@ ticked_on : (s : ControllerState) (t : Tick) → GoesOn s (on_tick s t).0
 ticked_on s ticks.Probe = probed_on s.heard s
 ticked_on s ticks.Resend = resent_on s.confirmed s
 ticked_on s (ticks.Install j) = ordered_on (nat_lt j s.config.sequencers) s j
-ticked_on s ticks.Suspect = same s
-ticked_on s ticks.Watch = same s
-ticked_on s ticks.Sync = same s
-ticked_on s ticks.Retry = same s
-ticked_on s ticks.Next = same s
+ticked_on s _ = same s
 
 told_on : (s : ControllerState) (d : Result Datagram Bad) → GoesOn s (on_datagram s d).0
 told_on s (Ok (datagrams.Pong controller sequencer round)) = heard_on _ s
 told_on s (Ok (datagrams.Installed controller sequencer session)) = installed_on (controller == s.number) s sequencer session
-told_on s (Ok (datagrams.Request r)) = same s
-told_on s (Ok (datagrams.Stamped p)) = same s
-told_on s (Ok (datagrams.Reply p)) = same s
-told_on s (Ok (datagrams.Install controller sequencer session)) = same s
-told_on s (Ok (datagrams.Ping controller sequencer round)) = same s
-told_on s (Ok (datagrams.Fragment f)) = same s
-told_on s (Err e) = same s
+told_on s _ = same s
 
 pub goes_on : (s : ControllerState) (i : Given) → GoesOn s (next s i).0
 unfolding next

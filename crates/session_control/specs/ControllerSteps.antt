@@ -166,22 +166,12 @@ abbrev pub on_tick : ControllerState → Tick → ControllerState × List Out
 on_tick s ticks.Probe = probe s
 on_tick s ticks.Resend = resend_install s
 on_tick s (ticks.Install j) = order_move s j
-on_tick s ticks.Suspect = (s, [])
-on_tick s ticks.Watch = (s, [])
-on_tick s ticks.Sync = (s, [])
-on_tick s ticks.Retry = (s, [])
-on_tick s ticks.Next = (s, [])
+on_tick s _ = (s, [])
 
 abbrev pub on_datagram : ControllerState → Result Datagram Bad → ControllerState × List Out
 on_datagram s (Ok (datagrams.Pong controller sequencer round)) = pong s controller sequencer round
 on_datagram s (Ok (datagrams.Installed controller sequencer session)) = installed s controller sequencer session
-on_datagram s (Ok (datagrams.Request r)) = (s, [])
-on_datagram s (Ok (datagrams.Stamped p)) = (s, [])
-on_datagram s (Ok (datagrams.Reply p)) = (s, [])
-on_datagram s (Ok (datagrams.Install controller sequencer session)) = (s, [])
-on_datagram s (Ok (datagrams.Ping controller sequencer round)) = (s, [])
-on_datagram s (Ok (datagrams.Fragment f)) = (s, [])
-on_datagram s (Err e) = (s, [])
+on_datagram s _ = (s, [])
 
 unfoldable pub next : ControllerState → Given → ControllerState × List Out
 next s (Packet bytes) = on_datagram s (reading bytes)

@@ -20,23 +20,14 @@ abbrev pub is_for : ControllerState → Datagram → Bool
 is_for s (datagrams.Pong controller sequencer round) =
     (controller == s.number) && ((sequencer == s.current) && (round == s.round))
 is_for s (datagrams.Installed controller sequencer session) = (controller == s.number) && is_news s sequencer session
-is_for s (datagrams.Request r) = false
-is_for s (datagrams.Stamped p) = false
-is_for s (datagrams.Reply p) = false
-is_for s (datagrams.Install controller sequencer session) = false
-is_for s (datagrams.Ping controller sequencer round) = false
-is_for s (datagrams.Fragment f) = false
+is_for s _ = false
 
 -- a probe, a resend, or an order to move to a sequencer that is there
 abbrev pub is_tick_for : ControllerState → Tick → Bool
 is_tick_for s ticks.Probe = true
 is_tick_for s ticks.Resend = true
 is_tick_for s (ticks.Install j) = nat_lt j s.config.sequencers
-is_tick_for s ticks.Suspect = false
-is_tick_for s ticks.Watch = false
-is_tick_for s ticks.Sync = false
-is_tick_for s ticks.Retry = false
-is_tick_for s ticks.Next = false
+is_tick_for s _ = false
 
 -- the input changes nothing, and nothing is sent
 abbrev pub IsIgnored : ControllerState → Given → Type 0

@@ -32,10 +32,7 @@ event_taken (Submit request) e line claims places history = refl
 event_taken (Accept client id result) e line claims places history = refl
 event_taken (Busy client) e line claims places history = refl
 event_taken (Sent index from dest kind len) e line claims places history = refl
-event_taken (State replica crashed status view len sync_point) e line claims places history = absurd (false≢true e)
-event_taken (Slot replica slot entry) e line claims places history = absurd (false≢true e)
-event_taken (Member place request) e line claims places history = absurd (false≢true e)
-event_taken End e line claims places history = absurd (false≢true e)
+event_taken _ e line claims places history = absurd (false≢true e)
 
 module _ (history : List Request) where
   events_run : (events : List Row) → list_all is_event events ≡ true → (line : ℕ) (claims : List Line) (places : List ℕ)
@@ -67,15 +64,9 @@ module _ (claims : List Line) (places : List ℕ) where
 
   state_taken : (row : Row) → is_state row ≡ true → (part : Part) → may_have_states part ≡ true → (line : ℕ) (history : List Request)
       → step line (at part history) row ≡ Some (at States history)
-  state_taken (Dead actor) e part may line history = absurd (false≢true e)
-  state_taken (Submit request) e part may line history = absurd (false≢true e)
-  state_taken (Accept client id result) e part may line history = absurd (false≢true e)
-  state_taken (Busy client) e part may line history = absurd (false≢true e)
-  state_taken (Sent index from dest kind len) e part may line history = absurd (false≢true e)
   state_taken (State replica crashed status view len sync_point) e part may line history = rw may refl
   state_taken (Slot replica slot entry) e part may line history = rw may refl
-  state_taken (Member place request) e part may line history = absurd (false≢true e)
-  state_taken End e part may line history = absurd (false≢true e)
+  state_taken _ e part may line history = absurd (false≢true e)
 
   before_end : (part : Part) → may_have_states part ≡ true → is_over part ≡ false
   before_end Events e = refl

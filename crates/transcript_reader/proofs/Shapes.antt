@@ -100,9 +100,7 @@ module _ (rows : List Row) (row : Row) (said : List Line) (places : List ℕ) (h
   event_shape Events n test s e =
       let same : state_of Events (said ++ said_by row) (places ++ numbered (length rows + 2) row) history ≡ n = cc in
       subst (Shape (rows ++ row ∷ [])) same (event_on test s)
-  event_shape States n test s e = absurd cc
-  event_shape Members n test s e = absurd cc
-  event_shape Over n test s e = absurd cc
+  event_shape _ n test s e = absurd cc
 
   state_on : (part : Part) → history ≡ [] → ending part ≡ [] → is_state row ≡ true → Shape rows (state_of part said places history)
       → Shape (rows ++ row ∷ []) (state_of States said places history)

@@ -25,9 +25,7 @@ so_far t = record { part = t.part; said = lines_of t.claims.items; places = t.pl
 
 abbrev pub is_events : Part → Bool
 is_events Events = true
-is_events States = false
-is_events Members = false
-is_events Over = false
+is_events _ = false
 
 abbrev pub may_have_states : Part → Bool
 may_have_states Events = true

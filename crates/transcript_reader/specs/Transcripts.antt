@@ -25,21 +25,12 @@ is_event (Submit request) = true
 is_event (Accept client id result) = true
 is_event (Busy client) = true
 is_event (Sent index from dest kind len) = true
-is_event (State replica crashed status view len sync_point) = false
-is_event (Slot replica slot entry) = false
-is_event (Member place request) = false
-is_event End = false
+is_event _ = false
 
 abbrev pub is_state : Row → Bool
-is_state (Dead actor) = false
-is_state (Submit request) = false
-is_state (Accept client id result) = false
-is_state (Busy client) = false
-is_state (Sent index from dest kind len) = false
 is_state (State replica crashed status view len sync_point) = true
 is_state (Slot replica slot entry) = true
-is_state (Member place request) = false
-is_state End = false
+is_state _ = false
 
 -- the history, numbered from a place on
 abbrev pub members : ℕ → List Request → List Row
@@ -78,15 +69,9 @@ pub record Spells (t : Transcript) (bytes : List ℕ) : Type 0 where
 
 -- what a row claims, if anything
 abbrev pub said_by : Row → List Line
-said_by (Dead actor) = []
 said_by (Submit request) = lines.Submit request ∷ []
 said_by (Accept client id result) = lines.Accept client id result ∷ []
-said_by (Busy client) = []
-said_by (Sent index from dest kind len) = []
-said_by (State replica crashed status view len sync_point) = []
-said_by (Slot replica slot entry) = []
-said_by (Member place request) = []
-said_by End = []
+said_by _ = []
 
 -- what is submitted and accepted, in the order of the lines
 abbrev pub said : Transcript → List Line

@@ -148,14 +148,7 @@ fields_width End e typed = record { within = omega arith }
 
 word_short : (row : Row) → length (row_word row) ≤ 7
 word_short (Dead actor) = omega arith
-word_short (Submit request) = omega arith
-word_short (Accept client id result) = omega arith
-word_short (Busy client) = omega arith
-word_short (Sent index from dest kind len) = omega arith
-word_short (State replica crashed status view len sync_point) = omega arith
-word_short (Slot replica slot entry) = omega arith
-word_short (Member place request) = omega arith
-word_short End = omega arith
+word_short _ = omega arith
 
 -- ---- lines
 

@@ -150,14 +150,7 @@ request_marked r e typed =
 
 pub word_marked : (row : Row) → list_all is_mark (row_word row) ≡ true
 word_marked (Dead actor) = refl
-word_marked (Submit request) = refl
-word_marked (Accept client id result) = refl
-word_marked (Busy client) = refl
-word_marked (Sent index from dest kind len) = refl
-word_marked (State replica crashed status view len sync_point) = refl
-word_marked (Slot replica slot entry) = refl
-word_marked (Member place request) = refl
-word_marked End = refl
+word_marked _ = refl
 
 -- what the ranges of a send line are, one by one
 pub record SentParts (from : Actor) (dest : Dest) (kind len : ℕ) : Type 0 where

@@ -31,11 +31,8 @@ abbrev pub limits : Configuration
 limits = record { replicas = MAX_REPLICAS; sequencers = MAX_SEQUENCERS; clients = MAX_CLIENTS; controllers = MAX_CONTROLLERS }
 
 abbrev pub replica_number : Option Actor → Option ℕ
-replica_number None = None
 replica_number (Some (actors.Replica i)) = Some i
-replica_number (Some (actors.Sequencer i)) = None
-replica_number (Some (actors.Client i)) = None
-replica_number (Some (actors.Controller i)) = None
+replica_number _ = None
 
 abbrev pub client_of : List ℕ → Option ℕ
 client_of field = client_number (actor_of limits field)

@@ -112,15 +112,13 @@ pub record IsTypedState (view : View) (len sync_point : ℕ) : Type 0 where
   pub point_fits : sync_point < 2 ^ 32
 
 abbrev pub IsTyped : Row → Type 0
-IsTyped (Dead actor) = ⊤
 IsTyped (Submit request) = IsTypedRequest request
 IsTyped (Accept client id result) = (id < 2 ^ 64) × IsBytes result
-IsTyped (Busy client) = ⊤
 IsTyped (Sent index from dest kind len) = index < 2 ^ 64
 IsTyped (State replica crashed status view len sync_point) = IsTypedState view len sync_point
 IsTyped (Slot replica slot entry) = (slot < 2 ^ 32) × IsTypedEntry entry
 IsTyped (Member place request) = (place < 2 ^ 32) × IsTypedRequest request
-IsTyped End = ⊤
+IsTyped _ = ⊤
 
 -- each number is in its range, and an op or a result is not too long
 pub record RowFits (row : Row) : Type 0 where

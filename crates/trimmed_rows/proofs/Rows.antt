@@ -293,10 +293,7 @@ module _ {S : Type 0} (m : Meaning S) (IsSound : S → Type 0) (keeps : KeepsTo 
   ticked_goes ticks.Watch s p h = watch_goes (is_normal s.status && leads s) s.heard s h
   ticked_goes ticks.Resend s p h = resend_goes m s h
   ticked_goes ticks.Sync s p h = sync_goes m IsSound keeps s p
-  ticked_goes ticks.Retry s p h = still_goes m s h
-  ticked_goes ticks.Next s p h = still_goes m s h
-  ticked_goes ticks.Probe s p h = still_goes m s h
-  ticked_goes (ticks.Install j) s p h = still_goes m s h
+  ticked_goes _ s p h = still_goes m s h
 
   -- ---- messages
 
@@ -306,25 +303,14 @@ module _ {S : Type 0} (m : Meaning S) (IsSound : S → Type 0) (keeps : KeepsTo 
   from_leader_goes p (bodies.Found n r) s w h fits = found_goes n r s h
   from_leader_goes p (bodies.SyncPrepare l) s w h fits = sync_prepare_goes l s fits.1 h
   from_leader_goes p (bodies.SyncCommit n) s w h fits = sync_commit_goes m IsSound keeps n s w
-  from_leader_goes p (bodies.SlotLookup n) s w h fits = still_goes m s h
-  from_leader_goes p (bodies.GapRep n) s w h fits = still_goes m s h
-  from_leader_goes p (bodies.SyncRep n) s w h fits = still_goes m s h
-  from_leader_goes p bodies.ViewChangeReq s w h fits = still_goes m s h
-  from_leader_goes p (bodies.ViewChange u x l) s w h fits = still_goes m s h
-  from_leader_goes p (bodies.StartView x l) s w h fits = still_goes m s h
+  from_leader_goes p _ s w h fits = still_goes m s h
 
   from_follower_goes : (q : ℕ) (body : Body) (s : ReplicaState) → PointsWithin s → Stands s
       → Goes m (messages.from_follower m Trimmed q (trimmed_body m body) (st m s)) (messages.from_follower m Whole q body s)
   from_follower_goes q (bodies.SlotLookup n) s w h = slot_lookup_goes q n s h
   from_follower_goes q (bodies.GapRep n) s w h = gap_reply_goes q n s h
   from_follower_goes q (bodies.SyncRep n) s w h = sync_reply_goes m IsSound keeps q n s w
-  from_follower_goes q (bodies.GapCommit n) s w h = still_goes m s h
-  from_follower_goes q (bodies.Found n r) s w h = still_goes m s h
-  from_follower_goes q (bodies.SyncPrepare l) s w h = still_goes m s h
-  from_follower_goes q (bodies.SyncCommit n) s w h = still_goes m s h
-  from_follower_goes q bodies.ViewChangeReq s w h = still_goes m s h
-  from_follower_goes q (bodies.ViewChange u x l) s w h = still_goes m s h
-  from_follower_goes q (bodies.StartView x l) s w h = still_goes m s h
+  from_follower_goes q _ s w h = still_goes m s h
 
   by_role_goes : (b c : Bool) (p : Peer) (body : Body) (s : ReplicaState) → PointsWithin s → Stands s → ToldWithin m s p body
       → Goes m (messages.by_role m Trimmed b c p.sender (trimmed_body m body) (st m s)) (messages.by_role m Whole b c p.sender body s)
@@ -366,13 +352,7 @@ module _ {S : Type 0} (m : Meaning S) (IsSound : S → Type 0) (keeps : KeepsTo 
   loads_trim s p (bodies.ViewChange u x l) fits = both_load l fits.0
   loads_trim s p (bodies.StartView x l) fits = both_load l fits.0
   loads_trim s p (bodies.SyncPrepare l) fits = both_load l fits.0
-  loads_trim s p (bodies.SlotLookup n) fits = refl
-  loads_trim s p (bodies.Found n r) fits = refl
-  loads_trim s p (bodies.GapCommit n) fits = refl
-  loads_trim s p (bodies.GapRep n) fits = refl
-  loads_trim s p bodies.ViewChangeReq fits = refl
-  loads_trim s p (bodies.SyncRep n) fits = refl
-  loads_trim s p (bodies.SyncCommit n) fits = refl
+  loads_trim s p _ fits = refl
 
   stands : (s : ReplicaState) → PointsWithin s → Stands s
   stands s w = record { within = omega (arith, w.points, w.sync_point); points = w.points }

@@ -44,13 +44,7 @@ module _ {S : Type 0} (m : Meaning S) where
       → Opens (counted teller g (record { sender = p.sender; last_normal = u; next = x; log = l })))
   ToldWithin s p (bodies.StartView x l) = (l.checkpoint ≡ None) × IsWithin l
   ToldWithin s p (bodies.SyncPrepare l) = (l.checkpoint ≡ None) × IsWithin l
-  ToldWithin s p (bodies.SlotLookup n) = ⊤
-  ToldWithin s p (bodies.Found n r) = ⊤
-  ToldWithin s p (bodies.GapCommit n) = ⊤
-  ToldWithin s p (bodies.GapRep n) = ⊤
-  ToldWithin s p bodies.ViewChangeReq = ⊤
-  ToldWithin s p (bodies.SyncRep n) = ⊤
-  ToldWithin s p (bodies.SyncCommit n) = ⊤
+  ToldWithin s p _ = ⊤
 
   abbrev pub ArrivesWithin : ReplicaState → Arrival → Type 0
   ArrivesWithin s (Packet p) = ⊤

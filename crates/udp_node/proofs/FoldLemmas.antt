@@ -94,8 +94,7 @@ due_outside now (t ∷ ts) =
 
 pub packet_outside : (p : PollAnswer) → AllOutside (packet_of p)
 packet_outside (Received datagram) = tt
-packet_outside Nothing = tt
-packet_outside Failure = tt
+packet_outside _ = tt
 
 pub first_outside : (tick : Option Tick) → AllOutside (first_inputs tick)
 first_outside None = tt

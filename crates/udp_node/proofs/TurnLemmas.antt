@@ -36,8 +36,7 @@ answer_of (Err e) = Failure
 
 answer_is : (p : PollAnswer) (d : Option (List ℕ)) → Ok d ≡ poll_result p → p ≡ answer_of (Ok d)
 answer_is (Received x) d is = sym (ap answer_of is)
-answer_is Nothing d is = sym (ap answer_of is)
-answer_is Failure d is = sym (ap answer_of is)
+answer_is _ d is = sym (ap answer_of is)
 
 pub poll_taken : (o mid later : Option (List PollAnswer)) (d : Option (List ℕ)) → Stays o mid → Polls mid later (Ok d)
     → Takes o later (answer_of (Ok d))

@@ -146,25 +146,13 @@ told_is : (b : Body) (l : Log) → told_log b ≡ Some l → told_in b ≡ l.syn
 told_is (bodies.ViewChange u x k) l e = ap (λ (y : Log). y.sync_point) (let same : k ≡ l = cc in same)
 told_is (bodies.StartView x k) l e = ap (λ (y : Log). y.sync_point) (let same : k ≡ l = cc in same)
 told_is (bodies.SyncPrepare k) l e = ap (λ (y : Log). y.sync_point) (let same : k ≡ l = cc in same)
-told_is (bodies.SlotLookup n) l e = absurd cc
-told_is (bodies.Found n r) l e = absurd cc
-told_is (bodies.GapCommit n) l e = absurd cc
-told_is (bodies.GapRep n) l e = absurd cc
-told_is bodies.ViewChangeReq l e = absurd cc
-told_is (bodies.SyncRep n) l e = absurd cc
-told_is (bodies.SyncCommit n) l e = absurd cc
+told_is _ l e = absurd cc
 
 told_at_most : (b : Body) (a : ℕ) → ((l : Log) → told_log b ≡ Some l → l.sync_point ≤ a) → told_in b ≤ a
 told_at_most (bodies.ViewChange u x l) a h = h l refl
 told_at_most (bodies.StartView x l) a h = h l refl
 told_at_most (bodies.SyncPrepare l) a h = h l refl
-told_at_most (bodies.SlotLookup n) a h = omega arith
-told_at_most (bodies.Found n r) a h = omega arith
-told_at_most (bodies.GapCommit n) a h = omega arith
-told_at_most (bodies.GapRep n) a h = omega arith
-told_at_most bodies.ViewChangeReq a h = omega arith
-told_at_most (bodies.SyncRep n) a h = omega arith
-told_at_most (bodies.SyncCommit n) a h = omega arith
+told_at_most _ a h = omega arith
 
 -- ---- from a world to a later one
 
@@ -407,15 +395,13 @@ module _ (archive : List Entry) (w : WholeWorld) (h : IsArchive archive w) where
       (told_at_most y.letter.peer.body (length archive) (λ l told. h.letters y.letter l y.has told)))
 
   told_low : (b : Brings) (x : Arrival) → arrival_of w b ≡ Some x → told_by x ≤ length archive
-  told_low Nothing x e = absurd cc
-  told_low (Op op) x e = absurd cc
   told_low (Timer tick) x e = let same : Ticked tick ≡ x = cc in subst (λ (z : Arrival). told_by z ≤ length archive) same (omega arith)
   told_low (Junk bytes) x e =
       not_told x (λ y told. given_is_not_told (input_of w.sent (Junk bytes)) y (e ∙ ap (λ (z : Arrival). Some z) told))
   told_low (Equal bytes) x e =
       not_told x (λ y told. given_is_not_told (input_of w.sent (Equal bytes)) y (e ∙ ap (λ (z : Arrival). Some z) told))
   told_low (Message q n) x e = letter_told q n x e
-  told_low Crash x e = absurd cc
+  told_low _ x e = absurd cc
 
   module _ {S : Type 0} (m : Meaning S) (i : ℕ) (p : Seated WholeReplica) (there : slice_get w.replicas i ≡ Some p)
       (within : PointsWithin p.state.state) where

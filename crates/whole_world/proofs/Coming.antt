@@ -120,13 +120,11 @@ module _ (c : Conf) (sent : List Sent) (carries : Carries sent c) where
       subst (Comes c) (sym t.0) (record { may = λ d read. absurd cc; fits = tt })
 
   pub brings_come : (b : Brings) (i : Given) → BringsFits b → input_of sent b ≡ Some i → Comes c i
-  brings_come Nothing i fits e = absurd cc
   brings_come (Op op) i fits e = let same : given.Submit op ≡ i = cc in subst (Comes c) same (record { may = tt; fits = fits })
   brings_come (Timer tick) i fits e = let same : given.Ticked tick ≡ i = cc in subst (Comes c) same (record { may = tt; fits = tt })
   brings_come (Junk bytes) i fits e = junk_comes bytes i e
   brings_come (Equal bytes) i fits e = equal_comes bytes i e
-  brings_come (Message q n) i fits e = absurd cc
-  brings_come Crash i fits e = absurd cc
+  brings_come _ i fits e = absurd cc
 
 -- ---- what arrives at a replica
 
@@ -144,14 +142,7 @@ module _ (c : Conf) (w : WholeWorld) (carries : Carries w.sent c) (tells : Tells
       let t = arrived c is.datagram.bytes (carries.spelled is.datagram is.has) (λ d. carries.only is.datagram d is.has)
       (datagrams.Stamped x) there in
       subst (Arrives c) same (record { came = t.sent; fits = t.fits })
-  read_arrives bytes (Ok (datagrams.Fragment x)) a is read e = absurd cc
-  read_arrives bytes (Ok (datagrams.Request x)) a is read e = absurd cc
-  read_arrives bytes (Ok (datagrams.Reply x)) a is read e = absurd cc
-  read_arrives bytes (Ok (datagrams.Install k j s)) a is read e = absurd cc
-  read_arrives bytes (Ok (datagrams.Installed k j s)) a is read e = absurd cc
-  read_arrives bytes (Ok (datagrams.Ping k j s)) a is read e = absurd cc
-  read_arrives bytes (Ok (datagrams.Pong k j s)) a is read e = absurd cc
-  read_arrives bytes (Err bad) a is read e = absurd cc
+  read_arrives bytes _ a is read e = absurd cc
 
   equal_arrives : (bytes : List ℕ) (b : Bool) (a : Arrival) → was_sent w.sent bytes ≡ b → arrival_given (given_if b bytes) ≡ Some a
       → Arrives c a
@@ -173,10 +164,8 @@ module _ (c : Conf) (w : WholeWorld) (carries : Carries w.sent c) (tells : Tells
       subst (Arrives c) (sym t.1) (record { came = tells.all t.0 has; fits = tells.fits t.0 has })
 
   pub arrives : (b : Brings) (a : Arrival) → arrival_of w b ≡ Some a → Arrives c a
-  arrives Nothing a e = absurd cc
-  arrives (Op op) a e = absurd cc
   arrives (Timer tick) a e = let same : Ticked tick ≡ a = cc in subst (Arrives c) same (record { came = tt; fits = tt })
   arrives (Junk bytes) a e = junk_arrives bytes (reading bytes) a refl e
   arrives (Equal bytes) a e = equal_arrives bytes (was_sent w.sent bytes) a refl e
   arrives (Message q n) a e = told_arrives q n a e
-  arrives Crash a e = absurd cc
+  arrives _ a e = absurd cc

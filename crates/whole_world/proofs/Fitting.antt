@@ -44,10 +44,7 @@ sent_lasts c d keeps (datagrams.Stamped p) h = keeps.stamps p h
 sent_lasts c d keeps (datagrams.Reply y) h = keeps.replies y h
 sent_lasts c d keeps (datagrams.Install k j s) h =
     record { given = keeps.installs (record { sequencer = j; session = s }) h.given; own = h.own }
-sent_lasts c d keeps (datagrams.Installed k j s) h = h
-sent_lasts c d keeps (datagrams.Ping k j s) h = h
-sent_lasts c d keeps (datagrams.Pong k j s) h = h
-sent_lasts c d keeps (datagrams.Fragment p) h = h
+sent_lasts c d keeps _ h = h
 
 -- ---- what an actor sends that is no replica
 

@@ -627,24 +627,13 @@ module _ (a : ℕ) where
     from_leader_leaves (bodies.Found n r) s le w low = inl (found_low n r s low)
     from_leader_leaves (bodies.SyncPrepare l) s le w low = inl (prepare_low l s le low)
     from_leader_leaves (bodies.SyncCommit n) s le w low = commit_leaves n s w low
-    from_leader_leaves (bodies.SlotLookup n) s le w low = inl (still_low s low)
-    from_leader_leaves (bodies.GapRep n) s le w low = inl (still_low s low)
-    from_leader_leaves (bodies.SyncRep n) s le w low = inl (still_low s low)
-    from_leader_leaves bodies.ViewChangeReq s le w low = inl (still_low s low)
-    from_leader_leaves (bodies.ViewChange u x l) s le w low = inl (still_low s low)
-    from_leader_leaves (bodies.StartView x l) s le w low = inl (still_low s low)
+    from_leader_leaves _ s le w low = inl (still_low s low)
 
     from_follower_leaves : (q : ℕ) (body : Body) (s : ReplicaState) → PointsWithin s → IsLow s → Leaves s (from_follower m Whole q body s)
     from_follower_leaves q (bodies.SlotLookup n) s w low = inl (lookup_low q n s low)
     from_follower_leaves q (bodies.GapRep n) s w low = inl (gap_reply_low q n s low)
     from_follower_leaves q (bodies.SyncRep n) s w low = vote_leaves q n s w low
-    from_follower_leaves q (bodies.GapCommit n) s w low = inl (still_low s low)
-    from_follower_leaves q (bodies.Found n r) s w low = inl (still_low s low)
-    from_follower_leaves q (bodies.SyncPrepare l) s w low = inl (still_low s low)
-    from_follower_leaves q (bodies.SyncCommit n) s w low = inl (still_low s low)
-    from_follower_leaves q bodies.ViewChangeReq s w low = inl (still_low s low)
-    from_follower_leaves q (bodies.ViewChange u x l) s w low = inl (still_low s low)
-    from_follower_leaves q (bodies.StartView x l) s w low = inl (still_low s low)
+    from_follower_leaves q _ s w low = inl (still_low s low)
 
     by_role_leaves : (b to_leader : Bool) (q : ℕ) (body : Body) (s : ReplicaState) → told_in body ≤ a → PointsWithin s → IsLow s
         → Leaves s (by_role m Whole b to_leader q body s)
@@ -723,10 +712,7 @@ module _ (a : ℕ) where
     tick_leaves ticks.Watch s w low = inl (watch_low (is_normal s.status && leads s) s.heard s low)
     tick_leaves ticks.Resend s w low = inl (resend_low s low)
     tick_leaves ticks.Sync s w low = sync_leaves s w low
-    tick_leaves ticks.Retry s w low = inl (still_low s low)
-    tick_leaves ticks.Next s w low = inl (still_low s low)
-    tick_leaves ticks.Probe s w low = inl (still_low s low)
-    tick_leaves (ticks.Install j) s w low = inl (still_low s low)
+    tick_leaves _ s w low = inl (still_low s low)
 
     -- ---- all that arrives
 

@@ -67,10 +67,4 @@ module _ {S : Type 0} (m : Meaning S) (f : ℕ) (c : Conf) (inv : Inv m f c) (sy
   log_front q w (bodies.ViewChange u x k) l h e = subst (FrontOf main) (same_Some k l e) (change_front q w u x k h)
   log_front q w (bodies.StartView x k) l h e = subst (FrontOf main) (same_Some k l e) (start_front q w x k h)
   log_front q w (bodies.SyncPrepare k) l h e = subst (FrontOf main) (same_Some k l e) (prepare_front q w k h)
-  log_front q w (bodies.SlotLookup k) l h e = absurd cc
-  log_front q w (bodies.Found k r) l h e = absurd cc
-  log_front q w (bodies.GapCommit k) l h e = absurd cc
-  log_front q w (bodies.GapRep k) l h e = absurd cc
-  log_front q w bodies.ViewChangeReq l h e = absurd cc
-  log_front q w (bodies.SyncRep k) l h e = absurd cc
-  log_front q w (bodies.SyncCommit k) l h e = absurd cc
+  log_front q w _ l h e = absurd cc

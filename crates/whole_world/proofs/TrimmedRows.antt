@@ -25,14 +25,7 @@ use Rattle.whole_world.proofs.Coming.{messages_were_sent}
 -- datagrams bring no messages of replicas
 read_is_not_told : (r : Result Datagram Bad) (y : Peer) → arrival_read r ≡ Some (Told y) → ⊥
 read_is_not_told (Ok (datagrams.Stamped x)) y e = absurd cc
-read_is_not_told (Ok (datagrams.Fragment x)) y e = absurd cc
-read_is_not_told (Ok (datagrams.Request x)) y e = absurd cc
-read_is_not_told (Ok (datagrams.Reply x)) y e = absurd cc
-read_is_not_told (Ok (datagrams.Install k j s)) y e = absurd cc
-read_is_not_told (Ok (datagrams.Installed k j s)) y e = absurd cc
-read_is_not_told (Ok (datagrams.Ping k j s)) y e = absurd cc
-read_is_not_told (Ok (datagrams.Pong k j s)) y e = absurd cc
-read_is_not_told (Err bad) y e = absurd cc
+read_is_not_told _ y e = absurd cc
 
 pub given_is_not_told : (o : Option Given) (y : Peer) → arrival_given o ≡ Some (Told y) → ⊥
 given_is_not_told None y e = absurd cc
@@ -48,13 +41,7 @@ module _ {S : Type 0} (m : Meaning S) (w : WholeWorld) (can : CanTrim m w) (i : 
       (can.within.whole x l has (ap told_log body), λ g other view gathers. can.starts.with_letter i p x u n l g at has other body view gathers)
   letter_within x (bodies.StartView n l) has body = (can.within.whole x l has (ap told_log body), can.within.letters x l has (ap told_log body))
   letter_within x (bodies.SyncPrepare l) has body = (can.within.whole x l has (ap told_log body), can.within.letters x l has (ap told_log body))
-  letter_within x (bodies.SlotLookup k) has body = tt
-  letter_within x (bodies.Found k r) has body = tt
-  letter_within x (bodies.GapCommit k) has body = tt
-  letter_within x (bodies.GapRep k) has body = tt
-  letter_within x bodies.ViewChangeReq has body = tt
-  letter_within x (bodies.SyncRep k) has body = tt
-  letter_within x (bodies.SyncCommit k) has body = tt
+  letter_within x _ has body = tt
 
   message_within : (q n : ℕ) (a : Arrival) → arrival_of w (Message q n) ≡ Some a → ArrivesWithin m p.state.state a
   message_within q n a e =
@@ -70,13 +57,11 @@ module _ {S : Type 0} (m : Meaning S) (w : WholeWorld) (can : CanTrim m w) (i : 
   not_told (Ticked tick) h = tt
 
   within : (x : Brings) (a : Arrival) → arrival_of w x ≡ Some a → ArrivesWithin m p.state.state a
-  within Nothing a e = absurd cc
-  within (Op op) a e = absurd cc
   within (Timer tick) a e = let same : Ticked tick ≡ a = cc in subst (ArrivesWithin m p.state.state) same tt
   within (Junk bytes) a e = not_told a (λ y told. given_is_not_told (input_of w.sent (Junk bytes)) y (e ∙ ap (λ (b : Arrival). Some b) told))
   within (Equal bytes) a e = not_told a (λ y told. given_is_not_told (input_of w.sent (Equal bytes)) y (e ∙ ap (λ (b : Arrival). Some b) told))
   within (Message q n) a e = message_within q n a e
-  within Crash a e = absurd cc
+  within _ a e = absurd cc
 
 pub rows_trim_where : {S : Type 0} (m : Meaning S) (IsSound : S → Type 0) (keeps : KeepsTo m IsSound) (w : WholeWorld) → CanTrim m w
     → RowsTrim m w

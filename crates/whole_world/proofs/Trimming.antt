@@ -74,13 +74,7 @@ no_checkpoint : (b : Body) (l : Log) → BodyIsIn Whole b → told_log b ≡ Som
 no_checkpoint (bodies.ViewChange u n l) k fits e = subst (λ (x : Log). x.checkpoint ≡ None) (same_Some l k e) fits.told.checkpoint
 no_checkpoint (bodies.StartView n l) k fits e = subst (λ (x : Log). x.checkpoint ≡ None) (same_Some l k e) fits.told.checkpoint
 no_checkpoint (bodies.SyncPrepare l) k fits e = subst (λ (x : Log). x.checkpoint ≡ None) (same_Some l k e) fits.checkpoint
-no_checkpoint (bodies.SlotLookup n) k fits e = absurd cc
-no_checkpoint (bodies.Found n r) k fits e = absurd cc
-no_checkpoint (bodies.GapCommit n) k fits e = absurd cc
-no_checkpoint (bodies.GapRep n) k fits e = absurd cc
-no_checkpoint bodies.ViewChangeReq k fits e = absurd cc
-no_checkpoint (bodies.SyncRep n) k fits e = absurd cc
-no_checkpoint (bodies.SyncCommit n) k fits e = absurd cc
+no_checkpoint _ k fits e = absurd cc
 
 module _ {S : Type 0} (m : Meaning S) (config : Configuration) (count : config.replicas ≡ 2 * (config.replicas / 2) + 1)
     (es : List (Actor × Brings)) (safe : IsSafe m config es) where

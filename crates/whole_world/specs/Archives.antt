@@ -37,9 +37,7 @@ module _ {S : Type 0} (m : Meaning S) where
   -- only replicas have logs
   abbrev pub archive_after : List Entry → WholeWorld → Actor → Brings → List Entry
   archive_after archive w (actors.Replica i) b = with_sends archive (row_sends w (slice_get w.replicas i) b)
-  archive_after archive w (actors.Sequencer i) b = archive
-  archive_after archive w (actors.Client i) b = archive
-  archive_after archive w (actors.Controller i) b = archive
+  archive_after archive w _ b = archive
 
 -- ---- what it has
 

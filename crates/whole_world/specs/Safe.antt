@@ -22,12 +22,7 @@ use Rattle.whole_world.specs.Shows.{Shows}
 -- an op that is submitted has at most the greatest length
 abbrev pub BringsFits : Brings → Type 0
 BringsFits (Op op) = length op ≤ MAX_OP_BYTES
-BringsFits Nothing = ⊤
-BringsFits (Timer tick) = ⊤
-BringsFits (Junk bytes) = ⊤
-BringsFits (Equal bytes) = ⊤
-BringsFits (Message sender number) = ⊤
-BringsFits Crash = ⊤
+BringsFits _ = ⊤
 
 abbrev pub AllFit : List (Actor × Brings) → Type 0
 AllFit [] = ⊤

@@ -27,13 +27,7 @@ abbrev pub told_log : Body → Option Log
 told_log (bodies.ViewChange u x l) = Some l
 told_log (bodies.StartView x l) = Some l
 told_log (bodies.SyncPrepare l) = Some l
-told_log (bodies.SlotLookup k) = None
-told_log (bodies.Found k r) = None
-told_log (bodies.GapCommit k) = None
-told_log (bodies.GapRep k) = None
-told_log bodies.ViewChangeReq = None
-told_log (bodies.SyncRep k) = None
-told_log (bodies.SyncCommit k) = None
+told_log _ = None
 
 -- ---- sync points are within the logs
 

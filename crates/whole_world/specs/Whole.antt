@@ -102,13 +102,11 @@ letter_of (x ∷ xs) q n = cond ((x.peer.sender == q) && (x.number == n)) (Some 
 
 -- an input, but for peer messages
 abbrev pub input_of : List Sent → Brings → Option Given
-input_of sent Nothing = None
 input_of sent (Op op) = Some (Submit op)
 input_of sent (Timer tick) = Some (Ticked tick)
 input_of sent (Junk bytes) = junk_if (reading bytes) bytes
 input_of sent (Equal bytes) = given_if (was_sent sent bytes) bytes
-input_of sent (Message q n) = None
-input_of sent Crash = None
+input_of sent _ = None
 
 abbrev pub told_if : Option Peer → Option messages.Arrival
 told_if None = None
@@ -116,14 +114,7 @@ told_if (Some p) = Some (messages.Told p)
 
 abbrev pub arrival_read : Result Datagram Bad → Option messages.Arrival
 arrival_read (Ok (datagrams.Stamped p)) = Some (messages.Packet p)
-arrival_read (Ok (datagrams.Fragment f)) = None
-arrival_read (Ok (datagrams.Request r)) = None
-arrival_read (Ok (datagrams.Reply p)) = None
-arrival_read (Ok (datagrams.Install k j s)) = None
-arrival_read (Ok (datagrams.Installed k j s)) = None
-arrival_read (Ok (datagrams.Ping k j s)) = None
-arrival_read (Ok (datagrams.Pong k j s)) = None
-arrival_read (Err e) = None
+arrival_read _ = None
 
 abbrev pub arrival_given : Option Given → Option messages.Arrival
 arrival_given None = None
@@ -134,12 +125,10 @@ arrival_given (Some (Submit op)) = None
 -- what arrives at a replica
 abbrev pub arrival_of : WholeWorld → Brings → Option messages.Arrival
 arrival_of w (Message q n) = told_if (letter_of w.letters q n)
-arrival_of w Nothing = None
-arrival_of w (Op op) = None
 arrival_of w (Timer tick) = Some (messages.Ticked tick)
 arrival_of w (Junk bytes) = arrival_given (input_of w.sent (Junk bytes))
 arrival_of w (Equal bytes) = arrival_given (input_of w.sent (Equal bytes))
-arrival_of w Crash = None
+arrival_of w _ = None
 
 -- ---- steps
 
@@ -167,12 +156,7 @@ lines_of (outs.Trimmed first entries ∷ rest) = lines_of rest
 
 abbrev pub is_crash : Brings → Bool
 is_crash Crash = true
-is_crash Nothing = false
-is_crash (Op op) = false
-is_crash (Timer tick) = false
-is_crash (Junk bytes) = false
-is_crash (Equal bytes) = false
-is_crash (Message q n) = false
+is_crash _ = false
 
 -- the step of another actor, at its seat
 abbrev pub acted : {A : Type 0} → (A → Given → A × List Out) → Seated A → Option Given → Seated A × List Out

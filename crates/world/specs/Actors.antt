@@ -26,9 +26,7 @@ world_of a =
 -- the world with what moved out of logs, which only replicas have, in its archive
 abbrev pub moved_out : Actor → Did → WorldState → WorldState
 moved_out (actors.Replica i) did w = record w { archive = archived w.archive did }
-moved_out (actors.Sequencer i) did w = w
-moved_out (actors.Client i) did w = w
-moved_out (actors.Controller i) did w = w
+moved_out _ did w = w
 
 -- the event happened: this is the world after it, and the lines are these
 pub record Happens (r : Result Happened Refusal) (new : WorldState) (lines : Lines) : Type 0 where

@@ -26,12 +26,9 @@ is_actor c (actors.Controller i) = nat_lt i c.controllers
 
 -- whether the actor of an event has such an input
 abbrev pub has_input : Configuration → Event → Bool
-has_input c (events.Submit number op) = true
-has_input c (events.Deliver index actor) = true
 has_input c (events.Tick actor tick) = takes_tick actor tick
 has_input c (events.Install controller sequencer) = nat_lt sequencer c.sequencers
-has_input c (events.Crash actor) = true
-has_input c (events.Junk actor bytes) = true
+has_input c _ = true
 
 abbrev pub forged_if : Result Datagram Bad → Option Refusal
 forged_if (Ok d) = Some Forged
