@@ -738,13 +738,7 @@ module _ {S : Type 0} (m : Meaning S) (k : Keeping) (bounds : Bounds m k) where
       (record { sender = p_fits.sender; rest = fits })
   on_body_stays p (bodies.StartView x l) s g p_fits fits =
       start_view_stays s p.sender p.view x l g p_fits.view fits.number fits.told
-  on_body_stays p (bodies.GapCommit n) s g p_fits fits = in_view_stays p.sender p.view (bodies.GapCommit n) s g fits
-  on_body_stays p (bodies.Found n r) s g p_fits fits = in_view_stays p.sender p.view (bodies.Found n r) s g fits
-  on_body_stays p (bodies.SyncPrepare l) s g p_fits fits = in_view_stays p.sender p.view (bodies.SyncPrepare l) s g fits
-  on_body_stays p (bodies.SyncCommit n) s g p_fits fits = in_view_stays p.sender p.view (bodies.SyncCommit n) s g fits
-  on_body_stays p (bodies.SlotLookup n) s g p_fits fits = in_view_stays p.sender p.view (bodies.SlotLookup n) s g fits
-  on_body_stays p (bodies.GapRep n) s g p_fits fits = in_view_stays p.sender p.view (bodies.GapRep n) s g fits
-  on_body_stays p (bodies.SyncRep n) s g p_fits fits = in_view_stays p.sender p.view (bodies.SyncRep n) s g fits
+  on_body_stays p body s g p_fits fits = in_view_stays p.sender p.view body s g fits
 
   on_message_stays : (s : ReplicaState) (p : Peer) → IsGood k s → PeerIsIn k p → StaysInRanges k (on_message m k p s)
   unfolding on_message

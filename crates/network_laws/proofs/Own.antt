@@ -370,13 +370,7 @@ module _ {S : Type 0} (m : Meaning S) (k : Keeping) where
   on_body_own p (bodies.ViewChange u x l) s h =
       view_change_own s p.view (record { sender = p.sender; last_normal = u; next = x; log = l }) h
   on_body_own p (bodies.StartView x l) s h = start_view_own s p.sender p.view x l
-  on_body_own p (bodies.GapCommit n) s h = in_view_own p.sender p.view (bodies.GapCommit n) s h
-  on_body_own p (bodies.Found n r) s h = in_view_own p.sender p.view (bodies.Found n r) s h
-  on_body_own p (bodies.SyncPrepare l) s h = in_view_own p.sender p.view (bodies.SyncPrepare l) s h
-  on_body_own p (bodies.SyncCommit n) s h = in_view_own p.sender p.view (bodies.SyncCommit n) s h
-  on_body_own p (bodies.SlotLookup n) s h = in_view_own p.sender p.view (bodies.SlotLookup n) s h
-  on_body_own p (bodies.GapRep n) s h = in_view_own p.sender p.view (bodies.GapRep n) s h
-  on_body_own p (bodies.SyncRep n) s h = in_view_own p.sender p.view (bodies.SyncRep n) s h
+  on_body_own p body s h = in_view_own p.sender p.view body s h
 
   -- a message that is taken comes from another replica
   from_other : (p : Peer) (s : ReplicaState) (b : Bool) → is_other s p.sender ≡ b → Own s (when b (on_body m k p p.body) s)

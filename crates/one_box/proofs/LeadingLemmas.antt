@@ -79,22 +79,17 @@ tick_taken m w a tick h true is = refl
 tick_taken m w a tick h false is = absurd (of_refusal m w a _ h is)
 
 word_of : (a : Actor) (tick : Tick) → takes_tick a tick ≡ true → HasWord tick
-word_of a ticks.Suspect is = tt
-word_of a ticks.Watch is = tt
-word_of a ticks.Resend is = tt
-word_of a ticks.Sync is = tt
-word_of a ticks.Retry is = tt
-word_of a ticks.Probe is = tt
-word_of _ _ is = absurd cc
+word_of (actors.Replica i) ticks.Next is = absurd cc
+word_of _ ticks.Next is = absurd cc
+word_of (actors.Replica i) (ticks.Install j) is = absurd cc
+word_of _ (ticks.Install j) is = absurd cc
+word_of _ _ is = tt
 
 happened_line : {S : Type 0} (m : Meaning S) (w : WorldState) (e : Event) (h : Happened) → IsNoJunk e → step m w e ≡ Ok h → HasLine e
 unfolding step stimulus_of
-happened_line m w (events.Submit client op) h free is = tt
-happened_line m w (events.Deliver index a) h free is = tt
 happened_line m w (events.Tick a tick) h free is = word_of a tick (tick_taken m w a tick h (takes_tick a tick) is)
-happened_line m w (events.Install controller sequencer) h free is = tt
-happened_line m w (events.Crash a) h free is = tt
 happened_line m w (events.Junk a bytes) h free is = absurd free
+happened_line m w _ h free is = tt
 
 -- ---- one more event
 

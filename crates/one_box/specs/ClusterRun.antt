@@ -128,13 +128,8 @@ module _ {S : Type 0} (m : Meaning S) (ops : List (List ℕ)) where
   -- the tick Next gives a client its next op, Install comes by no timer, and each other tick is an event
   unfoldable pub on_tick : Course → Node → Tick → Course × Node
   on_tick c n ticks.Next = next_of n.at.own c n
-  on_tick c n ticks.Suspect = take m c n (events.Tick n.at.own ticks.Suspect)
-  on_tick c n ticks.Watch = take m c n (events.Tick n.at.own ticks.Watch)
-  on_tick c n ticks.Resend = take m c n (events.Tick n.at.own ticks.Resend)
-  on_tick c n ticks.Sync = take m c n (events.Tick n.at.own ticks.Sync)
-  on_tick c n ticks.Retry = take m c n (events.Tick n.at.own ticks.Retry)
-  on_tick c n ticks.Probe = take m c n (events.Tick n.at.own ticks.Probe)
   on_tick c n (ticks.Install j) = (c, n)
+  on_tick c n tick = take m c n (events.Tick n.at.own tick)
 
   unfoldable pub fire_if : Bool → Course → Node → Tick → Course × Node
   fire_if true c n tick = on_tick c n tick

@@ -25,13 +25,8 @@ next_event w _ op = None
 -- the tick Next gives a client this op, Install comes by no timer, and each other tick is an event
 abbrev pub tick_event : WorldState → Actor → Option (List ℕ) → Tick → Option Event
 tick_event w own op ticks.Next = next_event w own op
-tick_event w own op ticks.Suspect = Some (events.Tick own ticks.Suspect)
-tick_event w own op ticks.Watch = Some (events.Tick own ticks.Watch)
-tick_event w own op ticks.Resend = Some (events.Tick own ticks.Resend)
-tick_event w own op ticks.Sync = Some (events.Tick own ticks.Sync)
-tick_event w own op ticks.Retry = Some (events.Tick own ticks.Retry)
-tick_event w own op ticks.Probe = Some (events.Tick own ticks.Probe)
 tick_event w own op (ticks.Install j) = None
+tick_event w own op tick = Some (events.Tick own tick)
 
 abbrev pub tick_event_if : Bool → WorldState → Actor → Option (List ℕ) → Tick → Option Event
 tick_event_if true w own op tick = tick_event w own op tick

@@ -160,14 +160,7 @@ module _ {S : Type 0} (m : Meaning S) (f : ℕ) where
 
   pub happens_syncs : (c : Conf) (x : Move) → Inv m f c → Sync f c → May f c x → Sync f (happens m f c x)
   happens_syncs c (Acts r a) inv sync may = act_syncs c r inv sync a may (happens_keeps m f c (Acts r a) inv may)
-  happens_syncs c (MoveTo k j s) inv sync may = outside c (MoveTo k j s) inv sync may refl refl refl
-  happens_syncs c (Installed k) inv sync may = outside c (Installed k) inv sync may refl refl refl
-  happens_syncs c (Install j s) inv sync may = outside c (Install j s) inv sync may refl refl refl
-  happens_syncs c (Stamp j r) inv sync may = outside c (Stamp j r) inv sync may refl refl refl
-  happens_syncs c (Submit k op waiting) inv sync may = outside c (Submit k op waiting) inv sync may refl refl refl
-  happens_syncs c (Keep k p) inv sync may = outside c (Keep k p) inv sync may refl refl refl
-  happens_syncs c (Accept k p leaders) inv sync may = outside c (Accept k p leaders) inv sync may refl refl refl
-  happens_syncs c (Tell more) inv sync may = outside c (Tell more) inv sync may refl refl refl
+  happens_syncs c x inv sync may = outside c x inv sync may refl refl refl
 
   pub run_syncs : (c : Conf) (xs : List Move) → Inv m f c → Sync f c → MayAll m f c xs → Sync f (run m f c xs)
   run_syncs c [] inv sync may = sync

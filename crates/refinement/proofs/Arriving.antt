@@ -36,13 +36,7 @@ module _ {S : Type 0} (m : Meaning S) (f : ℕ) (c : Conf) (r : ℕ) (s : Replic
   body_reaches p (bodies.ViewChange u x l) other came =
       view_change_reaches m f r c s p.view (record { sender = p.sender; last_normal = u; next = x; log = l }) h other came
   body_reaches p (bodies.StartView x l) other came = start_view_reaches m f r c s p.sender p.view x l h other came
-  body_reaches p (bodies.GapCommit k) other came = in_its_view p (bodies.GapCommit k) other came
-  body_reaches p (bodies.Found k q) other came = in_its_view p (bodies.Found k q) other came
-  body_reaches p (bodies.SyncPrepare l) other came = in_its_view p (bodies.SyncPrepare l) other came
-  body_reaches p (bodies.SyncCommit k) other came = in_its_view p (bodies.SyncCommit k) other came
-  body_reaches p (bodies.SlotLookup k) other came = in_its_view p (bodies.SlotLookup k) other came
-  body_reaches p (bodies.GapRep k) other came = in_its_view p (bodies.GapRep k) other came
-  body_reaches p (bodies.SyncRep k) other came = in_its_view p (bodies.SyncRep k) other came
+  body_reaches p body other came = in_its_view p body other came
 
   message_reaches : (p : Peer) → Has c.said (said_of p) → ReplicaReaches m f c r s (on_message m Whole p s)
   unfolding on_message

@@ -86,14 +86,8 @@ not_in_view m q v body s e =
 
 body_rests : {S : Type 0} (m : Meaning S) (p : Peer) (body : Body) (s : ReplicaState) → is_of_view body ≡ true → is_current s p.view ≡ false
     → on_body m Trimmed p body s ≡ still s
-body_rests m p (bodies.SlotLookup n) s of e = not_in_view m p.sender p.view (bodies.SlotLookup n) s e
-body_rests m p (bodies.Found n r) s of e = not_in_view m p.sender p.view (bodies.Found n r) s e
-body_rests m p (bodies.GapCommit n) s of e = not_in_view m p.sender p.view (bodies.GapCommit n) s e
-body_rests m p (bodies.GapRep n) s of e = not_in_view m p.sender p.view (bodies.GapRep n) s e
-body_rests m p (bodies.SyncPrepare l) s of e = not_in_view m p.sender p.view (bodies.SyncPrepare l) s e
-body_rests m p (bodies.SyncRep n) s of e = not_in_view m p.sender p.view (bodies.SyncRep n) s e
-body_rests m p (bodies.SyncCommit n) s of e = not_in_view m p.sender p.view (bodies.SyncCommit n) s e
 body_rests m p _ s of e = absurd cc
+body_rests m p body s of e = not_in_view m p.sender p.view body s e
 
 when_rests : (s : ReplicaState) (f : ReplicaState → Effect) (b : Bool) → f s ≡ still s → when b f s ≡ still s
 when_rests s f true e = e

@@ -405,13 +405,7 @@ on_body_few : {S : Type 0} (m : Meaning S) (k : Keeping) (p : Peer) (body : Body
 on_body_few m k p bodies.ViewChangeReq s = more 5 8 (omega arith) (request_few m k s p.view)
 on_body_few m k p (bodies.ViewChange u x l) s = more 7 8 (omega arith) (view_change_few m k s p.view _)
 on_body_few m k p (bodies.StartView x l) s = more 1 8 (omega arith) (start_view_few m k s p.sender p.view x l)
-on_body_few m k p (bodies.GapCommit n) s = in_view_few m k p.sender p.view (bodies.GapCommit n) s
-on_body_few m k p (bodies.Found n r) s = in_view_few m k p.sender p.view (bodies.Found n r) s
-on_body_few m k p (bodies.SyncPrepare l) s = in_view_few m k p.sender p.view (bodies.SyncPrepare l) s
-on_body_few m k p (bodies.SyncCommit n) s = in_view_few m k p.sender p.view (bodies.SyncCommit n) s
-on_body_few m k p (bodies.SlotLookup n) s = in_view_few m k p.sender p.view (bodies.SlotLookup n) s
-on_body_few m k p (bodies.GapRep n) s = in_view_few m k p.sender p.view (bodies.GapRep n) s
-on_body_few m k p (bodies.SyncRep n) s = in_view_few m k p.sender p.view (bodies.SyncRep n) s
+on_body_few m k p body s = in_view_few m k p.sender p.view body s
 
 on_message_few : {S : Type 0} (m : Meaning S) (k : Keeping) (s : ReplicaState) (p : Peer) → Few 8 s (on_message m k p s)
 unfolding on_message

@@ -571,13 +571,7 @@ on_body_front m p bodies.ViewChangeReq s le low = (request_keeps m s p.view low)
 on_body_front m p (bodies.ViewChange u x l) s le low =
     (view_change_keeps m s p.view (record { sender = p.sender; last_normal = u; next = x; log = l }) le low).front
 on_body_front m p (bodies.StartView x l) s le low = (start_view_keeps m s p.sender p.view x l le low).front
-on_body_front m p (bodies.GapCommit k) s le low = in_view_front m p.sender p.view (bodies.GapCommit k) s le low
-on_body_front m p (bodies.Found k r) s le low = in_view_front m p.sender p.view (bodies.Found k r) s le low
-on_body_front m p (bodies.SyncPrepare l) s le low = in_view_front m p.sender p.view (bodies.SyncPrepare l) s le low
-on_body_front m p (bodies.SyncCommit k) s le low = in_view_front m p.sender p.view (bodies.SyncCommit k) s le low
-on_body_front m p (bodies.SlotLookup k) s le low = in_view_front m p.sender p.view (bodies.SlotLookup k) s le low
-on_body_front m p (bodies.GapRep k) s le low = in_view_front m p.sender p.view (bodies.GapRep k) s le low
-on_body_front m p (bodies.SyncRep k) s le low = in_view_front m p.sender p.view (bodies.SyncRep k) s le low
+on_body_front m p body s le low = in_view_front m p.sender p.view body s le low
 
 when_front : (b : Bool) (f : ReplicaState → Effect) (s : ReplicaState) → Stays s (f s).0 → Stays s (when b f s).0
 when_front true f s h = h

@@ -60,13 +60,7 @@ on_body m k p bodies.ViewChangeReq s = rows.view_change_request m k p.view s
 on_body m k p (bodies.ViewChange u x l) s =
     rows.view_change m k p.view (record { sender = p.sender; last_normal = u; next = x; log = l }) s
 on_body m k p (bodies.StartView x l) s = rows.start_view m k p.sender p.view x l s
-on_body m k p (bodies.GapCommit n) s = in_view m k p.sender p.view (bodies.GapCommit n) s
-on_body m k p (bodies.Found n r) s = in_view m k p.sender p.view (bodies.Found n r) s
-on_body m k p (bodies.SyncPrepare l) s = in_view m k p.sender p.view (bodies.SyncPrepare l) s
-on_body m k p (bodies.SyncCommit n) s = in_view m k p.sender p.view (bodies.SyncCommit n) s
-on_body m k p (bodies.SlotLookup n) s = in_view m k p.sender p.view (bodies.SlotLookup n) s
-on_body m k p (bodies.GapRep n) s = in_view m k p.sender p.view (bodies.GapRep n) s
-on_body m k p (bodies.SyncRep n) s = in_view m k p.sender p.view (bodies.SyncRep n) s
+on_body m k p body s = in_view m k p.sender p.view body s
 
 unfoldable pub on_message : {S : Type 0} → Meaning S → Keeping → Peer → ReplicaState → Effect
 on_message m k p s = when (is_other s p.sender) (on_body m k p p.body) s

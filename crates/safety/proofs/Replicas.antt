@@ -321,14 +321,7 @@ module _ {S : Type 0} (m : Meaning S) (t : WorldState) (ls : List Line) (v : Who
         → ((f : Fragment) (bytes : List ℕ) → reading x.bytes ≡ Ok (datagrams.Fragment f) → (taken s.reassembly f).1 ≡ Some bytes
         → JoinsTrimmed m v f bytes) → Goes (Packet x.bytes) (datagram_to t (actors.Replica i) x.bytes r)
     packet_goes k x at (Ok (datagrams.Fragment f)) is joins = fragment_goes x f is (λ bytes. joins f bytes is)
-    packet_goes k x at (Ok (datagrams.Stamped q)) is joins = equal_goes k x at (Ok (datagrams.Stamped q)) is refl
-    packet_goes k x at (Ok (datagrams.Request q)) is joins = equal_goes k x at (Ok (datagrams.Request q)) is refl
-    packet_goes k x at (Ok (datagrams.Reply q)) is joins = equal_goes k x at (Ok (datagrams.Reply q)) is refl
-    packet_goes k x at (Ok (datagrams.Install c j n)) is joins = equal_goes k x at (Ok (datagrams.Install c j n)) is refl
-    packet_goes k x at (Ok (datagrams.Installed c j n)) is joins = equal_goes k x at (Ok (datagrams.Installed c j n)) is refl
-    packet_goes k x at (Ok (datagrams.Ping c j n)) is joins = equal_goes k x at (Ok (datagrams.Ping c j n)) is refl
-    packet_goes k x at (Ok (datagrams.Pong c j n)) is joins = equal_goes k x at (Ok (datagrams.Pong c j n)) is refl
-    packet_goes k x at (Err bad) is joins = equal_goes k x at (Err bad) is refl
+    packet_goes k x at x_ is joins = equal_goes k x at x_ is refl
 
     sent_goes : (k : ℕ) (o : Option Sent) → slice_get t.sent k ≡ o → (g : Given) → datagram_at k (length t.sent) o ≡ Ok (Takes g)
         → ((x : Sent) (f : Fragment) (bytes : List ℕ) → slice_get t.sent k ≡ Some x → reading x.bytes ≡ Ok (datagrams.Fragment f)

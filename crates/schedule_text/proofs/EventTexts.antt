@@ -30,14 +30,9 @@ use Rattle.transcript_text.specs.Transcript.{actor_text, hex_text}
 
 tick_again : (t : Tick) → HasWord t → tick_named (tick_text t) ≡ Some t
 unfolding tick_named
-tick_again ticks.Suspect h = refl
-tick_again ticks.Watch h = refl
-tick_again ticks.Resend h = refl
-tick_again ticks.Sync h = refl
-tick_again ticks.Retry h = refl
 tick_again ticks.Next h = absurd h
-tick_again ticks.Probe h = refl
 tick_again (ticks.Install j) h = absurd h
+tick_again _ h = refl
 
 -- ---- the bytes of a line
 

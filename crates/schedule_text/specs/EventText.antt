@@ -19,23 +19,15 @@ use Rattle.transcript_text.specs.Transcript.{actor_text, hex_text}
 
 -- a schedule has a word for the tick
 abbrev pub HasWord : Tick → Type 0
-HasWord ticks.Suspect = ⊤
-HasWord ticks.Watch = ⊤
-HasWord ticks.Resend = ⊤
-HasWord ticks.Sync = ⊤
-HasWord ticks.Retry = ⊤
 HasWord ticks.Next = ⊥
-HasWord ticks.Probe = ⊤
 HasWord (ticks.Install j) = ⊥
+HasWord _ = ⊤
 
 -- a tick has a word, and junk is no longer than a datagram
 abbrev pub HasLine : Event → Type 0
-HasLine (events.Submit client op) = ⊤
-HasLine (events.Deliver index actor) = ⊤
 HasLine (events.Tick actor tick) = HasWord tick
-HasLine (events.Install controller sequencer) = ⊤
-HasLine (events.Crash actor) = ⊤
 HasLine (events.Junk actor bytes) = length bytes ≤ MAX_DATAGRAM_BYTES
+HasLine _ = ⊤
 
 -- ---- its text
 
@@ -45,9 +37,8 @@ tick_text ticks.Watch = codes "watch"
 tick_text ticks.Resend = codes "resend"
 tick_text ticks.Sync = codes "sync"
 tick_text ticks.Retry = codes "retry"
-tick_text ticks.Next = []
 tick_text ticks.Probe = codes "probe"
-tick_text (ticks.Install j) = []
+tick_text _ = []
 
 abbrev pub event_word : Event → List ℕ
 event_word (events.Submit client op) = codes "submit"

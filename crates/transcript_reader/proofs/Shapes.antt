@@ -197,18 +197,12 @@ module _ (rows : List Row) (said : List Line) (places : List ℕ) (history : Lis
   member_shape Over place r n s e = absurd cc
 
 pub one_more : (rows : List Row) (row : Row) (s n : SoFar) → Shape rows s → step (length rows + 2) s row ≡ Some n → Shape (rows ++ row ∷ []) n
-one_more rows (Dead actor) s n shape e = event_shape rows (Dead actor) s.said s.places s.history s.part n refl shape e
-one_more rows (Submit request) s n shape e = event_shape rows (Submit request) s.said s.places s.history s.part n refl shape e
-one_more rows (Accept client id result) s n shape e =
-    event_shape rows (Accept client id result) s.said s.places s.history s.part n refl shape e
-one_more rows (Busy client) s n shape e = event_shape rows (Busy client) s.said s.places s.history s.part n refl shape e
-one_more rows (Sent index from dest kind len) s n shape e =
-    event_shape rows (Sent index from dest kind len) s.said s.places s.history s.part n refl shape e
 one_more rows (State replica crashed status view len sync_point) s n shape e =
     state_shape rows (State replica crashed status view len sync_point) s.said s.places s.history s.part n refl shape e
 one_more rows (Slot replica slot entry) s n shape e = state_shape rows (Slot replica slot entry) s.said s.places s.history s.part n refl shape e
 one_more rows (Member place request) s n shape e = member_shape rows s.said s.places s.history s.part place request n shape e
 one_more rows End s n shape e = end_shape rows s.said s.places s.history s.part n shape e
+one_more rows x s n shape e = event_shape rows x s.said s.places s.history s.part n refl shape e
 
 -- ---- all rows
 

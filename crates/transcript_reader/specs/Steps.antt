@@ -58,15 +58,11 @@ end_step s = if is_over s.part then None else Some (record s { part = Over })
 
 -- with the row of this line, None where it is out of place
 abbrev pub step : ℕ → SoFar → Row → Option SoFar
-step line s (Dead actor) = event_step line s (said_by (Dead actor))
-step line s (Submit request) = event_step line s (said_by (Submit request))
-step line s (Accept client id result) = event_step line s (said_by (Accept client id result))
-step line s (Busy client) = event_step line s (said_by (Busy client))
-step line s (Sent index from dest kind len) = event_step line s (said_by (Sent index from dest kind len))
 step line s (State replica crashed status view len sync_point) = state_step s
 step line s (Slot replica slot entry) = state_step s
 step line s (Member place request) = member_step s place request
 step line s End = end_step s
+step line s x = event_step line s (said_by x)
 
 abbrev pub run_on : Option SoFar → ℕ → List Row → Option SoFar
 run_on s line [] = s

@@ -328,13 +328,7 @@ module _ {S : Type 0} (m : Meaning S) (IsSound : S → Type 0) (keeps : KeepsTo 
   body_goes p (bodies.ViewChange u x l) s w h other fits =
       view_change_goes p.view (record { sender = p.sender; last_normal = u; next = x; log = l }) s h (λ g view same. fits.1 g other view same)
   body_goes p (bodies.StartView x l) s w h other fits = start_view_goes p.sender p.view x l s fits.1 h
-  body_goes p (bodies.GapCommit n) s w h other fits = in_view p (bodies.GapCommit n) s w h fits
-  body_goes p (bodies.Found n r) s w h other fits = in_view p (bodies.Found n r) s w h fits
-  body_goes p (bodies.SyncPrepare l) s w h other fits = in_view p (bodies.SyncPrepare l) s w h fits
-  body_goes p (bodies.SyncCommit n) s w h other fits = in_view p (bodies.SyncCommit n) s w h fits
-  body_goes p (bodies.SlotLookup n) s w h other fits = in_view p (bodies.SlotLookup n) s w h fits
-  body_goes p (bodies.GapRep n) s w h other fits = in_view p (bodies.GapRep n) s w h fits
-  body_goes p (bodies.SyncRep n) s w h other fits = in_view p (bodies.SyncRep n) s w h fits
+  body_goes p body s w h other fits = in_view p body s w h fits
 
   message_goes : (p : Peer) (s : ReplicaState) → PointsWithin s → Stands s → ToldWithin m s p p.body
       → Goes m (messages.on_message m Trimmed (trimmed_peer m p) (st m s)) (messages.on_message m Whole p s)

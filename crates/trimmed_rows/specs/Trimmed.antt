@@ -24,16 +24,10 @@ module _ {S : Type 0} (m : Meaning S) where
   trimmed s = record s { log = trim m s.log; changes = option_map trimmed_gathering s.changes }
 
   abbrev pub trimmed_body : Body → Body
-  trimmed_body (bodies.SlotLookup n) = bodies.SlotLookup n
-  trimmed_body (bodies.Found n r) = bodies.Found n r
-  trimmed_body (bodies.GapCommit n) = bodies.GapCommit n
-  trimmed_body (bodies.GapRep n) = bodies.GapRep n
-  trimmed_body bodies.ViewChangeReq = bodies.ViewChangeReq
   trimmed_body (bodies.ViewChange u x l) = bodies.ViewChange u x (trim m l)
   trimmed_body (bodies.StartView x l) = bodies.StartView x (trim m l)
   trimmed_body (bodies.SyncPrepare l) = bodies.SyncPrepare (trim m l)
-  trimmed_body (bodies.SyncRep n) = bodies.SyncRep n
-  trimmed_body (bodies.SyncCommit n) = bodies.SyncCommit n
+  trimmed_body body = body
 
   -- the log of a message, if it has one
   abbrev pub trimmed_peer : Peer → Peer

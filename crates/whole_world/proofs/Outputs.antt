@@ -92,6 +92,4 @@ lines_told (outs.Submitted r ∷ xs) first =
 lines_told (outs.Accepted client id result ∷ xs) first =
     let t = lines_told xs first in
     record { others = t.others; are = ap (λ (ls : List Line). Accept client id result ∷ ls) t.are; may = t.may }
-lines_told (outs.Send dest bytes ∷ xs) first = speaks_others (outs.Send dest bytes ∷ xs) first
-lines_told (outs.Busy client ∷ xs) first = speaks_others (outs.Busy client ∷ xs) first
-lines_told (outs.Trimmed n l ∷ xs) first = speaks_others (outs.Trimmed n l ∷ xs) first
+lines_told x first = speaks_others x first

@@ -651,13 +651,7 @@ module _ (a : ℕ) where
     on_body_leaves p (bodies.ViewChange u x l) s le w low =
         inl (view_change_low p.view (record { sender = p.sender; last_normal = u; next = x; log = l }) s le low)
     on_body_leaves p (bodies.StartView x l) s le w low = inl (start_view_low p.sender p.view x l s le low)
-    on_body_leaves p (bodies.GapCommit n) s le w low = in_view_leaves p.sender p.view (bodies.GapCommit n) s le w low
-    on_body_leaves p (bodies.Found n r) s le w low = in_view_leaves p.sender p.view (bodies.Found n r) s le w low
-    on_body_leaves p (bodies.SyncPrepare l) s le w low = in_view_leaves p.sender p.view (bodies.SyncPrepare l) s le w low
-    on_body_leaves p (bodies.SyncCommit n) s le w low = in_view_leaves p.sender p.view (bodies.SyncCommit n) s le w low
-    on_body_leaves p (bodies.SlotLookup n) s le w low = in_view_leaves p.sender p.view (bodies.SlotLookup n) s le w low
-    on_body_leaves p (bodies.GapRep n) s le w low = in_view_leaves p.sender p.view (bodies.GapRep n) s le w low
-    on_body_leaves p (bodies.SyncRep n) s le w low = in_view_leaves p.sender p.view (bodies.SyncRep n) s le w low
+    on_body_leaves p body s le w low = in_view_leaves p.sender p.view body s le w low
 
     when_leaves : (b : Bool) (f : ReplicaState → Effect) (s : ReplicaState) → IsLow s → Leaves s (f s) → Leaves s (when b f s)
     when_leaves true f s low h = h
