@@ -92,7 +92,8 @@ module _ {S L : Type 0} (m : Meaning S) (w : LinkView L) (p : PortsView L) (valu
 
 pub no_answers : (c : Option Command) (h : Option (List ℕ)) → ClientAnswers c statuses.NoMemory h h
 no_answers None h = tt
-no_answers _ h = tt
+no_answers (Some Replay) h = tt
+no_answers (Some _) h = tt
 
 -- words that ask for no command
 pub none_answers : (c : Option Command) (s : Status) (h i : Option (List ℕ)) → c ≡ None → ClientAnswers c s h i

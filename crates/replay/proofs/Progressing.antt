@@ -228,7 +228,8 @@ module _ {S : Type 0} (m : Meaning S) where
   -- of a source that does not tell its bytes nothing is said
   pub unknown_ends : (left before now : Option (List ℕ)) (x : Result (Unit {0}) ReplayError) → EndsWith m None left before now x
   unknown_ends left before now (Ok x) = tt
-  unknown_ends left before now _ = tt
+  unknown_ends left before now (Err errors.ReadFault) = tt
+  unknown_ends left before now (Err _) = tt
 
   starved_first : (bytes left before : Option (List ℕ)) → EndsWith m bytes left before before (Err errors.NoMemory)
   starved_first None left before = tt

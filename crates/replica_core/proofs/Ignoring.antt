@@ -86,7 +86,9 @@ not_in_view m q v body s e =
 
 body_rests : {S : Type 0} (m : Meaning S) (p : Peer) (body : Body) (s : ReplicaState) → is_of_view body ≡ true → is_current s p.view ≡ false
     → on_body m Trimmed p body s ≡ still s
-body_rests m p _ s of e = absurd cc
+body_rests m p bodies.ViewChangeReq s of e = absurd cc
+body_rests m p (bodies.ViewChange u x l) s of e = absurd cc
+body_rests m p (bodies.StartView x l) s of e = absurd cc
 body_rests m p body s of e = not_in_view m p.sender p.view body s e
 
 when_rests : (s : ReplicaState) (f : ReplicaState → Effect) (b : Bool) → f s ≡ still s → when b f s ≡ still s
