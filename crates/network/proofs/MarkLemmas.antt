@@ -3,7 +3,8 @@ use Rattle.std.proofs.Common.{◌≡◌, ℕ, zero, suc, ◌+◌, ◌-◌, min, 
 use Rattle.std.proofs.Common.{refl, sym, ap, subst, ◌∙◌, arith}
 use Rattle.std.specs.List.{All}
 use Rattle.std.specs.Prelude.{slice_get, option_map}
-use Rattle.std.proofs.lemmas.List.{take-take, map-append}
+use Rattle.std.proofs.Math.Seq.{take-add}
+use Rattle.std.proofs.lemmas.List.{take-take, map-append, drop-drop, drop-take}
 use Rattle.std.proofs.lemmas.Slice.{between_is}
 use Rattle.std.proofs.lemmas.List.Edits.{length-between}
 use Rattle.std.proofs.lemmas.List.Elements.{All-get_or, All-head, All-tail}
@@ -12,7 +13,7 @@ use Rattle.nop_types.specs.declared.output.Actor.{Actor}
 use Rattle.nop_types.specs.declared.output.Dest.{Dest}
 use Rattle.network.specs.declared.network.Mark.{Mark}
 use Rattle.network.specs.Network.{Sent}
-use Rattle.network.specs.Marks.{part_of, head_len, rest_len, sent_of, all_sent, MarkFits, Keeps}
+use Rattle.network.specs.Marks.{part_of, head_len, rest_len, datagram_of, sent_of, all_sent, MarkFits, Keeps}
 use Rattle.network.specs.declared.network.TheConstants.{HEADER_LEN}
 
 pub length-all_sent : (bytes : List ℕ) (marks : List Mark) → length (all_sent bytes marks) ≡ length marks
@@ -89,3 +90,23 @@ all_pushed old new marks new_marks m s keeps fits pushed is =
     ap (all_sent new) pushed ∙ map-append (sent_of new) marks (m ∷ [])
     ∙ ap (λ (xs : List Sent). xs ++ sent_of new m ∷ []) (all_kept old new marks keeps fits)
     ∙ ap (λ (x : Sent). all_sent old marks ++ x ∷ []) is
+
+-- ---- a datagram in one piece
+
+part_is : (bytes : List ℕ) (begin len : ℕ) → part_of bytes begin len ≡ take len (drop begin bytes)
+part_is bytes begin len = between_is bytes begin (begin + len) ∙ drop-take begin len bytes
+
+two_parts : (bytes : List ℕ) (begin front back : ℕ)
+    → part_of bytes begin (front + back) ≡ part_of bytes begin front ++ part_of bytes (begin + front) back
+two_parts bytes begin front back =
+    let whole = part_is bytes begin (front + back) ∙ take-add front back (drop begin bytes) in
+    let first = part_is bytes begin front in
+    let second = part_is bytes (begin + front) back in
+    let deeper : drop front (drop begin bytes) ≡ drop (begin + front) bytes = drop-drop front begin bytes in
+    cc
+
+pub joined_parts : (bytes : List ℕ) (m : Mark) → m.head + head_len m ≡ m.rest → part_of bytes m.head m.len ≡ datagram_of bytes m
+joined_parts bytes m next =
+    let len : m.len ≡ head_len m + rest_len m = omega arith in
+    ap (part_of bytes m.head) len ∙ two_parts bytes m.head (head_len m) (rest_len m)
+    ∙ ap (λ (rest : ℕ). part_of bytes m.head (head_len m) ++ part_of bytes rest (rest_len m)) next

@@ -8,6 +8,9 @@ use nop_types::{Actor, Bytes, Dest, NoMemory, Out, Outbox};
 use std::alloc::Global;
 use transcript_text::{accept_line, busy_line, dead_line, send_line, submit_line};
 
+/// A line of a datagram that is sent has some thirty bytes.
+const LINE_ROOM: usize = 40;
+
 /// The lines of an event: their text, and how many of them are sends and accepts.
 #[derive(Debug, Drop)]
 pub struct Lines {
@@ -123,6 +126,14 @@ fn carry(
     }
 }
 
+/// Room for the lines of what an actor did: most have fewer bytes than this for each output.
+fn room_for(did: &Option<Outbox>) -> usize {
+    match did {
+        Some(outs) => outs.as_slice().len().saturating_mul(LINE_ROOM),
+        None => LINE_ROOM,
+    }
+}
+
 /// Carries out what an actor did, in order: its datagrams go into the network, and its lines are written. Where memory runs
 /// out, a front of the datagrams is in the network, and there are no lines.
 pub fn carry_out(
@@ -138,7 +149,7 @@ pub fn carry_out(
         (sends_by from (did_of did.now))) }
 {
     let mut tally = Tally {
-        text: Vec::new(alloc),
+        text: Vec::with_capacity(alloc, room_for(did))?,
         sends: 0,
         accepts: 0,
     };

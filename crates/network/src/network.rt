@@ -10,6 +10,7 @@ ghost use Rattle.std.specs.Prelude.{
   slice_get,
   option_map,
   IfOk,
+  IfSome,
   OnOk,
   OnErr,
 };
@@ -113,6 +114,19 @@ fn rest_of(bytes: &[u8], mark: Mark) -> &[u8]
     part(bytes, mark.rest, len)
 }
 
+/// The datagram of a mark where its head and its rest lie one behind the other, None where its rest is shared.
+#[tactic(auto, using(crate::proofs::MarkLemmas::joined_parts))]
+fn in_one_piece(bytes: &[u8], mark: Mark) -> Option<&[u8]>
+    requires { MarkFits (length bytes.now) mark }
+    ensures { IfSome result (λ b. b.now ≡ datagram_of bytes.now mark) }
+{
+    let head = (mark.len as usize).min(HEADER_LEN);
+    if mark.head + head != mark.rest {
+        return None;
+    }
+    Some(part(bytes, mark.head, mark.len as usize))
+}
+
 /// The datagram of a mark, copied.
 fn datagram(alloc: Global, bytes: &[u8], mark: Mark) -> Result<Bytes, NoMemory>
     requires { MarkFits (length bytes.now) mark }
@@ -141,6 +155,18 @@ fn datagram_at(
         return Ok(None);
     }
     Ok(Some(datagram(alloc, bytes, mark_at(marks, index as usize))?))
+}
+
+/// The datagram with this index where it lies in one piece, None where it does not, or no datagram has the index.
+fn piece_at<'a>(bytes: &'a [u8], marks: &[Mark], index: u64) -> Option<&'a [u8]>
+    requires { All (MarkFits (length bytes.now)) marks.now }
+    ensures { IfSome result (λ b. option_map (λ s. s.bytes)
+        (slice_get (all_sent bytes.now marks.now) index) ≡ Some b.now) }
+{
+    if index >= marks.len() as u64 {
+        return None;
+    }
+    in_one_piece(bytes, mark_at(marks, index as usize))
 }
 
 /// Notes a datagram where there is an index.
@@ -241,6 +267,15 @@ impl Network {
             ≡ option_map (λ s. s.bytes) (slice_get self.now index)) }
     {
         datagram_at(*self.bytes.allocator(), &self.bytes, &self.marks, index)
+    }
+
+    /// The datagram with this index, which needs no copy where it lies in one piece; None where it does not, or where no
+    /// datagram has the index.
+    pub fn piece(&self, index: u64) -> Option<&[u8]>
+        ensures { IfSome result (λ b. option_map (λ s. s.bytes) (slice_get self.now index)
+            ≡ Some b.now) }
+    {
+        piece_at(&self.bytes, &self.marks, index)
     }
 
     pub fn push(&mut self, from: Actor, dest: Dest, datagram: &[u8]) -> Result<(), NoMemory>

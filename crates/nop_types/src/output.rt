@@ -78,12 +78,16 @@ impl Outbox {
         Ok(())
     }
 
-    /// Puts the outputs of the other behind these.
+    /// Puts the outputs of the other behind these; where there are none yet, they move without a copy.
     pub fn append(&mut self, other: Outbox) -> Result<(), NoMemory>
         ensures ok { OnOk result (self.new ≡ self.old ++ other) }
         ensures err { OnErr result (self.new ≡ self.old) }
     {
         let Outbox { mut outs } = other;
+        if self.outs.is_empty() {
+            self.outs = outs;
+            return Ok(());
+        }
         self.outs.append(&mut outs)?;
         Ok(())
     }

@@ -20,7 +20,7 @@ use std::alloc::Global;
 #[derive(Drop)]
 pub enum Stimulus<'a> {
     Input(Input<'a>),
-    /// A datagram of the network.
+    /// A datagram of the network, copied.
     Datagram(Bytes),
     Crash,
 }
@@ -50,12 +50,16 @@ fn tick_if(takes: bool, tick: Tick) -> Result<Stimulus<'static>, StepError>
     }
 }
 
-fn datagram_at(network: &Network, index: u64) -> Result<Stimulus<'static>, StepError>
+/// Copied only where the datagram does not lie in one piece.
+fn datagram_at(network: &Network, index: u64) -> Result<Stimulus<'_>, StepError>
     ensures ok { IfOk result (λ s.
         datagram_at index (length network.now) (slice_get network.now index) ≡ Ok (owned s)) }
     ensures err { IfErr result (λ e. Refuses e
         (datagram_at index (length network.now) (slice_get network.now index)) ⊤) }
 {
+    if let Some(bytes) = network.piece(index) {
+        return Ok(Stimulus::Input(Input::Packet(bytes)));
+    }
     match network.get(index)? {
         Some(bytes) => Ok(Stimulus::Datagram(bytes)),
         None => Err(StepError::NoSuchDatagram {
@@ -81,7 +85,7 @@ fn junk(alloc: Global, bytes: &[u8]) -> Result<Stimulus<'_>, StepError>
 pub fn stimulus_of<'a>(
     alloc: Global,
     config: Config,
-    network: &Network,
+    network: &'a Network,
     event: &'a Event,
 ) -> Result<Stimulus<'a>, StepError>
     ensures ok { IfOk result (λ s. stimulus_of config network.now event.now ≡ Ok (owned s)) }
