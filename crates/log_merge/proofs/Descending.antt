@@ -38,7 +38,7 @@ use Rattle.nop_types.specs.declared.peer.Change as told
 use Rattle.nop_types.specs.declared.view.View.{View}
 use Rattle.nop_types.specs.Checkpoints.{Checkpoint}
 use Rattle.nop_types.specs.Lists.{Has, slot_of}
-use Rattle.nop_types.specs.Logs.{Trimmed, above}
+use Rattle.nop_types.specs.Logs.{Keeping, Trimmed, above}
 use Rattle.nop_types.specs.PlainChanges.{Change, plain, plain_above}
 use Rattle.nop_types.specs.Views.{is_view}
 use Rattle.lemmas.proofs.Members.{Has-first, Has-rest, Has-none, Has-cases, Has-filter, Has-from_filter}
@@ -201,7 +201,7 @@ cons_distinct x ds apart h (suc i) (suc j) c d e g s = ap suc (h i j c d e g s)
 tail_distinct : (x : Change) (cs : List Change) → HasDistinctSenders (x ∷ cs) → HasDistinctSenders cs
 tail_distinct x cs h i j c d e g s = let same = h (suc i) (suc j) c d e g s in omega arith
 
-kept_distinct : (p : Change → Bool) (cs : List Change) → HasDistinctSenders cs → HasDistinctSenders (filter p cs)
+pub kept_distinct : (p : Change → Bool) (cs : List Change) → HasDistinctSenders cs → HasDistinctSenders (filter p cs)
 kept_distinct p [] h = h
 kept_distinct p (x ∷ cs) h = at (p x) (kept_distinct p cs (tail_distinct x cs h))
   where
@@ -220,7 +220,7 @@ found_at [] k x h e = absurd (omega arith)
 found_at (y ∷ xs) zero x h e = ap (λ z. Some z) e
 found_at (y ∷ xs) (suc k) x h e = found_at xs k x (omega arith) e
 
-has_permuted : {A : Type 0} (cs ds : List A) (c : A) → IsPermutation cs ds → Has cs c → Has ds c
+pub has_permuted : {A : Type 0} (cs ds : List A) (c : A) → IsPermutation cs ds → Has cs c → Has ds c
 has_permuted cs ds c same h =
     let there = Contains-permutation cs ds c same (h.0, slice_get_within cs h.0 c h.1, get_or_from_slice_get cs h.0 c c h.1) in
     (there.0, found_at ds there.0 c there.1 there.2)
@@ -247,18 +247,19 @@ of_sorted p cs ds distinct same sorted =
 
 -- ---- the changes as they are told
 
-other_at : (n : ℕ) (cs : List told.Change) (i : ℕ) (c : Change) → slice_get (map (plain_above Trimmed n) cs) i ≡ Some c
+other_at : (k : Keeping) (n : ℕ) (cs : List told.Change) (i : ℕ) (c : Change) → slice_get (map (plain_above k n) cs) i ≡ Some c
     → (d : Change) × (slice_get (map plain cs) i ≡ Some d) × (d.sender ≡ c.sender)
-other_at n [] i c e = absurd cc
-other_at n (d ∷ cs) zero c e =
-    let same : plain_above Trimmed n d ≡ c = cc in
+other_at k n [] i c e = absurd cc
+other_at k n (d ∷ cs) zero c e =
+    let same : plain_above k n d ≡ c = cc in
     (plain d, refl, ap (λ (x : Change). x.sender) same)
-other_at n (d ∷ cs) (suc i) c e = other_at n cs i c e
+other_at k n (d ∷ cs) (suc i) c e = other_at k n cs i c e
 
-distinct_above : (n : ℕ) (cs : List told.Change) → HasDistinctSenders (map plain cs) → HasDistinctSenders (map (plain_above Trimmed n) cs)
-distinct_above n cs distinct i j c d e g same =
-    let a = other_at n cs i c e in
-    let b = other_at n cs j d g in
+pub distinct_above : (k : Keeping) (n : ℕ) (cs : List told.Change) → HasDistinctSenders (map plain cs)
+    → HasDistinctSenders (map (plain_above k n) cs)
+distinct_above k n cs distinct i j c d e g same =
+    let a = other_at k n cs i c e in
+    let b = other_at k n cs j d g in
     distinct i j a.0 b.0 a.1 b.1 (a.2 ∙ same ∙ sym b.2)
 
 sorted_above : (n : ℕ) (cs : List told.Change) → IsNonDecreasingBy (λ c. c.sender) cs
@@ -277,7 +278,8 @@ of_sorted_told view n cs ds distinct same sorted =
     let p : Change → Bool = λ c. is_view c.last_normal view in
     let f : told.Change → Change = plain_above Trimmed n in
     ap (λ (xs : List Change). of_all xs []) (map_filter f p ds)
-    ∙ of_sorted p (map f cs) (map f ds) (distinct_above n cs distinct) (IsPermutation-map f cs ds same) (sorted_above n ds sorted)
+    ∙ of_sorted p (map f cs) (map f ds) (distinct_above Trimmed n cs distinct) (IsPermutation-map f cs ds same)
+    (sorted_above n ds sorted)
     ∙ sym (ap merge (map_filter f p cs))
 
 -- the last of the changes, where it counts
@@ -329,7 +331,7 @@ taken_is s (c ∷ cs) g has is only =
           | inr rest ↦ later rest
         ]
 
-same_change : (cs : List told.Change) (c d : told.Change) → HasDistinctSenders (map plain cs) → Has cs c → Has cs d
+pub same_change : (cs : List told.Change) (c d : told.Change) → HasDistinctSenders (map plain cs) → Has cs c → Has cs d
     → c.sender ≡ d.sender → c ≡ d
 same_change cs c d distinct (i, e) (j, g) same =
     let at = distinct i j (plain c) (plain d) (plain_at i c e) (plain_at j d g) same in

@@ -1,7 +1,9 @@
 pub mod Best
 pub mod Descending
 pub mod InRanges
+pub mod Kept
 pub mod Merged
+pub mod Orders
 pub mod Slots
 pub mod WholeLogs
 pub mod Winners

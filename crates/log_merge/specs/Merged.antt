@@ -3,6 +3,8 @@ use Rattle.std.specs.Prelude.{◌≡◌, ◌≤◌, ◌↔◌, ℕ, List, Some, 
 use Rattle.nop_types.specs.declared.request.Request.{Request}
 use Rattle.nop_types.specs.declared.request.Entry.{Entry}
 use Rattle.nop_types.specs.declared.request.Entry.TheVariants.{NoOp, Req}
+use Rattle.nop_types.specs.declared.peer.Change as told
+use Rattle.nop_types.specs.Logs.{Log}
 use Rattle.nop_types.specs.PlainChanges.{Change}
 use Rattle.nop_types.specs.Lists.{Has, slot_of}
 
@@ -36,3 +38,14 @@ HasDistinctSenders cs = (i j : ℕ) (c d : Change) → slice_get cs i ≡ Some c
 -- the same pairs of sender and log, in whatever order
 abbrev pub TellSame : List Change → List Change → Type 0
 TellSame cs ds = (s : ℕ) (l : List Entry) → Tells cs s l ↔ Tells ds s l
+
+-- ---- of logs that are kept whole or trimmed
+
+pub record TellsLog (cs : List told.Change) (s : ℕ) (l : Log) : Type 0 where
+  pub change : told.Change
+  pub member : Has cs change
+  pub sender : change.sender ≡ s
+  pub log : change.log ≡ l
+
+abbrev pub TellSameLogs : List told.Change → List told.Change → Type 0
+TellSameLogs cs ds = (s : ℕ) (l : Log) → TellsLog cs s l ↔ TellsLog ds s l

@@ -1,16 +1,25 @@
-ghost use Rattle.std.specs.Prelude.{◌≡◌, ◌↔◌, ◌∷◌, ℕ, List, [], Some, None, length, map};
+ghost use Rattle.std.specs.Prelude.{◌≡◌, ◌↔◌, ◌∷◌, ℕ, List, [], Some, None, length, map, filter};
 ghost use Rattle.nop_types.specs.declared.request.Request.{Request};
 ghost use Rattle.nop_types.specs.declared.request.Entry.TheVariants.{NoOp, Req};
+ghost use Rattle.nop_types.specs.declared.view.View.{View};
 ghost use Rattle.nop_types.specs.declared.peer.Change as told;
 ghost use Rattle.nop_types.specs.PlainChanges.{Change, plain};
 ghost use Rattle.std.specs.List.{AllByRecursion};
+ghost use Rattle.std.specs.List.Sorted.{IsPermutation};
 ghost use Rattle.nop_types.specs.Lists.{IsGreatest, slot_of};
 ghost use Rattle.nop_types.specs.Logs.{Keeping, Whole, whole};
 ghost use Rattle.nop_types.specs.Ranges.{EntryFits, LogIsIn, ChangeIsIn};
+ghost use Rattle.nop_types.specs.Views.{is_view};
 ghost use Rattle.log_merge.specs.Merge.{merge};
 ghost use Rattle.log_merge.specs.Merging.{kept_told, best, IsBest, merged};
 ghost use Rattle.log_merge.specs.Starting.{greatest_point, kept};
-ghost use Rattle.log_merge.specs.Merged.{HasNoOp, HasLowest, HasDistinctSenders, TellSame};
+ghost use Rattle.log_merge.specs.Merged.{
+  HasNoOp,
+  HasLowest,
+  HasDistinctSenders,
+  TellSame,
+  TellSameLogs,
+};
 
 /// A merge is as long as the longest log. It has a NO-OP exactly where a log has one, and a request exactly where no log has a
 /// NO-OP and that is the request of the lowest sender whose log has the slot.
@@ -28,6 +37,17 @@ pub fn merge_by_slot()
 pub fn merge_is_of_pairs()
     ensures { (cs ds : List Change) → HasDistinctSenders cs → TellSame cs ds →
         merge cs ≡ merge ds }
+{}
+
+/// So does the merge of the logs that replicas tell, kept whole or trimmed, with its sync point and its checkpoint. Changes that
+/// came in another order give the same.
+pub fn merged_is_of_pairs()
+    ensures pairs { (k : Keeping) (cs ds : List told.Change) → HasDistinctSenders (map plain cs)
+        → TellSameLogs cs ds → merged k cs ≡ merged k ds }
+    ensures order { (k : Keeping) (view : View) (cs ds : List told.Change)
+        → HasDistinctSenders (map plain cs) → IsPermutation cs ds
+        → merged k (filter (λ c. is_view c.last_normal view) cs)
+        ≡ merged k (filter (λ c. is_view c.last_normal view) ds) }
 {}
 
 /// The entries of a merge are in their ranges where those of all logs are, and the merge of logs that are in theirs, kept whole or

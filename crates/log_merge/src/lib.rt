@@ -8,8 +8,10 @@
 //! These laws are of plain changes, whose logs are lists. `merged` is the merge of the logs that
 //! replicas tell, kept whole or trimmed: sync point and checkpoint are those of the best of them
 //! (`best_has_the_greatest`), and of trimmed logs only what stands above that sync point is merged.
-//! It is in its ranges where the logs are (`merge_is_in_ranges`). Of whole logs it has the entries
-//! of the plain merge, and the greatest sync point (`whole_merge_is_plain`).
+//! Where the senders are distinct it depends on who told which log alone, sync point and checkpoint
+//! too, and not on the order (`merged_is_of_pairs`). It is in its ranges where the logs are
+//! (`merge_is_in_ranges`). Of whole logs it has the entries of the plain merge, and the greatest
+//! sync point (`whole_merge_is_plain`).
 //!
 //! Calls, for `view_change`, of trimmed logs: `merge_of_view` gives the merge of the changes with
 //! one last normal view, and copies no more than it gives; `merge_moved` gives the same, and moves
@@ -27,7 +29,7 @@ mod moving;
 
 pub use laws::{
     best_has_the_greatest, merge_by_slot, merge_is_in_ranges, merge_is_of_pairs,
-    whole_merge_is_plain,
+    merged_is_of_pairs, whole_merge_is_plain,
 };
 pub use merging::merge_of_view;
 pub use moving::merge_moved;

@@ -19,6 +19,7 @@ use Rattle.protocol.proofs.Growing.{Kept}
 use Rattle.protocol.proofs.Places.{follows_it, follows_last}
 use Rattle.protocol.proofs.Saying.{said_unless, answered}
 use Rattle.protocol.proofs.Facts.{next_slot}
+use Rattle.protocol.proofs.Spoken.{one_spoken}
 
 module _ {S : Type 0} (m : Meaning S) (f : ℕ) (c : Conf) (r : ℕ) (inv : Inv m f c) (within : r < 2 * f + 1) where
   abbrev p : Member
@@ -48,7 +49,8 @@ module _ {S : Type 0} (m : Meaning S) (f : ℕ) (c : Conf) (r : ℕ) (inv : Inv 
         queued = λ stamps h. advanced_stamped stamps p.receiver (p.next + 1) h;
         waits = λ g e. absurd (follows_it m f c r inv within may.follows (own.gap.waits g e).leads);
         last = λ a none e. absurd (follows_it m f c r inv within may.follows a);
-      }) (λ d ev had. said_unless f d p (GapRep (length p.log + 1))
+      }) (one_spoken p (GapRep (length p.log + 1)))
+      (λ d ev had. said_unless f d p (GapRep (length p.log + 1))
       (answered m f c r inv within d ev (p.log ++ NoOp ∷ []) (length p.log + 1) may had (next_slot p.log NoOp)) false)
       (λ d had y i. absurd (Has-none y i))
     where

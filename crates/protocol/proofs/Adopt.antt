@@ -22,6 +22,7 @@ use Rattle.lemmas.proofs.Options.{same_Some-at}
 use Rattle.protocol.proofs.Stays.{log_lasts}
 use Rattle.protocol.proofs.Places.{below_of}
 use Rattle.protocol.proofs.Adopting.{adopted_keeps}
+use Rattle.protocol.proofs.Spoken.{none_spoken}
 
 module _ {S : Type 0} (m : Meaning S) (f : ℕ) (c : Conf) (r : ℕ) (inv : Inv m f c) (within : r < 2 * f + 1) where
   abbrev p : Member
@@ -50,12 +51,15 @@ module _ {S : Type 0} (m : Meaning S) (f : ℕ) (c : Conf) (r : ℕ) (inv : Inv 
           by_number = λ k y a h. good.by_number k y a (slot_of-prefix l said.lead k (Req y) said.begins h);
           noops = λ k a h. slot_of-prefix said.lead n.0 k NoOp n.2 (slot_of-prefix l said.lead k NoOp said.begins h);
           submitted = λ y i. good.submitted y (Has-prefix l said.lead (Req y) said.begins i);
+          session = good.session;
           announced = λ a. absurd (follows a);
           settled = λ a. absurd (follows a);
         };
         counted = subst (λ (y : Start). x + length y.log ≡ y.next + length l) (sym same) said.counted;
         base = λ a. absurd (follows a);
         started = λ a. absurd (follows a);
+        session = inv.said_views (says (leader_of v p.replicas) v (StartView x z l)) may.said;
+        spoken = none_spoken v;
         words = λ y i. absurd (Has-none y i);
       })
     where

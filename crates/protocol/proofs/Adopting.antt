@@ -16,7 +16,7 @@ use Rattle.lemmas.proofs.Bools.{not-both}
 use Rattle.started_views.proofs.Past.{log_here, log_places, log_cases, entry_places, entry_cases, start_here, start_places, start_cases}
 use Rattle.lemmas.proofs.Views.{is_view-same, is_view-apart, AtMost-antisym}
 use Rattle.oum_receiver.specs.Receiving as receiving
-use Rattle.protocol.specs.Conf.{Conf, after}
+use Rattle.protocol.specs.Conf.{Conf, after, HasOwner}
 use Rattle.protocol.specs.Evolves.{Evolves}
 use Rattle.protocol.specs.Invariant.{GoodLog, GoodStart, GoodQueue, Own, Inv}
 use Rattle.protocol.specs.Member.{Member, standing}
@@ -26,6 +26,7 @@ use Rattle.protocol.specs.Truth.{TrueWord}
 use Rattle.protocol.proofs.Growing.{Kept, Forward, grows_keeps}
 use Rattle.protocol.proofs.Replying.{above_true}
 use Rattle.protocol.proofs.Stays.{own_lasts}
+use Rattle.protocol.proofs.Spoken.{IsSpokenIn}
 
 module _ {S : Type 0} (m : Meaning S) (f : ℕ) (c : Conf) (r : ℕ) (inv : Inv m f c) (within : r < 2 * f + 1) where
   abbrev p : Member
@@ -40,6 +41,8 @@ module _ {S : Type 0} (m : Meaning S) (f : ℕ) (c : Conf) (r : ℕ) (inv : Inv 
     pub counted : x + length log.start.log ≡ log.start.next + length l
     pub base : r ≡ leader_of v (2 * f + 1) → length l ≡ length log.start.log
     pub started : r ≡ leader_of v (2 * f + 1) → GoodStart f d.past v (started_with (standing (adopted p v x z l)))
+    pub session : HasOwner c.installs v.session
+    pub spoken : IsSpokenIn v said
     pub words : (y : Said) → Has said y → TrueWord f d y.sender y.view y.word
 
   module _ (v : View) (x z : ℕ) (l : List Entry) (said : List Said) (up : AtMost p.view v) (below : Below p.last_normal v) where
@@ -148,6 +151,8 @@ module _ {S : Type 0} (m : Meaning S) (f : ℕ) (c : Conf) (r : ℕ) (inv : Inv 
             | inr g ↦ inl g
           ];
           current = here;
+          session = owed.session;
+          spoken = owed.spoken;
           said = owed.words;
           replies = above_true m f d s own.replicas (subst (λ (i : ℕ). HadLog d.past i v l) (sym own.number) here) s.sync.sync_point;
           own = mine;

@@ -36,6 +36,7 @@ use Rattle.lemmas.proofs.Options.{same_Some-at}
 use Rattle.protocol.proofs.Stays.{log_lasts, own_lasts, stamped_lasts, submitted_lasts, settled_lasts, waits_last}
 use Rattle.protocol.proofs.Facts.{push_length}
 use Rattle.protocol.specs.Conf as conf
+use Rattle.protocol.proofs.Spoken.{IsSpokenIn}
 
 module _ {S : Type 0} (m : Meaning S) (f : ℕ) (c : Conf) (r : ℕ) (inv : Inv m f c) (within : r < 2 * f + 1) (x : Entry) (rest : Receiving)
     (gap : Option Agreement) (said : List Said) (replies : List Reply) where
@@ -152,6 +153,7 @@ module _ {S : Type 0} (m : Meaning S) (f : ℕ) (c : Conf) (r : ℕ) (inv : Inv 
         by_number = numbered;
         noops = noops;
         submitted = submitted;
+        session = good.session;
         announced = announced;
         settled = settled;
       }
@@ -209,11 +211,13 @@ module _ {S : Type 0} (m : Meaning S) (f : ℕ) (c : Conf) (r : ℕ) (inv : Inv 
         };
       }
 
-    pub append_keeps : ((d : Conf) → Evolves f c d → HadLog d.past r p.last_normal l → (y : Said) → Has said y
+    pub append_keeps : IsSpokenIn p.view said
+        → ((d : Conf) → Evolves f c d → HadLog d.past r p.last_normal l → (y : Said) → Has said y
         → TrueWord f d y.sender y.view y.word) → ((d : Conf) → HadLog d.past r p.last_normal l → (y : Reply) → Has replies y
         → TrueReply m f d y) → Kept m f c (after f c r e)
-    append_keeps words answers = local_keeps_saying m f c r e inv within refl refl turns (λ d ev had new. record {
+    append_keeps spoken words answers = local_keeps_saying m f c r e inv within refl refl turns (λ d ev had new. record {
       log = log d ev had new;
+      spoken = spoken;
       said = words d ev had;
       replies = answers d had;
       own = own_after d ev had new;

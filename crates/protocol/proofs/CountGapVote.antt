@@ -18,6 +18,7 @@ use Rattle.protocol.proofs.Local.{turns_same, local_keeps}
 use Rattle.protocol.proofs.Stays.{log_lasts, own_lasts, waits_last, settled_lasts}
 use Rattle.protocol.proofs.Votes.{vote_once, vote_holds, enough_from}
 use Rattle.protocol.specs.Conf as conf
+use Rattle.protocol.proofs.Spoken.{none_spoken}
 
 module _ {S : Type 0} (m : Meaning S) (f : ℕ) (c : Conf) (r : ℕ) (inv : Inv m f c) (within : r < 2 * f + 1) where
   abbrev p : Member
@@ -70,6 +71,7 @@ module _ {S : Type 0} (m : Meaning S) (f : ℕ) (c : Conf) (r : ℕ) (inv : Inv 
         let o : Own f d r p = own_lasts m f c d ev r p own in
         record {
           log = log_same d ev;
+          spoken = none_spoken p.view;
           said = λ y i. absurd (Has-none y i);
           replies = λ y i. absurd (Has-none y i);
           own = record {

@@ -15,6 +15,7 @@ use Rattle.protocol.specs.Said.{Said, SyncCommit}
 use Rattle.protocol.specs.Truth.{TrueWord}
 use Rattle.protocol.proofs.Growing.{Kept}
 use Rattle.protocol.proofs.Saying.{said_unless, speaks, not_both}
+use Rattle.protocol.proofs.Spoken.{IsSpokenIn, none_spoken, unless_spoken}
 
 module _ {S : Type 0} (m : Meaning S) (f : ℕ) (c : Conf) (r : ℕ) (inv : Inv m f c) (within : r < 2 * f + 1) where
   abbrev p : Member
@@ -27,7 +28,11 @@ module _ {S : Type 0} (m : Meaning S) (f : ℕ) (c : Conf) (r : ℕ) (inv : Inv 
   commits d k Settled y i = said_unless f d p (SyncCommit k) tt (others p == 0) y i
   commits d k Waiting y i = absurd (Has-none y i)
 
+  spoken : (k : ℕ) (v : Vote) → IsSpokenIn p.view (commit_if p k v)
+  spoken k Settled = unless_spoken (others p == 0) p (SyncCommit k)
+  spoken k Waiting = none_spoken p.view
+
   pub count_sync_vote_keeps : (q k : ℕ) → p.status ≡ Normal → Kept m f c (after f c r (count_sync_vote p q k))
   count_sync_vote_keeps q k normal = speaks m f c r inv within (count_sync_vote p q k).state.sync (count_sync_vote p q k).said
-      (λ n. absurd (not_both normal n))
+      (λ n. absurd (not_both normal n)) (spoken k _)
       (λ d ev had. commits d k _)

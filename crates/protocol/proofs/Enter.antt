@@ -22,7 +22,7 @@ use Rattle.view_change.specs.Gathering as gathering
 use Rattle.protocol.specs.Conf.{Conf, Effect, after}
 use Rattle.protocol.specs.Invariant.{GoodQueue, Gathers, GoodChanges, Own, Inv}
 use Rattle.protocol.specs.Member.{Member, PlainGathering, standing, leads, leader, others}
-use Rattle.protocol.specs.Moves.{say_all, own_change, entered, enter_as, enter}
+use Rattle.protocol.specs.Moves.{say_all, own_change, entered, enter_as, enter, MayEnter, say}
 use Rattle.protocol.specs.Said.{Said, Plain, ViewChange, says}
 use Rattle.protocol.specs.Truth.{TrueWord}
 use Rattle.protocol.proofs.Places.{normal_low}
@@ -32,17 +32,21 @@ use Rattle.protocol.proofs.Facts.{half_of}
 use Rattle.protocol.proofs.Replying.{leads_from}
 use Rattle.lemmas.proofs.Options.{same_Some-at}
 use Rattle.protocol.proofs.Stays.{own_lasts}
+use Rattle.protocol.proofs.Spoken.{IsSpokenIn, one_spoken, unless_spoken, both_spoken}
 
 not_self : (w : View) (b : Bool) → (not (is_view w w) && b) ≡ true → ⊥
 not_self w b e = not-both (is_view w w) (and_parts (not (is_view w w)) b e).0 (is_view-same w w refl)
 
 module _ {S : Type 0} (m : Meaning S) (f : ℕ) (c : Conf) (r : ℕ) (inv : Inv m f c) (within : r < 2 * f + 1) (v : View)
-    (up : Below (c.replicas r).view v) where
+    (may : MayEnter c (c.replicas r) v) where
   abbrev p : Member
   p = c.replicas r
 
   abbrev t : Member
   t = entered p v
+
+  up : Below p.view v
+  up = may.greater
 
   own : Own f c r p
   own = inv.own r within
@@ -125,6 +129,11 @@ module _ {S : Type 0} (m : Meaning S) (f : ℕ) (c : Conf) (r : ℕ) (inv : Inv 
             (subst (λ (j : ℕ). d.past.entry j v ≡ Some (entered_with (standing p))) (sym own.number) here) false y g
       ]
 
+  spoken : (b : Bool) → IsSpokenIn v (enter_as b t).said
+  spoken true = unless_spoken (others t == 0) t Plain
+  spoken false = both_spoken v (say_all t Plain) (say t (ViewChange p.last_normal p.next p.sync.sync_point p.log))
+      (unless_spoken (others t == 0) t Plain) (one_spoken t (ViewChange p.last_normal p.next p.sync.sync_point p.log))
+
   -- with these changes, saying this
   module _ (g : Option PlainGathering) (said : List Said) where
     abbrev e : Effect
@@ -160,10 +169,10 @@ module _ {S : Type 0} (m : Meaning S) (f : ℕ) (c : Conf) (r : ℕ) (inv : Inv 
         (rw (is_view-apart v p.view (λ a. up.apart (sym a))) refl)
 
     enters_keeps : ((d : Conf) → d.past.entry r v ≡ Some (entered_with (standing p))
-        → GoodChanges f d.past r v Change (entered_with (standing p)) g)
+        → GoodChanges f d.past r v Change (entered_with (standing p)) g) → IsSpokenIn v said
         → ((d : Conf) → d.past.entry r v ≡ Some (entered_with (standing p)) → (y : Said) → Has said y
         → TrueWord f d y.sender y.view y.word) → Kept m f c d
-    enters_keeps changes words = grows_keeps m f c r e inv within forward up.at_most (AtMost-refl p.last_normal) below (λ ev.
+    enters_keeps changes spoken words = grows_keeps m f c r e inv within forward up.at_most (AtMost-refl p.last_normal) below (λ ev.
         let o : Own f d r p = own_lasts m f c d ev r p own in
         record {
           logs = λ q w l h. elim (log_cases c.past r p.last_normal p.log q w l h) [
@@ -179,6 +188,8 @@ module _ {S : Type 0} (m : Meaning S) (f : ℕ) (c : Conf) (r : ℕ) (inv : Inv 
             | inr g ↦ inl g
           ];
           current = log_here c.past r p.last_normal p.log;
+          session = may.given;
+          spoken = spoken;
           said = words d here;
           replies = λ y i. absurd (Has-none y i);
           own = record {
@@ -200,8 +211,9 @@ module _ {S : Type 0} (m : Meaning S) (f : ℕ) (c : Conf) (r : ℕ) (inv : Inv 
 
   enter_as_keeps : (b : Bool) → leads t ≡ b → Kept m f c (after f c r (enter_as b t))
   enter_as_keeps true is = enters_keeps (enter_as true t).state.changes (enter_as true t).said (λ d h. changes_good d.past h true is)
-      (λ d h. words d h true)
-  enter_as_keeps false is = enters_keeps None (enter_as false t).said (λ d h. changes_good d.past h false is) (λ d h. words d h false)
+      (spoken true) (λ d h. words d h true)
+  enter_as_keeps false is = enters_keeps None (enter_as false t).said (λ d h. changes_good d.past h false is)
+      (spoken false) (λ d h. words d h false)
 
   pub enter_keeps : Kept m f c (after f c r (enter p v))
   enter_keeps = enter_as_keeps (leads t) refl

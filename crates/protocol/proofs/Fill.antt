@@ -25,6 +25,7 @@ use Rattle.protocol.proofs.Replying.{reply_true}
 use Rattle.lemmas.proofs.Options.{same_Some-at}
 use Rattle.protocol.proofs.Places.{follows_it, follows_last, by_number}
 use Rattle.protocol.proofs.Facts.{next_slot}
+use Rattle.protocol.proofs.Spoken.{none_spoken}
 
 module _ {S : Type 0} (m : Meaning S) (f : ℕ) (c : Conf) (r : ℕ) (inv : Inv m f c) (within : r < 2 * f + 1) where
   abbrev p : Member
@@ -48,7 +49,7 @@ module _ {S : Type 0} (m : Meaning S) (f : ℕ) (c : Conf) (r : ℕ) (inv : Inv 
         queued = λ stamps h. advanced_stamped stamps p.receiver (p.next + 1) h;
         waits = λ g e. absurd (follows_it m f c r inv within may.follows (own.gap.waits g e).leads);
         last = λ a none e. absurd cc;
-      }) (λ d ev had y i. absurd (Has-none y i)) (λ d had. reply_true m f d (appended p (Req q)) own.replicas
+      }) (none_spoken p.view) (λ d ev had y i. absurd (Has-none y i)) (λ d had. reply_true m f d (appended p (Req q)) own.replicas
       (by_number m f c r inv within d (p.log ++ Req q ∷ []) view had) (length p.log + 1) q (next_slot p.log (Req q))
       (leads (appended p (Req q))) refl)
     where

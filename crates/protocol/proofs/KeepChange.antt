@@ -21,6 +21,7 @@ use Rattle.protocol.proofs.Growing.{Kept}
 use Rattle.protocol.proofs.Local.{turns_same, local_keeps}
 use Rattle.protocol.proofs.Stays.{log_lasts, own_lasts}
 use Rattle.protocol.proofs.Facts.{counts_member, counts_push, zero_unless}
+use Rattle.protocol.proofs.Spoken.{none_spoken}
 
 module _ {S : Type 0} (m : Meaning S) (f : ℕ) (c : Conf) (r : ℕ) (inv : Inv m f c) (within : r < 2 * f + 1) where
   abbrev p : Member
@@ -91,6 +92,7 @@ module _ {S : Type 0} (m : Meaning S) (f : ℕ) (c : Conf) (r : ℕ) (inv : Inv 
         (o.changes.gathers g may.gathers) (has_sender plain.sender_of g.changes x.sender) refl in
         record {
           log = log_same d ev;
+          spoken = none_spoken p.view;
           said = λ y i. absurd (Has-none y i);
           replies = λ y i. absurd (Has-none y i);
           own = record {

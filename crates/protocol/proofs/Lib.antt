@@ -31,6 +31,7 @@ pub mod Replying
 pub mod Runs
 pub mod Say
 pub mod Saying
+pub mod Spoken
 pub mod Stamp
 pub mod Stays
 pub mod Submit

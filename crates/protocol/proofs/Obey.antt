@@ -9,6 +9,7 @@ use Rattle.protocol.specs.Member.{Member}
 use Rattle.protocol.specs.Moves.{obey}
 use Rattle.protocol.proofs.Growing.{Kept}
 use Rattle.protocol.proofs.Saying.{speaks, not_both}
+use Rattle.protocol.proofs.Spoken.{none_spoken}
 
 module _ {S : Type 0} (m : Meaning S) (f : ℕ) (c : Conf) (r : ℕ) (inv : Inv m f c) (within : r < 2 * f + 1) where
   abbrev p : Member
@@ -19,4 +20,5 @@ module _ {S : Type 0} (m : Meaning S) (f : ℕ) (c : Conf) (r : ℕ) (inv : Inv 
 
   pub obey_keeps : (k : ℕ) → p.status ≡ Normal → Kept m f c (after f c r (obey p k))
   obey_keeps k normal = speaks m f c r inv within (obey p k).state.sync [] (λ n. absurd (not_both normal n))
+      (none_spoken p.view)
       (λ d ev had y i. absurd (Has-none y i))

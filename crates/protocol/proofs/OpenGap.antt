@@ -28,6 +28,7 @@ use Rattle.protocol.proofs.Saying.{said_unless}
 use Rattle.protocol.proofs.Votes.{none_needed, is_settled}
 use Rattle.protocol.proofs.Facts.{push_length, next_slot, half_of}
 use Rattle.protocol.specs.Conf as conf
+use Rattle.protocol.proofs.Spoken.{unless_spoken}
 
 module _ {S : Type 0} (m : Meaning S) (f : ℕ) (c : Conf) (r : ℕ) (inv : Inv m f c) (within : r < 2 * f + 1) where
   abbrev p : Member
@@ -50,7 +51,8 @@ module _ {S : Type 0} (m : Meaning S) (f : ℕ) (c : Conf) (r : ℕ) (inv : Inv 
         queued = λ stamps h. advanced_stamped stamps p.receiver (p.next + 1) h;
         waits = waits (vote_of (others p) []);
         last = λ a none e. settled (is_settled (begun (length p.log + 1) (others p)) (vote_of (others p) []) none);
-      }) (λ d ev had. said_unless f d p (GapCommit (length p.log + 1)) (record {
+      }) (unless_spoken (others p == 0) p (GapCommit (length p.log + 1)))
+      (λ d ev had. said_unless f d p (GapCommit (length p.log + 1)) (record {
         sender = own.number ∙ mine;
         lead = l;
         leads = subst (λ (i : ℕ). d.past.log i p.view ≡ Some l) mine (subst (λ (w : View). d.past.log r w ≡ Some l) view had);

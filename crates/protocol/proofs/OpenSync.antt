@@ -17,6 +17,7 @@ use Rattle.protocol.proofs.Growing.{Kept}
 use Rattle.protocol.proofs.Stays.{own_lasts}
 use Rattle.protocol.proofs.Places.{leads_it}
 use Rattle.protocol.proofs.Saying.{said_unless, speaks, not_both}
+use Rattle.protocol.proofs.Spoken.{unless_spoken}
 
 module _ {S : Type 0} (m : Meaning S) (f : ℕ) (c : Conf) (r : ℕ) (inv : Inv m f c) (within : r < 2 * f + 1) where
   abbrev p : Member
@@ -27,7 +28,7 @@ module _ {S : Type 0} (m : Meaning S) (f : ℕ) (c : Conf) (r : ℕ) (inv : Inv 
 
   pub open_sync_keeps : MayOpenSync p → Kept m f c (after f c r (open_sync p))
   open_sync_keeps may = speaks m f c r inv within (open_sync p).state.sync (open_sync p).said
-      (λ n. absurd (not_both may.may_lead.normal n))
+      (λ n. absurd (not_both may.may_lead.normal n)) (unless_spoken (others p == 0) p (SyncPrepare p.sync.sync_point p.log))
       (λ d ev had. said_unless f d p (SyncPrepare p.sync.sync_point p.log) (prepared d ev had) (others p == 0))
     where
       view : p.last_normal ≡ p.view

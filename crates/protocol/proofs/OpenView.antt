@@ -12,7 +12,7 @@ use Rattle.log_merge.specs.Merge.{merge}
 use Rattle.log_merge.specs.Starting.{Start, kept, start_of, start_point}
 use Rattle.log_merge.proofs.Winners.{Winner, Nobody, Somebody, winner}
 use Rattle.started_views.specs.Past.{LeaderHad, IsStart, started_with}
-use Rattle.started_views.proofs.Changes.{kept_from}
+use Rattle.log_merge.proofs.Kept.{kept_from}
 use Rattle.lemmas.proofs.Slots.{slot_of-within}
 use Rattle.lemmas.proofs.Prefixes.{IsPrefixOf-refl}
 use Rattle.std.proofs.Math.Seq.{take-length}
@@ -25,9 +25,10 @@ use Rattle.protocol.specs.Member.{Member, PlainGathering, standing, others}
 use Rattle.protocol.specs.Moves.{say_all, adopted, open_view, MayOpenView}
 use Rattle.protocol.specs.Said.{StartView}
 use Rattle.protocol.proofs.Growing.{Kept}
-use Rattle.protocol.proofs.Stays.{own_lasts, submitted_lasts}
+use Rattle.protocol.proofs.Stays.{own_lasts, submitted_lasts, owner_lasts}
 use Rattle.protocol.proofs.Saying.{said_unless}
 use Rattle.protocol.proofs.Adopting.{begun, adopted_keeps}
+use Rattle.protocol.proofs.Spoken.{unless_spoken}
 
 -- each entry of a merge is one of a log that is merged
 merge_from : (cs : List plain.Change) (k : ℕ) (x : Entry) → slot_of (merge cs) k ≡ Some x
@@ -105,6 +106,7 @@ module _ {S : Type 0} (m : Meaning S) (f : ℕ) (c : Conf) (r : ℕ) (inv : Inv 
             by_number = λ k y a h. absurd (out k (Req y) a h);
             noops = λ k a h. h;
             submitted = λ y i. submitted_lasts m f c d e y (merged y i);
+            session = owner_lasts m f c d e p.view.session (inv.views r);
             announced = λ a k b h. absurd (out k NoOp b h);
             settled = λ a k b l h. absurd (out k NoOp b h);
           };
@@ -121,6 +123,8 @@ module _ {S : Type 0} (m : Meaning S) (f : ℕ) (c : Conf) (r : ℕ) (inv : Inv 
               opens = same_start ∙ ap (λ (w : View). start_of w g.changes) t.view;
             };
           };
+          session = inv.views r;
+          spoken = unless_spoken (others p == 0) p (StartView s.next z s.log);
           words = said_unless f d p (StartView s.next z s.log) (record {
             sender = own.number ∙ t.leads;
             start = s;

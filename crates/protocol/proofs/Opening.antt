@@ -18,7 +18,7 @@ use Rattle.started_views.proofs.Past.{first_log, first_start}
 use Rattle.lemmas.proofs.Slots.{slot_of-within}
 use Rattle.lemmas.proofs.Prefixes.{IsPrefixOf-refl}
 use Rattle.lemmas.proofs.Views.{AtMost-refl}
-use Rattle.protocol.specs.Conf.{Conf, opening}
+use Rattle.protocol.specs.Conf.{Conf, HasOwner, opening}
 use Rattle.protocol.specs.Invariant.{GoodSequencer, GoodLog, Own, Inv}
 use Rattle.protocol.specs.Laws.{OpeningMeets}
 use Rattle.protocol.specs.Member.{fresh}
@@ -29,6 +29,10 @@ none_there x k e = let h = slot_of-within [] k x e in omega (arith, h.0, h.1)
 opens_low : (k : ℕ) → 1 ≤ opening_session k
 opens_low zero = omega arith
 opens_low (suc k) = omega arith
+
+-- the first session is sequencer 0's
+first_owner : HasOwner [] first_view.session
+first_owner = (0, inl (refl, refl))
 
 abbrev first_start_of : Start
 first_start_of = record { next = 1; log = [] }
@@ -50,6 +54,7 @@ module _ {S : Type 0} (m : Meaning S) (f : ℕ) (config : Configuration) (count 
     by_number = λ k q a e. absurd (none_there (Req q) k e);
     noops = λ k a e. absurd (none_there NoOp k e);
     submitted = λ q i. absurd (Has-none _ i);
+    session = first_owner;
     announced = λ s k a e. absurd (none_there NoOp k e);
     settled = λ s k a b e. absurd (none_there NoOp k e);
   }
@@ -84,6 +89,8 @@ module _ {S : Type 0} (m : Meaning S) (f : ℕ) (config : Configuration) (count 
     installs = λ x i. absurd (Has-none x i);
     installed_once = λ i j s h g. absurd (Has-none _ h);
     controllers = λ k. record { low = opens_low k; given = λ e. absurd cc };
+    views = λ r. first_owner;
+    said_views = λ x i. absurd (Has-none x i);
     logs = λ r w l h. let g = first_log r w l h in
         subst (λ (x : View). GoodLog f c r x l) (sym g.0) (subst (GoodLog f c r first_view) (sym g.1) (first_log_good r));
     reached = λ r w l h. let g = first_log r w l h in subst (λ (x : View). AtMost x first_view) (sym g.0) (AtMost-refl first_view);

@@ -24,6 +24,7 @@ use Rattle.protocol.proofs.Replying.{above_true}
 use Rattle.protocol.proofs.Turning.{turn_keeps}
 use Rattle.protocol.proofs.Places.{follows_last, by_number}
 use Rattle.protocol.proofs.Saying.{said_unless}
+use Rattle.protocol.proofs.Spoken.{one_spoken}
 
 module _ {S : Type 0} (m : Meaning S) (f : ℕ) (c : Conf) (r : ℕ) (inv : Inv m f c) (within : r < 2 * f + 1) where
   abbrev p : Member
@@ -49,7 +50,7 @@ module _ {S : Type 0} (m : Meaning S) (f : ℕ) (c : Conf) (r : ℕ) (inv : Inv 
         session = refl;
         number = refl;
         queued = λ stamps h. advanced_stamped stamps p.receiver n h;
-      }) (λ d ev had. said_unless f d p (SyncRep (length l)) tt false)
+      }) (one_spoken p (SyncRep (length l))) (λ d ev had. said_unless f d p (SyncRep (length l)) tt false)
       (λ d had. above_true m f d (overlaid p z l) own.replicas (by_number m f c r inv within d (laid l p.log) view had)
       (max (length p.log) (overlaid p z l).sync.sync_point))
     where

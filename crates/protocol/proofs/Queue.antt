@@ -4,7 +4,7 @@ use Rattle.nop_types.specs.declared.datagram.Stamped.{Stamped}
 use Rattle.nop_types.specs.Lists.{Has}
 use Rattle.nop_types.specs.Meaning.{Meaning}
 use Rattle.oum_receiver.specs.declared.verdict.Verdict.{Verdict}
-use Rattle.oum_receiver.specs.declared.verdict.Verdict.TheVariants.{Queued, Old, Terminated, Full}
+use Rattle.oum_receiver.specs.declared.verdict.Verdict.TheVariants.{Queued}
 use Rattle.oum_receiver.specs.Receiving.{Receiving, verdict_of, judged}
 use Rattle.oum_receiver.proofs.Stamps.{offered_stamped}
 use Rattle.lemmas.proofs.Members.{Has-none}
@@ -16,6 +16,7 @@ use Rattle.protocol.specs.Moves.{queue}
 use Rattle.protocol.proofs.Growing.{Kept}
 use Rattle.protocol.proofs.Local.{turns_same, local_keeps}
 use Rattle.protocol.proofs.Stays.{log_lasts, own_lasts}
+use Rattle.protocol.proofs.Spoken.{none_spoken}
 
 -- an offer changes neither session nor number
 offered_same : (x : Receiving) (v : Verdict) (p : Stamped) → ((judged v x p).session ≡ x.session) × ((judged v x p).next ≡ x.next)
@@ -39,6 +40,7 @@ module _ {S : Type 0} (m : Meaning S) (f : ℕ) (c : Conf) (r : ℕ) (inv : Inv 
       let same = offered_same p.receiver (verdict_of p.receiver x) x in
       record {
         log = log_same d ev;
+        spoken = none_spoken p.view;
         said = λ y i. absurd (Has-none y i);
         replies = λ y i. absurd (Has-none y i);
         own = record {

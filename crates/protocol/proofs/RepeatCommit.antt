@@ -9,6 +9,7 @@ use Rattle.protocol.specs.Moves.{say_all, repeat_commit}
 use Rattle.protocol.specs.Said.{SyncCommit}
 use Rattle.protocol.proofs.Growing.{Kept}
 use Rattle.protocol.proofs.Saying.{said_unless, speaks}
+use Rattle.protocol.proofs.Spoken.{unless_spoken}
 
 module _ {S : Type 0} (m : Meaning S) (f : ℕ) (c : Conf) (r : ℕ) (inv : Inv m f c) (within : r < 2 * f + 1) where
   abbrev p : Member
@@ -19,4 +20,5 @@ module _ {S : Type 0} (m : Meaning S) (f : ℕ) (c : Conf) (r : ℕ) (inv : Inv 
 
   pub repeat_commit_keeps : Kept m f c (after f c r (repeat_commit p))
   repeat_commit_keeps = speaks m f c r inv within p.sync (say_all p (SyncCommit p.sync.sync_point)) (λ n. refl)
+      (unless_spoken (others p == 0) p (SyncCommit p.sync.sync_point))
       (λ d ev had. said_unless f d p (SyncCommit p.sync.sync_point) tt (others p == 0))

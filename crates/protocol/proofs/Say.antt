@@ -9,6 +9,7 @@ use Rattle.protocol.specs.Said.{Word}
 use Rattle.protocol.proofs.Growing.{Kept}
 use Rattle.protocol.proofs.Stays.{word_lasts}
 use Rattle.protocol.proofs.Saying.{said_unless, true_again, speaks}
+use Rattle.protocol.proofs.Spoken.{one_spoken}
 
 module _ {S : Type 0} (m : Meaning S) (f : ℕ) (c : Conf) (r : ℕ) (inv : Inv m f c) (within : r < 2 * f + 1) where
   abbrev p : Member
@@ -18,5 +19,5 @@ module _ {S : Type 0} (m : Meaning S) (f : ℕ) (c : Conf) (r : ℕ) (inv : Inv 
   own = inv.own r within
 
   pub say_keeps : (x : Word) → MaySay f c p x → Kept m f c (after f c r (say_again p x))
-  say_keeps x may = speaks m f c r inv within p.sync (say p x) (λ n. refl)
+  say_keeps x may = speaks m f c r inv within p.sync (say p x) (λ n. refl) (one_spoken p x)
       (λ d ev had. said_unless f d p x (word_lasts m f c d ev p.number p.view x (true_again f c p.number p.view x may.true)) false)

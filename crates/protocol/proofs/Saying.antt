@@ -22,6 +22,7 @@ use Rattle.protocol.proofs.Local.{turns_same, local_keeps}
 use Rattle.protocol.proofs.Places.{follows_it, by_number}
 use Rattle.nop_types.specs.declared.replica_state.Phase.{Phase}
 use Rattle.nop_types.specs.declared.replica_state.Phase.TheVariants.{Normal, Change}
+use Rattle.protocol.proofs.Spoken.{IsSpokenIn}
 
 -- what is said unless the replica is alone
 pub said_unless : (f : ℕ) (d : Conf) (p : Member) (x : Word) → TrueWord f d p.number p.view x → (b : Bool) (y : Said)
@@ -58,13 +59,15 @@ module _ {S : Type 0} (m : Meaning S) (f : ℕ) (c : Conf) (r : ℕ) (inv : Inv 
 
   -- something is said, and in Normal the sync point may change
   pub speaks : (s : Synchronisation) (said : List Said) → (p.status ≡ Change → s.sync_point ≡ p.sync.sync_point)
+      → IsSpokenIn p.view said
       → ((d : Conf) → Evolves f c d → HadLog d.past r p.last_normal p.log → (y : Said) → Has said y → TrueWord f d y.sender y.view y.word)
       → Kept m f c (after f c r (record { state = record p { sync = s }; said = said; replies = [] }))
-  speaks s said still words = local_keeps m f c r (record { state = record p { sync = s }; said = said; replies = [] }) inv within refl refl
-      (turns_same f c r) (λ d ev had.
+  speaks s said still spoken words =
+      local_keeps m f c r (record { state = record p { sync = s }; said = said; replies = [] }) inv within refl refl (turns_same f c r) (λ d ev had.
       let o : Own f d r p = own_lasts m f c d ev r p own in
       record {
         log = log_same d ev;
+        spoken = spoken;
         said = words d ev had;
         replies = λ y i. absurd (Has-none y i);
         own = record {

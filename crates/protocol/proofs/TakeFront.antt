@@ -18,6 +18,7 @@ use Rattle.protocol.proofs.Growing.{Kept}
 use Rattle.protocol.proofs.Replying.{reply_true}
 use Rattle.protocol.proofs.Places.{by_number}
 use Rattle.protocol.proofs.Facts.{next_slot}
+use Rattle.protocol.proofs.Spoken.{none_spoken}
 
 module _ {S : Type 0} (m : Meaning S) (f : ℕ) (c : Conf) (r : ℕ) (inv : Inv m f c) (within : r < 2 * f + 1) where
   abbrev p : Member
@@ -39,7 +40,7 @@ module _ {S : Type 0} (m : Meaning S) (f : ℕ) (c : Conf) (r : ℕ) (inv : Inv 
         queued = λ stamps h. taken_stamped stamps p.receiver h;
         waits = λ g e. absurd (let none = may.no_gap in cc);
         last = λ a none e. absurd cc;
-      }) (λ d ev had y i. absurd (Has-none y i))
+      }) (none_spoken p.view) (λ d ev had y i. absurd (Has-none y i))
       (λ d had. reply_true m f d (logged p q) own.replicas (by_number m f c r inv within d (p.log ++ Req q ∷ []) view had)
       (length p.log + 1) q (next_slot p.log (Req q)) (leads (logged p q)) refl)
     where

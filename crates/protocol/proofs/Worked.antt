@@ -1,5 +1,5 @@
 -- The worked runs: each move may be made, and they end where they should.
-use Rattle.std.proofs.Common.{◌≡◌, ℕ, zero, suc, ◌<◌, false, [], ◌∷◌, refl, ap, arith}
+use Rattle.std.proofs.Common.{◌≡◌, ℕ, zero, suc, ◌<◌, false, [], ◌∷◌, refl, ap, arith, inl, inr}
 use Rattle.std.specs.FinMap as finite
 use Rattle.nop_types.specs.declared.view.View.{View}
 use Rattle.nop_types.specs.declared.request.Entry.TheVariants.{Req}
@@ -74,8 +74,8 @@ module _ {S : Type 0} (m : Meaning S) where
       (also (record { sent = (0, simp (kept_for-insert, finite.get-empty)); expected = refl })
       (also (record { sent = (1, simp (kept_for-insert, finite.get-empty)); expected = refl })
       (also (record { kept = (1, refl); enough = refl })
-      (also (one_of, to_leader)
-      (also (two_of, to_leader)
+      (also (one_of, record { greater = to_leader; given = (0, inl (refl, refl)) })
+      (also (two_of, record { greater = to_leader; given = (0, inl (refl, refl)) })
       (also (one_of, record { gathers = refl; change = record { said = (1, refl); within = two_of; apart = λ e. omega (arith, e) } })
       (also (one_of, record { gathers = refl; enough = omega arith })
       (also (two_of, record { said = (0, refl); follows = λ e. omega (arith, e); at_most = to_itself (view 1 1); change = λ e. refl })
@@ -108,11 +108,11 @@ module _ {S : Type 0} (m : Meaning S) where
       (also (record { sent = (1, refl); later = omega arith })
       (also refl
       (also (record { sent = (0, refl); session = omega arith })
-      (also (one_of, to_leader)
-      (also (two_of, to_session)
+      (also (one_of, record { greater = to_leader; given = (0, inl (refl, refl)) })
+      (also (two_of, record { greater = to_session; given = (1, inr (1, refl)) })
       (also (two_of, (0, refl))
-      (also (one_of, leader_to_both)
-      (also (two_of, session_to_both)
+      (also (one_of, record { greater = leader_to_both; given = (1, inr (1, refl)) })
+      (also (two_of, record { greater = session_to_both; given = (1, inr (1, refl)) })
       (also (one_of, record { gathers = refl; change = record { said = (1, refl); within = two_of; apart = λ e. omega (arith, e) } })
       (also (one_of, record { gathers = refl; enough = omega arith })
       (also (two_of, record { said = (0, refl); follows = λ e. omega (arith, e); at_most = to_itself (view 1 2); change = λ e. refl })

@@ -20,6 +20,7 @@ use Rattle.protocol.proofs.Growing.{Kept}
 use Rattle.protocol.proofs.Turning.{turn_keeps}
 use Rattle.protocol.proofs.Places.{follows_last}
 use Rattle.protocol.proofs.Saying.{said_unless, answered}
+use Rattle.protocol.proofs.Spoken.{one_spoken}
 
 module _ {S : Type 0} (m : Meaning S) (f : ℕ) (c : Conf) (r : ℕ) (inv : Inv m f c) (within : r < 2 * f + 1) where
   abbrev p : Member
@@ -45,7 +46,8 @@ module _ {S : Type 0} (m : Meaning S) (f : ℕ) (c : Conf) (r : ℕ) (inv : Inv 
         session = refl;
         number = own.queue.front may.may_follow.normal;
         queued = λ stamps h. h;
-      }) (λ d ev had. said_unless f d p (GapRep k) (answered m f c r inv within d ev (set_slot p.log k NoOp) k may.may_follow had
+      }) (one_spoken p (GapRep k))
+      (λ d ev had. said_unless f d p (GapRep k) (answered m f c r inv within d ev (set_slot p.log k NoOp) k may.may_follow had
       (slot_of-set_here p.log k NoOp (slot_of-within t.lead k NoOp t.entry).0 may.within)) false) (λ d had y i. absurd (Has-none y i))
     where
       t : LeaderHas f c (leader p) p.view k NoOp

@@ -103,3 +103,7 @@ WasSubmitted lines r = Has lines (Submit r)
 -- a session belongs to one sequencer: session 1 to the sequencer 0
 abbrev pub Owns : List Install → ℕ → ℕ → Type 0
 Owns installs j session = ((j ≡ 0) × (session ≡ 1)) ⊎ Has installs (record { sequencer = j; session = session })
+
+-- to whichever
+abbrev pub HasOwner : List Install → ℕ → Type 0
+HasOwner installs session = (j : ℕ) × Owns installs j session

@@ -28,7 +28,7 @@ use Rattle.started_views.specs.Past.{Entered, Past, Standing, HadLog, LeaderHad,
 use Rattle.started_views.specs.Quorums.{counts, Quorum}
 use Rattle.started_views.specs.Settled.{Certificate}
 use Rattle.view_change.specs.Gathering.{IsOfSender}
-use Rattle.protocol.specs.Conf.{Conf, Control, Install, DidSay, Settled, WasSubmitted, Owns, IsOpen}
+use Rattle.protocol.specs.Conf.{Conf, Control, Install, DidSay, Settled, WasSubmitted, Owns, HasOwner, IsOpen}
 use Rattle.protocol.specs.Member.{Member, PlainGathering, standing}
 use Rattle.protocol.specs.Said.{Said, GapCommit, GapRep}
 use Rattle.protocol.specs.Truth.{TrueWord}
@@ -82,6 +82,7 @@ pub record GoodLog (f : ℕ) (c : Conf) (r : ℕ) (w : View) (l : List Entry) : 
       → WasStamped c.stamps w.session (start.next + (k - length start.log - 1)) q
   pub noops : (k : ℕ) → length start.log < k → slot_of l k ≡ Some NoOp → slot_of lead k ≡ Some NoOp
   pub submitted : (q : Request) → Has l (Req q) → WasSubmitted c.lines q
+  pub session : HasOwner c.installs w.session
   -- each NO-OP of the leader is announced, and below its last slot settled
   pub announced : r ≡ leader_of w (2 * f + 1) → (k : ℕ) → length start.log < k → slot_of l k ≡ Some NoOp
       → (f ≡ 0) ⊎ DidSay c.said r w (GapCommit k)
@@ -262,6 +263,9 @@ pub record Inv {S : Type 0} (m : Meaning S) (f : ℕ) (c : Conf) : Type 0 where
   pub installs : (x : Install) → Has c.installs x → TrueInstall c x
   pub installed_once : InstalledOnce c.installs
   pub controllers : (k : ℕ) → GoodControl c.installs (c.controllers k)
+  -- each view is of a session that was given to a sequencer
+  pub views : (r : ℕ) → HasOwner c.installs (c.replicas r).view.session
+  pub said_views : (x : Said) → Has c.said x → HasOwner c.installs x.view.session
   pub logs : (r : ℕ) (w : View) (l : List Entry) → HadLog c.past r w l → GoodLog f c r w l
   pub reached : (r : ℕ) (w : View) (l : List Entry) → HadLog c.past r w l → AtMost w (c.replicas r).last_normal
   pub starts : (w : View) (x : Start) → IsStart c.past w x → GoodStart f c.past w x

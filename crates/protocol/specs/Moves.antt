@@ -16,7 +16,7 @@ use Rattle.nop_types.specs.Lists.{Has}
 use Rattle.nop_types.specs.Meaning.{Meaning}
 use Rattle.nop_types.specs.Sessions.{home}
 use Rattle.nop_types.specs.Slots.{set_slot, laid}
-use Rattle.nop_types.specs.Views.{AtMost, leader_of}
+use Rattle.nop_types.specs.Views.{AtMost, Below, leader_of}
 use Rattle.execution_laws.specs.Legality.{IsOtherLine}
 use Rattle.client_quorum.specs.ClientSteps.{has_none, request_of, submitted, is_expected, kept, accepts}
 use Rattle.client_quorum.specs.KeptReplies.{quorum_of}
@@ -31,7 +31,7 @@ use Rattle.sequencer.specs.SequencerSteps.{stamped}
 use Rattle.sync_points.specs.Synchronisation.{cleared, raised, with_round, taken, committed, vote_for}
 use Rattle.sync_points.specs.Synchronisation as synchronisation
 use Rattle.view_change.specs.Gathering as gathering
-use Rattle.protocol.specs.Conf.{Conf, Effect, DidSay}
+use Rattle.protocol.specs.Conf.{Conf, Effect, DidSay, HasOwner}
 use Rattle.lemmas.specs.Functions.{put}
 use Rattle.protocol.specs.Member.{Member, PlainGathering, leads, leader, others}
 use Rattle.protocol.specs.Replies.{reply_to, replies_above}
@@ -176,6 +176,11 @@ enter_as false p = record {
 
 abbrev pub enter : Member → View → Effect
 enter p v = enter_as (leads (entered p v)) (entered p v)
+
+-- its session was given to a sequencer
+pub record MayEnter (c : Conf) (p : Member) (v : View) : Type 0 where
+  pub greater : Below p.view v
+  pub given : HasOwner c.installs v.session
 
 -- the leader keeps the change of another
 abbrev pub keep_change : Member → PlainGathering → plain.Change → Effect

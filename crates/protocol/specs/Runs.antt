@@ -9,7 +9,6 @@ use Rattle.nop_types.specs.PlainChanges as plain
 use Rattle.nop_types.specs.Lines.{Line}
 use Rattle.nop_types.specs.Lists.{Has}
 use Rattle.nop_types.specs.Meaning.{Meaning}
-use Rattle.nop_types.specs.Views.{Below}
 use Rattle.gap_agree.specs.Agreement.{Agreement}
 use Rattle.protocol.specs.Conf.{Conf, Effect, after}
 use Rattle.protocol.specs.Said.{Word}
@@ -75,7 +74,7 @@ MayAct f c p OpenGap = moves.MayOpenGap p
 MayAct f c p (CountGapVote g q) = moves.MayCountGapVote f c p g q
 MayAct f c p (WriteGap k) = moves.MayWriteGap c p k
 MayAct f c p AddGap = moves.MayAddGap c p
-MayAct f c p (Enter v) = Below p.view v
+MayAct f c p (Enter v) = moves.MayEnter c p v
 MayAct f c p (KeepChange g x) = moves.MayKeepChange f c p g x
 MayAct f c p (OpenView g) = moves.MayOpenView p g
 MayAct f c p (Adopt v x z l) = moves.MayAdopt c p v x z l

@@ -26,8 +26,8 @@ use Rattle.protocol.specs.Invariant.{Inv, GoodLog, Own}
 use Rattle.protocol.specs.Member.{Member, leads, others}
 use Rattle.protocol.specs.Moves.{entered, enter_as, unless_settled}
 use Rattle.protocol.specs.Runs.{Act, Queue, TakeFront, Fill, OpenGap, CountGapVote, WriteGap, AddGap, Enter, KeepChange, OpenView, Adopt}
-use Rattle.protocol.specs.Runs.{Say, Overlay, Obey, OpenSync, CountSyncVote, RepeatCommit, Move, Acts, MoveTo, Installed, Install, Stamp}
-use Rattle.protocol.specs.Runs.{Submit, Keep, Accept, Tell, effect, happens, May, MayAct}
+use Rattle.protocol.specs.Runs.{Say, Overlay, Obey, OpenSync, CountSyncVote, RepeatCommit, Move, Acts}
+use Rattle.protocol.specs.Runs.{effect, happens, May, MayAct}
 use Rattle.protocol.proofs.Places.{leads_it, follows_it}
 use Rattle.protocol.proofs.Runs.{happens_keeps}
 use Rattle.protocol_sync.specs.Synced.{GoodSync, Sync}

@@ -11,6 +11,7 @@ pub mod Rounds
 pub mod Runs
 pub mod Saying
 pub mod SoundLogs
+pub mod SoundPoints
 pub mod SoundReplies
 pub mod SoundStamps
 pub mod SoundViews

@@ -23,9 +23,9 @@ use Rattle.protocol.specs.Evolves.{Evolves}
 use Rattle.protocol.specs.Invariant.{Inv}
 use Rattle.protocol.specs.Member.{Member, leads}
 use Rattle.protocol.specs.Moves.{entered, enter_as}
-use Rattle.protocol.specs.Runs.{Act, Queue, TakeFront, Fill, OpenGap, CountGapVote, WriteGap, AddGap, Enter, KeepChange, OpenView, Adopt}
-use Rattle.protocol.specs.Runs.{Say, Overlay, Obey, OpenSync, CountSyncVote, RepeatCommit, Move, Acts, MoveTo, Installed, Install, Stamp}
-use Rattle.protocol.specs.Runs.{Submit, Keep, Accept, Tell, effect, happens, run}
+use Rattle.protocol.specs.Runs.{Act, Enter}
+use Rattle.protocol.specs.Runs.{Obey, OpenSync, CountSyncVote, Move, Acts}
+use Rattle.protocol.specs.Runs.{effect, happens, run}
 use Rattle.protocol.proofs.Grounding.{grounds_of}
 use Rattle.lemmas.proofs.Functions.{put-all}
 use Rattle.protocol.proofs.Runs.{run_keeps}

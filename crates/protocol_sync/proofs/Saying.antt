@@ -13,7 +13,7 @@ use Rattle.protocol.specs.Conf.{Conf, Effect, DidSay, after}
 use Rattle.protocol.specs.Invariant.{Inv}
 use Rattle.protocol.specs.Member.{Member, standing}
 use Rattle.protocol.specs.Moves.{say, say_unless}
-use Rattle.protocol.specs.Said.{Said, Word, Plain, Found, GapCommit, GapRep, ViewChange, StartView, SyncPrepare, SyncRep, SyncCommit, says}
+use Rattle.protocol.specs.Said.{Said, Word, StartView, SyncPrepare, SyncRep, SyncCommit, says}
 use Rattle.protocol_sync.specs.Synced.{Told, GoodPoint, TrueSyncRep, TrueSyncCommit, GoodSync, Sync}
 use Rattle.protocol.proofs.Growing.{Kept}
 use Rattle.lemmas.proofs.Functions.{put-here, put-other, put-all}

@@ -27,6 +27,8 @@ use Rattle.protocol.proofs.Places.{normal_low}
 use Rattle.lemmas.proofs.Options.{same_Some-at}
 use Rattle.protocol_sync.proofs.Facts.{slot_in_prefix}
 use Rattle.protocol_sync.specs.Sound.{EntryIsSound, LogsAreSound, WaitsAt, IsUnsettled, LeadersAreSound, NumbersAreSound}
+use Rattle.protocol_sync.specs.Synced.{Sync}
+use Rattle.protocol_sync.proofs.SoundPoints.{told_synchronised}
 
 -- ---- whether a SyncPrepare of a length was sent
 
@@ -193,12 +195,18 @@ module _ {S : Type 0} (m : Meaning S) (f : ℕ) (c : Conf) (inv : Inv m f c) whe
           ]
     ]
 
-  pub leaders_sound : LeadersAreSound f c
-  leaders_sound = record {
+  pub leaders_sound : Sync f c → LeadersAreSound f c
+  leaders_sound sync = record {
     found = λ q w k r h. inv.said (says q w (Found k r)) h;
     gap_commits = λ q w k h. inv.said (says q w (GapCommit k)) h;
-    prepares = λ q w z l n h led.
+    prepares = λ q w z l h.
         let t : Prepared f c q w l = inv.said (says q w (SyncPrepare z l)) h in
-        subst (IsPrefixOf l) (same_Some-at (c.past.log (leader_of w (2 * f + 1)) w) t.lead n t.leads led) t.begins;
+        record {
+          sender = t.sender;
+          lead = t.lead;
+          leads = t.leads;
+          begins = t.begins;
+          point = λ one. told_synchronised m f c inv sync w z l t.lead one t.leads t.begins (sync.points.prepares q w z l h);
+        };
     noops = noop_sound;
   }

@@ -13,12 +13,13 @@ use Rattle.lemmas.proofs.Prefixes.{IsPrefixOf-take, Has-prefix}
 use Rattle.lemmas.proofs.Slots.{Has-slot_of}
 use Rattle.log_merge.specs.Starting.{Start}
 use Rattle.started_views.specs.Past.{Entered, HadLog, LeaderHad, IsStart}
-use Rattle.protocol.specs.Conf.{Conf, WasSubmitted, Owns}
+use Rattle.protocol.specs.Conf.{Conf, WasSubmitted, Owns, HasOwner}
 use Rattle.protocol.specs.Invariant.{Inv}
 use Rattle.protocol.specs.Said.{Found, ViewChange, StartView, SyncPrepare, says}
 use Rattle.protocol.specs.Truth.{LeaderHas, Begun, Prepared}
 use Rattle.lemmas.proofs.Options.{same_Some-at}
-use Rattle.protocol_sync.specs.Sound.{StampsAreSound, AreSubmitted, RequestsAreSubmitted, KeptWasSent}
+use Rattle.protocol_sync.specs.Sound.{StampsAreSound, SessionIsSound, SessionsAreSound, AreSubmitted, RequestsAreSubmitted}
+use Rattle.protocol_sync.specs.Sound.{KeptWasSent}
 
 module _ {S : Type 0} (m : Meaning S) (f : ℕ) (c : Conf) (inv : Inv m f c) where
   -- ---- sessions
@@ -34,6 +35,10 @@ module _ {S : Type 0} (m : Meaning S) (f : ℕ) (c : Conf) (inv : Inv m f c) whe
   low_session : (j session : ℕ) → Owns c.installs j session → 1 ≤ session
   low_session j session (inl (a, one)) = omega (arith, one)
   low_session j session (inr x) = let t = inv.installs (record { sequencer = j; session = session }) x in omega (arith, t.low)
+
+  known : (j session : ℕ) → Owns c.installs j session → session ≤ (c.controllers (home session)).session
+  known j session (inl (a, one)) = let low = (inv.controllers (home session)).low in omega (arith, low, one)
+  known j session (inr x) = (inv.installs (record { sequencer = j; session = session }) x).known
 
   pub stamps_sound : StampsAreSound c
   stamps_sound = record {
@@ -54,10 +59,21 @@ module _ {S : Type 0} (m : Meaning S) (f : ℕ) (c : Conf) (inv : Inv m f c) whe
         let at : p.session ≡ (c.sequencers t.owner).session = subst (λ (k : ℕ). p.session ≡ (c.sequencers k).session) (sym same) e in
         subst (λ (k : ℕ). p.number < (c.sequencers k).next) same (t.passed at);
   }
-    where
-      known : (j session : ℕ) → Owns c.installs j session → session ≤ (c.controllers (home session)).session
-      known j session (inl (a, one)) = let low = (inv.controllers (home session)).low in omega (arith, low, one)
-      known j session (inr x) = (inv.installs (record { sequencer = j; session = session }) x).known
+
+  -- ---- the sessions of views
+
+  session_sound : (session : ℕ) → HasOwner c.installs session → SessionIsSound c session
+  session_sound session (j, owns) = record { owner = j; owns = owns; known = known j session owns }
+
+  pub sessions_sound : SessionsAreSound c
+  sessions_sound = record {
+    views = λ r. session_sound (c.replicas r).view.session (inv.views r);
+    had = λ r w l h. session_sound w.session (inv.logs r w l h).session;
+    said = λ x i. session_sound x.view.session (inv.said_views x i);
+    replies = λ p i.
+        let t = inv.replies p i in
+        session_sound p.view.session (inv.logs p.replica p.view t.log t.had).session;
+  }
 
   -- ---- requests
 

@@ -16,18 +16,24 @@ use Rattle.protocol.specs.Truth.{Begun}
 use Rattle.protocol.proofs.Grounding.{grounds_of}
 use Rattle.lemmas.proofs.Options.{same_Some-at}
 use Rattle.protocol_sync.specs.Sound.{ChangeIsSound, ViewsAreSound, StartIsSound, TellsStart, StartsAreSound}
+use Rattle.protocol_sync.specs.Synced.{Sync}
+use Rattle.protocol_sync.proofs.SoundPoints.{synchronised, told_synchronised}
 
-module _ {S : Type 0} (m : Meaning S) (f : ℕ) (c : Conf) (inv : Inv m f c) where
-  change_sound : (r : ℕ) (v u : View) (x z : ℕ) (l : List Entry) → DidSay c.said r v (ViewChange u x z l) → ChangeIsSound c r v u x z l
+module _ {S : Type 0} (m : Meaning S) (f : ℕ) (c : Conf) (inv : Inv m f c) (sync : Sync f c) where
+  change_sound : (r : ℕ) (v u : View) (x z : ℕ) (l : List Entry) → DidSay c.said r v (ViewChange u x z l)
+      → ChangeIsSound f c r v u x z l
   change_sound r v u x z l h =
       let here : Entered = record { last_normal = u; next = x; sync_point = z; log = l } in
       let e : c.past.entry r v ≡ Some here = inv.said (says r v (ViewChange u x z l)) h in
       let t = inv.entries r v here e in
+      let at = sync.points.entries r v here e in
       record {
+        entered = e;
         had = t.log;
         start = t.start;
         is_start = t.is_start;
         next = omega (arith, t.counted);
+        point = λ one. synchronised m f c inv sync u l z one at.anchored at.agrees;
         one = λ w y o k g.
             let other : Entered = record { last_normal = w; next = y; sync_point = o; log = k } in
             let i : c.past.entry r v ≡ Some other = inv.said (says r v (ViewChange w y o k)) g in
@@ -52,7 +58,7 @@ module _ {S : Type 0} (m : Meaning S) (f : ℕ) (c : Conf) (inv : Inv m f c) whe
       let t = (inv.starts w x is).by apart in
       record { changes = t.changes; entered = t.certificate; leader = t.leader; opens = t.opens }
 
-  tells_start : (q : ℕ) (w : View) (x z : ℕ) (l : List Entry) → DidSay c.said q w (StartView x z l) → TellsStart f c q w x l
+  tells_start : (q : ℕ) (w : View) (x z : ℕ) (l : List Entry) → DidSay c.said q w (StartView x z l) → TellsStart f c q w x z l
   tells_start q w x z l h =
       let t : Begun f c q w x l = inv.said (says q w (StartView x z l)) h in
       let good = inv.logs (leader_of w (2 * f + 1)) w t.lead t.leads in
@@ -67,6 +73,7 @@ module _ {S : Type 0} (m : Meaning S) (f : ℕ) (c : Conf) (inv : Inv m f c) whe
         leads = t.leads;
         of_lead = t.begins;
         next = omega (arith, t.counted);
+        point = λ one. told_synchronised m f c inv sync w z l t.lead one t.leads t.begins (sync.points.starts q w x z l h);
       }
 
   pub starts_sound : IsStart c.past first_view (record { next = 1; log = [] }) → StartsAreSound f c

@@ -24,7 +24,7 @@ use Rattle.protocol_sync.proofs.Rising.{sync_points_never_fall}
 use Rattle.protocol_sync.proofs.Runs.{run_syncs}
 use Rattle.protocol_sync.proofs.SoundLogs.{logs_sound, numbers_sound, leaders_sound}
 use Rattle.protocol_sync.proofs.SoundReplies.{replies_sound, accepts_sound}
-use Rattle.protocol_sync.proofs.SoundStamps.{stamps_sound, requests_submitted, kept_sent}
+use Rattle.protocol_sync.proofs.SoundStamps.{stamps_sound, sessions_sound, requests_submitted, kept_sent}
 use Rattle.protocol_sync.proofs.SoundViews.{views_sound, starts_sound}
 use Rattle.protocol_sync.proofs.SoundVotes.{votes_sound, sync_replies_sound, sync_points_sound}
 
@@ -32,12 +32,13 @@ sound : {S : Type 0} (m : Meaning S) (f : ℕ) (c : Conf) → Inv m f c → Sync
     → Sound m f c
 sound m f c inv sync first = record {
   stamps = stamps_sound m f c inv;
+  sessions = sessions_sound m f c inv;
   requests = requests_submitted m f c inv;
   kept = kept_sent m f c inv;
-  views = views_sound m f c inv;
-  starts = starts_sound m f c inv first;
+  views = views_sound m f c inv sync;
+  starts = starts_sound m f c inv sync first;
   logs = logs_sound m f c inv;
-  leaders = leaders_sound m f c inv;
+  leaders = leaders_sound m f c inv sync;
   votes = votes_sound m f c inv sync;
   replies = replies_sound m f c inv;
   sync_replies = sync_replies_sound m f c inv sync;

@@ -16,14 +16,14 @@ use Rattle.log_merge.specs.Merge.{longest}
 use Rattle.log_merge.specs.Starting.{greatest_point, kept, start_of, start_point}
 use Rattle.log_merge.proofs.Merged.{length-merge}
 use Rattle.started_views.specs.Past.{HadLog}
-use Rattle.started_views.proofs.Changes.{kept_from}
+use Rattle.log_merge.proofs.Kept.{kept_from}
 use Rattle.started_views.proofs.Logs.{same_refl}
 use Rattle.protocol.specs.Conf.{Conf}
 use Rattle.protocol.specs.Invariant.{Inv, Gathers}
 use Rattle.protocol.specs.Member.{Member, PlainGathering}
 use Rattle.protocol.specs.Moves.{MayOpenView, TellsPoint, open_view}
 use Rattle.protocol.specs.Runs.{Say, OpenView, Acts, happens}
-use Rattle.protocol.specs.Said.{Word, Plain, Found, GapCommit, GapRep, ViewChange, StartView, SyncPrepare, SyncRep, SyncCommit}
+use Rattle.protocol.specs.Said.{Word, StartView, SyncPrepare}
 use Rattle.protocol.proofs.Growing.{Kept}
 use Rattle.protocol_sync.specs.Synced.{Told, GoodPoint, Anchored, Agrees, Sync}
 use Rattle.protocol_sync.proofs.Lasting.{anchored_lasts}

@@ -28,7 +28,7 @@ use Rattle.view_change.specs.Gathering.{IsOfSender}
 use Rattle.protocol.specs.Conf.{Conf, DidSay, Settled, WasSubmitted, Owns, IsOpen}
 use Rattle.protocol.specs.Invariant.{Replied}
 use Rattle.protocol.specs.Member.{Member, PlainGathering}
-use Rattle.protocol.specs.Said.{Found, GapCommit, GapRep, ViewChange, StartView, SyncPrepare, SyncRep, SyncCommit}
+use Rattle.protocol.specs.Said.{Said, Found, GapCommit, GapRep, ViewChange, StartView, SyncPrepare, SyncRep, SyncCommit}
 use Rattle.protocol.specs.Truth.{LeaderHas}
 use Rattle.protocol_sync.specs.Synced.{SyncRises}
 
@@ -43,6 +43,19 @@ pub record StampsAreSound (c : Conf) : Type 0 where
   pub one_owner : (i j session : ℕ) → Owns c.installs i session → Owns c.installs j session → i ≡ j
   pub known : (j session : ℕ) → Owns c.installs j session → session ≤ (c.controllers (home session)).session
   pub passed : (p : Stamped) (j : ℕ) → Has c.stamps p → p.session ≡ (c.sequencers j).session → p.number < (c.sequencers j).next
+
+-- the session went to a sequencer, and is at most its controller's
+pub record SessionIsSound (c : Conf) (session : ℕ) : Type 0 where
+  pub owner : ℕ
+  pub owns : Owns c.installs owner session
+  pub known : session ≤ (c.controllers (home session)).session
+
+-- so is that of each view: one that a replica is in, or had a log in, and that of each message and reply
+pub record SessionsAreSound (c : Conf) : Type 0 where
+  pub views : (r : ℕ) → SessionIsSound c (c.replicas r).view.session
+  pub had : (r : ℕ) (w : View) (l : List Entry) → HadLog c.past r w l → SessionIsSound c w.session
+  pub said : (x : Said) → Has c.said x → SessionIsSound c x.view.session
+  pub replies : (p : Reply) → Has c.replies p → SessionIsSound c p.view.session
 
 -- each request of the log was submitted
 abbrev pub AreSubmitted : Conf → List Entry → Type 0
@@ -74,14 +87,31 @@ pub record KeptWasSent (f : ℕ) (c : Conf) : Type 0 where
   pub replies : (k : ℕ) (p : Reply) → Has (c.clients k).replies p → Has c.replies p
   pub expected : (k : ℕ) (p : Reply) → Has (c.clients k).replies p → (q : Request) × IsOpen (c.clients k) q × IsOf p.client p.id q
 
+-- ---- what is synchronised
+
+-- f others said in a started view that they have the first s slots of its leader; these begin the log, and the start of each later view
+pub record PrefixIsSynchronised (f : ℕ) (c : Conf) (w : View) (l : List Entry) (s : ℕ) : Type 0 where
+  pub view : View
+  pub started : IsStarted c.past view
+  pub at_most : AtMost view w
+  pub others : Others f (leader_of view (2 * f + 1)) (λ q. DidSay c.said q view (SyncRep s))
+  pub lead : List Entry
+  pub leads : LeaderHad f c.past view lead
+  pub within : s ≤ length lead
+  pub begins : IsPrefixOf (take s lead) l
+  pub kept : (v : View) (x : Start) → Below view v → IsStart c.past v x → IsPrefixOf (take s lead) x.log
+
 -- ---- views
 
--- the content of a ViewChange: the log that its sender had in its last normal view, and its number
-pub record ChangeIsSound (c : Conf) (r : ℕ) (v u : View) (x z : ℕ) (l : List Entry) : Type 0 where
+-- the content of a ViewChange is what its sender had when it entered the view: the log of its last normal view, with its number, and
+-- its sync point, up to which that log is synchronised
+pub record ChangeIsSound (f : ℕ) (c : Conf) (r : ℕ) (v u : View) (x z : ℕ) (l : List Entry) : Type 0 where
+  pub entered : c.past.entry r v ≡ Some (record { last_normal = u; next = x; sync_point = z; log = l })
   pub had : HadLog c.past r u l
   pub start : Start
   pub is_start : IsStart c.past u start
   pub next : x ≡ start.next + length l - length start.log
+  pub point : 1 ≤ z → PrefixIsSynchronised f c u l z
   pub one : (w : View) (y o : ℕ) (k : List Entry) → DidSay c.said r v (ViewChange w y o k) → (w ≡ u) × (y ≡ x) × (o ≡ z) × (k ≡ l)
 
 -- a last normal view is started; it is the view in Normal, and below it in Change; a replica's ViewChanges for a view have one content
@@ -89,7 +119,8 @@ pub record ViewsAreSound (f : ℕ) (c : Conf) : Type 0 where
   pub started : (r : ℕ) → r < 2 * f + 1 → IsStarted c.past (c.replicas r).last_normal
   pub normal : (r : ℕ) → r < 2 * f + 1 → (c.replicas r).status ≡ Normal → (c.replicas r).last_normal ≡ (c.replicas r).view
   pub change : (r : ℕ) → r < 2 * f + 1 → (c.replicas r).status ≡ Change → Below (c.replicas r).last_normal (c.replicas r).view
-  pub changes : (r : ℕ) (v u : View) (x z : ℕ) (l : List Entry) → DidSay c.said r v (ViewChange u x z l) → ChangeIsSound c r v u x z l
+  pub changes : (r : ℕ) (v u : View) (x z : ℕ) (l : List Entry) → DidSay c.said r v (ViewChange u x z l)
+      → ChangeIsSound f c r v u x z l
 
 -- ---- starts
 
@@ -100,8 +131,9 @@ pub record StartIsSound (f : ℕ) (c : Conf) (w : View) (x : Start) : Type 0 whe
   pub leader : IsOfSender plain.sender_of changes (leader_of w (2 * f + 1))
   pub opens : x ≡ start_of w changes
 
--- a StartView tells a prefix of its leader's log, no shorter than the start, and the number that belongs to its length
-pub record TellsStart (f : ℕ) (c : Conf) (q : ℕ) (w : View) (x : ℕ) (l : List Entry) : Type 0 where
+-- a StartView tells a prefix of its leader's log, no shorter than the start, the number that belongs to its length, and a sync point
+-- up to which the log is synchronised
+pub record TellsStart (f : ℕ) (c : Conf) (q : ℕ) (w : View) (x z : ℕ) (l : List Entry) : Type 0 where
   pub sender : q ≡ leader_of w (2 * f + 1)
   pub start : Start
   pub is_start : IsStart c.past w start
@@ -110,12 +142,13 @@ pub record TellsStart (f : ℕ) (c : Conf) (q : ℕ) (w : View) (x : ℕ) (l : L
   pub leads : LeaderHad f c.past w lead
   pub of_lead : IsPrefixOf l lead
   pub next : x ≡ start.next + length l - length start.log
+  pub point : 1 ≤ z → PrefixIsSynchronised f c w l z
 
 -- of any two started views one is at most the other
 pub record StartsAreSound (f : ℕ) (c : Conf) : Type 0 where
   pub first : IsStart c.past first_view (record { next = 1; log = [] })
   pub by : (w : View) (x : Start) → IsStart c.past w x → (w ≡ first_view → ⊥) → StartIsSound f c w x
-  pub told : (q : ℕ) (w : View) (x z : ℕ) (l : List Entry) → DidSay c.said q w (StartView x z l) → TellsStart f c q w x l
+  pub told : (q : ℕ) (w : View) (x z : ℕ) (l : List Entry) → DidSay c.said q w (StartView x z l) → TellsStart f c q w x z l
   pub comparable : (v w : View) → IsStarted c.past v → IsStarted c.past w → Comparable v w
 
 -- ---- the logs of a view
@@ -145,11 +178,18 @@ pub record IsUnsettled (f : ℕ) (c : Conf) (w : View) (m : List Entry) (k : ℕ
   pub unprepared : (q z : ℕ) (l : List Entry) → DidSay c.said q w (SyncPrepare z l) → length l ≡ k → ⊥
   pub waits : WaitsAt (c.replicas (leader_of w (2 * f + 1))) w k ⊎ Below w (c.replicas (leader_of w (2 * f + 1))).view
 
+-- the leader of its view sent a SyncPrepare: its log begins with this one, which is synchronised up to the sync point
+pub record PrepareIsSound (f : ℕ) (c : Conf) (q : ℕ) (w : View) (z : ℕ) (l : List Entry) : Type 0 where
+  pub sender : q ≡ leader_of w (2 * f + 1)
+  pub lead : List Entry
+  pub leads : LeaderHad f c.past w lead
+  pub begins : IsPrefixOf l lead
+  pub point : 1 ≤ z → PrefixIsSynchronised f c w l z
+
 pub record LeadersAreSound (f : ℕ) (c : Conf) : Type 0 where
   pub found : (q : ℕ) (w : View) (k : ℕ) (r : Request) → DidSay c.said q w (Found k r) → LeaderHas f c q w k (Req r)
   pub gap_commits : (q : ℕ) (w : View) (k : ℕ) → DidSay c.said q w (GapCommit k) → LeaderHas f c q w k NoOp
-  pub prepares : (q : ℕ) (w : View) (z : ℕ) (l m : List Entry) → DidSay c.said q w (SyncPrepare z l) → LeaderHad f c.past w m
-      → IsPrefixOf l m
+  pub prepares : (q : ℕ) (w : View) (z : ℕ) (l : List Entry) → DidSay c.said q w (SyncPrepare z l) → PrepareIsSound f c q w z l
   pub noops : (w : View) (m : List Entry) (x : Start) (k : ℕ) → LeaderHad f c.past w m → IsStart c.past w x → length x.log < k
       → slot_of m k ≡ Some NoOp
       → Settled f c.said w k ⊎ IsUnsettled f c w m k
@@ -204,23 +244,17 @@ NumbersAreSound f c = (r : ℕ) (x : Start) → r < 2 * f + 1 → IsStart c.past
 
 -- ---- sync points
 
--- f others said in a started view that they have the first s slots of its leader; these begin the log, and the start of each later view
-pub record PrefixIsSynchronised (f : ℕ) (c : Conf) (w : View) (l : List Entry) (s : ℕ) : Type 0 where
-  pub view : View
-  pub started : IsStarted c.past view
-  pub at_most : AtMost view w
-  pub others : Others f (leader_of view (2 * f + 1)) (λ q. DidSay c.said q view (SyncRep s))
+-- the leader of its view sent a SyncCommit: its log is synchronised so far
+pub record CommitIsSound (f : ℕ) (c : Conf) (q : ℕ) (w : View) (s : ℕ) : Type 0 where
+  pub sender : q ≡ leader_of w (2 * f + 1)
   pub lead : List Entry
-  pub leads : LeaderHad f c.past view lead
-  pub within : s ≤ length lead
-  pub begins : IsPrefixOf (take s lead) l
-  pub kept : (v : View) (x : Start) → Below view v → IsStart c.past v x → IsPrefixOf (take s lead) x.log
+  pub leads : LeaderHad f c.past w lead
+  pub point : 1 ≤ s → PrefixIsSynchronised f c w lead s
 
 pub record SyncPointsAreSound (f : ℕ) (c : Conf) : Type 0 where
   pub points : (r : ℕ) → r < 2 * f + 1 → 1 ≤ (c.replicas r).sync.sync_point
       → PrefixIsSynchronised f c (c.replicas r).last_normal (c.replicas r).log (c.replicas r).sync.sync_point
-  pub commits : (q : ℕ) (w : View) (s : ℕ) (m : List Entry) → DidSay c.said q w (SyncCommit s) → 1 ≤ s → LeaderHad f c.past w m
-      → PrefixIsSynchronised f c w m s
+  pub commits : (q : ℕ) (w : View) (s : ℕ) → DidSay c.said q w (SyncCommit s) → CommitIsSound f c q w s
 
 -- ---- accepts
 
@@ -251,6 +285,7 @@ AcceptsAreSound m f c = (k client id : ℕ) (result : List ℕ) → slice_get c.
 
 pub record Sound {S : Type 0} (m : Meaning S) (f : ℕ) (c : Conf) : Type 0 where
   pub stamps : StampsAreSound c
+  pub sessions : SessionsAreSound c
   pub requests : RequestsAreSubmitted f c
   pub kept : KeptWasSent f c
   pub views : ViewsAreSound f c

@@ -33,6 +33,7 @@ module _ {S : Type 0} (m : Meaning S) (f : ℕ) (c : Conf) (r : ℕ) (s : Replic
   body_reaches : (p : Peer) (body : Body) → is_other s p.sender ≡ true → Has c.said (says p.sender p.view (word_of body))
       → ReplicaReaches m f c r s (on_body m Whole p body s)
   body_reaches p bodies.ViewChangeReq other came = view_change_request_reaches m f r c s p.view h
+      (h.inv.said_views (says p.sender p.view (word_of bodies.ViewChangeReq)) came)
   body_reaches p (bodies.ViewChange u x l) other came =
       view_change_reaches m f r c s p.view (record { sender = p.sender; last_normal = u; next = x; log = l }) h other came
   body_reaches p (bodies.StartView x l) other came = start_view_reaches m f r c s p.sender p.view x l h other came

@@ -1,7 +1,7 @@
 -- What clients submit is in its ranges.
 use Rattle.std.proofs.Common.{◌≡◌, ℕ, ◌<◌, ◌≤◌, Bool, true, false, Option, Some, None, refl, sym, subst, arith, inl, inr, length, List, []}
 use Rattle.std.proofs.Common.{◌∷◌}
-use Rattle.std.specs.Prelude.{◌^◌, ◌-◌, Result, Ok, Err, nat_lt}
+use Rattle.std.specs.Prelude.{◌^◌, ◌-◌, Result, Ok, nat_lt}
 use Rattle.std.proofs.lemmas.Bool.{and_parts, ltb-true}
 use Rattle.nop_types.specs.declared.limits.TheConstants.{MAX_OP_BYTES}
 use Rattle.nop_types.specs.Given.{Given, Packet, Ticked, Submit}

@@ -1,6 +1,6 @@
 -- Each row of a client's step table is a list of moves.
 use Rattle.std.proofs.Common.{◌≡◌, ℕ, Bool, true, false, Option, Some, None, refl, sym, ap, subst, ◌∙◌, inl, inr, List, [], ◌∷◌, ◌++◌}
-use Rattle.std.specs.Prelude.{◌^◌, ◌-◌, Result, Ok, Err, not, filter, ◌==◌, nat_lt}
+use Rattle.std.specs.Prelude.{◌^◌, ◌-◌, Result, Ok, not, filter, ◌==◌, nat_lt}
 use Rattle.std.proofs.lemmas.Bool.{and_parts}
 use Rattle.nop_types.specs.Given.{Given, Packet, Ticked, Submit}
 use Rattle.nop_types.specs.Lines as lines

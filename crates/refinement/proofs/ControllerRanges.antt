@@ -1,6 +1,6 @@
 -- A controller stays in its ranges, and so do the sessions that it gives out.
 use Rattle.std.proofs.Common.{◌≡◌, ℕ, ◌+◌, ◌^◌, ◌<◌, Bool, true, false, refl, sym, subst, arith, inl, inr, Option, Some, None, [], ◌∷◌}
-use Rattle.std.specs.Prelude.{◌==◌, ◌&&◌, Result, Ok, Err, cond, nat_lt, nat_le, max}
+use Rattle.std.specs.Prelude.{◌==◌, ◌&&◌, Result, Ok, cond, nat_lt, nat_le, max}
 use Rattle.std.proofs.lemmas.Bool.{ltb-true, leb-false}
 use Rattle.std.proofs.lemmas.Nat.{mod_below}
 use Rattle.nop_types.specs.Given.{Given, Packet, Ticked, Submit}

@@ -1,6 +1,6 @@
 -- Each row of a controller's step table is a list of moves.
 use Rattle.std.proofs.Common.{◌≡◌, ℕ, ◌≤◌, ◌<◌, ◌+◌, Bool, true, false, refl, sym, ap, subst, ◌∙◌, inl, inr, arith, Option, Some, None}
-use Rattle.std.specs.Prelude.{List, [], ◌∷◌, ◌++◌, IsTrue, Result, Ok, Err, ◌==◌, ◌&&◌, nat_lt, nat_le, max}
+use Rattle.std.specs.Prelude.{List, [], ◌∷◌, ◌++◌, IsTrue, Result, Ok, ◌==◌, ◌&&◌, nat_lt, nat_le, max}
 use Rattle.std.proofs.lemmas.Bool.{eq-eqb, ne_eqb, cond-true, cond-false}
 use Rattle.std.proofs.lemmas.Bool.Decides.{nat_tests}
 use Rattle.nop_types.specs.Configuration.{Configuration, is_configuration}

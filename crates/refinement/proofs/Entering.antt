@@ -2,12 +2,12 @@
 use Rattle.std.proofs.Common.{◌≡◌, ℕ, Bool, true, false, refl}
 use Rattle.nop_types.specs.declared.view.View.{View}
 use Rattle.nop_types.specs.Meaning.{Meaning}
-use Rattle.nop_types.specs.Views.{Below}
 use Rattle.replica_state.specs.declared.state.ReplicaState.{ReplicaState}
 use Rattle.replica_state.specs.State.{PointsMeet, leads}
 use Rattle.replica_state.specs.Moves.{entered, enter_as, enter}
 use Rattle.protocol.specs.Conf.{Conf}
 use Rattle.protocol.specs.Member.{standing}
+use Rattle.protocol.specs.Moves.{MayEnter}
 use Rattle.protocol.specs.Runs.{Enter}
 use Rattle.refinement.specs.Projection.{member_of}
 use Rattle.refinement.specs.Replicas.{Matches, ReplicaReaches}
@@ -24,9 +24,9 @@ unfolding enter
 enter_meets s v points = meets_as (leads (entered s v)) s v points
 
 pub enter_reaches : {S : Type 0} (m : Meaning S) (f : ℕ) (c : Conf) (r : ℕ) (s : ReplicaState) (v : View) → Matches m f c r s
-    → Below s.view v → ReplicaReaches m f c r s (enter s v)
-enter_reaches m f c r s v h below =
-    move_reaches m f r c s (enter s v) (Enter v) h below (enter_same s v h.points) (enter_meets s v h.points)
+    → MayEnter c (member_of s) v → ReplicaReaches m f c r s (enter s v)
+enter_reaches m f c r s v h may =
+    move_reaches m f r c s (enter s v) (Enter v) h may (enter_same s v h.points) (enter_meets s v h.points)
 
 -- what it changes
 

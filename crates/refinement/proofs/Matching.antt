@@ -16,7 +16,7 @@ use Rattle.started_views.specs.Past.{HadLog, LeaderHad, IsStart, entered_with}
 use Rattle.replica_state.specs.declared.state.ReplicaState.{ReplicaState}
 use Rattle.replica_state.specs.State.{leads, leader}
 use Rattle.replica_state.specs.Moves.{start_len}
-use Rattle.protocol.specs.Conf.{Conf}
+use Rattle.protocol.specs.Conf.{Conf, HasOwner}
 use Rattle.protocol.specs.Invariant.{GoodLog, Own}
 use Rattle.protocol.specs.Member.{Member, standing}
 use Rattle.protocol.specs.Moves.{MayLead, MaySay}
@@ -30,6 +30,10 @@ use Rattle.refinement.specs.Replicas.{Matches}
 module _ {S : Type 0} (m : Meaning S) (f : ℕ) (c : Conf) (r : ℕ) (s : ReplicaState) (h : Matches m f c r s) where
   pub own : Own f c r (member_of s)
   own = subst (λ (p : Member). Own f c r p) h.state (h.inv.own r h.within)
+
+  -- the session of its view was given to a sequencer
+  pub session_given : HasOwner c.installs s.view.session
+  session_given = subst (λ (p : Member). HasOwner c.installs p.view.session) h.state (h.inv.views r)
 
   -- the log is noted
   pub current : HadLog c.past r s.last_normal s.log.entries

@@ -1,6 +1,6 @@
 -- What sequencers stamp is in its ranges.
 use Rattle.std.proofs.Common.{◌≡◌, ℕ, Bool, true, false, Some, None, refl, sym, subst, inl, inr}
-use Rattle.std.specs.Prelude.{Result, Ok, Err, cond, nat_lt}
+use Rattle.std.specs.Prelude.{Result, Ok, cond, nat_lt}
 use Rattle.std.proofs.lemmas.Bool.{and_parts, ltb-true}
 use Rattle.nop_types.specs.declared.limits.TheConstants.{NUMBER_END}
 use Rattle.nop_types.specs.Given.{Given, Packet, Ticked, Submit}

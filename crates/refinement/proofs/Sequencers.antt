@@ -1,6 +1,6 @@
 -- Each row of a sequencer's step table is a list of moves.
 use Rattle.std.proofs.Common.{◌≡◌, ℕ, ◌≤◌, ◌+◌, Bool, true, false, cond, Some, None, refl, ap, subst, inl, inr, arith, List, [], ◌∷◌}
-use Rattle.std.specs.Prelude.{Result, Ok, Err, ◌==◌, nat_lt}
+use Rattle.std.specs.Prelude.{Result, Ok, ◌==◌, nat_lt}
 use Rattle.std.proofs.lemmas.Bool.{and_parts, eqb-true, ltb-true, ltb-false}
 use Rattle.nop_types.specs.Given.{Given, Packet, Ticked, Submit}
 use Rattle.nop_types.specs.Lists.{Has}

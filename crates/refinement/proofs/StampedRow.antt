@@ -65,7 +65,8 @@ module _ {S : Type 0} (m : Meaning S) (f : ℕ) (c : Conf) (r : ℕ) (s : Replic
   arrived_reaches : (p : Stamped) → Has c.stamps p → s.view.session < p.session → ReplicaReaches m f c r s (arrived s p)
   arrived_reaches p came less =
       let v : View = session_view s p in
-      let one = enter_reaches m f c r s v h (below_session s p less) in
+      let was = h.inv.stamps p came in
+      let one = enter_reaches m f c r s v h (record { greater = below_session s p less; given = (was.owner, was.owns) }) in
       let there = subst (λ (stamps : _). Has stamps p) (sym one.others.stamps) came in
       let two = queue_in_view m f (run m f c one.moves) r (enter s v).0 (matches_end m f r c s (enter s v) h one) p there in
       keeps_then m f r c s (enter s v) (λ t. queue t p) h one (enter_keeps s v) two.reaches (inl refl)

@@ -20,7 +20,7 @@ use Rattle.replica_state.specs.Moves.{keep_change, start_len, resend_start, open
 use Rattle.replica_rows.specs.Rows.{enter_and_drain, view_change_request, gather, gather_by, take_change, view_change}
 use Rattle.replica_state.specs.Sends.{Effect, when}
 use Rattle.replica_state.specs.State.{leads, others, is_other}
-use Rattle.protocol.specs.Conf.{Conf, DidSay}
+use Rattle.protocol.specs.Conf.{Conf, DidSay, HasOwner}
 use Rattle.protocol.specs.Member.{standing}
 use Rattle.protocol.specs.Runs.{KeepChange, Say, run}
 use Rattle.protocol.specs.Said.{ViewChange, StartView, says}
@@ -32,7 +32,7 @@ use Rattle.refinement.proofs.Parts.{Keeps}
 use Rattle.refinement.proofs.Composing.{matches_end, move_reaches, nothing_reaches, keeps_then}
 use Rattle.refinement.proofs.Entering.{enter_reaches, enter_keeps}
 use Rattle.refinement.proofs.Gatherings.{counted_plain}
-use Rattle.refinement.proofs.EnteringRows.{below_join}
+use Rattle.refinement.proofs.EnteringRows.{may_join}
 use Rattle.refinement.proofs.Matching.{own, may_say_start}
 use Rattle.refinement.proofs.NewSessions.{enters_only}
 use Rattle.refinement.proofs.RoleRows.{other_from}
@@ -59,21 +59,22 @@ module _ {S : Type 0} (m : Meaning S) (f : ℕ) (r : ℕ) where
       let here = h.within in
       grind (arith, half, here, within, apart)
 
-  request_by : (b : Bool) (c : Conf) (s : ReplicaState) (v : View) → Matches m f c r s → 0 < others s
-      → not (is_view (join_of s.view v) s.view) ≡ b → KeepsAll m f c r s (when b (enter_and_drain m Whole (join_of s.view v)) s)
-  request_by true c s v h more e =
+  request_by : (b : Bool) (c : Conf) (s : ReplicaState) (v : View) → Matches m f c r s → HasOwner c.installs v.session
+      → 0 < others s → not (is_view (join_of s.view v) s.view) ≡ b
+      → KeepsAll m f c r s (when b (enter_and_drain m Whole (join_of s.view v)) s)
+  request_by true c s v h given more e =
       subst (KeepsAll m f c r s) (sym (enters_only m s (join_of s.view v) more)) (record {
-        reaches = enter_reaches m f c r s (join_of s.view v) h (below_join s.view v e);
+        reaches = enter_reaches m f c r s (join_of s.view v) h (may_join m f r c s v h given e);
         keeps = enter_keeps s (join_of s.view v);
       })
-  request_by false c s v h more e = record {
+  request_by false c s v h given more e = record {
     reaches = nothing_reaches m f r c s s h refl h.points;
     keeps = record { last_normal = refl; next = refl; sync_point = refl; log = refl };
   }
 
-  request_keeps : (c : Conf) (s : ReplicaState) (v : View) → Matches m f c r s → 0 < others s
+  request_keeps : (c : Conf) (s : ReplicaState) (v : View) → Matches m f c r s → HasOwner c.installs v.session → 0 < others s
       → KeepsAll m f c r s (view_change_request m Whole v s)
-  request_keeps c s v h more = request_by (not (is_view (join_of s.view v) s.view)) c s v h more refl
+  request_keeps c s v h given more = request_by (not (is_view (join_of s.view v) s.view)) c s v h given more refl
 
   -- ---- while the view has not started, its leader keeps the change
 
@@ -141,7 +142,8 @@ module _ {S : Type 0} (m : Meaning S) (f : ℕ) (r : ℕ) where
   unfolding view_change
   view_change_by_moves c s v x h told =
       let e : Effect = view_change_request m Whole v s in
-      let one = request_keeps c s v h (not_alone c s x.sender h told.within told.apart) in
+      let given = h.inv.said_views (says x.sender v (ViewChange x.last_normal x.next x.log.sync_point x.log.entries)) told.said in
+      let one = request_keeps c s v h given (not_alone c s x.sender h told.within told.apart) in
       let two = take_change_reaches (run m f c one.reaches.moves) e.0 v x (matches_end m f r c s e h one.reaches)
       (told_later c s e v x h one.reaches told) in
       keeps_then m f r c s e (take_change m Whole v x) h one.reaches one.keeps two.reaches (inl two.view)

@@ -16,7 +16,7 @@ use Rattle.started_views.specs.Quorums.{counts, Quorum}
 use Rattle.started_views.specs.Settled.{Certificate}
 use Rattle.started_views.specs.Started.{Grounds, StartedAreComparable}
 use Rattle.started_views.proofs.Quorums.{quorums_share, counts_cases}
-use Rattle.started_views.proofs.Changes.{greatest_in, greatest_most, kept_from, kept_has}
+use Rattle.log_merge.proofs.Kept.{greatest_in, greatest_most, kept_from, kept_has}
 
 -- ---- any certificate
 

@@ -1,5 +1,4 @@
 pub mod Certificates
-pub mod Changes
 pub mod Fixing
 pub mod Growing
 pub mod Keeping

@@ -1,9 +1,11 @@
 ghost use Rattle.std.specs.Prelude.{◌≡◌, ◌⊎◌, ◌↔◌, ℕ, List, map};
+ghost use Rattle.std.specs.List.Sorted.{IsPermutation};
 ghost use Rattle.nop_types.specs.Lists.{Has};
+ghost use Rattle.nop_types.specs.declared.view.View.{View};
 ghost use Rattle.nop_types.specs.declared.peer.Change.{Change};
 ghost use Rattle.nop_types.specs.PlainChanges.{plain};
 ghost use Rattle.log_merge.specs.Merged.{HasDistinctSenders};
-ghost use Rattle.view_change.specs.Gathering.{IsOfSender, teller, with_change};
+ghost use Rattle.view_change.specs.Gathering.{IsOfSender, teller, with_change, started};
 
 /// A sender counts once: a change of a sender that is there changes nothing, and any other one is added, with nothing else.
 pub fn senders_count_once<C>()
@@ -14,4 +16,10 @@ pub fn senders_count_once<C>()
     ensures members { (told_by : C → ℕ) (cs : List C) (c d : C)
         → (Has (with_change told_by cs c) d
         ↔ (Has cs d ⊎ ((IsOfSender told_by cs (told_by c) → ⊥) × (d ≡ c)))) }
+{}
+
+/// What a view is started with does not depend on the order in which the changes came.
+pub fn starts_have_no_order()
+    ensures { (w : View) (cs ds : List Change) → HasDistinctSenders (map plain cs)
+        → IsPermutation cs ds → started w cs ≡ started w ds }
 {}

@@ -44,7 +44,7 @@ use Rattle.whole_world.specs.Passed.{Passed, passes, passed_from, first, passed}
 use Rattle.whole_world.specs.Safe.{BringsFits, AllFit}
 use Rattle.whole_world.specs.Shows.{ShowsActors}
 use Rattle.whole_world.specs.Trimming.{told_log, AllWithin, FrontsAgree}
-use Rattle.whole_world.specs.Whole.{WholeReplica, WholeWorld, Letter, Brings, Nothing, Op, Timer, Junk, Equal, Message, Crash}
+use Rattle.whole_world.specs.Whole.{WholeReplica, WholeWorld, Letter, Brings, Timer, Junk, Equal, Message}
 use Rattle.whole_world.specs.Whole.{input_of, arrival_of, letters_in, is_crash, after_row, posts, row_if, effect_of, live_replica, at_replica}
 use Rattle.whole_world.specs.Whole.{step_replica, step_client, step_sequencer, step_controller, whole_step, opening_replica, opening}
 use Rattle.whole_world.proofs.Coming.{messages_were_sent}

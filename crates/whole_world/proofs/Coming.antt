@@ -21,7 +21,7 @@ use Rattle.network.specs.Network.{Sent}
 use Rattle.refinement.specs.Datagrams.{MayCome}
 use Rattle.refinement.specs.Ranges.{GivenFits}
 use Rattle.refinement.specs.Replicas.{Came}
-use Rattle.whole_world.specs.Whole.{Brings, Nothing, Op, Timer, Junk, Equal, Message, Crash, Letter, was_sent, given_if, junk_if, input_of}
+use Rattle.whole_world.specs.Whole.{Brings, Op, Timer, Junk, Equal, Message, Letter, was_sent, given_if, junk_if, input_of}
 use Rattle.whole_world.specs.Whole.{WholeWorld, letter_of, told_if, arrival_read, arrival_given, arrival_of}
 use Rattle.network_laws.specs.Network.{IsNoDatagram}
 use Rattle.whole_world.specs.Coming.{IsBytesOf, IsLetter, DatagramsWereSent, JunkIsNoDatagram, MessagesWereSent}

@@ -84,7 +84,8 @@ pub with_change_opens : {S : Type 0} (m : Meaning S) (f : ℕ) (c : Conf) (r : �
     → Opens (counted teller g x)
 with_change_opens m f c r s v x g h other said view gathers =
     let e : Effect = view_change_request m Whole v s in
-    let one = view_change_request_reaches m f r c s v h in
+    let given = h.inv.said_views (says x.sender v (ViewChange x.last_normal x.next x.log.sync_point x.log.entries)) said in
+    let one = view_change_request_reaches m f r c s v h given in
     let d : Conf = run m f c one.moves in
     let there : Matches m f d r e.0 = matches_end m f r c s e h one in
     let from = other_from m f c r s x.sender h other in

@@ -1,6 +1,6 @@
 -- What comes to a replica of a whole world whose logs can be trimmed does the same over its trimmed log.
 use Rattle.std.proofs.Common.{◌≡◌, ℕ, Option, Some, None, refl, subst, sym, ap, ◌∙◌}
-use Rattle.std.specs.Prelude.{slice_get, Result, Ok, Err}
+use Rattle.std.specs.Prelude.{slice_get, Result, Ok}
 use Rattle.nop_types.specs.Given.{Given}
 use Rattle.nop_types.specs.Given as given
 use Rattle.nop_types.specs.Checkpoints.{KeepsTo}
@@ -18,7 +18,7 @@ use Rattle.trimmed_rows.specs.Premises.{ToldWithin, ArrivesWithin}
 use Rattle.trimmed_rows.proofs.Rows.{rows_trim}
 use Rattle.world.specs.Seats.{Seated}
 use Rattle.whole_world.specs.Trimming.{told_log, CanTrim, RowsTrim}
-use Rattle.whole_world.specs.Whole.{WholeReplica, WholeWorld, Letter, Brings, Nothing, Op, Timer, Junk, Equal, Message, Crash}
+use Rattle.whole_world.specs.Whole.{WholeReplica, WholeWorld, Letter, Brings, Timer, Junk, Equal, Message}
 use Rattle.whole_world.specs.Whole.{input_of, arrival_read, arrival_given, arrival_of}
 use Rattle.whole_world.proofs.Coming.{messages_were_sent}
 

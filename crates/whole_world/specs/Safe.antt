@@ -14,7 +14,7 @@ use Rattle.protocol.specs.Invariant.{Inv}
 use Rattle.protocol.specs.Runs.{Move, run, MayAll}
 use Rattle.protocol_sync.specs.Sound.{Sound, GoesOn}
 use Rattle.protocol_sync.specs.Synced.{Sync}
-use Rattle.whole_world.specs.Whole.{WholeReplica, WholeWorld, Brings, Nothing, Op, Timer, Junk, Equal, Message, Crash, Agreed, history}
+use Rattle.whole_world.specs.Whole.{WholeReplica, WholeWorld, Brings, Op, Agreed, history}
 use Rattle.whole_world.specs.Whole.{whole_step}
 use Rattle.whole_world.specs.Passed.{passed}
 use Rattle.whole_world.specs.Shows.{Shows}
