@@ -12,7 +12,7 @@ use Rattle.transcript_text.specs.Transcript.{actor_text}
 abbrev pub shown_fields : Event → List (List ℕ)
 shown_fields (events.Submit client op) = actor_text (actors.Client client) ∷ []
 shown_fields (events.Junk actor bytes) = actor_text actor ∷ []
-shown_fields event = event_fields event
+shown_fields x = event_fields x
 
 abbrev pub shown_text : Event → List ℕ
 shown_text e = event_word e ++ flat_map after_space (shown_fields e)

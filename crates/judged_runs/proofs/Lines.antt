@@ -2,12 +2,11 @@
 use Rattle.std.proofs.Common.{◌≡◌, ◌+◌, ◌≤◌, ◌<◌, ℕ, zero, suc, Bool, true, false, Option, Some, None, refl, sym, ap, subst, ◌∙◌}
 use Rattle.std.proofs.Common.{arith, length}
 use Rattle.std.proofs.Common.{List, [], ◌∷◌, ◌++◌, inl, inr, append_assoc, length-append}
-use Rattle.std.specs.Prelude.{⊤, Result, Ok, Err, nat_lt, slice_get}
+use Rattle.std.specs.Prelude.{⊤, Result, Ok, Err, nat_lt, slice_get, slice_set}
 use Rattle.std.proofs.lemmas.List.{length-set}
 use Rattle.std.proofs.lemmas.Option.{slice_get_within}
 use Rattle.lemmas.proofs.Members.{Has-none, Has-cases, Has-append_cases}
 use Rattle.lemmas.proofs.Places.{slice_get-append_left, slice_get-append_at, slice_get-push_cases}
-use Rattle.lemmas.proofs.Places.{slice_get-set_cases}
 use Rattle.line_fields.specs.Fields.{IsActorOf}
 use Rattle.nop_types.specs.Configuration.{Configuration}
 use Rattle.nop_types.specs.Given.{Given, Packet, Ticked, Submit}
@@ -25,21 +24,20 @@ use Rattle.nop_types.specs.declared.output.Out.TheVariants as outs
 use Rattle.oum_codec.specs.declared.bad.Bad.{Bad}
 use Rattle.oum_codec.specs.Reading.{reading}
 use Rattle.client_quorum.specs.declared.state.ClientState.{ClientState}
-use Rattle.client_quorum.specs.ClientSteps as client
-use Rattle.sequencer.specs.declared.state.SequencerState.{SequencerState}
-use Rattle.sequencer.specs.SequencerSteps as sequencer
-use Rattle.session_control.specs.declared.state.ControllerState.{ControllerState}
-use Rattle.session_control.specs.ControllerSteps as controller
 use Rattle.replica_core.specs.ReplicaSteps as replica
 use Rattle.replica_core.specs.ReplicaSteps.{Replica}
 use Rattle.schedule_text.specs.Ticks.{takes_tick}
 use Rattle.schedule_text.specs.declared.event.Event.{Event}
 use Rattle.schedule_text.specs.declared.event.Event.TheVariants as events
 use Rattle.network.specs.Network.{Sent, sends_of, lines_from, sends_by, lines_by, Did, Nothing, Outputs}
+use Rattle.world.specs.Others.{Kind, Sequencers, Clients, Controllers, State, next, seats, count}
+use Rattle.world.specs.Others.{Who, AReplica, Another, who, actor_at}
 use Rattle.world.specs.Seats.{Seated, seated, Stimulus, Takes, Crashes, moved_if, seat_step}
 use Rattle.world.specs.WorldSteps.{WorldState, Happened, Refusal, actor_of, stimulus_of, tick_if, datagram_at, junk_of, at_replica}
-use Rattle.world.specs.WorldSteps.{at_sequencer}
-use Rattle.world.specs.WorldSteps.{at_client, at_controller, step_of, step, go_on, run_from, run, opening, counted, opening_client}
+use Rattle.world.specs.WorldSteps.{at_other, step_of, step, go_on, run_from, run, opening, counted, opening_client, opening_others}
+use Rattle.world.proofs.Others.{others_become}
+use Rattle.world.proofs.Refusals.{opening_has_actors}
+use Rattle.whole_world.proofs.Seats.{seats_become}
 use Rattle.safety.proofs.Taking.{took}
 use Rattle.judged_runs.proofs.Ops.{AreRead, OpIsBytes}
 use Rattle.judged_runs.proofs.Outs.{IsRequest, OutsAre, IsOp, GivenIs, ClientIs, replica_tells, sequencer_tells, controller_tells}
@@ -62,11 +60,8 @@ LinesAre c sent ls = (l : Line) → Has ls l → LineIs c sent l
 
 -- more datagrams are sent
 still_line : (c : Configuration) (sent more : List Sent) (l : Line) → LineIs c sent l → LineIs c (sent ++ more) l
-still_line c sent more (lines.Dead actor) h = h
-still_line c sent more (lines.Submit r) h = h
-still_line c sent more (lines.Accept client id result) h = h
-still_line c sent more (lines.Busy client) h = h
 still_line c sent more (lines.Send index from dest bytes) h = (h.0, slice_get-append_left sent more index _ h.1)
+still_line c sent more _ h = h
 
 one_more_line : (c : Configuration) (sent : List Sent) (x : Line) (ls : List Line) → LineIs c sent x → LinesAre c sent ls
     → LinesAre c sent (x ∷ ls)
@@ -99,10 +94,7 @@ outs_tell c from there (outs.Trimmed first entries ∷ os) all n sent at = outs_
 sends_counted : (from : Actor) (os : List Out) (n : ℕ) → length (sends_of from os) ≤ length (lines_from from n os)
 sends_counted from [] n = omega arith
 sends_counted from (outs.Send dest bytes ∷ os) n = let h = sends_counted from os (n + 1) in omega (arith, h)
-sends_counted from (outs.Submitted r ∷ os) n = let h = sends_counted from os n in omega (arith, h)
-sends_counted from (outs.Accepted client id result ∷ os) n = let h = sends_counted from os n in omega (arith, h)
-sends_counted from (outs.Busy client ∷ os) n = let h = sends_counted from os n in omega (arith, h)
-sends_counted from (outs.Trimmed first entries ∷ os) n = sends_counted from os n
+sends_counted from (_ ∷ os) n = let h = sends_counted from os n in omega (arith, h)
 
 -- what an actor did
 abbrev DidTell : Configuration → Did → Type 0
@@ -120,12 +112,15 @@ did_count from (Outputs os) n = sends_counted from os n
 
 -- ---- worlds
 
+-- a client has its number, and no op waits
+abbrev OtherIs : (k : Kind) → ℕ → State k → Type 0
+OtherIs Clients i s = ClientIs i s
+OtherIs _ i s = ⊤
+
 pub record Told (c : Configuration) (w : WorldState) (ls : List Line) : Type 0 where
   pub replicas : length w.replicas ≡ c.replicas
-  pub sequencers : length w.sequencers ≡ c.sequencers
-  pub clients : length w.clients ≡ c.clients
-  pub controllers : length w.controllers ≡ c.controllers
-  pub own : (k : ℕ) (q : Seated ClientState) → slice_get w.clients k ≡ Some q → ClientIs k q.state
+  pub others : (k : Kind) → length (seats k w.others) ≡ count k c
+  pub own : (k : Kind) (i : ℕ) (q : Seated (State k)) → slice_get (seats k w.others) i ≡ Some q → OtherIs k i q.state
   pub count : length w.sent ≤ length ls
   pub lines : LinesAre c w.sent ls
 
@@ -138,17 +133,13 @@ record Tells (c : Configuration) (w : WorldState) (h : Happened) : Type 0 where
   sent : h.world.sent ≡ w.sent ++ sends_by from did
   lines : h.lines ≡ lines_by from (length w.sent) did
   replicas : length h.world.replicas ≡ length w.replicas
-  sequencers : length h.world.sequencers ≡ length w.sequencers
-  clients : length h.world.clients ≡ length w.clients
-  controllers : length h.world.controllers ≡ length w.controllers
-  own : (k : ℕ) (q : Seated ClientState) → slice_get h.world.clients k ≡ Some q → ClientIs k q.state
+  others : (k : Kind) → length (seats k h.world.others) ≡ length (seats k w.others)
+  own : (k : Kind) (i : ℕ) (q : Seated (State k)) → slice_get (seats k h.world.others) i ≡ Some q → OtherIs k i q.state
 
 told_on : (c : Configuration) (w : WorldState) (ls : List Line) (h : Happened) → Told c w ls → Tells c w h → Told c h.world (ls ++ h.lines)
 told_on c w ls h told t = record {
   replicas = t.replicas ∙ told.replicas;
-  sequencers = t.sequencers ∙ told.sequencers;
-  clients = t.clients ∙ told.clients;
-  controllers = t.controllers ∙ told.controllers;
+  others = λ k. t.others k ∙ told.others k;
   own = t.own;
   count = omega (
     arith,
@@ -177,11 +168,22 @@ seat_tells c next p true what go = tt
 seat_tells c next p false (Takes i) go = go i refl
 seat_tells c next p false Crashes go = tt
 
-client_seat : (c : Configuration) (k : ℕ) → k < c.clients → (p : Seated ClientState) → ClientIs k p.state → (b : Bool) (what : Stimulus)
-    → StimulusIs what → DidTell c (moved_if client.next b p what).1 × ClientIs k (moved_if client.next b p what).0.state
-client_seat c k within p is true what fits = (tt, is)
-client_seat c k within p is false (Takes i) fits = let t = client_tells c k within p.state is i fits in (t.tells, t.stays)
-client_seat c k within p is false Crashes fits = (tt, is)
+other_tells : (c : Configuration) (k : Kind) (i : ℕ) → i < count k c → (s : State k) → OtherIs k i s → (g : Given) → GivenIs g
+    → OutsAre c (next k s g).1 × OtherIs k i (next k s g).0
+other_tells c Sequencers i within s is g fits = (sequencer_tells c s g, tt)
+other_tells c Clients i within s is g fits = let t = client_tells c i within s is g fits in (t.tells, t.stays)
+other_tells c Controllers i within s is g fits = (controller_tells c s g, tt)
+
+other_seat : (c : Configuration) (k : Kind) (i : ℕ) → i < count k c → (p : Seated (State k)) → OtherIs k i p.state → (b : Bool)
+    (what : Stimulus) → StimulusIs what
+    → DidTell c (moved_if (next k) b p what).1 × OtherIs k i (moved_if (next k) b p what).0.state
+other_seat c k i within p is true what fits = (tt, is)
+other_seat c k i within p is false (Takes g) fits = other_tells c k i within p.state is g fits
+other_seat c k i within p is false Crashes fits = (tt, is)
+
+is_there : (c : Configuration) (k : Kind) (i : ℕ) → i < count k c → IsActorOf c (actor_at (Another k i))
+is_there c Sequencers i within = within
+is_there c _ i within = within
 
 module _ {S : Type 0} (m : Meaning S) (c : Configuration) (w : WorldState) (ls : List Line) (told : Told c w ls) where
   replica_step : (i : ℕ) (old : Seated Replica) (what : Stimulus) → slice_get w.replicas i ≡ Some old
@@ -194,83 +196,39 @@ module _ {S : Type 0} (m : Meaning S) (c : Configuration) (w : WorldState) (ls :
     sent = refl;
     lines = refl;
     replicas = length-set w.replicas i (seat_step (replica.next m) old what).0;
-    sequencers = refl;
-    clients = refl;
-    controllers = refl;
+    others = λ k. refl;
     own = told.own;
   }
 
-  sequencer_step : (j : ℕ) (old : Seated SequencerState) (what : Stimulus) → slice_get w.sequencers j ≡ Some old
-      → Tells c w (at_sequencer w j (seat_step sequencer.next old what))
-  sequencer_step j old what there = record {
-    from = actors.Sequencer j;
-    there = omega (arith, slice_get_within w.sequencers j old there, told.sequencers);
-    did = (seat_step sequencer.next old what).1;
-    tells = seat_tells c sequencer.next old old.crashed what (λ given is. sequencer_tells c old.state given);
-    sent = refl;
-    lines = refl;
-    replicas = refl;
-    sequencers = length-set w.sequencers j (seat_step sequencer.next old what).0;
-    clients = refl;
-    controllers = refl;
-    own = told.own;
-  }
-
-  client_step : (k : ℕ) (old : Seated ClientState) (what : Stimulus) → slice_get w.clients k ≡ Some old → StimulusIs what
-      → Tells c w (at_client w k (seat_step client.next old what))
-  client_step k old what there fits =
-      let within : k < c.clients = omega (arith, slice_get_within w.clients k old there, told.clients) in
-      let t = client_seat c k within old (told.own k old there) old.crashed what fits in
-      let new : Seated ClientState = (seat_step client.next old what).0 in
+  other_step : (k : Kind) (i : ℕ) (old : Seated (State k)) (what : Stimulus) → slice_get (seats k w.others) i ≡ Some old
+      → StimulusIs what → Tells c w (at_other k w i (seat_step (next k) old what))
+  other_step k i old what there fits =
+      let within : i < count k c = omega (arith, slice_get_within (seats k w.others) i old there, told.others k) in
+      let t = other_seat c k i within old (told.own k i old there) old.crashed what fits in
+      let new : Seated (State k) = (seat_step (next k) old what).0 in
+      let ps : List (Seated (State k)) = slice_set (seats k w.others) i new in
       record {
-        from = actors.Client k;
-        there = within;
-        did = (seat_step client.next old what).1;
+        from = actor_at (Another k i);
+        there = is_there c k i within;
+        did = (seat_step (next k) old what).1;
         tells = t.0;
         sent = refl;
         lines = refl;
         replicas = refl;
-        sequencers = refl;
-        clients = length-set w.clients k new;
-        controllers = refl;
-        own = λ j q h. elim (slice_get-set_cases w.clients k new j q h) [
-          | inl here ↦
-              subst (λ (i : ℕ). ClientIs i q.state) (sym here.0)
-              (subst (λ (p : Seated ClientState). ClientIs k p.state) (sym here.1) t.1)
-          | inr other ↦ told.own j q other.1
-        ];
+        others = others_become (λ j qs. length qs ≡ length (seats j w.others)) w.others k ps
+            (length-set (seats k w.others) i new) (λ j. refl);
+        own = others_become (λ j qs. (n : ℕ) (q : Seated (State j)) → slice_get qs n ≡ Some q → OtherIs j n q.state) w.others k ps
+            (seats_become (OtherIs k) (OtherIs k) (seats k w.others) i new t.1 (λ n s other h. h) (told.own k)) told.own;
       }
 
-  controller_step : (k : ℕ) (old : Seated ControllerState) (what : Stimulus) → slice_get w.controllers k ≡ Some old
-      → Tells c w (at_controller w k (seat_step controller.next old what))
-  controller_step k old what there = record {
-    from = actors.Controller k;
-    there = omega (arith, slice_get_within w.controllers k old there, told.controllers);
-    did = (seat_step controller.next old what).1;
-    tells = seat_tells c controller.next old old.crashed what (λ given is. controller_tells c old.state given);
-    sent = refl;
-    lines = refl;
-    replicas = refl;
-    sequencers = refl;
-    clients = refl;
-    controllers = length-set w.controllers k (seat_step controller.next old what).0;
-    own = told.own;
-  }
-
-  actor_step : (a : Actor) (r : Result Stimulus Refusal) (h : Happened) → ((what : Stimulus) → r ≡ Ok what → StimulusIs what)
-      → step_of m w a r ≡ Ok h → Tells c w h
-  actor_step (actors.Replica i) r h fits e =
+  actor_step : (x : Who) (r : Result Stimulus Refusal) (h : Happened) → ((what : Stimulus) → r ≡ Ok what → StimulusIs what)
+      → step_of m w x r ≡ Ok h → Tells c w h
+  actor_step (AReplica i) r h fits e =
       let t = took (at_replica w i) (replica.next m) (slice_get w.replicas i) r h e in
       subst (Tells c w) t.gives (replica_step i t.seat t.what t.there)
-  actor_step (actors.Sequencer j) r h fits e =
-      let t = took (at_sequencer w j) sequencer.next (slice_get w.sequencers j) r h e in
-      subst (Tells c w) t.gives (sequencer_step j t.seat t.what t.there)
-  actor_step (actors.Client k) r h fits e =
-      let t = took (at_client w k) client.next (slice_get w.clients k) r h e in
-      subst (Tells c w) t.gives (client_step k t.seat t.what t.there (fits t.what t.brought))
-  actor_step (actors.Controller k) r h fits e =
-      let t = took (at_controller w k) controller.next (slice_get w.controllers k) r h e in
-      subst (Tells c w) t.gives (controller_step k t.seat t.what t.there)
+  actor_step (Another k i) r h fits e =
+      let t = took (at_other k w i) (next k) (slice_get (seats k w.others) i) r h e in
+      subst (Tells c w) t.gives (other_step k i t.seat t.what t.there (fits t.what t.brought))
 
 -- ---- events
 
@@ -305,7 +263,7 @@ module _ {S : Type 0} (m : Meaning S) (c : Configuration) where
   unfolding step
   event_told w ls told x read h e =
       told_on c w ls h told
-      (actor_step m c w ls told (actor_of x) (stimulus_of w.config w.sent x) h (event_is w.config w.sent x read) e)
+      (actor_step m c w ls told (who (actor_of x)) (stimulus_of w.config w.sent x) h (event_is w.config w.sent x read) e)
 
   told_then : (x : Event) (es : List Event) (w : WorldState) (ls : List Line) (h : Happened) → Told c w ls → EventFits x × OpIsBytes x
       → ((v : WorldState) (more : List Line) → Told c v more → run_from m more v es ≡ Ok h → Told c h.world h.lines)
@@ -341,14 +299,16 @@ opening_own c (suc n) k q h =
 
 opening_told : (c : Configuration) → Told c (opening c) []
 opening_told c = record {
-  replicas = counted_length (replica.opening c) c.replicas;
-  sequencers = counted_length sequencer.opening c.sequencers;
-  clients = counted_length (opening_client c) c.clients;
-  controllers = counted_length (controller.opening c) c.controllers;
-  own = λ k q h. opening_own c c.clients k q h;
+  replicas = (opening_has_actors c).replicas;
+  others = (opening_has_actors c).others;
+  own = λ k. own k;
   count = omega arith;
   lines = λ l h. absurd (Has-none l h);
 }
+  where
+    own : (k : Kind) (i : ℕ) (q : Seated (State k)) → slice_get (seats k (opening_others c)) i ≡ Some q → OtherIs k i q.state
+    own Clients i q h = opening_own c c.clients i q h
+    own _ i q h = tt
 
 pub runs_tell : {S : Type 0} (m : Meaning S) (c : Configuration) (es : List Event) (h : Happened) → AreRead es → run m c es ≡ Ok h
     → Told c h.world h.lines

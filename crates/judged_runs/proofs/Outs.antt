@@ -38,7 +38,7 @@ use Rattle.session_control.specs.declared.state.TheConstants.{MISSED_END}
 use Rattle.session_control.specs.ControllerSteps as controller
 use Rattle.replica_state.specs.State.{is_other}
 use Rattle.replica_state.specs.declared.sending.Sending.{Sending}
-use Rattle.replica_state.specs.declared.sending.Sending.TheVariants.{ToClient, ToReplicas, Trims}
+use Rattle.replica_state.specs.declared.sending.Sending.TheVariants.{ToReplicas}
 use Rattle.replica_rows.specs.Messages as messages
 use Rattle.replica_core.specs.Posting.{posted}
 use Rattle.replica_core.specs.ReplicaSteps as replica
@@ -75,9 +75,8 @@ pub record IsOp (op : List ℕ) : Type 0 where
   pub short : length op ≤ MAX_OP_BYTES
 
 abbrev pub GivenIs : Given → Type 0
-GivenIs (Packet bytes) = ⊤
-GivenIs (Ticked tick) = ⊤
 GivenIs (Submit op) = IsOp op
+GivenIs _ = ⊤
 
 -- ---- replicas
 
@@ -88,10 +87,9 @@ cut_are c dest (f ∷ fs) = (tt, cut_are c dest fs)
 posted_are : (c : Configuration) (number : ℕ) (sends : List Sending) → OutsAre c (posted number sends)
 unfolding posted
 posted_are c number [] = tt
-posted_are c number (ToClient r ∷ sends) = (tt, posted_are c number sends)
-posted_are c number (Trims first entries ∷ sends) = (tt, posted_are c number sends)
 posted_are c number (ToReplicas dest p ∷ sends) =
     both_are c _ (posted (number + 1) sends) (cut_are c dest _) (posted_are c (number + 1) sends)
+posted_are c number (_ ∷ sends) = (tt, posted_are c number sends)
 
 module _ {S : Type 0} (m : Meaning S) (c : Configuration) where
   row_are : (b : Bool) (s : Replica) (a : messages.Arrival) → OutsAre c (replica.row_if m b s a).1
@@ -152,8 +150,7 @@ stamping_are c s _ = tt
 pub sequencer_tells : (c : Configuration) (s : SequencerState) (i : Given) → OutsAre c (sequencer.next s i).1
 unfolding sequencer.next
 sequencer_tells c s (Packet bytes) = stamping_are c s (reading bytes)
-sequencer_tells c s (Ticked tick) = tt
-sequencer_tells c s (Submit op) = tt
+sequencer_tells c s _ = tt
 
 -- ---- controllers
 

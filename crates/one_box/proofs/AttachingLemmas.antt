@@ -1,16 +1,13 @@
 -- The actors of a cluster, and their links.
 use Rattle.std.proofs.Common.{◌≡◌, ℕ, zero, suc, ◌+◌, ◌<◌, ◌≤◌, List, [], ◌∷◌, ◌++◌, length, map, take, drop, Option, Some, None}
 use Rattle.std.proofs.Common.{refl, sym, ap, subst, ◌∙◌, arith, add-one, append_assoc, length-append}
-use Rattle.std.specs.Prelude.{slice_get, Result, Ok, Err}
+use Rattle.std.specs.Prelude.{slice_get}
 use Rattle.std.proofs.lemmas.List.{map-append, take_all}
 use Rattle.lemmas.proofs.Places.{Splits-at}
 use Rattle.nop_types.specs.Configuration.{Configuration}
 use Rattle.nop_types.specs.declared.output.Actor.{Actor}
-use Rattle.nop_types.specs.declared.output.Actor.TheVariants as kinds
 use Rattle.outside.specs.Ports.{GivesNext, next_link}
 use Rattle.nop_types.specs.declared.input.Tick.{Tick}
-use Rattle.outside.specs.declared.errors.DeviceError.{DeviceError}
-use Rattle.outside.specs.declared.errors.DeviceError.TheVariants.{Failed, NoMemory}
 use Rattle.outside.specs.declared.link.PollAnswer.{PollAnswer}
 use Rattle.outside.specs.declared.link.LinkCall.{LinkCall}
 use Rattle.udp_node.specs.declared.address.Address.{Address}
@@ -18,7 +15,8 @@ use Rattle.udp_node.specs.declared.firing.Timer.{Timer}
 use Rattle.udp_node.specs.Sends.{LinkSide, Sends, side}
 use Rattle.udp_node.specs.Timing.{armed}
 use Rattle.udp_node.proofs.SendLemmas.{no_sends}
-use Rattle.world.specs.Lookups.{timers_if, timers_of}
+use Rattle.world.specs.Lookups.{timers_if, timers_by, timers_of}
+use Rattle.world.specs.Others.{Kind, Sequencers, seats, timers, Who, AReplica, Another, who}
 use Rattle.world.specs.Seats.{Seated}
 use Rattle.world.specs.WorldSteps.{WorldState, opening}
 use Rattle.one_box.specs.declared.node.Node as code
@@ -41,11 +39,16 @@ few_if : {S : Type 0} (o : Option (Seated S)) (ts : List (Tick × ℕ)) → leng
 few_if None ts few = omega arith
 few_if (Some p) ts few = few
 
+few_of : (k : Kind) → length (timers k) ≤ 255
+few_of Sequencers = omega arith
+few_of _ = omega arith
+
+few_by : (w : WorldState) (x : Who) → length (timers_by w x) ≤ 255
+few_by w (AReplica i) = few_if (slice_get w.replicas i) _ (omega arith)
+few_by w (Another k i) = few_if (slice_get (seats k w.others) i) (timers k) (few_of k)
+
 pub few_timers : (w : WorldState) (a : Actor) → length (timers_of w a) ≤ 255
-few_timers w (kinds.Replica i) = few_if (slice_get w.replicas i) _ (omega arith)
-few_timers w (kinds.Sequencer i) = few_if (slice_get w.sequencers i) [] (omega arith)
-few_timers w (kinds.Client i) = few_if (slice_get w.clients i) _ (omega arith)
-few_timers w (kinds.Controller i) = few_if (slice_get w.controllers i) _ (omega arith)
+few_timers w a = few_by w (who a)
 
 -- ---- links
 

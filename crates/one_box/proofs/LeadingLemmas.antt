@@ -24,6 +24,7 @@ use Rattle.transcript_text.specs.Transcript.{line_text, lines_text}
 use Rattle.world.specs.Actors as world
 use Rattle.network.specs.declared.lines.Lines.{Lines}
 use Rattle.network.specs.LineCounts.{is_accept}
+use Rattle.world.specs.Others.{seats, Who, AReplica, Another, who}
 use Rattle.world.specs.Seats.{Seated}
 use Rattle.network.specs.Network.{Did}
 use Rattle.world.specs.WorldSteps.{WorldState, Refusal, Happened, step, step_at, step_of, then_at, tick_if, stimulus_of, go_on, run_from}
@@ -67,16 +68,14 @@ at_refusal : {S : Type 0} (next : S → Given → S × List Out) (f : Seated S �
 at_refusal next f None r h is = cc
 at_refusal next f (Some p) r h is = cc
 
-of_refusal : {S : Type 0} (m : Meaning S) (w : WorldState) (a : Actor) (r : Refusal) (h : Happened) → step_of m w a (Err r) ≡ Ok h → ⊥
-of_refusal m w (actors.Replica i) r h is = at_refusal _ _ (slice_get w.replicas i) r h is
-of_refusal m w (actors.Sequencer i) r h is = at_refusal _ _ (slice_get w.sequencers i) r h is
-of_refusal m w (actors.Client i) r h is = at_refusal _ _ (slice_get w.clients i) r h is
-of_refusal m w (actors.Controller i) r h is = at_refusal _ _ (slice_get w.controllers i) r h is
+of_refusal : {S : Type 0} (m : Meaning S) (w : WorldState) (x : Who) (r : Refusal) (h : Happened) → step_of m w x (Err r) ≡ Ok h → ⊥
+of_refusal m w (AReplica i) r h is = at_refusal _ _ (slice_get w.replicas i) r h is
+of_refusal m w (Another k i) r h is = at_refusal _ _ (slice_get (seats k w.others) i) r h is
 
-tick_taken : {S : Type 0} (m : Meaning S) (w : WorldState) (a : Actor) (tick : Tick) (h : Happened) (b : Bool)
-    → step_of m w a (tick_if b tick) ≡ Ok h → b ≡ true
-tick_taken m w a tick h true is = refl
-tick_taken m w a tick h false is = absurd (of_refusal m w a _ h is)
+tick_taken : {S : Type 0} (m : Meaning S) (w : WorldState) (x : Who) (tick : Tick) (h : Happened) (b : Bool)
+    → step_of m w x (tick_if b tick) ≡ Ok h → b ≡ true
+tick_taken m w x tick h true is = refl
+tick_taken m w x tick h false is = absurd (of_refusal m w x _ h is)
 
 word_of : (a : Actor) (tick : Tick) → takes_tick a tick ≡ true → HasWord tick
 word_of (actors.Replica i) ticks.Next is = absurd cc
@@ -87,7 +86,7 @@ word_of _ _ is = tt
 
 happened_line : {S : Type 0} (m : Meaning S) (w : WorldState) (e : Event) (h : Happened) → IsNoJunk e → step m w e ≡ Ok h → HasLine e
 unfolding step stimulus_of
-happened_line m w (events.Tick a tick) h free is = word_of a tick (tick_taken m w a tick h (takes_tick a tick) is)
+happened_line m w (events.Tick a tick) h free is = word_of a tick (tick_taken m w (who a) tick h (takes_tick a tick) is)
 happened_line m w (events.Junk a bytes) h free is = absurd free
 happened_line m w _ h free is = tt
 

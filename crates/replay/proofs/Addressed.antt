@@ -1,7 +1,7 @@
 -- What actors send goes to actors of the configuration, and what clients submit is theirs.
 use Rattle.std.proofs.Common.{◌≡◌, ◌≤◌, ◌<◌, ◌+◌, ℕ, Bool, true, false, Option, Some, None, refl, sym, ap, subst, arith}
 use Rattle.std.proofs.Common.{List, [], ◌∷◌, ◌++◌, inl, inr}
-use Rattle.std.specs.Prelude.{⊤, nat_lt, nat_le, ◌==◌, ◌&&◌, ◌||◌, Result, Ok, Err, slice_index}
+use Rattle.std.specs.Prelude.{⊤, nat_lt, nat_le, ◌==◌, ◌&&◌, ◌||◌, Result, Ok, slice_index}
 use Rattle.std.specs.Int.{w32, w64}
 use Rattle.std.specs.List.{AllByRecursion}
 use Rattle.std.proofs.lemmas.Bool.{ltb-true}
@@ -126,10 +126,7 @@ pub sent_goes : (c : Configuration) (from : Actor) (os : List Out) → OutsGo c 
 sent_goes c from [] all s h = absurd (Has-none s h)
 sent_goes c from (outs.Send dest bytes ∷ os) all s h =
     goes_later c s (record { from = from; dest = dest; bytes = bytes }) (sent_of from os) all.0 (sent_goes c from os all.1) h
-sent_goes c from (outs.Submitted r ∷ os) all s h = sent_goes c from os all.1 s h
-sent_goes c from (outs.Accepted client id result ∷ os) all s h = sent_goes c from os all.1 s h
-sent_goes c from (outs.Busy client ∷ os) all s h = sent_goes c from os all.1 s h
-sent_goes c from (outs.Trimmed first entries ∷ os) all s h = sent_goes c from os all.1 s h
+sent_goes c from (_ ∷ os) all s h = sent_goes c from os all.1 s h
 
 -- each line that submits is of a client of the configuration
 abbrev pub SubmitsOf : Configuration → List Line → Type 0
@@ -196,8 +193,7 @@ posted_goes c number (Trims first entries ∷ sends) some fits all = (tt, posted
 -- of what is given
 abbrev pub GivenNames : Configuration → Given → Type 0
 GivenNames c (Packet bytes) = Names c (λ d. reading bytes ≡ Ok d)
-GivenNames c (Ticked tick) = ⊤
-GivenNames c (Submit op) = ⊤
+GivenNames c _ = ⊤
 
 packet_goes : (c : Configuration) (o : Option Stamped) → OutsGo c (sequencer.send_packet o)
 packet_goes c (Some p) = (record { goes = tt; names = other_kind c kinds.STAMPED (stamped_bytes p) refl }, tt)
@@ -225,8 +221,7 @@ stamping_goes c s _ names = tt
 pub sequencer_goes : (c : Configuration) (s : SequencerState) (i : Given) → GivenNames c i → OutsGo c (sequencer.next s i).1
 unfolding sequencer.next
 sequencer_goes c s (Packet bytes) names = stamping_goes c s (reading bytes) names
-sequencer_goes c s (Ticked tick) names = tt
-sequencer_goes c s (Submit op) names = tt
+sequencer_goes c s _ names = tt
 
 -- ---- clients
 

@@ -128,14 +128,10 @@ module _ {S : Type 0} (m : Meaning S) (f : ℕ) where
 
   move_asked : (c : Conf) (x : Move) → Inv m f (happens m f c x) → May f c x → AllAsked c → AllAsked (happens m f c x)
   move_asked c (runs.Acts r a) inv may old = act_asked c r a inv (omega (arith, may.0)) old
-  move_asked c (runs.MoveTo k j s) inv may old = old
-  move_asked c (runs.Installed k) inv may old = old
-  move_asked c (runs.Install j s) inv may old = old
-  move_asked c (runs.Stamp j r) inv may old = old
   move_asked c (runs.Submit k op waiting) inv may old = λ y h. asked_still c.lines _ y.client (old y h)
-  move_asked c (runs.Keep k p) inv may old = old
   move_asked c (runs.Accept k p leaders) inv may old = λ y h. asked_still c.lines _ y.client (old y h)
   move_asked c (runs.Tell more) inv may old = λ y h. asked_still c.lines more y.client (old y h)
+  move_asked c _ inv may old = old
 
   pub moves_asked : (c : Conf) (xs : List Move) → Inv m f c → MayAll m f c xs → AllAsked c → AllAsked (run m f c xs)
   moves_asked c [] inv may old = old

@@ -12,15 +12,14 @@ use Rattle.nop_types.specs.Meaning.{Meaning}
 use Rattle.nop_types.specs.declared.output.Actor.{Actor}
 use Rattle.nop_types.specs.declared.output.Actor.TheVariants as actors
 use Rattle.client_quorum.specs.ClientSteps as client
-use Rattle.sequencer.specs.SequencerSteps as sequencer
-use Rattle.session_control.specs.ControllerSteps as controller
 use Rattle.replica_core.specs.ReplicaSteps as replica
 use Rattle.schedule_text.specs.declared.event.Event.{Event}
 use Rattle.schedule_text.specs.Fits.{EventFits, EventsFit}
 use Rattle.network.specs.Network.{sends_by, Did}
+use Rattle.world.specs.Others.{next, seats, Who, AReplica, Another, who, actor_at}
 use Rattle.world.specs.Seats.{Seated, Stimulus}
 use Rattle.world.specs.WorldSteps.{WorldState, Happened, Refusal, actor_of, stimulus_of, then_at, step_at, step_of, step, go_on, run_from}
-use Rattle.world.specs.WorldSteps.{at_replica, at_sequencer, at_client, at_controller, opening}
+use Rattle.world.specs.WorldSteps.{at_replica, at_other, opening}
 use Rattle.std.specs.Prelude.{slice_get}
 use Rattle.replay.specs.Drawing.{generator_of, event_drawn}
 use Rattle.replay.specs.Generated.{drawn_config, first_event, world_after, drawn_from, drawn_events, RunsFrom}
@@ -85,20 +84,17 @@ module _ {S : Type 0} (m : Meaning S) where
       subst (λ (x : Happened). length w.sent ≤ length x.world.sent) same
       (omega (arith, ap length (adds p), length-append w.sent (sends_by from p.1)))
 
-  actor_grows : (w : WorldState) (a : Actor) (r : Result Stimulus Refusal) (h : Happened) → step_of m w a r ≡ Ok h
+  actor_grows : (w : WorldState) (x : Who) (r : Result Stimulus Refusal) (h : Happened) → step_of m w x r ≡ Ok h
       → length w.sent ≤ length h.world.sent
-  actor_grows w (actors.Replica i) r h is =
+  actor_grows w (AReplica i) r h is =
       carried_grows w (actors.Replica i) (at_replica w i) (λ p. refl) (step_at (replica.next m) (slice_get w.replicas i) r) h is
-  actor_grows w (actors.Sequencer j) r h is =
-      carried_grows w (actors.Sequencer j) (at_sequencer w j) (λ p. refl) (step_at sequencer.next (slice_get w.sequencers j) r) h is
-  actor_grows w (actors.Client k) r h is =
-      carried_grows w (actors.Client k) (at_client w k) (λ p. refl) (step_at client.next (slice_get w.clients k) r) h is
-  actor_grows w (actors.Controller k) r h is =
-      carried_grows w (actors.Controller k) (at_controller w k) (λ p. refl) (step_at controller.next (slice_get w.controllers k) r) h is
+  actor_grows w (Another k i) r h is =
+      carried_grows w (actor_at (Another k i)) (at_other k w i) (λ p. refl)
+      (step_at (next k) (slice_get (seats k w.others) i) r) h is
 
   step_grows : (w : WorldState) (e : Event) (h : Happened) → step m w e ≡ Ok h → length w.sent ≤ length h.world.sent
   unfolding step
-  step_grows w e h is = actor_grows w (actor_of e) (stimulus_of w.config w.sent e) h is
+  step_grows w e h is = actor_grows w (who (actor_of e)) (stimulus_of w.config w.sent e) h is
 
   -- ---- the first event
 

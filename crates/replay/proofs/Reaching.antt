@@ -1,13 +1,13 @@
 -- In each world of a run the datagrams go to actors of the configuration.
 use Rattle.std.proofs.Common.{◌≡◌, ◌≤◌, ◌<◌, ◌+◌, ◌*◌, ℕ, Bool, true, false, Some, refl, sym, ap, subst, ◌∙◌, arith, length}
 use Rattle.std.proofs.Common.{List, [], ◌∷◌, ◌++◌, inl, inr}
-use Rattle.std.specs.Prelude.{◌⊎◌, ◌/◌, ⊤, not, Result, Ok, Err, slice_get}
+use Rattle.std.specs.Prelude.{◌⊎◌, ◌/◌, ⊤, not, Result, Ok, Err, slice_get, slice_set}
 use Rattle.std.specs.List.{AllByRecursion}
 use Rattle.std.proofs.lemmas.Option.{slice_get_within}
 use Rattle.nop_types.specs.Bounds.{Bounds}
 use Rattle.nop_types.specs.Checkpoints.{KeepsTo}
 use Rattle.nop_types.specs.Configuration.{Configuration, is_configuration}
-use Rattle.nop_types.specs.Given.{Given, Packet, Ticked, Submit}
+use Rattle.nop_types.specs.Given.{Given, Packet}
 use Rattle.nop_types.specs.Lines as lines
 use Rattle.nop_types.specs.Lines.{Line}
 use Rattle.nop_types.specs.Lists.{Has}
@@ -19,7 +19,7 @@ use Rattle.nop_types.specs.declared.datagram.Reply.{Reply}
 use Rattle.nop_types.specs.declared.output.Actor.{Actor}
 use Rattle.nop_types.specs.declared.output.Actor.TheVariants as actors
 use Rattle.nop_types.specs.declared.output.Dest.{Dest}
-use Rattle.nop_types.specs.declared.output.Dest.TheVariants.{Replicas, Sequencers, One}
+use Rattle.nop_types.specs.declared.output.Dest.TheVariants as dests
 use Rattle.nop_types.specs.declared.output.Out.{Out}
 use Rattle.oum_codec.specs.Reading.{reading}
 use Rattle.oum_codec.specs.Spelling.{spelling}
@@ -29,10 +29,6 @@ use Rattle.lemmas.proofs.Members.{Has-none, Has-append_cases, Has-filter, Has-fr
 use Rattle.execution_laws.proofs.Shortness.{result_fits}
 use Rattle.trimming.proofs.Bounds.{trimmed_keep_bounds}
 use Rattle.client_quorum.specs.declared.state.ClientState.{ClientState}
-use Rattle.client_quorum.specs.ClientSteps as client
-use Rattle.sequencer.specs.declared.state.SequencerState.{SequencerState}
-use Rattle.sequencer.specs.SequencerSteps as sequencer
-use Rattle.session_control.specs.declared.state.ControllerState.{ControllerState}
 use Rattle.session_control.specs.ControllerSteps as controller
 use Rattle.replica_core.specs.ReplicaSteps as replica
 use Rattle.replica_core.specs.ReplicaSteps.{Replica}
@@ -50,10 +46,13 @@ use Rattle.protocol.specs.Conf.{Conf, opening}
 use Rattle.protocol.specs.Invariant.{Inv}
 use Rattle.protocol.proofs.Opening.{opening_meets}
 use Rattle.network.specs.Network.{Sent, sends_by, lines_by, Did, Nothing, Outputs}
+use Rattle.world.specs.Others.{Kind, Sequencers, Clients, Controllers, State, next, Others, seats}
+use Rattle.world.specs.Others.{Who, AReplica, Another, who, actor_at}
 use Rattle.world.specs.Seats.{Seated, Stimulus, Takes, Crashes, moved_if, seat_step}
 use Rattle.world.specs.WorldSteps as world
-use Rattle.world.specs.WorldSteps.{WorldState, Happened, Refusal, actor_of, stimulus_of, at_replica, at_sequencer, at_client, at_controller}
-use Rattle.world.specs.WorldSteps.{step_of, step, go_on, run_from}
+use Rattle.world.specs.WorldSteps.{WorldState, Happened, Refusal, actor_of, stimulus_of, at_replica, at_other}
+use Rattle.world.specs.WorldSteps.{opening_others, step_of, step, go_on, run_from}
+use Rattle.world.proofs.Others.{others_become}
 use Rattle.whole_world.specs.Passed as whole_passed
 use Rattle.whole_world.specs.Shows.{ShowsActors}
 use Rattle.whole_world.specs.Whole.{WholeReplica, WholeWorld, Brings}
@@ -87,15 +86,19 @@ pub record At {S : Type 0} (m : Meaning S) (config : Configuration) (w : WorldSt
 
 -- ---- what holds of a world
 
--- each controller is one of the configuration
-abbrev ArePlaced : Configuration → WorldState → Type 0
-ArePlaced c w = (k : ℕ) (q : Seated ControllerState) → slice_get w.controllers k ≡ Some q → IsPlaced c q.state
+-- a controller is one of the configuration
+abbrev OtherPlaced : (k : Kind) → Configuration → State k → Type 0
+OtherPlaced Controllers c s = IsPlaced c s
+OtherPlaced _ c s = ⊤
+
+abbrev ArePlaced : Configuration → Others → Type 0
+ArePlaced c o = (k : Kind) (i : ℕ) (q : Seated (State k)) → slice_get (seats k o) i ≡ Some q → OtherPlaced k c q.state
 
 -- what was sent goes to actors of the configuration, what was submitted is of its clients, and its controllers are there
 record Good (config : Configuration) (w : WorldState) (ls : List Line) : Type 0 where
   sent : (s : Sent) → Has w.sent s → IsAddressed config s.dest s.bytes
   submits : SubmitsOf config ls
-  controllers : ArePlaced config w
+  others : ArePlaced config w.others
 
 -- what an actor did
 abbrev DidGo : Configuration → Did → Type 0
@@ -120,7 +123,7 @@ record Keeps (config : Configuration) (w : WorldState) (h : Happened) : Type 0 w
   goes : DidGo config did
   sent : h.world.sent ≡ w.sent ++ sends_by from did
   lines : h.lines ≡ lines_by from (length w.sent) did
-  controllers : ArePlaced config h.world
+  others : ArePlaced config h.world.others
 
 kept_good : (config : Configuration) (w : WorldState) (ls : List Line) (h : Happened) → Good config w ls → Keeps config w h
     → Good config h.world (ls ++ h.lines)
@@ -133,7 +136,7 @@ kept_good config w ls h good k = record {
     | inl before ↦ good.submits r before
     | inr now ↦ did_say config k.from (length w.sent) k.did k.goes r (subst (λ (xs : List Line). Has xs (lines.Submit r)) k.lines now)
   ];
-  controllers = k.controllers;
+  others = k.others;
 }
 
 -- a seat whose steps send to actors of the configuration
@@ -144,11 +147,15 @@ seat_goes c next p false (Takes i) go = go i refl
 seat_goes c next p false Crashes go = tt
 
 -- a controller's seat stays placed
-seat_placed : (c : Configuration) (p : Seated ControllerState) (b : Bool) (what : Stimulus) → IsPlaced c p.state
-    → IsPlaced c (moved_if controller.next b p what).0.state
-seat_placed c p true what is = is
-seat_placed c p false (Takes i) is = (controller_directs c p.state i is).stays
-seat_placed c p false Crashes is = is
+placed_on : (k : Kind) (c : Configuration) (s : State k) (i : Given) → OtherPlaced k c s → OtherPlaced k c (next k s i).0
+placed_on Controllers c s i is = (controller_directs c s i is).stays
+placed_on _ c s i is = tt
+
+seat_placed : (k : Kind) (c : Configuration) (p : Seated (State k)) (b : Bool) (what : Stimulus) → OtherPlaced k c p.state
+    → OtherPlaced k c (moved_if (next k) b p what).0.state
+seat_placed k c p true what is = is
+seat_placed k c p false (Takes i) is = placed_on k c p.state i is
+seat_placed k c p false Crashes is = is
 
 module _ {S : Type 0} (m : Meaning S) (config : Configuration) (bounds : Bounds m Trimmed)
     (count : config.replicas ≡ 2 * (config.replicas / 2) + 1) (w : WorldState) (ls : List Line) (at : At m config w ls)
@@ -221,7 +228,7 @@ module _ {S : Type 0} (m : Meaning S) (config : Configuration) (bounds : Bounds 
         (λ given is. replica_goes i old there given (subst (AllMayCome (bytes_of w.sent)) is brings));
     sent = refl;
     lines = refl;
-    controllers = good.controllers;
+    others = good.others;
   }
 
   -- what is read of bytes that were sent is what they spell
@@ -248,81 +255,60 @@ module _ {S : Type 0} (m : Meaning S) (config : Configuration) (bounds : Bounds 
     installs = λ k j session e. absurd (let g = none.refused in cc);
     pings = λ k j round e. absurd (let g = none.refused in cc);
   }
-  given_names (Ticked tick) may = tt
-  given_names (Submit op) may = tt
+  given_names _ may = tt
 
-  sequencer_keeps : (j : ℕ) (old : Seated SequencerState) (what : Stimulus) → AllMayCome (bytes_of w.sent) what
-      → Keeps config w (at_sequencer w j (seat_step sequencer.next old what))
-  sequencer_keeps j old what brings = record {
-    from = actors.Sequencer j;
-    did = (seat_step sequencer.next old what).1;
-    goes = seat_goes config sequencer.next old old.crashed what
-        (λ given is. sequencer_goes config old.state given
-        (given_names given (subst (AllMayCome (bytes_of w.sent)) is brings)));
-    sent = refl;
-    lines = refl;
-    controllers = good.controllers;
-  }
-
-  own_number : (k : ℕ) (old : Seated ClientState) → slice_get w.clients k ≡ Some old → old.state.number < config.clients
+  own_number : (k : ℕ) (old : Seated ClientState) → slice_get w.others.clients k ≡ Some old → old.state.number < config.clients
   own_number k old there =
-      let found : slice_get whole_one.clients k ≡ Some old =
-      ap (λ (xs : List (Seated ClientState)). slice_get xs k) (sym alike.clients) ∙ there in
-      let is : old.state.number ≡ k = ap (λ (s : ClientState). s.number) (sym (shown.clients k old found)) ∙ (inv.clients k).number in
+      let found : slice_get whole_one.others.clients k ≡ Some old =
+      ap (λ (o : Others). slice_get o.clients k) (sym alike.others) ∙ there in
+      let is : old.state.number ≡ k =
+      ap (λ (s : ClientState). s.number) (sym (shown.others Clients k old found)) ∙ (inv.clients k).number in
       omega (
         arith,
         is,
-        slice_get_within whole_one.clients k old found,
-        shown.client_count,
+        slice_get_within whole_one.others.clients k old found,
+        shown.other_count Clients,
         ap (λ (q : Configuration). q.clients) at.at.stands.same,
       )
 
-  client_keeps : (k : ℕ) (old : Seated ClientState) (what : Stimulus) → slice_get w.clients k ≡ Some old
-      → Keeps config w (at_client w k (seat_step client.next old what))
-  client_keeps k old what there = record {
-    from = actors.Client k;
-    did = (seat_step client.next old what).1;
-    goes = seat_goes config client.next old old.crashed what (λ given is. client_goes config old.state (own_number k old there) given);
-    sent = refl;
-    lines = refl;
-    controllers = good.controllers;
-  }
+  other_goes : (k : Kind) (i : ℕ) (old : Seated (State k)) → slice_get (seats k w.others) i ≡ Some old → (given : Given)
+      → MayCome (bytes_of w.sent) given → OutsGo config (next k old.state given).1
+  other_goes Sequencers i old there given may = sequencer_goes config old.state given (given_names given may)
+  other_goes Clients i old there given may = client_goes config old.state (own_number i old there) given
+  other_goes Controllers i old there given may =
+      (controller_directs config old.state given (good.others Controllers i old there)).sends
 
-  controller_keeps : (k : ℕ) (old : Seated ControllerState) (what : Stimulus) → slice_get w.controllers k ≡ Some old
-      → Keeps config w (at_controller w k (seat_step controller.next old what))
-  controller_keeps k old what there =
-      let new : Seated ControllerState = (seat_step controller.next old what).0 in
-      let placed : IsPlaced config old.state = good.controllers k old there in
+  other_keeps : (k : Kind) (i : ℕ) (old : Seated (State k)) (what : Stimulus) → slice_get (seats k w.others) i ≡ Some old
+      → AllMayCome (bytes_of w.sent) what → Keeps config w (at_other k w i (seat_step (next k) old what))
+  other_keeps k i old what there brings =
+      let new : Seated (State k) = (seat_step (next k) old what).0 in
       record {
-        from = actors.Controller k;
-        did = (seat_step controller.next old what).1;
-        goes = seat_goes config controller.next old old.crashed what
-            (λ given is. (controller_directs config old.state given placed).sends);
+        from = actor_at (Another k i);
+        did = (seat_step (next k) old what).1;
+        goes = seat_goes config (next k) old old.crashed what
+            (λ given is. other_goes k i old there given (subst (AllMayCome (bytes_of w.sent)) is brings));
         sent = refl;
         lines = refl;
-        controllers = seats_hold (IsPlaced config) w.controllers k new (seat_placed config old old.crashed what placed) good.controllers;
+        others = others_become (λ j qs. (n : ℕ) (q : Seated (State j)) → slice_get qs n ≡ Some q → OtherPlaced j config q.state)
+            w.others k (slice_set (seats k w.others) i new)
+            (seats_hold (OtherPlaced k config) (seats k w.others) i new
+            (seat_placed k config old old.crashed what (good.others k i old there)) (good.others k)) good.others;
       }
 
   -- ---- events
 
-  actor_keeps : (a : Actor) (r : Result Stimulus Refusal) (h : Happened) → ((what : Stimulus) → r ≡ Ok what → AllMayCome (bytes_of w.sent) what)
-      → step_of m w a r ≡ Ok h → Keeps config w h
-  actor_keeps (actors.Replica i) r h brings e =
+  actor_keeps : (x : Who) (r : Result Stimulus Refusal) (h : Happened)
+      → ((what : Stimulus) → r ≡ Ok what → AllMayCome (bytes_of w.sent) what) → step_of m w x r ≡ Ok h → Keeps config w h
+  actor_keeps (AReplica i) r h brings e =
       let t = took (at_replica w i) (replica.next m) (slice_get w.replicas i) r h e in
       subst (Keeps config w) t.gives (replica_keeps i t.seat t.what t.there (brings t.what t.brought))
-  actor_keeps (actors.Sequencer j) r h brings e =
-      let t = took (at_sequencer w j) sequencer.next (slice_get w.sequencers j) r h e in
-      subst (Keeps config w) t.gives (sequencer_keeps j t.seat t.what (brings t.what t.brought))
-  actor_keeps (actors.Client k) r h brings e =
-      let t = took (at_client w k) client.next (slice_get w.clients k) r h e in
-      subst (Keeps config w) t.gives (client_keeps k t.seat t.what t.there)
-  actor_keeps (actors.Controller k) r h brings e =
-      let t = took (at_controller w k) controller.next (slice_get w.controllers k) r h e in
-      subst (Keeps config w) t.gives (controller_keeps k t.seat t.what t.there)
+  actor_keeps (Another k i) r h brings e =
+      let t = took (at_other k w i) (next k) (slice_get (seats k w.others) i) r h e in
+      subst (Keeps config w) t.gives (other_keeps k i t.seat t.what t.there (brings t.what t.brought))
 
   step_keeps : (x : Event) (h : Happened) → step m w x ≡ Ok h → Keeps config w h
   unfolding step
-  step_keeps x h e = actor_keeps (actor_of x) (stimulus_of w.config w.sent x) h (event_comes w.sent w.config x) e
+  step_keeps x h e = actor_keeps (who (actor_of x)) (stimulus_of w.config w.sent x) h (event_comes w.sent w.config x) e
 
 -- ---- lists of events
 
@@ -376,18 +362,19 @@ module _ {S : Type 0} (m : Meaning S) (IsSound : S → Type 0) (keeps : KeepsTo 
   some_sequencer : 0 < config.sequencers
   some_sequencer = grind (arith, is_one)
 
-  controllers_placed : ArePlaced config (world.opening config)
-  controllers_placed k q there =
+  others_placed : ArePlaced config (opening_others config)
+  others_placed Controllers k q there =
       subst (IsPlaced config) (counted_get (controller.opening config) config.controllers k q there)
       (record {
         config = refl;
         number = counted_within (controller.opening config) config.controllers k q there;
         current = some_sequencer;
       })
+  others_placed _ k q there = tt
 
   nothing_sent : Good config (world.opening config) []
   nothing_sent =
-      record { sent = λ s h. absurd (Has-none s h); submits = λ r h. absurd (Has-none _ h); controllers = controllers_placed }
+      record { sent = λ s h. absurd (Has-none s h); submits = λ r h. absurd (Has-none _ h); others = others_placed }
 
   opening_at : At m config (world.opening config) []
   opening_at = shown_after (world.opening config) [] [] (record { fits = tt; beside = opening_beside m config is_one })
@@ -437,9 +424,9 @@ module _ {S : Type 0} (m : Meaning S) (config : Configuration) (h : Happened) (r
       subst (λ (n : ℕ). n < config.clients) (q.of ∙ is.to) (r.submits q.request there)
 
   dest_of : (s : Sent) → Has h.world.sent s → (dest : Dest) → Goes config dest s.bytes → IsDestOf config dest
-  dest_of s i Replicas go = tt
-  dest_of s i Sequencers go = tt
-  dest_of s i (One (actors.Client k)) go = client_there k s i go
+  dest_of s i dests.Replicas go = tt
+  dest_of s i dests.Sequencers go = tt
+  dest_of s i (dests.One (actors.Client k)) go = client_there k s i go
   dest_of s i _ go = go
 
   pub sent_to_actors : (s : Sent) → Has h.world.sent s → IsDestOf config s.dest

@@ -18,9 +18,6 @@ use Rattle.nop_types.specs.declared.output.Dest.{Dest}
 use Rattle.nop_types.specs.declared.output.Dest.TheVariants.{Replicas, Sequencers, One}
 use Rattle.nop_types.specs.declared.output.Out.{Out}
 use Rattle.lemmas.proofs.Places.{slice_get-some}
-use Rattle.client_quorum.specs.ClientSteps as client
-use Rattle.sequencer.specs.SequencerSteps as sequencer
-use Rattle.session_control.specs.ControllerSteps as controller
 use Rattle.replica_core.specs.ReplicaSteps as replica
 use Rattle.schedule_text.specs.declared.event.Event.{Event}
 use Rattle.schedule_text.specs.declared.event.Event.TheVariants as events
@@ -29,10 +26,11 @@ use Rattle.schedule_text.specs.EventText.{HasWord, HasLine, IsEventOf}
 use Rattle.schedule_text.specs.Fits.{EventFits}
 use Rattle.schedule_text.specs.Ticks.{takes_tick}
 use Rattle.network.specs.Network.{Sent, Did}
+use Rattle.world.specs.Others.{next, Others, seats, count, Who, AReplica, Another, who}
 use Rattle.world.specs.Refusals.{HasActors}
 use Rattle.world.specs.Seats.{Seated, Stimulus, Takes, Crashes}
 use Rattle.world.specs.WorldSteps.{WorldState, Happened, Refusal, tick_if, datagram_at, stimulus_of, then_at, step_at, step_of, step}
-use Rattle.world.specs.WorldSteps.{at_replica, at_sequencer, at_client, at_controller}
+use Rattle.world.specs.WorldSteps.{at_replica, at_other}
 use Rattle.replay.specs.Drawing.{draw, put_drawn, get_drawn, taker_drawn, delivery_drawn, back_drawn, deliver_drawn}
 use Rattle.replay.specs.Drawing.{replica_tick_drawn, retry_drawn, crash_drawn, install_drawn, rare_drawn}
 use Rattle.replay.specs.Drawing.{often_drawn, seldom_drawn, event_drawn}
@@ -49,12 +47,17 @@ use Rattle.replay.proofs.Reaching.{Reached, events_reach, sent_to_actors}
 
 -- a datagram that is delivered was sent; no junk
 abbrev IsSent : List Sent → Event → Type 0
-IsSent sent (events.Submit n op) = ⊤
 IsSent sent (events.Deliver index actor) = index < length sent
-IsSent sent (events.Tick actor tick) = ⊤
-IsSent sent (events.Install k j) = ⊤
-IsSent sent (events.Crash actor) = ⊤
 IsSent sent (events.Junk actor bytes) = ⊥
+IsSent sent _ = ⊤
+
+abbrev IsOneOf : Configuration → Who → Type 0
+IsOneOf c (AReplica i) = i < c.replicas
+IsOneOf c (Another k i) = i < count k c
+
+actor_there : (c : Configuration) (a : Actor) → IsActorOf c a → IsOneOf c (who a)
+actor_there c (actors.Replica i) h = h
+actor_there c _ h = h
 
 seat_taken : {S : Type 0} (act : Seated S × Did → Happened) (next : S → Given → S × List Out) (xs : List (Seated S)) (i : ℕ)
     (what : Stimulus) → i < length xs → IsTaken (then_at act (step_at next (slice_get xs i) (Ok what)))
@@ -63,17 +66,18 @@ seat_taken act next xs i what l =
     (_, ap (λ o. then_at act (step_at next o (Ok what))) p.1)
 
 module _ {S : Type 0} (m : Meaning S) (w : WorldState) (has : HasActors w) where
-  actor_taken : (a : Actor) (what : Stimulus) → IsActorOf w.config a → IsTaken (step_of m w a (Ok what))
-  actor_taken (actors.Replica i) what h =
+  seat_there : (x : Who) (what : Stimulus) → IsOneOf w.config x → IsTaken (step_of m w x (Ok what))
+  seat_there (AReplica i) what h =
       seat_taken (at_replica w i) (replica.next m) w.replicas i what (omega (arith, h, has.replicas))
-  actor_taken (actors.Sequencer j) what h =
-      seat_taken (at_sequencer w j) sequencer.next w.sequencers j what (omega (arith, h, has.sequencers))
-  actor_taken (actors.Client k) what h = seat_taken (at_client w k) client.next w.clients k what (omega (arith, h, has.clients))
-  actor_taken (actors.Controller k) what h =
-      seat_taken (at_controller w k) controller.next w.controllers k what (omega (arith, h, has.controllers))
+  seat_there (Another k i) what h =
+      seat_taken (at_other k w i) (next k) (seats k w.others) i what (omega (arith, h, has.others k))
 
-  brought : (a : Actor) (r : Result Stimulus Refusal) (what : Stimulus) → r ≡ Ok what → IsActorOf w.config a → IsTaken (step_of m w a r)
-  brought a r what is h = subst (λ (x : Result Stimulus Refusal). IsTaken (step_of m w a x)) (sym is) (actor_taken a what h)
+  actor_taken : (a : Actor) (what : Stimulus) → IsActorOf w.config a → IsTaken (step_of m w (who a) (Ok what))
+  actor_taken a what h = seat_there (who a) what (actor_there w.config a h)
+
+  brought : (a : Actor) (r : Result Stimulus Refusal) (what : Stimulus) → r ≡ Ok what → IsActorOf w.config a
+      → IsTaken (step_of m w (who a) r)
+  brought a r what is h = subst (λ (x : Result Stimulus Refusal). IsTaken (step_of m w (who a) x)) (sym is) (actor_taken a what h)
 
   datagram_brought : (index : ℕ) → index < length w.sent
       → (s : Sent) × (datagram_at index (length w.sent) (slice_get w.sent index) ≡ Ok (Takes (Packet s.bytes)))
@@ -214,9 +218,7 @@ module _ {S : Type 0} (m : Meaning S) (IsSound : S → Type 0) (keeps : KeepsTo 
       record {
         replicas = sym (length-map h.world.replicas plain) ∙ ap length alike.replicas ∙ length-map v.replicas (trimmed_seat m)
             ∙ shown.replica_count ∙ ap (λ (c : Configuration). c.replicas) same;
-        sequencers = ap length alike.sequencers ∙ shown.sequencer_count ∙ ap (λ (c : Configuration). c.sequencers) same;
-        clients = ap length alike.clients ∙ shown.client_count ∙ ap (λ (c : Configuration). c.clients) same;
-        controllers = ap length alike.controllers ∙ shown.controller_count ∙ ap (λ (c : Configuration). c.controllers) same;
+        others = λ k. ap (λ (o : Others). length (seats k o)) alike.others ∙ shown.other_count k ∙ ap (count k) same;
       }
 
   config_is : (h : Happened) → Reached m drawn_config h → h.world.config ≡ drawn_config

@@ -5,24 +5,22 @@ use Rattle.nop_types.specs.Lists.{Has}
 use Rattle.nop_types.specs.Meaning.{Meaning}
 use Rattle.nop_types.specs.Ranges.{PeerFits}
 use Rattle.nop_types.specs.declared.datagram.Fragment.{Fragment}
-use Rattle.nop_types.specs.declared.output.Actor.{Actor}
-use Rattle.nop_types.specs.declared.output.Actor.TheVariants as actors
 use Rattle.nop_types.specs.declared.peer.Peer.{Peer}
 use Rattle.peer_codec.specs.Reading as peers
 use Rattle.replica_core.specs.ReplicaSteps.{Replica}
 use Rattle.network.specs.Network.{Sent}
+use Rattle.world.specs.Others.{Who, AReplica, Another}
 use Rattle.world.specs.Seats.{Seated}
 use Rattle.world.specs.WorldSteps.{WorldState}
 use Rattle.network_laws.specs.Steps.{InNetwork}
-use Rattle.trimmed_rows.specs.Trimmed.{trimmed_peer}
 use Rattle.whole_world.specs.Archives.{IsArchive}
 use Rattle.whole_world.specs.Shows.{peers_of}
 use Rattle.whole_world.specs.Whole.{WholeWorld, Letter, letter_of}
 use Rattle.safety.specs.Following.{spoken, other_datagrams, plain, trimmed_seat, trimmed_letter, bytes_of, CarriesLetters}
 
-abbrev pub is_replica : Actor → Bool
-is_replica (actors.Replica i) = true
-is_replica _ = false
+abbrev pub is_replica : Who → Bool
+is_replica (AReplica i) = true
+is_replica (Another k i) = false
 
 -- ---- letters
 
@@ -45,13 +43,6 @@ module _ {S : Type 0} (m : Meaning S) where
   abbrev pub real_letters : WholeWorld → List Letter
   real_letters w = map (trimmed_letter m) w.letters
 
-  -- so it is the letter of the whole world, trimmed
-  pub record JoinsTrimmed (w : WholeWorld) (f : Fragment) (bytes : List ℕ) : Type 0 where
-    pub peer : Peer
-    pub read : peers.reading bytes ≡ Ok (trimmed_peer m peer)
-    pub sender : peer.sender ≡ f.replica
-    pub letter : letter_of w.letters f.replica f.message ≡ Some peer
-
   -- ---- actors, datagrams and lines
 
   pub record Alike (t : WorldState) (ls : List Line) (w : WholeWorld) : Type 0 where
@@ -59,9 +50,7 @@ module _ {S : Type 0} (m : Meaning S) where
     pub sent : other_datagrams t.sent ≡ w.sent
     pub config : t.config ≡ w.config
     pub replicas : map plain t.replicas ≡ map (trimmed_seat m) w.replicas
-    pub sequencers : t.sequencers ≡ w.sequencers
-    pub clients : t.clients ≡ w.clients
-    pub controllers : t.controllers ≡ w.controllers
+    pub others : t.others ≡ w.others
 
   -- ---- all of it
 

@@ -13,7 +13,6 @@ use Rattle.nop_types.specs.declared.output.Actor.{Actor}
 use Rattle.fragments.specs.Runs as fragments
 use Rattle.replica_rows.specs.Within.{ResultsShort}
 use Rattle.replica_core.specs.ReplicaSteps as replica
-use Rattle.replica_core.specs.ReplicaSteps.{Replica}
 use Rattle.schedule_text.specs.declared.event.Event.{Event}
 use Rattle.schedule_text.specs.Fits.{EventFits, EventsFit}
 use Rattle.world.specs.Seats.{Seated, seated}
@@ -57,9 +56,7 @@ opening_beside m config is = record {
     sent = refl;
     config = refl;
     replicas = same_opening m config config.replicas;
-    sequencers = refl;
-    clients = refl;
-    controllers = refl;
+    others = refl;
   };
   travels = record {
     used = λ (r : ℕ). 0;

@@ -5,22 +5,19 @@ use Rattle.nop_types.specs.Given.{Given}
 use Rattle.nop_types.specs.Lists.{Has}
 use Rattle.nop_types.specs.Meaning.{Meaning}
 use Rattle.nop_types.specs.declared.output.Actor.{Actor}
-use Rattle.nop_types.specs.declared.output.Actor.TheVariants as actors
 use Rattle.nop_types.specs.declared.output.Out.{Out}
 use Rattle.nop_types.specs.declared.output.Out.TheVariants as outs
 use Rattle.lemmas.proofs.Members.{Has-none, Has-cases}
 use Rattle.oum_codec.specs.Reading.{reading}
-use Rattle.client_quorum.specs.ClientSteps as client
-use Rattle.sequencer.specs.SequencerSteps as sequencer
-use Rattle.session_control.specs.ControllerSteps as controller
 use Rattle.schedule_text.specs.declared.event.Event.{Event}
 use Rattle.network.specs.Network.{Sent, Did, sends_of, sends_by}
+use Rattle.world.specs.Others.{next, seats, Who, AReplica, Another, who, actor_at}
 use Rattle.world.specs.Seats.{Seated, Stimulus, Takes, Crashes, moved_if, seat_step}
-use Rattle.world.specs.WorldSteps.{WorldState, Happened, Refusal, actor_of, stimulus_of, at_sequencer, at_client, at_controller}
+use Rattle.world.specs.WorldSteps.{WorldState, Happened, Refusal, actor_of, stimulus_of, at_other}
 use Rattle.world.specs.WorldSteps.{then_at, step_at, step_of, step}
 use Rattle.safety.specs.Following.{is_fragment}
 use Rattle.safety.proofs.Beside.{is_replica}
-use Rattle.safety.proofs.Sends.{AreOther, client_sends, sequencer_sends, controller_sends}
+use Rattle.safety.proofs.Sends.{AreOther, other_sends}
 
 -- each of these datagrams is no fragment
 pub record NoFragments (more : List Sent) : Type 0 where
@@ -45,10 +42,7 @@ others_in from (outs.Send dest bytes ∷ rest) all = record {
     | inr j ↦ (others_in from rest all.1).each s j
   ];
 }
-others_in from (outs.Submitted r ∷ rest) all = others_in from rest all
-others_in from (outs.Accepted client id result ∷ rest) all = others_in from rest all
-others_in from (outs.Busy client ∷ rest) all = others_in from rest all
-others_in from (outs.Trimmed first entries ∷ rest) all = others_in from rest all
+others_in from (_ ∷ rest) all = others_in from rest all
 
 module _ {A : Type 0} (next : A → Given → A × List Out) (sends : (s : A) (g : Given) → AreOther (next s g).1) (from : Actor) where
   moved_others : (p : Seated A) (b : Bool) (what : Stimulus) → NoFragments (sends_by from (moved_if next b p what).1)
@@ -73,17 +67,12 @@ module _ {A : Type 0} (next : A → Given → A × List Out) (sends : (s : A) (g
       })
 
 module _ {S : Type 0} (m : Meaning S) (t : WorldState) (h : Happened) where
-  actor_sends : (a : Actor) (r : Result Stimulus Refusal) → is_replica a ≡ false → step_of m t a r ≡ Ok h → SentOthers t h
-  actor_sends (actors.Replica i) r other e = absurd cc
-  actor_sends (actors.Sequencer j) r other e =
-      seat_others sequencer.next sequencer_sends (actors.Sequencer j) t (at_sequencer t j) (slice_get t.sequencers j) r h
-      (λ x. (refl, (refl, refl))) e
-  actor_sends (actors.Client k) r other e =
-      seat_others client.next client_sends (actors.Client k) t (at_client t k) (slice_get t.clients k) r h (λ x. (refl, (refl, refl))) e
-  actor_sends (actors.Controller k) r other e =
-      seat_others controller.next controller_sends (actors.Controller k) t (at_controller t k) (slice_get t.controllers k) r h
+  actor_sends : (x : Who) (r : Result Stimulus Refusal) → is_replica x ≡ false → step_of m t x r ≡ Ok h → SentOthers t h
+  actor_sends (AReplica i) r other e = absurd cc
+  actor_sends (Another k i) r other e =
+      seat_others (next k) (other_sends k) (actor_at (Another k i)) t (at_other k t i) (slice_get (seats k t.others) i) r h
       (λ x. (refl, (refl, refl))) e
 
-  pub others_send : (e : Event) → is_replica (actor_of e) ≡ false → step m t e ≡ Ok h → SentOthers t h
+  pub others_send : (e : Event) → is_replica (who (actor_of e)) ≡ false → step m t e ≡ Ok h → SentOthers t h
   unfolding step
-  others_send e other is = actor_sends (actor_of e) (stimulus_of t.config t.sent e) other is
+  others_send e other is = actor_sends (who (actor_of e)) (stimulus_of t.config t.sent e) other is

@@ -1,7 +1,7 @@
 -- An event of a client, a sequencer or the controller: the state is the same, and so is what comes to it.
 use Rattle.std.proofs.Common.{◌≡◌, ℕ, zero, suc, Bool, true, false, List, [], ◌∷◌, ◌++◌, length, Option, Some, None}
 use Rattle.std.proofs.Common.{refl, sym, ap, subst, ◌∙◌, inl, inr}
-use Rattle.std.specs.Prelude.{Result, Ok, Err, ◌⊎◌, ◌||◌, not, filter, slice_get, slice_set}
+use Rattle.std.specs.Prelude.{Result, Ok, Err, ◌⊎◌, ◌||◌, not, filter, slice_get}
 use Rattle.std.specs.List.{list_any}
 use Rattle.std.specs.Str.{bytes_eq}
 use Rattle.std.proofs.lemmas.Cmp.{nat_list_eq_equiv}
@@ -21,27 +21,21 @@ use Rattle.nop_types.specs.declared.output.Actor.TheVariants as actors
 use Rattle.nop_types.specs.declared.output.Out.{Out}
 use Rattle.oum_codec.specs.declared.bad.Bad.{Bad}
 use Rattle.oum_codec.specs.Reading.{reading}
-use Rattle.client_quorum.specs.ClientSteps as client
-use Rattle.client_quorum.specs.declared.state.ClientState.{ClientState}
-use Rattle.sequencer.specs.SequencerSteps as sequencer
-use Rattle.sequencer.specs.declared.state.SequencerState.{SequencerState}
-use Rattle.session_control.specs.ControllerSteps as controller
-use Rattle.session_control.specs.declared.state.ControllerState.{ControllerState}
 use Rattle.schedule_text.specs.Ticks.{takes_tick}
 use Rattle.schedule_text.specs.declared.event.Event.{Event}
 use Rattle.schedule_text.specs.declared.event.Event.TheVariants as events
 use Rattle.std.specs.Prelude.{nat_lt}
 use Rattle.network.specs.Network.{Sent, Did, Outputs, sends_of, sends_by, lines_by}
+use Rattle.world.specs.Others.{Kind, State, next, Others, seats, with_seat, Who, AReplica, Another, who, actor_at}
 use Rattle.world.specs.Seats.{Seated, Stimulus, Takes, Crashes, seated, moved_if, seat_step}
 use Rattle.world.specs.WorldSteps.{WorldState, Happened, Refusal, actor_of, tick_if, datagram_at, junk_of, stimulus_of, then_at}
-use Rattle.world.specs.WorldSteps.{step_at, step_of, step, at_client, at_sequencer, at_controller}
+use Rattle.world.specs.WorldSteps.{step_at, step_of, step, at_other}
 use Rattle.safety.specs.Following.{brought, sent_to, datagram_to, is_spoken, is_fragment, other_datagrams}
 use Rattle.safety.proofs.Beside.{Alike, is_replica}
 use Rattle.whole_world.specs.Whole as whole
 use Rattle.whole_world.specs.Whole.{WholeWorld, Brings, was_sent, given_if, junk_if, input_of, is_crash, at_seat, seat_of, lines_of}
-use Rattle.whole_world.specs.Whole.{step_client, step_sequencer, step_controller, whole_step}
-use Rattle.safety.proofs.Sends.{AreOther, others_kept, lines_spoken, client_sends, sequencer_sends, controller_sends}
-use Rattle.safety.proofs.Sends.{client_ignores, sequencer_ignores, controller_ignores}
+use Rattle.whole_world.specs.Whole.{step_other, whole_step}
+use Rattle.safety.proofs.Sends.{AreOther, others_kept, lines_spoken, other_sends, other_ignores}
 
 -- ---- what was sent in the real world and is no fragment was sent in the whole one
 
@@ -134,15 +128,14 @@ module _ {A : Type 0} (next : A → Given → A × List Out) where
     unheard_meets s f r what e =
         subst (λ (x : Stimulus). Meets x whole.Nothing) e (refl, inr (refl, unheard s.bytes f r))
 
-    packet_meets : (a : Actor) → is_replica a ≡ false → (i : ℕ) (s : Sent) → slice_get w.sent i ≡ Some s → (r : Result Datagram Bad)
-        → reading s.bytes ≡ r → (what : Stimulus) → Takes (Packet s.bytes) ≡ what → Meets what (datagram_to w a s.bytes r)
+    packet_meets : (a : Actor) → is_replica (who a) ≡ false → (i : ℕ) (s : Sent) → slice_get w.sent i ≡ Some s
+        → (r : Result Datagram Bad) → reading s.bytes ≡ r → (what : Stimulus) → Takes (Packet s.bytes) ≡ what
+        → Meets what (datagram_to w a s.bytes r)
     packet_meets (actors.Replica k) other i s at r is what e = absurd cc
-    packet_meets (actors.Sequencer k) other i s at (Ok (datagrams.Fragment f)) is what e = unheard_meets s f is what e
-    packet_meets (actors.Client k) other i s at (Ok (datagrams.Fragment f)) is what e = unheard_meets s f is what e
-    packet_meets (actors.Controller k) other i s at (Ok (datagrams.Fragment f)) is what e = unheard_meets s f is what e
+    packet_meets _ other i s at (Ok (datagrams.Fragment f)) is what e = unheard_meets s f is what e
     packet_meets a other i s at _ is what e = equal_meets i s at (ap is_fragment is) what e
 
-    sent_meets : (a : Actor) → is_replica a ≡ false → (i : ℕ) (o : Option Sent) → slice_get w.sent i ≡ o → (what : Stimulus)
+    sent_meets : (a : Actor) → is_replica (who a) ≡ false → (i : ℕ) (o : Option Sent) → slice_get w.sent i ≡ o → (what : Stimulus)
         → datagram_at i (length w.sent) o ≡ Ok what → Meets what (sent_to w a o)
     sent_meets a other i None at what e = absurd cc
     sent_meets a other i (Some s) at what e =
@@ -159,7 +152,7 @@ module _ {A : Type 0} (next : A → Given → A × List Out) where
         let got : Takes (Packet bytes) ≡ what = cc in
         takes (Packet bytes) what (whole.Junk bytes) got refl (ap (λ (x : Result Datagram Bad). junk_if x bytes) is)
 
-    event_meets : (e : Event) → is_replica (actor_of e) ≡ false → (what : Stimulus) → stimulus_of w.config w.sent e ≡ Ok what
+    event_meets : (e : Event) → is_replica (who (actor_of e)) ≡ false → (what : Stimulus) → stimulus_of w.config w.sent e ≡ Ok what
         → Meets what (brought w e)
     unfolding stimulus_of
     event_meets (events.Submit number op) other what is =
@@ -185,101 +178,41 @@ module _ {S : Type 0} (m : Meaning S) (t : WorldState) (ls : List Line) (w : Who
   abbrev After : Happened → WholeWorld → Type 0
   After h v = Alike m h.world (ls ++ h.lines) v
 
-  client_after : (i : ℕ) (x : Seated ClientState × Did) (y : Seated ClientState × List Out) → SameSeat client.next (actors.Client i) x y
-      → After (at_client t i x) (whole.gave w (actors.Client i) y.1 (record w { clients = slice_set w.clients i y.0 }))
-  client_after i x y a = record {
-    lines = lines_go_on (lines_by (actors.Client i) (length t.sent) x.1) (lines_of y.1) (a.lines (length t.sent));
-    sent = sends_go_on (sends_by (actors.Client i) x.1) (sends_of (actors.Client i) y.1) a.sent;
+  other_after : (k : Kind) (i : ℕ) (x : Seated (State k) × Did) (y : Seated (State k) × List Out)
+      → SameSeat (next k) (actor_at (Another k i)) x y
+      → After (at_other k t i x) (whole.gave w (actor_at (Another k i)) y.1 (record w { others = with_seat k w.others i y.0 }))
+  other_after k i x y a = record {
+    lines = lines_go_on (lines_by (actor_at (Another k i)) (length t.sent) x.1) (lines_of y.1) (a.lines (length t.sent));
+    sent = sends_go_on (sends_by (actor_at (Another k i)) x.1) (sends_of (actor_at (Another k i)) y.1) a.sent;
     config = f.config;
     replicas = f.replicas;
-    sequencers = f.sequencers;
-    clients = ap (λ (cs : List (Seated ClientState)). slice_set cs i x.0) f.clients
-        ∙ ap (λ (p : Seated ClientState). slice_set w.clients i p) a.seat;
-    controllers = f.controllers;
-  }
-
-  sequencer_after : (i : ℕ) (x : Seated SequencerState × Did) (y : Seated SequencerState × List Out)
-      → SameSeat sequencer.next (actors.Sequencer i) x y
-      → After (at_sequencer t i x) (whole.gave w (actors.Sequencer i) y.1 (record w { sequencers = slice_set w.sequencers i y.0 }))
-  sequencer_after i x y a = record {
-    lines = lines_go_on (lines_by (actors.Sequencer i) (length t.sent) x.1) (lines_of y.1) (a.lines (length t.sent));
-    sent = sends_go_on (sends_by (actors.Sequencer i) x.1) (sends_of (actors.Sequencer i) y.1) a.sent;
-    config = f.config;
-    replicas = f.replicas;
-    sequencers = ap (λ (cs : List (Seated SequencerState)). slice_set cs i x.0) f.sequencers
-        ∙ ap (λ (p : Seated SequencerState). slice_set w.sequencers i p) a.seat;
-    clients = f.clients;
-    controllers = f.controllers;
-  }
-
-  controller_after : (i : ℕ) (x : Seated ControllerState × Did) (y : Seated ControllerState × List Out)
-      → SameSeat controller.next (actors.Controller i) x y
-      → After (at_controller t i x) (whole.gave w (actors.Controller i) y.1 (record w { controllers = slice_set w.controllers i y.0 }))
-  controller_after i x y a = record {
-    lines = lines_go_on (lines_by (actors.Controller i) (length t.sent) x.1) (lines_of y.1) (a.lines (length t.sent));
-    sent = sends_go_on (sends_by (actors.Controller i) x.1) (sends_of (actors.Controller i) y.1) a.sent;
-    config = f.config;
-    replicas = f.replicas;
-    sequencers = f.sequencers;
-    clients = f.clients;
-    controllers = ap (λ (cs : List (Seated ControllerState)). slice_set cs i x.0) f.controllers
-        ∙ ap (λ (p : Seated ControllerState). slice_set w.controllers i p) a.seat;
+    others = ap (λ (o : Others). with_seat k o i x.0) f.others ∙ ap (λ (p : Seated (State k)). with_seat k w.others i p) a.seat;
   }
 
   -- ---- the step
 
-  client_step : (i : ℕ) (o : Option (Seated ClientState)) (r : Result Stimulus Refusal) (g : Brings) (h : Happened)
-      → ((what : Stimulus) → r ≡ Ok what → Comes client.next what (is_crash g) (input_of w.sent g))
-      → then_at (at_client t i) (step_at client.next o r) ≡ Ok h → After h (step_client w i o g)
-  client_step i None r g h meets e = absurd cc
-  client_step i (Some p) (Err refusal) g h meets e = absurd cc
-  client_step i (Some p) (Ok what) g h meets e =
-      let is : at_client t i (seat_step client.next p what) ≡ h = cc in
-      subst (λ (x : Happened). After x (step_client w i (Some p) g)) is
-      (client_after i (seat_step client.next p what) (seat_of client.next p g (input_of w.sent g))
-      (alike client.next client_sends (actors.Client i) p what g (input_of w.sent g) (meets what refl)))
+  other_step : (k : Kind) (i : ℕ) (o : Option (Seated (State k))) (r : Result Stimulus Refusal) (g : Brings) (h : Happened)
+      → ((what : Stimulus) → r ≡ Ok what → Comes (next k) what (is_crash g) (input_of w.sent g))
+      → then_at (at_other k t i) (step_at (next k) o r) ≡ Ok h → After h (step_other k w i o g)
+  other_step k i None r g h meets e = absurd cc
+  other_step k i (Some p) (Err refusal) g h meets e = absurd cc
+  other_step k i (Some p) (Ok what) g h meets e =
+      let is : at_other k t i (seat_step (next k) p what) ≡ h = cc in
+      subst (λ (x : Happened). After x (step_other k w i (Some p) g)) is
+      (other_after k i (seat_step (next k) p what) (seat_of (next k) p g (input_of w.sent g))
+      (alike (next k) (other_sends k) (actor_at (Another k i)) p what g (input_of w.sent g) (meets what refl)))
 
-  sequencer_step : (i : ℕ) (o : Option (Seated SequencerState)) (r : Result Stimulus Refusal) (g : Brings) (h : Happened)
-      → ((what : Stimulus) → r ≡ Ok what → Comes sequencer.next what (is_crash g) (input_of w.sent g))
-      → then_at (at_sequencer t i) (step_at sequencer.next o r) ≡ Ok h → After h (step_sequencer w i o g)
-  sequencer_step i None r g h meets e = absurd cc
-  sequencer_step i (Some p) (Err refusal) g h meets e = absurd cc
-  sequencer_step i (Some p) (Ok what) g h meets e =
-      let is : at_sequencer t i (seat_step sequencer.next p what) ≡ h = cc in
-      subst (λ (x : Happened). After x (step_sequencer w i (Some p) g)) is
-      (sequencer_after i (seat_step sequencer.next p what) (seat_of sequencer.next p g (input_of w.sent g))
-      (alike sequencer.next sequencer_sends (actors.Sequencer i) p what g (input_of w.sent g) (meets what refl)))
-
-  controller_step : (i : ℕ) (o : Option (Seated ControllerState)) (r : Result Stimulus Refusal) (g : Brings) (h : Happened)
-      → ((what : Stimulus) → r ≡ Ok what → Comes controller.next what (is_crash g) (input_of w.sent g))
-      → then_at (at_controller t i) (step_at controller.next o r) ≡ Ok h → After h (step_controller w i o g)
-  controller_step i None r g h meets e = absurd cc
-  controller_step i (Some p) (Err refusal) g h meets e = absurd cc
-  controller_step i (Some p) (Ok what) g h meets e =
-      let is : at_controller t i (seat_step controller.next p what) ≡ h = cc in
-      subst (λ (x : Happened). After x (step_controller w i (Some p) g)) is
-      (controller_after i (seat_step controller.next p what) (seat_of controller.next p g (input_of w.sent g))
-      (alike controller.next controller_sends (actors.Controller i) p what g (input_of w.sent g) (meets what refl)))
-
-  by_actor : (e : Event) (a : Actor) → actor_of e ≡ a → is_replica a ≡ false → (h : Happened)
-      → step_of m t a (stimulus_of t.config t.sent e) ≡ Ok h → After h (whole_step m w a (brought t e))
-  by_actor e (actors.Replica i) is other h at = absurd cc
-  by_actor e (actors.Client i) is other h at =
-      subst (λ (ps : List (Seated ClientState)). After h (step_client w i (slice_get ps i) (brought t e))) f.clients
-      (client_step i (slice_get t.clients i) (stimulus_of t.config t.sent e) (brought t e) h
-      (event_meets client.next client_ignores t w.sent f.sent e (ap is_replica is)) at)
-  by_actor e (actors.Sequencer i) is other h at =
-      subst (λ (ps : List (Seated SequencerState)). After h (step_sequencer w i (slice_get ps i) (brought t e))) f.sequencers
-      (sequencer_step i (slice_get t.sequencers i) (stimulus_of t.config t.sent e) (brought t e) h
-      (event_meets sequencer.next sequencer_ignores t w.sent f.sent e (ap is_replica is)) at)
-  by_actor e (actors.Controller i) is other h at =
-      subst (λ (ps : List (Seated ControllerState)). After h (step_controller w i (slice_get ps i) (brought t e))) f.controllers
-      (controller_step i (slice_get t.controllers i) (stimulus_of t.config t.sent e) (brought t e) h
-      (event_meets controller.next controller_ignores t w.sent f.sent e (ap is_replica is)) at)
+  by_actor : (e : Event) (x : Who) → who (actor_of e) ≡ x → is_replica x ≡ false → (h : Happened)
+      → step_of m t x (stimulus_of t.config t.sent e) ≡ Ok h → After h (whole.step_of m w x (brought t e))
+  by_actor e (AReplica i) is other h at = absurd cc
+  by_actor e (Another k i) is other h at =
+      subst (λ (o : Others). After h (step_other k w i (slice_get (seats k o) i) (brought t e))) f.others
+      (other_step k i (slice_get (seats k t.others) i) (stimulus_of t.config t.sent e) (brought t e) h
+      (event_meets (next k) (other_ignores k) t w.sent f.sent e (ap is_replica is)) at)
 
 -- what comes to an actor that is no replica
 pub others_follow : {S : Type 0} (m : Meaning S) (t : WorldState) (ls : List Line) (w : WholeWorld) (e : Event) (h : Happened)
-    → Alike m t ls w → is_replica (actor_of e) ≡ false → step m t e ≡ Ok h
+    → Alike m t ls w → is_replica (who (actor_of e)) ≡ false → step m t e ≡ Ok h
     → Alike m h.world (ls ++ h.lines) (whole_step m w (actor_of e) (brought t e))
 unfolding step
-others_follow m t ls w e h f other at = by_actor m t ls w f e (actor_of e) refl other h at
+others_follow m t ls w e h f other at = by_actor m t ls w f e (who (actor_of e)) refl other h at

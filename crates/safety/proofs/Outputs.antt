@@ -13,10 +13,7 @@ use Rattle.safety.specs.Following.{bytes_of}
 pub bytes_of_sends : (from : Actor) (xs : List Out) → bytes_of (sends_of from xs) ≡ bytes_in xs
 bytes_of_sends from [] = refl
 bytes_of_sends from (outs.Send dest bytes ∷ xs) = ap (λ (t : List (List ℕ)). bytes ∷ t) (bytes_of_sends from xs)
-bytes_of_sends from (outs.Submitted r ∷ xs) = bytes_of_sends from xs
-bytes_of_sends from (outs.Accepted client id result ∷ xs) = bytes_of_sends from xs
-bytes_of_sends from (outs.Busy client ∷ xs) = bytes_of_sends from xs
-bytes_of_sends from (outs.Trimmed first entries ∷ xs) = bytes_of_sends from xs
+bytes_of_sends from (_ ∷ xs) = bytes_of_sends from xs
 
 -- the bytes of the network after a step
 pub bytes_after : (sent : List Sent) (from : Actor) (xs : List Out) → bytes_of (sent ++ sends_of from xs) ≡ bytes_of sent ++ bytes_in xs

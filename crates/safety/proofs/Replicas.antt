@@ -51,12 +51,13 @@ use Rattle.schedule_text.specs.declared.event.Event.TheVariants as events
 use Rattle.network.specs.Network.{Sent, Did, Nothing, Outputs, sends_of, sends_by, lines_by}
 use Rattle.world.specs.Seats.{Seated, Stimulus, Takes, Crashes, seated, moved_if, seat_step}
 use Rattle.world.specs.WorldSteps.{WorldState, Happened, Refusal, actor_of, tick_if, datagram_at, junk_of, stimulus_of, then_at, step_at}
+use Rattle.world.specs.Others.{who}
 use Rattle.world.specs.WorldSteps.{step_of, step, at_replica}
 use Rattle.world.proofs.Places.{slice_set-found}
 use Rattle.safety.specs.Following.{brought, sent_to, datagram_to, fragment_at, fragment_if, completes, is_spoken, is_fragment, other_datagrams}
 use Rattle.safety.specs.Following.{plain, trimmed_seat, trimmed_letter}
-use Rattle.safety.specs.Following.{bytes_of}
-use Rattle.safety.proofs.Beside.{Alike, Travels, JoinsTrimmed, real_letters}
+use Rattle.safety.specs.Following.{bytes_of, JoinsTrimmed}
+use Rattle.safety.proofs.Beside.{Alike, Travels, real_letters}
 use Rattle.safety.proofs.Coming.{AllMayCome}
 use Rattle.whole_world.proofs.Mapped.{slice_get-from_map}
 use Rattle.whole_world.specs.Archives.{with_sends, row_sends}
@@ -110,28 +111,24 @@ module _ {S : Type 0} (m : Meaning S) where
 module _ {S : Type 0} (m : Meaning S) where
   trimmed_count : (xs : List Sending) → message_count (map (trimmed_sending m) xs) ≡ message_count xs
   trimmed_count [] = refl
-  trimmed_count (ToClient r ∷ xs) = trimmed_count xs
   trimmed_count (ToReplicas dest p ∷ xs) = ap (λ (n : ℕ). n + 1) (trimmed_count xs)
-  trimmed_count (Trims first entries ∷ xs) = trimmed_count xs
+  trimmed_count (_ ∷ xs) = trimmed_count xs
 
   trimmed_replies : (xs : List Sending) → replies_in (map (trimmed_sending m) xs) ≡ replies_in xs
   trimmed_replies [] = refl
   trimmed_replies (ToClient r ∷ xs) = ap (λ (os : List Out). reply_out r ∷ os) (trimmed_replies xs)
-  trimmed_replies (ToReplicas dest p ∷ xs) = trimmed_replies xs
-  trimmed_replies (Trims first entries ∷ xs) = trimmed_replies xs
+  trimmed_replies (_ ∷ xs) = trimmed_replies xs
 
   trimmed_letters : (n : ℕ) (xs : List Sending) → letters_in n (map (trimmed_sending m) xs) ≡ map (trimmed_letter m) (letters_in n xs)
   trimmed_letters n [] = refl
-  trimmed_letters n (ToClient r ∷ xs) = trimmed_letters n xs
   trimmed_letters n (ToReplicas dest p ∷ xs) =
       ap (λ (ls : List Letter). record { number = n + 1; dest = dest; peer = trimmed_peer m p } ∷ ls) (trimmed_letters (n + 1) xs)
-  trimmed_letters n (Trims first entries ∷ xs) = trimmed_letters n xs
+  trimmed_letters n (_ ∷ xs) = trimmed_letters n xs
 
   trimmed_archive : (archive : List Entry) (xs : List Sending) → with_sends archive (map (trimmed_sending m) xs) ≡ with_sends archive xs
   trimmed_archive archive [] = refl
-  trimmed_archive archive (ToClient r ∷ xs) = trimmed_archive archive xs
-  trimmed_archive archive (ToReplicas dest p ∷ xs) = trimmed_archive archive xs
   trimmed_archive archive (Trims first entries ∷ xs) = trimmed_archive (with_entries archive first entries.entries) xs
+  trimmed_archive archive (_ ∷ xs) = trimmed_archive archive xs
 
 -- ---- what is posted adds to the archive what was sent
 
@@ -153,11 +150,10 @@ posted_adds archive n (Trims first entries ∷ sends) = posted_adds (with_entrie
 
 lines_append : (xs ys : List Out) → lines_of xs ≡ [] → lines_of ys ≡ [] → lines_of (xs ++ ys) ≡ []
 lines_append [] ys a b = b
-lines_append (outs.Send dest bytes ∷ xs) ys a b = lines_append xs ys a b
 lines_append (outs.Submitted r ∷ xs) ys a b = absurd cc
 lines_append (outs.Accepted client id result ∷ xs) ys a b = absurd cc
 lines_append (outs.Busy client ∷ xs) ys a b = absurd cc
-lines_append (outs.Trimmed first entries ∷ xs) ys a b = lines_append xs ys a b
+lines_append (_ ∷ xs) ys a b = lines_append xs ys a b
 
 fragments_silent : (dest : Dest) (fs : List Fragment) → lines_of (cutting.sends_of dest fs) ≡ []
 fragments_silent dest [] = refl
@@ -166,11 +162,10 @@ fragments_silent dest (f ∷ fs) = fragments_silent dest fs
 posted_silent : (n : ℕ) (sends : List Sending) → lines_of (posted n sends) ≡ []
 unfolding posted
 posted_silent n [] = refl
-posted_silent n (ToClient r ∷ sends) = posted_silent n sends
 posted_silent n (ToReplicas dest p ∷ sends) =
     lines_append (cutting.sends_of dest (cutting.fragments_of p.sender (n + 1) (peer.spelling p))) (posted (n + 1) sends)
     (fragments_silent dest (cutting.fragments_of p.sender (n + 1) (peer.spelling p))) (posted_silent (n + 1) sends)
-posted_silent n (Trims first entries ∷ sends) = posted_silent n sends
+posted_silent n (_ ∷ sends) = posted_silent n sends
 
 -- ---- a row
 
@@ -321,7 +316,7 @@ module _ {S : Type 0} (m : Meaning S) (t : WorldState) (ls : List Line) (v : Who
         → ((f : Fragment) (bytes : List ℕ) → reading x.bytes ≡ Ok (datagrams.Fragment f) → (taken s.reassembly f).1 ≡ Some bytes
         → JoinsTrimmed m v f bytes) → Goes (Packet x.bytes) (datagram_to t (actors.Replica i) x.bytes r)
     packet_goes k x at (Ok (datagrams.Fragment f)) is joins = fragment_goes x f is (λ bytes. joins f bytes is)
-    packet_goes k x at x_ is joins = equal_goes k x at x_ is refl
+    packet_goes k x at d is joins = equal_goes k x at d is refl
 
     sent_goes : (k : ℕ) (o : Option Sent) → slice_get t.sent k ≡ o → (g : Given) → datagram_at k (length t.sent) o ≡ Ok (Takes g)
         → ((x : Sent) (f : Fragment) (bytes : List ℕ) → slice_get t.sent k ≡ Some x → reading x.bytes ≡ Ok (datagrams.Fragment f)
@@ -351,14 +346,12 @@ module _ {S : Type 0} (m : Meaning S) (t : WorldState) (ls : List Line) (v : Who
     event_goes : (e : Event) → actor_of e ≡ actors.Replica i → Joins → (g : Given)
         → stimulus_of t.config t.sent e ≡ Ok (Takes g) → Goes g (brought t e)
     unfolding stimulus_of
-    event_goes (events.Submit number op) at joins g is = absurd cc
     event_goes (events.Deliver k actor) at joins g is =
         subst (λ (a : Actor). Goes g (sent_to t a (slice_get t.sent k))) (sym at)
         (sent_goes k (slice_get t.sent k) refl g is (joins k))
     event_goes (events.Tick actor tick) at joins g is = tick_goes (takes_tick actor tick) tick g is
-    event_goes (events.Install k j) at joins g is = absurd cc
-    event_goes (events.Crash actor) at joins g is = absurd cc
     event_goes (events.Junk actor bytes) at joins g is = junk_goes bytes (reading bytes) refl g is
+    event_goes _ at joins g is = absurd cc
 
   -- a crash brings a crash
   sent_crashes : (k : ℕ) (n : ℕ) (o : Option Sent) → datagram_at k n o ≡ Ok Crashes → ⊥
@@ -444,9 +437,7 @@ module _ {S : Type 0} (m : Meaning S) (t : WorldState) (ls : List Line) (v : Who
         sent = sends_go_on m t ls v follows (sends_by from x.1) more sent;
         config = follows.config;
         replicas = seats;
-        sequencers = follows.sequencers;
-        clients = follows.clients;
-        controllers = follows.controllers;
+        others = follows.others;
       };
       travels = carries;
       archive = archive;
@@ -538,6 +529,6 @@ module _ {S : Type 0} (m : Meaning S) (t : WorldState) (ls : List Line) (v : Who
     replica_follows e at joins fits may h is =
         let real : then_at (at_replica t i) (step_at (replica.next m) (Some p) (stimulus_of t.config t.sent e)) ≡ Ok h =
         ap (λ (o : Option (Seated Replica)). then_at (at_replica t i) (step_at (replica.next m) o (stimulus_of t.config t.sent e)))
-        (sym found) ∙ ap (λ (a : Actor). step_of m t a (stimulus_of t.config t.sent e)) (sym at) ∙ is in
+        (sym found) ∙ ap (λ (a : Actor). step_of m t (who a) (stimulus_of t.config t.sent e)) (sym at) ∙ is in
         subst (λ (o : Option (Seated WholeReplica)). After h (step_replica m v i o (brought t e)) (row_sends m v o (brought t e))) (sym there)
         (steps e at joins fits may h (stimulus_of t.config t.sent e) refl real)

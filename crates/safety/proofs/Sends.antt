@@ -27,6 +27,7 @@ use Rattle.sequencer.specs.declared.state.SequencerState.{SequencerState}
 use Rattle.session_control.specs.ControllerSteps as controller
 use Rattle.session_control.specs.declared.state.ControllerState.{ControllerState}
 use Rattle.network.specs.Network.{Sent, sends_of, lines_from}
+use Rattle.world.specs.Others.{Kind, Sequencers, Clients, Controllers, State, next}
 use Rattle.safety.specs.Following.{is_spoken, is_fragment, other_datagrams}
 use Rattle.whole_world.specs.Whole.{lines_of}
 
@@ -111,10 +112,7 @@ pong_is k j n = then_other (ping_of (ping_bytes k j n)) (λ f. Ok (datagrams.Pon
 abbrev pub AreOther : List Out → Type 0
 AreOther [] = ⊤
 AreOther (outs.Send dest bytes ∷ rest) = IsOther (reading bytes) × AreOther rest
-AreOther (outs.Submitted r ∷ rest) = AreOther rest
-AreOther (outs.Accepted client id result ∷ rest) = AreOther rest
-AreOther (outs.Busy client ∷ rest) = AreOther rest
-AreOther (outs.Trimmed first entries ∷ rest) = AreOther rest
+AreOther (_ ∷ rest) = AreOther rest
 
 pub one_kept : (s : Sent) (b : Bool) (xs ys : List Sent) → b ≡ false → xs ≡ ys → cond (not b) (s ∷ xs) xs ≡ s ∷ ys
 one_kept s true xs ys e same = absurd cc
@@ -125,10 +123,7 @@ others_kept from [] h = refl
 others_kept from (outs.Send dest bytes ∷ rest) h =
     one_kept (record { from = from; dest = dest; bytes = bytes }) (is_fragment (reading bytes)) (other_datagrams (sends_of from rest))
     (sends_of from rest) h.0 (others_kept from rest h.1)
-others_kept from (outs.Submitted r ∷ rest) h = others_kept from rest h
-others_kept from (outs.Accepted client id result ∷ rest) h = others_kept from rest h
-others_kept from (outs.Busy client ∷ rest) h = others_kept from rest h
-others_kept from (outs.Trimmed first entries ∷ rest) h = others_kept from rest h
+others_kept from (_ ∷ rest) h = others_kept from rest h
 
 pub lines_spoken : (from : Actor) (n : ℕ) (os : List Out) → filter is_spoken (lines_from from n os) ≡ lines_of os
 lines_spoken from n [] = refl
@@ -177,7 +172,7 @@ client_ticks s ticks.Next = waiting_sends (client.can_submit s) s
 client_ticks s ticks.Retry = retry_sends s.pending
 client_ticks s _ = tt
 
-pub client_sends : (s : ClientState) (i : Given) → AreOther (client.next s i).1
+client_sends : (s : ClientState) (i : Given) → AreOther (client.next s i).1
 unfolding client.next
 client_sends s (Packet bytes) = client_reads s (reading bytes)
 client_sends s (Ticked tick) = client_ticks s tick
@@ -203,11 +198,10 @@ sequencer_reads s (Ok (datagrams.Install k j n)) = install_sends _ s k n
 sequencer_reads s (Ok (datagrams.Ping k j n)) = ping_sends _ s k n
 sequencer_reads s _ = tt
 
-pub sequencer_sends : (s : SequencerState) (i : Given) → AreOther (sequencer.next s i).1
+sequencer_sends : (s : SequencerState) (i : Given) → AreOther (sequencer.next s i).1
 unfolding sequencer.next
 sequencer_sends s (Packet bytes) = sequencer_reads s (reading bytes)
-sequencer_sends s (Ticked tick) = tt
-sequencer_sends s (Submit op) = tt
+sequencer_sends s _ = tt
 
 -- ---- controllers
 
@@ -248,25 +242,23 @@ controller_reads : (s : ControllerState) (r : Result Datagram Bad) → AreOther 
 controller_reads s (Ok (datagrams.Pong k j n)) = tt
 controller_reads s _ = tt
 
-pub controller_sends : (s : ControllerState) (i : Given) → AreOther (controller.next s i).1
+controller_sends : (s : ControllerState) (i : Given) → AreOther (controller.next s i).1
 unfolding controller.next
 controller_sends s (Packet bytes) = controller_reads s (reading bytes)
 controller_sends s (Ticked tick) = controller_ticks s tick
 controller_sends s (Submit op) = tt
 
--- ---- a fragment changes nothing at them
+-- ---- each kind of them
 
-pub client_ignores : (bytes : List ℕ) (f : Fragment) → reading bytes ≡ Ok (datagrams.Fragment f) → (s : ClientState)
-    → client.next s (Packet bytes) ≡ (s, [])
-unfolding client.next
-client_ignores bytes f e s = ap (client.on_datagram s) e
+pub other_sends : (k : Kind) (s : State k) (i : Given) → AreOther (next k s i).1
+other_sends Sequencers = sequencer_sends
+other_sends Clients = client_sends
+other_sends Controllers = controller_sends
 
-pub sequencer_ignores : (bytes : List ℕ) (f : Fragment) → reading bytes ≡ Ok (datagrams.Fragment f) → (s : SequencerState)
-    → sequencer.next s (Packet bytes) ≡ (s, [])
-unfolding sequencer.next
-sequencer_ignores bytes f e s = ap (sequencer.on_datagram s) e
-
-pub controller_ignores : (bytes : List ℕ) (f : Fragment) → reading bytes ≡ Ok (datagrams.Fragment f) → (s : ControllerState)
-    → controller.next s (Packet bytes) ≡ (s, [])
-unfolding controller.next
-controller_ignores bytes f e s = ap (controller.on_datagram s) e
+-- a fragment changes nothing at them
+pub other_ignores : (k : Kind) (bytes : List ℕ) (f : Fragment) → reading bytes ≡ Ok (datagrams.Fragment f) → (s : State k)
+    → next k s (Packet bytes) ≡ (s, [])
+unfolding sequencer.next client.next controller.next
+other_ignores Sequencers bytes f e s = ap (sequencer.on_datagram s) e
+other_ignores Clients bytes f e s = ap (client.on_datagram s) e
+other_ignores Controllers bytes f e s = ap (controller.on_datagram s) e

@@ -1,6 +1,6 @@
 -- One event: the real world follows the whole one.
 use Rattle.std.proofs.Common.{◌≡◌, ℕ, arith, Bool, true, false, List, ◌++◌, Option, Some, None, refl, sym, ap, subst, ◌∙◌}
-use Rattle.std.specs.Prelude.{not, ◌&&◌, Result, Ok, Err, map, nat_lt, slice_get}
+use Rattle.std.specs.Prelude.{not, ◌&&◌, Result, Ok, map, nat_lt, slice_get}
 use Rattle.std.specs.List.{AllByRecursion}
 use Rattle.std.specs.Option.{option_map}
 use Rattle.std.proofs.lemmas.Bool.{ltb-true}
@@ -20,9 +20,6 @@ use Rattle.nop_types.specs.declared.output.Actor.TheVariants as actors
 use Rattle.lemmas.proofs.Members.{Has-filter, Has-append_right}
 use Rattle.oum_codec.specs.declared.bad.Bad.{Bad}
 use Rattle.oum_codec.specs.Reading.{reading}
-use Rattle.client_quorum.specs.declared.state.ClientState.{ClientState}
-use Rattle.sequencer.specs.declared.state.SequencerState.{SequencerState}
-use Rattle.session_control.specs.declared.state.ControllerState.{ControllerState}
 use Rattle.fragments.specs.Joining.{taken}
 use Rattle.replica_state.specs.State.{is_other}
 use Rattle.trimming.proofs.Bounds.{trimmed_keep_bounds, trimmed_is_in}
@@ -35,6 +32,7 @@ use Rattle.replica_core.specs.declared.replica.TheConstants.{LAST_MESSAGE}
 use Rattle.network_laws.specs.Sends.{IsBy}
 use Rattle.network_laws.specs.Steps.{InNetwork}
 use Rattle.network_laws.proofs.InRanges.{arrive_stays}
+use Rattle.network_laws.proofs.Networks.{among_has}
 use Rattle.network_laws.proofs.Own.{arrive_sends_own}
 use Rattle.replica_core.specs.ReplicaSteps as replica
 use Rattle.replica_core.specs.ReplicaSteps.{Replica}
@@ -43,16 +41,18 @@ use Rattle.schedule_text.specs.declared.event.Event.TheVariants as events
 use Rattle.schedule_text.specs.Fits.{EventFits}
 use Rattle.protocol.specs.Conf.{Conf}
 use Rattle.network.specs.Network.{Sent}
+use Rattle.world.specs.Others.{Kind, State, seats, Who, AReplica, Another, who}
 use Rattle.world.specs.Seats.{Seated}
 use Rattle.world.specs.WorldSteps.{WorldState, Happened, actor_of, at_replica, step, step_at, step_of, stimulus_of, then_at}
 use Rattle.network_laws.specs.Network.{IsDatagram}
 use Rattle.whole_world.specs.Safe.{BringsFits}
 use Rattle.whole_world.specs.Shows.{Carries, Tells, peers_of}
 use Rattle.nop_types.specs.declared.request.Entry.{Entry}
-use Rattle.whole_world.specs.Whole.{WholeWorld, Letter, Brings, arrival_of, step_client, step_sequencer, step_controller, whole_step}
+use Rattle.whole_world.specs.Whole as whole
+use Rattle.whole_world.specs.Whole.{WholeWorld, Letter, Brings, arrival_of, step_other, whole_step}
 use Rattle.whole_world.proofs.Coming.{arrives}
 use Rattle.whole_world.proofs.Mapped.{slice_get-from_map}
-use Rattle.whole_world.specs.Archives.{archive_after}
+use Rattle.whole_world.specs.Archives.{archive_of, archive_after}
 use Rattle.whole_world.specs.Trimming.{RowsTrim}
 use Rattle.safety.specs.Following.{trimmed_letter, brought, sent_to, datagram_to, fragment_at, fragment_if, fragment_to, completes, is_fragment}
 use Rattle.safety.specs.Following.{bytes_of}
@@ -62,7 +62,7 @@ use Rattle.safety.proofs.Others.{others_follow}
 use Rattle.safety.proofs.OtherSends.{SentOthers, others_send}
 use Rattle.safety.proofs.Outputs.{bytes_there}
 use Rattle.safety.proofs.Replicas.{real_if, real_effect, RowFits, WholeSeat, whole_seat, replica_follows}
-use Rattle.safety.proofs.Travels.{travels_others, joins_letter, joins_trimmed}
+use Rattle.safety.proofs.Travels.{travels_others, joins_trimmed}
 
 -- ---- what an event brings is in its ranges
 
@@ -151,7 +151,7 @@ module _ {S : Type 0} (m : Meaning S) (IsSound : S → Type 0) (keeps : KeepsTo 
   absent i at none =
       let got : then_at (at_replica t i) (step_at (replica.next m) None (stimulus_of t.config t.sent e)) ≡ Ok h =
       ap (λ (o : Option (Seated Replica)). then_at (at_replica t i) (step_at (replica.next m) o (stimulus_of t.config t.sent e))) (sym none)
-      ∙ ap (λ (a : Actor). step_of m t a (stimulus_of t.config t.sent e)) (sym at) ∙ is in
+      ∙ ap (λ (a : Actor). step_of m t (who a) (stimulus_of t.config t.sent e)) (sym at) ∙ is in
       cc
 
   replica_step : (i : ℕ) (o : Option (Seated Replica)) → slice_get t.replicas i ≡ o → actor_of e ≡ actors.Replica i → Followed m t ls w e h
@@ -160,9 +160,8 @@ module _ {S : Type 0} (m : Meaning S) (IsSound : S → Type 0) (keeps : KeepsTo 
       let member = travels.members i p found in
       let q : WholeSeat m w.replicas i p = whole_seat m t.replicas w.replicas i p beside.alike.replicas found in
       let a = replica_follows m t ls w beside.alike i p found (trimmed_keep_bounds m IsSound keeps) trims travels q.seat q.there q.same e at
-      (λ k x f bytes there read gave. joins_trimmed m w f bytes
-      (joins_letter (real_letters m w) (bytes_of t.sent) travels.used p.state x.bytes f bytes travels.posts travels.fits
-      member.came (bytes_there t.sent x (k, there)) read gave))
+      (λ k x f bytes there read gave. joins_trimmed m t.sent t.replicas w travels p.state.reassembly f bytes member.came
+      (among_has (bytes_of t.sent) x.bytes f (bytes_there t.sent x (k, there)) read) gave)
       (row_fits m IsSound keeps (bytes_of t.sent) travels.used i p.state member (arrival_of w (brought t e))
       (λ a arrived. (arrives c w carries tells (brought t e) a arrived).fits))
       (event_comes t.sent t.config e) h is in
@@ -176,7 +175,7 @@ module _ {S : Type 0} (m : Meaning S) (IsSound : S → Type 0) (keeps : KeepsTo 
   module _ (spelled : (s : Sent) → Has (whole_step m w (actor_of e) (brought t e)).sent s → IsDatagram s.bytes)
       (same : (whole_step m w (actor_of e) (brought t e)).letters ≡ w.letters)
       (kept : archive_after m t.archive w (actor_of e) (brought t e) ≡ t.archive) where
-    other_step : is_replica (actor_of e) ≡ false → Followed m t ls w e h
+    other_step : is_replica (who (actor_of e)) ≡ false → Followed m t ls w e h
     other_step other =
         let v : WholeWorld = whole_step m w (actor_of e) (brought t e) in
         let alike : Alike m h.world (ls ++ h.lines) v = others_follow m t ls w e h beside.alike other is in
@@ -200,27 +199,17 @@ module _ {S : Type 0} (m : Meaning S) (IsSound : S → Type 0) (keeps : KeepsTo 
 -- ---- letters and what moves out of logs are of replicas
 
 module _ {S : Type 0} (m : Meaning S) (w : WholeWorld) (b : Brings) where
-  client_writes : (k : ℕ) (o : Option (Seated ClientState)) → (step_client w k o b).letters ≡ w.letters
-  client_writes k None = refl
-  client_writes k (Some p) = refl
+  other_writes : (k : Kind) (i : ℕ) (o : Option (Seated (State k))) → (step_other k w i o b).letters ≡ w.letters
+  other_writes k i None = refl
+  other_writes k i (Some p) = refl
 
-  sequencer_writes : (j : ℕ) (o : Option (Seated SequencerState)) → (step_sequencer w j o b).letters ≡ w.letters
-  sequencer_writes j None = refl
-  sequencer_writes j (Some p) = refl
+  pub others_write : (x : Who) → is_replica x ≡ false → (whole.step_of m w x b).letters ≡ w.letters
+  others_write (AReplica i) other = absurd cc
+  others_write (Another k i) other = other_writes k i (slice_get (seats k w.others) i)
 
-  controller_writes : (k : ℕ) (o : Option (Seated ControllerState)) → (step_controller w k o b).letters ≡ w.letters
-  controller_writes k None = refl
-  controller_writes k (Some p) = refl
-
-  pub others_write : (a : Actor) → is_replica a ≡ false → (whole_step m w a b).letters ≡ w.letters
-  others_write (actors.Replica i) other = absurd cc
-  others_write (actors.Sequencer j) other = sequencer_writes j (slice_get w.sequencers j)
-  others_write (actors.Client k) other = client_writes k (slice_get w.clients k)
-  others_write (actors.Controller k) other = controller_writes k (slice_get w.controllers k)
-
-  pub others_keep : (archive : List Entry) (a : Actor) → is_replica a ≡ false → archive_after m archive w a b ≡ archive
-  others_keep archive (actors.Replica i) other = absurd cc
-  others_keep archive _ other = refl
+  pub others_keep : (archive : List Entry) (x : Who) → is_replica x ≡ false → archive_of m archive w x b ≡ archive
+  others_keep archive (AReplica i) other = absurd cc
+  others_keep archive (Another k i) other = refl
 
 -- each event is followed, where what the whole world sends for it is in its ranges
 pub event_follows : {S : Type 0} (m : Meaning S) (IsSound : S → Type 0) → KeepsTo m IsSound → (t : WorldState) (ls : List Line)
@@ -229,10 +218,11 @@ pub event_follows : {S : Type 0} (m : Meaning S) (IsSound : S → Type 0) → Ke
     → ((s : Sent) → Has (whole_step m w (actor_of e) (brought t e)).sent s → IsDatagram s.bytes) → Followed m t ls w e h
 event_follows m IsSound keeps t ls w c carries tells trims beside e h is spelled = by (actor_of e) refl
   where
-    other : is_replica (actor_of e) ≡ false → Followed m t ls w e h
+    other : is_replica (who (actor_of e)) ≡ false → Followed m t ls w e h
     other none = other_step m IsSound keeps t ls w c carries tells trims beside e h is spelled
-        (others_write m w (brought t e) (actor_of e) none) (others_keep m w (brought t e) t.archive (actor_of e) none) none
+        (others_write m w (brought t e) (who (actor_of e)) none)
+        (others_keep m w (brought t e) t.archive (who (actor_of e)) none) none
 
     by : (a : Actor) → actor_of e ≡ a → Followed m t ls w e h
     by (actors.Replica i) at = replica_step m IsSound keeps t ls w c carries tells trims beside e h is i (slice_get t.replicas i) refl at
-    by _ at = other (ap is_replica at)
+    by _ at = other (ap (λ (a : Actor). is_replica (who a)) at)

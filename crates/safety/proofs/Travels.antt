@@ -1,7 +1,7 @@
 -- The network goes on to carry the letters.
 use Rattle.std.proofs.Common.{◌≡◌, ◌<◌, ◌+◌, ◌^◌, ℕ, Bool, true, false, cond, Some, refl, sym, ap, subst, ◌∙◌, inl, inr, List, [], ◌∷◌}
 use Rattle.std.proofs.Common.{◌++◌}
-use Rattle.std.specs.Prelude.{◌==◌, ◌&&◌, Result, Ok, Err, map, slice_get, slice_set}
+use Rattle.std.specs.Prelude.{◌==◌, ◌&&◌, Result, Ok, map, slice_get, slice_set}
 use Rattle.std.specs.List.{AllByRecursion}
 use Rattle.std.proofs.lemmas.Bool.{eqb-true, eq-eqb, and_parts}
 use Rattle.std.proofs.lemmas.List.{append-nil, map-append}
@@ -19,7 +19,7 @@ use Rattle.lemmas.specs.Functions.{put}
 use Rattle.lemmas.proofs.Members.{Has-none, Has-first, Has-rest, Has-cases, Has-append_left, Has-append_right, Has-append_cases}
 use Rattle.oum_codec.specs.declared.bad.Bad.{Bad}
 use Rattle.oum_codec.specs.Reading.{reading}
-use Rattle.fragments.specs.Joining.{taken}
+use Rattle.fragments.specs.Joining.{Waiting, taken}
 use Rattle.fragments.specs.Runs.{AllCame}
 use Rattle.fragments.specs.Runs as fragments
 use Rattle.fragments.proofs.Came.{keeps_what_came}
@@ -31,7 +31,7 @@ use Rattle.replica_core.specs.Posting.{posted}
 use Rattle.replica_core.specs.ReplicaSteps.{Replica}
 use Rattle.replica_state.specs.Sends.{SendingFits, message_count}
 use Rattle.replica_state.specs.declared.sending.Sending.{Sending}
-use Rattle.replica_state.specs.declared.sending.Sending.TheVariants.{ToClient, ToReplicas, Trims}
+use Rattle.replica_state.specs.declared.sending.Sending.TheVariants.{ToReplicas}
 use Rattle.trimmed_rows.specs.Trimmed.{trimmed_peer}
 use Rattle.network.specs.Network.{Sent, sends_of}
 use Rattle.world.specs.Seats.{Seated}
@@ -41,7 +41,7 @@ use Rattle.network_laws.specs.PostedFragments.{fragment_read, fragments_in, mess
 use Rattle.network_laws.specs.Sends.{peers_in, IsBy}
 use Rattle.network_laws.specs.Steps.{InNetwork}
 use Rattle.network_laws.proofs.Carrying.{posting_carries_under}
-use Rattle.network_laws.proofs.Networks.{among_append, among_outs, among_has, posting_network}
+use Rattle.network_laws.proofs.Networks.{among_append, among_outs, posting_network}
 use Rattle.network_laws.proofs.Replicas.{stays_in_network, other_in_network}
 use Rattle.whole_world.specs.Shows.{peers_of}
 use Rattle.whole_world.specs.Whole.{WholeWorld, Letter, letters_in, letter_of}
@@ -49,8 +49,8 @@ use Rattle.whole_world.proofs.Mapped.{slice_get-from_map, Has-map}
 use Rattle.whole_world.proofs.ReplicaSteps.{letters_peers}
 use Rattle.whole_world.proofs.Seats.{seats_become, seats_same}
 use Rattle.safety.specs.Following.{bytes_of}
-use Rattle.safety.specs.Following.{is_fragment, message_of, trimmed_letter, SameMembers, CarriesLetters}
-use Rattle.safety.proofs.Beside.{Travels, JoinsLetter, JoinsTrimmed, real_letters}
+use Rattle.safety.specs.Following.{is_fragment, message_of, trimmed_letter, SameMembers, CarriesLetters, JoinsTrimmed}
+use Rattle.safety.proofs.Beside.{Travels, JoinsLetter, real_letters}
 use Rattle.safety.proofs.Outputs.{bytes_after}
 
 -- ---- members of lists
@@ -72,11 +72,10 @@ joined_members more xs ys zs is h = record {
 
 letters_messages : (number : ℕ) (sends : List Sending) → map message_of (letters_in number sends) ≡ messages_from number sends
 letters_messages number [] = refl
-letters_messages number (ToClient r ∷ sends) = letters_messages number sends
 letters_messages number (ToReplicas dest p ∷ sends) =
     ap (λ (xs : List fragments.Sent). record { sender = p.sender; number = number + 1; bytes = spelling p } ∷ xs)
     (letters_messages (number + 1) sends)
-letters_messages number (Trims first entries ∷ sends) = letters_messages number sends
+letters_messages number (_ ∷ sends) = letters_messages number sends
 
 -- ---- what others send has no fragments
 
@@ -155,12 +154,11 @@ module _ (bytes : List (List ℕ)) (used : ℕ → ℕ) (letters : List Letter) 
 
 sent_fit : (sends : List Sending) (p : Peer) → AllByRecursion SendingFits sends → Has (peers_in sends) p → PeerFits p
 sent_fit [] p fits h = absurd (Has-none p h)
-sent_fit (ToClient r ∷ sends) p fits h = sent_fit sends p fits.1 h
-sent_fit (Trims first entries ∷ sends) p fits h = sent_fit sends p fits.1 h
 sent_fit (ToReplicas dest q ∷ sends) p fits h = elim (Has-cases p q (peers_in sends) h) [
   | inl e ↦ subst PeerFits (sym e) fits.0
   | inr j ↦ sent_fit sends p fits.1 j
 ]
+sent_fit (_ ∷ sends) p fits h = sent_fit sends p fits.1 h
 
 -- letters of a row more
 more_fit : (letters : List Letter) (number : ℕ) (sends : List Sending) → ((p : Peer) → Has (peers_of letters) p → PeerFits p)
@@ -282,14 +280,13 @@ found_message letters q n bytes h =
       spelled = ap (λ (x : fragments.Sent). x.bytes) t.is;
     }
 
-pub joins_letter : (letters : List Letter) (bytes : List (List ℕ)) (used : ℕ → ℕ) (s : Replica) (k : List ℕ) (f : Fragment)
+pub joins_letter : (letters : List Letter) (bytes : List (List ℕ)) (used : ℕ → ℕ) (waiting : List Waiting) (f : Fragment)
     (joined : List ℕ) → CarriesLetters bytes used letters → ((p : Peer) → Has (peers_of letters) p → PeerFits p)
-    → AllCame (fragments_among bytes) s.reassembly
-    → Has bytes k → reading k ≡ Ok (datagrams.Fragment f) → (taken s.reassembly f).1 ≡ Some joined → JoinsLetter letters f joined
-joins_letter letters bytes used s k f joined posts fit came has read is =
+    → AllCame (fragments_among bytes) waiting → Has (fragments_among bytes) f → (taken waiting f).1 ≡ Some joined
+    → JoinsLetter letters f joined
+joins_letter letters bytes used waiting f joined posts fit came here is =
     let net : List Fragment = fragments_among bytes in
-    let here : Has net f = among_has bytes k f has read in
-    let parts = (keeps_what_came net s.reassembly f here came).gave joined is in
+    let parts = (keeps_what_came net waiting f here came).gave joined is in
     let carried : Carried posts.told net used = posts.network.carried in
     let sent = joins_what_was_sent carried.sent net f joined carried.distinct carried.cut here parts in
     let x = found_message letters f.replica f.message joined (posts.messages.to _ sent) in
@@ -335,9 +332,12 @@ finds_whole m (x ∷ letters) q n p e = by ((x.peer.sender == q) && (x.number ==
       is = rest.is;
     }
 
-pub joins_trimmed : {S : Type 0} (m : Meaning S) (w : WholeWorld) (f : Fragment) (bytes : List ℕ) → JoinsLetter (real_letters m w) f bytes
+pub joins_trimmed : {S : Type 0} (m : Meaning S) (sent : List Sent) (replicas : List (Seated Replica)) (w : WholeWorld)
+    → Travels sent replicas (real_letters m w) → (waiting : List Waiting) (f : Fragment) (bytes : List ℕ)
+    → AllCame (fragments_among (bytes_of sent)) waiting → Has (fragments_among (bytes_of sent)) f → (taken waiting f).1 ≡ Some bytes
     → JoinsTrimmed m w f bytes
-joins_trimmed m w f bytes h =
+joins_trimmed m sent replicas w travels waiting f bytes came here is =
+    let h = joins_letter (real_letters m w) (bytes_of sent) travels.used waiting f bytes travels.posts travels.fits came here is in
     let x = finds_whole m w.letters f.replica f.message h.peer h.letter in
     record {
       peer = x.peer;

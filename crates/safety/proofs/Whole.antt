@@ -36,6 +36,7 @@ use Rattle.safety.proofs.Following.{Both, Front, Follows, world_after, run_follo
 use Rattle.safety.proofs.KeptLogs.{IsKept, real_is_whole, same_text, main_same}
 use Rattle.safety.proofs.Replicas.{WholeSeat, whole_seat}
 use Rattle.safety.proofs.SpokenLines.{legal_with_all}
+use Rattle.safety.proofs.Travels.{joins_trimmed}
 
 module _ {S : Type 0} (m : Meaning S) (IsSound : S → Type 0) (keeps : KeepsTo m IsSound) (config : Configuration)
     (is : is_configuration config ≡ true) where
@@ -73,16 +74,16 @@ module _ {S : Type 0} (m : Meaning S) (IsSound : S → Type 0) (keeps : KeepsTo 
         fragments = both.beside.travels.posts;
         config = alike.config;
         replicas = alike.replicas;
-        sequencers = alike.sequencers;
-        clients = alike.clients;
-        controllers = alike.controllers;
+        others = alike.others;
         kept = λ i p at. (both.beside.travels.members i p at).came;
         logs = λ i p q at there. (let x : WholeSeat m w.replicas i p = whole_seat m t.replicas w.replicas i p alike.replicas at in
             let same : x.seat ≡ q = (let e : Some x.seat ≡ Some q = sym x.there ∙ there in cc) in
             real_is_whole m t.archive p q (subst (λ (y : Seated WholeReplica). plain p ≡ trimmed_seat m y) same x.same)
             (kept bs t ls both i q there));
-        text = same_text m t.archive 0 t.replicas w.replicas alike.replicas (kept bs t ls both);
+        joins = joins_trimmed m t.sent t.replicas w both.beside.travels;
+        main = main_same m t ls w alike (kept bs t ls both);
         history = ap history_of (main_same m t ls w alike (kept bs t ls both));
+        text = same_text m t.archive 0 t.replicas w.replicas alike.replicas (kept bs t ls both);
       }
 
   module _ (es : List Event) (h : Happened) (fit : EventsFit es) (e : world.run m config es ≡ Ok h) where
@@ -121,8 +122,7 @@ module _ {S : Type 0} (m : Meaning S) (IsSound : S → Type 0) (keeps : KeepsTo 
         let bs = all_brought m config es in
         let w : WholeWorld = world_after m config bs in
         let f : FollowsWhole m h w = follows_at bs h.world h.lines follows.both in
-        agree m h.world w f.replicas f.logs (main_same m h.world h.lines w follows.both.beside.alike (kept bs h.world h.lines follows.both))
-        at_last.agreed
+        agree m h.world w f.replicas f.logs f.main at_last.agreed
 
     pub safely : SafelyPassed m config es h
     safely = record {

@@ -14,9 +14,10 @@ use Rattle.nop_types.specs.declared.peer.Peer.{Peer}
 use Rattle.nop_types.specs.Lists.{Has}
 use Rattle.oum_codec.specs.declared.bad.Bad.{Bad}
 use Rattle.oum_codec.specs.Reading.{reading}
-use Rattle.fragments.specs.Joining.{taken}
+use Rattle.fragments.specs.Joining.{Waiting, taken}
 use Rattle.fragments.specs.Runs as fragments
 use Rattle.fragments.specs.Runs.{AllCame}
+use Rattle.peer_codec.specs.Reading as peers
 use Rattle.peer_codec.specs.Spelling.{spelling}
 use Rattle.replica_state.specs.State.{is_other}
 use Rattle.trimmed_rows.specs.Trimmed.{trimmed, trimmed_peer}
@@ -28,11 +29,12 @@ use Rattle.network.specs.Network.{Sent}
 use Rattle.world.specs.Archive.{with_archive}
 use Rattle.world.specs.Seats.{Seated}
 use Rattle.world.specs.StateLines.{replicas_text}
-use Rattle.world.specs.WorldSteps.{WorldState, Happened, Refusal, actor_of, step, opening, run, history}
+use Rattle.world.specs.WorldSteps.{WorldState, Happened, Refusal, actor_of, step, opening, run, main_log, history}
 use Rattle.network_laws.specs.Network.{fragments_among, Network}
 use Rattle.whole_world.specs.Shows.{peers_of}
 use Rattle.whole_world.specs.Whole as whole
-use Rattle.whole_world.specs.Whole.{WholeReplica, WholeWorld, Letter, Brings, Nothing, Op, Timer, Junk, Equal, Message, Crash, whole_run}
+use Rattle.whole_world.specs.Whole.{WholeReplica, WholeWorld, Letter, Brings, Nothing, Op, Timer, Junk, Equal}
+use Rattle.whole_world.specs.Whole.{Message, Crash, letter_of, whole_run}
 
 -- ---- what an event brings
 
@@ -98,8 +100,7 @@ abbrev pub is_spoken : Line → Bool
 is_spoken (lines.Submit r) = true
 is_spoken (lines.Accept client id result) = true
 is_spoken (lines.Busy client) = true
-is_spoken (lines.Dead actor) = false
-is_spoken (lines.Send index from dest datagram) = false
+is_spoken _ = false
 
 abbrev pub spoken : List Line → List Line
 spoken ls = filter is_spoken ls
@@ -141,6 +142,13 @@ pub record SameMembers {A : Type 0} (xs ys : List A) : Type 0 where
   pub to : (x : A) → Has xs x → Has ys x
   pub from : (x : A) → Has ys x → Has xs x
 
+-- what is joined of fragments of a replica and a number is the message of the letter of that sender and number, its log trimmed
+pub record JoinsTrimmed {S : Type 0} (m : Meaning S) (w : WholeWorld) (f : Fragment) (bytes : List ℕ) : Type 0 where
+  pub peer : Peer
+  pub read : peers.reading bytes ≡ Ok (trimmed_peer m peer)
+  pub sender : peer.sender ≡ f.replica
+  pub letter : letter_of w.letters f.replica f.message ≡ Some peer
+
 -- the fragments among the datagrams carry these letters, each under its number, and nothing else
 pub record CarriesLetters (bytes : List (List ℕ)) (used : ℕ → ℕ) (letters : List Letter) : Type 0 where
   pub told : List Peer
@@ -164,18 +172,22 @@ pub record FollowsWhole {S : Type 0} (m : Meaning S) (h : Happened) (w : WholeWo
   pub config : h.world.config ≡ w.config
   -- each replica's state but for its log, which is the whole one trimmed; its message number, and whether it crashed
   pub replicas : map plain h.world.replicas ≡ map (trimmed_seat m) w.replicas
-  pub sequencers : h.world.sequencers ≡ w.sequencers
-  pub clients : h.world.clients ≡ w.clients
-  pub controllers : h.world.controllers ≡ w.controllers
+  -- sequencers, clients and controllers
+  pub others : h.world.others ≡ w.others
   -- what a replica keeps of messages that are not complete came in fragments of the network
   pub kept : (i : ℕ) (p : Seated Replica) → slice_get h.world.replicas i ≡ Some p
       → AllCame (fragments_among (bytes_of h.world.sent)) p.state.reassembly
+  -- so whoever keeps such parts joins letters
+  pub joins : (waiting : List Waiting) (f : Fragment) (bytes : List ℕ) → AllCame (fragments_among (bytes_of h.world.sent)) waiting
+      → Has (fragments_among (bytes_of h.world.sent)) f → (taken waiting f).1 ≡ Some bytes → JoinsTrimmed m w f bytes
   -- the archive and a replica's log are its whole log
   pub logs : (i : ℕ) (p : Seated Replica) (q : Seated WholeReplica) → slice_get h.world.replicas i ≡ Some p
       → slice_get w.replicas i ≡ Some q → with_archive h.world.archive p.state.state.log ≡ q.state.state.log.entries
-  -- the printed lines of replicas and their entries, and the history
-  pub text : replicas_text h.world.archive 0 h.world.replicas ≡ whole.replicas_text 0 w.replicas
+  -- the main log; so the history
+  pub main : main_log h.world ≡ whole.main_log w
   pub history : history h.world ≡ whole.history w
+  -- the printed lines of replicas and their entries
+  pub text : replicas_text h.world.archive 0 h.world.replicas ≡ whole.replicas_text 0 w.replicas
 
 -- for every list of events that are not refused
 abbrev pub RunsFollowWhole : {S : Type 0} → Meaning S → Type 0

@@ -1,5 +1,6 @@
 -- Steps of clients, sequencers and controllers.
-use Rattle.std.proofs.Common.{◌≡◌, ℕ, ◌<◌, Some, refl, sym, ap, subst, ◌∙◌, arith, inl, inr, Bool, true, false, cond, List, [], ◌∷◌, ◌++◌}
+use Rattle.std.proofs.Common.{◌≡◌, ℕ, ◌<◌, Some, refl, sym, ap, subst, ◌∙◌, arith, inl, inr, Bool, true, false, cond, List, []}
+use Rattle.std.proofs.Common.{◌∷◌, ◌++◌, length}
 use Rattle.std.specs.Prelude.{◌==◌, slice_get, slice_set}
 use Rattle.std.proofs.lemmas.List.{length-set}
 use Rattle.std.proofs.lemmas.Option.{slice_get_within}
@@ -12,7 +13,6 @@ use Rattle.nop_types.specs.Sessions.{home}
 use Rattle.nop_types.specs.declared.datagram.Datagram.{Datagram}
 use Rattle.nop_types.specs.declared.datagram.Datagram.TheVariants as datagrams
 use Rattle.nop_types.specs.declared.output.Actor.{Actor}
-use Rattle.nop_types.specs.declared.output.Actor.TheVariants as actors
 use Rattle.nop_types.specs.declared.output.Out.{Out}
 use Rattle.lemmas.proofs.Members.{Has-none, Has-cases, Has-append_cases}
 use Rattle.client_quorum.specs.declared.state.ClientState.{ClientState}
@@ -26,9 +26,12 @@ use Rattle.session_control.proofs.Rising.{goes_on}
 use Rattle.protocol.specs.Conf.{Conf, Install}
 use Rattle.protocol.specs.Evolves.{Keeps}
 use Rattle.protocol.specs.Invariant.{Inv}
+use Rattle.protocol.specs.Member.{Member}
 use Rattle.protocol.proofs.Runs.{moves_keep}
 use Rattle.network.specs.Network.{Sent, sends_of}
+use Rattle.world.specs.Others.{Kind, Sequencers, Clients, Controllers, State, next, seats, with_seat, count, Another, actor_at}
 use Rattle.world.specs.Seats.{Seated, seated}
+use Rattle.world.proofs.Others.{others_become}
 use Rattle.refinement.specs.Clients.{with_client, ClientReaches}
 use Rattle.refinement.specs.Controllers.{given_out, with_controller, control_of, ControllerReaches}
 use Rattle.refinement.specs.Datagrams.{AllCarry, OnlySends}
@@ -44,8 +47,8 @@ use Rattle.refinement.proofs.SequencerRanges.{sequencers_stay_in_ranges}
 use Rattle.refinement.proofs.Sequencers.{sequencers_reach}
 use Rattle.whole_world.specs.Passed.{Passed, noted}
 use Rattle.whole_world.specs.Whole.{WholeReplica, WholeWorld, gave, lines_of}
-use Rattle.whole_world.specs.Shows.{Carries, ShowsActors}
-use Rattle.whole_world.proofs.At.{Stands, At, Goes}
+use Rattle.whole_world.specs.Shows.{Carries, Tells, IsShown, ShowsActors, peers_of}
+use Rattle.whole_world.proofs.At.{OtherFits, Stands, At, Goes}
 use Rattle.whole_world.proofs.Coming.{Comes}
 use Rattle.whole_world.proofs.Fitting.{carries_after, there_after, spelled_after}
 use Rattle.whole_world.proofs.Outputs.{lines_told}
@@ -126,177 +129,167 @@ module _ {S : Type 0} (m : Meaning S) (f : ℕ) (config : Configuration) (p : Pa
             ∙ sym (ap (λ (e : Conf). e.past) by.ends ∙ past);
       }
 
-  -- ---- clients
+  -- ---- any of them
 
-  module _ (k : ℕ) (old : Seated ClientState) (there : slice_get w.clients k ≡ Some old) (i : Given) (comes : Comes c i) where
-    abbrev client_step : ClientState × List Out
-    client_step = client.next old.state i
+  -- moves lead to where the changed actor, and all others, are shown
+  module _ (k : Kind) (i : ℕ) (x : State k × List Out) (d : Conf) (by : LeadsTo m f c d x.1) (fit : AllFit d)
+      (fits : OtherFits k x.0) (givers : (y : Install) → Has d.installs y → home y.session < w.config.controllers) where
+    abbrev after : WholeWorld
+    after = gave w (actor_at (Another k i)) x.1 (record w { others = with_seat k w.others i (seated x.0) })
 
-    abbrev client_world : WholeWorld
-    client_world = gave w (actors.Client k) client_step.1 (record w { clients = slice_set w.clients k (seated client_step.0) })
-
-    abbrev client_after : Conf
-    client_after = with_client c k client_step
-
-    client_reaches : ClientReaches m f c k client_step
-    client_reaches = subst (λ (s : ClientState). ClientReaches m f c k (client.next s i)) (shown.clients k old there)
-        (clients_reach m f c k i inv comes.may)
-
-    client_in_ranges : AllFit client_after × ClientFits client_step.0
-    client_in_ranges =
-        let same = shown.clients k old there in
-        let fits : ClientFits (c.clients k) = subst ClientFits (sym same) (at.stands.ranges.clients k old there) in
-        subst (λ (s : ClientState). AllFit (with_client c k (client.next s i)) × ClientFits (client.next s i).0) same
-        (clients_stay_in_ranges c k i all_fit fits comes.fits)
-
-    client_stands : Stands f config client_world client_after
-    client_stands = record {
+    other_goes_by : d.replicas ≡ c.replicas → d.said ≡ c.said → d.past ≡ c.past
+        → ((j : Kind) (n : ℕ) (q : Seated (State j)) → slice_get (seats j after.others) n ≡ Some q → IsShown j d n q.state)
+        → Goes m f config p c after
+    other_goes_by replicas said past others = goes_by after d (actor_at (Another k i)) x.1 by refl refl past (record {
       same = at.stands.same;
       actors = record {
         is_configuration = shown.is_configuration;
         config = shown.config;
         replica_count = shown.replica_count;
-        sequencer_count = shown.sequencer_count;
-        client_count = length-set w.clients k (seated client_step.0) ∙ shown.client_count;
-        controller_count = shown.controller_count;
-        replicas = shown.replicas;
+        other_count = others_become (λ j qs. length qs ≡ count j w.config) w.others k (slice_set (seats k w.others) i (seated x.0))
+            (length-set (seats k w.others) i (seated x.0) ∙ shown.other_count k) shown.other_count;
+        replicas = λ r q e. ap (λ (g : ℕ → Member). g r) replicas ∙ shown.replicas r q e;
         points = shown.points;
-        sequencers = shown.sequencers;
-        clients = seats_shown (λ s. s) w.clients c.clients k (seated client_step.0) shown.clients;
-        controllers = shown.controllers;
-        controller_numbers = shown.controller_numbers;
-        givers = shown.givers;
+        others = others;
+        givers = givers;
       };
-      carries = carries_by client_after (actors.Client k) client_step.1 client_reaches client_in_ranges.0;
-      tells = at.stands.tells;
+      carries = carries_by d (actor_at (Another k i)) x.1 by fit;
+      tells = subst (Tells (peers_of w.letters)) (sym said) at.stands.tells;
       ranges = record {
         replicas = at.stands.ranges.replicas;
-        clients = seats_hold ClientFits w.clients k (seated client_step.0) client_in_ranges.1 at.stands.ranges.clients;
-        controllers = at.stands.ranges.controllers;
+        others = others_become (λ j qs. (n : ℕ) (q : Seated (State j)) → slice_get qs n ≡ Some q → OtherFits j q.state) w.others k
+            (slice_set (seats k w.others) i (seated x.0))
+            (seats_hold (OtherFits k) (seats k w.others) i (seated x.0) fits (at.stands.ranges.others k)) at.stands.ranges.others;
       };
-    }
+    })
 
-    pub client_goes : Goes m f config p c client_world
-    client_goes = goes_by client_world client_after (actors.Client k) client_step.1
-        client_reaches refl refl refl client_stands
+  -- what a step leads to
+  abbrev StepGoes : (k : Kind) → ℕ → Seated (State k) → Given → Type 0
+  StepGoes k i old g =
+      Goes m f config p c (gave w (actor_at (Another k i)) (next k old.state g).1
+      (record w { others = with_seat k w.others i (seated (next k old.state g).0) }))
+
+  -- ---- clients
+
+  module _ (k : ℕ) (old : Seated ClientState) (there : slice_get w.others.clients k ≡ Some old) (i : Given)
+      (comes : Comes c i) where
+    abbrev client_step : ClientState × List Out
+    client_step = client.next old.state i
+
+    abbrev client_after : Conf
+    client_after = with_client c k client_step
+
+    client_reaches : ClientReaches m f c k client_step
+    client_reaches = subst (λ (s : ClientState). ClientReaches m f c k (client.next s i)) (shown.others Clients k old there)
+        (clients_reach m f c k i inv comes.may)
+
+    client_in_ranges : AllFit client_after × ClientFits client_step.0
+    client_in_ranges =
+        let same : c.clients k ≡ old.state = shown.others Clients k old there in
+        let fits : ClientFits (c.clients k) = subst ClientFits (sym same) (at.stands.ranges.others Clients k old there) in
+        subst (λ (s : ClientState). AllFit (with_client c k (client.next s i)) × ClientFits (client.next s i).0) same
+        (clients_stay_in_ranges c k i all_fit fits comes.fits)
+
+    client_shown : (j : Kind) (n : ℕ) (q : Seated (State j))
+        → slice_get (seats j (with_seat Clients w.others k (seated client_step.0))) n ≡ Some q → IsShown j client_after n q.state
+    client_shown Clients = seats_shown (λ s. s) w.others.clients c.clients k (seated client_step.0) (shown.others Clients)
+    client_shown j = shown.others j
+
+    client_goes : StepGoes Clients k old i
+    client_goes =
+        other_goes_by Clients k client_step client_after client_reaches client_in_ranges.0 client_in_ranges.1 shown.givers
+        refl refl refl client_shown
 
   -- ---- sequencers
 
-  module _ (j : ℕ) (old : Seated SequencerState) (there : slice_get w.sequencers j ≡ Some old) (i : Given) (comes : Comes c i) where
+  module _ (j : ℕ) (old : Seated SequencerState) (there : slice_get w.others.sequencers j ≡ Some old) (i : Given)
+      (comes : Comes c i) where
     abbrev sequencer_step : SequencerState × List Out
     sequencer_step = sequencer.next old.state i
-
-    abbrev sequencer_world : WholeWorld
-    sequencer_world = gave w (actors.Sequencer j) sequencer_step.1 (record w { sequencers = slice_set w.sequencers j (seated sequencer_step.0) })
 
     abbrev sequencer_after : Conf
     sequencer_after = with_sequencer c j sequencer_step.0 (stamp_in old.state i)
 
     sequencer_reaches : SequencerReaches m f c j (stamp_in old.state i) sequencer_step
     sequencer_reaches = subst (λ (s : SequencerState). SequencerReaches m f c j (stamp_in s i) (sequencer.next s i))
-        (shown.sequencers j old there) (sequencers_reach m f c j i inv sessions_fit comes.may)
+        (shown.others Sequencers j old there) (sequencers_reach m f c j i inv sessions_fit comes.may)
 
     sequencer_all_fit : AllFit sequencer_after
     sequencer_all_fit =
-        subst (λ (s : SequencerState). AllFit (with_sequencer c j (sequencer.next s i).0 (stamp_in s i))) (shown.sequencers j old there)
+        subst (λ (s : SequencerState). AllFit (with_sequencer c j (sequencer.next s i).0 (stamp_in s i)))
+        (shown.others Sequencers j old there)
         (sequencers_stay_in_ranges m f c j i inv all_fit comes.may)
 
-    sequencer_stands : Stands f config sequencer_world sequencer_after
-    sequencer_stands = record {
-      same = at.stands.same;
-      actors = record {
-        is_configuration = shown.is_configuration;
-        config = shown.config;
-        replica_count = shown.replica_count;
-        sequencer_count = length-set w.sequencers j (seated sequencer_step.0) ∙ shown.sequencer_count;
-        client_count = shown.client_count;
-        controller_count = shown.controller_count;
-        replicas = shown.replicas;
-        points = shown.points;
-        sequencers = seats_shown (λ s. s) w.sequencers c.sequencers j (seated sequencer_step.0) shown.sequencers;
-        clients = shown.clients;
-        controllers = shown.controllers;
-        controller_numbers = shown.controller_numbers;
-        givers = shown.givers;
-      };
-      carries = carries_by sequencer_after (actors.Sequencer j) sequencer_step.1 sequencer_reaches sequencer_all_fit;
-      tells = at.stands.tells;
-      ranges = record {
-        replicas = at.stands.ranges.replicas;
-        clients = at.stands.ranges.clients;
-        controllers = at.stands.ranges.controllers;
-      };
-    }
+    sequencer_shown : (k : Kind) (n : ℕ) (q : Seated (State k))
+        → slice_get (seats k (with_seat Sequencers w.others j (seated sequencer_step.0))) n ≡ Some q
+        → IsShown k sequencer_after n q.state
+    sequencer_shown Sequencers =
+        seats_shown (λ s. s) w.others.sequencers c.sequencers j (seated sequencer_step.0) (shown.others Sequencers)
+    sequencer_shown k = shown.others k
 
-    pub sequencer_goes : Goes m f config p c sequencer_world
-    sequencer_goes = goes_by sequencer_world sequencer_after
-        (actors.Sequencer j) sequencer_step.1 sequencer_reaches refl refl refl sequencer_stands
+    sequencer_goes : StepGoes Sequencers j old i
+    sequencer_goes =
+        other_goes_by Sequencers j sequencer_step sequencer_after sequencer_reaches sequencer_all_fit tt shown.givers refl refl refl
+        sequencer_shown
 
   -- ---- controllers
 
-  module _ (k : ℕ) (old : Seated ControllerState) (there : slice_get w.controllers k ≡ Some old) (i : Given) (comes : Comes c i) where
+  module _ (k : ℕ) (old : Seated ControllerState) (there : slice_get w.others.controllers k ≡ Some old) (i : Given)
+      (comes : Comes c i) where
     abbrev controller_step : ControllerState × List Out
     controller_step = controller.next old.state i
-
-    abbrev controller_world : WholeWorld
-    controller_world =
-        gave w (actors.Controller k) controller_step.1 (record w { controllers = slice_set w.controllers k (seated controller_step.0) })
 
     abbrev controller_after : Conf
     controller_after = with_controller c k controller_step.0 (given_out old.state controller_step.0)
 
+    number : old.state.number ≡ k
+    number = (shown.others Controllers k old there).1
+
+    within : controller.IsWithin old.state
+    within = at.stands.ranges.others Controllers k old there
+
     controller_reaches : ControllerReaches m f c k old.state controller_step
-    controller_reaches =
-        let number = shown.controller_numbers k old there in
-        subst (λ (j : ℕ). ControllerReaches m f c j old.state controller_step) number
-        (controllers_reach m f c old.state i inv (ap c.controllers number ∙ shown.controllers k old there)
-        (at.stands.ranges.controllers k old there) comes.may)
+    controller_reaches = subst (λ (j : ℕ). ControllerReaches m f c j old.state controller_step) number
+        (controllers_reach m f c old.state i inv (ap c.controllers number ∙ (shown.others Controllers k old there).0) within
+        comes.may)
 
     controller_in_ranges : AllFit controller_after × controller.IsWithin controller_step.0
-    controller_in_ranges = controllers_stay_in_ranges c k old.state i all_fit (at.stands.ranges.controllers k old there) comes.may
+    controller_in_ranges = controllers_stay_in_ranges c k old.state i all_fit within comes.may
 
     number_is : controller_step.0.number ≡ k
-    number_is = (goes_on old.state i).number ∙ shown.controller_numbers k old there
+    number_is = (goes_on old.state i).number ∙ number
 
     giver_is_there : (x : Install) → Has (given_out old.state controller_step.0) x → home x.session < w.config.controllers
     giver_is_there x h =
         let own : home x.session ≡ k = ap home (given_session old.state controller_step.0 x h) ∙ controller_in_ranges.1.own ∙ number_is in
-        let within = slice_get_within w.controllers k old there in
-        let count = shown.controller_count in
-        omega (arith, own, within, count)
+        let inside = slice_get_within w.others.controllers k old there in
+        let all = shown.other_count Controllers in
+        omega (arith, own, inside, all)
 
-    controller_stands : Stands f config controller_world controller_after
-    controller_stands = record {
-      same = at.stands.same;
-      actors = record {
-        is_configuration = shown.is_configuration;
-        config = shown.config;
-        replica_count = shown.replica_count;
-        sequencer_count = shown.sequencer_count;
-        client_count = shown.client_count;
-        controller_count = length-set w.controllers k (seated controller_step.0) ∙ shown.controller_count;
-        replicas = shown.replicas;
-        points = shown.points;
-        sequencers = shown.sequencers;
-        clients = shown.clients;
-        controllers = seats_shown control_of w.controllers c.controllers k (seated controller_step.0) shown.controllers;
-        controller_numbers = seats_become (λ j s. s.number ≡ j) (λ j s. s.number ≡ j) w.controllers k (seated controller_step.0)
-            number_is (λ j s other h. h) shown.controller_numbers;
-        givers = λ x h. elim (Has-append_cases (given_out old.state controller_step.0) c.installs x h) [
-          | inl i ↦ giver_is_there x i
-          | inr i ↦ shown.givers x i
-        ];
-      };
-      carries = carries_by controller_after (actors.Controller k) controller_step.1 controller_reaches controller_in_ranges.0;
-      tells = at.stands.tells;
-      ranges = record {
-        replicas = at.stands.ranges.replicas;
-        clients = at.stands.ranges.clients;
-        controllers = seats_hold controller.IsWithin w.controllers k (seated controller_step.0) controller_in_ranges.1
-            at.stands.ranges.controllers;
-      };
-    }
+    givers : (x : Install) → Has controller_after.installs x → home x.session < w.config.controllers
+    givers x h = elim (Has-append_cases (given_out old.state controller_step.0) c.installs x h) [
+      | inl i ↦ giver_is_there x i
+      | inr i ↦ shown.givers x i
+    ]
 
-    pub controller_goes : Goes m f config p c controller_world
-    controller_goes = goes_by controller_world controller_after
-        (actors.Controller k) controller_step.1 controller_reaches refl refl refl controller_stands
+    controller_shown : (j : Kind) (n : ℕ) (q : Seated (State j))
+        → slice_get (seats j (with_seat Controllers w.others k (seated controller_step.0))) n ≡ Some q
+        → IsShown j controller_after n q.state
+    controller_shown Controllers n q e = (
+      seats_shown control_of w.others.controllers c.controllers k (seated controller_step.0)
+          (λ r t g. (shown.others Controllers r t g).0) n q e,
+      seats_become (λ r s. s.number ≡ r) (λ r s. s.number ≡ r) w.others.controllers k (seated controller_step.0) number_is
+          (λ r s other h. h) (λ r t g. (shown.others Controllers r t g).1) n q e,
+    )
+    controller_shown j n q e = shown.others j n q e
+
+    controller_goes : StepGoes Controllers k old i
+    controller_goes =
+        other_goes_by Controllers k controller_step controller_after controller_reaches controller_in_ranges.0
+        controller_in_ranges.1 givers refl refl refl controller_shown
+
+  pub other_goes : (k : Kind) (i : ℕ) (old : Seated (State k)) → slice_get (seats k w.others) i ≡ Some old → (g : Given) → Comes c g
+      → StepGoes k i old g
+  other_goes Sequencers = sequencer_goes
+  other_goes Clients = client_goes
+  other_goes Controllers = controller_goes

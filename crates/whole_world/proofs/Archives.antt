@@ -11,7 +11,6 @@ use Rattle.nop_types.specs.Lists.{Has}
 use Rattle.nop_types.specs.Logs.{Log, Whole, between, whole}
 use Rattle.nop_types.specs.Meaning.{Meaning}
 use Rattle.nop_types.specs.declared.output.Actor.{Actor}
-use Rattle.nop_types.specs.declared.output.Actor.TheVariants as actors
 use Rattle.nop_types.specs.declared.peer.Body.{Body}
 use Rattle.nop_types.specs.declared.peer.Body.TheVariants as bodies
 use Rattle.nop_types.specs.declared.peer.Change.{Change}
@@ -19,9 +18,6 @@ use Rattle.nop_types.specs.declared.peer.Peer.{Peer}
 use Rattle.nop_types.specs.declared.request.Entry.{Entry}
 use Rattle.lemmas.proofs.Members.{Has-none, Has-cases, Has-append_cases}
 use Rattle.lemmas.proofs.Places.{slice_get-some, slice_get-set_cases, slice_get-set_after, take-append_past}
-use Rattle.client_quorum.specs.declared.state.ClientState.{ClientState}
-use Rattle.sequencer.specs.declared.state.SequencerState.{SequencerState}
-use Rattle.session_control.specs.declared.state.ControllerState.{ControllerState}
 use Rattle.started_views.specs.Logs.{SameTo}
 use Rattle.view_change.specs.Gathering.{Gathering}
 use Rattle.replica_core.specs.declared.replica.TheConstants.{LAST_MESSAGE}
@@ -29,7 +25,7 @@ use Rattle.replica_state.specs.declared.sending.Sending.{Sending}
 use Rattle.replica_state.specs.declared.sending.Sending.TheVariants.{ToClient, ToReplicas, Trims}
 use Rattle.replica_state.specs.declared.state.ReplicaState.{ReplicaState}
 use Rattle.replica_state.specs.Sends.{Effect, still}
-use Rattle.replica_rows.specs.Messages.{Arrival, Packet, Told, Ticked}
+use Rattle.replica_rows.specs.Messages.{Arrival, Told, Ticked}
 use Rattle.replica_rows.specs.Telling.{told_in, told_by}
 use Rattle.replica_rows.specs.Within.{ResultsShort}
 use Rattle.trimmed_rows.specs.Premises.{PointsWithin}
@@ -37,16 +33,17 @@ use Rattle.protocol.specs.Conf.{Conf}
 use Rattle.protocol.specs.Member.{Member}
 use Rattle.protocol_sync.specs.Synced.{SyncRises}
 use Rattle.world.specs.Archive.{with_entries}
+use Rattle.world.specs.Others.{Kind, State, seats, Who, AReplica, Another, who}
 use Rattle.world.specs.Seats.{Seated, seated}
 use Rattle.world.specs.WorldSteps.{counted}
-use Rattle.whole_world.specs.Archives.{with_sends, row_sends, archive_after, IsArchive, ArchivesGoOn}
+use Rattle.whole_world.specs.Archives.{with_sends, row_sends, archive_of, IsArchive, ArchivesGoOn}
 use Rattle.whole_world.specs.Passed.{Passed, passes, passed_from, first, passed}
 use Rattle.whole_world.specs.Safe.{BringsFits, AllFit}
 use Rattle.whole_world.specs.Shows.{ShowsActors}
 use Rattle.whole_world.specs.Trimming.{told_log, AllWithin, FrontsAgree}
 use Rattle.whole_world.specs.Whole.{WholeReplica, WholeWorld, Letter, Brings, Timer, Junk, Equal, Message}
 use Rattle.whole_world.specs.Whole.{input_of, arrival_of, letters_in, is_crash, after_row, posts, row_if, effect_of, live_replica, at_replica}
-use Rattle.whole_world.specs.Whole.{step_replica, step_client, step_sequencer, step_controller, whole_step, opening_replica, opening}
+use Rattle.whole_world.specs.Whole.{step_replica, step_other, step_of, whole_step, opening_replica, opening}
 use Rattle.whole_world.proofs.Coming.{messages_were_sent}
 use Rattle.whole_world.proofs.Counts.{counts_from}
 use Rattle.whole_world.proofs.Opening.{counted_get, counted_length}
@@ -95,16 +92,14 @@ front_and_rest a n l low high =
 module _ (a : ℕ) where
   nothing_moves : (archive : List Entry) (sends : List Sending) → AllByRecursion (TellsLow a) sends → with_sends archive sends ≡ archive
   nothing_moves archive [] low = refl
-  nothing_moves archive (ToClient r ∷ sends) low = nothing_moves archive sends low.1
-  nothing_moves archive (ToReplicas dest p ∷ sends) low = nothing_moves archive sends low.1
   nothing_moves archive (Trims n l ∷ sends) low = absurd low.0
+  nothing_moves archive (_ ∷ sends) low = nothing_moves archive sends low.1
 
   moves_after : (archive : List Entry) (sends rest : List Sending) → AllByRecursion (TellsLow a) sends
       → with_sends archive (sends ++ rest) ≡ with_sends archive rest
   moves_after archive [] rest low = refl
-  moves_after archive (ToClient r ∷ sends) rest low = moves_after archive sends rest low.1
-  moves_after archive (ToReplicas dest p ∷ sends) rest low = moves_after archive sends rest low.1
   moves_after archive (Trims n l ∷ sends) rest low = absurd low.0
+  moves_after archive (_ ∷ sends) rest low = moves_after archive sends rest low.1
 
   -- once
   moves_once : (archive : List Entry) (before rest : List Sending) (n : ℕ) (l : Log) → AllByRecursion (TellsLow a) before
@@ -116,9 +111,8 @@ module _ (a : ℕ) where
 
   -- a message tells no greater sync point
   abbrev SaysLow : Sending → Type 0
-  SaysLow (ToClient r) = ⊤
   SaysLow (ToReplicas dest p) = told_in p.body ≤ a
-  SaysLow (Trims n l) = ⊤
+  SaysLow _ = ⊤
 
   says_low : (sends : List Sending) → AllByRecursion (TellsLow a) sends → AllByRecursion SaysLow sends
   says_low [] low = tt
@@ -133,13 +127,12 @@ module _ (a : ℕ) where
   letters_low : (number : ℕ) (sends : List Sending) (x : Letter) → AllByRecursion SaysLow sends → Has (letters_in number sends) x
       → told_in x.peer.body ≤ a
   letters_low number [] x low i = absurd (Has-none x i)
-  letters_low number (ToClient r ∷ sends) x low i = letters_low number sends x low.1 i
-  letters_low number (Trims n l ∷ sends) x low i = letters_low number sends x low.1 i
   letters_low number (ToReplicas dest p ∷ sends) x low i =
       elim (Has-cases x (record { number = number + 1; dest = dest; peer = p }) (letters_in (number + 1) sends) i) [
         | inl e ↦ subst (λ (y : Letter). told_in y.peer.body ≤ a) (sym e) low.0
         | inr j ↦ letters_low (number + 1) sends x low.1 j
       ]
+  letters_low number (_ ∷ sends) x low i = letters_low number sends x low.1 i
 
 -- the sync point that is told is that of the log that is told
 told_is : (b : Body) (l : Log) → told_log b ≡ Some l → told_in b ≡ l.sync_point
@@ -382,9 +375,8 @@ module _ (archive : List Entry) (w v : WholeWorld) (h : IsArchive archive w) (i 
 
 module _ (archive : List Entry) (w : WholeWorld) (h : IsArchive archive w) where
   not_told : (x : Arrival) → ((y : Peer) → x ≡ Told y → ⊥) → told_by x ≤ length archive
-  not_told (Packet p) none = omega arith
   not_told (Told y) none = absurd (none y refl)
-  not_told (Ticked tick) none = omega arith
+  not_told _ none = omega arith
 
   letter_told : (q n : ℕ) (x : Arrival) → arrival_of w (Message q n) ≡ Some x → told_by x ≤ length archive
   letter_told q n x e =
@@ -460,24 +452,14 @@ module _ (archive : List Entry) (w : WholeWorld) (h : IsArchive archive w) where
     replica_archive i b (Some p) there holds =
         seat_archive m i p there (within.replicas i p there) b p.crashed (is_crash b) refl holds
 
-    sequencer_archive : (j : ℕ) (b : Brings) (o : Option (Seated SequencerState)) → IsArchive archive (step_sequencer w j o b)
-    sequencer_archive j b None = h
-    sequencer_archive j b (Some q) = same_archive archive w (step_sequencer w j (Some q) b) refl refl h
+    other_archive : (k : Kind) (i : ℕ) (b : Brings) (o : Option (Seated (State k))) → IsArchive archive (step_other k w i o b)
+    other_archive k i b None = h
+    other_archive k i b (Some q) = same_archive archive w (step_other k w i (Some q) b) refl refl h
 
-    client_archive : (k : ℕ) (b : Brings) (o : Option (Seated ClientState)) → IsArchive archive (step_client w k o b)
-    client_archive k b None = h
-    client_archive k b (Some q) = same_archive archive w (step_client w k (Some q) b) refl refl h
-
-    controller_archive : (k : ℕ) (b : Brings) (o : Option (Seated ControllerState)) → IsArchive archive (step_controller w k o b)
-    controller_archive k b None = h
-    controller_archive k b (Some q) = same_archive archive w (step_controller w k (Some q) b) refl refl h
-
-    pub event_archive : (x : Actor) (b : Brings) → Holds w (whole_step m w x b)
-        → IsArchive (archive_after m archive w x b) (whole_step m w x b)
-    event_archive (actors.Replica i) b holds = replica_archive i b (slice_get w.replicas i) refl holds
-    event_archive (actors.Sequencer j) b holds = sequencer_archive j b (slice_get w.sequencers j)
-    event_archive (actors.Client k) b holds = client_archive k b (slice_get w.clients k)
-    event_archive (actors.Controller k) b holds = controller_archive k b (slice_get w.controllers k)
+    pub event_archive : (x : Who) (b : Brings) → Holds w (step_of m w x b)
+        → IsArchive (archive_of m archive w x b) (step_of m w x b)
+    event_archive (AReplica i) b holds = replica_archive i b (slice_get w.replicas i) refl holds
+    event_archive (Another k i) b holds = other_archive k i b (slice_get (seats k w.others) i)
 
 -- ---- after any events
 
@@ -534,26 +516,26 @@ module _ {S : Type 0} (m : Meaning S) where
 
 pub archives_go_on : {S : Type 0} (m : Meaning S) → ArchivesGoOn m
 archives_go_on m short config es is fit archive h x b one =
-    event_archive archive (passed m config es).world h m (whole_can_trim m short config es is fit).within x b
+    event_archive archive (passed m config es).world h m (whole_can_trim m short config es is fit).within (who x) b
     (holds m short config es is fit x b one)
 
 -- ---- the opening
 
 module _ (config : Configuration) (is : is_configuration config ≡ true) where
-  abbrev seats : List (Seated WholeReplica)
-  seats = counted (opening_replica config) config.replicas
+  abbrev opening_seats : List (Seated WholeReplica)
+  opening_seats = counted (opening_replica config) config.replicas
 
-  opened : (i : ℕ) (p : Seated WholeReplica) → slice_get seats i ≡ Some p → opening_replica config i ≡ p.state
+  opened : (i : ℕ) (p : Seated WholeReplica) → slice_get opening_seats i ≡ Some p → opening_replica config i ≡ p.state
   opened i p e = counted_get (opening_replica config) config.replicas i p e
 
-  opened_point : (i : ℕ) (p : Seated WholeReplica) → slice_get seats i ≡ Some p → point_of p ≡ 0
+  opened_point : (i : ℕ) (p : Seated WholeReplica) → slice_get opening_seats i ≡ Some p → point_of p ≡ 0
   opened_point i p e = ap (λ (r : WholeReplica). r.state.sync.sync_point) (sym (opened i p e))
 
   pub archive_opens : IsArchive [] (opening config)
   archive_opens =
       let count = (counts_from config is).replicas in
       let len = counted_length (opening_replica config) config.replicas in
-      let one = slice_get-some seats 0 (omega (arith, len, count)) in
+      let one = slice_get-some opening_seats 0 (omega (arith, len, count)) in
       record {
         within = λ i p e. (let none = opened_point i p e in omega (arith, none));
         fronts = λ i p e. subst (λ (n : ℕ). take n [] ≡ take n (entries_of p)) (sym (opened_point i p e)) refl;

@@ -1,17 +1,16 @@
 -- What holds of each whole world that events lead to, and of the protocol's configuration that shows it.
-use Rattle.std.specs.Prelude.{◌≡◌, ◌++◌, ◌<◌, ◌^◌, ℕ, List, Some, slice_get}
+use Rattle.std.specs.Prelude.{◌≡◌, ◌++◌, ◌<◌, ◌^◌, ⊤, ℕ, List, Some, slice_get}
 use Rattle.nop_types.specs.Configuration.{Configuration}
 use Rattle.nop_types.specs.Lines.{Line}
 use Rattle.nop_types.specs.Logs.{Whole}
 use Rattle.nop_types.specs.Meaning.{Meaning}
-use Rattle.client_quorum.specs.declared.state.ClientState.{ClientState}
-use Rattle.session_control.specs.declared.state.ControllerState.{ControllerState}
 use Rattle.session_control.specs.ControllerSteps as controller
 use Rattle.oum_receiver.specs.Receiving.{IsSound}
 use Rattle.replica_state.specs.Within.{IsIn}
 use Rattle.protocol.specs.Conf.{Conf, opening}
 use Rattle.protocol.specs.Moves.{MayTell}
 use Rattle.protocol.specs.Runs.{Move, run, MayAll}
+use Rattle.world.specs.Others.{Kind, Clients, Controllers, State, seats}
 use Rattle.world.specs.Seats.{Seated}
 use Rattle.refinement.specs.Ranges.{ClientFits}
 use Rattle.whole_world.specs.Whole.{WholeReplica, WholeWorld}
@@ -28,10 +27,14 @@ pub record ReplicaFits (i : ℕ) (r : WholeReplica) : Type 0 where
   pub within : IsIn Whole r.state
   pub receiver : IsSound r.state.receiver
 
+abbrev pub OtherFits : (k : Kind) → State k → Type 0
+OtherFits Clients s = ClientFits s
+OtherFits Controllers s = controller.IsWithin s
+OtherFits _ s = ⊤
+
 pub record InRanges (w : WholeWorld) : Type 0 where
   pub replicas : (i : ℕ) (q : Seated WholeReplica) → slice_get w.replicas i ≡ Some q → ReplicaFits i q.state
-  pub clients : (k : ℕ) (q : Seated ClientState) → slice_get w.clients k ≡ Some q → ClientFits q.state
-  pub controllers : (k : ℕ) (q : Seated ControllerState) → slice_get w.controllers k ≡ Some q → controller.IsWithin q.state
+  pub others : (k : Kind) (i : ℕ) (q : Seated (State k)) → slice_get (seats k w.others) i ≡ Some q → OtherFits k q.state
 
 -- ---- all of it
 

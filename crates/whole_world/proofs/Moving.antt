@@ -16,6 +16,7 @@ use Rattle.whole_world.specs.Passed.{Passed, faults, noted, passes}
 use Rattle.whole_world.specs.Safe.{Leads}
 use Rattle.whole_world.proofs.At.{Stands, At, Later, Goes}
 use Rattle.whole_world.proofs.Fitting.{sent_lasts}
+use Rattle.whole_world.proofs.Seats.{still_shown}
 
 -- ---- lines that neither submit nor accept
 
@@ -37,15 +38,10 @@ stands_told f config w c more h = record {
     is_configuration = h.actors.is_configuration;
     config = h.actors.config;
     replica_count = h.actors.replica_count;
-    sequencer_count = h.actors.sequencer_count;
-    client_count = h.actors.client_count;
-    controller_count = h.actors.controller_count;
+    other_count = h.actors.other_count;
     replicas = h.actors.replicas;
     points = h.actors.points;
-    sequencers = h.actors.sequencers;
-    clients = h.actors.clients;
-    controllers = h.actors.controllers;
-    controller_numbers = h.actors.controller_numbers;
+    others = λ k i p e. still_shown c (tell c more) refl refl refl k i p.state (h.actors.others k i p e);
     givers = h.actors.givers;
   };
   carries = record {

@@ -16,14 +16,17 @@ use Rattle.session_control.specs.ControllerSteps as controller
 use Rattle.session_control.proofs.Epochs.{opens_at_home, opens_fits}
 use Rattle.protocol.specs.Conf.{opening}
 use Rattle.world.specs.Seats.{Seated, seated}
-use Rattle.world.specs.WorldSteps.{counted, opening_client}
+use Rattle.world.specs.Others.{Kind, Sequencers, Clients, Controllers, State, seats}
+use Rattle.world.specs.WorldSteps.{counted, opening_client, opening_others}
+use Rattle.world.proofs.Refusals.{opening_has_actors}
 use Rattle.network_laws.proofs.InRanges.{opens_in_ranges}
 use Rattle.refinement.specs.Controllers.{control_of}
 use Rattle.refinement.specs.Projection.{member_of}
 use Rattle.refinement.specs.Ranges.{ClientFits}
 use Rattle.whole_world.specs.Whole.{WholeReplica, opening_replica}
 use Rattle.whole_world.specs.Passed.{first}
-use Rattle.whole_world.proofs.At.{ReplicaFits, At}
+use Rattle.whole_world.specs.Shows.{IsShown}
+use Rattle.whole_world.proofs.At.{OtherFits, ReplicaFits, At}
 use Rattle.whole_world.proofs.Counts.{counts_from}
 
 some_sequencer : (config : Configuration) → IsTrue (is_configuration config) → 0 < config.sequencers
@@ -70,6 +73,23 @@ replica_opens config is i l =
     let ranges = opens_in_ranges Whole config i is l in
     record { number = refl; range = omega arith; within = ranges.0; receiver = ranges.1 }
 
+others_shown : (config : Configuration) (k : Kind) (i : ℕ) (p : Seated (State k))
+    → slice_get (seats k (opening_others config)) i ≡ Some p → IsShown k (opening config) i p.state
+others_shown config Sequencers i p e = counted_get sequencer.opening config.sequencers i p e
+others_shown config Clients i p e = counted_get (opening_client config) config.clients i p e
+others_shown config Controllers i p e =
+    let opens : controller.opening config i ≡ p.state = counted_get (controller.opening config) config.controllers i p e in
+    (ap control_of opens, ap (λ (s : ControllerState). s.number) (sym opens))
+
+others_fit : (config : Configuration) → IsTrue (is_configuration config) → (k : Kind) (i : ℕ) (p : Seated (State k))
+    → slice_get (seats k (opening_others config)) i ≡ Some p → OtherFits k p.state
+others_fit config is Clients i p e = subst ClientFits (counted_get (opening_client config) config.clients i p e)
+    (client_opens config is i (counted_within (opening_client config) config.clients i p e))
+others_fit config is Controllers i p e =
+    subst controller.IsWithin (counted_get (controller.opening config) config.controllers i p e)
+    (controller_opens config is i (counted_within (controller.opening config) config.controllers i p e))
+others_fit config is _ i p e = tt
+
 pub opening_stands : {S : Type 0} (m : Meaning S) (f : ℕ) (config : Configuration) → IsTrue (is_configuration config)
     → config.replicas ≡ 2 * f + 1 → At m f config (first config) (opening config)
 opening_stands m f config is count = record {
@@ -80,16 +100,10 @@ opening_stands m f config is count = record {
       is_configuration = is;
       config = count;
       replica_count = counted_length (opening_replica config) config.replicas;
-      sequencer_count = counted_length sequencer.opening config.sequencers;
-      client_count = counted_length (opening_client config) config.clients;
-      controller_count = counted_length (controller.opening config) config.controllers;
+      other_count = (opening_has_actors config).others;
       replicas = λ i q e. ap (λ (r : WholeReplica). member_of r.state) (counted_get (opening_replica config) config.replicas i q e);
       points = λ i q e. subst (λ (r : WholeReplica). PointsMeet r.state) (counted_get (opening_replica config) config.replicas i q e) refl;
-      sequencers = counted_get sequencer.opening config.sequencers;
-      clients = counted_get (opening_client config) config.clients;
-      controllers = λ k q e. ap control_of (counted_get (controller.opening config) config.controllers k q e);
-      controller_numbers = λ k q e.
-          ap (λ (s : ControllerState). s.number) (sym (counted_get (controller.opening config) config.controllers k q e));
+      others = others_shown config;
       givers = λ x h. absurd (Has-none x h);
     };
     carries = record {
@@ -108,10 +122,7 @@ opening_stands m f config is count = record {
     ranges = record {
       replicas = λ i q e. subst (ReplicaFits i) (counted_get (opening_replica config) config.replicas i q e) (replica_opens config is i
           (counted_within (opening_replica config) config.replicas i q e));
-      clients = λ k q e. subst ClientFits (counted_get (opening_client config) config.clients k q e) (client_opens config is k
-          (counted_within (opening_client config) config.clients k q e));
-      controllers = λ k q e. subst controller.IsWithin (counted_get (controller.opening config) config.controllers k q e)
-          (controller_opens config is k (counted_within (controller.opening config) config.controllers k q e));
+      others = others_fit config is;
     };
   };
   lines = refl;

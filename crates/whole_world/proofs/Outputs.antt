@@ -24,15 +24,8 @@ sends_there from (outs.Send e text ∷ xs) dest bytes h = elim (Has-cases (outs.
       Has-first _ _ (sends_of from xs) (λ i. record { from = from; dest = sym same_dest i; bytes = sym same_bytes i }))
   | inr t ↦ Has-rest _ _ (sends_of from xs) (sends_there from xs dest bytes t)
 ]
-sends_there from (outs.Submitted r ∷ xs) dest bytes h =
-    elim (Has-cases (outs.Send dest bytes) (outs.Submitted r) xs h) [ inl g ↦ absurd cc | inr t ↦ sends_there from xs dest bytes t ]
-sends_there from (outs.Accepted client id result ∷ xs) dest bytes h =
-    elim (Has-cases (outs.Send dest bytes) (outs.Accepted client id result) xs h)
-    [ inl g ↦ absurd cc | inr t ↦ sends_there from xs dest bytes t ]
-sends_there from (outs.Busy client ∷ xs) dest bytes h =
-    elim (Has-cases (outs.Send dest bytes) (outs.Busy client) xs h) [ inl g ↦ absurd cc | inr t ↦ sends_there from xs dest bytes t ]
-sends_there from (outs.Trimmed n l ∷ xs) dest bytes h =
-    elim (Has-cases (outs.Send dest bytes) (outs.Trimmed n l) xs h) [ inl g ↦ absurd cc | inr t ↦ sends_there from xs dest bytes t ]
+sends_there from (x ∷ xs) dest bytes h =
+    elim (Has-cases (outs.Send dest bytes) x xs h) [ inl g ↦ absurd cc | inr t ↦ sends_there from xs dest bytes t ]
 
 -- and each that goes there is among them
 pub record IsOutput (xs : List Out) (s : Sent) : Type 0 where
@@ -52,11 +45,7 @@ sends_are_outputs from (outs.Send dest bytes ∷ xs) s h =
       }
       | inr j ↦ output_later (outs.Send dest bytes) xs s (sends_are_outputs from xs s j)
     ]
-sends_are_outputs from (outs.Submitted r ∷ xs) s h = output_later (outs.Submitted r) xs s (sends_are_outputs from xs s h)
-sends_are_outputs from (outs.Accepted client id result ∷ xs) s h =
-    output_later (outs.Accepted client id result) xs s (sends_are_outputs from xs s h)
-sends_are_outputs from (outs.Busy client ∷ xs) s h = output_later (outs.Busy client) xs s (sends_are_outputs from xs s h)
-sends_are_outputs from (outs.Trimmed n l ∷ xs) s h = output_later (outs.Trimmed n l) xs s (sends_are_outputs from xs s h)
+sends_are_outputs from (x ∷ xs) s h = output_later x xs s (sends_are_outputs from xs s h)
 
 -- ---- lines
 
@@ -70,11 +59,10 @@ one_more x xs other may line h = elim (Has-cases line x xs h) [ inl e ↦ subst 
 -- where the outputs neither submit nor accept, nor do their lines
 pub quiet_lines : (xs : List Out) → lines_in xs ≡ [] → MayTell (lines_of xs)
 quiet_lines [] e = no_line
-quiet_lines (outs.Send dest bytes ∷ xs) e = quiet_lines xs e
 quiet_lines (outs.Submitted r ∷ xs) e = absurd cc
 quiet_lines (outs.Accepted client id result ∷ xs) e = absurd cc
 quiet_lines (outs.Busy client ∷ xs) e = one_more (Busy client) (lines_of xs) tt (quiet_lines xs e)
-quiet_lines (outs.Trimmed n l ∷ xs) e = quiet_lines xs e
+quiet_lines (_ ∷ xs) e = quiet_lines xs e
 
 -- the lines of some outputs: what they submit and accept, and then others
 pub record Speaks (xs : List Out) : Type 0 where
@@ -92,4 +80,4 @@ lines_told (outs.Submitted r ∷ xs) first =
 lines_told (outs.Accepted client id result ∷ xs) first =
     let t = lines_told xs first in
     record { others = t.others; are = ap (λ (ls : List Line). Accept client id result ∷ ls) t.are; may = t.may }
-lines_told x first = speaks_others x first
+lines_told (x ∷ xs) first = speaks_others (x ∷ xs) first

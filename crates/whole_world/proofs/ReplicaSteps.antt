@@ -24,8 +24,6 @@ use Rattle.oum_codec.specs.Reading.{reading}
 use Rattle.oum_codec.specs.Spelling.{spelling}
 use Rattle.network_laws.specs.Network.{IsDatagram}
 use Rattle.network_laws.specs.Sends.{peers_in}
-use Rattle.client_quorum.specs.declared.state.ClientState.{ClientState}
-use Rattle.sequencer.specs.declared.state.SequencerState.{SequencerState}
 use Rattle.replica_core.specs.declared.replica.TheConstants.{LAST_MESSAGE}
 use Rattle.replica_state.specs.declared.sending.Sending.{Sending}
 use Rattle.replica_state.specs.declared.sending.Sending.TheVariants.{ToClient, ToReplicas, Trims}
@@ -34,7 +32,7 @@ use Rattle.replica_state.specs.State.{PointsMeet}
 use Rattle.replica_rows.specs.Messages.{Arrival}
 use Rattle.replica_rows.specs.Within.{ResultsShort}
 use Rattle.started_views.specs.Past.{Past, note}
-use Rattle.protocol.specs.Conf.{Conf, Control, Install, opening}
+use Rattle.protocol.specs.Conf.{Conf, Install, opening}
 use Rattle.protocol.specs.Evolves.{Keeps}
 use Rattle.protocol.specs.Invariant.{Inv}
 use Rattle.protocol.specs.Member.{Member}
@@ -65,16 +63,15 @@ use Rattle.whole_world.proofs.Outputs.{no_line}
 use Rattle.whole_world.proofs.Pasts.{note_idle, noted_one}
 use Rattle.whole_world.proofs.Quiet.{has_logs}
 use Rattle.whole_world.proofs.RowRanges.{RowFits, row_fits, replica_fits}
-use Rattle.whole_world.proofs.Seats.{seats_become, seats_hold}
+use Rattle.whole_world.proofs.Seats.{seats_become, seats_hold, still_shown}
 use Rattle.whole_world.proofs.Sendings.{replied_is_sent, sent_is_replied, reply_fits, peers_fit, peers_said, said_by_peers}
 
 -- ---- the messages of a row
 
 pub letters_peers : (number : ℕ) (sends : List Sending) → peers_of (letters_in number sends) ≡ peers_in sends
 letters_peers number [] = refl
-letters_peers number (ToClient r ∷ sends) = letters_peers number sends
 letters_peers number (ToReplicas dest p ∷ sends) = ap (λ (ps : List Peer). p ∷ ps) (letters_peers (number + 1) sends)
-letters_peers number (Trims n l ∷ sends) = letters_peers number sends
+letters_peers number (_ ∷ sends) = letters_peers number sends
 
 -- what was said before, and what is said now, is what was told
 tells_on : (told : List Peer) (old new : List Said) (sends : List Sending) → AllByRecursion (SendingIsIn Whole) sends
@@ -120,8 +117,7 @@ module _ (from : Actor) where
     | inl e ↦ record { reply = r; has = Has-first (ToClient r) (ToClient r) sends refl; bytes = ap (λ (x : Sent). x.bytes) e }
     | inr j ↦ later_reply (ToClient r) sends s (replies_only sends s j)
   ]
-  replies_only (ToReplicas dest p ∷ sends) s h = later_reply (ToReplicas dest p) sends s (replies_only sends s h)
-  replies_only (Trims n l ∷ sends) s h = later_reply (Trims n l) sends s (replies_only sends s h)
+  replies_only (x ∷ sends) s h = later_reply x sends s (replies_only sends s h)
 
   replies_each : (sends : List Sending) (y : Reply) → Has sends (ToClient y) → Has (sends_of from (replies_in sends)) (reply_sent y)
   replies_each [] y h = absurd (Has-none (ToClient y) h)
@@ -285,16 +281,12 @@ module _ {S : Type 0} (m : Meaning S) (f : ℕ) (config : Configuration) (p : Pa
     is_configuration = shown.is_configuration;
     config = shown.config;
     replica_count = length-set w.replicas r new ∙ shown.replica_count;
-    sequencer_count = shown.sequencer_count;
-    client_count = shown.client_count;
-    controller_count = shown.controller_count;
+    other_count = shown.other_count;
     replicas = seats_become (λ j s. c.replicas j ≡ member_of s.state) (λ j s. d.replicas j ≡ member_of s.state) w.replicas r
         new reaches.state (λ j s other h. reaches.others.replicas j other ∙ h) shown.replicas;
     points = seats_hold (λ s. PointsMeet s.state) w.replicas r new reaches.points shown.points;
-    sequencers = λ j q i. ap (λ (g : ℕ → SequencerState). g j) reaches.others.sequencers ∙ shown.sequencers j q i;
-    clients = λ k q i. ap (λ (g : ℕ → ClientState). g k) reaches.others.clients ∙ shown.clients k q i;
-    controllers = λ k q i. ap (λ (g : ℕ → Control). g k) reaches.others.controllers ∙ shown.controllers k q i;
-    controller_numbers = shown.controller_numbers;
+    others = λ k j q i. still_shown c d reaches.others.sequencers reaches.others.clients reaches.others.controllers k j q.state
+        (shown.others k j q i);
     givers = λ x h. shown.givers x (subst (λ (xs : List Install). Has xs x) reaches.others.installs h);
   }
 
@@ -307,8 +299,7 @@ module _ {S : Type 0} (m : Meaning S) (f : ℕ) (config : Configuration) (p : Pa
     ranges = record {
       replicas = seats_become ReplicaFits ReplicaFits w.replicas r new (replica_fits r old.state e row) (λ j s other h. h)
           at.stands.ranges.replicas;
-      clients = at.stands.ranges.clients;
-      controllers = at.stands.ranges.controllers;
+      others = at.stands.ranges.others;
     };
   }
 

@@ -680,11 +680,10 @@ module _ (a : ℕ) where
     gap_again_low (Some g) s low = record { state = low; sends = all_low s (bodies.GapCommit g.slot) zero_low }
 
     lookup_again_low : (front : Front) (s : ReplicaState) → IsLow s → StaysLow (lookup_again Whole front s)
-    lookup_again_low Nothing s low = still_low s low
-    lookup_again_low (Message r) s low = still_low s low
     lookup_again_low Dropped s low =
         when_low (has_room Whole s) (λ t. (t, to_leader t (bodies.SlotLookup (length t.log.entries + 1)))) s low
         (record { state = low; sends = (zero_low, tt) })
+    lookup_again_low _ s low = still_low s low
 
     change_again_low : (b : Bool) (s : ReplicaState) → IsLow s → StaysLow (change_again b s)
     change_again_low true s low = still_low s low

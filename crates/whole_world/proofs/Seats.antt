@@ -1,10 +1,15 @@
 -- What a step at one seat leaves.
-use Rattle.std.proofs.Common.{◌≡◌, ℕ, Some, sym, subst, ◌∙◌, inl, inr, List}
+use Rattle.std.proofs.Common.{◌≡◌, ℕ, Some, sym, ap, subst, ◌∙◌, inl, inr, List}
 use Rattle.std.specs.Prelude.{slice_get, slice_set}
 use Rattle.lemmas.specs.Functions.{put}
 use Rattle.lemmas.proofs.Functions.{put-here, put-other}
 use Rattle.lemmas.proofs.Places.{slice_get-set_cases}
+use Rattle.client_quorum.specs.declared.state.ClientState.{ClientState}
+use Rattle.sequencer.specs.declared.state.SequencerState.{SequencerState}
+use Rattle.protocol.specs.Conf.{Conf, Control}
+use Rattle.world.specs.Others.{Kind, Sequencers, Clients, Controllers, State}
 use Rattle.world.specs.Seats.{Seated}
+use Rattle.whole_world.specs.Shows.{IsShown}
 
 -- what holds of each seat leads to what holds where one has a new state
 pub seats_become : {S : Type 0} (P Q : ℕ → S → Type 0) (xs : List (Seated S)) (i : ℕ) (new : Seated S) → Q i new.state
@@ -35,3 +40,10 @@ pub seats_same : {S : Type 0} (P : ℕ → S → Type 0) (xs : List (Seated S)) 
     → (j : ℕ) (p : Seated S) → slice_get (slice_set xs i new) j ≡ Some p → P j p.state
 seats_same P xs i old new there same all =
     seats_become P P xs i new (subst (P i) (sym same) (all i old there)) (λ j s other h. h) all
+
+-- what shows an actor's state shows it where no actor's changes
+pub still_shown : (c d : Conf) → d.sequencers ≡ c.sequencers → d.clients ≡ c.clients → d.controllers ≡ c.controllers
+    → (k : Kind) (i : ℕ) (s : State k) → IsShown k c i s → IsShown k d i s
+still_shown c d a b e Sequencers i s h = ap (λ (g : ℕ → SequencerState). g i) a ∙ h
+still_shown c d a b e Clients i s h = ap (λ (g : ℕ → ClientState). g i) b ∙ h
+still_shown c d a b e Controllers i s h = (ap (λ (g : ℕ → Control). g i) e ∙ h.0, h.1)

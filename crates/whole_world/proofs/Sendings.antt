@@ -23,8 +23,7 @@ replied_is_sent (ToClient r ∷ sends) y h = elim (Has-cases y r (replied_in sen
   | inl e ↦ Has-first (ToClient y) (ToClient r) sends (ap ToClient e)
   | inr j ↦ Has-rest (ToClient y) (ToClient r) sends (replied_is_sent sends y j)
 ]
-replied_is_sent (ToReplicas dest p ∷ sends) y h = Has-rest (ToClient y) (ToReplicas dest p) sends (replied_is_sent sends y h)
-replied_is_sent (Trims n l ∷ sends) y h = Has-rest (ToClient y) (Trims n l) sends (replied_is_sent sends y h)
+replied_is_sent (x ∷ sends) y h = Has-rest (ToClient y) x sends (replied_is_sent sends y h)
 
 pub sent_is_replied : (sends : List Sending) (y : Reply) → Has sends (ToClient y) → Has (replied_in sends) y
 sent_is_replied [] y h = absurd (Has-none (ToClient y) h)

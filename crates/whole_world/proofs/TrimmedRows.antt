@@ -13,7 +13,7 @@ use Rattle.nop_types.specs.declared.peer.Body.TheVariants as bodies
 use Rattle.nop_types.specs.declared.peer.Peer.{Peer}
 use Rattle.oum_codec.specs.declared.bad.Bad.{Bad}
 use Rattle.oum_codec.specs.Reading.{reading}
-use Rattle.replica_rows.specs.Messages.{Arrival, Packet, Told, Ticked}
+use Rattle.replica_rows.specs.Messages.{Arrival, Told, Ticked}
 use Rattle.trimmed_rows.specs.Premises.{ToldWithin, ArrivesWithin}
 use Rattle.trimmed_rows.proofs.Rows.{rows_trim}
 use Rattle.world.specs.Seats.{Seated}
@@ -30,8 +30,7 @@ read_is_not_told _ y e = absurd cc
 pub given_is_not_told : (o : Option Given) (y : Peer) → arrival_given o ≡ Some (Told y) → ⊥
 given_is_not_told None y e = absurd cc
 given_is_not_told (Some (given.Packet bytes)) y e = read_is_not_told (reading bytes) y e
-given_is_not_told (Some (given.Ticked tick)) y e = absurd cc
-given_is_not_told (Some (given.Submit op)) y e = absurd cc
+given_is_not_told (Some _) y e = absurd cc
 
 module _ {S : Type 0} (m : Meaning S) (w : WholeWorld) (can : CanTrim m w) (i : ℕ) (p : Seated WholeReplica)
     (at : slice_get w.replicas i ≡ Some p) where
@@ -52,9 +51,8 @@ module _ {S : Type 0} (m : Meaning S) (w : WholeWorld) (can : CanTrim m w) (i : 
 
   -- a packet and a tick bring no log
   not_told : (a : Arrival) → ((y : Peer) → a ≡ Told y → ⊥) → ArrivesWithin m p.state.state a
-  not_told (Packet x) h = tt
   not_told (Told y) h = absurd (h y refl)
-  not_told (Ticked tick) h = tt
+  not_told _ h = tt
 
   within : (x : Brings) (a : Arrival) → arrival_of w x ≡ Some a → ArrivesWithin m p.state.state a
   within (Timer tick) a e = let same : Ticked tick ≡ a = cc in subst (ArrivesWithin m p.state.state) same tt

@@ -5,14 +5,14 @@ use Rattle.nop_types.specs.Lists.{Has}
 use Rattle.nop_types.specs.Logs.{Log}
 use Rattle.nop_types.specs.Meaning.{Meaning}
 use Rattle.nop_types.specs.declared.output.Actor.{Actor}
-use Rattle.nop_types.specs.declared.output.Actor.TheVariants as actors
 use Rattle.nop_types.specs.declared.peer.Change.{Change}
 use Rattle.nop_types.specs.declared.request.Entry.{Entry}
 use Rattle.view_change.specs.Gathering.{Gathering}
 use Rattle.replica_state.specs.declared.sending.Sending.{Sending}
-use Rattle.replica_state.specs.declared.sending.Sending.TheVariants.{ToClient, ToReplicas, Trims}
+use Rattle.replica_state.specs.declared.sending.Sending.TheVariants.{Trims}
 use Rattle.replica_rows.specs.Within.{ResultsShort}
 use Rattle.world.specs.Archive.{with_entries}
+use Rattle.world.specs.Others.{Who, AReplica, Another, who}
 use Rattle.world.specs.Seats.{Seated}
 use Rattle.whole_world.specs.Whole.{WholeReplica, WholeWorld, Letter, Brings, is_crash, effect_of, arrival_of, whole_step}
 use Rattle.whole_world.specs.Passed.{passed}
@@ -25,8 +25,7 @@ use Rattle.whole_world.specs.Trimming.{told_log}
 abbrev pub with_sends : List Entry → List Sending → List Entry
 with_sends archive [] = archive
 with_sends archive (Trims first entries ∷ sends) = with_sends (with_entries archive first entries.entries) sends
-with_sends archive (ToClient r ∷ sends) = with_sends archive sends
-with_sends archive (ToReplicas dest p ∷ sends) = with_sends archive sends
+with_sends archive (_ ∷ sends) = with_sends archive sends
 
 module _ {S : Type 0} (m : Meaning S) where
   -- a crashed replica takes no row
@@ -35,9 +34,12 @@ module _ {S : Type 0} (m : Meaning S) where
   row_sends w (Some p) b = cond (p.crashed || is_crash b) [] (effect_of m p.state (arrival_of w b)).1
 
   -- only replicas have logs
+  abbrev pub archive_of : List Entry → WholeWorld → Who → Brings → List Entry
+  archive_of archive w (AReplica i) b = with_sends archive (row_sends w (slice_get w.replicas i) b)
+  archive_of archive w (Another k i) b = archive
+
   abbrev pub archive_after : List Entry → WholeWorld → Actor → Brings → List Entry
-  archive_after archive w (actors.Replica i) b = with_sends archive (row_sends w (slice_get w.replicas i) b)
-  archive_after archive w _ b = archive
+  archive_after archive w actor b = archive_of archive w (who actor) b
 
 -- ---- what it has
 

@@ -13,12 +13,10 @@ use Rattle.nop_types.specs.Ranges.{PeerIsIn}
 use Rattle.nop_types.specs.declared.peer.Peer.{Peer}
 use Rattle.oum_codec.specs.Reading.{reading}
 use Rattle.oum_codec.specs.Spelling.{Spells}
-use Rattle.client_quorum.specs.declared.state.ClientState.{ClientState}
-use Rattle.sequencer.specs.declared.state.SequencerState.{SequencerState}
-use Rattle.session_control.specs.declared.state.ControllerState.{ControllerState}
 use Rattle.protocol.specs.Conf.{Conf, Install}
 use Rattle.protocol.specs.Said.{Said}
 use Rattle.network.specs.Network.{Sent}
+use Rattle.world.specs.Others.{Kind, Sequencers, Clients, Controllers, State, seats, count}
 use Rattle.world.specs.Seats.{Seated}
 use Rattle.network_laws.specs.Network.{IsDatagram}
 use Rattle.refinement.specs.Controllers.{control_of}
@@ -59,21 +57,22 @@ pub record Carries (sent : List Sent) (c : Conf) : Type 0 where
   pub replies : (y : Reply) → Has c.replies y → IsThere sent (datagrams.Reply y)
   pub installs : (x : Install) → Has c.installs x → IsThere sent (datagrams.Install (home x.session) x.sequencer x.session)
 
--- each actor of the world has the state that is shown, and each replica tells its log with its sync point; each controller has its number,
--- and each session that was given out is of a controller that is there
+-- the configuration shows this state of the actor of a kind with this number; a controller has its number
+abbrev pub IsShown : (k : Kind) → Conf → ℕ → State k → Type 0
+IsShown Sequencers c i s = c.sequencers i ≡ s
+IsShown Clients c i s = c.clients i ≡ s
+IsShown Controllers c i s = (c.controllers i ≡ control_of s) × (s.number ≡ i)
+
+-- each actor of the world has the state that is shown, and each replica tells its log with its sync point; each session that was
+-- given out is of a controller that is there
 pub record ShowsActors (f : ℕ) (w : WholeWorld) (c : Conf) : Type 0 where
   pub is_configuration : IsTrue (is_configuration w.config)
   pub config : w.config.replicas ≡ 2 * f + 1
   pub replica_count : length w.replicas ≡ w.config.replicas
-  pub sequencer_count : length w.sequencers ≡ w.config.sequencers
-  pub client_count : length w.clients ≡ w.config.clients
-  pub controller_count : length w.controllers ≡ w.config.controllers
+  pub other_count : (k : Kind) → length (seats k w.others) ≡ count k w.config
   pub replicas : (i : ℕ) (p : Seated WholeReplica) → slice_get w.replicas i ≡ Some p → c.replicas i ≡ member_of p.state.state
   pub points : (i : ℕ) (p : Seated WholeReplica) → slice_get w.replicas i ≡ Some p → PointsMeet p.state.state
-  pub sequencers : (j : ℕ) (p : Seated SequencerState) → slice_get w.sequencers j ≡ Some p → c.sequencers j ≡ p.state
-  pub clients : (k : ℕ) (p : Seated ClientState) → slice_get w.clients k ≡ Some p → c.clients k ≡ p.state
-  pub controllers : (k : ℕ) (p : Seated ControllerState) → slice_get w.controllers k ≡ Some p → c.controllers k ≡ control_of p.state
-  pub controller_numbers : (k : ℕ) (p : Seated ControllerState) → slice_get w.controllers k ≡ Some p → p.state.number ≡ k
+  pub others : (k : Kind) (i : ℕ) (p : Seated (State k)) → slice_get (seats k w.others) i ≡ Some p → IsShown k c i p.state
   pub givers : (x : Install) → Has c.installs x → home x.session < w.config.controllers
 
 -- actors, datagrams and letters are shown, and lines and past are the same

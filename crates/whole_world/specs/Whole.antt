@@ -27,24 +27,19 @@ use Rattle.nop_types.specs.declared.view.View.{View}
 use Rattle.oum_codec.specs.declared.bad.Bad.{Bad}
 use Rattle.oum_codec.specs.Reading.{reading}
 use Rattle.replica_state.specs.declared.sending.Sending.{Sending}
-use Rattle.replica_state.specs.declared.sending.Sending.TheVariants.{ToClient, ToReplicas, Trims}
+use Rattle.replica_state.specs.declared.sending.Sending.TheVariants.{ToClient, ToReplicas}
 use Rattle.replica_state.specs.declared.state.ReplicaState.{ReplicaState}
 use Rattle.replica_state.specs.State as state
 use Rattle.replica_state.specs.Sends.{Effect, still, message_count}
 use Rattle.replica_rows.specs.Messages as messages
 use Rattle.replica_core.specs.declared.replica.TheConstants.{LAST_MESSAGE}
 use Rattle.replica_core.specs.Posting.{reply_out}
-use Rattle.sequencer.specs.declared.state.SequencerState.{SequencerState}
-use Rattle.sequencer.specs.SequencerSteps as sequencer
-use Rattle.client_quorum.specs.declared.state.ClientState.{ClientState}
-use Rattle.client_quorum.specs.ClientSteps as client
-use Rattle.session_control.specs.declared.state.ControllerState.{ControllerState}
-use Rattle.session_control.specs.ControllerSteps as controller
 use Rattle.network.specs.Network.{Sent, sends_of}
+use Rattle.world.specs.Others.{Kind, State, next, Others, seats, with_seat, Who, AReplica, Another, who, actor_at}
 use Rattle.world.specs.Seats.{Seated, seated}
 use Rattle.transcript_text.specs.Transcript.{replica_line}
 use Rattle.world.specs.StateLines.{entries_text}
-use Rattle.world.specs.WorldSteps.{counted, opening_client, greatest_of}
+use Rattle.world.specs.WorldSteps.{counted, opening_others, greatest_of}
 
 -- its state, and the last message number that it used
 pub record WholeReplica : Type 0 where
@@ -60,9 +55,7 @@ pub record Letter : Type 0 where
 pub record WholeWorld : Type 0 where
   pub config : Configuration
   pub replicas : List (Seated WholeReplica)
-  pub sequencers : List (Seated SequencerState)
-  pub clients : List (Seated ClientState)
-  pub controllers : List (Seated ControllerState)
+  pub others : Others
   -- all datagrams that are no fragments
   pub sent : List Sent
   pub letters : List Letter
@@ -135,15 +128,13 @@ arrival_of w _ = None
 -- the messages of a row, each under the number after the one before it, and the replies
 abbrev pub letters_in : ℕ → List Sending → List Letter
 letters_in number [] = []
-letters_in number (ToClient r ∷ sends) = letters_in number sends
-letters_in number (Trims first entries ∷ sends) = letters_in number sends
 letters_in number (ToReplicas dest p ∷ sends) = record { number = number + 1; dest = dest; peer = p } ∷ letters_in (number + 1) sends
+letters_in number (_ ∷ sends) = letters_in number sends
 
 abbrev pub replies_in : List Sending → List Out
 replies_in [] = []
 replies_in (ToClient r ∷ sends) = reply_out r ∷ replies_in sends
-replies_in (ToReplicas dest p ∷ sends) = replies_in sends
-replies_in (Trims first entries ∷ sends) = replies_in sends
+replies_in (_ ∷ sends) = replies_in sends
 
 -- the lines of which the whole world speaks
 abbrev pub lines_of : List Out → List Line
@@ -151,8 +142,7 @@ lines_of [] = []
 lines_of (outs.Submitted r ∷ rest) = lines.Submit r ∷ lines_of rest
 lines_of (outs.Accepted client id result ∷ rest) = lines.Accept client id result ∷ lines_of rest
 lines_of (outs.Busy client ∷ rest) = lines.Busy client ∷ lines_of rest
-lines_of (outs.Send dest bytes ∷ rest) = lines_of rest
-lines_of (outs.Trimmed first entries ∷ rest) = lines_of rest
+lines_of (_ ∷ rest) = lines_of rest
 
 abbrev pub is_crash : Brings → Bool
 is_crash Crash = true
@@ -177,23 +167,11 @@ seat_of next p b i = at_seat next p p.crashed (is_crash b) i
 abbrev pub gave : WholeWorld → Actor → List Out → WholeWorld → WholeWorld
 gave old from os new = record new { sent = old.sent ++ sends_of from os; lines = old.lines ++ lines_of os }
 
-abbrev pub step_client : WholeWorld → ℕ → Option (Seated ClientState) → Brings → WholeWorld
-step_client w i None b = w
-step_client w i (Some p) b =
-    let r : Seated ClientState × List Out = seat_of client.next p b (input_of w.sent b) in
-    gave w (actors.Client i) r.1 (record w { clients = slice_set w.clients i r.0 })
-
-abbrev pub step_sequencer : WholeWorld → ℕ → Option (Seated SequencerState) → Brings → WholeWorld
-step_sequencer w i None b = w
-step_sequencer w i (Some p) b =
-    let r : Seated SequencerState × List Out = seat_of sequencer.next p b (input_of w.sent b) in
-    gave w (actors.Sequencer i) r.1 (record w { sequencers = slice_set w.sequencers i r.0 })
-
-abbrev pub step_controller : WholeWorld → ℕ → Option (Seated ControllerState) → Brings → WholeWorld
-step_controller w i None b = w
-step_controller w i (Some p) b =
-    let r : Seated ControllerState × List Out = seat_of controller.next p b (input_of w.sent b) in
-    gave w (actors.Controller i) r.1 (record w { controllers = slice_set w.controllers i r.0 })
+abbrev pub step_other : (k : Kind) → WholeWorld → ℕ → Option (Seated (State k)) → Brings → WholeWorld
+step_other k w i None b = w
+step_other k w i (Some p) b =
+    let r : Seated (State k) × List Out = seat_of (next k) p b (input_of w.sent b) in
+    gave w (actor_at (Another k i)) r.1 (record w { others = with_seat k w.others i r.0 })
 
 -- ---- a replica's step, and one event
 
@@ -232,12 +210,13 @@ module _ {S : Type 0} (m : Meaning S) where
   step_replica w i None b = w
   step_replica w i (Some p) b = at_replica w i p p.crashed b
 
+  abbrev pub step_of : WholeWorld → Who → Brings → WholeWorld
+  step_of w (AReplica i) b = step_replica w i (slice_get w.replicas i) b
+  step_of w (Another k i) b = step_other k w i (slice_get (seats k w.others) i) b
+
   -- what an event brings to its actor
   abbrev pub whole_step : WholeWorld → Actor → Brings → WholeWorld
-  whole_step w (actors.Replica i) b = step_replica w i (slice_get w.replicas i) b
-  whole_step w (actors.Sequencer i) b = step_sequencer w i (slice_get w.sequencers i) b
-  whole_step w (actors.Client i) b = step_client w i (slice_get w.clients i) b
-  whole_step w (actors.Controller i) b = step_controller w i (slice_get w.controllers i) b
+  whole_step w actor b = step_of w (who actor) b
 
   abbrev pub whole_run : WholeWorld → List (Actor × Brings) → WholeWorld
   whole_run w [] = w
@@ -251,9 +230,7 @@ opening c =
     record {
       config = c;
       replicas = counted (opening_replica c) c.replicas;
-      sequencers = counted sequencer.opening c.sequencers;
-      clients = counted (opening_client c) c.clients;
-      controllers = counted (controller.opening c) c.controllers;
+      others = opening_others c;
       sent = [];
       letters = [];
       lines = [];

@@ -17,16 +17,16 @@ use Rattle.replica_core.specs.ReplicaSteps as replica
 use Rattle.replica_core.specs.ReplicaSteps.{Replica}
 use Rattle.sequencer.specs.SequencerSteps as sequencer
 use Rattle.session_control.specs.ControllerSteps as controller
-use Rattle.client_quorum.specs.declared.state.ClientState.{ClientState}
-use Rattle.sequencer.specs.declared.state.SequencerState.{SequencerState}
-use Rattle.session_control.specs.declared.state.ControllerState.{ControllerState}
 use Rattle.schedule_text.specs.declared.event.Event.{Event}
 use Rattle.schedule_text.specs.declared.event.Event.TheVariants.{Junk}
 use Rattle.network.specs.Network.{Sent, sends_by, Did, Nothing, Outputs}
 use Rattle.world.specs.Archive.{archived}
+use Rattle.world.specs.Others.{Kind, Sequencers, Clients, Controllers, State, next, Others, seats}
+use Rattle.world.specs.Others.{with_seat, Who, AReplica, Another, who, actor_at}
 use Rattle.world.specs.Seats.{Seated, Stimulus, Takes, seated, moved_if}
-use Rattle.world.specs.WorldSteps.{WorldState, Refusal, Happened, actor_of, junk_of, stimulus_of, crashed_in, has_crashed}
-use Rattle.world.specs.WorldSteps.{at_replica, at_sequencer, at_client, at_controller, then_at, step_at, step_of, step}
+use Rattle.world.specs.WorldSteps.{WorldState, Refusal, Happened, actor_of, junk_of, stimulus_of, crashed_in, crashed_by}
+use Rattle.world.specs.WorldSteps.{has_crashed, at_replica, at_other, then_at, step_at, step_of, step}
+use Rattle.world.proofs.Others.{actor_who, seat_found}
 use Rattle.world.proofs.Places.{slice_set-found}
 
 -- ---- an actor that stays as it is, sends nothing and moves nothing out of its log
@@ -58,17 +58,10 @@ module _ (w : WorldState) (did : Did) (silent : IsSilent did) where
   replica_idles i p found = stays (record w { replicas = slice_set w.replicas i p; archive = archived w.archive did }) (actors.Replica i)
       (λ j. record w { replicas = slice_set-found w.replicas i p found j; archive = silent.unkept w.archive j })
 
-  sequencer_idles : (i : ℕ) (p : Seated SequencerState) → slice_get w.sequencers i ≡ Some p → (at_sequencer w i (p, did)).world ≡ w
-  sequencer_idles i p found = stays (record w { sequencers = slice_set w.sequencers i p }) (actors.Sequencer i)
-      (ap (λ (ps : List (Seated SequencerState)). record w { sequencers = ps }) (slice_set-found w.sequencers i p found))
-
-  client_idles : (i : ℕ) (p : Seated ClientState) → slice_get w.clients i ≡ Some p → (at_client w i (p, did)).world ≡ w
-  client_idles i p found = stays (record w { clients = slice_set w.clients i p }) (actors.Client i)
-      (ap (λ (ps : List (Seated ClientState)). record w { clients = ps }) (slice_set-found w.clients i p found))
-
-  controller_idles : (i : ℕ) (p : Seated ControllerState) → slice_get w.controllers i ≡ Some p → (at_controller w i (p, did)).world ≡ w
-  controller_idles i p found = stays (record w { controllers = slice_set w.controllers i p }) (actors.Controller i)
-      (ap (λ (ps : List (Seated ControllerState)). record w { controllers = ps }) (slice_set-found w.controllers i p found))
+  other_idles : (k : Kind) (i : ℕ) (p : Seated (State k)) → slice_get (seats k w.others) i ≡ Some p
+      → (at_other k w i (p, did)).world ≡ w
+  other_idles k i p found = stays (record w { others = with_seat k w.others i p }) (actor_at (Another k i))
+      (ap (λ (o : Others). record w { others = o }) (seat_found k w.others i p found))
 
 -- ---- a crashed actor
 
@@ -85,25 +78,21 @@ dead : (w v : WorldState) (actor : Actor) (h : Happened) → h ≡ record { worl
     → h ≡ record { world = w; lines = Dead actor ∷ [] }
 dead w v actor h e same = e ∙ ap (λ (u : WorldState). record { world = u; lines = Dead actor ∷ [] }) same
 
-crashed_rests : {S : Type 0} (m : Meaning S) (w : WorldState) (actor : Actor) (what : Result Stimulus Refusal) (h : Happened)
-    → has_crashed w actor ≡ true → step_of m w actor what ≡ Ok h → h ≡ record { world = w; lines = Dead actor ∷ [] }
-crashed_rests m w (actors.Replica i) what h c e =
+crashed_rests : {S : Type 0} (m : Meaning S) (w : WorldState) (x : Who) (what : Result Stimulus Refusal) (h : Happened)
+    → crashed_by w x ≡ true → step_of m w x what ≡ Ok h → h ≡ record { world = w; lines = Dead (actor_at x) ∷ [] }
+crashed_rests m w (AReplica i) what h c e =
     let r = rests (replica.next m) (at_replica w i) (slice_get w.replicas i) what h c e in
     dead w _ (actors.Replica i) h r.is (replica_idles w Nothing nothing_is_silent i r.seat r.found)
-crashed_rests m w (actors.Sequencer i) what h c e =
-    let r = rests sequencer.next (at_sequencer w i) (slice_get w.sequencers i) what h c e in
-    dead w _ (actors.Sequencer i) h r.is (sequencer_idles w Nothing nothing_is_silent i r.seat r.found)
-crashed_rests m w (actors.Client i) what h c e =
-    let r = rests client.next (at_client w i) (slice_get w.clients i) what h c e in
-    dead w _ (actors.Client i) h r.is (client_idles w Nothing nothing_is_silent i r.seat r.found)
-crashed_rests m w (actors.Controller i) what h c e =
-    let r = rests controller.next (at_controller w i) (slice_get w.controllers i) what h c e in
-    dead w _ (actors.Controller i) h r.is (controller_idles w Nothing nothing_is_silent i r.seat r.found)
+crashed_rests m w (Another k i) what h c e =
+    let r = rests (next k) (at_other k w i) (slice_get (seats k w.others) i) what h c e in
+    dead w _ (actor_at (Another k i)) h r.is (other_idles w Nothing nothing_is_silent k i r.seat r.found)
 
 pub crashed_takes_no_step : {S : Type 0} (m : Meaning S) (w : WorldState) (e : Event) (h : Happened) → has_crashed w (actor_of e) ≡ true
     → step m w e ≡ Ok h → h ≡ record { world = w; lines = Dead (actor_of e) ∷ [] }
 unfolding step
-crashed_takes_no_step m w e h c is = crashed_rests m w (actor_of e) (stimulus_of w.config w.sent e) h c is
+crashed_takes_no_step m w e h c is =
+    crashed_rests m w (who (actor_of e)) (stimulus_of w.config w.sent e) h c is
+    ∙ ap (λ (a : Actor). record { world = w; lines = Dead a ∷ [] }) (actor_who (actor_of e))
 
 -- ---- junk
 
@@ -113,18 +102,11 @@ replica_ignores : {S : Type 0} (m : Meaning S) (bytes : List ℕ) (b : Bad) → 
 unfolding replica.next
 replica_ignores m bytes b e s = ap (replica.on_datagram m s) e
 
-sequencer_ignores : (bytes : List ℕ) (b : Bad) → reading bytes ≡ Err b → (s : SequencerState) → sequencer.next s (Packet bytes) ≡ (s, [])
-unfolding sequencer.next
-sequencer_ignores bytes b e s = ap (sequencer.on_datagram s) e
-
-client_ignores : (bytes : List ℕ) (b : Bad) → reading bytes ≡ Err b → (s : ClientState) → client.next s (Packet bytes) ≡ (s, [])
-unfolding client.next
-client_ignores bytes b e s = ap (client.on_datagram s) e
-
-controller_ignores : (bytes : List ℕ) (b : Bad) → reading bytes ≡ Err b → (s : ControllerState)
-    → controller.next s (Packet bytes) ≡ (s, [])
-unfolding controller.next
-controller_ignores bytes b e s = ap (controller.on_datagram s) e
+other_ignores : (k : Kind) (bytes : List ℕ) (b : Bad) → reading bytes ≡ Err b → (s : State k) → next k s (Packet bytes) ≡ (s, [])
+unfolding sequencer.next client.next controller.next
+other_ignores Sequencers bytes b e s = ap (sequencer.on_datagram s) e
+other_ignores Clients bytes b e s = ap (client.on_datagram s) e
+other_ignores Controllers bytes b e s = ap (controller.on_datagram s) e
 
 -- at a core that ignores such bytes
 ignores : {S : Type 0} (next : S → Given → S × List Out) (f : Seated S × Did → Happened) (o : Option (Seated S)) (bytes : List ℕ)
@@ -153,22 +135,16 @@ ignores {S} next f (Some p) bytes (Err b) h quiet e = by p.crashed refl
 world_stays : (w : WorldState) (h g : Happened) → h ≡ g → g.world ≡ w → h.world ≡ w
 world_stays w h g e same = ap (λ (x : Happened). x.world) e ∙ same
 
-junk_stays : {S : Type 0} (m : Meaning S) (w : WorldState) (actor : Actor) (bytes : List ℕ) (h : Happened)
-    → step_of m w actor (junk_of bytes (reading bytes)) ≡ Ok h → h.world ≡ w
-junk_stays m w (actors.Replica i) bytes h e =
+junk_stays : {S : Type 0} (m : Meaning S) (w : WorldState) (x : Who) (bytes : List ℕ) (h : Happened)
+    → step_of m w x (junk_of bytes (reading bytes)) ≡ Ok h → h.world ≡ w
+junk_stays m w (AReplica i) bytes h e =
     let r = ignores (replica.next m) (at_replica w i) (slice_get w.replicas i) bytes (reading bytes) h (replica_ignores m bytes) e in
     world_stays w h _ r.2.is (replica_idles w r.0 r.1 i r.2.seat r.2.found)
-junk_stays m w (actors.Sequencer i) bytes h e =
-    let r = ignores sequencer.next (at_sequencer w i) (slice_get w.sequencers i) bytes (reading bytes) h (sequencer_ignores bytes) e in
-    world_stays w h _ r.2.is (sequencer_idles w r.0 r.1 i r.2.seat r.2.found)
-junk_stays m w (actors.Client i) bytes h e =
-    let r = ignores client.next (at_client w i) (slice_get w.clients i) bytes (reading bytes) h (client_ignores bytes) e in
-    world_stays w h _ r.2.is (client_idles w r.0 r.1 i r.2.seat r.2.found)
-junk_stays m w (actors.Controller i) bytes h e =
-    let r = ignores controller.next (at_controller w i) (slice_get w.controllers i) bytes (reading bytes) h (controller_ignores bytes) e in
-    world_stays w h _ r.2.is (controller_idles w r.0 r.1 i r.2.seat r.2.found)
+junk_stays m w (Another k i) bytes h e =
+    let r = ignores (next k) (at_other k w i) (slice_get (seats k w.others) i) bytes (reading bytes) h (other_ignores k bytes) e in
+    world_stays w h _ r.2.is (other_idles w r.0 r.1 k i r.2.seat r.2.found)
 
 pub junk_changes_nothing : {S : Type 0} (m : Meaning S) (w : WorldState) (actor : Actor) (bytes : List ℕ) (h : Happened)
     → step m w (Junk actor bytes) ≡ Ok h → h.world ≡ w
 unfolding step stimulus_of
-junk_changes_nothing m w actor bytes h e = junk_stays m w actor bytes h e
+junk_changes_nothing m w actor bytes h e = junk_stays m w (who actor) bytes h e

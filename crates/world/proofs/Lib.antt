@@ -2,6 +2,7 @@ pub mod Idle
 pub mod IdLemmas
 pub mod MainLog
 pub mod Opening
+pub mod Others
 pub mod Places
 pub mod Refusals
 pub mod SeatLemmas

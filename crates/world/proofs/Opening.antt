@@ -35,9 +35,7 @@ pub world_opens : (config : Configuration) (rs : List (Seated Replica)) (ss : Li
     → (let w : WorldState = record {
       config = config;
       replicas = rs;
-      sequencers = ss;
-      clients = cs;
-      controllers = ks;
+      others = record { sequencers = ss; clients = cs; controllers = ks };
       sent = sent;
       archive = archive;
     } in w) ≡ opening config

@@ -1,7 +1,7 @@
 -- Which events are refused, and why.
 use Rattle.std.proofs.Common.{◌≡◌, ℕ, zero, suc, Bool, true, false, List, [], ◌∷◌, length, Option, Some, None, Result, Ok, Err}
 use Rattle.std.proofs.Common.{refl, ap, subst, ◌∙◌, arith, length-append}
-use Rattle.std.specs.Prelude.{◌&&◌, if◌then◌else◌, nat_lt, slice_get}
+use Rattle.std.specs.Prelude.{◌&&◌, if◌then◌else◌, nat_lt, slice_get, slice_set}
 use Rattle.std.proofs.lemmas.Bool.{ltb-true, ltb-false}
 use Rattle.std.proofs.lemmas.List.{length-set}
 use Rattle.std.proofs.lemmas.Option.{slice_get_past}
@@ -11,13 +11,10 @@ use Rattle.nop_types.specs.Meaning.{Meaning}
 use Rattle.nop_types.specs.declared.datagram.Datagram.{Datagram}
 use Rattle.nop_types.specs.declared.input.Tick.{Tick}
 use Rattle.nop_types.specs.declared.input.Tick.TheVariants as ticks
-use Rattle.nop_types.specs.declared.output.Actor.{Actor}
-use Rattle.nop_types.specs.declared.output.Actor.TheVariants as actors
 use Rattle.nop_types.specs.declared.output.Out.{Out}
 use Rattle.lemmas.proofs.Places.{slice_get-some}
 use Rattle.oum_codec.specs.declared.bad.Bad.{Bad}
 use Rattle.oum_codec.specs.Reading.{reading}
-use Rattle.client_quorum.specs.ClientSteps as client
 use Rattle.replica_core.specs.ReplicaSteps as replica
 use Rattle.sequencer.specs.SequencerSteps as sequencer
 use Rattle.session_control.specs.ControllerSteps as controller
@@ -25,10 +22,12 @@ use Rattle.schedule_text.specs.declared.event.Event.{Event}
 use Rattle.schedule_text.specs.declared.event.Event.TheVariants as events
 use Rattle.network.specs.Network.{Sent, Did}
 use Rattle.world.specs.Seats.{Seated, Stimulus, seated}
-use Rattle.world.specs.Refusals.{HasActors, is_actor, has_input, forged_if, later_cause, cause_of, refusal_in}
+use Rattle.world.specs.Others.{Kind, Sequencers, Clients, Controllers, next, seats, count, Who, AReplica, Another, who}
+use Rattle.world.specs.Refusals.{HasActors, is_one_of, is_actor, has_input, forged_if, later_cause, cause_of, refusal_in}
 use Rattle.world.specs.WorldSteps.{WorldState, Refusal, NoSuchActor, NoSuchDatagram, Happened, actor_of, counted, opening}
 use Rattle.world.specs.WorldSteps.{opening_client, tick_if, datagram_at, junk_of, stimulus_of, step_with, step_at, step_of, step}
-use Rattle.world.specs.WorldSteps.{at_replica, at_sequencer, at_client, at_controller, then_at}
+use Rattle.world.specs.WorldSteps.{at_replica, at_other, then_at, opening_others}
+use Rattle.world.proofs.Others.{others_become}
 
 -- ---- the actor
 
@@ -53,16 +52,12 @@ then_refusal : {S : Type 0} (f : Seated S × Did → Happened) (r : Result (Seat
 then_refusal f (Ok p) = refl
 then_refusal f (Err refusal) = refl
 
-actor_refusal : {S : Type 0} (m : Meaning S) (w : WorldState) (actor : Actor) (what : Result Stimulus Refusal) → HasActors w
-    → refusal_in (step_of m w actor what) ≡ (if is_actor w.config actor then refusal_in what else Some NoSuchActor)
-actor_refusal m w (actors.Replica i) what h =
+actor_refusal : {S : Type 0} (m : Meaning S) (w : WorldState) (x : Who) (what : Result Stimulus Refusal) → HasActors w
+    → refusal_in (step_of m w x what) ≡ (if is_one_of w.config x then refusal_in what else Some NoSuchActor)
+actor_refusal m w (AReplica i) what h =
     then_refusal (at_replica w i) _ ∙ at_refusal (replica.next m) w.replicas i w.config.replicas what h.replicas
-actor_refusal m w (actors.Sequencer i) what h =
-    then_refusal (at_sequencer w i) _ ∙ at_refusal sequencer.next w.sequencers i w.config.sequencers what h.sequencers
-actor_refusal m w (actors.Client i) what h =
-    then_refusal (at_client w i) _ ∙ at_refusal client.next w.clients i w.config.clients what h.clients
-actor_refusal m w (actors.Controller i) what h =
-    then_refusal (at_controller w i) _ ∙ at_refusal controller.next w.controllers i w.config.controllers what h.controllers
+actor_refusal m w (Another k i) what h =
+    then_refusal (at_other k w i) _ ∙ at_refusal (next k) (seats k w.others) i (count k w.config) what (h.others k)
 
 -- ---- what the event brings
 
@@ -92,12 +87,11 @@ junk_refusal bytes (Err e) = refl
 input_refusal : (w : WorldState) (e : Event)
     → refusal_in (stimulus_of w.config w.sent e) ≡ (if has_input w.config e then later_cause w e else Some NoSuchActor)
 unfolding stimulus_of
-input_refusal w (events.Submit number op) = refl
 input_refusal w (events.Deliver index actor) = datagram_refusal w.sent index
 input_refusal w (events.Tick actor tick) = tick_refusal _ tick
 input_refusal w (events.Install controller sequencer) = tick_refusal (nat_lt sequencer w.config.sequencers) (ticks.Install sequencer)
-input_refusal w (events.Crash actor) = refl
 input_refusal w (events.Junk actor bytes) = junk_refusal bytes (reading bytes)
+input_refusal w _ = refl
 
 -- ---- both
 
@@ -108,7 +102,7 @@ one_test false b x y = refl
 pub refuses_by_cause : {S : Type 0} (m : Meaning S) (w : WorldState) (e : Event) → HasActors w → refusal_in (step m w e) ≡ cause_of w e
 unfolding step
 refuses_by_cause m w e h =
-    actor_refusal m w (actor_of e) (stimulus_of w.config w.sent e) h
+    actor_refusal m w (who (actor_of e)) (stimulus_of w.config w.sent e) h
     ∙ ap (λ (r : Option Refusal). if is_actor w.config (actor_of e) then r else Some NoSuchActor) (input_refusal w e)
     ∙ one_test (is_actor w.config (actor_of e)) (has_input w.config e) (later_cause w e) (Some NoSuchActor)
 
@@ -121,48 +115,31 @@ length-counted make (suc n) = omega (arith, length-append (counted make n) (seat
 pub opening_has_actors : (c : Configuration) → HasActors (opening c)
 opening_has_actors c = record {
   replicas = length-counted (replica.opening c) c.replicas;
-  sequencers = length-counted sequencer.opening c.sequencers;
-  clients = length-counted (opening_client c) c.clients;
-  controllers = length-counted (controller.opening c) c.controllers;
+  others = λ k. others_opened k;
 }
+  where
+    others_opened : (k : Kind) → length (seats k (opening_others c)) ≡ count k c
+    others_opened Sequencers = length-counted sequencer.opening c.sequencers
+    others_opened Clients = length-counted (opening_client c) c.clients
+    others_opened Controllers = length-counted (controller.opening c) c.controllers
 
 then_has_actors : {S : Type 0} (f : Seated S × Did → Happened) (r : Result (Seated S × Did) Refusal) (h : Happened)
     → ((p : Seated S × Did) → HasActors (f p).world) → then_at f r ≡ Ok h → HasActors h.world
 then_has_actors f (Ok p) h all e = let same : f p ≡ h = cc in subst (λ (x : Happened). HasActors x.world) same (all p)
 then_has_actors f (Err refusal) h all e = absurd cc
 
-step_of_has_actors : {S : Type 0} (m : Meaning S) (w : WorldState) (actor : Actor) (what : Result Stimulus Refusal) (h : Happened)
-    → HasActors w → step_of m w actor what ≡ Ok h → HasActors h.world
-step_of_has_actors m w (actors.Replica i) what h has e = then_has_actors (at_replica w i) _ h
-    (λ p. record {
-      replicas = length-set w.replicas i p.0 ∙ has.replicas;
-      sequencers = has.sequencers;
-      clients = has.clients;
-      controllers = has.controllers;
-    }) e
-step_of_has_actors m w (actors.Sequencer i) what h has e = then_has_actors (at_sequencer w i) _ h
+step_of_has_actors : {S : Type 0} (m : Meaning S) (w : WorldState) (x : Who) (what : Result Stimulus Refusal) (h : Happened)
+    → HasActors w → step_of m w x what ≡ Ok h → HasActors h.world
+step_of_has_actors m w (AReplica i) what h has e = then_has_actors (at_replica w i) _ h
+    (λ p. record { replicas = length-set w.replicas i p.0 ∙ has.replicas; others = has.others }) e
+step_of_has_actors m w (Another k i) what h has e = then_has_actors (at_other k w i) _ h
     (λ p. record {
       replicas = has.replicas;
-      sequencers = length-set w.sequencers i p.0 ∙ has.sequencers;
-      clients = has.clients;
-      controllers = has.controllers;
-    }) e
-step_of_has_actors m w (actors.Client i) what h has e = then_has_actors (at_client w i) _ h
-    (λ p. record {
-      replicas = has.replicas;
-      sequencers = has.sequencers;
-      clients = length-set w.clients i p.0 ∙ has.clients;
-      controllers = has.controllers;
-    }) e
-step_of_has_actors m w (actors.Controller i) what h has e = then_has_actors (at_controller w i) _ h
-    (λ p. record {
-      replicas = has.replicas;
-      sequencers = has.sequencers;
-      clients = has.clients;
-      controllers = length-set w.controllers i p.0 ∙ has.controllers;
+      others = others_become (λ j ps. length ps ≡ count j w.config) w.others k (slice_set (seats k w.others) i p.0)
+          (length-set (seats k w.others) i p.0 ∙ has.others k) has.others;
     }) e
 
 pub step_has_actors : {S : Type 0} (m : Meaning S) (w : WorldState) (e : Event) (h : Happened) → HasActors w → step m w e ≡ Ok h
     → HasActors h.world
 unfolding step
-step_has_actors m w e h has is = step_of_has_actors m w (actor_of e) (stimulus_of w.config w.sent e) h has is
+step_has_actors m w e h has is = step_of_has_actors m w (who (actor_of e)) (stimulus_of w.config w.sent e) h has is

@@ -16,9 +16,11 @@ world_of a =
     record {
       config = a.config;
       replicas = map (seated_of (λ r. r.state)) a.replicas.items;
-      sequencers = map (seated_of (λ s. s.state)) a.sequencers.items;
-      clients = map (seated_of (λ c. c.state)) a.clients.items;
-      controllers = map (seated_of (λ c. c.state)) a.controllers.items;
+      others = record {
+        sequencers = map (seated_of (λ s. s.state)) a.sequencers.items;
+        clients = map (seated_of (λ c. c.state)) a.clients.items;
+        controllers = map (seated_of (λ c. c.state)) a.controllers.items;
+      };
       sent = a.network;
       archive = a.archive;
     }

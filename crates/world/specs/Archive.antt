@@ -14,10 +14,7 @@ with_entries archive first entries = archive ++ drop (length archive + 1 - first
 abbrev pub with_outs : List Entry → List Out → List Entry
 with_outs archive [] = archive
 with_outs archive (outs.Trimmed first entries ∷ rest) = with_outs (with_entries archive first entries.entries) rest
-with_outs archive (outs.Send dest bytes ∷ rest) = with_outs archive rest
-with_outs archive (outs.Submitted r ∷ rest) = with_outs archive rest
-with_outs archive (outs.Accepted client id result ∷ rest) = with_outs archive rest
-with_outs archive (outs.Busy client ∷ rest) = with_outs archive rest
+with_outs archive (_ ∷ rest) = with_outs archive rest
 
 abbrev pub archived : List Entry → Did → List Entry
 archived archive Nothing = archive

@@ -4,6 +4,7 @@ pub mod Archive
 pub mod Ending
 pub mod Ids
 pub mod Lookups
+pub mod Others
 pub mod Parts
 pub mod Refusals
 pub mod SeatOutcomes

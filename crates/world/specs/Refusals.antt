@@ -3,26 +3,25 @@ use Rattle.std.specs.Prelude.{◌≡◌, Bool, true, ◌&&◌, if◌then◌else�
 use Rattle.nop_types.specs.Configuration.{Configuration}
 use Rattle.nop_types.specs.declared.datagram.Datagram.{Datagram}
 use Rattle.nop_types.specs.declared.output.Actor.{Actor}
-use Rattle.nop_types.specs.declared.output.Actor.TheVariants as actors
 use Rattle.oum_codec.specs.declared.bad.Bad.{Bad}
 use Rattle.oum_codec.specs.Reading.{reading}
 use Rattle.schedule_text.specs.declared.event.Event.{Event}
 use Rattle.schedule_text.specs.declared.event.Event.TheVariants as events
 use Rattle.schedule_text.specs.Ticks.{takes_tick}
+use Rattle.world.specs.Others.{Kind, seats, count, Who, AReplica, Another, who}
 use Rattle.world.specs.WorldSteps.{WorldState, Refusal, NoSuchActor, NoSuchDatagram, Forged, actor_of}
 
 -- the actors of the configuration are there
 pub record HasActors (w : WorldState) : Type 0 where
   pub replicas : length w.replicas ≡ w.config.replicas
-  pub sequencers : length w.sequencers ≡ w.config.sequencers
-  pub clients : length w.clients ≡ w.config.clients
-  pub controllers : length w.controllers ≡ w.config.controllers
+  pub others : (k : Kind) → length (seats k w.others) ≡ count k w.config
+
+abbrev pub is_one_of : Configuration → Who → Bool
+is_one_of c (AReplica i) = nat_lt i c.replicas
+is_one_of c (Another k i) = nat_lt i (count k c)
 
 abbrev pub is_actor : Configuration → Actor → Bool
-is_actor c (actors.Replica i) = nat_lt i c.replicas
-is_actor c (actors.Sequencer i) = nat_lt i c.sequencers
-is_actor c (actors.Client i) = nat_lt i c.clients
-is_actor c (actors.Controller i) = nat_lt i c.controllers
+is_actor c actor = is_one_of c (who actor)
 
 -- whether the actor of an event has such an input
 abbrev pub has_input : Configuration → Event → Bool
@@ -36,13 +35,10 @@ forged_if (Err e) = None
 
 -- what refuses an event whose actor has such an input
 abbrev pub later_cause : WorldState → Event → Option Refusal
-later_cause w (events.Submit number op) = None
 later_cause w (events.Deliver index actor) =
     if nat_lt index (length w.sent) then None else Some (NoSuchDatagram index (length w.sent))
-later_cause w (events.Tick actor tick) = None
-later_cause w (events.Install controller sequencer) = None
-later_cause w (events.Crash actor) = None
 later_cause w (events.Junk actor bytes) = forged_if (reading bytes)
+later_cause w _ = None
 
 abbrev pub cause_of : WorldState → Event → Option Refusal
 cause_of w e =

@@ -20,15 +20,14 @@ use Rattle.oum_codec.specs.declared.bad.Bad.{Bad}
 use Rattle.oum_codec.specs.Reading.{reading}
 use Rattle.replica_core.specs.ReplicaSteps as replica
 use Rattle.replica_core.specs.ReplicaSteps.{Replica}
-use Rattle.sequencer.specs.declared.state.SequencerState.{SequencerState}
 use Rattle.sequencer.specs.SequencerSteps as sequencer
 use Rattle.client_quorum.specs.declared.state.ClientState.{ClientState}
 use Rattle.client_quorum.specs.ClientSteps as client
-use Rattle.session_control.specs.declared.state.ControllerState.{ControllerState}
 use Rattle.session_control.specs.ControllerSteps as controller
 use Rattle.schedule_text.specs.declared.event.Event.{Event}
 use Rattle.schedule_text.specs.declared.event.Event.TheVariants as events
 use Rattle.schedule_text.specs.Ticks.{takes_tick}
+use Rattle.world.specs.Others.{Kind, State, next, Others, seats, with_seat, Who, AReplica, Another, who, actor_at}
 use Rattle.world.specs.Seats.{Seated, Stimulus, Takes, Crashes, seated, seat_step}
 use Rattle.network.specs.Network.{Did, Sent, sends_by, lines_by}
 use Rattle.world.specs.Archive.{archived, with_archive}
@@ -37,9 +36,7 @@ use Rattle.nop_types.specs.Lists.{slot_of}
 pub record WorldState : Type 0 where
   pub config : Configuration
   pub replicas : List (Seated Replica)
-  pub sequencers : List (Seated SequencerState)
-  pub clients : List (Seated ClientState)
-  pub controllers : List (Seated ControllerState)
+  pub others : Others
   pub sent : List Sent
   -- the synchronised entries that moved out of logs, from slot 1 on
   pub archive : List Entry
@@ -98,14 +95,8 @@ abbrev pub at_replica : WorldState → ℕ → Seated Replica × Did → Happene
 at_replica w i p =
     carried w (actors.Replica i) p.1 (record w { replicas = slice_set w.replicas i p.0; archive = archived w.archive p.1 })
 
-abbrev pub at_sequencer : WorldState → ℕ → Seated SequencerState × Did → Happened
-at_sequencer w i p = carried w (actors.Sequencer i) p.1 (record w { sequencers = slice_set w.sequencers i p.0 })
-
-abbrev pub at_client : WorldState → ℕ → Seated ClientState × Did → Happened
-at_client w i p = carried w (actors.Client i) p.1 (record w { clients = slice_set w.clients i p.0 })
-
-abbrev pub at_controller : WorldState → ℕ → Seated ControllerState × Did → Happened
-at_controller w i p = carried w (actors.Controller i) p.1 (record w { controllers = slice_set w.controllers i p.0 })
+abbrev pub at_other : (k : Kind) → WorldState → ℕ → Seated (State k) × Did → Happened
+at_other k w i p = carried w (actor_at (Another k i)) p.1 (record w { others = with_seat k w.others i p.0 })
 
 -- what an actor's step makes of the world, unless the event is refused
 abbrev pub then_at : {S : Type 0} → (Seated S × Did → Happened) → Result (Seated S × Did) Refusal → Result Happened Refusal
@@ -126,15 +117,13 @@ step_at next (Some p) what = step_with next p what
 
 module _ {S : Type 0} (m : Meaning S) where
   -- the step of an actor
-  abbrev pub step_of : WorldState → Actor → Result Stimulus Refusal → Result Happened Refusal
-  step_of w (actors.Replica i) what = then_at (at_replica w i) (step_at (replica.next m) (slice_get w.replicas i) what)
-  step_of w (actors.Sequencer i) what = then_at (at_sequencer w i) (step_at sequencer.next (slice_get w.sequencers i) what)
-  step_of w (actors.Client i) what = then_at (at_client w i) (step_at client.next (slice_get w.clients i) what)
-  step_of w (actors.Controller i) what = then_at (at_controller w i) (step_at controller.next (slice_get w.controllers i) what)
+  abbrev pub step_of : WorldState → Who → Result Stimulus Refusal → Result Happened Refusal
+  step_of w (AReplica i) what = then_at (at_replica w i) (step_at (replica.next m) (slice_get w.replicas i) what)
+  step_of w (Another k i) what = then_at (at_other k w i) (step_at (next k) (slice_get (seats k w.others) i) what)
 
   -- one event is one step of one actor, unless it is refused
   unfoldable pub step : WorldState → Event → Result Happened Refusal
-  step w e = step_of w (actor_of e) (stimulus_of w.config w.sent e)
+  step w e = step_of w (who (actor_of e)) (stimulus_of w.config w.sent e)
 
   -- the worlds and lines of a list of events, up to the first that is refused
   abbrev pub go_on : List Line → Result Happened Refusal → (List Line → WorldState → Result Happened Refusal) → Result Happened Refusal
@@ -155,14 +144,20 @@ counted make (suc n) = counted make n ++ seated (make n) ∷ []
 abbrev pub opening_client : Configuration → ℕ → ClientState
 opening_client c number = client.opening c number []
 
+abbrev pub opening_others : Configuration → Others
+opening_others c =
+    record {
+      sequencers = counted sequencer.opening c.sequencers;
+      clients = counted (opening_client c) c.clients;
+      controllers = counted (controller.opening c) c.controllers;
+    }
+
 abbrev pub opening : Configuration → WorldState
 opening c =
     record {
       config = c;
       replicas = counted (replica.opening c) c.replicas;
-      sequencers = counted sequencer.opening c.sequencers;
-      clients = counted (opening_client c) c.clients;
-      controllers = counted (controller.opening c) c.controllers;
+      others = opening_others c;
       sent = [];
       archive = [];
     }
@@ -207,9 +202,10 @@ abbrev pub crashed_in : {S : Type 0} → Option (Seated S) → Bool
 crashed_in None = false
 crashed_in (Some p) = p.crashed
 
+abbrev pub crashed_by : WorldState → Who → Bool
+crashed_by w (AReplica i) = crashed_in (slice_get w.replicas i)
+crashed_by w (Another k i) = crashed_in (slice_get (seats k w.others) i)
+
 -- whether an actor crashed, false for an actor that is not of the configuration
 abbrev pub has_crashed : WorldState → Actor → Bool
-has_crashed w (actors.Replica i) = crashed_in (slice_get w.replicas i)
-has_crashed w (actors.Sequencer i) = crashed_in (slice_get w.sequencers i)
-has_crashed w (actors.Client i) = crashed_in (slice_get w.clients i)
-has_crashed w (actors.Controller i) = crashed_in (slice_get w.controllers i)
+has_crashed w actor = crashed_by w (who actor)

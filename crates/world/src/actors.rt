@@ -4,6 +4,7 @@ ghost use Rattle.sequencer.specs.SequencerSteps as sequencer;
 ghost use Rattle.session_control.specs.ControllerSteps as controller;
 ghost use Rattle.world.specs.Actors.{world_of, moved_out, Happens};
 ghost use Rattle.network.specs.Network.{did_of};
+ghost use Rattle.world.specs.Others.{who};
 ghost use Rattle.world.specs.SeatOutcomes.{seated_of, Refuses};
 ghost use Rattle.world.specs.WorldSteps.{
   carried,
@@ -117,11 +118,11 @@ impl<H: Host> Actors<H> {
         ensures count { length self.new.replicas.items ≡ length self.old.replicas.items }
         ensures network { self.new.network ≡ self.old.network }
         ensures archive { self.new.archive ≡ self.old.archive }
-        ensures ok { IfOk result (λ outs. step_of H.meaning (world_of self.old) actor
+        ensures ok { IfOk result (λ outs. step_of H.meaning (world_of self.old) (who actor)
             (stimulus_of self.old.config self.old.network event.now)
             ≡ Ok (carried (world_of self.old) actor (did_of outs)
             (moved_out actor (did_of outs) (world_of self.new)))) }
-        ensures err { IfErr result (λ e. Refuses e (step_of H.meaning (world_of self.old) actor
+        ensures err { IfErr result (λ e. Refuses e (step_of H.meaning (world_of self.old) (who actor)
             (stimulus_of self.old.config self.old.network event.now))
             (world_of self.new ≡ world_of self.old)) }
     {

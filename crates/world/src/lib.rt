@@ -17,7 +17,8 @@
 //!
 //! Files: `world_state`, `actors`, `stimulus` (what an event delivers, and to whom), `seat` (any
 //! core, and whether it crashed), `archive`, `main_log`, `history`, `state_lines`, `ending`. Definitions:
-//! `specs/WorldSteps` (`WorldState`, `step`, `run`, `history`), `Archive`, `Refusals`.
+//! `specs/WorldSteps` (`WorldState`, `step`, `run`, `history`), `Others` (sequencers, clients and controllers), `Archive`,
+//! `Refusals`.
 #![tactic(auto)]
 
 mod actors;
