@@ -40,6 +40,9 @@ nop_types INSTALLED 5
 nop_types PING 6
 nop_types PONG 7
 nop_types FRAGMENT 8
+nop_types KIND_PLACE 3
+nop_types COUNT_PLACE 15
+nop_types FRAGMENT_HEADER_BYTES 17
 nop_types SLOT_LOOKUP 16
 nop_types FOUND 17
 nop_types GAP_COMMIT 18
@@ -68,10 +71,21 @@ replica_core RESEND_MILLIS 50
 replica_core SYNC_MILLIS 100
 replica_core WATCH_MILLIS 1000
 replica_core LAST_MESSAGE 18_446_744_073_709_551_607
-lines PIECE_BYTES 4096
+line_reader PIECE_BYTES 4096
 transcript_reader MAX_TRANSCRIPT_LINES 4_294_967_294
 transcript_rows MAX_SENT_BYTES 1417
 command_line MAX_CLUSTER_TURNS 10_000
+udp_ports ACK_MAGIC 0x41
+udp_ports MOST_IN_FLIGHT 36
+udp_ports FIRST_WINDOW 6
+udp_ports MOST_WAITING 8192
+udp_ports TIMEOUT_MICROS 100_000
+udp_ports SILENT_TIMEOUT_MICROS 500
+udp_ports MOST_AT_ONCE 6
+udp_ports LANES 16
+udp_ports ACK_EVERY 6
+udp_ports RECENT_PARTS 72
+udp_ports WAIT_MILLIS 1
 replay MAX_DRAWN_EVENTS 100_000
 END
 }
@@ -84,15 +98,16 @@ peer_codec HEAD_BYTES
 peer_codec SENDER_AT
 peer_codec LEAST_CLIENT
 fragments PARTS_AHEAD
-fragments FIELD_BYTES
-network HEADER_LEN
 network SHARED_LEN
 network LOOKBACK
 schedule_text MAX_OP_TEXT
 schedule_text MAX_JUNK_TEXT
 transcript_rows MAX_OP_TEXT
 replay GATHERED_BYTES
-flights MAX_ACTORS
+picture_arrows MAX_ACTORS
+udp_ports PORTS
+udp_ports MOST_ACKS
+udp_ports NAP_MICROS
 END
 }
 
@@ -104,12 +119,12 @@ while read -r name constant number; do
     fi
 done < <(numbers)
 
-# pictures have layout alone, real devices are measured
+# pictures have layout alone
 while IFS=: read -r file constant; do
     name=${file#crates/}
     name=${name%%/*}
     case $name in
-    picture | labels | drawing | udp_ports | *_tests) continue ;;
+    picture | picture_labels | drawing | *_tests) continue ;;
     esac
     if ! { numbers; apart; } | grep -qE "^$name $constant( |$)"; then
         differs "$constant of $name is not in the list"

@@ -4,12 +4,10 @@ ghost use Rattle.oum_codec.specs.Spelling.{spelling};
 ghost use Rattle.fragments.specs.Cutting.{piece, piece_count, fragments_of, sends_of, HasNoCut};
 
 use crate::CutError;
+use nop_types::kinds::FRAGMENT_HEADER_BYTES;
 use nop_types::{Bytes, Dest, FRAGMENT_BYTES, MAX_FRAGMENTS, MAX_REPLICAS, NoMemory, Out, Outbox};
 use oum_codec::put_fragment;
 use std::alloc::Global;
-
-/// The bytes of a fragment's datagram before its payload.
-const FIELD_BYTES: usize = 17;
 
 #[tactic(auto, using(std::proofs::lemmas::List::take_min), unfolding(crate::specs::Cutting::piece, crate::specs::Cutting::piece_count))]
 fn piece(bytes: &[u8], index: u16) -> &[u8]
@@ -39,7 +37,7 @@ fn datagram(
       payload = payload.now;
     }))) }
 {
-    let mut bytes = Vec::with_capacity(alloc, FIELD_BYTES + payload.len())?;
+    let mut bytes = Vec::with_capacity(alloc, FRAGMENT_HEADER_BYTES + payload.len())?;
     put_fragment(&mut bytes, sender, number, index, count, payload)?;
     Ok(Bytes::from_vec(bytes))
 }

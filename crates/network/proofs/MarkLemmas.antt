@@ -14,7 +14,7 @@ use Rattle.nop_types.specs.declared.output.Dest.{Dest}
 use Rattle.network.specs.declared.network.Mark.{Mark}
 use Rattle.network.specs.Network.{Sent}
 use Rattle.network.specs.Marks.{part_of, head_len, rest_len, datagram_of, sent_of, all_sent, MarkFits, Keeps}
-use Rattle.network.specs.declared.network.TheConstants.{HEADER_LEN}
+use Rattle.nop_types.specs.declared.kinds.TheConstants.{FRAGMENT_HEADER_BYTES}
 
 pub length-all_sent : (bytes : List ℕ) (marks : List Mark) → length (all_sent bytes marks) ≡ length marks
 length-all_sent bytes [] = refl
@@ -72,15 +72,15 @@ shared_is bytes wanted begin len fits is =
 
 pub put_is : (middle new datagram front back : List ℕ) (head rest len : ℕ) (from : Actor) (dest : Dest) → Keeps middle new
     → head + length front ≤ length middle → part_of middle head (length front) ≡ front → part_of new rest (length back) ≡ back
-    → datagram ≡ front ++ back → length front ≡ min len HEADER_LEN → length back ≡ len - HEADER_LEN
+    → datagram ≡ front ++ back → length front ≡ min len FRAGMENT_HEADER_BYTES → length back ≡ len - FRAGMENT_HEADER_BYTES
     → sent_of new (record { head = head; rest = rest; len = len; from = from; dest = dest })
     ≡ record { from = from; dest = dest; bytes = datagram }
 put_is middle new datagram front back head rest len from dest keeps fits is_front is_back parts front_len back_len =
-    let first : part_of new head (min len HEADER_LEN) ≡ front =
+    let first : part_of new head (min len FRAGMENT_HEADER_BYTES) ≡ front =
     subst (λ (n : ℕ). part_of new head n ≡ front) front_len (part_kept middle new head (length front) keeps fits ∙ is_front) in
-    let second : part_of new rest (len - HEADER_LEN) ≡ back = subst (λ (n : ℕ). part_of new rest n ≡ back) back_len is_back in
-    let both : part_of new head (min len HEADER_LEN) ++ part_of new rest (len - HEADER_LEN) ≡ datagram =
-    ap (λ (xs : List ℕ). xs ++ part_of new rest (len - HEADER_LEN)) first ∙ ap (λ (ys : List ℕ). front ++ ys) second ∙ sym parts in
+    let second : part_of new rest (len - FRAGMENT_HEADER_BYTES) ≡ back = subst (λ (n : ℕ). part_of new rest n ≡ back) back_len is_back in
+    let both : part_of new head (min len FRAGMENT_HEADER_BYTES) ++ part_of new rest (len - FRAGMENT_HEADER_BYTES) ≡ datagram =
+    ap (λ (xs : List ℕ). xs ++ part_of new rest (len - FRAGMENT_HEADER_BYTES)) first ∙ ap (λ (ys : List ℕ). front ++ ys) second ∙ sym parts in
     ap (λ (bytes : List ℕ). record { from = from; dest = dest; bytes = bytes }) both
 
 pub all_pushed : (old new : List ℕ) (marks new_marks : List Mark) (m : Mark) (s : Sent) → Keeps old new

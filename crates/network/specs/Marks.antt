@@ -1,6 +1,6 @@
 -- Datagrams in one vector of bytes, with a mark for each.
 use Rattle.std.specs.Prelude.{◌≡◌, ◌≤◌, ◌+◌, ◌-◌, ℕ, List, ◌++◌, length, map, min, slice_range, take}
-use Rattle.network.specs.declared.network.TheConstants.{HEADER_LEN}
+use Rattle.nop_types.specs.declared.kinds.TheConstants.{FRAGMENT_HEADER_BYTES}
 use Rattle.network.specs.declared.network.Mark.{Mark}
 use Rattle.network.specs.Network.{Sent}
 
@@ -10,10 +10,10 @@ part_of bytes begin len = slice_range bytes begin (begin + len)
 
 -- how many bytes of a datagram are its head
 abbrev pub head_len : Mark → ℕ
-head_len mark = min mark.len HEADER_LEN
+head_len mark = min mark.len FRAGMENT_HEADER_BYTES
 
 abbrev pub rest_len : Mark → ℕ
-rest_len mark = mark.len - HEADER_LEN
+rest_len mark = mark.len - FRAGMENT_HEADER_BYTES
 
 abbrev pub datagram_of : List ℕ → Mark → List ℕ
 datagram_of bytes mark = part_of bytes mark.head (head_len mark) ++ part_of bytes mark.rest (rest_len mark)

@@ -31,17 +31,15 @@ mod finding;
 mod sharing;
 
 use crate::index::Index;
+use nop_types::kinds::FRAGMENT_HEADER_BYTES;
 use nop_types::{Actor, Bytes, Dest, NoMemory};
 use sharing::put_bytes;
 use std::alloc::Global;
 use std::marker::Model;
 
-/// The bytes of a fragment before its payload: the payload may have been sent before, under another
-/// header.
-const HEADER_LEN: usize = 17;
-
-/// A datagram: where its head of at most `HEADER_LEN` bytes begins and where the rest of its bytes
-/// begins, which other datagrams may have too; how long it is, who sent it, and where to.
+/// A datagram: where its head of at most `FRAGMENT_HEADER_BYTES` bytes begins and where the rest of
+/// its bytes begins, which other datagrams may have too, since the payload of a fragment may be sent
+/// again under another header; how long it is, who sent it, and where to.
 #[derive(Clone, Copy)]
 pub struct Mark {
     pub head: usize,
@@ -103,14 +101,18 @@ fn head_of(bytes: &[u8], mark: Mark) -> &[u8]
     requires { MarkFits (length bytes.now) mark }
     ensures { result.now ≡ part_of bytes.now mark.head (head_len mark) }
 {
-    part(bytes, mark.head, (mark.len as usize).min(HEADER_LEN))
+    part(
+        bytes,
+        mark.head,
+        (mark.len as usize).min(FRAGMENT_HEADER_BYTES),
+    )
 }
 
 fn rest_of(bytes: &[u8], mark: Mark) -> &[u8]
     requires { MarkFits (length bytes.now) mark }
     ensures { result.now ≡ part_of bytes.now mark.rest (rest_len mark) }
 {
-    let len = (mark.len as usize).saturating_sub(HEADER_LEN);
+    let len = (mark.len as usize).saturating_sub(FRAGMENT_HEADER_BYTES);
     part(bytes, mark.rest, len)
 }
 

@@ -13,6 +13,7 @@ pub mod Lists
 pub mod Logs
 pub mod Machine
 pub mod Meaning
+pub mod Parts
 pub mod PlainChanges
 pub mod Ranges
 pub mod Services

@@ -1,4 +1,4 @@
-//! What the first bytes of datagrams and of peer messages are.
+//! What the first bytes of datagrams and of peer messages are, and where they stand.
 
 /// The first byte of each datagram, the letter N.
 pub const FIRST_MAGIC: u8 = 0x4e;
@@ -25,6 +25,15 @@ pub const PING: u8 = 6;
 pub const PONG: u8 = 7;
 
 pub const FRAGMENT: u8 = 8;
+
+/// Where a datagram has its kind.
+pub const KIND_PLACE: usize = 3;
+
+/// Where a fragment has its count, in two bytes, the higher one first.
+pub const COUNT_PLACE: usize = 15;
+
+/// How many bytes a fragment has before its payload.
+pub const FRAGMENT_HEADER_BYTES: usize = 17;
 
 /// The kinds of peer messages, the first byte of each. They count from `SLOT_LOOKUP` to `SYNC_COMMIT`.
 pub const SLOT_LOOKUP: u8 = 16;
@@ -60,6 +69,8 @@ const _: () = prove!(
         && PONG == 7
         && FRAGMENT == 8
 );
+
+const _: () = prove!(KIND_PLACE == 3 && COUNT_PLACE == 15 && FRAGMENT_HEADER_BYTES == 17);
 
 const _: () = prove!(
     SLOT_LOOKUP == 16

@@ -1,5 +1,5 @@
 -- The one spelling of each datagram.
-use Rattle.std.specs.Prelude.{◌≡◌, ℕ, List, [], ◌∷◌, ◌++◌, length}
+use Rattle.std.specs.Prelude.{◌≡◌, ◌≢◌, ℕ, List, [], ◌∷◌, ◌++◌, length}
 use Rattle.std.specs.Int.{w16, w32, w64}
 use Rattle.nop_types.specs.Ranges.{DatagramFits}
 use Rattle.nop_types.specs.declared.view.View.{View}
@@ -53,6 +53,11 @@ spelling (datagrams.Installed controller sequencer session) = header kinds.INSTA
 spelling (datagrams.Ping controller sequencer round) = header kinds.PING ++ ping_bytes controller sequencer round
 spelling (datagrams.Pong controller sequencer round) = header kinds.PONG ++ ping_bytes controller sequencer round
 spelling (datagrams.Fragment f) = header kinds.FRAGMENT ++ fragment_bytes f
+
+-- a fragment of a message that has several
+abbrev pub IsPartOfSeveral : Datagram → Type 0
+IsPartOfSeveral (datagrams.Fragment f) = f.count ≢ 1
+IsPartOfSeveral _ = ⊥
 
 -- the bytes are the value's spelling, with each field in its range
 pub record Spells (d : Datagram) (bytes : List ℕ) : Type 0 where

@@ -1,14 +1,15 @@
 //! What the definitions of spelling and reading say together.
 
-ghost use Rattle.std.specs.Prelude.{◌≡◌, ◌<◌, ◌^◌, Ok, List, ℕ};
+ghost use Rattle.std.specs.Prelude.{◌≡◌, ◌<◌, ◌^◌, ◌↔◌, Ok, List, ℕ};
 ghost use Rattle.std.specs.Int.{w16, w32, w64};
+ghost use Rattle.nop_types.specs.Parts.{IsPart};
 ghost use Rattle.nop_types.specs.Ranges.{DatagramFits, RequestFits};
 ghost use Rattle.nop_types.specs.declared.view.View.{View};
 ghost use Rattle.nop_types.specs.declared.request.Request.{Request};
 ghost use Rattle.nop_types.specs.declared.datagram.Datagram.{Datagram};
 ghost use Rattle.oum_codec.specs.Numbers.{IsBytes, be_bytes};
 ghost use Rattle.oum_codec.specs.Places.{StandsAt, ViewWidths, number_in, view_in, request_in};
-ghost use Rattle.oum_codec.specs.Spelling.{Spells, request_bytes, spelling, view_bytes};
+ghost use Rattle.oum_codec.specs.Spelling.{IsPartOfSeveral, Spells, request_bytes, spelling, view_bytes};
 ghost use Rattle.oum_codec.specs.Reading.{reading};
 
 /// What was spelled is read.
@@ -28,6 +29,12 @@ pub fn read_is_spelled()
 pub fn spelling_is_injective()
     ensures { (c d : Datagram) → DatagramFits c → DatagramFits d → spelling c
         ≡ spelling d → c ≡ d }
+{}
+
+/// By the bytes at `KIND_PLACE` and `COUNT_PLACE` one tells the fragments of messages that have several.
+#[tactic(auto, using(crate::proofs::PartBytes::parts_are_told))]
+pub fn parts_are_told()
+    ensures { (d : Datagram) → DatagramFits d → IsPart (spelling d) ↔ IsPartOfSeveral d }
 {}
 
 /// A field that stands at a place, in its range, is read there.

@@ -5,7 +5,8 @@
 //! for these. `encode` appends the one spelling of a datagram that is in its ranges, and nothing on
 //! an error. What is spelled is read, what is read is spelled so, and different datagrams have
 //! different spellings (`spelled_is_read`, `read_is_spelled`, `spelling_is_injective`). `read_u16`
-//! and the other readers give the field at a place (`fields_are_read`, `read_fields_stand`).
+//! and the other readers give the field at a place (`fields_are_read`, `read_fields_stand`). Which
+//! datagrams are fragments of messages that have several is told by three bytes (`parts_are_told`).
 //!
 //! Calls: `read_datagram` and `send_datagram` for the cores; `encode_reply` and `put_fragment`,
 //! spellings in one piece; `put_..` and `split_..`, the fields that `peer_codec` has too.
@@ -29,7 +30,8 @@ pub use fields::{
     split_u32, split_u64, split_view,
 };
 pub use laws::{
-    fields_are_read, read_fields_stand, read_is_spelled, spelled_is_read, spelling_is_injective,
+    fields_are_read, parts_are_told, read_fields_stand, read_is_spelled, spelled_is_read,
+    spelling_is_injective,
 };
 pub use read::{decode, read_datagram};
 pub use send::send_datagram;

@@ -5,6 +5,7 @@ ghost use Rattle.oum_codec.specs.Numbers.{be_bytes};
 ghost use Rattle.oum_codec.specs.Spelling.{view_bytes, counted_bytes, request_bytes, stamped_bytes, reply_bytes};
 ghost use Rattle.oum_codec.specs.Spelling.{install_bytes, ping_bytes, header, spelling};
 
+use nop_types::kinds::FRAGMENT_HEADER_BYTES;
 use nop_types::{Datagram, MAX_RESULT_BYTES, NoMemory, Reply, Request, Stamped, View, kinds};
 use std::alloc::Global;
 
@@ -212,7 +213,7 @@ fn put_ping(
 
 /// All of a fragment but its payload.
 #[tactic(auto, unfolding(crate::specs::Numbers::be_bytes))]
-fn fragment_front(replica: u8, message: u64, index: u16, count: u16) -> [u8; 17]
+fn fragment_front(replica: u8, message: u64, index: u16, count: u16) -> [u8; FRAGMENT_HEADER_BYTES]
     ensures { result ≡ header 8 ++ (replica ∷ [] ++ be_bytes w64 message
         ++ be_bytes w16 index ++ be_bytes w16 count) }
 {
@@ -317,7 +318,7 @@ fn spelled_len(datagram: &Datagram) -> usize
         Datagram::Request(request) => 18 + request.op.as_slice().len(),
         Datagram::Stamped(stamped) => 34 + stamped.request.op.as_slice().len(),
         Datagram::Reply(reply) => 36 + reply.result.as_slice().len(),
-        Datagram::Fragment(fragment) => 17 + fragment.payload.as_slice().len(),
+        Datagram::Fragment(fragment) => FRAGMENT_HEADER_BYTES + fragment.payload.as_slice().len(),
         Datagram::Install { .. } | Datagram::Installed { .. } => 14,
         Datagram::Ping { .. } | Datagram::Pong { .. } => 10,
     }

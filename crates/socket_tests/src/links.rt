@@ -1,9 +1,12 @@
+use nop_types::{Datagram, Op, Request};
+use oum_codec::{encode, put_fragment};
 use outside::{Link, Ports};
+use std::alloc::Global;
 use std::net::{Ipv4Addr, Net, UdpSocket};
 use std::ops::Range;
 use std::process::Abort;
-use std::time::Duration;
-use udp_ports::UdpPorts;
+use std::time::{Clock, Duration};
+use udp_ports::{UdpPorts, is_part};
 
 // The first port of these tests.
 const PORTS: u16 = 43300;
@@ -27,6 +30,55 @@ fn drained(peer: &UdpSocket) -> usize {
         count = count.saturating_add(1);
     }
     count
+}
+
+/// Whether a link takes the fragment with this count and this payload for a part.
+fn is_told(rt: &impl Abort, alloc: Global, count: u16, payload: &[u8]) -> bool {
+    let mut bytes = Vec::new(alloc);
+    put_fragment(&mut bytes, 2, 0x0101, 0, count, payload).expect(rt, "memory");
+    is_part(&bytes)
+}
+
+/// Fragments of several are parts, also the short ones. Those of one are none, and neither are other datagrams, however long.
+#[test]
+fn fragments_of_several_are_parts(rt: HostRuntime) {
+    let alloc = rt.alloc();
+    for count in [2, 3, 255, 256, 257, 4096u16] {
+        assert!(rt; is_told(&rt, alloc, count, b"x") && is_told(&rt, alloc, count, &[0; 1400]));
+    }
+    assert!(rt; !is_told(&rt, alloc, 1, b"x") && !is_told(&rt, alloc, 1, &[2; 1400]));
+    let request = Request {
+        client: 0,
+        id: 1,
+        op: Op::new(alloc, &[8; 640]).expect(&rt, "memory"),
+    };
+    let mut bytes = Vec::new(alloc);
+    encode(alloc, &Datagram::Request(request), &mut bytes).expect(&rt, "memory");
+    assert!(rt; bytes.len() == 658 && !is_part(&bytes));
+}
+
+/// A port that acknowledges nothing gets six parts at once, and what is left of eight after a tenth of a second, not before.
+#[test]
+fn a_silent_port_has_to_wait(rt: HostRuntime) {
+    let mut ports = UdpPorts::new(&rt, rt.alloc());
+    let mut link = ports.attach(PORTS + 8).expect(&rt, "a link");
+    let peer = new_peer(&rt, PORTS + 9).expect(&rt, "a socket");
+    for _ in 0..8usize {
+        link.send(PORTS + 9, &[8u8; 1417]).expect(&rt, "a send");
+    }
+    assert!(rt; drained(&peer) == 6);
+    let start = rt.monotonic().expect(&rt, "a clock").as_micros();
+    for _ in 0..100_000usize {
+        assert!(rt; link.poll().expect(&rt, "a poll").is_none());
+        let count = drained(&peer);
+        let now = rt.monotonic().expect(&rt, "a clock").as_micros();
+        if count > 0 {
+            assert!(rt; count == 2 && now.saturating_sub(start) >= 100_000);
+            return;
+        }
+        assert!(rt; now.saturating_sub(start) < 5_000_000);
+    }
+    panic!(rt; "the others do not come");
 }
 
 /// A link acknowledges six parts at once, and those that are left when nothing comes any more.

@@ -1,2 +1,5 @@
 -- The definitions of this crate.
 pub mod Acks
+pub mod Links
+pub mod Receiving
+pub mod Sending

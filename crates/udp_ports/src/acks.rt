@@ -6,6 +6,8 @@ use nop_types::kinds::FIRST_MAGIC;
 /// The second byte of an acknowledgement, the letter A. That of each datagram of the protocol is another.
 const ACK_MAGIC: u8 = 0x41;
 
+const _: () = prove!(ACK_MAGIC == 0x41);
+
 /// What a link answers to parts. Neither number is 0.
 #[derive(Clone, Copy, Debug, PartialEq, Eq)]
 pub(crate) struct Ack {

@@ -1,4 +1,4 @@
-ghost use Rattle.std.specs.Prelude.{◌≡◌, ◌<◌, ◌++◌, ◌∷◌, [], drop, length, slice_get, OnOk, OnErr};
+ghost use Rattle.std.specs.Prelude.{◌≡◌, ◌<◌, ◌++◌, ◌∷◌, [], drop, length, option_map, slice_get, OnOk, OnErr};
 
 use nop_types::{Bytes, MAX_FRAGMENTS, NoMemory};
 use std::alloc::Global;
@@ -7,6 +7,8 @@ use std::marker::Model;
 
 /// The most datagrams that wait: two messages of the most fragments.
 pub(crate) const MOST_WAITING: usize = 2 * MAX_FRAGMENTS;
+
+const _: () = prove!(MOST_WAITING == 8192);
 
 /// A datagram that waits, and the port that it is for.
 #[derive(Debug, Drop)]
@@ -53,7 +55,9 @@ impl Backlog {
     }
 
     /// One of them, by its place.
-    pub(crate) fn get(&self, i: usize) -> Option<&Waiting> {
+    pub(crate) fn get(&self, i: usize) -> Option<&Waiting>
+        ensures { option_map (λ part. part.now) result ≡ slice_get self.now i }
+    {
         self.waiting.get(i)
     }
 

@@ -1,12 +1,14 @@
-ghost use Rattle.std.specs.Prelude.{◌≡◌, ◌≢◌, ◌⊎◌, ◌<◌, ◌≤◌, ◌+◌, ◌-◌, ◌++◌, ◌∷◌, [], length, min};
-ghost use Rattle.std.specs.Prelude.{None, IfSome};
+ghost use Rattle.std.specs.Prelude.{◌≡◌, ◌⊎◌, ◌<◌, ◌≤◌, [], length, option_map, slice_get};
+ghost use Rattle.std.specs.Prelude.{false, None, Some, IfOk, IfSome, IsTrue, OnErr};
 ghost use Rattle.udp_ports.specs.declared.flow.Admission.TheVariants as admissions;
-ghost use Rattle.udp_ports.specs.declared.flow.TheConstants.{FIRST_WINDOW, MOST_IN_FLIGHT};
+ghost use Rattle.udp_ports.specs.Sending.{acknowledged, admission, admitted, deadline_at, given_up, is_at_rest};
+ghost use Rattle.udp_ports.specs.Sending.{is_over, next_deadline, resting, sent, timed, timeout, turn_begun};
 
 use crate::acks::Ack;
 use crate::backlog::{Backlog, MOST_WAITING, Waiting};
 use nop_types::{MAX_REPLICAS, NoMemory};
 use std::alloc::Global;
+use std::marker::Model;
 
 /// The most parts that are in flight to a port: sent to it, and neither acknowledged nor given up.
 pub(crate) const MOST_IN_FLIGHT: usize = 36;
@@ -14,11 +16,22 @@ pub(crate) const MOST_IN_FLIGHT: usize = 36;
 /// How many may be in flight until the port says how many it takes: all other replicas may begin at the same moment.
 pub(crate) const FIRST_WINDOW: usize = MOST_IN_FLIGHT / (MAX_REPLICAS as usize - 1);
 
+/// How many parts go to a port in a turn at most, so that what comes does not wait for long.
+pub(crate) const MOST_AT_ONCE: usize = FIRST_WINDOW;
+
 /// After how many microseconds without an acknowledgement what is in flight is given up.
 const TIMEOUT_MICROS: u64 = 100_000;
 
 /// The same for a silent port. Its link may be one that never acknowledges, so time alone says when more is sent.
 const SILENT_TIMEOUT_MICROS: u64 = 500;
+
+const _: () = prove!(
+    MOST_IN_FLIGHT == 36
+        && FIRST_WINDOW == 6
+        && MOST_AT_ONCE == 6
+        && TIMEOUT_MICROS == 100_000
+        && SILENT_TIMEOUT_MICROS == 500
+);
 
 /// What is to be done with a part.
 #[derive(Clone, Copy, Debug, PartialEq, Eq)]
@@ -42,15 +55,57 @@ pub(crate) struct Flow {
     is_silent: bool,
     // Whether parts of an earlier turn wait.
     is_closed: bool,
-    ghost flight: { in_flight ≤ MOST_IN_FLIGHT },
-    ghost room: { window ≤ MOST_IN_FLIGHT },
-    ghost rest: { in_flight ≡ 0 → length backlog ≡ 0 → window ≡ FIRST_WINDOW },
+}
+
+impl Model for Flow {
+    ghost use Rattle.udp_ports.specs.Sending.{IsSteady, Outgoing};
+
+    ghost Value = { Outgoing };
+
+    ghost view = { λ f. record {
+      waiting = f.backlog;
+      in_flight = f.in_flight;
+      window = f.window;
+      deadline = f.deadline;
+      is_silent = f.is_silent;
+      is_closed = f.is_closed;
+    } };
+
+    ghost invariant = { λ f. IsSteady (record {
+      waiting = f.backlog;
+      in_flight = f.in_flight;
+      window = f.window;
+      deadline = f.deadline;
+      is_silent = f.is_silent;
+      is_closed = f.is_closed;
+    }) };
+}
+
+/// Whether a deadline is over.
+fn is_over(now: Option<u64>, deadline: Option<u64>) -> bool
+    ensures { result ≡ is_over now deadline }
+{
+    match (now, deadline) {
+        (None, _) => true,
+        (Some(_), None) => false,
+        (Some(now), Some(deadline)) => now >= deadline,
+    }
+}
+
+/// The deadline that stands, or one that counts from now.
+fn next_deadline(now: Option<u64>, deadline: Option<u64>, micros: u64) -> Option<u64>
+    ensures { result ≡ next_deadline now deadline micros }
+{
+    match (now, deadline) {
+        (_, Some(deadline)) => Some(deadline),
+        (None, None) => None,
+        (Some(now), None) => now.checked_add(micros),
+    }
 }
 
 impl Flow {
     pub(crate) fn new(alloc: Global) -> Flow
-        ensures waiting { result.backlog ≡ [] }
-        ensures flight { result.in_flight ≡ 0 }
+        ensures { result ≡ resting false }
     {
         Flow {
             backlog: Backlog::new(alloc),
@@ -64,57 +119,52 @@ impl Flow {
 
     /// How many parts wait.
     pub(crate) fn len(&self) -> usize
-        ensures { result ≡ length self.now.backlog }
+        ensures { result ≡ length self.now.waiting }
     {
         self.backlog.len()
     }
 
     /// A part that waits, by its place.
-    pub(crate) fn get(&self, i: usize) -> Option<&Waiting> {
+    pub(crate) fn get(&self, i: usize) -> Option<&Waiting>
+        ensures { option_map (λ part. part.now) result ≡ slice_get self.now.waiting i }
+    {
         self.backlog.get(i)
     }
 
     /// Whether nothing waits and nothing is in flight.
-    pub(crate) fn is_at_rest(&self) -> bool {
+    pub(crate) fn is_at_rest(&self) -> bool
+        ensures is { result ≡ is_at_rest self.now }
+        ensures rest { IsTrue result → self.now ≡ resting self.now.is_silent }
+    {
         self.backlog.len() == 0 && self.in_flight == 0
     }
 
-    /// What is to be done with a part: it is to be sent now, and counts as in flight; or it is kept; or it is refused, also where
-    /// there is no memory to keep it.
-    pub(crate) fn admit(&mut self, port: u16, bytes: &[u8]) -> Admission
-        ensures now { result ≡ admissions.SendNow → (self.old.backlog ≡ [])
-            × ((self.old.in_flight < self.old.window)
-            × (self.new.in_flight ≡ self.old.in_flight + 1)) }
-        ensures kept { result ≡ admissions.Kept → self.new.backlog
-            ≡ self.old.backlog ++ record { port = port; bytes = bytes.now } ∷ [] }
-        ensures flight { result ≢ admissions.SendNow → self.new.in_flight ≡ self.old.in_flight }
-        ensures waiting { result ≢ admissions.Kept → self.new.backlog ≡ self.old.backlog }
-        ensures room { self.new.window ≡ self.old.window }
+    /// What is to be done with a part: it is to be sent now, and counts as in flight; or it is kept; or it is refused.
+    pub(crate) fn admit(&mut self, port: u16, bytes: &[u8]) -> Result<Admission, NoMemory>
+        ensures ok { IfOk result (λ it. (it ≡ admission self.old)
+            × (self.new ≡ admitted it (record { port = port; bytes = bytes.now }) self.old)) }
+        // Memory is taken for a part that is kept alone.
+        ensures err { OnErr result ((admission self.old ≡ admissions.Kept)
+            × (self.new ≡ self.old)) }
     {
         if self.is_closed || self.backlog.len() >= MOST_WAITING {
-            return Admission::Refused;
+            return Ok(Admission::Refused);
         }
         if self.backlog.len() == 0 && self.in_flight < self.window {
             self.in_flight += 1;
             self.deadline = None;
-            return Admission::SendNow;
+            return Ok(Admission::SendNow);
         }
-        match self.backlog.push(port, bytes) {
-            Ok(()) => Admission::Kept,
-            Err(NoMemory) => Admission::Refused,
-        }
+        self.backlog.push(port, bytes)?;
+        Ok(Admission::Kept)
     }
 
     /// Takes the first part that waits, where it may be sent now. It then counts as in flight.
     pub(crate) fn next(&mut self) -> Option<Waiting>
-        ensures some { IfSome result (λ first. (self.old.backlog ≡ first ∷ self.new.backlog)
-            × ((self.old.in_flight < self.old.window)
-            × (self.new.in_flight ≡ self.old.in_flight + 1))) }
-        ensures none { result ≡ None → (self.old.backlog ≡ [])
-            ⊎ (self.old.window ≤ self.old.in_flight) }
-        ensures same { result ≡ None → (self.new.backlog ≡ self.old.backlog)
-            × (self.new.in_flight ≡ self.old.in_flight) }
-        ensures room { self.new.window ≡ self.old.window }
+        ensures some { IfSome result (λ first. (slice_get self.old.waiting 0 ≡ Some first)
+            × ((self.old.in_flight < self.old.window) × (self.new ≡ sent 1 self.old))) }
+        ensures none { result ≡ None → (self.new ≡ self.old)
+            × ((self.old.waiting ≡ []) ⊎ (self.old.window ≤ self.old.in_flight)) }
     {
         if self.in_flight >= self.window {
             return None;
@@ -128,10 +178,7 @@ impl Flow {
     /// The port received parts, and says how many may be in flight from now on. Where all is acknowledged and nothing waits, what comes
     /// next begins anew.
     pub(crate) fn acknowledge(&mut self, ack: Ack)
-        ensures flight { self.new.in_flight ≡ self.old.in_flight - ack.parts }
-        ensures room { (self.new.window ≡ min ack.window MOST_IN_FLIGHT)
-            ⊎ (self.new.window ≡ FIRST_WINDOW) }
-        ensures waiting { self.new.backlog ≡ self.old.backlog }
+        ensures { self.new ≡ acknowledged ack self.old }
     {
         let in_flight = self.in_flight.saturating_sub(usize::from(ack.parts));
         self.window = if in_flight == 0 && self.backlog.len() == 0 {
@@ -147,35 +194,17 @@ impl Flow {
     /// A new turn begins, at this time in microseconds, or at none where the clock cannot be read. What is in flight for too long is
     /// given up, and without a time whatever is.
     pub(crate) fn begin_turn(&mut self, now: Option<u64>)
-        ensures waiting { self.new.backlog ≡ self.old.backlog }
-        ensures flight { (self.new.in_flight ≡ self.old.in_flight) ⊎ (self.new.in_flight ≡ 0) }
-        ensures room { (self.new.window ≡ self.old.window) ⊎ (self.new.window ≡ FIRST_WINDOW) }
+        ensures { self.new ≡ turn_begun now self.old }
     {
-        if self.is_over(now) {
+        if is_over(now, self.deadline) {
             self.give_up();
         }
-        self.is_closed = self.backlog.len() > 0;
-        if self.is_at_rest() {
-            self.deadline = None;
-        } else if self.deadline.is_none() {
-            self.deadline = now.and_then(|now| now.checked_add(self.timeout()));
-        }
-    }
-
-    /// Whether the deadline is over.
-    fn is_over(&self, now: Option<u64>) -> bool {
-        match (now, self.deadline) {
-            (None, _) => true,
-            (Some(_), None) => false,
-            (Some(now), Some(deadline)) => now >= deadline,
-        }
+        self.set_deadline(now);
     }
 
     /// Nothing counts as in flight any more.
     fn give_up(&mut self)
-        ensures waiting { self.new.backlog ≡ self.old.backlog }
-        ensures flight { self.new.in_flight ≡ 0 }
-        ensures room { self.new.window ≡ FIRST_WINDOW }
+        ensures { self.new ≡ given_up self.old }
     {
         self.is_silent |= self.backlog.len() > 0;
         self.in_flight = 0;
@@ -183,7 +212,23 @@ impl Flow {
         self.deadline = None;
     }
 
-    fn timeout(&self) -> u64 {
+    /// What waits is now of an earlier turn, and has a deadline.
+    fn set_deadline(&mut self, now: Option<u64>)
+        ensures { self.new ≡ timed now self.old }
+    {
+        let is_at_rest = self.is_at_rest();
+        let timeout = self.timeout();
+        self.deadline = if is_at_rest {
+            None
+        } else {
+            next_deadline(now, self.deadline, timeout)
+        };
+        self.is_closed = self.backlog.len() > 0;
+    }
+
+    fn timeout(&self) -> u64
+        ensures { result ≡ timeout self.now }
+    {
         if self.is_silent {
             SILENT_TIMEOUT_MICROS
         } else {

@@ -6,16 +6,20 @@
 //! as the link of that port says that it took those before them. Messages of one fragment and all other datagrams never wait. A poll
 //! has the memory for a datagram before it receives one.
 //!
-//! Proved: the contracts of the traits, so that counts of faults and losses rise exactly where they have to; a part is sent only
-//! where fewer are in flight than its port takes, and never are more than `MOST_IN_FLIGHT`; at most `MOST_WAITING` wait for it, each
-//! new one is the last of them, and only the first one leaves; which datagrams are parts (`is_part`), and how an acknowledgement is
-//! spelled and read (`ack_bytes`). The contracts of std don't say what a socket carries or what a clock shows. So it is only tested
-//! that datagrams are sent and arrive whole, at the loopback address alone, when parts are sent, acknowledged and given up, how long
-//! a poll takes, and that the clock counts milliseconds.
+//! Proved: the contracts of the traits, so that counts of faults and losses rise exactly where they have to. `is_part` tells which
+//! datagrams are parts (that those are the fragments of messages that have several, is a law of `oum_codec`, `parts_are_told`), and
+//! `ack_bytes` how an acknowledgement is spelled and read. Each call does what its definition says: whether a part is sent, kept or
+//! refused (`admission`), what goes in a turn (`in_turn`), what an acknowledgement makes room for (`acknowledged`), and which part
+//! is answered by one, with which numbers (`due_ack`); ports of other lanes are left as they are. At most
+//! `MOST_IN_FLIGHT` parts are in flight to a port (`IsSteady`), and at most `MOST_WAITING` wait for it. A poll that has nothing owes no
+//! acknowledgement then (`all_settled`), and gives none to the node. The clock never falls, and where a reading fails it answers the
+//! last value (`later`). The contracts of std don't say what a socket carries or what a clock shows. So it is only tested that
+//! datagrams are sent and arrive whole, at the loopback address alone, how long a poll takes, and that the clock counts milliseconds.
 //!
-//! For others: `UdpPorts::new`, `SystemClock::new`, and the methods of the traits. Files, in reading order: `system_clock`; `socket`;
-//! `parts`; `lanes`; `acks`; `backlog`, the parts that wait for a port; `flow`, which of them may be sent, and `flows`; `receipts`,
-//! what came and is to be acknowledged; `link`; `ports`; `tests`.
+//! For others: `UdpPorts::new`, `SystemClock::new`, `is_part`, and the methods of the traits. Files, in reading order: `system_clock`;
+//! `socket`; `parts`; `lanes`; `acks`; `backlog`, the parts that wait for a port; `flow`, which of them may be sent, and `flows`;
+//! `receipts`, what came and is to be acknowledged; `link`; `ports`; `tests`. Definitions: `specs/Sending` (`Outgoing`), `Receiving`,
+//! `Links`, `Acks`.
 #![tactic(auto)]
 
 mod acks;
@@ -33,5 +37,6 @@ mod system_clock;
 mod tests;
 
 pub use link::UdpLink;
+pub use parts::is_part;
 pub use ports::UdpPorts;
 pub use system_clock::SystemClock;

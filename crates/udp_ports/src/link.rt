@@ -1,5 +1,9 @@
-ghost use Rattle.std.specs.Prelude.{◌≡◌, ◌≤◌, length, IfOk, IfSome};
+ghost use Rattle.std.specs.Prelude.{◌≡◌, ◌≤◌, ℕ, length, Ok, None, IfOk, IfSome, IsFalse, IsTrue};
+ghost use Rattle.nop_types.specs.Parts.{IsPart};
 ghost use Rattle.nop_types.specs.declared.limits.TheConstants.{MAX_DATAGRAM_BYTES};
+ghost use Rattle.udp_ports.specs.Acks.{IsNoAck};
+ghost use Rattle.udp_ports.specs.Links.{AdmitsPart, HeedsAck};
+ghost use Rattle.udp_ports.specs.Receiving.{all_settled, recorded};
 
 use crate::acks::Ack;
 use crate::flow::{Admission, MOST_IN_FLIGHT};
@@ -8,7 +12,7 @@ use crate::lanes::LANES;
 use crate::parts::is_part;
 use crate::receipts::Receipts;
 use crate::socket::{Patience, Socket};
-use nop_types::Bytes;
+use nop_types::{Bytes, NoMemory};
 use outside::{Link, LinkError};
 use std::alloc::Global;
 use std::time::Clock;
@@ -29,21 +33,36 @@ pub struct UdpLink<'a, R: Clock> {
     losses: u64,
 }
 
-/// Sends a datagram, or keeps a part; else it is lost.
+/// Sends a datagram, or keeps a part; else it is lost, also where there is no memory to keep it.
 fn send_or_keep<R: Clock>(
     flows: &mut Flows,
     socket: &Socket<'_, R>,
     port: u16,
     bytes: &[u8],
-) -> bool {
+) -> bool
+    ensures part { IsPart bytes.now → AdmitsPart port bytes.now flows.old flows.new result }
+    ensures other { ¬ IsPart bytes.now → flows.new ≡ flows.old }
+{
     if !is_part(bytes) {
         return socket.has_sent(port, bytes);
     }
     match flows.admit(port, bytes) {
-        Admission::SendNow => socket.has_sent(port, bytes),
-        Admission::Kept => true,
-        Admission::Refused => false,
+        Ok(Admission::SendNow) => socket.has_sent(port, bytes),
+        Ok(Admission::Kept) => true,
+        Ok(Admission::Refused) | Err(NoMemory) => false,
     }
+}
+
+/// Heeds an acknowledgement. Any other datagram is left to the node.
+fn heed(flows: &mut Flows, from: u16, bytes: &[u8]) -> bool
+    ensures ack { IsTrue result → HeedsAck from bytes.now flows.old flows.new }
+    ensures other { IsFalse result → IsNoAck bytes.now × (flows.new ≡ flows.old) }
+{
+    let Some(ack) = Ack::read(bytes) else {
+        return false;
+    };
+    flows.acknowledge(from, ack);
+    true
 }
 
 /// Acknowledges what came, where it is a part and an acknowledgement is due.
@@ -52,7 +71,10 @@ fn acknowledge_part<R: Clock>(
     receipts: &mut Receipts,
     from: u16,
     bytes: &[u8],
-) {
+)
+    ensures part { IsPart bytes.now → receipts.new ≡ recorded from receipts.old }
+    ensures other { ¬ IsPart bytes.now → receipts.new ≡ receipts.old }
+{
     if !is_part(bytes) {
         return;
     }
@@ -62,12 +84,13 @@ fn acknowledge_part<R: Clock>(
 }
 
 /// Acknowledges the parts that came and are not acknowledged yet.
-fn acknowledge_rest<R: Clock>(socket: &Socket<'_, R>, receipts: &mut Receipts) {
-    for _ in 0..LANES {
-        let Some((port, ack)) = receipts.take_pending() else {
-            return;
-        };
-        let _sent = socket.has_sent(port, &ack.to_bytes());
+fn acknowledge_rest<R: Clock>(socket: &Socket<'_, R>, receipts: &mut Receipts)
+    ensures { receipts.new ≡ all_settled receipts.old }
+{
+    for lane in 0..LANES {
+        if let Some(ack) = receipts.take(lane) {
+            let _sent = socket.has_sent(receipts.port_of(lane), &ack.to_bytes());
+        }
     }
 }
 
@@ -78,18 +101,22 @@ fn receive<R: Clock>(
     receipts: &mut Receipts,
     patience: Patience,
 ) -> Result<Option<Bytes>, LinkError>
-    ensures { IfOk result (λ r. IfSome r (λ datagram. length datagram ≤ MAX_DATAGRAM_BYTES)) }
+    ensures short { IfOk result (λ r. IfSome r (λ datagram. length datagram
+        ≤ MAX_DATAGRAM_BYTES)) }
+    ensures heeded { IfOk result (λ r. IfSome r IsNoAck) }
+    ensures settled { result ≡ Ok None → receipts.new ≡ all_settled receipts.old }
+    ensures recorded { IfOk result (λ r. IfSome r (λ datagram. IsPart datagram
+        → (from : ℕ) × (receipts.new ≡ recorded from receipts.old))) }
 {
     let mut patience = patience;
     for _ in 0..MOST_ACKS {
         let Some(received) = socket.receive(patience)? else {
             break;
         };
-        let Some(ack) = Ack::read(received.bytes.as_slice()) else {
+        if !heed(flows, received.from, received.bytes.as_slice()) {
             acknowledge_part(socket, receipts, received.from, received.bytes.as_slice());
             return Ok(Some(received.bytes));
-        };
-        flows.acknowledge(received.from, ack);
+        }
         patience = Patience::Returns;
     }
     acknowledge_rest(socket, receipts);

@@ -1,13 +1,13 @@
-ghost use Rattle.std.specs.Prelude.{◌≡◌, ◌≢◌, ◌↔◌, ◌<◌, ◌∷◌, [], true, Some};
-ghost use Rattle.std.specs.Prelude.{drop, length, slice_get, take};
-ghost use Rattle.nop_types.specs.declared.kinds.TheConstants.{FRAGMENT};
+ghost use Rattle.std.specs.Prelude.{◌↔◌, IsTrue};
+ghost use Rattle.nop_types.specs.Parts.{IsPart};
 
-use nop_types::kinds::FRAGMENT;
+use nop_types::kinds::{COUNT_PLACE, FRAGMENT, FRAGMENT_HEADER_BYTES, KIND_PLACE};
 
-/// Whether a datagram is a part of a message: a fragment whose count, its bytes 15 and 16, is not 1.
-pub(crate) fn is_part(bytes: &[u8]) -> bool
-    ensures { (result ≡ true) ↔ ((slice_get bytes.now 3 ≡ Some FRAGMENT)
-        × ((17 < length bytes.now) × (take 2 (drop 15 bytes.now) ≢ 0 ∷ 1 ∷ []))) }
+/// Whether a datagram is a part of a message that has several: the fragment of such a message.
+pub fn is_part(bytes: &[u8]) -> bool
+    ensures { IsTrue result ↔ IsPart bytes.now }
 {
-    bytes.len() > 17 && bytes[3] == FRAGMENT && bytes[15..17] != [0, 1]
+    bytes.len() > FRAGMENT_HEADER_BYTES
+        && bytes[KIND_PLACE] == FRAGMENT
+        && bytes[COUNT_PLACE..COUNT_PLACE + 2] != [0, 1]
 }

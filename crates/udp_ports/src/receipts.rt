@@ -1,5 +1,8 @@
-ghost use Rattle.std.specs.Prelude.{◌≤◌, ◌<◌, IfSome};
+ghost use Rattle.std.specs.Prelude.{◌≡◌, ◌≤◌, ◌<◌, ◌%◌, IfSome};
 ghost use Rattle.udp_ports.specs.Acks.{IsGiven};
+ghost use Rattle.std.specs.List.{All};
+ghost use Rattle.udp_ports.specs.Receiving.{ack_for, due_ack, is_sending, no_receipt, receipt_at, recorded, window_of};
+ghost use Rattle.udp_ports.specs.Receiving.{with_ack, with_part};
 ghost use Rattle.udp_ports.specs.declared.flow.TheConstants.{FIRST_WINDOW, MOST_IN_FLIGHT};
 
 use crate::acks::Ack;
@@ -12,9 +15,11 @@ const ACK_EVERY: usize = FIRST_WINDOW;
 /// A port counts as sending as long as a part of it is among the last so many.
 const RECENT_PARTS: u64 = 2 * MOST_IN_FLIGHT as u64;
 
+const _: () = prove!(ACK_EVERY == 6 && RECENT_PARTS == 72);
+
 /// What came from the ports of a lane.
 #[derive(Clone, Copy, Debug)]
-struct Receipt {
+pub(crate) struct Receipt {
     // The port of the last part.
     port: u16,
     // How many parts are not acknowledged yet.
@@ -33,7 +38,10 @@ pub(crate) struct Receipts {
 }
 
 impl Receipts {
-    pub(crate) fn new() -> Receipts {
+    pub(crate) fn new() -> Receipts
+        ensures count { result.count ≡ 0 }
+        ensures lanes { All (λ receipt. receipt ≡ no_receipt) result.lanes }
+    {
         let none = Receipt {
             port: 0,
             owed: 0,
@@ -47,61 +55,74 @@ impl Receipts {
 
     /// Records a part that came from this port. Gives an acknowledgement where one is due.
     pub(crate) fn record(&mut self, port: u16) -> Option<Ack>
-        ensures { IfSome result IsGiven }
+        ensures given { IfSome result IsGiven }
+        ensures due { result ≡ due_ack port self.old }
+        ensures recorded { self.new ≡ recorded port self.old }
     {
-        self.count = self.count.saturating_add(1);
         let lane = lane_of(port);
-        self.lanes[lane].port = port;
-        self.lanes[lane].last = self.count;
-        self.lanes[lane].owed = self.lanes[lane].owed.saturating_add(1);
+        self.add(lane, port);
         if usize::from(self.lanes[lane].owed) < ACK_EVERY {
             return None;
         }
         self.take(lane)
     }
 
-    /// An acknowledgement that is not due yet, if there is one, and the port that it is for.
-    pub(crate) fn take_pending(&mut self) -> Option<(u16, Ack)>
-        ensures { IfSome result (λ pending. IsGiven pending.1) }
+    /// One more part came.
+    fn add(&mut self, lane: usize, port: u16)
+        requires { lane ≡ port % LANES }
+        ensures { self.new ≡ with_part port self.old }
     {
-        for lane in 0..LANES {
-            if let Some(ack) = self.take(lane) {
-                return Some((self.lanes[lane].port, ack));
-            }
-        }
-        None
+        let count = self.count.saturating_add(1);
+        let owed = self.lanes[lane].owed.saturating_add(1);
+        self.count = count;
+        self.lanes[lane] = Receipt {
+            port,
+            owed,
+            last: count,
+        };
+    }
+
+    /// The port of the last part of a lane.
+    pub(crate) fn port_of(&self, lane: usize) -> u16
+        requires { lane < LANES }
+        ensures { result ≡ (receipt_at lane self.now).port }
+    {
+        self.lanes[lane].port
     }
 
     /// The acknowledgement of what a lane is owed.
-    fn take(&mut self, lane: usize) -> Option<Ack>
+    pub(crate) fn take(&mut self, lane: usize) -> Option<Ack>
         requires { lane < LANES }
-        ensures { IfSome result IsGiven }
+        ensures given { IfSome result IsGiven }
+        ensures ack { result ≡ ack_for lane self.old }
+        ensures settled { self.new ≡ with_ack lane self.old }
     {
+        let window = self.window();
         let parts = self.lanes[lane].owed;
         if parts == 0 {
             return None;
         }
         self.lanes[lane].owed = 0;
-        Some(Ack {
-            parts,
-            window: self.window(),
-        })
+        Some(Ack { parts, window })
     }
 
     /// How many parts may be in flight from a port.
     fn window(&self) -> u8
+        ensures is { result ≡ window_of self.now }
         ensures least { FIRST_WINDOW ≤ result }
         ensures most { result ≤ MOST_IN_FLIGHT }
     {
         let senders = self
             .lanes
             .iter()
-            .filter(|lane| self.is_sending(lane))
+            .filter(|lane| is_sending(self.count, lane))
             .count();
         (MOST_IN_FLIGHT / senders.max(1)).max(FIRST_WINDOW) as u8
     }
+}
 
-    fn is_sending(&self, lane: &Receipt) -> bool {
-        lane.last > 0 && self.count.saturating_sub(lane.last) < RECENT_PARTS
-    }
+fn is_sending(count: u64, lane: &Receipt) -> bool
+    ensures { result ≡ is_sending count lane.now }
+{
+    lane.last > 0 && count.saturating_sub(lane.last) < RECENT_PARTS
 }

@@ -1,4 +1,5 @@
-ghost use Rattle.std.specs.Prelude.{◌≡◌, ◌≤◌, length, IfOk, IfSome};
+ghost use Rattle.std.specs.Prelude.{◌≡◌, ◌<◌, ◌≤◌, ◌/◌, ◌^◌, length, IfOk, IfSome, SomeIff};
+ghost use Rattle.std.specs.Duration.{as_nanos};
 ghost use Rattle.nop_types.specs.declared.limits.TheConstants.{MAX_DATAGRAM_BYTES};
 
 use nop_types::{Bytes, MAX_DATAGRAM_BYTES, NoMemory};
@@ -11,6 +12,8 @@ use std::{io, mem, thread};
 
 /// How long a receive waits at most, in milliseconds. The system rounds it up to its own ticks, of some milliseconds.
 const WAIT_MILLIS: u64 = 1;
+
+const _: () = prove!(WAIT_MILLIS == 1);
 
 /// How long a receive sleeps in place of a wait that would be too long, in microseconds.
 const NAP_MICROS: u64 = 200;
@@ -48,6 +51,13 @@ pub(crate) fn is_silence(kind: ErrorKind) -> bool {
         kind,
         ErrorKind::WouldBlock | ErrorKind::TimedOut | ErrorKind::Interrupted
     )
+}
+
+/// A time in microseconds, where 64 bits reach that far.
+fn in_micros(time: Duration) -> Option<u64>
+    ensures { SomeIff result (as_nanos time / 1_000 < 2 ^ 64) (as_nanos time / 1_000) }
+{
+    u64::try_from(time.as_micros()).ok()
 }
 
 impl<'a, R: Clock> Socket<'a, R> {
@@ -119,7 +129,6 @@ impl<'a, R: Clock> Socket<'a, R> {
 
     /// The time in microseconds from a start of the clock's own, where it can be read.
     pub(crate) fn micros(&self) -> Option<u64> {
-        let time = self.clock.monotonic().ok()?;
-        u64::try_from(time.as_micros()).ok()
+        in_micros(self.clock.monotonic().ok()?)
     }
 }

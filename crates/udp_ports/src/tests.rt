@@ -1,5 +1,6 @@
 use crate::acks::Ack;
 use crate::flow::{Admission, Flow};
+use crate::lanes::lane_of;
 use crate::parts::is_part;
 use crate::receipts::Receipts;
 use crate::socket::is_silence;
@@ -212,7 +213,7 @@ fn begun(rt: &impl Abort, flow: &mut Flow) {
         } else {
             Admission::Kept
         };
-        assert!(rt; flow.admit(1, &[8u8; 1417]) == wanted);
+        assert!(rt; flow.admit(1, &[8u8; 1417]) == Ok(wanted));
     }
 }
 
@@ -224,14 +225,14 @@ fn parts_wait_for_acknowledgements(rt: HostRuntime) {
     begun(&rt, &mut flow);
     assert!(rt; released(&mut flow, 200) == 0);
     for (parts, window, wanted) in [(6, 9, 9), (4, 9, 4), (1, 3, 0), (8, 200, 1)] {
-        assert!(rt; flow.admit(1, &[8u8; 1417]) == Admission::Refused);
+        assert!(rt; flow.admit(1, &[8u8; 1417]) == Ok(Admission::Refused));
         flow.acknowledge(Ack { parts, window });
         assert!(rt; released(&mut flow, 300) == wanted);
     }
     for _ in 0..35usize {
-        assert!(rt; flow.admit(1, &[8u8; 1417]) == Admission::SendNow);
+        assert!(rt; flow.admit(1, &[8u8; 1417]) == Ok(Admission::SendNow));
     }
-    assert!(rt; flow.admit(1, &[8u8; 1417]) == Admission::Kept);
+    assert!(rt; flow.admit(1, &[8u8; 1417]) == Ok(Admission::Kept));
     flow.acknowledge(Ack {
         parts: 100,
         window: 36,
@@ -330,12 +331,14 @@ fn senders_share_what_is_in_flight(rt: HostRuntime) {
             assert!(rt; ack.parts == 6 && ack.window == if i == 72 { 36 } else { 12 });
         }
     }
-    assert!(rt; receipts.take_pending().is_none());
+    assert!(rt; receipts.take(lane_of(41002)).is_none());
     receipts.record(41002);
     receipts.record(41002);
     let ack = Ack {
         parts: 2,
         window: 18,
     };
-    assert!(rt; receipts.take_pending() == Some((41002, ack)) && receipts.take_pending().is_none());
+    let lane = lane_of(41002);
+    assert!(rt; receipts.port_of(lane) == 41002 && receipts.take(lane) == Some(ack));
+    assert!(rt; receipts.take(lane).is_none());
 }

@@ -5,7 +5,8 @@ ghost use Rattle.std.specs.Prelude.{◌≡◌, ◌≤◌, ◌+◌, length, IfOk,
 ghost use Rattle.std.specs.List.{All};
 ghost use Rattle.network.specs.Marks.{part_of, sent_of, MarkFits, Keeps};
 
-use super::{HEADER_LEN, Mark, mark_at, rest_of};
+use super::{Mark, mark_at, rest_of};
+use nop_types::kinds::FRAGMENT_HEADER_BYTES;
 use nop_types::{Actor, Dest, NoMemory};
 
 /// A rest shorter than this is not looked for.
@@ -89,7 +90,7 @@ pub fn put_bytes(
 {
     let before = bytes.len();
     let len = len_of(datagram)?;
-    let (head, rest) = datagram.split_at(datagram.len().min(HEADER_LEN));
+    let (head, rest) = datagram.split_at(datagram.len().min(FRAGMENT_HEADER_BYTES));
     let head = append(bytes, head)?;
     match put_rest(bytes, marks, rest) {
         Ok(rest) => Ok(Mark {

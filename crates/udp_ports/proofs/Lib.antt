@@ -1,0 +1,3 @@
+pub mod EachDone
+pub mod Releasing
+pub mod Settling
