@@ -1,7 +1,7 @@
 #!/bin/bash
 # Replays schedules that meet the limits of logs, queues, messages, maps and groups, and compares the output with a transcript that is
-# written out beside the schedule, event by event, from the rules of the protocol and from its formats. It takes some seconds, leaves
-# nothing behind, and ends with status 1 at any difference.
+# written out beside the schedule, event by event, from the rules of the protocol and from its formats. Each transcript is judged too,
+# and one of a million lines. It takes some seconds, leaves nothing behind, and ends with status 1 at any difference.
 #
 #   checks/limits.sh             the program is crates/nopaxos/out/nopaxos, or the file that NOPAXOS names
 . "$(dirname "$0")/common.bash" || exit 2
@@ -67,6 +67,24 @@ same() {
     if [ "$status" != 0 ] || [ -s "$folder/differ" ] || [ -s "$folder/err" ]; then
         differs "$name: status $status, $(cat "$folder/differ" "$folder/err")"
     fi
+    legal
+}
+
+# legal: the transcript passes, with the numbers of its lines.
+legal() {
+    local status wanted
+    made=$((made + 1))
+    wanted="legal $(lines submit) $(lines accept) $(lines history)"
+    "$program" check < "$folder/transcript" > "$folder/out" 2> "$folder/err"
+    status=$?
+    if [ "$status" != 0 ] || [ "$(cat "$folder/out" "$folder/err")" != "$wanted" ]; then
+        differs "$name, judged: status $status, '$(head -c 300 "$folder/out" "$folder/err")' and not '$wanted'"
+    fi
+}
+
+# lines WORD: how many lines of the transcript begin with it.
+lines() {
+    grep -c "^$1 " "$folder/transcript"
 }
 
 put=5000016b000176
@@ -89,15 +107,39 @@ answers() {
     line "accept c0 $1 6e6f6e65"
 }
 
-# ---- One replica alone, whose log gets full: the 4,097th request waits, and gets no reply. Its next view begins with the full log, of
-# which it answers each request again. Then all slots are synchronised: they move out of the log, and the request that waits is logged.
-# So the log goes on, past the slots that it can keep.
-begins 'a full log' 1 1 1
-for ((slot = 1; slot <= 4096; slot++)); do
-    asks "$slot"
-    answers "$slot"
-done
-asks 4097
+# filled NAME: one replica alone, whose log gets full: 4,096 requests are answered, and the next packet comes.
+filled() {
+    begins "$1" 1 1 1
+    for ((slot = 1; slot <= 4096; slot++)); do
+        asks "$slot"
+        answers "$slot"
+    done
+    asks 4097
+}
+
+# told VIEW SLOTS POINT: how the one replica stands at the end, with so many slots of which the first are synchronised, and the history.
+told() {
+    local slot
+    line "replica r0 up normal $1 $2 $3"
+    for ((slot = 1; slot <= $3; slot++)); do line "entry r0 $slot c0 $slot $get"; done
+    for ((slot = 1; slot <= $2; slot++)); do line "history $slot c0 $slot $get"; done
+}
+
+# ---- The packet past a full log has no reply, and the log stays as long as it was.
+filled 'a full log'
+told '0 1' 4096 0
+same
+
+# ---- It waits: once all slots are synchronised and have moved out of the log, it is logged and answered.
+filled 'a full log that is synchronised'
+event 'tick r0 sync'
+sends r0 c0 reply 40
+told '0 1' 4097 4096
+same
+
+# ---- So it is where a view begins with the full log, of which each request is answered again. The log goes on, past the slots that it
+# can keep.
+filled 'a full log in the next view'
 event 'tick r0 suspect'
 for ((slot = 1; slot <= 4096; slot++)); do sends r0 c0 reply 40; done
 event 'tick r0 sync'
@@ -107,9 +149,7 @@ answers 4098
 event 'tick r0 sync'
 asks 4099
 answers 4099
-line 'replica r0 up normal 1 1 4099 4098'
-for ((slot = 1; slot <= 4098; slot++)); do line "entry r0 $slot c0 $slot $get"; done
-for ((slot = 1; slot <= 4099; slot++)); do line "history $slot c0 $slot $get"; done
+told '1 1' 4099 4098
 same
 
 # ---- Sixteen clients have a put each, and the sequencer stamps them in turn, 4,097 times. The leader misses number 1. While its gap
@@ -357,5 +397,18 @@ line "history 1 c15 1 $put"
 line "history 2 c15 2 $put"
 line "history 3 c0 1 $big"
 same
+
+# ---- A transcript of a million lines: 333,332 requests with no bytes, each submitted, accepted and in the history.
+name='a million lines'
+{
+    echo 'transcript 1 replicas 1 sequencers 1 clients 1'
+    echo 'busy c0'
+    echo 'busy c0'
+    seq 333332 | sed 's/.*/submit c0 & -\naccept c0 & 626164/'
+    seq 333332 | sed 's/.*/history & c0 & -/'
+    echo end
+} > "$folder/transcript"
+[ "$(wc -l < "$folder/transcript")" = 1000000 ] || differs "$name: there are more or fewer"
+legal
 
 concludes

@@ -11,7 +11,7 @@ needs "${LOCK_SPACETIME:-}" lock_spacetime
 locks=$program
 needs "${SPACETIME:-}" spacetime
 
-# drawn NAME LINE..: draws the picture of a schedule with these lines.
+# drawn NAME LINE..: draws the picture of a schedule with these lines, in which each event has a row, and each delivery an arrow.
 drawn() {
     name=$1
     shift
@@ -22,6 +22,20 @@ drawn() {
     if [ "$status" != 0 ] || [ -s "$folder/err" ]; then
         differs "$name: status $status, and on standard error '$(head -c 300 "$folder/err")'"
     fi
+    local rows=$(($# - 1)) deliveries
+    deliveries=$(grep -c '^deliver ' "$folder/schedule")
+    made=$((made + 1))
+    [ "$(grep -c '<text class="event"' "$folder/out")" = "$rows" ] || differs "$name: there are more or fewer rows than $rows"
+    made=$((made + 1))
+    [ "$(arrows)" = "$deliveries" ] || differs "$name: there are $(arrows) arrows and not $deliveries"
+}
+
+# arrows: how many arrows there are, those of the legend not among them.
+arrows() {
+    local all legend
+    all=$(grep -cE '<path class="(arrow|again) ' "$folder/out")
+    legend=$(grep -cE '>(request, stamped request|reply|message between replicas|installing, pinging|delivered again)</text>' "$folder/out")
+    echo $((all - legend))
 }
 
 # shows COUNT TEXT: so many texts of the picture are this one.
@@ -166,6 +180,16 @@ drawn 'more slots than have notes' 'nopaxos 1 replicas 3 sequencers 1 clients 6'
 shows 2 '4: c3#1'
 shows 1 '5: c4#1'
 shows 1 '2 more slots'
+
+# r0 and r1 have a put synchronised, a get comes to both, and r2 is sent all of it; then r0 misses number 3, and r1 agrees
+drawn 'slots above a sync point' "$two" 'submit c0 5000016b000176' 'deliver 0 s0' 'deliver 1 r0' 'deliver 1 r1' 'tick r0 sync' \
+    'deliver 4 r1' 'deliver 5 r0' 'deliver 6 r1' 'submit c1 4700016b' 'deliver 7 s0' 'deliver 8 r0' 'deliver 8 r1' 'tick r0 sync' \
+    'deliver 11 r2' 'deliver 7 s0' 'deliver 7 s0' 'deliver 15 r0' 'deliver 16 r1' 'deliver 17 r0'
+shows 3 '1: c0#1'
+shows 3 'synced to 1'
+shows 3 '2: c1#1'
+shows 2 '3: NO-OP'
+shows 1 '4: c1#1'
 
 name='a datagram that was not sent'
 printf '%s\n' "$two" 'submit c0 4700016b' 'deliver 7 s0' | "$program" > "$folder/out" 2> "$folder/err"

@@ -1,3 +1,5 @@
+use crate::peers::shown;
+use crate::rows::bytes_of;
 use fragments::{CutError, Reassembly, cut};
 use nop_types::{Bytes, Datagram, Dest, Fragment, Out, Outbox};
 use oum_codec::decode;
@@ -85,22 +87,69 @@ fn joined(rt: &impl Abort, alloc: Global, sent: &[Out]) -> Vec<u8> {
     whole
 }
 
-/// A message of so many bytes is cut into so many fragments, the last of a datagram of that length, and joined again.
-fn check_length(rt: &impl Abort, alloc: Global, len: u32, count: usize, last: usize) {
-    let message = filled(rt, alloc, len);
+/// A message is cut into so many fragments, the last of a datagram of that length, and joined again.
+fn check_cut(rt: &impl Abort, alloc: Global, message: &[u8], count: usize, last: usize) {
     let mut out = Outbox::new(alloc);
-    cut(alloc, 2, 5, &message, &mut out, Dest::Replicas).expect(rt, "cut");
+    cut(alloc, 2, 5, message, &mut out, Dest::Replicas).expect(rt, "cut");
     let sent = out.as_slice();
     let last_sent = sent.last().expect(rt, "a datagram");
     assert!(rt;
         sent.len() == count && datagram_of(rt, last_sent).len() == last,
-        "{len}"
+        "{count} with {last}"
     );
-    assert!(rt; joined(rt, alloc, sent) == message, "{len}");
+    assert!(rt;
+        joined(rt, alloc, sent).as_slice() == message,
+        "{count} with {last}"
+    );
+}
+
+fn check_length(rt: &impl Abort, alloc: Global, len: u32, count: usize, last: usize) {
+    check_cut(rt, alloc, &filled(rt, alloc, len), count, last);
+}
+
+/// A StartView of three requests: ops of 640 bytes and of 640, and the last one with its length.
+fn start_view(rt: &impl Abort, alloc: Global, last: &str) -> Vec<u8> {
+    let row = format!(in alloc;
+        "16 01 00000001 0000000000000001 0000000000000004 00000000 00000003 01 00000000 0000000000000001 0280 78*640 01 00000000 0000000000000002 0280 78*640 01 00000000 0000000000000003 {last}"
+    );
+    let bytes = bytes_of(rt, alloc, &row.expect(rt, "memory"));
+    let told = shown(rt, alloc, &bytes);
+    assert!(rt;
+        told.starts_with(
+            "Peer { sender: 1, view: View { leader: 1, session: 1 }, body: StartView {"
+        )
+    );
+    bytes
+}
+
+/// A message of two fragments: the second completes nothing, the first the message, and the first once more nothing.
+fn check_two(rt: &impl Abort, alloc: Global, message: &[u8]) {
+    let mut out = Outbox::new(alloc);
+    cut(alloc, 1, 1, message, &mut out, Dest::Replicas).expect(rt, "cut");
+    let first = datagram_of(rt, out.as_slice().first().expect(rt, "a datagram"));
+    let second = datagram_of(rt, out.as_slice().last().expect(rt, "a datagram"));
+    assert!(rt; first.len() == 1417 && second.len() == 18);
+    let first = fragment_of(rt, alloc, first);
+    let second = fragment_of(rt, alloc, second);
+    let mut kept = Reassembly::new(alloc, 3).expect(rt, "memory");
+    assert!(rt; taken(rt, &mut kept, &second).is_none());
+    let whole = taken(rt, &mut kept, &first).expect(rt, "a message");
+    assert!(rt; whole.as_slice() == message);
+    assert!(rt; taken(rt, &mut kept, &first).is_none());
+}
+
+/// One byte decides whether a message needs a second fragment.
+fn check_start_views(rt: &impl Abort, alloc: Global) {
+    let longer = start_view(rt, alloc, "002e 78*46");
+    assert!(rt; longer.len() == 1401);
+    check_cut(rt, alloc, &longer, 2, 18);
+    check_two(rt, alloc, &longer);
+    check_cut(rt, alloc, &start_view(rt, alloc, "002d 78*45"), 1, 1417);
 }
 
 #[test]
 fn messages_are_cut_and_joined(rt: HostRuntime) {
+    check_start_views(&rt, rt.alloc());
     check_length(&rt, rt.alloc(), 1, 1, 18);
     check_length(&rt, rt.alloc(), 1400, 1, 1417);
     check_length(&rt, rt.alloc(), 1401, 2, 18);

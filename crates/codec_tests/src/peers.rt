@@ -84,7 +84,7 @@ fn spelled(rt: &impl Abort, alloc: Global, message: &Peer) -> Vec<u8>
 }
 
 /// What the bytes spell, or the test that they fail. What is spelled is written as the same bytes.
-fn shown(rt: &impl Abort, alloc: Global, bytes: &[u8]) -> String {
+pub fn shown(rt: &impl Abort, alloc: Global, bytes: &[u8]) -> String {
     match decode_peer(alloc, bytes) {
         Err(bad) => text(rt, alloc, &bad),
         Ok(message) => {

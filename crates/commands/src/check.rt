@@ -6,7 +6,7 @@ ghost use Rattle.commands.specs.Checks.{verdict_status, CheckEnds};
 ghost use Rattle.commands.specs.Nodes.{ReadsTo, writes_after};
 
 use crate::status::Status;
-use judge::{Tally, check_with, write_verdict};
+use judge::{Tally, check, write_verdict};
 use nop_types::Host;
 use outside::{Sink, Source, WriteError};
 use std::alloc::Global;
@@ -36,7 +36,7 @@ pub(crate) fn run_check<H: Host, S: Source, K: Sink>(
         (K.fault_count sink.new) }
     ensures writes { K.fault_count sink.new ≡ writes_after result (K.fault_count sink.old) }
 {
-    let verdict = check_with::<H, S>(alloc, source);
+    let verdict = check::<H, S>(alloc, source);
     match write_verdict(alloc, &verdict, sink) {
         Ok(()) => verdict_status(&verdict),
         Err(WriteError::Failed) => Status::WriteFault,

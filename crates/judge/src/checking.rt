@@ -97,7 +97,7 @@ fn judge<H: Host>(alloc: Global, taken: &Taken, lines: u32) -> Result<Tally, Che
 /// Reads a whole transcript and judges its history by the host. Refuted names a line, counted from
 /// 1, and the clause that it breaks: 1 or 2 as `read_transcript` says; else 3 to 6, the first rule
 /// of `Broken` that is broken, at the first line that breaks it.
-pub fn check_with<H: Host, S: Source>(alloc: Global, source: &mut S) -> Result<Tally, CheckError>
+pub fn check<H: Host, S: Source>(alloc: Global, source: &mut S) -> Result<Tally, CheckError>
     ensures checked { IsChecked H.meaning (S.left source.old) (S.left source.new) result }
     ensures passes { PassesLegal H.meaning (S.left source.old) result }
     ensures count { CountsFor (S.fault_count source.old) (S.fault_count source.new)

@@ -11,14 +11,14 @@
 //! want of memory alone; and lines are legal exactly where those of them are that claim
 //! something, and where a transcript with their rows is (`laws`).
 //!
-//! Proved of `check_with`, which reads a transcript and decides it (`specs/Checking`): at Ok
+//! Proved of `check`, which reads a transcript and decides it (`specs/Checking`): at Ok
 //! the source has none left, its bytes spell a transcript that is legal, and the tally counts
 //! its claims and members. At Refuted clauses 1 and 2 are the reader's; at 3 to 6 the bytes
 //! spell a transcript, and the line is the first that breaks the first broken rule. ReadFault comes
 //! exactly where a read failed (clause `count`), and hides no line that breaks clause 1 or 2. And
 //! the other way round: the bytes of a legal transcript are never refuted (`passes`).
 //!
-//! Calls: `check_with` for a source, and `write_verdict` for the line that tells its answer; `decide` for claims that are at hand, as
+//! Calls: `check` for a source, and `write_verdict` for the line that tells its answer; `decide` for claims that are at hand, as
 //! `transcript_reader` gives them.
 //!
 //! To read in this order: `checking`, `broken`, `deciding`; then one file for each rule,
@@ -40,7 +40,7 @@ mod tally;
 mod verdict;
 
 pub use broken::Broken;
-pub use checking::check_with;
+pub use checking::check;
 pub use deciding::decide;
 pub use laws::{broken_is_illegal, claims_are_enough, runs_are_judged};
 pub use tally::Tally;

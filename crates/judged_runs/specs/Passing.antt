@@ -18,7 +18,7 @@ PassesRun h (Err errors.ReadFault) = ⊤
 PassesRun h (Err errors.NoMemory) = ⊤
 
 -- let `replay` end at Ok, with its clauses `ends` and `safe`, and no line too many; then so of whatever a check of the bytes that it
--- wrote answers, by the clauses `checked` and `passes` of `check_with`
+-- wrote answers, by the clauses `checked` and `passes` of `check`
 abbrev pub RunsPass : {S : Type 0} → Meaning S → Type 0
 RunsPass m = (bytes before text : List ℕ) (left : Option (List ℕ)) (done : Unit {0})
     → EndsWith m (Some bytes) left (Some before) (Some (before ++ text)) (Ok done)

@@ -6,7 +6,7 @@
 //!   is legal for its claims. So it is exactly where the text has no more lines than a transcript may have (`HasRoom`).
 //! - `replayed_runs_pass`: over any `Host` whose answers to bytes are bytes, where the text has room (`specs/Passing`, `RunsPass`).
 //!   The premises are the clauses `ends` and `safe` of `replay::replay` at Ok, and the clauses `checked` and `passes` of
-//!   `judge::check_with` on a source of the bytes that were written. So of any answer of that check: it is not Refuted, and at Ok
+//!   `judge::check` on a source of the bytes that were written. So of any answer of that check: it is not Refuted, and at Ok
 //!   its counts are those of the run. The clauses `replay`, `safe` and `check` of `commands::run` have these.
 //! - `kv_runs_pass`, `lock_runs_pass`: so of the services of the two programs, whose answers to bytes are bytes by the laws
 //!   `answers_are_bytes` of `kv_host` and `lock_host`.

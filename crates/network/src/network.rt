@@ -122,7 +122,7 @@ fn in_one_piece(bytes: &[u8], mark: Mark) -> Option<&[u8]>
     requires { MarkFits (length bytes.now) mark }
     ensures { IfSome result (λ b. b.now ≡ datagram_of bytes.now mark) }
 {
-    let head = (mark.len as usize).min(HEADER_LEN);
+    let head = (mark.len as usize).min(FRAGMENT_HEADER_BYTES);
     if mark.head + head != mark.rest {
         return None;
     }

@@ -92,10 +92,17 @@ writes 16
 schedule
 transcript 1 replicas 3 sequencers 1 clients 1
 submit c0 1 5000016b000176
+send 0 c0 s* request 25
+send 1 s0 r* stamped 41
+send 2 r0 c0 reply 40
+send 3 r1 c0 reply 36
 accept c0 1 6e6f6e65
+replica r0 up normal 0 1 1 0
+replica r1 up normal 0 1 1 0
+replica r2 up normal 0 1 0 0
 end
 => Refuted
-refuted line 3 clause 5
+refuted line 7 clause 5
 |
 ----
 nopaxos check
@@ -146,8 +153,17 @@ writes 16
 schedule
 transcript 1 replicas 3 sequencers 1 clients 1
 submit c0 1 5000016b000176
+send 0 c0 s* request 25
+send 1 s0 r* stamped 41
+send 2 r0 c0 reply 40
+send 3 r1 c0 reply 36
+accept c0 1 6e6f6e65
+replica r0 up normal 0 1 1 0
+replica r1 up normal 0 1 1 0
+replica r2 up normal 0 1 0 0
+history 1 c0 1 5000016b000176
 => Refuted
-refuted line 3 clause 2
+refuted line 12 clause 2
 |
 ----
 nopaxos check

@@ -119,17 +119,21 @@ fn ops(rt: HostRuntime) {
     check_host::<KvHost>(&rt, rt.alloc());
 }
 
-/// An op is undone in a host, and not in a copy of it: what both then answer to another one.
-fn check_undo<H: Host>(rt: &impl Abort, alloc: Global) {
+/// What is done to a host does not show in a copy of it: an op is undone in one, and a key is deleted in the next.
+fn check_copies<H: Host>(rt: &impl Abort, alloc: Global) {
     let mut host = H::fresh(alloc).expect(rt, "memory");
     let (_answer, undo) = host.apply(b"P\0\x01k\0\x01v").expect(rt, "memory");
     let mut copy = host.copy().expect(rt, "memory");
     host.undo(undo);
     assert!(rt; answers(rt, &mut host, b"G\0\x01k", b"none"));
     assert!(rt; answers(rt, &mut copy, b"G\0\x01k", b"=v"));
+    let mut again = copy.copy().expect(rt, "memory");
+    assert!(rt; answers(rt, &mut copy, b"D\0\x01k", b"=v"));
+    assert!(rt; answers(rt, &mut again, b"G\0\x01k", b"=v"));
+    assert!(rt; answers(rt, &mut copy, b"G\0\x01k", b"none"));
 }
 
 #[test]
-fn an_op_is_undone(rt: HostRuntime) {
-    check_undo::<KvHost>(&rt, rt.alloc());
+fn copies_stand_alone(rt: HostRuntime) {
+    check_copies::<KvHost>(&rt, rt.alloc());
 }

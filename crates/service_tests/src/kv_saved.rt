@@ -90,9 +90,28 @@ fn check_saved<H: Host>(rt: &impl Abort, alloc: Global) {
     }
 }
 
+/// A key is put, deleted, compared and put. Undone one by one, each state comes back that was passed.
+fn check_undone<H: Host>(rt: &impl Abort, alloc: Global) {
+    let mut host = H::fresh(alloc).expect(rt, "memory");
+    let (_answer, put) = host.apply(b"P\0\x01k\0\x01v").expect(rt, "memory");
+    let (_answer, deleted) = host.apply(b"D\0\x01k").expect(rt, "memory");
+    let (_answer, compared) = host.apply(b"C\0\x01k\0\x01v\0\x01w").expect(rt, "memory");
+    let (_answer, again) = host.apply(b"P\0\x01k\0\x01x").expect(rt, "memory");
+    assert!(rt; is_saved_as(rt, &host, b"\0\0\0\x01\0\x01k\0\x01x"));
+    host.undo(again);
+    assert!(rt; is_saved_as(rt, &host, b"\0\0\0\0"));
+    host.undo(compared);
+    assert!(rt; is_saved_as(rt, &host, b"\0\0\0\0"));
+    host.undo(deleted);
+    assert!(rt; is_saved_as(rt, &host, b"\0\0\0\x01\0\x01k\0\x01v"));
+    host.undo(put);
+    assert!(rt; is_saved_as(rt, &host, b"\0\0\0\0"));
+}
+
 #[test]
 fn states_are_saved(rt: HostRuntime) {
     check_saved::<KvHost>(&rt, rt.alloc());
+    check_undone::<KvHost>(&rt, rt.alloc());
 }
 
 fn check_refused<H: Host>(rt: &impl Abort, alloc: Global) {

@@ -232,15 +232,42 @@ const FULL: [(u8, u16, &[u8], &[u8]); 7] = [
     (b'R', 5000, b"\0\0\0\0\0\0\x10\x01", b"released"),
 ];
 
-fn check_full<H: Host>(rt: &impl Abort, alloc: Global) {
+/// Such a host, as it is and as it is loaded from what it saves.
+fn full<H: Host>(rt: &impl Abort, alloc: Global) -> (H, H) {
     let mut host = H::fresh(alloc).expect(rt, "memory");
     for number in 0..4096u16 {
         host.apply(&op_of(rt, alloc, b'A', number, b""))
             .expect(rt, "memory");
     }
+    let saved = host.save().expect(rt, "memory");
+    assert!(rt; saved.as_slice().len() == 16 + 13 * 4096);
+    let loaded = H::load(alloc, saved.as_slice()).expect(rt, "memory");
+    let loaded = loaded.expect(rt, "a saved state");
+    assert!(rt; is_saved_as(rt, &loaded, saved.as_slice()));
+    let more = one_more(rt, alloc, saved.as_slice());
+    assert!(rt; H::load(alloc, &more).expect(rt, "memory").is_none());
+    (host, loaded)
+}
+
+/// The saved state of a full host with one lock more: a token and a place for it.
+fn one_more(rt: &impl Abort, alloc: Global, saved: &[u8]) -> Vec<u8> {
+    let mut bytes = Vec::from_slice(alloc, b"\0\0\0\0\0\0\x10\x01\0\0\0\0\0\0\x10\x01").expect(
+        rt, "memory",
+    );
+    let (_counts, places) = saved.split_at(16.min(saved.len()));
+    bytes.extend_from_slice(places).expect(rt, "memory");
+    bytes
+        .extend_from_slice(b"\x02\x10\0\x01x\0\0\0\0\0\0\x10\x01")
+        .expect(rt, "memory");
+    bytes
+}
+
+fn check_full<H: Host>(rt: &impl Abort, alloc: Global) {
+    let (mut host, mut loaded) = full::<H>(rt, alloc);
     for (row, (letter, number, rest, told)) in FULL.iter().enumerate() {
         let op = op_of(rt, alloc, *letter, *number, rest);
         assert!(rt; answers(rt, &mut host, &op, told), "row {row}");
+        assert!(rt; answers(rt, &mut loaded, &op, told), "row {row}");
     }
 }
 

@@ -2,7 +2,7 @@ use Rattle.std.proofs.lemmas.Result.{err_from_is_err_and}
 use Rattle.judge.proofs.Checked.{numbered, checked}
 use Rattle.judge.proofs.Exact.{passes, error_passes}
 use Rattle.transcript_reader.specs.Steps.{so_far}
-use Rattle.judge.proofs.checking.check_with.Goals as goal
+use Rattle.judge.proofs.checking.check.Goals as goal
 
 pub returns-in_err-taken-clause-passes : goal.returns-in_err-taken-clause-passes
 returns-in_err-taken-clause-passes g c =
